@@ -1,0 +1,17 @@
+-- What pairs of vertices make: a graph, or what keeps them from being one.
+use Rattle.std.specs.Prelude.{◌≡◌, ℕ, ◌||◌, List, Some, None}
+use Rattle.mixed_graph.specs.Graphs.{MixedGraph}
+use Rattle.mixed_graph.specs.Pairs.{joins, first_loop, IsCycle}
+use Rattle.mixed_graph.specs.declared.mixed.BuildFault.{BuildFault}
+use Rattle.mixed_graph.specs.declared.mixed.BuildFault.TheVariants.{SelfLoop, Cycle}
+
+-- the graph on the vertices below n that has these edges and no other
+pub record IsGraphOf (n : ℕ) (directed both : List (ℕ × ℕ)) (g : MixedGraph) : Type 0 where
+  pub size : g.vertices ≡ n
+  pub arrows : (a b : ℕ) → g.arrow a b ≡ joins directed a b
+  pub spouses : (a b : ℕ) → g.both a b ≡ (joins both a b || joins both b a)
+
+-- the fault of such pairs: the first pair with equal ends, or, where there is none, a directed cycle
+abbrev pub IsFaultOf : List (ℕ × ℕ) → List (ℕ × ℕ) → BuildFault → Type 0
+IsFaultOf directed both (SelfLoop v) = first_loop directed both ≡ Some v
+IsFaultOf directed both (Cycle c) = (first_loop directed both ≡ None) × IsCycle (joins directed) c.list c.count
