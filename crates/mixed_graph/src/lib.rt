@@ -7,6 +7,8 @@ mod mixed;
 mod names;
 mod pairs;
 mod sets;
+#[cfg(test)]
+mod tests;
 mod text;
 
 pub use lists::{Cycle, Order};
