@@ -2,5 +2,10 @@
 #![tactic(auto)]
 
 mod marks;
+mod paths;
+mod search;
+mod states;
 
 pub use marks::Mark;
+pub use paths::{OpenPath, open_path};
+pub use search::{reach, separated};
