@@ -1,9 +1,9 @@
-use Rattle.std.proofs.Common.{◌≡◌, ℕ, ◌<◌, Bool, true, false, not, ◌==◌, List, [], ◌∷◌, ◌++◌, refl, sym, ap, IsTrue, subst}
+use Rattle.std.proofs.Common.{◌≡◌, ℕ, ◌<◌, Bool, true, false, ◌==◌, List, [], ◌∷◌, refl, IsTrue}
 use Rattle.std.proofs.lemmas.Bool.{not-true, not_from_false, eq-eqb, eqb-true}
-use Rattle.mixed_graph.specs.Graphs.{MixedGraph, IsMixedGraph, IsAncestor}
+use Rattle.mixed_graph.specs.Graphs.{MixedGraph, IsMixedGraph}
 use Rattle.m_separation.specs.declared.marks.Mark.{Mark}
 use Rattle.m_separation.specs.declared.marks.Mark.TheVariants.{Out, Into, Both}
-use Rattle.m_separation.specs.Walks.{Step, IsJoined, IsWalk, last, heads_first, heads_second, IsPassed, ArePassed, ArePassedFrom, IsOpenWalk, HasOpenWalk, IsReached}
+use Rattle.m_separation.specs.Walks.{Step, IsJoined, IsWalk, last, heads_second, IsPassed, ArePassed, ArePassedFrom, IsOpenWalk, HasOpenWalk, IsReached}
 use Rattle.m_separation.specs.States.{AreAncestors, lets_pass, GoesOn}
 
 -- the second vertex of an edge is one of the graph's

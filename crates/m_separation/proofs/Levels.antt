@@ -1,11 +1,11 @@
-use Rattle.std.proofs.Common.{◌≡◌, ◌≢◌, ℕ, zero, suc, ◌+◌, ◌<◌, ◌≤◌, Bool, true, false, ◌↔◌, List, [], ◌∷◌, length, get_or, set, inl, inr, refl, sym, ap, ◌∙◌, IsTrue, subst, arith}
-use Rattle.std.proofs.lemmas.Bool.{cases_lt, cases_eq}
+use Rattle.std.proofs.Common.{◌≡◌, ◌≢◌, ℕ, suc, ◌+◌, ◌<◌, ◌≤◌, Bool, true, false, ◌↔◌, List, [], ◌∷◌, length, set, inl, inr, sym, ap, IsTrue, subst, arith}
+use Rattle.std.proofs.lemmas.Bool.{cases_lt}
 use Rattle.std.proofs.lemmas.List.{get_or-set_same, get_or-set_other}
 use Rattle.mixed_graph.specs.Bits.{has}
-use Rattle.mixed_graph.specs.Graphs.{MixedGraph, IsMixedGraph}
+use Rattle.mixed_graph.specs.Graphs.{MixedGraph}
 use Rattle.m_separation.specs.declared.states.States.{States}
 use Rattle.m_separation.specs.Walks.{Step, IsWalk, last, heads_second, ArePassedFrom, IsOpenWalk}
-use Rattle.m_separation.specs.States.{GoesOn, IsLed, mask_of, level, AreLevels}
+use Rattle.m_separation.specs.States.{IsLed, mask_of, level, AreLevels}
 use Rattle.m_separation.proofs.Going.{passed_from_start, goes_first}
 
 pub level-set_other : (levels : List States) (j i : ℕ) (s : States) → i ≢ j → level (set levels j s) i ≡ level levels i

@@ -1,4 +1,4 @@
-use Rattle.std.proofs.Common.{◌≡◌, ◌≢◌, ℕ, ◌+◌, ◌-◌, ◌<◌, ◌≤◌, Bool, true, false, not, ◌&&◌, ◌↔◌, List, length, length-set, get_or, set, replicate, inl, inr, refl, sym, ap, ◌∙◌, IsTrue, subst, arith}
+use Rattle.std.proofs.Common.{◌≡◌, ℕ, ◌+◌, ◌-◌, ◌<◌, ◌≤◌, Bool, true, false, not, ◌&&◌, ◌↔◌, List, length, length-set, get_or, set, replicate, inl, inr, sym, ap, ◌∙◌, IsTrue, subst, arith}
 use Rattle.std.proofs.lemmas.Bool.{cases_lt, and_parts, and_from, not_from_false, not-true}
 use Rattle.std.proofs.lemmas.List.{get_or-replicate, length-replicate}
 use Rattle.mixed_graph.specs.Bits.{has}
@@ -8,7 +8,7 @@ use Rattle.m_separation.specs.declared.states.States.{States}
 use Rattle.m_separation.specs.Walks.{Step, last, IsOpenWalk, HasOpenWalk, IsPath}
 use Rattle.m_separation.specs.Paths.{IsOpenPath, steps_from}
 use Rattle.m_separation.specs.States.{IsLed, mask_of, level, AreLevels}
-use Rattle.m_separation.proofs.Levels.{walk_in_level, levels_more, level-set_other, level-set_same}
+use Rattle.m_separation.proofs.Levels.{walk_in_level, levels_more, level-set_other}
 use Rattle.m_separation.proofs.OpenPaths.{repeats_or_path, shorter, open_path_from, path_short}
 use Rattle.m_separation.proofs.Traces.{length-steps_from}
 

@@ -5,7 +5,7 @@ use Rattle.mixed_graph.specs.Graphs.{MixedGraph, IsMixedGraph}
 use Rattle.m_separation.specs.declared.marks.Mark.{Mark}
 use Rattle.m_separation.specs.declared.marks.Mark.TheVariants.{Out, Into, Both}
 use Rattle.m_separation.specs.Walks.{IsJoined, IsPassed, heads_first, heads_second}
-use Rattle.m_separation.specs.States.{AreAncestors, lets_pass, GoesOn, IsLed}
+use Rattle.m_separation.specs.States.{AreAncestors, lets_pass, IsLed}
 use Rattle.m_separation.proofs.Going.{passed_from_test, test_from_passed}
 
 -- a state at v from which a walk may leave by an edge with an arrowhead there or not

@@ -1,7 +1,7 @@
-use Rattle.std.proofs.Common.{◌≡◌, ℕ, ◌<◌, Bool, true, false, not, ◌&&◌, ◌||◌, ◌==◌, List, get_or, ◌⊎◌, inl, inr, refl, sym, ◌∙◌, IsTrue, subst, arith}
-use Rattle.std.proofs.lemmas.Bool.{cases_Bool, cases_eq, eq-eqb, ne_eqb, or_cases, or_left, or_right}
+use Rattle.std.proofs.Common.{◌≡◌, ℕ, ◌<◌, true, false, not, ◌&&◌, ◌||◌, ◌==◌, List, get_or, inl, inr, refl, sym, ◌∙◌, IsTrue, subst, arith}
+use Rattle.std.proofs.lemmas.Bool.{cases_eq, eq-eqb, ne_eqb, or_cases, or_left, or_right}
 use Rattle.mixed_graph.specs.Bits.{has}
-use Rattle.mixed_graph.proofs.Masks.{has-zero, lt_from_subset}
+use Rattle.mixed_graph.proofs.Masks.{lt_from_subset}
 
 -- the rows of the members outside `rest` are joined, and no others
 pub record Joining (rows : List ℕ) (members rest all : ℕ) : Type 0 where

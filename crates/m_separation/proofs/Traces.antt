@@ -1,11 +1,10 @@
-use Rattle.std.proofs.Common.{◌≡◌, ◌≢◌, ℕ, zero, suc, ◌+◌, ◌-◌, ◌<◌, ◌≤◌, Bool, true, false, ◌==◌, List, [], ◌∷◌, length, length-set, get_or, set, refl, sym, ap, ◌∙◌, IsTrue, subst, arith}
+use Rattle.std.proofs.Common.{◌≡◌, ℕ, zero, suc, ◌+◌, ◌<◌, Bool, false, ◌==◌, List, ◌∷◌, length, length-set, get_or, set, refl, sym, ap, ◌∙◌, IsTrue, subst, arith}
 use Rattle.std.proofs.lemmas.Bool.{eq-eqb}
 use Rattle.std.proofs.lemmas.List.{get_or-set_same, get_or-set_other}
-use Rattle.mixed_graph.specs.Bits.{has}
-use Rattle.mixed_graph.specs.Graphs.{MixedGraph, IsMixedGraph}
+use Rattle.mixed_graph.specs.Graphs.{MixedGraph}
 use Rattle.m_separation.specs.declared.marks.Mark.{Mark}
-use Rattle.m_separation.specs.declared.marks.Mark.TheVariants.{Out, Into, Both}
-use Rattle.m_separation.specs.Walks.{Step, IsJoined, heads_first, heads_second, IsWalk, last, IsPassed, ArePassedFrom, IsOpenWalk}
+use Rattle.m_separation.specs.declared.marks.Mark.TheVariants.{Out}
+use Rattle.m_separation.specs.Walks.{IsJoined, heads_first, heads_second, IsWalk, last, IsPassed, ArePassedFrom, IsOpenWalk}
 use Rattle.m_separation.specs.Paths.{steps_from}
 use Rattle.m_separation.proofs.Going.{passed_inside}
 

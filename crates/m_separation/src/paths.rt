@@ -40,7 +40,9 @@ fn link_to(g: &Graph, w: VSet, above: VSet, from: States, s: State) -> Link
     let v = s.vertex as usize;
     let turning = from.passing(w, above, true);
     if !s.head {
-        let children = VSet { bits: g.children[v] };
+        let children = VSet {
+            bits: g.children[v],
+        };
         return match turning.first_in(children) {
             Some(t) => Link {
                 from: t,
@@ -67,7 +69,15 @@ fn link_to(g: &Graph, w: VSet, above: VSet, from: States, s: State) -> Link
 }
 
 /// An open walk of `count` steps back from the state `last` of that level.
-fn trace(g: &Graph, x: VSet, w: VSet, above: VSet, levels: &[States; 64], count: usize, last: State) -> OpenPath
+fn trace(
+    g: &Graph,
+    x: VSet,
+    w: VSet,
+    above: VSet,
+    levels: &[States; 64],
+    count: usize,
+    last: State,
+) -> OpenPath
     requires x { Within g.now.n (has x.bits) }
     requires above { AreAncestors (graph_of g.now) (has w.bits) (has above.bits) }
     requires levels { AreLevels (graph_of g.now) (has x.bits) (has w.bits) levels.now count }

@@ -1,12 +1,10 @@
-use Rattle.std.proofs.Common.{◌≡◌, ℕ, suc, ◌+◌, ◌-◌, ◌<◌, Bool, true, false, ◌==◌, replicate, get_or, set, refl, sym, ap, ◌∙◌, IsTrue, subst, arith}
+use Rattle.std.proofs.Common.{◌≡◌, ℕ, suc, ◌+◌, ◌-◌, Bool, true, false, replicate, set, IsTrue, subst, arith}
 use Rattle.std.proofs.lemmas.List.{length-replicate}
 use Rattle.mixed_graph.specs.Bits.{has}
 use Rattle.mixed_graph.specs.Shown.{graph_of}
 use Rattle.m_separation.specs.declared.marks.Mark.{Mark}
 use Rattle.m_separation.specs.declared.marks.Mark.TheVariants.{Out}
-use Rattle.m_separation.specs.Walks.{IsOpenWalk}
-use Rattle.m_separation.specs.Paths.{steps_from}
-use Rattle.m_separation.specs.States.{level, mask_of, IsLed}
+use Rattle.m_separation.specs.States.{level}
 use Rattle.m_separation.proofs.Traces.{Traced, traced_none, traced_more, walk_from_trace}
 use Rattle.m_separation.proofs.paths.trace.Goals as goal
 use Rattle.m_separation.proofs.paths.trace.Goals.{After-back}
@@ -14,7 +12,7 @@ use Rattle.m_separation.proofs.paths.trace.Goals.{After-back}
 pub back-init : goal.back-init
 back-init c = (
   (let t = traced_none (graph_of c.args.g.now) (has c.args.w.bits) (replicate 64 0) (replicate 64 Out) c.args.count c.args.last.vertex c.args.last.head
-  (length-replicate {A = ℕ} 64 0) (length-replicate {A = Mark} 64 Out) c.requires.count in
+      (length-replicate {A = ℕ} 64 0) (length-replicate {A = Mark} 64 Out) c.requires.count in
       subst (λ k. Traced (graph_of c.args.g.now) (has c.args.w.bits) c.args.last.vertex (set (replicate 64 0) c.args.count c.args.last.vertex) (replicate 64 Out) c.args.count k c.args.last.vertex c.args.last.head)
       (let e : 0 ≡ c.args.count - c.args.count = omega arith in e) t),
   c.requires.member,
