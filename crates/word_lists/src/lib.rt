@@ -1,0 +1,163 @@
+//! Lists of names, and numbers, in words.
+#![tactic(auto)]
+
+ghost use Rattle.std.specs.Prelude.{◌≡◌, ℕ, List, [], length, IfOk, Some, None, true, false, option_map, map, MatchOption, ◌<◌, ◌≤◌, ◌^◌};
+ghost use Rattle.word_lists.specs.Walk.{next_of, names_of, list_of, is_none, can_end};
+ghost use Rattle.std.specs.Str.{all_ascii_digits};
+ghost use Rattle.std.specs.Str.Parse.{digits_value};
+ghost use Rattle.word_lists.specs.Numbers.{IsNumber};
+ghost use Rattle.word_lists.specs.Lists.{IsList};
+ghost use Rattle.word_lists.specs.Views.{names_in};
+
+use std::alloc::{AllocError, Global};
+
+/// Where the reader of a list stands: an item is due, in an item, between quotes, or after quotes.
+#[derive(Clone, Copy)]
+pub enum Place {
+    Due,
+    Plain,
+    Inside,
+    Closed,
+}
+
+/// What a byte does: it is one more of the item, it only moves, it ends the item, or it has no place.
+#[derive(Clone, Copy)]
+pub enum Next {
+    Take(Place),
+    Pass(Place),
+    End,
+    Bad,
+}
+
+fn step(place: Place, is_none: bool, byte: u8) -> Next
+    ensures { result ≡ next_of place is_none byte }
+{
+    match place {
+        Place::Due => match byte {
+            b'"' => Next::Pass(Place::Inside),
+            b',' => Next::Bad,
+            _ => Next::Take(Place::Plain),
+        },
+        Place::Plain => match byte {
+            b',' => Next::End,
+            b'"' => Next::Bad,
+            _ => Next::Take(Place::Plain),
+        },
+        Place::Inside => {
+            if byte != b'"' {
+                return Next::Take(Place::Inside);
+            }
+            if is_none {
+                return Next::Bad;
+            }
+            Next::Pass(Place::Closed)
+        }
+        Place::Closed => {
+            if byte == b',' {
+                return Next::End;
+            }
+            Next::Bad
+        }
+    }
+}
+
+fn lacks(name: &[u8]) -> bool
+    ensures { result ≡ is_none name.now }
+{
+    match name {
+        [] => true,
+        [_, ..] => false,
+    }
+}
+
+fn ends(place: Place) -> bool
+    ensures { result ≡ can_end place }
+{
+    match place {
+        Place::Due | Place::Inside => false,
+        Place::Plain | Place::Closed => true,
+    }
+}
+
+fn read_names(alloc: Global, text: &[u8]) -> Result<Option<Vec<Vec<u8>>>, AllocError>
+    ensures { IfOk result (λ o. option_map names_in o ≡ names_of Place.Due [] text.now) }
+{
+    let mut names: Vec<Vec<u8>> = Vec::new(alloc);
+    let mut name: Vec<u8> = Vec::new(alloc);
+    let mut place = Place::Due;
+    for byte in text {
+        match step(place, lacks(&name), *byte) {
+            Next::Take(after) => {
+                name.push(*byte)?;
+                place = after;
+            }
+            Next::Pass(after) => {
+                place = after;
+            }
+            Next::End => {
+                names.push(name)?;
+                name = Vec::new(alloc);
+                place = Place::Due;
+            }
+            Next::Bad => {
+                return Ok(None);
+            }
+        }
+    }
+    if !ends(place) {
+        return Ok(None);
+    }
+    names.push(name)?;
+    Ok(Some(names))
+}
+
+/// The names of a list, where the text is one.
+pub fn find_list(alloc: Global, text: &[u8]) -> Result<Option<Vec<Vec<u8>>>, AllocError>
+    ensures { IfOk result (λ o. option_map names_in o ≡ list_of text.now) }
+{
+    if text == b"{}".as_slice() {
+        return Ok(Some(Vec::new(alloc)));
+    }
+    read_names(alloc, text)
+}
+
+/// The names of a list, exactly where the text is one.
+pub fn read_list(alloc: Global, text: &[u8]) -> Result<Option<Vec<Vec<u8>>>, AllocError>
+    ensures { IfOk result (λ o. MatchOption o ((names : List (List ℕ)) → IsList text.now names → ⊥) (λ v. IsList text.now (names_in v))) }
+{
+    find_list(alloc, text)
+}
+
+fn are_digits(text: &[u8]) -> bool
+    ensures { result ≡ all_ascii_digits text.now }
+{
+    for byte in text {
+        if !byte.is_ascii_digit() {
+            return false;
+        }
+    }
+    true
+}
+
+fn parse_digits(text: &str) -> Option<u64>
+    requires { all_ascii_digits text.now ≡ true }
+    ensures { MatchOption result (0 < length text.now → 2 ^ 64 ≤ digits_value 10 text.now) (λ n. (0 < length text.now) × (digits_value 10 text.now ≡ n)) }
+{
+    match text.parse::<u64>() {
+        Ok(number) => Some(number),
+        Err(_) => None,
+    }
+}
+
+/// The number that the text is, exactly where it is one in the range.
+pub fn read_number(text: &str, low: u64, high: u64) -> Option<u64>
+    ensures { MatchOption result ((n : ℕ) → IsNumber text.now low high n → ⊥) (λ n. IsNumber text.now low high n) }
+{
+    if !are_digits(text.as_bytes()) {
+        return None;
+    }
+    match parse_digits(text) {
+        Some(number) if low <= number && number <= high => Some(number),
+        _ => None,
+    }
+}
