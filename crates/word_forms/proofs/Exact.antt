@@ -1,16 +1,16 @@
 -- The call that is found is the call that the words are.
 use Rattle.std.proofs.Common.{◌≡◌, Bool, true, false, List, [], ◌∷◌, Option, Some, None, option_map, map, refl, sym, ap, ap₂, ◌∙◌, subst}
 use Rattle.std.proofs.Common.{Result, Ok, Err, IfOk}
-use Rattle.std.specs.Prelude.{MatchOption}
+use Rattle.std.specs.Prelude.{IfSome, IfNone}
 use Rattle.std.specs.List.{list_all, flat_map}
 use Rattle.std.specs.Str.{bytes_eq}
 use Rattle.std.proofs.lemmas.Slice.Eq.{bytes_eq-Decides}
 use Rattle.std.specs.Option.{option_and_then}
 use Rattle.clap.proofs.WalkLemmas.{both}
 use Rattle.word_forms.specs.declared.Call.{Call}
-use Rattle.word_forms.specs.Form.{Text, Row, Use, spelled, fits, row_named, is_complete, is_clear, IsCall, HasForm}
+use Rattle.word_forms.specs.Form.{Text, Row, Use, spelled, fits, row_named, is_complete, is_clear, IsCall, IsOnlyCall, HasForm}
 use Rattle.word_forms.specs.Step.{uses_of}
-use Rattle.word_forms.specs.Views.{call_of, call_by, only_complete, row_of, use_of}
+use Rattle.word_forms.specs.Views.{call_of, call_by, only_complete, row_of, uses_in}
 use Rattle.word_forms.proofs.Law.{read_back, spells, Spells, both_true}
 
 abbrev pub Says : List Row → List Text → Option (Row × List Use) → Type 0
@@ -77,13 +77,36 @@ pub says : (table : List Row) → list_all is_clear table ≡ true → (words : 
 says table clear [] = λ h. let bad = h.2.spelling in cc bad
 says table clear (name ∷ words) = with_name table clear name words (row_named table name) refl
 
-pub call_says : (table : List Row) (words : List Text) → list_all is_clear table ≡ true → (o : Option Call) → option_map (λ c. (row_of c.row.now, map use_of c.uses.items)) o ≡ call_of table words
-    → MatchOption o (HasForm table words → ⊥) (λ c. IsCall table words (row_of c.row.now) (map use_of c.uses.items))
-call_says table words clear None e = subst (Says table words) (sym e) (says table clear words)
-call_says table words clear (Some c) e = subst (Says table words) (sym e) (says table clear words)
+-- the words are one call at most
+pub one_call : (table : List Row) → list_all is_clear table ≡ true → (words : List Text) (row other : Row) (uses others : List Use) → IsCall table words row uses → IsCall table words other others
+    → (other ≡ row) × (others ≡ uses)
+one_call table clear [] row other uses others a b = let bad = a.spelling in cc bad
+one_call table clear (name ∷ words) row other uses others a b =
+    let r : Some row ≡ Some other = sym (same_row table clear name words row uses a) ∙ same_row table clear name words other others b in
+    let is : other ≡ row = cc r in
+    let u : Some uses ≡ Some others = sym (same_uses table clear name words row uses a)
+        ∙ (ap (λ (x : Row). uses_of x None words) (sym is) ∙ same_uses table clear name words other others b) in
+    let them : others ≡ uses = cc u in
+    (is, them)
 
-pub result_says : {E : Type 0} (table : List Row) (words : List Text) → list_all is_clear table ≡ true → (r : Result (Option Call) E)
-    → IfOk r (λ o. option_map (λ c. (row_of c.row.now, map use_of c.uses.items)) o ≡ call_of table words)
-    → IfOk r (λ o. MatchOption o (HasForm table words → ⊥) (λ c. IsCall table words (row_of c.row.now) (map use_of c.uses.items)))
-result_says table words clear (Ok o) e = call_says table words clear o e
-result_says table words clear (Err x) e = tt
+-- what the words' reading tells, as the clauses of the code say it
+module _ (table : List Row) (clear : list_all is_clear table ≡ true) (words : List Text) where
+  abbrev IsRead : Option Call → Type 0
+  IsRead o = option_map (λ c. (row_of c.row.now, uses_in c.uses)) o ≡ call_of table words
+
+  pub is_the_call : {E : Type 0} (r : Result (Option Call) E) → IfOk r IsRead → IfOk r (λ o. IfSome o (λ c. IsCall table words (row_of c.row.now) (uses_in c.uses)))
+  is_the_call (Ok None) h = tt
+  is_the_call (Ok (Some c)) h = subst (Says table words) (sym h) (says table clear words)
+  is_the_call (Err x) h = tt
+
+  pub is_only_call : {E : Type 0} (r : Result (Option Call) E) → IfOk r IsRead → IfOk r (λ o. IfSome o (λ c. IsOnlyCall table words (row_of c.row.now) (uses_in c.uses)))
+  is_only_call (Ok None) h = tt
+  is_only_call (Ok (Some c)) h = λ other others b.
+      let a : IsCall table words (row_of c.row.now) (uses_in c.uses) = subst (Says table words) (sym h) (says table clear words) in
+      one_call table clear words (row_of c.row.now) other (uses_in c.uses) others a b
+  is_only_call (Err x) h = tt
+
+  pub has_no_form : {E : Type 0} (r : Result (Option Call) E) → IfOk r IsRead → IfOk r (λ o. IfNone o (HasForm table words → ⊥))
+  has_no_form (Ok None) h = subst (Says table words) (sym h) (says table clear words)
+  has_no_form (Ok (Some c)) h = tt
+  has_no_form (Err x) h = tt

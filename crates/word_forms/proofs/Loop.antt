@@ -1,5 +1,5 @@
 -- The steps of the loop over the words.
-use Rattle.std.proofs.Common.{◌≡◌, ◌<◌, ◌≤◌, ◌+◌, ℕ, List, [], ◌∷◌, ◌++◌, length, Option, Some, None, map, refl, sym, ap, ◌∙◌, drop, get_or, drop-cons, add-one, append_assoc}
+use Rattle.std.proofs.Common.{◌≡◌, ◌<◌, ◌≤◌, ◌+◌, ℕ, List, [], ◌∷◌, ◌++◌, length, Option, Some, None, option_map, map, refl, sym, ap, ◌∙◌, drop, get_or, drop-cons, add-one, append_assoc}
 use Rattle.std.proofs.lemmas.List.{drop_all}
 use Rattle.std.specs.Prelude.{string_bytes, String}
 use Rattle.std.specs.declared.alloc.Global.{Global}
@@ -8,7 +8,11 @@ use Rattle.word_forms.specs.Step.{Step, used, waits, bad, step_word, uses_of, wi
 use Rattle.std.specs.Prelude.{is_some, true, false}
 use Rattle.std.specs.Borrow.{Bor}
 use Rattle.word_forms.specs.declared.Used.{Used}
-use Rattle.word_forms.specs.Views.{texts_of, prepend, waiting_of, use_of}
+use Rattle.word_forms.specs.Views.{texts_of, waiting_of, use_of}
+
+-- these uses before the others
+abbrev pub prepend : List Use → Option (List Use) → Option (List Use)
+prepend us = option_map (λ vs. us ++ vs)
 
 pub text_next : (words : List (String Global)) (i : ℕ) (d : String Global) → i < length words → texts_of (drop i words) ≡ string_bytes (get_or words i d) ∷ texts_of (drop (i + 1) words)
 text_next words i d lt = rw (add-one, drop-cons words i d) refl

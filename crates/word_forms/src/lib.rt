@@ -1,17 +1,20 @@
-//! The form of words: a test by a table of commands.
+//! The form of the words of a command line, by a table of commands: the first word names a command, and
+//! the others are its positionals in order and, anywhere among them, its options and flags, each as often
+//! as the table allows. The words spell one call at most, and it is found exactly where there is one.
 #![tactic(auto)]
 
-ghost use Rattle.std.specs.Prelude.{◌≡◌, ◌==◌, ◌&&◌, ◌||◌, ◌+◌, ◌<◌, ◌≤◌, ℕ, List, length, IfOk, Some, None, true, false, option_map, map, nat_le, MatchOption};
-ghost use Rattle.clap.specs.Lexer.{strip_byte, name_and_value, long_of};
-ghost use Rattle.word_forms.specs.Form.{is_value, is_positional, is_among, value_names, row_named, times, words_in, is_of, is_allowed, is_complete, fits, IsCall, HasForm, is_clear};
+ghost use Rattle.std.specs.Prelude.{◌≡◌, ◌==◌, ◌&&◌, ◌||◌, ◌+◌, ◌<◌, ◌≤◌, ℕ, List, length, IfOk, IfSome, IfNone, Some, None, true, false, option_map, map, nat_le};
 ghost use Rattle.std.specs.List.{list_all};
+ghost use Rattle.clap.specs.Lexer.{strip_byte, name_and_value, long_of};
+ghost use Rattle.word_forms.specs.Form.{is_value, is_positional, is_among, value_names, row_named, times, words_in, is_of, is_complete, IsCall, IsOnlyCall, HasForm, is_clear};
 ghost use Rattle.word_forms.specs.Step.{step_word, step_long, uses_of};
-ghost use Rattle.word_forms.specs.Views.{texts, texts_of, row_of, use_of, step_of, waiting_of, call_of};
+ghost use Rattle.word_forms.specs.Views.{texts, texts_of, row_of, use_of, uses_in, step_of, waiting_of, call_of};
 
 use std::alloc::{AllocError, Global};
 
-/// A command of the table: the names of its positionals, those that may be left out after the
-/// others; of its options, those that may not be left out apart; and of its flags.
+/// A command of the table: the names of its positionals, and after these of those that may be left out;
+/// of the options that have to stand, and of those that may be left out; and of its flags. Names stand
+/// without their hyphens.
 #[derive(Clone, Copy)]
 pub struct Entry {
     pub name: &'static str,
@@ -22,7 +25,8 @@ pub struct Entry {
     pub flags: &'static [&'static str],
 }
 
-/// What one or two words after the command do.
+/// What one or two words after the command do: a positional; an option and its value, in two words or
+/// in one; a flag.
 #[derive(Clone, Copy)]
 pub enum Used<'a> {
     Positional(&'a str),
@@ -31,9 +35,9 @@ pub enum Used<'a> {
     Flag(&'a str),
 }
 
-/// What a word does.
+// What a word does: it ends a use, it is an option that waits for its value, or it has no place.
 #[derive(Clone, Copy)]
-pub enum Reading<'a> {
+enum Reading<'a> {
     Done(Used<'a>),
     Waits(&'a str),
     Bad,
@@ -67,7 +71,8 @@ fn to_long(word: &str) -> Option<(&str, Option<&str>)>
     Some(split_value(rest))
 }
 
-pub fn is_value(word: &str) -> bool
+// Not empty, and not one that begins with a hyphen.
+fn is_value(word: &str) -> bool
     ensures { result ≡ is_value word.now }
 {
     match word.as_bytes() {
@@ -76,13 +81,15 @@ pub fn is_value(word: &str) -> bool
     }
 }
 
-pub fn is_positional(word: &str) -> bool
+// A value, or `-`.
+fn is_positional(word: &str) -> bool
     ensures { result ≡ is_positional word.now }
 {
     is_value(word) || word == "-"
 }
 
-pub fn is_among(names: &[&str], word: &str) -> bool
+// Whether the word is one of the names.
+fn is_among(names: &[&str], word: &str) -> bool
     ensures { result ≡ is_among (texts names.now) word.now }
 {
     for name in names {
@@ -93,6 +100,7 @@ pub fn is_among(names: &[&str], word: &str) -> bool
     false
 }
 
+// Whether the option or flag `name` is an option.
 #[tactic(auto, using(crate::proofs::Names::among_append))]
 fn takes_value(row: &Entry, name: &str) -> bool
     ensures { result ≡ is_among (value_names (row_of row.now)) name.now }
@@ -123,8 +131,8 @@ fn read_long<'a>(row: &Entry, name: &'a str, value: Option<&'a str>) -> Reading<
     }
 }
 
-/// What a word does, where an option waits for its value or none does.
-pub fn read_word<'a>(row: &Entry, waiting: Option<&'a str>, word: &'a str) -> Reading<'a>
+// What a word does, where an option waits for its value or none does.
+fn read_word<'a>(row: &Entry, waiting: Option<&'a str>, word: &'a str) -> Reading<'a>
     ensures { step_of result ≡ step_word (row_of row.now) (waiting_of waiting.entry) word.now }
 {
     if let Some(name) = waiting {
@@ -142,13 +150,13 @@ pub fn read_word<'a>(row: &Entry, waiting: Option<&'a str>, word: &'a str) -> Re
     }
 }
 
-/// The uses of the words, where they are read to the end.
-pub fn read_uses<'a>(
+// The uses of the words, where they are read to the end.
+fn read_uses<'a>(
     alloc: Global,
     row: &Entry,
     words: &'a [String],
 ) -> Result<Option<Vec<Used<'a>>>, AllocError>
-    ensures { IfOk result (λ o. option_map (λ v. map use_of v.items) o
+    ensures { IfOk result (λ o. option_map uses_in o
         ≡ uses_of (row_of row.now) None (texts_of words.now)) }
 {
     let mut uses = Vec::new(alloc);
@@ -185,7 +193,7 @@ fn is_of(name: &str, used: Used<'_>) -> bool
 
 // How often the option or flag `name` is used.
 fn times(uses: &[Used<'_>], name: &str) -> usize
-    ensures is { result ≡ times (map use_of uses.now) name.now }
+    ensures { result ≡ times (map use_of uses.now) name.now }
 {
     let mut count: usize = 0;
     for used in uses {
@@ -209,6 +217,7 @@ fn positionals(uses: &[Used<'_>]) -> usize
     count
 }
 
+// Whether each is used once.
 fn all_once(uses: &[Used<'_>], names: &[&str]) -> bool
     ensures { result ≡ list_all (λ x. times (map use_of uses.now) x == 1) (texts names.now) }
 {
@@ -220,6 +229,7 @@ fn all_once(uses: &[Used<'_>], names: &[&str]) -> bool
     true
 }
 
+// Whether each is used once at most.
 fn none_twice(uses: &[Used<'_>], names: &[&str]) -> bool
     ensures { result ≡ list_all (λ x. nat_le (times (map use_of uses.now) x) 1) (texts names.now) }
 {
@@ -231,8 +241,8 @@ fn none_twice(uses: &[Used<'_>], names: &[&str]) -> bool
     true
 }
 
-/// As many positionals as there are to be, and each option and flag as often as it may stand.
-pub fn is_complete(row: &Entry, uses: &[Used<'_>]) -> bool
+// As many positionals as there are to be, and each option and flag as often as it may stand.
+fn is_complete(row: &Entry, uses: &[Used<'_>]) -> bool
     ensures { result ≡ is_complete (row_of row.now) (map use_of uses.now) }
 {
     let count = positionals(uses);
@@ -244,8 +254,8 @@ pub fn is_complete(row: &Entry, uses: &[Used<'_>]) -> bool
         && none_twice(uses, row.flags)
 }
 
-/// The command of this name.
-pub fn find_row<'a>(table: &'a [Entry], name: &str) -> Option<&'a Entry>
+// The command of this name.
+fn find_row<'a>(table: &'a [Entry], name: &str) -> Option<&'a Entry>
     ensures { option_map (λ r. row_of r.now) result ≡ row_named (map row_of table.now) name.now }
 {
     for row in table {
@@ -263,13 +273,13 @@ pub struct Call<'a> {
     pub uses: Vec<Used<'a>>,
 }
 
-/// The words' command and uses, by the steps of the test.
-pub fn find_call<'a>(
+// The words' command and uses, by the steps of the test.
+fn find_call<'a>(
     alloc: Global,
     table: &'a [Entry],
     words: &'a [String],
 ) -> Result<Option<Call<'a>>, AllocError>
-    ensures { IfOk result (λ o. option_map (λ c. (row_of c.row.now, map use_of c.uses.items)) o
+    ensures { IfOk result (λ o. option_map (λ c. (row_of c.row.now, uses_in c.uses)) o
         ≡ call_of (map row_of table.now) (texts_of words.now)) }
 {
     let [name, rest @ ..] = words else {
@@ -287,16 +297,18 @@ pub fn find_call<'a>(
     Ok(Some(Call { row, uses }))
 }
 
-/// The words' command and uses, exactly where the words have the form.
+/// The words' command and uses, exactly where the words have the form. There is one such reading at most.
 pub fn read_call<'a>(
     alloc: Global,
     table: &'a [Entry],
     words: &'a [String],
 ) -> Result<Option<Call<'a>>, AllocError>
     requires { list_all is_clear (map row_of table.now) ≡ true }
-    ensures { IfOk result (λ o. MatchOption o
-        (HasForm (map row_of table.now) (texts_of words.now) → ⊥)
-        (λ c. IsCall (map row_of table.now) (texts_of words.now) (row_of c.row.now) (map use_of c.uses.items))) }
+    ensures call { IfOk result (λ o. IfSome o (λ c.
+        IsCall (map row_of table.now) (texts_of words.now) (row_of c.row.now) (uses_in c.uses))) }
+    ensures only { IfOk result (λ o. IfSome o (λ c.
+        IsOnlyCall (map row_of table.now) (texts_of words.now) (row_of c.row.now) (uses_in c.uses))) }
+    ensures none { IfOk result (λ o. IfNone o (HasForm (map row_of table.now) (texts_of words.now) → ⊥)) }
 {
     find_call(alloc, table, words)
 }

@@ -1,6 +1,6 @@
 use Rattle.std.proofs.Common.{◌∙◌, sym, ap, map, arith, rules}
-use Rattle.word_forms.specs.Views.{row_of, use_of, waiting_of, prepend}
-use Rattle.word_forms.proofs.Loop.{word_here, no_text, done, waits_for, stops, at_last, no_wait, some_wait, all_read, pushed}
+use Rattle.word_forms.specs.Views.{row_of, use_of, waiting_of}
+use Rattle.word_forms.proofs.Loop.{prepend, word_here, no_text, done, waits_for, stops, at_last, no_wait, some_wait, all_read, pushed}
 use Rattle.word_forms.proofs.read_uses.Goals as goal
 use Rattle.word_forms.proofs.read_uses.Goals.{in-Done+in_ok-push-in-Done, in-Waits}
 

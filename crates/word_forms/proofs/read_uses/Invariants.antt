@@ -1,6 +1,7 @@
 use Rattle.std.proofs.Common.{◌≡◌, drop, map, None}
 use Rattle.word_forms.specs.Step.{uses_of}
-use Rattle.word_forms.specs.Views.{texts_of, use_of, row_of, waiting_of, prepend}
+use Rattle.word_forms.specs.Views.{texts_of, use_of, row_of, waiting_of}
+use Rattle.word_forms.proofs.Loop.{prepend}
 use Rattle.word_forms.proofs.read_uses.Given as goal
 
 abbrev pub invariant-loop-word : goal.invariant-loop-word
