@@ -1,6 +1,6 @@
 -- The names that are read are those of the list.
 use Rattle.std.proofs.Common.{◌≡◌, ◌==◌, ◌&&◌, inl, inr, ℕ, Bool, true, false, not, List, [], ◌∷◌, ◌++◌, Option, Some, None, option_map, map, refl, sym, ap, ◌∙◌, subst, arith, append_assoc, codes}
-use Rattle.std.specs.Prelude.{MatchOption}
+use Rattle.std.specs.Prelude.{IfSome, IfNone}
 use Rattle.std.proofs.Common.{Result, Ok, Err, IfOk}
 use Rattle.std.specs.Global.{Vec}
 use Rattle.word_lists.specs.Views.{names_in}
@@ -10,7 +10,7 @@ use Rattle.std.proofs.lemmas.Bool.Decides.{nat_tests}
 use Rattle.std.proofs.lemmas.Slice.Eq.{bytes_eq-Decides}
 use Rattle.word_lists.specs.declared.Place.{Place}
 use Rattle.word_lists.specs.declared.Place.TheVariants.{Due, Plain, Inside, Closed}
-use Rattle.word_lists.specs.Lists.{Item, bare, quoted, name_of, text_of, is_some_text, is_bare_byte, is_quoted_byte, is_item, more_text, list_text, IsList}
+use Rattle.word_lists.specs.Lists.{Item, bare, quoted, name_of, text_of, is_some_text, is_bare_byte, is_quoted_byte, is_item, more_text, list_text, IsItems, IsList}
 use Rattle.word_lists.specs.Walk.{Names, names_of, is_none, with_name, list_of}
 
 both : (a b : Bool) → (a && b) ≡ true → (a ≡ true) × (b ≡ true)
@@ -96,15 +96,8 @@ pub record Inner (name : List ℕ) (bytes : List ℕ) (names : Names) : Type 0 w
   pub good : list_all is_item items ≡ true
   pub gives : names ≡ (name ++ more) ∷ map name_of items
 
-pub record Whole (bytes : List ℕ) (names : Names) : Type 0 where
-  pub item : Item
-  pub items : List Item
-  pub text : bytes ≡ list_text item items
-  pub good : list_all is_item (item ∷ items) ≡ true
-  pub gives : names ≡ map name_of (item ∷ items)
-
 abbrev pub Spelled : Place → List ℕ → List ℕ → Names → Type 0
-Spelled Due name bytes names = is_none name ≡ true → Whole bytes names
+Spelled Due name bytes names = is_none name ≡ true → IsItems bytes names
 Spelled Plain name bytes names = Tail name bytes names
 Spelled Inside name bytes names = Inner name bytes names
 Spelled Closed name bytes names = Rest name bytes names
@@ -121,7 +114,7 @@ comma name bs names None e h ih = cc h
 comma name bs names (Some ns) e h ih =
     let w = ih Due [] ns e refl in
     let is : names ≡ name ∷ ns = cc h in
-    record { items = w.item ∷ w.items; text = ap (λ (t : List ℕ). 44 ∷ t) w.text; good = w.good; gives = is ∙ ap (λ (t : Names). name ∷ t) w.gives }
+    record { items = w.first ∷ w.more; text = ap (λ (t : List ℕ). 44 ∷ t) w.spelling; good = w.items; gives = is ∙ ap (λ (t : Names). name ∷ t) w.gives }
 
 rest_tail : (name bytes : List ℕ) (names : Names) → Rest name bytes names → Tail name bytes names
 rest_tail name bytes names r = record { more = []; items = r.items; text = r.text; plain = refl; good = r.good; gives = r.gives ∙ ap (λ (n : List ℕ). n ∷ map name_of r.items) (sym (no_more name)) }
@@ -140,15 +133,15 @@ no_bytes Plain name names h = let is : names ≡ name ∷ [] = cc h in rest_tail
 no_bytes Inside name names h = cc h
 no_bytes Closed name names h = let is : names ≡ name ∷ [] = cc h in record { items = []; text = refl; good = refl; gives = is }
 
-due : (b : ℕ) (bs name : List ℕ) (names : Names) (p q : Bool) → (b == 34) ≡ p → (b == 44) ≡ q → names_of Due name (b ∷ bs) ≡ Some names → Spells bs → is_none name ≡ true → Whole (b ∷ bs) names
+due : (b : ℕ) (bs name : List ℕ) (names : Names) (p q : Bool) → (b == 34) ≡ p → (b == 44) ≡ q → names_of Due name (b ∷ bs) ≡ Some names → Spells bs → is_none name ≡ true → IsItems (b ∷ bs) names
 unfolding names_of
 due b bs [] names true q e f h ih none =
     let w : Inner [] bs names = ih Inside [] names (rw e at h) in
     record {
-      item = quoted w.more;
-      items = w.items;
-      text = ap (λ (n : ℕ). n ∷ bs) (is_byte b 34 e) ∙ ap (λ (t : List ℕ). 34 ∷ t) (w.text ∙ sym (append_assoc w.more (34 ∷ []) (more_text w.items)));
-      good = and_true (is_some_text w.more && list_all is_quoted_byte w.more) (list_all is_item w.items) (and_true (is_some_text w.more) (list_all is_quoted_byte w.more) w.some w.plain) w.good;
+      first = quoted w.more;
+      more = w.items;
+      spelling = ap (λ (n : ℕ). n ∷ bs) (is_byte b 34 e) ∙ ap (λ (t : List ℕ). 34 ∷ t) (w.text ∙ sym (append_assoc w.more (34 ∷ []) (more_text w.items)));
+      items = and_true (is_some_text w.more && list_all is_quoted_byte w.more) (list_all is_item w.items) (and_true (is_some_text w.more) (list_all is_quoted_byte w.more) w.some w.plain) w.good;
       gives = w.gives;
     }
 due b bs [] names false true e f h ih none = let bad : None ≡ Some names = rw (e, f) at h in cc bad
@@ -156,10 +149,10 @@ due b bs [] names false false e f h ih none =
     let w : Tail (b ∷ []) bs names = ih Plain (b ∷ []) names (rw (e, f) at h) in
     let here : is_bare_byte b ≡ true = rw (e, f) refl in
     record {
-      item = bare (b ∷ w.more);
-      items = w.items;
-      text = ap (λ (t : List ℕ). b ∷ t) w.text;
-      good = and_true (is_bare_byte b && list_all is_bare_byte w.more) (list_all is_item w.items) (and_true (is_bare_byte b) (list_all is_bare_byte w.more) here w.plain) w.good;
+      first = bare (b ∷ w.more);
+      more = w.items;
+      spelling = ap (λ (t : List ℕ). b ∷ t) w.text;
+      items = and_true (is_bare_byte b && list_all is_bare_byte w.more) (list_all is_item w.items) (and_true (is_bare_byte b) (list_all is_bare_byte w.more) here w.plain) w.good;
       gives = w.gives;
     }
 due b bs (x ∷ xs) names p q e f h ih none = cc none
@@ -222,31 +215,51 @@ spelled (b ∷ bs) Closed n ns h = closed b bs n ns (b == 44) refl h (spelled bs
 
 -- ---- the two together
 
-abbrev pub Reads : List ℕ → Option Names → Type 0
-Reads text o = MatchOption o ((names : Names) → IsList text names → ⊥) (λ names. IsList text names)
+-- the names of a list that isn't `{}` are read
+items_read : (text : List ℕ) (names : Names) → IsItems text names → names_of Due [] text ≡ Some names
+items_read text names is = ap (names_of Due []) is.spelling ∙ (list_read is.first is.more is.items ∙ ap (λ (n : Names). Some n) (sym is.gives))
 
-plain_reads : (text : List ℕ) → (text ≡ codes "{}" → ⊥) → (o : Option Names) → names_of Due [] text ≡ o → Reads text o
-plain_reads text other None e = λ names is. elim is [
-  | inl h ↦ other h.0
-  | inr h ↦
-      let r = h.1 in
-      let bad : None ≡ Some (map name_of (r.0 ∷ r.1)) = sym e ∙ (ap (names_of Due []) r.2 ∙ list_read r.0 r.1 r.3) in
-      cc bad
-]
-plain_reads text other (Some ns) e = let w = spelled text Due [] ns e refl in inr (other, (w.item, w.items, w.text, w.good, w.gives))
-
-pub reads : (text : List ℕ) → Reads text (list_of text)
-reads text = go (bytes_eq text (codes "{}")) refl
+-- a list has these names exactly where these are read
+pub read_is_list : (text : List ℕ) (names : Names) → list_of text ≡ Some names → IsList text names
+read_is_list text names h = go (bytes_eq text (codes "{}")) refl
   where
-    go : (t : Bool) → bytes_eq text (codes "{}") ≡ t → Reads text (list_of text)
-    go true e = rw e (inl ((bytes_eq-Decides text (codes "{}")).0 e, refl))
-    go false e = rw e (plain_reads text (λ h. let k = (bytes_eq-Decides text (codes "{}")).1 h in cc (k, e)) (names_of Due [] text) refl)
+    go : (t : Bool) → bytes_eq text (codes "{}") ≡ t → IsList text names
+    go true e = let k : Some [] ≡ Some names = rw e at h in let none : names ≡ [] = cc k in inl ((bytes_eq-Decides text (codes "{}")).0 e, none)
+    go false e = inr (λ s. let k = (bytes_eq-Decides text (codes "{}")).1 s in cc (k, e), spelled text Due [] names (rw e at h) refl)
 
-pub vec_reads : (text : List ℕ) (o : Option (Vec (Vec ℕ))) → option_map names_in o ≡ list_of text → MatchOption o ((names : Names) → IsList text names → ⊥) (λ v. IsList text (names_in v))
-vec_reads text None e = subst (Reads text) (sym e) (reads text)
-vec_reads text (Some v) e = subst (Reads text) (sym e) (reads text)
+pub list_is_read : (text : List ℕ) (names : Names) → IsList text names → list_of text ≡ Some names
+list_is_read text names is = go (bytes_eq text (codes "{}")) refl
+  where
+    go : (t : Bool) → bytes_eq text (codes "{}") ≡ t → list_of text ≡ Some names
+    go true e = elim is [
+      | inl h ↦ rw (e, h.1) refl
+      | inr h ↦ absurd (h.0 ((bytes_eq-Decides text (codes "{}")).0 e))
+    ]
+    go false e = elim is [
+      | inl h ↦ let k = (bytes_eq-Decides text (codes "{}")).1 h.0 in cc (k, e)
+      | inr h ↦ rw e (items_read text names h.1)
+    ]
 
-pub result_reads : {E : Type 0} (text : List ℕ) (r : Result (Option (Vec (Vec ℕ))) E) → IfOk r (λ o. option_map names_in o ≡ list_of text)
-    → IfOk r (λ o. MatchOption o ((names : Names) → IsList text names → ⊥) (λ v. IsList text (names_in v)))
-result_reads text (Ok o) h = vec_reads text o h
-result_reads text (Err x) h = tt
+-- ---- what the reading tells, as the clauses of the code say it
+
+module _ (text : List ℕ) where
+  abbrev IsRead : Option (Vec (Vec ℕ)) → Type 0
+  IsRead o = option_map names_in o ≡ list_of text
+
+  pub is_list : {E : Type 0} (r : Result (Option (Vec (Vec ℕ))) E) → IfOk r IsRead → IfOk r (λ o. IfSome o (λ v. IsList text (names_in v)))
+  is_list (Ok None) h = tt
+  is_list (Ok (Some v)) h = read_is_list text (names_in v) (sym h)
+  is_list (Err x) h = tt
+
+  pub is_only_list : {E : Type 0} (r : Result (Option (Vec (Vec ℕ))) E) → IfOk r IsRead → IfOk r (λ o. IfSome o (λ v. (names : Names) → IsList text names → names ≡ names_in v))
+  is_only_list (Ok None) h = tt
+  is_only_list (Ok (Some v)) h = λ names is.
+      let k : Some (names_in v) ≡ Some names = h ∙ list_is_read text names is in
+      let same : names ≡ names_in v = cc k in
+      same
+  is_only_list (Err x) h = tt
+
+  pub is_no_list : {E : Type 0} (r : Result (Option (Vec (Vec ℕ))) E) → IfOk r IsRead → IfOk r (λ o. IfNone o ((names : Names) → IsList text names → ⊥))
+  is_no_list (Ok None) h = λ names is. let k : None ≡ Some names = h ∙ list_is_read text names is in cc k
+  is_no_list (Ok (Some v)) h = tt
+  is_no_list (Err x) h = tt

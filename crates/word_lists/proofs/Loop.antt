@@ -1,5 +1,5 @@
 -- The steps of the loop over the bytes.
-use Rattle.std.proofs.Common.{◌≡◌, ◌<◌, ◌≤◌, ◌+◌, ℕ, List, [], ◌∷◌, ◌++◌, length, Option, Some, None, map, refl, sym, ap, ◌∙◌, drop, get_or, drop-cons, add-one, append_assoc}
+use Rattle.std.proofs.Common.{◌≡◌, ◌<◌, ◌≤◌, ◌+◌, ℕ, List, [], ◌∷◌, ◌++◌, length, Option, Some, None, option_map, map, refl, sym, ap, ◌∙◌, drop, get_or, drop-cons, add-one, append_assoc}
 use Rattle.std.proofs.lemmas.List.{drop_all}
 use Rattle.std.specs.Prelude.{true, false}
 use Rattle.std.specs.Global.{Vec}
@@ -7,7 +7,11 @@ use Rattle.word_lists.specs.declared.Place.{Place}
 use Rattle.word_lists.specs.declared.Place.TheVariants.{Due, Plain, Inside, Closed}
 use Rattle.word_lists.specs.declared.Next.{Next}
 use Rattle.word_lists.specs.declared.Next.TheVariants.{Take, Pass, End, Bad}
-use Rattle.word_lists.specs.Walk.{Names, names_of, next_of, is_none, after_byte, with_name, at_end, prepend, can_end}
+use Rattle.word_lists.specs.Walk.{Names, names_of, next_of, is_none, after_byte, with_name, at_end, can_end}
+
+-- these names before the others
+abbrev pub prepend : Names → Option Names → Option Names
+prepend names = option_map (λ more. names ++ more)
 
 pub byte_here : (bytes : List ℕ) (i b : ℕ) → i < length bytes → b ≡ get_or bytes i 0 → drop i bytes ≡ b ∷ drop (i + 1) bytes
 byte_here bytes i b lt is = rw (add-one, drop-cons bytes i 0, is) refl

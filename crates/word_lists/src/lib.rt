@@ -1,34 +1,37 @@
-//! Lists of names, and numbers, in words.
+//! Lists of names and numbers, as they stand in the values of options. A list is `{}` for none, or names
+//! joined by commas; a name that holds a comma stands between quotes. Nothing is trimmed. A number is one
+//! or more decimal digits.
 #![tactic(auto)]
 
-ghost use Rattle.std.specs.Prelude.{◌≡◌, ℕ, List, [], length, IfOk, Some, None, true, false, option_map, map, MatchOption, ◌<◌, ◌≤◌, ◌^◌};
-ghost use Rattle.word_lists.specs.Walk.{next_of, names_of, list_of, is_none, can_end};
+ghost use Rattle.std.specs.Prelude.{◌≡◌, ℕ, List, [], length, IfOk, IfSome, IfNone, true, option_map, MatchOption, ◌<◌, ◌≤◌, ◌^◌};
 ghost use Rattle.std.specs.Str.{all_ascii_digits};
 ghost use Rattle.std.specs.Str.Parse.{digits_value};
-ghost use Rattle.word_lists.specs.Numbers.{IsNumber};
 ghost use Rattle.word_lists.specs.Lists.{IsList};
+ghost use Rattle.word_lists.specs.Numbers.{IsNumber};
+ghost use Rattle.word_lists.specs.Walk.{next_of, names_of, list_of, is_none, can_end};
 ghost use Rattle.word_lists.specs.Views.{names_in};
 
 use std::alloc::{AllocError, Global};
 
-/// Where the reader of a list stands: an item is due, in an item, between quotes, or after quotes.
+// Where the reader of a list stands: an item is due, in an item, between quotes, or after quotes.
 #[derive(Clone, Copy)]
-pub enum Place {
+enum Place {
     Due,
     Plain,
     Inside,
     Closed,
 }
 
-/// What a byte does: it is one more of the item, it only moves, it ends the item, or it has no place.
+// What a byte does: it is one more of the item, it only moves, it ends the item, or it has no place.
 #[derive(Clone, Copy)]
-pub enum Next {
+enum Next {
     Take(Place),
     Pass(Place),
     End,
     Bad,
 }
 
+// What a byte does at a place, where there is nothing of an item yet or something.
 fn step(place: Place, is_none: bool, byte: u8) -> Next
     ensures { result ≡ next_of place is_none byte }
 {
@@ -61,6 +64,7 @@ fn step(place: Place, is_none: bool, byte: u8) -> Next
     }
 }
 
+// Whether there is nothing of an item.
 fn lacks(name: &[u8]) -> bool
     ensures { result ≡ is_none name.now }
 {
@@ -70,6 +74,7 @@ fn lacks(name: &[u8]) -> bool
     }
 }
 
+// Whether an item may end here.
 fn ends(place: Place) -> bool
     ensures { result ≡ can_end place }
 {
@@ -79,6 +84,7 @@ fn ends(place: Place) -> bool
     }
 }
 
+// The names of items joined by commas, where the text is such.
 fn read_names(alloc: Global, text: &[u8]) -> Result<Option<Vec<Vec<u8>>>, AllocError>
     ensures { IfOk result (λ o. option_map names_in o ≡ names_of Place.Due [] text.now) }
 {
@@ -111,23 +117,26 @@ fn read_names(alloc: Global, text: &[u8]) -> Result<Option<Vec<Vec<u8>>>, AllocE
     Ok(Some(names))
 }
 
-/// The names of a list, where the text is one.
-pub fn find_list(alloc: Global, text: &[u8]) -> Result<Option<Vec<Vec<u8>>>, AllocError>
+// The names of a list, where the text is one.
+fn find_list(alloc: Global, text: &str) -> Result<Option<Vec<Vec<u8>>>, AllocError>
     ensures { IfOk result (λ o. option_map names_in o ≡ list_of text.now) }
 {
-    if text == b"{}".as_slice() {
+    if text == "{}" {
         return Ok(Some(Vec::new(alloc)));
     }
-    read_names(alloc, text)
+    read_names(alloc, text.as_bytes())
 }
 
 /// The names of a list, exactly where the text is one.
-pub fn read_list(alloc: Global, text: &[u8]) -> Result<Option<Vec<Vec<u8>>>, AllocError>
-    ensures { IfOk result (λ o. MatchOption o ((names : List (List ℕ)) → IsList text.now names → ⊥) (λ v. IsList text.now (names_in v))) }
+pub fn read_list(alloc: Global, text: &str) -> Result<Option<Vec<Vec<u8>>>, AllocError>
+    ensures list { IfOk result (λ o. IfSome o (λ v. IsList text.now (names_in v))) }
+    ensures only { IfOk result (λ o. IfSome o (λ v. (names : List (List ℕ)) → IsList text.now names → names ≡ names_in v)) }
+    ensures none { IfOk result (λ o. IfNone o ((names : List (List ℕ)) → IsList text.now names → ⊥)) }
 {
     find_list(alloc, text)
 }
 
+// Whether all bytes are digits.
 fn are_digits(text: &[u8]) -> bool
     ensures { result ≡ all_ascii_digits text.now }
 {
@@ -139,6 +148,7 @@ fn are_digits(text: &[u8]) -> bool
     true
 }
 
+// The number that digits are, where there are some and it isn't too wide.
 fn parse_digits(text: &str) -> Option<u64>
     requires { all_ascii_digits text.now ≡ true }
     ensures { MatchOption result (0 < length text.now → 2 ^ 64 ≤ digits_value 10 text.now) (λ n. (0 < length text.now) × (digits_value 10 text.now ≡ n)) }
@@ -149,9 +159,10 @@ fn parse_digits(text: &str) -> Option<u64>
     }
 }
 
-/// The number that the text is, exactly where it is one in the range.
+/// The number that the text is, exactly where it is one in the range from `low` to `high`.
 pub fn read_number(text: &str, low: u64, high: u64) -> Option<u64>
-    ensures { MatchOption result ((n : ℕ) → IsNumber text.now low high n → ⊥) (λ n. IsNumber text.now low high n) }
+    ensures number { IfSome result (λ n. IsNumber text.now low high n) }
+    ensures none { IfNone result ((n : ℕ) → IsNumber text.now low high n → ⊥) }
 {
     if !are_digits(text.as_bytes()) {
         return None;

@@ -1,7 +1,7 @@
 use Rattle.std.proofs.Common.{◌∙◌, sym, ap, arith, rules, refl, get_or}
 use Rattle.word_lists.specs.Views.{names_in}
-use Rattle.word_lists.specs.Walk.{prepend, next_of, is_none}
-use Rattle.word_lists.proofs.Loop.{byte_here, no_byte, takes, passes, ends_name, stops, at_last, no_end, an_end, names_pushed}
+use Rattle.word_lists.specs.Walk.{next_of, is_none}
+use Rattle.word_lists.proofs.Loop.{prepend, byte_here, no_byte, takes, passes, ends_name, stops, at_last, no_end, an_end, names_pushed}
 use Rattle.word_lists.proofs.read_names.Goals as goal
 use Rattle.word_lists.proofs.read_names.Goals.{in-Take+in_ok-push-in-Take, in-Pass, in-End+in_ok-push-in-End}
 
