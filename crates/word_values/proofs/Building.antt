@@ -6,7 +6,7 @@ use Rattle.clap.specs.Simple.{App, with_rule, on_top, new_app, with_subcommand}
 use Rattle.word_forms.specs.Form.{Row}
 use Rattle.word_forms.specs.Views.{row_of}
 use Rattle.word_forms.specs.declared.Entry.{Entry}
-use Rattle.word_values.specs.Commands.{shape_of_row, app_of_row, rules_of_row, positional_rule, extra_rule, needed_rule, option_rule, flag_rule}
+use Rattle.word_values.specs.App.{shape_of_row, app_of_row, rules_of_row, positional_rule, extra_rule, needed_rule, option_rule, flag_rule}
 
 abbrev pub with_rules : App → List Rule → App
 with_rules a rules = on_top (λ s. record s { rules = s.rules ++ rules }) a
@@ -38,8 +38,8 @@ row_built row a b c d e f pa pb pc pd pe pf =
 drop_next : (entries : List Entry) (i : ℕ) (d : Entry) → i < length entries → drop i entries ≡ get_or entries i d ∷ drop (i + 1) entries
 drop_next entries i d lt = rw (add-one, drop-cons entries i d) refl
 
-pub command_more : (entries : List Entry) (i : ℕ) (d : Entry) (old new inner : App) → i < length entries → new ≡ with_subcommand old inner.top → inner ≡ app_of_row (row_of (get_or entries i d))
+pub program_more : (entries : List Entry) (i : ℕ) (d : Entry) (old new inner : App) → i < length entries → new ≡ with_subcommand old inner.top → inner ≡ app_of_row (row_of (get_or entries i d))
     → fold (λ a row. with_subcommand a (shape_of_row row)) new (map row_of (drop (i + 1) entries)) ≡ fold (λ a row. with_subcommand a (shape_of_row row)) old (map row_of (drop i entries))
-command_more entries i d old new inner lt e f =
+program_more entries i d old new inner lt e f =
     let g : new ≡ with_subcommand old (shape_of_row (row_of (get_or entries i d))) = e ∙ ap (λ (x : App). with_subcommand old x.top) f in
     rw (g, drop_next entries i d lt) refl

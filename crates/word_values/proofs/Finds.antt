@@ -8,7 +8,7 @@ use Rattle.std.proofs.lemmas.Slice.Eq.{bytes_eq-Decides}
 use Rattle.clap.specs.Walk.{Row as Entry, Rule, has_row, arg_by_id, with_default, more_values, is_empty, reading_by}
 use Rattle.clap.specs.declared.parser.matches.ValueSource.TheVariants.{DefaultValue}
 use Rattle.clap.proofs.WalkLemmas.{both}
-use Rattle.word_forms.specs.Form.{Text, Row, Use, positional, apart, joined, flag, fits, is_among, is_value, is_positional, value_names, words_in, value_of, has_flag, word_of}
+use Rattle.word_forms.specs.Form.{Text, Row, Use, positional, apart, joined, flag, fits, is_among, is_value, is_positional, value_names, words_in, value_of, has_flag, word_at}
 use Rattle.word_forms.proofs.Texts.{same_bytes}
 use Rattle.word_values.proofs.Steps.{flag_built, entry_of, flag_entry, or_false, row_missing}
 use Rattle.word_values.proofs.Uses.{entries, not_true}
@@ -159,14 +159,14 @@ flag_found row x names (flag y ∷ uses) fit a b = go (bytes_eq y x) refl (flag_
     go false e next = rw e next
 
 pub positional_found : (row : Row) (x : Text) (names : List Text) (uses : List Use) → list_all (fits row) uses ≡ true → is_among (value_names row) x ≡ false → is_among row.flags x ≡ false
-    → row_by x (entries names uses) ≡ option_map (entry_of x) (word_of names (words_in uses) x)
+    → row_by x (entries names uses) ≡ option_map (entry_of x) (word_at names (words_in uses) x)
 positional_found row x [] [] fit a b = refl
 positional_found row x (n ∷ names) [] fit a b = refl
 positional_found row x [] (positional w ∷ uses) fit a b = positional_found row x [] uses (both (is_positional w) _ fit).1 a b
 positional_found row x (n ∷ names) (positional w ∷ uses) fit a b = go (bytes_eq n x) refl (positional_found row x names uses (both (is_positional w) _ fit).1 a b)
   where
-    go : (t : Bool) → bytes_eq n x ≡ t → row_by x (entries names uses) ≡ option_map (entry_of x) (word_of names (words_in uses) x)
-        → row_by x (entry_of n w ∷ entries names uses) ≡ option_map (entry_of x) (if bytes_eq n x then Some w else word_of names (words_in uses) x)
+    go : (t : Bool) → bytes_eq n x ≡ t → row_by x (entries names uses) ≡ option_map (entry_of x) (word_at names (words_in uses) x)
+        → row_by x (entry_of n w ∷ entries names uses) ≡ option_map (entry_of x) (if bytes_eq n x then Some w else word_at names (words_in uses) x)
     go true e next = rw e (ap (λ z. Some (entry_of z w)) ((bytes_eq-Decides n x).0 e))
     go false e next = rw e next
 positional_found row x names (apart y v ∷ uses) fit a b =

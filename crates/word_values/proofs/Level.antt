@@ -8,7 +8,7 @@ use Rattle.clap.specs.Walk.{Row as Entry, Rule, Walk, walk, arg_by_id, with_defa
 use Rattle.clap.specs.Simple.{Shape}
 use Rattle.clap.specs.Takes.{is_given, level_passes, default_passes, is_valid, settle_passes}
 use Rattle.clap.proofs.WalkLemmas.{both}
-use Rattle.word_forms.specs.Form.{Text, Row, Use, positional, apart, joined, flag, spelled, fits, is_among, is_value, is_positional, value_names, words_in, times, value_of, has_flag, word_of}
+use Rattle.word_forms.specs.Form.{Text, Row, Use, positional, apart, joined, flag, spelled, fits, is_among, is_value, is_positional, value_names, words_in, times, value_of, has_flag, word_at}
 use Rattle.word_values.proofs.Steps.{flag_built, entry_of, flag_entry, between, settles, settles_well, held}
 use Rattle.word_values.proofs.Uses.{Reads, Runs, or_true, runs, entries, not_true, all_at, same_at, names_of_row, among_left, among_right}
 use Rattle.word_values.specs.Gives.{Gives}
@@ -56,13 +56,13 @@ option_given row x (flag y ∷ uses) fit a h =
     let f = both (is_among row.flags y) _ fit in
     option_given row x uses f.1 a (let k : 1 ≤ 0 + times uses x = rw (differs row.flags y x a f.0) at h in omega arith)
 
-positional_given : (ps extra words : List Text) (x : Text) → is_among ps x ≡ true → length ps ≤ length words → is_some (word_of (ps ++ extra) words x) ≡ true
+pub positional_given : (ps extra words : List Text) (x : Text) → is_among ps x ≡ true → length ps ≤ length words → is_some (word_at (ps ++ extra) words x) ≡ true
 positional_given [] extra words x a h = cc a
 positional_given (p ∷ ps) extra [] x a h = absurd (omega arith)
 positional_given (p ∷ ps) extra (w ∷ words) x a h = go (bytes_eq p x) refl (positional_given ps extra words x)
   where
-    go : (t : Bool) → bytes_eq p x ≡ t → (is_among ps x ≡ true → length ps ≤ length words → is_some (word_of (ps ++ extra) words x) ≡ true)
-        → is_some (if bytes_eq p x then Some w else word_of (ps ++ extra) words x) ≡ true
+    go : (t : Bool) → bytes_eq p x ≡ t → (is_among ps x ≡ true → length ps ≤ length words → is_some (word_at (ps ++ extra) words x) ≡ true)
+        → is_some (if bytes_eq p x then Some w else word_at (ps ++ extra) words x) ≡ true
     go true e next = rw e
     go false e next = rw e (next (rw e at a) (omega arith))
 
@@ -85,7 +85,7 @@ module _ (row : Row) (s : Shape) (reads : Reads row s) (closes : Closes row s) (
       (other_side (names_of_row row) (value_names row ++ row.flags) x sound.apart_names (among_left (value_names row) row.flags x has))
       (not_true _ (all_at (λ y. not (is_among row.flags y)) (value_names row) x sound.apart_flags has))
 
-  positional_row : (n : Text) → is_among (names_of_row row) n ≡ true → row_by n es ≡ option_map (entry_of n) (word_of (names_of_row row) (words_in uses) n)
+  positional_row : (n : Text) → is_among (names_of_row row) n ≡ true → row_by n es ≡ option_map (entry_of n) (word_at (names_of_row row) (words_in uses) n)
   positional_row n has =
       let parts = among_parts (value_names row) row.flags n (not_true _ (all_at (λ m. not (is_among (value_names row ++ row.flags) m)) (names_of_row row) n sound.apart_names has)) in
       positional_found row n (names_of_row row) uses a.fit parts.0 parts.1
@@ -108,7 +108,7 @@ module _ (row : Row) (s : Shape) (reads : Reads row s) (closes : Closes row s) (
   gives = record {
     options = λ x has. value_at x (value_of uses x) (among_left (value_names row) (names_of_row row) x has) (option_row x has);
     flags = λ x has. flag_value x (has_flag uses x) refl has;
-    positionals = λ n has. value_at n (word_of (names_of_row row) (words_in uses) n) (among_right (value_names row) (names_of_row row) n has) (positional_row n has);
+    positionals = λ n has. value_at n (word_at (names_of_row row) (words_in uses) n) (among_right (value_names row) (names_of_row row) n has) (positional_row n has);
   }
 
   -- ---- what is required is given
@@ -126,7 +126,7 @@ module _ (row : Row) (s : Shape) (reads : Reads row s) (closes : Closes row s) (
 
   place_given : (n : Text) → is_among row.positionals n ≡ true → is_given n rows ≡ true
   place_given n has =
-      given_row n (word_of (names_of_row row) (words_in uses) n) (positional_given row.positionals row.extra (words_in uses) n has a.least)
+      given_row n (word_at (names_of_row row) (words_in uses) n) (positional_given row.positionals row.extra (words_in uses) n has a.least)
       (positional_row n (among_left row.positionals row.extra n has))
 
   required_given : (x : Text) → is_among (row.positionals ++ row.needed) x ≡ true → is_given x rows ≡ true

@@ -183,22 +183,18 @@ module _ (b : App) (leaf : Row → Shape) (free : TopIsFree b.top) (table : List
   found : find (λ t. answers_to row.name (label_of t)) b.subs ≡ Some (leaf row)
   found = ap (λ (x : Seen). x.found) here
 
-  abbrev rows : List Entry
+  abbrev pub rows : List Entry
   rows = rows_after (leaf row).rules [] (flat_map spelled uses)
 
-  enters_at : entered b (stop_after b.top.rules (names_of b) words) ≡ Some (row.name, rows)
-  enters_at =
+  pub found_below : entered b (stop_after b.top.rules (names_of b) words) ≡ Some (row.name, rows)
+  found_below =
       ap (λ (w : Walk). entered b w.stopped) walks
       ∙ (ap (λ (o : Option Shape). option_map (λ s. rows_at s (flat_map spelled uses)) o) found ∙ ap (λ (x : Seen). Some (x.name, rows)) here)
 
-  pub enters : (rows : List Entry) × (entered b (stop_after b.top.rules (names_of b) words) ≡ Some (row.name, rows)) × Gives row uses rows
-  enters = (
-    rows,
-    enters_at,
-    subst (λ (r : List Entry). Gives row uses r)
-        (sym (rows_are row (leaf row) (reads_of b leaf row here) (closes_of b leaf row here) (sound_of b leaf row here) uses (allowed row uses allows)))
-        (gives row (leaf row) (reads_of b leaf row here) (closes_of b leaf row here) (sound_of b leaf row here) uses (allowed row uses allows)),
-  )
+  pub gives_uses : Gives row uses rows
+  gives_uses = subst (λ (r : List Entry). Gives row uses r)
+      (sym (rows_are row (leaf row) (reads_of b leaf row here) (closes_of b leaf row here) (sound_of b leaf row here) uses (allowed row uses allows)))
+      (gives row (leaf row) (reads_of b leaf row here) (closes_of b leaf row here) (sound_of b leaf row here) uses (allowed row uses allows))
 
   below : entered_passes b (stop_after b.top.rules (names_of b) words) ≡ true
   below =
@@ -213,4 +209,4 @@ module _ (b : App) (leaf : Row → Shape) (free : TopIsFree b.top) (table : List
       (and_true _ _ free.defaults (ap (λ (w : Walk). is_valid b.top (finished b.top.rules w.held) true) walks ∙ free.valid)))
 
   pub takes_words : built_takes b nothing_held words ≡ true
-  takes_words = and_true _ _ below (ap (λ (o : Option (Text × List Entry)). level_passes b.top (names_of b) nothing_held words (is_some o)) enters_at ∙ above)
+  takes_words = and_true _ _ below (ap (λ (o : Option (Text × List Entry)). level_passes b.top (names_of b) nothing_held words (is_some o)) found_below ∙ above)

@@ -1,27 +1,30 @@
-//! What `clap` reads on words of the form.
+//! The commands that are built, and what the words of a command line ask of them. Words are read exactly
+//! where they have the form of the table of commands; their values come from `clap`, which refuses such
+//! words for want of memory alone. Words that ask for help or for a version have no form.
 #![tactic(auto)]
 
-ghost use Rattle.std.specs.Prelude.{◌≡◌, ℕ, List, Some, None, true, false, IfOk, IfErr, map, fold, option_map, codes, MatchOption};
-ghost use Rattle.clap.specs.Simple.{app_of, with_rule, with_subcommand};
+ghost use Rattle.std.specs.Prelude.{◌≡◌, List, Some, None, true, false, IfOk, IfErr, IfSome, IfNone, is_some, map, fold, option_map, codes};
+ghost use Rattle.std.specs.List.{list_all};
+ghost use Rattle.std.specs.Option.{option_and_then};
+ghost use Rattle.clap.specs.Simple.{app_of, with_rule, with_subcommand, subcommand_rows_of};
 ghost use Rattle.clap.specs.Values.{kind_of};
 ghost use Rattle.clap.specs.Walk.{rule_of, first_of, one_of};
-ghost use Rattle.clap.specs.Simple.{subcommand_rows_of};
-ghost use Rattle.std.specs.Option.{option_and_then};
-ghost use Rattle.std.specs.List.{list_all};
 ghost use Rattle.clap.specs.declared.builder.command.Command.TheViews.{out-Command};
-ghost use Rattle.word_forms.specs.Form.{HasForm, is_clear, IsCall, is_among, value_names, value_of};
-ghost use Rattle.word_forms.specs.Views.{row_of, texts, texts_of, use_of};
-ghost use Rattle.word_values.specs.Commands.{table, app_of_table, app_of_row, start};
-ghost use Rattle.word_values.specs.Kinds.{kind_rule};
+ghost use Rattle.word_forms.specs.Form.{Use, HasForm, is_clear, IsCall, is_among, value_names, positional_names, value_of, has_flag, word_of, row_named};
+ghost use Rattle.word_forms.specs.Views.{row_of, texts, texts_of, uses_in};
+ghost use Rattle.word_values.specs.Commands.{Asked, table, row_asked, HasValues, Asks};
+ghost use Rattle.word_values.specs.App.{app_of_table, app_of_row, start, kind_rule};
 ghost use Rattle.word_values.specs.Gives.{GivesCall};
+ghost use Rattle.word_values.specs.Views.{row_for, asked_of};
 
 use clap::error::ErrorKind;
-use clap::{Arg, ArgAction, ArgMatches, Command, Error};
-use word_forms::{Call, Entry, read_call};
+use clap::{Arg, ArgAction, ArgMatches, Command as Program, Error};
 use std::alloc::{AllocError, Global};
+use word_forms::{Call, Entry, read_call};
 
-/// The commands.
-pub static TABLE: [Entry; 11] = [
+// ---- the table
+
+static TABLE: [Entry; 2] = [
     Entry {
         name: "graph",
         positionals: &["file"],
@@ -38,90 +41,52 @@ pub static TABLE: [Entry; 11] = [
         options: &["x", "y", "given"],
         flags: &[],
     },
-    Entry {
-        name: "rule",
-        positionals: &["file"],
-        extra: &[],
-        needed: &["rule", "y", "z"],
-        options: &["do", "given"],
-        flags: &[],
-    },
-    Entry {
-        name: "identify",
-        positionals: &["file"],
-        extra: &[],
-        needed: &[],
-        options: &["x", "y", "given"],
-        flags: &["certificate", "latex"],
-    },
-    Entry {
-        name: "check",
-        positionals: &["file", "cert"],
-        extra: &[],
-        needed: &[],
-        options: &[],
-        flags: &[],
-    },
-    Entry {
-        name: "adjust",
-        positionals: &["file"],
-        extra: &[],
-        needed: &[],
-        options: &["x", "y", "set", "most"],
-        flags: &["back-door"],
-    },
-    Entry {
-        name: "evaluate",
-        positionals: &["file", "counts"],
-        extra: &[],
-        needed: &[],
-        options: &["x", "y", "count"],
-        flags: &["exact"],
-    },
-    Entry {
-        name: "equivalent",
-        positionals: &["file", "file2"],
-        extra: &[],
-        needed: &[],
-        options: &["x", "y", "given"],
-        flags: &[],
-    },
-    Entry {
-        name: "survey",
-        positionals: &["n"],
-        extra: &[],
-        needed: &[],
-        options: &[],
-        flags: &[],
-    },
-    Entry {
-        name: "implications",
-        positionals: &["file"],
-        extra: &["counts"],
-        needed: &[],
-        options: &["count"],
-        flags: &[],
-    },
-    Entry {
-        name: "surrogate",
-        positionals: &["file"],
-        extra: &[],
-        needed: &["experiments"],
-        options: &["x", "y"],
-        flags: &[],
-    },
 ];
 
-pub fn commands() -> &'static [Entry]
+fn commands() -> &'static [Entry]
     ensures rows { map row_of result.now ≡ table }
     ensures clear { list_all is_clear (map row_of result.now) ≡ true }
 {
     &TABLE
 }
 
-/// What a name stands for.
 #[derive(Clone, Copy)]
-pub enum Kind {
+enum Command {
+    Graph,
+    Separate,
+}
+
+/// What words of the form ask for, with its values.
+#[derive(Clone, Copy, Debug, PartialEq)]
+pub enum Request<'a> {
+    /// `graph FILE [--project]`
+    Graph { file: &'a str, project: bool },
+    /// `separate FILE [--x L] [--y L] [--given L]`
+    Separate {
+        file: &'a str,
+        x: Option<&'a str>,
+        y: Option<&'a str>,
+        given: Option<&'a str>,
+    },
+}
+
+fn command_named(name: &str) -> Option<Command>
+    ensures { option_map row_for result ≡ row_named table name.now }
+{
+    if name == "graph" {
+        return Some(Command::Graph);
+    }
+    if name == "separate" {
+        return Some(Command::Separate);
+    }
+    None
+}
+
+// ---- the program that `clap` runs
+
+// What a name of a row stands for.
+#[derive(Clone, Copy)]
+enum Kind {
     Positional,
     Extra,
     Needed,
@@ -142,83 +107,92 @@ fn arg_of<'a>(alloc: Global, kind: Kind, name: &'a str) -> Arg<'a>
     }
 }
 
-fn with_arg<'a>(command: Command<'a>, arg: Arg<'a>) -> Result<Command<'a>, AllocError>
+fn with_arg<'a>(program: Program<'a>, arg: Arg<'a>) -> Result<Program<'a>, AllocError>
     requires { arg.global ≡ false }
-    ensures shape { IfOk result (λ c. app_of c ≡ with_rule (app_of command.entry) (rule_of arg.entry)) }
-    ensures local { IfOk result (λ c. (out-Command c).has_globals ≡ (out-Command command.entry).has_globals) }
+    ensures shape { IfOk result (λ c. app_of c ≡ with_rule (app_of program.entry) (rule_of arg.entry)) }
+    ensures local { IfOk result (λ c. (out-Command c).has_globals ≡ (out-Command program.entry).has_globals) }
 {
-    command.arg(arg)
+    program.arg(arg)
 }
 
 fn with_names<'a>(
     alloc: Global,
-    command: Command<'a>,
+    program: Program<'a>,
     kind: Kind,
     names: &[&'a str],
-) -> Result<Command<'a>, AllocError>
-    ensures shape { IfOk result (λ c. app_of c ≡ fold with_rule (app_of command.entry) (map (kind_rule kind) (texts names.now))) }
-    ensures local { IfOk result (λ c. (out-Command c).has_globals ≡ (out-Command command.entry).has_globals) }
+) -> Result<Program<'a>, AllocError>
+    ensures shape { IfOk result (λ c. app_of c ≡ fold with_rule (app_of program.entry) (map (kind_rule kind) (texts names.now))) }
+    ensures local { IfOk result (λ c. (out-Command c).has_globals ≡ (out-Command program.entry).has_globals) }
 {
-    let mut command = command;
+    let mut program = program;
     for name in names {
-        command = with_arg(command, arg_of(alloc, kind, name))?;
+        program = with_arg(program, arg_of(alloc, kind, name))?;
     }
-    Ok(command)
+    Ok(program)
 }
 
-fn row_command<'a>(alloc: Global, row: &'a Entry) -> Result<Command<'a>, AllocError>
+fn row_program<'a>(alloc: Global, row: &'a Entry) -> Result<Program<'a>, AllocError>
     ensures shape { IfOk result (λ c. app_of c ≡ app_of_row (row_of row.now)) }
     ensures local { IfOk result (λ c. (out-Command c).has_globals ≡ false) }
 {
-    let command = Command::new(alloc, row.name);
-    let command = with_names(alloc, command, Kind::Positional, row.positionals)?;
-    let command = with_names(alloc, command, Kind::Extra, row.extra)?;
-    let command = with_names(alloc, command, Kind::Needed, row.needed)?;
-    let command = with_names(alloc, command, Kind::Choice, row.options)?;
-    let command = with_names(alloc, command, Kind::Flag, row.flags)?;
-    Ok(command)
+    let program = Program::new(alloc, row.name);
+    let program = with_names(alloc, program, Kind::Positional, row.positionals)?;
+    let program = with_names(alloc, program, Kind::Extra, row.extra)?;
+    let program = with_names(alloc, program, Kind::Needed, row.needed)?;
+    let program = with_names(alloc, program, Kind::Choice, row.options)?;
+    let program = with_names(alloc, program, Kind::Flag, row.flags)?;
+    Ok(program)
 }
 
-fn with_row<'a>(command: Command<'a>, inner: Command<'a>) -> Result<Command<'a>, AllocError>
-    requires { (out-Command inner).has_globals ≡ false }
-    ensures shape { IfOk result (λ c. app_of c ≡ with_subcommand (app_of command.entry) (app_of inner.entry).top) }
+fn with_command<'a>(program: Program<'a>, command: Program<'a>) -> Result<Program<'a>, AllocError>
+    requires { (out-Command command).has_globals ≡ false }
+    ensures { IfOk result (λ c. app_of c ≡ with_subcommand (app_of program.entry) (app_of command.entry).top) }
 {
-    command.subcommand(inner)
+    program.subcommand(command)
 }
 
-fn start_command<'a>(alloc: Global) -> Command<'a>
-    ensures shape { app_of result ≡ start }
+// The words come without the program's name.
+fn start_program<'a>(alloc: Global) -> Program<'a>
+    ensures { app_of result ≡ start }
 {
-    Command::new(alloc, "causal").no_binary_name(true)
+    Program::new(alloc, "causal").no_binary_name(true)
 }
 
-/// The command that `clap` runs, by the table.
-pub fn all_commands<'a>(alloc: Global, table: &'a [Entry]) -> Result<Command<'a>, AllocError>
-    ensures shape { IfOk result (λ c. app_of c ≡ app_of_table (map row_of table.now)) }
+fn program_of<'a>(alloc: Global, table: &'a [Entry]) -> Result<Program<'a>, AllocError>
+    ensures { IfOk result (λ c. app_of c ≡ app_of_table (map row_of table.now)) }
 {
-    let mut command = start_command(alloc);
+    let mut program = start_program(alloc);
     for row in table {
-        command = with_row(command, row_command(alloc, row)?)?;
+        program = with_command(program, row_program(alloc, row)?)?;
     }
-    Ok(command)
+    Ok(program)
 }
 
-/// The matches of words of the form: only want of memory is refused.
-pub fn read<'a>(
+// ---- what `clap` reads
+
+// The matches of words of the form: only want of memory is refused.
+fn read_matches<'a>(
     alloc: Global,
     words: &'a [String],
     call: &Call<'_>,
 ) -> Result<ArgMatches<'a>, Error>
-    requires { IsCall table (texts_of words.now) (row_of call.now.row.now) (map use_of call.now.uses.items) }
-    ensures ok { IfOk result (λ m. GivesCall (row_of call.now.row.now) (map use_of call.now.uses.items) m) }
+    requires { IsCall table (texts_of words.now) (row_of call.now.row.now) (uses_in call.now.uses) }
+    ensures ok { IfOk result (λ m. GivesCall (row_of call.now.row.now) (uses_in call.now.uses) m) }
     ensures err { IfErr result (λ e. kind_of e ≡ ErrorKind.OutOfMemory) }
 {
-    let command = all_commands(alloc, commands())?;
-    command.try_get_matches_from(words)
+    let program = program_of(alloc, commands())?;
+    program.try_get_matches_from(words)
 }
 
-/// The value of an option, or the word of a positional.
-pub fn text_in<'a>(matches: &ArgMatches<'a>, name: &str) -> Option<&'a str>
+fn memory_error(error: Error) -> AllocError
+    requires { kind_of error ≡ ErrorKind.OutOfMemory }
+{
+    drop(error);
+    AllocError
+}
+
+// What was found for a name below the command.
+fn text_in<'a>(matches: &ArgMatches<'a>, name: &str) -> Option<&'a str>
     ensures { option_map (λ s. s.now) result ≡ option_and_then (λ p. first_of name.now p.1) (subcommand_rows_of matches.now) }
 {
     match matches.subcommand() {
@@ -227,10 +201,39 @@ pub fn text_in<'a>(matches: &ArgMatches<'a>, name: &str) -> Option<&'a str>
     }
 }
 
-/// Whether a flag is there.
-pub fn flag_in(matches: &ArgMatches<'_>, name: &str) -> bool
-    ensures yes { option_and_then (λ p. one_of name.now p.1) (subcommand_rows_of matches.now) ≡ Some (codes "true") → result ≡ true }
-    ensures no_such { option_and_then (λ p. one_of name.now p.1) (subcommand_rows_of matches.now) ≡ Some (codes "false") → result ≡ false }
+// The value of an option.
+fn option_in<'a>(command: Command, matches: &ArgMatches<'a>, name: &str) -> Option<&'a str>
+    requires { is_among (value_names (row_for command)) name.now ≡ true }
+    ensures { (uses : List Use) → GivesCall (row_for command) uses matches.now
+        → option_map (λ s. s.now) result ≡ value_of uses name.now }
+{
+    text_in(matches, name)
+}
+
+// The word of a positional.
+fn word_in<'a>(command: Command, matches: &ArgMatches<'a>, name: &str) -> Option<&'a str>
+    requires { is_among (positional_names (row_for command)) name.now ≡ true }
+    ensures { (uses : List Use) → GivesCall (row_for command) uses matches.now
+        → option_map (λ s. s.now) result ≡ word_of (row_for command) uses name.now }
+{
+    text_in(matches, name)
+}
+
+// The word of a positional without brackets.
+fn needed_word<'a>(command: Command, matches: &ArgMatches<'a>, name: &str) -> &'a str
+    requires name { is_among (row_for command).positionals name.now ≡ true }
+    requires gives { (uses : List Use) × GivesCall (row_for command) uses matches.now }
+    ensures { (uses : List Use) → GivesCall (row_for command) uses matches.now
+        → Some result.now ≡ word_of (row_for command) uses name.now }
+{
+    word_in(command, matches, name).unwrap()
+}
+
+// Whether a flag is there.
+fn flag_in(command: Command, matches: &ArgMatches<'_>, name: &str) -> bool
+    requires { is_among (row_for command).flags name.now ≡ true }
+    ensures { (uses : List Use) → GivesCall (row_for command) uses matches.now
+        → result ≡ has_flag uses name.now }
 {
     match matches.subcommand() {
         Some((_, inner)) => inner.get_flag(name),
@@ -238,30 +241,63 @@ pub fn flag_in(matches: &ArgMatches<'_>, name: &str) -> bool
     }
 }
 
-/// The value of an option on words of the form, by one parse.
-pub fn value_given<'a>(
-    alloc: Global,
-    words: &'a [String],
-    call: &Call<'_>,
-    name: &str,
-) -> Result<Option<&'a str>, Error>
-    requires call { IsCall table (texts_of words.now) (row_of call.now.row.now) (map use_of call.now.uses.items) }
-    requires name { is_among (value_names (row_of call.now.row.now)) name.now ≡ true }
-    ensures ok { IfOk result (λ v. option_map (λ s. s.now) v ≡ value_of (map use_of call.now.uses.items) name.now) }
-    ensures err { IfErr result (λ e. kind_of e ≡ ErrorKind.OutOfMemory) }
+// ---- what words ask for
+
+fn graph_request<'a>(matches: &ArgMatches<'a>) -> Request<'a>
+    requires { (uses : List Use) × GivesCall (row_for Command.Graph) uses matches.now }
+    ensures row { row_asked (asked_of result) ≡ row_for Command.Graph }
+    ensures values { (uses : List Use) → GivesCall (row_for Command.Graph) uses matches.now
+        → HasValues uses (asked_of result) }
 {
-    let matches = read(alloc, words, call)?;
-    Ok(text_in(&matches, name))
+    Request::Graph {
+        file: needed_word(Command::Graph, matches, "file"),
+        project: flag_in(Command::Graph, matches, "project"),
+    }
 }
 
-/// The words' command and uses, exactly where the words have the form of the table.
-pub fn find_command<'a>(
+fn separate_request<'a>(matches: &ArgMatches<'a>) -> Request<'a>
+    requires { (uses : List Use) × GivesCall (row_for Command.Separate) uses matches.now }
+    ensures row { row_asked (asked_of result) ≡ row_for Command.Separate }
+    ensures values { (uses : List Use) → GivesCall (row_for Command.Separate) uses matches.now
+        → HasValues uses (asked_of result) }
+{
+    Request::Separate {
+        file: needed_word(Command::Separate, matches, "file"),
+        x: option_in(Command::Separate, matches, "x"),
+        y: option_in(Command::Separate, matches, "y"),
+        given: option_in(Command::Separate, matches, "given"),
+    }
+}
+
+fn request_in<'a>(command: Command, matches: &ArgMatches<'a>) -> Request<'a>
+    requires { (uses : List Use) × GivesCall (row_for command) uses matches.now }
+    ensures row { row_asked (asked_of result) ≡ row_for command }
+    ensures values { (uses : List Use) → GivesCall (row_for command) uses matches.now
+        → HasValues uses (asked_of result) }
+{
+    match command {
+        Command::Graph => graph_request(matches),
+        Command::Separate => separate_request(matches),
+    }
+}
+
+/// What the words ask for, exactly where they have the form. They ask for one thing at most.
+pub fn read_words<'a>(
     alloc: Global,
     words: &'a [String],
-) -> Result<Option<Call<'a>>, AllocError>
-    ensures { IfOk result (λ o. MatchOption o
-        (HasForm table (texts_of words.now) → ⊥)
-        (λ c. IsCall table (texts_of words.now) (row_of c.row.now) (map use_of c.uses.items))) }
+) -> Result<Option<Request<'a>>, AllocError>
+    ensures asks { IfOk result (λ o. IfSome o (λ r. Asks (texts_of words.now) (asked_of r))) }
+    ensures only { IfOk result (λ o. IfSome o (λ r. (other : Asked) → Asks (texts_of words.now) other → other ≡ asked_of r)) }
+    ensures none { IfOk result (λ o. IfNone o (HasForm table (texts_of words.now) → ⊥)) }
 {
-    read_call(alloc, commands(), words)
+    let Some(call) = read_call(alloc, commands(), words)? else {
+        return Ok(None);
+    };
+    let Some(command) = command_named(call.row.name) else {
+        unreachable!()
+    };
+    match read_matches(alloc, words, &call) {
+        Ok(matches) => Ok(Some(request_in(command, &matches))),
+        Err(error) => Err(memory_error(error)),
+    }
 }
