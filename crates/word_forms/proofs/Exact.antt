@@ -11,7 +11,8 @@ use Rattle.word_forms.specs.declared.Call.{Call}
 use Rattle.word_forms.specs.Form.{Text, Row, Use, spelled, fits, row_named, is_complete, is_clear, IsCall, IsOnlyCall, HasForm}
 use Rattle.word_forms.specs.Step.{uses_of}
 use Rattle.word_forms.specs.Views.{call_of, call_by, only_complete, row_of, uses_in}
-use Rattle.word_forms.proofs.Law.{read_back, spells, Spells, both_true}
+use Rattle.word_forms.proofs.Law.{read_back, spells, Spells}
+use Rattle.std.specs.Cmp.Derive.{both_true}
 
 abbrev pub Says : List Row → List Text → Option (Row × List Use) → Type 0
 Says table words None = HasForm table words → ⊥
@@ -50,7 +51,7 @@ module _ (table : List Row) (clear : list_all is_clear table ≡ true) (name : T
       rw t (record {
         command = ap (row_named table) n ∙ e;
         spelling = ap (λ (x : Text). x ∷ words) (sym n) ∙ ap (λ (ws : List Text). row.name ∷ ws) (sym s.0);
-        allowed = both_true (list_all (fits row) us) (is_complete row us) s.1 t;
+        allowed = both_true s.1 t;
       })
   with_uses row us e u false t = rw t (λ h.
       let r : Some row ≡ Some h.0 = sym e ∙ same_row h.0 h.1 h.2 in
@@ -85,7 +86,7 @@ one_call table clear (name ∷ words) row other uses others a b =
     let r : Some row ≡ Some other = sym (same_row table clear name words row uses a) ∙ same_row table clear name words other others b in
     let is : other ≡ row = cc r in
     let u : Some uses ≡ Some others = sym (same_uses table clear name words row uses a)
-        ∙ (ap (λ (x : Row). uses_of x None words) (sym is) ∙ same_uses table clear name words other others b) in
+    ∙ (ap (λ (x : Row). uses_of x None words) (sym is) ∙ same_uses table clear name words other others b) in
     let them : others ≡ uses = cc u in
     (is, them)
 

@@ -8,6 +8,7 @@ use Rattle.word_forms.specs.Form.{Text, Row, Use, positional, apart, joined, fla
 use Rattle.word_forms.specs.Step.{Step, used, waits, bad, step_long, step_dashed, step_word, uses_of, with_use, after_step}
 use Rattle.word_forms.proofs.Texts.{long_alone, long_joined}
 use Rattle.word_forms.proofs.Names.{all_at, among_left, among_right, other_side}
+use Rattle.std.specs.Cmp.Derive.{both_true}
 
 -- ---- words that the uses spell are read as those uses
 
@@ -123,9 +124,6 @@ Steps row waiting word (used u) = (spelled u ≡ started waiting (word ∷ [])) 
 Steps row waiting word (waits x) = (waiting ≡ None) × (long x ≡ word) × (is_among (value_names row) x ≡ true)
 Steps row waiting word bad = Unit {0}
 
-pub both_true : (a b : Bool) → a ≡ true → b ≡ true → (a && b) ≡ true
-both_true a b e f = rw (e, f) refl
-
 long_steps : (row : Row) (word x : Text) (v : Option Text) → long_text (x, v) ≡ word → Steps row None word (step_long row x v)
 long_steps row word x None h = go (is_among (value_names row) x) (is_among row.flags x) refl refl
   where
@@ -147,7 +145,7 @@ word_steps : (row : Row) (waiting : Option Text) (word : Text) → Waits row wai
 word_steps row (Some x) word h = go (is_value word) refl
   where
     go : (p : Bool) → is_value word ≡ p → Steps row (Some x) word (step_word row (Some x) word)
-    go true e = rw e (refl, both_true (is_among (value_names row) x) (is_value word) h e)
+    go true e = rw e (refl, both_true h e)
     go false e = rw e tt
 word_steps row None word h = go (is_positional word) refl
   where
@@ -164,8 +162,8 @@ Spells row words (Some us) = (flat_map spelled us ≡ words) × (list_all (fits 
 one_more : (row : Row) (waiting : Option Text) (word : Text) (words : List Text) (u : Use) (o : Option (List Use)) → spelled u ≡ started waiting (word ∷ []) → fits row u ≡ true → Spells row words o
     → Spells row (started waiting (word ∷ words)) (with_use u o)
 one_more row waiting word words u None e f h = tt
-one_more row None word words u (Some us) e f h = (rw (e) (ap (λ (ws : List Text). word ∷ ws) h.0), both_true (fits row u) (list_all (fits row) us) f h.1)
-one_more row (Some x) word words u (Some us) e f h = (rw (e) (ap (λ (ws : List Text). long x ∷ word ∷ ws) h.0), both_true (fits row u) (list_all (fits row) us) f h.1)
+one_more row None word words u (Some us) e f h = (rw (e) (ap (λ (ws : List Text). word ∷ ws) h.0), both_true f h.1)
+one_more row (Some x) word words u (Some us) e f h = (rw (e) (ap (λ (ws : List Text). long x ∷ word ∷ ws) h.0), both_true f h.1)
 
 pub spells : (row : Row) (words : List Text) (waiting : Option Text) → Waits row waiting → Spells row (started waiting words) (uses_of row waiting words)
 unfolding uses_of

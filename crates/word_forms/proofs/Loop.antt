@@ -9,6 +9,7 @@ use Rattle.std.specs.Prelude.{is_some, true, false}
 use Rattle.std.specs.Borrow.{Bor}
 use Rattle.word_forms.specs.declared.Used.{Used}
 use Rattle.word_forms.specs.Views.{texts_of, waiting_of, use_of}
+use Rattle.std.proofs.lemmas.List.{append-nil}
 
 -- these uses before the others
 abbrev pub prepend : List Use → Option (List Use) → Option (List Use)
@@ -62,12 +63,8 @@ pub some_wait : (o : Option (Bor Text)) → is_some o ≡ true → at_end (waiti
 some_wait None h = cc h
 some_wait (Some x) h = refl
 
-append_nothing : (us : List Use) → us ++ [] ≡ us
-append_nothing [] = refl
-append_nothing (u ∷ us) = ap (λ (vs : List Use). u ∷ vs) (append_nothing us)
-
 pub all_read : (us : List Use) (o : Option (List Use)) → o ≡ Some [] → prepend us o ≡ Some us
-all_read us o e = rw e (ap (λ (vs : List Use). Some vs) (append_nothing us))
+all_read us o e = rw e (ap (λ (vs : List Use). Some vs) (append-nil us))
 
 pub pushed : (items old : List Used) (u : Used) → items ≡ old ++ u ∷ [] → map use_of items ≡ map use_of old ++ use_of u ∷ []
 pushed items [] u e = ap (map use_of) e

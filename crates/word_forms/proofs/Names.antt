@@ -5,7 +5,8 @@ use Rattle.std.specs.Str.{bytes_eq}
 use Rattle.std.proofs.lemmas.Slice.Eq.{bytes_eq-Decides}
 use Rattle.clap.proofs.WalkLemmas.{both}
 use Rattle.word_forms.specs.Form.{Text, is_among}
-use Rattle.word_forms.proofs.Texts.{not_true}
+use Rattle.std.proofs.Math.Bool.{or-true}
+use Rattle.std.proofs.lemmas.Bool.{not-true}
 
 pub all_at : (p : Text → Bool) (names : List Text) (x : Text) → list_all p names ≡ true → is_among names x ≡ true → p x ≡ true
 all_at p [] x e h = cc h
@@ -14,10 +15,6 @@ all_at p (y ∷ ys) x e h = go (bytes_eq y x) refl (all_at p ys x (both (p y) _ 
     go : (t : Bool) → bytes_eq y x ≡ t → (is_among ys x ≡ true → p x ≡ true) → p x ≡ true
     go true same next = let is : y ≡ x = (bytes_eq-Decides y x).0 same in let here = (both (p y) _ e).0 in cc
     go false other next = next (rw other at h)
-
-pub or_true : (b : Bool) → (b || true) ≡ true
-or_true true = refl
-or_true false = refl
 
 pub or_assoc : (a b c : Bool) → (a || (b || c)) ≡ ((a || b) || c)
 or_assoc true b c = refl
@@ -31,12 +28,12 @@ pub among_left : (xs ys : List Text) (x : Text) → is_among xs x ≡ true → i
 among_left xs ys x h = among_append xs ys x ∙ rw h
 
 pub among_right : (xs ys : List Text) (x : Text) → is_among ys x ≡ true → is_among (xs ++ ys) x ≡ true
-among_right xs ys x h = among_append xs ys x ∙ rw h (or_true (is_among xs x))
+among_right xs ys x h = among_append xs ys x ∙ rw h (or-true (is_among xs x))
 
 -- x is one of those, and none of these is
 pub other_side : (xs ys : List Text) (x : Text) → list_all (λ n. not (is_among ys n)) xs ≡ true → is_among ys x ≡ true → is_among xs x ≡ false
 other_side xs ys x each has = go (is_among xs x) refl
   where
     go : (t : Bool) → is_among xs x ≡ t → is_among xs x ≡ false
-    go true e = let lack = not_true _ (all_at (λ n. not (is_among ys n)) xs x each e) in cc (lack, has)
+    go true e = let lack = not-true _ (all_at (λ n. not (is_among ys n)) xs x each e) in cc (lack, has)
     go false e = e

@@ -7,6 +7,7 @@ use Rattle.clap.specs.Lexer.{long_of, short_of, has_byte}
 use Rattle.clap.proofs.CutLemmas.{Lacks}
 use Rattle.clap.proofs.LexerLemmas.{name_and_value-at, name_and_value-without}
 use Rattle.word_forms.specs.Form.{Text, long, is_name, is_value, is_positional}
+use Rattle.std.proofs.lemmas.Bool.{not-true}
 
 pub same_bytes : (x : Text) → bytes_eq x x ≡ true
 same_bytes x = (bytes_eq-Decides x x).1 refl
@@ -42,13 +43,9 @@ pub record IsPlainWord (word : Text) : Type 0 where
   pub no_long : long_of word ≡ None
   pub no_short : short_of word ≡ None
 
-pub not_true : (b : Bool) → not b ≡ true → b ≡ false
-not_true true h = cc h
-not_true false h = refl
-
 pub value_word : (v : Text) → is_value v ≡ true → IsPlainWord v
 value_word [] h = cc h
-value_word (b ∷ bs) h = let e = not_true (b == 45) h in record { no_dashes = rw e; no_long = rw e; no_short = rw e }
+value_word (b ∷ bs) h = let e = not-true (b == 45) h in record { no_dashes = rw e; no_long = rw e; no_short = rw e }
 
 pub positional_word : (v : Text) → is_positional v ≡ true → IsPlainWord v
 positional_word v h = go (is_value v) refl

@@ -27,7 +27,7 @@ pub struct Entry {
 
 /// What one or two words after the command do: a positional; an option and its value, in two words or
 /// in one; a flag.
-#[derive(Clone, Copy)]
+#[derive(Clone, Copy, Debug, PartialEq)]
 pub enum Used<'a> {
     Positional(&'a str),
     Apart(&'a str, &'a str),
@@ -311,4 +311,79 @@ pub fn read_call<'a>(
     ensures none { IfOk result (λ o. IfNone o (HasForm (map row_of table.now) (texts_of words.now) → ⊥)) }
 {
     find_call(alloc, table, words)
+}
+
+#[cfg(test)]
+mod tests {
+    use super::*;
+    use Used::{Apart, Flag, Joined, Positional};
+    use std::test::Fail;
+
+    // `list`, and `weigh FILE [COUNTS] --rule N [--do L] [--exact]`
+    static TABLE: [Entry; 2] = [
+        Entry {
+            name: "list",
+            positionals: &[],
+            extra: &[],
+            needed: &[],
+            options: &[],
+            flags: &[],
+        },
+        Entry {
+            name: "weigh",
+            positionals: &["file"],
+            extra: &["counts"],
+            needed: &["rule"],
+            options: &["do"],
+            flags: &["exact"],
+        },
+    ];
+
+    fn words_of(alloc: Global, texts: &[&str]) -> Result<Vec<String>, AllocError> {
+        let mut words = Vec::new(alloc);
+        for text in texts {
+            words.push(String::from_str(alloc, text)?)?;
+        }
+        Ok(words)
+    }
+
+    #[test]
+    fn words_have_the_form(rt: HostRuntime) -> Result<(), Fail> {
+        let cases: [(&[&str], Option<&[Used<'_>]>); 15] = [
+            (&["list"], Some(&[])),
+            (
+                &["weigh", "g", "--rule", "1"],
+                Some(&[Positional("g"), Apart("rule", "1")]),
+            ),
+            (
+                &["weigh", "--exact", "--do=a=b", "g", "--rule=1", "-"],
+                Some(&[
+                    Flag("exact"),
+                    Joined("do", "a=b"),
+                    Positional("g"),
+                    Joined("rule", "1"),
+                    Positional("-"),
+                ]),
+            ),
+            (&["list", "g"], None),
+            (&["weigh", "g"], None),
+            (&["weigh", "--rule", "1"], None),
+            (&["weigh", "g", "c", "d", "--rule", "1"], None),
+            (&["weigh", "g", "--rule", "1", "--rule", "1"], None),
+            (&["weigh", "g", "--rule", "1", "--do=A", "--do", "B"], None),
+            (&["weigh", "g", "--rule", "1", "--exact", "--exact"], None),
+            (&["weigh", "g", "--rule", "--exact"], None),
+            (&["weigh", "g", "--rule", "1", "--exact=1"], None),
+            (&["weigh", "g", "--rule", "1", "--"], None),
+            (&["weigh", "g", "--rule", "1", "-x"], None),
+            (&["weigh", "g", "--rule", "1", "--ex"], None),
+        ];
+        for (texts, want) in cases {
+            let words = words_of(rt.alloc(), texts)?;
+            let call = read_call(rt.alloc(), &TABLE, &words)?;
+            let uses = call.as_ref().map(|call| call.uses.as_slice());
+            assert_eq!(rt; uses, want, "at {texts:?}");
+        }
+        Ok(())
+    }
 }

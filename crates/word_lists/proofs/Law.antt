@@ -12,36 +12,31 @@ use Rattle.word_lists.specs.declared.Place.{Place}
 use Rattle.word_lists.specs.declared.Place.TheVariants.{Due, Plain, Inside, Closed}
 use Rattle.word_lists.specs.Lists.{Item, bare, quoted, name_of, text_of, is_some_text, is_bare_byte, is_quoted_byte, is_item, more_text, list_text, IsItems, IsList}
 use Rattle.word_lists.specs.Walk.{Names, names_of, is_none, with_name, list_of}
+use Rattle.std.proofs.lemmas.List.{append-nil}
+use Rattle.std.specs.Cmp.Derive.{both_true}
+use Rattle.std.proofs.lemmas.Bool.{not-true}
 
 both : (a b : Bool) → (a && b) ≡ true → (a ≡ true) × (b ≡ true)
 both true b h = (refl, h)
 both false b h = cc h
-
-not_true : (b : Bool) → not b ≡ true → b ≡ false
-not_true true h = cc h
-not_true false h = refl
-
-no_more : (xs : List ℕ) → xs ++ [] ≡ xs
-no_more [] = refl
-no_more (x ∷ xs) = ap (λ (ys : List ℕ). x ∷ ys) (no_more xs)
 
 -- ---- a spelled list is read
 
 -- the rest of a bare item
 bare_rest : (more name rest : List ℕ) → list_all is_bare_byte more ≡ true → names_of Plain name (more ++ rest) ≡ names_of Plain (name ++ more) rest
 unfolding names_of
-bare_rest [] name rest h = ap (λ (n : List ℕ). names_of Plain n rest) (sym (no_more name))
+bare_rest [] name rest h = ap (λ (n : List ℕ). names_of Plain n rest) (sym (append-nil name))
 bare_rest (b ∷ bs) name rest h =
     let p = both (is_bare_byte b) _ h in
     let q = both (not (b == 44)) _ p.0 in
-    rw (not_true _ q.0, not_true _ q.1) (bare_rest bs (name ++ b ∷ []) rest p.1 ∙ ap (λ (n : List ℕ). names_of Plain n rest) (append_assoc name (b ∷ []) bs))
+    rw (not-true _ q.0, not-true _ q.1) (bare_rest bs (name ++ b ∷ []) rest p.1 ∙ ap (λ (n : List ℕ). names_of Plain n rest) (append_assoc name (b ∷ []) bs))
 
 quoted_rest : (more name rest : List ℕ) → list_all is_quoted_byte more ≡ true → names_of Inside name (more ++ rest) ≡ names_of Inside (name ++ more) rest
 unfolding names_of
-quoted_rest [] name rest h = ap (λ (n : List ℕ). names_of Inside n rest) (sym (no_more name))
+quoted_rest [] name rest h = ap (λ (n : List ℕ). names_of Inside n rest) (sym (append-nil name))
 quoted_rest (b ∷ bs) name rest h =
     let p = both (is_quoted_byte b) _ h in
-    rw (not_true _ p.0) (quoted_rest bs (name ++ b ∷ []) rest p.1 ∙ ap (λ (n : List ℕ). names_of Inside n rest) (append_assoc name (b ∷ []) bs))
+    rw (not-true _ p.0) (quoted_rest bs (name ++ b ∷ []) rest p.1 ∙ ap (λ (n : List ℕ). names_of Inside n rest) (append_assoc name (b ∷ []) bs))
 
 -- where an item ends
 abbrev closing : Item → Place
@@ -54,7 +49,7 @@ item_read (bare []) rest h = cc h
 item_read (bare (b ∷ bs)) rest h =
     let p = both (is_bare_byte b) _ h in
     let q = both (not (b == 44)) _ p.0 in
-    rw (not_true _ q.0, not_true _ q.1) (bare_rest bs (b ∷ []) rest p.1)
+    rw (not-true _ q.0, not-true _ q.1) (bare_rest bs (b ∷ []) rest p.1)
 item_read (quoted []) rest h = cc h
 item_read (quoted (b ∷ bs)) rest h =
     ap (names_of Inside []) (append_assoc (b ∷ bs) (34 ∷ []) rest) ∙ quoted_rest (b ∷ bs) [] (34 ∷ rest) h
@@ -117,14 +112,11 @@ comma name bs names (Some ns) e h ih =
     record { items = w.first ∷ w.more; text = ap (λ (t : List ℕ). 44 ∷ t) w.spelling; good = w.items; gives = is ∙ ap (λ (t : Names). name ∷ t) w.gives }
 
 rest_tail : (name bytes : List ℕ) (names : Names) → Rest name bytes names → Tail name bytes names
-rest_tail name bytes names r = record { more = []; items = r.items; text = r.text; plain = refl; good = r.good; gives = r.gives ∙ ap (λ (n : List ℕ). n ∷ map name_of r.items) (sym (no_more name)) }
+rest_tail name bytes names r = record { more = []; items = r.items; text = r.text; plain = refl; good = r.good; gives = r.gives ∙ ap (λ (n : List ℕ). n ∷ map name_of r.items) (sym (append-nil name)) }
 
 some_text : (name : List ℕ) → is_none name ≡ false → is_some_text (name ++ []) ≡ true
 some_text [] h = cc h
 some_text (b ∷ bs) h = refl
-
-and_true : (a b : Bool) → a ≡ true → b ≡ true → (a && b) ≡ true
-and_true a b e f = rw (e, f) refl
 
 no_bytes : (place : Place) (name : List ℕ) (names : Names) → names_of place name [] ≡ Some names → Spelled place name [] names
 unfolding names_of
@@ -141,7 +133,7 @@ due b bs [] names true q e f h ih none =
       first = quoted w.more;
       more = w.items;
       spelling = ap (λ (n : ℕ). n ∷ bs) (is_byte b 34 e) ∙ ap (λ (t : List ℕ). 34 ∷ t) (w.text ∙ sym (append_assoc w.more (34 ∷ []) (more_text w.items)));
-      items = and_true (is_some_text w.more && list_all is_quoted_byte w.more) (list_all is_item w.items) (and_true (is_some_text w.more) (list_all is_quoted_byte w.more) w.some w.plain) w.good;
+      items = both_true (both_true w.some w.plain) w.good;
       gives = w.gives;
     }
 due b bs [] names false true e f h ih none = let bad : None ≡ Some names = rw (e, f) at h in cc bad
@@ -152,7 +144,7 @@ due b bs [] names false false e f h ih none =
       first = bare (b ∷ w.more);
       more = w.items;
       spelling = ap (λ (t : List ℕ). b ∷ t) w.text;
-      items = and_true (is_bare_byte b && list_all is_bare_byte w.more) (list_all is_item w.items) (and_true (is_bare_byte b) (list_all is_bare_byte w.more) here w.plain) w.good;
+      items = both_true (both_true here w.plain) w.good;
       gives = w.gives;
     }
 due b bs (x ∷ xs) names p q e f h ih none = cc none
@@ -169,7 +161,7 @@ plain b bs name names false false e f h ih =
       more = b ∷ w.more;
       items = w.items;
       text = ap (λ (t : List ℕ). b ∷ t) w.text;
-      plain = and_true (is_bare_byte b) (list_all is_bare_byte w.more) here w.plain;
+      plain = both_true here w.plain;
       good = w.good;
       gives = w.gives ∙ ap (λ (n : List ℕ). n ∷ map name_of w.items) (append_assoc name (b ∷ []) w.more);
     }
@@ -186,7 +178,7 @@ inside b bs name names true false e f h ih =
       plain = refl;
       some = some_text name f;
       good = w.good;
-      gives = w.gives ∙ ap (λ (n : List ℕ). n ∷ map name_of w.items) (sym (no_more name));
+      gives = w.gives ∙ ap (λ (n : List ℕ). n ∷ map name_of w.items) (sym (append-nil name));
     }
 inside b bs name names false q e f h ih =
     let w : Inner (name ++ b ∷ []) bs names = ih Inside (name ++ b ∷ []) names (rw e at h) in
@@ -195,7 +187,7 @@ inside b bs name names false q e f h ih =
       more = b ∷ w.more;
       items = w.items;
       text = ap (λ (t : List ℕ). b ∷ t) w.text;
-      plain = and_true (is_quoted_byte b) (list_all is_quoted_byte w.more) here w.plain;
+      plain = both_true here w.plain;
       some = ap is_some_text (sym (append_assoc name (b ∷ []) w.more)) ∙ w.some;
       good = w.good;
       gives = w.gives ∙ ap (λ (n : List ℕ). n ∷ map name_of w.items) (append_assoc name (b ∷ []) w.more);

@@ -7,16 +7,13 @@ use Rattle.word_forms.specs.Form.{Row}
 use Rattle.word_forms.specs.Views.{row_of}
 use Rattle.word_forms.specs.declared.Entry.{Entry}
 use Rattle.word_values.specs.App.{shape_of_row, app_of_row, rules_of_row, positional_rule, extra_rule, needed_rule, option_rule, flag_rule}
+use Rattle.std.proofs.lemmas.List.{append-nil}
 
 abbrev pub with_rules : App → List Rule → App
 with_rules a rules = on_top (λ s. record s { rules = s.rules ++ rules }) a
 
-no_more : (xs : List Rule) → xs ++ [] ≡ xs
-no_more [] = refl
-no_more (x ∷ xs) = ap (λ (ys : List Rule). x ∷ ys) (no_more xs)
-
 pub grows : (a : App) (rules : List Rule) → fold with_rule a rules ≡ with_rules a rules
-grows a [] = ap (λ (r : List Rule). on_top (λ s. record s { rules = r }) a) (sym (no_more a.top.rules))
+grows a [] = ap (λ (r : List Rule). on_top (λ s. record s { rules = r }) a) (sym (append-nil a.top.rules))
 grows a (r ∷ rules) = grows (with_rule a r) rules ∙ ap (λ (q : List Rule). on_top (λ s. record s { rules = q }) a) (append_assoc a.top.rules (r ∷ []) rules)
 
 pub row_built : (row : Row) (a b c d e f : App) → a ≡ new_app row.name → b ≡ fold with_rule a (map positional_rule row.positionals) → c ≡ fold with_rule b (map extra_rule row.extra)

@@ -7,10 +7,12 @@ use Rattle.std.proofs.lemmas.Bool.Decides.{nat_tests}
 use Rattle.std.proofs.lemmas.Slice.Eq.{bytes_eq-Decides}
 use Rattle.clap.specs.Walk.{Row as Entry, has_row}
 use Rattle.clap.proofs.WalkLemmas.{both}
-use Rattle.word_forms.specs.Form.{counts, Text, Row, Use, positional, apart, joined, flag, fits, is_among, is_allowed, is_value, is_positional, value_names, words_in, times}
+use Rattle.word_forms.specs.Form.{counts, Text, Row, Use, positional, apart, joined, flag, fits, is_among, is_allowed, is_value, is_positional, value_names, positional_names, words_in, times}
 use Rattle.word_forms.proofs.Texts.{same_bytes}
 use Rattle.word_values.proofs.Steps.{or_false}
-use Rattle.word_values.proofs.Uses.{entries, fresh, not_true, all_at, names_of_row}
+use Rattle.word_values.proofs.Uses.{entries, fresh}
+use Rattle.word_forms.proofs.Names.{all_at}
+use Rattle.std.proofs.lemmas.Bool.{not-true}
 
 -- how many entries have this id
 abbrev pub n_in : Text → List Entry → ℕ
@@ -82,8 +84,8 @@ among_joint (z ∷ zs) ys x h k = let p = or_false (bytes_eq z x) _ h in rw (p.0
 -- ---- a row's own tests
 
 pub record Sound (row : Row) : Type 0 where
-  pub apart_names : list_all (λ n. not (is_among (value_names row ++ row.flags) n)) (names_of_row row) ≡ true
-  pub once : list_all (λ n. n_named n (names_of_row row) == 1) (names_of_row row) ≡ true
+  pub apart_names : list_all (λ n. not (is_among (value_names row ++ row.flags) n)) (positional_names row) ≡ true
+  pub once : list_all (λ n. n_named n (positional_names row) == 1) (positional_names row) ≡ true
   pub apart_flags : list_all (λ x. not (is_among row.flags x)) (value_names row) ≡ true
 
 pub record Allowed (row : Row) (uses : List Use) : Type 0 where
@@ -112,18 +114,18 @@ one_use row uses a id = go (is_among row.needed id) (is_among row.options id) (i
     go false false true e f g = let k = all_at (λ x. nat_le (times uses x) 1) row.flags id a.flags g in grind (arith, nat_tests)
     go false false false e f g = let k = unused row id uses a.fit (among_joint row.needed row.options id e f) g in omega arith
 
-once_each : (row : Row) (uses : List Use) → Sound row → Allowed row uses → (id : Text) → times uses id + n_named id (names_of_row row) ≤ 1
-once_each row uses s a id = go (is_among (names_of_row row) id) refl
+once_each : (row : Row) (uses : List Use) → Sound row → Allowed row uses → (id : Text) → times uses id + n_named id (positional_names row) ≤ 1
+once_each row uses s a id = go (is_among (positional_names row) id) refl
   where
-    go : (p : Bool) → is_among (names_of_row row) id ≡ p → times uses id + n_named id (names_of_row row) ≤ 1
+    go : (p : Bool) → is_among (positional_names row) id ≡ p → times uses id + n_named id (positional_names row) ≤ 1
     go true e =
-        let k = all_at (λ n. n_named n (names_of_row row) == 1) (names_of_row row) id s.once e in
-        let none_here = not_true _ (all_at (λ n. not (is_among (value_names row ++ row.flags) n)) (names_of_row row) id s.apart_names e) in
+        let k = all_at (λ n. n_named n (positional_names row) == 1) (positional_names row) id s.once e in
+        let none_here = not-true _ (all_at (λ n. not (is_among (value_names row ++ row.flags) n)) (positional_names row) id s.apart_names e) in
         let parts = among_parts (value_names row) row.flags id none_here in
         let none = unused row id uses a.fit parts.0 parts.1 in
-        let is : n_named id (names_of_row row) ≡ 1 = grind (arith, nat_tests) in
+        let is : n_named id (positional_names row) ≡ 1 = grind (arith, nat_tests) in
         omega arith
-    go false e = let none = none_named id (names_of_row row) e in let one = one_use row uses a id in omega arith
+    go false e = let none = none_named id (positional_names row) e in let one = one_use row uses a id in omega arith
 
-pub uses_fresh : (row : Row) (uses : List Use) → Sound row → Allowed row uses → fresh [] (entries (names_of_row row) uses) ≡ true
-uses_fresh row uses s a = fresh_from [] (entries (names_of_row row) uses) (λ id. let k = at_most id (names_of_row row) uses in let m = once_each row uses s a id in omega arith)
+pub uses_fresh : (row : Row) (uses : List Use) → Sound row → Allowed row uses → fresh [] (entries (positional_names row) uses) ≡ true
+uses_fresh row uses s a = fresh_from [] (entries (positional_names row) uses) (λ id. let k = at_most id (positional_names row) uses in let m = once_each row uses s a id in omega arith)

@@ -11,8 +11,10 @@ use Rattle.clap.proofs.WalkLemmas.{both}
 use Rattle.word_forms.specs.Form.{Text, Row, Use, positional, apart, joined, flag, fits, is_among, is_value, is_positional, value_names, words_in, value_of, has_flag, word_at}
 use Rattle.word_forms.proofs.Texts.{same_bytes}
 use Rattle.word_values.proofs.Steps.{flag_built, entry_of, flag_entry, or_false, row_missing}
-use Rattle.word_values.proofs.Uses.{entries, not_true}
+use Rattle.word_values.proofs.Uses.{entries}
 use Rattle.word_values.proofs.Counts.{differs}
+use Rattle.std.proofs.Math.Bool.{or-true}
+use Rattle.std.proofs.lemmas.Bool.{not-true}
 
 abbrev pub row_by : Text → List Entry → Option Entry
 row_by id rows = find (λ r. bytes_eq r.id id) rows
@@ -88,15 +90,11 @@ none_default id rows a q h = go (has_row a.id rows) a.defaults refl refl
     go false (v ∷ vs) e d =
         let some : is_empty (v ∷ vs) ≡ false = not_nil v vs in
         let other : not (bytes_eq a.id id) ≡ true = rw (d, some) at q in
-        ap (row_by id) (defaulted rows a v vs d e) ∙ (passed_over id rows (default_entry a v vs) h ∙ rw (not_true _ other) refl)
+        ap (row_by id) (defaulted rows a v vs d e) ∙ (passed_over id rows (default_entry a v vs) h ∙ rw (not-true _ other) refl)
 
 pub none_defaults : (id : Text) (rules : List Rule) (rows : List Entry) → list_all (adds_none id) rules ≡ true → row_by id rows ≡ None → row_by id (fold with_default rows rules) ≡ None
 none_defaults id [] rows q h = h
 none_defaults id (a ∷ rules) rows q h = let p = both (adds_none id a) _ q in none_defaults id rules (with_default rows a) p.1 (none_default id rows a p.0 h)
-
-or_not : (b : Bool) → (b || true) ≡ true
-or_not true = refl
-or_not false = refl
 
 pub flag_default : (f : Text) (rules : List Rule) (rows : List Entry) → arg_by_id rules f ≡ Some (flag_built f) → row_by f rows ≡ None
     → row_by f (fold with_default rows rules) ≡ Some (default_entry (flag_built f) (codes "false") [])
@@ -114,7 +112,7 @@ flag_default f (a ∷ rules) rows at h = go (bytes_eq a.id f) refl (flag_default
         ∙ (passed_over f rows (default_entry (flag_built f) (codes "false") []) h ∙ rw (same_bytes f) refl) in
         kept_defaults f rules (with_default rows a) _ (ap (λ (b : Rule). row_by f (with_default rows b)) is ∙ step)
     go false other next =
-        next (rw other at at) (none_default f rows a (rw other (or_not (is_empty a.defaults))) h)
+        next (rw other at at) (none_default f rows a (rw other (or-true (is_empty a.defaults))) h)
 
 -- ---- the entries of uses
 

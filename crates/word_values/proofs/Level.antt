@@ -8,12 +8,16 @@ use Rattle.clap.specs.Walk.{Row as Entry, Rule, Walk, walk, arg_by_id, with_defa
 use Rattle.clap.specs.Simple.{Shape}
 use Rattle.clap.specs.Takes.{is_given, level_passes, default_passes, is_valid, settle_passes}
 use Rattle.clap.proofs.WalkLemmas.{both}
-use Rattle.word_forms.specs.Form.{Text, Row, Use, positional, apart, joined, flag, spelled, fits, is_among, is_value, is_positional, value_names, words_in, times, value_of, has_flag, word_at}
+use Rattle.word_forms.specs.Form.{Text, Row, Use, positional, apart, joined, flag, spelled, fits, is_among, is_value, is_positional, value_names, positional_names, words_in, times, value_of, has_flag, word_at}
 use Rattle.word_values.proofs.Steps.{flag_built, entry_of, flag_entry, between, settles, settles_well, held}
-use Rattle.word_values.proofs.Uses.{Reads, Runs, or_true, runs, entries, not_true, all_at, same_at, names_of_row, among_left, among_right}
+use Rattle.word_values.proofs.Uses.{Reads, Runs, runs, entries, same_at}
+use Rattle.word_forms.proofs.Names.{other_side, all_at, among_left, among_right}
 use Rattle.word_values.specs.Gives.{Gives}
 use Rattle.word_values.proofs.Counts.{Sound, Allowed, uses_fresh, differs, among_parts, among_joint}
 use Rattle.word_values.proofs.Finds.{row_by, kept_defaults, none_defaults, flag_default, adds_none, option_entry, flag_found, positional_found}
+use Rattle.std.specs.Cmp.Derive.{both_true}
+use Rattle.std.proofs.Math.Bool.{or-true}
+use Rattle.std.proofs.lemmas.Bool.{not-true}
 
 -- ---- the rest of what clap asks of a command
 
@@ -24,20 +28,9 @@ pub record Closes (row : Row) (s : Shape) : Type 0 where
   pub free : list_all (λ a. a.is_free) s.rules ≡ true
   pub required : list_all (λ a. not a.required || is_among (row.positionals ++ row.needed) a.id) s.rules ≡ true
   pub flag_ids : map (arg_by_id s.rules) row.flags ≡ map (λ x. Some (flag_built x)) row.flags
-  pub undefaulted : list_all (λ x. list_all (adds_none x) s.rules) (value_names row ++ names_of_row row) ≡ true
-
-pub and_true : (a b : Bool) → a ≡ true → b ≡ true → (a && b) ≡ true
-and_true a b e f = rw (e, f) refl
+  pub undefaulted : list_all (λ x. list_all (adds_none x) s.rules) (value_names row ++ positional_names row) ≡ true
 
 -- ---- what stands where
-
--- x is one of these and lacks in those
-other_side : (xs ys : List Text) (x : Text) → list_all (λ n. not (is_among ys n)) xs ≡ true → is_among ys x ≡ true → is_among xs x ≡ false
-other_side xs ys x each has = go (is_among xs x) refl
-  where
-    go : (t : Bool) → is_among xs x ≡ t → is_among xs x ≡ false
-    go true e = let lack = not_true _ (all_at (λ n. not (is_among ys n)) xs x each e) in cc (lack, has)
-    go false e = e
 
 option_given : (row : Row) (x : Text) (uses : List Use) → list_all (fits row) uses ≡ true → is_among row.flags x ≡ false → 1 ≤ times uses x → is_some (value_of uses x) ≡ true
 option_given row x [] fit a h = absurd (omega arith)
@@ -70,29 +63,29 @@ positional_given (p ∷ ps) extra (w ∷ words) x a h = go (bytes_eq p x) refl (
 
 module _ (row : Row) (s : Shape) (reads : Reads row s) (closes : Closes row s) (sound : Sound row) (uses : List Use) (a : Allowed row uses) where
   abbrev es : List Entry
-  es = entries (names_of_row row) uses
+  es = entries (positional_names row) uses
 
   abbrev rows : List Entry
   rows = fold with_default es s.rules
 
-  value_at : (x : Text) (o : Option Text) → is_among (value_names row ++ names_of_row row) x ≡ true → row_by x es ≡ option_map (entry_of x) o → first_of x rows ≡ o
+  value_at : (x : Text) (o : Option Text) → is_among (value_names row ++ positional_names row) x ≡ true → row_by x es ≡ option_map (entry_of x) o → first_of x rows ≡ o
   value_at x (Some v) among e = rw (kept_defaults x s.rules es (entry_of x v) e)
   value_at x None among e =
-      rw (none_defaults x s.rules es (all_at (λ y. list_all (adds_none y) s.rules) (value_names row ++ names_of_row row) x closes.undefaulted among) e)
+      rw (none_defaults x s.rules es (all_at (λ y. list_all (adds_none y) s.rules) (value_names row ++ positional_names row) x closes.undefaulted among) e)
 
   option_row : (x : Text) → is_among (value_names row) x ≡ true → row_by x es ≡ option_map (entry_of x) (value_of uses x)
-  option_row x has = option_entry row x (names_of_row row) uses a.fit
-      (other_side (names_of_row row) (value_names row ++ row.flags) x sound.apart_names (among_left (value_names row) row.flags x has))
-      (not_true _ (all_at (λ y. not (is_among row.flags y)) (value_names row) x sound.apart_flags has))
+  option_row x has = option_entry row x (positional_names row) uses a.fit
+      (other_side (positional_names row) (value_names row ++ row.flags) x sound.apart_names (among_left (value_names row) row.flags x has))
+      (not-true _ (all_at (λ y. not (is_among row.flags y)) (value_names row) x sound.apart_flags has))
 
-  positional_row : (n : Text) → is_among (names_of_row row) n ≡ true → row_by n es ≡ option_map (entry_of n) (word_at (names_of_row row) (words_in uses) n)
+  positional_row : (n : Text) → is_among (positional_names row) n ≡ true → row_by n es ≡ option_map (entry_of n) (word_at (positional_names row) (words_in uses) n)
   positional_row n has =
-      let parts = among_parts (value_names row) row.flags n (not_true _ (all_at (λ m. not (is_among (value_names row ++ row.flags) m)) (names_of_row row) n sound.apart_names has)) in
-      positional_found row n (names_of_row row) uses a.fit parts.0 parts.1
+      let parts = among_parts (value_names row) row.flags n (not-true _ (all_at (λ m. not (is_among (value_names row ++ row.flags) m)) (positional_names row) n sound.apart_names has)) in
+      positional_found row n (positional_names row) uses a.fit parts.0 parts.1
 
   flag_row : (x : Text) → is_among row.flags x ≡ true → row_by x es ≡ (if has_flag uses x then Some (flag_entry x) else None)
-  flag_row x has = flag_found row x (names_of_row row) uses a.fit
-      (other_side (names_of_row row) (value_names row ++ row.flags) x sound.apart_names (among_right (value_names row) row.flags x has))
+  flag_row x has = flag_found row x (positional_names row) uses a.fit
+      (other_side (positional_names row) (value_names row ++ row.flags) x sound.apart_names (among_right (value_names row) row.flags x has))
       (other_side (value_names row) row.flags x sound.apart_flags has)
 
   flag_value : (x : Text) (t : Bool) → has_flag uses x ≡ t → is_among row.flags x ≡ true → one_of x rows ≡ Some (if has_flag uses x then codes "true" else codes "false")
@@ -106,9 +99,9 @@ module _ (row : Row) (s : Shape) (reads : Reads row s) (closes : Closes row s) (
 
   pub gives : Gives row uses rows
   gives = record {
-    options = λ x has. value_at x (value_of uses x) (among_left (value_names row) (names_of_row row) x has) (option_row x has);
+    options = λ x has. value_at x (value_of uses x) (among_left (value_names row) (positional_names row) x has) (option_row x has);
     flags = λ x has. flag_value x (has_flag uses x) refl has;
-    positionals = λ n has. value_at n (word_at (names_of_row row) (words_in uses) n) (among_right (value_names row) (names_of_row row) n has) (positional_row n has);
+    positionals = λ n has. value_at n (word_at (positional_names row) (words_in uses) n) (among_right (value_names row) (positional_names row) n has) (positional_row n has);
   }
 
   -- ---- what is required is given
@@ -122,11 +115,11 @@ module _ (row : Row) (s : Shape) (reads : Reads row s) (closes : Closes row s) (
       let among = among_left row.needed row.options x has in
       let k = all_at (λ y. times uses y == 1) row.needed x a.needed has in
       let one : 1 ≤ times uses x = grind (arith, nat_tests) in
-      given_row x (value_of uses x) (option_given row x uses a.fit (not_true _ (all_at (λ y. not (is_among row.flags y)) (value_names row) x sound.apart_flags among)) one) (option_row x among)
+      given_row x (value_of uses x) (option_given row x uses a.fit (not-true _ (all_at (λ y. not (is_among row.flags y)) (value_names row) x sound.apart_flags among)) one) (option_row x among)
 
   place_given : (n : Text) → is_among row.positionals n ≡ true → is_given n rows ≡ true
   place_given n has =
-      given_row n (word_at (names_of_row row) (words_in uses) n) (positional_given row.positionals row.extra (words_in uses) n has a.least)
+      given_row n (word_at (positional_names row) (words_in uses) n) (positional_given row.positionals row.extra (words_in uses) n has a.least)
       (positional_row n (among_left row.positionals row.extra n has))
 
   required_given : (x : Text) → is_among (row.positionals ++ row.needed) x ≡ true → is_given x rows ≡ true
@@ -149,7 +142,7 @@ module _ (row : Row) (s : Shape) (reads : Reads row s) (closes : Closes row s) (
   -- ---- the walk
 
   run : Runs s (between 1 None []) (flat_map spelled uses) es
-  run = runs row s reads uses 1 None [] (names_of_row row) tt a.fit (let k = a.most in omega (arith, length-append row.positionals row.extra)) reads.places reads.place_ids (uses_fresh row uses sound a)
+  run = runs row s reads uses 1 None [] (positional_names row) tt a.fit (let k = a.most in omega (arith, length-append row.positionals row.extra)) reads.places reads.place_ids (uses_fresh row uses sound a)
 
   pub rows_are : rows_after s.rules [] (flat_map spelled uses) ≡ rows
   rows_are = ap (λ (w : Walk). finished s.rules w.held) run.walk ∙ ap (λ (r : List Entry). fold with_default r s.rules) (settles s.rules run.pending run.before run.known ∙ run.total)
@@ -159,7 +152,7 @@ module _ (row : Row) (s : Shape) (reads : Reads row s) (closes : Closes row s) (
       ∙ (ap (λ (b : Bool). settle_passes s.rules b (held run.pending run.before)) reads.again ∙ settles_well s.rules run.pending run.before run.known)
 
   valid_rows : is_valid s rows false ≡ true
-  valid_rows = rw (closes.help, closes.subcommand, closes.free, all_given s.rules closes.required) (or_true (s.subcommand_negates_reqs && false))
+  valid_rows = rw (closes.help, closes.subcommand, closes.free, all_given s.rules closes.required) (or-true (s.subcommand_negates_reqs && false))
 
   pub passes : level_passes s [] nothing_held (flat_map spelled uses) false ≡ true
-  passes = and_true _ _ run.passes (and_true _ _ settled_well (and_true _ _ closes.defaults (ap (λ (r : List Entry). is_valid s r false) rows_are ∙ valid_rows)))
+  passes = both_true run.passes (both_true settled_well (both_true closes.defaults (ap (λ (r : List Entry). is_valid s r false) rows_are ∙ valid_rows)))

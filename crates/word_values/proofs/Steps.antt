@@ -1,5 +1,5 @@
 -- One use more, from any state between uses.
-use Rattle.std.proofs.Common.{◌≡◌, ◌+◌, ◌&&◌, ◌||◌, ℕ, Bool, true, false, List, [], ◌∷◌, ◌++◌, min, Option, Some, None, refl, ap, ◌∙◌}
+use Rattle.std.proofs.Common.{◌≡◌, ◌+◌, ◌||◌, ℕ, Bool, true, false, List, [], ◌∷◌, ◌++◌, min, Option, Some, None, refl, ap, ◌∙◌}
 use Rattle.std.specs.Prelude.{codes}
 use Rattle.std.specs.Str.{bytes_eq}
 use Rattle.clap.specs.Walk.{Row as Entry, Rule, Held, Walk, walked, used, arg_by_long, arg_by_index, arg_by_id, at_row, has_row, idle, option, is_pending, without, more_values, settled_rows}
@@ -13,6 +13,8 @@ use Rattle.clap.specs.declared.parser.matches.ValueSource.TheVariants.{CommandLi
 use Rattle.word_forms.specs.Form.{Text, long}
 use Rattle.word_forms.proofs.Texts.{same_bytes, long_alone, long_joined, long_no_dashes, joined_no_dashes, IsPlainWord}
 use Rattle.word_forms.specs.Form.{is_name}
+use Rattle.std.proofs.lemmas.List.{append-nil}
+use Rattle.std.proofs.Math.Bool.{and-false}
 
 -- an argument with one value, and a flag, as building leaves them
 pub record Single : Type 0 where
@@ -81,12 +83,8 @@ row_missing id change missing [] h = refl
 row_missing id change missing (r ∷ rs) h =
     let p = or_false (bytes_eq r.id id) _ h in rw (p.0) (ap (λ ys. r ∷ ys) (row_missing id change missing rs p.1))
 
-pub append_nil : (rows : List Entry) → rows ++ [] ≡ rows
-append_nil [] = refl
-append_nil (r ∷ rs) = ap (λ ys. r ∷ ys) (append_nil rs)
-
 nothing_removed : (id : Text) (rows : List Entry) → has_row id rows ≡ false → without id rows ≡ rows
-nothing_removed id rows h = row_missing id (λ (r : Entry). []) [] rows h ∙ append_nil rows
+nothing_removed id rows h = row_missing id (λ (r : Entry). []) [] rows h ∙ append-nil rows
 
 pub used_once : (s : Single) (v : Text) (rows : List Entry) → has_row s.id rows ≡ false → used (rule_of_single s) (v ∷ []) rows ≡ rows ++ entry_of s.id v ∷ []
 used_once s v rows h = rw (nothing_removed s.id rows h) (row_missing s.id (more_values CommandLine (v ∷ [])) (entry_of s.id v ∷ []) rows h)
@@ -103,10 +101,6 @@ settles rules (Some q) rows h = rw (h.0) (used_once q.0 q.1 rows h.1)
 pub settles_well : (rules : List Rule) (p : Pending) (rows : List Entry) → Known rules p rows → settle_passes rules false (held p rows) ≡ true
 settles_well rules None rows h = refl
 settles_well rules (Some q) rows h = rw (h.0, h.1) refl
-
-and_false : (b : Bool) → (b && false) ≡ false
-and_false true = refl
-and_false false = refl
 
 -- ---- one use
 
@@ -130,7 +124,7 @@ module _ (rules : List Rule) (k : ℕ) (p : Pending) (rows : List Entry) (known 
   pub positional_walks : (word : Text) (a : Single) → IsPlainWord word → arg_by_index rules k ≡ Some (rule_of_single a)
       → walked rules [] (between k p rows) word ≡ between (min (k + 1) usize_max) (Some (a, word)) (settle p rows)
   unfolding walked
-  positional_walks word a plain found = rw (plain.no_dashes, plain.no_long, plain.no_short, found, and_false (is_pending (rule_of_single a) (pending_texts p)), settles rules p rows known) refl
+  positional_walks word a plain found = rw (plain.no_dashes, plain.no_long, plain.no_short, found, and-false (is_pending (rule_of_single a) (pending_texts p)), settles rules p rows known) refl
 
 module _ (rules : List Rule) (k : ℕ) (rows : List Entry) where
   pub answers : (a : Single) (v : Text) → IsPlainWord v → arg_by_id rules a.id ≡ Some (rule_of_single a)
@@ -158,7 +152,7 @@ module _ (s : Shape) (again : s.args_override_self ≡ false) (k : ℕ) (p : Pen
   pub positional_passes : (word : Text) (a : Single) → IsPlainWord word → arg_by_index s.rules k ≡ Some (rule_of_single a)
       → turn_passes s [] (between k p rows) word ≡ true
   positional_passes word a plain found =
-      rw (plain.no_dashes, plain.no_long, plain.no_short, found, again, and_false (is_pending (rule_of_single a) (pending_texts p)), settles_well s.rules p rows known) refl
+      rw (plain.no_dashes, plain.no_long, plain.no_short, found, again, and-false (is_pending (rule_of_single a) (pending_texts p)), settles_well s.rules p rows known) refl
 
 module _ (s : Shape) (again : s.args_override_self ≡ false) (k : ℕ) (rows : List Entry) where
   pub answer_passes : (a : Single) (v : Text) → IsPlainWord v

@@ -7,14 +7,16 @@ use Rattle.std.specs.Option.{option_map_or}
 use Rattle.clap.specs.Walk.{Row as Entry, Rule, Names, Walk, walk, walk_from, walked, idle, subcommand_met, nothing_held, rows_after, finished, answers_to, arg_by_id, arg_by_long, arg_by_index, stop_after}
 use Rattle.clap.specs.Simple.{App, Shape, names_of, label_of, entered, rows_at}
 use Rattle.clap.specs.Takes.{walk_passes, level_passes, default_passes, is_valid, built_takes, entered_passes, settle_passes}
-use Rattle.word_forms.specs.Form.{Text, Row, Use, spelled, is_among, value_names, row_named, is_allowed}
+use Rattle.word_forms.specs.Form.{Text, Row, Use, spelled, is_among, value_names, positional_names, row_named, is_allowed}
 use Rattle.word_forms.specs.Form.{is_name}
 use Rattle.word_values.proofs.Steps.{rule_of_single, flag_built}
-use Rattle.word_values.proofs.Uses.{Reads, single_named, single_at, numbered, names_of_row}
+use Rattle.word_values.proofs.Uses.{Reads, single_named, single_at, numbered}
 use Rattle.word_values.proofs.Counts.{Sound, n_named, allowed}
 use Rattle.word_values.specs.Gives.{Gives}
 use Rattle.word_values.proofs.Finds.{adds_none}
-use Rattle.word_values.proofs.Level.{Closes, gives, rows_are, passes, and_true}
+use Rattle.word_values.proofs.Level.{Closes, gives, rows_are, passes}
+use Rattle.std.proofs.lemmas.List.{append-nil}
+use Rattle.std.specs.Cmp.Derive.{both_true}
 
 -- ---- what clap makes of a row, as data that computes at a table that is written out
 
@@ -50,16 +52,16 @@ seen b leaf row = let s = leaf row in record {
   ids = map (arg_by_id s.rules) (value_names row);
   flags = map (arg_by_long s.rules) row.flags;
   flag_ids = map (arg_by_id s.rules) row.flags;
-  places = map (λ (q : ℕ × Text). arg_by_index s.rules q.0) (numbered 1 (names_of_row row));
-  place_ids = map (λ (q : ℕ × Text). arg_by_id s.rules q.1) (numbered 1 (names_of_row row));
+  places = map (λ (q : ℕ × Text). arg_by_index s.rules q.0) (numbered 1 (positional_names row));
+  place_ids = map (λ (q : ℕ × Text). arg_by_id s.rules q.1) (numbered 1 (positional_names row));
   defaults = list_all default_passes s.rules;
   help = s.arg_required_else_help;
   subcommand = s.subcommand_required;
   free = list_all (λ a. a.is_free) s.rules;
   required = list_all (λ a. not a.required || is_among (row.positionals ++ row.needed) a.id) s.rules;
-  undefaulted = list_all (λ x. list_all (adds_none x) s.rules) (value_names row ++ names_of_row row);
-  apart_names = list_all (λ n. not (is_among (value_names row ++ row.flags) n)) (names_of_row row);
-  once = list_all (λ n. n_named n (names_of_row row) == 1) (names_of_row row);
+  undefaulted = list_all (λ x. list_all (adds_none x) s.rules) (value_names row ++ positional_names row);
+  apart_names = list_all (λ n. not (is_among (value_names row ++ row.flags) n)) (positional_names row);
+  once = list_all (λ n. n_named n (positional_names row) == 1) (positional_names row);
   apart_flags = list_all (λ x. not (is_among row.flags x)) (value_names row);
   no_help = bytes_eq row.name (codes "help");
   met = subcommand_met (names_of b) idle row.name;
@@ -75,8 +77,8 @@ wanted leaf row = record {
   ids = map (λ x. Some (rule_of_single (single_named row x))) (value_names row);
   flags = map (λ x. Some (flag_built x)) row.flags;
   flag_ids = map (λ x. Some (flag_built x)) row.flags;
-  places = map (λ q. Some (rule_of_single (single_at row q))) (numbered 1 (names_of_row row));
-  place_ids = map (λ q. Some (rule_of_single (single_at row q))) (numbered 1 (names_of_row row));
+  places = map (λ q. Some (rule_of_single (single_at row q))) (numbered 1 (positional_names row));
+  place_ids = map (λ q. Some (rule_of_single (single_at row q))) (numbered 1 (positional_names row));
   defaults = true;
   help = false;
   subcommand = false;
@@ -131,13 +133,9 @@ named_same f g (r ∷ rs) name row e h = let rest : map f rs ≡ map g rs = cc e
 
 -- ---- the walk above stops at the command
 
-no_more : (xs : List Text) → xs ++ [] ≡ xs
-no_more [] = refl
-no_more (x ∷ xs) = ap (λ (ys : List Text). x ∷ ys) (no_more xs)
-
 stops_here : (rules : List Rule) (names : Names) (w : Walk) (name : Text) (before words : List Text) → fold (walked rules names) (record w { stopped = Some (name, before) }) words ≡ record w { stopped = Some (name, before ++ words) }
 unfolding walked
-stops_here rules names w name before [] = ap (λ (ws : List Text). record w { stopped = Some (name, ws) }) (sym (no_more before))
+stops_here rules names w name before [] = ap (λ (ws : List Text). record w { stopped = Some (name, ws) }) (sym (append-nil before))
 stops_here rules names w name before (word ∷ words) =
     stops_here rules names w name (before ++ word ∷ []) words ∙ ap (λ (ws : List Text). record w { stopped = Some (name, ws) }) (append_assoc before (word ∷ []) words)
 
@@ -161,7 +159,7 @@ top_passes : (s : Shape) (names : Names) (name : Text) (words : List Text) → b
     → walk_passes s names (walk_from nothing_held) (name ∷ words) ≡ true
 unfolding walk_passes
 top_passes s names name words no_help met =
-    and_true _ _ (rw (met, no_help) refl)
+    both_true (rw (met, no_help) refl)
     (ap (λ (w : Walk). walk_passes s names w words) (first_walks s.rules names name met) ∙ stopped_passes s names (walk_from nothing_held) name [] words)
 
 -- the top asks nothing of words that name a command
@@ -204,9 +202,9 @@ module _ (b : App) (leaf : Row → Shape) (free : TopIsFree b.top) (table : List
 
   above : level_passes b.top (names_of b) nothing_held words true ≡ true
   above =
-      and_true _ _ (top_passes b.top (names_of b) row.name (flat_map spelled uses) (ap (λ (x : Seen). x.no_help) here) (ap (λ (x : Seen). x.met) here))
-      (and_true _ _ (ap (λ (w : Walk). settle_passes b.top.rules b.top.args_override_self w.held) walks)
-      (and_true _ _ free.defaults (ap (λ (w : Walk). is_valid b.top (finished b.top.rules w.held) true) walks ∙ free.valid)))
+      both_true (top_passes b.top (names_of b) row.name (flat_map spelled uses) (ap (λ (x : Seen). x.no_help) here) (ap (λ (x : Seen). x.met) here))
+      (both_true (ap (λ (w : Walk). settle_passes b.top.rules b.top.args_override_self w.held) walks)
+      (both_true free.defaults (ap (λ (w : Walk). is_valid b.top (finished b.top.rules w.held) true) walks ∙ free.valid)))
 
   pub takes_words : built_takes b nothing_held words ≡ true
-  takes_words = and_true _ _ below (ap (λ (o : Option (Text × List Entry)). level_passes b.top (names_of b) nothing_held words (is_some o)) found_below ∙ above)
+  takes_words = both_true below (ap (λ (o : Option (Text × List Entry)). level_passes b.top (names_of b) nothing_held words (is_some o)) found_below ∙ above)

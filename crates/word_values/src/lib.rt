@@ -22,8 +22,7 @@ use clap::{Arg, ArgAction, ArgMatches, Command as Program, Error};
 use std::alloc::{AllocError, Global};
 use word_forms::{Call, Entry, read_call};
 
-// ---- the table
-
+// The table of commands; `command_named`, `Request` and `request_in` have a case for each.
 static TABLE: [Entry; 2] = [
     Entry {
         name: "graph",
@@ -43,6 +42,7 @@ static TABLE: [Entry; 2] = [
     },
 ];
 
+// The table, as contracts see it.
 fn commands() -> &'static [Entry]
     ensures rows { map row_of result.now ≡ table }
     ensures clear { list_all is_clear (map row_of result.now) ≡ true }
@@ -50,6 +50,7 @@ fn commands() -> &'static [Entry]
     &TABLE
 }
 
+// A command of the table.
 #[derive(Clone, Copy)]
 enum Command {
     Graph,
@@ -60,7 +61,10 @@ enum Command {
 #[derive(Clone, Copy, Debug, PartialEq)]
 pub enum Request<'a> {
     /// `graph FILE [--project]`
-    Graph { file: &'a str, project: bool },
+    Graph {
+        file: &'a str,
+        project: bool,
+    },
     /// `separate FILE [--x L] [--y L] [--given L]`
     Separate {
         file: &'a str,
@@ -70,6 +74,7 @@ pub enum Request<'a> {
     },
 }
 
+// The command of this name.
 fn command_named(name: &str) -> Option<Command>
     ensures { option_map row_for result ≡ row_named table name.now }
 {
@@ -82,9 +87,7 @@ fn command_named(name: &str) -> Option<Command>
     None
 }
 
-// ---- the program that `clap` runs
-
-// What a name of a row stands for.
+// What a name of a row stands for: a positional or an option, each without or with brackets, or a flag.
 #[derive(Clone, Copy)]
 enum Kind {
     Positional,
@@ -94,6 +97,7 @@ enum Kind {
     Flag,
 }
 
+// The argument of a kind, with its name.
 fn arg_of<'a>(alloc: Global, kind: Kind, name: &'a str) -> Arg<'a>
     ensures rule { rule_of result ≡ kind_rule kind name.entry.now }
     ensures local { result.global ≡ false }
@@ -107,22 +111,28 @@ fn arg_of<'a>(alloc: Global, kind: Kind, name: &'a str) -> Arg<'a>
     }
 }
 
+// The program with one more argument, which serves it alone.
 fn with_arg<'a>(program: Program<'a>, arg: Arg<'a>) -> Result<Program<'a>, AllocError>
     requires { arg.global ≡ false }
-    ensures shape { IfOk result (λ c. app_of c ≡ with_rule (app_of program.entry) (rule_of arg.entry)) }
-    ensures local { IfOk result (λ c. (out-Command c).has_globals ≡ (out-Command program.entry).has_globals) }
+    ensures shape { IfOk result (λ c.
+        app_of c ≡ with_rule (app_of program.entry) (rule_of arg.entry)) }
+    ensures local { IfOk result (λ c.
+        (out-Command c).has_globals ≡ (out-Command program.entry).has_globals) }
 {
     program.arg(arg)
 }
 
+// The program with one more argument for each name.
 fn with_names<'a>(
     alloc: Global,
     program: Program<'a>,
     kind: Kind,
     names: &[&'a str],
 ) -> Result<Program<'a>, AllocError>
-    ensures shape { IfOk result (λ c. app_of c ≡ fold with_rule (app_of program.entry) (map (kind_rule kind) (texts names.now))) }
-    ensures local { IfOk result (λ c. (out-Command c).has_globals ≡ (out-Command program.entry).has_globals) }
+    ensures shape { IfOk result (λ c.
+        app_of c ≡ fold with_rule (app_of program.entry) (map (kind_rule kind) (texts names.now))) }
+    ensures local { IfOk result (λ c.
+        (out-Command c).has_globals ≡ (out-Command program.entry).has_globals) }
 {
     let mut program = program;
     for name in names {
@@ -131,6 +141,7 @@ fn with_names<'a>(
     Ok(program)
 }
 
+// A command with its arguments.
 fn row_program<'a>(alloc: Global, row: &'a Entry) -> Result<Program<'a>, AllocError>
     ensures shape { IfOk result (λ c. app_of c ≡ app_of_row (row_of row.now)) }
     ensures local { IfOk result (λ c. (out-Command c).has_globals ≡ false) }
@@ -144,20 +155,23 @@ fn row_program<'a>(alloc: Global, row: &'a Entry) -> Result<Program<'a>, AllocEr
     Ok(program)
 }
 
+// The program with one more command.
 fn with_command<'a>(program: Program<'a>, command: Program<'a>) -> Result<Program<'a>, AllocError>
     requires { (out-Command command).has_globals ≡ false }
-    ensures { IfOk result (λ c. app_of c ≡ with_subcommand (app_of program.entry) (app_of command.entry).top) }
+    ensures { IfOk result (λ c.
+        app_of c ≡ with_subcommand (app_of program.entry) (app_of command.entry).top) }
 {
     program.subcommand(command)
 }
 
-// The words come without the program's name.
+// The program without commands. The words come without the program's name.
 fn start_program<'a>(alloc: Global) -> Program<'a>
     ensures { app_of result ≡ start }
 {
     Program::new(alloc, "causal").no_binary_name(true)
 }
 
+// The program with the commands of the table.
 fn program_of<'a>(alloc: Global, table: &'a [Entry]) -> Result<Program<'a>, AllocError>
     ensures { IfOk result (λ c. app_of c ≡ app_of_table (map row_of table.now)) }
 {
@@ -168,15 +182,14 @@ fn program_of<'a>(alloc: Global, table: &'a [Entry]) -> Result<Program<'a>, Allo
     Ok(program)
 }
 
-// ---- what `clap` reads
-
 // The matches of words of the form: only want of memory is refused.
 fn read_matches<'a>(
     alloc: Global,
     words: &'a [String],
     call: &Call<'_>,
 ) -> Result<ArgMatches<'a>, Error>
-    requires { IsCall table (texts_of words.now) (row_of call.now.row.now) (uses_in call.now.uses) }
+    requires { IsCall table (texts_of words.now) (row_of call.now.row.now)
+        (uses_in call.now.uses) }
     ensures ok { IfOk result (λ m. GivesCall (row_of call.now.row.now) (uses_in call.now.uses) m) }
     ensures err { IfErr result (λ e. kind_of e ≡ ErrorKind.OutOfMemory) }
 {
@@ -184,6 +197,7 @@ fn read_matches<'a>(
     program.try_get_matches_from(words)
 }
 
+// Want of memory, as `clap` reports it.
 fn memory_error(error: Error) -> AllocError
     requires { kind_of error ≡ ErrorKind.OutOfMemory }
 {
@@ -193,7 +207,8 @@ fn memory_error(error: Error) -> AllocError
 
 // What was found for a name below the command.
 fn text_in<'a>(matches: &ArgMatches<'a>, name: &str) -> Option<&'a str>
-    ensures { option_map (λ s. s.now) result ≡ option_and_then (λ p. first_of name.now p.1) (subcommand_rows_of matches.now) }
+    ensures { option_map (λ s. s.now) result
+        ≡ option_and_then (λ p. first_of name.now p.1) (subcommand_rows_of matches.now) }
 {
     match matches.subcommand() {
         Some((_, inner)) => inner.get_str(name),
@@ -241,8 +256,7 @@ fn flag_in(command: Command, matches: &ArgMatches<'_>, name: &str) -> bool
     }
 }
 
-// ---- what words ask for
-
+// What `graph` is asked for.
 fn graph_request<'a>(matches: &ArgMatches<'a>) -> Request<'a>
     requires { (uses : List Use) × GivesCall (row_for Command.Graph) uses matches.now }
     ensures row { row_asked (asked_of result) ≡ row_for Command.Graph }
@@ -255,6 +269,7 @@ fn graph_request<'a>(matches: &ArgMatches<'a>) -> Request<'a>
     }
 }
 
+// What `separate` is asked for.
 fn separate_request<'a>(matches: &ArgMatches<'a>) -> Request<'a>
     requires { (uses : List Use) × GivesCall (row_for Command.Separate) uses matches.now }
     ensures row { row_asked (asked_of result) ≡ row_for Command.Separate }
@@ -269,6 +284,7 @@ fn separate_request<'a>(matches: &ArgMatches<'a>) -> Request<'a>
     }
 }
 
+// What the command is asked for.
 fn request_in<'a>(command: Command, matches: &ArgMatches<'a>) -> Request<'a>
     requires { (uses : List Use) × GivesCall (row_for command) uses matches.now }
     ensures row { row_asked (asked_of result) ≡ row_for command }
@@ -282,12 +298,10 @@ fn request_in<'a>(command: Command, matches: &ArgMatches<'a>) -> Request<'a>
 }
 
 /// What the words ask for, exactly where they have the form. They ask for one thing at most.
-pub fn read_words<'a>(
-    alloc: Global,
-    words: &'a [String],
-) -> Result<Option<Request<'a>>, AllocError>
+pub fn read_words<'a>(alloc: Global, words: &'a [String]) -> Result<Option<Request<'a>>, AllocError>
     ensures asks { IfOk result (λ o. IfSome o (λ r. Asks (texts_of words.now) (asked_of r))) }
-    ensures only { IfOk result (λ o. IfSome o (λ r. (other : Asked) → Asks (texts_of words.now) other → other ≡ asked_of r)) }
+    ensures only { IfOk result (λ o. IfSome o (λ r.
+        (other : Asked) → Asks (texts_of words.now) other → other ≡ asked_of r)) }
     ensures none { IfOk result (λ o. IfNone o (HasForm table (texts_of words.now) → ⊥)) }
 {
     let Some(call) = read_call(alloc, commands(), words)? else {
@@ -299,5 +313,95 @@ pub fn read_words<'a>(
     match read_matches(alloc, words, &call) {
         Ok(matches) => Ok(Some(request_in(command, &matches))),
         Err(error) => Err(memory_error(error)),
+    }
+}
+
+#[cfg(test)]
+mod tests {
+    use super::*;
+    use std::test::Fail;
+
+    fn words_of(alloc: Global, texts: &[&str]) -> Result<Vec<String>, AllocError> {
+        let mut words = Vec::new(alloc);
+        for text in texts {
+            words.push(String::from_str(alloc, text)?)?;
+        }
+        Ok(words)
+    }
+
+    fn graph(file: &str, project: bool) -> Option<Request<'_>> {
+        Some(Request::Graph { file, project })
+    }
+
+    fn separate<'a>(
+        file: &'a str,
+        x: Option<&'a str>,
+        y: Option<&'a str>,
+        given: Option<&'a str>,
+    ) -> Option<Request<'a>> {
+        Some(Request::Separate { file, x, y, given })
+    }
+
+    #[test]
+    fn words_are_read(rt: HostRuntime) -> Result<(), Fail> {
+        let all = separate("g", Some("A"), Some("C"), Some("B"));
+        let cases: [(&[&str], Option<Request<'_>>); 39] = [
+            (&["graph", "g"], graph("g", false)),
+            (&["graph", "-"], graph("-", false)),
+            (&["graph", "g", "--project"], graph("g", true)),
+            (&["graph", "--project", "graph"], graph("graph", true)),
+            (&["separate", "--given=B", "--y", "C", "g", "--x=A"], all),
+            (
+                &["separate", "g", "--x", "A", "--y", "C", "--given", "B"],
+                all,
+            ),
+            (&["separate", "-"], separate("-", None, None, None)),
+            (&["separate", "help"], separate("help", None, None, None)),
+            (
+                &["separate", "g", "--x={}"],
+                separate("g", Some("{}"), None, None),
+            ),
+            (
+                &["separate", "g", "--y==-"],
+                separate("g", None, Some("=-"), None),
+            ),
+            (
+                &["separate", "g", "--given", "A,-b"],
+                separate("g", None, None, Some("A,-b")),
+            ),
+            (&[], None),
+            (&["graph"], None),
+            (&["graph", ""], None),
+            (&["graph", "-g"], None),
+            (&["graph", "--", "g"], None),
+            (&["graph", "g", "h"], None),
+            (&["graph", "g", "--project", "--project"], None),
+            (&["graph", "g", "--project=true"], None),
+            (&["graph", "g", "--proj"], None),
+            (&["graph", "g", "--x", "A"], None),
+            (&["graph", "g", "-h"], None),
+            (&["graph", "g", "--help"], None),
+            (&["separate", "--x", "A"], None),
+            (&["separate", "g", "--x", "A", "--x", "C", "--y", "B"], None),
+            (&["separate", "g", "--x", "A", "--x=A"], None),
+            (&["separate", "g", "--x"], None),
+            (&["separate", "g", "--x="], None),
+            (&["separate", "g", "--x", ""], None),
+            (&["separate", "g", "--x", "-a"], None),
+            (&["separate", "g", "--x=-a"], None),
+            (&["separate", "g", "--proj"], None),
+            (&["separate", "g", "--project"], None),
+            (&["identify", "g"], None),
+            (&["Graph", "g"], None),
+            (&["help", "graph"], None),
+            (&["help"], None),
+            (&["-h"], None),
+            (&["--version"], None),
+        ];
+        for (texts, want) in cases {
+            let words = words_of(rt.alloc(), texts)?;
+            assert_eq!(rt; read_words(rt.alloc(), &words)?, want, "at {texts:?}");
+        }
+        Ok(())
     }
 }
