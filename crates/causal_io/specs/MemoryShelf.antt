@@ -1,0 +1,64 @@
+-- What a shelf in memory holds, and which reads of it fail.
+use Rattle.std.specs.Prelude.{◌≡◌, ◌≤◌, ◌-◌, ◌^◌, ℕ, Bool, List, Option, Some, None, true, is_none, refl, string_bytes, ◌&&◌, ◌==◌}
+use Rattle.std.specs.List.{list_any}
+use Rattle.std.specs.Option.{option_map, option_map_or}
+use Rattle.std.specs.Str.{bytes_eq}
+use Rattle.std.specs.BTreeMap.{get_by_text}
+use Rattle.std.proofs.lemmas.Bool.{false≢true}
+use Rattle.causal_io.specs.declared.faults.FaultCount.{FaultCount}
+use Rattle.causal_io.specs.declared.memory.Text.{Text}
+use Rattle.causal_io.specs.declared.memory.MemoryShelf.{MemoryShelf}
+
+-- The text under a name.
+abbrev pub text_of : MemoryShelf → List ℕ → Option Text
+text_of shelf name = get_by_text shelf.texts name
+
+-- The bytes under a name.
+abbrev pub held_in : MemoryShelf → List ℕ → Option (List ℕ)
+held_in shelf name = option_map (λ t. t.content.items) (text_of shelf name)
+
+-- Whether nothing is held under a name.
+abbrev pub lacks_in : MemoryShelf → List ℕ → Bool
+lacks_in shelf name = is_none (text_of shelf name)
+
+-- The count of failures of a text, and another count where there is none.
+abbrev pub faults_or : FaultCount → Option Text → ℕ
+faults_or lacked text = option_map_or (λ t. t.faults.times) text lacked.times
+
+-- How often a read of a name has failed. The names that are lacked share one count.
+abbrev pub faults_in : MemoryShelf → List ℕ → ℕ
+faults_in shelf name = faults_or shelf.lacked (text_of shelf name)
+
+-- How many reads there were of a name since it was put.
+abbrev pub reads_in : MemoryShelf → List ℕ → ℕ
+reads_in shelf name = option_map_or (λ t. t.reads) (text_of shelf name) 0
+
+-- Whether the read of a name with a number is to fail.
+abbrev pub is_to_fail : MemoryShelf → List ℕ → ℕ → Bool
+is_to_fail shelf name call = list_any (λ f. bytes_eq (string_bytes f.name) name && (f.call == call)) shelf.failing.items
+
+-- Two shelves hold the same, with the same counts, and the same reads are to fail.
+pub record IsUnchanged (old new : MemoryShelf) : Type 0 where
+  pub held : (name : List ℕ) → held_in new name ≡ held_in old name
+  pub faults : (name : List ℕ) → faults_in new name ≡ faults_in old name
+  pub reads : (name : List ℕ) → reads_in new name ≡ reads_in old name
+  pub failing : (name : List ℕ) (call : ℕ) → is_to_fail new name call ≡ is_to_fail old name call
+
+-- Where there is no text, the other count is meant.
+same_or : (lacked : FaultCount) (p q : Option Text) → is_none p ≡ true → is_none q ≡ true → faults_or lacked p ≡ faults_or lacked q
+same_or lacked None None p q = refl
+same_or lacked None (Some t) p q = absurd (false≢true q)
+same_or lacked (Some t) r p q = absurd (false≢true p)
+
+-- The names that are lacked share one count.
+pub faults_shared : (s : MemoryShelf) (a b : List ℕ) → lacks_in s a ≡ true → lacks_in s b ≡ true → faults_in s a ≡ faults_in s b
+faults_shared s a b p q = same_or s.lacked (text_of s a) (text_of s b) p q
+
+-- A count is a number of 64 bits.
+capped_or : (lacked : FaultCount) (p : Option Text) → faults_or lacked p ≤ 2 ^ 64 - 1
+capped_or lacked None = lacked.capped
+capped_or lacked (Some t) = t.faults.capped
+
+-- A count is a number of 64 bits, for every name.
+pub faults_capped : (s : MemoryShelf) (name : List ℕ) → faults_in s name ≤ 2 ^ 64 - 1
+faults_capped s name = capped_or s.lacked (text_of s name)

@@ -1,0 +1,145 @@
+// Files, and writers whose failures are counted. They don't tell what they hold or take.
+ghost use Rattle.std.proofs.lemmas.Bool.{false≢true};
+ghost use Rattle.std.specs.Prelude.{◌≡◌, ◌<◌, ◌≤◌, ◌^◌, ◌-◌, min, List, ℕ, None, Ok, false, refl, length, ◌≢◌, true, IsErr, IfOk, IfSome, OnOk, OnErr, string_bytes};
+ghost use Rattle.causal_io.specs.Causes.{risen, Rose};
+ghost use Rattle.causal_io.specs.Words.{word_place};
+
+use crate::faults::FaultCount;
+use crate::{Failed, Shelf, Sink};
+use std::alloc::{AllocError, Global};
+use std::fs;
+use std::io::{Input, Read, Seek, SeekFrom, Stderr, Stdout, Write};
+use std::rt::Files;
+
+/// A writer whose failures are counted. A write that takes nothing of a piece is one.
+#[derive(Drop)]
+pub struct CountedWriter<W: Write + Drop> {
+    inner: W,
+    faults: FaultCount,
+}
+
+/// Standard output.
+pub type OutSink = CountedWriter<Stdout>;
+
+/// The error stream.
+pub type ErrSink = CountedWriter<Stderr>;
+
+impl<W: Write + Drop> CountedWriter<W> {
+    pub fn of(inner: W) -> Self
+        ensures { ⟦<CountedWriter<W> as Sink>⟧.faults result ≡ 0 }
+    {
+        CountedWriter {
+            inner,
+            faults: FaultCount::zero(),
+        }
+    }
+}
+
+impl<W: Write + Drop> Sink for CountedWriter<W> {
+    ghost written = { λ _. None };
+
+    ghost faults = { λ s. s.faults.times };
+
+    ghost capped = { λ s. s.faults.capped };
+
+    fn write(&mut self, piece: &[u8]) -> Result<usize, Failed>
+        requires { 0 < length piece.now }
+        ensures some { IfOk result (λ count. 0 < count) }
+        ensures bound { IfOk result (λ count. count ≤ length piece.now) }
+        ensures ok { OnOk result (self.new.faults ≡ self.old.faults) }
+        ensures err { OnErr result (self.new.faults.times ≡ risen self.old.faults.times) }
+    {
+        match self.inner.write(piece) {
+            Ok(0) | Err(_) => {
+                self.faults.rise();
+                Err(Failed)
+            }
+            Ok(count) => Ok(count),
+        }
+    }
+}
+
+/// Files by name, of which the names are among some words; `-` is standard input.
+#[derive(Drop)]
+pub struct FileShelf<'a, R: Files + Input> {
+    rt: &'a R,
+    words: &'a [String],
+    input: R::Reader,
+    counts: Vec<FaultCount>,
+    ghost counted: { length counts.items ≡ length words.now },
+}
+
+impl<'a, R: Files + Input> FileShelf<'a, R> {
+    pub fn of(rt: &'a R, alloc: Global, words: &'a [String]) -> Result<Self, AllocError>
+        ensures { IfOk result (λ s. (name : List ℕ) → ⟦<FileShelf<'a, R> as Shelf>⟧.faults s name ≡ 0) }
+    {
+        Ok(FileShelf {
+            rt,
+            words,
+            input: rt.reader(),
+            counts: vec![in alloc; FaultCount::zero(); words.len()]?,
+        })
+    }
+}
+
+fn word_at(words: &[String], name: &str) -> Option<usize>
+    ensures place { result ≡ word_place words.now name.now }
+    ensures within { IfSome result (λ i. i < length words.now) }
+{
+    words.iter().position(|w| w.as_str() == name)
+}
+
+fn read_file<R: Files>(rt: &R, name: &str, from: u64, into: &mut [u8]) -> Result<usize, Failed>
+    ensures bound { IfOk result (λ count. count ≤ length into.old) }
+{
+    let mut file = fs::open(rt, name).map_err(|_| Failed)?;
+    file.seek(SeekFrom::Start(from)).map_err(|_| Failed)?;
+    file.read(into).map_err(|_| Failed)
+}
+
+fn read_next<R: Read>(reader: &mut R, into: &mut [u8]) -> Result<usize, Failed>
+    ensures bound { IfOk result (λ count. count ≤ length into.old) }
+{
+    reader.read(into).map_err(|_| Failed)
+}
+
+impl<'a, R: Files + Input> Shelf for FileShelf<'a, R> {
+    ghost use Rattle.causal_io.specs.Words.{word_place, faults_at, faults_at_capped};
+
+    ghost held = { λ _ _. None };
+
+    ghost lacks = { λ _ _. false };
+
+    ghost faults = { λ s name. faults_at s.words.now s.counts.items name };
+
+    ghost share = { λ s a b p q. absurd (false≢true p) };
+
+    ghost capped = { λ s name. faults_at_capped s.words.now s.counts.items name };
+
+    /// A name that is none of the words is read as the empty text.
+    fn read(&mut self, name: &str, from: u64, into: &mut [u8]) -> Result<usize, Failed>
+        requires { 0 < length into.old }
+        ensures absent { word_place self.old.words.now name.now ≡ None → result ≡ Ok 0 }
+        ensures bound { IfOk result (λ count. count ≤ length into.old) }
+        ensures ok { OnOk result (self.new.counts ≡ self.old.counts) }
+        ensures err { OnErr result (faults_at self.new.words.now self.new.counts.items name.now ≡ risen (faults_at self.old.words.now self.old.counts.items name.now)) }
+        ensures failed { OnErr result (Rose (faults_at self.old.words.now self.old.counts.items name.now) (faults_at self.new.words.now self.new.counts.items name.now)) }
+        ensures never_falls { (other : List ℕ) → faults_at self.old.words.now self.old.counts.items other ≤ faults_at self.new.words.now self.new.counts.items other }
+        ensures others { (other : List ℕ) → other ≢ name.now → faults_at self.new.words.now self.new.counts.items other ≡ faults_at self.old.words.now self.old.counts.items other }
+    {
+        match word_at(self.words, name) {
+            None => Ok(0),
+            Some(at) => {
+                let taken = if name == "-" {
+                    read_next(&mut self.input, into)
+                } else {
+                    read_file(self.rt, name, from, into)
+                };
+                if taken.is_err() {
+                    self.counts[at].rise();
+                }
+                taken
+            }
+        }
+    }
+}
