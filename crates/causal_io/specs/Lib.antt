@@ -6,3 +6,4 @@ pub mod MemoryShelf
 pub mod MemorySink
 pub mod SureShelf
 pub mod Words
+pub mod Laws

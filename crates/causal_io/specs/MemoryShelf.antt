@@ -1,10 +1,9 @@
 -- What a shelf in memory holds, and which reads of it fail.
-use Rattle.std.specs.Prelude.{◌≡◌, ◌≤◌, ◌-◌, ◌^◌, ℕ, Bool, List, Option, Some, None, true, is_none, refl, string_bytes, ◌&&◌, ◌==◌}
+use Rattle.std.specs.Prelude.{◌≡◌, ℕ, Bool, List, Option, is_none, string_bytes, ◌&&◌, ◌==◌}
 use Rattle.std.specs.List.{list_any}
 use Rattle.std.specs.Option.{option_map, option_map_or}
 use Rattle.std.specs.Str.{bytes_eq}
 use Rattle.std.specs.BTreeMap.{get_by_text}
-use Rattle.std.proofs.lemmas.Bool.{false≢true}
 use Rattle.causal_io.specs.declared.faults.FaultCount.{FaultCount}
 use Rattle.causal_io.specs.declared.memory.Text.{Text}
 use Rattle.causal_io.specs.declared.memory.MemoryShelf.{MemoryShelf}
@@ -43,22 +42,3 @@ pub record IsUnchanged (old new : MemoryShelf) : Type 0 where
   pub faults : (name : List ℕ) → faults_in new name ≡ faults_in old name
   pub reads : (name : List ℕ) → reads_in new name ≡ reads_in old name
   pub failing : (name : List ℕ) (call : ℕ) → is_to_fail new name call ≡ is_to_fail old name call
-
--- Where there is no text, the other count is meant.
-same_or : (lacked : FaultCount) (p q : Option Text) → is_none p ≡ true → is_none q ≡ true → faults_or lacked p ≡ faults_or lacked q
-same_or lacked None None p q = refl
-same_or lacked None (Some t) p q = absurd (false≢true q)
-same_or lacked (Some t) r p q = absurd (false≢true p)
-
--- The names that are lacked share one count.
-pub faults_shared : (s : MemoryShelf) (a b : List ℕ) → lacks_in s a ≡ true → lacks_in s b ≡ true → faults_in s a ≡ faults_in s b
-faults_shared s a b p q = same_or s.lacked (text_of s a) (text_of s b) p q
-
--- A count is a number of 64 bits.
-capped_or : (lacked : FaultCount) (p : Option Text) → faults_or lacked p ≤ 2 ^ 64 - 1
-capped_or lacked None = lacked.capped
-capped_or lacked (Some t) = t.faults.capped
-
--- A count is a number of 64 bits, for every name.
-pub faults_capped : (s : MemoryShelf) (name : List ℕ) → faults_in s name ≤ 2 ^ 64 - 1
-faults_capped s name = capped_or s.lacked (text_of s name)

@@ -1,9 +1,8 @@
 -- The place of a name among words, and a count at that place.
-use Rattle.std.specs.Prelude.{ℕ, ◌≤◌, ◌-◌, ◌^◌, List, Option, Some, None, position, slice_get, string_bytes, String}
+use Rattle.std.specs.Prelude.{ℕ, List, Option, position, slice_get, string_bytes, String}
 use Rattle.std.specs.declared.alloc.Global.{Global}
 use Rattle.std.specs.Option.{option_map_or, option_and_then}
 use Rattle.std.specs.Str.{bytes_eq}
-use Rattle.std.proofs.Common.{lit≤}
 use Rattle.causal_io.specs.declared.faults.FaultCount.{FaultCount}
 
 -- The place of a name among words.
@@ -21,12 +20,3 @@ count_at counts place = times_of (option_and_then (slice_get counts) place)
 -- The count of a name among words, each of which has a count.
 abbrev pub faults_at : List (String Global) → List FaultCount → List ℕ → ℕ
 faults_at words counts name = count_at counts (word_place words name)
-
--- A count is a number of 64 bits.
-times_capped : (count : Option FaultCount) → times_of count ≤ 2 ^ 64 - 1
-times_capped None = lit≤ tt
-times_capped (Some c) = c.capped
-
--- A count is a number of 64 bits, for every name.
-pub faults_at_capped : (words : List (String Global)) (counts : List FaultCount) (name : List ℕ) → faults_at words counts name ≤ 2 ^ 64 - 1
-faults_at_capped words counts name = times_capped (option_and_then (slice_get counts) (word_place words name))

@@ -14,7 +14,7 @@ use std::collections::BTreeMap;
 
 /// What stands under a name, and the reads of it so far.
 #[derive(Drop)]
-pub struct Text {
+struct Text {
     content: Vec<u8>,
     reads: u64,
     faults: FaultCount,
@@ -22,7 +22,7 @@ pub struct Text {
 
 /// The read of a name that is to fail, by its number from 0 on.
 #[derive(Drop)]
-pub struct FailingRead {
+struct FailingRead {
     name: String,
     call: u64,
 }
@@ -93,7 +93,7 @@ impl MemoryShelf {
     }
 
     /// What it holds under a name.
-    pub fn content(&self, name: &str) -> Option<&[u8]>
+    pub(crate) fn content(&self, name: &str) -> Option<&[u8]>
         ensures { option_copied result ≡ held_in self.now name.now }
     {
         match self.texts.get(name) {
@@ -135,7 +135,8 @@ fn copy_front(from: &[u8], into: &mut [u8]) -> usize
 }
 
 impl Shelf for MemoryShelf {
-    ghost use Rattle.causal_io.specs.MemoryShelf.{held_in, lacks_in, faults_in, reads_in, is_to_fail, faults_shared, faults_capped};
+    ghost use Rattle.causal_io.specs.MemoryShelf.{held_in, lacks_in, faults_in, reads_in, is_to_fail};
+    ghost use Rattle.causal_io.specs.Laws.{faults_shared, faults_capped};
 
     ghost held = { held_in };
 

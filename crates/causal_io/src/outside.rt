@@ -46,8 +46,8 @@ impl<W: Write + Drop> Sink for CountedWriter<W> {
         requires { 0 < length piece.now }
         ensures some { IfOk result (λ count. 0 < count) }
         ensures bound { IfOk result (λ count. count ≤ length piece.now) }
-        ensures ok { OnOk result (self.new.faults ≡ self.old.faults) }
-        ensures err { OnErr result (self.new.faults.times ≡ risen self.old.faults.times) }
+        ensures ok { OnOk result (⟦<CountedWriter<W> as Sink>⟧.faults self.new ≡ ⟦<CountedWriter<W> as Sink>⟧.faults self.old) }
+        ensures err { OnErr result (⟦<CountedWriter<W> as Sink>⟧.faults self.new ≡ risen (⟦<CountedWriter<W> as Sink>⟧.faults self.old)) }
     {
         match self.inner.write(piece) {
             Ok(0) | Err(_) => {
@@ -71,7 +71,8 @@ pub struct FileShelf<'a, R: Files + Input> {
 
 impl<'a, R: Files + Input> FileShelf<'a, R> {
     pub fn of(rt: &'a R, alloc: Global, words: &'a [String]) -> Result<Self, AllocError>
-        ensures { IfOk result (λ s. (name : List ℕ) → ⟦<FileShelf<'a, R> as Shelf>⟧.faults s name ≡ 0) }
+        ensures faults { IfOk result (λ s. (name : List ℕ) → ⟦<FileShelf<'a, R> as Shelf>⟧.faults s name ≡ 0) }
+        ensures words { IfOk result (λ s. s.words.now ≡ words.entry.now) }
     {
         Ok(FileShelf {
             rt,
@@ -104,7 +105,8 @@ fn read_next<R: Read>(reader: &mut R, into: &mut [u8]) -> Result<usize, Failed>
 }
 
 impl<'a, R: Files + Input> Shelf for FileShelf<'a, R> {
-    ghost use Rattle.causal_io.specs.Words.{word_place, faults_at, faults_at_capped};
+    ghost use Rattle.causal_io.specs.Words.{word_place, faults_at};
+    ghost use Rattle.causal_io.specs.Laws.{faults_at_capped};
 
     ghost held = { λ _ _. None };
 
@@ -120,12 +122,13 @@ impl<'a, R: Files + Input> Shelf for FileShelf<'a, R> {
     fn read(&mut self, name: &str, from: u64, into: &mut [u8]) -> Result<usize, Failed>
         requires { 0 < length into.old }
         ensures absent { word_place self.old.words.now name.now ≡ None → result ≡ Ok 0 }
+        ensures words { self.new.words ≡ self.old.words }
         ensures bound { IfOk result (λ count. count ≤ length into.old) }
-        ensures ok { OnOk result (self.new.counts ≡ self.old.counts) }
-        ensures err { OnErr result (faults_at self.new.words.now self.new.counts.items name.now ≡ risen (faults_at self.old.words.now self.old.counts.items name.now)) }
-        ensures failed { OnErr result (Rose (faults_at self.old.words.now self.old.counts.items name.now) (faults_at self.new.words.now self.new.counts.items name.now)) }
-        ensures never_falls { (other : List ℕ) → faults_at self.old.words.now self.old.counts.items other ≤ faults_at self.new.words.now self.new.counts.items other }
-        ensures others { (other : List ℕ) → other ≢ name.now → faults_at self.new.words.now self.new.counts.items other ≡ faults_at self.old.words.now self.old.counts.items other }
+        ensures ok { OnOk result ((other : List ℕ) → ⟦<FileShelf<'a, R> as Shelf>⟧.faults self.new other ≡ ⟦<FileShelf<'a, R> as Shelf>⟧.faults self.old other) }
+        ensures err { OnErr result (⟦<FileShelf<'a, R> as Shelf>⟧.faults self.new name.now ≡ risen (⟦<FileShelf<'a, R> as Shelf>⟧.faults self.old name.now)) }
+        ensures failed { OnErr result (Rose (⟦<FileShelf<'a, R> as Shelf>⟧.faults self.old name.now) (⟦<FileShelf<'a, R> as Shelf>⟧.faults self.new name.now)) }
+        ensures never_falls { (other : List ℕ) → ⟦<FileShelf<'a, R> as Shelf>⟧.faults self.old other ≤ ⟦<FileShelf<'a, R> as Shelf>⟧.faults self.new other }
+        ensures others { (other : List ℕ) → other ≢ name.now → ⟦<FileShelf<'a, R> as Shelf>⟧.faults self.new other ≡ ⟦<FileShelf<'a, R> as Shelf>⟧.faults self.old other }
     {
         match word_at(self.words, name) {
             None => Ok(0),

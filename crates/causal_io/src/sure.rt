@@ -23,7 +23,8 @@ impl SureShelf {
 }
 
 impl Shelf for SureShelf {
-    ghost use Rattle.causal_io.specs.SureShelf.{held_surely, zero_capped};
+    ghost use Rattle.causal_io.specs.SureShelf.{held_surely};
+    ghost use Rattle.causal_io.specs.Laws.{zero_capped};
 
     ghost held = { held_surely };
 
@@ -60,7 +61,7 @@ impl SureSink {
 }
 
 impl Sink for SureSink {
-    ghost use Rattle.causal_io.specs.SureShelf.{zero_capped};
+    ghost use Rattle.causal_io.specs.Laws.{zero_capped};
 
     ghost written = { λ _. None };
 
