@@ -59,12 +59,21 @@ impl<W: Write + Drop> Sink for CountedWriter<W> {
     }
 }
 
+// A file that is open for a word, and the place of the byte that it reads next.
+#[derive(Drop)]
+struct OpenFile<F: Drop> {
+    word: usize,
+    place: u64,
+    file: F,
+}
+
 /// Files by name, of which the names are among some words; `-` is standard input.
 #[derive(Drop)]
 pub struct FileShelf<'a, R: Files + Input> {
     rt: &'a R,
     words: &'a [String],
     input: R::Reader,
+    open: Option<OpenFile<R::File>>,
     counts: Vec<FaultCount>,
     ghost counted: { length counts.items ≡ length words.now },
 }
@@ -78,6 +87,7 @@ impl<'a, R: Files + Input> FileShelf<'a, R> {
             rt,
             words,
             input: rt.reader(),
+            open: None,
             counts: vec![in alloc; FaultCount::zero(); words.len()]?,
         })
     }
@@ -90,12 +100,38 @@ fn word_at(words: &[String], name: &str) -> Option<usize>
     words.iter().position(|w| w.as_str() == name)
 }
 
-fn read_file<R: Files>(rt: &R, name: &str, from: u64, into: &mut [u8]) -> Result<usize, Failed>
+// Opens a file at a place. One that can't seek, as a pipe, is opened at its start.
+fn open_at<R: Files>(rt: &R, name: &str, place: u64) -> Result<R::File, Failed> {
+    let mut file = fs::open(rt, name).map_err(|_| Failed)?;
+    if place > 0 {
+        file.seek(SeekFrom::Start(place)).map_err(|_| Failed)?;
+    }
+    Ok(file)
+}
+
+// Reads on in the file that is open, and opens it first unless it is open at that place.
+fn read_file<R: Files>(
+    rt: &R,
+    open: &mut Option<OpenFile<R::File>>,
+    word: usize,
+    name: &str,
+    from: u64,
+    into: &mut [u8],
+) -> Result<usize, Failed>
     ensures bound { IfOk result (λ count. count ≤ length into.old) }
 {
-    let mut file = fs::open(rt, name).map_err(|_| Failed)?;
-    file.seek(SeekFrom::Start(from)).map_err(|_| Failed)?;
-    file.read(into).map_err(|_| Failed)
+    let mut opened = match open.take() {
+        Some(opened) if opened.word == word && opened.place == from => opened,
+        _ => OpenFile {
+            word,
+            place: from,
+            file: open_at(rt, name, from)?,
+        },
+    };
+    let count = opened.file.read(into).map_err(|_| Failed)?;
+    opened.place = from.saturating_add(count as u64);
+    *open = Some(opened);
+    Ok(count)
 }
 
 fn read_next<R: Read>(reader: &mut R, into: &mut [u8]) -> Result<usize, Failed>
@@ -136,7 +172,7 @@ impl<'a, R: Files + Input> Shelf for FileShelf<'a, R> {
                 let taken = if name == "-" {
                     read_next(&mut self.input, into)
                 } else {
-                    read_file(self.rt, name, from, into)
+                    read_file(self.rt, &mut self.open, at, name, from, into)
                 };
                 if taken.is_err() {
                     self.counts[at].rise();
