@@ -6,7 +6,8 @@ use Rattle.mixed_graph.specs.Bits.{has, members_below}
 use Rattle.name_text.specs.Printing.{printed, comma_text}
 use Rattle.m_separation.specs.declared.marks.Mark.{Mark}
 use Rattle.m_separation.specs.declared.marks.Mark.TheVariants.{Out}
-use Rattle.answer_text.specs.Texts.{name_of, comma_before, mark_text, steps_text}
+use Rattle.answer_text.specs.Texts.{comma_before, mark_text, steps_text}
+use Rattle.mixed_graph.specs.Names.{name_of}
 
 -- the first name, the comma behind it where more names follow, and these
 pub comma_text-first : (names : List (List ℕ)) (v : ℕ) (vs : List ℕ) →

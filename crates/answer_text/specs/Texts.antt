@@ -1,13 +1,10 @@
 -- How sets of vertices and paths are printed.
 use Rattle.std.specs.Prelude.{ℕ, zero, suc, List, [], ◌∷◌, ◌++◌, map, codes, slice_index, slice_index_or}
 use Rattle.mixed_graph.specs.Bits.{has, members_below}
+use Rattle.mixed_graph.specs.Names.{name_of}
 use Rattle.m_separation.specs.declared.marks.Mark.{Mark}
 use Rattle.m_separation.specs.declared.marks.Mark.TheVariants.{Out, Into, Both}
 use Rattle.name_text.specs.Printing.{printed, comma_text}
-
--- the name of vertex v
-abbrev pub name_of : List (List ℕ) → ℕ → List ℕ
-name_of names v = slice_index_or names v []
 
 -- a set: its names in index order, with commas between them, in braces
 abbrev pub set_text : List (List ℕ) → ℕ → List ℕ

@@ -5,7 +5,8 @@ ghost use Rattle.std.specs.Prelude.{◌≡◌, ◌++◌, ◌<◌, ◌≤◌, ◌
 ghost use Rattle.mixed_graph.specs.Bits.{has, members_below};
 ghost use Rattle.mixed_graph.specs.Sets.{Within};
 ghost use Rattle.name_text.specs.Printing.{printed, comma_text};
-ghost use Rattle.answer_text.specs.Texts.{comma_before, name_of, set_text, mark_text, steps_text, path_text};
+ghost use Rattle.answer_text.specs.Texts.{comma_before, set_text, mark_text, steps_text, path_text};
+ghost use Rattle.mixed_graph.specs.Names.{name_of};
 
 use m_separation::Mark;
 use mixed_graph::{Names, VSet};

@@ -1,6 +1,6 @@
 use Rattle.std.proofs.Common.{◌+◌, ◌++◌, ap, ◌∙◌}
 use Rattle.std.specs.Prelude.{slice_index}
-use Rattle.answer_text.specs.Texts.{name_of}
+use Rattle.mixed_graph.specs.Names.{name_of}
 use Rattle.name_text.specs.Printing.{printed}
 use Rattle.answer_text.proofs.Lists.{steps_more}
 use Rattle.answer_text.proofs.push_path.Goals as goal
