@@ -1,4 +1,4 @@
-use Rattle.std.proofs.Common.{◌≡◌, ◌++◌, ◌∙◌, sym, ap, append-nil, drop, arith}
+use Rattle.std.proofs.Common.{◌++◌, ◌∙◌, sym, ap, append-nil, arith}
 use Rattle.std.proofs.Math.ListN.{drop_of_length-le}
 use Rattle.fault_text.specs.Lines.{spaced}
 use Rattle.fault_text.proofs.push_spaced.Goals as goal
