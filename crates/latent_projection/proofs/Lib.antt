@@ -1,0 +1,6 @@
+pub mod Rows
+pub mod Treks
+pub mod Removing
+pub mod Removals
+pub mod LatentPaths
+pub mod Projecting
