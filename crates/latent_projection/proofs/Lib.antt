@@ -4,3 +4,5 @@ pub mod Removing
 pub mod Removals
 pub mod LatentPaths
 pub mod Projecting
+pub mod Numbering
+pub mod KeptNames
