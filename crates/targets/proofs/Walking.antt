@@ -1,8 +1,8 @@
 -- Names and their indices, and a walk over listed names.
-use Rattle.std.proofs.Common.{◌≡◌, ◌≢◌, ℕ, ◌+◌, ◌<◌, Bool, true, false, not, ◌&&◌, ◌||◌, ◌==◌, List, [], ◌∷◌, ◌++◌, length, get_or, drop, drop-cons, ◌≤◌, Option, Some, None, refl, sym, ap, subst, ◌∙◌, IsTrue, arith, inl, inr}
-use Rattle.std.specs.Prelude.{suc, zero, cond, nat_lt, slice_index_or}
+use Rattle.std.proofs.Common.{◌≡◌, ℕ, ◌+◌, ◌<◌, Bool, true, false, not, ◌&&◌, ◌||◌, ◌==◌, List, [], ◌∷◌, length, get_or, drop, drop-cons, ◌≤◌, Option, Some, None, refl, sym, ap, subst, ◌∙◌, IsTrue, arith, inl, inr}
+use Rattle.std.specs.Prelude.{suc, cond, nat_lt, slice_index_or}
 use Rattle.std.specs.Str.{bytes_eq}
-use Rattle.std.proofs.lemmas.Bool.{cases_Bool, cases_eq, cases_order, eq-eqb, ne_eqb, eqb-true, lt-ltb, ltb-true, or_parts}
+use Rattle.std.proofs.lemmas.Bool.{cases_Bool, cases_eq, cases_order, eq-eqb, ne_eqb, eqb-true, lt-ltb, ltb-true}
 use Rattle.std.proofs.lemmas.Slice.Eq.{bytes_eq-Decides}
 use Rattle.mixed_graph.specs.Bits.{has}
 use Rattle.mixed_graph.specs.Names.{AreNames, is_named, index_of, name_of}

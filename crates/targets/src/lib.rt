@@ -7,10 +7,12 @@ ghost use Rattle.mixed_graph.specs.Names.{AreNames, is_named, index_of, texts};
 ghost use Rattle.targets.specs.Targets.{first_fault, name_fault, IsSetOf, IsNameFault, walked_in};
 
 mod fault;
+mod query;
 
 pub use fault::TargetFault;
 use fault::{latent, twice, unknown};
 use mixed_graph::{Names, VSet};
+pub use query::{Sets, find_sets, names_of};
 use std::alloc::Global;
 
 /// The set of the observed vertices that a list names, where no name of it is at fault and none is in `walked`.

@@ -1,11 +1,11 @@
-use Rattle.std.proofs.Common.{◌≡◌, ℕ, ◌+◌, ◌≤◌, ◌<◌, bit_or, ◌||◌, ◌==◌, List, ◌∷◌, [], length, drop, Option, None, refl, sym, ap, subst, ◌∙◌, arith}
+use Rattle.std.proofs.Common.{◌≡◌, ℕ, ◌+◌, ◌<◌, bit_or, ◌||◌, ◌==◌, ◌∷◌, length, drop, sym, ap, subst, ◌∙◌, arith}
 use Rattle.std.specs.Prelude.{get_or}
 use Rattle.std.specs.Global.{Vec}
 use Rattle.mixed_graph.specs.Bits.{has}
 use Rattle.mixed_graph.proofs.Masks.{has-or}
-use Rattle.mixed_graph.specs.Names.{texts, index_of}
-use Rattle.targets.specs.Targets.{IsNameFault, first_fault, name_fault, walked_in}
-use Rattle.targets.proofs.Walking.{IsWalking, walking_none, walking_more, walking_done, fault_first, texts-drop, texts-drop_end}
+use Rattle.mixed_graph.specs.Names.{texts}
+use Rattle.targets.specs.Targets.{IsNameFault, first_fault, walked_in}
+use Rattle.targets.proofs.Walking.{IsWalking, walking_more, fault_first, texts-drop, texts-drop_end}
 use Rattle.targets.proofs.walk.Goals as goal
 use Rattle.targets.proofs.walk.Goals.{After-as_slice}
 
