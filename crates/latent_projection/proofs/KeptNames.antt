@@ -45,6 +45,6 @@ not_named s (suc k) v names are le below =
           ∙ ap (λ xs. list_any (bytes_eq (get_or names v [])) xs) (map-append (λ u. get_or names u []) (members_below s k) (k ∷ []))
           ∙ list_any-append (bytes_eq (get_or names v [])) (names_at (members_below s k) names) (get_or names k [] ∷ [])
           ∙ or_from (is_named (names_at (members_below s k) names) (get_or names v [])) (bytes_eq (get_or names v []) (get_or names k []) || false) before
-            (or_from (bytes_eq (get_or names v []) (get_or names k [])) false (differ names k v are (omega arith) below) refl)
+          (or_from (bytes_eq (get_or names v []) (get_or names k [])) false (differ names k v are (omega arith) below) refl)
       | inr e ↦ ap (λ vs. is_named (names_at vs names) (get_or names v [])) (members-same s k e) ∙ before
     ])

@@ -170,4 +170,3 @@ module _ (g : MixedGraph) (l : ℕ → Bool) where
         latent = s.latent;
         simple = (avoided a b oa ne (heads_second x.begun.first.mark) x.begun.first.to s.steps s.ends s.latent, s.different);
       }
-

@@ -35,9 +35,9 @@ pub at_place : (s : ℕ → Bool) (n v : ℕ) → v < n → s v ≡ true → IsA
 at_place s zero v h e = absurd (omega arith)
 at_place s (suc n) v h e = subst (λ k. IsAtPlace s k v) (add-one n) (elim (cases_eq v n) [
   | inl q ↦ subst (λ w. IsAtPlace s (w + 1) v) q (record {
-      below = rw (members-more s v e) (let l = length-append (members_below s v) (v ∷ []) in omega (arith, l));
-      entry = rw (members-more s v e) (get_or-append_seam (members_below s v) v [] 0);
-    })
+    below = rw (members-more s v e) (let l = length-append (members_below s v) (v ∷ []) in omega (arith, l));
+    entry = rw (members-more s v e) (get_or-append_seam (members_below s v) v [] 0);
+  })
   | inr d ↦ at_place_more s n v (s n) refl (at_place s n v (omega arith) e)
 ])
 
@@ -102,10 +102,10 @@ module _ (p : MixedGraph) (vs : List ℕ) where
       → (a < length vs) × (b < length vs) × (e (get_or vs a 0) (get_or vs b 0) ≡ true)
   edge_of e a b h =
       let r = right_true (nat_lt a (length vs)) (renumbered_set vs (e (get_or vs a 0)) b) h in (
-      ltb-true a (length vs) (left_true (nat_lt a (length vs)) (renumbered_set vs (e (get_or vs a 0)) b) h),
-      ltb-true b (length vs) (left_true (nat_lt b (length vs)) (e (get_or vs a 0) (get_or vs b 0)) r),
-      right_true (nat_lt b (length vs)) (e (get_or vs a 0) (get_or vs b 0)) r,
-  )
+        ltb-true a (length vs) (left_true (nat_lt a (length vs)) (renumbered_set vs (e (get_or vs a 0)) b) h),
+        ltb-true b (length vs) (left_true (nat_lt b (length vs)) (e (get_or vs a 0) (get_or vs b 0)) r),
+        right_true (nat_lt b (length vs)) (e (get_or vs a 0) (get_or vs b 0)) r,
+      )
 
   edge_from : (e : ℕ → ℕ → Bool) (a b : ℕ) → a < length vs → b < length vs → e (get_or vs a 0) (get_or vs b 0) ≡ true
       → (nat_lt a (length vs) && renumbered_set vs (e (get_or vs a 0)) b) ≡ true

@@ -50,22 +50,7 @@ module _ (g : MixedGraph) (k : ℕ) (ok : IsMixedGraph g) where
   flip_through a b = rw (flip_both a k, flip_both b k) (turn (g.arrow k a) (g.arrow k b) (g.both k a) (g.both k b))
     where
       turn : (p q r s : Bool) → ((p && q) || ((p && s) || (r && q))) ≡ ((q && p) || ((q && r) || (s && p)))
-      turn true true true true = refl
-      turn true true true false = refl
-      turn true true false true = refl
-      turn true true false false = refl
-      turn true false true true = refl
-      turn true false true false = refl
-      turn true false false true = refl
-      turn true false false false = refl
-      turn false true true true = refl
-      turn false true true false = refl
-      turn false true false true = refl
-      turn false true false false = refl
-      turn false false true true = refl
-      turn false false true false = refl
-      turn false false false true = refl
-      turn false false false false = refl
+      turn p q r s = grind arith
 
   flip_eqb : (a b : ℕ) → (a == b) ≡ (b == a)
   flip_eqb a b = go (a == b) (b == a) refl refl
@@ -80,16 +65,9 @@ module _ (g : MixedGraph) (k : ℕ) (ok : IsMixedGraph g) where
   flip_without a b = rw (flip_both a b, flip_eqb a b, flip_through a b) (turn (not (a == k)) (not (b == k)) (g.both b a || (not (b == a) && through g k b a)))
     where
       turn : (p q r : Bool) → (p && (q && r)) ≡ (q && (p && r))
-      turn true true r = refl
-      turn true false r = refl
-      turn false true r = refl
-      turn false false r = refl
+      turn p q r = grind arith
 
-  record Expanded (v x t : ℕ) : Type 0 where
-    next : ℕ
-    path : List ℕ
-    leads : IsDirectedPath g v (next ∷ path) t
-
+  -- the path with k put back
   rest_of : (v : ℕ) (xs : List ℕ) (t : ℕ) → IsDirectedPath (without g k) v xs t → (ys : List ℕ) × IsDirectedPath g v ys t
   rest_of v [] t p = ([], p)
   rest_of v (x ∷ xs) t p = go (arrow_of v x p.0) (rest_of x xs t p.1)
@@ -141,6 +119,7 @@ alone g ok = record {
     top a b (fork c e x y) = absurd (grind (arith, e))
     top a b (edge c d e x y) = rw (whole c a x.path x.leads x.before, whole d b y.path y.leads y.before) at e
 
+-- the same, where no vertex is said to be latent
 pub projects_itself : (g : MixedGraph) (l : ℕ → Bool) → ((v : ℕ) → l v ≡ false) → IsMixedGraph g → ProjectsByTreks g l g
 projects_itself g l none ok =
     let P : (ℕ → Bool) → Type 0 = λ m. ProjectsByTreks g m g in

@@ -4,12 +4,11 @@ ghost use Rattle.mixed_graph.specs.Names.{IsName, is_named};
 ghost use Rattle.mixed_graph.specs.Shown.{graph_of};
 ghost use Rattle.latent_projection.specs.Renumbering.{observed_below, names_at, IsObserved};
 
-use mixed_graph::{AddFault, Graph, Names, VSet};
-use std::alloc::{AllocError, Global};
-
 use crate::latents::project;
 use crate::numbers::drop_latent;
 use crate::parts::Observed;
+use mixed_graph::{AddFault, Graph, Names, VSet};
+use std::alloc::{AllocError, Global};
 
 /// The latent projection without its latent vertices, the others numbered anew in their old order, with their names.
 pub fn observed(

@@ -5,6 +5,8 @@ mod dropping;
 mod latents;
 mod numbers;
 mod parts;
+#[cfg(test)]
+mod tests;
 
 pub use dropping::observed;
 pub use latents::project;

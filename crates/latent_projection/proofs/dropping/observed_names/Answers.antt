@@ -17,7 +17,7 @@ put-requires-clause-new c =
     let below = c.count-n.ensures.count in
     ap (λ (names : List (List ℕ)). is_named names c.get.result.now) c.loop-v.invariant
     ∙ ap (λ name. is_named (names_at (observed_below (has c.args.latent.bits) c.loop-v.v) c.args.names.now) name)
-      (sym (get_or_from_slice_get c.args.names.now c.loop-v.v c.get.result.now [] c.get.ensures.name))
+    (sym (get_or_from_slice_get c.args.names.now c.loop-v.v c.get.result.now [] c.get.ensures.name))
     ∙ not_named (λ v. not (has c.args.latent.bits v)) c.loop-v.v c.loop-v.v c.args.names.now c.count-n.ensures.names (omega arith) (omega (arith, below))
 
 pub put-requires-clause-room : goal.put-requires-clause-room
@@ -31,7 +31,7 @@ pub loop-v-preserved : goal.loop-v-preserved
 loop-v-preserved c = elim c.if-not-has.branch [
   | then-not-has+in_ok-put w ↦ w.kept-is ∙ w.in_ok-put.ensures ∙ ap (λ (names : List (List ℕ)). names ++ w.get.result.now ∷ []) c.loop-v.invariant
       ∙ sym (names_at-more (λ v. not (has c.args.latent.bits v)) c.loop-v.v c.args.names.now w.get.result.now
-        (not_from_false (has c.args.latent.bits c.loop-v.v) (sym c.has.ensures ∙ w.if-not-has.true)) w.get.ensures.name)
+      (not_from_false (has c.args.latent.bits c.loop-v.v) (sym c.has.ensures ∙ w.if-not-has.true)) w.get.ensures.name)
   | else-not-has w ↦ w.kept-is ∙ c.loop-v.invariant
       ∙ sym (names_at-same (λ v. not (has c.args.latent.bits v)) c.loop-v.v c.args.names.now (not_from_true (has c.args.latent.bits c.loop-v.v) (sym c.has.ensures ∙ w.if-not-has.false)))
 ]

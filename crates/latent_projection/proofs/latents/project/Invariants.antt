@@ -12,7 +12,7 @@ invariant-vertices l = record {
   agree : Agree l.graph.1.0 l.graph.1.1.0;
   valid : IsMixedGraph (graph_from l.graph.0 l.graph.1.1.0 l.graph.1.1.1.0);
   projects : (p : MixedGraph) → ProjectsByTreks (graph_from l.graph.0 l.graph.1.1.0 l.graph.1.1.1.0) (has l.rest.bits) p → ProjectsByTreks (graph_of l.g) (has l.fn.latent.bits) p;
-  fits : l.rest.bits < 2 ^ 64
+  fits : l.rest.bits < 2 ^ 64;
 }
 
 abbrev pub decreases-vertices : goal.decreases-vertices

@@ -16,7 +16,7 @@ loop-v-preserved c = row_more _ _ _ _ (omega arith) (λ b.
       | inl e ↦
           let x : (b == c.loop-v.v) ≡ true = eq-eqb b c.loop-v.v e in let y : (c.loop-v.v == b) ≡ true = eq-eqb c.loop-v.v b (sym e) in
           let z : has (get_or c.args.g.now.spouses c.loop-v.v 0) b ≡ false =
-              subst (λ d. has (get_or c.args.g.now.spouses c.loop-v.v 0) d ≡ false) (sym e) (c.args.g.now.valid.no_loop c.loop-v.v) in
+          subst (λ d. has (get_or c.args.g.now.spouses c.loop-v.v 0) d ≡ false) (sym e) (c.args.g.now.valid.no_loop c.loop-v.v) in
           grind arith
       | inr d ↦
           let x : (b == c.loop-v.v) ≡ false = ne_eqb b c.loop-v.v d in let y : (c.loop-v.v == b) ≡ false = ne_eqb c.loop-v.v b (λ e. d (sym e)) in

@@ -22,7 +22,7 @@ loop-v-preserved c = elim c.if-not-has.branch [
   | then-not-has w ↦ IsRenumbered-more _ _ c.loop-v.v c.loop-v.place c.loop-v.found.bits c.if-not-has.place c.if-not-has.found.bits
       (not_from_false (has c.args.latent.bits c.loop-v.v) (sym c.has.ensures ∙ w.if-not-has.true)) w.place-is
       (λ k. ap (λ (x : VSet). has x.bits k) w.found-is ∙ w.union-found.ensures k
-          ∙ ap (λ b. has c.loop-v.found.bits k || b) (w.only_if.ensures k ∙ (let h = w.has-then-not-has.ensures in let o = w.one.ensures k in grind arith)))
+      ∙ ap (λ b. has c.loop-v.found.bits k || b) (w.only_if.ensures k ∙ (let h = w.has-then-not-has.ensures in let o = w.one.ensures k in grind arith)))
       c.loop-v.invariant
   | else-not-has w ↦ IsRenumbered-same _ _ c.loop-v.v c.loop-v.place c.loop-v.found.bits c.if-not-has.place c.if-not-has.found.bits
       (not_from_true (has c.args.latent.bits c.loop-v.v) (sym c.has.ensures ∙ w.if-not-has.false)) w.place-is
