@@ -1,5 +1,5 @@
 -- Treks between observed vertices are paths without colliders.
-use Rattle.std.proofs.Common.{ℕ, ◌≡◌, Bool, true, false, ◌&&◌, List, [], ◌∷◌, ◌⊎◌, inl, inr, refl, sym, ap, ◌∙◌, arith}
+use Rattle.std.proofs.Common.{ℕ, ◌≡◌, Bool, true, false, ◌&&◌, List, [], ◌∷◌, ◌⊎◌, inl, inr, refl, sym, ◌∙◌, arith}
 use Rattle.std.proofs.lemmas.Bool.{cases_eq}
 use Rattle.mixed_graph.specs.Graphs.{MixedGraph, IsDirectedPath}
 use Rattle.m_separation.specs.declared.marks.Mark.{Mark}

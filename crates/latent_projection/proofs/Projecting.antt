@@ -1,9 +1,9 @@
 -- A projection by treks is the latent projection.
-use Rattle.std.proofs.Common.{ℕ, ◌≡◌, Bool, true, false, List, [], ◌∷◌, refl, sym}
+use Rattle.std.proofs.Common.{ℕ, ◌≡◌, Bool, true}
 use Rattle.std.proofs.lemmas.Bool.{false_from_ne_true}
 use Rattle.mixed_graph.specs.Graphs.{MixedGraph}
-use Rattle.latent_projection.specs.Projection.{IsLed, IsLatentPath, IsIsolated, IsProjection}
-use Rattle.latent_projection.proofs.Treks.{Reaches, LeadsOn, IsTrek, ProjectsByTreks, clash}
+use Rattle.latent_projection.specs.Projection.{IsLed, IsProjection}
+use Rattle.latent_projection.proofs.Treks.{LeadsOn, ProjectsByTreks, clash}
 use Rattle.latent_projection.proofs.LatentPaths.{trek_of, path_of}
 
 module _ (g p : MixedGraph) (l : ℕ → Bool) (is : ProjectsByTreks g l p) where

@@ -1,11 +1,11 @@
 -- What is left of a graph without one vertex is a graph, and a graph without latent vertices is its own projection.
-use Rattle.std.proofs.Common.{ℕ, ◌≡◌, ◌<◌, Bool, true, false, not, ◌&&◌, ◌||◌, ◌==◌, List, [], ◌∷◌, ◌⊎◌, inl, inr, refl, sym, ap, ◌∙◌, arith, subst}
+use Rattle.std.proofs.Common.{ℕ, ◌≡◌, ◌<◌, Bool, true, false, not, ◌&&◌, ◌||◌, ◌==◌, List, [], ◌∷◌, ◌⊎◌, inl, inr, refl, sym, ◌∙◌, arith, subst}
 use mathlib.Core.Path.{fun_ext}
-use Rattle.std.proofs.lemmas.Bool.{eqb-true, ne_eqb, eq-eqb, or_cases, false_from_ne_true}
+use Rattle.std.proofs.lemmas.Bool.{eqb-true, eq-eqb, or_cases, false_from_ne_true}
 use Rattle.mixed_graph.specs.Graphs.{MixedGraph, IsMixedGraph, IsDirectedPath}
 use Rattle.latent_projection.specs.Projection.{AreBefore}
 use Rattle.latent_projection.specs.Removal.{through, without}
-use Rattle.latent_projection.proofs.Treks.{Reaches, LeadsOn, IsTrek, fork, edge, ProjectsByTreks, clash, left_true, right_true, here}
+use Rattle.latent_projection.proofs.Treks.{IsTrek, fork, edge, ProjectsByTreks, clash, left_true, right_true, here}
 
 module _ (g : MixedGraph) (k : ℕ) (ok : IsMixedGraph g) where
   arrow_of : (a b : ℕ) → (without g k).arrow a b ≡ true → (g.arrow a b ≡ true) ⊎ ((g.arrow a k && g.arrow k b) ≡ true)

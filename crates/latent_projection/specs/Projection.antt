@@ -1,5 +1,5 @@
 -- The latent projection of a graph on its observed vertices (Verma and Pearl, 1990; Richardson, 2003).
-use Rattle.std.specs.Prelude.{ℕ, ◌≡◌, ◌≢◌, ◌↔◌, Bool, true, false, ◌&&◌, List, [], ◌∷◌, IsTrue}
+use Rattle.std.specs.Prelude.{ℕ, ◌≡◌, ◌≢◌, ◌↔◌, Bool, false, ◌&&◌, List, [], ◌∷◌, IsTrue}
 use Rattle.mixed_graph.specs.Graphs.{MixedGraph, IsDirectedPath}
 use Rattle.m_separation.specs.Walks.{Step, IsWalk, last, heads_first, heads_second, IsPath}
 

@@ -1,7 +1,8 @@
 -- The observed vertices numbered anew, in their old order.
-use Rattle.std.specs.Prelude.{ℕ, ◌≡◌, ◌<◌, Bool, not, ◌&&◌, List, [], length, map, nat_lt, slice_index, slice_index_or}
-use Rattle.mixed_graph.specs.Bits.{has, members_below}
+use Rattle.std.specs.Prelude.{ℕ, ◌≡◌, Bool, not, ◌&&◌, List, length, map, nat_lt, slice_index}
+use Rattle.mixed_graph.specs.Bits.{members_below}
 use Rattle.mixed_graph.specs.Graphs.{MixedGraph}
+use Rattle.mixed_graph.specs.Names.{name_of}
 use Rattle.latent_projection.specs.Projection.{IsProjection}
 
 -- the vertices below n outside the latent set, in ascending order: entry k is the old number of the new vertex k
@@ -28,4 +29,4 @@ pub record IsObserved (g : MixedGraph) (l : ℕ → Bool) (q : MixedGraph) : Typ
 
 -- the names of the listed vertices, in the order of the list
 abbrev pub names_at : List ℕ → List (List ℕ) → List (List ℕ)
-names_at vs names = map (λ v. slice_index_or names v []) vs
+names_at vs names = map (name_of names) vs

@@ -1,7 +1,7 @@
-use Rattle.std.proofs.Common.{◌≡◌, ℕ, not, ap, ◌∙◌, ◌++◌, ◌∷◌, [], List, arith, sym, subst, length}
+use Rattle.std.proofs.Common.{ℕ, not, ap, ◌∙◌, ◌++◌, ◌∷◌, [], List, arith, sym, length}
 use Rattle.std.proofs.lemmas.Bool.{not_from_true, not_from_false}
 use Rattle.std.proofs.lemmas.Option.{get_or_from_slice_get}
-use Rattle.mixed_graph.specs.Bits.{has, members_below}
+use Rattle.mixed_graph.specs.Bits.{has}
 use Rattle.mixed_graph.specs.Names.{is_named}
 use Rattle.mixed_graph.proofs.Members.{length-members-le}
 use Rattle.latent_projection.specs.Renumbering.{observed_below, names_at}

@@ -1,4 +1,4 @@
-use Rattle.std.proofs.Common.{◌≡◌, ℕ, length}
+use Rattle.std.proofs.Common.{◌≡◌}
 use Rattle.mixed_graph.specs.Bits.{has}
 use Rattle.latent_projection.specs.Renumbering.{observed_below, names_at}
 use Rattle.latent_projection.proofs.dropping.observed_names.Given as goal

@@ -1,10 +1,8 @@
-use Rattle.std.proofs.Common.{ℕ, ◌≡◌, ◌&&◌, ◌==◌, ◌^◌, ◌<◌, Bool, true, false, not, arith, ap, ◌∙◌, subst, sym, refl}
-use Rattle.std.proofs.lemmas.Bool.{eq-eqb, ne_eqb, and_parts}
+use Rattle.std.proofs.Common.{ℕ, ◌≡◌, ◌&&◌, ◌==◌, true, false, not, arith, ap, ◌∙◌, subst, refl}
+use Rattle.std.proofs.lemmas.Bool.{eq-eqb, ne_eqb}
 use Rattle.mixed_graph.specs.Bits.{has}
-use Rattle.mixed_graph.specs.Graphs.{MixedGraph, graph_from}
-use Rattle.mixed_graph.specs.Shown.{graph_of}
+use Rattle.mixed_graph.specs.Graphs.{MixedGraph}
 use Rattle.mixed_graph.proofs.Masks.{lt_from_subset, has-zero}
-use Rattle.latent_projection.specs.Removal.{without}
 use Rattle.latent_projection.proofs.Treks.{ProjectsByTreks}
 use Rattle.latent_projection.proofs.Removing.{projects_up}
 use Rattle.latent_projection.proofs.Removals.{projects_itself}

@@ -1,5 +1,4 @@
-use Rattle.std.proofs.Common.{ℕ, ◌≡◌, ◌&&◌, ◌||◌, ◌==◌, Bool, not, sym, subst, ◌∙◌, arith}
-use Rattle.mixed_graph.specs.Bits.{has}
+use Rattle.std.proofs.Common.{◌≡◌, sym, subst, ◌∙◌, arith}
 use Rattle.mixed_graph.specs.Graphs.{IsMixedGraph, graph_from}
 use Rattle.mixed_graph.specs.Shown.{graph_of}
 use Rattle.mixed_graph.proofs.Restricting.{same_graph}

@@ -1,7 +1,7 @@
-use Rattle.std.proofs.Common.{ℕ, ◌≡◌, ◌&&◌, ◌||◌, ◌==◌, Bool, true, false, not, get_or, arith, ap, ◌∙◌, sym, inl, inr, subst}
+use Rattle.std.proofs.Common.{◌≡◌, ◌==◌, true, false, get_or, arith, sym, inl, inr, subst}
 use Rattle.std.proofs.lemmas.Bool.{cases_eq, eq-eqb, ne_eqb}
 use Rattle.mixed_graph.specs.Bits.{has}
-use Rattle.latent_projection.proofs.Rows.{no_row, row_more, rows_whole}
+use Rattle.latent_projection.proofs.Rows.{no_row, row_more}
 use Rattle.latent_projection.proofs.latents.spouses_past.Goals as goal
 
 pub loop-v-init : goal.loop-v-init

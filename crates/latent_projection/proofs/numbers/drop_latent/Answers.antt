@@ -1,6 +1,6 @@
-use Rattle.std.proofs.Common.{◌≡◌, ◌≤◌, ℕ, not, ap, ◌∙◌, ◌&&◌, arith, sym, subst, length, nat_lt, get_or}
-use Rattle.mixed_graph.specs.Bits.{has, members_below}
-use Rattle.mixed_graph.specs.Graphs.{IsMixedGraph, MixedGraph, graph_from}
+use Rattle.std.proofs.Common.{◌≡◌, not, ap, ◌∙◌, arith, sym, subst, length, get_or}
+use Rattle.mixed_graph.specs.Bits.{has}
+use Rattle.mixed_graph.specs.Graphs.{IsMixedGraph, graph_from}
 use Rattle.mixed_graph.specs.Shown.{graph_of}
 use Rattle.mixed_graph.proofs.Restricting.{same_graph}
 use Rattle.mixed_graph.proofs.Members.{length-members-le}

@@ -1,4 +1,4 @@
-use Rattle.std.proofs.Common.{◌≡◌, ℕ, not, ap, ◌∙◌, ◌&&◌, arith, sym, subst, nat_lt, length}
+use Rattle.std.proofs.Common.{◌≡◌, not, ◌∙◌, arith, sym, subst}
 use Rattle.std.proofs.lemmas.Bool.{not_from_true, not_from_false}
 use Rattle.mixed_graph.specs.Bits.{has}
 use Rattle.mixed_graph.proofs.Members.{length-members-le}

@@ -1,4 +1,4 @@
-use Rattle.std.proofs.Common.{◌≡◌, ℕ, not, ap, ◌∙◌, ◌&&◌, ◌||◌, ◌==◌, arith, sym, true, false, Bool}
+use Rattle.std.proofs.Common.{◌≡◌, not, ap, ◌∙◌, ◌||◌, arith, sym}
 use Rattle.std.proofs.lemmas.Bool.{not_from_true, not_from_false}
 use Rattle.mixed_graph.specs.Bits.{has}
 use Rattle.mixed_graph.specs.declared.sets.VSet.{VSet}
