@@ -1,0 +1,13 @@
+pub mod Reading
+pub mod Printed
+pub mod LawRun
+pub mod LawRead
+pub mod LawSound
+pub mod LawBytes
+pub mod Cut
+pub mod DrawnSays
+pub mod DrawnPasses
+pub mod OneAnswer
+pub mod TextForm
+pub mod MarkLists
+pub mod Loops

@@ -1,0 +1,15 @@
+pub mod Bytes
+pub mod Tokens
+pub mod Grammar
+pub mod MarkEnds
+pub mod Reading
+pub mod Views
+pub mod PlaceView
+pub mod FaultView
+pub mod SaidView
+pub mod Turns
+pub mod Syntax
+pub mod Passes
+pub mod Printing
+pub mod Spelled
+pub mod Written
