@@ -12,7 +12,8 @@ use Rattle.dag_reader.specs.Printing.{is_plain, printed, is_name}
 use Rattle.dag_reader.specs.Reading.{AreFirst}
 use Rattle.dag_reader.specs.Spelled.{Spelled, kinds}
 use Rattle.dag_reader.specs.Syntax.{Word, Group, single, Attr, bare, Attrs, attr_list, Statement, vertex, chain, Text, body_tokens, attrs_tokens, text_tokens, word_token}
-use Rattle.dag_reader.specs.Written.{Drawn, IsDrawn, Within, role_text, vertex_lines, edge_lines, name_at, written}
+use Rattle.dag_reader.specs.Passes.{name_at}
+use Rattle.dag_reader.specs.Written.{Drawn, IsDrawn, Within, role_text, vertex_lines, edge_lines, written}
 use Rattle.dag_reader.proofs.Printed.{first_here, printed_first, Stops}
 
 -- these are the first tokens, and none of them wants a value behind it

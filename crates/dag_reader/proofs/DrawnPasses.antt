@@ -80,17 +80,17 @@ drawn_doubles d = ap (filter_map both_of) (drawn_edges d) ∙ right_doubles d.ar
 
 -- ---- roles
 
-edges_roles : (a : Arrow) (es : List (ℕ × ℕ)) (ms : List Mark) (last : ℕ) → ((v : ℕ) → roles_behind v ms ≡ []) → roles_behind last (edge_marks a es ++ ms) ≡ []
+edges_roles : (a : Arrow) (es : List (ℕ × ℕ)) (ms : List Mark) (last : Option ℕ) → ((v : Option ℕ) → roles_behind v ms ≡ []) → roles_behind last (edge_marks a es ++ ms) ≡ []
 edges_roles a [] ms last h = h last
-edges_roles a (e ∷ es) ms last h = edges_roles a es ms e.1 h
+edges_roles a (e ∷ es) ms last h = edges_roles a es ms (Some e.1) h
 
-vertices_roles : (rs : List (Option Role)) (i : ℕ) (ms : List Mark) (last : ℕ) → ((v : ℕ) → roles_behind v ms ≡ []) → roles_behind last (vertex_marks i rs ++ ms) ≡ given_roles i rs
+vertices_roles : (rs : List (Option Role)) (i : ℕ) (ms : List Mark) (last : Option ℕ) → ((v : Option ℕ) → roles_behind v ms ≡ []) → roles_behind last (vertex_marks i rs ++ ms) ≡ given_roles i rs
 vertices_roles [] i ms last h = h last
-vertices_roles (None ∷ rs) i ms last h = vertices_roles rs (i + 1) ms i h
-vertices_roles (Some r ∷ rs) i ms last h = ap (λ l. (i, r) ∷ l) (vertices_roles rs (i + 1) ms i h)
+vertices_roles (None ∷ rs) i ms last h = vertices_roles rs (i + 1) ms (Some i) h
+vertices_roles (Some r ∷ rs) i ms last h = ap (λ l. (i, r) ∷ l) (vertices_roles rs (i + 1) ms (Some i) h)
 
 pub drawn_roles : (d : Drawn) → roles_of (drawn_says d).marks ≡ given_roles 0 d.roles
 drawn_roles d =
-    vertices_roles d.roles 0 (edge_marks Right d.arrows ++ edge_marks Both d.doubles) 0
+    vertices_roles d.roles 0 (edge_marks Right d.arrows ++ edge_marks Both d.doubles) None
     (λ v. edges_roles Right d.arrows (edge_marks Both d.doubles) v
     (λ u. ap (roles_behind u) (sym (append-nil (edge_marks Both d.doubles))) ∙ edges_roles Both d.doubles [] u (λ w. refl)))

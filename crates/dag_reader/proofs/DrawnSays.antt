@@ -14,7 +14,8 @@ use Rattle.dag_reader.specs.declared.marks.Mark.TheVariants.{Begins, Joined, Mem
 use Rattle.mixed_graph.specs.Names.{with_name, index_of, is_named}
 use Rattle.dag_reader.specs.Grammar.{Fault, Said, nothing, with_marks, with_vertex, with_flag}
 use Rattle.dag_reader.specs.Syntax.{Group, single, links_say, ◌>>=◌, allowed, vertex_says, attrs_say, statement_says, statements_say, Statement, Word, text_says}
-use Rattle.dag_reader.specs.Written.{Drawn, IsDrawn, Within, name_at, all_new, role_marks, vertex_marks, edge_marks, drawn_says}
+use Rattle.dag_reader.specs.Passes.{name_at}
+use Rattle.dag_reader.specs.Written.{Drawn, IsDrawn, Within, all_new, role_marks, vertex_marks, edge_marks, drawn_says}
 use Rattle.mixed_graph.proofs.NameLists.{position_or_len-none}
 use Rattle.dag_reader.proofs.Cut.{word_of, role_attrs, vertices, joined, drawn_text, role_name}
 

@@ -1,4 +1,4 @@
-pub mod Reading
+pub mod TokenSteps
 pub mod Printed
 pub mod LawRun
 pub mod LawRead
@@ -11,3 +11,5 @@ pub mod OneAnswer
 pub mod TextForm
 pub mod MarkLists
 pub mod Loops
+pub mod EdgeRows
+pub mod RowPairs

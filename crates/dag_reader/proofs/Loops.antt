@@ -56,17 +56,29 @@ lost_is (Some w) q h = cc h
 whole_rest : (marks : List Mark) → take (length marks - 1) (drop 1 marks) ≡ drop 1 marks
 whole_rest marks = take_rest marks 1
 
-pub at_found : (left : List ℕ) (marks : List Mark) (a : Arrow) (v : ℕ) → 1 ≤ length marks → get_or marks 0 Begins ≡ Joined a
-    → Some v ≡ find (λ l. list_any (λ r. l == r) (members (take (length marks - 1) (drop 1 marks)))) left → Some v ≡ looped (edges_behind left marks)
-at_found left marks a v h is found =
-    sym (at_joined left marks a h is ∙ found_is (find (λ l. list_any (λ r. l == r) (members (drop 1 marks))) left) (looped (edges_behind [] (drop 1 marks))) v
-    (subst (λ (ms : List Mark). Some v ≡ find (λ l. list_any (λ r. l == r) (members ms)) left) (whole_rest marks) found))
+find_same : (p q : ℕ → Bool) → ((v : ℕ) → p v ≡ q v) → (vs : List ℕ) → find p vs ≡ find q vs
+find_same p q is [] = refl
+find_same p q is (v ∷ vs) = rw (is v, find_same p q is vs) refl
 
-pub at_lost : (left new : List ℕ) (marks : List Mark) (a : Arrow) → 1 ≤ length marks → get_or marks 0 Begins ≡ Joined a
-    → ◌≡◌ {A = Option ℕ} None (find (λ l. list_any (λ r. l == r) (members (take (length marks - 1) (drop 1 marks)))) left) → new ≡ []
+-- the members of the group behind an edge, as a set
+abbrev SetOf : (ℕ → Bool) → List Mark → Type 0
+SetOf p marks = (v : ℕ) → p v ≡ list_any (λ r. v == r) (members (take (length marks - 1) (drop 1 marks)))
+
+find_is : (p : ℕ → Bool) (marks : List Mark) (left : List ℕ) → SetOf p marks → find p left ≡ find (λ l. list_any (λ r. l == r) (members (drop 1 marks))) left
+find_is p marks left is =
+    find_same p (λ l. list_any (λ r. l == r) (members (drop 1 marks))) (λ v. is v ∙ ap (λ (ms : List Mark). list_any (λ r. v == r) (members ms)) (whole_rest marks)) left
+
+pub at_found : (p : ℕ → Bool) (left : List ℕ) (marks : List Mark) (a : Arrow) (v : ℕ) → 1 ≤ length marks → get_or marks 0 Begins ≡ Joined a → SetOf p marks
+    → Some v ≡ find p left → Some v ≡ looped (edges_behind left marks)
+at_found p left marks a v h joined is found =
+    sym (at_joined left marks a h joined ∙ found_is (find (λ l. list_any (λ r. l == r) (members (drop 1 marks))) left) (looped (edges_behind [] (drop 1 marks))) v
+    (found ∙ find_is p marks left is))
+
+pub at_lost : (p : ℕ → Bool) (left new : List ℕ) (marks : List Mark) (a : Arrow) → 1 ≤ length marks → get_or marks 0 Begins ≡ Joined a → SetOf p marks
+    → ◌≡◌ {A = Option ℕ} None (find p left) → new ≡ []
     → looped (edges_behind new (take (length marks - 1) (drop 1 marks))) ≡ looped (edges_behind left marks)
-at_lost left new marks a h is lost empty =
+at_lost p left new marks a h joined is lost empty =
     ap (λ (l : List ℕ). looped (edges_behind l (take (length marks - 1) (drop 1 marks)))) empty
     ∙ ap (λ (ms : List Mark). looped (edges_behind [] ms)) (whole_rest marks)
-    ∙ sym (at_joined left marks a h is ∙ lost_is (find (λ l. list_any (λ r. l == r) (members (drop 1 marks))) left) (looped (edges_behind [] (drop 1 marks)))
-    (subst (λ (ms : List Mark). ◌≡◌ {A = Option ℕ} None (find (λ l. list_any (λ r. l == r) (members ms)) left)) (whole_rest marks) lost))
+    ∙ sym (at_joined left marks a h joined ∙ lost_is (find (λ l. list_any (λ r. l == r) (members (drop 1 marks))) left) (looped (edges_behind [] (drop 1 marks)))
+    (lost ∙ find_is p marks left is))

@@ -1,5 +1,6 @@
 -- Marks whose members are among the names stay so when names come.
-use Rattle.std.proofs.Common.{◌≡◌, ◌≤◌, ◌<◌, ◌+◌, ℕ, Bool, true, false, List, [], ◌∷◌, ◌++◌, length, refl, arith, length-append, sym, subst}
+use Rattle.std.proofs.lemmas.List.{take_rest}
+use Rattle.std.proofs.Common.{◌≡◌, ◌≤◌, ◌<◌, ◌+◌, ◌-◌, take, drop, ℕ, zero, suc, Bool, true, false, List, [], ◌∷◌, ◌++◌, length, get_or, refl, arith, length-append, sym, ap, ◌∙◌, subst}
 use Rattle.std.specs.Prelude.{nat_lt, if◌then◌else◌, cond, Result, Ok, Err, OnOk, OnErr}
 use Rattle.mixed_graph.specs.declared.names.AddFault.{AddFault}
 use Rattle.std.specs.List.{list_all}
@@ -36,3 +37,22 @@ inside-add (Ok i) old new name marks ok err h =
     subst (λ (l : List (List ℕ)). list_all (is_inside (length l)) marks ≡ true) (sym ok) (all_inside_more (length old) (length (with_name old name)) marks (with_name-longer old name) h)
 inside-add (Err e) old new name marks ok err h =
     subst (λ (l : List (List ℕ)). list_all (is_inside (length l)) marks ≡ true) (sym err) h
+
+-- a member among the marks is inside
+pub member_inside : (n : ℕ) (marks : List Mark) (i v : ℕ) → list_all (is_inside n) marks ≡ true → i < length marks → get_or marks i Begins ≡ Member v → v < n
+member_inside n [] i v h below is = absurd (omega arith)
+member_inside n (m ∷ ms) zero v h below is =
+    ltb-true v n (sym (ap (is_inside n) is) ∙ (and_parts (is_inside n m) (list_all (is_inside n) ms) h).0)
+member_inside n (m ∷ ms) (suc i) v h below is = member_inside n ms i v (and_parts (is_inside n m) (list_all (is_inside n) ms) h).1 (omega arith) is
+
+-- each number of such a list is below 64
+pub number_below : (xs : List ℕ) (i : ℕ) → list_all (λ v. nat_lt v 64) xs ≡ true → i < length xs → get_or xs i 0 < 64
+number_below [] i h below = absurd (omega arith)
+number_below (x ∷ xs) zero h below = ltb-true x 64 (and_parts (nat_lt x 64) (list_all (λ v. nat_lt v 64) xs) h).0
+number_below (x ∷ xs) (suc i) h below = number_below xs i (and_parts (nat_lt x 64) (list_all (λ v. nat_lt v 64) xs) h).1 (omega arith)
+
+-- the marks behind the first
+pub inside_behind : (n : ℕ) (marks : List Mark) → list_all (is_inside n) marks ≡ true → 1 ≤ length marks → list_all (is_inside n) (take (length marks - 1) (drop 1 marks)) ≡ true
+inside_behind n [] h some = absurd (omega arith)
+inside_behind n (m ∷ ms) h some =
+    subst (λ (l : List Mark). list_all (is_inside n) l ≡ true) (sym (take_rest (m ∷ ms) 1)) (and_parts (is_inside n m) (list_all (is_inside n) ms) h).1

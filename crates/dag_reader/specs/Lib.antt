@@ -9,7 +9,11 @@ pub mod FaultView
 pub mod SaidView
 pub mod Turns
 pub mod Syntax
-pub mod Passes
-pub mod Printing
 pub mod Spelled
+pub mod Passes
+pub mod RoleSets
+pub mod Rows
+pub mod Reads
+pub mod Builds
+pub mod Printing
 pub mod Written

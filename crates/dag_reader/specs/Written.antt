@@ -10,6 +10,7 @@ use Rattle.dag_reader.specs.declared.marks.Mark.{Mark}
 use Rattle.dag_reader.specs.declared.marks.Mark.TheVariants.{Begins, Joined, Member, HasRole}
 use Rattle.dag_reader.specs.Grammar.{Said}
 use Rattle.dag_reader.specs.Printing.{is_name, is_plain, printed}
+use Rattle.dag_reader.specs.Passes.{name_at}
 
 -- what is written of a graph: its names, a role for each or none, its edges
 pub record Drawn : Type 0 where
@@ -28,9 +29,6 @@ role_text (Some Latent) = codes " [latent]"
 abbrev pub vertex_lines : List (List ℕ) → List (Option Role) → List ℕ
 vertex_lines (n ∷ ns) (r ∷ rs) = printed n ++ (role_text r ++ 10 ∷ vertex_lines ns rs)
 vertex_lines ns rs = []
-
-abbrev pub name_at : List (List ℕ) → ℕ → List ℕ
-name_at names i = slice_index_or names i []
 
 abbrev pub edge_lines : List ℕ → List (List ℕ) → List (ℕ × ℕ) → List ℕ
 edge_lines sign names [] = []

@@ -2,7 +2,7 @@ ghost use Rattle.std.specs.Prelude.{◌≡◌, ◌<◌, ◌≤◌, ◌++◌, Lis
 ghost use Rattle.std.specs.List.{list_all};
 ghost use Rattle.mixed_graph.specs.Names.{texts};
 ghost use Rattle.dag_reader.specs.Printing.{is_plain, is_plain_byte, printed};
-ghost use Rattle.dag_reader.specs.Written.{Within, role_text, vertex_lines, name_at, edge_lines, written};
+ghost use Rattle.dag_reader.specs.Written.{Within, role_text, vertex_lines, edge_lines, written};
 
 use crate::marks::Role;
 use crate::tokens::is_name_byte;

@@ -1,6 +1,6 @@
 use Rattle.std.proofs.Common.{◌∙◌, refl}
 use Rattle.dag_reader.specs.Views.{view}
-use Rattle.dag_reader.proofs.Reading.{one_more, last_one, end_ends, step_failed}
+use Rattle.dag_reader.proofs.TokenSteps.{one_more, last_one, end_ends, step_failed}
 use Rattle.std.proofs.lemmas.Result.{err_from_is_err_and}
 use Rattle.dag_reader.specs.SaidView.{said_by}
 use Rattle.dag_reader.proofs.statements.read_statements.Goals as goal
