@@ -13,3 +13,4 @@ pub mod MarkLists
 pub mod Loops
 pub mod EdgeRows
 pub mod RowPairs
+pub mod RoleClashes
