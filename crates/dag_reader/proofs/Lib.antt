@@ -14,3 +14,4 @@ pub mod Loops
 pub mod EdgeRows
 pub mod RowPairs
 pub mod RoleClashes
+pub mod PairLists

@@ -1,6 +1,7 @@
 // Graph text: the `dag` texts of DAGitty in one profile, read and written.
 #![tactic(auto)]
 
+mod building;
 mod edges;
 mod faults;
 mod grammar;

@@ -1,57 +1,30 @@
-ghost use Rattle.std.specs.Prelude.{◌≡◌, ◌<◌, List, ℕ, length, true, None, map, take, IfOk, slice_index};
+ghost use Rattle.std.specs.Prelude.{◌≡◌, true};
 ghost use Rattle.std.specs.Str.{is_utf8};
-ghost use Rattle.std.specs.List.{list_all};
-ghost use Rattle.dag_reader.specs.MarkEnds.{is_inside};
-ghost use Rattle.dag_reader.specs.Passes.{name_at};
 ghost use Rattle.dag_reader.specs.SaidView.{said_by};
-ghost use Rattle.dag_reader.specs.Reads.{HasNoLoop, Gives, Reads};
-ghost use Rattle.dag_reader.specs.Builds.{Builds, Owns};
+ghost use Rattle.dag_reader.specs.Reads.{Gives, Reads};
+ghost use Rattle.dag_reader.specs.Builds.{IsNamed, Holds, Owns};
 
-use crate::edges::{edges_in, pairs_below, self_loop};
+use crate::building::{MarkedGraph, marked_graph};
 use crate::faults::{Fault, GraphFault, ReadError};
 use crate::graph::ReadGraph;
-use crate::marks::Mark;
-use crate::roles::roles_in;
 use crate::said::Statements;
 use crate::statements::read_statements;
-use mixed_graph::{BuildFault, Cycle, Graph, Names, Text};
-use std::alloc::{AllocError, Global};
+use mixed_graph::{Names, Text};
+use std::alloc::Global;
 
-/// The name of a vertex.
-fn vertex_name(alloc: Global, names: &Names, v: u8) -> Result<Text, AllocError>
-    requires { v < length names.now }
-    ensures { IfOk result (λ text. text ≡ name_at names.now v) }
+/// The graph of these names.
+fn named_graph(names: Names, marked: MarkedGraph) -> ReadGraph
+    requires { IsNamed names marked }
+    ensures { Holds result names marked }
 {
-    Text::of(alloc, names.get(v))
-}
-
-/// The names of the vertices of a cycle.
-fn cycle_names(alloc: Global, names: &Names, cycle: &Cycle) -> Result<Vec<Text>, AllocError>
-    requires { (i : ℕ) → i < cycle.now.count → slice_index cycle.now.list i < length names.now }
-    ensures { IfOk result (λ texts. texts.items ≡ map (name_at names.now) (take cycle.now.count cycle.now.list)) }
-{
-    let mut texts = Vec::new(alloc);
-    for i in 0..cycle.count {
-        let text = vertex_name(alloc, names, cycle.list[i as usize])?;
-        texts.push(text)?;
-    }
-    Ok(texts)
-}
-
-/// The graph of the edges that the marks say.
-fn build_graph(alloc: Global, names: &Names, marks: &[Mark]) -> Result<Graph, GraphFault>
-    requires inside { list_all (is_inside (length names.now)) marks.now ≡ true }
-    requires no_loop { HasNoLoop marks.now }
-    ensures { Builds names.now marks.now result }
-{
-    let n = names.count();
-    let edges = edges_in(marks);
-    let arrows = pairs_below(alloc, n, &edges.arrows)?;
-    let doubles = pairs_below(alloc, n, &edges.doubles)?;
-    match Graph::build(n, arrows.as_slice(), doubles.as_slice()) {
-        Ok(graph) => Ok(graph),
-        Err(BuildFault::SelfLoop(_)) => unreachable!(),
-        Err(BuildFault::Cycle(cycle)) => Err(GraphFault::Cycle(cycle_names(alloc, names, &cycle)?)),
+    let MarkedGraph { graph, roles } = marked;
+    ReadGraph {
+        names,
+        graph,
+        exposures: roles.exposures,
+        outcomes: roles.outcomes,
+        adjusted: roles.adjusted,
+        latent: roles.latent,
     }
 }
 
@@ -60,23 +33,10 @@ fn graph_from(alloc: Global, said: Statements) -> Result<ReadGraph, GraphFault>
     ensures { Gives (said_by said) result }
 {
     let Statements { names, marks } = said;
-    let count = names.count();
-    if let Some(v) = self_loop(alloc, marks.as_slice())? {
-        return Err(GraphFault::SelfLoop(vertex_name(alloc, &names, v)?));
+    match marked_graph(alloc, &names, marks.as_slice()) {
+        Ok(marked) => Ok(named_graph(names, marked)),
+        Err(fault) => Err(fault),
     }
-    let roles = roles_in(marks.as_slice());
-    if let Some(v) = roles.clash() {
-        return Err(GraphFault::RoleClash(vertex_name(alloc, &names, v)?));
-    }
-    let graph = build_graph(alloc, &names, marks.as_slice())?;
-    Ok(ReadGraph {
-        names,
-        graph,
-        exposures: roles.exposures,
-        outcomes: roles.outcomes,
-        adjusted: roles.adjusted,
-        latent: roles.latent,
-    })
 }
 
 /// The fault with a copy of its name.
