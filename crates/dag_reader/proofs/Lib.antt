@@ -15,3 +15,4 @@ pub mod EdgeRows
 pub mod RowPairs
 pub mod RoleClashes
 pub mod PairLists
+pub mod WholeAnswers

@@ -174,9 +174,9 @@ lt_suc : (x k : ℕ) → nat_lt x (suc k) ≡ (nat_lt x k || (x == k))
 lt_suc x k = elim (cases_lt x k) [
   | inl h ↦ rw (lt-ltb x (suc k) (omega arith), lt-ltb x k h) refl
   | inr h ↦ rw (le-ltb x k h) (elim (cases_eq x k) [
-      | inl e ↦ lt-ltb x (suc k) (omega arith) ∙ sym (eq-eqb x k e)
-      | inr d ↦ le-ltb x (suc k) (omega arith) ∙ sym (ne_eqb x k d)
-    ])
+    | inl e ↦ lt-ltb x (suc k) (omega arith) ∙ sym (eq-eqb x k e)
+    | inr d ↦ le-ltb x (suc k) (omega arith) ∙ sym (ne_eqb x k d)
+  ])
 ]
 
 one_among : (c : Bool) (y k : ℕ) → list_any (λ b. y == b) (cond c (k ∷ []) []) ≡ ((y == k) && c)

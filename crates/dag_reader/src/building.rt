@@ -83,11 +83,7 @@ fn check_roles(alloc: Global, names: &Names, marks: &[Mark]) -> Result<Roles, Gr
 }
 
 /// The graph and the roles that the marks say.
-pub fn marked_graph(
-    alloc: Global,
-    names: &Names,
-    marks: &[Mark],
-) -> Result<MarkedGraph, GraphFault>
+pub fn marked_graph(alloc: Global, names: &Names, marks: &[Mark]) -> Result<MarkedGraph, GraphFault>
     requires { list_all (is_inside (length names.now)) marks.now ≡ true }
     ensures { Marks names.now marks.now result }
 {

@@ -129,11 +129,7 @@ fn push_row(out: &mut Vec<(u8, u8)>, n: u32, a: u8, row: u64) -> Result<(), Allo
 }
 
 /// The pairs of the rows, sorted.
-pub fn pairs_below(
-    alloc: Global,
-    n: u32,
-    rows: &[u64; 64],
-) -> Result<Vec<(u8, u8)>, AllocError>
+pub fn pairs_below(alloc: Global, n: u32, rows: &[u64; 64]) -> Result<Vec<(u8, u8)>, AllocError>
     requires { n ≤ 64 }
     ensures { IfOk result (λ pairs. pairs.items ≡ pairs_below n (row_has rows.now)) }
 {

@@ -19,7 +19,6 @@ pub build-requires-clause-both_ends : goal.build-requires-clause-both_ends
 build-requires-clause-both_ends c =
     rw (c.as_slice-2.ensures.value, c.in_ok-doubles.ensures) (pairs_below-ends c.count-n.result (row_has c.edges_in-edges.result.doubles))
 
-
 arrows_built : (n m : ℕ) (rows : List ℕ) (marks : _) (pairs items : List (ℕ × ℕ)) → n ≡ m → list_all (is_inside m) marks ≡ true
     → pairs ≡ items → items ≡ pairs_below n (row_has rows) → ((a b : ℕ) → row_has rows a b ≡ joins (arrows_of marks) a b) → (a b : ℕ) → joins pairs a b ≡ joins (arrows_of marks) a b
 arrows_built n m rows marks pairs items size inside slice is held a b =
