@@ -1,6 +1,7 @@
 -- The tokens of a written graph.
 use Rattle.std.proofs.Common.{◌≡◌, ◌<◌, ◌+◌, ℕ, zero, suc, Bool, true, false, List, [], ◌∷◌, ◌++◌, length, drop, get_or, Option, Some, None, refl, sym, ap, subst, ◌∙◌, arith, append_assoc, one-add}
-use Rattle.std.specs.Prelude.{cond, codes, not, ◌&&◌, if◌then◌else◌, map}
+use Rattle.std.specs.Prelude.{cond, codes, not, ◌&&◌, if◌then◌else◌, map, All}
+use Rattle.std.proofs.lemmas.List.Elements.{All-head, All-tail}
 use Rattle.std.specs.List.{prefix_len, list_all}
 use Rattle.dag_reader.specs.declared.marks.Arrow.{Arrow}
 use Rattle.dag_reader.specs.declared.marks.Arrow.TheVariants.{Right, Both}
@@ -8,12 +9,13 @@ use Rattle.dag_reader.specs.declared.marks.Role.{Role}
 use Rattle.dag_reader.specs.declared.marks.Role.TheVariants.{Exposure, Outcome, Adjusted, Latent}
 use Rattle.dag_reader.specs.Bytes.{is_white, is_name_byte}
 use Rattle.dag_reader.specs.Tokens.{Tok, open_brace, close_brace, open_bracket, close_bracket, edge, name, end, first, token_of, wants_value, place_of}
-use Rattle.dag_reader.specs.Printing.{is_plain, printed, is_name}
+use Rattle.mixed_graph.specs.Names.{IsName}
+use Rattle.dag_reader.specs.Printing.{is_plain, printed}
 use Rattle.dag_reader.specs.Reading.{AreFirst}
 use Rattle.dag_reader.specs.Spelled.{Spelled, kinds}
 use Rattle.dag_reader.specs.Syntax.{Word, Group, single, Attr, bare, Attrs, attr_list, Statement, vertex, chain, Text, body_tokens, attrs_tokens, text_tokens, word_token}
 use Rattle.dag_reader.specs.Passes.{name_at}
-use Rattle.dag_reader.specs.Written.{Drawn, IsDrawn, Within, role_text, vertex_lines, edge_lines, written}
+use Rattle.dag_reader.specs.Written.{Drawn, IsDrawn, role_text, vertex_lines, edge_lines, written}
 use Rattle.dag_reader.proofs.Printed.{first_here, printed_first, Stops}
 
 -- these are the first tokens, and none of them wants a value behind it
@@ -60,7 +62,7 @@ drawn_text d = record { title = None; statements = vertices d.names d.roles (joi
 
 -- ---- cut from the lines
 
-name_cut : (n : List ℕ) (ts : List Tok) (rest : List ℕ) → is_name n ≡ true → Stops is_name_byte rest → Cut ts rest → Cut (word_token (word_of n) ∷ ts) (printed n ++ rest)
+name_cut : (n : List ℕ) (ts : List Tok) (rest : List ℕ) → IsName n → Stops is_name_byte rest → Cut ts rest → Cut (word_token (word_of n) ∷ ts) (printed n ++ rest)
 name_cut n ts rest form stops c = (rest, refl, printed_first n rest form stops, c)
 
 bracket_cut : (n : List ℕ) (ts : List Tok) (rest : List ℕ) → first false (n ++ 93 ∷ rest) ≡ (name false n, 93 ∷ rest) → Cut ts rest
@@ -88,35 +90,28 @@ role_stops (Some Outcome) rest = refl
 role_stops (Some Adjusted) rest = refl
 role_stops (Some Latent) rest = refl
 
-both_true : (a b : Bool) → (a && b) ≡ true → (a ≡ true) × (b ≡ true)
-both_true true b h = (refl, h)
-both_true false b h = cc h
-
-vertices_cut : (ns : List (List ℕ)) (rs : List (Option Role)) (xs : List Statement) (rest : List ℕ) → list_all is_name ns ≡ true
+vertices_cut : (ns : List (List ℕ)) (rs : List (Option Role)) (xs : List Statement) (rest : List ℕ) → All IsName ns
     → Cut (body_tokens xs []) rest → Cut (body_tokens (vertices ns rs xs) []) (vertex_lines ns rs ++ rest)
 vertices_cut [] rs xs rest form c = c
 vertices_cut (n ∷ ns) [] xs rest form c = c
 vertices_cut (n ∷ ns) (r ∷ rs) xs rest form c =
-    let both = both_true (is_name n) (list_all is_name ns) form in
     let more = body_tokens (vertices ns rs xs) [] in
     let lines = vertex_lines ns rs in
     subst (Cut (word_token (word_of n) ∷ attrs_tokens (role_attrs r) more))
     (ap (λ l. printed n ++ l) (sym (append_assoc (role_text r) (10 ∷ lines) rest)) ∙ sym (append_assoc (printed n) (role_text r ++ 10 ∷ lines) rest))
-    (name_cut n (attrs_tokens (role_attrs r) more) (role_text r ++ 10 ∷ (lines ++ rest)) both.0 (role_stops r (lines ++ rest))
-    (attrs_cut r more (lines ++ rest) (vertices_cut ns rs xs rest both.1 c)))
+    (name_cut n (attrs_tokens (role_attrs r) more) (role_text r ++ 10 ∷ (lines ++ rest)) (All-head IsName n ns form) (role_stops r (lines ++ rest))
+    (attrs_cut r more (lines ++ rest) (vertices_cut ns rs xs rest (All-tail IsName n ns form) c)))
 
-name_form : (names : List (List ℕ)) (i : ℕ) → i < length names → list_all is_name names ≡ true → is_name (name_at names i) ≡ true
-name_form [] i h form = absurd (omega arith)
-name_form (n ∷ ns) zero h form = (both_true (is_name n) (list_all is_name ns) form).0
-name_form (n ∷ ns) (suc i) h form = name_form ns i (omega arith) (both_true (is_name n) (list_all is_name ns) form).1
+name_form : (names : List (List ℕ)) (i : ℕ) → i < length names → All IsName names → IsName (name_at names i)
+name_form names i h form = form i [] h
 
 -- a sign that is an edge of this kind
 pub record Sign (a : Arrow) (sign : List ℕ) : Type 0 where
   pub stops : (rest : List ℕ) → Stops is_name_byte (sign ++ rest)
-  pub cuts : (n : List ℕ) (ts : List Tok) (rest : List ℕ) → is_name n ≡ true → Cut ts (printed n ++ rest) → Cut (edge a ∷ ts) (sign ++ (printed n ++ rest))
+  pub cuts : (n : List ℕ) (ts : List Tok) (rest : List ℕ) → IsName n → Cut ts (printed n ++ rest) → Cut (edge a ∷ ts) (sign ++ (printed n ++ rest))
 
 edges_cut : (a : Arrow) (sign : List ℕ) → Sign a sign → (names : List (List ℕ)) (es : List (ℕ × ℕ)) (xs : List Statement) (rest : List ℕ)
-    → list_all is_name names ≡ true → Within (length names) es
+    → All IsName names → All (λ p. (p.0 < length names) × (p.1 < length names)) es
     → Cut (body_tokens xs []) rest → Cut (body_tokens (joined a names es xs) []) (edge_lines sign names es ++ rest)
 edges_cut a sign is names [] xs rest form within c = c
 edges_cut a sign is names (e ∷ es) xs rest form within c =
@@ -124,15 +119,16 @@ edges_cut a sign is names (e ∷ es) xs rest form within c =
     let n = name_at names e.1 in
     let more = body_tokens (joined a names es xs) [] in
     let lines = edge_lines sign names es in
-    let m_form = name_form names e.0 within.0 form in
-    let n_form = name_form names e.1 within.1 form in
+    let here = All-head (λ (p : ℕ × ℕ). (p.0 < length names) × (p.1 < length names)) e es within in
+    let m_form = name_form names e.0 here.0 form in
+    let n_form = name_form names e.1 here.1 form in
     subst (Cut (word_token (word_of m) ∷ edge a ∷ word_token (word_of n) ∷ more))
     (ap (λ l. printed m ++ (sign ++ l)) (sym (append_assoc (printed n) (10 ∷ lines) rest))
     ∙ ap (λ l. printed m ++ l) (sym (append_assoc sign (printed n ++ 10 ∷ lines) rest))
     ∙ sym (append_assoc (printed m) (sign ++ (printed n ++ 10 ∷ lines)) rest))
     (name_cut m (edge a ∷ word_token (word_of n) ∷ more) (sign ++ (printed n ++ 10 ∷ (lines ++ rest))) m_form (is.stops (printed n ++ 10 ∷ (lines ++ rest)))
     (is.cuts n (word_token (word_of n) ∷ more) (10 ∷ (lines ++ rest)) n_form
-    (name_cut n more (10 ∷ (lines ++ rest)) n_form refl (spaced 10 more (lines ++ rest) refl (edges_cut a sign is names es xs rest form within.2 c)))))
+    (name_cut n more (10 ∷ (lines ++ rest)) n_form refl (spaced 10 more (lines ++ rest) refl (edges_cut a sign is names es xs rest form (All-tail (λ (p : ℕ × ℕ). (p.0 < length names) × (p.1 < length names)) e es within) c)))))
 
 right_sign : Sign Right (codes " -> ")
 right_sign = record {
@@ -168,9 +164,9 @@ written_cut d is =
     let double_lines = edge_lines (codes " <-> ") d.names d.doubles ++ tail in
     let arrow_lines = edge_lines (codes " -> ") d.names d.arrows ++ double_lines in
     open_cut (body_tokens (vertices d.names d.roles arrows) []) (vertex_lines d.names d.roles ++ arrow_lines)
-    (vertices_cut d.names d.roles arrows arrow_lines is.form
-    (edges_cut Right (codes " -> ") right_sign d.names d.arrows doubles double_lines is.form is.arrows
-    (edges_cut Both (codes " <-> ") both_sign d.names d.doubles [] tail is.form is.doubles end_cut)))
+    (vertices_cut d.names d.roles arrows arrow_lines is.names.formed
+    (edges_cut Right (codes " -> ") right_sign d.names d.arrows doubles double_lines is.names.formed is.arrows
+    (edges_cut Both (codes " <-> ") both_sign d.names d.doubles [] tail is.names.formed is.doubles end_cut)))
 
 -- ---- with their places
 

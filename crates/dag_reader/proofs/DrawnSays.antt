@@ -1,10 +1,15 @@
 -- What a written graph says.
-use Rattle.std.proofs.Common.{◌≡◌, ◌<◌, ◌≤◌, ◌+◌, ℕ, zero, suc, Bool, true, false, List, [], ◌∷◌, ◌++◌, length, get_or, Option, Some, None, Result, Ok, Err, refl, sym, ap, subst, ◌∙◌, arith, append_assoc, append-nil, length-append}
+use Rattle.std.proofs.Common.{◌≡◌, ◌<◌, ◌≤◌, ◌+◌, ℕ, zero, suc, Bool, true, false, List, [], ◌∷◌, ◌++◌, length, get_or, Option, Some, None, Result, Ok, Err, refl, sym, ap, subst, ◌∙◌, inl, inr, arith, append_assoc, append-nil, length-append}
 use Rattle.std.specs.Prelude.{cond, codes, not, ◌&&◌, ◌||◌, if◌then◌else◌, nat_le}
 use Rattle.std.specs.List.{list_any, position_or_len}
 use Rattle.std.specs.Str.{bytes_eq}
 use Rattle.std.proofs.lemmas.Slice.Eq.{bytes_eq-Decides}
 use Rattle.std.proofs.lemmas.Bool.Decides.{nat_tests}
+use Rattle.std.specs.Prelude.{All, AllPairs, ◌≢◌}
+use Rattle.std.proofs.lemmas.List.Elements.{All-head, All-tail}
+use Rattle.std.proofs.lemmas.List.{get_or_append_left}
+use Rattle.std.proofs.lemmas.Bool.{and_from, cases_Bool}
+use Rattle.mixed_graph.specs.Names.{AreNames}
 use Rattle.dag_reader.specs.declared.marks.Arrow.{Arrow}
 use Rattle.dag_reader.specs.declared.marks.Arrow.TheVariants.{Right, Both}
 use Rattle.dag_reader.specs.declared.marks.Role.{Role}
@@ -15,7 +20,8 @@ use Rattle.mixed_graph.specs.Names.{with_name, index_of, is_named}
 use Rattle.dag_reader.specs.Grammar.{Fault, Said, nothing, with_marks, with_vertex, with_flag}
 use Rattle.dag_reader.specs.Syntax.{Group, single, links_say, ◌>>=◌, allowed, vertex_says, attrs_say, statement_says, statements_say, Statement, Word, text_says}
 use Rattle.dag_reader.specs.Passes.{name_at}
-use Rattle.dag_reader.specs.Written.{Drawn, IsDrawn, Within, all_new, role_marks, vertex_marks, edge_marks, drawn_says}
+use Rattle.dag_reader.specs.Written.{Drawn, IsDrawn}
+use Rattle.dag_reader.proofs.DrawnMarks.{all_new, role_marks, vertex_marks, edge_marks, drawn_says}
 use Rattle.mixed_graph.proofs.NameLists.{position_or_len-none}
 use Rattle.dag_reader.proofs.Cut.{word_of, role_attrs, vertices, joined, drawn_text, role_name}
 
@@ -131,18 +137,46 @@ chain_more : (marks : List Mark) (i j : ℕ) (a : Arrow) (more : List Mark)
     → ((((marks ++ Begins ∷ []) ++ Member i ∷ []) ++ Joined a ∷ []) ++ Member j ∷ []) ++ more ≡ marks ++ (Begins ∷ Member i ∷ Joined a ∷ Member j ∷ more)
 chain_more marks i j a more = simp append_assoc
 
-edges_say : (a : Arrow) (names : List (List ℕ)) (es : List (ℕ × ℕ)) (xs : List Statement) (marks : List Mark) → all_new [] names ≡ true → Within (length names) es
+edges_say : (a : Arrow) (names : List (List ℕ)) (es : List (ℕ × ℕ)) (xs : List Statement) (marks : List Mark) → all_new [] names ≡ true → All (λ p. (p.0 < length names) × (p.1 < length names)) es
     → statements_say (joined a names es xs) (says names marks) ≡ statements_say xs (says names (marks ++ edge_marks a es))
 unfolding says
 edges_say a names [] xs marks new within = rw append-nil refl
 edges_say a names (e ∷ es) xs marks new within =
+    let here = All-head (λ (p : ℕ × ℕ). (p.0 < length names) × (p.1 < length names)) e es within in
     let begun = marks ++ Begins ∷ [] in
     let met = (begun ++ Member e.0 ∷ []) ++ Joined a ∷ [] in
     ap (λ (v : Result Said Fault). (allowed v >>= (λ u. links_say ((a, single (word_of (name_at names e.1))) ∷ []) u >>= attrs_say None None)) >>= statements_say (joined a names es xs))
-    (vertex_at names e.0 begun new within.0)
-    ∙ ap (λ (v : Result Said Fault). ((allowed v >>= links_say []) >>= attrs_say None None) >>= statements_say (joined a names es xs)) (vertex_at names e.1 met new within.1)
-    ∙ edges_say a names es xs (met ++ Member e.1 ∷ []) new within.2
+    (vertex_at names e.0 begun new here.0)
+    ∙ ap (λ (v : Result Said Fault). ((allowed v >>= links_say []) >>= attrs_say None None) >>= statements_say (joined a names es xs)) (vertex_at names e.1 met new here.1)
+    ∙ edges_say a names es xs (met ++ Member e.1 ∷ []) new (All-tail (λ (p : ℕ × ℕ). (p.0 < length names) × (p.1 < length names)) e es within)
     ∙ ap (λ l. statements_say xs (says names l)) (chain_more marks e.0 e.1 a (edge_marks a es))
+
+none_equal : (n : List ℕ) (front : List (List ℕ)) → ((i : ℕ) → i < length front → get_or front i [] ≡ n → ⊥) → list_any (bytes_eq n) front ≡ false
+none_equal n [] h = refl
+none_equal n (x ∷ xs) h =
+    let here : bytes_eq n x ≡ false = elim (cases_Bool (bytes_eq n x)) [ inl t ↦ absurd (h 0 (omega arith) (sym ((bytes_eq-Decides n x).0 t))) | inr f ↦ f ] in
+    rw (here, none_equal n xs (λ i below same. h (suc i) (omega arith) same)) refl
+
+get_or-append_at : (front : List (List ℕ)) (n : List ℕ) (ns : List (List ℕ)) (d : List ℕ) → get_or (front ++ n ∷ ns) (length front) d ≡ n
+get_or-append_at [] n ns d = refl
+get_or-append_at (x ∷ front) n ns d = get_or-append_at front n ns d
+
+-- a name differs from each before it
+not_there : (n : List ℕ) (front ns : List (List ℕ)) → AllPairs (λ a b. a ≢ b) (front ++ n ∷ ns) → list_any (bytes_eq n) front ≡ false
+not_there n front ns h = none_equal n front (λ i below same.
+    let e = length-append front (n ∷ ns) in
+    h i (length front) [] below (omega (arith, e))
+    (get_or_append_left front (n ∷ ns) [] i below ∙ same ∙ sym (get_or-append_at front n ns [])))
+
+-- names of which no two are equal are each new behind the ones before
+new_behind : (front ns : List (List ℕ)) → AllPairs (λ a b. a ≢ b) (front ++ ns) → all_new front ns ≡ true
+new_behind front [] h = refl
+new_behind front (n ∷ ns) h =
+    and_from (not (list_any (bytes_eq n) front)) (all_new (front ++ n ∷ []) ns) (rw (not_there n front ns h) refl)
+    (new_behind (front ++ n ∷ []) ns (subst (λ l. AllPairs (λ a b. a ≢ b) l) (sym (append_assoc front (n ∷ []) ns)) h))
+
+pub names_new : (names : List (List ℕ)) → AreNames names → all_new [] names ≡ true
+names_new names is = new_behind [] names is.distinct
 
 -- What a written graph says.
 pub drawn_text_says : (d : Drawn) → IsDrawn d → text_says (drawn_text d) ≡ Some (drawn_says d)
@@ -150,7 +184,7 @@ unfolding says
 drawn_text_says d is =
     let doubles = joined Both d.names d.doubles [] in
     let arrows = joined Right d.names d.arrows doubles in
-    vertices_say d.names d.roles arrows [] [] is.roles is.new (omega (arith, is.few))
-    ∙ edges_say Right d.names d.arrows doubles (vertex_marks 0 d.roles) is.new is.arrows
-    ∙ edges_say Both d.names d.doubles [] (vertex_marks 0 d.roles ++ edge_marks Right d.arrows) is.new is.doubles
+    vertices_say d.names d.roles arrows [] [] is.roles (names_new d.names is.names) (omega (arith, is.names.few))
+    ∙ edges_say Right d.names d.arrows doubles (vertex_marks 0 d.roles) (names_new d.names is.names) is.arrows
+    ∙ edges_say Both d.names d.doubles [] (vertex_marks 0 d.roles ++ edge_marks Right d.arrows) (names_new d.names is.names) is.doubles
     ∙ ap (λ l. Some (says d.names l)) (append_assoc (vertex_marks 0 d.roles) (edge_marks Right d.arrows) (edge_marks Both d.doubles))

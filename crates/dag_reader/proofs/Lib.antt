@@ -5,6 +5,7 @@ pub mod LawRead
 pub mod LawSound
 pub mod LawBytes
 pub mod Cut
+pub mod DrawnMarks
 pub mod DrawnSays
 pub mod DrawnPasses
 pub mod OneAnswer
@@ -16,3 +17,4 @@ pub mod RowPairs
 pub mod RoleClashes
 pub mod PairLists
 pub mod WholeAnswers
+pub mod WrittenLines

@@ -7,7 +7,8 @@ use Rattle.std.proofs.Math.Seq.{take-append_seam, drop-append_seam}
 use Rattle.dag_reader.specs.Bytes.{is_white, is_edge_byte, is_sign, is_name_byte}
 use Rattle.mixed_graph.specs.Names.{is_line_byte}
 use Rattle.dag_reader.specs.Tokens.{Tok, name, name_token, begins_with, first, token_of, token_at, run_at, bad, quoted_name, quoted_text, closed_by, sign_token, edge_token}
-use Rattle.dag_reader.specs.Printing.{is_plain_byte, is_plain, printed, is_name}
+use Rattle.mixed_graph.specs.Names.{IsName}
+use Rattle.dag_reader.specs.Printing.{is_plain_byte, is_plain, printed}
 
 or_false : (a b : Bool) → (a || b) ≡ false → (a ≡ false) × (b ≡ false)
 or_false true b h = cc h
@@ -99,13 +100,13 @@ plain_first (b ∷ bs) rest h s =
 abbrev pub read_back : List ℕ → Tok
 read_back n = name (not (is_plain n)) n
 
-unquote : (plain : Bool) (n rest : List ℕ) → plain ≡ is_plain n → is_name n ≡ true → Stops is_name_byte rest
+unquote : (plain : Bool) (n rest : List ℕ) → plain ≡ is_plain n → IsName n → Stops is_name_byte rest
     → first false ((if plain then n else 34 ∷ n ++ 34 ∷ []) ++ rest) ≡ (name (not plain) n, rest)
 unquote true n rest plain form s = plain_first n rest (sym plain) s
-unquote false [] rest plain form s = cc form
+unquote false [] rest plain form s = absurd (let some = form.some in omega arith)
 unquote false (b ∷ bs) rest plain form s =
-    ap (λ l. first false (34 ∷ l)) (append_assoc (b ∷ bs) (34 ∷ []) rest) ∙ quoted_first b bs rest form
+    ap (λ l. first false (34 ∷ l)) (append_assoc (b ∷ bs) (34 ∷ []) rest) ∙ quoted_first b bs rest form.line
 
 -- A printed name is read back as that name.
-pub printed_first : (n rest : List ℕ) → is_name n ≡ true → Stops is_name_byte rest → first false (printed n ++ rest) ≡ (read_back n, rest)
+pub printed_first : (n rest : List ℕ) → IsName n → Stops is_name_byte rest → first false (printed n ++ rest) ≡ (read_back n, rest)
 printed_first n rest form s = unquote (is_plain n) n rest refl form s

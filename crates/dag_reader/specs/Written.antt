@@ -1,5 +1,5 @@
 -- The text of a graph.
-use Rattle.std.specs.Prelude.{◌≡◌, ◌<◌, ◌≤◌, ◌+◌, ℕ, Bool, true, false, not, ◌&&◌, List, [], ◌∷◌, ◌++◌, length, map, Option, Some, None, codes, slice_index_or}
+use Rattle.std.specs.Prelude.{◌≡◌, ◌<◌, ◌≤◌, ◌+◌, ℕ, Bool, true, false, not, ◌&&◌, List, [], ◌∷◌, ◌++◌, length, map, Option, Some, None, codes, slice_index_or, All, nat_lt, if◌then◌else◌}
 use Rattle.std.specs.List.{flat_map, list_any, list_all}
 use Rattle.std.specs.Str.{bytes_eq}
 use Rattle.dag_reader.specs.declared.marks.Arrow.{Arrow}
@@ -9,7 +9,12 @@ use Rattle.dag_reader.specs.declared.marks.Role.TheVariants.{Exposure, Outcome, 
 use Rattle.dag_reader.specs.declared.marks.Mark.{Mark}
 use Rattle.dag_reader.specs.declared.marks.Mark.TheVariants.{Begins, Joined, Member, HasRole}
 use Rattle.dag_reader.specs.Grammar.{Said}
-use Rattle.dag_reader.specs.Printing.{is_name, is_plain, printed}
+use Rattle.dag_reader.specs.Printing.{printed}
+use Rattle.mixed_graph.specs.Names.{AreNames}
+use Rattle.mixed_graph.specs.Bits.{has}
+use Rattle.mixed_graph.specs.Shown.{graph_of}
+use Rattle.dag_reader.specs.declared.graph.ReadGraph.{ReadGraph}
+use Rattle.dag_reader.specs.Rows.{count_up, pairs_below}
 use Rattle.dag_reader.specs.Passes.{name_at}
 
 -- what is written of a graph: its names, a role for each or none, its edges
@@ -37,42 +42,28 @@ edge_lines sign names (e ∷ es) = printed (name_at names e.0) ++ (sign ++ (prin
 abbrev pub written : Drawn → List ℕ
 written d = codes "dag {" ++ 10 ∷ (vertex_lines d.names d.roles ++ (edge_lines (codes " -> ") d.names d.arrows ++ (edge_lines (codes " <-> ") d.names d.doubles ++ 125 ∷ 10 ∷ [])))
 
--- each name is new behind the ones before it
-abbrev pub all_new : List (List ℕ) → List (List ℕ) → Bool
-all_new front [] = true
-all_new front (n ∷ ns) = not (list_any (bytes_eq n) front) && all_new (front ++ n ∷ []) ns
-
-abbrev pub Within : ℕ → List (ℕ × ℕ) → Type 0
-Within n [] = Unit {0}
-Within n (e ∷ es) = (e.0 < n) × (e.1 < n) × Within n es
-
+-- what holds of each graph that is written
 pub record IsDrawn (d : Drawn) : Type 0 where
-  pub few : length d.names ≤ 64
+  pub names : AreNames d.names
   pub roles : length d.roles ≡ length d.names
-  pub form : list_all is_name d.names ≡ true
-  pub new : all_new [] d.names ≡ true
-  pub arrows : Within (length d.names) d.arrows
-  pub doubles : Within (length d.names) d.doubles
+  pub arrows : All (λ p. (p.0 < length d.names) × (p.1 < length d.names)) d.arrows
+  pub doubles : All (λ p. (p.0 < length d.names) × (p.1 < length d.names)) d.doubles
 
--- ---- what it says when it is read
+-- ---- the graph as it is written: vertices in the order of their indexes, each kind of edges sorted, a bidirected edge from its lower end
 
-abbrev pub role_marks : Option Role → List Mark
-role_marks None = []
-role_marks (Some r) = HasRole r ∷ []
+-- the role of a vertex, if it has one
+abbrev pub role_at : ReadGraph → ℕ → Option Role
+role_at g v =
+    if has g.exposures.bits v then Some Exposure
+    else (if has g.outcomes.bits v then Some Outcome
+    else (if has g.adjusted.bits v then Some Adjusted
+    else (if has g.latent.bits v then Some Latent else None)))
 
-abbrev pub vertex_marks : ℕ → List (Option Role) → List Mark
-vertex_marks i [] = []
-vertex_marks i (r ∷ rs) = Begins ∷ Member i ∷ (role_marks r ++ vertex_marks (i + 1) rs)
-
-abbrev pub edge_marks : Arrow → List (ℕ × ℕ) → List Mark
-edge_marks a [] = []
-edge_marks a (e ∷ es) = Begins ∷ Member e.0 ∷ Joined a ∷ Member e.1 ∷ edge_marks a es
-
-abbrev pub drawn_says : Drawn → Said
-drawn_says d = record { names = d.names; marks = vertex_marks 0 d.roles ++ (edge_marks Right d.arrows ++ edge_marks Both d.doubles) }
-
--- the roles that are given, each with its vertex
-abbrev pub given_roles : ℕ → List (Option Role) → List (ℕ × Role)
-given_roles i [] = []
-given_roles i (None ∷ rs) = given_roles (i + 1) rs
-given_roles i (Some r ∷ rs) = (i, r) ∷ given_roles (i + 1) rs
+-- what is written of a graph
+abbrev pub drawn_of : ReadGraph → Drawn
+drawn_of g = record {
+  names = g.names;
+  roles = map (role_at g) (count_up g.graph.n);
+  arrows = pairs_below g.graph.n (graph_of g.graph).arrow;
+  doubles = pairs_below g.graph.n (λ a b. (graph_of g.graph).both a b && nat_lt a b);
+}

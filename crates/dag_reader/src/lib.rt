@@ -18,6 +18,7 @@ mod writing;
 
 pub use faults::GraphFault;
 pub use graph::ReadGraph;
-pub use law::{the_answers, the_grammar, the_round_trip};
+pub use law::{the_answers, the_grammar};
 pub use marks::Role;
 pub use reading::read_graph;
+pub use writing::{write_graph, write_name};
