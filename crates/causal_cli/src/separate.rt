@@ -1,10 +1,11 @@
-ghost use Rattle.std.specs.Prelude.{◌≡◌, IfOk, length, option_map};
+ghost use Rattle.std.specs.Prelude.{◌≡◌, IfOk, OnOk, length, option_map};
 ghost use Rattle.mixed_graph.specs.Bits.{has};
 ghost use Rattle.mixed_graph.specs.Sets.{Within};
 ghost use Rattle.mixed_graph.specs.Names.{texts};
 ghost use Rattle.mixed_graph.specs.Shown.{graph_of};
 ghost use Rattle.word_lists.specs.Views.{names_in};
 ghost use Rattle.targets.specs.Targets.{listed};
+ghost use Rattle.fault_text.specs.Lines.{line_of, target_fault_text};
 ghost use Rattle.causal_cli.specs.Replies.{GivesSeparation, AnswersSets};
 
 use crate::answer::Reply;
@@ -36,12 +37,24 @@ pub fn separate(
     let given = list_or(alloc, &graph.names, graph.adjusted, given)?;
     match find_sets(alloc, &graph.names, &seen.names, &x, &y, &given) {
         Ok(sets) => decide(alloc, &seen, sets),
-        Err(TargetFault::NoMemory) => Err(AllocError),
-        Err(fault) => Ok(Reply {
-            verdict: Verdict::Graph,
-            text: target_line(alloc, &fault)?,
-        }),
+        Err(fault) => refuse(alloc, &fault),
     }
+}
+
+/// The reply to listed names that are at fault.
+fn refuse(alloc: Global, fault: &TargetFault) -> Result<Reply, AllocError>
+    ensures verdict { IfOk result (λ r. r.verdict ≡ Verdict.Graph) }
+    ensures line { IfOk result (λ r. r.text.items ≡ line_of (target_fault_text fault.now)) }
+    ensures fault { OnOk result (fault.now ≡ TargetFault.NoMemory → ⊥) }
+{
+    if let TargetFault::NoMemory = fault {
+        return Err(AllocError);
+    }
+    let text = target_line(alloc, fault)?;
+    Ok(Reply {
+        verdict: Verdict::Graph,
+        text,
+    })
 }
 
 /// The names of a list that is given, or else those of a default set.
