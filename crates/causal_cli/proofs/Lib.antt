@@ -1,3 +1,6 @@
+mod Definitions
+mod Deliveries
+mod Endings
 mod PathLemmas
 mod WishLemmas
 mod Separations

@@ -1,10 +1,10 @@
 -- From sets to the answer of a separation.
-use Rattle.std.proofs.Common.{◌≡◌, ℕ, Bool, List, refl, sym, ap, ◌∙◌, subst}
+use Rattle.std.proofs.Common.{◌≡◌, ℕ, List, refl}
 use Rattle.mixed_graph.specs.Graphs.{MixedGraph}
 use Rattle.targets.specs.declared.fault.TargetFault.{TargetFault}
 use Rattle.targets.specs.declared.fault.TargetFault.TheVariants.{Unknown, Latent, Twice, EmptyY, EmptyX, NoMemory}
 use Rattle.targets.specs.Targets.{Lists, AreSets, IsTargetFault, IsFaultOrMemory}
-use Rattle.causal_cli.specs.Answers.{SeparationAnswer, IsSeparatedAnswer, IsOpenAnswer, IsTargetRefusal}
+use Rattle.causal_cli.specs.Answers.{SeparationAnswer}
 use Rattle.causal_cli.specs.Replies.{SetsAnswer}
 use Rattle.causal_cli.specs.declared.verdict.Verdict.{Verdict}
 use Rattle.causal_cli.specs.declared.verdict.Verdict.TheVariants.{Yes, No, Words, Graph, Read, Write, Memory}

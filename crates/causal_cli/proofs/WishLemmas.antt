@@ -1,5 +1,5 @@
 -- Words without a wish.
-use Rattle.std.proofs.Common.{◌≡◌, ℕ, Bool, List, Option, Some, None, refl, sym, ap, subst}
+use Rattle.std.proofs.Common.{◌≡◌, ℕ, Bool, List, Option, Some, None, ap, subst}
 use Rattle.word_forms.specs.Form.{Text, HasForm}
 use Rattle.word_lists.specs.Lists.{IsList}
 use Rattle.word_values.specs.Commands.{Asked, Asks, table, row_asked}

@@ -4,3 +4,4 @@ pub mod Lines
 pub mod Answers
 pub mod Run
 pub mod Replies
+pub mod Endings

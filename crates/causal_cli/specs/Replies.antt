@@ -10,8 +10,8 @@ use Rattle.dag_reader.specs.declared.graph.ReadGraph.{ReadGraph}
 use Rattle.latent_projection.specs.Renumbering.{IsObserved}
 use Rattle.causal_cli.specs.Wishes.{Names, Wish}
 use Rattle.causal_cli.specs.Lines.{separated_text, not_separated_text, open_text}
-use Rattle.causal_cli.specs.Answers.{separation_lists, SeparationAnswer, Defined}
-use Rattle.causal_cli.specs.declared.answer.Reply.{Reply}
+use Rattle.causal_cli.specs.Answers.{separation_lists, SeparationAnswer, GraphAnswer, Defined}
+use Rattle.causal_cli.specs.declared.reply.Reply.{Reply}
 use Rattle.causal_cli.specs.declared.verdict.Verdict.{Verdict}
 use Rattle.causal_cli.specs.declared.verdict.Verdict.TheVariants.{Yes, No, Words, Graph, Read, Write, Memory}
 
@@ -41,3 +41,11 @@ SetsAnswer q names x y w Memory text = ⊥
 -- the reply for sets
 abbrev pub AnswersSets : MixedGraph → List (List ℕ) → ℕ → ℕ → ℕ → Reply → Type 0
 AnswersSets q names x y w reply = SetsAnswer q names x y w reply.verdict reply.text.items
+
+-- the reply is the answer of a wish on a graph that was read
+abbrev pub GivesAnswer : Wish → ReadGraph → Reply → Type 0
+GivesAnswer w g reply = GraphAnswer w g reply.verdict reply.text.items
+
+-- the reply is the defined answer of a wish on the bytes of its file
+abbrev pub GivesDefined : Wish → List ℕ → Reply → Type 0
+GivesDefined w bytes reply = Defined w bytes reply.verdict reply.text.items

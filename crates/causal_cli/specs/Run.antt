@@ -19,21 +19,21 @@ code_of Read = 6
 code_of Write = 7
 code_of Memory = 8
 
--- what a run was given: the words, what is held and lacked under each name; and what it left, by name and stream
+-- an output before and after a run: what was written, where it tells, and its count of faults
+pub record Stream : Type 0 where
+  pub before : Option (List ℕ)
+  pub after : Option (List ℕ)
+  pub faults : ℕ
+  pub faults_after : ℕ
+
+-- what a run was given: the words; what is held and lacked under each name, with the counts of faults before and after; and `out`
 pub record Run : Type 0 where
   pub words : List Text
   pub held : Text → Option (List ℕ)
   pub lacks : Text → Bool
   pub read_faults : Text → ℕ
   pub read_faults_after : Text → ℕ
-  pub out : Option (List ℕ)
-  pub out_after : Option (List ℕ)
-  pub out_faults : ℕ
-  pub out_faults_after : ℕ
-  pub err : Option (List ℕ)
-  pub err_after : Option (List ℕ)
-  pub err_faults : ℕ
-  pub err_faults_after : ℕ
+  pub out : Stream
 
 -- the words have a wish whose file was read, and on the bytes that it holds this is the defined answer
 pub record Answers (r : Run) (v : Verdict) (text : List ℕ) : Type 0 where
@@ -45,24 +45,24 @@ pub record Answers (r : Run) (v : Verdict) (text : List ℕ) : Type 0 where
 -- an answer was written whole
 pub record Written (r : Run) (v : Verdict) (text : List ℕ) : Type 0 where
   pub answers : Answers r v text
-  pub whole : Appends r.out r.out_after text
+  pub whole : Appends r.out.before r.out.after text
 
 -- a graph or target was refused by this line, and nothing was written
 pub record Refused (r : Run) (line : List ℕ) : Type 0 where
   pub answers : Answers r Graph line
-  pub nothing : r.out_after ≡ r.out
+  pub nothing : r.out.after ≡ r.out.before
 
 -- the words have no wish
 pub record NotUnderstood (r : Run) : Type 0 where
   pub no_wish : (w : Wish) → Wants r.words w → ⊥
-  pub nothing : r.out_after ≡ r.out
+  pub nothing : r.out.after ≡ r.out.before
 
 -- a read of the file failed
 pub record Unread (r : Run) : Type 0 where
   pub wish : Wish
   pub wants : Wants r.words wish
   pub rose : Rose (r.read_faults (file_of wish)) (r.read_faults_after (file_of wish))
-  pub nothing : r.out_after ≡ r.out
+  pub nothing : r.out.after ≡ r.out.before
 
 -- a write of the answer failed, and the front of it was written
 pub record Unwritten (r : Run) : Type 0 where
@@ -72,8 +72,8 @@ pub record Unwritten (r : Run) : Type 0 where
   pub is_answer : code_of verdict ≤ 1
   pub answers : Answers r verdict text
   pub within : count ≤ length text
-  pub front : Appends r.out r.out_after (take count text)
-  pub rose : Rose r.out_faults r.out_faults_after
+  pub front : Appends r.out.before r.out.after (take count text)
+  pub rose : Rose r.out.faults r.out.faults_after
 
 -- what a verdict says of the run, with the text on `out` or the line on `err`
 abbrev pub Ends : Run → Verdict → List ℕ → Type 0
@@ -83,25 +83,25 @@ Ends r Words line = NotUnderstood r × (line ≡ words_line)
 Ends r Graph line = Refused r line
 Ends r Read line = Unread r × (line ≡ read_line)
 Ends r Write line = Unwritten r × (line ≡ write_line)
-Ends r Memory line = (r.out_after ≡ r.out) × (line ≡ memory_line)
+Ends r Memory line = (r.out.after ≡ r.out.before) × (line ≡ memory_line)
 
--- `err` received the line: all of it, or a front of it where its count of faults rose
-pub record ReceivedLine (r : Run) (line : List ℕ) : Type 0 where
+-- the line was received: all of it, or a front of it where the count of faults rose
+pub record ReceivedLine (err : Stream) (line : List ℕ) : Type 0 where
   pub count : ℕ
   pub within : count ≤ length line
-  pub front : Appends r.err r.err_after (take count line)
-  pub whole : (Rose r.err_faults r.err_faults_after → ⊥) → Appends r.err r.err_after line
+  pub front : Appends err.before err.after (take count line)
+  pub whole : (Rose err.faults err.faults_after → ⊥) → Appends err.before err.after line
 
 -- what `err` received: nothing on an answer, else the line
-abbrev pub Received : Run → Verdict → List ℕ → Type 0
-Received r Yes text = r.err_after ≡ r.err
-Received r No text = r.err_after ≡ r.err
-Received r v line = ReceivedLine r line
+abbrev pub Received : Stream → Verdict → List ℕ → Type 0
+Received err Yes text = err.after ≡ err.before
+Received err No text = err.after ≡ err.before
+Received err v line = ReceivedLine err line
 
 -- the run ended with this status
-pub record Ended (r : Run) (code : ℕ) : Type 0 where
+pub record Ended (r : Run) (err : Stream) (code : ℕ) : Type 0 where
   pub verdict : Verdict
   pub text : List ℕ
   pub status : code ≡ code_of verdict
   pub ends : Ends r verdict text
-  pub received : Received r verdict text
+  pub received : Received err verdict text

@@ -1,8 +1,8 @@
 -- What the code's wishes stand for.
-use Rattle.std.specs.Prelude.{ℕ, ◌≡◌, List, Option, Some, None, option_map}
+use Rattle.std.specs.Prelude.{◌≡◌, Option, option_map}
 use Rattle.word_forms.specs.Form.{Text}
 use Rattle.word_lists.specs.Views.{names_in}
-use Rattle.causal_cli.specs.Wishes.{Wish, Names, separate, IsListed}
+use Rattle.causal_cli.specs.Wishes.{Wish, separate, IsListed}
 use Rattle.causal_cli.specs.declared.wish.Wish.{Wish as CodeWish}
 use Rattle.causal_cli.specs.declared.wish.Wish.TheVariants as wish
 

@@ -1,5 +1,5 @@
 -- What the words ask for, with the lists in them read.
-use Rattle.std.specs.Prelude.{ℕ, Bool, List, Option, Some, None}
+use Rattle.std.specs.Prelude.{ℕ, List, Option, Some, None}
 use Rattle.word_forms.specs.Form.{Text}
 use Rattle.word_lists.specs.Lists.{IsList}
 use Rattle.word_values.specs.Commands.{Asks}

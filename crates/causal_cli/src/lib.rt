@@ -2,7 +2,12 @@
 #![tactic(auto)]
 
 mod answer;
+mod ending;
 mod printing;
+mod reply;
 mod separate;
+mod top;
 mod verdict;
 mod wish;
+
+pub use top::{Status, run};

@@ -8,8 +8,8 @@ ghost use Rattle.targets.specs.Targets.{listed};
 ghost use Rattle.fault_text.specs.Lines.{line_of, target_fault_text};
 ghost use Rattle.causal_cli.specs.Replies.{GivesSeparation, AnswersSets};
 
-use crate::answer::Reply;
 use crate::printing::{not_separated_text, separated_text};
+use crate::reply::Reply;
 use crate::verdict::Verdict;
 use dag_reader::ReadGraph;
 use fault_text::target_line;

@@ -21,6 +21,20 @@ pub enum Wish<'a> {
     },
 }
 
+impl<'a> Wish<'a> {
+    ghost use Rattle.causal_cli.specs.Wishes.{file_of};
+    ghost use Rattle.causal_cli.specs.WishViews.{wish_of};
+
+    /// The file that is read.
+    pub fn file(&self) -> &'a str
+        ensures { result.now ≡ file_of (wish_of self.now) }
+    {
+        match self {
+            Wish::Separate { file, .. } => file,
+        }
+    }
+}
+
 /// Why words have no wish.
 #[derive(Clone, Copy, Debug, PartialEq, Eq)]
 pub enum WordsFault {

@@ -1,4 +1,4 @@
-use Rattle.std.proofs.Common.{◌≡◌, subst, option_map}
+use Rattle.std.proofs.Common.{subst, option_map}
 use Rattle.causal_cli.specs.Wishes.{IsListed}
 use Rattle.causal_cli.proofs.WishLemmas.{not_listed}
 use Rattle.causal_cli.proofs.wish.read_option.Goals as goal

@@ -1,6 +1,5 @@
-use Rattle.std.proofs.Common.{◌≡◌, option_map}
 use Rattle.word_forms.specs.Views.{texts_of}
-use Rattle.causal_cli.proofs.WishLemmas.{no_separation, not_graph, no_form}
+use Rattle.causal_cli.proofs.WishLemmas.{no_separation, no_form}
 use Rattle.causal_cli.proofs.wish.read_wish.Goals as goal
 
 pub returns-in-Ok-Some-Separate-clause-none : goal.returns-in-Ok-Some-Separate-clause-none

@@ -1,0 +1,27 @@
+use Rattle.causal_cli.specs.Wishes.{file_of}
+use Rattle.causal_cli.specs.WishViews.{wish_of}
+use Rattle.causal_cli.specs.Run.{Run}
+use Rattle.word_forms.specs.Views.{texts_of}
+use Rattle.causal_cli.proofs.Deliveries.{delivered, not_true}
+use Rattle.causal_cli.proofs.top.respond.Goals as goal
+
+pub returns-clause-ends : goal.returns-clause-ends
+returns-clause-ends g c =
+    let run : Run = record {
+      words = texts_of c.args.words.now;
+      held = g.S.Shelf.held c.args.shelf.now;
+      lacks = g.S.Shelf.lacks c.args.shelf.now;
+      read_faults = g.S.Shelf.faults c.args.shelf.now;
+      read_faults_after = g.S.Shelf.faults c.read_all.new.shelf;
+      out = record {
+        before = g.O.Sink.written c.args.out.now;
+        after = g.O.Sink.written c.deliver.new.out;
+        faults = g.O.Sink.faults c.args.out.now;
+        faults_after = g.O.Sink.faults c.deliver.new.out;
+      };
+    } in
+    let answered = rw c.deref.ensures.value at c.in-Ok-answer.ensures in
+    let lacked = rw c.file.ensures at c.in-Ok-read_all.ensures.lacked in
+    let held = rw c.file.ensures at c.in-Ok-read_all.ensures.answer.1 in
+    delivered run (wish_of c.in-Ok.wish) c.in-Ok-read_all.bytes.items c.in-Ok-answer.reply c.deliver.result c.in-Ok.ensures.wants
+    (not_true (g.S.Shelf.lacks c.args.shelf.now (file_of (wish_of c.in-Ok.wish))) (λ t. cc (lacked t))) held answered c.deliver.ensures
