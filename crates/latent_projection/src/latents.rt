@@ -44,7 +44,9 @@ fn remove(g: &Graph, k: u8) -> Graph
 /// The rows without k, where a row that holds k holds the row of k.
 fn arrows_past(rows: &[u64; 64], k: u8) -> [u64; 64]
     requires { k < 64 }
-    ensures { (a b : ℕ) → has (slice_index result a) b ≡ (not (a == k) && (not (b == k) && (has (slice_index rows.now a) b || (has (slice_index rows.now a) k && has (slice_index rows.now k) b)))) }
+    ensures { (a b : ℕ) → has (slice_index result a) b
+        ≡ (not (a == k) && (not (b == k) && (has (slice_index rows.now a) b
+        || (has (slice_index rows.now a) k && has (slice_index rows.now k) b)))) }
 {
     let next = VSet {
         bits: rows[k as usize],

@@ -32,7 +32,10 @@ fn count_observed(latent: VSet, n: u32) -> u32
 /// The rows of the observed vertices, in the numbers of these.
 fn observed_rows(latent: VSet, n: u32, rows: &[u64; 64]) -> [u64; 64]
     requires { n ≤ 64 }
-    ensures { (a b : ℕ) → has (slice_index result a) b ≡ (nat_lt a (length (observed_below (has latent.bits) n)) && renumbered_set (observed_below (has latent.bits) n) (has (slice_index rows.now (slice_index (observed_below (has latent.bits) n) a))) b) }
+    ensures { (a b : ℕ) → has (slice_index result a) b
+        ≡ (nat_lt a (length (observed_below (has latent.bits) n))
+        && renumbered_set (observed_below (has latent.bits) n)
+        (has (slice_index rows.now (slice_index (observed_below (has latent.bits) n) a))) b) }
 {
     let mut out = [0u64; 64];
     let mut place = 0usize;
