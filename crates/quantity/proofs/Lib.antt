@@ -1,0 +1,3 @@
+pub mod ExactSteps
+pub mod TextSteps
+mod Worked
