@@ -1,26 +1,14 @@
 -- Steps of the code of exact fractions, over plain numbers.
-use Rattle.std.proofs.Common.{ℕ, zero, suc, ◌+◌, ◌*◌, ◌/◌, ◌-◌, ◌≡◌, ◌<◌, ◌≤◌, ◌&&◌, Bool, true, false, cond, leb, refl, sym, ap, ◌∙◌, subst, arith, mul-pos, Option, Some, None, Result, Ok, Err, div-le_self, le_trans}
-use Rattle.std.proofs.Math.Nat.{dvd-mul_left, dvd-mul_right}
+use Rattle.std.proofs.Common.{ℕ, ◌+◌, ◌*◌, ◌/◌, ◌≡◌, ◌<◌, ◌≤◌, ◌&&◌, Bool, true, false, cond, leb, refl, sym, ap, ◌∙◌, subst, arith, mul-pos, Result, Ok, Err, div-le_self, le_trans}
+use Rattle.std.proofs.Math.Nat.{dvd-mul_left}
 use Rattle.std.specs.Int.{◌∣◌}
 use Rattle.quantity.specs.declared.fault.QuantityFault.{QuantityFault}
 use Rattle.quantity.specs.declared.fault.QuantityFault.TheVariants.{TooWide}
 use Rattle.quantity.specs.Divisors.{gcd_of}
-use Rattle.quantity.specs.Laws.Gcd.{gcd_left, gcd_right, gcd_positive, gcd_is, gcd_swap, coprime_product, coprime_parts, coprime_lowest}
-use Rattle.quantity.specs.Kinds.{Pair, pair, most}
-use Rattle.quantity.specs.Exacts.{lowest, product_by, sum_over_bottom}
-use Rattle.quantity.specs.Laws.Exact.{positive_part, IsMultiple, multiple_of}
-
--- a product that was made, and one that was not
-pub some_of : (t : Bool) (x y : ℕ) → Some y ≡ cond t (Some x) None → (t ≡ true) × (x ≡ y)
-some_of true x y e = (refl, cc)
-some_of false x y e = absurd (cc)
-
-pub none_of : (t : Bool) (x : ℕ) → None ≡ cond t (Some x) None → t ≡ false
-none_of true x e = absurd (cc)
-none_of false x e = refl
-
-pub made : (x y : ℕ) → Some y ≡ cond (leb x most) (Some x) None → (x ≡ y) × (y ≤ most)
-made x y e = let r = some_of (leb x most) x y e in (r.1, (let h : leb x most ≡ true = r.0 in let s : x ≡ y = r.1 in grind (arith, h, s)))
+use Rattle.quantity.specs.Laws.Gcd.{gcd_left, gcd_right, gcd_swap, coprime_product, coprime_parts, coprime_lowest}
+use Rattle.quantity.specs.Kinds.{Pair, most}
+use Rattle.quantity.specs.Exacts.{lowest, sum_over_bottom}
+use Rattle.quantity.specs.Laws.Exact.{positive_part, multiple_of}
 
 quotient_divides : (a b g : ℕ) → g * b ≡ a → b ∣ a
 quotient_divides a b g e = subst (λ n. b ∣ n) e (dvd-mul_left b g)
@@ -75,27 +63,18 @@ pub added : (p q r s g : ℕ) → 1 ≤ q → 1 ≤ s → g ≡ gcd_of q s → b
 added p q r s g lq ls e = ap (λ n. both ((q / n) * s) (p * (s / n) + r * (q / n))) e ∙ sym (sum_is p q r s lq ls)
 
 -- what is refused for its width
-too_wide : (x y : ℕ) → x ≤ y → leb x most ≡ false → leb y most ≡ false
-too_wide x y le e = grind (arith, e)
+over : (n : ℕ) → most < n → leb n most ≡ false
+over n h = grind arith
 
-pub wide_bottom : (l t : ℕ) → None ≡ cond (leb l most) (Some l) None → Err TooWide ≡ both l t
-wide_bottom l t e = sym (ap (λ b. cond (b && leb t most) (Ok (lowest t l)) (Err TooWide)) (none_of (leb l most) l e))
+pub wide_bottom : (l t : ℕ) → most < l → Err TooWide ≡ both l t
+wide_bottom l t h = sym (ap (λ b. cond (b && leb t most) (Ok (lowest t l)) (Err TooWide)) (over l h))
 
 no_top : (b : Bool) (x : Pair) → Err TooWide ≡ cond (b && false) (Ok x) (Err TooWide)
 no_top true x = refl
 no_top false x = refl
 
-wide_sum : (l t : ℕ) → leb t most ≡ false → Err TooWide ≡ both l t
-wide_sum l t e = no_top (leb l most) (lowest t l) ∙ sym (ap (λ b. cond (leb l most && b) (Ok (lowest t l)) (Err TooWide)) e)
-
-pub wide_first : (l x y : ℕ) → None ≡ cond (leb x most) (Some x) None → Err TooWide ≡ both l (x + y)
-wide_first l x y e = wide_sum l (x + y) (too_wide x (x + y) (omega arith) (none_of (leb x most) x e))
-
-pub wide_second : (l x y : ℕ) → None ≡ cond (leb y most) (Some y) None → Err TooWide ≡ both l (x + y)
-wide_second l x y e = wide_sum l (x + y) (too_wide y (x + y) (omega arith) (none_of (leb y most) y e))
-
-pub wide_top : (l x y a b : ℕ) → x ≡ a → y ≡ b → None ≡ cond (leb (a + b) most) (Some (a + b)) None → Err TooWide ≡ both l (x + y)
-wide_top l x y a b ea eb e = wide_sum l (x + y) (ap (λ n. leb n most) (let r : x + y ≡ a + b = omega arith in r) ∙ none_of (leb (a + b) most) (a + b) e)
+pub wide_top : (l t : ℕ) → most < t → Err TooWide ≡ both l t
+wide_top l t h = no_top (leb l most) (lowest t l) ∙ sym (ap (λ b. cond (leb l most && b) (Ok (lowest t l)) (Err TooWide)) (over t h))
 
 pub fits : (l t : ℕ) → l ≤ most → t ≤ most → Ok (lowest t l) ≡ both l t
 fits l t p q = sym (let a : leb l most ≡ true = grind arith in let b : leb t most ≡ true = grind arith in ap (λ x. cond (x && leb t most) (Ok (lowest t l)) (Err TooWide)) a ∙ ap (λ x. cond x (Ok (lowest t l)) (Err TooWide)) b)

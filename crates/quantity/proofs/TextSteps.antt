@@ -1,6 +1,6 @@
 -- What a hole `{:018}` writes.
-use Rattle.std.proofs.Common.{ℕ, ◌≡◌, ◌-◌, ◌^◌, ◌/◌, ◌%◌, List, [], ◌∷◌, ◌++◌, length, replicate, false, refl, ap, ◌∙◌, sym, append_assoc, arith, append-nil}
-use Rattle.std.specs.Fmt.{padded_integral, format_spec, decimal, fill_text, char_count, before_digits}
+use Rattle.std.proofs.Common.{ℕ, ◌≡◌, ◌-◌, ◌^◌, ◌/◌, ◌%◌, [], ◌∷◌, ◌++◌, length, replicate, false, ap, ◌∙◌, sym, append_assoc, arith, append-nil}
+use Rattle.std.specs.Fmt.{padded_integral, format_spec, decimal, char_count}
 use Rattle.quantity.specs.Texts.{eighteen_digits, units_text}
 
 pub zeros_before : (n : ℕ) → padded_integral (format_spec 32 0 4 18 (2 ^ 64 - 1)) false [] (decimal n) ≡ eighteen_digits n

@@ -1,5 +1,5 @@
 -- Bounds in units of 10 ^ -18: the two numbers are the lower and the upper bound.
-use Rattle.std.specs.Prelude.{ℕ, ◌+◌, ◌*◌, ◌/◌, ◌-◌, ◌^◌, ◌≡◌, ◌≤◌, ◌↔◌, cond, eqb, leb, Result, Ok, Err}
+use Rattle.std.specs.Prelude.{ℕ, ◌+◌, ◌*◌, ◌/◌, ◌-◌, ◌^◌, ◌≡◌, ◌≤◌, ◌↔◌, if◌then◌else◌, nat_le, ◌==◌, Result, Ok, Err}
 use Rattle.quantity.specs.declared.fault.QuantityFault.{QuantityFault}
 use Rattle.quantity.specs.declared.fault.QuantityFault.TheVariants.{TooWide, TooFine, ZeroBelow}
 use Rattle.fractions.specs.Fractions.{Fraction}
@@ -20,18 +20,19 @@ bounds_ratio p q = pair (p * unit / q) (ceiling (p * unit) q)
 
 -- too wide where the upper bound is
 abbrev pub bounds_add : Pair → Pair → Result Pair QuantityFault
-bounds_add a b = cond (leb (a.second + b.second) most) (Ok (pair (a.first + b.first) (a.second + b.second))) (Err TooWide)
+bounds_add a b = if nat_le (a.second + b.second) most then Ok (pair (a.first + b.first) (a.second + b.second)) else Err TooWide
 
 -- rounded down and up; too wide where the product of the upper bounds is
 abbrev pub bounds_mul : Pair → Pair → Result Pair QuantityFault
-bounds_mul a b = cond (leb (a.second * b.second) most) (Ok (pair (a.first * b.first / unit) (ceiling (a.second * b.second) unit))) (Err TooWide)
+bounds_mul a b =
+    if nat_le (a.second * b.second) most then Ok (pair (a.first * b.first / unit) (ceiling (a.second * b.second) unit)) else Err TooWide
 
 -- the divisor's upper bound is 0, or else its lower bound is 0, or else the upper bound is too wide in units, or else the quotient, rounded down and up
 abbrev pub bounds_div : Pair → Pair → Result Pair QuantityFault
 bounds_div a b =
-    cond (eqb b.second 0) (Err ZeroBelow)
-    (cond (eqb b.first 0) (Err TooFine)
-    (cond (leb (a.second * unit) most) (Ok (pair (a.first * unit / b.second) (ceiling (a.second * unit) b.first))) (Err TooWide)))
+    if b.second == 0 then Err ZeroBelow
+    else (if b.first == 0 then Err TooFine
+    else (if nat_le (a.second * unit) most then Ok (pair (a.first * unit / b.second) (ceiling (a.second * unit) b.first)) else Err TooWide))
 
 -- bounds
 abbrev pub bounds : Kind

@@ -1,5 +1,5 @@
 -- The texts of quantities.
-use Rattle.std.specs.Prelude.{ℕ, ◌-◌, ◌/◌, ◌%◌, ◌^◌, List, [], ◌∷◌, ◌++◌, length, replicate, decimal, codes}
+use Rattle.std.specs.Prelude.{ℕ, ◌-◌, ◌/◌, ◌%◌, ◌^◌, List, ◌++◌, length, replicate, decimal, codes}
 use Rattle.quantity.specs.Kinds.{Pair}
 
 -- p/q, in decimal digits

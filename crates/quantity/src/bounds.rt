@@ -2,7 +2,8 @@ ghost use Rattle.std.specs.Prelude.{ℕ, ◌≡◌, ◌≤◌, ◌-◌, ◌^◌,
 ghost use Rattle.quantity.specs.Texts.{units_text};
 
 use crate::fault::QuantityFault;
-use crate::kind::{MOST, Quantity};
+use crate::kind::Quantity;
+use crate::limit::{product, sum};
 use std::alloc::{AllocError, Global};
 
 /// How many units are 1.
@@ -45,31 +46,19 @@ impl Quantity for Bounds {
     }
 
     fn add(&self, other: &Bounds) -> Result<Bounds, QuantityFault> {
-        let hi = self.hi + other.hi;
-        if hi <= MOST {
-            Ok(Bounds {
-                lo: self.lo + other.lo,
-                hi,
-            })
-        } else {
-            Err(QuantityFault::TooWide)
-        }
+        let hi = sum(self.hi, other.hi)?;
+        Ok(Bounds {
+            lo: self.lo + other.lo,
+            hi,
+        })
     }
 
     fn mul(&self, other: &Bounds) -> Result<Bounds, QuantityFault> {
-        match self.hi.checked_mul(other.hi) {
-            None => Err(QuantityFault::TooWide),
-            Some(hi) => {
-                if hi <= MOST {
-                    Ok(Bounds {
-                        lo: self.lo * other.lo / UNIT,
-                        hi: (hi + (UNIT - 1)) / UNIT,
-                    })
-                } else {
-                    Err(QuantityFault::TooWide)
-                }
-            }
-        }
+        let hi = product(self.hi, other.hi)?;
+        Ok(Bounds {
+            lo: self.lo * other.lo / UNIT,
+            hi: (hi + (UNIT - 1)) / UNIT,
+        })
     }
 
     fn div(&self, other: &Bounds) -> Result<Bounds, QuantityFault> {
@@ -79,19 +68,11 @@ impl Quantity for Bounds {
         if other.lo == 0 {
             return Err(QuantityFault::TooFine);
         }
-        match self.hi.checked_mul(UNIT) {
-            None => Err(QuantityFault::TooWide),
-            Some(hi) => {
-                if hi <= MOST {
-                    Ok(Bounds {
-                        lo: self.lo * UNIT / other.hi,
-                        hi: (hi + (other.lo - 1)) / other.lo,
-                    })
-                } else {
-                    Err(QuantityFault::TooWide)
-                }
-            }
-        }
+        let hi = product(self.hi, UNIT)?;
+        Ok(Bounds {
+            lo: self.lo * UNIT / other.hi,
+            hi: (hi + (other.lo - 1)) / other.lo,
+        })
     }
 
     fn print(&self, alloc: Global, out: &mut Vec<u8>) -> Result<(), AllocError> {

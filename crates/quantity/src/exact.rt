@@ -4,7 +4,8 @@ ghost use Rattle.quantity.specs.Kinds.{most};
 
 use crate::divisors::gcd;
 use crate::fault::QuantityFault;
-use crate::kind::{MOST, Quantity};
+use crate::kind::Quantity;
+use crate::limit::{product, sum};
 use std::alloc::{AllocError, Global};
 
 /// The fraction p / q in lowest terms: 0 is 0 / 1.
@@ -16,25 +17,6 @@ pub struct Exact {
     pub ghost top: { p ≤ 2 ^ 127 - 1 },
     pub ghost bottom: { q ≤ 2 ^ 127 - 1 },
     pub ghost lowest: { gcd_of p q ≡ 1 },
-}
-
-/// The product, unless it is too wide.
-fn product(a: u128, b: u128) -> Option<u128>
-    ensures { result ≡ cond (leb (a * b) most) (Some (a * b)) None }
-{
-    match a.checked_mul(b) {
-        None => None,
-        Some(c) => { if c <= MOST { Some(c) } else { None } }
-    }
-}
-
-/// The sum, unless it is too wide.
-fn sum(a: u128, b: u128) -> Option<u128>
-    requires { (a ≤ 2 ^ 127 - 1) × (b ≤ 2 ^ 127 - 1) }
-    ensures { result ≡ cond (leb (a + b) most) (Some (a + b)) None }
-{
-    let c = a + b;
-    if c <= MOST { Some(c) } else { None }
 }
 
 impl Exact {
@@ -58,12 +40,8 @@ impl Exact {
     {
         let a = gcd(p, s);
         let b = gcd(r, q);
-        let Some(top) = product(p / a, r / b) else {
-            return Err(QuantityFault::TooWide);
-        };
-        let Some(bottom) = product(q / b, s / a) else {
-            return Err(QuantityFault::TooWide);
-        };
+        let top = product(p / a, r / b)?;
+        let bottom = product(q / b, s / a)?;
         Ok(Exact { p: top, q: bottom })
     }
 }
@@ -87,18 +65,10 @@ impl Quantity for Exact {
         let g = gcd(self.q, other.q);
         let left = self.q / g;
         let right = other.q / g;
-        let Some(bottom) = product(left, other.q) else {
-            return Err(QuantityFault::TooWide);
-        };
-        let Some(first) = product(self.p, right) else {
-            return Err(QuantityFault::TooWide);
-        };
-        let Some(second) = product(other.p, left) else {
-            return Err(QuantityFault::TooWide);
-        };
-        let Some(top) = sum(first, second) else {
-            return Err(QuantityFault::TooWide);
-        };
+        let bottom = product(left, other.q)?;
+        let first = product(self.p, right)?;
+        let second = product(other.p, left)?;
+        let top = sum(first, second)?;
         Ok(Exact::reduced(top, bottom))
     }
 

@@ -6,9 +6,6 @@ ghost use Rattle.quantity.specs.Lawful.{IsLawful};
 use crate::fault::QuantityFault;
 use std::alloc::{AllocError, Global};
 
-/// The greatest number that a quantity has, 2^127 - 1.
-pub(crate) const MOST: u128 = 170141183460469231731687303715884105727;
-
 /// Numbers that cover fractions, with the operations of one kind.
 pub trait Quantity: Copy {
     /// What the operations make of two numbers, and the text of a quantity.

@@ -10,6 +10,7 @@ mod divisors;
 mod exact;
 mod fault;
 mod kind;
+mod limit;
 
 pub use bounds::Bounds;
 pub use exact::Exact;
@@ -26,7 +27,7 @@ pub fn laws()
 #[cfg(test)]
 mod tests {
     use super::*;
-    use crate::kind::MOST;
+    use crate::limit::MOST;
     use std::alloc::{AllocError, Global};
     use std::test::Fail;
 

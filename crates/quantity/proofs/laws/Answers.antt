@@ -1,4 +1,4 @@
-use Rattle.std.proofs.Common.{◌≡◌, sym, ◌∙◌}
+use Rattle.std.proofs.Common.{sym, ◌∙◌}
 use Rattle.quantity.specs.Laws.Gcd.{gcd_is, gcd_zero}
 use Rattle.quantity.specs.Laws.Interval.{bounds_keep}
 use Rattle.quantity.proofs.laws.Goals as goal

@@ -1,16 +1,16 @@
 -- Exact fractions are the true ones.
-use Rattle.std.proofs.Common.{ℕ, zero, suc, ◌+◌, ◌*◌, ◌/◌, ◌-◌, ◌^◌, ◌≡◌, ◌≢◌, ◌<◌, ◌≤◌, ◌↔◌, ◌&&◌, Bool, true, false, cond, eqb, leb, refl, sym, ap, ◌∙◌, subst, arith, mul-pos, eqb-true, mul_comm, Result, Ok, Err, le_of_mul-le-mul_right}
+use Rattle.std.proofs.Common.{ℕ, zero, suc, ◌+◌, ◌*◌, ◌/◌, ◌≡◌, ◌≤◌, ◌↔◌, ◌&&◌, Bool, true, false, cond, eqb, leb, refl, sym, ap, ◌∙◌, subst, arith, mul-pos, eqb-true, mul_comm, Result, Ok, Err}
 use Rattle.std.proofs.Math.Nat.{div-eq_of_eq-mul_right, eq_of_mul-eq-mul_left}
 use Rattle.fractions.proofs.FractionLaws.{equal_trans}
 use Rattle.quantity.specs.declared.fault.QuantityFault.{QuantityFault}
-use Rattle.quantity.specs.declared.fault.QuantityFault.TheVariants.{TooWide, TooFine, ZeroBelow}
-use Rattle.fractions.specs.Fractions.{Fraction, over, IsEqual, add, mul, div}
+use Rattle.quantity.specs.declared.fault.QuantityFault.TheVariants.{TooWide, ZeroBelow}
+use Rattle.fractions.specs.Fractions.{Fraction, over, add, mul, div}
 use Rattle.quantity.specs.Divisors.{gcd_of}
 use Rattle.quantity.specs.Laws.Gcd.{gcd_left, gcd_right, gcd_positive}
-use Rattle.quantity.specs.Kinds.{Pair, pair, Kind, most}
-use Rattle.quantity.specs.Exacts.{lowest, sum_over_bottom, product_by, product_of, exact, exact_add, exact_mul, exact_div, Equals}
+use Rattle.quantity.specs.Kinds.{Pair, pair, most}
+use Rattle.quantity.specs.Exacts.{lowest, product_of, exact, exact_add, exact_div, Equals}
 use Rattle.quantity.specs.Laws.Interval.{ok_from, never}
-use Rattle.quantity.specs.Lawful.{Keeps, IsLawful}
+use Rattle.quantity.specs.Lawful.{IsLawful}
 
 pub positive_part : (g x : ℕ) → 1 ≤ g * x → 1 ≤ x
 positive_part g zero le = absurd (let r : g * 0 ≡ 0 = omega arith in omega arith)

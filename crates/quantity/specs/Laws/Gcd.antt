@@ -1,8 +1,8 @@
 -- Laws of the greatest common divisor.
-use Rattle.std.proofs.Common.{ℕ, zero, suc, ◌+◌, ◌*◌, ◌-◌, ◌/◌, ◌%◌, ◌≡◌, ◌<◌, ◌≤◌, Bool, true, false, eqb, refl, sym, ap, ◌∙◌, subst, arith, eqb-true, mul-one, mul-pos}
-use Rattle.std.proofs.Math.Nat.{dvd-mul_left, dvd-mul_right, dvd-add, dvd-mod_iff, mul-div_cancel', dvd-mul_left_of_dvd, dvd-mul_right_of_dvd, mul-dvd-mul_left, mod-eq-sub-mul-div, dvd-sub, dvd-zero, one-dvd}
+use Rattle.std.proofs.Common.{ℕ, zero, suc, ◌+◌, ◌*◌, ◌-◌, ◌/◌, ◌%◌, ◌≡◌, ◌<◌, ◌≤◌, Bool, true, false, eqb, refl, sym, ap, ◌∙◌, subst, arith, eqb-true, mul-one}
+use Rattle.std.proofs.Math.Nat.{mul-div_cancel', dvd-mul_left_of_dvd, dvd-mul_right_of_dvd, mul-dvd-mul_left, dvd-sub, dvd-zero, one-dvd}
 use Rattle.std.specs.Int.{IsGcd, ◌∣◌}
-use Rattle.std.proofs.lemmas.Nat.Gcd.{IsGcd-from_zero, IsGcd-swap, IsGcd-from_mod, same_from_IsGcd, dvd_refl, dvd_trans, dvd_antisymm, le_of_dvd}
+use Rattle.std.proofs.lemmas.Nat.Gcd.{IsGcd-from_zero, IsGcd-swap, IsGcd-from_mod, same_from_IsGcd, dvd_trans, dvd_antisymm, le_of_dvd}
 use Rattle.quantity.specs.Divisors.{euclid, gcd_of}
 
 ne_of : (b : ℕ) → eqb b 0 ≡ false → 0 < b

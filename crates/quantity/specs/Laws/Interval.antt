@@ -1,9 +1,9 @@
 -- Bounds enclose the true fraction, and tell where it is 0.
-use Rattle.std.proofs.Common.{ℕ, zero, suc, ◌+◌, ◌*◌, ◌/◌, ◌-◌, ◌^◌, ◌≡◌, ◌≢◌, ◌<◌, ◌≤◌, ◌↔◌, Bool, true, false, cond, eqb, leb, refl, sym, ap, ◌∙◌, subst, arith, mul-pos, mul-le-mul_right, le_of_mul-le-mul_right, eqb-true, Result, Ok, Err}
+use Rattle.std.proofs.Common.{ℕ, zero, suc, ◌+◌, ◌*◌, ◌/◌, ◌≡◌, ◌≢◌, ◌≤◌, ◌↔◌, Bool, true, false, cond, eqb, leb, refl, ap, ◌∙◌, subst, arith, mul-pos, eqb-true, Result, Ok, Err}
 use Rattle.quantity.specs.declared.fault.QuantityFault.{QuantityFault}
 use Rattle.quantity.specs.declared.fault.QuantityFault.TheVariants.{TooWide, TooFine, ZeroBelow}
 use Rattle.fractions.specs.Fractions.{Fraction, over, IsEqual, add, mul, div}
-use Rattle.quantity.specs.Kinds.{Pair, pair, Kind, most}
+use Rattle.quantity.specs.Kinds.{Pair, pair, most}
 use Rattle.quantity.specs.Intervals.{unit, ceiling, bounds, bounds_ratio, bounds_add, bounds_mul, bounds_div, Encloses, Covers}
 use Rattle.quantity.specs.Lawful.{Keeps, IsLawful}
 use Rattle.quantity.specs.Laws.Rounding

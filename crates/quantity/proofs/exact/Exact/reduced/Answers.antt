@@ -1,4 +1,4 @@
-use Rattle.std.proofs.Common.{◌≡◌, ◌≤◌, ◌/◌, ap, ap₂, ◌∙◌, sym, subst}
+use Rattle.std.proofs.Common.{◌≤◌, ◌/◌, ap, ◌∙◌, sym, subst}
 use Rattle.quantity.specs.Divisors.{gcd_of}
 use Rattle.quantity.specs.Laws.Gcd.{coprime_lowest}
 use Rattle.quantity.specs.Kinds.{most}

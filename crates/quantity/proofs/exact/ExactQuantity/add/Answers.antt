@@ -1,47 +1,48 @@
-use Rattle.std.proofs.Common.{ℕ, ◌≡◌, ◌≤◌, ◌*◌, ◌+◌, ◌/◌, ap, ap₂, ◌∙◌, sym, subst, refl, Ok}
-use Rattle.quantity.specs.Divisors.{gcd_of}
-use Rattle.quantity.specs.Exacts.{lowest, sum_over_bottom}
+use Rattle.std.proofs.Common.{◌≡◌, ◌≤◌, ◌*◌, ◌+◌, ◌/◌, ap, ap₂, ◌∙◌, sym, subst, arith, rules, Ok, Err}
+use Rattle.quantity.specs.declared.exact.Exact.{Exact}
+use Rattle.quantity.specs.declared.fault.QuantityFault.TheVariants.{TooWide}
+use Rattle.quantity.specs.Kinds.{pair, gives}
 use Rattle.quantity.specs.Laws.Exact.{multiple_of}
-use Rattle.quantity.proofs.ExactSteps.{made, added, wide_bottom, wide_first, wide_second, wide_top, fits, both}
+use Rattle.quantity.proofs.ExactSteps.{added, wide_bottom, wide_top, fits, both}
 use Rattle.quantity.proofs.exact.ExactQuantity.add.Goals as goal
 
-pub returns-in_default : goal.returns-in_default
-returns-in_default c =
+pub returns-in_err-bottom : goal.returns-in_err-bottom
+returns-in_err-bottom c =
     let s = c.args.self.now in let o = c.args.other.now in let g = c.gcd-g.result in
-    wide_bottom ((s.q / g) * o.q) (s.p * (o.q / g) + o.p * (s.q / g)) c.in_default.ensures ∙ added s.p s.q o.p o.q g s.positive o.positive c.gcd-g.ensures.value
+    let e : c.from_residual.result ≡ Err TooWide = search rules in
+    ap (gives (λ (e : Exact). pair e.p e.q)) e ∙ wide_bottom ((s.q / g) * o.q) (s.p * (o.q / g) + o.p * (s.q / g)) c.in_err-bottom.ensures.wide ∙ added s.p s.q o.p o.q g s.positive o.positive c.gcd-g.ensures.value
 
-pub returns-in_default-product : goal.returns-in_default-product
-returns-in_default-product c =
+pub returns-in_err-first : goal.returns-in_err-first
+returns-in_err-first c =
     let s = c.args.self.now in let o = c.args.other.now in let g = c.gcd-g.result in
-    wide_first ((s.q / g) * o.q) (s.p * (o.q / g)) (o.p * (s.q / g)) c.in_default-product.ensures ∙ added s.p s.q o.p o.q g s.positive o.positive c.gcd-g.ensures.value
+    let e : c.from_residual-in_err-first.result ≡ Err TooWide = search rules in
+    ap (gives (λ (e : Exact). pair e.p e.q)) e ∙ wide_top ((s.q / g) * o.q) (s.p * (o.q / g) + o.p * (s.q / g)) (omega (arith, c.in_err-first.ensures.wide)) ∙ added s.p s.q o.p o.q g s.positive o.positive c.gcd-g.ensures.value
 
-pub returns-in_default-product-2 : goal.returns-in_default-product-2
-returns-in_default-product-2 c =
+pub returns-in_err-second : goal.returns-in_err-second
+returns-in_err-second c =
     let s = c.args.self.now in let o = c.args.other.now in let g = c.gcd-g.result in
-    wide_second ((s.q / g) * o.q) (s.p * (o.q / g)) (o.p * (s.q / g)) c.in_default-product-2.ensures ∙ added s.p s.q o.p o.q g s.positive o.positive c.gcd-g.ensures.value
+    let e : c.from_residual-in_err-second.result ≡ Err TooWide = search rules in
+    ap (gives (λ (e : Exact). pair e.p e.q)) e ∙ wide_top ((s.q / g) * o.q) (s.p * (o.q / g) + o.p * (s.q / g)) (omega (arith, c.in_err-second.ensures.wide)) ∙ added s.p s.q o.p o.q g s.positive o.positive c.gcd-g.ensures.value
 
-pub returns-in_default-sum : goal.returns-in_default-sum
-returns-in_default-sum c =
+pub returns-in_err-top : goal.returns-in_err-top
+returns-in_err-top c =
     let s = c.args.self.now in let o = c.args.other.now in let g = c.gcd-g.result in
-    let first = made (s.p * (o.q / g)) c.in-Some-product.first c.in-Some-product.ensures in
-    let second = made (o.p * (s.q / g)) c.in-Some-product-2.second c.in-Some-product-2.ensures in
-    wide_top ((s.q / g) * o.q) (s.p * (o.q / g)) (o.p * (s.q / g)) c.in-Some-product.first c.in-Some-product-2.second first.0 second.0 c.in_default-sum.ensures
+    let e : c.from_residual-in_err-top.result ≡ Err TooWide = search rules in
+    ap (gives (λ (e : Exact). pair e.p e.q)) e
+    ∙ wide_top ((s.q / g) * o.q) (s.p * (o.q / g) + o.p * (s.q / g)) (omega (arith, c.in_err-top.ensures.wide, c.in_ok-first.ensures.value, c.in_ok-second.ensures.value))
     ∙ added s.p s.q o.p o.q g s.positive o.positive c.gcd-g.ensures.value
 
 pub reduced-requires : goal.reduced-requires
 reduced-requires c =
-    let s = c.args.self.now in let o = c.args.other.now in let g = c.gcd-g.result in
-    let bottom = made ((s.q / g) * o.q) c.in-Some.bottom c.in-Some.ensures in
-    let top = made (c.in-Some-product.first + c.in-Some-product-2.second) c.in-Some-sum.top c.in-Some-sum.ensures in
-    (subst (λ n. 1 ≤ n) (ap (λ n. (s.q / n) * o.q) (sym c.gcd-g.ensures.value) ∙ bottom.0) (multiple_of s.q o.q s.positive o.positive).positive, top.1, bottom.1)
+    let s = c.args.self.now in let o = c.args.other.now in (
+      subst (λ n. 1 ≤ n) (ap (λ n. (s.q / n) * o.q) (sym c.gcd-g.ensures.value) ∙ sym c.in_ok-bottom.ensures.value) (multiple_of s.q o.q s.positive o.positive).positive,
+      c.in_ok-top.ensures.fits,
+      c.in_ok-bottom.ensures.fits,
+    )
 
 pub returns : goal.returns
 returns c =
     let s = c.args.self.now in let o = c.args.other.now in let g = c.gcd-g.result in
-    let bottom = made ((s.q / g) * o.q) c.in-Some.bottom c.in-Some.ensures in
-    let top = made (c.in-Some-product.first + c.in-Some-product-2.second) c.in-Some-sum.top c.in-Some-sum.ensures in
-    let first = made (s.p * (o.q / g)) c.in-Some-product.first c.in-Some-product.ensures in
-    let second = made (o.p * (s.q / g)) c.in-Some-product-2.second c.in-Some-product-2.ensures in
-    let et : s.p * (o.q / g) + o.p * (s.q / g) ≡ c.in-Some-sum.top = ap₂ (λ x y. x + y) first.0 second.0 ∙ top.0 in
-    ap (λ x. Ok x) c.reduced.ensures ∙ fits c.in-Some.bottom c.in-Some-sum.top bottom.1 top.1 ∙ ap₂ both (sym bottom.0) (sym et)
-    ∙ added s.p s.q o.p o.q g s.positive o.positive c.gcd-g.ensures.value
+    let top : c.in_ok-top.top ≡ s.p * (o.q / g) + o.p * (s.q / g) = c.in_ok-top.ensures.value ∙ ap₂ (λ x y. x + y) c.in_ok-first.ensures.value c.in_ok-second.ensures.value in
+    ap (λ x. Ok x) c.reduced.ensures ∙ fits c.in_ok-bottom.bottom c.in_ok-top.top c.in_ok-bottom.ensures.fits c.in_ok-top.ensures.fits
+    ∙ ap₂ both c.in_ok-bottom.ensures.value top ∙ added s.p s.q o.p o.q g s.positive o.positive c.gcd-g.ensures.value

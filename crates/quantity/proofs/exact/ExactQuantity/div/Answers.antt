@@ -1,4 +1,4 @@
-use Rattle.std.proofs.Common.{◌≡◌, ◌∙◌}
+use Rattle.std.proofs.Common.{◌∙◌}
 use Rattle.quantity.specs.Laws.Gcd.{gcd_swap}
 use Rattle.quantity.proofs.exact.ExactQuantity.div.Goals as goal
 
