@@ -3,7 +3,7 @@
 //! The result of each operation covers the true sum, product or quotient of what its operands cover.
 #![tactic(auto)]
 
-ghost use Rattle.quantity.specs.Theorems.{EuclidIsGreatest, ZeroIsOverOne, BoundsEnclose};
+ghost use Rattle.quantity.specs.Theorems.{EuclidIsGreatest, MultipleIsLeast, ZeroIsOverOne, BoundsEnclose, FractionsHaveEighteenDigits};
 
 mod bounds;
 mod divisors;
@@ -20,8 +20,10 @@ pub use kind::Quantity;
 /// What holds of the definitions that the contracts cite, beside the law of `Quantity`.
 pub fn laws()
     ensures greatest { EuclidIsGreatest }
+    ensures least { MultipleIsLeast }
     ensures zero { ZeroIsOverOne }
     ensures enclose { BoundsEnclose }
+    ensures digits { FractionsHaveEighteenDigits }
 {}
 
 #[cfg(test)]
