@@ -13,8 +13,10 @@ fn shown<Q: Quantity>(alloc: Global, quantity: &Q) -> Result<Vec<u8>, AllocError
 }
 
 fn between(lo: u128, hi: u128) -> Bounds
-    requires { (lo ≤ hi) × (hi ≤ 2 ^ 127 - 1) }
-    ensures value { (result.lo ≡ lo) × (result.hi ≡ hi) }
+    requires ordered { lo ≤ hi }
+    requires most { hi ≤ 2 ^ 127 - 1 }
+    ensures lo { result.lo ≡ lo }
+    ensures hi { result.hi ≡ hi }
 {
     Bounds { lo, hi }
 }
