@@ -14,6 +14,10 @@ EqualIsSymmetric = (f g : Fraction) → IsEqual f g → IsEqual g f
 abbrev pub EqualIsTransitive : Type 0
 EqualIsTransitive = (f g h : Fraction) → IsEqual f g → IsEqual g h → IsEqual f h
 
+-- what is over 0 is equal to nothing, not even to itself
+abbrev pub NothingEqualsOverZero : Type 0
+NothingEqualsOverZero = (p : ℕ) (f : Fraction) → IsEqual (over p 0) f → ⊥
+
 -- two whole numbers are equal fractions only where they are one
 abbrev pub EqualWholesAreOne : Type 0
 EqualWholesAreOne = (p q : ℕ) → IsEqual (over p 1) (over q 1) → p ≡ q
