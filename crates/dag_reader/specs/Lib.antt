@@ -17,3 +17,4 @@ pub mod Reads
 pub mod Builds
 pub mod Printing
 pub mod Written
+pub mod RoundTrip
