@@ -1,8 +1,8 @@
 -- The tokens of a written graph.
-use Rattle.std.proofs.Common.{◌≡◌, ◌<◌, ◌+◌, ℕ, zero, suc, Bool, true, false, List, [], ◌∷◌, ◌++◌, length, drop, get_or, Option, Some, None, refl, sym, ap, subst, ◌∙◌, arith, append_assoc, one-add}
-use Rattle.std.specs.Prelude.{cond, codes, not, ◌&&◌, if◌then◌else◌, map, All}
+use Rattle.std.proofs.Common.{◌≡◌, ◌<◌, ◌+◌, ℕ, Bool, true, false, List, [], ◌∷◌, ◌++◌, length, drop, Option, Some, None, refl, sym, ap, subst, ◌∙◌, append_assoc, one-add}
+use Rattle.std.specs.Prelude.{cond, codes, not, All}
 use Rattle.std.proofs.lemmas.List.Elements.{All-head, All-tail}
-use Rattle.std.specs.List.{prefix_len, list_all}
+use Rattle.std.specs.List.{prefix_len}
 use Rattle.dag_reader.specs.declared.marks.Arrow.{Arrow}
 use Rattle.dag_reader.specs.declared.marks.Arrow.TheVariants.{Right, Both}
 use Rattle.dag_reader.specs.declared.marks.Role.{Role}
@@ -13,7 +13,7 @@ use Rattle.mixed_graph.specs.Names.{IsName}
 use Rattle.dag_reader.specs.Printing.{is_plain, printed}
 use Rattle.dag_reader.specs.Reading.{AreFirst}
 use Rattle.dag_reader.specs.Spelled.{Spelled, kinds}
-use Rattle.dag_reader.specs.Syntax.{Word, Group, single, Attr, bare, Attrs, attr_list, Statement, vertex, chain, Text, body_tokens, attrs_tokens, text_tokens, word_token}
+use Rattle.dag_reader.specs.Syntax.{Word, single, bare, Attrs, attr_list, Statement, vertex, chain, Text, body_tokens, attrs_tokens, text_tokens, word_token}
 use Rattle.dag_reader.specs.Passes.{name_at}
 use Rattle.dag_reader.specs.Written.{Drawn, IsDrawn, role_text, vertex_lines, edge_lines, written}
 use Rattle.dag_reader.proofs.Printed.{first_here, printed_first, Stops}

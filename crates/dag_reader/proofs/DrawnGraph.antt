@@ -1,10 +1,9 @@
 -- What a written graph says gives that graph.
-use Rattle.std.proofs.Common.{◌≡◌, ◌≢◌, ◌≤◌, ◌<◌, ◌+◌, ◌-◌, ℕ, zero, suc, Bool, true, false, List, [], ◌∷◌, ◌++◌, map, length, get_or, Option, Some, None, inl, inr, refl, sym, ap, subst, ◌∙◌, arith, append_assoc, append-nil, IsTrue}
-use Rattle.std.specs.Prelude.{cond, ◌==◌, ◌||◌, ◌&&◌, nat_lt, nat_le, not, find, All, if◌then◌else◌}
-use Rattle.std.proofs.lemmas.Bool.{and_parts, eqb-true, eq-eqb, ne_eqb, lt-ltb, le-ltb, cases_eq, cases_lt, cases_Bool, cases_order}
+use Rattle.std.proofs.Common.{◌≡◌, ◌≢◌, ◌≤◌, ◌<◌, ◌+◌, ◌-◌, ℕ, zero, suc, Bool, true, false, List, [], ◌∷◌, ◌++◌, map, length, get_or, Option, Some, None, inl, inr, refl, sym, ap, subst, ◌∙◌, arith, append-nil, IsTrue}
+use Rattle.std.specs.Prelude.{cond, ◌==◌, ◌||◌, ◌&&◌, nat_lt, find, All}
+use Rattle.std.proofs.lemmas.Bool.{and_parts, eq-eqb, ne_eqb, lt-ltb, cases_eq, cases_lt, cases_Bool, cases_order}
 use Rattle.std.proofs.lemmas.List.{get_or_append_left, get_or_past, map-append}
-use Rattle.std.specs.List.{list_any}
-use Rattle.mixed_graph.specs.Bits.{has, members_below}
+use Rattle.mixed_graph.specs.Bits.{has}
 use Rattle.mixed_graph.specs.Graphs.{MixedGraph, IsMixedGraph, IsDirectedPath, IsAcyclic}
 use Rattle.mixed_graph.specs.Pairs.{joins, IsCycle}
 use Rattle.mixed_graph.specs.Shown.{graph_of}
@@ -14,16 +13,15 @@ use Rattle.dag_reader.specs.declared.marks.Arrow.TheVariants.{Right, Both}
 use Rattle.dag_reader.specs.declared.marks.Role.{Role}
 use Rattle.dag_reader.specs.declared.marks.Role.TheVariants.{Exposure, Outcome, Adjusted, Latent}
 use Rattle.dag_reader.specs.declared.graph.ReadGraph.{ReadGraph}
-use Rattle.dag_reader.specs.RoleSets.{AreRoleSets}
 use Rattle.dag_reader.specs.Rows.{count_up, pairs_below}
-use Rattle.dag_reader.specs.Passes.{Edge, is_self_loop, self_loop, edges_of, arrows_of, doubles_of, roles_of, has_role, same_role, HasTwo}
-use Rattle.dag_reader.specs.Reads.{is_marked, Tells, Gives, HasNoLoop, HasNoClash}
-use Rattle.dag_reader.specs.Written.{Drawn, IsDrawn, role_at, drawn_of}
+use Rattle.dag_reader.specs.Passes.{Edge, is_self_loop, arrows_of, doubles_of, roles_of, has_role, same_role}
+use Rattle.dag_reader.specs.Reads.{is_marked, Tells, HasNoLoop, HasNoClash}
+use Rattle.dag_reader.specs.Written.{IsDrawn, role_at, drawn_of}
 use Rattle.dag_reader.proofs.DrawnMarks.{drawn_says, given_roles}
 use Rattle.dag_reader.proofs.DrawnPasses.{as_edges, drawn_edges, drawn_arrows, drawn_doubles, drawn_roles}
 use Rattle.dag_reader.proofs.PairLists.{pairs_below-joins, pairs_below-ends}
-use Rattle.dag_reader.proofs.WrittenLines.{length-listed, length-count_up}
-use Rattle.dag_reader.proofs.RowPairs.{members-zero, members-suc}
+use Rattle.dag_reader.proofs.WrittenLines.{length-listed}
+use Rattle.dag_reader.proofs.RowPairs.{members-suc}
 
 -- ---- the parts of a written graph
 
@@ -62,10 +60,10 @@ upper_drawn g is a b =
 one_way : (g : MixedGraph) → IsMixedGraph g → (a b : ℕ) → ((g.both a b && nat_lt a b) || (g.both b a && nat_lt b a)) ≡ g.both a b
 one_way g is a b = elim (cases_Bool (g.both a b)) [
   | inl t ↦ (let back : g.both b a ≡ true = is.symmetric a b t in elim (cases_order a b) [
-      | inl same ↦ absurd (let none = is.no_loop a in let here : g.both a a ≡ true = subst (λ (x : ℕ). g.both a x ≡ true) (sym same) t in cc)
-      | inr (inl below) ↦ rw (t, lt-ltb a b below) refl
-      | inr (inr above) ↦ rw (t, back, lt-ltb b a above) (or_true (nat_lt a b))
-    ])
+    | inl same ↦ absurd (let none = is.no_loop a in let here : g.both a a ≡ true = subst (λ (x : ℕ). g.both a x ≡ true) (sym same) t in cc)
+    | inr (inl below) ↦ rw (t, lt-ltb a b below) refl
+    | inr (inr above) ↦ rw (t, back, lt-ltb b a above) (or_true (nat_lt a b))
+  ])
   | inr f ↦ (let back : g.both b a ≡ false = elim (cases_Bool (g.both b a)) [ inl t ↦ absurd (let h = is.symmetric b a t in cc) | inr e ↦ e ] in rw (f, back) refl)
 ]
   where

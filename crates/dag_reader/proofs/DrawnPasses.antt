@@ -5,7 +5,6 @@ use Rattle.dag_reader.specs.declared.marks.Arrow.{Arrow}
 use Rattle.dag_reader.specs.declared.marks.Arrow.TheVariants.{Right, Both}
 use Rattle.dag_reader.specs.declared.marks.Role.{Role}
 use Rattle.dag_reader.specs.declared.marks.Mark.{Mark}
-use Rattle.dag_reader.specs.declared.marks.Mark.TheVariants.{Begins, Joined, Member, HasRole}
 use Rattle.dag_reader.specs.Written.{Drawn}
 use Rattle.dag_reader.proofs.DrawnMarks.{role_marks, vertex_marks, edge_marks, drawn_says, given_roles}
 use Rattle.dag_reader.specs.Passes.{Edge, members, pairs, edges_behind, edges_of, arrow_of, both_of, arrows_of, doubles_of, roles_behind, roles_of}

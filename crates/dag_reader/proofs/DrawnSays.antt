@@ -1,6 +1,6 @@
 -- What a written graph says.
-use Rattle.std.proofs.Common.{◌≡◌, ◌<◌, ◌≤◌, ◌+◌, ℕ, zero, suc, Bool, true, false, List, [], ◌∷◌, ◌++◌, length, get_or, Option, Some, None, Result, Ok, Err, refl, sym, ap, subst, ◌∙◌, inl, inr, arith, append_assoc, append-nil, length-append}
-use Rattle.std.specs.Prelude.{cond, codes, not, ◌&&◌, ◌||◌, if◌then◌else◌, nat_le}
+use Rattle.std.proofs.Common.{◌≡◌, ◌<◌, ◌≤◌, ◌+◌, ℕ, zero, suc, Bool, true, false, List, [], ◌∷◌, ◌++◌, length, get_or, Option, Some, None, Result, Ok, refl, sym, ap, subst, ◌∙◌, inl, inr, arith, append_assoc, append-nil, length-append}
+use Rattle.std.specs.Prelude.{cond, not, ◌&&◌, ◌||◌, nat_le}
 use Rattle.std.specs.List.{list_any, position_or_len}
 use Rattle.std.specs.Str.{bytes_eq}
 use Rattle.std.proofs.lemmas.Slice.Eq.{bytes_eq-Decides}
@@ -15,15 +15,15 @@ use Rattle.dag_reader.specs.declared.marks.Arrow.TheVariants.{Right, Both}
 use Rattle.dag_reader.specs.declared.marks.Role.{Role}
 use Rattle.dag_reader.specs.declared.marks.Role.TheVariants.{Exposure, Outcome, Adjusted, Latent}
 use Rattle.dag_reader.specs.declared.marks.Mark.{Mark}
-use Rattle.dag_reader.specs.declared.marks.Mark.TheVariants.{Begins, Joined, Member, HasRole}
-use Rattle.mixed_graph.specs.Names.{with_name, index_of, is_named}
-use Rattle.dag_reader.specs.Grammar.{Fault, Said, nothing, with_marks, with_vertex, with_flag}
-use Rattle.dag_reader.specs.Syntax.{Group, single, links_say, ◌>>=◌, allowed, vertex_says, attrs_say, statement_says, statements_say, Statement, Word, text_says}
+use Rattle.dag_reader.specs.declared.marks.Mark.TheVariants.{Begins, Joined, Member}
+use Rattle.mixed_graph.specs.Names.{index_of}
+use Rattle.dag_reader.specs.Grammar.{Fault, Said, with_marks, with_vertex}
+use Rattle.dag_reader.specs.Syntax.{single, links_say, ◌>>=◌, allowed, vertex_says, attrs_say, statements_say, Statement, text_says}
 use Rattle.dag_reader.specs.Passes.{name_at}
 use Rattle.dag_reader.specs.Written.{Drawn, IsDrawn}
 use Rattle.dag_reader.proofs.DrawnMarks.{all_new, role_marks, vertex_marks, edge_marks, drawn_says}
 use Rattle.mixed_graph.proofs.NameLists.{position_or_len-none}
-use Rattle.dag_reader.proofs.Cut.{word_of, role_attrs, vertices, joined, drawn_text, role_name}
+use Rattle.dag_reader.proofs.Cut.{word_of, role_attrs, vertices, joined, drawn_text}
 
 says : List (List ℕ) → List Mark → Said
 says names marks = record { names = names; marks = marks }

@@ -1,21 +1,17 @@
 -- A written graph is read back as itself.
-use Rattle.std.proofs.Common.{◌≡◌, ℕ, Bool, List, map, Option, Some, None, refl, sym, ap, subst, ◌∙◌}
+use Rattle.std.proofs.Common.{◌≡◌, sym, subst, ◌∙◌}
 use Rattle.std.specs.Prelude.{Result, Ok, Err}
-use Rattle.std.specs.Str.{IsUtf8}
-use Rattle.mixed_graph.specs.Bits.{has}
-use Rattle.mixed_graph.specs.Graphs.{MixedGraph}
 use Rattle.mixed_graph.specs.Pairs.{joins}
 use Rattle.mixed_graph.specs.Shown.{graph_of}
 use Rattle.mixed_graph.proofs.Masks.{same_from_has}
-use Rattle.dag_reader.specs.declared.marks.Role.{Role}
 use Rattle.dag_reader.specs.declared.marks.Role.TheVariants.{Exposure, Outcome, Adjusted, Latent}
 use Rattle.dag_reader.specs.declared.graph.ReadGraph.{ReadGraph}
 use Rattle.dag_reader.specs.declared.faults.GraphFault.{GraphFault}
 use Rattle.dag_reader.specs.declared.faults.GraphFault.TheVariants.{NotUtf8, Token, Expected, NotADag, EdgeKind, Flag, Selected, SelfLoop, TooMany, RoleClash, Cycle, NoMemory}
 use Rattle.dag_reader.specs.Grammar.{Fault, Said, token, expected, not_a_dag, edge_kind, flag, selected, too_many}
-use Rattle.dag_reader.specs.Passes.{self_loop, arrows_of, name_at}
+use Rattle.dag_reader.specs.Passes.{arrows_of}
 use Rattle.dag_reader.specs.Reading.{Says}
-use Rattle.dag_reader.specs.Reads.{is_marked, Tells, Gives, Reads, IsNamedCycle}
+use Rattle.dag_reader.specs.Reads.{Tells, Gives, Reads}
 use Rattle.dag_reader.specs.Written.{drawn_of, written}
 use Rattle.dag_reader.specs.RoundTrip.{AreSame, IsReadBack}
 use Rattle.dag_reader.proofs.LawBytes.{read}

@@ -4,12 +4,11 @@ use Rattle.mixed_graph.specs.Shown.{graph_of}
 use Rattle.mixed_graph.specs.Built.{IsGraphOf}
 use Rattle.mixed_graph.specs.declared.mixed.Graph.{Graph}
 use Rattle.dag_reader.specs.declared.marks.Mark.{Mark}
-use Rattle.dag_reader.specs.declared.faults.Fault.{Fault as CodeFault}
 use Rattle.dag_reader.specs.declared.faults.Fault.TheVariants as faults
 use Rattle.dag_reader.specs.declared.faults.ReadError.{ReadError}
 use Rattle.dag_reader.specs.declared.faults.ReadError.TheVariants as errors
 use Rattle.dag_reader.specs.declared.faults.GraphFault.{GraphFault}
-use Rattle.dag_reader.specs.declared.faults.GraphFault.TheVariants.{NotUtf8, Token, Expected, NotADag, EdgeKind, Flag, Selected, SelfLoop, TooMany, RoleClash, Cycle, NoMemory}
+use Rattle.dag_reader.specs.declared.faults.GraphFault.TheVariants.{Token, Expected, NotADag, EdgeKind, Flag, Selected, SelfLoop, TooMany, RoleClash, Cycle, NoMemory}
 use Rattle.mixed_graph.specs.Names.{AreNames}
 use Rattle.dag_reader.specs.declared.marks.Role.{Role}
 use Rattle.dag_reader.specs.declared.roles.Roles.{Roles}

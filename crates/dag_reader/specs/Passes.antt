@@ -1,5 +1,5 @@
 -- What the marks say of the graph: edges, self-loops and roles.
-use Rattle.std.specs.Prelude.{◌≡◌, ◌≢◌, ◌<◌, ℕ, Bool, true, false, ◌&&◌, ◌==◌, List, [], ◌∷◌, ◌++◌, map, find, Option, Some, None, IsTrue, slice_index_or}
+use Rattle.std.specs.Prelude.{◌≢◌, ◌<◌, ℕ, Bool, true, false, ◌&&◌, ◌==◌, List, [], ◌∷◌, ◌++◌, map, find, Option, Some, None, IsTrue, slice_index_or}
 use Rattle.std.specs.List.{flat_map, list_any, filter_map}
 use Rattle.dag_reader.specs.declared.marks.Arrow.{Arrow}
 use Rattle.dag_reader.specs.declared.marks.Arrow.TheVariants.{Right, Left, Both}

@@ -1,8 +1,7 @@
 -- How a name is printed: bare, or between quotation marks where it would not be read back bare.
-use Rattle.std.specs.Prelude.{◌≡◌, ℕ, Bool, true, false, not, ◌&&◌, ◌||◌, ◌==◌, List, [], ◌∷◌, ◌++◌, Option, Some, None, if◌then◌else◌, codes}
-use Rattle.std.specs.List.{flat_map, list_all, starts_with}
-use Rattle.dag_reader.specs.Bytes.{is_white, is_name_byte}
-use Rattle.dag_reader.specs.Tokens.{begins_with}
+use Rattle.std.specs.Prelude.{ℕ, Bool, false, not, ◌&&◌, ◌||◌, ◌==◌, List, [], ◌∷◌, ◌++◌, if◌then◌else◌}
+use Rattle.std.specs.List.{list_all}
+use Rattle.dag_reader.specs.Bytes.{is_name_byte}
 
 -- a byte that needs no quotation marks: one of a bare name, and none of ( ) | * /
 abbrev pub is_plain_byte : ℕ → Bool

@@ -1,14 +1,7 @@
 -- The text of a graph.
-use Rattle.std.specs.Prelude.{◌≡◌, ◌<◌, ◌≤◌, ◌+◌, ℕ, Bool, true, false, not, ◌&&◌, List, [], ◌∷◌, ◌++◌, length, map, Option, Some, None, codes, slice_index_or, All, nat_lt, if◌then◌else◌}
-use Rattle.std.specs.List.{flat_map, list_any, list_all}
-use Rattle.std.specs.Str.{bytes_eq}
-use Rattle.dag_reader.specs.declared.marks.Arrow.{Arrow}
-use Rattle.dag_reader.specs.declared.marks.Arrow.TheVariants.{Right, Left, Both}
+use Rattle.std.specs.Prelude.{◌≡◌, ◌<◌, ℕ, ◌&&◌, List, [], ◌∷◌, ◌++◌, length, map, Option, Some, None, codes, All, nat_lt, if◌then◌else◌}
 use Rattle.dag_reader.specs.declared.marks.Role.{Role}
 use Rattle.dag_reader.specs.declared.marks.Role.TheVariants.{Exposure, Outcome, Adjusted, Latent}
-use Rattle.dag_reader.specs.declared.marks.Mark.{Mark}
-use Rattle.dag_reader.specs.declared.marks.Mark.TheVariants.{Begins, Joined, Member, HasRole}
-use Rattle.dag_reader.specs.Grammar.{Said}
 use Rattle.dag_reader.specs.Printing.{printed}
 use Rattle.mixed_graph.specs.Names.{AreNames}
 use Rattle.mixed_graph.specs.Bits.{has}

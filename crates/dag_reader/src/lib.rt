@@ -13,6 +13,8 @@ mod roles;
 mod round;
 mod said;
 mod statements;
+#[cfg(test)]
+mod tests;
 mod tokens;
 mod words;
 mod writing;
