@@ -1,5 +1,5 @@
 -- Names of vertices, in the order in which they first came.
-use Rattle.std.specs.Prelude.{ℕ, ◌≡◌, ◌≢◌, ◌<◌, ◌≤◌, Bool, true, not, ◌||◌, ◌==◌, List, [], ◌∷◌, ◌++◌, length, map, All, if◌then◌else◌}
+use Rattle.std.specs.Prelude.{ℕ, ◌≡◌, ◌≢◌, ◌<◌, ◌≤◌, Bool, true, not, ◌||◌, ◌==◌, List, [], ◌∷◌, ◌++◌, length, map, slice_index_or, All, if◌then◌else◌}
 use Rattle.std.specs.List.{AllPairs, list_any, list_all, position_or_len}
 use Rattle.std.specs.Str.{bytes_eq, is_utf8}
 use Rattle.std.specs.Global.{Vec}
@@ -31,6 +31,10 @@ with_name names name = if is_named names name then names else names ++ name ∷ 
 -- the index of a name, or how many names there are where it isn't one of them
 abbrev pub index_of : List (List ℕ) → List ℕ → ℕ
 index_of names name = position_or_len (bytes_eq name) names
+
+-- the name of vertex v
+abbrev pub name_of : List (List ℕ) → ℕ → List ℕ
+name_of names v = slice_index_or names v []
 
 -- the contents of such vectors of bytes
 abbrev pub texts : List (Vec ℕ) → List (List ℕ)

@@ -91,6 +91,7 @@ impl Names {
     pub fn index(&self, name: &[u8]) -> Option<u8>
         ensures found { IfSome result (λ i. (i ≡ index_of self.now name.now) × (i < length self.now)) }
         ensures has { is_some result ≡ is_named self.now name.now }
+        ensures names { AreNames self.now }
     {
         match place(&self.set, name) {
             Some(index) => Some(index as u8),
