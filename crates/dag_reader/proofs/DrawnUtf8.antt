@@ -9,8 +9,8 @@ use Rattle.std.proofs.lemmas.List.Elements.{All-head, All-tail}
 use Rattle.mixed_graph.specs.Names.{IsName}
 use Rattle.dag_reader.specs.declared.marks.Role.{Role}
 use Rattle.dag_reader.specs.declared.marks.Role.TheVariants.{Exposure, Outcome, Adjusted, Latent}
-use Rattle.dag_reader.specs.Passes.{name_at}
-use Rattle.dag_reader.specs.Printing.{is_plain, printed}
+use Rattle.mixed_graph.specs.Names.{name_of}
+use Rattle.name_text.specs.Printing.{is_plain, printed}
 use Rattle.dag_reader.specs.Written.{Drawn, IsDrawn, role_text, vertex_lines, edge_lines, written}
 
 ascii_bytes : (bs : List ℕ) → list_all (λ b. nat_lt b 128) bs ≡ true → (i : ℕ) → get_or bs i 0 < 128
@@ -56,11 +56,11 @@ edges_utf8 sign names [] is form within = IsUtf8-nil
 edges_utf8 sign names (e ∷ es) is form within =
     let here = All-head (λ (p : ℕ × ℕ). (p.0 < length names) × (p.1 < length names)) e es within in
     let later = All-tail (λ (p : ℕ × ℕ). (p.0 < length names) × (p.1 < length names)) e es within in
-    let to = printed (name_at names e.1) in
+    let to = printed (name_of names e.1) in
     let more = edge_lines sign names es in
-    IsUtf8-append (printed (name_at names e.0)) (sign ++ (to ++ 10 ∷ more)) (printed_utf8 (name_at names e.0) (form e.0 [] here.0))
+    IsUtf8-append (printed (name_of names e.0)) (sign ++ (to ++ 10 ∷ more)) (printed_utf8 (name_of names e.0) (form e.0 [] here.0))
     (IsUtf8-append sign (to ++ 10 ∷ more) is
-    (IsUtf8-append to (10 ∷ more) (printed_utf8 (name_at names e.1) (form e.1 [] here.1)) (line_then more (edges_utf8 sign names es is form later))))
+    (IsUtf8-append to (10 ∷ more) (printed_utf8 (name_of names e.1) (form e.1 [] here.1)) (line_then more (edges_utf8 sign names es is form later))))
 
 pub written_utf8 : (d : Drawn) → IsDrawn d → IsUtf8 (written d)
 written_utf8 d is =

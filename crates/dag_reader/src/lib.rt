@@ -25,4 +25,4 @@ pub use law::{the_answers, the_grammar};
 pub use marks::Role;
 pub use reading::read_graph;
 pub use round::the_written_text;
-pub use writing::{write_graph, write_name};
+pub use writing::write_graph;

@@ -1,5 +1,6 @@
-use crate::{GraphFault, read_graph, write_graph, write_name};
+use crate::{GraphFault, read_graph, write_graph};
 use mixed_graph::Text;
+use name_text::push_name;
 use std::alloc::{AllocError, Global};
 use std::test::Fail;
 
@@ -124,7 +125,7 @@ const CASES: [(&str, &str); 62] = [
 
 fn add_name(out: &mut Vec<u8>, name: &Text) -> Result<(), AllocError> {
     out.push(b' ')?;
-    write_name(out, name.bytes())
+    push_name(out, name.bytes())
 }
 
 /// The fault's number and what it carries.
