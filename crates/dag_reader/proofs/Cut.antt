@@ -1,20 +1,20 @@
 -- The tokens of a written graph.
-use Rattle.std.proofs.Common.{◌≡◌, ◌<◌, ◌+◌, ℕ, zero, suc, Bool, true, false, List, [], ◌∷◌, ◌++◌, length, drop, get_or, Option, Some, None, refl, sym, ap, subst, ◌∙◌, arith, append_assoc, one-add}
-use Rattle.std.specs.Prelude.{cond, codes, not, ◌&&◌, if◌then◌else◌, map, All}
+use Rattle.std.proofs.Common.{◌≡◌, ◌<◌, ◌+◌, ℕ, Bool, true, false, List, [], ◌∷◌, ◌++◌, length, drop, Option, Some, None, refl, sym, ap, subst, ◌∙◌, append_assoc, one-add}
+use Rattle.std.specs.Prelude.{cond, codes, not, All}
 use Rattle.std.proofs.lemmas.List.Elements.{All-head, All-tail}
-use Rattle.std.specs.List.{prefix_len, list_all}
+use Rattle.std.specs.List.{prefix_len}
 use Rattle.dag_reader.specs.declared.marks.Arrow.{Arrow}
 use Rattle.dag_reader.specs.declared.marks.Arrow.TheVariants.{Right, Both}
 use Rattle.dag_reader.specs.declared.marks.Role.{Role}
 use Rattle.dag_reader.specs.declared.marks.Role.TheVariants.{Exposure, Outcome, Adjusted, Latent}
-use Rattle.dag_reader.specs.Bytes.{is_white, is_name_byte}
+use Rattle.name_text.specs.Printing.{is_white, is_name_byte}
 use Rattle.dag_reader.specs.Tokens.{Tok, open_brace, close_brace, open_bracket, close_bracket, edge, name, end, first, token_of, wants_value, place_of}
 use Rattle.mixed_graph.specs.Names.{IsName}
-use Rattle.dag_reader.specs.Printing.{is_plain, printed}
+use Rattle.name_text.specs.Printing.{is_plain, printed}
 use Rattle.dag_reader.specs.Reading.{AreFirst}
 use Rattle.dag_reader.specs.Spelled.{Spelled, kinds}
-use Rattle.dag_reader.specs.Syntax.{Word, Group, single, Attr, bare, Attrs, attr_list, Statement, vertex, chain, Text, body_tokens, attrs_tokens, text_tokens, word_token}
-use Rattle.dag_reader.specs.Passes.{name_at}
+use Rattle.dag_reader.specs.Syntax.{Word, single, bare, Attrs, attr_list, Statement, vertex, chain, Text, body_tokens, attrs_tokens, text_tokens, word_token}
+use Rattle.mixed_graph.specs.Names.{name_of}
 use Rattle.dag_reader.specs.Written.{Drawn, IsDrawn, role_text, vertex_lines, edge_lines, written}
 use Rattle.dag_reader.proofs.Printed.{first_here, printed_first, Stops}
 
@@ -55,7 +55,7 @@ vertices ns rs xs = xs
 
 abbrev pub joined : Arrow → List (List ℕ) → List (ℕ × ℕ) → List Statement → List Statement
 joined a names [] xs = xs
-joined a names (e ∷ es) xs = chain (single (word_of (name_at names e.0))) (a, single (word_of (name_at names e.1))) [] None ∷ joined a names es xs
+joined a names (e ∷ es) xs = chain (single (word_of (name_of names e.0))) (a, single (word_of (name_of names e.1))) [] None ∷ joined a names es xs
 
 abbrev pub drawn_text : Drawn → Text
 drawn_text d = record { title = None; statements = vertices d.names d.roles (joined Right d.names d.arrows (joined Both d.names d.doubles [])) }
@@ -102,7 +102,7 @@ vertices_cut (n ∷ ns) (r ∷ rs) xs rest form c =
     (name_cut n (attrs_tokens (role_attrs r) more) (role_text r ++ 10 ∷ (lines ++ rest)) (All-head IsName n ns form) (role_stops r (lines ++ rest))
     (attrs_cut r more (lines ++ rest) (vertices_cut ns rs xs rest (All-tail IsName n ns form) c)))
 
-name_form : (names : List (List ℕ)) (i : ℕ) → i < length names → All IsName names → IsName (name_at names i)
+name_form : (names : List (List ℕ)) (i : ℕ) → i < length names → All IsName names → IsName (name_of names i)
 name_form names i h form = form i [] h
 
 -- a sign that is an edge of this kind
@@ -115,8 +115,8 @@ edges_cut : (a : Arrow) (sign : List ℕ) → Sign a sign → (names : List (Lis
     → Cut (body_tokens xs []) rest → Cut (body_tokens (joined a names es xs) []) (edge_lines sign names es ++ rest)
 edges_cut a sign is names [] xs rest form within c = c
 edges_cut a sign is names (e ∷ es) xs rest form within c =
-    let m = name_at names e.0 in
-    let n = name_at names e.1 in
+    let m = name_of names e.0 in
+    let n = name_of names e.1 in
     let more = body_tokens (joined a names es xs) [] in
     let lines = edge_lines sign names es in
     let here = All-head (λ (p : ℕ × ℕ). (p.0 < length names) × (p.1 < length names)) e es within in

@@ -5,12 +5,11 @@ use Rattle.dag_reader.specs.declared.marks.Arrow.{Arrow}
 use Rattle.dag_reader.specs.declared.marks.Arrow.TheVariants.{Right, Both}
 use Rattle.dag_reader.specs.declared.marks.Role.{Role}
 use Rattle.dag_reader.specs.declared.marks.Mark.{Mark}
-use Rattle.dag_reader.specs.declared.marks.Mark.TheVariants.{Begins, Joined, Member, HasRole}
 use Rattle.dag_reader.specs.Written.{Drawn}
 use Rattle.dag_reader.proofs.DrawnMarks.{role_marks, vertex_marks, edge_marks, drawn_says, given_roles}
 use Rattle.dag_reader.specs.Passes.{Edge, members, pairs, edges_behind, edges_of, arrow_of, both_of, arrows_of, doubles_of, roles_behind, roles_of}
 
-abbrev as_edges : Arrow → List (ℕ × ℕ) → List Edge
+abbrev pub as_edges : Arrow → List (ℕ × ℕ) → List Edge
 as_edges a es = map (λ (e : ℕ × ℕ). record { left = e.0; arrow = a; right = e.1 }) es
 
 -- what doesn't go on with the group before it
@@ -43,7 +42,7 @@ vertices_read (r ∷ rs) i ms left f =
     ∙ role_edges r (i ∷ []) (vertex_marks (i + 1) rs ++ ms)
     ∙ vertices_read rs (i + 1) ms (i ∷ []) f
 
-drawn_edges : (d : Drawn) → edges_of (drawn_says d).marks ≡ as_edges Right d.arrows ++ as_edges Both d.doubles
+pub drawn_edges : (d : Drawn) → edges_of (drawn_says d).marks ≡ as_edges Right d.arrows ++ as_edges Both d.doubles
 drawn_edges d =
     let doubles = edge_marks Both d.doubles in
     let fresh : Fresh doubles = subst_fresh in

@@ -1,6 +1,6 @@
 -- What a written graph says.
-use Rattle.std.proofs.Common.{◌≡◌, ◌<◌, ◌≤◌, ◌+◌, ℕ, zero, suc, Bool, true, false, List, [], ◌∷◌, ◌++◌, length, get_or, Option, Some, None, Result, Ok, Err, refl, sym, ap, subst, ◌∙◌, inl, inr, arith, append_assoc, append-nil, length-append}
-use Rattle.std.specs.Prelude.{cond, codes, not, ◌&&◌, ◌||◌, if◌then◌else◌, nat_le}
+use Rattle.std.proofs.Common.{◌≡◌, ◌<◌, ◌≤◌, ◌+◌, ℕ, zero, suc, Bool, true, false, List, [], ◌∷◌, ◌++◌, length, get_or, Option, Some, None, Result, Ok, refl, sym, ap, subst, ◌∙◌, inl, inr, arith, append_assoc, append-nil, length-append}
+use Rattle.std.specs.Prelude.{cond, not, ◌&&◌, ◌||◌, nat_le}
 use Rattle.std.specs.List.{list_any, position_or_len}
 use Rattle.std.specs.Str.{bytes_eq}
 use Rattle.std.proofs.lemmas.Slice.Eq.{bytes_eq-Decides}
@@ -15,15 +15,15 @@ use Rattle.dag_reader.specs.declared.marks.Arrow.TheVariants.{Right, Both}
 use Rattle.dag_reader.specs.declared.marks.Role.{Role}
 use Rattle.dag_reader.specs.declared.marks.Role.TheVariants.{Exposure, Outcome, Adjusted, Latent}
 use Rattle.dag_reader.specs.declared.marks.Mark.{Mark}
-use Rattle.dag_reader.specs.declared.marks.Mark.TheVariants.{Begins, Joined, Member, HasRole}
-use Rattle.mixed_graph.specs.Names.{with_name, index_of, is_named}
-use Rattle.dag_reader.specs.Grammar.{Fault, Said, nothing, with_marks, with_vertex, with_flag}
-use Rattle.dag_reader.specs.Syntax.{Group, single, links_say, ◌>>=◌, allowed, vertex_says, attrs_say, statement_says, statements_say, Statement, Word, text_says}
-use Rattle.dag_reader.specs.Passes.{name_at}
+use Rattle.dag_reader.specs.declared.marks.Mark.TheVariants.{Begins, Joined, Member}
+use Rattle.mixed_graph.specs.Names.{index_of}
+use Rattle.dag_reader.specs.Grammar.{Fault, Said, with_marks, with_vertex}
+use Rattle.dag_reader.specs.Syntax.{single, links_say, ◌>>=◌, allowed, vertex_says, attrs_say, statements_say, Statement, text_says}
+use Rattle.mixed_graph.specs.Names.{name_of}
 use Rattle.dag_reader.specs.Written.{Drawn, IsDrawn}
 use Rattle.dag_reader.proofs.DrawnMarks.{all_new, role_marks, vertex_marks, edge_marks, drawn_says}
 use Rattle.mixed_graph.proofs.NameLists.{position_or_len-none}
-use Rattle.dag_reader.proofs.Cut.{word_of, role_attrs, vertices, joined, drawn_text, role_name}
+use Rattle.dag_reader.proofs.Cut.{word_of, role_attrs, vertices, joined, drawn_text}
 
 says : List (List ℕ) → List Mark → Said
 says names marks = record { names = names; marks = marks }
@@ -104,7 +104,7 @@ zero_at : (b : Bool) (n k : ℕ) → b ≡ true → n + cond (not b) k 0 ≡ n +
 zero_at b n k h = rw h refl
 
 -- the index of the name at an index, where each name is new
-index_at : (ns front : List (List ℕ)) (i : ℕ) → all_new front ns ≡ true → i < length ns → position_or_len (bytes_eq (name_at ns i)) (front ++ ns) ≡ length front + i
+index_at : (ns front : List (List ℕ)) (i : ℕ) → all_new front ns ≡ true → i < length ns → position_or_len (bytes_eq (name_of ns i)) (front ++ ns) ≡ length front + i
 index_at [] front i new h = absurd (omega arith)
 index_at (n ∷ ns) front zero new h =
     let both = both_true (not (list_any (bytes_eq n) front)) (all_new (front ++ n ∷ []) ns) new in
@@ -113,7 +113,7 @@ index_at (n ∷ ns) front (suc i) new h =
     let both = both_true (not (list_any (bytes_eq n) front)) (all_new (front ++ n ∷ []) ns) new in
     let longer : length (front ++ n ∷ []) ≡ length front + 1 = simp length-append in
     let rest = index_at ns (front ++ n ∷ []) i both.1 (omega arith) in
-    ap (position_or_len (bytes_eq (name_at ns i))) (sym (append_assoc front (n ∷ []) ns)) ∙ rest ∙ omega arith
+    ap (position_or_len (bytes_eq (name_of ns i))) (sym (append_assoc front (n ∷ []) ns)) ∙ rest ∙ omega arith
 
 there_by : (p : List ℕ → Bool) (xs : List (List ℕ)) (b : Bool) → list_any p xs ≡ b → position_or_len p xs < length xs → b ≡ true
 there_by p xs true is h = refl
@@ -122,16 +122,16 @@ there_by p xs false is h = absurd (omega (arith, position_or_len-none p xs is))
 pub there : (p : List ℕ → Bool) (xs : List (List ℕ)) → position_or_len p xs < length xs → list_any p xs ≡ true
 there p xs h = there_by p xs (list_any p xs) refl h
 
-name_index : (names : List (List ℕ)) (i : ℕ) → all_new [] names ≡ true → i < length names → index_of names (name_at names i) ≡ i
+name_index : (names : List (List ℕ)) (i : ℕ) → all_new [] names ≡ true → i < length names → index_of names (name_of names i) ≡ i
 name_index names i new h = index_at names [] i new h ∙ omega arith
 
-name_there : (names : List (List ℕ)) (i : ℕ) → all_new [] names ≡ true → i < length names → list_any (bytes_eq (name_at names i)) names ≡ true
-name_there names i new h = there (bytes_eq (name_at names i)) names (omega (arith, name_index names i new h))
+name_there : (names : List (List ℕ)) (i : ℕ) → all_new [] names ≡ true → i < length names → list_any (bytes_eq (name_of names i)) names ≡ true
+name_there names i new h = there (bytes_eq (name_of names i)) names (omega (arith, name_index names i new h))
 
 vertex_at : (names : List (List ℕ)) (i : ℕ) (marks : List Mark) → all_new [] names ≡ true → i < length names
-    → with_vertex (name_at names i) (says names marks) ≡ Ok (says names (marks ++ Member i ∷ []))
+    → with_vertex (name_of names i) (says names marks) ≡ Ok (says names (marks ++ Member i ∷ []))
 vertex_at names i marks new h =
-    old_vertex (name_at names i) names marks (name_there names i new h) ∙ ap (λ (k : ℕ). Ok (says names (marks ++ Member k ∷ []))) (name_index names i new h)
+    old_vertex (name_of names i) names marks (name_there names i new h) ∙ ap (λ (k : ℕ). Ok (says names (marks ++ Member k ∷ []))) (name_index names i new h)
 
 chain_more : (marks : List Mark) (i j : ℕ) (a : Arrow) (more : List Mark)
     → ((((marks ++ Begins ∷ []) ++ Member i ∷ []) ++ Joined a ∷ []) ++ Member j ∷ []) ++ more ≡ marks ++ (Begins ∷ Member i ∷ Joined a ∷ Member j ∷ more)
@@ -145,7 +145,7 @@ edges_say a names (e ∷ es) xs marks new within =
     let here = All-head (λ (p : ℕ × ℕ). (p.0 < length names) × (p.1 < length names)) e es within in
     let begun = marks ++ Begins ∷ [] in
     let met = (begun ++ Member e.0 ∷ []) ++ Joined a ∷ [] in
-    ap (λ (v : Result Said Fault). (allowed v >>= (λ u. links_say ((a, single (word_of (name_at names e.1))) ∷ []) u >>= attrs_say None None)) >>= statements_say (joined a names es xs))
+    ap (λ (v : Result Said Fault). (allowed v >>= (λ u. links_say ((a, single (word_of (name_of names e.1))) ∷ []) u >>= attrs_say None None)) >>= statements_say (joined a names es xs))
     (vertex_at names e.0 begun new here.0)
     ∙ ap (λ (v : Result Said Fault). ((allowed v >>= links_say []) >>= attrs_say None None) >>= statements_say (joined a names es xs)) (vertex_at names e.1 met new here.1)
     ∙ edges_say a names es xs (met ++ Member e.1 ∷ []) new (All-tail (λ (p : ℕ × ℕ). (p.0 < length names) × (p.1 < length names)) e es within)

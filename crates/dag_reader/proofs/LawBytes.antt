@@ -1,11 +1,11 @@
 -- The law of the grammar, on bytes.
-use Rattle.std.proofs.Common.{◌≡◌, ◌<◌, ℕ, Bool, true, false, List, [], ◌∷◌, length, map, Option, Some, None, Result, Ok, Err, refl, sym, ap, ◌∙◌, arith}
+use Rattle.std.proofs.Common.{◌≡◌, ◌<◌, ℕ, List, [], ◌∷◌, length, Option, Some, None, Result, Ok, Err, refl, sym, ap, ◌∙◌, arith}
 use Rattle.std.specs.Prelude.{if◌then◌else◌, ◌==◌}
 use Rattle.std.proofs.lemmas.Bool.Decides.{nat_tests}
 use Rattle.dag_reader.specs.Tokens.{Tok}
 use Rattle.dag_reader.specs.Grammar.{Fault, Said, nothing, at_start}
-use Rattle.dag_reader.specs.Reading.{rest_says, Says, RestSays}
-use Rattle.dag_reader.specs.Syntax.{Text, text_tokens, text_says, allowed}
+use Rattle.dag_reader.specs.Reading.{rest_says, Says}
+use Rattle.dag_reader.specs.Syntax.{Text, text_says}
 use Rattle.dag_reader.specs.Spelled.{Spelled, kinds}
 use Rattle.dag_reader.proofs.LawRun.{ok, label, accepted}
 use Rattle.dag_reader.proofs.LawRead.{text_read}

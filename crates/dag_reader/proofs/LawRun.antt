@@ -1,15 +1,9 @@
 -- The automaton over tokens whose places are given by how many tokens follow, and what it accepts.
-use Rattle.std.proofs.Common.{◌≡◌, ℕ, Bool, true, false, List, [], ◌∷◌, length, map, Option, Some, None, Result, Ok, Err, refl, sym, ap, ◌∙◌}
-use Rattle.std.specs.Prelude.{if◌then◌else◌, codes, not}
-use Rattle.dag_reader.specs.declared.marks.Arrow.{Arrow}
-use Rattle.dag_reader.specs.declared.marks.Mark.TheVariants.{Begins, Joined}
-use Rattle.dag_reader.specs.Tokens.{Tok, open_brace, close_brace, open_bracket, close_bracket, semicolon, equals, comma, edge, name, value, end, bad, bad_edge}
-use Rattle.dag_reader.specs.Grammar.{Fault, Said, nothing, with_marks, with_vertex, with_flag, with_role, role_of, Place, Turn, goes_on, ends, step, settled, taken, ended, fitted, noted, next}
-use Rattle.dag_reader.specs.Grammar.{at_start, at_dag, at_title, at_statement, after_name, at_key_value, in_group, group_name, after_first, after_edge, chain_name, after_group, at_attrs, attr_name, at_attr_value, after_attr, after_comma, at_end}
+use Rattle.std.proofs.Common.{◌≡◌, ℕ, List, [], ◌∷◌, length, Option, Some, None, Result, Ok, Err, refl}
+use Rattle.dag_reader.specs.Tokens.{Tok}
+use Rattle.dag_reader.specs.Grammar.{Fault, Said, Place, Turn, goes_on, ends, step, taken}
 use Rattle.dag_reader.specs.Reading.{rest_says, on_turn}
-use Rattle.dag_reader.specs.Syntax.{Word, Inner, inner_semicolon, inner_name, Group, single, braces, Attr, bare, valued, Later, next_attr, comma_attr, Attrs, no_attr, attr_list, Statement, lone_semicolon, dropped, vertex, chain, Text}
-use Rattle.dag_reader.specs.Syntax.{inner_tokens, group_tokens, attr_tokens, later_tokens, attrs_tokens, links_tokens, statement_tokens, body_tokens, text_tokens}
-use Rattle.dag_reader.specs.Syntax.{◌>>=◌, allowed, vertex_says, inner_say, group_says, attr_says, later_say, attrs_say, links_say, statement_says, statements_say, text_says}
+use Rattle.dag_reader.specs.Syntax.{◌>>=◌, allowed}
 
 abbrev pub accepted : Option (Result Said Fault) → Option Said
 accepted None = None

@@ -18,3 +18,6 @@ pub mod RoleClashes
 pub mod PairLists
 pub mod WholeAnswers
 pub mod WrittenLines
+pub mod DrawnUtf8
+pub mod DrawnGraph
+pub mod ReadBack

@@ -1,9 +1,9 @@
 -- The first edge of a vertex to itself, group by group.
 use Rattle.std.proofs.Common.{◌≡◌, ℕ, Bool, true, false, List, [], ◌∷◌, ◌++◌, map, Option, Some, None, refl, sym, ap, ◌∙◌, append_assoc}
 use Rattle.std.specs.Prelude.{cond, ◌==◌, ◌||◌, find, option_map}
-use Rattle.std.specs.List.{list_any, flat_map}
+use Rattle.std.specs.List.{list_any}
 use Rattle.dag_reader.specs.declared.marks.Arrow.{Arrow}
-use Rattle.std.proofs.Common.{◌≤◌, ◌-◌, length, drop, take, get_or, subst, arith}
+use Rattle.std.proofs.Common.{◌≤◌, ◌-◌, length, drop, take, get_or, arith}
 use Rattle.std.proofs.lemmas.List.{take_rest}
 use Rattle.dag_reader.specs.declared.marks.Mark.{Mark}
 use Rattle.dag_reader.specs.declared.marks.Mark.TheVariants.{Begins, Joined}

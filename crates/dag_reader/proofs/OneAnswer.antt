@@ -1,10 +1,11 @@
 -- Each text has one answer.
-use Rattle.std.proofs.Common.{◌≡◌, ◌<◌, ◌≤◌, ◌+◌, ℕ, zero, suc, Bool, true, false, List, [], ◌∷◌, length, drop, take, Option, Some, None, Result, Ok, Err, refl, sym, ap, subst, ◌∙◌, arith, one-add, length-drop}
+use Rattle.std.proofs.Common.{◌≡◌, ◌<◌, ◌≤◌, ℕ, zero, suc, Bool, true, false, List, [], ◌∷◌, length, drop, take, Option, Some, None, Result, refl, sym, ap, subst, ◌∙◌, arith, one-add, length-drop}
 use Rattle.std.specs.Prelude.{cond, ◌==◌}
 use Rattle.std.specs.List.{prefix_len}
-use Rattle.dag_reader.specs.Bytes.{is_white, is_edge_byte, is_name_byte, is_run_byte}
+use Rattle.name_text.specs.Printing.{is_white, is_edge_byte, is_name_byte}
+use Rattle.dag_reader.specs.Bytes.{is_run_byte}
 use Rattle.mixed_graph.specs.Names.{is_line_byte}
-use Rattle.dag_reader.specs.Tokens.{Tok, end, value, first, place_of, wants_value, past_white, token_of, token_at, value_at, run_at, quoted_text, closed_by, quoted_name, quoted_value, edge_token, name_token, sign_token}
+use Rattle.dag_reader.specs.Tokens.{Tok, end, value, first, place_of, wants_value, past_white, token_of, token_at, value_at, run_at, quoted_text, closed_by, quoted_name, quoted_value, edge_token, name_token}
 use Rattle.dag_reader.specs.Grammar.{Fault, Said, nothing, Place, at_start, Turn, goes_on, ends, step}
 use Rattle.dag_reader.specs.Reading.{AreFirst, rest_says, on_turn, RestSays, Says}
 use Rattle.dag_reader.proofs.TokenSteps.{one_more, last_one, end_ends}

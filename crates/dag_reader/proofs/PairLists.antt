@@ -1,5 +1,5 @@
 -- Edges and pairs whose ends are below n, and the pairs of a relation.
-use Rattle.std.proofs.Common.{◌≡◌, ◌≤◌, ◌<◌, ◌+◌, ◌-◌, ℕ, zero, suc, Bool, true, false, List, [], ◌∷◌, ◌++◌, map, length, get_or, Option, Some, None, inl, inr, refl, sym, ap, subst, ◌∙◌, arith, IsTrue}
+use Rattle.std.proofs.Common.{◌≡◌, ◌<◌, ◌+◌, ◌-◌, ℕ, zero, suc, Bool, true, false, List, [], ◌∷◌, ◌++◌, map, length, get_or, Option, Some, None, inl, inr, refl, sym, ap, subst, ◌∙◌, arith}
 use Rattle.std.specs.Prelude.{cond, ◌==◌, ◌||◌, ◌&&◌, nat_lt, find, option_map, All}
 use Rattle.std.specs.List.{list_any, list_all, flat_map, filter_map, cons_option}
 use Rattle.std.proofs.lemmas.Bool.{and_parts, and_from, ltb-true, lt-ltb, le-ltb, eq-eqb, ne_eqb, eqb-true, cases_eq, cases_lt, cases_Bool, or_cases}
@@ -16,7 +16,7 @@ use Rattle.dag_reader.specs.declared.marks.Mark.{Mark}
 use Rattle.dag_reader.specs.declared.marks.Mark.TheVariants.{Begins, Joined, Member, HasRole}
 use Rattle.dag_reader.specs.MarkEnds.{is_inside}
 use Rattle.dag_reader.specs.Rows.{count_up, pairs_below}
-use Rattle.dag_reader.specs.Passes.{Edge, pairs, members, edges_behind, is_self_loop, self_loop, arrow_of, both_of, arrows_of, doubles_of, roles_behind, roles_of, has_role, same_role}
+use Rattle.dag_reader.specs.Passes.{Edge, pairs, members, edges_behind, is_self_loop, self_loop, arrow_of, both_of, arrows_of, doubles_of, roles_behind, has_role, same_role}
 use Rattle.dag_reader.proofs.RowPairs.{members-zero, members-suc}
 
 -- ---- edges and their ends

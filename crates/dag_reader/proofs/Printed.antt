@@ -1,14 +1,14 @@
 -- A printed name is read back as that name, whatever follows it.
-use Rattle.std.proofs.Common.{◌≡◌, ℕ, Bool, true, false, List, [], ◌∷◌, ◌++◌, length, take, drop, Some, None, Option, refl, sym, ap, ◌∙◌, arith, append_assoc}
+use Rattle.std.proofs.Common.{◌≡◌, ℕ, Bool, true, false, List, [], ◌∷◌, ◌++◌, length, drop, Some, refl, sym, ap, ◌∙◌, arith, append_assoc}
 use Rattle.std.proofs.lemmas.Bool.Decides.{nat_tests}
-use Rattle.std.specs.Prelude.{if◌then◌else◌, ◌==◌, ◌||◌, ◌&&◌, not, cond, codes}
+use Rattle.std.specs.Prelude.{if◌then◌else◌, ◌==◌, ◌||◌, ◌&&◌, not, cond}
 use Rattle.std.specs.List.{prefix_len, list_all}
 use Rattle.std.proofs.Math.Seq.{take-append_seam, drop-append_seam}
-use Rattle.dag_reader.specs.Bytes.{is_white, is_edge_byte, is_sign, is_name_byte}
+use Rattle.name_text.specs.Printing.{is_white, is_edge_byte, is_sign, is_name_byte}
 use Rattle.mixed_graph.specs.Names.{is_line_byte}
-use Rattle.dag_reader.specs.Tokens.{Tok, name, name_token, begins_with, first, token_of, token_at, run_at, bad, quoted_name, quoted_text, closed_by, sign_token, edge_token}
+use Rattle.dag_reader.specs.Tokens.{Tok, name, name_token, first, token_of, token_at, run_at, quoted_name, quoted_text, sign_token}
 use Rattle.mixed_graph.specs.Names.{IsName}
-use Rattle.dag_reader.specs.Printing.{is_plain_byte, is_plain, printed}
+use Rattle.name_text.specs.Printing.{is_plain_byte, is_plain, printed}
 
 or_false : (a b : Bool) → (a || b) ≡ false → (a ≡ false) × (b ≡ false)
 or_false true b h = cc h

@@ -2,7 +2,7 @@
 use Rattle.std.proofs.Common.{◌≡◌, ◌<◌, ◌≤◌, ◌+◌, ◌-◌, ℕ, zero, suc, Bool, true, false, List, [], ◌∷◌, length, drop, take, get_or, refl, sym, ap, subst, ◌∙◌, arith, one-add}
 use Rattle.std.specs.Prelude.{cond, ◌==◌, ◌||◌, ◌&&◌, not}
 use Rattle.std.specs.List.{prefix_len, list_all}
-use Rattle.std.specs.Str.{IsUtf8, is_utf8, IsCharBoundary}
+use Rattle.std.specs.Str.{is_utf8, IsCharBoundary}
 use Rattle.std.proofs.lemmas.Str.{IsUtf8-nil, IsUtf8-drop, IsUtf8-take, IsUtf8-from_is_utf8, is_utf8-from_IsUtf8, IsCharBoundary-after_ascii}
 use Rattle.std.proofs.lemmas.Bool.Decides.{nat_tests}
 use Rattle.std.proofs.lemmas.List.{take_rest}
@@ -10,7 +10,8 @@ use Rattle.std.proofs.lemmas.List.Sums.{prefix_len_passes, prefix_len_stops, pre
 use Rattle.mixed_graph.specs.Names.{IsName, is_line_byte}
 use Rattle.dag_reader.specs.declared.tokens.Class.{Class}
 use Rattle.dag_reader.specs.declared.tokens.Class.TheVariants as classes
-use Rattle.dag_reader.specs.Bytes.{in_class, is_white, is_edge_byte, is_sign, is_name_byte, is_run_byte}
+use Rattle.name_text.specs.Printing.{is_white, is_edge_byte, is_sign, is_name_byte}
+use Rattle.dag_reader.specs.Bytes.{in_class, is_run_byte}
 
 taken_step : (p : ℕ → Bool) (x : ℕ) (k : ℕ) (xs : List ℕ) (b : Bool) → p x ≡ b → list_all p (take k xs) ≡ true → list_all p (take (cond b (1 + k) 0) (x ∷ xs)) ≡ true
 taken_step p x k xs true h rest = rw (one-add, h) rest

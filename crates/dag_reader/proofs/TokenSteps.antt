@@ -1,9 +1,9 @@
 -- One token more, and the token that ends the reading.
-use Rattle.std.proofs.Common.{◌≡◌, ℕ, Bool, List, [], ◌∷◌, Some, Result, Ok, Err, refl, sym, ap, subst, ◌∙◌}
+use Rattle.std.proofs.Common.{◌≡◌, ℕ, Bool, List, [], ◌∷◌, Result, Ok, Err, refl, sym, subst}
 use Rattle.dag_reader.specs.Tokens.{Tok, end, first, place_of, wants_value}
-use Rattle.dag_reader.specs.Grammar.{Fault, Said, Place, Turn, goes_on, ends, step, settled, taken, ended}
-use Rattle.dag_reader.specs.Grammar.{at_start, at_dag, at_title, at_statement, after_name, at_key_value, in_group, group_name, after_first, after_edge, chain_name, after_group, at_attrs, attr_name, at_attr_value, after_attr, after_comma, at_end}
-use Rattle.dag_reader.specs.Reading.{AreFirst, rest_says, on_turn, RestSays, Says}
+use Rattle.dag_reader.specs.Grammar.{Fault, Said, Place, goes_on, ends, step, settled, taken, ended}
+use Rattle.dag_reader.specs.Grammar.{at_end}
+use Rattle.dag_reader.specs.Reading.{AreFirst, rest_says, RestSays, Says}
 use Rattle.dag_reader.specs.Turns.{TurnFails, ReadsStatements}
 use Rattle.dag_reader.specs.FaultView.{fault_view}
 use Rattle.dag_reader.specs.declared.said.Statements.{Statements}

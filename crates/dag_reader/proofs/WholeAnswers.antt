@@ -1,10 +1,9 @@
 -- From the parts of reading to the whole answer.
-use Rattle.std.proofs.Common.{◌≡◌, ◌≢◌, ◌<◌, ℕ, Bool, true, false, List, length, Option, None, Some, inl, inr, refl, sym, ap, subst, ◌∙◌, arith, IsTrue}
+use Rattle.std.proofs.Common.{◌≡◌, ◌≢◌, ℕ, true, List, length, None, inl, inr, sym, subst, ◌∙◌}
 use Rattle.std.specs.Prelude.{Result, Ok, Err}
 use Rattle.std.specs.List.{list_all}
 use Rattle.std.specs.Str.{IsUtf8}
 use Rattle.std.proofs.lemmas.Bool.{cases_Bool}
-use Rattle.mixed_graph.specs.Bits.{has}
 use Rattle.mixed_graph.specs.Sets.{Within, Apart}
 use Rattle.mixed_graph.specs.Shown.{graph_of}
 use Rattle.dag_reader.specs.declared.marks.Role.{Role}
@@ -16,15 +15,15 @@ use Rattle.dag_reader.specs.declared.faults.Fault.TheVariants as faults
 use Rattle.dag_reader.specs.declared.faults.ReadError.{ReadError}
 use Rattle.dag_reader.specs.declared.faults.ReadError.TheVariants as errors
 use Rattle.dag_reader.specs.declared.faults.GraphFault.{GraphFault}
-use Rattle.dag_reader.specs.declared.faults.GraphFault.TheVariants.{NotUtf8, Token, Expected, NotADag, EdgeKind, Flag, Selected, SelfLoop, TooMany, RoleClash, Cycle, NoMemory}
+use Rattle.dag_reader.specs.declared.faults.GraphFault.TheVariants.{SelfLoop, RoleClash, Cycle, NoMemory}
 use Rattle.dag_reader.specs.Grammar.{Said}
 use Rattle.dag_reader.specs.MarkEnds.{is_inside}
-use Rattle.dag_reader.specs.RoleSets.{in_set, AreRoleSets}
+use Rattle.dag_reader.specs.RoleSets.{in_set}
 use Rattle.mixed_graph.specs.Built.{IsGraphOf}
-use Rattle.dag_reader.specs.Passes.{arrows_of, doubles_of, roles_of, has_role, HasTwo}
+use Rattle.dag_reader.specs.Passes.{arrows_of, doubles_of}
 use Rattle.dag_reader.specs.Reading.{Says}
 use Rattle.dag_reader.specs.Turns.{ReadsStatements}
-use Rattle.dag_reader.specs.Reads.{Tells, Gives, Reads, HasNoClash}
+use Rattle.dag_reader.specs.Reads.{Tells, Gives, Reads}
 use Rattle.dag_reader.specs.Builds.{Marked, IsNamed, Holds, Owns}
 use Rattle.dag_reader.proofs.PairLists.{role_inside}
 

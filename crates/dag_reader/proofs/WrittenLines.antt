@@ -1,14 +1,14 @@
 -- A written graph, line by line.
-use Rattle.std.proofs.Common.{◌≡◌, ◌≤◌, ◌<◌, ◌+◌, ℕ, zero, suc, Bool, true, false, List, [], ◌∷◌, ◌++◌, map, length, drop, get_or, Option, Some, None, refl, sym, ap, subst, ◌∙◌, arith, append_assoc, drop-cons}
-use Rattle.std.specs.Prelude.{cond, slice_get, ◌&&◌, nat_lt}
+use Rattle.std.proofs.Common.{◌≡◌, ◌<◌, ◌+◌, ℕ, zero, suc, Bool, true, List, [], ◌∷◌, ◌++◌, map, length, drop, get_or, Option, Some, refl, sym, ap, ◌∙◌, arith, append_assoc, drop-cons}
+use Rattle.std.specs.Prelude.{slice_get}
 use Rattle.std.specs.List.{flat_map}
 use Rattle.std.proofs.lemmas.List.{length-map, map-append}
 use Rattle.std.proofs.lemmas.Option.{get_or_from_slice_get}
 use Rattle.mixed_graph.specs.Bits.{members_below}
 use Rattle.mixed_graph.proofs.Members.{length-members-suc, length-members-zero}
 use Rattle.dag_reader.specs.declared.marks.Role.{Role}
-use Rattle.dag_reader.specs.Passes.{name_at}
-use Rattle.dag_reader.specs.Printing.{printed}
+use Rattle.mixed_graph.specs.Names.{name_of}
+use Rattle.name_text.specs.Printing.{printed}
 use Rattle.dag_reader.specs.Rows.{count_up, pairs_below}
 use Rattle.dag_reader.specs.Written.{role_text, vertex_lines, edge_lines}
 use Rattle.dag_reader.proofs.RowPairs.{members-zero, members-suc}
@@ -28,12 +28,12 @@ pub edge_line : (out new whole sign : List ℕ) (names : List (List ℕ)) (edges
     → new ≡ out ++ (printed from ++ (sign ++ (printed to ++ 10 ∷ []))) → out ++ edge_lines sign names (drop i edges) ≡ whole
     → new ++ edge_lines sign names (drop (i + 1) edges) ≡ whole
 edge_line out new whole sign names edges i d from to below is_from is_to is so =
-    let a : name_at names (get_or edges i d).0 ≡ from = get_or_from_slice_get names (get_or edges i d).0 from [] is_from in
-    let b : name_at names (get_or edges i d).1 ≡ to = get_or_from_slice_get names (get_or edges i d).1 to [] is_to in
+    let a : name_of names (get_or edges i d).0 ≡ from = get_or_from_slice_get names (get_or edges i d).0 from [] is_from in
+    let b : name_of names (get_or edges i d).1 ≡ to = get_or_from_slice_get names (get_or edges i d).1 to [] is_to in
     let more = edge_lines sign names (drop (i + 1) edges) in
     ap (λ l. l ++ more) is ∙ ends_with out (printed from) sign (printed to) more
     ∙ ap (λ n. out ++ (printed n ++ (sign ++ (printed to ++ 10 ∷ more)))) (sym a)
-    ∙ ap (λ n. out ++ (printed (name_at names (get_or edges i d).0) ++ (sign ++ (printed n ++ 10 ∷ more)))) (sym b)
+    ∙ ap (λ n. out ++ (printed (name_of names (get_or edges i d).0) ++ (sign ++ (printed n ++ 10 ∷ more)))) (sym b)
     ∙ ap (λ l. out ++ edge_lines sign names l) (sym (drop_next edges i d below))
     ∙ so
 

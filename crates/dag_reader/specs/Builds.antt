@@ -4,18 +4,18 @@ use Rattle.mixed_graph.specs.Shown.{graph_of}
 use Rattle.mixed_graph.specs.Built.{IsGraphOf}
 use Rattle.mixed_graph.specs.declared.mixed.Graph.{Graph}
 use Rattle.dag_reader.specs.declared.marks.Mark.{Mark}
-use Rattle.dag_reader.specs.declared.faults.Fault.{Fault as CodeFault}
 use Rattle.dag_reader.specs.declared.faults.Fault.TheVariants as faults
 use Rattle.dag_reader.specs.declared.faults.ReadError.{ReadError}
 use Rattle.dag_reader.specs.declared.faults.ReadError.TheVariants as errors
 use Rattle.dag_reader.specs.declared.faults.GraphFault.{GraphFault}
-use Rattle.dag_reader.specs.declared.faults.GraphFault.TheVariants.{NotUtf8, Token, Expected, NotADag, EdgeKind, Flag, Selected, SelfLoop, TooMany, RoleClash, Cycle, NoMemory}
+use Rattle.dag_reader.specs.declared.faults.GraphFault.TheVariants.{Token, Expected, NotADag, EdgeKind, Flag, Selected, SelfLoop, TooMany, RoleClash, Cycle, NoMemory}
 use Rattle.mixed_graph.specs.Names.{AreNames}
 use Rattle.dag_reader.specs.declared.marks.Role.{Role}
 use Rattle.dag_reader.specs.declared.roles.Roles.{Roles}
 use Rattle.dag_reader.specs.declared.building.MarkedGraph.{MarkedGraph}
 use Rattle.dag_reader.specs.RoleSets.{in_set, AreRoleSets}
-use Rattle.dag_reader.specs.Passes.{Edge, name_at, self_loop, arrows_of, doubles_of, roles_of, has_role, IsRoleClash}
+use Rattle.mixed_graph.specs.Names.{name_of}
+use Rattle.dag_reader.specs.Passes.{Edge, self_loop, arrows_of, doubles_of, roles_of, has_role, IsRoleClash}
 use Rattle.dag_reader.specs.Reads.{HasNoLoop, HasNoClash, IsNamedCycle, Gives, is_marked}
 use Rattle.dag_reader.specs.declared.graph.ReadGraph.{ReadGraph}
 
@@ -29,14 +29,14 @@ Builds names marks (Err fault) = ⊥
 -- no self-loop, or the first
 abbrev pub ChecksLoops : List (List ℕ) → List Mark → Result (Unit {0}) GraphFault → Type 0
 ChecksLoops names marks (Ok u) = HasNoLoop marks
-ChecksLoops names marks (Err (SelfLoop name)) = (e : Edge) × (self_loop marks ≡ Some e) × (name ≡ name_at names e.left)
+ChecksLoops names marks (Err (SelfLoop name)) = (e : Edge) × (self_loop marks ≡ Some e) × (name ≡ name_of names e.left)
 ChecksLoops names marks (Err NoMemory) = Unit {0}
 ChecksLoops names marks (Err fault) = ⊥
 
 -- the roles, or the lowest clash
 abbrev pub ChecksRoles : List (List ℕ) → List Mark → Result Roles GraphFault → Type 0
 ChecksRoles names marks (Ok roles) = HasNoClash marks × ((r : Role) (v : ℕ) → in_set roles r v ≡ has_role (roles_of marks) r v)
-ChecksRoles names marks (Err (RoleClash name)) = (v : ℕ) × IsRoleClash (has_role (roles_of marks)) v × (name ≡ name_at names v)
+ChecksRoles names marks (Err (RoleClash name)) = (v : ℕ) × IsRoleClash (has_role (roles_of marks)) v × (name ≡ name_of names v)
 ChecksRoles names marks (Err NoMemory) = Unit {0}
 ChecksRoles names marks (Err fault) = ⊥
 

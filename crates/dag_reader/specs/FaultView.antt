@@ -1,5 +1,4 @@
 -- Faults without where they lie in memory.
-use Rattle.std.specs.Prelude.{ℕ, List}
 use Rattle.dag_reader.specs.Grammar.{Fault, token, expected, not_a_dag, edge_kind, flag, selected, too_many}
 use Rattle.dag_reader.specs.declared.faults.Fault.{Fault as CodeFault}
 use Rattle.dag_reader.specs.declared.faults.Fault.TheVariants as faults

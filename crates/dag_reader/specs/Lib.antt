@@ -15,5 +15,5 @@ pub mod RoleSets
 pub mod Rows
 pub mod Reads
 pub mod Builds
-pub mod Printing
 pub mod Written
+pub mod RoundTrip

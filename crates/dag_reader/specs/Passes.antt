@@ -1,5 +1,5 @@
 -- What the marks say of the graph: edges, self-loops and roles.
-use Rattle.std.specs.Prelude.{◌≡◌, ◌≢◌, ◌<◌, ℕ, Bool, true, false, ◌&&◌, ◌==◌, List, [], ◌∷◌, ◌++◌, map, find, Option, Some, None, IsTrue, slice_index_or}
+use Rattle.std.specs.Prelude.{◌≢◌, ◌<◌, ℕ, Bool, true, false, ◌&&◌, ◌==◌, List, [], ◌∷◌, ◌++◌, map, find, Option, Some, None, IsTrue}
 use Rattle.std.specs.List.{flat_map, list_any, filter_map}
 use Rattle.dag_reader.specs.declared.marks.Arrow.{Arrow}
 use Rattle.dag_reader.specs.declared.marks.Arrow.TheVariants.{Right, Left, Both}
@@ -7,10 +7,6 @@ use Rattle.dag_reader.specs.declared.marks.Role.{Role}
 use Rattle.dag_reader.specs.declared.marks.Role.TheVariants.{Exposure, Outcome, Adjusted, Latent}
 use Rattle.dag_reader.specs.declared.marks.Mark.{Mark}
 use Rattle.dag_reader.specs.declared.marks.Mark.TheVariants.{Begins, Joined, Member, HasRole}
-
--- the name of a vertex
-abbrev pub name_at : List (List ℕ) → ℕ → List ℕ
-name_at names v = slice_index_or names v []
 
 -- ---- edges
 

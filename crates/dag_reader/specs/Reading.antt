@@ -1,5 +1,5 @@
 -- What a text says.
-use Rattle.std.specs.Prelude.{◌≡◌, ℕ, Bool, false, List, [], ◌∷◌, length, Option, Some, None, Result, Ok, Err}
+use Rattle.std.specs.Prelude.{◌≡◌, ℕ, Bool, false, List, [], ◌∷◌, length, Option, Some, None, Result}
 use Rattle.dag_reader.specs.Tokens.{Tok, first, place_of, wants_value}
 use Rattle.dag_reader.specs.Grammar.{Fault, Said, nothing, Place, at_start, Turn, goes_on, ends, step}
 

@@ -15,7 +15,8 @@ use Rattle.dag_reader.specs.declared.faults.GraphFault.TheVariants.{NotUtf8, Tok
 use Rattle.dag_reader.specs.Grammar.{Said, token, expected, not_a_dag, edge_kind, flag, selected, too_many}
 use Rattle.dag_reader.specs.Reading.{Says}
 use Rattle.dag_reader.specs.RoleSets.{set_of}
-use Rattle.dag_reader.specs.Passes.{Edge, name_at, self_loop, arrows_of, doubles_of, roles_of, has_role, HasTwo, IsRoleClash}
+use Rattle.mixed_graph.specs.Names.{name_of}
+use Rattle.dag_reader.specs.Passes.{Edge, self_loop, arrows_of, doubles_of, roles_of, has_role, HasTwo, IsRoleClash}
 
 -- whether the vertex has the role in the graph
 abbrev pub is_marked : ReadGraph → Role → ℕ → Bool
@@ -41,13 +42,13 @@ pub record IsNamedCycle (names : List (List ℕ)) (marks : List Mark) (cycle : L
   pub list : List ℕ
   pub count : ℕ
   pub is_cycle : IsCycle (joins (arrows_of marks)) list count
-  pub named : cycle ≡ map (name_at names) (take count list)
+  pub named : cycle ≡ map (name_of names) (take count list)
 
 -- What such statements give: a self-loop, the first in the order of the text; else a clash of roles; else a cycle; else the graph.
 abbrev pub Gives : Said → Result ReadGraph GraphFault → Type 0
 Gives s (Ok g) = HasNoLoop s.marks × HasNoClash s.marks × Tells s g
-Gives s (Err (SelfLoop name)) = (e : Edge) × (self_loop s.marks ≡ Some e) × (name ≡ name_at s.names e.left)
-Gives s (Err (RoleClash name)) = HasNoLoop s.marks × (v : ℕ) × IsRoleClash (has_role (roles_of s.marks)) v × (name ≡ name_at s.names v)
+Gives s (Err (SelfLoop name)) = (e : Edge) × (self_loop s.marks ≡ Some e) × (name ≡ name_of s.names e.left)
+Gives s (Err (RoleClash name)) = HasNoLoop s.marks × (v : ℕ) × IsRoleClash (has_role (roles_of s.marks)) v × (name ≡ name_of s.names v)
 Gives s (Err (Cycle cycle)) = HasNoLoop s.marks × HasNoClash s.marks × IsNamedCycle s.names s.marks cycle.items
 Gives s (Err NoMemory) = Unit {0}
 Gives s (Err fault) = ⊥

@@ -1,5 +1,5 @@
 -- Relations between vertices as rows of bits, and as sorted lists of pairs.
-use Rattle.std.specs.Prelude.{ℕ, Bool, true, List, ◌∷◌, map, slice_index}
+use Rattle.std.specs.Prelude.{ℕ, Bool, true, List, map, slice_index}
 use Rattle.std.specs.List.{flat_map}
 use Rattle.mixed_graph.specs.Bits.{has, members_below}
 

@@ -1,6 +1,4 @@
 -- What the code's values are, without where they lie in memory.
-use Rattle.std.specs.Prelude.{ℕ, Bool, List, Option, Some, None, option_map}
-use Rattle.std.specs.Borrow.{Bor}
 use Rattle.dag_reader.specs.Tokens.{Tok, open_brace, close_brace, open_bracket, close_bracket, semicolon, equals, comma, edge, name, value, end, bad, bad_edge}
 use Rattle.dag_reader.specs.declared.tokens.Token.{Token}
 use Rattle.dag_reader.specs.declared.tokens.Token.TheVariants as tokens

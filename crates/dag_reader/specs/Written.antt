@@ -1,21 +1,14 @@
 -- The text of a graph.
-use Rattle.std.specs.Prelude.{◌≡◌, ◌<◌, ◌≤◌, ◌+◌, ℕ, Bool, true, false, not, ◌&&◌, List, [], ◌∷◌, ◌++◌, length, map, Option, Some, None, codes, slice_index_or, All, nat_lt, if◌then◌else◌}
-use Rattle.std.specs.List.{flat_map, list_any, list_all}
-use Rattle.std.specs.Str.{bytes_eq}
-use Rattle.dag_reader.specs.declared.marks.Arrow.{Arrow}
-use Rattle.dag_reader.specs.declared.marks.Arrow.TheVariants.{Right, Left, Both}
+use Rattle.std.specs.Prelude.{◌≡◌, ◌<◌, ℕ, ◌&&◌, List, [], ◌∷◌, ◌++◌, length, map, Option, Some, None, codes, All, nat_lt, if◌then◌else◌}
 use Rattle.dag_reader.specs.declared.marks.Role.{Role}
 use Rattle.dag_reader.specs.declared.marks.Role.TheVariants.{Exposure, Outcome, Adjusted, Latent}
-use Rattle.dag_reader.specs.declared.marks.Mark.{Mark}
-use Rattle.dag_reader.specs.declared.marks.Mark.TheVariants.{Begins, Joined, Member, HasRole}
-use Rattle.dag_reader.specs.Grammar.{Said}
-use Rattle.dag_reader.specs.Printing.{printed}
+use Rattle.name_text.specs.Printing.{printed}
 use Rattle.mixed_graph.specs.Names.{AreNames}
 use Rattle.mixed_graph.specs.Bits.{has}
 use Rattle.mixed_graph.specs.Shown.{graph_of}
 use Rattle.dag_reader.specs.declared.graph.ReadGraph.{ReadGraph}
 use Rattle.dag_reader.specs.Rows.{count_up, pairs_below}
-use Rattle.dag_reader.specs.Passes.{name_at}
+use Rattle.mixed_graph.specs.Names.{name_of}
 
 -- what is written of a graph: its names, a role for each or none, its edges
 pub record Drawn : Type 0 where
@@ -37,7 +30,7 @@ vertex_lines ns rs = []
 
 abbrev pub edge_lines : List ℕ → List (List ℕ) → List (ℕ × ℕ) → List ℕ
 edge_lines sign names [] = []
-edge_lines sign names (e ∷ es) = printed (name_at names e.0) ++ (sign ++ (printed (name_at names e.1) ++ 10 ∷ edge_lines sign names es))
+edge_lines sign names (e ∷ es) = printed (name_of names e.0) ++ (sign ++ (printed (name_of names e.1) ++ 10 ∷ edge_lines sign names es))
 
 abbrev pub written : Drawn → List ℕ
 written d = codes "dag {" ++ 10 ∷ (vertex_lines d.names d.roles ++ (edge_lines (codes " -> ") d.names d.arrows ++ (edge_lines (codes " <-> ") d.names d.doubles ++ 125 ∷ 10 ∷ [])))

@@ -1,7 +1,7 @@
 ghost use Rattle.std.specs.Prelude.{◌≡◌, ◌<◌, List, ℕ, length, true, None, map, take, IfOk, slice_index};
 ghost use Rattle.std.specs.List.{list_all};
 ghost use Rattle.dag_reader.specs.MarkEnds.{is_inside};
-ghost use Rattle.dag_reader.specs.Passes.{name_at};
+ghost use Rattle.mixed_graph.specs.Names.{name_of};
 ghost use Rattle.dag_reader.specs.Reads.{HasNoLoop};
 ghost use Rattle.dag_reader.specs.Builds.{Builds, ChecksLoops, ChecksRoles, Marks};
 
@@ -22,7 +22,7 @@ pub struct MarkedGraph {
 /// The name of a vertex.
 fn vertex_name(alloc: Global, names: &Names, v: u8) -> Result<Text, AllocError>
     requires { v < length names.now }
-    ensures { IfOk result (λ text. text ≡ name_at names.now v) }
+    ensures { IfOk result (λ text. text ≡ name_of names.now v) }
 {
     Text::of(alloc, names.get(v))
 }
@@ -30,7 +30,7 @@ fn vertex_name(alloc: Global, names: &Names, v: u8) -> Result<Text, AllocError>
 /// The names of the vertices of a cycle.
 fn cycle_names(alloc: Global, names: &Names, cycle: &Cycle) -> Result<Vec<Text>, AllocError>
     requires { (i : ℕ) → i < cycle.now.count → slice_index cycle.now.list i < length names.now }
-    ensures { IfOk result (λ texts. texts.items ≡ map (name_at names.now) (take cycle.now.count cycle.now.list)) }
+    ensures { IfOk result (λ texts. texts.items ≡ map (name_of names.now) (take cycle.now.count cycle.now.list)) }
 {
     let mut texts = Vec::new(alloc);
     for i in 0..cycle.count {

@@ -10,8 +10,11 @@ mod law;
 mod marks;
 mod reading;
 mod roles;
+mod round;
 mod said;
 mod statements;
+#[cfg(test)]
+mod tests;
 mod tokens;
 mod words;
 mod writing;
@@ -21,4 +24,5 @@ pub use graph::ReadGraph;
 pub use law::{the_answers, the_grammar};
 pub use marks::Role;
 pub use reading::read_graph;
-pub use writing::{write_graph, write_name};
+pub use round::the_written_text;
+pub use writing::write_graph;

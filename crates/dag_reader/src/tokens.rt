@@ -2,7 +2,8 @@ ghost use Rattle.std.specs.Prelude.{◌≡◌, ◌≢◌, ◌<◌, ◌≤◌, �
 ghost use Rattle.std.specs.List.{prefix_len, list_all};
 ghost use Rattle.std.specs.Str.{is_utf8};
 ghost use Rattle.mixed_graph.specs.Names.{IsName};
-ghost use Rattle.dag_reader.specs.Bytes.{in_class, is_white, is_edge_byte, is_sign, is_name_byte, is_run_byte};
+ghost use Rattle.name_text.specs.Printing.{is_white, is_edge_byte, is_sign, is_name_byte};
+ghost use Rattle.dag_reader.specs.Bytes.{in_class, is_run_byte};
 ghost use Rattle.mixed_graph.specs.Names.{is_line_byte};
 ghost use Rattle.dag_reader.specs.Tokens.{Tok, end, edge_token, name_token, quoted_name_token, sign_token, quoted_text, token_at, value_at, token_of, past_white, first, place_of, wants_value};
 ghost use Rattle.dag_reader.specs.Views.{view};
@@ -10,6 +11,7 @@ ghost use Rattle.dag_reader.specs.Grammar.{is_end};
 
 use crate::marks::Arrow;
 use crate::words::Word;
+use name_text::{is_edge_byte, is_name_byte, is_white};
 
 #[derive(Clone, Copy, Debug, PartialEq, Eq)]
 pub enum Class {
@@ -39,30 +41,6 @@ pub enum Token<'a> {
     Bad,
     /// An edge of another kind of graph.
     BadEdge,
-}
-
-fn is_white(byte: u8) -> bool
-    ensures { result ≡ is_white byte }
-{
-    matches!(byte, b' ' | b'\t' | b'\r' | b'\n')
-}
-
-fn is_edge_byte(byte: u8) -> bool
-    ensures { result ≡ is_edge_byte byte }
-{
-    matches!(byte, b'<' | b'>' | b'-' | b'@')
-}
-
-fn is_sign(byte: u8) -> bool
-    ensures { result ≡ is_sign byte }
-{
-    matches!(byte, b'{' | b'}' | b'[' | b']' | b';' | b'=' | b',')
-}
-
-pub fn is_name_byte(byte: u8) -> bool
-    ensures { result ≡ is_name_byte byte }
-{
-    !(is_white(byte) || is_edge_byte(byte) || is_sign(byte) || byte == b'"')
 }
 
 fn is_in(class: Class, byte: u8) -> bool

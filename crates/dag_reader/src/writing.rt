@@ -1,54 +1,14 @@
 ghost use Rattle.std.specs.Prelude.{◌≡◌, ◌<◌, ◌≤◌, ◌++◌, ◌&&◌, nat_lt, List, ℕ, [], ◌∷◌, length, map, All, OnOk, IfOk};
-ghost use Rattle.std.specs.List.{list_all};
-ghost use Rattle.dag_reader.specs.Printing.{is_plain, is_plain_byte, printed};
+ghost use Rattle.name_text.specs.Printing.{printed};
 ghost use Rattle.dag_reader.specs.Rows.{row_has, count_up};
 ghost use Rattle.dag_reader.specs.Written.{role_text, vertex_lines, edge_lines, role_at, drawn_of, written};
 
 use crate::edges::pairs_below;
 use crate::graph::ReadGraph;
 use crate::marks::Role;
-use crate::tokens::is_name_byte;
 use mixed_graph::{Names, VSet};
+use name_text::push_name;
 use std::alloc::{AllocError, Global};
-
-fn is_plain_byte(byte: u8) -> bool
-    ensures { result ≡ is_plain_byte byte }
-{
-    is_name_byte(byte) && !matches!(byte, b'(' | b')' | b'|' | b'*' | b'/')
-}
-
-fn all_plain(name: &[u8]) -> bool
-    ensures { result ≡ list_all is_plain_byte name.now }
-{
-    name.iter().all(|b| is_plain_byte(*b))
-}
-
-/// Whether a name is printed without quotation marks.
-fn is_plain(name: &[u8]) -> bool
-    ensures { result ≡ is_plain name.now }
-{
-    let [first, ..] = name else {
-        return false;
-    };
-    if *first == b'#' {
-        return false;
-    }
-    all_plain(name)
-}
-
-/// Adds a name as it is printed: bare, or between quotation marks where it needs them.
-pub fn write_name(out: &mut Vec<u8>, name: &[u8]) -> Result<(), AllocError>
-    ensures { OnOk result (out.new.items ≡ out.old.items ++ printed name.now) }
-{
-    if is_plain(name) {
-        out.extend_from_slice(name)?;
-        return Ok(());
-    }
-    out.push(b'"')?;
-    out.extend_from_slice(name)?;
-    out.push(b'"')?;
-    Ok(())
-}
 
 fn push_role(out: &mut Vec<u8>, role: Option<Role>) -> Result<(), AllocError>
     ensures { OnOk result (out.new.items ≡ out.old.items ++ role_text role) }
@@ -66,7 +26,7 @@ fn push_role(out: &mut Vec<u8>, role: Option<Role>) -> Result<(), AllocError>
 fn push_vertex(out: &mut Vec<u8>, name: &[u8], role: Option<Role>) -> Result<(), AllocError>
     ensures { OnOk result (out.new.items ≡ out.old.items ++ (printed name.now ++ (role_text role ++ 10 ∷ []))) }
 {
-    write_name(out, name)?;
+    push_name(out, name)?;
     push_role(out, role)?;
     out.push(b'\n')?;
     Ok(())
@@ -75,9 +35,9 @@ fn push_vertex(out: &mut Vec<u8>, name: &[u8], role: Option<Role>) -> Result<(),
 fn push_edge(out: &mut Vec<u8>, from: &[u8], sign: &[u8], to: &[u8]) -> Result<(), AllocError>
     ensures { OnOk result (out.new.items ≡ out.old.items ++ (printed from.now ++ (sign.now ++ (printed to.now ++ 10 ∷ [])))) }
 {
-    write_name(out, from)?;
+    push_name(out, from)?;
     out.extend_from_slice(sign)?;
-    write_name(out, to)?;
+    push_name(out, to)?;
     out.push(b'\n')?;
     Ok(())
 }

@@ -1,4 +1,4 @@
-use Rattle.std.proofs.Common.{◌≡◌, ℕ, None, Option, sym, ◌∙◌}
+use Rattle.std.proofs.Common.{None, sym, ◌∙◌}
 use Rattle.dag_reader.specs.Passes.{has_role, roles_of}
 use Rattle.dag_reader.specs.RoleSets.{in_set}
 use Rattle.dag_reader.proofs.MarkLists.{all_inside_more}

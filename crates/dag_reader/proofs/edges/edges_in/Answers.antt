@@ -1,11 +1,9 @@
-use Rattle.std.proofs.Common.{◌≡◌, sym, ◌∙◌, ap, subst}
+use Rattle.std.proofs.Common.{◌∙◌, ap}
 use Rattle.std.specs.Prelude.{◌||◌}
 use Rattle.mixed_graph.specs.Bits.{has}
 use Rattle.mixed_graph.proofs.PairMasks.{no_mask}
-use Rattle.dag_reader.specs.declared.marks.Arrow.{Arrow}
-use Rattle.dag_reader.specs.declared.marks.Arrow.TheVariants.{Right, Left, Both}
-use Rattle.dag_reader.specs.declared.marks.Mark.TheVariants.{Begins, Joined, Member, HasRole}
-use Rattle.dag_reader.proofs.EdgeRows.{SoFar, begin, opened, at_begins, at_member, at_right, at_left, at_both}
+use Rattle.dag_reader.specs.declared.marks.Mark.TheVariants.{Begins, Joined, Member}
+use Rattle.dag_reader.proofs.EdgeRows.{begin, opened, at_begins, at_member, at_right, at_left, at_both}
 use Rattle.dag_reader.proofs.edges.edges_in.Goals as goal
 use Rattle.dag_reader.proofs.edges.edges_in.Goals.{in-Right, in-Left, in-Both}
 

@@ -1,4 +1,4 @@
-use Rattle.std.proofs.Common.{sym, ◌∙◌, ap, true, false}
+use Rattle.std.proofs.Common.{sym, ◌∙◌, ap}
 use Rattle.std.proofs.Common.{ℕ}
 use Rattle.std.specs.Global.{Vec}
 use Rattle.mixed_graph.specs.Bits.{has}

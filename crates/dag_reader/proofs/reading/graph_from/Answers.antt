@@ -1,4 +1,3 @@
-use Rattle.std.proofs.Common.{sym, ap, ◌∙◌}
 use Rattle.dag_reader.proofs.WholeAnswers.{marked_named, held_tells}
 use Rattle.dag_reader.proofs.reading.graph_from.Goals as goal
 

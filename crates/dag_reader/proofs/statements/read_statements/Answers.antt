@@ -1,5 +1,4 @@
 use Rattle.std.proofs.Common.{◌∙◌, refl}
-use Rattle.dag_reader.specs.Views.{view}
 use Rattle.dag_reader.proofs.TokenSteps.{one_more, last_one, end_ends, step_failed}
 use Rattle.std.proofs.lemmas.Result.{err_from_is_err_and}
 use Rattle.dag_reader.specs.SaidView.{said_by}

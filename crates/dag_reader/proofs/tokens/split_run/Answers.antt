@@ -1,6 +1,3 @@
-use Rattle.std.proofs.Common.{◌≡◌, List, ℕ, true, subst, sym, ap, ◌∙◌, take, drop}
-use Rattle.std.specs.List.{list_all, prefix_len}
-use Rattle.std.specs.Str.{is_utf8}
 use Rattle.dag_reader.specs.Bytes.{in_class}
 use Rattle.dag_reader.proofs.TextForm.{taken_pass, run_cut}
 use Rattle.dag_reader.proofs.tokens.split_run.Goals as goal

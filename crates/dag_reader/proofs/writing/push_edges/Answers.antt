@@ -1,4 +1,3 @@
-use Rattle.std.proofs.Common.{arith}
 use Rattle.dag_reader.proofs.WrittenLines.{edge_line}
 use Rattle.dag_reader.proofs.writing.push_edges.Goals as goal
 

@@ -1,4 +1,3 @@
-use Rattle.std.proofs.Common.{arith}
 use Rattle.dag_reader.proofs.WrittenLines.{vertex_line}
 use Rattle.dag_reader.proofs.writing.push_vertices.Goals as goal
 

@@ -1,6 +1,6 @@
 use Rattle.std.proofs.Common.{arith, ap, length, length-drop}
 use Rattle.std.specs.List.{prefix_len}
-use Rattle.dag_reader.specs.Bytes.{is_white}
+use Rattle.name_text.specs.Printing.{is_white}
 use Rattle.dag_reader.proofs.tokens.Lexer.next.Goals as goal
 
 pub invariant_of-self : goal.invariant_of-self
