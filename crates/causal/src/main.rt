@@ -1,0 +1,24 @@
+//! The command `causal`: its words are run over real files and streams.
+#![tactic(auto)]
+
+use causal_cli::run;
+use causal_io::{CountedWriter, FileShelf};
+use std::env;
+use std::process::ExitCode;
+
+fn main(rt: HostRuntime) -> ExitCode {
+    let alloc = rt.alloc();
+    let Ok(args) = env::args(&rt) else {
+        return ExitCode::from(2);
+    };
+    let Ok(words) = args.skip(1).collect::<Vec<String>>(alloc) else {
+        return ExitCode::from(8);
+    };
+    let Ok(mut shelf) = FileShelf::of(&rt, alloc, words.as_slice()) else {
+        return ExitCode::from(8);
+    };
+    let mut out = CountedWriter::of(rt.stdout());
+    let mut err = CountedWriter::of(rt.stderr());
+    let status = run(alloc, words.as_slice(), &mut shelf, &mut out, &mut err);
+    ExitCode::from(status.code)
+}
