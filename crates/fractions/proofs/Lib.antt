@@ -1,0 +1,2 @@
+pub mod FractionLaws
+mod Worked

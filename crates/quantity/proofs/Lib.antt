@@ -1,0 +1,4 @@
+pub mod ExactSteps
+pub mod LcmLaws
+pub mod TextSteps
+mod Worked
