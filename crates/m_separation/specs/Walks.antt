@@ -1,5 +1,5 @@
 -- Walks and separation in graphs with directed and bidirected edges (Pearl, Causality, chapter 1; Richardson).
-use Rattle.std.specs.Prelude.{ℕ, ◌≡◌, ◌≢◌, ◌<◌, Bool, true, false, List, [], ◌∷◌, IsTrue}
+use Rattle.std.specs.Prelude.{ℕ, ◌≡◌, ◌≢◌, ◌<◌, Bool, true, false, ◌==◌, List, [], ◌∷◌, IsTrue}
 use Rattle.mixed_graph.specs.Graphs.{MixedGraph, IsAncestor}
 use Rattle.m_separation.specs.declared.marks.Mark.{Mark}
 use Rattle.m_separation.specs.declared.marks.Mark.TheVariants.{Out, Into, Both}
@@ -67,6 +67,10 @@ pub record IsOpenWalk (g : MixedGraph) (x y w : ℕ → Bool) (v : ℕ) (r : Lis
 -- some walk from x to y is open given w
 abbrev pub HasOpenWalk : MixedGraph → (x y w : ℕ → Bool) → Type 0
 HasOpenWalk g x y w = (v : ℕ) × (r : List Step) × IsOpenWalk g x y w v r
+
+-- some walk from x to v is open given w
+abbrev pub IsReached : MixedGraph → (x w : ℕ → Bool) → ℕ → Type 0
+IsReached g x w v = HasOpenWalk g x (λ u. u == v) w
 
 -- x and y are separated by w: no walk from x to y is open given w
 abbrev pub IsSeparated : MixedGraph → (x y w : ℕ → Bool) → Type 0

@@ -2,5 +2,12 @@
 #![tactic(auto)]
 
 mod marks;
+mod paths;
+mod search;
+mod states;
+#[cfg(test)]
+mod tests;
 
 pub use marks::Mark;
+pub use paths::{OpenPath, open_path};
+pub use search::{reach, separated};

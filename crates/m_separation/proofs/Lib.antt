@@ -1,0 +1,9 @@
+pub mod Rows
+pub mod Going
+pub mod Splices
+pub mod OpenPaths
+pub mod Searches
+pub mod Nexts
+pub mod Levels
+pub mod Nearest
+pub mod Traces
