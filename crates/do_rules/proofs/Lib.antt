@@ -1,0 +1,7 @@
+mod Altered
+mod Independence
+mod Product
+mod Reach
+mod RuleThree
+mod Rules
+mod Split

@@ -1,0 +1,4 @@
+//! Separation as independence, and the three rules of the do-calculus.
+#![tactic(auto)]
+
+pub fn nothing() {}

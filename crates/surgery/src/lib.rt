@@ -1,0 +1,7 @@
+//! Graphs with edges cut out, as the rules of the do-calculus need them.
+#![tactic(auto)]
+
+mod cuts;
+mod rows;
+
+pub use cuts::{EdgeSet, cut_edges, cut_into, cut_out};
