@@ -1,5 +1,5 @@
 -- Interventions and held arrows: the altered models follows the cut graphs.
-use Rattle.std.proofs.Common.{ℕ, ◌≡◌, ◌<◌, Bool, true, false, cond, not, refl, ◌&&◌, ◌∷◌, []}
+use Rattle.std.proofs.Common.{ℕ, ◌≡◌, ◌<◌, Bool, true, false, cond, not, refl, ◌&&◌}
 use Rattle.std.proofs.lemmas.Bool.{and_from, not_from_false}
 use Rattle.mixed_graph.specs.Graphs.{MixedGraph}
 use Rattle.surgery.specs.Cuts.{cut_into, cut_out}

@@ -1,7 +1,9 @@
-mod Altered
-mod Independence
-mod Product
-mod Reach
-mod RuleThree
-mod Rules
-mod Split
+pub mod Altered
+pub mod Holds
+pub mod Separation
+pub mod Moving
+pub mod Product
+pub mod Reach
+pub mod RuleThree
+pub mod TwoRules
+pub mod Split

@@ -15,7 +15,7 @@ use Rattle.finite_models.proofs.Positive.{positive_each}
 use Rattle.finite_models.proofs.Solutions.{IsRanked}
 use Rattle.finite_models.proofs.Tested.{stable, tested}
 use Rattle.do_rules.proofs.Reach.{meets_or_not, back, AllOutside}
-use Rattle.do_rules.proofs.Rules.{rule_1, rule_2, further}
+use Rattle.do_rules.proofs.TwoRules.{rule_1, rule_2, further}
 
 -- ---- an open walk of a graph with fewer edges, given more, is one given less, where what is added has no arrowhead
 module _ (h g : MixedGraph) (V W : ℕ → Bool) (same : h.vertices ≡ g.vertices)

@@ -1,4 +1,6 @@
 //! Separation as independence, and the three rules of the do-calculus.
 #![tactic(auto)]
 
-pub fn nothing() {}
+mod rules;
+
+pub use rules::{independence, rule1, rule2, rule3};

@@ -11,7 +11,7 @@ use Rattle.finite_models.proofs.Following.{Follows}
 use Rattle.finite_models.proofs.Solutions.{IsRanked, IsClosed, solution_is, unique, agree_same}
 use Rattle.finite_models.proofs.SumLaws.{over-congr}
 use Rattle.do_rules.proofs.Altered.{hold, ranked_into, ranked_out, follows_into, follows_hold}
-use Rattle.do_rules.proofs.Independence.{separated_independent}
+use Rattle.do_rules.proofs.Separation.{separated_independent}
 
 module _ (g : MixedGraph) (m : FiniteModel) (rank : ℕ → ℕ) (is_graph : IsMixedGraph g) (ranked : IsRanked g rank) (follows : Follows g m) (s : ℕ → ℕ) (within : IsAssignment m.vertices m.size s) where
   -- under an intervention each intervened vertex has its value, whether or not the event asks for it
