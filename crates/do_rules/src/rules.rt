@@ -1,6 +1,6 @@
-ghost use Rattle.std.specs.Prelude.{ℕ, ◌<◌, IfErr, OnOk};
+ghost use Rattle.std.specs.Prelude.{ℕ, ◌<◌, ◌↔◌, IfErr, OnOk, IsTrue};
 ghost use Rattle.mixed_graph.specs.Bits.{has};
-ghost use Rattle.mixed_graph.specs.Sets.{Within};
+ghost use Rattle.mixed_graph.specs.Sets.{Within, Apart};
 ghost use Rattle.mixed_graph.specs.Shown.{graph_of};
 ghost use Rattle.m_separation.specs.Walks.{IsSeparated};
 ghost use Rattle.m_separation.specs.Paths.{IsOpenPath};
@@ -10,6 +10,27 @@ ghost use Rattle.do_rules.specs.Rules.{IsBlockedForRule1, IsBlockedForRule2, IsB
 use m_separation::{OpenPath, open_path};
 use mixed_graph::{Graph, VSet};
 use surgery::{cut_into, cut_out};
+
+/// Whether no vertex is in both sets.
+fn apart(s: VSet, t: VSet) -> bool
+    ensures { IsTrue result ↔ Apart (has s.bits) (has t.bits) }
+{
+    s.intersection(t).is_empty()
+}
+
+/// Whether the sets are within the graph and pairwise disjoint.
+pub fn are_three_sets(g: &Graph, x: VSet, y: VSet, w: VSet) -> bool
+    ensures { IsTrue result ↔ AreThreeSets g.now.n (has x.bits) (has y.bits) (has w.bits) }
+{
+    g.covers(x) && g.covers(y) && g.covers(w) && apart(x, y) && apart(x, w) && apart(y, w)
+}
+
+/// Whether the sets are within the graph and pairwise disjoint.
+pub fn are_four_sets(g: &Graph, x: VSet, y: VSet, z: VSet, w: VSet) -> bool
+    ensures { IsTrue result ↔ AreFourSets g.now.n (has x.bits) (has y.bits) (has z.bits) (has w.bits) }
+{
+    are_three_sets(g, x, y, w) && g.covers(z) && apart(x, z) && apart(y, z) && apart(z, w)
+}
 
 /// Whether x and y are separated by w; else an open path from x to y.
 fn blocked(g: &Graph, x: VSet, y: VSet, w: VSet) -> Result<(), OpenPath>
