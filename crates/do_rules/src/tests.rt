@@ -4,18 +4,37 @@ use crate::{are_four_sets, are_three_sets, independence, rule1, rule2, rule3};
 use m_separation::{Mark, OpenPath};
 use mixed_graph::{Graph, VSet};
 
-/// A question on the graph of these edges, and its answer: an empty path where the rule holds.
+const CHAIN: &[(u8, u8)] = &[(0, 1), (1, 2)];
+
+const ARROW: &[(u8, u8)] = &[(0, 1)];
+
+const ENDS: &[(u8, u8)] = &[(0, 2)];
+
+/// A question on the graph of three vertices with these edges, its sets x, y, z and w, and its answer: an empty path where the rule holds.
 #[derive(Clone, Copy)]
 struct Row {
+    rule: u8,
     directed: &'static [(u8, u8)],
     both: &'static [(u8, u8)],
-    rule: u8,
-    x: u64,
-    y: u64,
-    z: u64,
-    w: u64,
+    sets: [u64; 4],
     vertices: &'static [u8],
     marks: &'static [Mark],
+}
+
+fn holds(
+    rule: u8,
+    directed: &'static [(u8, u8)],
+    both: &'static [(u8, u8)],
+    sets: [u64; 4],
+) -> Row {
+    Row {
+        rule,
+        directed,
+        both,
+        sets,
+        vertices: &[],
+        marks: &[],
+    }
 }
 
 /// Whether all ends are below n.
@@ -57,82 +76,43 @@ fn ask(g: &Graph, rule: u8, x: VSet, y: VSet, z: VSet, w: VSet) -> Option<Result
 
 #[test]
 fn rules_on_small_graphs(rt: HostRuntime) {
-    let set = |bits| VSet { bits };
-    let front = Row {
-        directed: &[(0, 1), (1, 2)],
-        both: &[(0, 2)],
-        rule: 2,
-        x: 0,
-        y: 2,
-        z: 1,
-        w: 0,
-        vertices: &[],
-        marks: &[],
-    };
-    let fork = Row {
-        directed: &[(0, 1)],
-        both: &[(0, 2)],
-        rule: 3,
-        x: 0,
-        y: 4,
-        z: 1,
-        w: 2,
-        vertices: &[2, 0],
-        marks: &[Mark::Both],
-    };
     let rows = [
         // X -> M -> Y, X <-> Y: M given do(X) is M given X
-        front,
+        holds(2, CHAIN, ENDS, [0, 2, 1, 0]),
         // but Y given do(X) isn't Y given X
         Row {
-            y: 4,
             vertices: &[2, 0],
             marks: &[Mark::Both],
-            ..front
-        },
-        // Z -> W, Z <-> Y: do(Z) matters for Y given W
-        fork,
-        // without Z <-> Y it doesn't
-        Row {
-            both: &[],
-            vertices: &[],
-            marks: &[],
-            ..fork
+            ..holds(2, CHAIN, ENDS, [0, 4, 1, 0])
         },
         // Z -> X -> Y: once X is set, Z says nothing of Y
+        holds(1, CHAIN, &[], [2, 4, 1, 0]),
+        // Z -> W, Y apart: setting Z doesn't matter for Y given W
+        holds(3, ARROW, &[], [0, 4, 1, 2]),
+        // but with Z <-> Y it does
         Row {
-            both: &[],
-            rule: 1,
-            x: 2,
-            y: 4,
-            ..front
+            vertices: &[2, 0],
+            marks: &[Mark::Both],
+            ..holds(3, ARROW, ENDS, [0, 4, 1, 2])
         },
-        // X -> M -> Y: X and Y are independent given M, and not given nothing
+        // the ends of a chain are independent given its middle, and not given nothing
+        holds(0, CHAIN, &[], [0, 1, 4, 2]),
         Row {
-            both: &[],
-            rule: 0,
-            y: 1,
-            z: 4,
-            w: 2,
-            ..front
-        },
-        Row {
-            both: &[],
-            rule: 0,
-            y: 1,
-            z: 4,
             vertices: &[0, 1, 2],
             marks: &[Mark::Out, Mark::Out],
-            ..front
+            ..holds(0, CHAIN, &[], [0, 1, 4, 0])
         },
     ];
     for row in &rows {
         assert!(rt; all_below(3, row.directed) && all_below(3, row.both));
         match Graph::build(3, row.directed, row.both) {
-            Ok(g) => match ask(&g, row.rule, set(row.x), set(row.y), set(row.z), set(row.w)) {
-                Some(answer) => assert!(rt; shows(&answer, row.vertices, row.marks)),
-                None => assert!(rt; false),
-            },
+            Ok(g) => {
+                let [x, y, z, w] = row.sets.map(|bits| VSet { bits });
+                match ask(&g, row.rule, x, y, z, w) {
+                    Some(answer) => assert!(rt; shows(&answer, row.vertices, row.marks)),
+                    None => assert!(rt; false),
+                }
+            }
             Err(_) => assert!(rt; false),
         }
     }
