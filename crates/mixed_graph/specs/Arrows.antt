@@ -12,6 +12,10 @@ IsPathBelow g v (x ∷ xs) u = (v < g.vertices) × IsTrue (g.arrow v x) × IsPat
 abbrev pub arrows_only : ℕ → List ℕ → MixedGraph
 arrows_only n children = graph_from n children []
 
+-- the graph without bidirected edges in which row v holds the tails of the arrows into v
+abbrev pub graph_of_rows : ℕ → List ℕ → MixedGraph
+graph_of_rows n rows = record { vertices = n; arrow = λ u v. has (slice_index rows v) u; both = λ u v. false }
+
 -- no directed path of two or more vertices leads from a back to a
 abbrev pub IsOnNoCycle : MixedGraph → ℕ → Type 0
 IsOnNoCycle g a = (c : ℕ) (rest : List ℕ) → IsPathBelow g a (c ∷ rest) a → ⊥

@@ -2,6 +2,7 @@ pub mod Arrows
 pub mod Bits
 pub mod Built
 pub mod Graphs
+pub mod Names
 pub mod Orders
 pub mod Pairs
 pub mod Sets

@@ -4,9 +4,15 @@
 mod cycles;
 mod lists;
 mod mixed;
+mod names;
 mod pairs;
 mod sets;
+#[cfg(test)]
+mod tests;
+mod text;
 
 pub use lists::{Cycle, Order};
 pub use mixed::{BuildFault, Graph};
+pub use names::{AddFault, Names, is_name};
 pub use sets::VSet;
+pub use text::Text;

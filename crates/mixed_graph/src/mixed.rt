@@ -1,6 +1,7 @@
 ghost use Rattle.std.specs.Prelude.{◌≡◌, ℕ, ◌<◌, ◌≤◌, ◌↔◌, IsTrue, List, All, IfOk, IfErr, OnOk, None, ◌&&◌, slice_index};
 ghost use Rattle.mixed_graph.specs.Bits.{has};
 ghost use Rattle.mixed_graph.specs.Sets.{Within};
+ghost use Rattle.mixed_graph.specs.Arrows.{graph_of_rows};
 ghost use Rattle.mixed_graph.specs.Graphs.{IsMixedGraph, graph_from, Agree, IsAncestor, IsDescendant, restricted, induced};
 
 use crate::cycles::{childless, cycle_of, stuck, walk_back};
@@ -49,19 +50,7 @@ impl Graph {
         requires { Within self.now.n (has s.bits) }
         ensures { (v : ℕ) → IsTrue (has result.bits v) ↔ IsAncestor (graph_of self.now) (has s.bits) v }
     {
-        let mut found = s;
-        let mut front = s;
-        while front.bits != 0 {
-            let v = front.lowest();
-            front = front.difference(VSet::one(v));
-            let fresh = VSet {
-                bits: self.parents[v as usize],
-            }
-            .difference(found);
-            found = found.union(fresh);
-            front = front.union(fresh);
-        }
-        found
+        closure(self.n, &self.parents, s)
     }
 
     /// The vertices with a directed path from a member of s; the members of s are among them.
@@ -69,19 +58,7 @@ impl Graph {
         requires { Within self.now.n (has s.bits) }
         ensures { (v : ℕ) → IsTrue (has result.bits v) ↔ IsDescendant (graph_of self.now) (has s.bits) v }
     {
-        let mut found = s;
-        let mut front = s;
-        while front.bits != 0 {
-            let v = front.lowest();
-            front = front.difference(VSet::one(v));
-            let fresh = VSet {
-                bits: self.children[v as usize],
-            }
-            .difference(found);
-            found = found.union(fresh);
-            front = front.union(fresh);
-        }
-        found
+        closure(self.n, &self.children, s)
     }
 
     /// The topological order that takes, each time, the vertex of lowest index whose parents are all taken.
@@ -150,6 +127,26 @@ impl Graph {
             spouses: kept(&self.spouses, ends, ends),
         }
     }
+}
+
+/// The vertices from which a member of s is reached, where row v holds the vertices one step before v.
+fn closure(n: u32, rows: &[u64; 64], s: VSet) -> VSet
+    requires set { Within n (has s.bits) }
+    requires rows { (u v : ℕ) → IsTrue (has (slice_index rows.now v) u) → u < n }
+    ensures { (v : ℕ) → IsTrue (has result.bits v) ↔ IsAncestor (graph_of_rows n rows.now) (has s.bits) v }
+{
+    let mut found = s;
+    let mut front = s;
+    while front.bits != 0 {
+        let v = front.lowest();
+        let fresh = VSet {
+            bits: rows[v as usize],
+        }
+        .difference(found);
+        found = found.union(fresh);
+        front = front.difference(VSet::one(v)).union(fresh);
+    }
+    found
 }
 
 /// The bits inside `within` of the rows in `of`.

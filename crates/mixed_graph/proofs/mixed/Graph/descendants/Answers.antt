@@ -1,44 +1,19 @@
-use Rattle.std.proofs.Common.{◌∙◌, arith, ap, ◌&&◌, not}
+use Rattle.std.proofs.Common.{ℕ, IsTrue, refl}
 use Rattle.mixed_graph.specs.Bits.{has}
 use Rattle.mixed_graph.specs.Shown.{graph_of}
-use Rattle.mixed_graph.proofs.Masks.{has-zero}
+use Rattle.mixed_graph.specs.Arrows.{graph_of_rows}
+use Rattle.mixed_graph.proofs.Paths.{ancestor_same}
 use Rattle.mixed_graph.proofs.Flips.{flip, descendant_from, from_descendant}
-use Rattle.mixed_graph.proofs.Paths.{held_along_path}
-use Rattle.mixed_graph.proofs.Searches.{Step, searching_none, searching_more, searching_smaller}
 use Rattle.mixed_graph.proofs.mixed.Graph.descendants.Goals as goal
-use Rattle.mixed_graph.proofs.mixed.Graph.descendants.Goals.{After-union-front}
 
-step_of : (c : After-union-front) → Step (flip (graph_of c.args.self.now)) c.lowest-v.result
-    c.loop-front.found.bits c.loop-front.front.bits c.difference-front.result.bits c.difference-fresh.result.bits c.union-found.result.bits c.union-front.result.bits
-step_of c = record {
-  taken = c.lowest-v.ensures.member;
-  rest_is = λ u. c.difference-front.ensures u ∙ ap (λ t. has c.loop-front.front.bits u && not t) (c.one.ensures u);
-  fresh_is = c.difference-fresh.ensures;
-  found_is = c.union-found.ensures;
-  front_is = c.union-front.ensures;
-}
-
-pub loop-front-init : goal.loop-front-init
-loop-front-init c = (searching_none (flip (graph_of c.args.self.now)) c.args.s.bits c.requires, omega arith, omega arith)
-
-pub loop-front-preserved : goal.loop-front-preserved
-loop-front-preserved c = (
-  searching_more (flip (graph_of c.args.self.now)) (λ u v a. c.args.self.now.valid.head_below v u a) c.args.s.bits c.lowest-v.result
-      c.loop-front.found.bits c.loop-front.front.bits c.difference-front.result.bits c.difference-fresh.result.bits c.union-found.result.bits c.union-front.result.bits
-      (step_of c) c.loop-front.invariant.0,
-  omega arith,
-  omega arith,
-)
-
-pub loop-front-smaller : goal.loop-front-smaller
-loop-front-smaller c = searching_smaller (flip (graph_of c.args.self.now)) (λ u v a. c.args.self.now.valid.head_below v u a) c.args.s.bits c.lowest-v.result
-    c.loop-front.found.bits c.loop-front.front.bits c.difference-front.result.bits c.difference-fresh.result.bits c.union-found.result.bits c.union-front.result.bits
-    (step_of c) (omega arith) (omega arith) (omega arith) (omega arith)
+pub closure-requires-clause-rows : goal.closure-requires-clause-rows
+closure-requires-clause-rows c = λ u v a. c.args.self.now.valid.head_below v u a
 
 pub returns : goal.returns
 returns c = λ v. (
-  λ i. descendant_from (graph_of c.args.self.now) (has c.args.s.bits) v (c.loop-front.invariant.0.sound v i),
-  λ d. (let h = from_descendant (graph_of c.args.self.now) (has c.args.s.bits) v d in
-      held_along_path (flip (graph_of c.args.self.now)) (has c.loop-front.found.bits)
-      (λ u w i a. c.loop-front.invariant.0.closed u w i (rw c.loop-front-test.false (has-zero w)) a) v h.end h.path h.leads (c.loop-front.invariant.0.started h.end h.inside)),
+  λ t. descendant_from (graph_of c.args.self.now) (has c.args.s.bits) v
+      (ancestor_same (graph_of_rows c.args.self.now.n c.args.self.now.children) (flip (graph_of c.args.self.now)) (has c.args.s.bits) v refl
+      (λ u w. refl) ((c.closure.ensures v).0 t)),
+  λ d. (c.closure.ensures v).1 (ancestor_same (flip (graph_of c.args.self.now)) (graph_of_rows c.args.self.now.n c.args.self.now.children) (has c.args.s.bits) v refl
+      (λ u w. refl) (from_descendant (graph_of c.args.self.now) (has c.args.s.bits) v d)),
 )

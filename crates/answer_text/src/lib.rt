@@ -1,0 +1,89 @@
+//! How sets of vertices and paths are printed.
+#![tactic(auto)]
+
+ghost use Rattle.std.specs.Prelude.{◌≡◌, ◌++◌, ◌<◌, ◌≤◌, ◌+◌, ◌∷◌, [], ℕ, length, map, OnOk, slice_index, slice_index_or};
+ghost use Rattle.mixed_graph.specs.Bits.{has, members_below};
+ghost use Rattle.mixed_graph.specs.Sets.{Within};
+ghost use Rattle.name_text.specs.Printing.{printed, comma_text};
+ghost use Rattle.answer_text.specs.Texts.{comma_before, set_text, mark_text, steps_text, path_text};
+ghost use Rattle.mixed_graph.specs.Names.{name_of};
+
+use m_separation::Mark;
+use mixed_graph::{Names, VSet};
+use name_text::push_name;
+use std::alloc::AllocError;
+
+/// Appends the name of vertex v as it is printed. At an error what was appended is open.
+pub fn push_vertex(out: &mut Vec<u8>, names: &Names, v: u8) -> Result<(), AllocError>
+    requires { v < length names.now }
+    ensures { OnOk result (out.new.items ≡ out.old.items ++ printed (name_of names.now v)) }
+{
+    push_name(out, names.get(v))
+}
+
+/// Appends a set: its names in index order, with commas between them, in braces.
+/// At an error what was appended is open.
+pub fn push_set(out: &mut Vec<u8>, names: &Names, set: VSet) -> Result<(), AllocError>
+    requires { Within (length names.now) (has set.bits) }
+    ensures { OnOk result (out.new.items ≡ out.old.items ++ set_text names.now set.bits) }
+{
+    out.push(b'{')?;
+    push_members(out, names, set)?;
+    out.push(b'}')?;
+    Ok(())
+}
+
+/// A comma where a member is still to come.
+fn separator(rest: VSet) -> &'static [u8]
+    ensures { result.now ≡ comma_before (members_below (has rest.bits) 64) }
+{
+    if rest.is_empty() { b"" } else { b"," }
+}
+
+/// Appends the names of a set's members, with commas between them.
+fn push_members(out: &mut Vec<u8>, names: &Names, set: VSet) -> Result<(), AllocError>
+    requires { Within (length names.now) (has set.bits) }
+    ensures { OnOk result (out.new.items ≡ out.old.items ++ comma_text (map (name_of names.now) (members_below (has set.bits) 64))) }
+{
+    let mut rest = set;
+    'members: while !rest.is_empty() {
+        let v = rest.lowest();
+        push_vertex(out, names, v)?;
+        rest = rest.difference(VSet::one(v));
+        out.extend_from_slice(separator(rest))?;
+    }
+    Ok(())
+}
+
+/// The mark of a path, with a space on each side.
+fn mark_bytes(mark: Mark) -> &'static [u8]
+    ensures { result.now ≡ mark_text mark }
+{
+    match mark {
+        Mark::Out => b" -> ",
+        Mark::Into => b" <- ",
+        Mark::Both => b" <-> ",
+    }
+}
+
+/// Appends a path of `count` vertices. At an error what was appended is open.
+pub fn push_path(
+    out: &mut Vec<u8>,
+    names: &Names,
+    vertices: &[u8; 64],
+    marks: &[Mark; 64],
+    count: u32,
+) -> Result<(), AllocError>
+    requires some { 0 < count }
+    requires few { count ≤ 64 }
+    requires named { (i : ℕ) → i < count → slice_index vertices.now i < length names.now }
+    ensures { OnOk result (out.new.items ≡ out.old.items ++ path_text names.now vertices.now marks.now count) }
+{
+    push_vertex(out, names, vertices[0])?;
+    let steps = count as usize - 1;
+    for i in 0..steps {
+        out.extend_from_slice(mark_bytes(marks[i]))?;
+        push_vertex(out, names, vertices[i + 1])?;
+    }
+    Ok(())
+}

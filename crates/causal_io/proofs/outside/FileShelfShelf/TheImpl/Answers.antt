@@ -1,0 +1,16 @@
+use Rattle.std.proofs.Common.{refl}
+use Rattle.std.proofs.lemmas.Bool.{false≢true}
+use Rattle.causal_io.proofs.outside.FileShelfShelf.TheImpl.Goals as goal
+
+-- no name is lacked, and no content is told
+pub read-tells : goal.read-tells
+read-tells g c = record {
+  bound = c.ensures.bound;
+  told = tt;
+  lacked = λ p. absurd (false≢true p);
+  failed = c.ensures.failed;
+  never_falls = c.ensures.never_falls;
+  others = λ other apart _. c.ensures.others other apart;
+  holds = refl;
+  lack = refl;
+}

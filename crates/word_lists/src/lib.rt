@@ -1,0 +1,244 @@
+//! Lists of names and numbers, as they stand in the values of options. A list is `{}` for none, or names
+//! joined by commas; a name that holds a comma stands between quotes. Nothing is trimmed. A number is one
+//! or more decimal digits.
+#![tactic(auto)]
+
+ghost use Rattle.std.specs.Prelude.{◌≡◌, ℕ, List, [], length, IfOk, IfSome, IfNone, true, option_map, MatchOption, ◌<◌, ◌≤◌, ◌^◌};
+ghost use Rattle.std.specs.Str.{all_ascii_digits};
+ghost use Rattle.std.specs.Str.Parse.{digits_value};
+ghost use Rattle.word_lists.specs.Lists.{IsList};
+ghost use Rattle.word_lists.specs.Numbers.{IsNumber};
+ghost use Rattle.word_lists.specs.Walk.{next_of, names_of, list_of, is_none, can_end};
+ghost use Rattle.word_lists.specs.Views.{names_in};
+
+use std::alloc::{AllocError, Global};
+
+// Where the reader of a list stands: an item is due, in an item, between quotes, or after quotes.
+#[derive(Clone, Copy)]
+enum Place {
+    Due,
+    Plain,
+    Inside,
+    Closed,
+}
+
+// What a byte does: it is one more of the item, it only moves, it ends the item, or it has no place.
+#[derive(Clone, Copy)]
+enum Next {
+    Take(Place),
+    Pass(Place),
+    End,
+    Bad,
+}
+
+// What a byte does at a place, where there is nothing of an item yet or something.
+fn step(place: Place, is_none: bool, byte: u8) -> Next
+    ensures { result ≡ next_of place is_none byte }
+{
+    match place {
+        Place::Due => match byte {
+            b'"' => Next::Pass(Place::Inside),
+            b',' => Next::Bad,
+            _ => Next::Take(Place::Plain),
+        },
+        Place::Plain => match byte {
+            b',' => Next::End,
+            b'"' => Next::Bad,
+            _ => Next::Take(Place::Plain),
+        },
+        Place::Inside => {
+            if byte != b'"' {
+                return Next::Take(Place::Inside);
+            }
+            if is_none {
+                return Next::Bad;
+            }
+            Next::Pass(Place::Closed)
+        }
+        Place::Closed => {
+            if byte == b',' {
+                return Next::End;
+            }
+            Next::Bad
+        }
+    }
+}
+
+// Whether there is nothing of an item.
+fn lacks(name: &[u8]) -> bool
+    ensures { result ≡ is_none name.now }
+{
+    match name {
+        [] => true,
+        [_, ..] => false,
+    }
+}
+
+// Whether an item may end here.
+fn ends(place: Place) -> bool
+    ensures { result ≡ can_end place }
+{
+    match place {
+        Place::Due | Place::Inside => false,
+        Place::Plain | Place::Closed => true,
+    }
+}
+
+// The names of items joined by commas, where the text is such.
+fn read_names(alloc: Global, text: &[u8]) -> Result<Option<Vec<Vec<u8>>>, AllocError>
+    ensures { IfOk result (λ o. option_map names_in o ≡ names_of Place.Due [] text.now) }
+{
+    let mut names: Vec<Vec<u8>> = Vec::new(alloc);
+    let mut name: Vec<u8> = Vec::new(alloc);
+    let mut place = Place::Due;
+    for byte in text {
+        match step(place, lacks(&name), *byte) {
+            Next::Take(after) => {
+                name.push(*byte)?;
+                place = after;
+            }
+            Next::Pass(after) => {
+                place = after;
+            }
+            Next::End => {
+                names.push(name)?;
+                name = Vec::new(alloc);
+                place = Place::Due;
+            }
+            Next::Bad => {
+                return Ok(None);
+            }
+        }
+    }
+    if !ends(place) {
+        return Ok(None);
+    }
+    names.push(name)?;
+    Ok(Some(names))
+}
+
+// The names of a list, where the text is one.
+fn find_list(alloc: Global, text: &str) -> Result<Option<Vec<Vec<u8>>>, AllocError>
+    ensures { IfOk result (λ o. option_map names_in o ≡ list_of text.now) }
+{
+    if text == "{}" {
+        return Ok(Some(Vec::new(alloc)));
+    }
+    read_names(alloc, text.as_bytes())
+}
+
+/// The names of a list, exactly where the text is one.
+pub fn read_list(alloc: Global, text: &str) -> Result<Option<Vec<Vec<u8>>>, AllocError>
+    ensures list { IfOk result (λ o. IfSome o (λ v. IsList text.now (names_in v))) }
+    ensures only { IfOk result (λ o. IfSome o (λ v. (names : List (List ℕ)) → IsList text.now names → names ≡ names_in v)) }
+    ensures none { IfOk result (λ o. IfNone o ((names : List (List ℕ)) → IsList text.now names → ⊥)) }
+{
+    find_list(alloc, text)
+}
+
+// Whether all bytes are digits.
+fn are_digits(text: &[u8]) -> bool
+    ensures { result ≡ all_ascii_digits text.now }
+{
+    for byte in text {
+        if !byte.is_ascii_digit() {
+            return false;
+        }
+    }
+    true
+}
+
+// The number that digits are, where there are some and it isn't too wide.
+fn parse_digits(text: &str) -> Option<u64>
+    requires { all_ascii_digits text.now ≡ true }
+    ensures { MatchOption result (0 < length text.now → 2 ^ 64 ≤ digits_value 10 text.now) (λ n. (0 < length text.now) × (digits_value 10 text.now ≡ n)) }
+{
+    match text.parse::<u64>() {
+        Ok(number) => Some(number),
+        Err(_) => None,
+    }
+}
+
+/// The number that the text is, exactly where it is one in the range from `low` to `high`.
+pub fn read_number(text: &str, low: u64, high: u64) -> Option<u64>
+    ensures number { IfSome result (λ n. IsNumber text.now low high n) }
+    ensures none { IfNone result ((n : ℕ) → IsNumber text.now low high n → ⊥) }
+{
+    if !are_digits(text.as_bytes()) {
+        return None;
+    }
+    match parse_digits(text) {
+        Some(number) if low <= number && number <= high => Some(number),
+        _ => None,
+    }
+}
+
+#[cfg(test)]
+mod tests {
+    use super::*;
+    use std::test::Fail;
+
+    fn are_names(names: &[Vec<u8>], want: &[&str]) -> bool {
+        names.len() == want.len()
+            && names
+                .iter()
+                .zip(want)
+                .all(|(name, text)| name.as_slice() == text.as_bytes())
+    }
+
+    #[test]
+    fn values_are_read(rt: HostRuntime) -> Result<(), Fail> {
+        let lists: [(&str, Option<&[&str]>); 21] = [
+            ("{}", Some(&[])),
+            ("A", Some(&["A"])),
+            ("A,B,A", Some(&["A", "B", "A"])),
+            ("{},A", Some(&["{}", "A"])),
+            ("A,{}", Some(&["A", "{}"])),
+            ("\"{}\"", Some(&["{}"])),
+            ("\"A,B\",C", Some(&["A,B", "C"])),
+            (" A, B", Some(&[" A", " B"])),
+            (" {}", Some(&[" {}"])),
+            ("A,-b", Some(&["A", "-b"])),
+            ("\" \"", Some(&[" "])),
+            ("", None),
+            (",", None),
+            ("A,", None),
+            (",A", None),
+            ("A,,B", None),
+            ("A\"B\"", None),
+            ("\"A\"B", None),
+            ("\"\"", None),
+            ("\"A", None),
+            ("A,\"", None),
+        ];
+        for (text, want) in lists {
+            let names = read_list(rt.alloc(), text)?;
+            assert_eq!(rt; names.is_some(), want.is_some(), "at {text}");
+            if let (Some(names), Some(want)) = (names, want) {
+                assert!(rt; are_names(&names, want), "at {text}");
+            }
+        }
+        let numbers: [(&str, u64, u64, Option<u64>); 16] = [
+            ("1", 1, 3, Some(1)),
+            ("3", 1, 3, Some(3)),
+            ("002", 1, 3, Some(2)),
+            ("0", 0, u64::MAX, Some(0)),
+            ("18446744073709551615", 0, u64::MAX, Some(u64::MAX)),
+            ("0", 1, 3, None),
+            ("4", 1, 3, None),
+            ("10001", 1, 10_000, None),
+            ("18446744073709551616", 0, u64::MAX, None),
+            ("18446744073709551617", 0, u64::MAX, None),
+            ("", 0, u64::MAX, None),
+            ("+1", 0, u64::MAX, None),
+            ("-1", 0, u64::MAX, None),
+            (" 1", 0, u64::MAX, None),
+            ("1.0", 0, u64::MAX, None),
+            ("one", 0, u64::MAX, None),
+        ];
+        for (text, low, high, want) in numbers {
+            assert_eq!(rt; read_number(text, low, high), want, "at {text}");
+        }
+        Ok(())
+    }
+}
