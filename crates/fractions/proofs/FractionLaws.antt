@@ -29,6 +29,9 @@ equal_trans f g h p q = record {
       (trans_numbers f.top f.bottom g.top g.bottom h.top h.bottom p.products q.products);
 }
 
+pub nothing_equals_over_zero : (p : ℕ) (f : Fraction) → IsEqual (over p 0) f → ⊥
+nothing_equals_over_zero p f e = let h = e.left_bottom in absurd (omega (arith, h))
+
 pub equal_wholes : (p q : ℕ) → IsEqual (over p 1) (over q 1) → p ≡ q
 equal_wholes p q e = let h = e.products in omega (arith, h)
 

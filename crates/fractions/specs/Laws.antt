@@ -6,11 +6,17 @@ use Rattle.fractions.specs.Fractions.{Fraction, over, IsEqual, IsPositive, add, 
 abbrev pub EqualIsReflexive : Type 0
 EqualIsReflexive = (f : Fraction) → 1 ≤ f.bottom → IsEqual f f
 
+-- equality holds in either direction
 abbrev pub EqualIsSymmetric : Type 0
 EqualIsSymmetric = (f g : Fraction) → IsEqual f g → IsEqual g f
 
+-- what is equal to an equal fraction is equal
 abbrev pub EqualIsTransitive : Type 0
 EqualIsTransitive = (f g h : Fraction) → IsEqual f g → IsEqual g h → IsEqual f h
+
+-- what is over 0 is equal to nothing, not even to itself
+abbrev pub NothingEqualsOverZero : Type 0
+NothingEqualsOverZero = (p : ℕ) (f : Fraction) → IsEqual (over p 0) f → ⊥
 
 -- two whole numbers are equal fractions only where they are one
 abbrev pub EqualWholesAreOne : Type 0
@@ -36,21 +42,27 @@ ProductsAreEqual = (f f' g g' : Fraction) → IsEqual f f' → IsEqual g g' → 
 abbrev pub QuotientsAreEqual : Type 0
 QuotientsAreEqual = (f f' g g' : Fraction) → 1 ≤ g.top → IsEqual f f' → IsEqual g g' → IsEqual (div f g) (div f' g')
 
+-- f + g is g + f, as a pair of numbers
 abbrev pub AddIsCommutative : Type 0
 AddIsCommutative = (f g : Fraction) → add f g ≡ add g f
 
+-- f + (g + h) is (f + g) + h, as a pair of numbers
 abbrev pub AddIsAssociative : Type 0
 AddIsAssociative = (f g h : Fraction) → add f (add g h) ≡ add (add f g) h
 
+-- f + 0 / 1 is f, as a pair of numbers
 abbrev pub AddZero : Type 0
 AddZero = (f : Fraction) → add f (over 0 1) ≡ f
 
+-- f * g is g * f, as a pair of numbers
 abbrev pub MulIsCommutative : Type 0
 MulIsCommutative = (f g : Fraction) → mul f g ≡ mul g f
 
+-- f * (g * h) is (f * g) * h, as a pair of numbers
 abbrev pub MulIsAssociative : Type 0
 MulIsAssociative = (f g h : Fraction) → mul f (mul g h) ≡ mul (mul f g) h
 
+-- f * 1 / 1 is f, as a pair of numbers
 abbrev pub MulOne : Type 0
 MulOne = (f : Fraction) → mul f (over 1 1) ≡ f
 

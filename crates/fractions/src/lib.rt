@@ -5,7 +5,7 @@
 //! laws as lemmas.
 #![tactic(auto)]
 
-ghost use Rattle.fractions.specs.Laws.{EqualIsReflexive, EqualIsSymmetric, EqualIsTransitive, EqualWholesAreOne, ScaledIsEqual};
+ghost use Rattle.fractions.specs.Laws.{EqualIsReflexive, EqualIsSymmetric, EqualIsTransitive, NothingEqualsOverZero, EqualWholesAreOne, ScaledIsEqual};
 ghost use Rattle.fractions.specs.Laws.{SumsAreEqual, LongSumsAreEqual, ProductsAreEqual, QuotientsAreEqual};
 ghost use Rattle.fractions.specs.Laws.{AddIsCommutative, AddIsAssociative, AddZero, MulIsCommutative, MulIsAssociative, MulOne, MulDistributes, QuotientIsUndone};
 
@@ -17,6 +17,7 @@ pub fn laws()
     ensures reflexive { EqualIsReflexive }
     ensures symmetric { EqualIsSymmetric }
     ensures transitive { EqualIsTransitive }
+    ensures over_zero { NothingEqualsOverZero }
     ensures wholes { EqualWholesAreOne }
     ensures scaled { ScaledIsEqual }
 

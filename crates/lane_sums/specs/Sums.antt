@@ -1,5 +1,5 @@
 -- Plain sums over indices.
-use Rattle.std.specs.Prelude.{ℕ, zero, suc, ◌+◌, ◌*◌, ◌≡◌, ◌<◌, ◌≤◌, List, cond, eqb, bit_and, slice_index}
+use Rattle.std.specs.Prelude.{ℕ, zero, suc, ◌+◌, ◌*◌, ◌≡◌, ◌<◌, ◌≤◌, List, if◌then◌else◌, ◌==◌, bit_and, slice_index}
 
 -- f 0 + .. + f (k - 1)
 abbrev pub sum_below : ℕ → (ℕ → ℕ) → ℕ
@@ -8,7 +8,7 @@ sum_below (suc k) f = sum_below k f + f k
 
 -- the number, where its code under the mask is the wanted one, else 0
 abbrev pub if_matched : ℕ → ℕ → ℕ → ℕ → ℕ
-if_matched mask want count code = cond (eqb (bit_and code mask) want) count 0
+if_matched mask want count code = if bit_and code mask == want then count else 0
 
 -- the sum of the first n numbers whose codes under the mask are the wanted one
 abbrev pub matched_sum : ℕ → ℕ → ℕ → List ℕ → List ℕ → ℕ

@@ -25,7 +25,9 @@ impl Exact {
 
     /// The fraction p / q.
     fn reduced(p: u128, q: u128) -> Exact
-        requires { (1 ≤ q) × (p ≤ 2 ^ 127 - 1) × (q ≤ 2 ^ 127 - 1) }
+        requires positive { 1 ≤ q }
+        requires top { p ≤ 2 ^ 127 - 1 }
+        requires bottom { q ≤ 2 ^ 127 - 1 }
         ensures { pair result.p result.q ≡ lowest p q }
     {
         let g = gcd(p, q);

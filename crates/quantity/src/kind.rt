@@ -19,7 +19,9 @@ pub trait Quantity: Copy {
 
     /// The quantity of p / q.
     fn from_ratio(p: u64, q: u64) -> Self
-        requires { (1 ≤ q) × (p ≤ q) × (q ≤ 10 ^ 15) }
+        requires positive { 1 ≤ q }
+        requires at_most_one { p ≤ q }
+        requires small { q ≤ 10 ^ 15 }
         ensures { numbers result ≡ kind.from_ratio p q };
 
     /// The sum, or why there is none.

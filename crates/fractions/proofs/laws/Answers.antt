@@ -6,6 +6,7 @@ returns c = record {
   reflexive = FractionLaws.equal_refl;
   symmetric = FractionLaws.equal_sym;
   transitive = FractionLaws.equal_trans;
+  over_zero = FractionLaws.nothing_equals_over_zero;
   wholes = FractionLaws.equal_wholes;
   scaled = FractionLaws.equal_scaled;
   sums = FractionLaws.add_equal;

@@ -32,13 +32,10 @@ returns-in_err-top c =
     ∙ wide_top ((s.q / g) * o.q) (s.p * (o.q / g) + o.p * (s.q / g)) (omega (arith, c.in_err-top.ensures.wide, c.in_ok-first.ensures.value, c.in_ok-second.ensures.value))
     ∙ added s.p s.q o.p o.q g s.positive o.positive c.gcd-g.ensures.value
 
-pub reduced-requires : goal.reduced-requires
-reduced-requires c =
-    let s = c.args.self.now in let o = c.args.other.now in (
-      subst (λ n. 1 ≤ n) (ap (λ n. (s.q / n) * o.q) (sym c.gcd-g.ensures.value) ∙ sym c.in_ok-bottom.ensures.value) (multiple_of s.q o.q s.positive o.positive).positive,
-      c.in_ok-top.ensures.fits,
-      c.in_ok-bottom.ensures.fits,
-    )
+pub reduced-requires-clause-positive : goal.reduced-requires-clause-positive
+reduced-requires-clause-positive c =
+    let s = c.args.self.now in let o = c.args.other.now in
+    subst (λ n. 1 ≤ n) (ap (λ n. (s.q / n) * o.q) (sym c.gcd-g.ensures.value) ∙ sym c.in_ok-bottom.ensures.value) (multiple_of s.q o.q s.positive o.positive).positive
 
 pub returns : goal.returns
 returns c =
