@@ -1,0 +1,37 @@
+use Rattle.std.proofs.Common.{ℕ, not, ap, ◌∙◌, ◌++◌, ◌∷◌, [], List, arith, sym, length}
+use Rattle.std.proofs.lemmas.Bool.{not_from_true, not_from_false}
+use Rattle.std.proofs.lemmas.Option.{get_or_from_slice_get}
+use Rattle.mixed_graph.specs.Bits.{has}
+use Rattle.mixed_graph.specs.Names.{is_named}
+use Rattle.mixed_graph.proofs.Members.{length-members-le}
+use Rattle.latent_projection.specs.Renumbering.{observed_below, names_at}
+use Rattle.latent_projection.proofs.KeptNames.{names_at-none, names_at-more, names_at-same, not_named, length-names_at}
+use Rattle.latent_projection.proofs.dropping.observed_names.Goals as goal
+use Rattle.latent_projection.proofs.dropping.observed_names.Goals.{then-not-has+in_ok-put, else-not-has}
+
+pub loop-v-init : goal.loop-v-init
+loop-v-init c = c.empty-kept.ensures ∙ sym (names_at-none (λ v. not (has c.args.latent.bits v)) c.args.names.now)
+
+pub put-requires-clause-new : goal.put-requires-clause-new
+put-requires-clause-new c =
+    let below = c.count-n.ensures.count in
+    ap (λ (names : List (List ℕ)). is_named names c.get.result.now) c.loop-v.invariant
+    ∙ ap (λ name. is_named (names_at (observed_below (has c.args.latent.bits) c.loop-v.v) c.args.names.now) name)
+    (sym (get_or_from_slice_get c.args.names.now c.loop-v.v c.get.result.now [] c.get.ensures.name))
+    ∙ not_named (λ v. not (has c.args.latent.bits v)) c.loop-v.v c.loop-v.v c.args.names.now c.count-n.ensures.names (omega arith) (omega (arith, below))
+
+pub put-requires-clause-room : goal.put-requires-clause-room
+put-requires-clause-room c =
+    let size = ap (λ (names : List (List ℕ)). length names) c.loop-v.invariant ∙ length-names_at (observed_below (has c.args.latent.bits) c.loop-v.v) c.args.names.now in
+    let few = c.count-n.ensures.names.few in
+    let q = length-members-le (λ v. not (has c.args.latent.bits v)) c.loop-v.v in
+    omega (arith, size, q, few, c.count-n.ensures.count)
+
+pub loop-v-preserved : goal.loop-v-preserved
+loop-v-preserved c = elim c.if-not-has.branch [
+  | then-not-has+in_ok-put w ↦ w.kept-is ∙ w.in_ok-put.ensures ∙ ap (λ (names : List (List ℕ)). names ++ w.get.result.now ∷ []) c.loop-v.invariant
+      ∙ sym (names_at-more (λ v. not (has c.args.latent.bits v)) c.loop-v.v c.args.names.now w.get.result.now
+      (not_from_false (has c.args.latent.bits c.loop-v.v) (sym c.has.ensures ∙ w.if-not-has.true)) w.get.ensures.name)
+  | else-not-has w ↦ w.kept-is ∙ c.loop-v.invariant
+      ∙ sym (names_at-same (λ v. not (has c.args.latent.bits v)) c.loop-v.v c.args.names.now (not_from_true (has c.args.latent.bits c.loop-v.v) (sym c.has.ensures ∙ w.if-not-has.false)))
+]

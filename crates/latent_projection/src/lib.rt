@@ -1,0 +1,14 @@
+// The latent projection: a graph with hidden vertices as a graph on the observed ones.
+#![tactic(auto)]
+
+mod dropping;
+mod latents;
+mod numbers;
+mod parts;
+#[cfg(test)]
+mod tests;
+
+pub use dropping::observed;
+pub use latents::project;
+pub use numbers::renumber;
+pub use parts::Observed;

@@ -1,0 +1,8 @@
+use mixed_graph::{Graph, Names};
+
+/// The observed part of a graph: name k is that of vertex k.
+#[derive(Drop)]
+pub struct Observed {
+    pub names: Names,
+    pub graph: Graph,
+}
