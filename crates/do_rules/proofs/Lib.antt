@@ -1,0 +1,9 @@
+pub mod Altered
+pub mod Holds
+pub mod Separation
+pub mod Moving
+pub mod Product
+pub mod Reach
+pub mod RuleThree
+pub mod TwoRules
+pub mod Split

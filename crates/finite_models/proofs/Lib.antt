@@ -1,0 +1,13 @@
+pub mod Bools
+pub mod Factors
+pub mod Following
+pub mod Indicators
+pub mod Positive
+pub mod Radix
+pub mod Ranks
+pub mod Solutions
+pub mod SumLaws
+pub mod TableLaws
+pub mod Tested
+pub mod Weights
+mod Worked

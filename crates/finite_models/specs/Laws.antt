@@ -1,0 +1,32 @@
+-- Laws of the models that fit a graph.
+use Rattle.std.specs.Prelude.{ℕ, ◌≡◌, ◌<◌, ◌≤◌, Bool, false}
+use Rattle.mixed_graph.specs.Graphs.{MixedGraph, IsMixedGraph}
+use Rattle.finite_models.specs.Models.{FiniteModel, Fits, IsAssignment, IsWorld, IsSolution, IsPositiveModel, solution, event_weight, intervene, weight_of, total}
+
+-- the solution of a world under an intervention is a solution
+abbrev pub SolutionIsSolution : Type 0
+SolutionIsSolution = (g : MixedGraph) → IsMixedGraph g → (m : FiniteModel) → Fits g m → (b : ℕ → Bool) (s : ℕ → ℕ) → IsAssignment m.vertices m.size s
+    → (u : ℕ → ℕ) → IsSolution (intervene m b s) u (solution (intervene m b s) u)
+
+-- and there is no other
+abbrev pub SolutionIsUnique : Type 0
+SolutionIsUnique = (g : MixedGraph) → IsMixedGraph g → (m : FiniteModel) → Fits g m → (b : ℕ → Bool) (s : ℕ → ℕ) → IsAssignment m.vertices m.size s
+    → (u t : ℕ → ℕ) → IsSolution (intervene m b s) u t → (v : ℕ) → v < m.vertices → t v ≡ solution (intervene m b s) u v
+
+-- its values are below the sizes
+abbrev pub SolutionIsAssignment : Type 0
+SolutionIsAssignment = (g : MixedGraph) → IsMixedGraph g → (m : FiniteModel) → Fits g m → (b : ℕ → Bool) (s : ℕ → ℕ) → IsAssignment m.vertices m.size s
+    → (u : ℕ → ℕ) → IsWorld m u → IsAssignment m.vertices m.size (solution (intervene m b s) u)
+
+-- the intervention on no vertex changes no weight
+abbrev pub NoInterventionIsObservation : Type 0
+NoInterventionIsObservation = (m : FiniteModel) (b a : ℕ → Bool) (s : ℕ → ℕ) → ((v : ℕ) → b v ≡ false) → weight_of m b a s ≡ event_weight m a s
+
+-- the event of no vertex has the weight of all worlds, under each intervention
+abbrev pub NoEventIsTotal : Type 0
+NoEventIsTotal = (m : FiniteModel) (b a : ℕ → Bool) (s : ℕ → ℕ) → ((v : ℕ) → a v ≡ false) → weight_of m b a s ≡ total m
+
+-- in a positive model each event has weight at least 1 under each intervention, at each assignment
+abbrev pub EachWeightIsPositive : Type 0
+EachWeightIsPositive = (g : MixedGraph) → IsMixedGraph g → (m : FiniteModel) → Fits g m → IsPositiveModel m → (b a : ℕ → Bool) (s : ℕ → ℕ) → IsAssignment m.vertices m.size s
+    → 1 ≤ weight_of m b a s

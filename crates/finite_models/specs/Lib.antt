@@ -1,0 +1,4 @@
+pub mod Laws
+pub mod Models
+pub mod Sums
+pub mod Tables

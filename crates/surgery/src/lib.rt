@@ -1,0 +1,9 @@
+//! Graphs with edges cut out, as the rules of the do-calculus need them.
+#![tactic(auto)]
+
+mod cuts;
+mod rows;
+#[cfg(test)]
+mod tests;
+
+pub use cuts::{EdgeSet, cut_edges, cut_into, cut_out};
