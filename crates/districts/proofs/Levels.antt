@@ -106,7 +106,8 @@ module _ (g : MixedGraph) (valid : IsMixedGraph g) (within s : ℕ → Bool) (se
       let n = new_of v i in
       let f = front_of n.child n.on_goal in
       let d = before.away n.child f.0 in record {
-        path = n.child ∷ d.path; end = d.end;
+        path = n.child ∷ d.path;
+        end = d.end;
         leads = (inner v n.child n.arrow n.inside f.1, d.leads);
         inside = d.inside;
         long = ap suc d.long;
@@ -144,8 +145,11 @@ module _ (g : MixedGraph) (valid : IsMixedGraph g) (within s : ℕ → Bool) (se
   leading v i out =
       let n = new_of v i in
       let d = further_away v i in
-      record { member = n.inside; outside = out;
-        reaches = record { vertex = valid.tail_below v n.child n.arrow; path = d.path; end = d.end; leads = d.leads; inside = d.inside } }
+      record {
+        member = n.inside;
+        outside = out;
+        reaches = record { vertex = valid.tail_below v n.child n.arrow; path = d.path; end = d.end; leads = d.leads; inside = d.inside };
+      }
 
   on_goal : (v : ℕ) → IsTrue (has fresh v) → IsTrue (has goal (get_or next' v 0))
   on_goal v i = (and_parts _ _ (step.chosen v i).member).1
@@ -183,6 +187,7 @@ module _ (g : MixedGraph) (valid : IsMixedGraph g) (within s : ℕ → Bool) (se
       along : (v : ℕ) (path : List ℕ) (u : ℕ) → IsDirectedPath (induced g within) v path u → IsTrue (s u) → length path ≤ suc k → IsTrue (has seen' v)
       along v [] u p i l = kept v (before.started v (subst (λ w. s w ≡ true) (sym p) i))
       along v (c ∷ rest) u p i l = by_seen v c p.0 (before.complete c rest u p.1 i (omega arith))
+
       none_seen : (v : ℕ) → has seen' v ≡ false → (has seen v ≡ false) × (has fresh v ≡ false)
       none_seen v n = let e = step.seen_is v in (neither (has seen v) (has fresh v) (sym e ∙ n))
         where
@@ -198,7 +203,8 @@ module _ (g : MixedGraph) (valid : IsMixedGraph g) (within s : ℕ → Bool) (se
     | inl same ↦
         let none : fresh ≡ 0 = zero_from_empty fresh (λ v. elim (cases_Bool (has fresh v)) [
           | inl f ↦ absurd (let t = gained v f in let n = (new_of v f).unseen in let e : has seen v ≡ has seen' v = ap (λ m. has m v) same in cc)
-          | inr n ↦ n ]) in
+          | inr n ↦ n
+        ]) in
         omega (arith, same, none)
     | inr (inl lt) ↦ omega (arith, lt, c, d)
     | inr (inr gt) ↦ absurd (let sub : seen ≤ seen' = le_from_subset seen seen' kept in omega (arith, sub, gt))
@@ -211,7 +217,10 @@ choices_from g within s seen front next k none l v below = elim (cases_Bool (s v
   | inl i ↦ inr (λ h. absurd (let o = h.outside in cc), l.unset v below (inr i))
   | inr out ↦ elim (cases_Bool (has seen v)) [
     | inl i ↦ inl (l.chosen v i out)
-    | inr n ↦ inr (λ h. absurd (let t = held_along_path (induced g within) (has seen) (λ u w i a. l.closed u w i (rw none (has-zero w)) a)
-        v h.reaches.end h.reaches.path h.reaches.leads (l.started h.reaches.end h.reaches.inside) in cc), l.unset v below (inl n))
+    | inr n ↦ inr (
+      λ h. absurd (let t = held_along_path (induced g within) (has seen) (λ u w i a. l.closed u w i (rw none (has-zero w)) a)
+          v h.reaches.end h.reaches.path h.reaches.leads (l.started h.reaches.end h.reaches.inside) in cc),
+      l.unset v below (inl n),
+    )
   ]
 ]

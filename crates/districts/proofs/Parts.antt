@@ -80,5 +80,6 @@ module _ (g : MixedGraph) (valid : IsMixedGraph g) where
     where
       one_self : IsTrue (has (2 ^ v) v)
       one_self = has-pow v v ∙ self v
+
       only : (w : ℕ) → IsTrue (has (2 ^ v) w) → w ≡ v
       only w e = eqb-true w v (sym (has-pow v w) ∙ e)

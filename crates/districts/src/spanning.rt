@@ -10,10 +10,8 @@ use mixed_graph::{Graph, VSet};
 
 /// What is still to be found: the rest of small, and once small is found the rest of big.
 fn wanted(small: VSet, big: VSet, found: VSet) -> VSet
-    ensures {
-        ((u : ℕ) × IsTrue (has small.bits u) × (has found.bits u ≡ false) × ((w : ℕ) → has result.bits w ≡ (has small.bits w && not (has found.bits w))))
-            ⊎ (((u : ℕ) → IsTrue (has small.bits u) → IsTrue (has found.bits u)) × ((w : ℕ) → has result.bits w ≡ (has big.bits w && not (has found.bits w))))
-    }
+    ensures { ((u : ℕ) × IsTrue (has small.bits u) × (has found.bits u ≡ false) × ((w : ℕ) → has result.bits w ≡ (has small.bits w && not (has found.bits w))))
+        ⊎ (((u : ℕ) → IsTrue (has small.bits u) → IsTrue (has found.bits u)) × ((w : ℕ) → has result.bits w ≡ (has big.bits w && not (has found.bits w)))) }
 {
     let rest = small.difference(found);
     if rest.is_empty() {

@@ -29,19 +29,25 @@ pub search-init : goal.search-init
 search-init c = (
   searching_none (sibling (graph_of c.args.g.now) (has c.args.within.bits)) c.one-found.result.bits
       (λ v i. c.requires.within v (subst (λ w. has c.args.within.bits w ≡ true) (sym (eqb-true v c.args.v (sym (c.one-found.ensures v) ∙ i))) c.requires.member)),
-  c.one-found.ensures, omega arith, omega arith)
+  c.one-found.ensures,
+  omega arith,
+  omega arith,
+)
 
 pub search-preserved : goal.search-preserved
 search-preserved c = (
   searching_more (sibling (graph_of c.args.g.now) (has c.args.within.bits)) (λ u v a. c.args.g.now.valid.both_below u v (and_parts _ _ a).0) c.one-found.result.bits c.lowest-u.result
       c.search.found.bits c.search.front.bits c.difference-front.result.bits c.difference-fresh.result.bits c.union-found.result.bits c.union-front.result.bits
       (step_of c) c.search.invariant.0,
-  c.one-found.ensures, omega arith, omega arith)
+  c.one-found.ensures,
+  omega arith,
+  omega arith,
+)
 
 pub search-smaller : goal.search-smaller
 search-smaller c = searching_smaller (sibling (graph_of c.args.g.now) (has c.args.within.bits)) (λ u v a. c.args.g.now.valid.both_below u v (and_parts _ _ a).0) c.one-found.result.bits c.lowest-u.result
-      c.search.found.bits c.search.front.bits c.difference-front.result.bits c.difference-fresh.result.bits c.union-found.result.bits c.union-front.result.bits
-      (step_of c) (omega arith) (omega arith) (omega arith) (omega arith)
+    c.search.found.bits c.search.front.bits c.difference-front.result.bits c.difference-fresh.result.bits c.union-found.result.bits c.union-front.result.bits
+    (step_of c) (omega arith) (omega arith) (omega arith) (omega arith)
 
 is_district : (c : After-search) → c.search.front.bits ≡ 0 → IsDistrict (graph_of c.args.g.now) c.args.within.bits (2 ^ c.args.v) c.search.found.bits
 is_district c done =

@@ -41,7 +41,7 @@ loop-i-preserved c = elim c.if-has.branch [
       let v : ℕ = get_or c.order-order.result.list c.loop-i.i 0 in
       let p = and_parts _ _ (sym (c.difference.ensures v) ∙ (sym c.has.ensures ∙ w.if-has.true)) in
       let k = collected_take (graph_of c.args.g.now) c.args.within.bits c.order-order.result.list c.loop-i.i (map (λ s. s.bits) c.loop-i.sets) c.loop-i.count c.loop-i.seen.bits
-            w.district_of-t.result.bits w.union-seen.result.bits (let o = c.order-order.result.in_range in omega arith) p.0 (not_true _ p.1) w.district_of-t.ensures.district w.union-seen.ensures c.loop-i.invariant.0 in (
+      w.district_of-t.result.bits w.union-seen.result.bits (let o = c.order-order.result.in_range in omega arith) p.0 (not_true _ p.1) w.district_of-t.ensures.district w.union-seen.ensures c.loop-i.invariant.0 in (
         subst (λ m. Collected (graph_of c.args.g.now) c.args.within.bits c.order-order.result.list (c.loop-i.i + 1) m c.if-has.count c.if-has.seen.bits)
             (sym (ap (map (λ s. s.bits)) w.sets-is ∙ map-set (λ s. s.bits) c.loop-i.sets c.loop-i.count w.district_of-t.result)) (rw (w.count-is, w.seen-is) k),
         rw w.seen-is (omega arith),
@@ -49,8 +49,12 @@ loop-i-preserved c = elim c.if-has.branch [
       )
   | else-has w ↦
       let out = outside _ _ (sym (c.difference.ensures (get_or c.order-order.result.list c.loop-i.i 0)) ∙ (sym c.has.ensures ∙ w.if-has.false)) in
-      rw (w.sets-is, w.count-is, w.seen-is) (collected_skip (graph_of c.args.g.now) c.args.within.bits c.order-order.result.list c.loop-i.i (map (λ s. s.bits) c.loop-i.sets) c.loop-i.count c.loop-i.seen.bits
-          out c.loop-i.invariant.0, c.loop-i.invariant.1, c.loop-i.invariant.2)
+      rw (w.sets-is, w.count-is, w.seen-is) (
+        collected_skip (graph_of c.args.g.now) c.args.within.bits c.order-order.result.list c.loop-i.i (map (λ s. s.bits) c.loop-i.sets) c.loop-i.count c.loop-i.seen.bits
+            out c.loop-i.invariant.0,
+        c.loop-i.invariant.1,
+        c.loop-i.invariant.2,
+      )
 ]
 
 pub bounds-sets-count : goal.bounds-sets-count
@@ -68,10 +72,11 @@ overflow_cast-result c = let f = c.loop-i.invariant.0.few in let o = c.order-ord
 pub invariant_of-result : goal.invariant_of-result
 invariant_of-result c = record {
   in_range = (let f = c.loop-i.invariant.0.few in let o = c.order-order.result.in_range in let l : c.loop-i.count ≤ 64 = omega arith in l);
-  blank = c.loop-i.invariant.0.blank }
+  blank = c.loop-i.invariant.0.blank;
+}
 
 are : (c : After-loop-i) → c.order-order.result.count ≤ c.loop-i.i → AreDistrictsOf (graph_of c.args.g.now) c.args.within.bits (first_masks c.loop-i.sets c.loop-i.count)
-are c done = 
+are c done =
     let same : c.loop-i.i ≡ c.order-order.result.count = omega arith in
     districts_from (graph_of c.args.g.now) c.args.within.bits c.order-order.result.list (map (λ s. s.bits) c.loop-i.sets) c.order-order.result.count c.loop-i.count c.loop-i.seen.bits
     c.order-order.ensures

@@ -40,8 +40,11 @@ levels-init c = ((0, level_none (graph_of c.args.g.now) (has c.args.within.bits)
 pub levels-preserved : goal.levels-preserved
 levels-preserved c =
     let l = c.levels.invariant.0 in (
-      (suc l.0, level_more (graph_of c.args.g.now) c.args.g.now.valid (has c.args.within.bits) (has c.args.toward.bits) c.levels.seen.bits c.levels.front.bits
-          c.intersection-goal.result.bits c.parents_of.result.bits c.difference-fresh.result.bits c.union-seen.result.bits c.levels.next c.choose_children.new.next l.0 (step_of c) l.1),
+      (
+        suc l.0,
+        level_more (graph_of c.args.g.now) c.args.g.now.valid (has c.args.within.bits) (has c.args.toward.bits) c.levels.seen.bits c.levels.front.bits
+            c.intersection-goal.result.bits c.parents_of.result.bits c.difference-fresh.result.bits c.union-seen.result.bits c.levels.next c.choose_children.new.next l.0 (step_of c) l.1,
+      ),
       omega arith,
       omega arith,
     )
@@ -50,8 +53,8 @@ pub levels-smaller : goal.levels-smaller
 levels-smaller c =
     let l = c.levels.invariant.0 in
     level_smaller (graph_of c.args.g.now) c.args.g.now.valid (has c.args.within.bits) (has c.args.toward.bits) c.levels.seen.bits c.levels.front.bits
-        c.intersection-goal.result.bits c.parents_of.result.bits c.difference-fresh.result.bits c.union-seen.result.bits c.levels.next c.choose_children.new.next l.0 (step_of c) l.1
-        (omega arith) (omega arith) (omega arith) (omega arith) (omega arith)
+    c.intersection-goal.result.bits c.parents_of.result.bits c.difference-fresh.result.bits c.union-seen.result.bits c.levels.next c.choose_children.new.next l.0 (step_of c) l.1
+    (omega arith) (omega arith) (omega arith) (omega arith) (omega arith)
 
 pub invariant_of-result : goal.invariant_of-result
 invariant_of-result c = record { in_range = c.levels.invariant.0.1.small }

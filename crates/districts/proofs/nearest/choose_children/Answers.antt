@@ -42,12 +42,12 @@ loop-v-preserved c = elim c.if-has.branch [
             ∙ c.loop-v.invariant.1 u n),
       )
   | else-has w ↦ (
-      λ u h i. subst (λ xs. IsLowest (Child c.args.g.now c.args.goal.bits u) (get_or xs u 0)) (sym w.next-is) (elim (cases_eq u c.loop-v.v) [
-        | inl e ↦ absurd (let t = c.has.ensures in let f = w.if-has.false in let k : has c.args.fresh.bits c.loop-v.v ≡ true = subst (λ x. has c.args.fresh.bits x ≡ true) e i in cc)
-        | inr d ↦ c.loop-v.invariant.0 u (omega arith) i
-      ]),
-      λ u n. subst (λ xs. get_or xs u 0 ≡ get_or c.args.next.now u 0) (sym w.next-is) (c.loop-v.invariant.1 u n),
-    )
+    λ u h i. subst (λ xs. IsLowest (Child c.args.g.now c.args.goal.bits u) (get_or xs u 0)) (sym w.next-is) (elim (cases_eq u c.loop-v.v) [
+      | inl e ↦ absurd (let t = c.has.ensures in let f = w.if-has.false in let k : has c.args.fresh.bits c.loop-v.v ≡ true = subst (λ x. has c.args.fresh.bits x ≡ true) e i in cc)
+      | inr d ↦ c.loop-v.invariant.0 u (omega arith) i
+    ]),
+    λ u n. subst (λ xs. get_or xs u 0 ≡ get_or c.args.next.now u 0) (sym w.next-is) (c.loop-v.invariant.1 u n),
+  )
 ]
 
 pub returns-clause-chosen : goal.returns-clause-chosen

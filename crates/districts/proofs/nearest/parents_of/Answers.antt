@@ -28,8 +28,13 @@ loop-c-preserved c = λ u. (
 pub returns : goal.returns
 returns c = λ u. (
   λ i. let p = (c.loop-c.invariant u).0 i in (p.0, p.2, p.3),
-  λ p. (c.loop-c.invariant u).1 (p.0, elim (cases_lt p.0 64) [
-    | inl l ↦ omega arith
-    | inr ge ↦ absurd (let e = has-above c.args.set.bits p.0 (omega arith) ge in let i = p.1 in cc)
-  ], p.1, p.2),
+  λ p. (c.loop-c.invariant u).1 (
+    p.0,
+    elim (cases_lt p.0 64) [
+      | inl l ↦ omega arith
+      | inr ge ↦ absurd (let e = has-above c.args.set.bits p.0 (omega arith) ge in let i = p.1 in cc)
+    ],
+    p.1,
+    p.2,
+  ),
 )
