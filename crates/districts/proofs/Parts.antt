@@ -1,13 +1,11 @@
 -- Districts by searches, and how they part a set.
-use Rattle.std.proofs.Common.{◌≡◌, ℕ, ◌^◌, ◌<◌, ◌⊎◌, Bool, true, false, ◌&&◌, ◌||◌, ◌==◌, List, [], ◌∷◌, ◌++◌, bit_or, IsTrue, All, inl, inr, refl, sym, ap, ◌∙◌, subst, arith}
-use Rattle.std.proofs.lemmas.Bool.{cases_Bool, and_parts, and_from, or_left, or_right, or_cases, eqb-true, eq-eqb}
+use Rattle.std.proofs.Common.{◌≡◌, ℕ, ◌^◌, Bool, true, ◌&&◌, ◌==◌, List, [], ◌∷◌, IsTrue, inl, inr, refl, sym, ◌∙◌, subst}
+use Rattle.std.proofs.lemmas.Bool.{cases_Bool, and_parts, eqb-true, eq-eqb}
 use Rattle.mixed_graph.specs.Bits.{has}
-use Rattle.mixed_graph.specs.Graphs.{MixedGraph, IsMixedGraph, IsDirectedPath, IsAncestor}
-use Rattle.mixed_graph.proofs.Masks.{has-zero, has-or, has-pow}
-use Rattle.mixed_graph.proofs.Searches.{Searching}
-use Rattle.districts.specs.Linked.{IsLinked, IsSetOf, IsDistrict, IsInside, IsJoinedSet, IsMaximalJoined, AreDistricts, IsInOne, AreApart, IsPartition}
+use Rattle.mixed_graph.specs.Graphs.{MixedGraph, IsMixedGraph, IsDirectedPath}
+use Rattle.mixed_graph.proofs.Masks.{has-pow}
+use Rattle.districts.specs.Linked.{IsLinked, IsSetOf, IsDistrict, IsJoinedSet, IsMaximalJoined}
 use Rattle.districts.specs.Linked.IsLinked.{at, by}
-use Rattle.districts.specs.Linked.AreDistricts.{none, skip, take}
 
 -- the graph in which a step along a bidirected edge to a member of d is an arrow against it
 abbrev pub sibling : MixedGraph → (ℕ → Bool) → MixedGraph

@@ -1,6 +1,5 @@
 -- A tree of links over a joined set: each vertex is joined to one that was found before it.
 use Rattle.std.specs.Prelude.{◌≡◌, ℕ, ◌<◌, ◌≤◌, ◌⊎◌, Bool, false, List, IsTrue, slice_index}
-use Rattle.mixed_graph.specs.Bits.{has}
 use Rattle.mixed_graph.specs.Graphs.{MixedGraph}
 use Rattle.mixed_graph.specs.Orders.{taken_by}
 

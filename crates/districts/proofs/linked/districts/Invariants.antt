@@ -1,4 +1,4 @@
-use Rattle.std.proofs.Common.{ℕ, ◌^◌, ◌<◌, map, length, ◌≡◌}
+use Rattle.std.proofs.Common.{◌^◌, ◌<◌, map, length, ◌≡◌}
 use Rattle.mixed_graph.specs.Shown.{graph_of}
 use Rattle.districts.proofs.Collecting.{Collected}
 use Rattle.districts.proofs.linked.districts.Given as goal

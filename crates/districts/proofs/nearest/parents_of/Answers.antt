@@ -1,5 +1,5 @@
-use Rattle.std.proofs.Common.{◌≡◌, ℕ, ◌<◌, true, false, ◌&&◌, ◌||◌, get_or, IsTrue, inl, inr, refl, sym, ap, ◌∙◌, arith, subst}
-use Rattle.std.proofs.lemmas.Bool.{cases_Bool, cases_eq, cases_lt, or_cases, and_parts, and_from, or_left, or_right}
+use Rattle.std.proofs.Common.{◌≡◌, ℕ, true, ◌&&◌, get_or, inl, inr, sym, ◌∙◌, arith, subst}
+use Rattle.std.proofs.lemmas.Bool.{cases_eq, cases_lt, or_cases, and_parts, and_from, or_left, or_right}
 use Rattle.mixed_graph.specs.Bits.{has}
 use Rattle.mixed_graph.proofs.Masks.{has-above}
 use Rattle.districts.proofs.nearest.parents_of.Goals as goal

@@ -1,4 +1,4 @@
-use Rattle.std.proofs.Common.{◌≡◌, ℕ, ◌<◌, sym, ◌∙◌, refl, arith}
+use Rattle.std.proofs.Common.{sym, ◌∙◌, refl, arith}
 use borrow.Author.Count.{below_more}
 use Rattle.districts.proofs.spanning.earliest.Goals as goal
 
