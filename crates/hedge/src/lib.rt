@@ -1,0 +1,11 @@
+// Hedges as data, and whether they hold.
+#![tactic(auto)]
+
+mod choices;
+mod entries;
+mod holding;
+mod kinds;
+
+pub use districts::{Choice, Districts, Links, child_choice, district_of, districts, links};
+pub use holding::holds;
+pub use kinds::{Hedge, HedgeFault};
