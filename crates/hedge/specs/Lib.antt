@@ -4,3 +4,4 @@ pub use Rattle.districts.specs.Nearest
 pub use Rattle.districts.specs.Spanning
 pub mod Faults
 pub mod Hedges
+pub mod Shapes

@@ -1,4 +1,3 @@
-use Rattle.std.proofs.Common.{sym, ◌∙◌, arith}
 use borrow.Author.Count.{below_more}
 use Rattle.hedge.proofs.choices.wrong_choice.Goals as goal
 

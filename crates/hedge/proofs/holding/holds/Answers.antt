@@ -1,9 +1,9 @@
-use Rattle.std.proofs.Common.{◌≡◌, ℕ, ◌<◌, ◌≤◌, true, false, IsTrue, inl, inr, refl, sym, ◌∙◌, arith}
+use Rattle.std.proofs.Common.{refl, arith}
 use Rattle.mixed_graph.specs.Bits.{has}
 use Rattle.mixed_graph.specs.Shown.{graph_of}
 use Rattle.mixed_graph.proofs.Masks.{apart_from_meet}
 use Rattle.hedge.specs.Hedges.{Meets, AreHedgeSets}
-use Rattle.hedge.specs.Faults.{MeetsIn, IsOffIn, ChoosesIn}
+use Rattle.hedge.specs.Faults.{IsOffIn}
 use Rattle.hedge.proofs.Reaching.{meets_of, link_wrong}
 use Rattle.hedge.proofs.holding.holds.Goals as goal
 use Rattle.hedge.proofs.holding.holds.Goals.{Else-not-has_sets, Else-is_empty, Else-not-is_empty}

@@ -1,4 +1,4 @@
-use Rattle.std.proofs.Common.{◌≡◌, true, false, inl, inr, arith}
+use Rattle.std.proofs.Common.{◌≡◌, false, inl, inr, arith}
 use Rattle.std.proofs.lemmas.Bool.{cases_Bool}
 use Rattle.mixed_graph.specs.Bits.{has}
 use Rattle.mixed_graph.proofs.Masks.{has-zero, zero_from_empty}
