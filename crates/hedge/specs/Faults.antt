@@ -45,14 +45,15 @@ IsWrongLink g h v = IsFirstWrong (λ u. IsTrue (has h.big.bits u)) (IsPlaced h) 
     ⊎ ((AllPlaced h × HasStranger h × (v ≡ 64))
     ⊎ (AllPlaced h × AllInside h × IsFirstWrong (IsLaterEntry h) (HasRightPartner g h) v))
 
--- the sets are right; big meets x, too; small is off x, too
+-- the sets are right, and big meets x
 abbrev pub MeetsIn : MixedGraph → ℕ → Hedge → Type 0
 MeetsIn g x h = AreHedgeSets g h × Meets (has h.big.bits) (has x)
 
+-- the sets are right, big meets x, and small doesn't
 abbrev pub IsOffIn : MixedGraph → ℕ → Hedge → Type 0
 IsOffIn g x h = MeetsIn g x h × Apart (has h.small.bits) (has x)
 
--- the choices are right, too
+-- the sets are right, big meets x, small doesn't, and the choices are right
 abbrev pub ChoosesIn : MixedGraph → ℕ → Hedge → Type 0
 ChoosesIn g x h = IsOffIn g x h × ((v : ℕ) → v < 64 → IsRightChoice g h v)
 
