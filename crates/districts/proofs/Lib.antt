@@ -1,0 +1,4 @@
+pub mod Collecting
+pub mod Levels
+pub mod Parts
+pub mod Trees

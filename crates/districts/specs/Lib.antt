@@ -1,0 +1,4 @@
+pub mod Linked
+pub mod Listed
+pub mod Nearest
+pub mod Spanning

@@ -1,0 +1,14 @@
+// Districts of a mixed graph, trees of links over joined sets, and children on shortest paths.
+#![tactic(auto)]
+
+mod linked;
+mod lists;
+mod nearest;
+mod spanning;
+#[cfg(test)]
+mod tests;
+
+pub use linked::{district_of, districts};
+pub use lists::{Choice, Districts, Links};
+pub use nearest::child_choice;
+pub use spanning::links;

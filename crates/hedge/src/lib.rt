@@ -1,0 +1,15 @@
+// Hedges as data, and whether they hold.
+#![tactic(auto)]
+
+mod choices;
+mod entries;
+mod holding;
+mod kinds;
+#[cfg(test)]
+mod tests;
+mod theory;
+
+pub use districts::{Choice, Districts, Links, child_choice, district_of, districts, links};
+pub use holding::holds;
+pub use kinds::{Hedge, HedgeFault};
+pub use theory::laws;
