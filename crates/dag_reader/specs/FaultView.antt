@@ -3,6 +3,7 @@ use Rattle.dag_reader.specs.Grammar.{Fault, token, expected, not_a_dag, edge_kin
 use Rattle.dag_reader.specs.declared.faults.Fault.{Fault as CodeFault}
 use Rattle.dag_reader.specs.declared.faults.Fault.TheVariants as faults
 
+-- the fault
 abbrev pub fault_view : CodeFault → Fault
 fault_view (faults.Token at) = token at
 fault_view (faults.Expected at) = expected at

@@ -9,6 +9,7 @@ use Rattle.dag_reader.specs.declared.marks.Mark.{Mark}
 use Rattle.dag_reader.specs.declared.marks.Mark.TheVariants.{Begins, Joined, Member, HasRole}
 use Rattle.dag_reader.specs.Tokens.{Tok, open_brace, close_brace, open_bracket, close_bracket, semicolon, equals, comma, edge, name, value, end, bad, bad_edge}
 
+-- the faults of a text from left to right, with their places and names
 pub data Fault : Type 0 where
   not_utf8 : ℕ → Fault
   token : ℕ → Fault
@@ -23,14 +24,17 @@ pub data Fault : Type 0 where
   cycle : List (List ℕ) → Fault
 
 infixl 10 ◌>>=◌
+-- what follows, unless a fault came
 abbrev pub ◌>>=◌ : {A B : Type 0} → Result A Fault → (A → Result B Fault) → Result B Fault
 (Ok x) >>= f = f x
 (Err e) >>= f = Err e
 
+-- what was said: the names of the vertices, and the marks of what was said of them
 pub record Said : Type 0 where
   pub names : List (List ℕ)
   pub marks : List Mark
 
+-- nothing was said
 abbrev pub nothing : Said
 nothing = record { names = []; marks = [] }
 
@@ -79,12 +83,14 @@ next_after_name n (edge a) = Some after_edge
 next_after_name n open_bracket = Some (at_attrs (Some n))
 next_after_name n t = next_statement t
 
+-- inside braces
 abbrev pub next_in_group : Bool → Tok → Option Place
 next_in_group begins semicolon = Some (in_group begins)
 next_in_group begins (name q n) = Some (group_name begins n)
 next_in_group begins close_brace = Some (if begins then after_first else after_group)
 next_in_group begins t = None
 
+-- behind `[`
 abbrev pub next_in_attrs : Option (List ℕ) → ℕ → Tok → Option Place
 next_in_attrs of at (name q n) = Some (attr_name of at n)
 next_in_attrs of at close_bracket = Some at_statement
@@ -130,6 +136,7 @@ with_vertex n s =
     if not (list_any (bytes_eq n) s.names) && nat_le 64 (length s.names) then Err too_many
     else Ok (record { names = with_name s.names n; marks = s.marks ++ Member (index_of s.names n) ∷ [] })
 
+-- the role that an attribute names
 abbrev pub role_of : List ℕ → Option Role
 role_of n =
     if bytes_eq n (codes "exposure") then Some Exposure
@@ -137,6 +144,7 @@ role_of n =
     else (if bytes_eq n (codes "adjusted") then Some Adjusted
     else (if bytes_eq n (codes "latent") then Some Latent else None)))
 
+-- a role for the vertex before
 abbrev pub with_role : ℕ → Option Role → Said → Result Said Fault
 with_role at None s = Err (flag at)
 with_role at (Some r) s = Ok (with_marks (HasRole r ∷ []) s)
@@ -182,6 +190,7 @@ own_fault at bad = Some (token at)
 own_fault at bad_edge = Some (edge_kind at)
 own_fault at t = None
 
+-- whether nothing is left
 abbrev pub is_end : Tok → Bool
 is_end end = true
 is_end t = false
@@ -191,14 +200,17 @@ abbrev pub ended : Place → ℕ → Said → Turn
 ended at_end at s = ends (Ok s)
 ended p at s = ends (Err (misfit p at))
 
+-- behind a token that fits, or the fault where it does not
 abbrev pub fitted : Place → ℕ → Tok → Option Place → Said → Turn
 fitted p at t None s = ends (Err (misfit p at))
 fitted p at t (Some q) s = goes_on q (noted p t s)
 
+-- a token behind what the name before it has become
 abbrev pub taken : Place → ℕ → Tok → Result Said Fault → Turn
 taken p at t (Err e) = ends (Err e)
 taken p at t (Ok s) = if is_end t then ended p at s else fitted p at t (next p at t) s
 
+-- the first of two, or the second
 abbrev pub judged : Option Fault → Turn → Turn
 judged (Some f) turn = ends (Err f)
 judged None turn = turn

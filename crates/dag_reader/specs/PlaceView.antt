@@ -5,9 +5,11 @@ use Rattle.dag_reader.specs.declared.grammar.Place.TheVariants as places
 use Rattle.dag_reader.specs.declared.grammar.Place.{Place as CodePlace}
 use Rattle.dag_reader.specs.declared.words.Word.{Word}
 
+-- the name, if there is one
 abbrev pub name_view : Option Word → Option (List ℕ)
 name_view n = option_map (λ (w : Word). w.bytes.now) n
 
+-- the place
 abbrev pub place_view : CodePlace → Place
 place_view places.Start = at_start
 place_view places.Dag = at_dag

@@ -8,6 +8,7 @@ unfoldable pub AreFirst : ℕ → Bool → List (ℕ × Tok) → List ℕ → Ty
 AreFirst size due [] bytes = Unit {0}
 AreFirst size due (t ∷ ts) bytes = (rest : List ℕ) × (t.0 ≡ place_of size bytes) × (first due bytes ≡ (t.1, rest)) × AreFirst size (wants_value t.1) ts rest
 
+-- what follows a turn, or its answer
 abbrev pub on_turn : Turn → (Place → Said → Option (Result Said Fault)) → Option (Result Said Fault)
 on_turn (goes_on p s) f = f p s
 on_turn (ends r) f = Some r
@@ -23,5 +24,6 @@ pub record RestSays (size : ℕ) (due : Bool) (p : Place) (s : Said) (bytes : Li
   pub cut : AreFirst size due tokens bytes
   pub says : rest_says p s tokens ≡ Some r
 
+-- what a whole text says, or its first fault
 abbrev pub Says : List ℕ → Result Said Fault → Type 0
 Says text r = RestSays (length text) false at_start nothing text r

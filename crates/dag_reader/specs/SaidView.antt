@@ -2,5 +2,6 @@
 use Rattle.dag_reader.specs.Grammar.{Said}
 use Rattle.dag_reader.specs.declared.said.Statements.{Statements}
 
+-- the names and the marks
 abbrev pub said_by : Statements → Said
 said_by s = record { names = s.names; marks = s.marks.items }

@@ -4,6 +4,7 @@ use Rattle.dag_reader.specs.Tokens.{Tok}
 use Rattle.dag_reader.specs.Reading.{AreFirst}
 use Rattle.dag_reader.specs.Syntax.{Text, text_tokens}
 
+-- the tokens without their places
 abbrev pub kinds : List (ℕ × Tok) → List Tok
 kinds ts = map (λ (t : ℕ × Tok). t.1) ts
 

@@ -8,6 +8,7 @@ use Rattle.name_text.specs.Printing.{is_white, is_edge_byte, is_name_byte}
 use Rattle.dag_reader.specs.Bytes.{is_run_byte}
 use Rattle.mixed_graph.specs.Names.{is_line_byte}
 
+-- the tokens
 pub data Tok : Type 0 where
   open_brace : Tok
   close_brace : Tok
@@ -31,6 +32,7 @@ edge_token run =
     else (if bytes_eq run (codes "<->") then edge arrows.Both
     else (if bytes_eq run (codes "--") || list_any (λ b. b == 64) run then bad_edge else bad)))
 
+-- whether a run begins with these bytes
 abbrev pub begins_with : List ℕ → List ℕ → Bool
 begins_with run front = starts_with (λ a b. a == b) run front
 
@@ -38,6 +40,7 @@ begins_with run front = starts_with (λ a b. a == b) run front
 abbrev pub name_token : List ℕ → Tok
 name_token run = if (begins_with run (codes "//") || begins_with run (codes "/*") || begins_with run (codes "#")) then bad else name false run
 
+-- a sign, or no token
 abbrev pub sign_token : ℕ → Tok
 sign_token b =
     if b == 123 then open_brace
@@ -61,14 +64,17 @@ closed_by text (b ∷ bs) = if b == 34 then Some (text, bs) else None
 abbrev pub quoted_text : List ℕ → Option (List ℕ × List ℕ)
 quoted_text bytes = closed_by (take (prefix_len is_line_byte bytes) bytes) (drop (prefix_len is_line_byte bytes) bytes)
 
+-- a quoted name, which is not empty
 abbrev pub quoted_name_token : List ℕ → Tok
 quoted_name_token [] = bad
 quoted_name_token (b ∷ bs) = name true (b ∷ bs)
 
+-- a quoted name with what follows, or no token
 abbrev pub quoted_name : List ℕ → Option (List ℕ × List ℕ) → Tok × List ℕ
 quoted_name bytes None = (bad, bytes)
 quoted_name bytes (Some p) = (quoted_name_token p.0, p.1)
 
+-- a quoted value with what follows, or no token
 abbrev pub quoted_value : List ℕ → Option (List ℕ × List ℕ) → Tok × List ℕ
 quoted_value bytes None = (bad, bytes)
 quoted_value bytes (Some p) = (value, p.1)
@@ -94,6 +100,7 @@ token_of due [] = (end, [])
 token_of false (b ∷ bs) = token_at b bs
 token_of true (b ∷ bs) = value_at b bs
 
+-- what follows the white space at the front
 abbrev pub past_white : List ℕ → List ℕ
 past_white bytes = drop (prefix_len is_white bytes) bytes
 

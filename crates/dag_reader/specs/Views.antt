@@ -3,6 +3,7 @@ use Rattle.dag_reader.specs.Tokens.{Tok, open_brace, close_brace, open_bracket, 
 use Rattle.dag_reader.specs.declared.tokens.Token.{Token}
 use Rattle.dag_reader.specs.declared.tokens.Token.TheVariants as tokens
 
+-- the token
 abbrev pub view : Token → Tok
 view tokens.OpenBrace = open_brace
 view tokens.CloseBrace = close_brace

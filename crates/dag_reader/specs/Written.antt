@@ -17,6 +17,7 @@ pub record Drawn : Type 0 where
   pub arrows : List (ℕ × ℕ)
   pub doubles : List (ℕ × ℕ)
 
+-- a role in brackets
 abbrev pub role_text : Option Role → List ℕ
 role_text None = []
 role_text (Some Exposure) = codes " [exposure]"
@@ -24,14 +25,17 @@ role_text (Some Outcome) = codes " [outcome]"
 role_text (Some Adjusted) = codes " [adjusted]"
 role_text (Some Latent) = codes " [latent]"
 
+-- a line for each vertex
 abbrev pub vertex_lines : List (List ℕ) → List (Option Role) → List ℕ
 vertex_lines (n ∷ ns) (r ∷ rs) = printed n ++ (role_text r ++ 10 ∷ vertex_lines ns rs)
 vertex_lines ns rs = []
 
+-- a line for each edge
 abbrev pub edge_lines : List ℕ → List (List ℕ) → List (ℕ × ℕ) → List ℕ
 edge_lines sign names [] = []
 edge_lines sign names (e ∷ es) = printed (name_of names e.0) ++ (sign ++ (printed (name_of names e.1) ++ 10 ∷ edge_lines sign names es))
 
+-- the whole text
 abbrev pub written : Drawn → List ℕ
 written d = codes "dag {" ++ 10 ∷ (vertex_lines d.names d.roles ++ (edge_lines (codes " -> ") d.names d.arrows ++ (edge_lines (codes " <-> ") d.names d.doubles ++ 125 ∷ 10 ∷ [])))
 

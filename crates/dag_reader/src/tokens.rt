@@ -13,6 +13,7 @@ use crate::marks::Arrow;
 use crate::words::Word;
 use name_text::{is_edge_byte, is_name_byte, is_white};
 
+/// The classes of bytes of which runs are made.
 #[derive(Clone, Copy, Debug, PartialEq, Eq)]
 pub enum Class {
     White,
@@ -22,6 +23,7 @@ pub enum Class {
     Run,
 }
 
+/// The tokens of a graph text.
 #[derive(Clone, Copy, Debug)]
 pub enum Token<'a> {
     OpenBrace,
@@ -226,6 +228,7 @@ pub struct Lexer<'a> {
 }
 
 impl<'a> Lexer<'a> {
+    /// Before the first token.
     pub fn new(text: &'a [u8]) -> Lexer<'a>
         requires { is_utf8 text.now ≡ true }
         ensures { (result.size ≡ length text.now) × (result.rest.now ≡ text.now) × (result.value_due ≡ false) }
