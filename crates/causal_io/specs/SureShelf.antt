@@ -1,5 +1,5 @@
 -- What a shelf that never fails holds.
-use Rattle.std.specs.Prelude.{◌≤◌, ◌-◌, ◌^◌, ℕ, List, [], Option, Some, unwrap_or}
+use Rattle.std.specs.Prelude.{ℕ, List, [], Option, Some, unwrap_or}
 use Rattle.causal_io.specs.MemoryShelf.{held_in}
 use Rattle.causal_io.specs.declared.sure.SureShelf.{SureShelf}
 

@@ -10,12 +10,14 @@ pub struct FaultCount {
 }
 
 impl FaultCount {
+    /// No failure.
     pub fn zero() -> FaultCount
         ensures { result.times ≡ 0 }
     {
         FaultCount { times: 0 }
     }
 
+    /// One failure more.
     pub fn rise(&mut self)
         ensures { self.new.times ≡ risen self.old.times }
     {

@@ -1,6 +1,7 @@
 // Files, and writers whose failures are counted. They don't tell what they hold or take.
 ghost use Rattle.std.proofs.lemmas.Bool.{false≢true};
 ghost use Rattle.std.specs.Prelude.{◌≡◌, ◌<◌, ◌≤◌, ◌^◌, ◌-◌, min, List, ℕ, None, Ok, false, refl, length, ◌≢◌, true, IsErr, IfOk, IfSome, OnOk, OnErr, string_bytes};
+ghost use Rattle.std.specs.Io.KnownBytes.{WriteAppends};
 ghost use Rattle.causal_io.specs.Causes.{risen, Rose};
 ghost use Rattle.causal_io.specs.Words.{word_place};
 
@@ -12,6 +13,7 @@ use std::io::{Input, Read, Seek, SeekFrom, Stderr, Stdout, Write};
 use std::rt::Files;
 
 /// A writer whose failures are counted. A write that takes nothing of a piece is one.
+/// As a sink it doesn't tell what was written; what the writer tells of its bytes stays true.
 #[derive(Drop)]
 pub struct CountedWriter<W: Write + Drop> {
     inner: W,
@@ -25,8 +27,10 @@ pub type OutSink = CountedWriter<Stdout>;
 pub type ErrSink = CountedWriter<Stderr>;
 
 impl<W: Write + Drop> CountedWriter<W> {
+    /// The writer, of which no write has failed.
     pub fn of(inner: W) -> Self
-        ensures { ⟦<CountedWriter<W> as Sink>⟧.faults result ≡ 0 }
+        ensures faults { ⟦<CountedWriter<W> as Sink>⟧.faults result ≡ 0 }
+        ensures inner { result.inner ≡ inner }
     {
         CountedWriter {
             inner,
@@ -46,6 +50,7 @@ impl<W: Write + Drop> Sink for CountedWriter<W> {
         requires { 0 < length piece.now }
         ensures some { IfOk result (λ count. 0 < count) }
         ensures bound { IfOk result (λ count. count ≤ length piece.now) }
+        ensures bytes { WriteAppends (W.contents self.old.inner) (W.contents self.new.inner) result piece.now }
         ensures ok { OnOk result (⟦<CountedWriter<W> as Sink>⟧.faults self.new ≡ ⟦<CountedWriter<W> as Sink>⟧.faults self.old) }
         ensures err { OnErr result (⟦<CountedWriter<W> as Sink>⟧.faults self.new ≡ risen (⟦<CountedWriter<W> as Sink>⟧.faults self.old)) }
     {
@@ -79,6 +84,7 @@ pub struct FileShelf<'a, R: Files + Input> {
 }
 
 impl<'a, R: Files + Input> FileShelf<'a, R> {
+    /// The files named by these words, of which no read has failed.
     pub fn of(rt: &'a R, alloc: Global, words: &'a [String]) -> Result<Self, AllocError>
         ensures faults { IfOk result (λ s. (name : List ℕ) → ⟦<FileShelf<'a, R> as Shelf>⟧.faults s name ≡ 0) }
         ensures words { IfOk result (λ s. s.words.now ≡ words.entry.now) }

@@ -14,6 +14,7 @@ pub struct SureShelf {
 impl SureShelf {
     ghost use Rattle.causal_io.specs.MemoryShelf.{held_in};
 
+    /// Holds what this shelf in memory does, whatever reads of it were to fail.
     pub fn of(shelf: MemoryShelf) -> SureShelf
         ensures held { (name : List ℕ) → ⟦<SureShelf as Shelf>⟧.held result name ≡ Some (unwrap_or (held_in shelf name) []) }
         ensures faults { (name : List ℕ) → ⟦<SureShelf as Shelf>⟧.faults result name ≡ 0 }
@@ -53,6 +54,7 @@ impl Shelf for SureShelf {
 pub struct SureSink;
 
 impl SureSink {
+    /// A sink that nothing was written to.
     pub fn new() -> SureSink
         ensures { ⟦<SureSink as Sink>⟧.faults result ≡ 0 }
     {

@@ -19,18 +19,21 @@ pub struct States {
 }
 
 impl States {
+    /// Whether there is none.
     pub fn is_empty(self) -> bool
         ensures { IsTrue result ↔ ((self.tails.bits ≡ 0) × (self.heads.bits ≡ 0)) }
     {
         self.tails.is_empty() && self.heads.is_empty()
     }
 
+    /// The vertices of all.
     pub fn vertices(self) -> VSet
         ensures { (v : ℕ) → has result.bits v ≡ (has self.tails.bits v || has self.heads.bits v) }
     {
         self.tails.union(self.heads)
     }
 
+    /// Those of either.
     pub fn union(self, o: States) -> States
         ensures { (h : Bool) (v : ℕ) → has (mask_of result h) v ≡ (has (mask_of self h) v || has (mask_of o h) v) }
     {
@@ -40,6 +43,7 @@ impl States {
         }
     }
 
+    /// Those that the other doesn't have.
     pub fn difference(self, o: States) -> States
         ensures { (h : Bool) (v : ℕ) → has (mask_of result h) v ≡ (has (mask_of self h) v && not (has (mask_of o h) v)) }
     {

@@ -1,8 +1,10 @@
 -- What listed names stand for: sets of vertices, or the first name at fault.
-use Rattle.std.specs.Prelude.{ℕ, ◌≡◌, Bool, true, false, not, ◌&&◌, ◌||◌, nat_lt, length, List, [], ◌∷◌, ◌++◌, map, Option, Some, None, if◌then◌else◌}
+use Rattle.std.specs.Prelude.{ℕ, ◌≡◌, Bool, false, not, ◌&&◌, ◌||◌, nat_lt, length, List, [], ◌∷◌, ◌++◌, map, Option, Some, None, if◌then◌else◌}
 use Rattle.std.specs.Str.{bytes_eq}
 use Rattle.mixed_graph.specs.Bits.{has, members_below}
-use Rattle.mixed_graph.specs.Names.{is_named, name_of}
+use Rattle.mixed_graph.specs.Names.{is_named, index_of, name_of}
+use Rattle.targets.specs.declared.fault.TargetFault.{TargetFault}
+use Rattle.targets.specs.declared.fault.TargetFault.TheVariants.{Unknown, Latent, Twice, EmptyY, EmptyX, NoMemory}
 
 -- the names of a list that is given, or else those of a default set, in index order
 abbrev pub listed : List (List ℕ) → ℕ → Option (List (List ℕ)) → List (List ℕ)
@@ -13,13 +15,69 @@ listed names default None = map (name_of names) (members_below (has default) 64)
 pub data NameFault : Type 0 where
   unknown latent twice : List ℕ → NameFault
 
--- the first name at fault, the names being walked in order: one that isn't in the graph, isn't observed, or was walked before
+-- what is wrong with one name, where those that pass the test were walked before
+abbrev pub name_fault : (all observed : List (List ℕ)) → (List ℕ → Bool) → List ℕ → Option NameFault
+name_fault all observed walked n = if not (is_named all n) then Some (unknown n)
+    else (if not (is_named observed n) then Some (latent n) else (if walked n then Some (twice n) else None))
+
+-- the fault that there is first
+abbrev pub or_fault : Option NameFault → Option NameFault → Option NameFault
+or_fault (Some f) later = Some f
+or_fault None later = later
+
+-- the first name at fault, the names being walked in order
 abbrev pub first_fault : (all observed : List (List ℕ)) → (List ℕ → Bool) → List (List ℕ) → Option NameFault
 first_fault all observed walked [] = None
-first_fault all observed walked (n ∷ ns) = if not (is_named all n) then Some (unknown n)
-    else (if not (is_named observed n) then Some (latent n)
-    else (if walked n then Some (twice n) else first_fault all observed (λ m. walked m || bytes_eq m n) ns))
+first_fault all observed walked (n ∷ ns) = or_fault (name_fault all observed walked n) (first_fault all observed (λ m. walked m || bytes_eq m n) ns)
+
+-- whether the vertex of a name is in the set
+abbrev pub walked_in : List (List ℕ) → ℕ → List ℕ → Bool
+walked_in observed set n = has set (index_of observed n)
+
+-- the fault is this one of a name; want of memory may stand in its place
+abbrev pub IsNameFault : Option NameFault → TargetFault → Type 0
+IsNameFault o (Unknown t) = o ≡ Some (unknown t)
+IsNameFault o (Latent t) = o ≡ Some (latent t)
+IsNameFault o (Twice t) = o ≡ Some (twice t)
+IsNameFault o EmptyY = ⊥
+IsNameFault o EmptyX = ⊥
+IsNameFault o NoMemory = Unit {0}
 
 -- the mask holds the observed vertices whose names are listed
 abbrev pub IsSetOf : List (List ℕ) → List (List ℕ) → ℕ → Type 0
 IsSetOf observed list mask = (v : ℕ) → has mask v ≡ (nat_lt v (length observed) && is_named list (name_of observed v))
+
+-- the lists of a query, with the names of the graph and those that are observed
+pub record Lists : Type 0 where
+  pub all : List (List ℕ)
+  pub observed : List (List ℕ)
+  pub x : List (List ℕ)
+  pub y : List (List ℕ)
+  pub given : List (List ℕ)
+
+-- the first name at fault of all lists, x first, then y, then given
+abbrev pub fault_in : Lists → Option NameFault
+fault_in l = first_fault l.all l.observed (λ n. false) (l.x ++ (l.y ++ l.given))
+
+-- the sets of a query: no name is at fault, and neither x nor y is empty
+pub record AreSets (l : Lists) (x y given : ℕ) : Type 0 where
+  pub no_fault : fault_in l ≡ None
+  pub some_y : l.y ≡ [] → ⊥
+  pub some_x : l.x ≡ [] → ⊥
+  pub set_x : IsSetOf l.observed l.x x
+  pub set_y : IsSetOf l.observed l.y y
+  pub set_given : IsSetOf l.observed l.given given
+
+-- the fault of a query: of the first name at fault; else y is empty; else x is empty
+abbrev pub IsTargetFault : Lists → TargetFault → Type 0
+IsTargetFault l (Unknown t) = fault_in l ≡ Some (unknown t)
+IsTargetFault l (Latent t) = fault_in l ≡ Some (latent t)
+IsTargetFault l (Twice t) = fault_in l ≡ Some (twice t)
+IsTargetFault l EmptyY = (fault_in l ≡ None) × (l.y ≡ [])
+IsTargetFault l EmptyX = (fault_in l ≡ None) × (l.y ≡ [] → ⊥) × (l.x ≡ [])
+IsTargetFault l NoMemory = ⊥
+
+-- the fault of a query; want of memory may stand in its place
+abbrev pub IsFaultOrMemory : Lists → TargetFault → Type 0
+IsFaultOrMemory l NoMemory = Unit {0}
+IsFaultOrMemory l f = IsTargetFault l f

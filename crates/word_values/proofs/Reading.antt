@@ -65,3 +65,8 @@ module _ (row : Row) (uses : List Use) (m : ArgMatches) (g : GivesCall row uses 
       go : (t : Bool) → has_flag uses x ≡ t → result ≡ has_flag uses x
       go true e = let k : below (one_of x) ≡ Some (codes "true") = rw e at (flag_text x has) in there k ∙ sym e
       go false e = let k : below (one_of x) ≡ Some (codes "false") = rw e at (flag_text x has) in gone k ∙ sym e
+
+-- a value is there where the text that it stands for is
+pub value_is_there : {A : Type 0} (f : A → Text) (o : Option A) (p : Option Text) → option_map f o ≡ p → is_some p ≡ true → is_some o ≡ true
+value_is_there f None p e h = let gone : is_some p ≡ false = ap is_some (sym e) in cc (gone, h)
+value_is_there f (Some x) p e h = refl

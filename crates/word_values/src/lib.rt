@@ -22,39 +22,58 @@ use clap::{Arg, ArgAction, ArgMatches, Command as Program, Error};
 use std::alloc::{AllocError, Global};
 use word_forms::{Call, Entry, read_call};
 
-// The table of commands; `command_named`, `Request` and `request_in` have a case for each.
-static TABLE: [Entry; 2] = [
-    Entry {
-        name: "graph",
-        positionals: &["file"],
-        extra: &[],
-        needed: &[],
-        options: &[],
-        flags: &["project"],
-    },
-    Entry {
-        name: "separate",
-        positionals: &["file"],
-        extra: &[],
-        needed: &[],
-        options: &["x", "y", "given"],
-        flags: &[],
-    },
-];
+// A command of the table.
+#[derive(Clone, Copy)]
+enum Command {
+    Graph,
+    Separate,
+}
 
-// The table, as contracts see it.
-fn commands() -> &'static [Entry]
+const GRAPH: Entry = Entry {
+    name: "graph",
+    positionals: &["file"],
+    extra: &[],
+    needed: &[],
+    options: &[],
+    flags: &["project"],
+};
+
+const SEPARATE: Entry = Entry {
+    name: "separate",
+    positionals: &["file"],
+    extra: &[],
+    needed: &[],
+    options: &["x", "y", "given"],
+    flags: &[],
+};
+
+static COMMANDS: [Command; 2] = [Command::Graph, Command::Separate];
+
+static TABLE: [Entry; 2] = [GRAPH, SEPARATE];
+
+// The commands in the table's order.
+fn commands() -> &'static [Command]
+    ensures { map row_for result.now ≡ table }
+{
+    &COMMANDS
+}
+
+// The table of commands.
+fn rows() -> &'static [Entry]
     ensures rows { map row_of result.now ≡ table }
     ensures clear { list_all is_clear (map row_of result.now) ≡ true }
 {
     &TABLE
 }
 
-// A command of the table.
-#[derive(Clone, Copy)]
-enum Command {
-    Graph,
-    Separate,
+// The row of a command.
+fn entry_of(command: Command) -> Entry
+    ensures { row_of result ≡ row_for command }
+{
+    match command {
+        Command::Graph => GRAPH,
+        Command::Separate => SEPARATE,
+    }
 }
 
 /// What words of the form ask for, with its values.
@@ -78,11 +97,10 @@ pub enum Request<'a> {
 fn command_named(name: &str) -> Option<Command>
     ensures { option_map row_for result ≡ row_named table name.now }
 {
-    if name == "graph" {
-        return Some(Command::Graph);
-    }
-    if name == "separate" {
-        return Some(Command::Separate);
+    for command in commands() {
+        if entry_of(*command).name == name {
+            return Some(*command);
+        }
     }
     None
 }
@@ -193,7 +211,7 @@ fn read_matches<'a>(
     ensures ok { IfOk result (λ m. GivesCall (row_of call.now.row.now) (uses_in call.now.uses) m) }
     ensures err { IfErr result (λ e. kind_of e ≡ ErrorKind.OutOfMemory) }
 {
-    let program = program_of(alloc, commands())?;
+    let program = program_of(alloc, rows())?;
     program.try_get_matches_from(words)
 }
 
@@ -304,7 +322,7 @@ pub fn read_words<'a>(alloc: Global, words: &'a [String]) -> Result<Option<Reque
         (other : Asked) → Asks (texts_of words.now) other → other ≡ asked_of r)) }
     ensures none { IfOk result (λ o. IfNone o (HasForm table (texts_of words.now) → ⊥)) }
 {
-    let Some(call) = read_call(alloc, commands(), words)? else {
+    let Some(call) = read_call(alloc, rows(), words)? else {
         return Ok(None);
     };
     let Some(command) = command_named(call.row.name) else {

@@ -6,10 +6,10 @@ use Rattle.word_values.proofs.read_matches.Goals as goal
 
 pub returns-clause-ok : goal.returns-clause-ok
 returns-clause-ok c =
-    ok_gives (texts_of c.args.words.now) (row_of c.args.call.now.row.now) (uses_in c.args.call.now.uses) c.requires _ (c.in_ok-program.ensures ∙ ap app_of_table c.commands.ensures.rows)
+    ok_gives (texts_of c.args.words.now) (row_of c.args.call.now.row.now) (uses_in c.args.call.now.uses) c.requires _ (c.in_ok-program.ensures ∙ ap app_of_table c.rows.ensures.rows)
     c.try_get_matches_from.result c.try_get_matches_from.ensures.matches
 
 pub returns-clause-err : goal.returns-clause-err
 returns-clause-err c =
-    err_memory (texts_of c.args.words.now) (row_of c.args.call.now.row.now) (uses_in c.args.call.now.uses) c.requires _ (c.in_ok-program.ensures ∙ ap app_of_table c.commands.ensures.rows)
+    err_memory (texts_of c.args.words.now) (row_of c.args.call.now.row.now) (uses_in c.args.call.now.uses) c.requires _ (c.in_ok-program.ensures ∙ ap app_of_table c.rows.ensures.rows)
     c.try_get_matches_from.result c.try_get_matches_from.ensures.passes

@@ -1,0 +1,3 @@
+mod PathLemmas
+mod WishLemmas
+mod Separations

@@ -1,0 +1,44 @@
+-- Words without a wish.
+use Rattle.std.proofs.Common.{◌≡◌, ℕ, Bool, List, Option, Some, None, refl, sym, ap, subst}
+use Rattle.word_forms.specs.Form.{Text, HasForm}
+use Rattle.word_lists.specs.Lists.{IsList}
+use Rattle.word_values.specs.Commands.{Asked, Asks, table, row_asked}
+use Rattle.word_values.specs.Commands as asked
+use Rattle.causal_cli.specs.Wishes.{Wish, Names, separate, IsListed, Wants}
+
+-- a value that is no list gives no names
+pub not_listed : (text : Text) → ((names : List (List ℕ)) → IsList text names → ⊥) → (names : Names) → IsListed (Some text) names → ⊥
+not_listed text none None h = h
+not_listed text none (Some names) h = none names h
+
+-- the words ask for a separation with a value that is no list
+pub no_separation : (words : List Text) (file : Text) (x y given : Option Text) →
+    ((other : Asked) → Asks words other → other ≡ asked.separate file x y given) →
+    ((a b c : Names) → IsListed x a → IsListed y b → IsListed given c → ⊥) → (w : Wish) → Wants words w → ⊥
+no_separation words file x y given only none (separate f a b c) h =
+    let e = only (asked.separate f h.text_x h.text_y h.text_given) h.asks in
+    let ex : h.text_x ≡ x = ap x_of e in
+    let ey : h.text_y ≡ y = ap y_of e in
+    let eg : h.text_given ≡ given = ap given_of e in
+    none a b c (subst (λ t. IsListed t a) ex h.list_x) (subst (λ t. IsListed t b) ey h.list_y) (subst (λ t. IsListed t c) eg h.list_given)
+  where
+    x_of : Asked → Option Text
+    x_of (asked.graph f p) = None
+    x_of (asked.separate f a b c) = a
+
+    y_of : Asked → Option Text
+    y_of (asked.graph f p) = None
+    y_of (asked.separate f a b c) = b
+
+    given_of : Asked → Option Text
+    given_of (asked.graph f p) = None
+    given_of (asked.separate f a b c) = c
+
+-- the words ask for another command
+pub not_graph : (words : List Text) (file : Text) (project : Bool) →
+    ((other : Asked) → Asks words other → other ≡ asked.graph file project) → (w : Wish) → Wants words w → ⊥
+not_graph words file project only (separate f a b c) h = let e = only (asked.separate f h.text_x h.text_y h.text_given) h.asks in absurd (cc)
+
+-- the words have no form
+pub no_form : (words : List Text) → (HasForm table words → ⊥) → (w : Wish) → Wants words w → ⊥
+no_form words none (separate f a b c) h = none (row_asked (asked.separate f h.text_x h.text_y h.text_given), h.asks.uses, h.asks.call)

@@ -1,0 +1,11 @@
+use Rattle.std.proofs.Common.{◌≡◌, ℕ, ◌<◌, sym, subst}
+use Rattle.std.specs.Prelude.{slice_index}
+use Rattle.mixed_graph.specs.Bits.{has}
+use Rattle.mixed_graph.specs.Shown.{graph_of}
+use Rattle.causal_cli.proofs.PathLemmas.{path_below}
+use Rattle.causal_cli.proofs.separate.decide.Goals as goal
+
+pub not_separated_text-requires-clause-named : goal.not_separated_text-requires-clause-named
+not_separated_text-requires-clause-named c = λ i h. subst (λ n. slice_index c.in-Some.path.vertices i < n) (sym c.requires.named)
+    (path_below (graph_of c.args.seen.now.graph) c.args.seen.now.graph.valid (has c.args.sets.x.bits) (has c.args.sets.y.bits) (has c.args.sets.given.bits)
+    c.in-Some.path.vertices c.in-Some.path.marks c.in-Some.path.count c.in-Some.ensures.found i h)

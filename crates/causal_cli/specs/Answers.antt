@@ -1,0 +1,98 @@
+-- The defined answer of a command on the bytes of its file.
+use Rattle.std.specs.Prelude.{ℕ, ◌≡◌, ◌<◌, ◌≤◌, ◌⊎◌, Bool, List, ◌++◌, length, Result, Ok, Err}
+use Rattle.mixed_graph.specs.Bits.{has}
+use Rattle.mixed_graph.specs.Graphs.{MixedGraph}
+use Rattle.mixed_graph.specs.Shown.{graph_of}
+use Rattle.m_separation.specs.declared.marks.Mark.{Mark}
+use Rattle.m_separation.specs.Walks.{IsSeparated}
+use Rattle.m_separation.specs.Paths.{IsOpenPath}
+use Rattle.dag_reader.specs.declared.graph.ReadGraph.{ReadGraph}
+use Rattle.dag_reader.specs.declared.faults.GraphFault.{GraphFault}
+use Rattle.dag_reader.specs.declared.faults.GraphFault.TheVariants.{NoMemory}
+use Rattle.dag_reader.specs.Reads.{Reads}
+use Rattle.latent_projection.specs.Renumbering.{IsObserved, observed_below, names_at}
+use Rattle.targets.specs.declared.fault.TargetFault.{TargetFault}
+use Rattle.targets.specs.Targets.{Lists, listed, AreSets, IsTargetFault}
+use Rattle.fault_text.specs.Lines.{line_of, graph_fault_text, target_fault_text}
+use Rattle.causal_cli.specs.Wishes.{Wish, Names, separate}
+use Rattle.causal_cli.specs.Lines.{separated_text, not_separated_text, open_text, size_line}
+use Rattle.causal_cli.specs.declared.verdict.Verdict.{Verdict}
+use Rattle.causal_cli.specs.declared.verdict.Verdict.TheVariants.{Yes, No, Words, Graph, Read, Write, Memory}
+
+-- the names of the observed vertices, in their order
+abbrev pub observed_names : ReadGraph → List (List ℕ)
+observed_names g = names_at (observed_below (has g.latent.bits) g.graph.n) g.names
+
+-- the lists of a separation: those that are given, or else the exposures, the outcomes and the adjusted vertices
+abbrev pub separation_lists : ReadGraph → Names → Names → Names → Lists
+separation_lists g x y given = record {
+  all = g.names;
+  observed = observed_names g;
+  x = listed g.names g.exposures.bits x;
+  y = listed g.names g.outcomes.bits y;
+  given = listed g.names g.adjusted.bits given;
+}
+
+-- yes: no walk from x to y is open given w
+pub record IsSeparatedAnswer (q : MixedGraph) (l : Lists) (text : List ℕ) : Type 0 where
+  pub x : ℕ
+  pub y : ℕ
+  pub w : ℕ
+  pub sets : AreSets l x y w
+  pub apart : IsSeparated q (has x) (has y) (has w)
+  pub prints : text ≡ separated_text l.observed x y w
+
+-- no: this path is open, and is printed
+pub record IsOpenAnswer (q : MixedGraph) (l : Lists) (text : List ℕ) : Type 0 where
+  pub x : ℕ
+  pub y : ℕ
+  pub w : ℕ
+  pub sets : AreSets l x y w
+  pub vertices : List ℕ
+  pub marks : List Mark
+  pub count : ℕ
+  pub path : IsOpenPath q (has x) (has y) (has w) vertices marks count
+  pub prints : text ≡ not_separated_text l.observed x y w (open_text l.observed vertices marks count)
+
+-- a name is at fault, or a set is empty
+pub record IsTargetRefusal (l : Lists) (line : List ℕ) : Type 0 where
+  pub fault : TargetFault
+  pub is_fault : IsTargetFault l fault
+  pub prints : line ≡ line_of (target_fault_text fault)
+
+-- the answer of a separation in the observed graph q
+abbrev pub SeparationAnswer : MixedGraph → Lists → Verdict → List ℕ → Type 0
+SeparationAnswer q l Yes text = IsSeparatedAnswer q l text
+SeparationAnswer q l No text = IsOpenAnswer q l text
+SeparationAnswer q l Graph text = IsTargetRefusal l text
+SeparationAnswer q l Words text = ⊥
+SeparationAnswer q l Read text = ⊥
+SeparationAnswer q l Write text = ⊥
+SeparationAnswer q l Memory text = ⊥
+
+-- the answer of a command on a graph that was read
+abbrev pub GraphAnswer : Wish → ReadGraph → Verdict → List ℕ → Type 0
+GraphAnswer (separate file x y given) g v text =
+    (q : MixedGraph) × IsObserved (graph_of g.graph) (has g.latent.bits) q × SeparationAnswer q (separation_lists g x y given) v text
+
+-- the bytes are the text of this graph, and at most 1,048,576
+pub record Holds (bytes : List ℕ) (g : ReadGraph) : Type 0 where
+  pub small : length bytes ≤ 1048576
+  pub reads : Reads bytes (Ok g)
+
+-- the bytes are no graph: they are too many, or their text has a fault
+pub data IsGraphRefusal (bytes line : List ℕ) : Type 0 where
+  too_long : 1048576 < length bytes → line ≡ size_line → IsGraphRefusal bytes line
+  faulty : (fault : GraphFault) → length bytes ≤ 1048576 → (fault ≡ NoMemory → ⊥) → Reads bytes (Err fault) → line ≡ line_of (graph_fault_text fault)
+      → IsGraphRefusal bytes line
+
+-- the answer of a command on a graph that the bytes hold
+pub record HoldsAnswer (w : Wish) (bytes : List ℕ) (v : Verdict) (text : List ℕ) : Type 0 where
+  pub graph : ReadGraph
+  pub holds : Holds bytes graph
+  pub answer : GraphAnswer w graph v text
+
+-- the defined answer: yes or no with its text, or the line of a refused graph or target
+abbrev pub Defined : Wish → List ℕ → Verdict → List ℕ → Type 0
+Defined w bytes Graph line = IsGraphRefusal bytes line ⊎ HoldsAnswer w bytes Graph line
+Defined w bytes v text = HoldsAnswer w bytes v text

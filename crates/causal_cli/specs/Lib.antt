@@ -1,0 +1,6 @@
+pub mod Wishes
+pub mod WishViews
+pub mod Lines
+pub mod Answers
+pub mod Run
+pub mod Replies

@@ -1,0 +1,41 @@
+-- What is printed for an answer, and the lines of refusals.
+use Rattle.std.specs.Prelude.{ℕ, List, [], ◌∷◌, ◌++◌, codes}
+use Rattle.m_separation.specs.declared.marks.Mark.{Mark}
+use Rattle.answer_text.specs.Texts.{set_text, path_text}
+use Rattle.fault_text.specs.Lines.{line_of}
+
+-- `X from Y given W`
+abbrev pub query_text : List (List ℕ) → ℕ → ℕ → ℕ → List ℕ
+query_text names x y given = set_text names x ++ (codes " from " ++ (set_text names y ++ (codes " given " ++ set_text names given)))
+
+-- the answer of a separation
+abbrev pub separated_text : List (List ℕ) → ℕ → ℕ → ℕ → List ℕ
+separated_text names x y given = codes "separated: " ++ (query_text names x y given ++ 10 ∷ [])
+
+-- the line of an open path
+abbrev pub open_text : List (List ℕ) → List ℕ → List Mark → ℕ → List ℕ
+open_text names vertices marks count = codes "open: " ++ (path_text names vertices marks count ++ 10 ∷ [])
+
+-- the answer where a path is open
+abbrev pub not_separated_text : List (List ℕ) → ℕ → ℕ → ℕ → List ℕ → List ℕ
+not_separated_text names x y given open_line = codes "not separated: " ++ (query_text names x y given ++ (10 ∷ open_line))
+
+-- words that have no form, with the commands that are built
+abbrev pub words_line : List ℕ
+words_line = line_of (codes "words not understood; commands are separate")
+
+-- a graph text of more than 1,048,576 bytes
+abbrev pub size_line : List ℕ
+size_line = line_of (codes "graph fault 12: over 1048576 bytes")
+
+-- a read that failed
+abbrev pub read_line : List ℕ
+read_line = line_of (codes "read failed")
+
+-- a write that failed
+abbrev pub write_line : List ℕ
+write_line = line_of (codes "write failed")
+
+-- want of memory
+abbrev pub memory_line : List ℕ
+memory_line = line_of (codes "no memory")

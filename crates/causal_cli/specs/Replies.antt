@@ -1,0 +1,43 @@
+-- What the parts of a command reply.
+use Rattle.std.specs.Prelude.{ℕ, ◌≡◌, List}
+use Rattle.mixed_graph.specs.Bits.{has}
+use Rattle.mixed_graph.specs.Graphs.{MixedGraph}
+use Rattle.mixed_graph.specs.Shown.{graph_of}
+use Rattle.m_separation.specs.declared.marks.Mark.{Mark}
+use Rattle.m_separation.specs.Walks.{IsSeparated}
+use Rattle.m_separation.specs.Paths.{IsOpenPath}
+use Rattle.dag_reader.specs.declared.graph.ReadGraph.{ReadGraph}
+use Rattle.latent_projection.specs.Renumbering.{IsObserved}
+use Rattle.causal_cli.specs.Wishes.{Names, Wish}
+use Rattle.causal_cli.specs.Lines.{separated_text, not_separated_text, open_text}
+use Rattle.causal_cli.specs.Answers.{separation_lists, SeparationAnswer, Defined}
+use Rattle.causal_cli.specs.declared.answer.Reply.{Reply}
+use Rattle.causal_cli.specs.declared.verdict.Verdict.{Verdict}
+use Rattle.causal_cli.specs.declared.verdict.Verdict.TheVariants.{Yes, No, Words, Graph, Read, Write, Memory}
+
+-- the reply is the answer of a separation in the graph that was read
+abbrev pub GivesSeparation : ReadGraph → Names → Names → Names → Reply → Type 0
+GivesSeparation g x y given reply =
+    (q : MixedGraph) × IsObserved (graph_of g.graph) (has g.latent.bits) q × SeparationAnswer q (separation_lists g x y given) reply.verdict reply.text.items
+
+-- an open path, and the text that prints it
+pub record PrintsPath (q : MixedGraph) (names : List (List ℕ)) (x y w : ℕ) (text : List ℕ) : Type 0 where
+  pub vertices : List ℕ
+  pub marks : List Mark
+  pub count : ℕ
+  pub path : IsOpenPath q (has x) (has y) (has w) vertices marks count
+  pub prints : text ≡ not_separated_text names x y w (open_text names vertices marks count)
+
+-- the answer for sets: separated, or not with an open path
+abbrev pub SetsAnswer : MixedGraph → List (List ℕ) → ℕ → ℕ → ℕ → Verdict → List ℕ → Type 0
+SetsAnswer q names x y w Yes text = IsSeparated q (has x) (has y) (has w) × (text ≡ separated_text names x y w)
+SetsAnswer q names x y w No text = PrintsPath q names x y w text
+SetsAnswer q names x y w Words text = ⊥
+SetsAnswer q names x y w Graph text = ⊥
+SetsAnswer q names x y w Read text = ⊥
+SetsAnswer q names x y w Write text = ⊥
+SetsAnswer q names x y w Memory text = ⊥
+
+-- the reply for sets
+abbrev pub AnswersSets : MixedGraph → List (List ℕ) → ℕ → ℕ → ℕ → Reply → Type 0
+AnswersSets q names x y w reply = SetsAnswer q names x y w reply.verdict reply.text.items

@@ -1,0 +1,94 @@
+ghost use Rattle.std.specs.Prelude.{◌≡◌, IfOk, OnOk, length, option_map};
+ghost use Rattle.mixed_graph.specs.Bits.{has};
+ghost use Rattle.mixed_graph.specs.Sets.{Within};
+ghost use Rattle.mixed_graph.specs.Names.{texts};
+ghost use Rattle.mixed_graph.specs.Shown.{graph_of};
+ghost use Rattle.word_lists.specs.Views.{names_in};
+ghost use Rattle.targets.specs.Targets.{listed};
+ghost use Rattle.fault_text.specs.Lines.{line_of, target_fault_text};
+ghost use Rattle.causal_cli.specs.Replies.{GivesSeparation, AnswersSets};
+
+use crate::answer::Reply;
+use crate::printing::{not_separated_text, separated_text};
+use crate::verdict::Verdict;
+use dag_reader::ReadGraph;
+use fault_text::target_line;
+use latent_projection::{Observed, observed};
+use m_separation::open_path;
+use mixed_graph::{Names, VSet};
+use std::alloc::{AllocError, Global};
+use targets::{Sets, TargetFault, find_sets, names_of};
+
+/// Whether x and y are separated given a set, in the observed graph.
+///
+/// A list that is missing is that of the exposures, the outcomes or the adjusted vertices.
+pub fn separate(
+    alloc: Global,
+    graph: &ReadGraph,
+    x: Option<Vec<Vec<u8>>>,
+    y: Option<Vec<Vec<u8>>>,
+    given: Option<Vec<Vec<u8>>>,
+) -> Result<Reply, AllocError>
+    ensures { IfOk result (GivesSeparation graph.now (option_map names_in x) (option_map names_in y) (option_map names_in given)) }
+{
+    let seen = observed(alloc, &graph.names, &graph.graph, graph.latent)?;
+    let x = list_or(alloc, &graph.names, graph.exposures, x)?;
+    let y = list_or(alloc, &graph.names, graph.outcomes, y)?;
+    let given = list_or(alloc, &graph.names, graph.adjusted, given)?;
+    match find_sets(alloc, &graph.names, &seen.names, &x, &y, &given) {
+        Ok(sets) => decide(alloc, &seen, sets),
+        Err(fault) => refuse(alloc, &fault),
+    }
+}
+
+/// The reply to listed names that are at fault.
+fn refuse(alloc: Global, fault: &TargetFault) -> Result<Reply, AllocError>
+    ensures verdict { IfOk result (λ r. r.verdict ≡ Verdict.Graph) }
+    ensures line { IfOk result (λ r. r.text.items ≡ line_of (target_fault_text fault.now)) }
+    ensures fault { OnOk result (fault.now ≡ TargetFault.NoMemory → ⊥) }
+{
+    if let TargetFault::NoMemory = fault {
+        return Err(AllocError);
+    }
+    let text = target_line(alloc, fault)?;
+    Ok(Reply {
+        verdict: Verdict::Graph,
+        text,
+    })
+}
+
+/// The names of a list that is given, or else those of a default set.
+fn list_or(
+    alloc: Global,
+    names: &Names,
+    default: VSet,
+    list: Option<Vec<Vec<u8>>>,
+) -> Result<Vec<Vec<u8>>, AllocError>
+    requires { Within (length names.now) (has default.bits) }
+    ensures { IfOk result (λ v. texts v.items ≡ listed names.now default.bits (option_map names_in list)) }
+{
+    match list {
+        Some(list) => Ok(list),
+        None => names_of(alloc, names, default),
+    }
+}
+
+/// The answer for sets of the observed graph.
+fn decide(alloc: Global, seen: &Observed, sets: Sets) -> Result<Reply, AllocError>
+    requires named { length seen.now.names ≡ seen.now.graph.n }
+    requires x { Within seen.now.graph.n (has sets.x.bits) }
+    requires y { Within seen.now.graph.n (has sets.y.bits) }
+    requires given { Within seen.now.graph.n (has sets.given.bits) }
+    ensures { IfOk result (AnswersSets (graph_of seen.now.graph) seen.now.names sets.x.bits sets.y.bits sets.given.bits) }
+{
+    match open_path(&seen.graph, sets.x, sets.y, sets.given) {
+        None => Ok(Reply {
+            verdict: Verdict::Yes,
+            text: separated_text(alloc, &seen.names, sets)?,
+        }),
+        Some(path) => Ok(Reply {
+            verdict: Verdict::No,
+            text: not_separated_text(alloc, &seen.names, sets, &path)?,
+        }),
+    }
+}

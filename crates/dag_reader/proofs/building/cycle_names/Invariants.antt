@@ -1,0 +1,6 @@
+use Rattle.std.proofs.Common.{◌≡◌, map, take}
+use Rattle.dag_reader.specs.Passes.{name_at}
+use Rattle.dag_reader.proofs.building.cycle_names.Given as goal
+
+abbrev pub invariant-loop-i : goal.invariant-loop-i
+invariant-loop-i l = l.texts.items ≡ map (name_at l.names) (take l.i l.cycle.list)

@@ -1,0 +1,209 @@
+-- What a graph text says, from left to right, and the first fault that ends the reading.
+use Rattle.std.specs.Prelude.{◌≡◌, ◌≤◌, ℕ, Bool, true, false, not, ◌&&◌, nat_le, List, [], ◌∷◌, ◌++◌, length, Option, Some, None, if◌then◌else◌, codes, Result, Ok, Err}
+use Rattle.std.specs.List.{list_any}
+use Rattle.std.specs.Str.{bytes_eq}
+use Rattle.mixed_graph.specs.Names.{with_name, index_of, is_named}
+use Rattle.dag_reader.specs.declared.marks.Arrow.{Arrow}
+use Rattle.dag_reader.specs.declared.marks.Role.{Role}
+use Rattle.dag_reader.specs.declared.marks.Role.TheVariants.{Exposure, Outcome, Adjusted, Latent}
+use Rattle.dag_reader.specs.declared.marks.Mark.{Mark}
+use Rattle.dag_reader.specs.declared.marks.Mark.TheVariants.{Begins, Joined, Member, HasRole}
+use Rattle.dag_reader.specs.Tokens.{Tok, open_brace, close_brace, open_bracket, close_bracket, semicolon, equals, comma, edge, name, value, end, bad, bad_edge}
+
+pub data Fault : Type 0 where
+  not_utf8 : ℕ → Fault
+  token : ℕ → Fault
+  expected : ℕ → Fault
+  not_a_dag : Fault
+  edge_kind : ℕ → Fault
+  flag : ℕ → Fault
+  selected : List ℕ → Fault
+  self_loop : List ℕ → Fault
+  too_many : Fault
+  role_clash : List ℕ → Fault
+  cycle : List (List ℕ) → Fault
+
+infixl 10 ◌>>=◌
+abbrev pub ◌>>=◌ : {A B : Type 0} → Result A Fault → (A → Result B Fault) → Result B Fault
+(Ok x) >>= f = f x
+(Err e) >>= f = Err e
+
+pub record Said : Type 0 where
+  pub names : List (List ℕ)
+  pub marks : List Mark
+
+abbrev pub nothing : Said
+nothing = record { names = []; marks = [] }
+
+-- ---- where a reader is between two tokens
+
+pub data Place : Type 0 where
+  at_start : Place
+  at_dag : Place  -- behind `dag`
+  at_title : Place  -- behind the graph's name
+  at_statement : Place
+  after_name : List ℕ → Place  -- the first name of a statement, whose use the next token settles
+  at_key_value : Place
+  in_group : Bool → Place  -- in braces, and whether these begin the statement
+  group_name : Bool → List ℕ → Place  -- behind a name in braces
+  after_first : Place  -- behind the braces that begin a statement
+  after_edge : Place
+  chain_name : List ℕ → Place  -- behind a name that is a group of a chain
+  after_group : Place  -- behind the braces of a group of a chain
+  at_attrs : Option (List ℕ) → Place  -- behind `[`: of a vertex or of a chain
+  attr_name : Option (List ℕ) → ℕ → List ℕ → Place  -- behind an attribute's name, which stands there
+  at_attr_value : Option (List ℕ) → Place
+  after_attr : Option (List ℕ) → Place
+  after_comma : Option (List ℕ) → Place
+  at_end : Place  -- behind the last `}`
+
+-- ---- the grammar of tokens alone
+
+-- what may begin at a statement's place, or end the text
+abbrev pub next_statement : Tok → Option Place
+next_statement semicolon = Some at_statement
+next_statement (name q n) = Some (after_name n)
+next_statement open_brace = Some (in_group true)
+next_statement close_brace = Some at_end
+next_statement t = None
+
+-- behind a group of a chain
+abbrev pub next_in_chain : Tok → Option Place
+next_in_chain (edge a) = Some after_edge
+next_in_chain open_bracket = Some (at_attrs None)
+next_in_chain t = next_statement t
+
+-- behind a first name
+abbrev pub next_after_name : List ℕ → Tok → Option Place
+next_after_name n equals = Some at_key_value
+next_after_name n (edge a) = Some after_edge
+next_after_name n open_bracket = Some (at_attrs (Some n))
+next_after_name n t = next_statement t
+
+abbrev pub next_in_group : Bool → Tok → Option Place
+next_in_group begins semicolon = Some (in_group begins)
+next_in_group begins (name q n) = Some (group_name begins n)
+next_in_group begins close_brace = Some (if begins then after_first else after_group)
+next_in_group begins t = None
+
+abbrev pub next_in_attrs : Option (List ℕ) → ℕ → Tok → Option Place
+next_in_attrs of at (name q n) = Some (attr_name of at n)
+next_in_attrs of at close_bracket = Some at_statement
+next_in_attrs of at t = None
+
+-- behind an attribute
+abbrev pub next_after_attr : Option (List ℕ) → ℕ → Tok → Option Place
+next_after_attr of at comma = Some (after_comma of)
+next_after_attr of at t = next_in_attrs of at t
+
+-- The place behind a token that stands at `at`, where it fits.
+abbrev pub next : Place → ℕ → Tok → Option Place
+next at_start at (name false n) = if bytes_eq n (codes "dag") then Some at_dag else None
+next at_dag at (name q n) = Some at_title
+next at_dag at open_brace = Some at_statement
+next at_title at open_brace = Some at_statement
+next at_statement at t = next_statement t
+next (after_name n) at t = next_after_name n t
+next at_key_value at value = Some at_statement
+next (in_group begins) at t = next_in_group begins t
+next (group_name begins n) at t = next_in_group begins t
+next after_first at (edge a) = Some after_edge
+next after_edge at (name q n) = Some (chain_name n)
+next after_edge at open_brace = Some (in_group false)
+next (chain_name n) at t = next_in_chain t
+next after_group at t = next_in_chain t
+next (at_attrs of) at t = next_in_attrs of at t
+next (attr_name of k n) at equals = Some (at_attr_value of)
+next (attr_name of k n) at t = next_after_attr of at t
+next (at_attr_value of) at value = Some (after_attr of)
+next (after_attr of) at t = next_after_attr of at t
+next (after_comma of) at (name q n) = Some (attr_name of at n)
+next p at t = None
+
+-- ---- what is said, and the faults of names and flags
+
+abbrev pub with_marks : List Mark → Said → Said
+with_marks ms s = record { names = s.names; marks = s.marks ++ ms }
+
+-- a vertex more; a name that is there keeps its number
+abbrev pub with_vertex : List ℕ → Said → Result Said Fault
+with_vertex n s =
+    if not (list_any (bytes_eq n) s.names) && nat_le 64 (length s.names) then Err too_many
+    else Ok (record { names = with_name s.names n; marks = s.marks ++ Member (index_of s.names n) ∷ [] })
+
+abbrev pub role_of : List ℕ → Option Role
+role_of n =
+    if bytes_eq n (codes "exposure") then Some Exposure
+    else (if bytes_eq n (codes "outcome") then Some Outcome
+    else (if bytes_eq n (codes "adjusted") then Some Adjusted
+    else (if bytes_eq n (codes "latent") then Some Latent else None)))
+
+abbrev pub with_role : ℕ → Option Role → Said → Result Said Fault
+with_role at None s = Err (flag at)
+with_role at (Some r) s = Ok (with_marks (HasRole r ∷ []) s)
+
+-- a bare attribute of a vertex or of a chain
+abbrev pub with_flag : Option (List ℕ) → ℕ → List ℕ → Said → Result Said Fault
+with_flag None at n s = Err (flag at)
+with_flag (Some v) at n s = if bytes_eq n (codes "selected") then Err (selected v) else with_role at (role_of n) s
+
+-- what the name before a token is, which the token settles
+abbrev pub settled : Place → Tok → Said → Result Said Fault
+settled (after_name n) equals s = Ok s
+settled (after_name n) t s = with_vertex n (with_marks (Begins ∷ []) s)
+settled (group_name b n) t s = with_vertex n s
+settled (chain_name n) t s = with_vertex n s
+settled (attr_name of at n) equals s = Ok s
+settled (attr_name of at n) t s = with_flag of at n s
+settled p t s = Ok s
+
+-- what a token itself says, where it fits
+abbrev pub noted : Place → Tok → Said → Said
+noted at_statement open_brace s = with_marks (Begins ∷ []) s
+noted (after_name n) open_brace s = with_marks (Begins ∷ []) s
+noted (chain_name n) open_brace s = with_marks (Begins ∷ []) s
+noted after_group open_brace s = with_marks (Begins ∷ []) s
+noted p (edge a) s = with_marks (Joined a ∷ []) s
+noted p t s = s
+
+-- the fault of a token that doesn't fit
+abbrev pub misfit : Place → ℕ → Fault
+misfit at_start at = not_a_dag
+misfit p at = expected at
+
+-- ---- one token more
+
+pub data Turn : Type 0 where
+  goes_on : Place → Said → Turn
+  ends : Result Said Fault → Turn
+
+-- where no token stands, or an edge of another kind of graph
+abbrev pub own_fault : ℕ → Tok → Option Fault
+own_fault at bad = Some (token at)
+own_fault at bad_edge = Some (edge_kind at)
+own_fault at t = None
+
+abbrev pub is_end : Tok → Bool
+is_end end = true
+is_end t = false
+
+-- at the end of the text
+abbrev pub ended : Place → ℕ → Said → Turn
+ended at_end at s = ends (Ok s)
+ended p at s = ends (Err (misfit p at))
+
+abbrev pub fitted : Place → ℕ → Tok → Option Place → Said → Turn
+fitted p at t None s = ends (Err (misfit p at))
+fitted p at t (Some q) s = goes_on q (noted p t s)
+
+abbrev pub taken : Place → ℕ → Tok → Result Said Fault → Turn
+taken p at t (Err e) = ends (Err e)
+taken p at t (Ok s) = if is_end t then ended p at s else fitted p at t (next p at t) s
+
+abbrev pub judged : Option Fault → Turn → Turn
+judged (Some f) turn = ends (Err f)
+judged None turn = turn
+
+-- A token's own fault, then that of the name before it, then that of the grammar.
+unfoldable pub step : Place → Said → ℕ → Tok → Turn
+step p s at t = judged (own_fault at t) (taken p at t (settled p t s))

@@ -1,0 +1,141 @@
+ghost use Rattle.std.specs.Prelude.{◌≡◌, ◌<◌, ◌≤◌, ◌&&◌, ◌||◌, ◌==◌, nat_lt, ℕ, List, [], true, false, slice_index, Option, find, option_map, IfOk, All, ◌++◌, map, OnOk};
+ghost use Rattle.std.specs.List.{list_all, list_any};
+ghost use Rattle.mixed_graph.specs.Bits.{has, members_below};
+ghost use Rattle.mixed_graph.specs.Pairs.{joins};
+ghost use Rattle.dag_reader.specs.MarkEnds.{is_inside};
+ghost use Rattle.dag_reader.specs.Passes.{Edge, members, self_loop, arrows_of, doubles_of};
+ghost use Rattle.dag_reader.specs.Rows.{row_has, pairs_below};
+
+use crate::marks::{Arrow, Mark};
+use mixed_graph::VSet;
+use std::alloc::{AllocError, Global};
+
+/// The members of the group at the front.
+fn group(marks: &[Mark]) -> VSet
+    requires { list_all (is_inside 64) marks.now ≡ true }
+    ensures { (v : ℕ) → has result.bits v ≡ list_any (λ r. v == r) (members marks.now) }
+{
+    let mut set = VSet::empty();
+    for mark in marks {
+        match *mark {
+            Mark::Begins | Mark::Joined(_) => return set,
+            Mark::Member(v) => set = set.union(VSet::one(v)),
+            Mark::HasRole(_) => {}
+        }
+    }
+    set
+}
+
+/// The first of these that the set has.
+fn first_in(left: &[u8], set: VSet) -> Option<u8>
+    requires { list_all (λ v. nat_lt v 64) left.now ≡ true }
+    ensures { result ≡ find (λ v. has set.bits v) left.now }
+{
+    for v in left {
+        if set.has(*v) {
+            return Some(*v);
+        }
+    }
+    None
+}
+
+/// The vertex of the first edge that joins a vertex to itself.
+pub fn self_loop(alloc: Global, marks: &[Mark]) -> Result<Option<u8>, AllocError>
+    requires { list_all (is_inside 64) marks.now ≡ true }
+    ensures { IfOk result (λ r. r ≡ option_map (λ (e : Edge). e.left) (self_loop marks.now)) }
+{
+    let mut left: Vec<u8> = Vec::new(alloc);
+    let mut rest = marks;
+    while let [mark, after @ ..] = rest {
+        match *mark {
+            Mark::Begins => left.clear(),
+            Mark::Joined(_) => {
+                if let Some(v) = first_in(left.as_slice(), group(after)) {
+                    return Ok(Some(v));
+                }
+                left.clear();
+            }
+            Mark::Member(v) => left.push(v)?,
+            Mark::HasRole(_) => {}
+        }
+        rest = after;
+    }
+    Ok(None)
+}
+
+/// Joins each member of one set to each of another.
+fn connect(rows: &mut [u64; 64], from: VSet, to: VSet)
+    ensures { (a b : ℕ) → row_has rows.new a b ≡ (row_has rows.old a b || (has from.bits a && has to.bits b)) }
+{
+    let _bits = from.bits;
+    for v in 0..64u8 {
+        rows[v as usize] = VSet {
+            bits: rows[v as usize],
+        }
+        .union(to.only_if(from.has(v)))
+        .bits;
+    }
+}
+
+/// The edges of each kind: row a holds each b with a -> b, or with a <-> b as it is written from the left.
+#[derive(Clone, Copy)]
+pub struct Edges {
+    pub arrows: [u64; 64],
+    pub doubles: [u64; 64],
+}
+
+/// The edges that the marks say.
+pub fn edges_in(marks: &[Mark]) -> Edges
+    requires { list_all (is_inside 64) marks.now ≡ true }
+    ensures arrows { (a b : ℕ) → row_has result.arrows a b ≡ joins (arrows_of marks.now) a b }
+    ensures doubles { (a b : ℕ) → row_has result.doubles a b ≡ joins (doubles_of marks.now) a b }
+{
+    let mut arrows = [0u64; 64];
+    let mut doubles = [0u64; 64];
+    let mut left = VSet::empty();
+    let mut rest = marks;
+    while let [mark, after @ ..] = rest {
+        match *mark {
+            Mark::Begins => left = VSet::empty(),
+            Mark::Joined(arrow) => {
+                let right = group(after);
+                match arrow {
+                    Arrow::Right => connect(&mut arrows, left, right),
+                    Arrow::Left => connect(&mut arrows, right, left),
+                    Arrow::Both => connect(&mut doubles, left, right),
+                }
+                left = VSet::empty();
+            }
+            Mark::Member(v) => left = left.union(VSet::one(v)),
+            Mark::HasRole(_) => {}
+        }
+        rest = after;
+    }
+    Edges { arrows, doubles }
+}
+
+/// Adds the pairs of one row.
+fn push_row(out: &mut Vec<(u8, u8)>, n: u32, a: u8, row: u64) -> Result<(), AllocError>
+    requires { n ≤ 64 }
+    ensures { OnOk result (out.new.items ≡ out.old.items ++ map (λ b. (a, b)) (members_below (has row) n)) }
+{
+    let row = VSet { bits: row };
+    for b in 0..n {
+        if row.has(b as u8) {
+            out.push((a, b as u8))?;
+        }
+    }
+    Ok(())
+}
+
+/// The pairs of the rows, sorted.
+pub fn pairs_below(alloc: Global, n: u32, rows: &[u64; 64]) -> Result<Vec<(u8, u8)>, AllocError>
+    requires { n ≤ 64 }
+    ensures { IfOk result (λ pairs. pairs.items ≡ pairs_below n (row_has rows.now)) }
+{
+    let mut out = Vec::new(alloc);
+    for a in 0..n {
+        push_row(&mut out, n, a as u8, rows[a as usize])?;
+    }
+    Ok(out)
+}

@@ -1,0 +1,24 @@
+// Graph text: the `dag` texts of DAGitty in one profile, read and written.
+#![tactic(auto)]
+
+mod building;
+mod edges;
+mod faults;
+mod grammar;
+mod graph;
+mod law;
+mod marks;
+mod reading;
+mod roles;
+mod said;
+mod statements;
+mod tokens;
+mod words;
+mod writing;
+
+pub use faults::GraphFault;
+pub use graph::ReadGraph;
+pub use law::{the_answers, the_grammar};
+pub use marks::Role;
+pub use reading::read_graph;
+pub use writing::{write_graph, write_name};

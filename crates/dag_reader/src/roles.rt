@@ -1,0 +1,91 @@
+ghost use Rattle.std.specs.Prelude.{◌≡◌, ◌<◌, ◌&&◌, ◌||◌, ◌==◌, ℕ, List, true, false, IfSome, IfNone};
+ghost use Rattle.std.specs.List.{list_all};
+ghost use Rattle.mixed_graph.specs.Bits.{has};
+ghost use Rattle.dag_reader.specs.declared.marks.Role.{Role};
+ghost use Rattle.dag_reader.specs.MarkEnds.{is_inside};
+ghost use Rattle.dag_reader.specs.Passes.{same_role, has_role, roles_of, HasTwo, IsRoleClash};
+ghost use Rattle.dag_reader.specs.RoleSets.{in_set};
+
+use crate::marks::{Mark, Role};
+use mixed_graph::VSet;
+
+/// The vertices of each role.
+#[derive(Clone, Copy, Debug)]
+pub struct Roles {
+    pub exposures: VSet,
+    pub outcomes: VSet,
+    pub adjusted: VSet,
+    pub latent: VSet,
+}
+
+impl Roles {
+    fn none() -> Roles
+        ensures { (r : Role) (v : ℕ) → in_set result r v ≡ false }
+    {
+        Roles {
+            exposures: VSet::empty(),
+            outcomes: VSet::empty(),
+            adjusted: VSet::empty(),
+            latent: VSet::empty(),
+        }
+    }
+
+    /// The same with one vertex more in a role.
+    fn with(self, role: Role, v: u8) -> Roles
+        requires { v < 64 }
+        ensures { (r : Role) (u : ℕ) → in_set result r u ≡ (in_set self r u || ((u == v) && same_role r role)) }
+    {
+        let mut roles = self;
+        let one = VSet::one(v);
+        match role {
+            Role::Exposure => roles.exposures = self.exposures.union(one),
+            Role::Outcome => roles.outcomes = self.outcomes.union(one),
+            Role::Adjusted => roles.adjusted = self.adjusted.union(one),
+            Role::Latent => roles.latent = self.latent.union(one),
+        }
+        roles
+    }
+
+    /// The vertices in two of the sets.
+    fn in_two(self) -> VSet
+        ensures { (v : ℕ) → has result.bits v ≡ ((has self.exposures.bits v && has self.outcomes.bits v) || ((has self.exposures.bits v || has self.outcomes.bits v) && has self.adjusted.bits v) || ((has self.exposures.bits v || has self.outcomes.bits v || has self.adjusted.bits v) && has self.latent.bits v)) }
+    {
+        let two = self.exposures.union(self.outcomes);
+        let three = two.union(self.adjusted);
+        self.exposures
+            .intersection(self.outcomes)
+            .union(two.intersection(self.adjusted))
+            .union(three.intersection(self.latent))
+    }
+
+    /// The lowest vertex with two different roles.
+    pub fn clash(self) -> Option<u8>
+        ensures found { IfSome result (λ v. IsRoleClash (in_set self) v) }
+        ensures none { IfNone result ((v : ℕ) → HasTwo (in_set self) v → ⊥) }
+    {
+        let two = self.in_two();
+        if two.is_empty() {
+            return None;
+        }
+        Some(two.lowest())
+    }
+}
+
+/// The roles that the marks give.
+pub fn roles_in(marks: &[Mark]) -> Roles
+    requires { list_all (is_inside 64) marks.now ≡ true }
+    ensures { (r : Role) (v : ℕ) → in_set result r v ≡ has_role (roles_of marks.now) r v }
+{
+    let mut roles = Roles::none();
+    let mut last: Option<u8> = None;
+    for mark in marks {
+        match *mark {
+            Mark::Begins | Mark::Joined(_) => {}
+            Mark::Member(v) => last = Some(v),
+            Mark::HasRole(role) => if let Some(v) = last {
+                roles = roles.with(role, v);
+            },
+        }
+    }
+    roles
+}

@@ -1,0 +1,285 @@
+ghost use Rattle.std.specs.Prelude.{◌≡◌, ◌≢◌, ◌<◌, ◌≤◌, ◌-◌, ◌+◌, List, ℕ, [], ◌∷◌, Some, None, IsTrue, true, false, length, take, drop, IfOk, IfSome, option_map};
+ghost use Rattle.std.specs.List.{prefix_len, list_all};
+ghost use Rattle.std.specs.Str.{is_utf8};
+ghost use Rattle.mixed_graph.specs.Names.{IsName};
+ghost use Rattle.dag_reader.specs.Bytes.{in_class, is_white, is_edge_byte, is_sign, is_name_byte, is_run_byte};
+ghost use Rattle.mixed_graph.specs.Names.{is_line_byte};
+ghost use Rattle.dag_reader.specs.Tokens.{Tok, end, edge_token, name_token, quoted_name_token, sign_token, quoted_text, token_at, value_at, token_of, past_white, first, place_of, wants_value};
+ghost use Rattle.dag_reader.specs.Views.{view};
+ghost use Rattle.dag_reader.specs.Grammar.{is_end};
+
+use crate::marks::Arrow;
+use crate::words::Word;
+
+#[derive(Clone, Copy, Debug, PartialEq, Eq)]
+pub enum Class {
+    White,
+    Edge,
+    Name,
+    Line,
+    Run,
+}
+
+#[derive(Clone, Copy, Debug)]
+pub enum Token<'a> {
+    OpenBrace,
+    CloseBrace,
+    OpenBracket,
+    CloseBracket,
+    Semicolon,
+    Equals,
+    Comma,
+    Edge(Arrow),
+    /// Whether it is quoted, and its characters.
+    Name(bool, Word<'a>),
+    /// The value of an attribute or of a statement that says nothing.
+    Value,
+    End,
+    /// No token.
+    Bad,
+    /// An edge of another kind of graph.
+    BadEdge,
+}
+
+fn is_white(byte: u8) -> bool
+    ensures { result ≡ is_white byte }
+{
+    matches!(byte, b' ' | b'\t' | b'\r' | b'\n')
+}
+
+fn is_edge_byte(byte: u8) -> bool
+    ensures { result ≡ is_edge_byte byte }
+{
+    matches!(byte, b'<' | b'>' | b'-' | b'@')
+}
+
+fn is_sign(byte: u8) -> bool
+    ensures { result ≡ is_sign byte }
+{
+    matches!(byte, b'{' | b'}' | b'[' | b']' | b';' | b'=' | b',')
+}
+
+pub fn is_name_byte(byte: u8) -> bool
+    ensures { result ≡ is_name_byte byte }
+{
+    !(is_white(byte) || is_edge_byte(byte) || is_sign(byte) || byte == b'"')
+}
+
+fn is_in(class: Class, byte: u8) -> bool
+    ensures { result ≡ in_class class byte }
+{
+    match class {
+        Class::White => is_white(byte),
+        Class::Edge => is_edge_byte(byte),
+        Class::Name => is_name_byte(byte),
+        Class::Line => !matches!(byte, b'"' | b'\r' | b'\n'),
+        Class::Run => !(is_white(byte) || matches!(byte, b',' | b']' | b'}' | b';' | b'"')),
+    }
+}
+
+/// How many bytes at the front are in the class.
+fn run_len(class: Class, bytes: &[u8]) -> usize
+    ensures run { result ≡ prefix_len (in_class class) bytes.now }
+    ensures within { result ≤ length bytes.now }
+{
+    for (i, byte) in bytes.iter().enumerate() {
+        if !is_in(class, *byte) {
+            return i;
+        }
+    }
+    bytes.len()
+}
+
+/// The run of the class at the front, and what follows it.
+fn split_run(class: Class, bytes: &[u8]) -> (&[u8], &[u8])
+    requires { is_utf8 bytes.now ≡ true }
+    ensures run { result.0.now ≡ take (prefix_len (in_class class) bytes.now) bytes.now }
+    ensures rest { result.1.now ≡ drop (prefix_len (in_class class) bytes.now) bytes.now }
+    ensures passes { list_all (in_class class) result.0.now ≡ true }
+    ensures text { is_utf8 result.0.now ≡ true }
+    ensures after { is_utf8 result.1.now ≡ true }
+{
+    bytes.split_at(run_len(class, bytes))
+}
+
+fn edge(run: &[u8]) -> Token<'_>
+    ensures { view result ≡ edge_token run.now }
+{
+    match run {
+        b"->" => Token::Edge(Arrow::Right),
+        b"<-" => Token::Edge(Arrow::Left),
+        b"<->" => Token::Edge(Arrow::Both),
+        b"--" => Token::BadEdge,
+        _ if run.contains(&b'@') => Token::BadEdge,
+        _ => Token::Bad,
+    }
+}
+
+fn bare_name(run: &[u8]) -> Token<'_>
+    requires { IsName run.now }
+    ensures { view result ≡ name_token run.now }
+{
+    if run.starts_with(b"//") || run.starts_with(b"/*") || run.starts_with(b"#") {
+        Token::Bad
+    } else {
+        Token::Name(false, Word { bytes: run })
+    }
+}
+
+fn quoted_name(text: &[u8]) -> Token<'_>
+    requires line { list_all is_line_byte text.now ≡ true }
+    requires text { is_utf8 text.now ≡ true }
+    ensures { view result ≡ quoted_name_token text.now }
+{
+    if text.is_empty() {
+        Token::Bad
+    } else {
+        Token::Name(true, Word { bytes: text })
+    }
+}
+
+fn sign<'a>(byte: u8) -> Token<'a>
+    ensures { view result ≡ sign_token byte }
+{
+    match byte {
+        b'{' => Token::OpenBrace,
+        b'}' => Token::CloseBrace,
+        b'[' => Token::OpenBracket,
+        b']' => Token::CloseBracket,
+        b';' => Token::Semicolon,
+        b'=' => Token::Equals,
+        b',' => Token::Comma,
+        _ => Token::Bad,
+    }
+}
+
+/// What stands before the closing quote, and what follows that.
+fn quoted(bytes: &[u8]) -> Option<(&[u8], &[u8])>
+    requires { is_utf8 bytes.now ≡ true }
+    ensures text { option_map (λ p. (p.0.now, p.1.now)) result ≡ quoted_text bytes.now }
+    ensures shorter { IfSome result (λ p. length p.1.now < length bytes.now) }
+    ensures line { IfSome result (λ p. list_all is_line_byte p.0.now ≡ true) }
+    ensures inside { IfSome result (λ p. is_utf8 p.0.now ≡ true) }
+    ensures after { IfSome result (λ p. is_utf8 p.1.now ≡ true) }
+{
+    let (text, after) = split_run(Class::Line, bytes);
+    let [byte, rest @ ..] = after else {
+        return None;
+    };
+    if *byte != b'"' {
+        return None;
+    }
+    Some((text, rest))
+}
+
+/// The token that begins with a byte, and what follows it.
+fn token_at<'a>(byte: u8, rest: &'a [u8], bytes: &'a [u8]) -> (Token<'a>, &'a [u8])
+    requires front { bytes.now ≡ byte ∷ rest.now }
+    requires text { is_utf8 bytes.now ≡ true }
+    requires rest { byte < 128 → is_utf8 rest.now ≡ true }
+    ensures token { (view result.0, result.1.now) ≡ token_at byte rest.now }
+    ensures shorter { length result.1.now ≤ length rest.now }
+    ensures after { is_utf8 result.1.now ≡ true }
+{
+    if byte == b'"' {
+        let Some((text, after)) = quoted(rest) else {
+            return (Token::Bad, rest);
+        };
+        return (quoted_name(text), after);
+    }
+    if is_in(Class::Edge, byte) {
+        let (run, after) = split_run(Class::Edge, bytes);
+        return (edge(run), after);
+    }
+    if is_in(Class::Name, byte) {
+        let (run, after) = split_run(Class::Name, bytes);
+        return (bare_name(run), after);
+    }
+    (sign(byte), rest)
+}
+
+/// The same where a value is due.
+fn value_at<'a>(byte: u8, rest: &'a [u8], bytes: &'a [u8]) -> (Token<'a>, &'a [u8])
+    requires front { bytes.now ≡ byte ∷ rest.now }
+    requires text { is_utf8 bytes.now ≡ true }
+    requires rest { byte < 128 → is_utf8 rest.now ≡ true }
+    ensures token { (view result.0, result.1.now) ≡ value_at byte rest.now }
+    ensures shorter { length result.1.now ≤ length rest.now }
+    ensures after { is_utf8 result.1.now ≡ true }
+{
+    if byte == b'"' {
+        let Some((_, after)) = quoted(rest) else {
+            return (Token::Bad, rest);
+        };
+        return (Token::Value, after);
+    }
+    if is_in(Class::Run, byte) {
+        let (_, after) = split_run(Class::Run, bytes);
+        return (Token::Value, after);
+    }
+    (sign(byte), rest)
+}
+
+/// The token at the front, and what follows it.
+fn token_of(value_due: bool, bytes: &[u8]) -> (Token<'_>, &[u8])
+    requires { is_utf8 bytes.now ≡ true }
+    ensures token { (view result.0, result.1.now) ≡ token_of value_due bytes.now }
+    ensures shorter { view result.0 ≢ end → length result.1.now < length bytes.now }
+    ensures kept { length result.1.now ≤ length bytes.now }
+    ensures after { is_utf8 result.1.now ≡ true }
+{
+    let [byte, rest @ ..] = bytes else {
+        return (Token::End, bytes);
+    };
+    if value_due {
+        return value_at(*byte, rest, bytes);
+    }
+    token_at(*byte, rest, bytes)
+}
+
+/// Cuts a text into tokens.
+#[derive(Clone, Copy, Debug)]
+pub struct Lexer<'a> {
+    size: usize,
+    rest: &'a [u8],
+    value_due: bool,
+    ghost within: { length rest.now ≤ size },
+    ghost text: { is_utf8 rest.now ≡ true },
+}
+
+impl<'a> Lexer<'a> {
+    pub fn new(text: &'a [u8]) -> Lexer<'a>
+        requires { is_utf8 text.now ≡ true }
+        ensures { (result.size ≡ length text.now) × (result.rest.now ≡ text.now) × (result.value_due ≡ false) }
+    {
+        Lexer {
+            size: text.len(),
+            rest: text,
+            value_due: false,
+        }
+    }
+
+    /// The place of the next token, and the token.
+    #[tactic(auto, unfolding(crate::specs::Tokens::first, crate::specs::Tokens::place_of))]
+    pub fn next(&mut self) -> (usize, Token<'a>)
+        ensures token { (view result.1, self.new.rest.now) ≡ first self.old.value_due self.old.rest.now }
+        ensures place { result.0 ≡ place_of self.old.size self.old.rest.now }
+        ensures size { self.new.size ≡ self.old.size }
+        ensures due { self.new.value_due ≡ wants_value (view result.1) }
+        ensures shorter { view result.1 ≢ end → length self.new.rest.now < length self.old.rest.now }
+    {
+        let (_, bytes) = split_run(Class::White, self.rest);
+        let at = self.size - bytes.len();
+        let (token, rest) = token_of(self.value_due, bytes);
+        self.rest = rest;
+        self.value_due = matches!(token, Token::Equals);
+        (at, token)
+    }
+}
+
+/// Whether nothing is left.
+pub fn is_end(token: Token<'_>) -> bool
+    ensures { result ≡ is_end (view token.entry) }
+{
+    matches!(token, Token::End)
+}

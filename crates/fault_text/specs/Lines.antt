@@ -1,0 +1,49 @@
+-- The lines that say why an input was refused.
+use Rattle.std.specs.Prelude.{ℕ, List, [], ◌∷◌, ◌++◌, codes}
+use Rattle.std.specs.Fmt.{decimal}
+use Rattle.name_text.specs.Printing.{printed}
+use Rattle.dag_reader.specs.declared.faults.GraphFault.{GraphFault}
+use Rattle.dag_reader.specs.declared.faults.GraphFault.TheVariants as graph
+use Rattle.targets.specs.declared.fault.TargetFault.{TargetFault}
+use Rattle.targets.specs.declared.fault.TargetFault.TheVariants as target
+
+-- the place of a fault
+abbrev pub at_byte : ℕ → List ℕ
+at_byte at = codes ": byte " ++ decimal at
+
+-- the name at fault
+abbrev pub with_name : List ℕ → List ℕ
+with_name name = codes ": " ++ printed name
+
+-- names, each behind a space
+abbrev pub spaced : List (List ℕ) → List ℕ
+spaced [] = []
+spaced (n ∷ ns) = 32 ∷ (printed n ++ spaced ns)
+
+-- what is wrong with a graph text
+abbrev pub graph_fault_text : GraphFault → List ℕ
+graph_fault_text (graph.NotUtf8 at) = codes "graph fault 1" ++ at_byte at
+graph_fault_text (graph.Token at) = codes "graph fault 2" ++ at_byte at
+graph_fault_text (graph.Expected at) = codes "graph fault 3" ++ at_byte at
+graph_fault_text graph.NotADag = codes "graph fault 4"
+graph_fault_text (graph.EdgeKind at) = codes "graph fault 5" ++ at_byte at
+graph_fault_text (graph.Flag at) = codes "graph fault 6" ++ at_byte at
+graph_fault_text (graph.Selected name) = codes "graph fault 7" ++ with_name name
+graph_fault_text (graph.SelfLoop name) = codes "graph fault 8" ++ with_name name
+graph_fault_text graph.TooMany = codes "graph fault 9"
+graph_fault_text (graph.RoleClash name) = codes "graph fault 10" ++ with_name name
+graph_fault_text (graph.Cycle names) = codes "graph fault 11: cycle" ++ spaced names.items
+graph_fault_text graph.NoMemory = codes "no memory"
+
+-- what is wrong with the names that a command lists
+abbrev pub target_fault_text : TargetFault → List ℕ
+target_fault_text (target.Unknown name) = codes "target fault 1" ++ with_name name
+target_fault_text (target.Latent name) = codes "target fault 2" ++ with_name name
+target_fault_text (target.Twice name) = codes "target fault 3" ++ with_name name
+target_fault_text target.EmptyY = codes "target fault 4"
+target_fault_text target.EmptyX = codes "target fault 5"
+target_fault_text target.NoMemory = codes "no memory"
+
+-- the line of a refusal
+abbrev pub line_of : List ℕ → List ℕ
+line_of text = codes "causal: " ++ (text ++ 10 ∷ [])
