@@ -6,8 +6,10 @@ mod ending;
 mod printing;
 mod reply;
 mod separate;
+mod sure;
 mod top;
 mod verdict;
 mod wish;
 
+pub use sure::run_surely;
 pub use top::{Status, run};

@@ -1,0 +1,9 @@
+use Rattle.std.proofs.Common.{◌≡◌, refl}
+use Rattle.causal_cli.proofs.Endings.{sure_end}
+use Rattle.causal_cli.proofs.sure.run_surely.Goals as goal
+
+pub returns-clause-read : goal.returns-clause-read
+returns-clause-read g c = (sure_end _ _ _ (λ name. refl) refl c.run.ensures.ended).0
+
+pub returns-clause-write : goal.returns-clause-write
+returns-clause-write g c = (sure_end _ _ _ (λ name. refl) refl c.run.ensures.ended).1
