@@ -1,3 +1,5 @@
+ghost use Rattle.std.specs.Prelude.{◌<◌, ◌↔◌, All, IsTrue};
+
 use crate::{child_choice, district_of, districts, links};
 use mixed_graph::{Graph, VSet};
 use std::process::Abort;
@@ -25,8 +27,36 @@ fn check_graph(rt: &impl Abort, g: &Graph, sets: &[u64], next: &[u8]) {
     }
 }
 
+/// Whether all ends are below n.
+fn all_below(n: u32, pairs: &[(u8, u8)]) -> bool
+    ensures { IsTrue result ↔ All (λ p. (p.0 < n) × (p.1 < n)) pairs.now }
+{
+    pairs.iter().all(|p| (p.0 as u32) < n && (p.1 as u32) < n)
+}
+
+/// 64 vertices in one district: each is joined to the next.
+fn check_long_district(rt: &impl Abort) {
+    let mut chain = [(0u8, 1u8); 63];
+    for (i, pair) in chain.iter_mut().enumerate() {
+        *pair = (i as u8, i as u8 + 1);
+    }
+    assert!(rt; all_below(64, &chain));
+    match Graph::build(64, &[], &chain) {
+        Ok(g) => {
+            check_graph(rt, &g, &[u64::MAX], &[64; 64]);
+            let all = VSet::below(64);
+            assert!(rt; g.covers(all));
+            assert!(rt; all.has(7));
+            let whole = district_of(&g, all, 7);
+            assert_eq!(rt; whole.bits, u64::MAX);
+        }
+        Err(_) => assert!(rt; false),
+    }
+}
+
 #[test]
 fn districts_links_and_choices(rt: HostRuntime) {
+    check_long_district(&rt);
     // 0 -> 1, 0 <-> 1
     if let Ok(g) = Graph::build(2, &[(0, 1)], &[(0, 1)]) {
         check_graph(&rt, &g, &[3], &[1, 64, 64]);
