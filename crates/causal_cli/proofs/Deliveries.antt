@@ -1,6 +1,6 @@
 -- From a reply that was delivered to the end of the run.
 use Rattle.std.proofs.Common.{◌≡◌, ℕ, Bool, true, false, List, Option, Some, None, IfSome, refl, sym, subst}
-use Rattle.causal_cli.specs.Wishes.{Wish, separate, Wants, file_of}
+use Rattle.causal_cli.specs.Wishes.{Wish, graph, separate, Wants, file_of}
 use Rattle.causal_cli.specs.Answers.{Defined}
 use Rattle.causal_cli.specs.Run.{Run, code_of, Answers}
 use Rattle.causal_cli.specs.Endings.{EndsAs, Delivers}
@@ -20,6 +20,10 @@ refusal : (w : Wish) (bytes : List ℕ) (v : Verdict) (text : List ℕ) → Defi
 refusal w bytes Yes text d n m = absurd (n refl)
 refusal w bytes No text d n m = absurd (m refl)
 refusal w bytes Graph text d n m = refl
+refusal (graph f p) bytes Words text d n m = absurd d.answer
+refusal (graph f p) bytes Read text d n m = absurd d.answer
+refusal (graph f p) bytes Write text d n m = absurd d.answer
+refusal (graph f p) bytes Memory text d n m = absurd d.answer
 refusal (separate f x y g) bytes Words text d n m = absurd d.answer.2
 refusal (separate f x y g) bytes Read text d n m = absurd d.answer.2
 refusal (separate f x y g) bytes Write text d n m = absurd d.answer.2

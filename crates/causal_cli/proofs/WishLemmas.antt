@@ -1,10 +1,10 @@
 -- Words without a wish.
-use Rattle.std.proofs.Common.{◌≡◌, ℕ, Bool, List, Option, Some, None, ap, subst}
+use Rattle.std.proofs.Common.{◌≡◌, ℕ, List, Option, Some, None, ap, subst}
 use Rattle.word_forms.specs.Form.{Text, HasForm}
 use Rattle.word_lists.specs.Lists.{IsList}
 use Rattle.word_values.specs.Commands.{Asked, Asks, table, row_asked}
 use Rattle.word_values.specs.Commands as asked
-use Rattle.causal_cli.specs.Wishes.{Wish, Names, separate, IsListed, Wants}
+use Rattle.causal_cli.specs.Wishes.{Wish, Names, graph, separate, IsListed, Wants}
 
 -- a value that is no list gives no names
 pub not_listed : (text : Text) → ((names : List (List ℕ)) → IsList text names → ⊥) → (names : Names) → IsListed (Some text) names → ⊥
@@ -15,6 +15,7 @@ not_listed text none (Some names) h = none names h
 pub no_separation : (words : List Text) (file : Text) (x y given : Option Text) →
     ((other : Asked) → Asks words other → other ≡ asked.separate file x y given) →
     ((a b c : Names) → IsListed x a → IsListed y b → IsListed given c → ⊥) → (w : Wish) → Wants words w → ⊥
+no_separation words file x y given only none (graph f p) h = let e = only (asked.graph f p) h in absurd (cc)
 no_separation words file x y given only none (separate f a b c) h =
     let e = only (asked.separate f h.text_x h.text_y h.text_given) h.asks in
     let ex : h.text_x ≡ x = ap x_of e in
@@ -34,11 +35,7 @@ no_separation words file x y given only none (separate f a b c) h =
     given_of (asked.graph f p) = None
     given_of (asked.separate f a b c) = c
 
--- the words ask for another command
-pub not_graph : (words : List Text) (file : Text) (project : Bool) →
-    ((other : Asked) → Asks words other → other ≡ asked.graph file project) → (w : Wish) → Wants words w → ⊥
-not_graph words file project only (separate f a b c) h = let e = only (asked.separate f h.text_x h.text_y h.text_given) h.asks in absurd (cc)
-
 -- the words have no form
 pub no_form : (words : List Text) → (HasForm table words → ⊥) → (w : Wish) → Wants words w → ⊥
+no_form words none (graph f p) h = none (row_asked (asked.graph f p), h.uses, h.call)
 no_form words none (separate f a b c) h = none (row_asked (asked.separate f h.text_x h.text_y h.text_given), h.asks.uses, h.asks.call)

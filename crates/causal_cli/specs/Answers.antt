@@ -1,5 +1,5 @@
 -- The defined answer of a command on the bytes of its file.
-use Rattle.std.specs.Prelude.{ℕ, ◌≡◌, ◌<◌, ◌≤◌, ◌⊎◌, List, length, Ok, Err}
+use Rattle.std.specs.Prelude.{ℕ, ◌≡◌, ◌<◌, ◌≤◌, ◌⊎◌, Bool, true, false, List, length, Ok, Err}
 use Rattle.mixed_graph.specs.Bits.{has}
 use Rattle.mixed_graph.specs.Graphs.{MixedGraph}
 use Rattle.mixed_graph.specs.Shown.{graph_of}
@@ -10,11 +10,12 @@ use Rattle.dag_reader.specs.declared.graph.ReadGraph.{ReadGraph}
 use Rattle.dag_reader.specs.declared.faults.GraphFault.{GraphFault}
 use Rattle.dag_reader.specs.declared.faults.GraphFault.TheVariants.{NoMemory}
 use Rattle.dag_reader.specs.Reads.{Reads}
-use Rattle.latent_projection.specs.Renumbering.{IsObserved, observed_below, names_at}
+use Rattle.dag_reader.specs.Written.{drawn_of, written}
+use Rattle.latent_projection.specs.Renumbering.{IsObserved, observed_below, renumbered_set, names_at}
 use Rattle.targets.specs.declared.fault.TargetFault.{TargetFault}
 use Rattle.targets.specs.Targets.{Lists, listed, AreSets, IsTargetFault}
 use Rattle.fault_text.specs.Lines.{line_of, graph_fault_text, target_fault_text}
-use Rattle.causal_cli.specs.Wishes.{Wish, Names, separate}
+use Rattle.causal_cli.specs.Wishes.{Wish, Names, graph, separate}
 use Rattle.causal_cli.specs.Lines.{separated_text, not_separated_text, open_text, size_line}
 use Rattle.causal_cli.specs.declared.verdict.Verdict.{Verdict}
 use Rattle.causal_cli.specs.declared.verdict.Verdict.TheVariants.{Yes, No, Words, Graph, Read, Write, Memory}
@@ -70,8 +71,43 @@ SeparationAnswer q l Read text = ⊥
 SeparationAnswer q l Write text = ⊥
 SeparationAnswer q l Memory text = ⊥
 
+-- the set in the numbers of the observed vertices
+abbrev pub observed_set : ReadGraph → ℕ → ℕ → Bool
+observed_set g set = renumbered_set (observed_below (has g.latent.bits) g.graph.n) (has set)
+
+-- p is the observed graph of g, with the names and the flags of the observed vertices; it has no latent vertex
+pub record IsObservedPart (g p : ReadGraph) : Type 0 where
+  pub names : p.names ≡ observed_names g
+  pub graph : IsObserved (graph_of g.graph) (has g.latent.bits) (graph_of p.graph)
+  pub exposures : (v : ℕ) → has p.exposures.bits v ≡ observed_set g g.exposures.bits v
+  pub outcomes : (v : ℕ) → has p.outcomes.bits v ≡ observed_set g g.outcomes.bits v
+  pub adjusted : (v : ℕ) → has p.adjusted.bits v ≡ observed_set g g.adjusted.bits v
+  pub no_latent : (v : ℕ) → has p.latent.bits v ≡ false
+
+-- the graph that is written: the one that was read, or its observed graph where that is asked for
+abbrev pub IsShown : Bool → ReadGraph → ReadGraph → Type 0
+IsShown false g shown = shown ≡ g
+IsShown true g shown = IsObservedPart g shown
+
+-- the text of the graph, or of its observed graph
+pub record IsGraphText (project : Bool) (g : ReadGraph) (text : List ℕ) : Type 0 where
+  pub shown : ReadGraph
+  pub is_shown : IsShown project g shown
+  pub prints : text ≡ written (drawn_of shown)
+
+-- the answer of a graph is always its text
+abbrev pub TextAnswer : Bool → ReadGraph → Verdict → List ℕ → Type 0
+TextAnswer project g Yes text = IsGraphText project g text
+TextAnswer project g No text = ⊥
+TextAnswer project g Words text = ⊥
+TextAnswer project g Graph text = ⊥
+TextAnswer project g Read text = ⊥
+TextAnswer project g Write text = ⊥
+TextAnswer project g Memory text = ⊥
+
 -- the answer of a command on a graph that was read
 abbrev pub GraphAnswer : Wish → ReadGraph → Verdict → List ℕ → Type 0
+GraphAnswer (graph file project) g v text = TextAnswer project g v text
 GraphAnswer (separate file x y given) g v text =
     (q : MixedGraph) × IsObserved (graph_of g.graph) (has g.latent.bits) q × SeparationAnswer q (separation_lists g x y given) v text
 

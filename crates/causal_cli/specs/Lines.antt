@@ -22,7 +22,7 @@ not_separated_text names x y given open_line = codes "not separated: " ++ (query
 
 -- words that have no form, with the commands that are built
 abbrev pub words_line : List ℕ
-words_line = line_of (codes "words not understood; commands are separate")
+words_line = line_of (codes "words not understood; commands are graph separate")
 
 -- a graph text of more than 1,048,576 bytes
 abbrev pub size_line : List ℕ

@@ -1,5 +1,5 @@
 -- What the parts of a command reply.
-use Rattle.std.specs.Prelude.{ℕ, ◌≡◌, List}
+use Rattle.std.specs.Prelude.{ℕ, ◌≡◌, Bool, List}
 use Rattle.mixed_graph.specs.Bits.{has}
 use Rattle.mixed_graph.specs.Graphs.{MixedGraph}
 use Rattle.mixed_graph.specs.Shown.{graph_of}
@@ -10,7 +10,7 @@ use Rattle.dag_reader.specs.declared.graph.ReadGraph.{ReadGraph}
 use Rattle.latent_projection.specs.Renumbering.{IsObserved}
 use Rattle.causal_cli.specs.Wishes.{Names, Wish}
 use Rattle.causal_cli.specs.Lines.{separated_text, not_separated_text, open_text}
-use Rattle.causal_cli.specs.Answers.{separation_lists, SeparationAnswer, GraphAnswer, Defined}
+use Rattle.causal_cli.specs.Answers.{separation_lists, SeparationAnswer, TextAnswer, GraphAnswer, Defined}
 use Rattle.causal_cli.specs.declared.reply.Reply.{Reply}
 use Rattle.causal_cli.specs.declared.verdict.Verdict.{Verdict}
 use Rattle.causal_cli.specs.declared.verdict.Verdict.TheVariants.{Yes, No, Words, Graph, Read, Write, Memory}
@@ -19,6 +19,10 @@ use Rattle.causal_cli.specs.declared.verdict.Verdict.TheVariants.{Yes, No, Words
 abbrev pub GivesSeparation : ReadGraph → Names → Names → Names → Reply → Type 0
 GivesSeparation g x y given reply =
     (q : MixedGraph) × IsObserved (graph_of g.graph) (has g.latent.bits) q × SeparationAnswer q (separation_lists g x y given) reply.verdict reply.text.items
+
+-- the reply is the text of the graph that was read, or of its observed graph
+abbrev pub GivesText : Bool → ReadGraph → Reply → Type 0
+GivesText project g reply = TextAnswer project g reply.verdict reply.text.items
 
 -- an open path, and the text that prints it
 pub record PrintsPath (q : MixedGraph) (names : List (List ℕ)) (x y w : ℕ) (text : List ℕ) : Type 0 where

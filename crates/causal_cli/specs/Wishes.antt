@@ -1,5 +1,5 @@
 -- What the words ask for, with the lists in them read.
-use Rattle.std.specs.Prelude.{ℕ, List, Option, Some, None}
+use Rattle.std.specs.Prelude.{ℕ, Bool, List, Option, Some, None}
 use Rattle.word_forms.specs.Form.{Text}
 use Rattle.word_lists.specs.Lists.{IsList}
 use Rattle.word_values.specs.Commands.{Asks}
@@ -9,12 +9,14 @@ use Rattle.word_values.specs.Commands as asked
 abbrev pub Names : Type 0
 Names = Option (List (List ℕ))
 
--- a wish: `separate` of a file, with the names of x, y and given where they are listed
+-- a wish: `graph` of a file, projected or not; `separate` of a file, with the names of x, y and given where they are listed
 pub data Wish : Type 0 where
+  graph : Text → Bool → Wish
   separate : Text → Names → Names → Names → Wish
 
 -- the file that a wish names
 abbrev pub file_of : Wish → Text
+file_of (graph file project) = file
 file_of (separate file x y given) = file
 
 -- the value of an option is the list of these names; neither is there, or both are
@@ -36,4 +38,5 @@ pub record WantsSeparate (words : List Text) (file : Text) (x y given : Names) :
 
 -- what the words want
 abbrev pub Wants : List Text → Wish → Type 0
+Wants words (graph file project) = Asks words (asked.graph file project)
 Wants words (separate file x y given) = WantsSeparate words file x y given

@@ -3,6 +3,7 @@ ghost use Rattle.fault_text.specs.Lines.{line_of, graph_fault_text};
 ghost use Rattle.causal_cli.specs.Replies.{GivesAnswer, GivesDefined};
 ghost use Rattle.causal_cli.specs.WishViews.{wish_of};
 
+use crate::graph::graph_text;
 use crate::reply::Reply;
 use crate::separate::separate;
 use crate::verdict::Verdict;
@@ -27,6 +28,7 @@ fn answer_on(alloc: Global, wish: Wish<'_>, graph: &ReadGraph) -> Result<Reply, 
     ensures { IfOk result (GivesAnswer (wish_of wish.entry) graph.now) }
 {
     match wish {
+        Wish::Graph { file: _, project } => graph_text(alloc, graph, project),
         Wish::Separate {
             file: _,
             x,

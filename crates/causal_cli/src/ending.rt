@@ -45,7 +45,9 @@ impl Ending {
     {
         match self {
             Ending::Affirmed | Ending::Denied => b"",
-            Ending::NotUnderstood => { b"causal: words not understood; commands are separate\n" }
+            Ending::NotUnderstood => {
+                b"causal: words not understood; commands are graph separate\n"
+            }
             Ending::Refused(line) => line.as_slice(),
             Ending::Unread => b"causal: read failed\n",
             Ending::Unwritten => b"causal: write failed\n",

@@ -3,6 +3,7 @@
 
 mod answer;
 mod ending;
+mod graph;
 mod printing;
 mod reply;
 mod separate;

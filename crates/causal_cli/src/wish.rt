@@ -12,6 +12,11 @@ use word_values::{Request, read_words};
 /// What the words ask for, with the lists in them read.
 #[derive(Drop)]
 pub enum Wish<'a> {
+    /// The text of the graph of the file, or of its observed graph.
+    Graph {
+        file: &'a str,
+        project: bool,
+    },
     /// Whether x and y are separated given a set, in the graph of the file.
     Separate {
         file: &'a str,
@@ -30,6 +35,7 @@ impl<'a> Wish<'a> {
         ensures { result.now ≡ file_of (wish_of self.now) }
     {
         match self {
+            Wish::Graph { file, .. } => file,
             Wish::Separate { file, .. } => file,
         }
     }
@@ -51,7 +57,7 @@ pub fn read_wish<'a>(alloc: Global, words: &'a [String]) -> Result<Wish<'a>, Wor
 {
     match read_words(alloc, words) {
         Ok(Some(Request::Separate { file, x, y, given })) => separation(alloc, file, x, y, given),
-        Ok(Some(Request::Graph { .. })) => Err(WordsFault::NotUnderstood),
+        Ok(Some(Request::Graph { file, project })) => Ok(Wish::Graph { file, project }),
         Ok(None) => Err(WordsFault::NotUnderstood),
         Err(_) => Err(WordsFault::NoMemory),
     }
