@@ -1,7 +1,7 @@
 //! Worked cases: each is run over inputs and outputs in memory, and prints its status, its text and its line.
 //!
 //! The file `cases.json` is a list of objects with the members `case` (its name) and `words`, and, where wanted,
-//! `files` (texts by name), `bytes` (contents by name, as lists of numbers), `fails` (a name and the number of the
+//! `files` (texts by name), `pad` (a size up to which blanks follow each of these), `bytes` (contents by name, as lists of numbers), `fails` (a name and the number of the
 //! read of it that fails), `most` (the most bytes that one write takes) and `room` (the bytes that fit into `out`).
 #![tactic(auto)]
 
@@ -19,8 +19,10 @@ const ROOM: usize = 1 << 20;
 fn shelf_of(alloc: Global, case: &Value) -> Result<MemoryShelf> {
     let mut shelf = MemoryShelf::empty(alloc);
     if let Some(files) = case.get("files").and_then(Value::as_object) {
+        let size = size_of(case, "pad", 0);
         for (name, text) in files {
-            shelf.put(name.as_str(), text.as_str().unwrap_or("").as_bytes())?;
+            let bytes = padded(alloc, text.as_str().unwrap_or(""), size)?;
+            shelf.put(name.as_str(), &bytes)?;
         }
     }
     if let Some(files) = case.get("bytes").and_then(Value::as_object) {
@@ -35,6 +37,15 @@ fn shelf_of(alloc: Global, case: &Value) -> Result<MemoryShelf> {
         }
     }
     Ok(shelf)
+}
+
+/// The text with blanks behind it, up to a size.
+fn padded(alloc: Global, text: &str, size: usize) -> Result<Vec<u8>> {
+    let mut bytes = Vec::from_slice(alloc, text.as_bytes())?;
+    for _ in text.len()..size {
+        bytes.push(b' ')?;
+    }
+    Ok(bytes)
 }
 
 /// The bytes of a list of numbers.
