@@ -1,4 +1,6 @@
+pub mod Data
 pub mod Laws
 pub mod Models
+pub mod Sound
 pub mod Sums
 pub mod Tables

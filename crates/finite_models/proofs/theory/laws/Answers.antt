@@ -1,5 +1,5 @@
 use Rattle.finite_models.specs.Models.{intervene, solution}
-use Rattle.finite_models.proofs.laws.Goals as goal
+use Rattle.finite_models.proofs.theory.laws.Goals as goal
 use Rattle.finite_models.proofs.Following.{follows_of, follows_intervene}
 use Rattle.finite_models.proofs.Solutions.{solution_is, unique, solution_within}
 use Rattle.finite_models.proofs.Ranks.{with_rank}
