@@ -1,4 +1,5 @@
 pub mod Bools
+pub mod Capped
 pub mod Factors
 pub mod Following
 pub mod Indicators

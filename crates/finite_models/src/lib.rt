@@ -2,7 +2,9 @@
 #![tactic(auto)]
 
 mod causes;
+mod inputs;
 mod kinds;
+mod tables;
 mod theory;
 
 pub use kinds::{Cause, Mechanism, Model, ModelFault, Part};
