@@ -1,4 +1,5 @@
 pub mod Data
+pub mod Faults
 pub mod Inputs
 pub mod Laws
 pub mod Models

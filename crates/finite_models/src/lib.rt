@@ -2,10 +2,13 @@
 #![tactic(auto)]
 
 mod causes;
+mod checking;
 mod inputs;
 mod kinds;
+mod mechanisms;
 mod tables;
 mod theory;
 
+pub use checking::check_model;
 pub use kinds::{Cause, Mechanism, Model, ModelFault, Part};
 pub use theory::laws;
