@@ -1,5 +1,7 @@
 pub mod Bools
 pub mod Capped
+pub mod DataFits
+pub mod DataReads
 pub mod Factors
 pub mod Following
 pub mod Indicators

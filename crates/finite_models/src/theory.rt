@@ -1,5 +1,5 @@
 ghost use Rattle.finite_models.specs.Laws.{SolutionIsSolution, SolutionIsUnique, SolutionIsAssignment};
-ghost use Rattle.finite_models.specs.Laws.{NoInterventionIsObservation, NoEventIsTotal, EachWeightIsPositive};
+ghost use Rattle.finite_models.specs.Laws.{NoInterventionIsObservation, NoEventIsTotal, EachWeightIsPositive, SoundDataFits};
 
 /// The laws of the models that fit a graph.
 pub fn laws()
@@ -14,4 +14,7 @@ pub fn laws()
 
     // A denominator is never 0 in a positive model.
     ensures positive { EachWeightIsPositive }
+
+    // Data that is sound means a model that fits.
+    ensures fits { SoundDataFits }
 {}
