@@ -8,15 +8,12 @@ use Rattle.finite_models.specs.Sums.{sum_below}
 use Rattle.finite_models.specs.Tables.{table_index, table_range}
 use Rattle.finite_models.specs.Data.{weights_of, children_of, has_hedge, hedge_bit, carried_bit, part_bit, value_by, parity_value, place_in_table}
 use Rattle.finite_models.specs.Inputs.{MayRead, HasInputs, HasValues, parity_size}
+use Rattle.finite_models.proofs.SumLaws.{sum_below-congr}
 use Rattle.finite_models.proofs.TableLaws.{table_reads, table_index-lt}
 use Rattle.finite_models.specs.declared.kinds.Model.{Model}
 use Rattle.finite_models.specs.declared.kinds.Part.{Part}
 use Rattle.finite_models.specs.declared.kinds.Mechanism.{Mechanism}
 use Rattle.finite_models.specs.declared.kinds.Mechanism.TheVariants.{Table, Parity}
-
-sum_same : (n : ℕ) (f h : ℕ → ℕ) → ((k : ℕ) → f k ≡ h k) → sum_below n f ≡ sum_below n h
-sum_same zero f h e = refl
-sum_same (suc n) f h e = let a = sum_same n f h e in let b = e n in cc
 
 cond_same : (b : Bool) (x y : ℕ) → (b ≡ true → x ≡ y) → cond b x 0 ≡ cond b y 0
 cond_same true x y e = e refl
@@ -36,8 +33,8 @@ module _ (g : MixedGraph) (m : Model) (v : ℕ) (s t u w : ℕ → ℕ) (hs : (p
       (sum_below g.vertices (λ k. cond (has p.hedge_of.bits k) (hedge_bit (s k)) 0)) (sum_below g.vertices (λ k. cond (has p.hedge_of.bits k) (hedge_bit (t k)) 0))
       (sum_below g.vertices (λ k. cond (has p.carried_of.bits k) (carried_bit m.mechanisms.items k (s k)) 0)) (sum_below g.vertices (λ k. cond (has p.carried_of.bits k) (carried_bit m.mechanisms.items k (t k)) 0))
       (cond p.own_hedge own 0) (cond p.own_hedge own' 0) (sum (map u p.causes.items)) (sum (map w p.causes.items))
-      (sum_same g.vertices _ _ (λ k. cond_same (has p.hedge_of.bits k) _ _ (λ i. ap hedge_bit (hs k (and_parts _ _ (r.hedges k i)).0))))
-      (sum_same g.vertices _ _ (λ k. cond_same (has p.carried_of.bits k) _ _ (λ i. ap (carried_bit m.mechanisms.items k) (hs k (and_parts _ _ (r.carrieds k i)).0))))
+      (sum_below-congr g.vertices _ _ (λ k lt. cond_same (has p.hedge_of.bits k) _ _ (λ i. ap hedge_bit (hs k (and_parts _ _ (r.hedges k i)).0))))
+      (sum_below-congr g.vertices _ _ (λ k lt. cond_same (has p.carried_of.bits k) _ _ (λ i. ap (carried_bit m.mechanisms.items k) (hs k (and_parts _ _ (r.carrieds k i)).0))))
       (ap (λ x. cond p.own_hedge x 0) e)
       (ap sum (map_same p.causes.items u w (λ i l. hu (get_or p.causes.items i 0) (r.causes i l).below (r.causes i l).serves)))
 

@@ -1,5 +1,7 @@
-ghost use Rattle.std.specs.Prelude.{◌≡◌, ℕ, ◌↔◌, IsOk, IfErr, length};
+ghost use Rattle.std.specs.Prelude.{◌≡◌, ℕ, ◌≤◌, ◌↔◌, IsOk, OnOk, IfErr, EachIndex, length, slice_index};
 ghost use Rattle.mixed_graph.specs.Shown.{graph_of};
+ghost use Rattle.finite_models.specs.Models.{Fits};
+ghost use Rattle.finite_models.specs.Data.{meaning};
 ghost use Rattle.finite_models.specs.Faults.{IsSoundModel, IsFirstFault};
 
 use crate::causes::wrong_cause;
@@ -11,6 +13,8 @@ use mixed_graph::Graph;
 pub fn check_model(g: &Graph, m: &Model) -> Result<(), ModelFault>
     requires sizes { length m.now.sizes.items ≡ g.now.n }
     requires mechanisms { length m.now.mechanisms.items ≡ g.now.n }
+    requires positive { EachIndex m.now.sizes.items (λ v. 1 ≤ slice_index m.now.sizes.items v) }
+    ensures fits { OnOk result (Fits (graph_of g.now) (meaning (graph_of g.now) m.now)) }
     ensures sound { IsOk result ↔ IsSoundModel (graph_of g.now) m.now }
     ensures fault { IfErr result (IsFirstFault (graph_of g.now) m.now) }
 {
