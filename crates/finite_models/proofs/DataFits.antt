@@ -1,8 +1,7 @@
 -- Sound data means a model that fits the graph.
-use Rattle.std.proofs.Common.{ℕ, ◌≡◌, ◌<◌, refl, sym, ap, subst, ◌∙◌, List, [], ◌∷◌, length, get_or, map, arith}
+use Rattle.std.proofs.Common.{ℕ, ◌≡◌, ◌<◌, refl, sym, subst, ◌∙◌, List, [], ◌∷◌, length, get_or, arith}
 use Rattle.std.proofs.lemmas.List.{get_or-map}
 use Rattle.finite_models.specs.Data.{meaning, value_by}
-use Rattle.finite_models.specs.Faults.{IsSoundModel}
 use Rattle.finite_models.specs.Laws.{SoundDataFits}
 use Rattle.mixed_graph.specs.Graphs.{MixedGraph}
 use Rattle.finite_models.proofs.DataReads.{reads_same, value_below}

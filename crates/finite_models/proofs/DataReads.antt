@@ -1,13 +1,11 @@
 -- A mechanism given as data reads the parents and the causes alone, and gives a value of its vertex.
-use Rattle.std.proofs.Common.{ℕ, zero, suc, ◌+◌, ◌*◌, ◌%◌, ◌/◌, ◌≡◌, ◌<◌, Bool, true, false, cond, refl, ap, sym, ◌∙◌, List, [], ◌∷◌, length, get_or, map, sum, Option, Some, None, IsTrue, arith}
-use Rattle.std.proofs.lemmas.List.{get_or-map}
+use Rattle.std.proofs.Common.{ℕ, suc, ◌+◌, ◌*◌, ◌%◌, ◌≡◌, ◌<◌, Bool, true, false, cond, refl, ap, sym, List, [], ◌∷◌, length, get_or, map, sum, Some, None, IsTrue, arith}
 use Rattle.std.proofs.lemmas.Bool.{and_parts}
 use Rattle.mixed_graph.specs.Bits.{has}
 use Rattle.mixed_graph.specs.Graphs.{MixedGraph}
 use Rattle.finite_models.specs.Sums.{sum_below}
-use Rattle.finite_models.specs.Tables.{table_index, table_range}
-use Rattle.finite_models.specs.Data.{weights_of, children_of, has_hedge, hedge_bit, carried_bit, part_bit, value_by, parity_value, place_in_table}
-use Rattle.finite_models.specs.Inputs.{MayRead, HasInputs, HasValues, parity_size}
+use Rattle.finite_models.specs.Data.{weights_of, children_of, hedge_bit, carried_bit, part_bit, value_by, place_in_table}
+use Rattle.finite_models.specs.Inputs.{MayRead, HasInputs, HasValues}
 use Rattle.finite_models.proofs.SumLaws.{sum_below-congr}
 use Rattle.finite_models.proofs.TableLaws.{table_reads, table_index-lt}
 use Rattle.finite_models.specs.declared.kinds.Model.{Model}

@@ -1,5 +1,5 @@
 -- What keeps data from meaning a model that fits the graph, the first in order.
-use Rattle.std.specs.Prelude.{◌≡◌, ℕ, length}
+use Rattle.std.specs.Prelude.{length}
 use Rattle.mixed_graph.specs.Graphs.{MixedGraph}
 use Rattle.finite_models.specs.Sound.{IsSoundAt, IsFirstWrong, AllRight}
 use Rattle.finite_models.specs.Inputs.{HasInputsAt, HasValuesAt}

@@ -1,5 +1,5 @@
 -- What a vertex's mechanism may read, and which values it may give.
-use Rattle.std.specs.Prelude.{◌≡◌, ℕ, ◌<◌, ◌&&◌, Bool, false, Option, Some, None, List, IsSome, EachIndex, length, slice_index, get_or, IsTrue}
+use Rattle.std.specs.Prelude.{◌≡◌, ℕ, ◌<◌, ◌&&◌, false, Option, Some, None, IsSome, EachIndex, length, slice_index, get_or, IsTrue}
 use Rattle.mixed_graph.specs.Bits.{has}
 use Rattle.mixed_graph.specs.Graphs.{MixedGraph}
 use Rattle.finite_models.specs.Tables.{table_range}

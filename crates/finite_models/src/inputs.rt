@@ -112,7 +112,13 @@ pub fn hedge_may_read(g: &Graph, m: &Model, v: u8, part: &Option<Part>) -> bool
 }
 
 /// Whether the carried part of v, if there is one, reads what it may beside this hedge part.
-pub fn carried_may_read(g: &Graph, m: &Model, v: u8, hedge: &Option<Part>, part: &Option<Part>) -> bool
+pub fn carried_may_read(
+    g: &Graph,
+    m: &Model,
+    v: u8,
+    hedge: &Option<Part>,
+    part: &Option<Part>,
+) -> bool
     requires vertex { v < 64 }
     requires few { length m.now.mechanisms.items ≤ 64 }
     ensures { IsTrue result ↔ CarriedMayRead (graph_of g.now) m.now v hedge.now part.now }

@@ -19,7 +19,9 @@ pub struct Cause {
 #[derive(Drop)]
 pub enum Mechanism {
     /// The outputs, in mixed radix by the parents' values in index order and then by the causes' values in list order, the first varying slowest.
-    Table { outputs: Vec<u32> },
+    Table {
+        outputs: Vec<u32>,
+    },
     /// The hedge bit and twice the carried bit; the one bit where there is one part; 0 where there is none.
     Parity {
         hedge: Option<Part>,

@@ -7,6 +7,8 @@ mod inputs;
 mod kinds;
 mod mechanisms;
 mod tables;
+#[cfg(test)]
+mod tests;
 mod theory;
 
 pub use checking::check_model;

@@ -1,5 +1,4 @@
 use Rattle.std.proofs.Common.{refl, sym, arith}
-use Rattle.mixed_graph.proofs.Masks.{has-above}
 use Rattle.finite_models.proofs.Members.{member_below}
 use Rattle.finite_models.proofs.causes.are_joined.Goals as goal
 

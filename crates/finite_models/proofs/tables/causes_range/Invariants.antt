@@ -1,4 +1,4 @@
-use Rattle.std.proofs.Common.{◌≡◌, ℕ, ◌*◌, ◌<◌, ◌≤◌, length, min}
+use Rattle.std.proofs.Common.{◌≡◌, ◌*◌, length, min}
 use Rattle.mixed_graph.specs.Bits.{has}
 use Rattle.finite_models.specs.Tables.{radix_range}
 use Rattle.finite_models.specs.Data.{children_of, weights_of}

@@ -1,4 +1,4 @@
-use Rattle.std.proofs.Common.{◌≡◌, ℕ, ◌<◌, ◌≤◌, min, get_or}
+use Rattle.std.proofs.Common.{◌≡◌, min, get_or}
 use Rattle.mixed_graph.specs.Shown.{graph_of}
 use Rattle.finite_models.specs.Tables.{radix_range}
 use Rattle.finite_models.proofs.tables.parents_range.Given as goal
