@@ -1,6 +1,6 @@
 -- From a reply that was delivered to the end of the run.
 use Rattle.std.proofs.Common.{◌≡◌, ℕ, Bool, true, false, List, Option, Some, None, IfSome, refl, sym, subst}
-use Rattle.causal_cli.specs.Wishes.{Wish, graph, separate, Wants, file_of}
+use Rattle.causal_cli.specs.Wishes.{Wish, graph, separate, rule, Wants, file_of}
 use Rattle.causal_cli.specs.Answers.{Defined}
 use Rattle.causal_cli.specs.Run.{Run, code_of, Answers}
 use Rattle.causal_cli.specs.Endings.{EndsAs, Delivers}
@@ -28,6 +28,10 @@ refusal (separate f x y g) bytes Words text d n m = absurd d.answer.2
 refusal (separate f x y g) bytes Read text d n m = absurd d.answer.2
 refusal (separate f x y g) bytes Write text d n m = absurd d.answer.2
 refusal (separate f x y g) bytes Memory text d n m = absurd d.answer.2
+refusal (rule f r a b c e) bytes Words text d n m = absurd d.answer.2
+refusal (rule f r a b c e) bytes Read text d n m = absurd d.answer.2
+refusal (rule f r a b c e) bytes Write text d n m = absurd d.answer.2
+refusal (rule f r a b c e) bytes Memory text d n m = absurd d.answer.2
 
 pub delivered : (r : Run) (w : Wish) (bytes : List ℕ) (reply : Reply) (e : Ending) → Wants r.words w → r.lacks (file_of w) ≡ false →
     IfSome (r.held (file_of w)) (λ all. bytes ≡ all) → Defined w bytes reply.verdict reply.text.items → Delivers r.out reply e → EndsAs r e

@@ -1,10 +1,11 @@
 -- The faults of the lists of a rule, and that its sets are pairwise disjoint.
-use Rattle.std.proofs.Common.{◌≡◌, ℕ, Bool, true, false, ◌&&◌, ◌||◌, List, [], ◌∷◌, ◌++◌, length, Option, Some, None, refl, sym, ap, ◌∙◌, inl, inr}
+use Rattle.std.proofs.Common.{◌≡◌, ◌<◌, arith, ℕ, Bool, true, false, ◌&&◌, ◌||◌, List, [], ◌∷◌, ◌++◌, length, Option, Some, None, refl, sym, ap, ◌∙◌, inl, inr}
 use Rattle.std.specs.Prelude.{nat_lt}
 use Rattle.std.specs.Str.{bytes_eq}
 use Rattle.std.proofs.lemmas.Bool.{cases_Bool}
 use Rattle.std.proofs.lemmas.Slice.Eq.{bytes_eq-Decides}
 use Rattle.mixed_graph.specs.Bits.{has}
+use Rattle.mixed_graph.proofs.Masks.{has-zero}
 use Rattle.mixed_graph.specs.Sets.{Apart}
 use Rattle.mixed_graph.specs.Names.{is_named, index_of, name_of}
 use Rattle.targets.specs.declared.fault.TargetFault.{TargetFault}
@@ -119,3 +120,20 @@ pairwise_apart l y done z given s =
       y_given = sets_apart l.observed l.y l.given y given s.set_y s.set_given (λ m h. (in_given m h).0);
       z_given = sets_apart l.observed l.z l.given z given s.set_z s.set_given (λ m h. (in_given m h).2);
     }
+
+-- the set of a list that isn't empty has a member
+some_in : (all observed : List (List ℕ)) (walked : List ℕ → Bool) (list : List (List ℕ)) (mask : ℕ) → first_fault all observed walked list ≡ None →
+    (list ≡ [] → ⊥) → IsSetOf observed list mask → 0 < mask
+some_in all observed walked [] mask clear some s = absurd (some refl)
+some_in all observed walked (n ∷ ns) mask clear some s =
+    let here = (no_fault all observed walked n (neither (name_fault all observed walked n) (first_fault all observed (λ k. walked k || bytes_eq k n) ns) clear).0).0 in
+    let test = set_test observed (n ∷ ns) mask s n here in
+    let same : bytes_eq n n ≡ true = (bytes_eq-Decides n n).1 refl in
+    let member : has mask (index_of observed n) ≡ true = test ∙ ap (λ b. b || is_named ns n) same in
+    let full : mask ≡ 0 → ⊥ = λ e. (let z = has-zero (index_of observed n) in let m : has 0 (index_of observed n) ≡ true = sym (ap (λ k. has k (index_of observed n)) e) ∙ member in cc) in
+    omega arith
+
+-- the set y of a rule has a member
+pub some_outcome : (l : RuleLists) (y done z given : ℕ) → AreRuleSets l y done z given → 0 < y
+some_outcome l y done z given s =
+    some_in l.all l.observed (λ n. false) l.y y (behind l.all l.observed (λ n. false) l.y (l.done ++ (l.z ++ l.given)) s.no_fault).0 s.some_y s.set_y

@@ -29,15 +29,15 @@ pub data Asked : Type 0 where
 abbrev pub row_asked : Asked → Row
 row_asked (graph file project) = graph_row
 row_asked (separate file x y given) = separate_row
-row_asked (rule file number y z done given) = rule_row
+row_asked (rule file number y z doing given) = rule_row
 
 -- the values are those that the uses give
 abbrev pub HasValues : List Use → Asked → Type 0
 HasValues uses (graph file project) = (word_of graph_row uses (codes "file") ≡ Some file) × (has_flag uses (codes "project") ≡ project)
 HasValues uses (separate file x y given) = (word_of separate_row uses (codes "file") ≡ Some file) × (value_of uses (codes "x") ≡ x) × (value_of uses (codes "y") ≡ y)
     × (value_of uses (codes "given") ≡ given)
-HasValues uses (rule file number y z done given) = (word_of rule_row uses (codes "file") ≡ Some file) × (value_of uses (codes "rule") ≡ Some number)
-    × (value_of uses (codes "y") ≡ Some y) × (value_of uses (codes "z") ≡ Some z) × (value_of uses (codes "do") ≡ done) × (value_of uses (codes "given") ≡ given)
+HasValues uses (rule file number y z doing given) = (word_of rule_row uses (codes "file") ≡ Some file) × (value_of uses (codes "rule") ≡ Some number)
+    × (value_of uses (codes "y") ≡ Some y) × (value_of uses (codes "z") ≡ Some z) × (value_of uses (codes "do") ≡ doing) × (value_of uses (codes "given") ≡ given)
 
 -- the words ask for this: they have the form, by a call of the command whose uses give the values
 pub record Asks (words : List Text) (asked : Asked) : Type 0 where

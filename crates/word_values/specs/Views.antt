@@ -17,5 +17,5 @@ row_for command.Rule = rule_row
 abbrev pub asked_of : Request → Asked
 asked_of (request.Graph file project) = graph file.now project
 asked_of (request.Separate file x y given) = separate file.now (option_map (λ s. s.now) x) (option_map (λ s. s.now) y) (option_map (λ s. s.now) given)
-asked_of (request.Rule file number y z done given) =
-    rule file.now number.now y.now z.now (option_map (λ s. s.now) done) (option_map (λ s. s.now) given)
+asked_of (request.Rule file number y z doing given) =
+    rule file.now number.now y.now z.now (option_map (λ s. s.now) doing) (option_map (λ s. s.now) given)

@@ -108,7 +108,7 @@ pub enum Request<'a> {
         number: &'a str,
         y: &'a str,
         z: &'a str,
-        done: Option<&'a str>,
+        doing: Option<&'a str>,
         given: Option<&'a str>,
     },
 }
@@ -345,7 +345,7 @@ fn rule_request<'a>(matches: &ArgMatches<'a>) -> Request<'a>
         number: needed_option(Command::Rule, matches, "rule"),
         y: needed_option(Command::Rule, matches, "y"),
         z: needed_option(Command::Rule, matches, "z"),
-        done: option_in(Command::Rule, matches, "do"),
+        doing: option_in(Command::Rule, matches, "do"),
         given: option_in(Command::Rule, matches, "given"),
     }
 }
@@ -414,7 +414,7 @@ mod tests {
         number: &'a str,
         y: &'a str,
         z: &'a str,
-        done: Option<&'a str>,
+        doing: Option<&'a str>,
         given: Option<&'a str>,
     ) -> Option<Request<'a>> {
         Some(Request::Rule {
@@ -422,7 +422,7 @@ mod tests {
             number,
             y,
             z,
-            done,
+            doing,
             given,
         })
     }
