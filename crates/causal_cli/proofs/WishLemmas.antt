@@ -48,19 +48,19 @@ no_form words none (separate f a b c) h = none (row_asked (asked.separate f h.te
 no_form words none (rule f r a b c d) h = none (row_asked (asked.rule f h.text_number h.text_y h.text_z h.text_done h.text_given), h.asks.uses, h.asks.call)
 
 -- the words ask for a rule with a number of none, or with a value that is no list
-pub no_rule : (words : List Text) (file number y z : Text) (done given : Option Text) →
-    ((other : Asked) → Asks words other → other ≡ asked.rule file number y z done given) →
-    ((r : Rule) (a b c d : List (List ℕ)) → IsNumber number 1 3 (number_of r) → IsList y a → IsListedOrEmpty done b → IsList z c → IsListedOrEmpty given d → ⊥) →
+pub no_rule : (words : List Text) (file number y z : Text) (doing given : Option Text) →
+    ((other : Asked) → Asks words other → other ≡ asked.rule file number y z doing given) →
+    ((r : Rule) (a b c d : List (List ℕ)) → IsNumber number 1 3 (number_of r) → IsList y a → IsListedOrEmpty doing b → IsList z c → IsListedOrEmpty given d → ⊥) →
     (w : Wish) → Wants words w → ⊥
-no_rule words file number y z done given only none (graph f p) h = let e = only (asked.graph f p) h in absurd (cc)
-no_rule words file number y z done given only none (separate f a b c) h =
+no_rule words file number y z doing given only none (graph f p) h = let e = only (asked.graph f p) h in absurd (cc)
+no_rule words file number y z doing given only none (separate f a b c) h =
     let e = only (asked.separate f h.text_x h.text_y h.text_given) h.asks in absurd (cc)
-no_rule words file number y z done given only none (rule f r a b c d) h =
+no_rule words file number y z doing given only none (rule f r a b c d) h =
     let e = only (asked.rule f h.text_number h.text_y h.text_z h.text_done h.text_given) h.asks in
     let en : h.text_number ≡ number = cc e in
     let ey : h.text_y ≡ y = cc e in
     let ez : h.text_z ≡ z = cc e in
-    let ed : h.text_done ≡ done = cc e in
+    let ed : h.text_done ≡ doing = cc e in
     let eg : h.text_given ≡ given = cc e in
     none r a b c d (subst (λ t. IsNumber t 1 3 (number_of r)) en h.is_number) (subst (λ t. IsList t a) ey h.list_y)
     (subst (λ t. IsListedOrEmpty t b) ed h.list_done) (subst (λ t. IsList t c) ez h.list_z) (subst (λ t. IsListedOrEmpty t d) eg h.list_given)

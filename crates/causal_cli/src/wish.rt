@@ -79,11 +79,11 @@ pub fn read_wish<'a>(alloc: Global, words: &'a [String]) -> Result<Wish<'a>, Wor
                     number,
                     y,
                     z,
-                    done,
+                    doing,
                     given,
                 },
             ),
-        ) => rule_wish(alloc, file, number, y, z, done, given),
+        ) => rule_wish(alloc, file, number, y, z, doing, given),
         Ok(None) => Err(WordsFault::NotUnderstood),
         Err(_) => Err(WordsFault::NoMemory),
     }
