@@ -1,12 +1,12 @@
 -- Texts of lists of names.
-use Rattle.std.proofs.Common.{append-nil, ◌≡◌, ℕ, ◌+◌, List, [], ◌∷◌, ◌++◌, map, refl, sym, ap, ◌∙◌, arith}
+use Rattle.std.proofs.Common.{Bool, codes, append-nil, ◌≡◌, ℕ, ◌+◌, List, [], ◌∷◌, ◌++◌, map, refl, sym, ap, ◌∙◌, arith}
 use Rattle.std.specs.Prelude.{suc, slice_index, slice_index_or}
 use Rattle.std.proofs.lemmas.List.{append_assoc}
 use Rattle.mixed_graph.specs.Bits.{has, members_below}
 use Rattle.name_text.specs.Printing.{printed, comma_text}
 use Rattle.m_separation.specs.declared.marks.Mark.{Mark}
 use Rattle.m_separation.specs.declared.marks.Mark.TheVariants.{Out}
-use Rattle.answer_text.specs.Texts.{comma_before, mark_text, steps_text}
+use Rattle.answer_text.specs.Texts.{comma_before, mark_text, steps_text, member_names, conditions_text}
 use Rattle.mixed_graph.specs.Names.{name_of}
 
 -- the first name, the comma behind it where more names follow, and these
@@ -45,3 +45,34 @@ steps_more names vertices marks old out i e =
     ∙ append_assoc (old ++ steps_text names vertices marks i) m n
     ∙ append_assoc old (steps_text names vertices marks i) (m ++ n)
     ∙ ap (λ k. old ++ steps_text names vertices marks k) {x = suc i} {y = i + 1} (omega arith)
+
+-- what stands behind the bar, by which of the two sets have members
+pub no_conditions : (names : List (List ℕ)) (b c : ℕ → Bool) → members_below b 64 ≡ [] → members_below c 64 ≡ [] →
+    conditions_text (member_names names b) (member_names names c) ≡ []
+no_conditions names b c eb ec = rw (eb, ec) refl
+
+pub given_alone : (names : List (List ℕ)) (b c : ℕ → Bool) (v : ℕ) (vs : List ℕ) → members_below b 64 ≡ [] → members_below c 64 ≡ v ∷ vs →
+    conditions_text (member_names names b) (member_names names c) ≡ codes "|" ++ comma_text (member_names names c)
+given_alone names b c v vs eb ec = rw (eb, ec) refl
+
+pub done_alone : (names : List (List ℕ)) (b c : ℕ → Bool) (u : ℕ) (us : List ℕ) → members_below b 64 ≡ u ∷ us → members_below c 64 ≡ [] →
+    conditions_text (member_names names b) (member_names names c) ≡ codes "|do(" ++ (comma_text (member_names names b) ++ codes ")")
+done_alone names b c u us eb ec = rw (eb, ec) refl
+
+pub done_and_given : (names : List (List ℕ)) (b c : ℕ → Bool) (u v : ℕ) (us vs : List ℕ) → members_below b 64 ≡ u ∷ us → members_below c 64 ≡ v ∷ vs →
+    conditions_text (member_names names b) (member_names names c)
+    ≡ codes "|do(" ++ (comma_text (member_names names b) ++ (codes ")," ++ comma_text (member_names names c)))
+done_and_given names b c u v us vs eb ec = rw (eb, ec) refl
+
+-- texts that are appended one after the other
+pub appended_two : (old a b : List ℕ) {out one : List ℕ} → one ≡ old ++ a → out ≡ one ++ b → out ≡ old ++ (a ++ b)
+appended_two old a b e f = f ∙ ap (λ t. t ++ b) e ∙ append_assoc old a b
+
+pub appended_three : (old a b c : List ℕ) {out one two : List ℕ} → one ≡ old ++ a → two ≡ one ++ b → out ≡ two ++ c → out ≡ old ++ (a ++ (b ++ c))
+appended_three old a b c e f g = g ∙ ap (λ t. t ++ c) (appended_two old a b e f) ∙ append_assoc old (a ++ b) c ∙ ap (λ t. old ++ t) (append_assoc a b c)
+
+pub appended_four : (old a b c d : List ℕ) {out one two three : List ℕ} → one ≡ old ++ a → two ≡ one ++ b → three ≡ two ++ c → out ≡ three ++ d →
+    out ≡ old ++ (a ++ (b ++ (c ++ d)))
+appended_four old a b c d e f g h =
+    h ∙ ap (λ t. t ++ d) (appended_three old a b c e f g) ∙ append_assoc old (a ++ (b ++ c)) d
+    ∙ ap (λ t. old ++ t) (append_assoc a (b ++ c) d ∙ ap (λ t. a ++ t) (append_assoc b c d))

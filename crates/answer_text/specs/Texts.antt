@@ -1,5 +1,5 @@
 -- How sets of vertices and paths are printed.
-use Rattle.std.specs.Prelude.{ℕ, zero, suc, List, [], ◌∷◌, ◌++◌, map, codes, slice_index, slice_index_or}
+use Rattle.std.specs.Prelude.{ℕ, Bool, zero, suc, List, [], ◌∷◌, ◌++◌, map, codes, slice_index, slice_index_or}
 use Rattle.mixed_graph.specs.Bits.{has, members_below}
 use Rattle.mixed_graph.specs.Names.{name_of}
 use Rattle.m_separation.specs.declared.marks.Mark.{Mark}
@@ -31,3 +31,19 @@ steps_text names vertices marks (suc k) = steps_text names vertices marks k
 abbrev pub path_text : List (List ℕ) → List ℕ → List Mark → ℕ → List ℕ
 path_text names vertices marks zero = []
 path_text names vertices marks (suc k) = printed (name_of names (slice_index vertices 0)) ++ steps_text names vertices marks k
+
+-- the names of a set's members, in index order
+abbrev pub member_names : List (List ℕ) → (ℕ → Bool) → List (List ℕ)
+member_names names set = map (name_of names) (members_below set 64)
+
+-- what stands behind the bar of a term: what is done, and then what is given; nothing where both are empty
+abbrev pub conditions_text : (doing given : List (List ℕ)) → List ℕ
+conditions_text [] [] = []
+conditions_text [] (c ∷ cs) = codes "|" ++ comma_text (c ∷ cs)
+conditions_text (b ∷ bs) [] = codes "|do(" ++ (comma_text (b ∷ bs) ++ codes ")")
+conditions_text (b ∷ bs) (c ∷ cs) = codes "|do(" ++ (comma_text (b ∷ bs) ++ (codes ")," ++ comma_text (c ∷ cs)))
+
+-- the probability of a set, under an intervention on another and given a third: `P(Y|do(X),Z)`
+abbrev pub term_text : List (List ℕ) → (of doing given : ℕ → Bool) → List ℕ
+term_text names of doing given =
+    codes "P(" ++ (comma_text (member_names names of) ++ (conditions_text (member_names names doing) (member_names names given) ++ codes ")"))

@@ -5,7 +5,7 @@ ghost use Rattle.std.specs.Prelude.{◌≡◌, ◌++◌, ◌<◌, ◌≤◌, ◌
 ghost use Rattle.mixed_graph.specs.Bits.{has, members_below};
 ghost use Rattle.mixed_graph.specs.Sets.{Within};
 ghost use Rattle.name_text.specs.Printing.{printed, comma_text};
-ghost use Rattle.answer_text.specs.Texts.{comma_before, set_text, mark_text, steps_text, path_text};
+ghost use Rattle.answer_text.specs.Texts.{comma_before, set_text, mark_text, steps_text, path_text, member_names, conditions_text, term_text};
 ghost use Rattle.mixed_graph.specs.Names.{name_of};
 
 use m_separation::Mark;
@@ -85,5 +85,58 @@ pub fn push_path(
         out.extend_from_slice(mark_bytes(marks[i]))?;
         push_vertex(out, names, vertices[i + 1])?;
     }
+    Ok(())
+}
+
+/// A probability: of a set, under an intervention on another, given a third.
+#[derive(Clone, Copy)]
+pub struct Term {
+    pub of: VSet,
+    pub doing: VSet,
+    pub given: VSet,
+}
+
+/// Appends a probability, as `P(Y|do(X),Z)`; what is empty is left out.
+/// At an error what was appended is open.
+pub fn push_term(out: &mut Vec<u8>, names: &Names, term: Term) -> Result<(), AllocError>
+    requires what { Within (length names.now) (has term.of.bits) }
+    requires doing { Within (length names.now) (has term.doing.bits) }
+    requires given { Within (length names.now) (has term.given.bits) }
+    ensures { OnOk result (out.new.items ≡ out.old.items ++ term_text names.now (has term.of.bits) (has term.doing.bits) (has term.given.bits)) }
+{
+    out.extend_from_slice(b"P(")?;
+    push_members(out, names, term.of)?;
+    push_conditions(out, names, term.doing, term.given)?;
+    out.push(b')')?;
+    Ok(())
+}
+
+/// Appends what stands behind the bar of a probability, with the bar; nothing where both sets are empty.
+fn push_conditions(
+    out: &mut Vec<u8>,
+    names: &Names,
+    doing: VSet,
+    given: VSet,
+) -> Result<(), AllocError>
+    requires doing { Within (length names.now) (has doing.bits) }
+    requires given { Within (length names.now) (has given.bits) }
+    ensures { OnOk result (out.new.items ≡ out.old.items ++ conditions_text (member_names names.now (has doing.bits)) (member_names names.now (has given.bits))) }
+{
+    if doing.is_empty() {
+        if given.is_empty() {
+            return Ok(());
+        }
+        out.push(b'|')?;
+        push_members(out, names, given)?;
+        return Ok(());
+    }
+    out.extend_from_slice(b"|do(")?;
+    push_members(out, names, doing)?;
+    if given.is_empty() {
+        out.push(b')')?;
+        return Ok(());
+    }
+    out.extend_from_slice(b"),")?;
+    push_members(out, names, given)?;
     Ok(())
 }

@@ -2,6 +2,8 @@ mod Definitions
 mod Deliveries
 mod Endings
 mod GraphTexts
+mod Equations
 mod PathLemmas
+mod RuleSets
 mod WishLemmas
 mod Separations

@@ -6,6 +6,8 @@ use Rattle.mixed_graph.specs.Shown.{graph_of}
 use Rattle.m_separation.specs.declared.marks.Mark.{Mark}
 use Rattle.m_separation.specs.Walks.{IsSeparated}
 use Rattle.m_separation.specs.Paths.{IsOpenPath}
+use Rattle.m_separation.specs.declared.paths.OpenPath.{OpenPath}
+use Rattle.do_rules.specs.Rules.{IsBlockedForRule1, IsBlockedForRule2, IsBlockedForRule3, IsOpenForRule1, IsOpenForRule2, IsOpenForRule3}
 use Rattle.dag_reader.specs.declared.graph.ReadGraph.{ReadGraph}
 use Rattle.dag_reader.specs.declared.faults.GraphFault.{GraphFault}
 use Rattle.dag_reader.specs.declared.faults.GraphFault.TheVariants.{NoMemory}
@@ -13,10 +15,12 @@ use Rattle.dag_reader.specs.Reads.{Reads}
 use Rattle.dag_reader.specs.Written.{drawn_of, written}
 use Rattle.latent_projection.specs.Renumbering.{IsObserved, observed_below, renumbered_set, names_at}
 use Rattle.targets.specs.declared.fault.TargetFault.{TargetFault}
-use Rattle.targets.specs.Targets.{Lists, listed, AreSets, IsTargetFault}
+use Rattle.targets.specs.Targets.{Lists, listed, AreSets, IsTargetFault, RuleLists, AreRuleSets, IsRuleFault}
 use Rattle.fault_text.specs.Lines.{line_of, graph_fault_text, target_fault_text}
-use Rattle.causal_cli.specs.Wishes.{Wish, Names, graph, separate}
-use Rattle.causal_cli.specs.Lines.{separated_text, not_separated_text, open_text, size_line}
+use Rattle.causal_cli.specs.Wishes.{Wish, Names, graph, separate, rule}
+use Rattle.causal_cli.specs.Lines.{separated_text, not_separated_text, open_text, rule_holds_text, rule_fails_text, size_line}
+use Rattle.causal_cli.specs.declared.rule.Rule.{Rule}
+use Rattle.causal_cli.specs.declared.rule.Rule.TheVariants.{One, Two, Three}
 use Rattle.causal_cli.specs.declared.verdict.Verdict.{Verdict}
 use Rattle.causal_cli.specs.declared.verdict.Verdict.TheVariants.{Yes, No, Words, Graph, Read, Write, Memory}
 
@@ -105,11 +109,66 @@ TextAnswer project g Read text = ⊥
 TextAnswer project g Write text = ⊥
 TextAnswer project g Memory text = ⊥
 
+-- the lists of a rule
+abbrev pub rule_lists : ReadGraph → (y done z given : List (List ℕ)) → RuleLists
+rule_lists g y done z given = record { all = g.names; observed = observed_names g; y = y; done = done; z = z; given = given }
+
+-- what a rule asks of x, y, z and w
+abbrev pub IsBlockedFor : Rule → MixedGraph → (x y z w : ℕ → Bool) → Type 0
+IsBlockedFor One g x y z w = IsBlockedForRule1 g x y z w
+IsBlockedFor Two g x y z w = IsBlockedForRule2 g x y z w
+IsBlockedFor Three g x y z w = IsBlockedForRule3 g x y z w
+
+-- an open path from y to z in the graph of a rule
+abbrev pub IsOpenFor : Rule → MixedGraph → (x y z w : ℕ → Bool) → OpenPath → Type 0
+IsOpenFor One g x y z w p = IsOpenForRule1 g x y z w p
+IsOpenFor Two g x y z w p = IsOpenForRule2 g x y z w p
+IsOpenFor Three g x y z w p = IsOpenForRule3 g x y z w p
+
+-- yes: what the rule asks is so
+pub record IsRuleThatHolds (r : Rule) (q : MixedGraph) (l : RuleLists) (text : List ℕ) : Type 0 where
+  pub y : ℕ
+  pub done : ℕ
+  pub z : ℕ
+  pub given : ℕ
+  pub sets : AreRuleSets l y done z given
+  pub blocked : IsBlockedFor r q (has done) (has y) (has z) (has given)
+  pub prints : text ≡ rule_holds_text r l.observed (has done) (has y) (has z) (has given)
+
+-- no: this path is open in the graph of the rule, and is printed
+pub record IsRuleThatFails (r : Rule) (q : MixedGraph) (l : RuleLists) (text : List ℕ) : Type 0 where
+  pub y : ℕ
+  pub done : ℕ
+  pub z : ℕ
+  pub given : ℕ
+  pub sets : AreRuleSets l y done z given
+  pub path : OpenPath
+  pub is_open : IsOpenFor r q (has done) (has y) (has z) (has given) path
+  pub prints : text ≡ rule_fails_text r l.observed (has done) (has y) (has z) (has given) (open_text l.observed path.vertices path.marks path.count)
+
+-- a name of a rule's lists is at fault, or y or z is empty
+pub record IsRuleRefusal (l : RuleLists) (line : List ℕ) : Type 0 where
+  pub fault : TargetFault
+  pub is_fault : IsRuleFault l fault
+  pub prints : line ≡ line_of (target_fault_text fault)
+
+-- the answer of a rule in the observed graph q
+abbrev pub RuleAnswer : Rule → MixedGraph → RuleLists → Verdict → List ℕ → Type 0
+RuleAnswer r q l Yes text = IsRuleThatHolds r q l text
+RuleAnswer r q l No text = IsRuleThatFails r q l text
+RuleAnswer r q l Graph text = IsRuleRefusal l text
+RuleAnswer r q l Words text = ⊥
+RuleAnswer r q l Read text = ⊥
+RuleAnswer r q l Write text = ⊥
+RuleAnswer r q l Memory text = ⊥
+
 -- the answer of a command on a graph that was read
 abbrev pub GraphAnswer : Wish → ReadGraph → Verdict → List ℕ → Type 0
 GraphAnswer (graph file project) g v text = TextAnswer project g v text
 GraphAnswer (separate file x y given) g v text =
     (q : MixedGraph) × IsObserved (graph_of g.graph) (has g.latent.bits) q × SeparationAnswer q (separation_lists g x y given) v text
+GraphAnswer (rule file r y done z given) g v text =
+    (q : MixedGraph) × IsObserved (graph_of g.graph) (has g.latent.bits) q × RuleAnswer r q (rule_lists g y done z given) v text
 
 -- the bytes are the text of this graph, and at most 1,048,576
 pub record Holds (bytes : List ℕ) (g : ReadGraph) : Type 0 where

@@ -6,12 +6,14 @@ use Rattle.mixed_graph.specs.Shown.{graph_of}
 use Rattle.m_separation.specs.declared.marks.Mark.{Mark}
 use Rattle.m_separation.specs.Walks.{IsSeparated}
 use Rattle.m_separation.specs.Paths.{IsOpenPath}
+use Rattle.m_separation.specs.declared.paths.OpenPath.{OpenPath}
 use Rattle.dag_reader.specs.declared.graph.ReadGraph.{ReadGraph}
 use Rattle.latent_projection.specs.Renumbering.{IsObserved}
 use Rattle.causal_cli.specs.Wishes.{Names, Wish}
-use Rattle.causal_cli.specs.Lines.{separated_text, not_separated_text, open_text}
-use Rattle.causal_cli.specs.Answers.{separation_lists, SeparationAnswer, TextAnswer, GraphAnswer, Defined}
+use Rattle.causal_cli.specs.Lines.{separated_text, not_separated_text, open_text, rule_holds_text, rule_fails_text}
+use Rattle.causal_cli.specs.Answers.{separation_lists, SeparationAnswer, TextAnswer, rule_lists, IsBlockedFor, IsOpenFor, RuleAnswer, GraphAnswer, Defined}
 use Rattle.causal_cli.specs.declared.reply.Reply.{Reply}
+use Rattle.causal_cli.specs.declared.rule.Rule.{Rule}
 use Rattle.causal_cli.specs.declared.verdict.Verdict.{Verdict}
 use Rattle.causal_cli.specs.declared.verdict.Verdict.TheVariants.{Yes, No, Words, Graph, Read, Write, Memory}
 
@@ -45,6 +47,32 @@ SetsAnswer q names x y w Memory text = ⊥
 -- the reply for sets
 abbrev pub AnswersSets : MixedGraph → List (List ℕ) → ℕ → ℕ → ℕ → Reply → Type 0
 AnswersSets q names x y w reply = SetsAnswer q names x y w reply.verdict reply.text.items
+
+-- the reply is the answer of a rule in the graph that was read
+abbrev pub GivesRule : Rule → ReadGraph → (y done z given : List (List ℕ)) → Reply → Type 0
+GivesRule r g y done z given reply =
+    (q : MixedGraph) × IsObserved (graph_of g.graph) (has g.latent.bits) q × RuleAnswer r q (rule_lists g y done z given) reply.verdict reply.text.items
+
+-- a path that is open in the graph of a rule, and the text that prints it
+pub record PrintsRulePath (r : Rule) (q : MixedGraph) (names : List (List ℕ)) (y done z given : ℕ) (text : List ℕ) : Type 0 where
+  pub path : OpenPath
+  pub is_open : IsOpenFor r q (has done) (has y) (has z) (has given) path
+  pub prints : text ≡ rule_fails_text r names (has done) (has y) (has z) (has given) (open_text names path.vertices path.marks path.count)
+
+-- the answer of a rule for sets: it holds, or not with an open path
+abbrev pub RuleSetsAnswer : Rule → MixedGraph → List (List ℕ) → (y done z given : ℕ) → Verdict → List ℕ → Type 0
+RuleSetsAnswer r q names y done z given Yes text =
+    IsBlockedFor r q (has done) (has y) (has z) (has given) × (text ≡ rule_holds_text r names (has done) (has y) (has z) (has given))
+RuleSetsAnswer r q names y done z given No text = PrintsRulePath r q names y done z given text
+RuleSetsAnswer r q names y done z given Words text = ⊥
+RuleSetsAnswer r q names y done z given Graph text = ⊥
+RuleSetsAnswer r q names y done z given Read text = ⊥
+RuleSetsAnswer r q names y done z given Write text = ⊥
+RuleSetsAnswer r q names y done z given Memory text = ⊥
+
+-- the reply of a rule for sets
+abbrev pub AnswersRuleSets : Rule → MixedGraph → List (List ℕ) → (y done z given : ℕ) → Reply → Type 0
+AnswersRuleSets r q names y done z given reply = RuleSetsAnswer r q names y done z given reply.verdict reply.text.items
 
 -- the reply is the answer of a wish on a graph that was read
 abbrev pub GivesAnswer : Wish → ReadGraph → Reply → Type 0

@@ -1,23 +1,35 @@
 -- What the words ask for, with the lists in them read.
-use Rattle.std.specs.Prelude.{ℕ, Bool, List, Option, Some, None}
+use Rattle.std.specs.Prelude.{ℕ, ◌≡◌, Bool, List, [], Option, Some, None}
 use Rattle.word_forms.specs.Form.{Text}
 use Rattle.word_lists.specs.Lists.{IsList}
+use Rattle.word_lists.specs.Numbers.{IsNumber}
 use Rattle.word_values.specs.Commands.{Asks}
 use Rattle.word_values.specs.Commands as asked
+use Rattle.causal_cli.specs.declared.rule.Rule.{Rule}
+use Rattle.causal_cli.specs.declared.rule.Rule.TheVariants.{One, Two, Three}
 
 -- the names of a list, where an option gives one
 abbrev pub Names : Type 0
 Names = Option (List (List ℕ))
 
--- a wish: `graph` of a file, projected or not; `separate` of a file, with the names of x, y and given where they are listed
+-- a wish: `graph` of a file, projected or not; `separate` of a file, with the names of x, y and given where they are listed;
+-- `rule` of a file, with one of the three rules and the names of y, of what is done, of z, and of what is given
 pub data Wish : Type 0 where
   graph : Text → Bool → Wish
   separate : Text → Names → Names → Names → Wish
+  rule : Text → Rule → (y done z given : List (List ℕ)) → Wish
 
 -- the file that a wish names
 abbrev pub file_of : Wish → Text
 file_of (graph file project) = file
 file_of (separate file x y given) = file
+file_of (rule file r y done z given) = file
+
+-- the number of a rule
+abbrev pub number_of : Rule → ℕ
+number_of One = 1
+number_of Two = 2
+number_of Three = 3
 
 -- the value of an option is the list of these names; neither is there, or both are
 abbrev pub IsListed : Option Text → Names → Type 0
@@ -25,6 +37,11 @@ IsListed None None = Unit {0}
 IsListed None (Some names) = ⊥
 IsListed (Some text) None = ⊥
 IsListed (Some text) (Some names) = IsList text names
+
+-- the value of an option is the list of these names; there are none where it isn't there
+abbrev pub IsListedOrEmpty : Option Text → List (List ℕ) → Type 0
+IsListedOrEmpty None names = names ≡ []
+IsListedOrEmpty (Some text) names = IsList text names
 
 -- the words ask for this: they have the form, and each value of a list is one
 pub record WantsSeparate (words : List Text) (file : Text) (x y given : Names) : Type 0 where
@@ -36,7 +53,22 @@ pub record WantsSeparate (words : List Text) (file : Text) (x y given : Names) :
   pub list_y : IsListed text_y y
   pub list_given : IsListed text_given given
 
+-- the words ask for this: they have the form, the number is that of a rule, and each value of a list is one
+pub record WantsRule (words : List Text) (file : Text) (r : Rule) (y done z given : List (List ℕ)) : Type 0 where
+  pub text_number : Text
+  pub text_y : Text
+  pub text_z : Text
+  pub text_done : Option Text
+  pub text_given : Option Text
+  pub asks : Asks words (asked.rule file text_number text_y text_z text_done text_given)
+  pub is_number : IsNumber text_number 1 3 (number_of r)
+  pub list_y : IsList text_y y
+  pub list_done : IsListedOrEmpty text_done done
+  pub list_z : IsList text_z z
+  pub list_given : IsListedOrEmpty text_given given
+
 -- what the words want
 abbrev pub Wants : List Text → Wish → Type 0
 Wants words (graph file project) = Asks words (asked.graph file project)
 Wants words (separate file x y given) = WantsSeparate words file x y given
+Wants words (rule file r y done z given) = WantsRule words file r y done z given

@@ -5,6 +5,7 @@ ghost use Rattle.causal_cli.specs.WishViews.{wish_of};
 
 use crate::graph::graph_text;
 use crate::reply::Reply;
+use crate::rule::apply_rule;
 use crate::separate::separate;
 use crate::verdict::Verdict;
 use crate::wish::Wish;
@@ -35,6 +36,14 @@ fn answer_on(alloc: Global, wish: Wish<'_>, graph: &ReadGraph) -> Result<Reply, 
             y,
             given,
         } => separate(alloc, graph, x, y, given),
+        Wish::Rule {
+            file: _,
+            rule,
+            y,
+            done,
+            z,
+            given,
+        } => apply_rule(alloc, graph, rule, &y, &done, &z, &given),
     }
 }
 

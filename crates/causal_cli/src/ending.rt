@@ -46,7 +46,7 @@ impl Ending {
         match self {
             Ending::Affirmed | Ending::Denied => b"",
             Ending::NotUnderstood => {
-                b"causal: words not understood; commands are graph separate\n"
+                b"causal: words not understood; commands are graph separate rule\n"
             }
             Ending::Refused(line) => line.as_slice(),
             Ending::Unread => b"causal: read failed\n",

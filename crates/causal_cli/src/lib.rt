@@ -6,6 +6,7 @@ mod ending;
 mod graph;
 mod printing;
 mod reply;
+mod rule;
 mod separate;
 mod sure;
 mod top;

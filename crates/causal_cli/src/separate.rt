@@ -42,7 +42,7 @@ pub fn separate(
 }
 
 /// The reply to listed names that are at fault.
-fn refuse(alloc: Global, fault: &TargetFault) -> Result<Reply, AllocError>
+pub fn refuse(alloc: Global, fault: &TargetFault) -> Result<Reply, AllocError>
     ensures verdict { IfOk result (λ r. r.verdict ≡ Verdict.Graph) }
     ensures line { IfOk result (λ r. r.text.items ≡ line_of (target_fault_text fault.now)) }
     ensures fault { OnOk result (fault.now ≡ TargetFault.NoMemory → ⊥) }

@@ -1,12 +1,16 @@
-ghost use Rattle.std.specs.Prelude.{◌≡◌, IfOk, IfErr, IsErrOf, option_map};
+ghost use Rattle.std.specs.Prelude.{ℕ, List, ◌≡◌, IfSome, IfNone, IfOk, IfErr, IsErrOf, option_map};
 ghost use Rattle.word_forms.specs.Views.{texts_of};
+ghost use Rattle.word_lists.specs.Lists.{IsList};
+ghost use Rattle.word_lists.specs.Numbers.{IsNumber};
 ghost use Rattle.word_lists.specs.Views.{names_in};
-ghost use Rattle.causal_cli.specs.Wishes.{Names, Wants, IsListed};
+ghost use Rattle.causal_cli.specs.Wishes.{Names, Wants, IsListed, IsListedOrEmpty, number_of};
 ghost use Rattle.causal_cli.specs.Wishes as spec;
-ghost use Rattle.causal_cli.specs.WishViews.{wish_of, IsSeparation};
+ghost use Rattle.causal_cli.specs.declared.rule.Rule.{Rule};
+ghost use Rattle.causal_cli.specs.WishViews.{wish_of, IsSeparation, IsRuleWish};
 
+use crate::rule::Rule;
 use std::alloc::{AllocError, Global};
-use word_lists::read_list;
+use word_lists::{read_list, read_number};
 use word_values::{Request, read_words};
 
 /// What the words ask for, with the lists in them read.
@@ -24,6 +28,15 @@ pub enum Wish<'a> {
         y: Option<Vec<Vec<u8>>>,
         given: Option<Vec<Vec<u8>>>,
     },
+    /// Whether a rule of the do-calculus holds, in the graph of the file.
+    Rule {
+        file: &'a str,
+        rule: Rule,
+        y: Vec<Vec<u8>>,
+        done: Vec<Vec<u8>>,
+        z: Vec<Vec<u8>>,
+        given: Vec<Vec<u8>>,
+    },
 }
 
 impl<'a> Wish<'a> {
@@ -37,6 +50,7 @@ impl<'a> Wish<'a> {
         match self {
             Wish::Graph { file, .. } => file,
             Wish::Separate { file, .. } => file,
+            Wish::Rule { file, .. } => file,
         }
     }
 }
@@ -58,6 +72,18 @@ pub fn read_wish<'a>(alloc: Global, words: &'a [String]) -> Result<Wish<'a>, Wor
     match read_words(alloc, words) {
         Ok(Some(Request::Separate { file, x, y, given })) => separation(alloc, file, x, y, given),
         Ok(Some(Request::Graph { file, project })) => Ok(Wish::Graph { file, project }),
+        Ok(
+            Some(
+                Request::Rule {
+                    file,
+                    number,
+                    y,
+                    z,
+                    doing,
+                    given,
+                },
+            ),
+        ) => rule_wish(alloc, file, number, y, z, doing, given),
         Ok(None) => Err(WordsFault::NotUnderstood),
         Err(_) => Err(WordsFault::NoMemory),
     }
@@ -102,5 +128,84 @@ fn read_option(alloc: Global, text: Option<&str>) -> Result<Option<Vec<Vec<u8>>>
         Ok(Some(names)) => Ok(Some(names)),
         Ok(None) => Err(WordsFault::NotUnderstood),
         Err(_) => Err(WordsFault::NoMemory),
+    }
+}
+
+/// The rule of a number, where it is 1, 2 or 3.
+fn read_rule(number: &str) -> Option<Rule>
+    ensures some { IfSome result (λ r. IsNumber number.now 1 3 (number_of r)) }
+    ensures none { IfNone result ((r : Rule) → IsNumber number.now 1 3 (number_of r) → ⊥) }
+{
+    match read_number(number, 1, 3) {
+        None => None,
+        Some(1) => Some(Rule::One),
+        Some(2) => Some(Rule::Two),
+        Some(_) => Some(Rule::Three),
+    }
+}
+
+/// A rule, where its number is that of one and each value of a list is one.
+fn rule_wish<'a>(
+    alloc: Global,
+    file: &'a str,
+    number: &str,
+    y: &str,
+    z: &str,
+    done: Option<&str>,
+    given: Option<&str>,
+) -> Result<Wish<'a>, WordsFault>
+    ensures ok { IfOk result (IsRuleWish file.entry.now number.now y.now z.now (option_map (λ s. s.now) done.entry) (option_map (λ s. s.now) given.entry)) }
+    ensures none { IsErrOf result WordsFault.NotUnderstood → (r : Rule) → (a b c d : List (List ℕ)) → IsNumber number.now 1 3 (number_of r) → IsList y.now a
+        → IsListedOrEmpty (option_map (λ s. s.now) done.entry) b → IsList z.now c → IsListedOrEmpty (option_map (λ s. s.now) given.entry) d → ⊥ }
+{
+    let Some(rule) = read_rule(number) else {
+        return Err(WordsFault::NotUnderstood);
+    };
+    let y = match read_names(alloc, y) {
+        Ok(names) => names,
+        Err(fault) => return Err(fault),
+    };
+    let done = match read_names_or_empty(alloc, done) {
+        Ok(names) => names,
+        Err(fault) => return Err(fault),
+    };
+    let z = match read_names(alloc, z) {
+        Ok(names) => names,
+        Err(fault) => return Err(fault),
+    };
+    let given = match read_names_or_empty(alloc, given) {
+        Ok(names) => names,
+        Err(fault) => return Err(fault),
+    };
+    Ok(Wish::Rule {
+        file,
+        rule,
+        y,
+        done,
+        z,
+        given,
+    })
+}
+
+/// The names that a value lists.
+fn read_names(alloc: Global, text: &str) -> Result<Vec<Vec<u8>>, WordsFault>
+    ensures ok { IfOk result (λ names. IsList text.now (names_in names)) }
+    ensures none { IsErrOf result WordsFault.NotUnderstood → (names : List (List ℕ)) → IsList text.now names → ⊥ }
+{
+    match read_list(alloc, text) {
+        Ok(Some(names)) => Ok(names),
+        Ok(None) => Err(WordsFault::NotUnderstood),
+        Err(_) => Err(WordsFault::NoMemory),
+    }
+}
+
+/// The names that the value of an option lists; none where it isn't given.
+fn read_names_or_empty(alloc: Global, text: Option<&str>) -> Result<Vec<Vec<u8>>, WordsFault>
+    ensures ok { IfOk result (λ names. IsListedOrEmpty (option_map (λ s. s.now) text.entry) (names_in names)) }
+    ensures none { IsErrOf result WordsFault.NotUnderstood → (names : List (List ℕ)) → IsListedOrEmpty (option_map (λ s. s.now) text.entry) names → ⊥ }
+{
+    match text {
+        Some(text) => read_names(alloc, text),
+        None => Ok(Vec::new(alloc)),
     }
 }

@@ -72,7 +72,7 @@ same_first_fault all observed s t same (n ∷ ns) =
     (same_first_fault all observed (λ m. s m || bytes_eq m n) (λ m. t m || bytes_eq m n) (λ m h. ap (λ b. b || bytes_eq m n) (same m h)) ns)
 
 -- a name without fault is in the graph and observed
-no_fault : (all observed : List (List ℕ)) (walked : List ℕ → Bool) (n : List ℕ) → name_fault all observed walked n ≡ None → (is_named observed n ≡ true) × (walked n ≡ false)
+pub no_fault : (all observed : List (List ℕ)) (walked : List ℕ → Bool) (n : List ℕ) → name_fault all observed walked n ≡ None → (is_named observed n ≡ true) × (walked n ≡ false)
 no_fault all observed walked n e = go (is_named all n) (is_named observed n) (walked n) e
   where
     go : (a o w : Bool) → cond (not a) (Some (unknown n)) (cond (not o) (Some (latent n)) (cond w (Some (twice n)) None)) ≡ None → (o ≡ true) × (w ≡ false)

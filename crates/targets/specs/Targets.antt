@@ -68,16 +68,52 @@ pub record AreSets (l : Lists) (x y given : ℕ) : Type 0 where
   pub set_y : IsSetOf l.observed l.y y
   pub set_given : IsSetOf l.observed l.given given
 
--- the fault of a query: of the first name at fault; else y is empty; else x is empty
+-- the fault is that of the first name at fault; else y is empty; else x is empty
+abbrev pub IsFaultOf : Option NameFault → (y x : List (List ℕ)) → TargetFault → Type 0
+IsFaultOf first y x (Unknown t) = first ≡ Some (unknown t)
+IsFaultOf first y x (Latent t) = first ≡ Some (latent t)
+IsFaultOf first y x (Twice t) = first ≡ Some (twice t)
+IsFaultOf first y x EmptyY = (first ≡ None) × (y ≡ [])
+IsFaultOf first y x EmptyX = (first ≡ None) × (y ≡ [] → ⊥) × (x ≡ [])
+IsFaultOf first y x NoMemory = ⊥
+
+-- the fault of a query
 abbrev pub IsTargetFault : Lists → TargetFault → Type 0
-IsTargetFault l (Unknown t) = fault_in l ≡ Some (unknown t)
-IsTargetFault l (Latent t) = fault_in l ≡ Some (latent t)
-IsTargetFault l (Twice t) = fault_in l ≡ Some (twice t)
-IsTargetFault l EmptyY = (fault_in l ≡ None) × (l.y ≡ [])
-IsTargetFault l EmptyX = (fault_in l ≡ None) × (l.y ≡ [] → ⊥) × (l.x ≡ [])
-IsTargetFault l NoMemory = ⊥
+IsTargetFault l f = IsFaultOf (fault_in l) l.y l.x f
 
 -- the fault of a query; want of memory may stand in its place
 abbrev pub IsFaultOrMemory : Lists → TargetFault → Type 0
 IsFaultOrMemory l NoMemory = Unit {0}
 IsFaultOrMemory l f = IsTargetFault l f
+
+-- the lists of a rule of the do-calculus: y and z, with what is done and what is given
+pub record RuleLists : Type 0 where
+  pub all : List (List ℕ)
+  pub observed : List (List ℕ)
+  pub y : List (List ℕ)
+  pub done : List (List ℕ)
+  pub z : List (List ℕ)
+  pub given : List (List ℕ)
+
+-- the first name at fault of all lists, y first, then what is done, then z, then given
+abbrev pub rule_fault : RuleLists → Option NameFault
+rule_fault l = first_fault l.all l.observed (λ n. false) (l.y ++ (l.done ++ (l.z ++ l.given)))
+
+-- the sets of a rule: no name is at fault, and neither y nor z is empty
+pub record AreRuleSets (l : RuleLists) (y done z given : ℕ) : Type 0 where
+  pub no_fault : rule_fault l ≡ None
+  pub some_y : l.y ≡ [] → ⊥
+  pub some_z : l.z ≡ [] → ⊥
+  pub set_y : IsSetOf l.observed l.y y
+  pub set_done : IsSetOf l.observed l.done done
+  pub set_z : IsSetOf l.observed l.z z
+  pub set_given : IsSetOf l.observed l.given given
+
+-- the fault of the lists of a rule, where z stands in the place of x
+abbrev pub IsRuleFault : RuleLists → TargetFault → Type 0
+IsRuleFault l f = IsFaultOf (rule_fault l) l.y l.z f
+
+-- the fault of the lists of a rule; want of memory may stand in its place
+abbrev pub IsRuleFaultOrMemory : RuleLists → TargetFault → Type 0
+IsRuleFaultOrMemory l NoMemory = Unit {0}
+IsRuleFaultOrMemory l f = IsRuleFault l f

@@ -2,7 +2,7 @@ ghost use Rattle.std.specs.Prelude.{◌≡◌, ◌<◌, IfOk, IfErr, length, map
 ghost use Rattle.mixed_graph.specs.Bits.{has, members_below};
 ghost use Rattle.mixed_graph.specs.Sets.{Within};
 ghost use Rattle.mixed_graph.specs.Names.{texts, name_of};
-ghost use Rattle.targets.specs.Targets.{AreSets, IsFaultOrMemory};
+ghost use Rattle.targets.specs.Targets.{AreSets, IsFaultOrMemory, AreRuleSets, IsRuleFaultOrMemory};
 
 use crate::fault::TargetFault;
 use crate::walk;
@@ -52,6 +52,62 @@ pub fn find_sets(
     Ok(Sets {
         x: set_x,
         y: set_y,
+        given: set_given,
+    })
+}
+
+/// The sets of a rule of the do-calculus: y and z, with what is done and what is given.
+#[derive(Clone, Copy)]
+pub struct RuleSets {
+    pub y: VSet,
+    pub done: VSet,
+    pub z: VSet,
+    pub given: VSet,
+}
+
+/// The sets that the lists of a rule name, all of them observed and none named twice.
+///
+/// Else the first name at fault, y walked first, then what is done, then z, then given; else `EmptyY`;
+/// else `EmptyX` where z is empty.
+pub fn find_rule_sets(
+    alloc: Global,
+    all: &Names,
+    observed: &Names,
+    y: &[Vec<u8>],
+    done: &[Vec<u8>],
+    z: &[Vec<u8>],
+    given: &[Vec<u8>],
+) -> Result<RuleSets, TargetFault>
+    ensures sets { IfOk result (λ s. AreRuleSets (record { all = all.now; observed = observed.now; y = texts y.now; done = texts done.now; z = texts z.now; given = texts given.now }) s.y.bits s.done.bits s.z.bits s.given.bits) }
+    ensures fault { IfErr result (IsRuleFaultOrMemory (record { all = all.now; observed = observed.now; y = texts y.now; done = texts done.now; z = texts z.now; given = texts given.now })) }
+{
+    let set_y = match walk(alloc, all, observed, VSet::empty(), y) {
+        Ok(set) => set,
+        Err(fault) => return Err(fault),
+    };
+    let set_done = match walk(alloc, all, observed, set_y, done) {
+        Ok(set) => set,
+        Err(fault) => return Err(fault),
+    };
+    let before_z = set_y.union(set_done);
+    let set_z = match walk(alloc, all, observed, before_z, z) {
+        Ok(set) => set,
+        Err(fault) => return Err(fault),
+    };
+    let set_given = match walk(alloc, all, observed, before_z.union(set_z), given) {
+        Ok(set) => set,
+        Err(fault) => return Err(fault),
+    };
+    if y.is_empty() {
+        return Err(TargetFault::EmptyY);
+    }
+    if z.is_empty() {
+        return Err(TargetFault::EmptyX);
+    }
+    Ok(RuleSets {
+        y: set_y,
+        done: set_done,
+        z: set_z,
         given: set_given,
     })
 }

@@ -32,7 +32,7 @@ pub record Closes (row : Row) (s : Shape) : Type 0 where
 
 -- ---- what stands where
 
-option_given : (row : Row) (x : Text) (uses : List Use) → list_all (fits row) uses ≡ true → is_among row.flags x ≡ false → 1 ≤ times uses x → is_some (value_of uses x) ≡ true
+pub option_given : (row : Row) (x : Text) (uses : List Use) → list_all (fits row) uses ≡ true → is_among row.flags x ≡ false → 1 ≤ times uses x → is_some (value_of uses x) ≡ true
 option_given row x [] fit a h = absurd (omega arith)
 option_given row x (positional w ∷ uses) fit a h = option_given row x uses (both (is_positional w) _ fit).1 a (omega arith)
 option_given row x (apart y v ∷ uses) fit a h = go (bytes_eq y x) refl (option_given row x uses (both (is_among (value_names row) y && is_value v) _ fit).1 a)

@@ -1,5 +1,5 @@
 -- What a parse gives on words of the form, from what `clap` says.
-use Rattle.std.proofs.Common.{◌≡◌, ◌∙◌, ap, sym, refl, Bool, true, false, List, Option, Some, None, Result, Ok, Err, IfOk, IfErr}
+use Rattle.std.proofs.Common.{◌≤◌, ◌==◌, arith, ◌≡◌, ◌∙◌, ap, sym, refl, Bool, true, false, List, Option, Some, None, Result, Ok, Err, IfOk, IfErr}
 use Rattle.clap.specs.Simple.{App, HasMatchesOf, is_simple, subcommand_of, subcommand_rows_of}
 use Rattle.std.proofs.Common.{option_map, is_some, codes}
 use Rattle.std.specs.Prelude.{if◌then◌else◌}
@@ -17,7 +17,10 @@ use Rattle.word_values.specs.App.{app_of_table}
 use Rattle.word_values.specs.Gives.{GivesCall}
 use Rattle.word_values.proofs.Table.{call_is_taken, rows_below, call_found, call_gives, table_simple}
 use Rattle.word_values.proofs.Counts.{allowed}
-use Rattle.word_values.proofs.Level.{positional_given}
+use Rattle.word_values.proofs.Level.{positional_given, option_given}
+use Rattle.word_forms.proofs.Names.{all_at}
+use Rattle.word_forms.specs.Form.{times}
+use Rattle.std.proofs.lemmas.Bool.Decides.{nat_tests}
 
 module _ (ws : List Text) (row : Row) (uses : List Use) (call : IsCall table ws row uses) (a : App) (e : a ≡ app_of_table table) where
   pub ok_gives : {F : Type 0} (r : Result ArgMatches F) → IfOk r (HasMatchesOf a ws) → IfOk r (λ m. GivesCall row uses m)
@@ -70,3 +73,11 @@ module _ (row : Row) (uses : List Use) (m : ArgMatches) (g : GivesCall row uses 
 pub value_is_there : {A : Type 0} (f : A → Text) (o : Option A) (p : Option Text) → option_map f o ≡ p → is_some p ≡ true → is_some o ≡ true
 value_is_there f None p e h = let gone : is_some p ≡ false = ap is_some (sym e) in cc (gone, h)
 value_is_there f (Some x) p e h = refl
+
+-- an option without brackets is given
+pub needed_option_text : (row : Row) (uses : List Use) (m : ArgMatches) → GivesCall row uses m → (x : Text) → is_among row.needed x ≡ true → is_among row.flags x ≡ false → is_some (value_of uses x) ≡ true
+needed_option_text row uses m g x has apart =
+    let a = allowed row uses g.allowed in
+    let k = all_at (λ y. times uses y == 1) row.needed x a.needed has in
+    let one : 1 ≤ times uses x = grind (arith, nat_tests) in
+    option_given row x uses a.fit apart one

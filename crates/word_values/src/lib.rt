@@ -27,6 +27,7 @@ use word_forms::{Call, Entry, read_call};
 enum Command {
     Graph,
     Separate,
+    Rule,
 }
 
 const GRAPH: Entry = Entry {
@@ -47,9 +48,18 @@ const SEPARATE: Entry = Entry {
     flags: &[],
 };
 
-static COMMANDS: [Command; 2] = [Command::Graph, Command::Separate];
+const RULE: Entry = Entry {
+    name: "rule",
+    positionals: &["file"],
+    extra: &[],
+    needed: &["rule", "y", "z"],
+    options: &["do", "given"],
+    flags: &[],
+};
 
-static TABLE: [Entry; 2] = [GRAPH, SEPARATE];
+static COMMANDS: [Command; 3] = [Command::Graph, Command::Separate, Command::Rule];
+
+static TABLE: [Entry; 3] = [GRAPH, SEPARATE, RULE];
 
 // The commands in the table's order.
 fn commands() -> &'static [Command]
@@ -73,6 +83,7 @@ fn entry_of(command: Command) -> Entry
     match command {
         Command::Graph => GRAPH,
         Command::Separate => SEPARATE,
+        Command::Rule => RULE,
     }
 }
 
@@ -89,6 +100,15 @@ pub enum Request<'a> {
         file: &'a str,
         x: Option<&'a str>,
         y: Option<&'a str>,
+        given: Option<&'a str>,
+    },
+    /// `rule FILE --rule N --y L --z L [--do L] [--given L]`
+    Rule {
+        file: &'a str,
+        number: &'a str,
+        y: &'a str,
+        z: &'a str,
+        doing: Option<&'a str>,
         given: Option<&'a str>,
     },
 }
@@ -262,6 +282,17 @@ fn needed_word<'a>(command: Command, matches: &ArgMatches<'a>, name: &str) -> &'
     word_in(command, matches, name).unwrap()
 }
 
+// The value of an option without brackets.
+fn needed_option<'a>(command: Command, matches: &ArgMatches<'a>, name: &str) -> &'a str
+    requires name { is_among (row_for command).needed name.now ≡ true }
+    requires apart { is_among (row_for command).flags name.now ≡ false }
+    requires gives { (uses : List Use) × GivesCall (row_for command) uses matches.now }
+    ensures { (uses : List Use) → GivesCall (row_for command) uses matches.now
+        → value_of uses name.now ≡ Some result.now }
+{
+    option_in(command, matches, name).unwrap()
+}
+
 // Whether a flag is there.
 fn flag_in(command: Command, matches: &ArgMatches<'_>, name: &str) -> bool
     requires { is_among (row_for command).flags name.now ≡ true }
@@ -302,6 +333,23 @@ fn separate_request<'a>(matches: &ArgMatches<'a>) -> Request<'a>
     }
 }
 
+// What `rule` is asked for.
+fn rule_request<'a>(matches: &ArgMatches<'a>) -> Request<'a>
+    requires { (uses : List Use) × GivesCall (row_for Command.Rule) uses matches.now }
+    ensures row { row_asked (asked_of result) ≡ row_for Command.Rule }
+    ensures values { (uses : List Use) → GivesCall (row_for Command.Rule) uses matches.now
+        → HasValues uses (asked_of result) }
+{
+    Request::Rule {
+        file: needed_word(Command::Rule, matches, "file"),
+        number: needed_option(Command::Rule, matches, "rule"),
+        y: needed_option(Command::Rule, matches, "y"),
+        z: needed_option(Command::Rule, matches, "z"),
+        doing: option_in(Command::Rule, matches, "do"),
+        given: option_in(Command::Rule, matches, "given"),
+    }
+}
+
 // What the command is asked for.
 fn request_in<'a>(command: Command, matches: &ArgMatches<'a>) -> Request<'a>
     requires { (uses : List Use) × GivesCall (row_for command) uses matches.now }
@@ -312,6 +360,7 @@ fn request_in<'a>(command: Command, matches: &ArgMatches<'a>) -> Request<'a>
     match command {
         Command::Graph => graph_request(matches),
         Command::Separate => separate_request(matches),
+        Command::Rule => rule_request(matches),
     }
 }
 
@@ -360,10 +409,28 @@ mod tests {
         Some(Request::Separate { file, x, y, given })
     }
 
+    fn rule<'a>(
+        file: &'a str,
+        number: &'a str,
+        y: &'a str,
+        z: &'a str,
+        doing: Option<&'a str>,
+        given: Option<&'a str>,
+    ) -> Option<Request<'a>> {
+        Some(Request::Rule {
+            file,
+            number,
+            y,
+            z,
+            doing,
+            given,
+        })
+    }
+
     #[test]
     fn words_are_read(rt: HostRuntime) -> Result<(), Fail> {
         let all = separate("g", Some("A"), Some("C"), Some("B"));
-        let cases: [(&[&str], Option<Request<'_>>); 39] = [
+        let cases: [(&[&str], Option<Request<'_>>); 43] = [
             (&["graph", "g"], graph("g", false)),
             (&["graph", "-"], graph("-", false)),
             (&["graph", "g", "--project"], graph("g", true)),
@@ -386,6 +453,29 @@ mod tests {
             (
                 &["separate", "g", "--given", "A,-b"],
                 separate("g", None, None, Some("A,-b")),
+            ),
+            (
+                &["rule", "g", "--rule", "2", "--y", "M", "--z", "X"],
+                rule("g", "2", "M", "X", None, None),
+            ),
+            (
+                &[
+                    "rule",
+                    "--given=W",
+                    "--z={}",
+                    "g",
+                    "--do",
+                    "X",
+                    "--y",
+                    "Y",
+                    "--rule=9",
+                ],
+                rule("g", "9", "Y", "{}", Some("X"), Some("W")),
+            ),
+            (&["rule", "g", "--y", "M", "--z", "X"], None),
+            (
+                &["rule", "g", "--rule", "2", "--y", "M", "--z", "X", "--z=Y"],
+                None,
             ),
             (&[], None),
             (&["graph"], None),

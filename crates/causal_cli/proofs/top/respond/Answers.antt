@@ -1,8 +1,9 @@
+use Rattle.std.proofs.Common.{refl}
 use Rattle.causal_cli.specs.Wishes.{file_of}
 use Rattle.causal_cli.specs.WishViews.{wish_of}
 use Rattle.causal_cli.specs.Run.{Run}
 use Rattle.word_forms.specs.Views.{texts_of}
-use Rattle.causal_cli.proofs.Deliveries.{delivered, not_true}
+use Rattle.causal_cli.proofs.Deliveries.{delivered, ended_too_long, not_true}
 use Rattle.causal_cli.proofs.top.respond.Goals as goal
 
 pub returns-clause-ends : goal.returns-clause-ends
@@ -25,3 +26,21 @@ returns-clause-ends g c =
     let held = rw c.file.ensures at c.in-Ok-read_all.ensures.answer.1 in
     delivered run (wish_of c.in-Ok.wish) c.in-Ok-read_all.bytes.items c.in-Ok-answer.reply c.deliver.result c.in-Ok.ensures.wants
     (not_true (g.S.Shelf.lacks c.args.shelf.now (file_of (wish_of c.in-Ok.wish))) (λ t. cc (lacked t))) held answered c.deliver.ensures
+
+pub returns-in-Err-TooLong-clause-ends : goal.returns-in-Err-TooLong-clause-ends
+returns-in-Err-TooLong-clause-ends g c =
+    let run : Run = record {
+      words = texts_of c.args.words.now;
+      held = g.S.Shelf.held c.args.shelf.now;
+      lacks = g.S.Shelf.lacks c.args.shelf.now;
+      read_faults = g.S.Shelf.faults c.args.shelf.now;
+      read_faults_after = g.S.Shelf.faults c.read_all.new.shelf;
+      out = record {
+        before = g.O.Sink.written c.args.out.now;
+        after = g.O.Sink.written c.args.out.now;
+        faults = g.O.Sink.faults c.args.out.now;
+        faults_after = g.O.Sink.faults c.args.out.now;
+      };
+    } in
+    ended_too_long run (wish_of c.in-Ok.wish) c.file.result.now c.in-Err-TooLong.field-0 c.in-Err-TooLong.field-0-0 c.too_long.result c.file.ensures
+    c.in-Err-TooLong.field-0-is c.in-Ok.ensures.wants c.in-Err-TooLong.ensures.answer c.in-Err-TooLong.ensures.lacked refl c.too_long.ensures
