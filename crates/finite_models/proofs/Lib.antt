@@ -1,7 +1,14 @@
 pub mod Bools
+pub mod Capped
+pub mod DataFits
+pub mod DataReads
+pub mod DataSound
+pub mod Digits
 pub mod Factors
 pub mod Following
 pub mod Indicators
+pub mod Members
+pub mod Places
 pub mod Positive
 pub mod Radix
 pub mod Ranks
@@ -9,5 +16,6 @@ pub mod Solutions
 pub mod SumLaws
 pub mod TableLaws
 pub mod Tested
+pub mod Totals
 pub mod Weights
 mod Worked

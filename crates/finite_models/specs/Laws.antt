@@ -1,7 +1,10 @@
 -- Laws of the models that fit a graph.
-use Rattle.std.specs.Prelude.{ℕ, ◌≡◌, ◌<◌, ◌≤◌, Bool, false}
+use Rattle.std.specs.Prelude.{ℕ, ◌≡◌, ◌<◌, ◌≤◌, Bool, false, EachIndex, length, slice_index}
 use Rattle.mixed_graph.specs.Graphs.{MixedGraph, IsMixedGraph}
 use Rattle.finite_models.specs.Models.{FiniteModel, Fits, IsAssignment, IsWorld, IsSolution, IsPositiveModel, solution, event_weight, intervene, weight_of, total}
+use Rattle.finite_models.specs.Data.{meaning}
+use Rattle.finite_models.specs.Faults.{IsSoundModel, HasForm}
+use Rattle.finite_models.specs.declared.kinds.Model.{Model}
 
 -- the solution of a world under an intervention is a solution
 abbrev pub SolutionIsSolution : Type 0
@@ -30,3 +33,12 @@ NoEventIsTotal = (m : FiniteModel) (b a : ℕ → Bool) (s : ℕ → ℕ) → ((
 abbrev pub EachWeightIsPositive : Type 0
 EachWeightIsPositive = (g : MixedGraph) → IsMixedGraph g → (m : FiniteModel) → Fits g m → IsPositiveModel m → (b a : ℕ → Bool) (s : ℕ → ℕ) → IsAssignment m.vertices m.size s
     → 1 ≤ weight_of m b a s
+
+-- sound data, with a positive size and a mechanism for each vertex, means a model that fits the graph
+abbrev pub SoundDataFits : Type 0
+SoundDataFits = (g : MixedGraph) (m : Model) → length m.sizes.items ≡ g.vertices → length m.mechanisms.items ≡ g.vertices → EachIndex m.sizes.items (λ v. 1 ≤ slice_index m.sizes.items v)
+    → IsSoundModel g m → Fits g (meaning g m)
+
+-- and data of the right form that means such a model is sound
+abbrev pub FittingDataIsSound : Type 0
+FittingDataIsSound = (g : MixedGraph) (m : Model) → length m.sizes.items ≡ g.vertices → length m.mechanisms.items ≡ g.vertices → HasForm g m → Fits g (meaning g m) → IsSoundModel g m

@@ -1,20 +1,16 @@
 //! Finite causal models with hidden causes: worlds, solutions, weights.
 #![tactic(auto)]
 
-ghost use Rattle.finite_models.specs.Laws.{SolutionIsSolution, SolutionIsUnique, SolutionIsAssignment};
-ghost use Rattle.finite_models.specs.Laws.{NoInterventionIsObservation, NoEventIsTotal, EachWeightIsPositive};
+mod causes;
+mod checking;
+mod inputs;
+mod kinds;
+mod mechanisms;
+mod tables;
+#[cfg(test)]
+mod tests;
+mod theory;
 
-/// The laws of the models that fit a graph.
-pub fn laws()
-    // Under each intervention the solution of a world is the one assignment that solves the model.
-    ensures solves { SolutionIsSolution }
-    ensures only { SolutionIsUnique }
-    ensures in_range { SolutionIsAssignment }
-
-    // The weights at the ends: no intervention, no event.
-    ensures observed { NoInterventionIsObservation }
-    ensures whole { NoEventIsTotal }
-
-    // A denominator is never 0 in a positive model.
-    ensures positive { EachWeightIsPositive }
-{}
+pub use checking::check_model;
+pub use kinds::{Cause, Mechanism, Model, ModelFault, Part};
+pub use theory::laws;

@@ -1,0 +1,21 @@
+ghost use Rattle.finite_models.specs.Laws.{SolutionIsSolution, SolutionIsUnique, SolutionIsAssignment};
+ghost use Rattle.finite_models.specs.Laws.{NoInterventionIsObservation, NoEventIsTotal, EachWeightIsPositive, SoundDataFits, FittingDataIsSound};
+
+/// The laws of the models that fit a graph.
+pub fn laws()
+    // Under each intervention the solution of a world is the one assignment that solves the model.
+    ensures solves { SolutionIsSolution }
+    ensures only { SolutionIsUnique }
+    ensures in_range { SolutionIsAssignment }
+
+    // The weights at the ends: no intervention, no event.
+    ensures observed { NoInterventionIsObservation }
+    ensures whole { NoEventIsTotal }
+
+    // A denominator is never 0 in a positive model.
+    ensures positive { EachWeightIsPositive }
+
+    // Data that is sound means a model that fits.
+    ensures fits { SoundDataFits }
+    ensures sound { FittingDataIsSound }
+{}
