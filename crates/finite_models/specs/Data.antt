@@ -19,28 +19,31 @@ weights_of causes j = get_or (map (λ c. c.weights.items) causes) j []
 abbrev pub children_of : List Cause → ℕ → ℕ
 children_of causes j = slice_index (map (λ c. c.children.bits) causes) j
 
--- whether the mechanism has a hedge bit, and whether it has a carried bit
+-- whether the mechanism has a hedge bit
 abbrev pub hedged : Mechanism → Bool
 hedged (Table outputs) = false
 hedged (Parity (Some h) c) = true
 hedged (Parity None c) = false
 
+-- whether the mechanism has a carried bit
 abbrev pub carries : Mechanism → Bool
 carries (Table outputs) = false
 carries (Parity h (Some c)) = true
 carries (Parity h None) = false
 
--- the same of vertex v
+-- whether vertex v has a hedge bit
 abbrev pub has_hedge : List Mechanism → ℕ → Bool
 has_hedge mechanisms v = get_or (map hedged mechanisms) v false
 
+-- whether vertex v has a carried bit
 abbrev pub has_carried : List Mechanism → ℕ → Bool
 has_carried mechanisms v = get_or (map carries mechanisms) v false
 
--- the bits in the value x of vertex v: the hedge bit is the first of two, or the only one
+-- the hedge bit in the value x: the first of two, or the only one
 abbrev pub hedge_bit : ℕ → ℕ
 hedge_bit x = x % 2
 
+-- the carried bit in the value x of vertex v: the second where v has a hedge bit, or the only one
 abbrev pub carried_bit : List Mechanism → ℕ → ℕ → ℕ
 carried_bit mechanisms v x = cond (has_hedge mechanisms v) (x / 2) x
 
