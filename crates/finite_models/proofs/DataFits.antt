@@ -12,7 +12,7 @@ some_of : (xs : List Mechanism) (i : ℕ) → i < length xs → Mechanism
 some_of [] i lt = absurd (omega arith)
 some_of (x ∷ xs) i lt = x
 
-value_at : (g : MixedGraph) (m : Model) (v : ℕ) (d : Mechanism) → v < length m.mechanisms.items → (s u : ℕ → ℕ) → (meaning g m).mechanism v s u ≡ value_by g m v s u (get_or m.mechanisms.items v d)
+pub value_at : (g : MixedGraph) (m : Model) (v : ℕ) (d : Mechanism) → v < length m.mechanisms.items → (s u : ℕ → ℕ) → (meaning g m).mechanism v s u ≡ value_by g m v s u (get_or m.mechanisms.items v d)
 value_at g m v d lt s u = get_or-map (value_by g m v s u) m.mechanisms.items v d 0 lt
 
 pub data_fits : SoundDataFits

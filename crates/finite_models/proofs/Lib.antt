@@ -2,6 +2,8 @@ pub mod Bools
 pub mod Capped
 pub mod DataFits
 pub mod DataReads
+pub mod DataSound
+pub mod Digits
 pub mod Factors
 pub mod Following
 pub mod Indicators

@@ -39,11 +39,11 @@ has_hedge mechanisms v = get_or (map hedged mechanisms) v false
 abbrev pub has_carried : List Mechanism → ℕ → Bool
 has_carried mechanisms v = get_or (map carries mechanisms) v false
 
--- the hedge bit in the value x: the first of two bits, or the only one
+-- the hedge bit in the value x: the first of two, or the only one
 abbrev pub hedge_bit : ℕ → ℕ
 hedge_bit x = x % 2
 
--- the carried bit in the value x of vertex v: the second of two bits, or the only one
+-- the carried bit in the value x of vertex v: the second where v has a hedge bit, or the only one
 abbrev pub carried_bit : List Mechanism → ℕ → ℕ → ℕ
 carried_bit mechanisms v x = cond (has_hedge mechanisms v) (x / 2) x
 

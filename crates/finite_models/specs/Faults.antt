@@ -2,7 +2,7 @@
 use Rattle.std.specs.Prelude.{length}
 use Rattle.mixed_graph.specs.Graphs.{MixedGraph}
 use Rattle.finite_models.specs.Sound.{IsSoundAt, IsFirstWrong, AllRight}
-use Rattle.finite_models.specs.Inputs.{HasInputsAt, HasValuesAt}
+use Rattle.finite_models.specs.Inputs.{HasInputsAt, HasValuesAt, HasPartSizeAt}
 use Rattle.finite_models.specs.declared.kinds.Model.{Model}
 use Rattle.finite_models.specs.declared.kinds.ModelFault.{ModelFault}
 use Rattle.finite_models.specs.declared.kinds.ModelFault.TheVariants.{Cause, Input, Value}
@@ -12,6 +12,11 @@ pub record IsSoundModel (g : MixedGraph) (m : Model) : Type 0 where
   pub causes : AllRight (length m.causes.items) (IsSoundAt g m)
   pub inputs : AllRight g.vertices (HasInputsAt g m)
   pub values : AllRight g.vertices (HasValuesAt m)
+
+-- the mechanisms are written as they have to be: tables have an output for each place, parts read what they may, and their bits are those of the size
+pub record HasForm (g : MixedGraph) (m : Model) : Type 0 where
+  pub inputs : AllRight g.vertices (HasInputsAt g m)
+  pub part_sizes : AllRight g.vertices (HasPartSizeAt m)
 
 -- the fault is there, at its lowest number, and no fault of a kind before it
 abbrev pub IsFirstFault : MixedGraph → Model → ModelFault → Type 0

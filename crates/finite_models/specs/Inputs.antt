@@ -53,10 +53,19 @@ abbrev pub HasValues : ℕ → Mechanism → Type 0
 HasValues size (Table outputs) = EachIndex outputs.items (λ i. slice_index outputs.items i < size)
 HasValues size (Parity h c) = size ≡ parity_size h c
 
--- the mechanism of v has sound inputs, whatever is taken to stand past the last
+-- the mechanism of v reads what it may, whatever is taken to stand past the last mechanism
 abbrev pub HasInputsAt : MixedGraph → Model → ℕ → Type 0
 HasInputsAt g m v = (past : Mechanism) → HasInputs g m v (get_or m.mechanisms.items v past)
 
--- the mechanism of v gives values below its size
+-- v gives values below its size
 abbrev pub HasValuesAt : Model → ℕ → Type 0
 HasValuesAt m v = (past : Mechanism) → HasValues (slice_index m.sizes.items v) (get_or m.mechanisms.items v past)
+
+-- the bits of a parity mechanism have as many values together as the size says
+abbrev pub HasPartSize : ℕ → Mechanism → Type 0
+HasPartSize size (Table outputs) = Unit {0}
+HasPartSize size (Parity h c) = size ≡ parity_size h c
+
+-- the same of the mechanism of v
+abbrev pub HasPartSizeAt : Model → ℕ → Type 0
+HasPartSizeAt m v = (past : Mechanism) → HasPartSize (slice_index m.sizes.items v) (get_or m.mechanisms.items v past)

@@ -3,7 +3,7 @@ use Rattle.std.specs.Prelude.{ℕ, ◌≡◌, ◌<◌, ◌≤◌, Bool, false, E
 use Rattle.mixed_graph.specs.Graphs.{MixedGraph, IsMixedGraph}
 use Rattle.finite_models.specs.Models.{FiniteModel, Fits, IsAssignment, IsWorld, IsSolution, IsPositiveModel, solution, event_weight, intervene, weight_of, total}
 use Rattle.finite_models.specs.Data.{meaning}
-use Rattle.finite_models.specs.Faults.{IsSoundModel}
+use Rattle.finite_models.specs.Faults.{IsSoundModel, HasForm}
 use Rattle.finite_models.specs.declared.kinds.Model.{Model}
 
 -- the solution of a world under an intervention is a solution
@@ -38,3 +38,7 @@ EachWeightIsPositive = (g : MixedGraph) → IsMixedGraph g → (m : FiniteModel)
 abbrev pub SoundDataFits : Type 0
 SoundDataFits = (g : MixedGraph) (m : Model) → length m.sizes.items ≡ g.vertices → length m.mechanisms.items ≡ g.vertices → EachIndex m.sizes.items (λ v. 1 ≤ slice_index m.sizes.items v)
     → IsSoundModel g m → Fits g (meaning g m)
+
+-- and data of the right form that means such a model is sound
+abbrev pub FittingDataIsSound : Type 0
+FittingDataIsSound = (g : MixedGraph) (m : Model) → length m.sizes.items ≡ g.vertices → length m.mechanisms.items ≡ g.vertices → HasForm g m → Fits g (meaning g m) → IsSoundModel g m

@@ -1,8 +1,8 @@
-ghost use Rattle.std.specs.Prelude.{◌≡◌, ℕ, ◌≤◌, ◌↔◌, IsOk, OnOk, IfErr, EachIndex, length, slice_index};
+ghost use Rattle.std.specs.Prelude.{◌≡◌, ℕ, ◌≤◌, ◌↔◌, IsOk, IfErr, EachIndex, length, slice_index};
 ghost use Rattle.mixed_graph.specs.Shown.{graph_of};
 ghost use Rattle.finite_models.specs.Models.{Fits};
 ghost use Rattle.finite_models.specs.Data.{meaning};
-ghost use Rattle.finite_models.specs.Faults.{IsSoundModel, IsFirstFault};
+ghost use Rattle.finite_models.specs.Faults.{HasForm, IsFirstFault};
 
 use crate::causes::wrong_cause;
 use crate::kinds::{Model, ModelFault};
@@ -14,8 +14,7 @@ pub fn check_model(g: &Graph, m: &Model) -> Result<(), ModelFault>
     requires sizes { length m.now.sizes.items ≡ g.now.n }
     requires mechanisms { length m.now.mechanisms.items ≡ g.now.n }
     requires positive { EachIndex m.now.sizes.items (λ v. 1 ≤ slice_index m.now.sizes.items v) }
-    ensures fits { OnOk result (Fits (graph_of g.now) (meaning (graph_of g.now) m.now)) }
-    ensures sound { IsOk result ↔ IsSoundModel (graph_of g.now) m.now }
+    ensures fits { IsOk result ↔ (HasForm (graph_of g.now) m.now × Fits (graph_of g.now) (meaning (graph_of g.now) m.now)) }
     ensures fault { IfErr result (IsFirstFault (graph_of g.now) m.now) }
 {
     if let Some(j) = wrong_cause(g, m) {

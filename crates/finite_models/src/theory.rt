@@ -1,5 +1,5 @@
 ghost use Rattle.finite_models.specs.Laws.{SolutionIsSolution, SolutionIsUnique, SolutionIsAssignment};
-ghost use Rattle.finite_models.specs.Laws.{NoInterventionIsObservation, NoEventIsTotal, EachWeightIsPositive, SoundDataFits};
+ghost use Rattle.finite_models.specs.Laws.{NoInterventionIsObservation, NoEventIsTotal, EachWeightIsPositive, SoundDataFits, FittingDataIsSound};
 
 /// The laws of the models that fit a graph.
 pub fn laws()
@@ -17,4 +17,5 @@ pub fn laws()
 
     // Data that is sound means a model that fits.
     ensures fits { SoundDataFits }
+    ensures sound { FittingDataIsSound }
 {}

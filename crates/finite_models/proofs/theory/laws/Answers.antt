@@ -1,6 +1,7 @@
 use Rattle.finite_models.specs.Models.{intervene, solution}
 use Rattle.finite_models.proofs.theory.laws.Goals as goal
 use Rattle.finite_models.proofs.DataFits.{data_fits}
+use Rattle.finite_models.proofs.DataSound.{data_sound}
 use Rattle.finite_models.proofs.Following.{follows_of, follows_intervene}
 use Rattle.finite_models.proofs.Solutions.{solution_is, unique, solution_within}
 use Rattle.finite_models.proofs.Ranks.{with_rank}
@@ -33,3 +34,6 @@ returns-clause-positive c = λ g ok m fit positive b a s within. positive_weight
 
 pub returns-clause-fits : goal.returns-clause-fits
 returns-clause-fits c = data_fits
+
+pub returns-clause-sound : goal.returns-clause-sound
+returns-clause-sound c = data_sound
