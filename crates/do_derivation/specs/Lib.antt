@@ -1,0 +1,6 @@
+pub mod Accepts
+pub mod Plans
+pub mod Shapes
+pub mod Steps
+pub mod Table
+pub mod View

@@ -1,0 +1,8 @@
+//! Derivations in the do-calculus, and the checker that accepts them.
+#![tactic(auto)]
+
+mod faults;
+mod steps;
+
+pub use faults::{ApplyFault, CheckFault, StepFault, StepPlace};
+pub use steps::{Derivation, Lemma, Step};
