@@ -1,5 +1,6 @@
 pub mod Check
 pub mod Free
+pub mod Laws
 pub mod Listed
 pub mod Masks
 pub mod Same

@@ -12,6 +12,7 @@ mod copying;
 mod expr;
 mod freeing;
 pub mod masks;
+mod theory;
 
 pub use allowing::{is_allowed, is_do_free};
 pub use checking::{ExprFault, check};
@@ -19,3 +20,4 @@ pub use comparing::is_same;
 pub use copying::copy_expr;
 pub use expr::{Expr, Formula, Place, Target};
 pub use freeing::free;
+pub use theory::laws;
