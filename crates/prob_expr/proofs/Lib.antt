@@ -5,3 +5,4 @@ pub mod Observed
 mod SameTrees
 pub mod ValueLaws
 pub mod Views
+mod Walks

@@ -1,4 +1,5 @@
 pub mod Check
+pub mod Fold
 pub mod Free
 pub mod Laws
 pub mod Listed

@@ -10,9 +10,11 @@ mod checking;
 mod comparing;
 mod copying;
 mod expr;
+pub mod folding;
 mod freeing;
 pub mod masks;
 mod theory;
+mod visiting;
 
 pub use allowing::{is_allowed, is_do_free};
 pub use checking::{ExprFault, check};
@@ -21,3 +23,4 @@ pub use copying::copy_expr;
 pub use expr::{Expr, Formula, Place, Target};
 pub use freeing::free;
 pub use theory::laws;
+pub use visiting::Fold;
