@@ -13,6 +13,8 @@ mod expr;
 pub mod folding;
 mod freeing;
 pub mod masks;
+#[cfg(test)]
+mod tests;
 mod theory;
 mod visiting;
 
