@@ -1,4 +1,6 @@
 pub mod Boxes
+pub mod Checked
+pub mod FreeLaws
 mod FreeSteps
 pub mod MaskLaws
 pub mod Observed

@@ -1,10 +1,14 @@
--- Laws of values: over positive models they are positive fractions, and a formula without interventions has its value from what is observed.
-use Rattle.std.specs.Prelude.{ℕ, ◌*◌, ◌≡◌, ◌<◌, true, false}
+-- Laws of formulas: what check accepts; the free variables; values are positive fractions in positive models, and without interventions they come from what is observed.
+use Rattle.std.specs.Prelude.{ℕ, ◌*◌, ◌≡◌, ◌<◌, true, false, None, All}
+use Rattle.mixed_graph.specs.Bits.{has}
 use Rattle.mixed_graph.specs.Graphs.{MixedGraph, IsMixedGraph}
 use Rattle.fractions.specs.Fractions.{IsEqual, IsPositive}
 use Rattle.finite_models.specs.Models.{FiniteModel, Fits, IsAssignment, IsPositiveModel, weight_of, total}
-use Rattle.prob_expr.specs.Tree.{PlainFormula, PlainTarget}
-use Rattle.prob_expr.specs.Terms.{is_do_free}
+use Rattle.prob_expr.specs.Tree.{Tree, PlainFormula, PlainTarget}
+use Rattle.prob_expr.specs.Terms.{are_terms, is_do_free}
+use Rattle.prob_expr.specs.Check.{fault_in}
+use Rattle.prob_expr.specs.Free.{free_of}
+use Rattle.prob_expr.specs.Fold.{has_factors}
 use Rattle.prob_expr.specs.Values.{weights_of, value_of, effect, EqualsEffect}
 
 -- two models have equal sizes and equal observed probabilities: at each assignment of all vertices the weights are in the ratio of the totals
@@ -12,6 +16,27 @@ pub record AgreeObserved (m₁ m₂ : FiniteModel) : Type 0 where
   pub vertices : m₁.vertices ≡ m₂.vertices
   pub sizes : (v : ℕ) → v < m₁.vertices → m₁.size v ≡ m₂.size v
   pub weights : (s : ℕ → ℕ) → IsAssignment m₁.vertices m₁.size s → weight_of m₁ (λ v. false) (λ v. true) s * total m₂ ≡ weight_of m₂ (λ v. false) (λ v. true) s * total m₁
+
+-- the tree is made of terms, and each product in it has a factor
+pub record IsWhole (n : ℕ) (t : Tree) : Type 0 where
+  pub terms : are_terms n t ≡ true
+  pub factors : has_factors t ≡ true
+
+pub record IsWholeFormula (n : ℕ) (f : PlainFormula) : Type 0 where
+  pub defs : All (IsWhole n) f.defs
+  pub main : IsWhole n f.main
+
+-- a formula in which check finds no fault
+abbrev pub AcceptedIsWhole : Type 0
+AcceptedIsWhole = (n : ℕ) (f : PlainFormula) → fault_in n f ≡ None → IsWholeFormula n f
+
+-- two assignments give the members of a set the same values
+abbrev pub AgreeOn : ℕ → (s t : ℕ → ℕ) → Type 0
+AgreeOn mask s t = (v : ℕ) → has mask v ≡ true → s v ≡ t v
+
+-- the value of an accepted formula is one at assignments that agree on its free variables, in each model
+abbrev pub ValueReadsFree : Type 0
+ValueReadsFree = (m : FiniteModel) (f : PlainFormula) → fault_in m.vertices f ≡ None → (s t : ℕ → ℕ) → AgreeOn (free_of f) s t → value_of (weights_of m) f s ≡ value_of (weights_of m) f t
 
 -- in a positive model that fits a graph the value of each formula is a fraction above 0
 abbrev pub ValuesArePositive : Type 0

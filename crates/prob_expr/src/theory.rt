@@ -1,7 +1,13 @@
-ghost use Rattle.prob_expr.specs.Laws.{ValuesArePositive, EffectsArePositive, EffectIsOverTotal, ObservedFixesValue, FormulaFixesEffect};
+ghost use Rattle.prob_expr.specs.Laws.{AcceptedIsWhole, ValueReadsFree, ValuesArePositive, EffectsArePositive, EffectIsOverTotal, ObservedFixesValue, FormulaFixesEffect};
 
-/// The laws of values in the models that fit a graph.
+/// The laws of formulas, and of their values in the models that fit a graph.
 pub fn laws()
+    // What `check` accepts can be walked, and its terms have probabilities.
+    ensures accepted { AcceptedIsWhole }
+
+    // A value depends on the free variables alone.
+    ensures free { ValueReadsFree }
+
     // In a positive model no value is over 0, and none is 0.
     ensures positive { ValuesArePositive }
     ensures positive_effect { EffectsArePositive }
