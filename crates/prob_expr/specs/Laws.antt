@@ -22,6 +22,7 @@ pub record IsWhole (n : ℕ) (t : Tree) : Type 0 where
   pub terms : are_terms n t ≡ true
   pub factors : has_factors t ≡ true
 
+-- and so are all trees of the formula
 pub record IsWholeFormula (n : ℕ) (f : PlainFormula) : Type 0 where
   pub defs : All (IsWhole n) f.defs
   pub main : IsWhole n f.main
