@@ -5,6 +5,7 @@ use Rattle.prob_expr.specs.Masks.{is_empty, is_below, are_term_sets}
 use Rattle.prob_expr.specs.declared.checking.ExprFault.{ExprFault}
 use Rattle.prob_expr.specs.declared.checking.ExprFault.TheVariants.{Sets, Empty, Forward}
 
+-- the next part is checked where the first has no fault
 infixl 10 ◌>>=◌
 abbrev pub ◌>>=◌ : {A B : Type 0} → Result A ExprFault → (A → Result B ExprFault) → Result B ExprFault
 (Ok x) >>= f = f x
@@ -14,6 +15,7 @@ abbrev pub ◌>>=◌ : {A B : Type 0} → Result A ExprFault → (A → Result B
 abbrev pub cap : ℕ → ℕ
 cap k = min k (2 ^ 32 - 1)
 
+-- the node after this one in preorder
 abbrev pub next_node : ℕ → ℕ
 next_node node = min (node + 1) (2 ^ 32 - 1)
 
@@ -47,10 +49,12 @@ abbrev mutual
   check_trees n def limit no_trees node = Ok node
   check_trees n def limit (tree t ts) node = check_tree n def limit t node >>= check_trees n def limit ts
 
+-- the fault, if there is one
 abbrev pub fault_of : {A : Type 0} → Result A ExprFault → Option ExprFault
 fault_of (Ok x) = None
 fault_of (Err e) = Some e
 
+-- the first of two faults
 abbrev pub or_else : Option ExprFault → Option ExprFault → Option ExprFault
 or_else (Some e) other = Some e
 or_else None other = other
@@ -60,5 +64,6 @@ abbrev pub fault_in_defs : ℕ → ℕ → List Tree → Option ExprFault
 fault_in_defs n k [] = None
 fault_in_defs n k (d ∷ ds) = or_else (fault_of (check_tree n (Some (cap k)) k d 0)) (fault_in_defs n (k + 1) ds)
 
+-- the first fault of a formula on n vertices: of its definitions, then of main, which may name them all
 abbrev pub fault_in : ℕ → PlainFormula → Option ExprFault
 fault_in n f = or_else (fault_in_defs n 0 f.defs) (fault_of (check_tree n None (length f.defs) f.main 0))

@@ -20,6 +20,7 @@ abbrev mutual
   are_terms_each n no_trees = true
   are_terms_each n (tree t ts) = are_terms n t && are_terms_each n ts
 
+-- the set is one of the list
 abbrev pub is_listed : ℕ → List ℕ → Bool
 is_listed b [] = false
 is_listed b (a ∷ rest) = eqb b a || is_listed b rest
@@ -37,6 +38,7 @@ abbrev mutual
   are_under allowed no_trees = true
   are_under allowed (tree t ts) = is_under allowed t && are_under allowed ts
 
+-- each of the trees is under them
 abbrev pub all_under : List ℕ → List Tree → Bool
 all_under allowed [] = true
 all_under allowed (d ∷ ds) = is_under allowed d && all_under allowed ds

@@ -17,6 +17,7 @@ mutual
     no_trees : Trees
     tree : Tree → Trees → Trees
 
+-- the trees of a list, in their order
 abbrev pub trees_of : List Tree → Trees
 trees_of [] = no_trees
 trees_of (t ∷ ts) = tree t (trees_of ts)

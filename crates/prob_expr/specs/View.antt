@@ -22,8 +22,10 @@ view = fold-Expr Tree node_view
 abbrev pub views : List Expr → Trees
 views es = trees_of (map view es)
 
+-- the plain formula of a formula
 abbrev pub formula_view : Formula → PlainFormula
 formula_view f = record { defs = map view f.defs.items; main = view f.main }
 
+-- the plain target of a target
 abbrev pub target_view : Target → PlainTarget
 target_view t = record { x = t.x.bits; y = t.y.bits; given = t.given.bits }

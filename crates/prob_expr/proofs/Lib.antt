@@ -1,0 +1,10 @@
+pub mod Boxes
+pub mod Checked
+pub mod FreeLaws
+mod FreeSteps
+pub mod MaskLaws
+pub mod Observed
+mod SameTrees
+pub mod ValueLaws
+pub mod Views
+mod Walks
