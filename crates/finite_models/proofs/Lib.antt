@@ -1,5 +1,6 @@
 pub mod Bools
 pub mod Capped
+pub mod CauseValues
 pub mod DataFits
 pub mod DataReads
 pub mod DataSound
@@ -8,6 +9,7 @@ pub mod Factors
 pub mod Following
 pub mod Indicators
 pub mod Members
+pub mod Numbering
 pub mod Places
 pub mod Positive
 pub mod Radix
