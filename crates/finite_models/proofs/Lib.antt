@@ -1,3 +1,4 @@
+pub mod Agreeing
 pub mod Bools
 pub mod Capped
 pub mod CauseValues
@@ -17,6 +18,7 @@ pub mod Ranks
 pub mod Solutions
 pub mod SumLaws
 pub mod TableLaws
+pub mod TablePlaces
 pub mod Tested
 pub mod Totals
 pub mod Weights
