@@ -1,15 +1,15 @@
 -- The weight of an event, by the numbers of the worlds.
-use Rattle.std.proofs.Common.{ℕ, zero, suc, ◌+◌, ◌*◌, ◌≡◌, ◌<◌, ◌≤◌, Bool, true, false, cond, eqb, ◌&&◌, refl, sym, ap, ap₂, ◌∙◌, inl, inr, set, List, [], length, get_or, map, IsTrue, arith}
+use Rattle.std.proofs.Common.{ℕ, zero, suc, ◌+◌, ◌≡◌, ◌<◌, ◌≤◌, Bool, true, false, cond, eqb, ◌&&◌, refl, sym, ap, ap₂, ◌∙◌, inl, inr, set, List, [], length, get_or, map, IsTrue, arith}
 use Rattle.std.proofs.lemmas.Bool.{false_from_ne_true, cases_eq, eqb-true, or_cases}
 use Rattle.std.proofs.lemmas.List.{get_or_past, get_or-set_same, get_or-set_other, length-map}
 use Rattle.mixed_graph.specs.Graphs.{MixedGraph, IsMixedGraph}
 use Rattle.mixed_graph.specs.Orders.{taken_by}
-use Rattle.finite_models.specs.Sums.{sum_below, product_below, all_below}
+use Rattle.finite_models.specs.Sums.{sum_below, product_below}
 use Rattle.finite_models.specs.Models.{FiniteModel, Fits, IsAssignment, intervene, solution, agree, weight_of, world_weight, world_count, total}
 use Rattle.finite_models.specs.Data.{meaning, weights_of}
 use Rattle.finite_models.specs.Worlds.{values_of, weight_sum, value_in_world}
 use Rattle.finite_models.proofs.CauseValues.{value_below}
-use Rattle.finite_models.proofs.Following.{Follows, follows_of, follows_intervene}
+use Rattle.finite_models.proofs.Following.{follows_of, follows_intervene}
 use Rattle.finite_models.proofs.Ranks.{with_rank}
 use Rattle.finite_models.proofs.Solutions.{solution_is, solution_within, agree_gives}
 use Rattle.finite_models.proofs.Numbering.{over-numbers, over-products, sum_below-ones, sum_below-le, sum_below-grows}
@@ -43,7 +43,7 @@ pub counted_within : (g : MixedGraph) (m : Model) (b a : ℕ → Bool) (s : ℕ 
     → sum_below w (counted g m b a s) + world_weight (meaning g m) (value_in_world m.causes.items w) ≤ product_below (length m.causes.items) (weight_sum m.causes.items)
 counted_within g m b a s w lt =
     let p = sum_below-le w (counted g m b a s) (λ i. world_weight (meaning g m) (value_in_world m.causes.items i))
-        (λ i l. at_most (agree g.vertices a (solution (intervene (meaning g m) b s) (value_in_world m.causes.items i)) s) (world_weight (meaning g m) (value_in_world m.causes.items i))) in
+    (λ i l. at_most (agree g.vertices a (solution (intervene (meaning g m) b s) (value_in_world m.causes.items i)) s) (world_weight (meaning g m) (value_in_world m.causes.items i))) in
     let q = sum_below-grows (product_below (length m.causes.items) (values_of m.causes.items)) (λ i. world_weight (meaning g m) (value_in_world m.causes.items i)) (suc w) (omega arith) in
     let t = total-numbers g m in let e = total-product g m in
     within _ _ _ _ _ _ p q t e
@@ -62,7 +62,7 @@ solved_next g ok m fit b s within u values v lt h =
     let follows = follows_intervene g m b s within (follows_of g m fit) in
     follows.reads v lt values (solution (intervene m b s) u) u u h (λ j l e. refl)
     ∙ with_rank g ok ((intervene m b s).mechanism v (solution (intervene m b s) u) u) (solution (intervene m b s) u v)
-        (λ rank ranked. sym (solution_is g (intervene m b s) rank ranked follows u v lt))
+    (λ rank ranked. sym (solution_is g (intervene m b s) rank ranked follows u v lt))
 
 pub agree-congr : (n : ℕ) (a : ℕ → Bool) (x y s : ℕ → ℕ) → ((v : ℕ) → v < n → x v ≡ y v) → agree n a x s ≡ agree n a y s
 agree-congr zero a x y s h = refl

@@ -1,5 +1,5 @@
 -- The values of a model's causes in a world, and their weights.
-use Rattle.std.proofs.Common.{ℕ, zero, suc, ◌+◌, ◌*◌, ◌/◌, ◌%◌, ◌^◌, ◌≡◌, ◌<◌, ◌≤◌, List, length, get_or, Option, Some, None, SomeIff, sym, ap, ap₂, ◌∙◌, arith}
+use Rattle.std.proofs.Common.{ℕ, zero, suc, ◌*◌, ◌/◌, ◌%◌, ◌^◌, ◌≡◌, ◌<◌, ◌≤◌, List, length, get_or, Option, None, SomeIff, sym, ap, ap₂, ◌∙◌, arith}
 use Rattle.std.proofs.Math.Nat.{mod-lt}
 use Rattle.std.proofs.lemmas.List.{get_or_read}
 use Rattle.finite_models.specs.Sums.{sum_below, product_below}
@@ -36,8 +36,8 @@ pub weights_within : (causes : List Cause) → HaveWeight causes → (world j : 
     → a * w ≤ product_below (length causes) (weight_sum causes)
 weights_within causes h world j lt a w e f =
     let p : product_below (suc j) (λ i. get_or (weights_of causes i) (value_in_world causes world i) 0) ≤ product_below (suc j) (weight_sum causes) =
-        product_below-le (suc j) (λ i. get_or (weights_of causes i) (value_in_world causes world i) 0) (weight_sum causes)
-            (λ i l. term_le-sum (values_of causes i) (λ k. get_or (weights_of causes i) k 0) (value_in_world causes world i) (value_below causes h world i (omega arith))) in
+    product_below-le (suc j) (λ i. get_or (weights_of causes i) (value_in_world causes world i) 0) (weight_sum causes)
+    (λ i l. term_le-sum (values_of causes i) (λ k. get_or (weights_of causes i) k 0) (value_in_world causes world i) (value_below causes h world i (omega arith))) in
     let q = sums_within causes h j lt in
     rw (e, f) (omega (arith, p, q))
 

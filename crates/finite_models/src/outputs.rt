@@ -31,7 +31,12 @@ fn parents_place(g: &Graph, m: &Model, v: u8, values: &[u32; 64]) -> usize
     };
     let mut place = 0usize;
     for p in 0..m.sizes.len() {
-        place = with_digit(place, row.has(p as u8), m.sizes[p] as usize, values[p] as usize);
+        place = with_digit(
+            place,
+            row.has(p as u8),
+            m.sizes[p] as usize,
+            values[p] as usize,
+        );
     }
     place
 }
@@ -55,14 +60,7 @@ fn causes_place(m: &Model, v: u8, world: usize, start: usize) -> usize
 }
 
 /// The output of the table of v in a world, where the vertices have these values.
-pub fn output(
-    g: &Graph,
-    m: &Model,
-    v: u8,
-    world: usize,
-    values: &[u32; 64],
-    outputs: &[u32],
-) -> u32
+pub fn output(g: &Graph, m: &Model, v: u8, world: usize, values: &[u32; 64], outputs: &[u32]) -> u32
     requires vertex { v < 64 }
     requires sizes { length m.now.sizes.items ≡ g.now.n }
     requires weight { HaveWeight m.now.causes.items }

@@ -1,4 +1,4 @@
-use Rattle.std.proofs.Common.{◌≡◌, ◌<◌, ◌%◌, ◌∙◌, ap, ap₂, sym, length, arith}
+use Rattle.std.proofs.Common.{◌<◌, ◌%◌, ◌∙◌, ap, ap₂, sym, length, arith}
 use Rattle.mixed_graph.specs.Bits.{has}
 use Rattle.finite_models.specs.Data.{children_of}
 use Rattle.finite_models.specs.Worlds.{values_of, value_in_world}
@@ -20,10 +20,10 @@ with_digit-place-requires c =
     let lt : c.loop-j.j < length c.args.m.now.causes.items = (let k = c.args.m.now.causes.ok in omega arith) in
     let e = values_at c.args.m.now.causes.items c.loop-j.j c.index-c.result.now c.len-base.result lt c.index-c.ensures (let k = c.index-c.result.now.weights.ok in omega arith) in
     fits_next (length c.args.m.now.causes.items) (λ j. has (children_of c.args.m.now.causes.items j) c.args.v) (values_of c.args.m.now.causes.items) (value_in_world c.args.m.now.causes.items c.args.world)
-        c.args.start c.loop-j.j c.loop-j.place c.len-base.result (c.loop-j.rest % c.len-base.result) _ c.has.result lt
-        (value_below c.args.m.now.causes.items c.requires.weight c.args.world) c.requires.fits c.loop-j.invariant.place
-        (c.has.ensures ∙ ap (λ b. has b c.args.v) (sym (children_of-at c.args.m.now.causes.items c.loop-j.j c.index-c.result.now lt c.index-c.ensures)))
-        e (ap₂ (λ a b. a % b) c.loop-j.invariant.rest e)
+    c.args.start c.loop-j.j c.loop-j.place c.len-base.result (c.loop-j.rest % c.len-base.result) _ c.has.result lt
+    (value_below c.args.m.now.causes.items c.requires.weight c.args.world) c.requires.fits c.loop-j.invariant.place
+    (c.has.ensures ∙ ap (λ b. has b c.args.v) (sym (children_of-at c.args.m.now.causes.items c.loop-j.j c.index-c.result.now lt c.index-c.ensures)))
+    e (ap₂ (λ a b. a % b) c.loop-j.invariant.rest e)
 
 pub nonzero_div-rest : goal.nonzero_div-rest
 nonzero_div-rest c =

@@ -1,4 +1,4 @@
-use Rattle.std.proofs.Common.{◌≡◌, ◌<◌, ◌+◌, ◌*◌, ◌≤◌, ◌∙◌, suc, length, arith}
+use Rattle.std.proofs.Common.{◌≡◌, ◌<◌, ◌*◌, ◌≤◌, ◌∙◌, length, arith}
 use Rattle.finite_models.specs.Sums.{product_below}
 use Rattle.finite_models.specs.Worlds.{weight_sum}
 use Rattle.finite_models.proofs.CauseValues.{sum_at, sums_within, none_from}
@@ -12,7 +12,7 @@ returns-in_err-total c =
     let w = sums_within c.args.m.now.causes.items c.requires c.loop-j.j lt in
     let le : c.loop-j.total * c.sum_of.result ≤ product_below (length c.args.m.now.causes.items) (weight_sum c.args.m.now.causes.items) = rw (e, c.loop-j.invariant.so_far) w in
     none_from c.checked_mul.result c.from_residual.result (c.loop-j.total * c.sum_of.result) (product_below (length c.args.m.now.causes.items) (weight_sum c.args.m.now.causes.items))
-        c.in_err-total.was c.from_residual.ensures c.checked_mul.ensures le
+    c.in_err-total.was c.from_residual.ensures c.checked_mul.ensures le
 
 pub loop-j-preserved : goal.loop-j-preserved
 loop-j-preserved c =

@@ -1,6 +1,4 @@
-use Rattle.std.proofs.Common.{◌≡◌, ◌<◌, ◌∙◌, ◌+◌, ◌%◌, ◌/◌, sym, suc, ap, ap₂, length, get_or, arith}
-use Rattle.std.proofs.lemmas.List.{get_or_read}
-use Rattle.finite_models.specs.Sums.{product_below}
+use Rattle.std.proofs.Common.{◌<◌, ◌%◌, length, get_or, arith}
 use Rattle.finite_models.specs.Data.{weights_of}
 use Rattle.finite_models.specs.Worlds.{values_of, value_in_world}
 use Rattle.finite_models.proofs.CauseValues.{values_at, positive_values, weight_at, weights_within}
@@ -28,7 +26,7 @@ overflow_mul-weight c =
     let e = values_at c.args.m.now.causes.items c.loop-j.j c.index-c.result.now c.len.result lt c.index-c.ensures (let k = c.index-c.result.now.weights.ok in omega arith) in
     let p = positive_values c.args.m.now.causes.items c.requires.weight c.loop-j.j lt in
     let w = weight_at c.args.m.now.causes.items c.args.world c.loop-j.j c.index-c.result.now c.loop-j.rest c.len.result c.from-weight.result c.index.result.now
-        lt c.index-c.ensures e p c.loop-j.invariant.rest c.from-weight.ensures c.index.ensures (let k = c.index-c.result.now.weights.ok in omega arith) in
+    lt c.index-c.ensures e p c.loop-j.invariant.rest c.from-weight.ensures c.index.ensures (let k = c.index-c.result.now.weights.ok in omega arith) in
     let le = weights_within c.args.m.now.causes.items c.requires.weight c.args.world c.loop-j.j lt c.loop-j.weight c.from-weight.result c.loop-j.invariant.weight w in
     let t = c.requires.fits in
     omega arith
