@@ -7,7 +7,7 @@ use Rattle.m_separation.specs.declared.marks.Mark.{Mark}
 use Rattle.m_separation.specs.Walks.{IsSeparated}
 use Rattle.m_separation.specs.Paths.{IsOpenPath}
 use Rattle.m_separation.specs.declared.paths.OpenPath.{OpenPath}
-use Rattle.do_rules.specs.Rules.{IsBlockedForRule1, IsBlockedForRule2, IsBlockedForRule3, IsOpenForRule1, IsOpenForRule2, IsOpenForRule3}
+use Rattle.do_rules.specs.Rules.{AreIndependent, IsBlockedForRule1, IsBlockedForRule2, IsBlockedForRule3, IsOpenForRule1, IsOpenForRule2, IsOpenForRule3}
 use Rattle.dag_reader.specs.declared.graph.ReadGraph.{ReadGraph}
 use Rattle.dag_reader.specs.declared.faults.GraphFault.{GraphFault}
 use Rattle.dag_reader.specs.declared.faults.GraphFault.TheVariants.{NoMemory}
@@ -38,13 +38,14 @@ separation_lists g x y given = record {
   given = listed g.names g.adjusted.bits given;
 }
 
--- yes: no walk from x to y is open given w
+-- yes: no walk from x to y is open given w, and x and y are independent given w in each model that fits the graph, positive or not
 pub record IsSeparatedAnswer (q : MixedGraph) (l : Lists) (text : List ℕ) : Type 0 where
   pub x : ℕ
   pub y : ℕ
   pub w : ℕ
   pub sets : AreSets l x y w
   pub apart : IsSeparated q (has x) (has y) (has w)
+  pub independent : AreIndependent q (has x) (has y) (has w)
   pub prints : text ≡ separated_text l.observed x y w
 
 -- no: this path is open, and is printed

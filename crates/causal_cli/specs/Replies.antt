@@ -7,6 +7,7 @@ use Rattle.m_separation.specs.declared.marks.Mark.{Mark}
 use Rattle.m_separation.specs.Walks.{IsSeparated}
 use Rattle.m_separation.specs.Paths.{IsOpenPath}
 use Rattle.m_separation.specs.declared.paths.OpenPath.{OpenPath}
+use Rattle.do_rules.specs.Rules.{AreIndependent}
 use Rattle.dag_reader.specs.declared.graph.ReadGraph.{ReadGraph}
 use Rattle.latent_projection.specs.Renumbering.{IsObserved}
 use Rattle.causal_cli.specs.Wishes.{Names, Wish}
@@ -34,9 +35,15 @@ pub record PrintsPath (q : MixedGraph) (names : List (List ℕ)) (x y w : ℕ) (
   pub path : IsOpenPath q (has x) (has y) (has w) vertices marks count
   pub prints : text ≡ not_separated_text names x y w (open_text names vertices marks count)
 
+-- separated, and independent in each model that fits, with the text that says so
+pub record PrintsSeparation (q : MixedGraph) (names : List (List ℕ)) (x y w : ℕ) (text : List ℕ) : Type 0 where
+  pub apart : IsSeparated q (has x) (has y) (has w)
+  pub independent : AreIndependent q (has x) (has y) (has w)
+  pub prints : text ≡ separated_text names x y w
+
 -- the answer for sets: separated, or not with an open path
 abbrev pub SetsAnswer : MixedGraph → List (List ℕ) → ℕ → ℕ → ℕ → Verdict → List ℕ → Type 0
-SetsAnswer q names x y w Yes text = IsSeparated q (has x) (has y) (has w) × (text ≡ separated_text names x y w)
+SetsAnswer q names x y w Yes text = PrintsSeparation q names x y w text
 SetsAnswer q names x y w No text = PrintsPath q names x y w text
 SetsAnswer q names x y w Words text = ⊥
 SetsAnswer q names x y w Graph text = ⊥
