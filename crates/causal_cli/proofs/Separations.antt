@@ -11,7 +11,7 @@ use Rattle.causal_cli.specs.declared.verdict.Verdict.TheVariants.{Yes, No, Words
 
 -- the answer for sets is the answer for their lists
 pub answered : (q : MixedGraph) (l : Lists) (x y w : ℕ) (v : Verdict) (text : List ℕ) → AreSets l x y w → SetsAnswer q l.observed x y w v text → SeparationAnswer q l v text
-answered q l x y w Yes text s a = record { x = x; y = y; w = w; sets = s; apart = a.0; prints = a.1 }
+answered q l x y w Yes text s a = record { x = x; y = y; w = w; sets = s; apart = a.apart; independent = a.independent; prints = a.prints }
 answered q l x y w No text s a = record { x = x; y = y; w = w; sets = s; vertices = a.vertices; marks = a.marks; count = a.count; path = a.path; prints = a.prints }
 answered q l x y w Words text s a = a
 answered q l x y w Graph text s a = absurd a

@@ -7,7 +7,7 @@ use Rattle.m_separation.specs.declared.marks.Mark.{Mark}
 use Rattle.m_separation.specs.Walks.{IsSeparated}
 use Rattle.m_separation.specs.Paths.{IsOpenPath}
 use Rattle.m_separation.specs.declared.paths.OpenPath.{OpenPath}
-use Rattle.do_rules.specs.Rules.{IsBlockedForRule1, IsBlockedForRule2, IsBlockedForRule3, IsOpenForRule1, IsOpenForRule2, IsOpenForRule3}
+use Rattle.do_rules.specs.Rules.{AreIndependent, Rule1, Rule2, Rule3, IsBlockedForRule1, IsBlockedForRule2, IsBlockedForRule3, IsOpenForRule1, IsOpenForRule2, IsOpenForRule3}
 use Rattle.dag_reader.specs.declared.graph.ReadGraph.{ReadGraph}
 use Rattle.dag_reader.specs.declared.faults.GraphFault.{GraphFault}
 use Rattle.dag_reader.specs.declared.faults.GraphFault.TheVariants.{NoMemory}
@@ -38,13 +38,14 @@ separation_lists g x y given = record {
   given = listed g.names g.adjusted.bits given;
 }
 
--- yes: no walk from x to y is open given w
+-- yes: no walk from x to y is open given w, and x and y are independent given w in each model that fits the graph, positive or not
 pub record IsSeparatedAnswer (q : MixedGraph) (l : Lists) (text : List ℕ) : Type 0 where
   pub x : ℕ
   pub y : ℕ
   pub w : ℕ
   pub sets : AreSets l x y w
   pub apart : IsSeparated q (has x) (has y) (has w)
+  pub independent : AreIndependent q (has x) (has y) (has w)
   pub prints : text ≡ separated_text l.observed x y w
 
 -- no: this path is open, and is printed
@@ -119,13 +120,19 @@ IsBlockedFor One g x y z w = IsBlockedForRule1 g x y z w
 IsBlockedFor Two g x y z w = IsBlockedForRule2 g x y z w
 IsBlockedFor Three g x y z w = IsBlockedForRule3 g x y z w
 
+-- what a rule says of x, y, z and w: its equation, in each positive model that fits the graph
+abbrev pub IsRuleFor : Rule → MixedGraph → (x y z w : ℕ → Bool) → Type 0
+IsRuleFor One g x y z w = Rule1 g x y z w
+IsRuleFor Two g x y z w = Rule2 g x y z w
+IsRuleFor Three g x y z w = Rule3 g x y z w
+
 -- an open path from y to z in the graph of a rule
 abbrev pub IsOpenFor : Rule → MixedGraph → (x y z w : ℕ → Bool) → OpenPath → Type 0
 IsOpenFor One g x y z w p = IsOpenForRule1 g x y z w p
 IsOpenFor Two g x y z w p = IsOpenForRule2 g x y z w p
 IsOpenFor Three g x y z w p = IsOpenForRule3 g x y z w p
 
--- yes: what the rule asks is so
+-- yes: what the rule asks is so, and the equation that it says holds in each positive model that fits the graph
 pub record IsRuleThatHolds (r : Rule) (q : MixedGraph) (l : RuleLists) (text : List ℕ) : Type 0 where
   pub y : ℕ
   pub done : ℕ
@@ -133,6 +140,7 @@ pub record IsRuleThatHolds (r : Rule) (q : MixedGraph) (l : RuleLists) (text : L
   pub given : ℕ
   pub sets : AreRuleSets l y done z given
   pub blocked : IsBlockedFor r q (has done) (has y) (has z) (has given)
+  pub equation : IsRuleFor r q (has done) (has y) (has z) (has given)
   pub prints : text ≡ rule_holds_text r l.observed (has done) (has y) (has z) (has given)
 
 -- no: this path is open in the graph of the rule, and is printed

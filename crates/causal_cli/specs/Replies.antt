@@ -7,11 +7,12 @@ use Rattle.m_separation.specs.declared.marks.Mark.{Mark}
 use Rattle.m_separation.specs.Walks.{IsSeparated}
 use Rattle.m_separation.specs.Paths.{IsOpenPath}
 use Rattle.m_separation.specs.declared.paths.OpenPath.{OpenPath}
+use Rattle.do_rules.specs.Rules.{AreIndependent}
 use Rattle.dag_reader.specs.declared.graph.ReadGraph.{ReadGraph}
 use Rattle.latent_projection.specs.Renumbering.{IsObserved}
 use Rattle.causal_cli.specs.Wishes.{Names, Wish}
 use Rattle.causal_cli.specs.Lines.{separated_text, not_separated_text, open_text, rule_holds_text, rule_fails_text}
-use Rattle.causal_cli.specs.Answers.{separation_lists, SeparationAnswer, TextAnswer, rule_lists, IsBlockedFor, IsOpenFor, RuleAnswer, GraphAnswer, Defined}
+use Rattle.causal_cli.specs.Answers.{separation_lists, SeparationAnswer, TextAnswer, rule_lists, IsBlockedFor, IsRuleFor, IsOpenFor, RuleAnswer, GraphAnswer, Defined}
 use Rattle.causal_cli.specs.declared.reply.Reply.{Reply}
 use Rattle.causal_cli.specs.declared.rule.Rule.{Rule}
 use Rattle.causal_cli.specs.declared.verdict.Verdict.{Verdict}
@@ -34,9 +35,15 @@ pub record PrintsPath (q : MixedGraph) (names : List (List ℕ)) (x y w : ℕ) (
   pub path : IsOpenPath q (has x) (has y) (has w) vertices marks count
   pub prints : text ≡ not_separated_text names x y w (open_text names vertices marks count)
 
+-- separated, and independent in each model that fits, with the text that says so
+pub record PrintsSeparation (q : MixedGraph) (names : List (List ℕ)) (x y w : ℕ) (text : List ℕ) : Type 0 where
+  pub apart : IsSeparated q (has x) (has y) (has w)
+  pub independent : AreIndependent q (has x) (has y) (has w)
+  pub prints : text ≡ separated_text names x y w
+
 -- the answer for sets: separated, or not with an open path
 abbrev pub SetsAnswer : MixedGraph → List (List ℕ) → ℕ → ℕ → ℕ → Verdict → List ℕ → Type 0
-SetsAnswer q names x y w Yes text = IsSeparated q (has x) (has y) (has w) × (text ≡ separated_text names x y w)
+SetsAnswer q names x y w Yes text = PrintsSeparation q names x y w text
 SetsAnswer q names x y w No text = PrintsPath q names x y w text
 SetsAnswer q names x y w Words text = ⊥
 SetsAnswer q names x y w Graph text = ⊥
@@ -59,10 +66,15 @@ pub record PrintsRulePath (r : Rule) (q : MixedGraph) (names : List (List ℕ)) 
   pub is_open : IsOpenFor r q (has done) (has y) (has z) (has given) path
   pub prints : text ≡ rule_fails_text r names (has done) (has y) (has z) (has given) (open_text names path.vertices path.marks path.count)
 
+-- what the rule asks is so, its equation holds, and the text says so
+pub record PrintsRule (r : Rule) (q : MixedGraph) (names : List (List ℕ)) (y done z given : ℕ) (text : List ℕ) : Type 0 where
+  pub blocked : IsBlockedFor r q (has done) (has y) (has z) (has given)
+  pub equation : IsRuleFor r q (has done) (has y) (has z) (has given)
+  pub prints : text ≡ rule_holds_text r names (has done) (has y) (has z) (has given)
+
 -- the answer of a rule for sets: it holds, or not with an open path
 abbrev pub RuleSetsAnswer : Rule → MixedGraph → List (List ℕ) → (y done z given : ℕ) → Verdict → List ℕ → Type 0
-RuleSetsAnswer r q names y done z given Yes text =
-    IsBlockedFor r q (has done) (has y) (has z) (has given) × (text ≡ rule_holds_text r names (has done) (has y) (has z) (has given))
+RuleSetsAnswer r q names y done z given Yes text = PrintsRule r q names y done z given text
 RuleSetsAnswer r q names y done z given No text = PrintsRulePath r q names y done z given text
 RuleSetsAnswer r q names y done z given Words text = ⊥
 RuleSetsAnswer r q names y done z given Graph text = ⊥

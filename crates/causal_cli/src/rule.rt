@@ -4,7 +4,7 @@ ghost use Rattle.mixed_graph.specs.Names.{texts};
 ghost use Rattle.mixed_graph.specs.Sets.{Within};
 ghost use Rattle.mixed_graph.specs.Shown.{graph_of};
 ghost use Rattle.do_rules.specs.Rules.{AreFourSets};
-ghost use Rattle.causal_cli.specs.Answers.{IsBlockedFor, IsOpenFor};
+ghost use Rattle.causal_cli.specs.Answers.{IsBlockedFor, IsRuleFor, IsOpenFor};
 ghost use Rattle.causal_cli.specs.Replies.{GivesRule, AnswersRuleSets};
 
 use crate::printing::{rule_fails_text, rule_holds_text};
@@ -72,6 +72,7 @@ fn ask(seen: &Observed, rule: Rule, sets: RuleSets) -> Result<(), OpenPath>
     requires sets { AreFourSets seen.now.graph.n (has sets.done.bits) (has sets.y.bits) (has sets.z.bits) (has sets.given.bits) }
     requires some { 0 < sets.y.bits }
     ensures blocked { OnOk result (IsBlockedFor rule (graph_of seen.now.graph) (has sets.done.bits) (has sets.y.bits) (has sets.z.bits) (has sets.given.bits)) }
+    ensures equation { OnOk result (IsRuleFor rule (graph_of seen.now.graph) (has sets.done.bits) (has sets.y.bits) (has sets.z.bits) (has sets.given.bits)) }
     ensures open { IfErr result (IsOpenFor rule (graph_of seen.now.graph) (has sets.done.bits) (has sets.y.bits) (has sets.z.bits) (has sets.given.bits)) }
 {
     let graph = &seen.graph;

@@ -3,6 +3,7 @@ ghost use Rattle.mixed_graph.specs.Bits.{has};
 ghost use Rattle.mixed_graph.specs.Sets.{Within};
 ghost use Rattle.mixed_graph.specs.Names.{texts};
 ghost use Rattle.mixed_graph.specs.Shown.{graph_of};
+ghost use Rattle.do_rules.specs.Rules.{AreThreeSets};
 ghost use Rattle.word_lists.specs.Views.{names_in};
 ghost use Rattle.targets.specs.Targets.{listed};
 ghost use Rattle.fault_text.specs.Lines.{line_of, target_fault_text};
@@ -12,14 +13,14 @@ use crate::printing::{not_separated_text, separated_text};
 use crate::reply::Reply;
 use crate::verdict::Verdict;
 use dag_reader::ReadGraph;
+use do_rules::independence;
 use fault_text::target_line;
 use latent_projection::{Observed, observed};
-use m_separation::open_path;
 use mixed_graph::{Names, VSet};
 use std::alloc::{AllocError, Global};
 use targets::{Sets, TargetFault, find_sets, names_of};
 
-/// Whether x and y are separated given a set, in the observed graph.
+/// Whether x and y are separated given a set, in the observed graph: then they are independent given it in each model that fits that graph.
 ///
 /// A list that is missing is that of the exposures, the outcomes or the adjusted vertices.
 pub fn separate(
@@ -76,17 +77,15 @@ fn list_or(
 /// The answer for sets of the observed graph.
 fn decide(alloc: Global, seen: &Observed, sets: Sets) -> Result<Reply, AllocError>
     requires named { length seen.now.names ≡ seen.now.graph.n }
-    requires x { Within seen.now.graph.n (has sets.x.bits) }
-    requires y { Within seen.now.graph.n (has sets.y.bits) }
-    requires given { Within seen.now.graph.n (has sets.given.bits) }
+    requires sets { AreThreeSets seen.now.graph.n (has sets.x.bits) (has sets.y.bits) (has sets.given.bits) }
     ensures { IfOk result (AnswersSets (graph_of seen.now.graph) seen.now.names sets.x.bits sets.y.bits sets.given.bits) }
 {
-    match open_path(&seen.graph, sets.x, sets.y, sets.given) {
-        None => Ok(Reply {
+    match independence(&seen.graph, sets.x, sets.y, sets.given) {
+        Ok(()) => Ok(Reply {
             verdict: Verdict::Yes,
             text: separated_text(alloc, &seen.names, sets)?,
         }),
-        Some(path) => Ok(Reply {
+        Err(path) => Ok(Reply {
             verdict: Verdict::No,
             text: not_separated_text(alloc, &seen.names, sets, &path)?,
         }),

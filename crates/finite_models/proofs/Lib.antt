@@ -1,5 +1,7 @@
+pub mod Agreeing
 pub mod Bools
 pub mod Capped
+pub mod CauseValues
 pub mod DataFits
 pub mod DataReads
 pub mod DataSound
@@ -8,6 +10,7 @@ pub mod Factors
 pub mod Following
 pub mod Indicators
 pub mod Members
+pub mod Numbering
 pub mod Places
 pub mod Positive
 pub mod Radix
@@ -15,6 +18,7 @@ pub mod Ranks
 pub mod Solutions
 pub mod SumLaws
 pub mod TableLaws
+pub mod TablePlaces
 pub mod Tested
 pub mod Totals
 pub mod Weights

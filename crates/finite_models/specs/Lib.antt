@@ -6,3 +6,4 @@ pub mod Models
 pub mod Sound
 pub mod Sums
 pub mod Tables
+pub mod Worlds

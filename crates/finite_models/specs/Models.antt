@@ -47,6 +47,10 @@ world_weight m u = product_below m.causes (λ j. m.weight j (u j))
 abbrev pub sum_worlds : FiniteModel → ((ℕ → ℕ) → ℕ) → ℕ
 sum_worlds m f = sum_over (λ j. true) m.values m.causes f (λ j. 0)
 
+-- how many worlds there are
+abbrev pub world_count : FiniteModel → ℕ
+world_count m = sum_worlds m (λ u. 1)
+
 -- the sum of the weights of all worlds
 abbrev pub total : FiniteModel → ℕ
 total m = sum_worlds m (world_weight m)

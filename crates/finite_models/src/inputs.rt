@@ -9,7 +9,7 @@ use crate::kinds::{Mechanism, Model, Part};
 use mixed_graph::{Graph, VSet};
 
 /// Whether the mechanism has a hedge bit.
-fn is_hedged(k: &Mechanism) -> bool
+pub fn is_hedged(k: &Mechanism) -> bool
     ensures { result ≡ hedged k.now }
 {
     match k {

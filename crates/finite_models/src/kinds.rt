@@ -48,3 +48,12 @@ pub enum ModelFault {
     /// The lowest vertex with an output that is no value of it, or with bits of another number than its size.
     Value(u8),
 }
+
+/// What keeps a weight from being computed.
+#[derive(Clone, Copy, Debug, PartialEq, Eq)]
+pub enum WeightFault {
+    /// There are more than 2^20 worlds.
+    TooMany,
+    /// There are not, and the weights of all worlds sum to 2^128 or more.
+    TooWide,
+}

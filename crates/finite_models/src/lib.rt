@@ -6,11 +6,17 @@ mod checking;
 mod inputs;
 mod kinds;
 mod mechanisms;
+mod outputs;
+mod parities;
+mod solving;
 mod tables;
 #[cfg(test)]
 mod tests;
 mod theory;
+mod weighing;
+mod worlds;
 
 pub use checking::check_model;
-pub use kinds::{Cause, Mechanism, Model, ModelFault, Part};
+pub use kinds::{Cause, Mechanism, Model, ModelFault, Part, WeightFault};
 pub use theory::laws;
+pub use weighing::weight;

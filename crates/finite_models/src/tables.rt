@@ -22,7 +22,7 @@ fn widened(range: u128, kept: bool, base: u64, cap: u128) -> u128
 }
 
 /// The number of values of the parents of v together, at most the cap.
-fn parents_range(g: &Graph, m: &Model, v: u8, cap: u128) -> u128
+pub fn parents_range(g: &Graph, m: &Model, v: u8, cap: u128) -> u128
     requires vertex { v < 64 }
     requires sizes { length m.now.sizes.items ≡ g.now.n }
     requires above { 1 ≤ cap }
