@@ -244,13 +244,13 @@ module _ (g : MixedGraph) (is_graph : IsMixedGraph g) (o : List ℕ) (order : Is
       go true q = absurd (tgt.off u q e)
       go false q = q
 
-  d_free : (u : ℕ) → has d u ≡ true → has (minus (all g.vertices) x) u ≡ true
+  pub d_free : (u : ℕ) → has d u ≡ true → has (minus (all g.vertices) x) u ≡ true
   d_free u e = ancestors_in g is_graph o order y (minus (all g.vertices) x) y_free u (is_d.sound u e)
 
   pub d_low : (u : ℕ) → has d u ≡ true → u < g.vertices
   d_low u e = all-below g.vertices u (and_l (has (all g.vertices) u) (not (has x u)) (rw (has-minus (all g.vertices) x u) at (d_free u e)))
 
-  d_off : (u : ℕ) → has d u ≡ true → has x u ≡ false
+  pub d_off : (u : ℕ) → has d u ≡ true → has x u ≡ false
   d_off u e = not_e (has x u) (and_r (has (all g.vertices) u) (not (has x u)) (rw (has-minus (all g.vertices) x u) at (d_free u e)))
 
   pub y_in : (u : ℕ) → has y u ≡ true → has d u ≡ true
@@ -271,8 +271,8 @@ module _ (g : MixedGraph) (is_graph : IsMixedGraph g) (o : List ℕ) (order : Is
       bools : (v x d : Bool) → (x ≡ true → v ≡ true) → (d ≡ true → x ≡ false) → (x || ((v && not x) && not d)) ≡ (v && not d)
       bools v x d h1 h2 = grind (arith, h1, h2)
 
-  above : (p u : ℕ) → g.arrow p u ≡ true → has x p ≡ false → has d u ≡ true → has d p ≡ true
-  above p u b n i = let r = is_d.sound u i in is_d.complete p (record { vertex = is_graph.tail_below p u b; path = u ∷ r.path; end = r.end;
+  pub d_closed : (p u : ℕ) → g.arrow p u ≡ true → has x p ≡ false → has d u ≡ true → has d p ≡ true
+  d_closed p u b n i = let r = is_d.sound u i in is_d.complete p (record { vertex = is_graph.tail_below p u b; path = u ∷ r.path; end = r.end;
       leads = (both_true (g.arrow p u) (has (minus (all g.vertices) x) p && has (minus (all g.vertices) x) u) b (both_true (has (minus (all g.vertices) x) p) (has (minus (all g.vertices) x) u)
           (has-minus (all g.vertices) x p ∙ both_true (has (all g.vertices) p) (not (has x p)) (all-is g.vertices p (is_graph.tail_below p u b)) (not_i (has x p) n)) (d_free u i)), r.leads); inside = r.inside })
 
@@ -282,7 +282,7 @@ module _ (g : MixedGraph) (is_graph : IsMixedGraph g) (o : List ℕ) (order : Is
       (record {
           part = has others;
           far = cut_three g x others 0 (λ u e r. clash (has 0 r.end) r.inside (has-zero r.end));
-          separated = actions_apart g (has x) (has others) (has y) (λ u. has x u || has 0 u) (λ u. has d u ≡ true) y_in above (λ u e i. clash (has d u) i (others_of u e).2) (λ u. bare (has x u) (has 0 u) (has-zero u)) },
+          separated = actions_apart g (has x) (has others) (has y) (λ u. has x u || has 0 u) (λ u. has d u ≡ true) y_in d_closed (λ u e i. clash (has d u) i (others_of u e).2) (λ u. bare (has x u) (has 0 u) (has-zero u)) },
         ap (λ z. prob y z 0) (sym held))
     where
       bare : (x y : Bool) → y ≡ false → (x || y) ≡ x

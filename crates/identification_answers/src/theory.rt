@@ -1,0 +1,13 @@
+ghost use Rattle.identification_answers.specs.Laws.{FormulaNamesAncestors, FormulaIsFormed, FormulaIsShallow, OneFormula, OneStop, NeverBoth, StopIsHedge};
+
+/// What follows from the procedure's definition, about each formula that it answers and each place
+/// where it stops.
+pub fn laws()
+    ensures names { FormulaNamesAncestors }
+    ensures formed { FormulaIsFormed }
+    ensures shallow { FormulaIsShallow }
+    ensures one_formula { OneFormula }
+    ensures one_stop { OneStop }
+    ensures never_both { NeverBoth }
+    ensures hedge { StopIsHedge }
+{}
