@@ -1,5 +1,5 @@
 -- The whole derivation of identification is accepted.
-use Rattle.std.proofs.Common.{ℕ, zero, suc, ◌+◌, ◌-◌, ◌*◌, ◌^◌, ◌≡◌, ◌<◌, ◌≤◌, Bool, true, false, cond, eqb, ltb, leb, not, refl, sym, ap, ap₂, subst, ◌∙◌, ◌||◌, ◌&&◌, ◌⊎◌, inl, inr, List, [], ◌∷◌, ◌++◌, length, get_or, arith, rules, eqb-true, eq-eqb, length-append, append_assoc, le-leb}
+use Rattle.std.proofs.Common.{ℕ, zero, suc, ◌+◌, ◌≡◌, ◌<◌, Bool, true, false, cond, eqb, not, refl, sym, ap, subst, ◌∙◌, ◌||◌, ◌&&◌, ◌⊎◌, inl, inr, List, [], ◌∷◌, ◌++◌, length, arith, eq-eqb, length-append}
 use Rattle.std.specs.Prelude.{Option, Some, None}
 use Rattle.do_derivation.specs.Accepts.{Define, sets_of}
 use Rattle.do_derivation.specs.Plans.{Move, PlainLemma, Plan, Plans, no_plans}
@@ -7,17 +7,16 @@ use Rattle.do_derivation.specs.Shapes.{as_one, chained, gathered, is_list_of, te
 use Rattle.do_derivation.specs.Steps.{IsMade, Makes, MakesAll}
 use Rattle.do_derivation.specs.Table.{if_made}
 use Rattle.do_derivation.specs.declared.faults.StepFault.TheVariants.{Shape}
-use Rattle.identification.proofs.Bodies.{IsCited, universe, single, Lists, no_more, more, at_place, at_each, EachMade, each_made, widen_made}
-use Rattle.identification.proofs.Body.{in_order, is_list, IsSite, IsHeld, order_in, next_parents}
+use Rattle.identification.proofs.Bodies.{IsCited, single, Lists, no_more, more, EachMade}
+use Rattle.identification.proofs.Body.{in_order, is_list, IsSite, order_in}
 use Rattle.identification.proofs.Bools.{and_l, and_r, both_true, clash, decide, not_e, or_e, or_l}
-use Rattle.identification.proofs.Chain.{home_steps, home_made, new_set}
-use Rattle.identification.proofs.Factor.{IsStage, Factored, factored, AllCited, at_zero, sum_at, ancestors_in}
-use Rattle.identification.proofs.Groups.{Among, count, home, IsPart, AreParts, part_among, home_among, are_parts, once, in_list, homed, by_district, group_lists, is_grouped, groups_are, count-homed, once_at, EachOnce, each_listed, in_order-in, among_in_order, common-in, common-out}
+use Rattle.identification.proofs.Chain.{home_made}
+use Rattle.identification.proofs.Factor.{AllCited}
+use Rattle.identification.proofs.Groups.{Among, count, home, IsPart, AreParts, part_among, home_among, homed, by_district, in_order-in, common-in, common-out}
 use Rattle.identification.proofs.Orders.{IsOrderFrom}
-use Rattle.identification.proofs.Places.{made_if, part, cut_three, with_set, made_with}
-use Rattle.identification.proofs.Separations.{IsPlace, actions_apart}
-use Rattle.identification.proofs.Sets.{apart, empty-has, has-minus, inside, one-is}
-use Rattle.identification.specs.Procedure.AreFactored.{none, next}
+use Rattle.identification.proofs.Places.{with_set}
+use Rattle.identification.proofs.Separations.{IsPlace}
+use Rattle.identification.proofs.Sets.{apart, empty-has, has-minus, one-is}
 use Rattle.identification.specs.Procedure.{Source, common}
 use Rattle.mixed_graph.proofs.Masks.{has-and, has-or, has-zero, same_from_has}
 use Rattle.mixed_graph.specs.Bits.{has}
@@ -46,18 +45,23 @@ gathered_is b a t w (v ∷ l) same e within = pass (is_apart (one v) a && (eqb b
   where
     iv : (has t v && not (has a v)) ≡ true
     iv = rw (has-minus t a v) at (and_l (has (minus t a) v) (is_list_of l (minus (minus t a) (one v))) e)
+
     pass : (c : Bool) (o : Option ℕ) → c ≡ true → o ≡ Some t → cond c o None ≡ Some t
     pass c o q h = rw q h
+
     zero_join : w ≡ join 0 a
     zero_join = same ∙ same_from_has a (join 0 a) (λ u. sym (has-or 0 a u ∙ rw (has-zero u) refl))
+
     test : (is_apart (one v) a && (eqb b b && eqb w (join 0 a))) ≡ true
     test = both_true (is_apart (one v) a) (eqb b b && eqb w (join 0 a)) (apart (one v) a (λ u i j. clash (has a v) (rw (one-is v u i) at j) (not_e (has a v) (and_r (has t v) (not (has a v)) iv))))
         (both_true (eqb b b) (eqb w (join 0 a)) (eq-eqb b b refl) (eq-eqb w (join 0 a) zero_join))
+
     left : minus (minus t a) (one v) ≡ minus t (join a (one v))
     left = same_from_has (minus (minus t a) (one v)) (minus t (join a (one v))) (λ u. (has-minus (minus t a) (one v) u ∙ ap (λ z. z && not (has (one v) u)) (has-minus t a u)) ∙ (bools (has t u) (has a u) (has (one v) u) ∙ sym (has-minus t (join a (one v)) u ∙ ap (λ z. has t u && not z) (has-or a (one v) u))))
       where
         bools : (x y z : Bool) → ((x && not y) && not z) ≡ (x && not (y || z))
         bools x y z = grind arith
+
     within2 : (u : ℕ) → has (join a (one v)) u ≡ true → has t u ≡ true
     within2 u i = go (or_e (has a u) (has (one v) u) (rw (has-or a (one v) u) at i))
       where
@@ -76,12 +80,16 @@ module _ (g : MixedGraph) (ls : List ℕ) where
         where
           bools : (x y : Bool) → (x && not y) ≡ false → y ≡ false → x ≡ false
           bools x y h1 h2 = grind (arith, h1, h2)
-  unchain_made t b (v ∷ w ∷ l) e u i = (prob t b 0,
-      subst (λ z. Makes g ls (Plan.Make Move.Unchain) (product (chained b 0 (v ∷ w ∷ l))) z) refl
-        (made_option (unchained (product (chained b 0 (v ∷ w ∷ l)))) (prob t b 0) (ap (term_with b 0) (gathered_is b (one v) t (join 0 (one v)) (w ∷ l) zero_join (and_r (has t v) (is_list_of (w ∷ l) (minus t (one v))) e) (λ x j. rw (one-is v x j) (and_l (has t v) (is_list_of (w ∷ l) (minus t (one v))) e))))), refl)
+  unchain_made t b (v ∷ w ∷ l) e u i = (
+    prob t b 0,
+    subst (λ z. Makes g ls (Plan.Make Move.Unchain) (product (chained b 0 (v ∷ w ∷ l))) z) refl
+        (made_option (unchained (product (chained b 0 (v ∷ w ∷ l)))) (prob t b 0) (ap (term_with b 0) (gathered_is b (one v) t (join 0 (one v)) (w ∷ l) zero_join (and_r (has t v) (is_list_of (w ∷ l) (minus t (one v))) e) (λ x j. rw (one-is v x j) (and_l (has t v) (is_list_of (w ∷ l) (minus t (one v))) e))))),
+    refl,
+  )
     where
       zero_join : join 0 (one v) ≡ one v
       zero_join = same_from_has (join 0 (one v)) (one v) (λ x. has-or 0 (one v) x ∙ rw (has-zero x) refl)
+
       made_option : (o : Option Tree) (x : Tree) → o ≡ Some x → IsMade g (if_made o Shape) x
       made_option o x q = rw q refl
 
@@ -121,14 +129,17 @@ module _ (g : MixedGraph) (is_graph : IsMixedGraph g) (o : List ℕ) (order : Is
       → MakesAll g ls (home_list d (home ts v) p) (prob (one v) (minus (all g.vertices) d) w) (prob (one v) (minus (all g.vertices) (home ts v)) (common (home ts v) q))
   homed_one ls ts p q v w parts c ew eq hp nv pv = subst (λ z. MakesAll g ls (home_list d t p) (prob (one v) (minus (all g.vertices) d) z) (prob (one v) (minus (all g.vertices) t) (common t q))) (sym ew)
       (subst (λ z. MakesAll g ls (home_list d t p) (prob (one v) (minus (all g.vertices) d) (common d p)) (prob (one v) (minus (all g.vertices) t) z)) alike
-        (home_made g is_graph d t p v low place ls))
+      (home_made g is_graph d t p v low place ls))
     where
       t : ℕ
       t = home ts v
+
       k : IsPart g d (home ts v)
       k = part_among g d (home ts v) ts parts (home_among v ts c).0
+
       place : IsPlace g (has p) (has d) (has d) (has (home ts v)) v
       place = record { a_in = λ u e. e; a_closed = λ p u b i e. i; t_in = k.t_in; t_closed = k.t_closed; v_in = (home_among v ts c).1; prior_closed = λ p u b i j e. hp p u b e; prior_v = λ p b i. pv p b; not_self = λ e. clash (has p v) e nv }
+
       alike : common (home ts v) p ≡ common (home ts v) q
       alike = same_from_has (common (home ts v) p) (common (home ts v) q) (λ u. has-and (home ts v) p u ∙ (bools (has (home ts v) u) (has d u) (has p u) (k.t_in u) ∙ sym (has-and (home ts v) q u ∙ ap (λ z. has (home ts v) u && z) (ap (λ z. has z u) eq ∙ has-and d p u))))
         where
@@ -147,10 +158,13 @@ module _ (g : MixedGraph) (is_graph : IsMixedGraph g) (o : List ℕ) (order : Is
           pick : (has p u ≡ true) ⊎ (has (one v) u ≡ true) → has p w ≡ true
           pick (inl i) = hp w u b i
           pick (inr i) = ord.2 w (rw (one-is v u i) at b)
+
       go : (b : Bool) → has d v ≡ b → ((w q : ℕ) → w ≡ common d (join p (one v)) → q ≡ common d (join p (one v)) → EachMade g ls (home_lists d ts (join p (one v)) o2) (chained (minus (all g.vertices) d) w (in_order d o2)) (homed g.vertices ts q (in_order d o2)))
           → EachMade g ls (cond b (more (home_list d (home ts v) p) (home_lists d ts (join p (one v)) o2)) (home_lists d ts (join p (one v)) o2)) (chained (minus (all g.vertices) d) w (cond b (v ∷ in_order d o2) (in_order d o2))) (homed g.vertices ts q (cond b (v ∷ in_order d o2) (in_order d o2)))
-      go true e f = (homed_one ls ts p q v w parts (c v e (inl refl)) ew eq hp ord.1 ord.2,
-          f (join w (one v)) (join q (one v)) (ap (λ z. join z (one v)) ew ∙ common-in d p v e) (ap (λ z. join z (one v)) eq ∙ common-in d p v e))
+      go true e f = (
+        homed_one ls ts p q v w parts (c v e (inl refl)) ew eq hp ord.1 ord.2,
+        f (join w (one v)) (join q (one v)) (ap (λ z. join z (one v)) ew ∙ common-in d p v e) (ap (λ z. join z (one v)) eq ∙ common-in d p v e),
+      )
       go false e f = f w q (ew ∙ sym (common-out d p v e)) (eq ∙ sym (common-out d p v e))
 
 -- ---- the factors of all districts

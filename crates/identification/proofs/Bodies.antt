@@ -1,17 +1,14 @@
 -- The steps of a factor's body are accepted, and make it.
-use Rattle.std.proofs.Common.{ℕ, zero, suc, ◌+◌, ◌-◌, ◌*◌, ◌^◌, ◌≡◌, ◌<◌, ◌≤◌, Bool, true, false, cond, eqb, ltb, not, refl, sym, ap, ap₂, subst, ◌∙◌, ◌||◌, ◌&&◌, ◌⊎◌, inl, inr, List, [], ◌∷◌, length, get_or, arith, rules, eqb-true, eq-eqb, lt-ltb}
-use Rattle.std.specs.Prelude.{Option, Some, None, MatchOption}
-use Rattle.districts.specs.Linked.IsLinked.{at, by}
+use Rattle.std.proofs.Common.{ℕ, suc, ◌≡◌, ◌<◌, Bool, true, false, cond, eqb, ltb, not, refl, sym, ap, subst, ◌∙◌, ◌||◌, ◌&&◌, ◌⊎◌, inl, inr, List, length, get_or, arith, eqb-true, eq-eqb, lt-ltb}
+use Rattle.std.specs.Prelude.{Some, MatchOption}
 use Rattle.do_derivation.specs.Plans.{Move, Plan, Plans, no_plans, plan}
 use Rattle.do_derivation.specs.Shapes.{count_factors, factor_at, joined, with_factor}
 use Rattle.do_derivation.specs.Steps.{Makes, MakesAll}
 use Rattle.do_derivation.specs.Table.{Row, if_so, is_new}
 use Rattle.do_derivation.specs.declared.faults.StepFault.TheVariants.{NoLemma, Sets, Shape}
 use Rattle.identification.proofs.Bools.{and_l, and_r, both_true, clash, not_e, not_i, or_e}
-use Rattle.identification.proofs.Places.{with_set, made_with, made_if, part, place_steps, place_made}
-use Rattle.identification.proofs.Separations.{IsPlace}
+use Rattle.identification.proofs.Places.{made_if}
 use Rattle.identification.proofs.Sets.{all-is, apart, below, empty-has, has-minus, one-is}
-use Rattle.identification.specs.Procedure.AreFactors.{none, skip, take}
 use Rattle.identification.specs.Procedure.{Source, conditional, marginal}
 use Rattle.mixed_graph.proofs.Masks.{has-or, has-zero, same_from_has}
 use Rattle.mixed_graph.specs.Bits.{has}
@@ -51,18 +48,18 @@ module _ (g : MixedGraph) (ls : List ℕ) where
   cite_made k a c = made_if g (ltb k (length ls)) (if_so (eqb a (get_or ls k 0) && (eqb (minus (all g.vertices) a) (minus (all g.vertices) (get_or ls k 0)) && is_empty 0)) (Row.Make (named k)) Shape) (NoLemma k) (named k)
       (lt-ltb k (length ls) c.0)
       (made_if g (eqb a (get_or ls k 0) && (eqb (minus (all g.vertices) a) (minus (all g.vertices) (get_or ls k 0)) && is_empty 0)) (Row.Make (named k)) Shape (named k)
-        (both_true (eqb a (get_or ls k 0)) (eqb (minus (all g.vertices) a) (minus (all g.vertices) (get_or ls k 0)) && is_empty 0) (eq-eqb a (get_or ls k 0) (sym c.1))
-          (both_true (eqb (minus (all g.vertices) a) (minus (all g.vertices) (get_or ls k 0))) (is_empty 0) (eq-eqb (minus (all g.vertices) a) (minus (all g.vertices) (get_or ls k 0)) (ap (minus (all g.vertices)) (sym c.1))) refl))
-        refl)
+      (both_true (eqb a (get_or ls k 0)) (eqb (minus (all g.vertices) a) (minus (all g.vertices) (get_or ls k 0)) && is_empty 0) (eq-eqb a (get_or ls k 0) (sym c.1))
+      (both_true (eqb (minus (all g.vertices) a) (minus (all g.vertices) (get_or ls k 0))) (is_empty 0) (eq-eqb (minus (all g.vertices) a) (minus (all g.vertices) (get_or ls k 0)) (ap (minus (all g.vertices)) (sym c.1))) refl))
+      refl)
 
   -- the rest s of a set a is put in, under a sum
   pub widen_made : (s a b : ℕ) → is_empty s ≡ false → ((v : ℕ) → has s v ≡ true → v < g.vertices) → ((v : ℕ) → has s v ≡ true → has a v ≡ true → ⊥) → ((v : ℕ) → has s v ≡ true → has b v ≡ true → ⊥)
       → Makes g ls (Plan.Make (Move.Widen s)) (prob a b 0) (sum s (prob (join a s) b 0))
   widen_made s a b ne low off_a off_b = made_if g (is_new g.vertices s a b 0) (Row.Make (sum s (prob (join a s) b 0))) Sets (sum s (prob (join a s) b 0))
       (both_true (not (is_empty s)) (is_below g.vertices s && (is_apart s a && (is_apart s b && is_apart s 0))) (not_i (is_empty s) ne)
-        (both_true (is_below g.vertices s) (is_apart s a && (is_apart s b && is_apart s 0)) (below g.vertices s low)
-          (both_true (is_apart s a) (is_apart s b && is_apart s 0) (apart s a off_a)
-            (both_true (is_apart s b) (is_apart s 0) (apart s b off_b) (apart s 0 (λ v e z. clash (has 0 v) z (has-zero v)))))))
+      (both_true (is_below g.vertices s) (is_apart s a && (is_apart s b && is_apart s 0)) (below g.vertices s low)
+      (both_true (is_apart s a) (is_apart s b && is_apart s 0) (apart s a off_a)
+      (both_true (is_apart s b) (is_apart s 0) (apart s b off_b) (apart s 0 (λ v e z. clash (has 0 v) z (has-zero v)))))))
       refl
 
   module _ (k a : ℕ) (c : IsCited ls (Source.Defined k) a) (low : (v : ℕ) → has a v ≡ true → v < g.vertices) where
@@ -71,11 +68,13 @@ module _ (g : MixedGraph) (ls : List ℕ) where
       where
         left_a : (v : ℕ) → has (minus a u) v ≡ true → has a v ≡ true
         left_a v e = and_l (has a v) (not (has u v)) (rw (has-minus a u v) at e)
+
         back : join u (minus a u) ≡ a
         back = same_from_has (join u (minus a u)) a (λ v. has-or u (minus a u) v ∙ (ap (λ b. has u v || b) (has-minus a u v) ∙ bools (has u v) (has a v) (within v)))
           where
             bools : (p q : Bool) → (p ≡ true → q ≡ true) → (p || (q && not p)) ≡ q
             bools p q h = grind (arith, h)
+
         go : (b : Bool) → is_empty (minus a u) ≡ b → MakesAll g ls (cond b (single (Plan.Make (Move.Cite k))) (plan (Plan.Make (Move.Widen (minus a u))) (single (Plan.At 0 (Plan.Then (single (Plan.Make (Move.Cite k))))))))
             (prob u (minus (all g.vertices) a) 0) (cond b (named k) (sum (minus a u) (named k)))
         go true e = (named k, subst (λ z. Makes g ls (Plan.Make (Move.Cite k)) (prob z (minus (all g.vertices) a) 0) (named k)) (sym same) (cite_made k a c), refl)
@@ -85,11 +84,13 @@ module _ (g : MixedGraph) (ls : List ℕ) where
               where
                 bools : (p q : Bool) → (p ≡ true → q ≡ true) → (q && not p) ≡ false → p ≡ q
                 bools p q h1 h2 = grind (arith, h1, h2)
-        go false e = (sum (minus a u) (prob (join u (minus a u)) (minus (all g.vertices) a) 0),
-            widen_made (minus a u) u (minus (all g.vertices) a) e (λ v i. low v (left_a v i))
+        go false e = (
+          sum (minus a u) (prob (join u (minus a u)) (minus (all g.vertices) a) 0),
+          widen_made (minus a u) u (minus (all g.vertices) a) e (λ v i. low v (left_a v i))
               (λ v i j. clash (has u v) j (not_e (has u v) (and_r (has a v) (not (has u v)) (rw (has-minus a u v) at i))))
               (λ v i j. clash (has a v) (left_a v i) (not_e (has a v) (and_r (has (all g.vertices) v) (not (has a v)) (rw (has-minus (all g.vertices) a v) at j)))),
-            (sum (minus a u) (named k), (named k, (named k, subst (λ z. Makes g ls (Plan.Make (Move.Cite k)) (prob z (minus (all g.vertices) a) 0) (named k)) (sym back) (cite_made k a c), refl), refl), refl))
+          (sum (minus a u) (named k), (named k, (named k, subst (λ z. Makes g ls (Plan.Make (Move.Cite k)) (prob z (minus (all g.vertices) a) 0) (named k)) (sym back) (cite_made k a c), refl), refl), refl),
+        )
 
   -- from P(v | do(the rest of the universe), m) on
   pub source_made : (from : Source) (a v m : ℕ) → IsLow g.vertices from → IsCited ls from a → ((u : ℕ) → has a u ≡ true → u < g.vertices) → has a v ≡ true → ((u : ℕ) → has m u ≡ true → has a u ≡ true)
@@ -102,26 +103,33 @@ module _ (g : MixedGraph) (ls : List ℕ) where
     where
       within_one : (u : ℕ) → has (one v) u ≡ true → has a u ≡ true
       within_one u e = rw (one-is v u e) iv
+
       within_both : (u : ℕ) → has (join m (one v)) u ≡ true → has a u ≡ true
       within_both u e = pick (or_e (has m u) (has (one v) u) (rw (has-or m (one v) u) at e))
         where
           pick : (has m u ≡ true) ⊎ (has (one v) u ≡ true) → has a u ≡ true
           pick (inl i) = im u i
           pick (inr i) = within_one u i
+
       turn : join (one v) m ≡ join m (one v)
       turn = same_from_has (join (one v) m) (join m (one v)) (λ u. has-or (one v) m u ∙ (bools (has (one v) u) (has m u) ∙ sym (has-or m (one v) u)))
         where
           bools : (p q : Bool) → (p || q) ≡ (q || p)
           bools p q = grind arith
+
       go : (b : Bool) → is_empty m ≡ b → MakesAll g ls (cond b (marginal_steps k a (one v)) (plan (Plan.Make Move.Split) (plan (Plan.At 0 (Plan.Then (marginal_steps k a (join m (one v))))) (single (Plan.At 1 (Plan.Then (marginal_steps k a m)))))))
           (prob (one v) (minus (all g.vertices) a) m) (cond b (marginal k a (one v)) (quotient (marginal k a (join m (one v))) (marginal k a m)))
       go true e = subst (λ z. MakesAll g ls (marginal_steps k a (one v)) (prob (one v) (minus (all g.vertices) a) z) (marginal k a (one v))) (sym (eqb-true m 0 e)) (marginal_made k a c low (one v) within_one)
-      go false e = (quotient (prob (join (one v) m) (minus (all g.vertices) a) 0) (prob m (minus (all g.vertices) a) 0),
-          made_if g (not (is_empty m)) (Row.Make (quotient (prob (join (one v) m) (minus (all g.vertices) a) 0) (prob m (minus (all g.vertices) a) 0))) Sets
+      go false e = (
+        quotient (prob (join (one v) m) (minus (all g.vertices) a) 0) (prob m (minus (all g.vertices) a) 0),
+        made_if g (not (is_empty m)) (Row.Make (quotient (prob (join (one v) m) (minus (all g.vertices) a) 0) (prob m (minus (all g.vertices) a) 0))) Sets
             (quotient (prob (join (one v) m) (minus (all g.vertices) a) 0) (prob m (minus (all g.vertices) a) 0)) (not_i (is_empty m) e) refl,
-          (quotient (marginal k a (join m (one v))) (prob m (minus (all g.vertices) a) 0),
-            (marginal k a (join m (one v)), subst (λ z. MakesAll g ls (marginal_steps k a (join m (one v))) (prob z (minus (all g.vertices) a) 0) (marginal k a (join m (one v)))) (sym turn) (marginal_made k a c low (join m (one v)) within_both), refl),
-            (quotient (marginal k a (join m (one v))) (marginal k a m), (marginal k a m, marginal_made k a c low m im, refl), refl)))
+        (
+          quotient (marginal k a (join m (one v))) (prob m (minus (all g.vertices) a) 0),
+          (marginal k a (join m (one v)), subst (λ z. MakesAll g ls (marginal_steps k a (join m (one v))) (prob z (minus (all g.vertices) a) 0) (marginal k a (join m (one v)))) (sym turn) (marginal_made k a c low (join m (one v)) within_both), refl),
+          (quotient (marginal k a (join m (one v))) (marginal k a m), (marginal k a m, marginal_made k a c low m im, refl), refl),
+        ),
+      )
 
 -- ---- one list of steps per factor of a product
 pub data Lists : Type 0 where
@@ -172,9 +180,12 @@ module _ (g : MixedGraph) (ls : List ℕ) where
   pub at_made : (l : Plans) (pre : Trees) (e f : Tree) (es : Trees) (rest : Plans) (r : Tree) → MakesAll g ls l e f → MakesAll g ls rest (product (joined pre (tree f es))) r
       → MakesAll g ls (at_place (count_factors pre) l rest) (product (joined pre (tree e es))) r
   at_made no_plans pre e f es rest r h k = rw h at k
-  at_made (plan s l) pre e f es rest r h k = (product (joined pre (tree f es)),
-      subst (λ o. MatchOption o ⊥ (λ c. (c' : Tree) × MakesAll g ls (plan s l) c c' × (product (joined pre (tree f es)) ≡ product (with_factor (joined pre (tree e es)) (count_factors pre) c'))))
-        (sym (factor-joined pre e es)) (f, h, ap product (sym (with-joined pre e f es))), k)
+  at_made (plan s l) pre e f es rest r h k = (
+    product (joined pre (tree f es)),
+    subst (λ o. MatchOption o ⊥ (λ c. (c' : Tree) × MakesAll g ls (plan s l) c c' × (product (joined pre (tree f es)) ≡ product (with_factor (joined pre (tree e es)) (count_factors pre) c'))))
+        (sym (factor-joined pre e es)) (f, h, ap product (sym (with-joined pre e f es))),
+    k,
+  )
 
   each_from : (pre : Trees) (xs : Lists) (es fs : Trees) (rest : Plans) (r : Tree) → EachMade g ls xs es fs → MakesAll g ls rest (product (joined pre fs)) r
       → MakesAll g ls (at_each (count_factors pre) xs rest) (product (joined pre es)) r

@@ -1,13 +1,13 @@
 -- The whole body of a factor.
-use Rattle.std.proofs.Common.{ℕ, zero, suc, ◌+◌, ◌-◌, ◌*◌, ◌^◌, ◌≡◌, ◌<◌, ◌≤◌, Bool, true, false, cond, eqb, ltb, leb, not, refl, sym, ap, ap₂, subst, ◌∙◌, ◌||◌, ◌&&◌, ◌⊎◌, inl, inr, List, [], ◌∷◌, length, get_or, arith, rules, eqb-true, eq-eqb, lt-ltb, le-leb}
+use Rattle.std.proofs.Common.{ℕ, suc, ◌≡◌, ◌<◌, Bool, true, false, cond, eqb, leb, not, refl, sym, ap, subst, ◌∙◌, ◌||◌, ◌&&◌, ◌⊎◌, inl, inr, List, [], ◌∷◌, length, arith, eqb-true, eq-eqb, le-leb}
 use Rattle.districts.specs.Linked.IsLinked.{at, by}
 use Rattle.districts.specs.Linked.{IsLinked}
 use Rattle.do_derivation.specs.Plans.{Move, Plan, Plans, no_plans, plan}
-use Rattle.do_derivation.specs.Shapes.{as_one, chained, child, is_list_of}
+use Rattle.do_derivation.specs.Shapes.{as_one, chained, is_list_of}
 use Rattle.do_derivation.specs.Steps.{MakesAll}
 use Rattle.do_derivation.specs.Table.{Row}
 use Rattle.do_derivation.specs.declared.faults.StepFault.TheVariants.{BadOrder}
-use Rattle.identification.proofs.Bodies.{IsCited, IsLow, universe, single, source_steps, source_made, Lists, no_more, more, at_each, EachMade, each_made}
+use Rattle.identification.proofs.Bodies.{IsCited, IsLow, universe, source_steps, source_made, Lists, no_more, more, at_each, EachMade, each_made}
 use Rattle.identification.proofs.Bools.{and_l, and_r, both_true, clash, decide, not_i, or_e, or_l, or_r}
 use Rattle.identification.proofs.Nesting.{steps_more, each_at, place_deep, are_lists_to}
 use Rattle.identification.proofs.Orders.{IsOrderFrom}
@@ -92,14 +92,15 @@ module _ (g : MixedGraph) (is_graph : IsMixedGraph g) (room : ℕ) (from : Sourc
 
   place : (p v : ℕ) → HoldsParents (induced g (has room)) p → has t v ≡ true → has p v ≡ false → ((u : ℕ) → (induced g (has room)).arrow u v ≡ true → has p u ≡ true) → IsPlace g (has p) (has (universe g.vertices from a)) (has a) (has t) v
   place p v h iv nv q = record {
-      a_in = λ u e. universe_in g.vertices from a u held.outside site.low e;
-      a_closed = λ w u b i e. site.closed w u b i e;
-      t_in = site.t_in;
-      t_closed = site.t_closed;
-      v_in = iv;
-      prior_closed = λ w u b i j e. h w u (both_in w u b i j) e;
-      prior_v = λ w b i. q w (both_in w v b i (universe_in g.vertices from a v held.outside site.low (site.t_in v iv)));
-      not_self = λ e. clash (has p v) e nv }
+    a_in = λ u e. universe_in g.vertices from a u held.outside site.low e;
+    a_closed = λ w u b i e. site.closed w u b i e;
+    t_in = site.t_in;
+    t_closed = site.t_closed;
+    v_in = iv;
+    prior_closed = λ w u b i j e. h w u (both_in w u b i j) e;
+    prior_v = λ w b i. q w (both_in w v b i (universe_in g.vertices from a v held.outside site.low (site.t_in v iv)));
+    not_self = λ e. clash (has p v) e nv;
+  }
 
   -- one place, from the chain's term to the factor
   pub place_whole : (p v m w : ℕ) → HoldsParents (induced g (has room)) p → has t v ≡ true → has p v ≡ false → ((u : ℕ) → (induced g (has room)).arrow u v ≡ true → has p u ≡ true) → IsPillow g (join (common a p) (one v)) v m → w ≡ common t p
@@ -111,37 +112,48 @@ module _ (g : MixedGraph) (is_graph : IsMixedGraph g) (room : ℕ) (from : Sourc
     where
       D : ℕ → Type 0
       D = IsLinked g (has (join (common a p) (one v))) (λ u. eqb u v)
+
       in_s : (u : ℕ) → has (join (common a p) (one v)) u ≡ true → (has a u ≡ true) × ((has p u ≡ true) ⊎ (u ≡ v))
       in_s u e = go (or_e (has (common a p) u) (has (one v) u) (rw (has-or (common a p) (one v) u) at e))
         where
           go : (has (common a p) u ≡ true) ⊎ (has (one v) u ≡ true) → (has a u ≡ true) × ((has p u ≡ true) ⊎ (u ≡ v))
           go (inl i) = let j : (has a u && has p u) ≡ true = rw (has-and a p u) at i in (and_l (has a u) (has p u) j, inl (and_r (has a u) (has p u) j))
           go (inr i) = (rw (one-is v u i) (site.t_in v iv), inr (one-is v u i))
+
       to_s : (u : ℕ) → has a u ≡ true → (has p u ≡ true) ⊎ (u ≡ v) → has (join (common a p) (one v)) u ≡ true
       to_s u ea (inl ep) = has-or (common a p) (one v) u ∙ or_l (has (common a p) u) (has (one v) u) (has-and a p u ∙ both_true (has a u) (has p u) ea ep)
       to_s u ea (inr e) = has-or (common a p) (one v) u ∙ or_r (has (common a p) u) (has (one v) u) (rw e (one-self v))
+
       d_in : (u : ℕ) → IsLinked g (has (join (common a p) (one v))) (λ w. eqb w v) u → (has a u ≡ true) × ((has p u ≡ true) ⊎ (u ≡ v))
       d_in u (at e) = (rw (eqb-true u v e) (site.t_in v iv), inr (eqb-true u v e))
       d_in u (by s b r) = in_s u s
+
       d_closed : (u w : ℕ) → g.both u w ≡ true → D u → has a w ≡ true → (has p w ≡ true) ⊎ (w ≡ v) → D w
       d_closed u w b d aw e = by (to_s w aw e) (is_graph.symmetric u w b) d
+
       prior_or : (u : ℕ) → (u ≡ v → ⊥) → (has a u ≡ true) × ((has p u ≡ true) ⊎ (u ≡ v)) → (has a u ≡ true) × (has p u ≡ true)
       prior_or u ne (ea, inl e) = (ea, e)
       prior_or u ne (ea, inr e) = absurd (ne e)
+
       m_in : (u : ℕ) → has m u ≡ true → (has a u ≡ true) × (has p u ≡ true)
       m_in u e = go (pl.sound u e)
         where
           go : (u ≡ v → ⊥) × (IsLinked g (has (join (common a p) (one v))) (λ w. eqb w v) u ⊎ ((has (join (common a p) (one v)) u ≡ true) × IsParent g (IsLinked g (has (join (common a p) (one v))) (λ w. eqb w v)) u)) → (has a u ≡ true) × (has p u ≡ true)
           go (ne, inl d) = prior_or u ne (d_in u d)
           go (ne, inr d) = prior_or u ne (in_s u d.0)
+
       not_v : (u : ℕ) → has p u ≡ true → u ≡ v → ⊥
       not_v u e s = clash (has p v) (rw s at e) nv
+
       m_d : (u : ℕ) → D u → has p u ≡ true → has m u ≡ true
       m_d u d e = pl.complete u (not_v u e, inl d)
+
       m_parent : (w u : ℕ) → g.arrow w u ≡ true → D u → has a w ≡ true → has p w ≡ true → has m w ≡ true
       m_parent w u b d aw pw = pl.complete w (not_v w pw, inr (to_s w aw (inl pw), record { child = u; arrow = b; within = d }))
+
       w_is : (u : ℕ) → has t u ≡ true → has p u ≡ true → has w u ≡ true
       w_is u et ep = rw same (has-and t p u ∙ both_true (has t u) (has p u) et ep)
+
       w_in : (u : ℕ) → has w u ≡ true → (has t u ≡ true) × (has p u ≡ true)
       w_in u e = let j : (has t u && has p u) ≡ true = rw (has-and t p u) at (rw same at e) in (and_l (has t u) (has p u) j, and_r (has t u) (has p u) j)
 
@@ -163,7 +175,7 @@ module _ (g : MixedGraph) (is_graph : IsMixedGraph g) (room : ℕ) (from : Sourc
               bools x y = grind arith
   each_place ls c p w (v ∷ o) (tree e fs) (take {m = m} q pl r) h order same =
       subst (λ z. EachMade g ls (more (place_list p (universe g.vertices from a) a t m (source_steps from a v m)) (lists g from a t (join p (one v)) o fs r)) (chained (minus (all g.vertices) t) w z) (tree (conditional from a v m) fs)) (sym (in_order-take t v o q))
-        (place_whole p v m w h q order.1 order.2 pl same ls c, each_place ls c (join p (one v)) (join w (one v)) o fs r (next_parents (induced g (has room)) p v h order.2) order.3 (same_from_has (join w (one v)) (common t (join p (one v))) alike))
+      (place_whole p v m w h q order.1 order.2 pl same ls c, each_place ls c (join p (one v)) (join w (one v)) o fs r (next_parents (induced g (has room)) p v h order.2) order.3 (same_from_has (join w (one v)) (common t (join p (one v))) alike))
     where
       alike : (u : ℕ) → has (join w (one v)) u ≡ has (common t (join p (one v))) u
       alike u = (has-or w (one v) u ∙ ap (λ b. b || has (one v) u) (ap (λ z. has z u) same ∙ has-and t p u)) ∙ (go (decide (has (one v) u)) ∙ sym (has-and t (join p (one v)) u ∙ ap (λ b. has t u && b) (has-or p (one v) u)))
@@ -240,10 +252,12 @@ module _ (g : MixedGraph) (is_graph : IsMixedGraph g) (room : ℕ) (from : Sourc
   body_from ls b (v ∷ []) (more l (more l2 xs)) no_trees e h = absurd h
   body_from ls b (v ∷ []) (more l (more l2 xs)) (tree f fs) e h = absurd h.1
   body_from ls b (v ∷ []) no_more fs e h = absurd h
-  body_from ls b (v ∷ w ∷ o) xs fs e h = (product (chained b 0 (v ∷ w ∷ o)),
-      made_if g (leb 2 (length (v ∷ w ∷ o)) && is_list_of (v ∷ w ∷ o) t) (Row.Make (product (chained b 0 (v ∷ w ∷ o)))) BadOrder (product (chained b 0 (v ∷ w ∷ o)))
+  body_from ls b (v ∷ w ∷ o) xs fs e h = (
+    product (chained b 0 (v ∷ w ∷ o)),
+    made_if g (leb 2 (length (v ∷ w ∷ o)) && is_list_of (v ∷ w ∷ o) t) (Row.Make (product (chained b 0 (v ∷ w ∷ o)))) BadOrder (product (chained b 0 (v ∷ w ∷ o)))
         (both_true (leb 2 (length (v ∷ w ∷ o))) (is_list_of (v ∷ w ∷ o) t) (le-leb 2 (suc (suc (length o))) (omega arith)) e) refl,
-      each_made g ls xs (chained b 0 (v ∷ w ∷ o)) fs no_plans (as_one fs) h (whole_product ls xs (prob (one v) b 0) (prob (one w) b (join 0 (one v))) (chained b (join (join 0 (one v)) (one w)) o) fs h))
+    each_made g ls xs (chained b 0 (v ∷ w ∷ o)) fs no_plans (as_one fs) h (whole_product ls xs (prob (one v) b 0) (prob (one w) b (join 0 (one v))) (chained b (join (join 0 (one v)) (one w)) o) fs h),
+  )
 
   body_deep : (l : List ℕ) (xs : Lists) → are_lists_to 5 xs ≡ true → are_plans_within 7 (body_steps l xs) ≡ true
   body_deep [] xs h = refl
@@ -264,18 +278,21 @@ module _ (g : MixedGraph) (is_graph : IsMixedGraph g) (room : ℕ) (from : Sourc
     pub made : (ls : List ℕ) → IsCited ls from a → MakesAll g ls steps (prob t (minus (all g.vertices) t) 0) e
 
   pub body_made : (o : List ℕ) (e : Tree) → IsOrderFrom (induced g (has room)) 0 o → IsBody g o from a t e → Body e
-  body_made o e order r = record { steps = body_steps (in_order t o) (lists g from a t 0 o r.factors r.are);
-      deep = body_deep (in_order t o) (lists g from a t 0 o r.factors r.are) (lists_deep 0 o r.factors r.are);
-      made = λ ls c. subst (λ z. MakesAll g ls (body_steps (in_order t o) (lists g from a t 0 o r.factors r.are)) (prob t (minus (all g.vertices) t) 0) z) (sym r.is)
+  body_made o e order r = record {
+    steps = body_steps (in_order t o) (lists g from a t 0 o r.factors r.are);
+    deep = body_deep (in_order t o) (lists g from a t 0 o r.factors r.are) (lists_deep 0 o r.factors r.are);
+    made = λ ls c. subst (λ z. MakesAll g ls (body_steps (in_order t o) (lists g from a t 0 o r.factors r.are)) (prob t (minus (all g.vertices) t) 0) z) (sym r.is)
         (body_from ls (minus (all g.vertices) t) (in_order t o) (lists g from a t 0 o r.factors r.are) r.factors
-          (subst (λ z. is_list_of (in_order t o) z ≡ true) (same_from_has (minus t 0) t base) (is_list 0 o order))
-          (each_place ls c 0 0 o r.factors r.are (λ w u b i. absurd (clash (has 0 u) i (has-zero u))) order (same_from_has 0 (common t 0) zero_same))) }
+        (subst (λ z. is_list_of (in_order t o) z ≡ true) (same_from_has (minus t 0) t base) (is_list 0 o order))
+        (each_place ls c 0 0 o r.factors r.are (λ w u b i. absurd (clash (has 0 u) i (has-zero u))) order (same_from_has 0 (common t 0) zero_same)));
+  }
     where
       base : (u : ℕ) → has (minus t 0) u ≡ has t u
       base u = has-minus t 0 u ∙ rw (has-zero u) (bools (has t u))
         where
           bools : (x : Bool) → (x && not false) ≡ x
           bools x = grind arith
+
       zero_same : (u : ℕ) → has 0 u ≡ has (common t 0) u
       zero_same u = sym (has-and t 0 u ∙ rw (has-zero u) (bools (has t u)))
         where

@@ -1,6 +1,5 @@
 -- The chain of all vertices, each factor brought to its district.
-use Rattle.std.proofs.Common.{ℕ, zero, suc, ◌+◌, ◌-◌, ◌*◌, ◌^◌, ◌≡◌, ◌<◌, ◌≤◌, Bool, true, false, cond, eqb, ltb, leb, not, refl, sym, ap, ap₂, subst, ◌∙◌, ◌||◌, ◌&&◌, ◌⊎◌, inl, inr, List, [], ◌∷◌, ◌++◌, length, get_or, arith, rules, eqb-true, eq-eqb, length-append}
-use Rattle.districts.specs.Linked.IsLinked.{at, by}
+use Rattle.std.proofs.Common.{ℕ, ◌≡◌, ◌<◌, Bool, true, false, not, refl, sym, ap, ap₂, ◌∙◌, ◌||◌, ◌&&◌, List, arith}
 use Rattle.do_derivation.specs.Plans.{Move, Plan, Plans, no_plans}
 use Rattle.do_derivation.specs.Steps.{Makes, MakesAll}
 use Rattle.do_derivation.specs.Table.{Row, Rule, is_new, is_part}
@@ -15,15 +14,14 @@ use Rattle.mixed_graph.specs.Bits.{has}
 use Rattle.mixed_graph.specs.Graphs.{IsMixedGraph, MixedGraph}
 use Rattle.prob_expr.specs.Masks.{all, is_apart, is_below, is_empty, join, minus, one}
 use Rattle.prob_expr.specs.Tree.{prob}
-use Rattle.surgery.specs.Cuts.{cut_into, cut_out}
 
 -- not empty, below n, apart from the three
 pub new_set : (n z a b c : ℕ) → is_empty z ≡ false → ((v : ℕ) → has z v ≡ true → v < n) → ((v : ℕ) → has z v ≡ true → has a v ≡ true → ⊥) → ((v : ℕ) → has z v ≡ true → has b v ≡ true → ⊥)
     → ((v : ℕ) → has z v ≡ true → has c v ≡ true → ⊥) → is_new n z a b c ≡ true
 new_set n z a b c ne low off_a off_b off_c = both_true (not (is_empty z)) (is_below n z && (is_apart z a && (is_apart z b && is_apart z c))) (not_i (is_empty z) ne)
     (both_true (is_below n z) (is_apart z a && (is_apart z b && is_apart z c)) (below n z low)
-      (both_true (is_apart z a) (is_apart z b && is_apart z c) (apart z a off_a)
-        (both_true (is_apart z b) (is_apart z c) (apart z b off_b) (apart z c off_c))))
+    (both_true (is_apart z a) (is_apart z b && is_apart z c) (apart z a off_a)
+    (both_true (is_apart z b) (is_apart z c) (apart z b off_b) (apart z c off_c))))
 
 module _ (g : MixedGraph) (is_graph : IsMixedGraph g) (d t P v : ℕ) (low : (u : ℕ) → has d u ≡ true → u < g.vertices) (k : IsPlace g (has P) (has d) (has d) (has t) v) where
   -- of d outside the district, those before v and those after it
@@ -50,7 +48,7 @@ module _ (g : MixedGraph) (is_graph : IsMixedGraph g) (d t P v : ℕ) (low : (u 
 
   ob_in : (u : ℕ) → has others_before u ≡ true → (has d u ≡ true) × (has P u ≡ true)
   ob_in u e = let h : ((has d u && has P u) && not (has t u)) ≡ true = rw (has-ob u) at e in let q : (has d u && has P u) ≡ true = and_l (has d u && has P u) (not (has t u)) h in
-    (and_l (has d u) (has P u) q, and_r (has d u) (has P u) q)
+      (and_l (has d u) (has P u) q, and_r (has d u) (has P u) q)
 
   ob_out : (u : ℕ) → has others_before u ≡ true → has t u ≡ false
   ob_out u e = not_e (has t u) (and_r (has d u && has P u) (not (has t u)) (rw (has-ob u) at e))
@@ -74,9 +72,11 @@ module _ (g : MixedGraph) (is_graph : IsMixedGraph g) (d t P v : ℕ) (low : (u 
   step_do : (ls : List ℕ) → is_empty others_before ≡ false → Makes g ls (Plan.Make (Move.Rule2Do others_before)) (prob (one v) outer (common d P)) (prob (one v) (join outer others_before) (common t P))
   step_do ls ne = made_if g (is_part others_before (common d P)) (Row.Ask Rule.Two outer (one v) others_before (minus (common d P) others_before) (prob (one v) (join outer others_before) (minus (common d P) others_before))) Sets
       (prob (one v) (join outer others_before) (common t P))
-      (part others_before (common d P) ne (λ u e. has-and d P u ∙ both_true (has d u) (has P u) (ob_in u e).0 (ob_in u e).1))
-      (earlier_exchanged g (has P) (has d) (has d) (has t) v k (has outer) (has others_before) (has (common t P)) (has (one v)) (λ u. has outer u || has (minus (common d P) others_before) u)
-              outer_rest ob_all ob_in w_is w_in (λ u. ap (λ z. has outer u || has z u) kept) (one-is v), ap (prob (one v) (join outer others_before)) (sym kept))
+      (part others_before (common d P) ne (λ u e. has-and d P u ∙ both_true (has d u) (has P u) (ob_in u e).0 (ob_in u e).1)) (
+        earlier_exchanged g (has P) (has d) (has d) (has t) v k (has outer) (has others_before) (has (common t P)) (has (one v)) (λ u. has outer u || has (minus (common d P) others_before) u)
+            outer_rest ob_all ob_in w_is w_in (λ u. ap (λ z. has outer u || has z u) kept) (one-is v),
+        ap (prob (one v) (join outer others_before)) (sym kept),
+      )
 
   has-first : (u : ℕ) → has (join outer others_before) u ≡ ((has (all g.vertices) u && not (has d u)) || ((has d u && has P u) && not (has t u)))
   has-first u = has-or outer others_before u ∙ ap₂ (λ x y. x || y) (has-minus (all g.vertices) d u) (has-ob u)
@@ -86,6 +86,7 @@ module _ (g : MixedGraph) (is_graph : IsMixedGraph g) (d t P v : ℕ) (low : (u 
     where
       one_ : (d t p : Bool) → ((d && not t) && not ((d && p) && not t)) ≡ true → t ≡ false
       one_ d t p h = grind (arith, h)
+
       two_ : (V d t p : Bool) → ((d && not t) && not ((d && p) && not t)) ≡ true → ((V && not d) || ((d && p) && not t)) ≡ false
       two_ V d t p h = grind (arith, h)
 
@@ -112,13 +113,16 @@ module _ (g : MixedGraph) (is_graph : IsMixedGraph g) (d t P v : ℕ) (low : (u 
   step_in ls ne = made_if g (is_new g.vertices others_after (one v) (join outer others_before) (common t P))
       (Row.Ask Rule.Three (join outer others_before) (one v) others_after (common t P) (prob (one v) (join (join outer others_before) others_after) (common t P))) Sets (prob (one v) (minus (all g.vertices) t) (common t P))
       (new_set g.vertices others_after (one v) (join outer others_before) (common t P) ne (λ u e. low u (oa_d u e))
-        (λ u e i. clash (has t u) (rw (one-is v u i) k.v_in) (oa_out u e).0) (λ u e i. clash (has (join outer others_before) u) i (oa_out u e).1) (λ u e i. clash (has t u) (w_in u i).0 (oa_out u e).0))
-      (record {
+      (λ u e i. clash (has t u) (rw (one-is v u i) k.v_in) (oa_out u e).0) (λ u e i. clash (has (join outer others_before) u) i (oa_out u e).1) (λ u e i. clash (has t u) (w_in u i).0 (oa_out u e).0)) (
+        record {
           part = has others_after;
           far = cut_three g (join outer others_before) others_after (common t P) (later_not_above g (has P) (has d) (has d) (has t) v k (has (join outer others_before)) (has others_after) (has (common t P)) (has others_after) (has (one v))
               (λ u. has (join outer others_before) u || has (common t P) u) first_rest first_before w_is w_in oa_out);
           separated = later_removed g (has P) (has d) (has d) (has t) v k (has (join outer others_before)) (has others_after) (has (common t P)) (has others_after) (has (one v)) (λ u. has (join outer others_before) u || has (common t P) u)
-              first_rest first_before w_is w_in oa_out (λ u e. e) (one-is v) (λ u e. e) (λ u e. e) }, ap (λ z. prob (one v) z (common t P)) (sym all_set))
+              first_rest first_before w_is w_in oa_out (λ u e. e) (one-is v) (λ u e. e) (λ u e. e);
+        },
+        ap (λ z. prob (one v) z (common t P)) (sym all_set),
+      )
 
   abbrev pub home_steps : Plans
   home_steps = with_set others_before (Plan.Make (Move.Rule2Do others_before)) (with_set others_after (Plan.Make (Move.Rule3In others_after)) no_plans)
@@ -129,6 +133,7 @@ module _ (g : MixedGraph) (is_graph : IsMixedGraph g) (d t P v : ℕ) (low : (u 
     where
       one_ : (b : Bool) → (b || false) ≡ b
       one_ b = grind arith
+
       two_ : (b : Bool) → (b && not false) ≡ b
       two_ b = grind arith
 

@@ -1,13 +1,12 @@
 -- The derivation that the procedure makes, step by step: the chain's factors are grouped only where some district has two members.
-use Rattle.std.proofs.Common.{ℕ, zero, suc, ◌+◌, ◌≡◌, ◌<◌, ◌≤◌, Bool, true, false, cond, eqb, leb, not, refl, sym, ap, ap₂, subst, ◌∙◌, ◌||◌, ◌&&◌, ◌⊎◌, inl, inr, List, [], ◌∷◌, length, arith, rules}
+use Rattle.std.proofs.Common.{ℕ, ◌≡◌, ◌<◌, Bool, true, false, cond, refl, sym, subst, ◌∙◌, ◌||◌, inl, inr, List, [], ◌∷◌, arith}
 use Rattle.districts.specs.Linked.{AreDistricts}
 use Rattle.do_derivation.specs.Accepts.{sets_of}
 use Rattle.do_derivation.specs.Plans.{Move, Plan, Plans, no_plans, plan}
-use Rattle.do_derivation.specs.Shapes.{grouped}
 use Rattle.do_derivation.specs.Steps.{MakesAll}
 use Rattle.identification.proofs.Accepted.{Whole, whole, unwrap_steps, unwrap_deep, homes_deep, rest_steps, rest_made, rest_deep, main_steps, main_made, main_deep, d_low, y_in}
 use Rattle.identification.proofs.Assembly.{starts, home_lists, all_cited}
-use Rattle.identification.proofs.Bodies.{Lists, no_more, more, at_each, EachMade}
+use Rattle.identification.proofs.Bodies.{Lists, at_each, EachMade}
 use Rattle.identification.proofs.Body.{in_order}
 use Rattle.identification.proofs.Free.{tree_free}
 use Rattle.identification.proofs.Groups.{Among, in_list, among_in_order, AreParts, are_parts}
@@ -21,7 +20,7 @@ use Rattle.mixed_graph.proofs.Masks.{has-zero}
 use Rattle.mixed_graph.specs.Bits.{has}
 use Rattle.mixed_graph.specs.Graphs.{IsMixedGraph, MixedGraph}
 use Rattle.prob_expr.specs.Masks.{all, minus}
-use Rattle.prob_expr.specs.Tree.{PlainFormula, Trees, prob, tree}
+use Rattle.prob_expr.specs.Tree.{PlainFormula, Trees, prob}
 
 abbrev pub two_or_more : List ℕ → Bool
 two_or_more [] = false
@@ -80,20 +79,25 @@ module _ (g : MixedGraph) (is_graph : IsMixedGraph g) (o : List ℕ) (order : Is
 
 module _ (g : MixedGraph) (is_graph : IsMixedGraph g) (o : List ℕ) (order : IsOrderFrom g 0 o) (x y : ℕ) (tgt : IsTarget g x y) (f : PlainFormula) (made : IsComposed g o x y f) where
   pub procedure : HasDerivation g x y f
-  procedure = record { derivation = record { lemmas = w.lemmas; main = Plan.Then (main_steps g is_graph o order x y tgt made.d made.is_d rest) };
-      lemmas_deep = w.lemmas_deep;
-      main_deep = main_deep g is_graph o order x y tgt made.d made.is_d rest (procedure_deep g is_graph o order made.d low tgt.some (y_in g is_graph o order x y tgt made.d made.is_d tgt.some tgt.some_in) made.districts w.lists made.factors w.deep);
-      accepted = record {
-        sets = w.sets;
-        define = w.define [] refl;
-        main = subst (λ z. MakesAll g (sets_of w.lemmas) (main_steps g is_graph o order x y tgt made.d made.is_d rest) (prob y x 0) z) (sym made.main)
-            (main_made g is_graph o order x y tgt made.d made.is_d (sets_of w.lemmas) rest (product_of made.factors)
-              (procedure_made g is_graph o order made.d low tgt.some (y_in g is_graph o order x y tgt made.d made.is_d tgt.some tgt.some_in) (sets_of w.lemmas) made.districts w.lists made.factors made.are_districts (w.made (sets_of w.lemmas) (all_cited [] w.lemmas 0 refl))));
-        listed = tree_free g o x y f made } }
+  procedure = record {
+    derivation = record { lemmas = w.lemmas; main = Plan.Then (main_steps g is_graph o order x y tgt made.d made.is_d rest) };
+    lemmas_deep = w.lemmas_deep;
+    main_deep = main_deep g is_graph o order x y tgt made.d made.is_d rest (procedure_deep g is_graph o order made.d low tgt.some (y_in g is_graph o order x y tgt made.d made.is_d tgt.some tgt.some_in) made.districts w.lists made.factors w.deep);
+    accepted = record {
+      sets = w.sets;
+      define = w.define [] refl;
+      main = subst (λ z. MakesAll g (sets_of w.lemmas) (main_steps g is_graph o order x y tgt made.d made.is_d rest) (prob y x 0) z) (sym made.main)
+          (main_made g is_graph o order x y tgt made.d made.is_d (sets_of w.lemmas) rest (product_of made.factors)
+          (procedure_made g is_graph o order made.d low tgt.some (y_in g is_graph o order x y tgt made.d made.is_d tgt.some tgt.some_in) (sets_of w.lemmas) made.districts w.lists made.factors made.are_districts (w.made (sets_of w.lemmas) (all_cited [] w.lemmas 0 refl))));
+      listed = tree_free g o x y f made;
+    };
+  }
     where
       low : (u : ℕ) → has made.d u ≡ true → u < g.vertices
       low = d_low g is_graph o order x y tgt made.d made.is_d
+
       w : Whole g is_graph o order 0 made.districts f.defs made.factors
       w = whole g is_graph o order made.d 0 made.districts f.defs made.factors low (are_parts g is_graph made.d 0 o made.districts made.are_districts) made.are_factored
+
       rest : Plans
       rest = procedure_steps g is_graph o order made.d low tgt.some (y_in g is_graph o order x y tgt made.d made.is_d tgt.some tgt.some_in) made.districts w.lists made.factors

@@ -1,5 +1,5 @@
 -- The laws of this crate, with the case of an empty x.
-use Rattle.std.proofs.Common.{ℕ, ◌≡◌, refl, sym, subst, inl, inr, List, []}
+use Rattle.std.proofs.Common.{ℕ, refl, sym, subst, inl, inr, List, []}
 use Rattle.do_derivation.specs.Plans.{Plan, no_plans}
 use Rattle.identification.proofs.Derivation.{procedure}
 use Rattle.identification.proofs.Orders.{IsOrderFrom, order_of}

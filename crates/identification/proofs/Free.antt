@@ -1,10 +1,9 @@
 -- The formula of identification has no intervention.
-use Rattle.std.proofs.Common.{ℕ, zero, suc, ◌+◌, ◌≡◌, Bool, true, false, cond, not, refl, sym, ap, subst, ◌∙◌, ◌||◌, ◌&&◌, ◌⊎◌, inl, inr, List, [], ◌∷◌, ◌++◌, length, arith, rules}
+use Rattle.std.proofs.Common.{ℕ, suc, ◌+◌, ◌≡◌, Bool, true, false, cond, refl, ◌||◌, List, [], ◌∷◌, ◌++◌, length}
 use Rattle.do_derivation.specs.Shapes.{as_one, flat, joined}
 use Rattle.identification.proofs.Bools.{and_l, and_r, both_true}
 use Rattle.identification.specs.Procedure.IsFactor.{whole, summed, further}
 use Rattle.identification.specs.Procedure.{AreFactored, AreFactors, IsBody, IsComposed, IsFactor, Source, conditional, marginal, product_of, sum_if}
-use Rattle.mixed_graph.specs.Bits.{has}
 use Rattle.mixed_graph.specs.Graphs.{MixedGraph}
 use Rattle.prob_expr.specs.Masks.{is_empty, join, minus, one}
 use Rattle.prob_expr.specs.Terms.{all_under, are_under, is_do_free, is_listed, is_under}

@@ -1,12 +1,9 @@
 -- Separations by an invariant of open walks.
-use Rattle.std.proofs.Common.{ℕ, zero, suc, ◌≡◌, ◌<◌, ◌≤◌, Bool, true, false, cond, eqb, not, refl, sym, ap, ◌∙◌, ◌||◌, ◌&&◌, ◌⊎◌, inl, inr, List, [], ◌∷◌, arith, rules}
-use Rattle.identification.proofs.Sets.{inside}
+use Rattle.std.proofs.Common.{ℕ, ◌≡◌, Bool, true, false, refl, ◌⊎◌, inl, inr, List, [], ◌∷◌, arith}
 use Rattle.m_separation.specs.Walks.{ArePassedFrom, IsJoined, IsPassed, IsSeparated, IsWalk, Step, heads_first, heads_second, last}
 use Rattle.m_separation.specs.declared.marks.Mark.TheVariants.{Both, Into, Out}
 use Rattle.m_separation.specs.declared.marks.Mark.{Mark}
-use Rattle.mixed_graph.specs.Bits.{has}
 use Rattle.mixed_graph.specs.Graphs.{IsAncestor, IsDirectedPath, MixedGraph}
-use Rattle.prob_expr.specs.Masks.{all}
 
 -- a fact of each place of an open walk: R h u where the walk came to u with an arrowhead at u (h) or without
 pub record IsKept (g : MixedGraph) (X Y W : ℕ → Bool) (R : Bool → ℕ → Type 0) : Type 0 where

@@ -1,6 +1,6 @@
 -- The grouping of the chain's factors by districts.
-use Rattle.std.proofs.Common.{ℕ, zero, suc, ◌+◌, ◌-◌, ◌*◌, ◌^◌, ◌≡◌, ◌<◌, ◌≤◌, Bool, true, false, cond, eqb, ltb, leb, not, refl, sym, ap, ap₂, subst, ◌∙◌, ◌||◌, ◌&&◌, ◌⊎◌, inl, inr, List, [], ◌∷◌, ◌++◌, length, get_or, arith, rules, eqb-true, eq-eqb, length-append, lt-ltb, le-leb, ne_eqb}
-use Rattle.std.specs.Prelude.{Option, Some, None}
+use Rattle.std.proofs.Common.{ℕ, zero, suc, ◌+◌, ◌≡◌, ◌<◌, ◌≤◌, Bool, true, false, cond, eqb, ltb, leb, refl, sym, ap, ap₂, subst, ◌∙◌, ◌||◌, ◌&&◌, ◌⊎◌, inl, inr, List, [], ◌∷◌, ◌++◌, length, get_or, arith, eqb-true, eq-eqb, lt-ltb, le-leb, ne_eqb}
+use Rattle.std.specs.Prelude.{Some}
 use Rattle.districts.specs.Linked.AreDistricts.{none, skip, take}
 use Rattle.districts.specs.Linked.IsLinked.{at, by}
 use Rattle.districts.specs.Linked.{AreDistricts, IsDistrict, IsLinked}
@@ -80,10 +80,11 @@ module _ (g : MixedGraph) (is_graph : IsMixedGraph g) (d : ℕ) where
 
   part_of : (v t : ℕ) → has d v ≡ true → IsDistrict g d (one v) t → IsPart g d t
   part_of v t i k = record {
-      t_in = λ u e. linked_in v u i (k.sound u e);
-      t_closed = λ u w b e j. k.complete w (by j (is_graph.symmetric u w b) (k.sound u e));
-      some = v;
-      some_in = k.complete v (at (one-self v)) }
+    t_in = λ u e. linked_in v u i (k.sound u e);
+    t_closed = λ u w b e j. k.complete w (by j (is_graph.symmetric u w b) (k.sound u e));
+    some = v;
+    some_in = k.complete v (at (one-self v));
+  }
 
   abbrev Shut : ℕ → Type 0
   Shut seen = (u w : ℕ) → g.both u w ≡ true → has seen u ≡ true → has d w ≡ true → has seen w ≡ true
@@ -125,6 +126,7 @@ module _ (g : MixedGraph) (is_graph : IsMixedGraph g) (d : ℕ) where
     where
       p : IsPart g d t
       p = part_of v t j k
+
       go : (has t u ≡ true) ⊎ (has t u ≡ false) → (has (join seen t) u ≡ false → Among u o → count ts u ≡ 1) → cond (has t u) 1 0 + count ts u ≡ 1
       go (inl e) f = rw (e, none_twice (join seen t) o ts r (shut_more seen t shut p) u (has-or seen t u ∙ or_r (has seen u) (has t u) e)) refl
       go (inr e) f = rw e (add-zero_left (count ts u) ∙ f (has-or seen t u ∙ rw (s, e) refl) (other m))
@@ -188,6 +190,7 @@ places-times zero t k (v ∷ l) h = go (has t v)
   where
     rest : times_in (0 + k) (places t (suc k) l) ≡ 0
     rest = places-before (0 + k) t (suc k) l (omega arith)
+
     go : (b : Bool) → times_in (0 + k) (cond b (k ∷ places t (suc k) l) (places t (suc k) l)) ≡ cond b 1 0
     go true = let e : eqb (0 + k) k ≡ true = eq-eqb (0 + k) k (omega arith) in rw (e, rest) refl
     go false = rest
@@ -249,8 +252,8 @@ pub is_grouped : (g : MixedGraph) (d : ℕ) (ts l : List ℕ) → AreParts g d t
 is_grouped g d ts l p h c two = both_true (leb 2 (length (group_lists ts l))) (none_empty (group_lists ts l) && (each_below (length l) (all_of (group_lists ts l)) && all_below (length l) (λ i. eqb (times_in i (all_of (group_lists ts l))) 1)))
     (le-leb 2 (length (group_lists ts l)) (rw (length-groups ts l) two))
     (both_true (none_empty (group_lists ts l)) (each_below (length l) (all_of (group_lists ts l)) && all_below (length l) (λ i. eqb (times_in i (all_of (group_lists ts l))) 1)) (groups-some g d ts l p h)
-      (both_true (each_below (length l) (all_of (group_lists ts l))) (all_below (length l) (λ i. eqb (times_in i (all_of (group_lists ts l))) 1)) (groups-below ts l)
-        (all_true (length l) (λ i. eqb (times_in i (all_of (group_lists ts l))) 1) (λ i q. eq-eqb (times_in i (all_of (group_lists ts l))) 1 (groups-times i ts l q ∙ c i q)))))
+    (both_true (each_below (length l) (all_of (group_lists ts l))) (all_below (length l) (λ i. eqb (times_in i (all_of (group_lists ts l))) 1)) (groups-below ts l)
+    (all_true (length l) (λ i. eqb (times_in i (all_of (group_lists ts l))) 1) (λ i q. eq-eqb (times_in i (all_of (group_lists ts l))) 1 (groups-times i ts l q ∙ c i q)))))
 
 -- ---- what the groups are
 fact : (pre : Trees) (e : Tree) (fs : Trees) → factor_at (joined pre (tree e fs)) (count_factors pre) ≡ Some e
@@ -304,11 +307,12 @@ picked-from : (n t : ℕ) (ts l : List ℕ) (pre : Trees) (q : ℕ) → Among t 
 picked-from n t ts [] pre q m c = refl
 picked-from n t ts (v ∷ l) pre q m c = go (has t v) refl
     (subst (λ f. picked f (places t (suc (count_factors pre)) l) ≡ chained (minus (all n) t) (common t (join q (one v))) (in_order t l)) (joined-snoc pre x (homed n ts (join q (one v)) l))
-      (subst (λ i. picked (joined (snoc pre x) (homed n ts (join q (one v)) l)) (places t i l) ≡ chained (minus (all n) t) (common t (join q (one v))) (in_order t l)) (count-snoc pre x)
-        (picked-from n t ts l (snoc pre x) (join q (one v)) m c.1)))
+    (subst (λ i. picked (joined (snoc pre x) (homed n ts (join q (one v)) l)) (places t i l) ≡ chained (minus (all n) t) (common t (join q (one v))) (in_order t l)) (count-snoc pre x)
+    (picked-from n t ts l (snoc pre x) (join q (one v)) m c.1)))
   where
     x : Tree
     x = prob (one v) (minus (all n) (home ts v)) (common (home ts v) q)
+
     go : (b : Bool) → has t v ≡ b → picked (joined pre (homed n ts q (v ∷ l))) (places t (suc (count_factors pre)) l) ≡ chained (minus (all n) t) (common t (join q (one v))) (in_order t l)
         → picked (joined pre (homed n ts q (v ∷ l))) (cond b (count_factors pre ∷ places t (suc (count_factors pre)) l) (places t (suc (count_factors pre)) l)) ≡ chained (minus (all n) t) (common t q) (cond b (v ∷ in_order t l) (in_order t l))
     go true e r = ap₂ tree (ap or_nothing (fact pre x (homed n ts (join q (one v)) l)) ∙ ap (λ z. prob (one v) (minus (all n) z) (common z q)) (home_is t v ts c.0 m e))

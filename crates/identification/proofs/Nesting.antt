@@ -1,5 +1,5 @@
 -- The steps of identification nest little, whatever the graph.
-use Rattle.std.proofs.Common.{ℕ, zero, suc, ◌+◌, ◌≡◌, ◌<◌, ◌≤◌, Bool, true, false, cond, refl, sym, ap, ◌∙◌, ◌&&◌, List, [], ◌∷◌, ◌++◌, arith, rules}
+use Rattle.std.proofs.Common.{ℕ, zero, suc, ◌≡◌, Bool, true, false, cond, refl, ◌&&◌, List, [], ◌∷◌, ◌++◌, arith}
 use Rattle.do_derivation.specs.Plans.{Move, PlainLemma, Plan, Plans, no_plans, plan}
 use Rattle.identification.proofs.Bodies.{single, marginal_steps, source_steps, Lists, no_more, more, at_place, at_each}
 use Rattle.identification.proofs.Bools.{and_l, and_r, both_true}
@@ -58,7 +58,7 @@ pub place_deep : (p u a t m : ℕ) (from : Source) (v : ℕ) → are_plans_withi
 place_deep p u a t m from v = with_deep 5 (minus (minus u t) (minus (common a p) t)) (Plan.Make (Move.Rule3Out (minus (minus u t) (minus (common a p) t))))
     (with_set (minus (common a p) t) (Plan.Make (Move.Rule2See (minus (common a p) t))) (with_set (minus (common a p) m) (Plan.Make (Move.Rule1Out (minus (common a p) m))) (source_steps from a v m))) refl
     (with_deep 5 (minus (common a p) t) (Plan.Make (Move.Rule2See (minus (common a p) t))) (with_set (minus (common a p) m) (Plan.Make (Move.Rule1Out (minus (common a p) m))) (source_steps from a v m)) refl
-      (with_deep 5 (minus (common a p) m) (Plan.Make (Move.Rule1Out (minus (common a p) m))) (source_steps from a v m) refl (source_deep from a v m)))
+    (with_deep 5 (minus (common a p) m) (Plan.Make (Move.Rule1Out (minus (common a p) m))) (source_steps from a v m) refl (source_deep from a v m)))
 
 abbrev pub are_lists_to : ℕ → Lists → Bool
 are_lists_to d no_more = true

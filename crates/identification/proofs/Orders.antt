@@ -1,8 +1,8 @@
 -- Orders of the vertices in which each comes after its parents. The procedure's laws hold for any; the graph's own order is one, and the only one of its kind.
-use Rattle.std.proofs.Common.{ℕ, zero, suc, ◌+◌, ◌≡◌, ◌<◌, ◌≤◌, Bool, true, false, ◌||◌, ◌==◌, List, [], ◌∷◌, length, slice_index, ◌⊎◌, inl, inr, refl, sym, ap, ap₂, subst, ◌∙◌, arith, IsTrue, nat_lt}
+use Rattle.std.proofs.Common.{ℕ, zero, suc, ◌≡◌, ◌<◌, Bool, true, false, ◌||◌, ◌==◌, List, [], ◌∷◌, length, slice_index, ◌⊎◌, inl, inr, refl, sym, ap, ap₂, subst, ◌∙◌, arith, IsTrue, nat_lt}
 use mathlib.Core.Path.{fun_ext}
 use Rattle.identification.proofs.Bools.{clash, decide, or_e}
-use Rattle.std.proofs.lemmas.Bool.{cases_order, eqb-true, eq-eqb}
+use Rattle.std.proofs.lemmas.Bool.{cases_order, eqb-true}
 use Rattle.mixed_graph.proofs.Masks.{has-or, has-zero, has-ones, has-pow, same_from_has}
 use Rattle.mixed_graph.specs.Bits.{has}
 use Rattle.mixed_graph.specs.Graphs.{MixedGraph}
@@ -50,9 +50,10 @@ module _ (g : MixedGraph) where
 
   rest_next : (p v : ℕ) (rest : List ℕ) → IsRest g p (v ∷ rest) → IsRest g (join p (one v)) rest
   rest_next p v rest r = record {
-      next = λ j l. subst (λ (t : ℕ → Bool). IsNext g t (slice_index rest j)) (fun_ext (taken_join p v rest j)) (r.next (suc j) (omega (arith, l)));
-      all_in = λ u l. subst (λ b. IsTrue b) (taken_join p v rest (length rest) u) (r.all_in u l);
-      low = λ u h. go u (or_e (has p u) (has (one v) u) (sym (has-or p (one v) u) ∙ h)) }
+    next = λ j l. subst (λ (t : ℕ → Bool). IsNext g t (slice_index rest j)) (fun_ext (taken_join p v rest j)) (r.next (suc j) (omega (arith, l)));
+    all_in = λ u l. subst (λ b. IsTrue b) (taken_join p v rest (length rest) u) (r.all_in u l);
+    low = λ u h. go u (or_e (has p u) (has (one v) u) (sym (has-or p (one v) u) ∙ h));
+  }
     where
       go : (u : ℕ) → (has p u ≡ true) ⊎ (has (one v) u ≡ true) → u < g.vertices
       go u (inl e) = r.low u e
@@ -63,6 +64,7 @@ module _ (g : MixedGraph) where
     where
       bare : (b : Bool) → (b || false) ≡ true → b ≡ true
       bare b h = grind (arith, h)
+
       same : (v : ℕ) → (nat_lt v g.vertices ≡ true) ⊎ (nat_lt v g.vertices ≡ false) → has p v ≡ has (all g.vertices) v
       same v (inl e) = bare (has p v) (r.all_in v (grind (arith, e))) ∙ sym (has-ones g.vertices v ∙ e)
       same v (inr e) = none (decide (has p v)) ∙ sym (has-ones g.vertices v ∙ e)
@@ -74,6 +76,7 @@ module _ (g : MixedGraph) where
     where
       n : IsNext g (λ u. has p u || false) v
       n = first_next p v rest r
+
       bare : (b : Bool) → (b || false) ≡ true → b ≡ true
       bare b h = grind (arith, h)
 
@@ -82,6 +85,7 @@ module _ (g : MixedGraph) where
     where
       no : (v w : ℕ) → IsNext g taken v → IsNext g taken w → v < w → ⊥
       no v w a b l = let q = b.lowest v l a.free in clash (taken q.0) (a.parents q.0 q.1) q.2
+
       go : (v ≡ w) ⊎ ((v < w) ⊎ (w < v)) → v ≡ w
       go (inl e) = e
       go (inr (inl l)) = absurd (no v w a b l)
@@ -100,9 +104,10 @@ module _ (g : MixedGraph) where
 
   rest_of : (o : List ℕ) → IsOrder g o (length o) → IsRest g 0 o
   rest_of o h = record {
-      next = λ j l. subst (λ (t : ℕ → Bool). IsNext g t (slice_index o j)) (fun_ext (λ u. sym (bare u (taken_by o j u)))) (h.next j l);
-      all_in = λ v l. bare v (taken_by o (length o) v) ∙ h.all v l;
-      low = λ v e. absurd (clash (has 0 v) e (has-zero v)) }
+    next = λ j l. subst (λ (t : ℕ → Bool). IsNext g t (slice_index o j)) (fun_ext (λ u. sym (bare u (taken_by o j u)))) (h.next j l);
+    all_in = λ v l. bare v (taken_by o (length o) v) ∙ h.all v l;
+    low = λ v e. absurd (clash (has 0 v) e (has-zero v));
+  }
     where
       bare : (u : ℕ) (b : Bool) → (has 0 u || b) ≡ b
       bare u b = rw (has-zero u) refl

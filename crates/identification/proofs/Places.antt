@@ -1,5 +1,5 @@
 -- The steps at one place of a factor's body are accepted.
-use Rattle.std.proofs.Common.{ℕ, zero, suc, ◌+◌, ◌-◌, ◌*◌, ◌^◌, ◌≡◌, ◌<◌, ◌≤◌, Bool, true, false, cond, eqb, ltb, not, refl, sym, ap, ◌∙◌, ◌||◌, ◌&&◌, ◌⊎◌, inl, inr, List, [], ◌∷◌, arith, rules, eqb-true, eq-eqb}
+use Rattle.std.proofs.Common.{ℕ, ◌≡◌, ◌<◌, Bool, true, false, cond, not, refl, sym, ap, ◌∙◌, ◌||◌, ◌&&◌, ◌⊎◌, List, arith}
 use mathlib.Core.Path.{ap₂}
 use Rattle.do_derivation.specs.Plans.{Move, Plan, Plans, plan}
 use Rattle.do_derivation.specs.Steps.{IsMade, Makes, MakesAll}
@@ -8,7 +8,7 @@ use Rattle.do_derivation.specs.declared.faults.StepFault.TheVariants.{Sets}
 use Rattle.do_derivation.specs.declared.faults.StepFault.{StepFault}
 use Rattle.do_rules.specs.Rules.{IsFarPart}
 use Rattle.identification.proofs.Bools.{and_l, and_r, both_true, not_e, not_i, clash}
-use Rattle.identification.proofs.Separations.{IsPlace, later_not_above, later_removed, earlier_exchanged, rest_apart, actions_apart}
+use Rattle.identification.proofs.Separations.{IsPlace, later_not_above, later_removed, earlier_exchanged, rest_apart}
 use Rattle.identification.proofs.Sets.{all-is, empty-has, has-minus, inside, one-is}
 use Rattle.identification.specs.Procedure.{common}
 use Rattle.mixed_graph.proofs.Masks.{has-and, has-or, same_from_has}
@@ -16,7 +16,7 @@ use Rattle.mixed_graph.specs.Bits.{has}
 use Rattle.mixed_graph.specs.Graphs.{IsAncestor, IsMixedGraph, MixedGraph}
 use Rattle.prob_expr.specs.Masks.{all, is_empty, is_inside, join, minus, one}
 use Rattle.prob_expr.specs.Tree.{Tree, prob}
-use Rattle.surgery.specs.Cuts.{cut_into, cut_out}
+use Rattle.surgery.specs.Cuts.{cut_into}
 
 -- a step is left out where its set is empty
 abbrev pub with_set : ℕ → Plan → Plans → Plans
@@ -53,7 +53,6 @@ module _ (g : MixedGraph) (is_graph : IsMixedGraph g) (P U A T v M : ℕ) (k : I
     (m_d : (u : ℕ) → D u → has P u ≡ true → has M u ≡ true)
     (m_parent : (p u : ℕ) → g.arrow p u ≡ true → D u → has A p ≡ true → has P p ≡ true → has M p ≡ true)
     (u_low : (u : ℕ) → has U u ≡ true → u < g.vertices) where
-
   abbrev pub before_outside : ℕ
   before_outside = minus (common A P) T
 
@@ -99,7 +98,6 @@ module _ (g : MixedGraph) (is_graph : IsMixedGraph g) (P U A T v M : ℕ) (k : I
   tail_v p u a = all-is g.vertices p (is_graph.tail_below p u a)
 
   module _ (W : ℕ) (w_is : (u : ℕ) → has T u ≡ true → has P u ≡ true → has W u ≡ true) (w_in : (u : ℕ) → has W u ≡ true → (has T u ≡ true) × (has P u ≡ true)) where
-
     one_rest : (p u : ℕ) → g.arrow p u ≡ true → has U p ≡ false → has set_one p ≡ true
     one_rest p u a o = rw (has-one_ p) (go (has (all g.vertices) p) (has U p) (has A p) (has T p) (has P p) (k.t_in p) (k.a_in p) (tail_v p u a) o)
       where
@@ -117,6 +115,7 @@ module _ (g : MixedGraph) (is_graph : IsMixedGraph g) (P U A T v M : ℕ) (k : I
       where
         go : (U T A P : Bool) → ((U && not T) && not ((A && P) && not T)) ≡ true → T ≡ false
         go U T A P h = grind (arith, h)
+
         go2 : (b : Bool) → (b && not true) ≡ false
         go2 b = grind arith
 
@@ -128,12 +127,15 @@ module _ (g : MixedGraph) (is_graph : IsMixedGraph g) (P U A T v M : ℕ) (k : I
 
     step_one : (ls : List ℕ) → is_empty later ≡ false → Makes g ls (Plan.Make (Move.Rule3Out later)) (prob (one v) rest_set W) (prob (one v) set_one W)
     step_one ls ne = made_if g (is_part later rest_set) (Row.Ask Rule.Three (minus rest_set later) (one v) later W (prob (one v) (minus rest_set later) W)) Sets (prob (one v) set_one W)
-        (part later rest_set ne later_in)
-        (record {
+        (part later rest_set ne later_in) (
+          record {
             part = has later;
             far = cut_three g set_one later W (later_not_above g (has P) (has U) (has A) (has T) v k (has set_one) (has later) (has W) (has later) (has (one v)) (λ u. has set_one u || has W u) one_rest one_before w_is w_in later_out);
             separated = later_removed g (has P) (has U) (has A) (has T) v k (has set_one) (has later) (has W) (has later) (has (one v)) (λ u. has set_one u || has W u) one_rest one_before w_is w_in later_out
-                (λ u e. e) (one-is v) (λ u e. e) (λ u e. e) }, refl)
+                (λ u e. e) (one-is v) (λ u e. e) (λ u e. e);
+          },
+          refl,
+        )
 
     two_rest : (p u : ℕ) → g.arrow p u ≡ true → has U p ≡ false → has set_two p ≡ true
     two_rest p u a o = rw two_is (has-minus (all g.vertices) U p ∙ rw (tail_v p u a, o) refl)
@@ -143,11 +145,11 @@ module _ (g : MixedGraph) (is_graph : IsMixedGraph g) (P U A T v M : ℕ) (k : I
 
     before_in : (u : ℕ) → has before_outside u ≡ true → (has A u ≡ true) × (has P u ≡ true)
     before_in u e = let h : ((has A u && has P u) && not (has T u)) ≡ true = rw (has-before u) at e in let q : (has A u && has P u) ≡ true = and_l (has A u && has P u) (not (has T u)) h in
-      (and_l (has A u) (has P u) q, and_r (has A u) (has P u) q)
+        (and_l (has A u) (has P u) q, and_r (has A u) (has P u) q)
 
     before_free : (u : ℕ) → has before_outside u ≡ true → has set_one u ≡ true
     before_free u e = let h : ((has A u && has P u) && not (has T u)) ≡ true = rw (has-before u) at e in
-      one_before u (before_in u e).0 (not_e (has T u) (and_r (has A u && has P u) (not (has T u)) h)) (before_in u e).1
+        one_before u (before_in u e).0 (not_e (has T u) (and_r (has A u && has P u) (not (has T u)) h)) (before_in u e).1
 
     step_two : (ls : List ℕ) → is_empty before_outside ≡ false → Makes g ls (Plan.Make (Move.Rule2See before_outside)) (prob (one v) set_one W) (prob (one v) set_two (join W before_outside))
     step_two ls ne = made_if g (is_part before_outside set_one) (Row.Ask Rule.Two (minus set_one before_outside) (one v) before_outside W (prob (one v) (minus set_one before_outside) (join W before_outside))) Sets (prob (one v) set_two (join W before_outside))
@@ -156,8 +158,8 @@ module _ (g : MixedGraph) (is_graph : IsMixedGraph g) (P U A T v M : ℕ) (k : I
 
     unneeded_in : (u : ℕ) → has unneeded u ≡ true → (has A u ≡ true) × (has P u ≡ true)
     unneeded_in u e = let h : (has (common A P) u && not (has M u)) ≡ true = rw (has-minus (common A P) M u) at e in
-      let q : (has A u && has P u) ≡ true = rw (has-and A P u) at (and_l (has (common A P) u) (not (has M u)) h) in
-      (and_l (has A u) (has P u) q, and_r (has A u) (has P u) q)
+        let q : (has A u && has P u) ≡ true = rw (has-and A P u) at (and_l (has (common A P) u) (not (has M u)) h) in
+        (and_l (has A u) (has P u) q, and_r (has A u) (has P u) q)
 
     given_is : (u : ℕ) → has (join W before_outside) u ≡ (has A u && has P u)
     given_is u = has-or W before_outside u ∙ (ap (λ b. has W u || b) (has-before u) ∙ go (has W u) (has A u) (has P u) (has T u) (w_is u) (λ e. (w_in u e).0) (λ e. (w_in u e).1) (k.t_in u))
@@ -174,9 +176,11 @@ module _ (g : MixedGraph) (is_graph : IsMixedGraph g) (P U A T v M : ℕ) (k : I
 
     step_three : (ls : List ℕ) → is_empty unneeded ≡ false → Makes g ls (Plan.Make (Move.Rule1Out unneeded)) (prob (one v) set_two (join W before_outside)) (prob (one v) set_two M)
     step_three ls ne = made_if g (is_part unneeded (join W before_outside)) (Row.Ask Rule.One set_two (one v) unneeded (minus (join W before_outside) unneeded) (prob (one v) set_two (minus (join W before_outside) unneeded))) Sets (prob (one v) set_two M)
-        (part unneeded (join W before_outside) ne (λ u e. given_is u ∙ both_true (has A u) (has P u) (unneeded_in u e).0 (unneeded_in u e).1))
-        (rest_apart g (has P) (has U) (has A) (has T) v k (has set_two) (has M) (has unneeded) (has (one v)) (λ u. has set_two u || has (minus (join W before_outside) unneeded) u) D
-                two_rest d_in d_v d_closed m_in m_d m_parent unneeded_in (λ u. ap (λ z. has set_two u || has z u) pillow_is) (one-is v), ap (λ z. prob (one v) set_two z) (sym pillow_is))
+        (part unneeded (join W before_outside) ne (λ u e. given_is u ∙ both_true (has A u) (has P u) (unneeded_in u e).0 (unneeded_in u e).1)) (
+          rest_apart g (has P) (has U) (has A) (has T) v k (has set_two) (has M) (has unneeded) (has (one v)) (λ u. has set_two u || has (minus (join W before_outside) unneeded) u) D
+              two_rest d_in d_v d_closed m_in m_d m_parent unneeded_in (λ u. ap (λ z. has set_two u || has z u) pillow_is) (one-is v),
+          ap (λ z. prob (one v) set_two z) (sym pillow_is),
+        )
 
     skip_one : is_empty later ≡ true → prob (one v) set_one W ≡ prob (one v) rest_set W
     skip_one e = ap (λ z. prob (one v) z W) (same_from_has set_one rest_set (λ u. has-minus rest_set later u ∙ rw (empty-has later u e) (go (has rest_set u))))
@@ -190,6 +194,7 @@ module _ (g : MixedGraph) (is_graph : IsMixedGraph g) (P U A T v M : ℕ) (k : I
       where
         go : (b : Bool) → (b && not false) ≡ b
         go b = grind arith
+
         go2 : (b : Bool) → (b || false) ≡ b
         go2 b = grind arith
 
@@ -203,6 +208,6 @@ module _ (g : MixedGraph) (is_graph : IsMixedGraph g) (P U A T v M : ℕ) (k : I
         → MakesAll g ls (place_steps rest) (prob (one v) (minus (all g.vertices) T) W) e
     place_made ls rest e h =
         made_with g ls later (Plan.Make (Move.Rule3Out later)) (with_set before_outside (Plan.Make (Move.Rule2See before_outside)) (with_set unneeded (Plan.Make (Move.Rule1Out unneeded)) rest)) (prob (one v) rest_set W) (prob (one v) set_one W) e skip_one (step_one ls)
-          (made_with g ls before_outside (Plan.Make (Move.Rule2See before_outside)) (with_set unneeded (Plan.Make (Move.Rule1Out unneeded)) rest) (prob (one v) set_one W) (prob (one v) set_two (join W before_outside)) e skip_two (step_two ls)
-            (made_with g ls unneeded (Plan.Make (Move.Rule1Out unneeded)) rest (prob (one v) set_two (join W before_outside)) (prob (one v) set_two M) e skip_three (step_three ls)
-              (rw two_is h)))
+        (made_with g ls before_outside (Plan.Make (Move.Rule2See before_outside)) (with_set unneeded (Plan.Make (Move.Rule1Out unneeded)) rest) (prob (one v) set_one W) (prob (one v) set_two (join W before_outside)) e skip_two (step_two ls)
+        (made_with g ls unneeded (Plan.Make (Move.Rule1Out unneeded)) rest (prob (one v) set_two (join W before_outside)) (prob (one v) set_two M) e skip_three (step_three ls)
+        (rw two_is h)))

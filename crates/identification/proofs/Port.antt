@@ -1,11 +1,10 @@
 -- For a program that appends steps: lists of steps in turn.
-use Rattle.std.proofs.Common.{ℕ, ◌≡◌, refl, sym, ap, subst, ◌∙◌, List}
+use Rattle.std.proofs.Common.{ℕ, refl, List}
 use Rattle.do_derivation.specs.Plans.{Plans, no_plans, plan}
 use Rattle.do_derivation.specs.Shapes.{count_factors, joined}
 use Rattle.do_derivation.specs.Steps.{MakesAll}
 use Rattle.identification.proofs.Bodies.{at_place, at_made}
 use Rattle.mixed_graph.specs.Graphs.{MixedGraph}
-use Rattle.prob_expr.specs.Masks.{one}
 use Rattle.prob_expr.specs.Tree.{Tree, Trees, product, tree}
 
 abbrev pub and_then : Plans → Plans → Plans

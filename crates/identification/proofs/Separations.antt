@@ -1,13 +1,11 @@
 -- The separations that the identification procedure needs.
-use Rattle.std.proofs.Common.{ℕ, zero, suc, ◌≡◌, ◌<◌, ◌≤◌, Bool, true, false, cond, eqb, not, refl, sym, ap, ◌∙◌, ◌||◌, ◌&&◌, ◌⊎◌, inl, inr, List, [], ◌∷◌, arith, rules, eqb-true, eq-eqb}
-use Rattle.identification.proofs.Bools.{and_l, and_r, both_true, or_l, or_r, or_e, not_e, not_i, clash, decide}
-use Rattle.identification.proofs.Front.{IsKept, separated_by, closed_above, IsFront, front}
-use Rattle.identification.proofs.Sets.{apart}
-use Rattle.m_separation.specs.Walks.{IsJoined, IsPassed, IsSeparated, Step, heads_first, heads_second}
+use Rattle.std.proofs.Common.{ℕ, ◌≡◌, Bool, true, false, eqb, not, refl, ◌||◌, ◌&&◌, ◌⊎◌, inl, inr, arith, eqb-true, eq-eqb}
+use Rattle.identification.proofs.Bools.{and_l, and_r, both_true, or_l, or_r, or_e, not_e, clash, decide}
+use Rattle.identification.proofs.Front.{separated_by, closed_above, front}
+use Rattle.m_separation.specs.Walks.{IsJoined, IsPassed, IsSeparated, heads_first, heads_second}
 use Rattle.m_separation.specs.declared.marks.Mark.TheVariants.{Both, Into, Out}
 use Rattle.m_separation.specs.declared.marks.Mark.{Mark}
 use Rattle.mixed_graph.specs.Graphs.{IsAncestor, MixedGraph}
-use Rattle.prob_expr.specs.Masks.{all}
 use Rattle.surgery.specs.Cuts.{cut_into, cut_out}
 
 -- A place v in a factor: in U, A holds its members' parents; T is a district of A (it is linked to no other member of A); v is in T.
@@ -60,7 +58,6 @@ module _ (g : MixedGraph) (Prior U A T : ℕ → Bool) (v : ℕ) (k : IsPlace g 
       (w_is : (u : ℕ) → T u ≡ true → Prior u ≡ true → W u ≡ true)
       (w_in : (u : ℕ) → W u ≡ true → (T u ≡ true) × (Prior u ≡ true))
       (o_out : (u : ℕ) → O u ≡ true → (T u ≡ false) × (X u ≡ false)) where
-
     D1 : ℕ → Type 0
     D1 u = (T u ≡ true) × Upto u
 
@@ -74,6 +71,7 @@ module _ (g : MixedGraph) (Prior U A T : ℕ → Bool) (v : ℕ) (k : IsPlace g 
         by_t : A p ≡ true → (T p ≡ true) ⊎ (T p ≡ false) → (X p ≡ true) ⊎ ((T p ≡ true) × (Prior p ≡ true))
         by_t i (inl t) = inr (t, earlier p u a (k.a_in p i) (k.a_in u (k.t_in u d.0)) d.1)
         by_t i (inr t) = inl (x_before p i t (earlier p u a (k.a_in p i) (k.a_in u (k.t_in u d.0)) d.1))
+
         by_u : (U p ≡ true) ⊎ (U p ≡ false) → (X p ≡ true) ⊎ ((T p ≡ true) × (Prior p ≡ true))
         by_u (inl i) = by_t (k.a_closed p u a i (k.t_in u d.0)) (decide (T p))
         by_u (inr o) = inl (x_rest p u a o)
@@ -104,41 +102,50 @@ module _ (g : MixedGraph) (Prior U A T : ℕ → Bool) (v : ℕ) (k : IsPlace g 
         → IsSeparated (cut_into (cut_into g X) Z) Y O E
     unfolding P1 D1 Upto
     later_removed z_all y_v e_in e_is = front h v P1 D1 Y O E (record {
-          closed = λ p u a q. closed1 p u (arrow p u a) q;
-          childless = λ u a q. childless u a q;
-          start = (k.v_in, inr refl);
-          linked = linked;
-          parents = λ p u a d. parents p u (parent1 p u (edge p u a) d);
-          others = λ u d e. at_v u d.1 (λ b. clash (E u) (e_is u (or_r (X u) (W u) (w_is u d.0 b))) e);
-          given = λ u e. given u (or_e (X u) (W u) (e_in u e));
-          off = λ e. clash (T v) k.v_in (o_out v e).0;
-          no_arrow = λ p u a n o. clash (Z u) (z_all u o) (not_e (Z u) (and_r (g.arrow p u && not (X u)) (not (Z u)) a));
-          no_both = λ p u b n o. clash (Z u) (z_all u o) (not_e (Z u) (and_r (not (Z p)) (not (Z u)) (and_r (g.both p u && (not (X p) && not (X u))) (not (Z p) && not (Z u)) b))) }) y_v
+      closed = λ p u a q. closed1 p u (arrow p u a) q;
+      childless = λ u a q. childless u a q;
+      start = (k.v_in, inr refl);
+      linked = linked;
+      parents = λ p u a d. parents p u (parent1 p u (edge p u a) d);
+      others = λ u d e. at_v u d.1 (λ b. clash (E u) (e_is u (or_r (X u) (W u) (w_is u d.0 b))) e);
+      given = λ u e. given u (or_e (X u) (W u) (e_in u e));
+      off = λ e. clash (T v) k.v_in (o_out v e).0;
+      no_arrow = λ p u a n o. clash (Z u) (z_all u o) (not_e (Z u) (and_r (g.arrow p u && not (X u)) (not (Z u)) a));
+      no_both = λ p u b n o. clash (Z u) (z_all u o) (not_e (Z u) (and_r (not (Z p)) (not (Z u)) (and_r (g.both p u && (not (X p) && not (X u))) (not (Z p) && not (Z u)) b)));
+    }) y_v
       where
         h : MixedGraph
         h = cut_into (cut_into g X) Z
+
         arrow : (p u : ℕ) → ((g.arrow p u && not (X u)) && not (Z u)) ≡ true → (g.arrow p u && not (X u)) ≡ true
         arrow p u a = and_l (g.arrow p u && not (X u)) (not (Z u)) a
+
         edge : (p u : ℕ) → ((g.arrow p u && not (X u)) && not (Z u)) ≡ true → g.arrow p u ≡ true
         edge p u a = and_l (g.arrow p u) (not (X u)) (arrow p u a)
+
         childless : (u : ℕ) → ((g.arrow v u && not (X u)) && not (Z u)) ≡ true → (X u ≡ true) ⊎ ((T u ≡ true) × Upto u) → ⊥
         childless u a (inl x) = clash (X u) x (not_e (X u) (and_r (g.arrow v u) (not (X u)) (arrow v u a)))
         childless u a (inr d) = no_child u (edge v u a) (k.t_in u d.0) d.1
+
         linked : (u w : ℕ) → h.both u w ≡ true → (T u ≡ true) × Upto u → ((T w ≡ true) × Upto w) ⊎ (P1 w → ⊥)
         linked u w b d = go (decide (T w)) (upto_or_not w)
           where
             not_x : X w ≡ true → ⊥
             not_x x = clash (X w) x (not_e (X w) (and_r (not (X u)) (not (X w)) (and_r (g.both u w) (not (X u) && not (X w)) (and_l (g.both u w && (not (X u) && not (X w))) (not (Z u) && not (Z w)) b))))
+
             out : ((T w ≡ true) × Upto w → ⊥) → (X w ≡ true) ⊎ ((T w ≡ true) × Upto w) → ⊥
             out n (inl x) = not_x x
             out n (inr q) = n q
+
             go : (T w ≡ true) ⊎ (T w ≡ false) → Upto w ⊎ (Upto w → ⊥) → ((T w ≡ true) × Upto w) ⊎ ((X w ≡ true) ⊎ ((T w ≡ true) × Upto w) → ⊥)
             go (inl t) (inl q) = inl (t, q)
             go (inl t) (inr n) = inr (out (λ q. n q.1))
             go (inr t) q = inr (out (λ r. clash (T w) r.0 t))
+
         parents : (p u : ℕ) → (X p ≡ true) ⊎ ((T p ≡ true) × (Prior p ≡ true)) → E p ≡ true
         parents p u (inl x) = e_is p (or_l (X p) (W p) x)
         parents p u (inr t) = e_is p (or_r (X p) (W p) (w_is p t.0 t.1))
+
         given : (u : ℕ) → (X u ≡ true) ⊎ (W u ≡ true) → P1 u
         given u (inl x) = inl x
         given u (inr e) = given1 u e
@@ -156,7 +163,6 @@ module _ (g : MixedGraph) (Prior U A T : ℕ → Bool) (v : ℕ) (k : IsPlace g 
       (e_parent : (p u : ℕ) → h.arrow p u ≡ true → D u → E p ≡ true)
       (o_in : (u : ℕ) → O u ≡ true → (A u ≡ true) × (Prior u ≡ true))
       (y_v : (u : ℕ) → Y u ≡ true → u ≡ v) where
-
     P2 : ℕ → Type 0
     P2 u = (X u ≡ true) ⊎ ((A u ≡ true) × Upto u)
 
@@ -176,6 +182,7 @@ module _ (g : MixedGraph) (Prior U A T : ℕ → Bool) (v : ℕ) (k : IsPlace g 
         out : ((A w ≡ true) × Upto w → ⊥) → (X w ≡ true) ⊎ ((A w ≡ true) × Upto w) → ⊥
         out n (inl x) = clash (X w) x (both_is u w b).1
         out n (inr q) = n q
+
         go : (A w ≡ true) ⊎ (A w ≡ false) → Upto w ⊎ (Upto w → ⊥) → (D w) ⊎ ((X w ≡ true) ⊎ ((A w ≡ true) × Upto w) → ⊥)
         go (inl t) (inl q) = inl (d_closed u w (both_is u w b).0 d t q)
         go (inl t) (inr n) = inr (out (λ q. n q.1))
@@ -198,16 +205,17 @@ module _ (g : MixedGraph) (Prior U A T : ℕ → Bool) (v : ℕ) (k : IsPlace g 
     pub earlier_apart : IsSeparated h Y O E
     unfolding Upto
     earlier_apart = front h v P2 D Y O E (record {
-        closed = closed2;
-        childless = childless2;
-        start = d_v;
-        linked = linked2;
-        parents = e_parent;
-        others = λ u d e. at_v u (d_in u d).1 (λ b. clash (E u) (e_d u d b) e);
-        given = λ u e. given2 u (e_in u e);
-        off = λ o. k.not_self (o_in v o).1;
-        no_arrow = λ p u a n o. n (in_p u o);
-        no_both = λ p u b n o. n (in_p u o) }) y_v
+      closed = closed2;
+      childless = childless2;
+      start = d_v;
+      linked = linked2;
+      parents = e_parent;
+      others = λ u d e. at_v u (d_in u d).1 (λ b. clash (E u) (e_d u d b) e);
+      given = λ u e. given2 u (e_in u e);
+      off = λ o. k.not_self (o_in v o).1;
+      no_arrow = λ p u a n o. n (in_p u o);
+      no_both = λ p u b n o. n (in_p u o);
+    }) y_v
 
   -- rule 2: observed or set, the members of A before v outside T
   module _ (X B W Y E : ℕ → Bool)
@@ -218,7 +226,6 @@ module _ (g : MixedGraph) (Prior U A T : ℕ → Bool) (v : ℕ) (k : IsPlace g 
       (w_in : (u : ℕ) → W u ≡ true → (T u ≡ true) × (Prior u ≡ true))
       (e_is : (u : ℕ) → E u ≡ (X u || W u))
       (y_v : (u : ℕ) → Y u ≡ true → u ≡ v) where
-
     pub earlier_exchanged : IsSeparated (cut_out (cut_into g X) B) Y B E
     unfolding Upto
     earlier_exchanged = earlier_apart (cut_out (cut_into g X) B) X Y B E (λ u. (T u && (Prior u || eqb u v)) ≡ true)
@@ -237,24 +244,31 @@ module _ (g : MixedGraph) (Prior U A T : ℕ → Bool) (v : ℕ) (k : IsPlace g 
         upto_test : (w : ℕ) → (Prior w ≡ true) ⊎ (w ≡ v) → (Prior w || eqb w v) ≡ true
         upto_test w (inl b) = or_l (Prior w) (eqb w v) b
         upto_test w (inr e) = or_r (Prior w) (eqb w v) (eq-eqb w v e)
+
         upto_of : (u : ℕ) → (Prior u ≡ true) ⊎ (eqb u v ≡ true) → (Prior u ≡ true) ⊎ (u ≡ v)
         upto_of u (inl b) = inl b
         upto_of u (inr e) = inr (eqb-true u v e)
+
         d_in : (u : ℕ) → (T u && (Prior u || eqb u v)) ≡ true → (A u ≡ true) × ((Prior u ≡ true) ⊎ (u ≡ v))
         d_in u d = (k.t_in u (and_l (T u) (Prior u || eqb u v) d), upto_of u (or_e (Prior u) (eqb u v) (and_r (T u) (Prior u || eqb u v) d)))
+
         given : (u : ℕ) → (X u ≡ true) ⊎ (W u ≡ true) → (X u ≡ true) ⊎ ((A u ≡ true) × (Prior u ≡ true))
         given u (inl x) = inl x
         given u (inr w) = inr (k.t_in u (w_in u w).0, (w_in u w).1)
+
         parent : (p u : ℕ) → ((g.arrow p u && not (X u)) && not (B p)) ≡ true → (T u && (Prior u || eqb u v)) ≡ true → E p ≡ true
         parent p u a d = by_u (decide (U p))
           where
             a0 : g.arrow p u ≡ true
             a0 = and_l (g.arrow p u) (not (X u)) (and_l (g.arrow p u && not (X u)) (not (B p)) a)
+
             before : U p ≡ true → Prior p ≡ true
             before i = earlier p u a0 i (k.a_in u (d_in u d).0) (d_in u d).1
+
             by_t : Prior p ≡ true → A p ≡ true → (T p ≡ true) ⊎ (T p ≡ false) → E p ≡ true
             by_t b i (inl t) = rw (e_is p) (or_r (X p) (W p) (w_is p t b))
             by_t b i (inr t) = absurd (clash (B p) (b_all p i t b) (not_e (B p) (and_r (g.arrow p u && not (X u)) (not (B p)) a)))
+
             by_u : (U p ≡ true) ⊎ (U p ≡ false) → E p ≡ true
             by_u (inl i) = by_t (before i) (k.a_closed p u a0 i (d_in u d).0) (decide (T p))
             by_u (inr o) = rw (e_is p) (or_l (X p) (W p) (x_rest p u a0 o))
@@ -271,7 +285,6 @@ module _ (g : MixedGraph) (Prior U A T : ℕ → Bool) (v : ℕ) (k : IsPlace g 
       (z_in : (u : ℕ) → Z u ≡ true → (A u ≡ true) × (Prior u ≡ true))
       (e_is : (u : ℕ) → E u ≡ (X u || M u))
       (y_v : (u : ℕ) → Y u ≡ true → u ≡ v) where
-
     pub rest_apart : IsSeparated (cut_into g X) Y Z E
     unfolding Upto
     rest_apart = earlier_apart (cut_into g X) X Y Z E D
@@ -286,6 +299,7 @@ module _ (g : MixedGraph) (Prior U A T : ℕ → Bool) (v : ℕ) (k : IsPlace g 
         given : (u : ℕ) → (X u ≡ true) ⊎ (M u ≡ true) → (X u ≡ true) ⊎ ((A u ≡ true) × (Prior u ≡ true))
         given u (inl x) = inl x
         given u (inr w) = inr (m_in u w)
+
         parent : (p u : ℕ) → g.arrow p u ≡ true → D u → E p ≡ true
         parent p u a d = by_u (decide (U p))
           where
@@ -299,7 +313,6 @@ module _ (g : MixedGraph) (X Z Y E : ℕ → Bool) (K : ℕ → Type 0)
     (k_closed : (p u : ℕ) → g.arrow p u ≡ true → X p ≡ false → K u → K p)
     (z_out : (u : ℕ) → Z u ≡ true → K u → ⊥)
     (e_is : (u : ℕ) → E u ≡ X u) where
-
   Route : Bool → ℕ → Type 0
   Route true u = (Z u ≡ true → ⊥) × (E u ≡ false)
   Route false u = (E u ≡ true) ⊎ K u
@@ -319,13 +332,14 @@ module _ (g : MixedGraph) (X Z Y E : ℕ → Bool) (K : ℕ → Type 0)
     where
       q : (g.arrow w u && not (X u)) ≡ true
       q = and_l (g.arrow w u && not (X u)) (not (Z u)) j
+
       go : (X w ≡ true) ⊎ (X w ≡ false) → (E u ≡ true) ⊎ K u → (E w ≡ true) ⊎ K w
       go (inl x) i = inl (rw (e_is w) x)
       go (inr x) (inl i) = absurd (clash (X u) (rw (e_is u) at i) (not_e (X u) (and_r (g.arrow w u) (not (X u)) q)))
       go (inr x) (inr i) = inr (k_closed w u (and_l (g.arrow w u) (not (X u)) q) x i)
   along u Both w r j = let q = and_l (g.both u w && (not (X u) && not (X w))) (not (Z u) && not (Z w)) j in
       headed u w (not_e (X w) (and_r (not (X u)) (not (X w)) (and_r (g.both u w) (not (X u) && not (X w)) q)))
-        (not_e (Z w) (and_r (not (Z u)) (not (Z w)) (and_r (g.both u w && (not (X u) && not (X w))) (not (Z u) && not (Z w)) j)))
+      (not_e (Z w) (and_r (not (Z u)) (not (Z w)) (and_r (g.both u w && (not (X u) && not (X w))) (not (Z u) && not (Z w)) j)))
 
   next3 : (h : Bool) (u : ℕ) (m : Mark) (w : ℕ) → Route h u → IsPassed (cut_into (cut_into g X) Z) E u h (heads_first m) → IsJoined (cut_into (cut_into g X) Z) u m w → Route (heads_second m) w
   unfolding Route
@@ -343,7 +357,8 @@ module _ (g : MixedGraph) (X Z Y E : ℕ → Bool) (K : ℕ → Type 0)
   pub actions_apart : IsSeparated (cut_into (cut_into g X) Z) Y Z E
   unfolding Route
   actions_apart = separated_by (cut_into (cut_into g X) Z) Y Z E Route (record {
-      first = λ v m u y j. along v m u (λ e. inr (y_in v y)) j;
-      next = next3;
-      final = final3;
-      apart = λ u y z. z_out u z (y_in u y) })
+    first = λ v m u y j. along v m u (λ e. inr (y_in v y)) j;
+    next = next3;
+    final = final3;
+    apart = λ u y z. z_out u z (y_in u y);
+  })

@@ -1,5 +1,5 @@
 -- Masks as sets: what the words for masks say of members.
-use Rattle.std.proofs.Common.{ℕ, zero, suc, ◌+◌, ◌-◌, ◌^◌, ◌≡◌, ◌<◌, ◌≤◌, Bool, true, false, eqb, ltb, not, ◌&&◌, ◌||◌, ◌⊎◌, inl, inr, refl, sym, ap, ◌∙◌, arith, eqb-true, eq-eqb, bit_and, bit_xor, min, ◌%◌, nat_lt}
+use Rattle.std.proofs.Common.{ℕ, zero, ◌+◌, ◌-◌, ◌^◌, ◌≡◌, ◌<◌, ◌≤◌, Bool, true, false, eqb, not, ◌&&◌, ◌⊎◌, inl, inr, refl, sym, ◌∙◌, arith, eqb-true, eq-eqb, bit_and, min, ◌%◌, nat_lt}
 use Rattle.std.specs.Int.{bit_at}
 use Rattle.std.proofs.lemmas.Nat.Bits.{bit_at-lt, bit_at_and, bit_at_xor}
 use Rattle.std.proofs.lemmas.Nat.{and_le_r, pow_pos}

@@ -1,5 +1,5 @@
 -- The identification of an effect P(y | do(x)): the procedure ID of Shpitser and Pearl (2006), on the districts (c-components) of Tian and Pearl (2002).
-use Rattle.std.specs.Prelude.{ℕ, suc, ◌+◌, ◌≡◌, ◌≢◌, ◌<◌, ◌⊎◌, Bool, false, cond, List, [], ◌∷◌, ◌++◌, length, bit_and, ◌==◌, IsTrue}
+use Rattle.std.specs.Prelude.{ℕ, suc, ◌+◌, ◌≡◌, ◌≢◌, ◌<◌, ◌⊎◌, false, cond, List, [], ◌∷◌, ◌++◌, length, bit_and, ◌==◌, IsTrue}
 use Rattle.mixed_graph.specs.Bits.{has}
 use Rattle.mixed_graph.specs.Graphs.{MixedGraph, IsAncestor, induced}
 use Rattle.mixed_graph.specs.Orders.{IsOrder}

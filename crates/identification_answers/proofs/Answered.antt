@@ -1,8 +1,8 @@
 -- The laws of the procedure's answers, with the case of an empty x.
-use Rattle.std.proofs.Common.{ℕ, ◌≡◌, ◌<◌, Bool, true, refl, sym, ap, subst, ◌∙◌, ◌⊎◌, inl, inr, List, [], ◌∷◌, ◌+◌, length}
+use Rattle.std.proofs.Common.{ℕ, ◌≡◌, true, refl, sym, ap, subst, ◌∙◌, inl, inr, List, [], ◌+◌, length}
 use Rattle.identification.proofs.Bools.{clash}
 use Rattle.identification.proofs.Groups.{Among, are_parts, part_among}
-use Rattle.identification.proofs.Orders.{IsOrderFrom, order_of, one_order}
+use Rattle.identification.proofs.Orders.{order_of, one_order}
 use Rattle.identification.proofs.Sets.{below, apart, not_empty}
 use Rattle.identification.specs.Procedure.{IsIdentifiedBy, IsStopped, IsTarget, IsUnidentified, IsUnidentifiedBy, StopsAt}
 use Rattle.identification_answers.proofs.Depth.{tree_flat}
@@ -12,14 +12,13 @@ use Rattle.identification_answers.proofs.Names.{names_ancestors}
 use Rattle.identification_answers.proofs.Stops.{hedge, meets, home_of}
 use Rattle.identification_answers.proofs.Unique.{tree_one, tree_or_stop, stop_one}
 use Rattle.identification_answers.specs.Depth.{is_tree_within, are_defs_within}
-use Rattle.identification_answers.specs.Laws.{FormulaNamesAncestors, FormulaIsFormed, FormulaIsShallow, OneFormula, OneStop, NeverBoth, StopIsHedge, AreRoots}
+use Rattle.identification_answers.specs.Laws.{FormulaNamesAncestors, FormulaIsFormed, FormulaIsShallow, OneFormula, OneStop, NeverBoth, StopIsHedge}
 use Rattle.identification_answers.specs.Names.{FormulaNamesOnly}
 use Rattle.mixed_graph.proofs.Masks.{has-zero}
 use Rattle.mixed_graph.specs.Bits.{has}
 use Rattle.mixed_graph.specs.Graphs.{IsAncestor, IsMixedGraph, MixedGraph}
 use Rattle.prob_expr.specs.Masks.{is_apart, is_below}
 use Rattle.prob_expr.specs.Terms.{is_term}
-use Rattle.prob_expr.specs.Tree.{PlainFormula}
 use Rattle.hedge.specs.Hedges.{Meets}
 
 observed_term : (g : MixedGraph) (x y : ℕ) → IsTarget g x y → is_term g.vertices y 0 0 ≡ true
@@ -27,6 +26,7 @@ observed_term g x y t = is_term_from g.vertices y 0 0 (below g.vertices y t.y_lo
   where
     zero_low : is_below g.vertices 0 ≡ true
     zero_low = below g.vertices 0 (λ v e. absurd (clash (has 0 v) e (has-zero v)))
+
     off : (a : ℕ) → is_apart a 0 ≡ true
     off a = apart a 0 (λ v e i. clash (has 0 v) i (has-zero v))
 
@@ -77,19 +77,20 @@ where_stopped g o _ _ small big (StopsAt.after {k = k} {cs = cs} {ds = ds} n f r
 pub stop_is_hedge : StopIsHedge
 stop_is_hedge g ok x y small big roots tgt i r = let u = i.stop in let q = where_stopped g i.order 0 u.districts small big u.stops in
     hedge g ok i.order (order_of g i.order i.is_order) x y tgt u.d u.is_d small (part_among g u.d small u.districts (are_parts g ok u.d 0 i.order u.districts u.are_districts) q.among)
-      (home_of g u.d 0 i.order u.districts small u.are_districts q.among) q.a big q.stops roots r
+    (home_of g u.d 0 i.order u.districts small u.are_districts q.among) q.a big q.stops roots r
 
 -- what stops meets x
 stop_meets : (g : MixedGraph) → IsMixedGraph g → (x y small big : ℕ) → IsTarget g x y → IsUnidentified g x y small big → Meets (has big) (has x)
 stop_meets g ok x y small big tgt i = let u = i.stop in let q = where_stopped g i.order 0 u.districts small big u.stops in
     meets g ok i.order (order_of g i.order i.is_order) x y tgt u.d u.is_d small (part_among g u.d small u.districts (are_parts g ok u.d 0 i.order u.districts u.are_districts) q.among)
-      (home_of g u.d 0 i.order u.districts small u.are_districts q.among) q.a big q.stops
+    (home_of g u.d 0 i.order u.districts small u.are_districts q.among) q.a big q.stops
 
 pub never_both : NeverBoth
 never_both g ok x y small big tgt f i j = go i.answer
   where
     m : Meets (has big) (has x)
     m = stop_meets g ok x y small big tgt j
+
     go : IsIdentifiedBy g i.order x y f → ⊥
     go (inl s) = clash (has x m.vertex) m.in_second (ap (λ z. has z m.vertex) s.0 ∙ has-zero m.vertex)
     go (inr s) = tree_or_stop g i.order x y small big f s.1 (subst (λ o. IsUnidentifiedBy g o x y small big) (one_order g j.order i.order j.is_order i.is_order) j.stop)

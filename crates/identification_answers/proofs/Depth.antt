@@ -1,5 +1,5 @@
 -- The formula of identification nests little, whatever the graph.
-use Rattle.std.proofs.Common.{ℕ, zero, suc, ◌+◌, ◌≡◌, ◌<◌, Bool, true, false, cond, refl, sym, ap, subst, ◌∙◌, ◌&&◌, List, [], ◌∷◌, ◌++◌, length, arith, rules}
+use Rattle.std.proofs.Common.{ℕ, zero, suc, ◌+◌, ◌≡◌, Bool, true, false, cond, refl, ◌&&◌, List, [], ◌∷◌, ◌++◌, length, arith}
 use Rattle.do_derivation.specs.Shapes.{as_one, flat, joined}
 use Rattle.identification.proofs.Bools.{and_l, and_r, both_true}
 use Rattle.identification.specs.Procedure.IsFactor.{whole, summed, further}

@@ -1,11 +1,11 @@
 -- A formula whose parts have their form has no fault.
 use Rattle.std.specs.Prelude.{Option, Some, None, Ok}
 use Rattle.std.proofs.lemmas.Bool.{lt-ltb}
-use Rattle.std.proofs.Common.{ℕ, zero, suc, ◌+◌, ◌≡◌, ◌<◌, ◌≤◌, Bool, true, false, not, ◌&&◌, List, [], ◌∷◌, length, ltb, refl, sym, ap, subst, ◌∙◌, arith}
+use Rattle.std.proofs.Common.{ℕ, ◌+◌, ◌≡◌, ◌≤◌, true, not, List, [], ◌∷◌, length, ltb, refl, subst, arith}
 use Rattle.do_derivation.specs.Shapes.{count_factors}
 use Rattle.identification.proofs.Bools.{and_l, and_r, not_e}
 use Rattle.identification_answers.proofs.Formed.{IsFormed, AreFormed, AllFormed, IsFormedFormula}
-use Rattle.prob_expr.specs.Check.{cap, next_node, are_two, check_tree, check_trees, fault_of, fault_in_defs, fault_in}
+use Rattle.prob_expr.specs.Check.{cap, next_node, are_two, check_tree, check_trees, fault_in_defs, fault_in}
 use Rattle.prob_expr.specs.Masks.{are_term_sets, is_empty}
 use Rattle.prob_expr.specs.Tree.{PlainFormula, Tree, Trees, named, no_trees, prob, product, quotient, sum, tree}
 

@@ -1,21 +1,21 @@
 -- Each part of the formula of identification has its form.
-use Rattle.std.proofs.Common.{ℕ, zero, suc, ◌+◌, ◌≡◌, ◌<◌, ◌≤◌, Bool, true, false, cond, eqb, not, refl, sym, ap, ap₂, subst, ◌∙◌, ◌||◌, ◌&&◌, ◌⊎◌, inl, inr, List, [], ◌∷◌, ◌++◌, length, arith, rules, eqb-true, length-append}
-use Rattle.districts.specs.Linked.IsLinked.{at, by}
+use Rattle.std.proofs.Common.{ℕ, suc, ◌+◌, ◌≡◌, ◌<◌, ◌≤◌, Bool, true, false, cond, not, refl, sym, subst, ◌⊎◌, inl, inr, List, [], ◌∷◌, ◌++◌, length, arith, length-append}
+use Rattle.districts.specs.Linked.IsLinked.{at}
 use Rattle.do_derivation.specs.Shapes.{as_one, count_factors, flat, joined}
 use Rattle.identification.proofs.Accepted.{first_stage, d_low}
-use Rattle.identification.proofs.Body.{IsSite, in_order, in_order-take, in_order-skip}
-use Rattle.identification.proofs.Bools.{and_l, both_true, clash, not_i}
+use Rattle.identification.proofs.Body.{IsSite}
+use Rattle.identification.proofs.Bools.{and_l, clash}
 use Rattle.identification.proofs.Factor.{IsStage, ancestors_in, stage_of, site_of, not_all}
-use Rattle.identification.proofs.Groups.{Among, count, once, in_list, among_in_order, IsPart, AreParts, are_parts}
+use Rattle.identification.proofs.Groups.{Among, count, once, in_list, AreParts, are_parts}
 use Rattle.identification.proofs.Orders.{IsOrderFrom}
-use Rattle.identification.proofs.Sets.{all-below, all-is, apart, below, has-minus, inside, not_empty, one-is, one-self}
+use Rattle.identification.proofs.Sets.{apart, below, has-minus, not_empty, one-is, one-self}
 use Rattle.identification.specs.Procedure.IsFactor.{whole, summed, further}
 use Rattle.identification.specs.Procedure.{AreFactored, AreFactors, IsBody, IsComposed, IsFactor, IsTarget, Source, conditional, marginal, product_of, sum_if}
 use Rattle.identification_answers.proofs.Names.{pillow_in}
 use Rattle.mixed_graph.proofs.Masks.{has-zero}
 use Rattle.mixed_graph.specs.Bits.{has}
 use Rattle.mixed_graph.specs.Graphs.{IsMixedGraph, MixedGraph}
-use Rattle.prob_expr.specs.Masks.{all, is_apart, is_below, is_empty, join, minus, one}
+use Rattle.prob_expr.specs.Masks.{is_apart, is_below, is_empty, join, minus, one}
 use Rattle.prob_expr.specs.Terms.{is_term}
 use Rattle.prob_expr.specs.Tree.{PlainFormula, Tree, Trees, named, no_trees, prob, product, quotient, sum, tree}
 
@@ -82,6 +82,7 @@ module _ (g : MixedGraph) (is_graph : IsMixedGraph g) (o : List ℕ) (order : Is
     where
       less : (u : ℕ) → (w : ℕ) → has (minus a u) w ≡ true → w < g.vertices
       less u w e = low w (and_l (has a w) (not (has u w)) (rw (has-minus a u w) at e))
+
       go : (b : Bool) → IsFormed g.vertices k (cond b (marginal j a (one v)) (quotient (marginal j a (join m (one v))) (marginal j a m)))
       go true = sum_formed (minus a (one v)) k (named j) (less (one v)) i
       go false = (sum_formed (minus a (join m (one v))) k (named j) (less (join m (one v))) i, sum_formed (minus a m) k (named j) (less m) i)
@@ -89,9 +90,10 @@ module _ (g : MixedGraph) (is_graph : IsMixedGraph g) (o : List ℕ) (order : Is
   factors_formed : (from : Source) (k a t p : ℕ) (o2 : List ℕ) (fs : Trees) → IsEarlier g.vertices a from k → ((u : ℕ) → has a u ≡ true → u < g.vertices) → ((u : ℕ) → has t u ≡ true → has a u ≡ true) → AreFactors g from a t p o2 fs → AreFormed g.vertices k fs
   factors_formed from k a t _ _ _ i low ht AreFactors.none = tt
   factors_formed from k a t _ _ _ i low ht (AreFactors.skip {p = p} {v = v} {o = o2} {fs = fs} q r) = factors_formed from k a t (join p (one v)) o2 fs i low ht r
-  factors_formed from k a t _ _ _ i low ht (AreFactors.take {p = p} {v = v} {m = m} {o = o2} {fs = fs} q pl r) =
-      (factor_formed from k a v m i low (low v (ht v q)) (pillow_in g is_graph o order (λ w. w < g.vertices) a p v m low (ht v q) pl) (λ u e. (pl.sound u e).0) (ht v q) (pillow_in g is_graph o order (λ w. has a w ≡ true) a p v m (λ w j. j) (ht v q) pl),
-        factors_formed from k a t (join p (one v)) o2 fs i low ht r)
+  factors_formed from k a t _ _ _ i low ht (AreFactors.take {p = p} {v = v} {m = m} {o = o2} {fs = fs} q pl r) = (
+    factor_formed from k a v m i low (low v (ht v q)) (pillow_in g is_graph o order (λ w. w < g.vertices) a p v m low (ht v q) pl) (λ u e. (pl.sound u e).0) (ht v q) (pillow_in g is_graph o order (λ w. has a w ≡ true) a p v m (λ w j. j) (ht v q) pl),
+    factors_formed from k a t (join p (one v)) o2 fs i low ht r,
+  )
 
   none_listed : (from : Source) (a t p : ℕ) (o2 : List ℕ) → AreFactors g from a t p o2 no_trees → (u : ℕ) → has t u ≡ true → Among u o2 → ⊥
   none_listed from a t _ _ AreFactors.none u i m = m
@@ -116,9 +118,17 @@ module _ (g : MixedGraph) (is_graph : IsMixedGraph g) (o : List ℕ) (order : Is
   factor_all c a from k _ _ i s (summed {t = t} {e = e} d ne m b) = let q : IsSite g from a t = site_of g is_graph o order from a c t s d in
       (tt, (below g.vertices (minus t c) (λ u j. q.low u (q.t_in u (and_l (has t u) (not (has c u)) (rw (has-minus t c u) at j)))), not_all g is_graph o order t c (λ u j. d.complete u (at j)) (λ z. ne (sym z)), formed_more g.vertices k (k + 0) e (omega arith) (body_formed from k a t e i q b)))
   factor_all c a from k _ e i s (further {t = t} {a2 = a2} {b = x} {ds = ds} d ne m ml nc b next) = let q : IsSite g from a t = site_of g is_graph o order from a c t s d in
-      let r = factor_all c a2 (Source.Defined k) (suc k) ds e (omega arith) (stage_of g is_graph o order from a c t a2 k s d m) next in
-      (((below g.vertices (minus t a2) (λ u j. q.low u (q.t_in u (and_l (has t u) (not (has a2 u)) (rw (has-minus t a2 u) at j)))),
-          not_all g is_graph o order t a2 (λ u j. ancestors_in g is_graph o order c t (λ w z. d.complete w (at z)) u (m.sound u j)) ml, body_formed from k a t x i q b), r.0), formed_more g.vertices (suc k + length ds) (k + suc (length ds)) e (omega arith) r.1)
+      let r = factor_all c a2 (Source.Defined k) (suc k) ds e (omega arith) (stage_of g is_graph o order from a c t a2 k s d m) next in (
+        (
+          (
+            below g.vertices (minus t a2) (λ u j. q.low u (q.t_in u (and_l (has t u) (not (has a2 u)) (rw (has-minus t a2 u) at j)))),
+            not_all g is_graph o order t a2 (λ u j. ancestors_in g is_graph o order c t (λ w z. d.complete w (at z)) u (m.sound u j)) ml,
+            body_formed from k a t x i q b,
+          ),
+          r.0,
+        ),
+        formed_more g.vertices (suc k + length ds) (k + suc (length ds)) e (omega arith) r.1,
+      )
 
   pub all_append : (k : ℕ) (ds es : List Tree) → AllFormed g.vertices k ds → AllFormed g.vertices (k + length ds) es → AllFormed g.vertices k (ds ++ es)
   all_append k [] es h w = subst (λ z. AllFormed g.vertices z es) (omega arith) w
@@ -169,9 +179,11 @@ module _ (g : MixedGraph) (is_graph : IsMixedGraph g) (o : List ℕ) (order : Is
   some_in = made.is_d.complete tgt.some (record { vertex = tgt.y_low tgt.some tgt.some_in; path = []; end = tgt.some; leads = refl; inside = tgt.some_in })
 
   pub composed_formed : IsFormedFormula g.vertices f
-  composed_formed = let h = districts_formed g is_graph o order made.d 0 made.districts f.defs made.factors (d_low g is_graph o order x y tgt made.d made.is_d) (are_parts g is_graph made.d 0 o made.districts made.are_districts) made.are_factored in
-      (h.0, rw made.main (sum_formed g is_graph o order (minus made.d y) (length f.defs) (product_of made.factors) (λ u e. (d_low g is_graph o order x y tgt made.d made.is_d) u (and_l (has made.d u) (not (has y u)) (rw (has-minus made.d y u) at e)))
-          (product_formed g is_graph o order (length f.defs) made.factors some_factor (formed_more_each g.vertices (0 + length f.defs) (length f.defs) made.factors (omega arith) h.1))))
+  composed_formed = let h = districts_formed g is_graph o order made.d 0 made.districts f.defs made.factors (d_low g is_graph o order x y tgt made.d made.is_d) (are_parts g is_graph made.d 0 o made.districts made.are_districts) made.are_factored in (
+    h.0,
+    rw made.main (sum_formed g is_graph o order (minus made.d y) (length f.defs) (product_of made.factors) (λ u e. (d_low g is_graph o order x y tgt made.d made.is_d) u (and_l (has made.d u) (not (has y u)) (rw (has-minus made.d y u) at e)))
+        (product_formed g is_graph o order (length f.defs) made.factors some_factor (formed_more_each g.vertices (0 + length f.defs) (length f.defs) made.factors (omega arith) h.1))),
+  )
     where
       some_factor : made.factors ≡ no_trees → ⊥
       some_factor q = absurd (let c : count made.districts tgt.some ≡ 1 = once g is_graph made.d o made.districts made.are_districts tgt.some some_in (in_list g 0 tgt.some o order ((d_low g is_graph o order x y tgt made.d made.is_d) tgt.some some_in) (has-zero tgt.some)) in

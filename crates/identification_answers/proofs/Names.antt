@@ -1,16 +1,16 @@
 -- The formula of identification names ancestors of y alone.
-use Rattle.std.proofs.Common.{ℕ, zero, suc, ◌+◌, ◌≡◌, ◌<◌, Bool, true, false, cond, eqb, not, refl, sym, ap, subst, ◌∙◌, ◌||◌, ◌&&◌, ◌⊎◌, inl, inr, List, [], ◌∷◌, ◌++◌, length, arith, rules, eqb-true}
+use Rattle.std.proofs.Common.{ℕ, suc, ◌+◌, ◌≡◌, ◌<◌, Bool, true, false, cond, eqb, not, refl, ◌&&◌, ◌⊎◌, inl, inr, List, [], ◌∷◌, ◌++◌, length, eqb-true}
 use Rattle.districts.specs.Linked.IsLinked.{at, by}
 use Rattle.districts.specs.Linked.{IsLinked}
 use Rattle.do_derivation.specs.Shapes.{as_one, flat, joined}
 use Rattle.identification.proofs.Accepted.{first_stage}
 use Rattle.identification.proofs.Body.{IsSite}
-use Rattle.identification.proofs.Bools.{and_l, both_true, clash, or_e}
+use Rattle.identification.proofs.Bools.{and_l, clash, or_e}
 use Rattle.identification.proofs.Factor.{IsStage, ancestors_in, stage_of, site_of}
 use Rattle.identification.proofs.Front.{closed_above}
-use Rattle.identification.proofs.Groups.{IsPart, AreParts, are_parts}
+use Rattle.identification.proofs.Groups.{AreParts, are_parts}
 use Rattle.identification.proofs.Orders.{IsOrderFrom}
-use Rattle.identification.proofs.Sets.{all-is, has-minus, inside, one-is}
+use Rattle.identification.proofs.Sets.{has-minus, one-is}
 use Rattle.identification.specs.Procedure.IsFactor.{whole, summed, further}
 use Rattle.identification.specs.Procedure.{AreAncestorsIn, AreFactored, AreFactors, IsBody, IsComposed, IsFactor, IsParent, IsPillow, IsTarget, Source, common, conditional, marginal, product_of, sum_if}
 use Rattle.identification_answers.specs.Names.{AllNameOnly, AreAll, EachNamesOnly, FormulaNamesOnly, NamesOnly}
@@ -53,9 +53,11 @@ module _ (g : MixedGraph) (is_graph : IsMixedGraph g) (o : List ℕ) (order : Is
           pick : (has (common a p) u ≡ true) ⊎ (has (one v) u ≡ true) → z u
           pick (inl j) = ha u (and_l (has a u) (has p u) (rw (has-and a p u) at j))
           pick (inr j) = rw (one-is v u j) (ha v iv)
+
       linked : IsLinked g (has (join (common a p) (one v))) (λ w. eqb w v) u → z u
       linked (at q) = rw (eqb-true u v q) (ha v iv)
       linked (by i b r) = in_s i
+
       go : (u ≡ v → ⊥) × (IsLinked g (has (join (common a p) (one v))) (λ w. eqb w v) u ⊎ ((has (join (common a p) (one v)) u ≡ true) × IsParent g (IsLinked g (has (join (common a p) (one v))) (λ w. eqb w v)) u)) → z u
       go (ne, inl d) = linked d
       go (ne, inr d) = in_s d.0
@@ -120,6 +122,7 @@ module _ (g : MixedGraph) (is_graph : IsMixedGraph g) (o : List ℕ) (order : Is
     where
       r : IsAncestor (induced g (has (minus (all g.vertices) x))) (has y) u
       r = made.is_d.sound u e
+
       go : (u : ℕ) (xs : List ℕ) → IsDirectedPath (induced g (has (minus (all g.vertices) x))) u xs r.end → u < g.vertices
       go u [] p = tgt.y_low u (rw p r.inside)
       go u (w ∷ xs) p = is_graph.tail_below u w (and_l (g.arrow u w) (has (minus (all g.vertices) x) u && has (minus (all g.vertices) x) w) p.0)

@@ -1,18 +1,17 @@
 -- Where a factor stops there is a hedge.
-use Rattle.std.proofs.Common.{ℕ, zero, suc, ◌+◌, ◌≡◌, ◌<◌, ◌≤◌, Bool, true, false, cond, eqb, not, refl, sym, ap, ap₂, subst, ◌∙◌, ◌||◌, ◌&&◌, ◌⊎◌, inl, inr, List, [], ◌∷◌, length, arith, rules, eqb-true, eq-eqb}
+use Rattle.std.proofs.Common.{ℕ, zero, suc, ◌≡◌, ◌<◌, Bool, true, false, eqb, not, refl, sym, ◌∙◌, ◌||◌, ◌&&◌, ◌⊎◌, inl, inr, List, [], ◌∷◌, arith, eqb-true, eq-eqb}
 use Rattle.districts.specs.Linked.IsLinked.{at, by}
 use Rattle.districts.specs.Linked.{AreDistricts, IsDistrict, IsJoinedSet, IsLinked, IsSetOf}
 use Rattle.hedge.specs.Hedges.{Meets, Reaches, outside}
 use Rattle.hedge.specs.Shapes.{LeadsInto, AreSetsOfHedge}
 use Rattle.identification.proofs.Accepted.{d_low, d_off, d_closed}
 use Rattle.identification_answers.specs.Laws.{AreRoots}
-use Rattle.identification.proofs.Bools.{and_l, and_r, both_true, clash, not_e, not_i, or_e, or_l}
-use Rattle.identification.proofs.Factor.{ancestors_in}
-use Rattle.identification.proofs.Groups.{Among, IsPart, AreParts, are_parts, part_among}
+use Rattle.identification.proofs.Bools.{and_l, and_r, both_true, clash, or_e, or_l}
+use Rattle.identification.proofs.Groups.{Among, IsPart}
 use Rattle.identification.proofs.Orders.{IsOrderFrom}
-use Rattle.identification.proofs.Sets.{all-below, all-is, below, empty-has, has-minus, not_empty, one-is, one-self}
+use Rattle.identification.proofs.Sets.{all-is, empty-has, has-minus, not_empty, one-is, one-self}
 use Rattle.identification.specs.Procedure.IsStopped.{here, later}
-use Rattle.identification.specs.Procedure.{AreAncestorsIn, IsParent, IsStopped, IsTarget}
+use Rattle.identification.specs.Procedure.{AreAncestorsIn, IsStopped, IsTarget}
 use Rattle.mixed_graph.proofs.Masks.{has-or, has-zero, same_from_has}
 use Rattle.mixed_graph.specs.Bits.{has}
 use Rattle.mixed_graph.specs.Graphs.{IsAncestor, IsDirectedPath, IsMixedGraph, MixedGraph, induced}
@@ -99,6 +98,7 @@ module _ (g : MixedGraph) (is_graph : IsMixedGraph g) where
           pick : (has p u ≡ true) ⊎ (has (one v) u ≡ true) → has p w ≡ true
           pick (inl i) = h w u b i
           pick (inr i) = order.2 w (rw (one-is v u i) at b)
+
       go : (b : Bool) → is_empty (minus c (join p (one v))) ≡ b → (is_empty (minus c (join p (one v))) ≡ false → Root c) → Root c
       go false q f = f q
       go true q f = record { vertex = v; inside = in_c (has c v) refl; last = none }
@@ -108,6 +108,7 @@ module _ (g : MixedGraph) (is_graph : IsMixedGraph g) where
             where
               bools : (x y : Bool) → x ≡ true → (x && not y) ≡ false → y ≡ true
               bools x y h1 h2 = grind (arith, h1, h2)
+
           in_c : (b : Bool) → has c v ≡ b → has c v ≡ true
           in_c true e = e
           in_c false e = absurd (clash (is_empty (minus c p)) (eq-eqb (minus c p) 0 (same_from_has (minus c p) 0 (λ u. has-minus c p u ∙ (go2 u (has c u) refl ∙ sym (has-zero u))))) ne)
@@ -119,6 +120,7 @@ module _ (g : MixedGraph) (is_graph : IsMixedGraph g) where
                   case : (has p u ≡ true) ⊎ (has (one v) u ≡ true) → (true && not (has p u)) ≡ false
                   case (inl s) = rw s refl
                   case (inr s) = absurd (clash (has c v) (rw (one-is v u s) at i) e)
+
           none : (u : ℕ) → g.arrow v u ≡ true → has c u ≡ true → ⊥
           none u a i = pick (out u i)
             where
@@ -138,18 +140,21 @@ module _ (g : MixedGraph) (is_graph : IsMixedGraph g) where
           pick : (has p u ≡ true) ⊎ (has (one v) u ≡ true) → has p w ≡ true
           pick (inl i) = h w u b i
           pick (inr i) = order.2 w (rw (one-is v u i) at b)
+
       out : (w : ℕ) → has p w ≡ false → (w ≡ v → ⊥) → has (join p (one v)) w ≡ false
       out w q ne = has-or p (one v) w ∙ rw q (other (has (one v) w) refl)
         where
           other : (b : Bool) → has (one v) w ≡ b → (false || has (one v) w) ≡ false
           other true e = absurd (ne (one-is v w e))
           other false e = rw e refl
+
       off_p : (w : ℕ) → g.arrow u w ≡ true → has p w ≡ false
       off_p w a = other (has p w) refl
         where
           other : (b : Bool) → has p w ≡ b → has p w ≡ false
           other true e = absurd (clash (has p u) (h u w a e) n)
           other false e = e
+
       go : (b : Bool) → eqb u v ≡ b → ((w : ℕ) → w < g.vertices → has c w ≡ true → has (join p (one v)) w ≡ false → IsAncestor (induced g (has c)) (has r) w) → IsAncestor (induced g (has c)) (has r) u
       go false e f = f u l i (out u n (ne_of u v e))
       go true e f = here_or (has r u) refl
@@ -158,7 +163,7 @@ module _ (g : MixedGraph) (is_graph : IsMixedGraph g) where
           here_or true q = record { vertex = l; path = []; end = u; leads = refl; inside = q }
           here_or false q = let k = lead u i q in
               let rest : IsAncestor (induced g (has c)) (has r) k.child = f k.child (is_graph.head_below u k.child k.arrow) k.within (out k.child (off_p k.child k.arrow)
-                    (λ s. clash (has p u) (order.2 u (rw s at k.arrow)) n)) in
+              (λ s. clash (has p u) (order.2 u (rw s at k.arrow)) n)) in
               record { vertex = l; path = k.child ∷ rest.path; end = rest.end; leads = (both_true (g.arrow u k.child) (has c u && has c k.child) k.arrow (both_true (has c u) (has c k.child) i k.within), rest.leads); inside = rest.inside }
 
 -- ---- where a factor is stuck
@@ -194,11 +199,14 @@ module _ (g : MixedGraph) (is_graph : IsMixedGraph g) (o : List ℕ) (order : Is
     where
       off : (w : ℕ) → has (minus (all g.vertices) x) w ≡ true → not (has x w) ≡ true
       off w e = and_r (has (all g.vertices) w) (not (has x w)) (sym (has-minus (all g.vertices) x w) ∙ e)
+
       go : (u : ℕ) (xs : List ℕ) → IsDirectedPath (induced g (has (minus (all g.vertices) x))) u xs r.end → IsDirectedPath (induced g (outside x)) u xs r.end
       go u [] p = p
-      go u (w ∷ xs) p = let q : (has (minus (all g.vertices) x) u && has (minus (all g.vertices) x) w) ≡ true = and_r (g.arrow u w) (has (minus (all g.vertices) x) u && has (minus (all g.vertices) x) w) p.0 in
-          (both_true (g.arrow u w) (not (has x u) && not (has x w)) (and_l (g.arrow u w) (has (minus (all g.vertices) x) u && has (minus (all g.vertices) x) w) p.0)
-            (both_true (not (has x u)) (not (has x w)) (off u (and_l (has (minus (all g.vertices) x) u) (has (minus (all g.vertices) x) w) q)) (off w (and_r (has (minus (all g.vertices) x) u) (has (minus (all g.vertices) x) w) q))), go w xs p.1)
+      go u (w ∷ xs) p = let q : (has (minus (all g.vertices) x) u && has (minus (all g.vertices) x) w) ≡ true = and_r (g.arrow u w) (has (minus (all g.vertices) x) u && has (minus (all g.vertices) x) w) p.0 in (
+        both_true (g.arrow u w) (not (has x u) && not (has x w)) (and_l (g.arrow u w) (has (minus (all g.vertices) x) u && has (minus (all g.vertices) x) w) p.0)
+            (both_true (not (has x u)) (not (has x w)) (off u (and_l (has (minus (all g.vertices) x) u) (has (minus (all g.vertices) x) w) q)) (off w (and_r (has (minus (all g.vertices) x) u) (has (minus (all g.vertices) x) w) q))),
+        go w xs p.1,
+      )
 
   c_in_t : (u : ℕ) → has c u ≡ true → has t u ≡ true
   c_in_t u e = s.district.complete u (at e)
@@ -209,6 +217,7 @@ module _ (g : MixedGraph) (is_graph : IsMixedGraph g) (o : List ℕ) (order : Is
     where
       r : IsAncestor (induced g (has t)) (has c) u
       r = s.all_lead.sound u e
+
       go : (u : ℕ) (xs : List ℕ) → IsDirectedPath (induced g (has t)) u xs r.end → u < g.vertices
       go u [] p = d_low g is_graph o order x y tgt d is_d u (k.t_in u (rw p r.inside))
       go u (w ∷ xs) p = is_graph.tail_below u w (and_l (g.arrow u w) (has t u && has t w) p.0)
@@ -222,24 +231,30 @@ module _ (g : MixedGraph) (is_graph : IsMixedGraph g) (o : List ℕ) (order : Is
         where
           bools : (p q : Bool) → (p ≡ true → q ≡ true) → (q ≡ true → p ≡ true) → p ≡ q
           bools p q h1 h2 = grind (arith, h1, h2)
+
           t_off : (u : ℕ) → has t u ≡ true → has x u ≡ false
           t_off u e = one_ (has t u) (has x u) e (h u (t_low u e))
             where
               one_ : (p q : Bool) → p ≡ true → (p && q) ≡ false → q ≡ false
               one_ p q h1 h2 = grind (arith, h1, h2)
+
           t_in_d : (u : ℕ) → has t u ≡ true → has d u ≡ true
           t_in_d u e = go u r.path r.leads
             where
               r : IsAncestor (induced g (has t)) (has c) u
               r = s.all_lead.sound u e
+
               go : (u : ℕ) (xs : List ℕ) → IsDirectedPath (induced g (has t)) u xs r.end → has d u ≡ true
               go u [] p = k.t_in u (rw p r.inside)
               go u (w ∷ xs) p = d_closed g is_graph o order x y tgt d is_d u w (and_l (g.arrow u w) (has t u && has t w) p.0) (t_off u (and_l (has t u) (has t w) (and_r (g.arrow u w) (has t u && has t w) p.0))) (go w xs p.1)
+
           in_c : (u : ℕ) → IsLinked g (has s.a) (has c) u → has c u ≡ true
           in_c u (at e) = e
           in_c u (by {v = w} i b r) = k.t_closed w u (is_graph.symmetric u w b) (in_c w r) (t_in_d u (s.district.complete u (by i b r)))
+
           t_in_c : (u : ℕ) → has t u ≡ true → has c u ≡ true
           t_in_c u e = in_c u (s.district.sound u e)
+
       go : Found (λ v. has t v && has x v) ⊎ ((v : ℕ) → v < g.vertices → (has t v && has x v) ≡ false) → Meets (has t) (has x)
       go (inl f) = record { vertex = f.vertex; in_first = and_l (has t f.vertex) (has x f.vertex) f.holds; in_second = and_r (has t f.vertex) (has x f.vertex) f.holds }
       go (inr h) = absurd (all_out h)
@@ -249,6 +264,7 @@ module _ (g : MixedGraph) (is_graph : IsMixedGraph g) (o : List ℕ) (order : Is
     where
       r : IsAncestor (induced g (has t)) (has c) u
       r = s.all_lead.sound u e
+
       go : (xs : List ℕ) → IsDirectedPath (induced g (has t)) u xs r.end → LeadsInto g t u
       go [] p = absurd (clash (has c u) (rw p r.inside) n)
       go (w ∷ xs) p = record { child = w; arrow = and_l (g.arrow u w) (has t u && has t w) p.0; within = and_r (has t u) (has t w) (and_r (g.arrow u w) (has t u && has t w) p.0) }
@@ -259,6 +275,7 @@ module _ (g : MixedGraph) (is_graph : IsMixedGraph g) (o : List ℕ) (order : Is
       where
         none : ((w : ℕ) → w < g.vertices → (g.arrow u w && has c w) ≡ false) → (w : ℕ) → g.arrow u w ≡ true → has c w ≡ true → ⊥
         none h w b i = clash (g.arrow u w && has c w) (both_true (g.arrow u w) (has c w) b i) (h w (is_graph.head_below u w b))
+
         go : Found (λ w. g.arrow u w && has c w) ⊎ ((w : ℕ) → w < g.vertices → (g.arrow u w && has c w) ≡ false) → LeadsInto g c u
         go (inl f) = record { child = f.vertex; arrow = and_l (g.arrow u f.vertex) (has c f.vertex) f.holds; within = and_r (g.arrow u f.vertex) (has c f.vertex) f.holds }
         go (inr h) = absurd (clash (has roots u) (are_roots.complete u (e, none h)) n)
@@ -269,16 +286,17 @@ module _ (g : MixedGraph) (is_graph : IsMixedGraph g) (o : List ℕ) (order : Is
 
     pub hedge : AreSetsOfHedge g x y t c roots
     hedge = record {
-        low = t_low;
-        small_inside = c_in_t;
-        roots_inside = λ u e. (are_roots.sound u e).0;
-        rooted = record { vertex = some_root.vertex; in_first = are_roots.complete some_root.vertex (some_root.inside, some_root.last); in_second = some_root.inside };
-        meets = meets;
-        apart = λ u e. d_off g is_graph o order x y tgt d is_d u (k.t_in u e);
-        small_leads = small_leads;
-        big_leads = big_leads;
-        small_reaches = λ u e. reaches_from g is_graph c roots 0 o small_leads (λ w u b i. absurd (clash (has 0 u) i (has-zero u))) order u (d_low g is_graph o order x y tgt d is_d u (k.t_in u e)) e (has-zero u);
-        big_reaches = λ u e. s.all_lead.sound u e;
-        small_joined = district_joined g is_graph d hm.vertex c hm.district;
-        big_joined = big_joined g is_graph s.a c t k.some s.district k.some_in (district_joined g is_graph d hm.vertex c hm.district);
-        reaches = λ u e. outside_x u (is_d.sound u (k.t_in u (are_roots.sound u e).0)) }
+      low = t_low;
+      small_inside = c_in_t;
+      roots_inside = λ u e. (are_roots.sound u e).0;
+      rooted = record { vertex = some_root.vertex; in_first = are_roots.complete some_root.vertex (some_root.inside, some_root.last); in_second = some_root.inside };
+      meets = meets;
+      apart = λ u e. d_off g is_graph o order x y tgt d is_d u (k.t_in u e);
+      small_leads = small_leads;
+      big_leads = big_leads;
+      small_reaches = λ u e. reaches_from g is_graph c roots 0 o small_leads (λ w u b i. absurd (clash (has 0 u) i (has-zero u))) order u (d_low g is_graph o order x y tgt d is_d u (k.t_in u e)) e (has-zero u);
+      big_reaches = λ u e. s.all_lead.sound u e;
+      small_joined = district_joined g is_graph d hm.vertex c hm.district;
+      big_joined = big_joined g is_graph s.a c t k.some s.district k.some_in (district_joined g is_graph d hm.vertex c hm.district);
+      reaches = λ u e. outside_x u (is_d.sound u (k.t_in u (are_roots.sound u e).0));
+    }

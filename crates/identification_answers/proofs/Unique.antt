@@ -1,5 +1,5 @@
 -- Identification makes one formula, or stops at one place, never both.
-use Rattle.std.proofs.Common.{ℕ, zero, suc, ◌+◌, ◌≡◌, ◌<◌, Bool, true, false, refl, sym, ap, ap₂, subst, ◌∙◌, ◌⊎◌, inl, inr, List, [], ◌∷◌, ◌++◌, length, arith, rules}
+use Rattle.std.proofs.Common.{ℕ, suc, ◌+◌, ◌≡◌, Bool, true, false, refl, sym, ap, ap₂, subst, ◌∙◌, ◌⊎◌, inl, inr, List, ◌∷◌, ◌++◌, length, arith}
 use Rattle.districts.specs.Linked.{AreDistricts, IsSetOf}
 use Rattle.do_derivation.specs.Shapes.{as_one}
 use Rattle.identification.proofs.Bools.{clash}
@@ -105,10 +105,13 @@ module _ (g : MixedGraph) (o : List ℕ) where
     where
       formula_same : (f h : PlainFormula) → f.defs ≡ h.defs → f.main ≡ h.main → f ≡ h
       formula_same f h p q = ap₂ (λ a b. record { defs = a; main = b }) p q
+
       d_same : t.d ≡ u.d
       d_same = one_set t.d u.d _ t.is_d u.is_d
+
       ts_same : t.districts ≡ u.districts
       ts_same = districts_one t.d 0 o t.districts u.districts t.are_districts (subst (λ z. AreDistricts g z 0 o u.districts) (sym d_same) u.are_districts)
+
       same : SameAll f.defs t.factors h.defs u.factors
       same = factored_one 0 t.districts f.defs h.defs t.factors u.factors t.are_factored (subst (λ z. AreFactored g o 0 z h.defs u.factors) (sym ts_same) u.are_factored)
 
