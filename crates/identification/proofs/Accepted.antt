@@ -9,16 +9,16 @@ use Rattle.do_derivation.specs.Steps.{IsMade, Makes, MakesAll}
 use Rattle.do_derivation.specs.Table.{Row, Rule, if_made, is_new}
 use Rattle.do_derivation.specs.declared.faults.StepFault.TheVariants.{BadOrder, Grouping, Sets, Shape}
 use Rattle.do_derivation.specs.declared.faults.StepFault.{StepFault}
-use Rattle.identification.proofs.Assembly.{starts, unchain_lists, unchain_steps, home_list, home_lists, listed, each_unchained, each_homed, cited_two, sets-append, length-sets, define-two}
-use Rattle.identification.proofs.Bodies.{single, Lists, no_more, more, at_each, EachMade, each_made, widen_made}
-use Rattle.identification.proofs.Body.{in_order, order_in}
+use Rattle.identification.proofs.Assembly.{starts, listed, each_unchained, each_homed, cited_two, sets-append, length-sets, define-two}
+use Rattle.identification.proofs.Bodies.{EachMade, each_made, widen_made}
+use Rattle.identification.proofs.Body.{order_in}
 use Rattle.identification.proofs.Bools.{and_l, and_r, both_true, clash, not_e, not_i}
 use Rattle.identification.proofs.Chain.{new_set}
-use Rattle.identification.proofs.Factor.{IsStage, Factored, factored, AllCited, at_zero, sum_at, ancestors_in}
-use Rattle.identification.proofs.Groups.{Among, count, home, IsPart, AreParts, are_parts, once, in_list, homed, by_district, group_lists, is_grouped, groups_are, count-homed, once_at, EachOnce, each_listed, among_in_order}
+use Rattle.identification.proofs.Factor.{IsStage, Factored, factored, AllCited, sum_at, ancestors_in}
+use Rattle.identification.proofs.Groups.{Among, count, IsPart, AreParts, are_parts, once, in_list, homed, by_district, is_grouped, groups_are, count-homed, once_at, EachOnce, each_listed, among_in_order}
 use Rattle.identification.proofs.Nesting.{steps_more, with_deep, place_at, each_at, are_lists_to, lemmas_append}
 use Rattle.identification.proofs.Orders.{IsOrderFrom}
-use Rattle.identification.proofs.Places.{made_if, cut_three, with_set, made_with}
+use Rattle.identification.proofs.Places.{made_if, cut_three, made_with}
 use Rattle.identification.proofs.Separations.{actions_apart}
 use Rattle.identification.proofs.Sets.{all-below, all-is, empty-has, has-minus}
 use Rattle.identification.specs.Depth.{are_lemmas_within, are_plans_within}
@@ -29,6 +29,7 @@ use Rattle.mixed_graph.specs.Bits.{has}
 use Rattle.mixed_graph.specs.Graphs.{IsAncestor, IsMixedGraph, MixedGraph, induced}
 use Rattle.prob_expr.specs.Masks.{all, is_below, is_empty, join, minus, one}
 use Rattle.prob_expr.specs.Tree.{Tree, Trees, named, no_trees, prob, product, quotient, sum, tree}
+use Rattle.identification.specs.Derivations.{single, with_set, Lists, no_more, more, at_each, at_zero, in_order, home, home_list, home_lists, group_lists, unchain_steps, unchain_lists, unwrap_steps, rest_steps, main_steps}
 
 pub are_sets-append : (n : ℕ) (a b : List ℕ) → are_sets n a ≡ true → are_sets n b ≡ true → are_sets n (a ++ b) ≡ true
 are_sets-append n [] b h k = k
@@ -79,9 +80,6 @@ module _ (g : MixedGraph) (is_graph : IsMixedGraph g) (o : List ℕ) (order : Is
       }
 
 -- ---- the last step: a factor that is a product
-abbrev pub unwrap_steps : Trees → Plans
-unwrap_steps fs = cond (has_product fs) (single (Plan.Make Move.Unwrap)) no_plans
-
 flat-same : (fs : Trees) → has_product fs ≡ false → flat fs ≡ fs
 flat-same no_trees h = refl
 flat-same (tree (product es) fs) h = absurd (grind (arith, h))
@@ -120,13 +118,6 @@ module _ (g : MixedGraph) (is_graph : IsMixedGraph g) (o : List ℕ) (order : Is
       go (inl x) (inl y) = let i : has t v ≡ true = rw x at p.0.some_in in let j : has s v ≡ true = rw y at p.1.0.some_in in let z : 1 + (1 + count ts v) ≡ 1 = rw (i, j) at c.0 in omega (arith, z)
   two_long t s ts (v ∷ w ∷ l) p h c = omega arith
 
-  abbrev pub rest_steps : List ℕ → Lists → Trees → Plans
-  rest_steps [] xs fs = no_plans
-  rest_steps (t ∷ []) (more l xs) fs = l
-  rest_steps (t ∷ []) no_more fs = no_plans
-  rest_steps (t ∷ s ∷ ts) xs fs = plan (Plan.Make (Move.Chain (in_order d o))) (at_each 0 (home_lists d (t ∷ s ∷ ts) 0 o) (plan (Plan.Make (Move.Group (group_lists (t ∷ s ∷ ts) (in_order d o))))
-      (at_each 0 (unchain_lists g.vertices (t ∷ s ∷ ts) (in_order d o)) (at_each 0 xs (unwrap_steps fs)))))
-
   pub product_is : (ls : List ℕ) (xs : Lists) (t s : ℕ) (ts : List ℕ) (fs : Trees) → EachMade g ls xs (starts g.vertices (t ∷ s ∷ ts)) fs → product_of fs ≡ product (flat fs)
   product_is ls (more l (more l2 xs)) t s ts (tree e (tree f fs)) h = refl
   product_is ls (more l (more l2 xs)) t s ts (tree e no_trees) h = absurd h.1
@@ -148,16 +139,14 @@ module _ (g : MixedGraph) (is_graph : IsMixedGraph g) (o : List ℕ) (order : Is
           (with_deep 9 (minus (minus d t) (minus (common d p) t)) (Plan.Make (Move.Rule3In (minus (minus d t) (minus (common d p) t)))) no_plans refl refl)) r
       go false r = r
 
-  unchains_deep : (ts l : List ℕ) → are_lists_to 9 (unchain_lists g.vertices ts l) ≡ true
+  unchains_deep : (ts l : List ℕ) → are_lists_to 9 (unchain_lists ts l) ≡ true
   unchains_deep [] l = refl
-  unchains_deep (t ∷ ts) l = both_true (are_plans_within 9 (unchain_steps (as_one (chained (minus (all g.vertices) t) 0 (in_order t l))))) (are_lists_to 9 (unchain_lists g.vertices ts l)) (go (as_one (chained (minus (all g.vertices) t) 0 (in_order t l)))) (unchains_deep ts l)
+  unchains_deep (t ∷ ts) l = both_true (are_plans_within 9 (unchain_steps (in_order t l))) (are_lists_to 9 (unchain_lists ts l)) (go (in_order t l)) (unchains_deep ts l)
     where
-      go : (e : Tree) → are_plans_within 9 (unchain_steps e) ≡ true
-      go (prob a b c) = refl
-      go (sum u e) = refl
-      go (product fs) = refl
-      go (quotient p q) = refl
-      go (named j) = refl
+      go : (o2 : List ℕ) → are_plans_within 9 (unchain_steps o2) ≡ true
+      go [] = refl
+      go (v ∷ []) = refl
+      go (v ∷ w ∷ o2) = refl
 
   pub unwrap_deep : (fs : Trees) → are_plans_within 11 (unwrap_steps fs) ≡ true
   unwrap_deep fs = go (has_product fs)
@@ -166,18 +155,18 @@ module _ (g : MixedGraph) (is_graph : IsMixedGraph g) (o : List ℕ) (order : Is
       go true = refl
       go false = refl
 
-  pub rest_deep : (ts : List ℕ) (xs : Lists) (fs : Trees) → are_lists_to 9 xs ≡ true → are_plans_within 11 (rest_steps ts xs fs) ≡ true
+  pub rest_deep : (ts : List ℕ) (xs : Lists) (fs : Trees) → are_lists_to 9 xs ≡ true → are_plans_within 11 (rest_steps o d ts xs fs) ≡ true
   rest_deep [] xs fs h = refl
   rest_deep (t ∷ []) no_more fs h = refl
   rest_deep (t ∷ []) (more l xs) fs h = steps_more 10 l (steps_more 9 l (and_l (are_plans_within 9 l) (are_lists_to 9 xs) h))
   rest_deep (t ∷ s ∷ ts) xs fs h = each_at 9 0 (home_lists d (t ∷ s ∷ ts) 0 o) after (homes_deep (t ∷ s ∷ ts) 0 o)
-      (each_at 9 0 (unchain_lists g.vertices (t ∷ s ∷ ts) (in_order d o)) (at_each 0 xs (unwrap_steps fs)) (unchains_deep (t ∷ s ∷ ts) (in_order d o)) (each_at 9 0 xs (unwrap_steps fs) h (unwrap_deep fs)))
+      (each_at 9 0 (unchain_lists (t ∷ s ∷ ts) (in_order d o)) (at_each 0 xs (unwrap_steps fs)) (unchains_deep (t ∷ s ∷ ts) (in_order d o)) (each_at 9 0 xs (unwrap_steps fs) h (unwrap_deep fs)))
     where
       after : Plans
-      after = plan (Plan.Make (Move.Group (group_lists (t ∷ s ∷ ts) (in_order d o)))) (at_each 0 (unchain_lists g.vertices (t ∷ s ∷ ts) (in_order d o)) (at_each 0 xs (unwrap_steps fs)))
+      after = plan (Plan.Make (Move.Group (group_lists (t ∷ s ∷ ts) (in_order d o)))) (at_each 0 (unchain_lists (t ∷ s ∷ ts) (in_order d o)) (at_each 0 xs (unwrap_steps fs)))
 
   -- from P(d | do(the rest)) to the product of the factors
-  pub rest_made : (ls ts : List ℕ) (xs : Lists) (fs : Trees) → AreDistricts g d 0 o ts → EachMade g ls xs (starts g.vertices ts) fs → MakesAll g ls (rest_steps ts xs fs) (prob d (minus (all g.vertices) d) 0) (product_of fs)
+  pub rest_made : (ls ts : List ℕ) (xs : Lists) (fs : Trees) → AreDistricts g d 0 o ts → EachMade g ls xs (starts g.vertices ts) fs → MakesAll g ls (rest_steps o d ts xs fs) (prob d (minus (all g.vertices) d) 0) (product_of fs)
   rest_made ls [] xs fs r h = absurd (let c : 0 ≡ 1 = once g is_graph d o [] r some some_in (in_all some some_in) in omega (arith, c))
   rest_made ls (t ∷ []) (more l no_more) (tree e no_trees) r h = subst (λ z. MakesAll g ls l (prob z (minus (all g.vertices) z) 0) e) same h.0
     where
@@ -213,7 +202,7 @@ module _ (g : MixedGraph) (is_graph : IsMixedGraph g) (o : List ℕ) (order : Is
               (subst (λ z. is_grouping z (group_lists all_ts l) ≡ true) (sym (count-homed g.vertices all_ts 0 l))
               (is_grouped g d all_ts l parts (λ u i. among_in_order d u o i (in_all u i)) (λ i q. once_at all_ts l i each q) (omega arith)))
               ∙ ap (λ z. Some (product z)) (groups_are g.vertices all_ts l each)),
-          each_made g ls (unchain_lists g.vertices all_ts l) (by_district g.vertices all_ts l) (starts g.vertices all_ts) (at_each 0 xs (unwrap_steps fs)) (product_of fs) (each_unchained g is_graph o order d low ls all_ts parts)
+          each_made g ls (unchain_lists all_ts l) (by_district g.vertices all_ts l) (starts g.vertices all_ts) (at_each 0 xs (unwrap_steps fs)) (product_of fs) (each_unchained g is_graph o order d low ls all_ts parts)
               (each_made g ls xs (starts g.vertices all_ts) fs (unwrap_steps fs) (product_of fs) h
               (subst (λ z. MakesAll g ls (unwrap_steps fs) (product fs) z) (sym (product_is ls xs t s ts fs h)) (unwrap_made g ls fs))),
         ),
@@ -244,7 +233,7 @@ module _ (g : MixedGraph) (is_graph : IsMixedGraph g) (o : List ℕ) (order : Is
           has-zero-refl u = refl
 
       after_homes : Plans
-      after_homes = plan (Plan.Make (Move.Group (group_lists (t ∷ s ∷ ts) (in_order d o)))) (at_each 0 (unchain_lists g.vertices (t ∷ s ∷ ts) (in_order d o)) (at_each 0 xs (unwrap_steps fs)))
+      after_homes = plan (Plan.Make (Move.Group (group_lists (t ∷ s ∷ ts) (in_order d o)))) (at_each 0 (unchain_lists (t ∷ s ∷ ts) (in_order d o)) (at_each 0 xs (unwrap_steps fs)))
 
 -- ---- the whole derivation
 module _ (g : MixedGraph) (is_graph : IsMixedGraph g) (o : List ℕ) (order : IsOrderFrom g 0 o) (x y : ℕ) (tgt : IsTarget g x y) (d : ℕ) (is_d : AreAncestorsIn g (minus (all g.vertices) x) y d) where
@@ -321,10 +310,7 @@ module _ (g : MixedGraph) (is_graph : IsMixedGraph g) (o : List ℕ) (order : Is
   abbrev summed_out : ℕ
   summed_out = minus d y
 
-  abbrev pub main_steps : Plans → Plans
-  main_steps rest = with_set others (Plan.Make (Move.Rule3In others)) (cond (is_empty summed_out) rest (plan (Plan.Make (Move.Widen summed_out)) (at_zero rest)))
-
-  pub main_made : (ls : List ℕ) (rest : Plans) (e : Tree) → MakesAll g ls rest (prob d (minus (all g.vertices) d) 0) e → MakesAll g ls (main_steps rest) (prob y x 0) (sum_if summed_out e)
+  pub main_made : (ls : List ℕ) (rest : Plans) (e : Tree) → MakesAll g ls rest (prob d (minus (all g.vertices) d) 0) e → MakesAll g ls (main_steps g.vertices x y d rest) (prob y x 0) (sum_if summed_out e)
   main_made ls rest e h = made_with g ls others (Plan.Make (Move.Rule3In others)) (cond (is_empty summed_out) rest (plan (Plan.Make (Move.Widen summed_out)) (at_zero rest))) (prob y x 0) (prob y (minus (all g.vertices) d) 0) (sum_if summed_out e) no_act (act ls) (go (is_empty summed_out) refl)
     where
       of_sum : (u : ℕ) → has summed_out u ≡ true → (has d u ≡ true) × (has y u ≡ false)
@@ -349,7 +335,7 @@ module _ (g : MixedGraph) (is_graph : IsMixedGraph g) (o : List ℕ) (order : Is
         sum_at g ls rest summed_out (prob d (minus (all g.vertices) d) 0) e h,
       )
 
-  pub main_deep : (rest : Plans) → are_plans_within 11 rest ≡ true → are_plans_within 13 (main_steps rest) ≡ true
+  pub main_deep : (rest : Plans) → are_plans_within 11 rest ≡ true → are_plans_within 13 (main_steps g.vertices x y d rest) ≡ true
   main_deep rest h = with_deep 13 others (Plan.Make (Move.Rule3In others)) (cond (is_empty summed_out) rest (plan (Plan.Make (Move.Widen summed_out)) (at_zero rest))) refl (go (is_empty summed_out))
     where
       go : (b : Bool) → are_plans_within 13 (cond b rest (plan (Plan.Make (Move.Widen summed_out)) (at_zero rest))) ≡ true

@@ -7,14 +7,13 @@ use Rattle.do_derivation.specs.Shapes.{as_one, chained, gathered, is_list_of, te
 use Rattle.do_derivation.specs.Steps.{IsMade, Makes, MakesAll}
 use Rattle.do_derivation.specs.Table.{if_made}
 use Rattle.do_derivation.specs.declared.faults.StepFault.TheVariants.{Shape}
-use Rattle.identification.proofs.Bodies.{IsCited, single, Lists, no_more, more, EachMade}
-use Rattle.identification.proofs.Body.{in_order, is_list, IsSite, order_in}
+use Rattle.identification.proofs.Bodies.{IsCited, EachMade}
+use Rattle.identification.proofs.Body.{is_list, IsSite, order_in}
 use Rattle.identification.proofs.Bools.{and_l, and_r, both_true, clash, decide, not_e, or_e, or_l}
 use Rattle.identification.proofs.Chain.{home_made}
 use Rattle.identification.proofs.Factor.{AllCited}
-use Rattle.identification.proofs.Groups.{Among, count, home, IsPart, AreParts, part_among, home_among, homed, by_district, in_order-in, common-in, common-out}
+use Rattle.identification.proofs.Groups.{Among, count, IsPart, AreParts, part_among, home_among, homed, by_district, in_order-in, common-in, common-out}
 use Rattle.identification.proofs.Orders.{IsOrderFrom}
-use Rattle.identification.proofs.Places.{with_set}
 use Rattle.identification.proofs.Separations.{IsPlace}
 use Rattle.identification.proofs.Sets.{apart, empty-has, has-minus, one-is}
 use Rattle.identification.specs.Procedure.{Source, common}
@@ -23,16 +22,12 @@ use Rattle.mixed_graph.specs.Bits.{has}
 use Rattle.mixed_graph.specs.Graphs.{IsMixedGraph, MixedGraph}
 use Rattle.prob_expr.specs.Masks.{all, is_apart, is_empty, join, minus, one}
 use Rattle.prob_expr.specs.Tree.{Tree, Trees, no_trees, prob, product, tree}
+use Rattle.identification.specs.Derivations.{more, in_order, home, home_list, home_lists, unchain_steps, unchain_lists}
 
 -- ---- the start of each factor
 abbrev pub starts : ℕ → List ℕ → Trees
 starts n [] = no_trees
 starts n (t ∷ ts) = tree (prob t (minus (all n) t) 0) (starts n ts)
-
--- several terms of a chain are one term again
-abbrev pub unchain_steps : Tree → Plans
-unchain_steps (product fs) = single (Plan.Make Move.Unchain)
-unchain_steps _ = no_plans
 
 -- a set and a list of its further members
 gathered_is : (b a t w : ℕ) (l : List ℕ) → w ≡ a → is_list_of l (minus t a) ≡ true → ((u : ℕ) → has a u ≡ true → has t u ≡ true) → gathered a b 0 (chained b w l) ≡ Some t
@@ -70,7 +65,7 @@ gathered_is b a t w (v ∷ l) same e within = pass (is_apart (one v) a && (eqb b
         go (inr j) = rw (one-is v u j) (and_l (has t v) (not (has a v)) iv)
 
 module _ (g : MixedGraph) (ls : List ℕ) where
-  unchain_made : (t b : ℕ) (l : List ℕ) → is_list_of l t ≡ true → (u : ℕ) → has t u ≡ true → MakesAll g ls (unchain_steps (as_one (chained b 0 l))) (as_one (chained b 0 l)) (prob t b 0)
+  unchain_made : (t b : ℕ) (l : List ℕ) → is_list_of l t ≡ true → (u : ℕ) → has t u ≡ true → MakesAll g ls (unchain_steps l) (as_one (chained b 0 l)) (prob t b 0)
   unchain_made t b [] e u i = absurd (clash (has t u) i (empty-has t u e))
   unchain_made t b (v ∷ []) e u i = ap (λ z. prob z b 0) (same_from_has t (one v) (λ w. go w (decide (has (one v) w))))
     where
@@ -93,18 +88,6 @@ module _ (g : MixedGraph) (ls : List ℕ) where
       made_option : (o : Option Tree) (x : Tree) → o ≡ Some x → IsMade g (if_made o Shape) x
       made_option o x q = rw q refl
 
-abbrev pub unchain_lists : ℕ → List ℕ → List ℕ → Lists
-unchain_lists n [] l = no_more
-unchain_lists n (t ∷ ts) l = more (unchain_steps (as_one (chained (minus (all n) t) 0 (in_order t l)))) (unchain_lists n ts l)
-
--- to the district t, at a place with p before it
-abbrev pub home_list : (d t p : ℕ) → Plans
-home_list d t p = with_set (minus (common d p) t) (Plan.Make (Move.Rule2Do (minus (common d p) t))) (with_set (minus (minus d t) (minus (common d p) t)) (Plan.Make (Move.Rule3In (minus (minus d t) (minus (common d p) t)))) no_plans)
-
-abbrev pub home_lists : (d : ℕ) → List ℕ → (p : ℕ) → List ℕ → Lists
-home_lists d ts p [] = no_more
-home_lists d ts p (v ∷ o) = cond (has d v) (more (home_list d (home ts v) p) (home_lists d ts (join p (one v)) o)) (home_lists d ts (join p (one v)) o)
-
 minus-zero : (t : ℕ) → minus t 0 ≡ t
 minus-zero t = same_from_has (minus t 0) t (λ u. has-minus t 0 u ∙ rw (has-zero u) (bools (has t u)))
   where
@@ -118,7 +101,7 @@ module _ (g : MixedGraph) (is_graph : IsMixedGraph g) (o : List ℕ) (order : Is
   pub listed : (t : ℕ) → IsPart g d t → is_list_of (in_order t o) t ≡ true
   listed t k = subst (λ z. is_list_of (in_order t o) z ≡ true) (minus-zero t) (is_list g is_graph d (Source.Defined 0) d t (record { low = tt; outside = tt; inside = λ u e. e }) (site t k) 0 o (order_in g d 0 o order))
 
-  pub each_unchained : (ls ts : List ℕ) → AreParts g d ts → EachMade g ls (unchain_lists g.vertices ts (in_order d o)) (by_district g.vertices ts (in_order d o)) (starts g.vertices ts)
+  pub each_unchained : (ls ts : List ℕ) → AreParts g d ts → EachMade g ls (unchain_lists ts (in_order d o)) (by_district g.vertices ts (in_order d o)) (starts g.vertices ts)
   each_unchained ls [] h = tt
   each_unchained ls (t ∷ ts) h = (unchain_made g ls t (minus (all g.vertices) t) (in_order t (in_order d o)) (subst (λ z. is_list_of z t ≡ true) (sym (in_order-in d t o h.0.t_in)) (listed t h.0)) h.0.some h.0.some_in, each_unchained ls ts h.1)
 

@@ -15,6 +15,7 @@ use Rattle.mixed_graph.specs.Bits.{has}
 use Rattle.mixed_graph.specs.Graphs.{MixedGraph}
 use Rattle.prob_expr.specs.Masks.{all, is_apart, is_below, is_empty, join, minus, one}
 use Rattle.prob_expr.specs.Tree.{Tree, Trees, named, no_trees, prob, product, quotient, sum, tree}
+use Rattle.identification.specs.Derivations.{single, Lists, no_more, more, at_place, at_each, universe, marginal_steps, source_steps}
 
 -- ---- lists of steps
 -- the definition that a source names is cited for a
@@ -26,22 +27,6 @@ IsCited ls (Source.Defined k) a = (k < length ls) × (get_or ls k 0 ≡ a)
 abbrev pub IsLow : ℕ → Source → Type 0
 IsLow n (Source.Under z) = (u : ℕ) → has z u ≡ true → u < n
 IsLow n (Source.Defined k) = Unit {0}
-
--- where arrows into a may come from: the sets that are held are the rest
-abbrev pub universe : ℕ → Source → ℕ → ℕ
-universe n (Source.Under z) a = minus (all n) z
-universe n (Source.Defined k) a = a
-
-abbrev pub single : Plan → Plans
-single s = plan s no_plans
-
-abbrev pub marginal_steps : (k a u : ℕ) → Plans
-marginal_steps k a u = cond (is_empty (minus a u)) (single (Plan.Make (Move.Cite k))) (plan (Plan.Make (Move.Widen (minus a u))) (single (Plan.At 0 (Plan.Then (single (Plan.Make (Move.Cite k)))))))
-
-abbrev pub source_steps : Source → (a v m : ℕ) → Plans
-source_steps (Source.Under z) a v m = no_plans
-source_steps (Source.Defined k) a v m = cond (is_empty m) (marginal_steps k a (one v))
-    (plan (Plan.Make Move.Split) (plan (Plan.At 0 (Plan.Then (marginal_steps k a (join m (one v))))) (single (Plan.At 1 (Plan.Then (marginal_steps k a m))))))
 
 module _ (g : MixedGraph) (ls : List ℕ) where
   pub cite_made : (k a : ℕ) → IsCited ls (Source.Defined k) a → Makes g ls (Plan.Make (Move.Cite k)) (prob a (minus (all g.vertices) a) 0) (named k)
@@ -132,19 +117,6 @@ module _ (g : MixedGraph) (ls : List ℕ) where
       )
 
 -- ---- one list of steps per factor of a product
-pub data Lists : Type 0 where
-  no_more : Lists
-  more : Plans → Lists → Lists
-
--- left out where the list is empty
-abbrev pub at_place : ℕ → Plans → Plans → Plans
-at_place i no_plans rest = rest
-at_place i (plan s l) rest = plan (Plan.At i (Plan.Then (plan s l))) rest
-
-abbrev pub at_each : ℕ → Lists → Plans → Plans
-at_each i no_more rest = rest
-at_each i (more l ls) rest = at_place i l (at_each (suc i) ls rest)
-
 abbrev pub EachMade : MixedGraph → List ℕ → Lists → Trees → Trees → Type 0
 EachMade g ls no_more no_trees no_trees = Unit {0}
 EachMade g ls (more l xs) (tree e es) (tree f fs) = MakesAll g ls l e f × EachMade g ls xs es fs

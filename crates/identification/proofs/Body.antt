@@ -7,11 +7,11 @@ use Rattle.do_derivation.specs.Shapes.{as_one, chained, is_list_of}
 use Rattle.do_derivation.specs.Steps.{MakesAll}
 use Rattle.do_derivation.specs.Table.{Row}
 use Rattle.do_derivation.specs.declared.faults.StepFault.TheVariants.{BadOrder}
-use Rattle.identification.proofs.Bodies.{IsCited, IsLow, universe, source_steps, source_made, Lists, no_more, more, at_each, EachMade, each_made}
+use Rattle.identification.proofs.Bodies.{IsCited, IsLow, source_made, EachMade, each_made}
 use Rattle.identification.proofs.Bools.{and_l, and_r, both_true, clash, decide, not_i, or_e, or_l, or_r}
 use Rattle.identification.proofs.Nesting.{steps_more, each_at, place_deep, are_lists_to}
 use Rattle.identification.proofs.Orders.{IsOrderFrom}
-use Rattle.identification.proofs.Places.{made_if, place_list, place_made}
+use Rattle.identification.proofs.Places.{made_if, place_made}
 use Rattle.identification.proofs.Separations.{IsPlace}
 use Rattle.identification.proofs.Sets.{all-below, all-is, empty-has, has-minus, one-is, one-self}
 use Rattle.identification.specs.Depth.{are_plans_within}
@@ -22,6 +22,7 @@ use Rattle.mixed_graph.specs.Bits.{has}
 use Rattle.mixed_graph.specs.Graphs.{IsMixedGraph, MixedGraph, induced}
 use Rattle.prob_expr.specs.Masks.{all, is_empty, join, minus, one}
 use Rattle.prob_expr.specs.Tree.{Tree, Trees, no_trees, prob, product, tree}
+use Rattle.identification.specs.Derivations.{Lists, no_more, more, in_order, universe, source_steps, place_list, body_steps}
 
 -- a district t of a, where a holds what leads to it from the universe
 pub record IsSite (g : MixedGraph) (from : Source) (a t : ℕ) : Type 0 where
@@ -31,11 +32,6 @@ pub record IsSite (g : MixedGraph) (from : Source) (a t : ℕ) : Type 0 where
   pub t_closed : (u w : ℕ) → g.both u w ≡ true → has t u ≡ true → has a w ≡ true → has t w ≡ true
   pub some : ℕ
   pub some_in : has t some ≡ true
-
--- the members of t in the order
-abbrev pub in_order : ℕ → List ℕ → List ℕ
-in_order t [] = []
-in_order t (v ∷ o) = cond (has t v) (v ∷ in_order t o) (in_order t o)
 
 pub in_order-take : (t v : ℕ) (o : List ℕ) → has t v ≡ true → in_order t (v ∷ o) ≡ v ∷ in_order t o
 in_order-take t v o e = rw e refl
@@ -218,13 +214,6 @@ module _ (g : MixedGraph) (is_graph : IsMixedGraph g) (room : ℕ) (from : Sourc
                 where
                   bools : (x y : Bool) → (x && not (y || false)) ≡ (x && not y)
                   bools x y = grind arith
-
-  -- one member: its list; several: the chain and each list at its place
-  abbrev pub body_steps : List ℕ → Lists → Plans
-  body_steps [] xs = no_plans
-  body_steps (v ∷ []) no_more = no_plans
-  body_steps (v ∷ []) (more l xs) = l
-  body_steps (v ∷ w ∷ o) xs = plan (Plan.Make (Move.Chain (v ∷ w ∷ o))) (at_each 0 xs no_plans)
 
   whole_product : (ls : List ℕ) (xs : Lists) (x y : Tree) (es fs : Trees) → EachMade g ls xs (tree x (tree y es)) fs → as_one fs ≡ product fs
   whole_product ls (more l (more l2 xs)) x y es (tree f (tree f2 fs)) h = refl

@@ -5,7 +5,7 @@ use Rattle.do_derivation.specs.Steps.{Makes, MakesAll}
 use Rattle.do_derivation.specs.Table.{Row, Rule, is_new, is_part}
 use Rattle.do_derivation.specs.declared.faults.StepFault.TheVariants.{Sets}
 use Rattle.identification.proofs.Bools.{and_l, and_r, both_true, clash, not_e, not_i, or_l, or_r}
-use Rattle.identification.proofs.Places.{with_set, made_with, made_if, part, cut_three}
+use Rattle.identification.proofs.Places.{made_with, made_if, part, cut_three}
 use Rattle.identification.proofs.Separations.{IsPlace, later_not_above, later_removed, earlier_exchanged}
 use Rattle.identification.proofs.Sets.{all-is, apart, below, empty-has, has-minus, one-is}
 use Rattle.identification.specs.Procedure.{common}
@@ -14,6 +14,7 @@ use Rattle.mixed_graph.specs.Bits.{has}
 use Rattle.mixed_graph.specs.Graphs.{IsMixedGraph, MixedGraph}
 use Rattle.prob_expr.specs.Masks.{all, is_apart, is_below, is_empty, join, minus, one}
 use Rattle.prob_expr.specs.Tree.{prob}
+use Rattle.identification.specs.Derivations.{with_set}
 
 -- not empty, below n, apart from the three
 pub new_set : (n z a b c : ℕ) → is_empty z ≡ false → ((v : ℕ) → has z v ≡ true → v < n) → ((v : ℕ) → has z v ≡ true → has a v ≡ true → ⊥) → ((v : ℕ) → has z v ≡ true → has b v ≡ true → ⊥)

@@ -7,7 +7,7 @@ use Rattle.do_derivation.specs.Plans.{Move, PlainLemma, Plan, Plans, no_plans, p
 use Rattle.do_derivation.specs.Steps.{Holds, Makes, MakesAll}
 use Rattle.do_derivation.specs.Table.{Row, Rule, is_part}
 use Rattle.do_derivation.specs.declared.faults.StepFault.TheVariants.{Sets}
-use Rattle.identification.proofs.Bodies.{IsCited, universe, at_place, widen_made}
+use Rattle.identification.proofs.Bodies.{IsCited, widen_made}
 use Rattle.identification.proofs.Body.{IsSite, IsHeld, universe_in, body_made}
 use Rattle.identification.proofs.Bools.{and_l, and_r, both_true, clash, decide, not_e, not_i}
 use Rattle.identification.proofs.Nesting.{steps_more, place_at}
@@ -24,6 +24,7 @@ use Rattle.mixed_graph.specs.Graphs.{IsAncestor, IsDirectedPath, IsMixedGraph, M
 use Rattle.prob_expr.specs.Masks.{all, is_below, is_empty, join, minus}
 use Rattle.prob_expr.specs.Tree.{Tree, prob, sum}
 use Rattle.surgery.specs.Cuts.{cut_into}
+use Rattle.identification.specs.Derivations.{more, at_zero, universe, cut_steps}
 
 -- c lies in a, which holds what leads to it from the universe
 pub record IsStage (g : MixedGraph) (from : Source) (a c : ℕ) : Type 0 where
@@ -33,20 +34,14 @@ pub record IsStage (g : MixedGraph) (from : Source) (a c : ℕ) : Type 0 where
   pub some : ℕ
   pub some_in : has c some ≡ true
 
-abbrev pub at_zero : Plans → Plans
-at_zero l = at_place 0 l no_plans
-
 pub sum_at : (g : MixedGraph) (ls : List ℕ) (l : Plans) (s : ℕ) (b e : Tree) → MakesAll g ls l b e → MakesAll g ls (at_zero l) (sum s b) (sum s e)
 sum_at g ls no_plans s b e h = ap (sum s) h
 sum_at g ls (plan x l) s b e h = (sum s e, (e, h, refl), refl)
 
-abbrev pub cut_steps : (z : ℕ) → Plans → Plans
-cut_steps z l = plan (Plan.Make (Move.Rule3Out z)) (plan (Plan.Make (Move.Widen z)) (at_zero l))
-
 -- the lemmas from number k on are cited
 abbrev pub AllCited : List ℕ → ℕ → List PlainLemma → Type 0
 AllCited ls k [] = Unit {0}
-AllCited ls k (l ∷ more) = IsCited ls (Source.Defined k) l.set × AllCited ls (suc k) more
+AllCited ls k (l ∷ rest) = IsCited ls (Source.Defined k) l.set × AllCited ls (suc k) rest
 
 pub at_end : (before : List ℕ) (k x : ℕ) → length before ≡ k → IsCited (before ++ (x ∷ [])) (Source.Defined k) x
 at_end [] k x e = subst (λ k. IsCited (x ∷ []) (Source.Defined k) x) e (omega arith, refl)

@@ -6,7 +6,6 @@ use Rattle.districts.specs.Linked.IsLinked.{at, by}
 use Rattle.districts.specs.Linked.{AreDistricts, IsDistrict, IsLinked}
 use Rattle.do_derivation.specs.Shapes.{all_of, as_one, chained, count_factors, each_below, factor_at, groups_of, is_grouping, joined, none_empty, or_nothing, picked, times_in}
 use Rattle.finite_models.specs.Sums.{all_below}
-use Rattle.identification.proofs.Body.{in_order}
 use Rattle.identification.proofs.Bools.{and_l, and_r, both_true, clash, decide, or_e, or_l, or_r}
 use Rattle.identification.proofs.Orders.{IsOrderFrom}
 use Rattle.identification.proofs.Sets.{all-is, one-is, one-self}
@@ -16,6 +15,7 @@ use Rattle.mixed_graph.specs.Bits.{has}
 use Rattle.mixed_graph.specs.Graphs.{IsMixedGraph, MixedGraph}
 use Rattle.prob_expr.specs.Masks.{all, join, minus, one}
 use Rattle.prob_expr.specs.Tree.{Tree, Trees, no_trees, prob, tree}
+use Rattle.identification.specs.Derivations.{in_order, home, places, group_lists}
 
 add-zero_left : (n : ℕ) → 0 + n ≡ n
 add-zero_left n = omega arith
@@ -28,11 +28,6 @@ Among v (w ∷ o) = (v ≡ w) ⊎ Among v o
 abbrev pub count : List ℕ → ℕ → ℕ
 count [] v = 0
 count (t ∷ ts) v = cond (has t v) 1 0 + count ts v
-
--- the first set that has v
-abbrev pub home : List ℕ → ℕ → ℕ
-home [] v = 0
-home (t ∷ ts) v = cond (has t v) t (home ts v)
 
 pub record IsPart (g : MixedGraph) (d t : ℕ) : Type 0 where
   pub t_in : (u : ℕ) → has t u ≡ true → has d u ≡ true
@@ -151,14 +146,6 @@ in_list g p u (v ∷ o) order l n = go (decide (eqb u v)) (λ q. in_list g (join
         out (inr q) = q
 
 -- ---- the lists of positions
-abbrev pub places : ℕ → ℕ → List ℕ → List ℕ
-places t i [] = []
-places t i (v ∷ l) = cond (has t v) (i ∷ places t (suc i) l) (places t (suc i) l)
-
-abbrev pub group_lists : List ℕ → List ℕ → List (List ℕ)
-group_lists [] l = []
-group_lists (t ∷ ts) l = places t 0 l ∷ group_lists ts l
-
 -- the factors of the chain, each at home in its district; q has the members before
 abbrev pub homed : ℕ → List ℕ → ℕ → List ℕ → Trees
 homed n ts q [] = no_trees

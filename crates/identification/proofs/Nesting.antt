@@ -1,12 +1,11 @@
 -- The steps of identification nest little, whatever the graph.
 use Rattle.std.proofs.Common.{ℕ, zero, suc, ◌≡◌, Bool, true, false, cond, refl, ◌&&◌, List, [], ◌∷◌, ◌++◌, arith}
 use Rattle.do_derivation.specs.Plans.{Move, PlainLemma, Plan, Plans, no_plans, plan}
-use Rattle.identification.proofs.Bodies.{single, marginal_steps, source_steps, Lists, no_more, more, at_place, at_each}
 use Rattle.identification.proofs.Bools.{and_l, and_r, both_true}
-use Rattle.identification.proofs.Places.{with_set, place_list}
 use Rattle.identification.specs.Depth.{are_lemmas_within, are_plans_within, is_plan_within}
 use Rattle.identification.specs.Procedure.{Source, common}
 use Rattle.prob_expr.specs.Masks.{is_empty, join, minus, one}
+use Rattle.identification.specs.Derivations.{single, with_set, Lists, no_more, more, at_place, at_each, marginal_steps, source_steps, place_list}
 
 mutual
   pub step_more : (d : ℕ) (s : Plan) → is_plan_within d s ≡ true → is_plan_within (suc d) s ≡ true

@@ -91,13 +91,13 @@ module _ (g : MixedGraph) where
       go (inr (inl l)) = absurd (no v w a b l)
       go (inr (inr l)) = absurd (no w v b a l)
 
-  no_more : (p v : ℕ) (rest : List ℕ) → IsRest g p [] → IsRest g p (v ∷ rest) → ⊥
-  no_more p v rest a b = let n = first_next p v rest b in clash (has p v || false) (a.all_in v n.below) n.free
+  not_shorter : (p v : ℕ) (rest : List ℕ) → IsRest g p [] → IsRest g p (v ∷ rest) → ⊥
+  not_shorter p v rest a b = let n = first_next p v rest b in clash (has p v || false) (a.all_in v n.below) n.free
 
   rest_same : (p : ℕ) (a b : List ℕ) → IsRest g p a → IsRest g p b → a ≡ b
   rest_same p [] [] h k = refl
-  rest_same p [] (w ∷ b) h k = absurd (no_more p w b h k)
-  rest_same p (v ∷ a) [] h k = absurd (no_more p v a k h)
+  rest_same p [] (w ∷ b) h k = absurd (not_shorter p w b h k)
+  rest_same p (v ∷ a) [] h k = absurd (not_shorter p v a k h)
   rest_same p (v ∷ a) (w ∷ b) h k =
       let e : v ≡ w = next_same (λ u. has p u || false) v w (first_next p v a h) (first_next p w b k) in
       ap₂ (λ x l. x ∷ l) e (rest_same (join p (one v)) a b (rest_next p v a h) (subst (λ x. IsRest g (join p (one x)) b) (sym e) (rest_next p w b k)))

@@ -17,10 +17,7 @@ use Rattle.mixed_graph.specs.Graphs.{IsAncestor, IsMixedGraph, MixedGraph}
 use Rattle.prob_expr.specs.Masks.{all, is_empty, is_inside, join, minus, one}
 use Rattle.prob_expr.specs.Tree.{Tree, prob}
 use Rattle.surgery.specs.Cuts.{cut_into}
-
--- a step is left out where its set is empty
-abbrev pub with_set : ℕ → Plan → Plans → Plans
-with_set z s l = cond (is_empty z) l (plan s l)
+use Rattle.identification.specs.Derivations.{with_set}
 
 pub made_with : (g : MixedGraph) (ls : List ℕ) (z : ℕ) (s : Plan) (l : Plans) (e m e' : Tree) → (is_empty z ≡ true → m ≡ e) → (is_empty z ≡ false → Makes g ls s e m) → MakesAll g ls l m e' → MakesAll g ls (with_set z s l) e e'
 made_with g ls z s l e m e' skip step rest = go (is_empty z) refl
@@ -39,11 +36,6 @@ cut_three g x z w none = record { inside = λ v e. e; no_ancestor = none; comple
 
 pub part : (z b : ℕ) → is_empty z ≡ false → ((v : ℕ) → has z v ≡ true → has b v ≡ true) → is_part z b ≡ true
 part z b e h = both_true (not (is_empty z)) (is_inside z b) (not_i (is_empty z) e) (inside z b h)
-
--- the steps at one place v: P has the vertices before it
-abbrev pub place_list : (P U A T M : ℕ) → Plans → Plans
-place_list P U A T M rest = with_set (minus (minus U T) (minus (common A P) T)) (Plan.Make (Move.Rule3Out (minus (minus U T) (minus (common A P) T))))
-    (with_set (minus (common A P) T) (Plan.Make (Move.Rule2See (minus (common A P) T))) (with_set (minus (common A P) M) (Plan.Make (Move.Rule1Out (minus (common A P) M))) rest))
 
 module _ (g : MixedGraph) (is_graph : IsMixedGraph g) (P U A T v M : ℕ) (k : IsPlace g (has P) (has U) (has A) (has T) v) (D : ℕ → Type 0)
     (d_in : (u : ℕ) → D u → (has A u ≡ true) × ((has P u ≡ true) ⊎ (u ≡ v)))

@@ -3,9 +3,10 @@ use Rattle.std.proofs.Common.{ℕ, refl, List}
 use Rattle.do_derivation.specs.Plans.{Plans, no_plans, plan}
 use Rattle.do_derivation.specs.Shapes.{count_factors, joined}
 use Rattle.do_derivation.specs.Steps.{MakesAll}
-use Rattle.identification.proofs.Bodies.{at_place, at_made}
+use Rattle.identification.proofs.Bodies.{at_made}
 use Rattle.mixed_graph.specs.Graphs.{MixedGraph}
 use Rattle.prob_expr.specs.Tree.{Tree, Trees, product, tree}
+use Rattle.identification.specs.Derivations.{more, at_place}
 
 abbrev pub and_then : Plans → Plans → Plans
 and_then no_plans k = k

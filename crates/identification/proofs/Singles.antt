@@ -7,12 +7,12 @@ use Rattle.do_derivation.specs.Shapes.{chained, is_list_of}
 use Rattle.do_derivation.specs.Steps.{MakesAll}
 use Rattle.do_derivation.specs.Table.{Row}
 use Rattle.do_derivation.specs.declared.faults.StepFault.TheVariants.{BadOrder}
-use Rattle.identification.proofs.Accepted.{unwrap_steps, unwrap_made, product_is, two_long, in_all, d_part}
-use Rattle.identification.proofs.Assembly.{starts, home_lists, listed, each_homed}
-use Rattle.identification.proofs.Bodies.{Lists, at_each, EachMade, each_made}
-use Rattle.identification.proofs.Body.{in_order, in_order-take, in_order-skip}
+use Rattle.identification.proofs.Accepted.{unwrap_made, product_is, two_long, in_all, d_part}
+use Rattle.identification.proofs.Assembly.{starts, listed, each_homed}
+use Rattle.identification.proofs.Bodies.{EachMade, each_made}
+use Rattle.identification.proofs.Body.{in_order-take, in_order-skip}
 use Rattle.identification.proofs.Bools.{and_r, both_true, clash}
-use Rattle.identification.proofs.Groups.{Among, count, home, home_is, homed, AreParts, are_parts, once, EachOnce, each_listed, among_in_order, common-in, common-out}
+use Rattle.identification.proofs.Groups.{Among, count, home_is, homed, AreParts, are_parts, once, EachOnce, each_listed, among_in_order, common-in, common-out}
 use Rattle.identification.proofs.Orders.{IsOrderFrom}
 use Rattle.identification.proofs.Places.{made_if}
 use Rattle.identification.proofs.Sets.{one-is, one-self}
@@ -22,6 +22,7 @@ use Rattle.mixed_graph.specs.Bits.{has}
 use Rattle.mixed_graph.specs.Graphs.{IsMixedGraph, MixedGraph}
 use Rattle.prob_expr.specs.Masks.{all, join, minus, one}
 use Rattle.prob_expr.specs.Tree.{Trees, prob, product, tree}
+use Rattle.identification.specs.Derivations.{single, Lists, at_each, in_order, home, home_lists, unwrap_steps}
 
 -- each set has one member
 abbrev pub AreSingle : List ℕ → Type 0

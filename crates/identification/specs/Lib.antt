@@ -1,3 +1,4 @@
 pub mod Depth
+pub mod Derivations
 pub mod Laws
 pub mod Procedure
