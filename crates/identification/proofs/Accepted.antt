@@ -29,7 +29,7 @@ use Rattle.mixed_graph.specs.Bits.{has}
 use Rattle.mixed_graph.specs.Graphs.{IsAncestor, IsMixedGraph, MixedGraph, induced}
 use Rattle.prob_expr.specs.Masks.{all, is_below, is_empty, join, minus, one}
 use Rattle.prob_expr.specs.Tree.{Tree, Trees, named, no_trees, prob, product, quotient, sum, tree}
-use Rattle.identification.specs.Derivations.{single, with_set, Lists, no_more, more, at_each, at_zero, in_order, home, home_list, home_lists, group_lists, unchain_steps, unchain_lists, unwrap_steps, rest_steps, main_steps}
+use Rattle.identification.specs.Derivations.{AreAllSteps, single, with_set, Lists, no_more, more, at_each, at_zero, in_order, home, home_list, home_lists, group_lists, unchain_steps, unchain_lists, unwrap_steps, rest_steps, main_steps}
 
 pub are_sets-append : (n : ℕ) (a b : List ℕ) → are_sets n a ≡ true → are_sets n b ≡ true → are_sets n (a ++ b) ≡ true
 are_sets-append n [] b h k = k
@@ -53,6 +53,7 @@ module _ (g : MixedGraph) (is_graph : IsMixedGraph g) (o : List ℕ) (order : Is
   pub record Whole (k : ℕ) (ts : List ℕ) (ds : List Tree) (fs : Trees) : Type 0 where
     pub lemmas : List PlainLemma
     pub lists : Lists
+    pub are : AreAllSteps g o k ts lemmas lists
     pub same : length lemmas ≡ length ds
     pub deep : are_lists_to 9 lists ≡ true
     pub lemmas_deep : are_lemmas_within 10 lemmas ≡ true
@@ -61,7 +62,7 @@ module _ (g : MixedGraph) (is_graph : IsMixedGraph g) (o : List ℕ) (order : Is
     pub made : (ls : List ℕ) → AllCited ls k lemmas → EachMade g ls lists (starts g.vertices ts) fs
 
   pub whole : (d k : ℕ) (ts : List ℕ) (ds : List Tree) (fs : Trees) → ((u : ℕ) → has d u ≡ true → u < g.vertices) → AreParts g d ts → AreFactored g o k ts ds fs → Whole k ts ds fs
-  whole d k _ _ _ low parts none = record { lemmas = []; lists = no_more; same = refl; deep = refl; lemmas_deep = refl; sets = refl; define = λ before q. tt; made = λ ls i. tt }
+  whole d k _ _ _ low parts none = record { lemmas = []; lists = no_more; are = AreAllSteps.none; same = refl; deep = refl; lemmas_deep = refl; sets = refl; define = λ before q. tt; made = λ ls i. tt }
   whole d k _ _ _ low parts (next {c = c} {a = a} {cs = cs} {ds = ds} {es = es} {e = e} {fs = fs} n f rest) =
       let s : IsStage g (Source.Under 0) a c = first_stage c a (λ u i. low u (parts.0.t_in u i)) parts.0.some parts.0.some_in n in
       let x : Factored g is_graph o order (minus (all g.vertices) 0) o (order_in g (minus (all g.vertices) 0) 0 o order) c a (Source.Under 0) k ds e =
@@ -70,6 +71,7 @@ module _ (g : MixedGraph) (is_graph : IsMixedGraph g) (o : List ℕ) (order : Is
       record {
         lemmas = x.lemmas ++ w.lemmas;
         lists = more x.steps w.lists;
+        are = AreAllSteps.next n x.are (subst (λ z. AreAllSteps g o (k + z) cs w.lemmas w.lists) (sym x.same) w.are);
         same = length-append x.lemmas w.lemmas ∙ (ap₂ (λ p q. p + q) x.same w.same ∙ sym (length-append ds es));
         deep = both_true (are_plans_within 9 x.steps) (are_lists_to 9 w.lists) x.deep w.deep;
         lemmas_deep = lemmas_append 10 x.lemmas w.lemmas x.lemmas_deep w.lemmas_deep;

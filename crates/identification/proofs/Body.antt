@@ -22,7 +22,7 @@ use Rattle.mixed_graph.specs.Bits.{has}
 use Rattle.mixed_graph.specs.Graphs.{IsMixedGraph, MixedGraph, induced}
 use Rattle.prob_expr.specs.Masks.{all, is_empty, join, minus, one}
 use Rattle.prob_expr.specs.Tree.{Tree, Trees, no_trees, prob, product, tree}
-use Rattle.identification.specs.Derivations.{Lists, no_more, more, in_order, universe, source_steps, place_list, body_steps}
+use Rattle.identification.specs.Derivations.{ArePlaceLists, AreBodySteps, Lists, no_more, more, in_order, universe, source_steps, place_list, body_steps}
 
 -- a district t of a, where a holds what leads to it from the universe
 pub record IsSite (g : MixedGraph) (from : Source) (a t : ℕ) : Type 0 where
@@ -62,6 +62,12 @@ pub lists : (g : MixedGraph) (from : Source) (a t p : ℕ) (o : List ℕ) (fs : 
 lists g from a t p [] fs none = no_more
 lists g from a t p (v ∷ o) fs (skip q r) = lists g from a t (join p (one v)) o fs r
 lists g from a t p (v ∷ o) (tree e fs) (take {m = m} q pl r) = more (place_list p (universe g.vertices from a) a t m (source_steps from a v m)) (lists g from a t (join p (one v)) o fs r)
+
+lists_are : (g : MixedGraph) (from : Source) (a t p : ℕ) (o : List ℕ) (fs : Trees) (r : AreFactors g from a t p o fs) → ArePlaceLists g from a t p o (lists g from a t p o fs r)
+unfolding lists
+lists_are g from a t p [] fs none = ArePlaceLists.none
+lists_are g from a t p (v ∷ o) fs (skip q r) = ArePlaceLists.skip q (lists_are g from a t (join p (one v)) o fs r)
+lists_are g from a t p (v ∷ o) (tree e fs) (take {m = m} q pl r) = ArePlaceLists.take q pl (lists_are g from a t (join p (one v)) o fs r)
 
 -- p holds the parents of its members
 abbrev pub HoldsParents : MixedGraph → ℕ → Type 0
@@ -261,14 +267,16 @@ module _ (g : MixedGraph) (is_graph : IsMixedGraph g) (room : ℕ) (from : Sourc
   lists_deep p (v ∷ o) (tree e fs) (take {m = m} q pl r) = both_true (are_plans_within 5 (place_list p (universe g.vertices from a) a t m (source_steps from a v m))) (are_lists_to 5 (lists g from a t (join p (one v)) o fs r))
       (place_deep p (universe g.vertices from a) a t m from v) (lists_deep (join p (one v)) o fs r)
 
-  pub record Body (e : Tree) : Type 0 where
+  pub record Body (o : List ℕ) (e : Tree) : Type 0 where
     pub steps : Plans
+    pub are : AreBodySteps g o from a t steps
     pub deep : are_plans_within 7 steps ≡ true
     pub made : (ls : List ℕ) → IsCited ls from a → MakesAll g ls steps (prob t (minus (all g.vertices) t) 0) e
 
-  pub body_made : (o : List ℕ) (e : Tree) → IsOrderFrom (induced g (has room)) 0 o → IsBody g o from a t e → Body e
+  pub body_made : (o : List ℕ) (e : Tree) → IsOrderFrom (induced g (has room)) 0 o → IsBody g o from a t e → Body o e
   body_made o e order r = record {
     steps = body_steps (in_order t o) (lists g from a t 0 o r.factors r.are);
+    are = record { lists = lists g from a t 0 o r.factors r.are; are = lists_are g from a t 0 o r.factors r.are; is = refl };
     deep = body_deep (in_order t o) (lists g from a t 0 o r.factors r.are) (lists_deep 0 o r.factors r.are);
     made = λ ls c. subst (λ z. MakesAll g ls (body_steps (in_order t o) (lists g from a t 0 o r.factors r.are)) (prob t (minus (all g.vertices) t) 0) z) (sym r.is)
         (body_from ls (minus (all g.vertices) t) (in_order t o) (lists g from a t 0 o r.factors r.are) r.factors

@@ -2,7 +2,7 @@
 use Rattle.std.proofs.Common.{ℕ, ◌≡◌, ◌<◌, Bool, true, false, cond, refl, sym, subst, ◌∙◌, ◌||◌, inl, inr, List, [], ◌∷◌, arith}
 use Rattle.districts.specs.Linked.{AreDistricts}
 use Rattle.do_derivation.specs.Accepts.{sets_of}
-use Rattle.do_derivation.specs.Plans.{Move, Plan, Plans, no_plans, plan}
+use Rattle.do_derivation.specs.Plans.{PlainDerivation, Move, Plan, Plans, no_plans, plan}
 use Rattle.do_derivation.specs.Steps.{MakesAll}
 use Rattle.identification.proofs.Accepted.{Whole, whole, unwrap_deep, homes_deep, rest_made, rest_deep, main_made, main_deep, d_low, y_in}
 use Rattle.identification.proofs.Assembly.{starts, all_cited}
@@ -13,14 +13,14 @@ use Rattle.identification.proofs.Nesting.{each_at, are_lists_to}
 use Rattle.identification.proofs.Orders.{IsOrderFrom}
 use Rattle.identification.proofs.Singles.{AreSingle, single_made}
 use Rattle.identification.specs.Depth.{are_plans_within}
-use Rattle.identification.specs.Laws.{HasDerivation}
+use Rattle.identification.specs.Laws.{IsAcceptedFor}
 use Rattle.identification.specs.Procedure.{IsComposed, IsTarget, product_of}
 use Rattle.mixed_graph.proofs.Masks.{has-zero}
 use Rattle.mixed_graph.specs.Bits.{has}
 use Rattle.mixed_graph.specs.Graphs.{IsMixedGraph, MixedGraph}
 use Rattle.prob_expr.specs.Masks.{all, minus}
 use Rattle.prob_expr.specs.Tree.{PlainFormula, Trees, prob}
-use Rattle.identification.specs.Derivations.{Lists, at_each, in_order, home_lists, unwrap_steps, rest_steps, two_or_more, has_pair, procedure_steps, main_steps}
+use Rattle.identification.specs.Derivations.{IsComposedBy, Lists, at_each, in_order, home_lists, unwrap_steps, rest_steps, two_or_more, has_pair, procedure_steps, main_steps}
 
 or_false : (p q : Bool) → (p || q) ≡ false → (p ≡ false) × (q ≡ false)
 or_false true q e = absurd (grind (arith, e))
@@ -62,9 +62,17 @@ module _ (g : MixedGraph) (is_graph : IsMixedGraph g) (o : List ℕ) (order : Is
           (each_at 9 0 xs (unwrap_steps fs) h (unwrap_deep g is_graph o order d low some some_in fs))
 
 module _ (g : MixedGraph) (is_graph : IsMixedGraph g) (o : List ℕ) (order : IsOrderFrom g 0 o) (x y : ℕ) (tgt : IsTarget g x y) (f : PlainFormula) (made : IsComposed g o x y f) where
-  pub procedure : HasDerivation g x y f
+  -- the derivation, and what is true of it
+  pub record Derived : Type 0 where
+    pub derivation : PlainDerivation
+    pub by : IsComposedBy g o x y f derivation
+    pub accepted : IsAcceptedFor g x y f derivation
+
+  pub procedure : Derived
   procedure = record {
     derivation = record { lemmas = w.lemmas; main = Plan.Then (main_steps g.vertices x y made.d rest) };
+    by = record { composed = made; lists = w.lists; are = w.are; main = refl };
+    accepted = record {
     lemmas_deep = w.lemmas_deep;
     main_deep = main_deep g is_graph o order x y tgt made.d made.is_d rest (procedure_deep g is_graph o order made.d low tgt.some (y_in g is_graph o order x y tgt made.d made.is_d tgt.some tgt.some_in) made.districts w.lists made.factors w.deep);
     accepted = record {
@@ -74,6 +82,7 @@ module _ (g : MixedGraph) (is_graph : IsMixedGraph g) (o : List ℕ) (order : Is
           (main_made g is_graph o order x y tgt made.d made.is_d (sets_of w.lemmas) rest (product_of made.factors)
           (procedure_made g is_graph o order made.d low tgt.some (y_in g is_graph o order x y tgt made.d made.is_d tgt.some tgt.some_in) (sets_of w.lemmas) made.districts w.lists made.factors made.are_districts (w.made (sets_of w.lemmas) (all_cited [] w.lemmas 0 refl))));
       listed = tree_free g o x y f made;
+    };
     };
   }
     where

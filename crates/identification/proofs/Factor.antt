@@ -24,7 +24,7 @@ use Rattle.mixed_graph.specs.Graphs.{IsAncestor, IsDirectedPath, IsMixedGraph, M
 use Rattle.prob_expr.specs.Masks.{all, is_below, is_empty, join, minus}
 use Rattle.prob_expr.specs.Tree.{Tree, prob, sum}
 use Rattle.surgery.specs.Cuts.{cut_into}
-use Rattle.identification.specs.Derivations.{more, at_zero, universe, cut_steps}
+use Rattle.identification.specs.Derivations.{AreFactorSteps, more, at_zero, universe, cut_steps}
 
 -- c lies in a, which holds what leads to it from the universe
 pub record IsStage (g : MixedGraph) (from : Source) (a c : ℕ) : Type 0 where
@@ -168,6 +168,7 @@ module _ (g : MixedGraph) (is_graph : IsMixedGraph g) (o : List ℕ) (order : Is
   pub record Factored (c a : ℕ) (from : Source) (k : ℕ) (ds : List Tree) (e : Tree) : Type 0 where
     pub lemmas : List PlainLemma
     pub steps : Plans
+    pub are : AreFactorSteps g r c a from k lemmas steps
     pub same : length lemmas ≡ length ds
     pub deep : are_plans_within 9 steps ≡ true
     pub lemmas_deep : are_lemmas_within 10 lemmas ≡ true
@@ -177,11 +178,12 @@ module _ (g : MixedGraph) (is_graph : IsMixedGraph g) (o : List ℕ) (order : Is
 
   pub factored : (c a : ℕ) (from : Source) (k : ℕ) (ds : List Tree) (e : Tree) → IsHeld g.vertices room from a → IsStage g from a c → IsFactor g r c a from k ds e → Factored c a from k ds e
   factored c a from k _ e h s (whole d q) = let b = body_made g is_graph room from a c h (site_of g is_graph o order from a c c s d) r e ordered q in
-      record { lemmas = []; steps = b.steps; same = refl; deep = steps_more 8 b.steps (steps_more 7 b.steps b.deep); lemmas_deep = refl; sets = refl; define = λ before q i. tt; made = λ ls i j. b.made ls i }
+      record { lemmas = []; steps = b.steps; are = AreFactorSteps.whole d b.are; same = refl; deep = steps_more 8 b.steps (steps_more 7 b.steps b.deep); lemmas_deep = refl; sets = refl; define = λ before q i. tt; made = λ ls i j. b.made ls i }
   factored c a from k _ _ h s (summed {t = t} {e = x} d ne n q) = let b = body_made g is_graph room from a t h (site_of g is_graph o order from a c t s d) r x ordered q in
       record {
         lemmas = [];
         steps = cut_steps (minus t c) b.steps;
+        are = AreFactorSteps.summed d ne n b.are;
         same = refl;
         deep = place_at 7 0 b.steps no_plans b.deep refl;
         lemmas_deep = refl;
@@ -195,6 +197,7 @@ module _ (g : MixedGraph) (is_graph : IsMixedGraph g) (o : List ℕ) (order : Is
       record {
         lemmas = record { set = a2; plan = Plan.Then (cut_steps (minus t a2) b.steps) } ∷ f.lemmas;
         steps = f.steps;
+        are = AreFactorSteps.further d ne n more_left not_c b.are f.are;
         same = ap suc f.same;
         deep = f.deep;
         lemmas_deep = both_true (are_plans_within 9 (cut_steps (minus t a2) b.steps)) (are_lemmas_within 10 f.lemmas) (place_at 7 0 b.steps no_plans b.deep refl) f.lemmas_deep;

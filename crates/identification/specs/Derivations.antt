@@ -8,7 +8,7 @@ use Rattle.prob_expr.specs.Masks.{join, minus, one, all, is_empty}
 use Rattle.prob_expr.specs.Tree.{Tree, prob, Trees, PlainFormula}
 use Rattle.do_derivation.specs.Plans.{Move, Plan, Plans, no_plans, plan, PlainLemma, PlainDerivation}
 use Rattle.do_derivation.specs.Shapes.{has_product}
-use Rattle.identification.specs.Procedure.{common, AreAncestorsIn, IsPillow, Source, IsComposed, IsIdentified}
+use Rattle.identification.specs.Procedure.{common, AreAncestorsIn, IsPillow, Source, IsComposed}
 
 -- ---- lists of steps
 
@@ -178,8 +178,12 @@ pub record IsComposedBy (g : MixedGraph) (order : List ℕ) (x y : ℕ) (f : Pla
   pub are : AreAllSteps g order 0 composed.districts d.lemmas lists
   pub main : d.main ≡ Plan.Then (main_steps g.vertices x y composed.d (procedure_steps order composed.d composed.districts lists composed.factors))
 
--- the formula that the procedure answers for P(y | do(x)), in the graph's order, and its derivation: no step where x is empty
+-- by this order P(y | do(x)) has that formula with that derivation: no step where x is empty
+abbrev pub IsDerivedBy : MixedGraph → List ℕ → (x y : ℕ) → PlainFormula → PlainDerivation → Type 0
+IsDerivedBy g order x y f d = ((x ≡ 0) × (f ≡ record { defs = []; main = prob y 0 0 }) × (d ≡ record { lemmas = []; main = Plan.Then no_plans })) ⊎ ((x ≢ 0) × IsComposedBy g order x y f d)
+
+-- the formula that the procedure answers for P(y | do(x)), in the graph's order, and its derivation
 pub record IsDerived (g : MixedGraph) (x y : ℕ) (f : PlainFormula) (d : PlainDerivation) : Type 0 where
   pub order : List ℕ
   pub is_order : IsOrder g order (length order)
-  pub answer : ((x ≡ 0) × (f ≡ record { defs = []; main = prob y 0 0 }) × (d ≡ record { lemmas = []; main = Plan.Then no_plans })) ⊎ ((x ≢ 0) × IsComposedBy g order x y f d)
+  pub answer : IsDerivedBy g order x y f d
