@@ -1,6 +1,12 @@
 -- The laws of the procedure's answers, with the case of an empty x.
 use Rattle.std.proofs.Common.{ℕ, ◌≡◌, true, refl, sym, ap, subst, ◌∙◌, inl, inr, List, [], ◌+◌, length}
 use Rattle.identification.proofs.Bools.{clash}
+use Rattle.do_derivation.specs.Plans.{PlainDerivation}
+use Rattle.identification.proofs.Derivation.{procedure}
+use Rattle.identification.proofs.Formulas.{observed_accepted}
+use Rattle.identification.specs.Derivations.{IsDerivedBy}
+use Rattle.identification.specs.Laws.{IsAcceptedFor}
+use Rattle.identification_answers.proofs.OneDerivation.{derivation_one}
 use Rattle.identification.proofs.Groups.{Among, are_parts, part_among}
 use Rattle.identification.proofs.Orders.{order_of, one_order}
 use Rattle.identification.proofs.Sets.{below, apart, not_empty}
@@ -12,7 +18,7 @@ use Rattle.identification_answers.proofs.Names.{names_ancestors}
 use Rattle.identification_answers.proofs.Stops.{hedge, meets, home_of}
 use Rattle.identification_answers.proofs.Unique.{tree_one, tree_or_stop, stop_one}
 use Rattle.identification_answers.specs.Depth.{is_tree_within, are_defs_within}
-use Rattle.identification_answers.specs.Laws.{FormulaNamesAncestors, FormulaIsFormed, FormulaIsShallow, OneFormula, OneStop, NeverBoth, StopIsHedge}
+use Rattle.identification_answers.specs.Laws.{FormulaNamesAncestors, FormulaIsFormed, FormulaIsShallow, OneFormula, OneDerivation, DerivationIsAccepted, OneStop, NeverBoth, StopIsHedge}
 use Rattle.identification_answers.specs.Names.{FormulaNamesOnly}
 use Rattle.mixed_graph.proofs.Masks.{has-zero}
 use Rattle.mixed_graph.specs.Bits.{has}
@@ -60,6 +66,23 @@ one_formula g x y f h i j = go i.answer (subst (λ o. IsIdentifiedBy g o x y h) 
     go (inl s) (inr t) = absurd (t.0 s.0)
     go (inr s) (inl t) = absurd (s.0 t.0)
     go (inr s) (inr t) = tree_one g i.order x y f h s.1 t.1
+
+pub one_derivation : OneDerivation
+one_derivation g x y f h d e i j = go i.answer (subst (λ o. IsDerivedBy g o x y h e) (one_order g j.order i.order j.is_order i.is_order) j.answer)
+  where
+    go : IsDerivedBy g i.order x y f d → IsDerivedBy g i.order x y h e → d ≡ e
+    go (inl s) (inl t) = s.2 ∙ sym t.2
+    go (inl s) (inr t) = absurd (t.0 s.0)
+    go (inr s) (inl t) = absurd (s.0 t.0)
+    go (inr s) (inr t) = derivation_one g i.order x y f h d e s.1 t.1
+
+pub derivation_is_accepted : DerivationIsAccepted
+derivation_is_accepted g ok x y tgt f d i = go i.answer
+  where
+    go : IsDerivedBy g i.order x y f d → IsAcceptedFor g x y f d
+    go (inl s) = observed_accepted g x y f d s.0 s.1 s.2
+    go (inr s) = let p = procedure g ok i.order (order_of g i.order i.is_order) x y tgt f s.1.composed in
+        subst (IsAcceptedFor g x y f) (derivation_one g i.order x y f f p.derivation d p.by s.1) p.accepted
 
 pub one_stop : OneStop
 one_stop g x y small big small' big' i j = stop_one g i.order x y small big small' big' i.stop (subst (λ o. IsUnidentifiedBy g o x y small' big') (one_order g j.order i.order j.is_order i.is_order) j.stop)

@@ -3,5 +3,6 @@ pub mod Depth
 pub mod Faults
 pub mod Formed
 pub mod Names
+pub mod OneDerivation
 pub mod Stops
 pub mod Unique

@@ -100,12 +100,16 @@ module _ (g : MixedGraph) (o : List ℕ) where
       let same = factor_one c a (Source.Under 0) k ds e ds2 e2 f (subst (λ z. IsFactor g o c z (Source.Under 0) k ds2 e2) (one_set b a _ n2 n) f2) in
       factored_or_stopped (k + length ds) cs xs fs small big r (subst (λ z. StopsAt g o (k + length z) cs small big) (sym same.defs) s)
 
-  pub tree_one : (x y : ℕ) (f h : PlainFormula) → IsComposed g o x y f → IsComposed g o x y h → f ≡ h
-  tree_one x y f h t u = formula_same f h same.defs (t.main ∙ (ap₂ (λ a b. sum_if (minus a y) (product_of b)) d_same same.factors ∙ sym u.main))
-    where
-      formula_same : (f h : PlainFormula) → f.defs ≡ h.defs → f.main ≡ h.main → f ≡ h
-      formula_same f h p q = ap₂ (λ a b. record { defs = a; main = b }) p q
+  -- two composed formulas have the same parts
+  pub record SameParts (x y : ℕ) (f h : PlainFormula) (t : IsComposed g o x y f) (u : IsComposed g o x y h) : Type 0 where
+    pub d_same : t.d ≡ u.d
+    pub districts_same : t.districts ≡ u.districts
+    pub defs_same : f.defs ≡ h.defs
+    pub factors_same : t.factors ≡ u.factors
 
+  pub parts_one : (x y : ℕ) (f h : PlainFormula) (t : IsComposed g o x y f) (u : IsComposed g o x y h) → SameParts x y f h t u
+  parts_one x y f h t u = record { d_same = d_same; districts_same = ts_same; defs_same = same.defs; factors_same = same.factors }
+    where
       d_same : t.d ≡ u.d
       d_same = one_set t.d u.d _ t.is_d u.is_d
 
@@ -114,6 +118,13 @@ module _ (g : MixedGraph) (o : List ℕ) where
 
       same : SameAll f.defs t.factors h.defs u.factors
       same = factored_one 0 t.districts f.defs h.defs t.factors u.factors t.are_factored (subst (λ z. AreFactored g o 0 z h.defs u.factors) (sym ts_same) u.are_factored)
+
+  pub tree_one : (x y : ℕ) (f h : PlainFormula) → IsComposed g o x y f → IsComposed g o x y h → f ≡ h
+  tree_one x y f h t u = let s = parts_one x y f h t u in
+      formula_same f h s.defs_same (t.main ∙ (ap₂ (λ a b. sum_if (minus a y) (product_of b)) s.d_same s.factors_same ∙ sym u.main))
+    where
+      formula_same : (f h : PlainFormula) → f.defs ≡ h.defs → f.main ≡ h.main → f ≡ h
+      formula_same f h p q = ap₂ (λ a b. record { defs = a; main = b }) p q
 
   pub tree_or_stop : (x y small big : ℕ) (f : PlainFormula) → IsComposed g o x y f → IsUnidentifiedBy g o x y small big → ⊥
   tree_or_stop x y small big f t u = factored_or_stopped 0 t.districts f.defs t.factors small big t.are_factored

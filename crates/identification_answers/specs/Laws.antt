@@ -6,6 +6,9 @@ use Rattle.districts.specs.Linked.{IsSetOf}
 use Rattle.hedge.specs.Shapes.{AreSetsOfHedge}
 use Rattle.prob_expr.specs.Check.{fault_in}
 use Rattle.prob_expr.specs.Tree.{PlainFormula}
+use Rattle.do_derivation.specs.Plans.{PlainDerivation}
+use Rattle.identification.specs.Derivations.{IsDerived}
+use Rattle.identification.specs.Laws.{IsAcceptedFor}
 use Rattle.identification.specs.Procedure.{IsTarget, IsIdentified, IsUnidentified}
 use Rattle.identification_answers.specs.Depth.{is_tree_within, are_defs_within}
 use Rattle.identification_answers.specs.Names.{FormulaNamesOnly}
@@ -25,6 +28,14 @@ FormulaIsShallow = (g : MixedGraph) (x y : ℕ) (f : PlainFormula) → IsIdentif
 -- there is at most one formula
 abbrev pub OneFormula : Type 0
 OneFormula = (g : MixedGraph) (x y : ℕ) (f h : PlainFormula) → IsIdentified g x y f → IsIdentified g x y h → f ≡ h
+
+-- and it has one derivation
+abbrev pub OneDerivation : Type 0
+OneDerivation = (g : MixedGraph) (x y : ℕ) (f h : PlainFormula) (d e : PlainDerivation) → IsDerived g x y f d → IsDerived g x y h e → d ≡ e
+
+-- which is accepted
+abbrev pub DerivationIsAccepted : Type 0
+DerivationIsAccepted = (g : MixedGraph) → IsMixedGraph g → (x y : ℕ) → IsTarget g x y → (f : PlainFormula) (d : PlainDerivation) → IsDerived g x y f d → IsAcceptedFor g x y f d
 
 -- there is at most one place where the procedure stops
 abbrev pub OneStop : Type 0
