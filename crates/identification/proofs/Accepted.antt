@@ -4,7 +4,7 @@ use Rattle.std.specs.Prelude.{Option, Some, None}
 use Rattle.districts.specs.Linked.{AreDistricts}
 use Rattle.do_derivation.specs.Accepts.{Define, are_sets, sets_of}
 use Rattle.do_derivation.specs.Plans.{Move, PlainLemma, Plan, Plans, no_plans, plan}
-use Rattle.do_derivation.specs.Shapes.{as_one, chained, count_factors, flat, grouped, groups_of, has_product, is_grouping, is_list_of, unwrapped}
+use Rattle.do_derivation.specs.Shapes.{chained, count_factors, flat, grouped, groups_of, has_product, is_grouping, is_list_of, unwrapped}
 use Rattle.do_derivation.specs.Steps.{IsMade, Makes, MakesAll}
 use Rattle.do_derivation.specs.Table.{Row, Rule, if_made, is_new}
 use Rattle.do_derivation.specs.declared.faults.StepFault.TheVariants.{BadOrder, Grouping, Sets, Shape}
@@ -29,7 +29,7 @@ use Rattle.mixed_graph.specs.Bits.{has}
 use Rattle.mixed_graph.specs.Graphs.{IsAncestor, IsMixedGraph, MixedGraph, induced}
 use Rattle.prob_expr.specs.Masks.{all, is_below, is_empty, join, minus, one}
 use Rattle.prob_expr.specs.Tree.{Tree, Trees, named, no_trees, prob, product, quotient, sum, tree}
-use Rattle.identification.specs.Derivations.{AreAllSteps, single, with_set, Lists, no_more, more, at_each, at_zero, in_order, home, home_list, home_lists, group_lists, unchain_steps, unchain_lists, unwrap_steps, rest_steps, main_steps}
+use Rattle.identification.specs.Derivations.{AreAllSteps, single, with_set, Lists, no_more, more, at_each, at_zero, in_order, home, home_list, home_lists, group_lists, unchain_steps, unchain_lists, unwrap_steps, main_steps}
 
 pub are_sets-append : (n : ℕ) (a b : List ℕ) → are_sets n a ≡ true → are_sets n b ≡ true → are_sets n (a ++ b) ≡ true
 are_sets-append n [] b h k = k
@@ -82,6 +82,14 @@ module _ (g : MixedGraph) (is_graph : IsMixedGraph g) (o : List ℕ) (order : Is
       }
 
 -- ---- the last step: a factor that is a product
+-- with a group for each district
+abbrev pub rest_steps : List ℕ → (d : ℕ) → List ℕ → Lists → Trees → Plans
+rest_steps order d [] ls fs = no_plans
+rest_steps order d (t ∷ []) no_more fs = no_plans
+rest_steps order d (t ∷ []) (more l ls) fs = l
+rest_steps order d (t ∷ s ∷ ts) ls fs = plan (Plan.Make (Move.Chain (in_order d order))) (at_each 0 (home_lists d (t ∷ s ∷ ts) 0 order) (plan (Plan.Make (Move.Group (group_lists (t ∷ s ∷ ts) (in_order d order))))
+    (at_each 0 (unchain_lists (t ∷ s ∷ ts) (in_order d order)) (at_each 0 ls (unwrap_steps fs)))))
+
 flat-same : (fs : Trees) → has_product fs ≡ false → flat fs ≡ fs
 flat-same no_trees h = refl
 flat-same (tree (product es) fs) h = absurd (grind (arith, h))
@@ -239,9 +247,6 @@ module _ (g : MixedGraph) (is_graph : IsMixedGraph g) (o : List ℕ) (order : Is
 
 -- ---- the whole derivation
 module _ (g : MixedGraph) (is_graph : IsMixedGraph g) (o : List ℕ) (order : IsOrderFrom g 0 o) (x y : ℕ) (tgt : IsTarget g x y) (d : ℕ) (is_d : AreAncestorsIn g (minus (all g.vertices) x) y d) where
-  free_part : ℕ
-  free_part = minus (all g.vertices) x
-
   y_free : (u : ℕ) → has y u ≡ true → has (minus (all g.vertices) x) u ≡ true
   y_free u e = has-minus (all g.vertices) x u ∙ both_true (has (all g.vertices) u) (not (has x u)) (all-is g.vertices u (tgt.y_low u e)) (not_i (has x u) (go (has x u) refl))
     where

@@ -2,7 +2,7 @@
 use Rattle.std.proofs.Common.{ℕ, zero, suc, ◌+◌, ◌≡◌, ◌<◌, Bool, true, false, cond, eqb, not, refl, sym, ap, subst, ◌∙◌, ◌||◌, ◌&&◌, ◌⊎◌, inl, inr, List, [], ◌∷◌, ◌++◌, length, arith, eq-eqb, length-append}
 use Rattle.std.specs.Prelude.{Option, Some, None}
 use Rattle.do_derivation.specs.Accepts.{Define, sets_of}
-use Rattle.do_derivation.specs.Plans.{Move, PlainLemma, Plan, Plans, no_plans}
+use Rattle.do_derivation.specs.Plans.{Move, PlainLemma, Plan}
 use Rattle.do_derivation.specs.Shapes.{as_one, chained, gathered, is_list_of, term_with, unchained}
 use Rattle.do_derivation.specs.Steps.{IsMade, Makes, MakesAll}
 use Rattle.do_derivation.specs.Table.{if_made}

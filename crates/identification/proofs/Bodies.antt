@@ -144,10 +144,6 @@ unfolding snoc
 count-snoc no_trees x = refl
 count-snoc (tree y pre) x = ap suc (count-snoc pre x)
 
-joined-done : (pre : Trees) → joined pre no_trees ≡ pre
-joined-done no_trees = refl
-joined-done (tree y pre) = ap (tree y) (joined-done pre)
-
 module _ (g : MixedGraph) (ls : List ℕ) where
   pub at_made : (l : Plans) (pre : Trees) (e f : Tree) (es : Trees) (rest : Plans) (r : Tree) → MakesAll g ls l e f → MakesAll g ls rest (product (joined pre (tree f es))) r
       → MakesAll g ls (at_place (count_factors pre) l rest) (product (joined pre (tree e es))) r

@@ -2,7 +2,7 @@
 use Rattle.std.proofs.Common.{ℕ, suc, ◌≡◌, ◌<◌, Bool, true, false, cond, eqb, leb, not, refl, sym, ap, subst, ◌∙◌, ◌||◌, ◌&&◌, ◌⊎◌, inl, inr, List, [], ◌∷◌, length, arith, eqb-true, eq-eqb, le-leb}
 use Rattle.districts.specs.Linked.IsLinked.{at, by}
 use Rattle.districts.specs.Linked.{IsLinked}
-use Rattle.do_derivation.specs.Plans.{Move, Plan, Plans, no_plans, plan}
+use Rattle.do_derivation.specs.Plans.{Plans, no_plans}
 use Rattle.do_derivation.specs.Shapes.{as_one, chained, is_list_of}
 use Rattle.do_derivation.specs.Steps.{MakesAll}
 use Rattle.do_derivation.specs.Table.{Row}

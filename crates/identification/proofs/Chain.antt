@@ -4,7 +4,7 @@ use Rattle.do_derivation.specs.Plans.{Move, Plan, Plans, no_plans}
 use Rattle.do_derivation.specs.Steps.{Makes, MakesAll}
 use Rattle.do_derivation.specs.Table.{Row, Rule, is_new, is_part}
 use Rattle.do_derivation.specs.declared.faults.StepFault.TheVariants.{Sets}
-use Rattle.identification.proofs.Bools.{and_l, and_r, both_true, clash, not_e, not_i, or_l, or_r}
+use Rattle.identification.proofs.Bools.{and_l, and_r, both_true, clash, not_i, or_l, or_r}
 use Rattle.identification.proofs.Places.{made_with, made_if, part, cut_three}
 use Rattle.identification.proofs.Separations.{IsPlace, later_not_above, later_removed, earlier_exchanged}
 use Rattle.identification.proofs.Sets.{all-is, apart, below, empty-has, has-minus, one-is}
@@ -51,9 +51,6 @@ module _ (g : MixedGraph) (is_graph : IsMixedGraph g) (d t P v : ℕ) (low : (u 
   ob_in u e = let h : ((has d u && has P u) && not (has t u)) ≡ true = rw (has-ob u) at e in let q : (has d u && has P u) ≡ true = and_l (has d u && has P u) (not (has t u)) h in
       (and_l (has d u) (has P u) q, and_r (has d u) (has P u) q)
 
-  ob_out : (u : ℕ) → has others_before u ≡ true → has t u ≡ false
-  ob_out u e = not_e (has t u) (and_r (has d u && has P u) (not (has t u)) (rw (has-ob u) at e))
-
   w_is : (u : ℕ) → has t u ≡ true → has P u ≡ true → has (common t P) u ≡ true
   w_is u e q = has-and t P u ∙ both_true (has t u) (has P u) e q
 
@@ -66,9 +63,6 @@ module _ (g : MixedGraph) (is_graph : IsMixedGraph g) (d t P v : ℕ) (low : (u 
     where
       bools : (x y z : Bool) → (z ≡ true → x ≡ true) → ((x && y) && not ((x && y) && not z)) ≡ (z && y)
       bools x y z h = grind (arith, h)
-
-  set_first : ℕ
-  set_first = join outer others_before
 
   step_do : (ls : List ℕ) → is_empty others_before ≡ false → Makes g ls (Plan.Make (Move.Rule2Do others_before)) (prob (one v) outer (common d P)) (prob (one v) (join outer others_before) (common t P))
   step_do ls ne = made_if g (is_part others_before (common d P)) (Row.Ask Rule.Two outer (one v) others_before (minus (common d P) others_before) (prob (one v) (join outer others_before) (minus (common d P) others_before))) Sets

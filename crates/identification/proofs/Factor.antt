@@ -24,7 +24,7 @@ use Rattle.mixed_graph.specs.Graphs.{IsAncestor, IsDirectedPath, IsMixedGraph, M
 use Rattle.prob_expr.specs.Masks.{all, is_below, is_empty, join, minus}
 use Rattle.prob_expr.specs.Tree.{Tree, prob, sum}
 use Rattle.surgery.specs.Cuts.{cut_into}
-use Rattle.identification.specs.Derivations.{AreFactorSteps, more, at_zero, universe, cut_steps}
+use Rattle.identification.specs.Derivations.{AreFactorSteps, at_zero, universe, cut_steps}
 
 -- c lies in a, which holds what leads to it from the universe
 pub record IsStage (g : MixedGraph) (from : Source) (a c : ℕ) : Type 0 where

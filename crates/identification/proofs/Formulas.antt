@@ -1,7 +1,7 @@
 -- The law of this crate, with the case of an empty x.
 use Rattle.std.proofs.Common.{ℕ, ◌≡◌, refl, sym, subst, inl, inr, List, []}
 use Rattle.do_derivation.specs.Plans.{Plan, PlainDerivation, no_plans}
-use Rattle.identification.proofs.Derivation.{Derived, procedure}
+use Rattle.identification.proofs.Derivation.{procedure}
 use Rattle.identification.proofs.Orders.{IsOrderFrom, order_of}
 use Rattle.identification.specs.Derivations.{IsDerivedBy}
 use Rattle.identification.specs.Laws.{IsAcceptedFor, FormulaIsAccepted}

@@ -13,7 +13,6 @@ pub mod Groups
 pub mod Nesting
 pub mod Orders
 pub mod Places
-pub mod Port
 pub mod Separations
 pub mod Sets
 pub mod Singles

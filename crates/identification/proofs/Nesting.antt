@@ -12,20 +12,7 @@ mutual
   step_more zero s h = absurd (grind (arith, h))
   step_more (suc d) (Plan.At i s) h = step_more d s h
   step_more (suc d) (Plan.Then l) h = steps_more d l h
-  step_more (suc d) (Plan.Make (Move.Rule1In z)) h = refl
-  step_more (suc d) (Plan.Make (Move.Rule1Out z)) h = refl
-  step_more (suc d) (Plan.Make (Move.Rule2See z)) h = refl
-  step_more (suc d) (Plan.Make (Move.Rule2Do z)) h = refl
-  step_more (suc d) (Plan.Make (Move.Rule3In z)) h = refl
-  step_more (suc d) (Plan.Make (Move.Rule3Out z)) h = refl
-  step_more (suc d) (Plan.Make (Move.Chain z)) h = refl
-  step_more (suc d) (Plan.Make (Move.Group z)) h = refl
-  step_more (suc d) (Plan.Make (Move.Widen z)) h = refl
-  step_more (suc d) (Plan.Make Move.Unchain) h = refl
-  step_more (suc d) (Plan.Make Move.Narrow) h = refl
-  step_more (suc d) (Plan.Make Move.Split) h = refl
-  step_more (suc d) (Plan.Make Move.Unwrap) h = refl
-  step_more (suc d) (Plan.Make (Move.Cite z)) h = refl
+  step_more (suc d) (Plan.Make m) h = refl
 
   pub steps_more : (d : ℕ) (l : Plans) → are_plans_within d l ≡ true → are_plans_within (suc d) l ≡ true
   steps_more d no_plans h = refl

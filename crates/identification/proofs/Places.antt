@@ -17,7 +17,7 @@ use Rattle.mixed_graph.specs.Graphs.{IsAncestor, IsMixedGraph, MixedGraph}
 use Rattle.prob_expr.specs.Masks.{all, is_empty, is_inside, join, minus, one}
 use Rattle.prob_expr.specs.Tree.{Tree, prob}
 use Rattle.surgery.specs.Cuts.{cut_into}
-use Rattle.identification.specs.Derivations.{with_set}
+use Rattle.identification.specs.Derivations.{with_set, place_list}
 
 pub made_with : (g : MixedGraph) (ls : List ℕ) (z : ℕ) (s : Plan) (l : Plans) (e m e' : Tree) → (is_empty z ≡ true → m ≡ e) → (is_empty z ≡ false → Makes g ls s e m) → MakesAll g ls l m e' → MakesAll g ls (with_set z s l) e e'
 made_with g ls z s l e m e' skip step rest = go (is_empty z) refl
@@ -53,9 +53,6 @@ module _ (g : MixedGraph) (is_graph : IsMixedGraph g) (P U A T v M : ℕ) (k : I
 
   abbrev pub unneeded : ℕ
   unneeded = minus (common A P) M
-
-  abbrev pub place_steps : Plans → Plans
-  place_steps rest = with_set later (Plan.Make (Move.Rule3Out later)) (with_set before_outside (Plan.Make (Move.Rule2See before_outside)) (with_set unneeded (Plan.Make (Move.Rule1Out unneeded)) rest))
 
   has-before : (u : ℕ) → has before_outside u ≡ ((has A u && has P u) && not (has T u))
   has-before u = has-minus (common A P) T u ∙ ap (λ b. b && not (has T u)) (has-and A P u)
@@ -197,7 +194,7 @@ module _ (g : MixedGraph) (is_graph : IsMixedGraph g) (P U A T v M : ℕ) (k : I
         go b = grind arith
 
     pub place_made : (ls : List ℕ) (rest : Plans) (e : Tree) → MakesAll g ls rest (prob (one v) (minus (all g.vertices) U) M) e
-        → MakesAll g ls (place_steps rest) (prob (one v) (minus (all g.vertices) T) W) e
+        → MakesAll g ls (place_list P U A T M rest) (prob (one v) (minus (all g.vertices) T) W) e
     place_made ls rest e h =
         made_with g ls later (Plan.Make (Move.Rule3Out later)) (with_set before_outside (Plan.Make (Move.Rule2See before_outside)) (with_set unneeded (Plan.Make (Move.Rule1Out unneeded)) rest)) (prob (one v) rest_set W) (prob (one v) set_one W) e skip_one (step_one ls)
         (made_with g ls before_outside (Plan.Make (Move.Rule2See before_outside)) (with_set unneeded (Plan.Make (Move.Rule1Out unneeded)) rest) (prob (one v) set_one W) (prob (one v) set_two (join W before_outside)) e skip_two (step_two ls)

@@ -7,7 +7,6 @@ use Rattle.m_separation.specs.declared.marks.Mark.TheVariants.{Both, Into, Out}
 use Rattle.m_separation.specs.declared.marks.Mark.{Mark}
 use Rattle.mixed_graph.specs.Graphs.{IsAncestor, MixedGraph}
 use Rattle.surgery.specs.Cuts.{cut_into, cut_out}
-use Rattle.identification.specs.Derivations.{more}
 
 -- A place v in a factor: in U, A holds its members' parents; T is a district of A (it is linked to no other member of A); v is in T.
 pub record IsPlace (g : MixedGraph) (Prior U A T : ℕ → Bool) (v : ℕ) : Type 0 where

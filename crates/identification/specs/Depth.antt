@@ -14,6 +14,7 @@ abbrev mutual
   are_plans_within d no_plans = true
   are_plans_within d (plan p ps) = is_plan_within d p && are_plans_within d ps
 
+-- the steps of each lemma nest so
 abbrev pub are_lemmas_within : ℕ → List PlainLemma → Bool
 are_lemmas_within d [] = true
 are_lemmas_within d (l ∷ ls) = is_plan_within d l.plan && are_lemmas_within d ls

@@ -1,17 +1,18 @@
 -- The derivation of the formula that the identification procedure answers: the steps of the do-calculus that turn P(y | do(x)) into it.
-use Rattle.std.specs.Prelude.{ℕ, zero, suc, ◌+◌, ◌≡◌, ◌≢◌, ◌⊎◌, Bool, true, false, ◌||◌, cond, List, [], ◌∷◌, ◌++◌, length, IsTrue}
+use Rattle.std.specs.Prelude.{ℕ, suc, ◌+◌, ◌≡◌, ◌≢◌, ◌⊎◌, Bool, true, false, ◌||◌, cond, List, [], ◌∷◌, ◌++◌, length, IsTrue}
 use Rattle.mixed_graph.specs.Bits.{has}
 use Rattle.mixed_graph.specs.Graphs.{MixedGraph}
 use Rattle.mixed_graph.specs.Orders.{IsOrder}
 use Rattle.districts.specs.Linked.{IsDistrict}
 use Rattle.prob_expr.specs.Masks.{join, minus, one, all, is_empty}
-use Rattle.prob_expr.specs.Tree.{Tree, prob, Trees, PlainFormula}
+use Rattle.prob_expr.specs.Tree.{prob, Trees, PlainFormula}
 use Rattle.do_derivation.specs.Plans.{Move, Plan, Plans, no_plans, plan, PlainLemma, PlainDerivation}
 use Rattle.do_derivation.specs.Shapes.{has_product}
 use Rattle.identification.specs.Procedure.{common, AreAncestorsIn, IsPillow, Source, IsComposed}
 
 -- ---- lists of steps
 
+-- one step
 abbrev pub single : Plan → Plans
 single s = plan s no_plans
 
@@ -34,6 +35,7 @@ abbrev pub at_each : ℕ → Lists → Plans → Plans
 at_each i no_more rest = rest
 at_each i (more l ls) rest = at_place i l (at_each (suc i) ls rest)
 
+-- a list of steps inside a sum
 abbrev pub at_zero : Plans → Plans
 at_zero l = at_place 0 l no_plans
 
@@ -79,6 +81,7 @@ body_steps (v ∷ []) no_more = no_plans
 body_steps (v ∷ []) (more l ls) = l
 body_steps (v ∷ w ∷ o) ls = plan (Plan.Make (Move.Chain (v ∷ w ∷ o))) (at_each 0 ls no_plans)
 
+-- the steps of the body of t
 pub record AreBodySteps (g : MixedGraph) (order : List ℕ) (from : Source) (a t : ℕ) (steps : Plans) : Type 0 where
   pub lists : Lists
   pub are : ArePlaceLists g from a t 0 order lists
@@ -115,6 +118,7 @@ home (t ∷ ts) v = cond (has t v) t (home ts v)
 abbrev pub home_list : (d t p : ℕ) → Plans
 home_list d t p = with_set (minus (common d p) t) (Plan.Make (Move.Rule2Do (minus (common d p) t))) (with_set (minus (minus d t) (minus (common d p) t)) (Plan.Make (Move.Rule3In (minus (minus d t) (minus (common d p) t)))) no_plans)
 
+-- one such list for each member of d in the order, where p has the vertices before the list
 abbrev pub home_lists : (d : ℕ) → List ℕ → (p : ℕ) → List ℕ → Lists
 home_lists d ts p [] = no_more
 home_lists d ts p (v ∷ o) = cond (has d v) (more (home_list d (home ts v) p) (home_lists d ts (join p (one v)) o)) (home_lists d ts (join p (one v)) o)
@@ -124,6 +128,7 @@ abbrev pub places : ℕ → ℕ → List ℕ → List ℕ
 places t i [] = []
 places t i (v ∷ l) = cond (has t v) (i ∷ places t (suc i) l) (places t (suc i) l)
 
+-- the places of the members of each district
 abbrev pub group_lists : List ℕ → List ℕ → List (List ℕ)
 group_lists [] l = []
 group_lists (t ∷ ts) l = places t 0 l ∷ group_lists ts l
@@ -134,6 +139,7 @@ unchain_steps [] = no_plans
 unchain_steps (v ∷ []) = no_plans
 unchain_steps (v ∷ w ∷ l) = single (Plan.Make Move.Unchain)
 
+-- those of each district
 abbrev pub unchain_lists : List ℕ → List ℕ → Lists
 unchain_lists [] l = no_more
 unchain_lists (t ∷ ts) l = more (unchain_steps (in_order t l)) (unchain_lists ts l)
@@ -142,14 +148,7 @@ unchain_lists (t ∷ ts) l = more (unchain_steps (in_order t l)) (unchain_lists 
 abbrev pub unwrap_steps : Trees → Plans
 unwrap_steps fs = cond (has_product fs) (single (Plan.Make Move.Unwrap)) no_plans
 
--- One district: its list. Several: the chain of d, each vertex to its district, the factors of each district as one term, and then the list of each district.
-abbrev pub rest_steps : List ℕ → (d : ℕ) → List ℕ → Lists → Trees → Plans
-rest_steps order d [] ls fs = no_plans
-rest_steps order d (t ∷ []) (more l ls) fs = l
-rest_steps order d (t ∷ []) no_more fs = no_plans
-rest_steps order d (t ∷ s ∷ ts) ls fs = plan (Plan.Make (Move.Chain (in_order d order))) (at_each 0 (home_lists d (t ∷ s ∷ ts) 0 order) (plan (Plan.Make (Move.Group (group_lists (t ∷ s ∷ ts) (in_order d order))))
-    (at_each 0 (unchain_lists (t ∷ s ∷ ts) (in_order d order)) (at_each 0 ls (unwrap_steps fs)))))
-
+-- the list has two entries or more
 abbrev pub two_or_more : List ℕ → Bool
 two_or_more [] = false
 two_or_more (v ∷ []) = false
@@ -160,27 +159,32 @@ abbrev pub has_pair : List ℕ → List ℕ → Bool
 has_pair order [] = false
 has_pair order (t ∷ ts) = two_or_more (in_order t order) || has_pair order ts
 
--- the same, where no factors are grouped if each district has one member
-abbrev pub procedure_steps : List ℕ → (d : ℕ) → List ℕ → Lists → Trees → Plans
-procedure_steps order d [] ls fs = no_plans
-procedure_steps order d (t ∷ []) ls fs = rest_steps order d (t ∷ []) ls fs
-procedure_steps order d (t ∷ s ∷ ts) ls fs = cond (has_pair order (t ∷ s ∷ ts)) (rest_steps order d (t ∷ s ∷ ts) ls fs)
-    (plan (Plan.Make (Move.Chain (in_order d order))) (at_each 0 (home_lists d (t ∷ s ∷ ts) 0 order) (at_each 0 ls (unwrap_steps fs))))
+-- where some district has two members, the factors of each district become one term
+abbrev pub group_steps : (order chain : List ℕ) → List ℕ → Plans → Plans
+group_steps order chain ts rest = cond (has_pair order ts) (plan (Plan.Make (Move.Group (group_lists ts chain))) (at_each 0 (unchain_lists ts chain) rest)) rest
+
+-- One district: its list. Several: the chain of d, each vertex to its district, one term for each district, and then the list of each.
+abbrev pub district_steps : List ℕ → (d : ℕ) → List ℕ → Lists → Trees → Plans
+district_steps order d [] ls fs = no_plans
+district_steps order d (t ∷ []) no_more fs = no_plans
+district_steps order d (t ∷ []) (more l ls) fs = l
+district_steps order d (t ∷ s ∷ ts) ls fs = plan (Plan.Make (Move.Chain (in_order d order))) (at_each 0 (home_lists d (t ∷ s ∷ ts) 0 order)
+    (group_steps order (in_order d order) (t ∷ s ∷ ts) (at_each 0 ls (unwrap_steps fs))))
 
 -- rule 3 puts in the actions that change nothing in y, and the sum over d outside y holds the rest
 abbrev pub main_steps : (n x y d : ℕ) → Plans → Plans
 main_steps n x y d rest = with_set (minus (minus (all n) x) d) (Plan.Make (Move.Rule3In (minus (minus (all n) x) d))) (cond (is_empty (minus d y)) rest (plan (Plan.Make (Move.Widen (minus d y))) (at_zero rest)))
 
--- by this order the composed formula has this derivation
-pub record IsComposedBy (g : MixedGraph) (order : List ℕ) (x y : ℕ) (f : PlainFormula) (d : PlainDerivation) : Type 0 where
+-- by this order the composed formula has that derivation
+pub record IsComposedWith (g : MixedGraph) (order : List ℕ) (x y : ℕ) (f : PlainFormula) (d : PlainDerivation) : Type 0 where
   pub composed : IsComposed g order x y f
   pub lists : Lists
   pub are : AreAllSteps g order 0 composed.districts d.lemmas lists
-  pub main : d.main ≡ Plan.Then (main_steps g.vertices x y composed.d (procedure_steps order composed.d composed.districts lists composed.factors))
+  pub main : d.main ≡ Plan.Then (main_steps g.vertices x y composed.d (district_steps order composed.d composed.districts lists composed.factors))
 
 -- by this order P(y | do(x)) has that formula with that derivation: no step where x is empty
 abbrev pub IsDerivedBy : MixedGraph → List ℕ → (x y : ℕ) → PlainFormula → PlainDerivation → Type 0
-IsDerivedBy g order x y f d = ((x ≡ 0) × (f ≡ record { defs = []; main = prob y 0 0 }) × (d ≡ record { lemmas = []; main = Plan.Then no_plans })) ⊎ ((x ≢ 0) × IsComposedBy g order x y f d)
+IsDerivedBy g order x y f d = ((x ≡ 0) × (f ≡ record { defs = []; main = prob y 0 0 }) × (d ≡ record { lemmas = []; main = Plan.Then no_plans })) ⊎ ((x ≢ 0) × IsComposedWith g order x y f d)
 
 -- the formula that the procedure answers for P(y | do(x)), in the graph's order, and its derivation
 pub record IsDerived (g : MixedGraph) (x y : ℕ) (f : PlainFormula) (d : PlainDerivation) : Type 0 where

@@ -1,7 +1,6 @@
 -- The laws of the procedure's answers, with the case of an empty x.
 use Rattle.std.proofs.Common.{ℕ, ◌≡◌, true, refl, sym, ap, subst, ◌∙◌, inl, inr, List, [], ◌+◌, length}
 use Rattle.identification.proofs.Bools.{clash}
-use Rattle.do_derivation.specs.Plans.{PlainDerivation}
 use Rattle.identification.proofs.Derivation.{procedure}
 use Rattle.identification.proofs.Formulas.{observed_accepted}
 use Rattle.identification.specs.Derivations.{IsDerivedBy}

@@ -1,8 +1,8 @@
 -- The derivation of the procedure's formula is fixed, and so the one that is accepted.
-use Rattle.std.proofs.Common.{ℕ, zero, suc, ◌+◌, ◌≡◌, refl, sym, ap, ap₂, subst, ◌∙◌, ◌⊎◌, inl, inr, List, [], ◌∷◌, ◌++◌, length}
+use Rattle.std.proofs.Common.{ℕ, suc, ◌+◌, ◌≡◌, refl, sym, ap, ap₂, subst, ◌∙◌, List, ◌∷◌, ◌++◌, length}
 use Rattle.do_derivation.specs.Plans.{Plan, Plans, PlainLemma, PlainDerivation}
 use Rattle.identification.proofs.Bools.{clash}
-use Rattle.identification.specs.Derivations.{Lists, more, ArePlaceLists, body_steps, AreBodySteps, cut_steps, in_order, universe, source_steps, place_list, AreFactorSteps, AreAllSteps, procedure_steps, main_steps, IsComposedBy}
+use Rattle.identification.specs.Derivations.{Lists, more, ArePlaceLists, body_steps, AreBodySteps, cut_steps, in_order, universe, source_steps, place_list, AreFactorSteps, AreAllSteps, district_steps, main_steps, IsComposedWith}
 use Rattle.identification.specs.Derivations.AreFactorSteps.{whole, summed, further}
 use Rattle.identification.specs.Procedure.{AreAncestorsIn, Source}
 use Rattle.identification_answers.proofs.Unique.{one_set, parts_one}
@@ -57,7 +57,7 @@ module _ (g : MixedGraph) (o : List ℕ) where
       let rest = all_one (k + length ls) cs xs ys fs gs r (subst (λ z. AreAllSteps g o (k + length z) cs ys gs) (sym s.lemmas) r2) in
       record { lemmas = ap₂ (λ x y. x ++ y) s.lemmas rest.lemmas; lists = ap₂ more s.steps rest.lists }
 
-  pub derivation_one : (x y : ℕ) (f h : PlainFormula) (d e : PlainDerivation) → IsComposedBy g o x y f d → IsComposedBy g o x y h e → d ≡ e
+  pub derivation_one : (x y : ℕ) (f h : PlainFormula) (d e : PlainDerivation) → IsComposedWith g o x y f d → IsComposedWith g o x y h e → d ≡ e
   derivation_one x y f h d e s t = derivation_same d e same.lemmas (s.main ∙ (ap Plan.Then mains ∙ sym t.main))
     where
       p : Rattle.identification_answers.proofs.Unique.SameParts g o x y f h s.composed t.composed
@@ -66,10 +66,10 @@ module _ (g : MixedGraph) (o : List ℕ) where
       same : SameAll d.lemmas s.lists e.lemmas t.lists
       same = all_one 0 s.composed.districts d.lemmas e.lemmas s.lists t.lists s.are (subst (λ z. AreAllSteps g o 0 z e.lemmas t.lists) (sym p.districts_same) t.are)
 
-      mains : main_steps g.vertices x y s.composed.d (procedure_steps o s.composed.d s.composed.districts s.lists s.composed.factors) ≡ main_steps g.vertices x y t.composed.d (procedure_steps o t.composed.d t.composed.districts t.lists t.composed.factors)
+      mains : main_steps g.vertices x y s.composed.d (district_steps o s.composed.d s.composed.districts s.lists s.composed.factors) ≡ main_steps g.vertices x y t.composed.d (district_steps o t.composed.d t.composed.districts t.lists t.composed.factors)
       mains = ap₂ (λ a (w : Plans). main_steps g.vertices x y a w) p.d_same
-          (ap₂ (λ a (q : List ℕ). procedure_steps o a q s.lists s.composed.factors) p.d_same p.districts_same
-          ∙ ap₂ (λ (u : Lists) w. procedure_steps o t.composed.d t.composed.districts u w) same.lists p.factors_same)
+          (ap₂ (λ a (q : List ℕ). district_steps o a q s.lists s.composed.factors) p.d_same p.districts_same
+          ∙ ap₂ (λ (u : Lists) w. district_steps o t.composed.d t.composed.districts u w) same.lists p.factors_same)
 
       derivation_same : (d e : PlainDerivation) → d.lemmas ≡ e.lemmas → d.main ≡ e.main → d ≡ e
       derivation_same d e p q = ap₂ (λ a b. record { lemmas = a; main = b }) p q

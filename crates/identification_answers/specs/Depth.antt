@@ -16,6 +16,7 @@ abbrev mutual
   are_trees_within d no_trees = true
   are_trees_within d (tree t ts) = is_tree_within d t && are_trees_within d ts
 
+-- the nodes of each definition nest so
 abbrev pub are_defs_within : ℕ → List Tree → Bool
 are_defs_within d [] = true
 are_defs_within d (t ∷ ts) = is_tree_within d t && are_defs_within d ts

@@ -20,6 +20,7 @@ abbrev mutual
   EachNamesOnly P no_trees = Unit {0}
   EachNamesOnly P (tree t ts) = NamesOnly P t × EachNamesOnly P ts
 
+-- P holds of each vertex that a tree of the list names
 abbrev pub AllNameOnly : (ℕ → Type 0) → List Tree → Type 0
 AllNameOnly P [] = Unit {0}
 AllNameOnly P (d ∷ ds) = NamesOnly P d × AllNameOnly P ds
