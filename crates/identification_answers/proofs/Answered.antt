@@ -17,7 +17,7 @@ use Rattle.identification_answers.proofs.Names.{names_ancestors}
 use Rattle.identification_answers.proofs.Stops.{hedge, meets, home_of}
 use Rattle.identification_answers.proofs.Unique.{tree_one, tree_or_stop, stop_one}
 use Rattle.identification_answers.specs.Depth.{is_tree_within, are_defs_within}
-use Rattle.identification_answers.specs.Laws.{FormulaNamesAncestors, FormulaIsFormed, FormulaIsShallow, OneFormula, OneDerivation, DerivationIsAccepted, OneStop, NeverBoth, StopIsHedge}
+use Rattle.identification_answers.specs.Laws.{FormulaNamesAncestors, FormulaIsFormed, FormulaIsShallow, OneFormula, DerivedIsIdentified, OneDerivation, DerivationIsAccepted, OneStop, NeverBoth, StopIsHedge}
 use Rattle.identification_answers.specs.Names.{FormulaNamesOnly}
 use Rattle.mixed_graph.proofs.Masks.{has-zero}
 use Rattle.mixed_graph.specs.Bits.{has}
@@ -65,6 +65,13 @@ one_formula g x y f h i j = go i.answer (subst (λ o. IsIdentifiedBy g o x y h) 
     go (inl s) (inr t) = absurd (t.0 s.0)
     go (inr s) (inl t) = absurd (s.0 t.0)
     go (inr s) (inr t) = tree_one g i.order x y f h s.1 t.1
+
+pub derived_is_identified : DerivedIsIdentified
+derived_is_identified g x y f d i = record { order = i.order; is_order = i.is_order; answer = go i.answer }
+  where
+    go : IsDerivedBy g i.order x y f d → IsIdentifiedBy g i.order x y f
+    go (inl s) = inl (s.0, s.1)
+    go (inr s) = inr (s.0, s.1.composed)
 
 pub one_derivation : OneDerivation
 one_derivation g x y f h d e i j = go i.answer (subst (λ o. IsDerivedBy g o x y h e) (one_order g j.order i.order j.is_order i.is_order) j.answer)

@@ -29,6 +29,10 @@ FormulaIsShallow = (g : MixedGraph) (x y : ℕ) (f : PlainFormula) → IsIdentif
 abbrev pub OneFormula : Type 0
 OneFormula = (g : MixedGraph) (x y : ℕ) (f h : PlainFormula) → IsIdentified g x y f → IsIdentified g x y h → f ≡ h
 
+-- what has a derivation of the procedure is that formula
+abbrev pub DerivedIsIdentified : Type 0
+DerivedIsIdentified = (g : MixedGraph) (x y : ℕ) (f : PlainFormula) (d : PlainDerivation) → IsDerived g x y f d → IsIdentified g x y f
+
 -- and it has one derivation
 abbrev pub OneDerivation : Type 0
 OneDerivation = (g : MixedGraph) (x y : ℕ) (f h : PlainFormula) (d e : PlainDerivation) → IsDerived g x y f d → IsDerived g x y h e → d ≡ e

@@ -1,4 +1,4 @@
-ghost use Rattle.identification_answers.specs.Laws.{FormulaNamesAncestors, FormulaIsFormed, FormulaIsShallow, OneFormula, OneDerivation, DerivationIsAccepted, OneStop, NeverBoth, StopIsHedge};
+ghost use Rattle.identification_answers.specs.Laws.{FormulaNamesAncestors, FormulaIsFormed, FormulaIsShallow, OneFormula, DerivedIsIdentified, OneDerivation, DerivationIsAccepted, OneStop, NeverBoth, StopIsHedge};
 
 /// What follows from the procedure's definition, about each formula that it answers and each place
 /// where it stops.
@@ -7,6 +7,7 @@ pub fn laws()
     ensures formed { FormulaIsFormed }
     ensures shallow { FormulaIsShallow }
     ensures one_formula { OneFormula }
+    ensures derived { DerivedIsIdentified }
     ensures one_derivation { OneDerivation }
     ensures accepted { DerivationIsAccepted }
     ensures one_stop { OneStop }
