@@ -1,0 +1,4 @@
+pub mod Depth
+pub mod Derivations
+pub mod Laws
+pub mod Procedure

@@ -1,0 +1,16 @@
+ghost use Rattle.identification_answers.specs.Laws.{FormulaNamesAncestors, FormulaIsFormed, FormulaIsShallow, OneFormula, DerivedIsIdentified, OneDerivation, DerivationIsAccepted, OneStop, NeverBoth, StopIsHedge};
+
+/// What follows from the procedure's definition, about each formula that it answers and each place
+/// where it stops.
+pub fn laws()
+    ensures names { FormulaNamesAncestors }
+    ensures formed { FormulaIsFormed }
+    ensures shallow { FormulaIsShallow }
+    ensures one_formula { OneFormula }
+    ensures derived { DerivedIsIdentified }
+    ensures one_derivation { OneDerivation }
+    ensures accepted { DerivationIsAccepted }
+    ensures one_stop { OneStop }
+    ensures never_both { NeverBoth }
+    ensures hedge { StopIsHedge }
+{}
