@@ -1,0 +1,6 @@
+pub mod Bytes
+pub mod Latex
+pub mod Read
+pub mod Sound
+pub mod Text
+pub mod Write
