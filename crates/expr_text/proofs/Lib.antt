@@ -4,3 +4,12 @@ pub mod Inner
 pub mod Within
 pub mod LatexLists
 pub mod Checked
+pub mod Known
+pub mod Fronts
+pub mod Listed
+pub mod NamesBack
+pub mod TermsBack
+pub mod NumbersBack
+pub mod Readable
+pub mod TextsBack
+pub mod FormulasBack

@@ -1,5 +1,6 @@
 pub mod Bytes
 pub mod Latex
+pub mod Laws
 pub mod Read
 pub mod Sound
 pub mod Text
