@@ -1,17 +1,17 @@
 -- A formula, read back.
-use Rattle.std.proofs.Common.{◌≡◌, ℕ, zero, suc, ◌+◌, ◌^◌, ◌<◌, ◌≤◌, max, Bool, true, false, cond, not, eqb, ltb, ◌&&◌, List, [], ◌∷◌, ◌++◌, length, Option, Some, None, Result, Ok, Err, is_none, decimal, refl, sym, ap, subst, ◌∙◌, append_assoc, append-nil, arith, codes}
-use Rattle.std.proofs.lemmas.Bool.{ltb-true, lt-ltb, eq-eqb}
+use Rattle.std.proofs.Common.{◌≡◌, ℕ, zero, suc, ◌+◌, ◌^◌, ◌<◌, ◌≤◌, true, cond, eqb, List, [], ◌∷◌, ◌++◌, length, Option, Some, None, Result, Ok, Err, is_none, decimal, refl, sym, ap, ◌∙◌, append_assoc, append-nil, arith}
+use Rattle.std.proofs.lemmas.Bool.{eq-eqb}
 use Rattle.std.proofs.lemmas.List.{length-append}
-use Rattle.prob_expr.specs.Tree.{Tree, prob, sum, product, quotient, named, Trees, no_trees, tree, PlainFormula}
-use Rattle.prob_expr.specs.Check.{check_tree, fault_of, or_else, fault_in_defs, fault_in, cap}
-use Rattle.expr_text.specs.Read.{◌>>=◌, when, bad, trim, next_is, expect, number_at, repeat, expr_with, inner_of, def_body, def_at, def_step, checked, formula_of}
+use Rattle.prob_expr.specs.Tree.{Tree, PlainFormula}
+use Rattle.prob_expr.specs.Check.{check_tree, fault_of, fault_in_defs, cap}
+use Rattle.expr_text.specs.Read.{◌>>=◌, bad, trim, next_is, expect, repeat, inner_of, def_body, def_at, def_step, checked, formula_of}
 use Rattle.expr_text.specs.Write.{text_of, nesting, defs_text, formula_text, nesting_all}
 use Rattle.expr_text.specs.Laws.{ReadsWholeBack}
 use Rattle.expr_text.proofs.Known.{AreKnown, known}
 use Rattle.expr_text.proofs.Readable.{is_readable, readable}
 use Rattle.expr_text.proofs.Checked.{neither, sound_from, numbered_from}
 use Rattle.expr_text.proofs.NumbersBack.{number_is_read}
-use Rattle.expr_text.proofs.TextsBack.{Ends, ends_here, ExprBack, expr_space, expr_back}
+use Rattle.expr_text.proofs.TextsBack.{Ends, ends_here, expr_space, expr_back}
 use Rattle.expr_text.proofs.Repeats.{end_with}
 
 readable_from : (n : ℕ) (def : Option ℕ) (limit : ℕ) (t : Tree) → limit ≤ 2 ^ 32 → fault_of (check_tree n def limit t 0) ≡ None → is_readable n t ≡ true

@@ -1,5 +1,5 @@
 -- The names of a set, one after another, and the texts that stand for them.
-use Rattle.std.proofs.Common.{◌≡◌, ℕ, zero, suc, ◌+◌, ◌^◌, ◌<◌, ◌≤◌, Bool, true, false, cond, not, ltb, eqb, List, [], ◌∷◌, ◌++◌, length, get_or, drop, map, ◌-◌, lit<, refl, sym, ap, ◌∙◌, append_assoc, append-nil, arith, codes, eqb-true}
+use Rattle.std.proofs.Common.{◌≡◌, ℕ, zero, suc, ◌+◌, ◌^◌, ◌<◌, ◌≤◌, Bool, true, false, cond, List, [], ◌∷◌, ◌++◌, length, get_or, drop, map, ◌-◌, lit<, refl, sym, ap, ◌∙◌, append_assoc, append-nil, arith, codes, eqb-true}
 use Rattle.std.specs.Prelude.{if◌then◌else◌}
 use Rattle.std.proofs.lemmas.List.{at_drop_more, at_drop_all, map-append}
 use Rattle.std.proofs.lemmas.Bool.{lt-ltb, eq-eqb, false≢true}
@@ -48,7 +48,6 @@ member_out set v names h b = members_more set v names h ∙ ap (λ t. cond t (ge
 pub members_end : (set v : ℕ) (names : List (List ℕ)) → length names ≡ v → members set v (drop v names) ≡ []
 members_end set v names h = at_drop_all (members set v) names v (omega arith)
 
-
 -- ---- the same as members in ascending order
 
 map_one : (f : ℕ → List ℕ) (b : Bool) (k : ℕ) → map f (cond b (k ∷ []) []) ≡ cond b (f k ∷ []) []
@@ -67,7 +66,7 @@ front_and_rest set names (suc k) le =
     let rest = members set (suc k) (drop (suc k) names) in
     let next : suc k ≡ k + 1 = omega arith in
     let here : members set k (drop k names) ≡ cond (has set k) (f k ∷ rest) rest =
-        members_more set k names (omega arith) ∙ ap (λ j. cond (has set k) (f k ∷ members set j (drop j names)) (members set j (drop j names))) (sym next) in
+    members_more set k names (omega arith) ∙ ap (λ j. cond (has set k) (f k ∷ members set j (drop j names)) (members set j (drop j names))) (sym next) in
     ap (λ t. t ++ rest) (map-append f (members_below (has set) k) (cond (has set k) (k ∷ []) []) ∙ ap (λ t. map f (members_below (has set) k) ++ t) (map_one f (has set k) k))
     ∙ append_assoc (map f (members_below (has set) k)) (cond (has set k) (f k ∷ []) []) rest
     ∙ ap (λ t. map f (members_below (has set) k) ++ t) (one_more (has set k) (f k) rest ∙ sym here)
@@ -136,6 +135,6 @@ unfolding conds_text
 term_same names a b c few la lb lc =
     ap (λ t. codes "P(" ++ (t ++ (conditions_text (member_names names (has b)) (member_names names (has c)) ++ codes ")"))) (text_same names a few la)
     ∙ ap (λ t. codes "P(" ++ (names_text names a ++ (t ++ codes ")"))) (
-      conds_same_by names b c (is_empty b) (is_empty c) few lb lc refl refl
-      ∙ ap (λ t. cond (is_empty b) (cond (is_empty c) [] (124 ∷ t)) (124 ∷ 100 ∷ 111 ∷ 40 ∷ (comma_text (member_names names (has b)) ++ (41 ∷ cond (is_empty c) [] (44 ∷ t))))) (text_same names c few lc)
-      ∙ ap (λ t. cond (is_empty b) (cond (is_empty c) [] (124 ∷ names_text names c)) (124 ∷ 100 ∷ 111 ∷ 40 ∷ (t ++ (41 ∷ cond (is_empty c) [] (44 ∷ names_text names c))))) (text_same names b few lb))
+    conds_same_by names b c (is_empty b) (is_empty c) few lb lc refl refl
+    ∙ ap (λ t. cond (is_empty b) (cond (is_empty c) [] (124 ∷ t)) (124 ∷ 100 ∷ 111 ∷ 40 ∷ (comma_text (member_names names (has b)) ++ (41 ∷ cond (is_empty c) [] (44 ∷ t))))) (text_same names c few lc)
+    ∙ ap (λ t. cond (is_empty b) (cond (is_empty c) [] (124 ∷ names_text names c)) (124 ∷ 100 ∷ 111 ∷ 40 ∷ (t ++ (41 ∷ cond (is_empty c) [] (44 ∷ names_text names c))))) (text_same names b few lb))

@@ -1,5 +1,5 @@
 -- The names of a set, read back.
-use Rattle.std.proofs.Common.{◌≡◌, ℕ, zero, suc, ◌+◌, ◌*◌, ◌/◌, ◌%◌, ◌^◌, ◌<◌, ◌≤◌, Bool, true, false, cond, eqb, ◌||◌, List, [], ◌∷◌, ◌++◌, length, get_or, drop, Option, Some, None, Ok, bit_and, bit_or, refl, sym, ap, subst, ◌∙◌, append_assoc, add-one, arith, eqb-true, ne_eqb, codes}
+use Rattle.std.proofs.Common.{◌≡◌, ℕ, zero, suc, ◌+◌, ◌*◌, ◌%◌, ◌^◌, ◌<◌, ◌≤◌, Bool, true, false, eqb, List, [], ◌∷◌, ◌++◌, length, get_or, drop, Some, None, Ok, bit_or, refl, sym, ap, subst, ◌∙◌, append_assoc, arith, eqb-true, codes}
 use Rattle.std.specs.Int.{bit_at}
 use Rattle.std.proofs.lemmas.Nat.{or_disjoint, mod-pow-add, pow_pos}
 use Rattle.std.proofs.lemmas.Nat.Bits.{and_pow, bit_at-zero, bit_at-lt}
@@ -7,7 +7,7 @@ use Rattle.std.proofs.Math.Nat.{div-eq_of_lt, mod-eq_of_lt}
 use Rattle.mixed_graph.specs.Bits.{has}
 use Rattle.mixed_graph.specs.Names.{is_named, index_of}
 use Rattle.name_text.specs.Printing.{is_plain_byte, printed}
-use Rattle.expr_text.specs.Read.{◌>>=◌, when, bad, trim, raw_name, next_is, with_vertex, name_at, name_step, names_at, repeat}
+use Rattle.expr_text.specs.Read.{◌>>=◌, when, bad, trim, next_is, with_vertex, name_at, name_step, names_at, repeat}
 use Rattle.expr_text.proofs.Known.{AreKnown}
 use Rattle.expr_text.proofs.Listed.{members, listed, more_listed, names_text, member_in, member_out, members_end}
 use Rattle.expr_text.proofs.Repeats.{end_with}

@@ -1,13 +1,12 @@
 -- A number, read back.
-use Rattle.std.proofs.Common.{◌≡◌, ℕ, zero, suc, ◌+◌, ◌-◌, ◌*◌, ◌/◌, ◌%◌, ◌^◌, ◌<◌, ◌≤◌, Bool, true, false, cond, not, eqb, ltb, leb, ◌||◌, ◌&&◌, List, [], ◌∷◌, ◌++◌, length, get_or, take, drop, Ok, decimal, refl, sym, ap, subst, ◌∙◌, arith, eqb-true, ne_eqb, lit<}
+use Rattle.std.proofs.Common.{◌≡◌, ℕ, zero, suc, ◌+◌, ◌-◌, ◌*◌, ◌/◌, ◌%◌, ◌^◌, ◌<◌, ◌≤◌, Bool, true, false, cond, eqb, ltb, leb, ◌&&◌, List, [], ◌∷◌, ◌++◌, length, get_or, take, drop, Ok, decimal, refl, sym, ap, subst, ◌∙◌, arith, ne_eqb, lit<}
 use Rattle.std.specs.List.{prefix_len}
-use Rattle.std.proofs.lemmas.Bool.{ltb-true, le-leb, lt-ltb}
+use Rattle.std.proofs.lemmas.Bool.{le-leb, lt-ltb}
 use Rattle.std.proofs.lemmas.Fmt.{decimal_by_steps, first_decimal, length-decimal-le, decimal_digit}
 use Rattle.std.proofs.lemmas.List.{take_at, drop_at, length-append}
-use Rattle.std.proofs.Math.Nat.{pow-le-pow_right}
 use Rattle.name_text.specs.Printing.{is_white}
 use Rattle.expr_text.specs.Bytes.{is_digit}
-use Rattle.expr_text.specs.Read.{trim, bad, number_of, is_number, number_in, number_at}
+use Rattle.expr_text.specs.Read.{bad, number_of, is_number, number_in, number_at}
 use Rattle.expr_text.proofs.Fronts.{Stops, all_pass, prefix_len-stops, other_byte, trim_here}
 
 pub digit_is_not_white : (b : ℕ) → is_digit b ≡ true → is_white b ≡ false

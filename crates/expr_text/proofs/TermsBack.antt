@@ -1,16 +1,16 @@
 -- A term, read back.
-use Rattle.std.proofs.Common.{◌≡◌, ℕ, zero, suc, ◌+◌, ◌^◌, ◌<◌, ◌≤◌, Bool, true, false, cond, not, eqb, ltb, ◌||◌, ◌&&◌, List, [], ◌∷◌, ◌++◌, length, get_or, Option, Some, None, Ok, refl, sym, ap, ◌∙◌, append_assoc, arith, eqb-true, ne_eqb, codes}
-use Rattle.std.proofs.lemmas.Bool.{ltb-true, eqb-false}
+use Rattle.std.proofs.Common.{◌≡◌, ℕ, zero, suc, ◌^◌, ◌<◌, Bool, true, false, cond, not, eqb, List, [], ◌∷◌, ◌++◌, length, get_or, Option, None, Ok, refl, sym, ap, ◌∙◌, append_assoc, arith, eqb-true, ne_eqb, codes}
+use Rattle.std.proofs.lemmas.Bool.{eqb-false}
 use Rattle.std.specs.List.{prefix_len}
-use Rattle.prob_expr.specs.Tree.{Tree, prob}
-use Rattle.prob_expr.specs.Masks.{is_empty, is_below, is_apart, are_term_sets}
+use Rattle.prob_expr.specs.Tree.{prob}
+use Rattle.prob_expr.specs.Masks.{is_empty}
 use Rattle.std.specs.List.{list_all}
-use Rattle.name_text.specs.Printing.{is_white, is_plain_byte, is_plain, printed}
+use Rattle.name_text.specs.Printing.{is_plain_byte, is_plain, printed}
 use Rattle.expr_text.specs.Read.{◌>>=◌, when, after, trim, next_is, expect, names_at, given_at, doing_at, conds_at, term_at}
 use Rattle.expr_text.proofs.Known.{AreKnown, whole_run}
-use Rattle.expr_text.proofs.Listed.{listed, more_listed, members, names_text, given_text, conds_text}
+use Rattle.expr_text.proofs.Listed.{listed, more_listed, names_text, conds_text}
 use Rattle.expr_text.proofs.Within.{and_true}
-use Rattle.expr_text.proofs.Fronts.{Stops, not_true, all_pass, other_byte, bare_is_not_white, trim_here}
+use Rattle.expr_text.proofs.Fronts.{Stops, all_pass, other_byte, bare_is_not_white, trim_here}
 use Rattle.expr_text.proofs.NamesBack.{names_are_read, by_first_name}
 
 -- ---- `do(` stands at the front of no list of names

@@ -1,24 +1,21 @@
 -- An expression, read back.
-use Rattle.std.proofs.Common.{◌≡◌, ℕ, zero, suc, ◌+◌, ◌^◌, ◌<◌, ◌≤◌, max, Bool, true, false, cond, not, eqb, ltb, ◌&&◌, List, [], ◌∷◌, ◌++◌, length, drop, Option, Some, None, Ok, decimal, refl, sym, ap, subst, ◌∙◌, append_assoc, append-nil, arith, codes, Result}
+use Rattle.std.proofs.Common.{◌≡◌, ℕ, zero, suc, ◌+◌, ◌^◌, ◌≤◌, true, cond, not, eqb, ◌&&◌, List, [], ◌∷◌, ◌++◌, length, drop, Some, None, Ok, refl, sym, ap, ◌∙◌, append_assoc, append-nil, arith, codes}
 use Rattle.std.proofs.lemmas.List.{length-append}
 use Rattle.std.proofs.lemmas.Bool.{ltb-true}
 use Rattle.std.specs.List.{prefix_len}
 use Rattle.prob_expr.specs.Tree.{Tree, prob, sum, product, quotient, named, Trees, no_trees, tree, trees_of}
-use Rattle.prob_expr.specs.Masks.{is_empty, is_below, is_apart, are_term_sets}
-use Rattle.prob_expr.specs.Check.{are_two}
+use Rattle.prob_expr.specs.Masks.{is_empty, is_below}
 use Rattle.mixed_graph.specs.Bits.{has}
-use Rattle.mixed_graph.specs.Names.{AreNames}
-use Rattle.name_text.specs.Printing.{is_white, is_plain_byte, comma_text}
+use Rattle.name_text.specs.Printing.{is_white, comma_text}
 use Rattle.answer_text.specs.Texts.{member_names}
-use Rattle.prob_expr.specs.Terms.{is_term}
 use Rattle.expr_text.specs.Bytes.{is_digit}
-use Rattle.expr_text.specs.Read.{◌>>=◌, Parse, when, bad, after, trim, next_is, expect, names_at, number_at, term_at, named_at, Inner, in_parentheses, operand_at, sum_at, factor_at, factor_step, repeat, factors_at, bottom_at, operands_at, expr_with, inner_of, expr_of}
-use Rattle.expr_text.specs.Write.{parenthesized, wrapped, text_of, factors_text, more_factors_text, deeper, nesting, nesting_each}
+use Rattle.expr_text.specs.Read.{◌>>=◌, Parse, when, bad, trim, next_is, expect, named_at, Inner, in_parentheses, operand_at, sum_at, factor_at, factor_step, repeat, factors_at, bottom_at, operands_at, expr_with, inner_of, expr_of}
+use Rattle.expr_text.specs.Write.{parenthesized, wrapped, text_of, more_factors_text, deeper, nesting, nesting_each}
 use Rattle.expr_text.proofs.Readable.{is_readable, are_readable, readable}
 use Rattle.expr_text.specs.Laws.{ReadsBack}
 use Rattle.expr_text.proofs.Within.{and_true, term_parts}
 use Rattle.expr_text.proofs.Known.{AreKnown, known}
-use Rattle.expr_text.proofs.Listed.{names_text, conds_text, text_same, term_same}
+use Rattle.expr_text.proofs.Listed.{text_same, term_same}
 use Rattle.expr_text.proofs.Fronts.{Stops, not_true}
 use Rattle.expr_text.proofs.NamesBack.{names_are_read}
 use Rattle.expr_text.proofs.NumbersBack.{number_is_read}
@@ -112,9 +109,9 @@ no_sum names (named k) rest = refl
 -- a first operand, and what comes behind it
 abbrev behind : List (List ℕ) → Inner → Tree × List ℕ → Parse Tree
 behind names inner first =
-  when (next_is (codes "*") first.1) (
+    when (next_is (codes "*") first.1) (
     when (next_is (codes "/") first.1) (Ok first) (bottom_at names inner first.0)
-  ) (factors_at names inner first.0)
+    ) (factors_at names inner first.0)
 
 first_back : (names : List (List ℕ)) (t : Tree) (d : ℕ) (rest : List ℕ) → AreKnown names → ExprBack names t → is_readable (length names) t ≡ true → deeper t (nesting t) ≤ d → Stops is_digit rest
     → expr_with names (inner_of names d) (wrapped t (text_of names t) ++ rest) ≡ behind names (inner_of names d) (t, rest)
@@ -158,7 +155,7 @@ sum_back names u e are back (suc d) rest sound deep ends =
     let commas = comma_text (member_names names (has u)) in
     let bytes = ((commas ++ 125 ∷ []) ++ 32 ∷ text) ++ rest in
     let grouped : bytes ≡ commas ++ 125 ∷ 32 ∷ (text ++ rest) =
-        append_assoc (commas ++ 125 ∷ []) (32 ∷ text) rest ∙ append_assoc commas (125 ∷ []) (32 ∷ (text ++ rest)) in
+    append_assoc (commas ++ 125 ∷ []) (32 ∷ text) rest ∙ append_assoc commas (125 ∷ []) (32 ∷ (text ++ rest)) in
     ap (λ i. when i (bad (115 ∷ 117 ∷ 109 ∷ 123 ∷ bytes)) (λ read. sum_at names read (123 ∷ bytes))) (inner_suc names d)
     ∙ ap (λ t. sum_at names inner (123 ∷ t)) (grouped ∙ ap (λ t. t ++ 125 ∷ 32 ∷ (text ++ rest)) (text_same names u are.few below))
     ∙ ap (λ r. r >>= λ over. expect (codes "}") over.1 >>= λ rest. inner rest >>= λ body. Ok (sum over.0 body.0, body.1))

@@ -5,6 +5,7 @@ use Rattle.name_text.specs.Printing.{is_white, is_plain_byte}
 use Rattle.expr_text.specs.declared.bytes.Class.{Class}
 use Rattle.expr_text.specs.declared.bytes.Class.TheVariants.{White, Plain, Line, Digit}
 
+-- a decimal digit
 abbrev pub is_digit : ℕ → Bool
 is_digit b = nat_le 48 b && nat_le b 57
 

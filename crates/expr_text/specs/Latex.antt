@@ -18,6 +18,7 @@ byte_latex b =
     else (if b == 126 then codes "\\~{}"
     else b ∷ [])))
 
+-- the characters of a name, one after another
 abbrev pub escaped : List ℕ → List ℕ
 escaped [] = []
 escaped (b ∷ bytes) = byte_latex b ++ escaped bytes
@@ -49,6 +50,7 @@ abbrev pub term_latex : List (List ℕ) → (of doing given : ℕ → Bool) → 
 term_latex names of doing given =
     codes "P(" ++ (names_latex (member_names names of) ++ (conditions_latex (member_names names doing) (member_names names given) ++ codes ")"))
 
+-- parentheses that grow with what they hold
 abbrev pub in_brackets : List ℕ → List ℕ
 in_brackets text = codes "\\left( " ++ (text ++ codes " \\right)")
 

@@ -1,5 +1,6 @@
--- Reading an expression from left to right. A fault is how many bytes are left from the token on that doesn't fit.
-use Rattle.std.specs.Prelude.{◌≡◌, ℕ, zero, suc, ◌+◌, ◌-◌, ◌*◌, ◌^◌, Bool, true, false, not, ◌||◌, ◌&&◌, ◌==◌, is_none, nat_lt, nat_le, ltb, eqb, List, [], ◌∷◌, ◌++◌, length, take, drop, Option, Some, None, Result, Ok, Err, if◌then◌else◌, codes}
+-- Reading an expression from left to right. White space may stand before each token. A fault is how many
+-- bytes are left from the token on that doesn't fit.
+use Rattle.std.specs.Prelude.{◌≡◌, ℕ, zero, suc, ◌+◌, ◌-◌, ◌*◌, ◌^◌, Bool, false, not, ◌||◌, ◌&&◌, ◌==◌, is_none, nat_lt, List, [], ◌∷◌, ◌++◌, length, take, drop, Option, Some, None, Result, Ok, Err, if◌then◌else◌, codes}
 use Rattle.std.specs.List.{prefix_len}
 use Rattle.prob_expr.specs.Tree.{Tree, prob, sum, product, quotient, named, trees_of, PlainFormula}
 use Rattle.prob_expr.specs.Check.{fault_in}
@@ -12,10 +13,12 @@ use Rattle.expr_text.specs.declared.stop.Stop.{Stop}
 use Rattle.expr_text.specs.declared.stop.Stop.TheVariants.{Left, NoMemory}
 
 infixl 10 ◌>>=◌
+-- what follows, where no fault came
 abbrev pub ◌>>=◌ : {A B : Type 0} → Result A ℕ → (A → Result B ℕ) → Result B ℕ
 (Ok x) >>= f = f x
 (Err e) >>= f = Err e
 
+-- one answer where there is no value, another where there is one
 abbrev pub when : {A B : Type 0} → Option A → B → (A → B) → B
 when None absent present = absent
 when (Some x) absent present = present x
@@ -25,6 +28,7 @@ abbrev pub Fails : {Y : Type 0} → Stop → Result Y ℕ → Type 0
 Fails (Left n) read = read ≡ Err n
 Fails NoMemory read = Unit {0}
 
+-- the same of any answer
 abbrev pub Gives : {X Y : Type 0} → (X → Y) → Result X Stop → Result Y ℕ → Type 0
 Gives view (Ok x) read = read ≡ Ok (view x)
 Gives view (Err e) read = Fails e read
@@ -47,9 +51,11 @@ after (t ∷ ts) (b ∷ bytes) = if t == b then after ts bytes else None
 unfoldable pub next_is : List ℕ → List ℕ → Option (List ℕ)
 next_is token bytes = after token (trim bytes)
 
+-- the fault at the next token
 abbrev pub bad : {A : Type 0} → List ℕ → Result A ℕ
 bad bytes = Err (length (trim bytes))
 
+-- the bytes behind a token that has to be the next
 unfoldable pub expect : List ℕ → List ℕ → Result (List ℕ) ℕ
 expect token bytes = when (next_is token bytes) (bad bytes) (λ rest. Ok rest)
 
@@ -61,6 +67,7 @@ closed [] bytes = None
 closed (c ∷ name) [] = None
 closed (c ∷ name) (b ∷ bytes) = if b == 34 then Some (c ∷ name, bytes) else None
 
+-- behind an opening quotation mark: a name up to the closing one, and what follows it
 abbrev pub quoted : List ℕ → Option (List ℕ × List ℕ)
 quoted bytes = closed (take (prefix_len is_line_byte bytes) bytes) (drop (prefix_len is_line_byte bytes) bytes)
 
@@ -93,9 +100,11 @@ abbrev pub repeat : {A : Type 0} → (A → List ℕ → Option (Parse A)) → �
 repeat step zero a bytes = Ok (a, bytes)
 repeat step (suc fuel) a bytes = when (step a bytes) (Ok (a, bytes)) (λ r. r >>= λ p. repeat step fuel p.0 p.1)
 
+-- a comma and one more name, where the comma is the next token
 abbrev pub name_step : List (List ℕ) → ℕ → List ℕ → Option (Parse ℕ)
 name_step names have bytes = when (next_is (codes ",") bytes) None (λ rest. Some (name_at names have rest))
 
+-- names = name { "," name }: the set of them, in any order
 unfoldable pub names_at : List (List ℕ) → List ℕ → Parse ℕ
 names_at names bytes = do
   first ← name_at names 0 bytes
@@ -112,9 +121,11 @@ abbrev pub is_number : List ℕ → Bool
 is_number [] = false
 is_number (d ∷ ds) = (nat_lt (length ds) 10 && not (d == 48 && nat_lt 0 (length ds))) && nat_lt (number_of 0 (d ∷ ds)) (2 ^ 32)
 
+-- a number of these digits, or the fault at it
 abbrev pub number_in : List ℕ → List ℕ → List ℕ → Parse ℕ
 number_in bytes digits rest = if is_number digits then Ok (number_of 0 digits, rest) else bad bytes
 
+-- the next number
 unfoldable pub number_at : List ℕ → Parse ℕ
 number_at bytes =
     number_in bytes (take (prefix_len is_digit (trim bytes)) (trim bytes)) (drop (prefix_len is_digit (trim bytes)) (trim bytes))
@@ -126,6 +137,7 @@ given_at names doing bytes = do
   given ← names_at names bytes
   Ok ((doing, given.0), given.1)
 
+-- behind `do(`: names ")" ["," names]
 unfoldable pub doing_at : List (List ℕ) → List ℕ → Parse (ℕ × ℕ)
 doing_at names bytes = do
   doing ← names_at names bytes
@@ -146,6 +158,7 @@ term_at names bytes = do
   rest ← expect (codes ")") conds.1
   Ok (prob first.0 conds.0.0 conds.0.1, rest)
 
+-- behind `q`: the number of a definition
 unfoldable pub named_at : List ℕ → Parse Tree
 named_at bytes = do
   k ← number_at bytes
@@ -156,12 +169,14 @@ named_at bytes = do
 abbrev pub Inner : Type 0
 Inner = Option (List ℕ → Parse Tree)
 
+-- behind `(`: expr ")"
 unfoldable pub in_parentheses : (List ℕ → Parse Tree) → List ℕ → Parse Tree
 in_parentheses inner bytes = do
   e ← inner bytes
   rest ← expect (codes ")") e.1
   Ok (e.0, rest)
 
+-- operand = "P(" names ["|" conds] ")" | "q" number | "(" expr ")"
 unfoldable pub operand_at : List (List ℕ) → Inner → List ℕ → Parse Tree
 operand_at names inner bytes =
     when (next_is (codes "P(") bytes) (
@@ -180,11 +195,13 @@ sum_at names inner bytes = do
   body ← inner rest
   Ok (sum over.0 body.0, body.1)
 
+-- behind `*`: one factor more
 unfoldable pub factor_at : List (List ℕ) → Inner → List Tree → List ℕ → Parse (List Tree)
 factor_at names inner before bytes = do
   next ← operand_at names inner bytes
   Ok (before ++ next.0 ∷ [], next.1)
 
+-- a star and one factor more, where the star is the next token
 abbrev pub factor_step : List (List ℕ) → Inner → List Tree → List ℕ → Option (Parse (List Tree))
 factor_step names inner before bytes = when (next_is (codes "*") bytes) None (λ rest. Some (factor_at names inner before rest))
 
@@ -201,13 +218,15 @@ bottom_at names inner top bytes = do
   bottom ← operand_at names inner bytes
   Ok (quotient top bottom.0, bottom.1)
 
+-- operand { "*" operand } | operand "/" operand
 unfoldable pub operands_at : List (List ℕ) → Inner → List ℕ → Parse Tree
 operands_at names inner bytes = do
   first ← operand_at names inner bytes
   when (next_is (codes "*") first.1) (
-    when (next_is (codes "/") first.1) (Ok first) (bottom_at names inner first.0)
-  ) (factors_at names inner first.0)
+      when (next_is (codes "/") first.1) (Ok first) (bottom_at names inner first.0)
+      ) (factors_at names inner first.0)
 
+-- expr = "sum" "{" names "}" expr | operand { "*" operand } | operand "/" operand
 unfoldable pub expr_with : List (List ℕ) → Inner → List ℕ → Parse Tree
 expr_with names inner bytes =
     when (next_is (codes "sum") bytes) (operands_at names inner bytes) (λ rest.
@@ -233,17 +252,21 @@ def_body names before bytes = do
   e ← expr_with names (inner_of names 60) rest
   Ok (before ++ e.0 ∷ [], e.1)
 
+-- behind `q`: the number of the next definition, and its rest
 unfoldable pub def_at : List (List ℕ) → List Tree → List ℕ → Parse (List Tree)
 def_at names before bytes = do
   k ← number_at bytes
   if k.0 == length before then def_body names before k.1 else bad bytes
 
+-- one definition more, where `q` is the next token
 abbrev pub def_step : List (List ℕ) → List Tree → List ℕ → Option (Parse (List Tree))
 def_step names before bytes = when (next_is (codes "q") bytes) None (λ rest. Some (def_at names before rest))
 
+-- a formula that `check` accepts, or the fault at the end of the text
 abbrev pub checked : ℕ → PlainFormula → Result PlainFormula ℕ
 checked n f = if is_none (fault_in n f) then Ok f else Err 0
 
+-- one expression, then definitions from `q0` on, and nothing else
 unfoldable pub formula_of : List (List ℕ) → List ℕ → Result PlainFormula ℕ
 formula_of names text = do
   main ← expr_with names (inner_of names 60) text

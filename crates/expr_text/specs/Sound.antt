@@ -31,6 +31,7 @@ abbrev mutual
   are_numbered no_trees = true
   are_numbered (tree t ts) = is_numbered t && are_numbered ts
 
+-- each tree of the list is sound
 abbrev pub all_sound : ℕ → List Tree → Bool
 all_sound n [] = true
 all_sound n (t ∷ ts) = is_sound n t && all_sound n ts

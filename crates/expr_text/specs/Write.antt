@@ -4,6 +4,7 @@ use Rattle.mixed_graph.specs.Bits.{has}
 use Rattle.answer_text.specs.Texts.{set_text, term_text}
 use Rattle.prob_expr.specs.Tree.{Tree, prob, sum, product, quotient, named, Trees, no_trees, tree, PlainFormula}
 
+-- a text in parentheses
 abbrev pub parenthesized : List ℕ → List ℕ
 parenthesized text = codes "(" ++ (text ++ codes ")")
 
@@ -73,6 +74,7 @@ defs_text names k (d ∷ ds) = codes "\nq" ++ (decimal k ++ (codes " = " ++ (tex
 abbrev pub formula_text : List (List ℕ) → PlainFormula → List ℕ
 formula_text names f = text_of names f.main ++ defs_text names 0 f.defs
 
+-- the deepest nesting in a list of trees
 abbrev pub nesting_all : List Tree → ℕ
 nesting_all [] = 0
 nesting_all (d ∷ ds) = max (nesting d) (nesting_all ds)

@@ -22,9 +22,7 @@ fn is_in(class: Class, byte: u8) -> bool
 {
     match class {
         Class::White => is_white(byte),
-        Class::Plain => {
-            is_name_byte(byte) && !matches!(byte, b'(' | b')' | b'|' | b'*' | b'/')
-        }
+        Class::Plain => { is_name_byte(byte) && !matches!(byte, b'(' | b')' | b'|' | b'*' | b'/') }
         Class::Line => !matches!(byte, b'"' | b'\r' | b'\n'),
         Class::Digit => byte >= b'0' && byte <= b'9',
     }

@@ -16,6 +16,7 @@ use name_text::push_name;
 use prob_expr::{Expr, Formula};
 use std::alloc::{AllocError, Global};
 
+/// Whether LaTeX wants a backslash before the character.
 fn is_special(byte: u8) -> bool
     ensures { result ≡ is_special byte }
 {
@@ -39,6 +40,7 @@ fn push_byte(out: &mut Vec<u8>, byte: u8) -> Result<(), AllocError>
     }
 }
 
+/// Appends characters as LaTeX prints them.
 fn push_escaped(out: &mut Vec<u8>, bytes: &[u8]) -> Result<(), AllocError>
     ensures { OnOk result (out.new.items ≡ out.old.items ++ escaped bytes.now) }
 {
@@ -48,6 +50,7 @@ fn push_escaped(out: &mut Vec<u8>, bytes: &[u8]) -> Result<(), AllocError>
     Ok(())
 }
 
+/// Appends the name of vertex v.
 fn push_vertex(alloc: Global, out: &mut Vec<u8>, names: &Names, v: u8) -> Result<(), AllocError>
     requires { v < length names.now }
     ensures { OnOk result (out.new.items ≡ out.old.items ++ name_latex (name_of names.now v)) }
@@ -66,7 +69,12 @@ fn separator(rest: VSet) -> &'static [u8]
 }
 
 /// Appends the names of a set's members.
-fn push_members(alloc: Global, out: &mut Vec<u8>, names: &Names, set: VSet) -> Result<(), AllocError>
+fn push_members(
+    alloc: Global,
+    out: &mut Vec<u8>,
+    names: &Names,
+    set: VSet,
+) -> Result<(), AllocError>
     requires { Within (length names.now) (has set.bits) }
     ensures { OnOk result (out.new.items ≡ out.old.items ++ names_latex (member_names names.now (has set.bits))) }
 {
@@ -112,7 +120,12 @@ fn push_conditions(
 }
 
 /// Appends a term.
-pub fn push_term(alloc: Global, out: &mut Vec<u8>, names: &Names, term: Term) -> Result<(), AllocError>
+pub fn push_term(
+    alloc: Global,
+    out: &mut Vec<u8>,
+    names: &Names,
+    term: Term,
+) -> Result<(), AllocError>
     requires what { Within (length names.now) (has term.of.bits) }
     requires doing { Within (length names.now) (has term.doing.bits) }
     requires given { Within (length names.now) (has term.given.bits) }
@@ -125,6 +138,7 @@ pub fn push_term(alloc: Global, out: &mut Vec<u8>, names: &Names, term: Term) ->
     Ok(())
 }
 
+/// Appends the term of an expression.
 #[tactic(auto, using(crate::proofs::Within::first_within, crate::proofs::Within::second_within, crate::proofs::Within::third_within))]
 fn put_term(
     alloc: Global,
@@ -152,6 +166,7 @@ fn put_over(alloc: Global, out: &mut Vec<u8>, names: &Names, over: VSet) -> Resu
     Ok(())
 }
 
+/// Appends a definition's name.
 fn put_named(alloc: Global, out: &mut Vec<u8>, k: u32) -> Result<(), AllocError>
     ensures { OnOk result (out.new.items ≡ out.old.items ++ (codes "q_{" ++ (decimal k ++ codes "}"))) }
 {
@@ -160,6 +175,7 @@ fn put_named(alloc: Global, out: &mut Vec<u8>, k: u32) -> Result<(), AllocError>
     Ok(())
 }
 
+/// Appends an expression.
 #[cycle(latex)]
 fn put_latex(alloc: Global, out: &mut Vec<u8>, names: &Names, e: &Expr) -> Result<(), AllocError>
     requires { is_sound (length names.now) (view e.now) ≡ true }
@@ -184,6 +200,7 @@ fn put_latex(alloc: Global, out: &mut Vec<u8>, names: &Names, e: &Expr) -> Resul
     }
 }
 
+/// Appends an expression as a factor.
 #[cycle(latex)]
 fn put_factor(alloc: Global, out: &mut Vec<u8>, names: &Names, e: &Expr) -> Result<(), AllocError>
     requires { is_sound (length names.now) (view e.now) ≡ true }
@@ -195,8 +212,14 @@ fn put_factor(alloc: Global, out: &mut Vec<u8>, names: &Names, e: &Expr) -> Resu
     }
 }
 
+/// Appends an expression in parentheses.
 #[cycle(latex)]
-fn put_in_brackets(alloc: Global, out: &mut Vec<u8>, names: &Names, e: &Expr) -> Result<(), AllocError>
+fn put_in_brackets(
+    alloc: Global,
+    out: &mut Vec<u8>,
+    names: &Names,
+    e: &Expr,
+) -> Result<(), AllocError>
     requires { is_sound (length names.now) (view e.now) ≡ true }
     ensures { OnOk result (out.new.items ≡ out.old.items ++ in_brackets (latex_of names.now (view e.now))) }
 {
@@ -206,6 +229,7 @@ fn put_in_brackets(alloc: Global, out: &mut Vec<u8>, names: &Names, e: &Expr) ->
     Ok(())
 }
 
+/// Appends a product.
 #[cycle(latex)]
 fn put_factors(
     alloc: Global,
@@ -244,6 +268,7 @@ fn put_next_factor(
     put_factor(alloc, out, names, e)
 }
 
+/// Appends a line with a definition.
 fn put_def(
     alloc: Global,
     out: &mut Vec<u8>,
@@ -260,6 +285,7 @@ fn put_def(
     Ok(())
 }
 
+/// Appends all definitions.
 fn put_defs(
     alloc: Global,
     out: &mut Vec<u8>,

@@ -9,8 +9,13 @@ use mixed_graph::{Names, VSet};
 use prob_expr::{Expr, Formula, check};
 use std::alloc::Global;
 
+/// The names that are given, behind what is done.
 #[tactic(auto, unfolding(crate::specs::Read::given_at))]
-fn given_at<'a>(names: &Names, doing: VSet, bytes: &'a [u8]) -> Result<((VSet, VSet), &'a [u8]), Stop>
+fn given_at<'a>(
+    names: &Names,
+    doing: VSet,
+    bytes: &'a [u8],
+) -> Result<((VSet, VSet), &'a [u8]), Stop>
     ensures given { Gives (λ p. ((p.0.0.bits, p.0.1.bits), p.1.now)) result (given_at names.now doing.bits bytes.now) }
     ensures shorter { IfOk result (λ p. length p.1.now ≤ length bytes.now) }
 {
@@ -18,6 +23,7 @@ fn given_at<'a>(names: &Names, doing: VSet, bytes: &'a [u8]) -> Result<((VSet, V
     Ok(((doing, given), rest))
 }
 
+/// The names that are done, behind `do(`, and those that are given.
 #[tactic(auto, unfolding(crate::specs::Read::doing_at))]
 fn doing_at<'a>(names: &Names, bytes: &'a [u8]) -> Result<((VSet, VSet), &'a [u8]), Stop>
     ensures doing { Gives (λ p. ((p.0.0.bits, p.0.1.bits), p.1.now)) result (doing_at names.now bytes.now) }
@@ -31,6 +37,7 @@ fn doing_at<'a>(names: &Names, bytes: &'a [u8]) -> Result<((VSet, VSet), &'a [u8
     }
 }
 
+/// What stands behind the bar of a term, where there is one.
 #[tactic(auto, unfolding(crate::specs::Read::conds_at))]
 fn conds_at<'a>(names: &Names, bytes: &'a [u8]) -> Result<((VSet, VSet), &'a [u8]), Stop>
     ensures conds { Gives (λ p. ((p.0.0.bits, p.0.1.bits), p.1.now)) result (conds_at names.now bytes.now) }
@@ -45,6 +52,7 @@ fn conds_at<'a>(names: &Names, bytes: &'a [u8]) -> Result<((VSet, VSet), &'a [u8
     }
 }
 
+/// A term, behind `P(`.
 #[tactic(auto, unfolding(crate::specs::Read::term_at))]
 fn term_at<'a>(names: &Names, bytes: &'a [u8]) -> Result<(Expr, &'a [u8]), Stop>
     ensures term { Gives (λ p. (view p.0, p.1.now)) result (term_at names.now bytes.now) }
@@ -56,6 +64,7 @@ fn term_at<'a>(names: &Names, bytes: &'a [u8]) -> Result<(Expr, &'a [u8]), Stop>
     Ok((Expr::Prob { of, doing, given }, rest))
 }
 
+/// A definition's number, behind `q`.
 #[tactic(auto, unfolding(crate::specs::Read::named_at))]
 fn named_at(bytes: &[u8]) -> Result<(Expr, &[u8]), Stop>
     ensures named { Gives (λ p. (view p.0, p.1.now)) result (named_at bytes.now) }
@@ -65,7 +74,7 @@ fn named_at(bytes: &[u8]) -> Result<(Expr, &[u8]), Stop>
     Ok((Expr::Named(k), rest))
 }
 
-// An expression in parentheses, behind the first.
+/// An expression in parentheses, behind the first.
 #[tactic(auto, unfolding(crate::specs::Read::in_parentheses))]
 #[cycle(expr)]
 fn in_parentheses<'a>(
@@ -82,6 +91,7 @@ fn in_parentheses<'a>(
     Ok((e, rest))
 }
 
+/// A term, a definition or an expression in parentheses.
 #[tactic(auto, unfolding(crate::specs::Read::operand_at), using(crate::proofs::Inner::inner_none, crate::proofs::Inner::inner_some))]
 #[cycle(expr)]
 fn operand_at<'a>(
@@ -108,7 +118,7 @@ fn operand_at<'a>(
     in_parentheses(alloc, names, more - 1, rest)
 }
 
-// A sum, behind its word.
+/// A sum, behind its word.
 #[tactic(auto, unfolding(crate::specs::Read::sum_at))]
 #[cycle(expr)]
 fn sum_at<'a>(
@@ -128,7 +138,7 @@ fn sum_at<'a>(
     Ok((Expr::Sum { over, body }, rest))
 }
 
-// One factor more.
+/// One factor more.
 #[tactic(auto, unfolding(crate::specs::Read::factor_at))]
 #[cycle(expr)]
 fn factor_at<'a>(
@@ -146,6 +156,7 @@ fn factor_at<'a>(
     Ok(rest)
 }
 
+/// Factors, each after a star.
 #[cycle(expr)]
 fn more_factors<'a>(
     alloc: Global,
@@ -164,7 +175,7 @@ fn more_factors<'a>(
     Ok(rest)
 }
 
-// The factors of a product, behind the first `*`.
+/// The factors of a product, behind the first `*`.
 #[tactic(auto, unfolding(crate::specs::Read::factors_at))]
 #[cycle(expr)]
 fn factors_at<'a>(
@@ -184,7 +195,7 @@ fn factors_at<'a>(
     Ok((Expr::Product(factors), rest))
 }
 
-// A quotient, behind `/`.
+/// A quotient, behind `/`.
 #[tactic(auto, unfolding(crate::specs::Read::bottom_at))]
 #[cycle(expr)]
 fn bottom_at<'a>(
@@ -203,6 +214,7 @@ fn bottom_at<'a>(
     Ok((Expr::Quotient { top, bottom }, rest))
 }
 
+/// One operand, a product or a quotient.
 #[tactic(auto, unfolding(crate::specs::Read::operands_at))]
 #[cycle(expr)]
 fn operands_at<'a>(
@@ -224,7 +236,7 @@ fn operands_at<'a>(
     Ok((first, rest))
 }
 
-// An expression in which so many parentheses and sums may nest.
+/// An expression in which so many parentheses and sums may nest.
 #[tactic(auto, unfolding(crate::specs::Read::expr_with), using(crate::proofs::Inner::inner_none, crate::proofs::Inner::inner_some))]
 #[cycle(expr)]
 fn expr_at<'a>(
@@ -254,7 +266,7 @@ pub enum TextFault {
     NoMemory,
 }
 
-// Where reading stopped.
+/// Where reading stopped.
 fn fault_at(text: &[u8], stop: Stop) -> TextFault
     ensures { Faults text.now stop result }
 {
@@ -264,6 +276,7 @@ fn fault_at(text: &[u8], stop: Stop) -> TextFault
     }
 }
 
+/// One expression, and nothing else.
 #[tactic(auto, unfolding(crate::specs::Read::expr_of))]
 fn whole_expr(alloc: Global, names: &Names, text: &[u8]) -> Result<Expr, Stop>
     ensures { Gives (λ e. view e) result (expr_of names.now text.now) }
@@ -277,6 +290,9 @@ fn whole_expr(alloc: Global, names: &Names, text: &[u8]) -> Result<Expr, Stop>
 }
 
 /// The expression that a text is.
+///
+/// `Bad` where the text isn't one `expr` of the grammar, names an unknown name, has a name twice in one set, has a
+/// number over 2^32 - 1, or nests parentheses and sums over 60.
 pub fn read_expr(alloc: Global, text: &[u8], names: &Names) -> Result<Expr, TextFault>
     ensures { Reads (λ e. view e) text.now result (expr_of names.now text.now) }
 {
@@ -286,7 +302,7 @@ pub fn read_expr(alloc: Global, text: &[u8], names: &Names) -> Result<Expr, Text
     }
 }
 
-// The rest of a definition, behind its number.
+/// The rest of a definition, behind its number.
 #[tactic(auto, unfolding(crate::specs::Read::def_body))]
 fn def_body<'a>(
     alloc: Global,
@@ -303,6 +319,7 @@ fn def_body<'a>(
     Ok(rest)
 }
 
+/// A definition, behind its `q`.
 #[tactic(auto, unfolding(crate::specs::Read::def_at))]
 fn def_at<'a>(
     alloc: Global,
@@ -320,6 +337,7 @@ fn def_at<'a>(
     def_body(alloc, names, defs, rest)
 }
 
+/// Definitions in order.
 fn defs_at<'a>(
     alloc: Global,
     names: &Names,
@@ -335,6 +353,7 @@ fn defs_at<'a>(
     Ok(rest)
 }
 
+/// A formula that `check` accepts.
 fn checked(names: &Names, f: Formula) -> Result<Formula, Stop>
     ensures { Gives (λ f. formula_view f) result (checked (length names.now) (formula_view f)) }
 {
@@ -344,6 +363,7 @@ fn checked(names: &Names, f: Formula) -> Result<Formula, Stop>
     }
 }
 
+/// One expression, definitions, and nothing else.
 #[tactic(auto, unfolding(crate::specs::Read::formula_of))]
 fn whole_formula(alloc: Global, names: &Names, text: &[u8]) -> Result<Formula, Stop>
     ensures { Gives (λ f. formula_view f) result (formula_of names.now text.now) }
@@ -359,6 +379,9 @@ fn whole_formula(alloc: Global, names: &Names, text: &[u8]) -> Result<Formula, S
 }
 
 /// The formula that a text is.
+///
+/// `Bad` as for `read_expr`, and where a definition is out of order; where only `check` refuses the formula, at
+/// the text's length.
 pub fn read_formula(alloc: Global, text: &[u8], names: &Names) -> Result<Formula, TextFault>
     ensures { Reads (λ f. formula_view f) text.now result (formula_of names.now text.now) }
 {

@@ -12,6 +12,7 @@ use mixed_graph::Names;
 use prob_expr::Target;
 use std::alloc::{AllocError, Global};
 
+/// The target as a term.
 fn term(target: &Target) -> Term
     ensures what { result.of.bits ≡ target.now.y.bits }
     ensures doing { result.doing.bits ≡ target.now.x.bits }

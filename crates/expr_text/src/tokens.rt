@@ -6,7 +6,7 @@ use crate::stop::Stop;
 use mixed_graph::{Names, VSet};
 use prob_expr::masks;
 
-// The bytes from the next token on.
+/// The bytes from the next token on.
 #[tactic(auto, unfolding(crate::specs::Read::trim))]
 pub fn trim(bytes: &[u8]) -> &[u8]
     ensures trim { result.now ≡ trim bytes.now }
@@ -16,7 +16,7 @@ pub fn trim(bytes: &[u8]) -> &[u8]
     rest
 }
 
-// The bytes behind a token, where they begin with it.
+/// The bytes behind a token, where they begin with it.
 pub fn after<'a>(token: &[u8], bytes: &'a [u8]) -> Option<&'a [u8]>
     ensures after { option_map (λ r. r.now) result ≡ after token.now bytes.now }
     ensures shorter { IfSome result (λ r. length r.now + length token.now ≡ length bytes.now) }
@@ -33,7 +33,7 @@ pub fn after<'a>(token: &[u8], bytes: &'a [u8]) -> Option<&'a [u8]>
     after(token, bytes)
 }
 
-// The bytes behind a token, where it is the next.
+/// The bytes behind a token, where it is the next.
 #[tactic(auto, unfolding(crate::specs::Read::next_is))]
 pub fn next_is<'a>(token: &[u8], bytes: &'a [u8]) -> Option<&'a [u8]>
     ensures next { option_map (λ r. r.now) result ≡ next_is token.now bytes.now }
@@ -42,6 +42,7 @@ pub fn next_is<'a>(token: &[u8], bytes: &'a [u8]) -> Option<&'a [u8]>
     after(token, trim(bytes))
 }
 
+/// The bytes behind a token that has to be the next.
 #[tactic(auto, unfolding(crate::specs::Read::expect))]
 pub fn expect<'a>(token: &[u8], bytes: &'a [u8]) -> Result<&'a [u8], Stop>
     ensures expect { Gives (λ r. r.now) result (expect token.now bytes.now) }
@@ -53,6 +54,7 @@ pub fn expect<'a>(token: &[u8], bytes: &'a [u8]) -> Result<&'a [u8], Stop>
     }
 }
 
+/// A name, and what follows its closing quotation mark.
 fn closed<'a>(name: &'a [u8], bytes: &'a [u8]) -> Option<(&'a [u8], &'a [u8])>
     ensures closed { option_map (λ p. (p.0.now, p.1.now)) result ≡ closed name.now bytes.now }
     ensures shorter { IfSome result (λ p. length p.1.now < length bytes.now) }
@@ -66,16 +68,20 @@ fn closed<'a>(name: &'a [u8], bytes: &'a [u8]) -> Option<(&'a [u8], &'a [u8])>
     if *b == b'"' { Some((name, rest)) } else { None }
 }
 
-// A run of the bytes of bare names at the front, where there is one, and what follows it.
+/// A run of the bytes of bare names at the front, where there is one, and what follows it.
 fn bare(bytes: &[u8]) -> Option<(&[u8], &[u8])>
     ensures bare { option_map (λ p. (p.0.now, p.1.now)) result ≡ bare bytes.now }
     ensures shorter { IfSome result (λ p. length p.1.now < length bytes.now) }
 {
     let len = run_len(Class::Plain, bytes);
-    if len == 0 { None } else { Some(bytes.split_at(len)) }
+    if len == 0 {
+        None
+    } else {
+        Some(bytes.split_at(len))
+    }
 }
 
-// A name at the front, and what follows it.
+/// A name at the front, and what follows it.
 fn raw_name(bytes: &[u8]) -> Option<(&[u8], &[u8])>
     ensures raw { option_map (λ p. (p.0.now, p.1.now)) result ≡ raw_name bytes.now }
     ensures shorter { IfSome result (λ p. length p.1.now < length bytes.now) }
@@ -93,19 +99,20 @@ fn raw_name(bytes: &[u8]) -> Option<(&[u8], &[u8])>
     bare(bytes)
 }
 
-// A set with the vertex of that name, where there is one and it isn't a member.
+/// A set with the vertex of that name, where there is one and it isn't a member.
 fn with_vertex(names: &Names, have: VSet, name: &[u8]) -> Option<VSet>
     ensures { option_map (λ s. s.bits) result ≡ with_vertex names.now have.bits name.now }
 {
     let Some(v) = names.index(name) else {
         return None;
     };
-    if v >= 64 || have.has(v) {
+    if have.has(v) {
         return None;
     }
     Some(masks::join(have, masks::one(v)))
 }
 
+/// The next name, beside the members before it.
 #[tactic(auto, unfolding(crate::specs::Read::name_at))]
 fn name_at<'a>(names: &Names, have: VSet, bytes: &'a [u8]) -> Result<(VSet, &'a [u8]), Stop>
     ensures name { Gives (λ p. (p.0.bits, p.1.now)) result (name_at names.now have.bits bytes.now) }
@@ -121,7 +128,7 @@ fn name_at<'a>(names: &Names, have: VSet, bytes: &'a [u8]) -> Result<(VSet, &'a 
     }
 }
 
-// The names of a set, in any order.
+/// The names of a set, in any order.
 #[tactic(auto, unfolding(crate::specs::Read::names_at))]
 pub fn names_at<'a>(names: &Names, bytes: &'a [u8]) -> Result<(VSet, &'a [u8]), Stop>
     ensures names { Gives (λ p. (p.0.bits, p.1.now)) result (names_at names.now bytes.now) }
@@ -131,6 +138,7 @@ pub fn names_at<'a>(names: &Names, bytes: &'a [u8]) -> Result<(VSet, &'a [u8]), 
     more_names(names, first, rest)
 }
 
+/// Names behind the first, each after a comma.
 fn more_names<'a>(names: &Names, first: VSet, bytes: &'a [u8]) -> Result<(VSet, &'a [u8]), Stop>
     ensures names { Gives (λ p. (p.0.bits, p.1.now)) result (repeat (name_step names.now) (length bytes.now) first.bits bytes.now) }
     ensures shorter { IfOk result (λ p. length p.1.now ≤ length bytes.now) }
@@ -145,6 +153,7 @@ fn more_names<'a>(names: &Names, first: VSet, bytes: &'a [u8]) -> Result<(VSet, 
     Ok((set, rest))
 }
 
+/// The value of decimal digits.
 fn number_of(digits: &[u8]) -> u64
     requires { length digits.now ≤ 10 }
     ensures { result ≡ number_of 0 digits.now }
@@ -156,6 +165,7 @@ fn number_of(digits: &[u8]) -> u64
     n
 }
 
+/// Whether the digits are those of a number of 32 bits, without a zero at the front of others.
 fn is_number(digits: &[u8]) -> bool
     ensures { result ≡ is_number digits.now }
 {
@@ -168,6 +178,7 @@ fn is_number(digits: &[u8]) -> bool
     number_of(digits) < 1 << 32
 }
 
+/// The next number.
 #[tactic(auto, unfolding(crate::specs::Read::number_at))]
 pub fn number_at(bytes: &[u8]) -> Result<(u32, &[u8]), Stop>
     ensures number { Gives (λ p. (p.0, p.1.now)) result (number_at bytes.now) }

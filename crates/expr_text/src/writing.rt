@@ -40,6 +40,7 @@ fn put_over(out: &mut Vec<u8>, names: &Names, over: VSet) -> Result<(), AllocErr
     Ok(())
 }
 
+/// Appends a definition's name.
 fn put_named(alloc: Global, out: &mut Vec<u8>, k: u32) -> Result<(), AllocError>
     ensures { OnOk result (out.new.items ≡ out.old.items ++ (codes "q" ++ decimal k)) }
 {
@@ -48,6 +49,7 @@ fn put_named(alloc: Global, out: &mut Vec<u8>, k: u32) -> Result<(), AllocError>
     Ok(())
 }
 
+/// Appends an expression.
 #[cycle(put)]
 fn put_expr(alloc: Global, out: &mut Vec<u8>, names: &Names, e: &Expr) -> Result<(), AllocError>
     requires { is_sound (length names.now) (view e.now) ≡ true }
@@ -69,6 +71,7 @@ fn put_expr(alloc: Global, out: &mut Vec<u8>, names: &Names, e: &Expr) -> Result
     }
 }
 
+/// Appends an expression as an operand.
 #[cycle(put)]
 fn put_operand(alloc: Global, out: &mut Vec<u8>, names: &Names, e: &Expr) -> Result<(), AllocError>
     requires { is_sound (length names.now) (view e.now) ≡ true }
@@ -80,8 +83,14 @@ fn put_operand(alloc: Global, out: &mut Vec<u8>, names: &Names, e: &Expr) -> Res
     }
 }
 
+/// Appends an expression in parentheses.
 #[cycle(put)]
-fn put_parenthesized(alloc: Global, out: &mut Vec<u8>, names: &Names, e: &Expr) -> Result<(), AllocError>
+fn put_parenthesized(
+    alloc: Global,
+    out: &mut Vec<u8>,
+    names: &Names,
+    e: &Expr,
+) -> Result<(), AllocError>
     requires { is_sound (length names.now) (view e.now) ≡ true }
     ensures { OnOk result (out.new.items ≡ out.old.items ++ parenthesized (text_of names.now (view e.now))) }
 {
@@ -91,6 +100,7 @@ fn put_parenthesized(alloc: Global, out: &mut Vec<u8>, names: &Names, e: &Expr) 
     Ok(())
 }
 
+/// Appends a product.
 #[cycle(put)]
 fn put_factors(
     alloc: Global,
@@ -139,6 +149,7 @@ pub fn write_expr(alloc: Global, e: &Expr, names: &Names) -> Result<Vec<u8>, All
     Ok(out)
 }
 
+/// Appends a line with a definition.
 fn put_def(
     alloc: Global,
     out: &mut Vec<u8>,
@@ -155,6 +166,7 @@ fn put_def(
     Ok(())
 }
 
+/// Appends all definitions.
 fn put_defs(
     alloc: Global,
     out: &mut Vec<u8>,

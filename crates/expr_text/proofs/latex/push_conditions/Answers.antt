@@ -1,5 +1,5 @@
-use Rattle.std.proofs.Common.{◌≡◌, ℕ, [], ◌∷◌, ◌++◌, List, sym, ap, ◌∙◌, arith, append-nil, codes}
-use Rattle.mixed_graph.specs.Bits.{has, members_below}
+use Rattle.std.proofs.Common.{◌++◌, sym, ap, ◌∙◌, arith, append-nil, codes}
+use Rattle.mixed_graph.specs.Bits.{has}
 use Rattle.mixed_graph.proofs.FirstMembers.{members-empty, members-some}
 use Rattle.expr_text.specs.Latex.{names_latex}
 use Rattle.answer_text.specs.Texts.{member_names}
