@@ -1,0 +1,15 @@
+pub mod Repeats
+pub mod Digits
+pub mod Inner
+pub mod Within
+pub mod LatexLists
+pub mod Checked
+pub mod Known
+pub mod Fronts
+pub mod Listed
+pub mod NamesBack
+pub mod TermsBack
+pub mod NumbersBack
+pub mod Readable
+pub mod TextsBack
+pub mod FormulasBack

@@ -1,0 +1,7 @@
+pub mod Bytes
+pub mod Latex
+pub mod Laws
+pub mod Read
+pub mod Sound
+pub mod Text
+pub mod Write
