@@ -1,0 +1,5 @@
+pub mod Hedges
+pub mod Laws
+pub mod Links
+pub mod Pairs
+pub mod Parities

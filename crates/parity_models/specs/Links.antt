@@ -1,0 +1,58 @@
+-- Lists of links, each of which joins an entry to a partner.
+use Rattle.std.specs.Prelude.{ℕ, suc, ◌≡◌, ◌≢◌, ◌<◌, Bool, true, false, cond, eqb, ◌&&◌, ◌||◌, List, [], ◌∷◌}
+use Rattle.mixed_graph.specs.Graphs.{MixedGraph}
+use Rattle.parity_models.specs.Parities.{differ}
+
+pub record Link : Type 0 where
+  pub entry : ℕ
+  pub partner : ℕ
+
+-- the parity of the bits x of the links with the end v; the first link has the number k
+abbrev pub at_vertex : ℕ → List Link → (ℕ → Bool) → ℕ → Bool
+at_vertex k [] x v = false
+at_vertex k (p ∷ r) x v = differ (differ (eqb v p.entry) (eqb v p.partner) && x k) (at_vertex (suc k) r x v)
+
+-- v is an end of the link with the number j
+abbrev pub is_end : ℕ → List Link → ℕ → ℕ → Bool
+is_end k [] j v = false
+is_end k (p ∷ r) j v = cond (eqb j k) (eqb v p.entry || eqb v p.partner) (is_end (suc k) r j v)
+
+-- v is an entry
+abbrev pub is_entry : List Link → ℕ → Bool
+is_entry [] v = false
+is_entry (p ∷ r) v = eqb v p.entry || is_entry r v
+
+-- v is no entry
+abbrev pub IsNoEntry : List Link → ℕ → Type 0
+IsNoEntry [] v = Unit {0}
+IsNoEntry (p ∷ r) v = (v ≢ p.entry) × IsNoEntry r v
+
+-- the two ends of each link differ
+abbrev pub AreApart : List Link → Type 0
+AreApart [] = Unit {0}
+AreApart (p ∷ r) = (p.entry ≢ p.partner) × AreApart r
+
+-- no partner is a later entry
+abbrev pub AreOrdered : List Link → Type 0
+AreOrdered [] = Unit {0}
+AreOrdered (p ∷ r) = IsNoEntry r p.partner × AreOrdered r
+
+-- the ends of each link are below n
+abbrev pub AreBelow : ℕ → List Link → Type 0
+AreBelow n [] = Unit {0}
+AreBelow n (p ∷ r) = (p.entry < n) × (p.partner < n) × AreBelow n r
+
+-- both ends of each link are in G
+abbrev pub AreInside : (ℕ → Bool) → List Link → Type 0
+AreInside G [] = Unit {0}
+AreInside G (p ∷ r) = (G p.entry ≡ true) × (G p.partner ≡ true) × AreInside G r
+
+-- the partner of each link is in S or an earlier entry
+abbrev pub AreRooted : (ℕ → Bool) → List Link → Type 0
+AreRooted S [] = Unit {0}
+AreRooted S (p ∷ r) = (S p.partner ≡ true) × AreRooted (λ v. S v || eqb v p.entry) r
+
+-- each link joins two ends of a bidirected edge
+abbrev pub AreJoined : MixedGraph → List Link → Type 0
+AreJoined g [] = Unit {0}
+AreJoined g (p ∷ r) = (g.both p.entry p.partner ≡ true) × AreJoined g r

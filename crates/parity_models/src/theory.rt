@@ -1,0 +1,18 @@
+ghost use Rattle.parity_models.specs.Laws.{BothFit, BothPositive, ObservationsAgree, EventIsHalf, EventIsMore, EffectsDiffer};
+
+/// The laws of the two models that the data of a hedge gives (Shpitser and Pearl: a hedge shows that the effect isn't identifiable).
+pub fn laws()
+    // Both are models of the graph in which each assignment has a positive weight.
+    ensures fit { BothFit }
+    ensures positive { BothPositive }
+
+    // What can be observed is the same.
+    ensures observed { ObservationsAgree }
+
+    // Under the intervention the event has two probabilities, whatever the value of x.
+    ensures half { EventIsHalf }
+    ensures more { EventIsMore }
+
+    // So the effects differ.
+    ensures effects { EffectsDiffer }
+{}
