@@ -42,7 +42,7 @@ set_of_none observed v = has-zero v ∙ sym (and_right (nat_lt v (length observe
 pub three_sets : (l : Lists) (n x y given : ℕ) → length l.observed ≡ n → AreSets l x y given → AreThreeSets n (has x) (has y) (has given)
 three_sets l n x y given e s =
     let a = pairwise_apart (record { all = l.all; observed = l.observed; y = l.x; done = []; z = l.y; given = l.given }) x 0 y given
-        (record { no_fault = s.no_fault; some_y = s.some_x; some_z = s.some_y; set_y = s.set_x; set_done = set_of_none l.observed; set_z = s.set_y; set_given = s.set_given }) in
+    (record { no_fault = s.no_fault; some_y = s.some_x; some_z = s.some_y; set_y = s.set_x; set_done = set_of_none l.observed; set_z = s.set_y; set_given = s.set_given }) in
     let inside : (list : List (List ℕ)) (mask : ℕ) → IsSetOf l.observed list mask → Within n (has mask) = λ list mask h. subst (λ k. Within k (has mask)) e (set_within l.observed list mask h) in record {
       x_within = inside l.x x s.set_x;
       y_within = inside l.y y s.set_y;
