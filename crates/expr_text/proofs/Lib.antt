@@ -13,3 +13,6 @@ pub mod NumbersBack
 pub mod Readable
 pub mod TextsBack
 pub mod FormulasBack
+pub mod GrammarTokens
+pub mod GrammarNumbers
+pub mod GrammarRead

@@ -1,0 +1,8 @@
+use Rattle.expr_text.proofs.GrammarRead.{text_front, formula_front}
+use Rattle.expr_text.proofs.laws.the_grammar.Goals as goal
+
+pub returns-clause-expr : goal.returns-clause-expr
+returns-clause-expr c names t text are = (text_front names t text, ?)
+
+pub returns-clause-formula : goal.returns-clause-formula
+returns-clause-formula c names f text are = (formula_front names f text, ?)
