@@ -320,9 +320,11 @@ formula_front names f text h =
     checked_is : (n : ℕ) (g f : PlainFormula) (o : Bool) → is_none (fault_in n g) ≡ o → cond {A = Result PlainFormula ℕ} o (Ok g) (Err 0) ≡ Ok f → (g ≡ f) × (is_none (fault_in n g) ≡ true)
     checked_is n g f true e h = ((let k = h in cc), e)
     checked_is n g f false e h = absurd cc
+
     none_is : {X : Type 0} (o : Option X) → is_none o ≡ true → o ≡ None
     none_is None h = refl
     none_is (Some x) h = absurd cc
+
     check_ended : (rest : List ℕ) (g f : PlainFormula) (k n : ℕ) → cond (eqb (length (trim rest)) 0) (checked n g) (Err k) ≡ Ok f → (g ≡ f) × (fault_in n g ≡ None) × (trim rest ≡ [])
     check_ended rest g f k n h = go (trim rest) refl h
       where

@@ -164,9 +164,11 @@ closed_is (c ∷ x) (b ∷ y) name rest h =
 quoted_front : (bytes name rest : List ℕ) → quoted bytes ≡ Some (name, rest) → (0 < length name) × (list_all is_line_byte name ≡ true) × (bytes ≡ name ++ 34 ∷ rest)
 quoted_front bytes name rest h =
     let n = prefix_len is_line_byte bytes in
-    let p = closed_is (take n bytes) (drop n bytes) name rest h in
-    (p.1, subst (λ t. list_all is_line_byte t ≡ true) p.0 (run_passes is_line_byte bytes),
-      sym (take-append-drop n bytes) ∙ ap (λ t. t ++ drop n bytes) p.0 ∙ ap (λ t. name ++ t) p.2)
+    let p = closed_is (take n bytes) (drop n bytes) name rest h in (
+      p.1,
+      subst (λ t. list_all is_line_byte t ≡ true) p.0 (run_passes is_line_byte bytes),
+      sym (take-append-drop n bytes) ∙ ap (λ t. t ++ drop n bytes) p.0 ∙ ap (λ t. name ++ t) p.2,
+    )
 
 plain_run : (n b : ℕ) (bytes : List ℕ) → eqb n 0 ≡ false → list_all is_plain_byte (take n (b ∷ bytes)) ≡ true → eqb b 35 ≡ false → is_plain (take n (b ∷ bytes)) ≡ true
 plain_run zero b bytes some all hash = absurd cc
@@ -177,10 +179,11 @@ bare_front b bytes name rest hash h =
     let xs = b ∷ bytes in
     let n = prefix_len is_plain_byte xs in
     let p = none_by (eqb n 0) (Some (take n xs, drop n xs)) (name, rest) h in
-    let q = first_is (take n xs) name (drop n xs) rest p.1 in
-    (subst (λ t. is_plain t ≡ true) q.0 (plain_run n b bytes p.0 (run_passes is_plain_byte xs) hash),
+    let q = first_is (take n xs) name (drop n xs) rest p.1 in (
+      subst (λ t. is_plain t ≡ true) q.0 (plain_run n b bytes p.0 (run_passes is_plain_byte xs) hash),
       subst (EndsRun is_plain_byte) q.1 (run_ends is_plain_byte xs),
-      sym (take-append-drop n xs) ∙ ap (λ t. t ++ drop n xs) q.0 ∙ ap (λ t. name ++ t) q.1)
+      sym (take-append-drop n xs) ∙ ap (λ t. t ++ drop n xs) q.0 ∙ ap (λ t. name ++ t) q.1,
+    )
 
 raw_by : (bytes : List ℕ) (b : ℕ) (xs name rest : List ℕ) (t u : Bool) → eqb b 34 ≡ t → eqb b 35 ≡ u → trim bytes ≡ b ∷ xs → cond t (quoted xs) (cond u None (bare (b ∷ xs))) ≡ Some (name, rest) → Name name bytes rest
 raw_by bytes b xs name rest true u ht hu e h =

@@ -16,3 +16,4 @@ pub mod FormulasBack
 pub mod GrammarTokens
 pub mod GrammarNumbers
 pub mod GrammarRead
+pub mod GrammarBack

@@ -6,16 +6,14 @@
 --     names   = name { "," name }
 --
 -- Each relation is of the bytes from a part on, and the bytes behind it.
-use Rattle.std.specs.Prelude.{◌≡◌, ◌↔◌, ℕ, zero, suc, ◌+◌, ◌^◌, ◌<◌, Bool, true, false, List, [], ◌∷◌, ◌++◌, length, Ok, None, codes, decimal}
+use Rattle.std.specs.Prelude.{◌≡◌, ℕ, zero, suc, ◌+◌, ◌^◌, ◌<◌, Bool, true, false, List, [], ◌∷◌, ◌++◌, length, codes, decimal}
 use Rattle.std.specs.List.{list_all}
 use Rattle.mixed_graph.specs.Bits.{has}
-use Rattle.mixed_graph.specs.Names.{AreNames, is_line_byte, name_of}
+use Rattle.mixed_graph.specs.Names.{is_line_byte, name_of}
 use Rattle.name_text.specs.Printing.{is_white, is_plain_byte, is_plain}
-use Rattle.prob_expr.specs.Check.{fault_in}
 use Rattle.prob_expr.specs.Masks.{join, one}
 use Rattle.prob_expr.specs.Tree.{Tree, prob, sum, product, quotient, named, trees_of, PlainFormula}
 use Rattle.expr_text.specs.Bytes.{is_digit}
-use Rattle.expr_text.specs.Read.{expr_of, formula_of}
 
 -- white space alone, or nothing
 abbrev pub IsBlank : List ℕ → Type 0
@@ -117,11 +115,3 @@ pub record IsFormulaText (names : List (List ℕ)) (f : PlainFormula) (text : Li
   pub main : Nested names f.main text behind
   pub defs : Definitions names 0 f.defs behind rest
   pub end : IsBlank rest
-
--- what is read as an expression is one of the grammar, and each such text is read
-abbrev pub ReadsGrammar : Type 0
-ReadsGrammar = (names : List (List ℕ)) (t : Tree) (text : List ℕ) → AreNames names → (expr_of names text ≡ Ok t) ↔ IsExprText names t text
-
--- what is read as a formula is one of the grammar without a fault, and each such text is read
-abbrev pub ReadsFormulas : Type 0
-ReadsFormulas = (names : List (List ℕ)) (f : PlainFormula) (text : List ℕ) → AreNames names → (formula_of names text ≡ Ok f) ↔ (IsFormulaText names f text × (fault_in (length names) f ≡ None))
