@@ -1,13 +1,13 @@
 -- What is of the grammar is read.
-use Rattle.std.proofs.Common.{◌≡◌, ℕ, zero, suc, ◌+◌, ◌<◌, ◌≤◌, Bool, true, false, cond, eqb, List, [], ◌∷◌, ◌++◌, length, Option, Some, None, Result, Ok, Err, ◌⊎◌, inl, inr, refl, sym, ap, subst, ◌∙◌, append_assoc, append-nil, length-append, arith, codes, decimal, ne_eqb, is_none}
+use Rattle.std.proofs.Common.{◌≡◌, ℕ, zero, suc, ◌+◌, ◌≤◌, true, cond, eqb, List, [], ◌∷◌, ◌++◌, length, Some, None, Result, Ok, Err, ◌⊎◌, inl, inr, refl, sym, ap, subst, ◌∙◌, append_assoc, append-nil, length-append, arith, codes, decimal, is_none}
 use Rattle.std.proofs.lemmas.Bool.{eq-eqb}
 use Rattle.prob_expr.specs.Check.{fault_in}
 use Rattle.prob_expr.specs.Masks.{join, one}
 use Rattle.prob_expr.specs.Tree.{Tree, prob, sum, product, quotient, named, trees_of, PlainFormula}
 use Rattle.mixed_graph.specs.Names.{name_of}
-use Rattle.name_text.specs.Printing.{is_white, is_plain}
-use Rattle.expr_text.specs.Read.{◌>>=◌, when, bad, trim, after, next_is, expect, name_at, name_step, names_at, repeat, number_at, given_at, doing_at, conds_at, term_at, named_at, in_parentheses, operand_at, sum_at, factor_at, factor_step, factors_at, bottom_at, operands_at, expr_with, inner_of, expr_of, def_body, def_at, def_step, checked, formula_of}
-use Rattle.expr_text.specs.Grammar.{IsBlank, Token, Name, bare_name, quoted_name, Member, MoreNames, Set, Number, Conds, no_conds, given_alone, done_alone, done_and_given, Operand, term, definition, nested, MoreFactors, Expr, summed, alone, multiplied, divided, Inside, Nested, Definitions, IsExprText, IsFormulaText}
+use Rattle.name_text.specs.Printing.{is_white}
+use Rattle.expr_text.specs.Read.{◌>>=◌, when, bad, trim, after, next_is, expect, name_at, name_step, names_at, repeat, given_at, doing_at, conds_at, term_at, named_at, in_parentheses, operand_at, sum_at, factor_at, factor_step, factors_at, bottom_at, operands_at, expr_with, inner_of, expr_of, def_body, def_at, def_step, checked, formula_of}
+use Rattle.expr_text.specs.Grammar.{IsBlank, Token, Name, bare_name, quoted_name, MoreNames, Set, Number, Conds, no_conds, given_alone, done_alone, done_and_given, Operand, term, definition, nested, MoreFactors, Expr, summed, alone, multiplied, divided, Inside, Nested, Definitions, IsExprText, IsFormulaText}
 use Rattle.expr_text.proofs.Inner.{inner_suc}
 use Rattle.expr_text.proofs.Known.{AreKnown}
 use Rattle.expr_text.proofs.Within.{and_true}

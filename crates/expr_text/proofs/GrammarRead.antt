@@ -1,12 +1,10 @@
 -- What is read is of the grammar.
-use Rattle.std.proofs.Common.{◌≡◌, ℕ, zero, suc, ◌+◌, ◌<◌, ◌≤◌, Bool, true, false, cond, eqb, List, [], ◌∷◌, ◌++◌, length, Option, Some, None, Result, Ok, Err, ◌⊎◌, inl, inr, refl, sym, ap, subst, ◌∙◌, append_assoc, append-nil, arith, codes, eqb-true, ne_eqb, is_none, length-append}
+use Rattle.std.proofs.Common.{◌≡◌, ℕ, zero, suc, ◌+◌, Bool, true, false, cond, eqb, List, [], ◌∷◌, ◌++◌, length, Option, Some, None, Result, Ok, Err, inl, inr, refl, sym, ap, subst, ◌∙◌, append_assoc, append-nil, arith, codes, eqb-true, ne_eqb, is_none, length-append}
 use Rattle.prob_expr.specs.Check.{fault_in}
-use Rattle.prob_expr.specs.Masks.{join, one}
 use Rattle.prob_expr.specs.Tree.{Tree, prob, sum, product, quotient, named, trees_of, PlainFormula}
 use Rattle.expr_text.specs.Read.{◌>>=◌, when, bad, trim, next_is, expect, name_at, name_step, names_at, repeat, number_at, given_at, doing_at, conds_at, term_at, named_at, in_parentheses, operand_at, sum_at, factor_at, factor_step, factors_at, bottom_at, operands_at, expr_with, inner_of, expr_of, def_body, def_at, def_step, checked, formula_of}
-use Rattle.expr_text.specs.Grammar.{Token, Member, MoreNames, Set, Number, Conds, no_conds, given_alone, done_alone, done_and_given, Operand, term, definition, nested, MoreFactors, Expr, summed, alone, multiplied, divided, Inside, Nested, Definitions, IsExprText, IsFormulaText}
-use Rattle.expr_text.proofs.Inner.{inner_none, inner_suc}
-use Rattle.expr_text.proofs.GrammarTokens.{bind_ok, when_is, Both, ok_parts, next_token, expect_ok, trim_is_blank, member_front}
+use Rattle.expr_text.specs.Grammar.{Token, MoreNames, Set, Number, Conds, no_conds, given_alone, done_alone, done_and_given, Operand, term, definition, nested, MoreFactors, Expr, summed, alone, multiplied, divided, Inside, Nested, Definitions, IsExprText, IsFormulaText}
+use Rattle.expr_text.proofs.GrammarTokens.{bind_ok, when_is, ok_parts, next_token, expect_ok, trim_is_blank, member_front}
 use Rattle.expr_text.proofs.GrammarNumbers.{number_front}
 
 -- ---- sets
