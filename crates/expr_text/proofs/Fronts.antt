@@ -7,6 +7,7 @@ use Rattle.std.specs.List.{list_all}
 use Rattle.mixed_graph.specs.Names.{is_line_byte}
 use Rattle.name_text.specs.Printing.{is_white, is_plain_byte, is_plain, printed}
 use Rattle.expr_text.specs.Read.{trim, raw_name, bare, quoted, closed}
+use Rattle.expr_text.specs.Grammar.{EndsRun}
 use Rattle.expr_text.proofs.Within.{and_true}
 use Rattle.expr_text.proofs.Known.{IsKnown, whole_run}
 
@@ -16,8 +17,7 @@ not_true false h = refl
 
 -- the bytes at the front don't go on with what comes after
 abbrev pub Stops : (ℕ → Bool) → List ℕ → Type 0
-Stops p [] = Unit {0}
-Stops p (b ∷ bytes) = p b ≡ false
+Stops p bytes = EndsRun p bytes
 
 passes_front : (b : Bool) (n m : ℕ) → cond b (1 + n) 0 ≡ suc m → (b ≡ true) × (n ≡ m)
 passes_front true n m h = (refl, omega arith)
@@ -58,7 +58,7 @@ bare_run bytes rest n lt e =
     ∙ ap (λ t. Some (t, drop n (bytes ++ rest))) (take_at bytes rest n (sym e))
     ∙ ap (λ t. Some (bytes, t)) (drop_at bytes rest n (sym e))
 
-bare_is_read : (b : ℕ) (bytes rest : List ℕ) → eqb b 35 ≡ false → prefix_len is_plain_byte (b ∷ bytes) ≡ length (b ∷ bytes) → Stops is_plain_byte rest
+pub bare_is_read : (b : ℕ) (bytes rest : List ℕ) → eqb b 35 ≡ false → prefix_len is_plain_byte (b ∷ bytes) ≡ length (b ∷ bytes) → Stops is_plain_byte rest
     → raw_name (trim ((b ∷ bytes) ++ rest)) ≡ Some (b ∷ bytes, rest)
 bare_is_read b bytes rest hash all stops =
     let plain = (all_pass is_plain_byte b bytes all).0 in
@@ -71,7 +71,7 @@ closed_here : (name rest : List ℕ) → 0 < length name → closed name (34 ∷
 closed_here [] rest h = absurd (omega arith)
 closed_here (c ∷ name) rest h = refl
 
-quoted_is_read : (name rest : List ℕ) → IsKnown name → raw_name (trim ((34 ∷ (name ++ 34 ∷ [])) ++ rest)) ≡ Some (name, rest)
+pub quoted_is_read : (name rest : List ℕ) → IsKnown name → raw_name (trim ((34 ∷ (name ++ 34 ∷ [])) ++ rest)) ≡ Some (name, rest)
 quoted_is_read name rest is =
     let same : name ++ 34 ∷ [] ++ rest ≡ name ++ (34 ∷ rest) = append_assoc name (34 ∷ []) rest in
     let len = prefix_len-stops is_line_byte name (34 ∷ rest) is.inner refl in

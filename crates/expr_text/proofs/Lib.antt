@@ -13,3 +13,7 @@ pub mod NumbersBack
 pub mod Readable
 pub mod TextsBack
 pub mod FormulasBack
+pub mod GrammarTokens
+pub mod GrammarNumbers
+pub mod GrammarRead
+pub mod GrammarBack

@@ -49,7 +49,7 @@ low_in set k h =
 
 -- ---- one name
 
-vertex_new : (names : List (List ℕ)) (have : ℕ) (name : List ℕ) (k : ℕ) → is_named names name ≡ true → index_of names name ≡ k → has have k ≡ false → with_vertex names have name ≡ Some (bit_or have (2 ^ k))
+pub vertex_new : (names : List (List ℕ)) (have : ℕ) (name : List ℕ) (k : ℕ) → is_named names name ≡ true → index_of names name ≡ k → has have k ≡ false → with_vertex names have name ≡ Some (bit_or have (2 ^ k))
 vertex_new names have name k there e h = rw (there, e, h) refl
 
 pub name_is_read : (names : List (List ℕ)) (have k : ℕ) (rest : List ℕ) → AreKnown names → k < length names → has have k ≡ false → Stops is_plain_byte rest

@@ -29,7 +29,7 @@ all_and_one (c ∷ ds) d h k =
     let both = all_pass is_digit c ds h in
     rw both.0 (omega (arith, all_and_one ds d both.1 k))
 
-number_of-append : (n : ℕ) (ds : List ℕ) (d : ℕ) → number_of n (ds ++ d ∷ []) ≡ 10 * number_of n ds + (d - 48)
+pub number_of-append : (n : ℕ) (ds : List ℕ) (d : ℕ) → number_of n (ds ++ d ∷ []) ≡ 10 * number_of n ds + (d - 48)
 number_of-append n [] d = refl
 number_of-append n (c ∷ ds) d = number_of-append (10 * n + (c - 48)) ds d
 

@@ -22,11 +22,11 @@ no_choice false o h = refl
 not_same : (b : Bool) (o : Option (List ℕ)) → b ≡ false → cond b o None ≡ None
 not_same b o h = rw h refl
 
-flip : (a b : ℕ) → eqb a b ≡ false → eqb b a ≡ false
+pub flip : (a b : ℕ) → eqb a b ≡ false → eqb b a ≡ false
 flip a b h = ne_eqb b a (λ e. eqb-false a b h (sym e))
 
 -- behind a name stands no `o` and no parenthesis
-record IsBehind (m : ℕ) : Type 0 where
+pub record IsBehind (m : ℕ) : Type 0 where
   pub no_o : eqb 111 m ≡ false
   pub no_open : eqb 40 m ≡ false
 
@@ -38,7 +38,7 @@ no_do (x ∷ y ∷ z ∷ zs) m rest all some is =
     let bare = (all_pass is_plain_byte z zs (all_pass is_plain_byte y (z ∷ zs) (all_pass is_plain_byte x (y ∷ z ∷ zs) all).1).1).0 in
     no_choice (eqb 100 x) _ (no_choice (eqb 111 y) _ (not_same (eqb 40 z) _ (flip z 40 (other_byte is_plain_byte z 40 bare refl))))
 
-no_do_plain : (name : List ℕ) (m : ℕ) (rest : List ℕ) → is_plain name ≡ true → IsBehind m → next_is (codes "do(") (name ++ m ∷ rest) ≡ None
+pub no_do_plain : (name : List ℕ) (m : ℕ) (rest : List ℕ) → is_plain name ≡ true → IsBehind m → next_is (codes "do(") (name ++ m ∷ rest) ≡ None
 unfolding next_is
 no_do_plain [] m rest plain is = cc plain
 no_do_plain (c ∷ name) m rest plain is =

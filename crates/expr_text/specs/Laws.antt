@@ -1,8 +1,9 @@
--- What is written is read again.
-use Rattle.std.specs.Prelude.{◌≡◌, ℕ, ◌≤◌, ◌^◌, true, List, length, Ok, None}
+-- What is written is read again, and what is read is the grammar's.
+use Rattle.std.specs.Prelude.{◌≡◌, ◌↔◌, ℕ, ◌≤◌, ◌^◌, true, List, length, Ok, None}
 use Rattle.mixed_graph.specs.Names.{AreNames}
 use Rattle.prob_expr.specs.Tree.{Tree, PlainFormula}
 use Rattle.prob_expr.specs.Check.{fault_in}
+use Rattle.expr_text.specs.Grammar.{IsExprText, IsFormulaText}
 use Rattle.expr_text.specs.Read.{expr_of, formula_of}
 use Rattle.expr_text.specs.Sound.{is_sound, is_numbered}
 use Rattle.expr_text.specs.Write.{text_of, nesting, formula_text, nesting_all}
@@ -16,3 +17,11 @@ ReadsBack = (names : List (List ℕ)) (t : Tree) → AreNames names → is_sound
 abbrev pub ReadsWholeBack : Type 0
 ReadsWholeBack = (names : List (List ℕ)) (f : PlainFormula) → AreNames names → fault_in (length names) f ≡ None → length f.defs ≤ 2 ^ 32 → nesting f.main ≤ 60 → nesting_all f.defs ≤ 60
     → formula_of names (formula_text names f) ≡ Ok f
+
+-- what is read as an expression is one of the grammar, and each such text is read
+abbrev pub ReadsGrammar : Type 0
+ReadsGrammar = (names : List (List ℕ)) (t : Tree) (text : List ℕ) → AreNames names → (expr_of names text ≡ Ok t) ↔ IsExprText names t text
+
+-- what is read as a formula is one of the grammar without a fault, and each such text is read
+abbrev pub ReadsFormulas : Type 0
+ReadsFormulas = (names : List (List ℕ)) (f : PlainFormula) (text : List ℕ) → AreNames names → (formula_of names text ≡ Ok f) ↔ (IsFormulaText names f text × (fault_in (length names) f ≡ None))

@@ -20,7 +20,7 @@ mod tokens;
 mod writing;
 
 pub use latex::latex_text;
-pub use laws::written_is_read;
+pub use laws::{the_grammar, written_is_read};
 pub use reading::{TextFault, read_expr, read_formula};
 pub use target::{target_latex, target_text};
 pub use writing::{formula_text, write_expr};
