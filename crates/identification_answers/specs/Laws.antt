@@ -17,7 +17,7 @@ use Rattle.identification_answers.specs.Names.{FormulaNamesOnly}
 abbrev pub FormulaNamesAncestors : Type 0
 FormulaNamesAncestors = (g : MixedGraph) → IsMixedGraph g → (x y : ℕ) → IsTarget g x y → (f : PlainFormula) → IsIdentified g x y f → FormulaNamesOnly (IsAncestor g (has y)) f
 
--- it has no fault: its terms are terms of vertices of the graph, its sums and products aren't empty, and each definition names earlier ones
+-- the formula has no fault: its terms are terms of vertices of the graph, its sums and products aren't empty, and each definition names earlier ones
 abbrev pub FormulaIsFormed : Type 0
 FormulaIsFormed = (g : MixedGraph) → IsMixedGraph g → (x y : ℕ) → IsTarget g x y → (f : PlainFormula) → IsIdentified g x y f → fault_in g.vertices f ≡ None
 
@@ -29,15 +29,15 @@ FormulaIsShallow = (g : MixedGraph) (x y : ℕ) (f : PlainFormula) → IsIdentif
 abbrev pub OneFormula : Type 0
 OneFormula = (g : MixedGraph) (x y : ℕ) (f h : PlainFormula) → IsIdentified g x y f → IsIdentified g x y h → f ≡ h
 
--- what has a derivation of the procedure is that formula
+-- a formula with a derivation of the procedure is the one that it answers
 abbrev pub DerivedIsIdentified : Type 0
 DerivedIsIdentified = (g : MixedGraph) (x y : ℕ) (f : PlainFormula) (d : PlainDerivation) → IsDerived g x y f d → IsIdentified g x y f
 
--- and it has one derivation
+-- there is at most one derivation
 abbrev pub OneDerivation : Type 0
 OneDerivation = (g : MixedGraph) (x y : ℕ) (f h : PlainFormula) (d e : PlainDerivation) → IsDerived g x y f d → IsDerived g x y h e → d ≡ e
 
--- which is accepted
+-- and it is accepted
 abbrev pub DerivationIsAccepted : Type 0
 DerivationIsAccepted = (g : MixedGraph) → IsMixedGraph g → (x y : ℕ) → IsTarget g x y → (f : PlainFormula) (d : PlainDerivation) → IsDerived g x y f d → IsAcceptedFor g x y f d
 
