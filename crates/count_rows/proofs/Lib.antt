@@ -1,0 +1,3 @@
+pub mod DecimalSteps
+pub mod Cutting
+pub mod ReadingSteps

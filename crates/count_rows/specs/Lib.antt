@@ -1,0 +1,5 @@
+pub mod Numbers
+pub mod Records
+pub mod Rows
+pub mod Faults
+pub mod Reader

@@ -1,0 +1,8 @@
+//! The rows that are counted in a text of CSV: the levels of each used vertex, and each record as a row with its count.
+#![tactic(auto)]
+
+mod digits;
+mod fault;
+mod reader;
+
+pub use fault::CountFault;
