@@ -1,3 +1,5 @@
 pub mod DecimalSteps
 pub mod Cutting
 pub mod ReadingSteps
+pub mod LevelLists
+pub mod HeaderSteps

@@ -1,5 +1,5 @@
 -- The records of a text, and their columns.
-use Rattle.std.specs.Prelude.{ℕ, zero, suc, ◌+◌, ◌*◌, List, [], ◌∷◌, ◌++◌, length, map, fold, sum_by, take, slice_index_or, Option, Some, None, unwrap_or, option_map}
+use Rattle.std.specs.Prelude.{ℕ, zero, suc, ◌+◌, ◌*◌, List, [], ◌∷◌, ◌++◌, length, map, fold, sum_by, slice_index_or, Option, Some, None, unwrap_or, option_map}
 use Rattle.csv.specs.Reading.{default_config, strip_bom, records}
 use Rattle.mixed_graph.specs.Names.{index_of, with_name}
 use Rattle.count_rows.specs.Numbers.{count_in}
@@ -34,12 +34,12 @@ abbrev pub layout_of : Record → List Field → Option Field → Layout
 layout_of header used count = record { places = map (index_of header) used; count_place = option_map (index_of header) count }
 
 -- a record's field in a column
-abbrev pub field_at : ℕ → Record → Field
-field_at place r = slice_index_or r place []
+abbrev pub field_in : ℕ → Record → Field
+field_in place r = slice_index_or r place []
 
 -- the levels in a column: its different fields, in order of first appearance
 unfoldable pub levels_at : List Record → ℕ → List Field
-levels_at rows place = fold with_name [] (map (field_at place) rows)
+levels_at rows place = fold with_name [] (map (field_in place) rows)
 
 -- the levels in each used column
 abbrev pub levels_of : Layout → List Record → List (List Field)
@@ -48,7 +48,7 @@ levels_of layout rows = map (levels_at rows) layout.places
 -- the count of a record: 1 without a column of counts
 abbrev pub count_of : Option ℕ → Record → Option ℕ
 count_of None r = Some 1
-count_of (Some place) r = count_in (field_at place r)
+count_of (Some place) r = count_in (field_in place r)
 
 -- the sum of the counts of the records
 abbrev pub sum_of : Layout → List Record → ℕ

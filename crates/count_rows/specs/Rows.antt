@@ -1,7 +1,7 @@
 -- The rows of a table of counts, and the sum of the counts of those that agree with an assignment.
 use Rattle.std.specs.Prelude.{ℕ, List, [], ◌∷◌, Bool, true, ◌&&◌, ◌||◌, ◌==◌, not, if◌then◌else◌, map, sum_by, unwrap_or}
 use Rattle.mixed_graph.specs.Names.{index_of}
-use Rattle.count_rows.specs.Records.{Field, Record, Layout, field_at, levels_at, count_of}
+use Rattle.count_rows.specs.Records.{Field, Record, Layout, field_in, levels_at, count_of}
 
 -- a row: the number of its level of each used vertex, in index order, and how often it was counted
 pub record Row : Type 0 where
@@ -27,7 +27,7 @@ pub record Table : Type 0 where
 -- a record as a row: the numbers of its fields among the levels of all records, and its count
 abbrev pub row_in : Layout → List Record → Record → Row
 row_in layout rows r = record {
-  cell = map (λ place. index_of (levels_at rows place) (field_at place r)) layout.places;
+  cell = map (λ place. index_of (levels_at rows place) (field_in place r)) layout.places;
   count = unwrap_or (count_of layout.count_place r) 0;
 }
 

@@ -3,6 +3,9 @@
 
 mod digits;
 mod fault;
+mod header;
+mod levels;
 mod reader;
 
 pub use fault::CountFault;
+pub use levels::Levels;

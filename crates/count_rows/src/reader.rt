@@ -29,11 +29,11 @@ pub fn open(alloc: Global, text: &[u8]) -> Reader<&[u8]>
         .from_reader(alloc, text)
 }
 
-/// Reads the next record.
-pub fn read(reader: &mut Reader<&[u8]>, record: &mut ByteRecord) -> Step
-    ensures { (text : List ℕ) (before : List Record) → HasRead text before reader.old → StepGives text before reader.new (fields_of record.new) result }
+/// Reads the next record into `into`.
+pub fn read(reader: &mut Reader<&[u8]>, into: &mut ByteRecord) -> Step
+    ensures { (text : List ℕ) (before : List Record) → HasRead text before reader.old → StepGives text before reader.new (fields_of into.new) result }
 {
-    match reader.read_byte_record(record) {
+    match reader.read_byte_record(into) {
         Ok(true) => Step::Record,
         Ok(false) => Step::End,
         Err(error) => failed_step(error),
