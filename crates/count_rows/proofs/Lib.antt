@@ -3,3 +3,4 @@ pub mod Cutting
 pub mod ReadingSteps
 pub mod LevelLists
 pub mod HeaderSteps
+pub mod TallySteps

@@ -4,3 +4,4 @@ pub mod Records
 pub mod Rows
 pub mod Faults
 pub mod Reader
+pub mod Tally

@@ -1,5 +1,5 @@
 -- The rows of a table of counts, and the sum of the counts of those that agree with an assignment.
-use Rattle.std.specs.Prelude.{ℕ, List, [], ◌∷◌, Bool, true, ◌&&◌, ◌||◌, ◌==◌, not, if◌then◌else◌, map, sum_by, unwrap_or}
+use Rattle.std.specs.Prelude.{ℕ, zero, suc, List, [], ◌∷◌, ◌++◌, Bool, true, ◌&&◌, ◌||◌, ◌==◌, not, if◌then◌else◌, map, sum_by, unwrap_or}
 use Rattle.mixed_graph.specs.Names.{index_of}
 use Rattle.count_rows.specs.Records.{Field, Record, Layout, field_in, levels_at, count_of}
 
@@ -34,3 +34,8 @@ row_in layout rows r = record {
 -- the records as rows
 unfoldable pub rows_in : Layout → List Record → List Row
 rows_in layout rows = map (row_in layout rows) rows
+
+-- f 0, .., f (n - 1)
+abbrev pub list_below : ℕ → (ℕ → ℕ) → List ℕ
+list_below zero f = []
+list_below (suc n) f = list_below n f ++ f n ∷ []

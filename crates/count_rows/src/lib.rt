@@ -6,6 +6,7 @@ mod fault;
 mod header;
 mod levels;
 mod reader;
+mod tally;
 
 pub use fault::CountFault;
 pub use levels::Levels;
