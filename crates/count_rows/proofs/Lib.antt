@@ -4,3 +4,4 @@ pub mod ReadingSteps
 pub mod LevelLists
 pub mod HeaderSteps
 pub mod TallySteps
+pub mod RowFaults

@@ -43,7 +43,7 @@ another text before a b f h r first flexible =
       reached = reached;
     }, w.1)
 
-split : (text : List ℕ) (before : List Record) (a : Reader (Bor (List ℕ))) → (h : HasRead text before a) → records_of text ≡ before ++ records_from default_config (length h.rest + 1) a.state h.rest
+pub split : (text : List ℕ) (before : List Record) (a : Reader (Bor (List ℕ))) → (h : HasRead text before a) → records_of text ≡ before ++ records_from default_config (length h.rest + 1) a.state h.rest
 unfolding records_of
 split text before a h = read_first default_config st.StartRecord a.state (strip_bom text) h.rest before h.reached
 

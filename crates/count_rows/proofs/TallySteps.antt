@@ -1,15 +1,17 @@
 -- One more row in a table of counts.
 use Rattle.std.proofs.Common.{◌≡◌, ◌≢◌, ℕ, zero, suc, ◌+◌, ◌*◌, ◌-◌, ◌^◌, ◌<◌, ◌≤◌, Bool, true, false, cond, not, ◌==◌, leb, List, [], ◌∷◌, ◌++◌, length, take, drop, get_or, drop-cons, inl, inr, refl, ap, ap₂, sym, ◌∙◌, arith, subst, Option, Some, None, set}
-use Rattle.std.specs.Prelude.{map, fold, sum_by, unwrap_or, is_none, nat_le}
+use Rattle.std.specs.Prelude.{replicate, map, fold, sum_by, unwrap_or, is_none, nat_le}
 use Rattle.std.specs.List.{flat_map}
 use Rattle.std.proofs.lemmas.List.Concat.{flat_map-append}
 use Rattle.std.proofs.lemmas.Bool.{cases_Bool, cases_eq, eq-eqb, ne_eqb, le-leb, lt-leb}
-use Rattle.std.proofs.lemmas.List.{map-append, take_more, get_or-set_same, get_or-set_other, get_or_default, append_assoc, length-map}
+use Rattle.std.proofs.lemmas.List.{map-append, take_more, get_or-set_same, get_or-set_other, get_or_default, append_assoc, append-nil, length-map}
 use Rattle.std.proofs.lemmas.List.Sums.{sum_by_push}
 use Rattle.std.proofs.Math.Nat.{one-le-mul, le-mul_of_pos_right, mul_assoc}
 use Rattle.mixed_graph.specs.Names.{index_of, is_named, with_name}
 use Rattle.count_rows.specs.declared.fault.CountFault.{CountFault}
 use Rattle.count_rows.specs.declared.fault.CountFault.TheVariants.{Count, TooLarge, SumTooLarge}
+use Rattle.count_rows.specs.declared.tally.Tally.{Tally}
+use Rattle.count_rows.specs.Tally.{Holds}
 use Rattle.count_rows.specs.Numbers.{most_counted}
 use Rattle.count_rows.specs.Records.{Record, Layout, field_in, levels_at, levels_of, count_of, sum_of, cell_count}
 use Rattle.count_rows.specs.Rows.{Row, row_in, rows_in, list_below}
@@ -92,7 +94,7 @@ is_map f (p ∷ ps) (x ∷ xs) d l h = ap₂ (λ y ys. y ∷ ys) (h 0 (omega ari
 pub levels_grown : (places : List ℕ) (rows : List Record) (r : Record) (old new : List (List (List ℕ))) → old ≡ map (levels_at rows) places → length new ≡ length old →
     ((i : ℕ) → i < length places → get_or new i [] ≡ with_name (get_or old i []) (field_in (get_or places i 0) r)) → new ≡ map (levels_at (rows ++ r ∷ [])) places
 levels_grown places rows r old new is long h =
-    let n : length old ≡ length places = ap (λ (l : List (List (List ℕ))). length l) is ∙ length-map (levels_at rows) places in
+    let n : length old ≡ length places = ap (λ (l : List (List (List ℕ))). length l) is ∙ simp length-map in
     is_map (levels_at (rows ++ r ∷ [])) places new [] (long ∙ n) (λ i lt.
       h i lt ∙ ap (λ (l : List (List ℕ)). with_name l (field_in (get_or places i 0) r)) (ap (λ (l : List (List (List ℕ))). get_or l i []) is ∙ get_or-map (levels_at rows) places i [] lt)
       ∙ sym (levels_at-append rows r (get_or places i 0)))
@@ -123,7 +125,7 @@ field_of_map place (q ∷ rows) (suc k) h = field_of_map place rows k (omega (ar
 seen : (rows : List Record) (place k : ℕ) → k < length rows → is_named (levels_at rows place) (field_in place (get_or rows k [])) ≡ true
 unfolding levels_at
 seen rows place k h =
-    let n : length (map (field_in place) rows) ≡ length rows = length-map (field_in place) rows in
+    let n : length (map (field_in place) rows) ≡ length rows = simp length-map in
     ap (λ (x : List ℕ). is_named (fold with_name [] (map (field_in place) rows)) x) (sym (field_of_map place rows k h)) ∙ seen_from [] (map (field_in place) rows) k (omega (arith, n, h))
 
 map_same : {X : Type 0} (f g : Record → X) (rows : List Record) → ((k : ℕ) → k < length rows → f (get_or rows k []) ≡ g (get_or rows k [])) → map f rows ≡ map g rows
@@ -180,3 +182,39 @@ row_fits layout before r n some small few = rw (eq-eqb (length r) (length r) ref
 -- the sum with one row more
 pub sum_of-append : (layout : Layout) (rows : List Record) (r : Record) (n : ℕ) → count_of layout.count_place r ≡ Some n → sum_of layout (rows ++ r ∷ []) ≡ sum_of layout rows + n
 sum_of-append layout rows r n some = sum_by_push (λ q. unwrap_or (count_of layout.count_place q) 0) rows r ∙ ap (λ (o : Option ℕ). sum_of layout rows + unwrap_or o 0) some
+
+-- the cells of the rows and one more
+pub cells_held : (layout : Layout) (rows : List Record) (r : Record) (levels : List (List (List ℕ))) (old new : List ℕ) → levels ≡ levels_of layout rows →
+    old ≡ flat_map (λ (x : Row). x.cell) (rows_in layout rows) →
+    new ≡ old ++ list_below (length layout.places) (λ i. index_of (get_or levels i []) (field_in (get_or layout.places i 0) r)) →
+    new ≡ flat_map (λ (x : Row). x.cell) (rows_in layout (rows ++ r ∷ []))
+cells_held layout rows r levels old new is held e =
+    e ∙ ap₂ (λ (a b : List ℕ). a ++ b) held (new_cell layout rows r levels is ∙ sym (append-nil (row_in layout (rows ++ r ∷ []) r).cell))
+    ∙ sym (flat_map-append (λ (x : Row). x.cell) (rows_in layout rows) (row_in layout (rows ++ r ∷ []) r ∷ []))
+    ∙ ap (flat_map (λ (x : Row). x.cell)) (sym (rows_in-append layout rows r))
+
+-- their counts
+pub counts_held : (layout : Layout) (rows : List Record) (r : Record) (n : ℕ) (old new : List ℕ) → count_of layout.count_place r ≡ Some n →
+    old ≡ map (λ (x : Row). x.count) (rows_in layout rows) → new ≡ old ++ n ∷ [] → new ≡ map (λ (x : Row). x.count) (rows_in layout (rows ++ r ∷ []))
+counts_held layout rows r n old new some held e =
+    e ∙ ap₂ (λ (a : List ℕ) m. a ++ m ∷ []) held (sym (ap (λ (o : Option ℕ). unwrap_or o 0) some))
+    ∙ sym (map-append (λ (x : Row). x.count) (rows_in layout rows) (row_in layout (rows ++ r ∷ []) r ∷ []))
+    ∙ ap (map (λ (x : Row). x.count)) (sym (rows_in-append layout rows r))
+
+-- before the first row
+pub holds-nil : (layout : Layout) (tally : Tally) → tally.levels.items ≡ replicate (length layout.places) [] → tally.cells.items ≡ [] → tally.counts.items ≡ [] → tally.sum ≡ 0 → Holds layout [] tally
+unfolding levels_at rows_in
+holds-nil layout tally levels cells counts sum = record {
+  levels = levels ∙ copies layout.places;
+  cells = cells;
+  counts = counts;
+  sum = sum;
+}
+  where
+    copies : (places : List ℕ) → replicate (length places) [] ≡ map (λ (p : ℕ). fold with_name [] []) places
+    copies [] = refl
+    copies (p ∷ ps) = ap (λ (l : List (List (List ℕ))). [] ∷ l) (copies ps)
+
+pub length-replicate : (n : ℕ) (x : List (List ℕ)) → length (replicate n x) ≡ n
+length-replicate zero x = refl
+length-replicate (suc n) x = ap (λ k. suc k) (length-replicate n x)

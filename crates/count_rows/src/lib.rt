@@ -6,7 +6,10 @@ mod fault;
 mod header;
 mod levels;
 mod reader;
+mod rows;
 mod tally;
 
 pub use fault::CountFault;
 pub use levels::Levels;
+pub use rows::read_rows;
+pub use tally::Tally;

@@ -10,8 +10,8 @@ use Rattle.count_rows.proofs.tally.add_fields.Goals as goal
 
 pub loop-i-preserved : goal.loop-i-preserved
 loop-i-preserved c =
-    let level : c.index-levels-i.result ≡ get_or c.args.levels.now c.loop-i.i [] =
-        c.index-levels-i.is ∙ get_or_default c.loop-i.levels c.loop-i.i c.index-levels-i.result [] (omega arith) ∙ c.loop-i.invariant.behind c.loop-i.i (omega arith) in
+    let level : get_or c.loop-i.levels c.loop-i.i c.index-levels-i.result ≡ get_or c.args.levels.now c.loop-i.i [] =
+        get_or_default c.loop-i.levels c.loop-i.i c.index-levels-i.result [] (omega arith) ∙ c.loop-i.invariant.behind c.loop-i.i (omega arith) in
     let f = λ (k : ℕ). field_in (get_or c.args.places.now k 0) (fields_of c.args.row.now) in
     record {
       before = λ k h. written_here c.loop-i.levels c.args.levels.now c.loop-i.i k c.add.new.self (λ j. with_name (get_or c.args.levels.now j []) (f j)) (omega arith)

@@ -2,4 +2,4 @@ use Rattle.std.proofs.Common.{◌≡◌, [], replicate, ℕ, List}
 use Rattle.count_rows.proofs.tally.Tally.empty.Given as goal
 
 abbrev pub invariant-loop : goal.invariant-loop
-invariant-loop l = l.levels.items ≡ replicate l.i []
+invariant-loop l = l.levels.items ≡ replicate l.counter []
