@@ -5,3 +5,4 @@ pub mod LevelLists
 pub mod HeaderSteps
 pub mod TallySteps
 pub mod RowFaults
+pub mod MemberLists

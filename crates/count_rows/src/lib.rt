@@ -8,6 +8,8 @@ mod levels;
 mod reader;
 mod rows;
 mod tally;
+#[cfg(test)]
+mod tests;
 
 pub use fault::CountFault;
 pub use levels::Levels;

@@ -3,7 +3,9 @@ ghost use Rattle.std.specs.Option.{option_to_list};
 ghost use Rattle.csv.specs.Records.{fields_of};
 ghost use Rattle.mixed_graph.specs.Names.{name_of, index_of};
 ghost use Rattle.count_rows.specs.Records.{Record, records_of, header_of, rows_of, layout_of};
-ghost use Rattle.count_rows.specs.Faults.{name_fault, header_fault, rows_fault, empty_fault, or_else, records_fault, Explains};
+ghost use Rattle.count_rows.specs.Faults.{name_fault, header_fault, rows_fault, empty_fault, or_else, records_fault, used_names, Explains};
+ghost use Rattle.mixed_graph.specs.Bits.{has, members_below};
+ghost use Rattle.mixed_graph.specs.Sets.{Within};
 ghost use Rattle.count_rows.specs.Reader.{HasRead};
 ghost use Rattle.count_rows.specs.Tally.{layout_from, Holds};
 
@@ -12,8 +14,8 @@ use crate::header::{column, columns, no_column};
 use crate::reader::{Step, open, read};
 use crate::tally::{Columns, Tally};
 use csv::{ByteRecord, Reader};
-use mixed_graph::Names;
-use std::alloc::Global;
+use mixed_graph::{Names, VSet};
+use std::alloc::{AllocError, Global};
 
 /// Where the records have the used vertices and the counts.
 fn layout(
@@ -91,12 +93,8 @@ fn read_rows_under(
     Err(CountFault::NoMemory)
 }
 
-/// Reads the rows of a text of CSV: the levels of the vertices, and each record as a row.
-///
-/// The first record is the header, whose fields name the columns; a text without a record has a header without fields.
-/// Without a column of counts each record counts 1. Other columns are ignored. A byte order mark at the start is dropped.
-/// The fault is the first one: of the header, name by name, then of the rows in order, then of their sum.
-pub fn read_rows(
+/// Reads the rows of the vertices.
+fn read_rows_of(
     alloc: Global,
     text: &[u8],
     names: &Names,
@@ -122,4 +120,42 @@ pub fn read_rows(
         Err(fault) => return Err(fault),
     };
     read_rows_under(alloc, &mut reader, &columns)
+}
+
+/// The members of a set, in ascending order.
+fn members(alloc: Global, set: VSet) -> Result<Vec<u8>, AllocError>
+    ensures { IfOk result (λ list. list.items ≡ members_below (has set.bits) 64) }
+{
+    let mut list = Vec::new(alloc);
+    for v in 0..64 {
+        if set.has(v) {
+            list.push(v)?;
+        }
+    }
+    Ok(list)
+}
+
+/// Reads the rows of a text of CSV: the levels of the vertices, and each record as a row.
+///
+/// The first record is the header, whose fields name the columns; a text without a record has a header without fields.
+/// Without a column of counts each record counts 1. Other columns are ignored. A byte order mark at the start is dropped.
+/// The fault is the first one: of the header, name by name, then of the rows in order, then of their sum.
+pub fn read_rows(
+    alloc: Global,
+    text: &[u8],
+    names: &Names,
+    used: VSet,
+    count_column: Option<&[u8]>,
+) -> Result<Tally, CountFault>
+    requires some { 0 < used.bits }
+    requires named { Within (length names.now) (has used.bits) }
+    ensures rows { IfOk result (λ t. Holds (layout_of (header_of (records_of text.now)) (used_names names.now used.bits) (option_map (λ s. s.now) count_column.entry))
+        (rows_of (records_of text.now)) t) }
+    ensures fit { IfOk result (λ t. records_fault (records_of text.now) (used_names names.now used.bits) (option_map (λ s. s.now) count_column.entry) ≡ None) }
+    ensures fault { IfErr result (Explains (records_fault (records_of text.now) (used_names names.now used.bits) (option_map (λ s. s.now) count_column.entry))) }
+{
+    let Ok(vertices) = members(alloc, used) else {
+        return Err(CountFault::NoMemory);
+    };
+    read_rows_of(alloc, text, names, vertices.as_slice(), count_column)
 }
