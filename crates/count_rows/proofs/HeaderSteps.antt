@@ -75,14 +75,14 @@ pub once : (header : List (List ℕ)) (name : List ℕ) (at : ℕ) → at ≡ po
     position_or_len (bytes_eq name) (drop (at + 1) header) ≡ length (drop (at + 1) header) → name_fault header name ≡ None
 once header name at is h e =
     let one : count_by (bytes_eq name) header ≡ 1 =
-        count_some (bytes_eq name) header (omega (arith, is, h)) ∙ ap (λ n. 1 + count_by (bytes_eq name) (drop (n + 1) header)) (sym is) ∙ ap (λ n. 1 + n) (count_none (bytes_eq name) (drop (at + 1) header) e) in
+    count_some (bytes_eq name) header (omega (arith, is, h)) ∙ ap (λ n. 1 + count_by (bytes_eq name) (drop (n + 1) header)) (sym is) ∙ ap (λ n. 1 + n) (count_none (bytes_eq name) (drop (at + 1) header) e) in
     rw (one) refl
 
 pub twice : (header : List (List ℕ)) (name : List ℕ) (at : ℕ) → at ≡ position_or_len (bytes_eq name) header → at < length header →
     position_or_len (bytes_eq name) (drop (at + 1) header) < length (drop (at + 1) header) → name_fault header name ≡ Some (TwoColumns name)
 twice header name at is h e =
     let more : count_by (bytes_eq name) header ≡ 1 + (1 + count_by (bytes_eq name) (drop (position_or_len (bytes_eq name) (drop (at + 1) header) + 1) (drop (at + 1) header))) =
-        count_some (bytes_eq name) header (omega (arith, is, h)) ∙ ap (λ n. 1 + count_by (bytes_eq name) (drop (n + 1) header)) (sym is) ∙ ap (λ n. 1 + n) (count_some (bytes_eq name) (drop (at + 1) header) e) in
+    count_some (bytes_eq name) header (omega (arith, is, h)) ∙ ap (λ n. 1 + count_by (bytes_eq name) (drop (n + 1) header)) (sym is) ∙ ap (λ n. 1 + n) (count_some (bytes_eq name) (drop (at + 1) header) e) in
     let none : (count_by (bytes_eq name) header == 0) ≡ false = ne_eqb _ _ (omega (arith, more)) in
     let one : (count_by (bytes_eq name) header == 1) ≡ false = ne_eqb _ _ (omega (arith, more)) in
     judged (count_by (bytes_eq name) header == 0) (count_by (bytes_eq name) header == 1) none one

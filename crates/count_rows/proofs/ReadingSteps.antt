@@ -31,17 +31,19 @@ unfolding StepGives
 another text before a b f h r first flexible =
     let (z, at_z, reached) = rows-more (λ (s : Bor (List ℕ)). Some s.now) a b f default_config st.StartRecord (strip_bom text) h.rest before h.default h.pending h.reached r in
     let e = r.5 refl h.strict in
-    let w = widths before f a.expected b.expected h.width e.0 e.1 in
-    (record {
-      untrimmed = r.3 ∙ h.untrimmed;
-      ready = inl first;
-      default = r.2 ∙ h.default;
-      strict = flexible ∙ h.strict;
-      width = w.0;
-      rest = z;
-      pending = at_z;
-      reached = reached;
-    }, w.1)
+    let w = widths before f a.expected b.expected h.width e.0 e.1 in (
+      record {
+        untrimmed = r.3 ∙ h.untrimmed;
+        ready = inl first;
+        default = r.2 ∙ h.default;
+        strict = flexible ∙ h.strict;
+        width = w.0;
+        rest = z;
+        pending = at_z;
+        reached = reached;
+      },
+      w.1,
+    )
 
 pub split : (text : List ℕ) (before : List Record) (a : Reader (Bor (List ℕ))) → (h : HasRead text before a) → records_of text ≡ before ++ records_from default_config (length h.rest + 1) a.state h.rest
 unfolding records_of
@@ -77,9 +79,12 @@ unfolding StepGives
 failed text before a b f (kind.UnequalLengths pos expected len) h why =
     let (flexible, at, other, fields, took_it, long) = why in
     let t = took default_config a.state b.state h.rest fields (pending_of (Some b.rdr.now) b) (rw (h.default, h.pending) at took_it) in
-    let more = some_left default_config a.state h.rest t.0 t.1 in
-    (fields, more.0, split text before a h ∙ ap (λ (l : List Record). before ++ l) (more.1 ∙ ap (λ (x : Record). x ∷ more.0) (sym t.2)),
-      differ before a.expected expected len fields h.width at other long)
+    let more = some_left default_config a.state h.rest t.0 t.1 in (
+      fields,
+      more.0,
+      split text before a h ∙ ap (λ (l : List Record). before ++ l) (more.1 ∙ ap (λ (x : Record). x ∷ more.0) (sym t.2)),
+      differ before a.expected expected len fields h.width at other long,
+    )
 failed text before a b f (kind.Io e) h why = tt
 failed text before a b f (kind.Utf8 pos err) h why = tt
 failed text before a b f kind.OutOfMemory h why = tt

@@ -30,7 +30,7 @@ unfolding rows_fault
 rows_fault-append w l before [] more = ap (λ (b : List Record). rows_fault w l b more) (sym (append-nil before))
 rows_fault-append w l before (r ∷ rs) more =
     ap (or_else (row_fault w l before r)) (rows_fault-append w l (before ++ r ∷ []) rs more
-      ∙ ap (λ (b : List Record). or_else (rows_fault w l (before ++ r ∷ []) rs) (rows_fault w l b more)) (append_assoc before (r ∷ []) rs))
+    ∙ ap (λ (b : List Record). or_else (rows_fault w l (before ++ r ∷ []) rs) (rows_fault w l b more)) (append_assoc before (r ∷ []) rs))
     ∙ or_else-assoc (row_fault w l before r) (rows_fault w l (before ++ r ∷ []) rs) (rows_fault w l (before ++ (r ∷ rs)) more)
 
 pub rows_fault-nil : (w : ℕ) (l : Layout) → rows_fault w l [] [] ≡ None
@@ -83,13 +83,15 @@ pub ended : (text : List ℕ) (header : Record) (rows : List Record) (l : Layout
     (Explains (or_else (rows_fault (length header) l [] (rows_of (records_of text))) (empty_fault l (rows_of (records_of text)))))
 ended text header rows l tally (Ok t) is fine held ok err =
     let behind : rows_of (records_of text) ≡ rows = ap rows_of is in
-    rw behind (subst (λ (x : Tally). Holds l rows x) (sym ok.0) held,
+    rw behind (
+      subst (λ (x : Tally). Holds l rows x) (sym ok.0) held,
       ap (λ (o : Option CountFault). or_else o (empty_fault l rows)) fine
-      ∙ ap (λ b. cond b (Some NoRows) None) (ne_eqb (sum_of l rows) 0 (let s = held.sum in let p = ok.1 in omega (arith, s, p))))
+          ∙ ap (λ b. cond b (Some NoRows) None) (ne_eqb (sum_of l rows) 0 (let s = held.sum in let p = ok.1 in omega (arith, s, p))),
+    )
 ended text header rows l tally (Err f) is fine held ok err =
     λ n. let behind : rows_of (records_of text) ≡ rows = ap rows_of is in
     rw behind (ap (λ (o : Option CountFault). or_else o (empty_fault l rows)) fine
-      ∙ ap (λ b. cond b (Some NoRows) None) (eq-eqb (sum_of l rows) 0 (sym held.sum ∙ err.1)) ∙ ap (λ (x : CountFault). Some x) (sym err.0))
+    ∙ ap (λ b. cond b (Some NoRows) None) (eq-eqb (sum_of l rows) 0 (sym held.sum ∙ err.1)) ∙ ap (λ (x : CountFault). Some x) (sym err.0))
 
 empty_header : (name : List ℕ) (names : List (List ℕ)) (count : Option (List ℕ)) → records_fault [] (name ∷ names) count ≡ Some (NoColumn name)
 unfolding records_fault header_fault

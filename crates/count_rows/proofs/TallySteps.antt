@@ -96,8 +96,8 @@ pub levels_grown : (places : List ℕ) (rows : List Record) (r : Record) (old ne
 levels_grown places rows r old new is long h =
     let n : length old ≡ length places = ap (λ (l : List (List (List ℕ))). length l) is ∙ simp length-map in
     is_map (levels_at (rows ++ r ∷ [])) places new [] (long ∙ n) (λ i lt.
-      h i lt ∙ ap (λ (l : List (List ℕ)). with_name l (field_in (get_or places i 0) r)) (ap (λ (l : List (List (List ℕ))). get_or l i []) is ∙ get_or-map (levels_at rows) places i [] lt)
-      ∙ sym (levels_at-append rows r (get_or places i 0)))
+    h i lt ∙ ap (λ (l : List (List ℕ)). with_name l (field_in (get_or places i 0) r)) (ap (λ (l : List (List (List ℕ))). get_or l i []) is ∙ get_or-map (levels_at rows) places i [] lt)
+    ∙ sym (levels_at-append rows r (get_or places i 0)))
 
 -- a level was added, so there is one
 pub with_name-pos : (names : List (List ℕ)) (x : List ℕ) → 0 < length (with_name names x)
@@ -142,7 +142,7 @@ row_keeps layout rows r k h =
     let q = get_or rows k [] in
     ap (λ (cell : List ℕ). let row : Row = record { cell = cell; count = unwrap_or (count_of layout.count_place q) 0 } in row)
     (map_places _ _ layout.places (λ p.
-      ap (λ (l : List (List ℕ)). index_of l (field_in p q)) (levels_at-append rows r p) ∙ index_of-with_name (levels_at rows p) (field_in p r) (field_in p q) (seen rows p k h)))
+    ap (λ (l : List (List ℕ)). index_of l (field_in p q)) (levels_at-append rows r p) ∙ index_of-with_name (levels_at rows p) (field_in p r) (field_in p q) (seen rows p k h)))
 
 pub rows_in-append : (layout : Layout) (rows : List Record) (r : Record) → rows_in layout (rows ++ r ∷ []) ≡ rows_in layout rows ++ row_in layout (rows ++ r ∷ []) r ∷ []
 unfolding rows_in
@@ -155,10 +155,10 @@ pub new_cell : (layout : Layout) (rows : List Record) (r : Record) (levels : Lis
     list_below (length layout.places) (λ i. index_of (get_or levels i []) (field_in (get_or layout.places i 0) r)) ≡ map (λ place. index_of (levels_at (rows ++ r ∷ []) place) (field_in place r)) layout.places
 new_cell layout rows r levels is =
     list_below-map layout.places _ _ (λ i h.
-      ap (λ (l : List (List ℕ)). index_of l (field_in (get_or layout.places i 0) r))
-      (ap (λ (l : List (List (List ℕ))). get_or l i []) is ∙ get_or-map (levels_at rows) layout.places i [] h)
-      ∙ sym (index_of-with_name_self (levels_at rows (get_or layout.places i 0)) (field_in (get_or layout.places i 0) r))
-      ∙ ap (λ (l : List (List ℕ)). index_of l (field_in (get_or layout.places i 0) r)) (sym (levels_at-append rows r (get_or layout.places i 0))))
+    ap (λ (l : List (List ℕ)). index_of l (field_in (get_or layout.places i 0) r))
+    (ap (λ (l : List (List (List ℕ))). get_or l i []) is ∙ get_or-map (levels_at rows) layout.places i [] h)
+    ∙ sym (index_of-with_name_self (levels_at rows (get_or layout.places i 0)) (field_in (get_or layout.places i 0) r))
+    ∙ ap (λ (l : List (List ℕ)). index_of l (field_in (get_or layout.places i 0) r)) (sym (levels_at-append rows r (get_or layout.places i 0))))
 
 pub row_no_count : (layout : Layout) (before : List Record) (r : Record) → count_of layout.count_place r ≡ None → row_fault (length r) layout before r ≡ Some (Count (length before + 1))
 unfolding row_fault

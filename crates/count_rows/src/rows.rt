@@ -70,7 +70,7 @@ fn read_rows_under(
     ensures { (text : List ℕ) (header : Record) → HasRead text (header ∷ []) reader.old →
         MatchResult result
         (λ t. Holds (layout_from columns.now) (rows_of (records_of text)) t
-            × (or_else (rows_fault (length header) (layout_from columns.now) [] (rows_of (records_of text))) (empty_fault (layout_from columns.now) (rows_of (records_of text))) ≡ None))
+        × (or_else (rows_fault (length header) (layout_from columns.now) [] (rows_of (records_of text))) (empty_fault (layout_from columns.now) (rows_of (records_of text))) ≡ None))
         (Explains (or_else (rows_fault (length header) (layout_from columns.now) [] (rows_of (records_of text))) (empty_fault (layout_from columns.now) (rows_of (records_of text))))) }
 {
     let Ok(mut tally) = Tally::empty(alloc, columns.places.len()) else {

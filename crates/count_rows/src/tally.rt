@@ -5,7 +5,6 @@ ghost use Rattle.count_rows.specs.Records.{Record, field_in, count_of, cell_coun
 ghost use Rattle.count_rows.specs.Rows.{list_below};
 ghost use Rattle.count_rows.specs.Faults.{most_cells, row_fault, Explains};
 
-
 use crate::digits::{MOST, read_count};
 use crate::fault::CountFault;
 use crate::header::field;
@@ -120,14 +119,20 @@ impl Tally {
         ensures row { (rows : List Record) → Holds (layout_from columns.now) rows self.old → number ≡ length rows + 1 →
             MatchResult result
             (λ _. Holds (layout_from columns.now) (rows ++ fields_of row.now ∷ []) self.new
-                × (row_fault (length (fields_of row.now)) (layout_from columns.now) rows (fields_of row.now) ≡ None))
+            × (row_fault (length (fields_of row.now)) (layout_from columns.now) rows (fields_of row.now) ≡ None))
             (Explains (row_fault (length (fields_of row.now)) (layout_from columns.now) rows (fields_of row.now))) }
     {
         let Some(count) = count_in_record(row, columns.count_place) else {
             return Err(CountFault::Count(number));
         };
         let places = columns.places.as_slice();
-        let added = add_fields(alloc, self.levels.as_mut_slice(), &mut self.cells, row, places);
+        let added = add_fields(
+            alloc,
+            self.levels.as_mut_slice(),
+            &mut self.cells,
+            row,
+            places,
+        );
         if added.is_err() {
             return Err(CountFault::NoMemory);
         }

@@ -84,13 +84,14 @@ fn reading(
     Ok(line)
 }
 
-const STONES: &str = "T,S,R,count\nA,small,success,81\nA,small,failure,6\nB,small,success,234\nB,small,failure,36\nA,large,success,192\nA,large,failure,71\nB,large,success,55\nB,large,failure,25\n";
+const STONES: &[u8] =
+    b"T,S,R,count\nA,small,success,81\nA,small,failure,6\nB,small,success,234\nB,small,failure,36\nA,large,success,192\nA,large,failure,71\nB,large,success,55\nB,large,failure,25\n";
 
-/// The text with the first count replaced.
-fn with_first_count(alloc: Global, count: &str) -> Result<String, Fail> {
-    let mut text = String::from_str(alloc, "T,S,R,count\nA,small,success,")?;
-    text.push_str(count)?;
-    text.push_str("\nA,small,failure,6\n")?;
+/// The text with this as the first count.
+fn with_first_count(alloc: Global, count: &[u8]) -> Result<Vec<u8>, Fail> {
+    let mut text = Vec::from_slice(alloc, b"T,S,R,count\nA,small,success,")?;
+    text.extend_from_slice(count)?;
+    text.extend_from_slice(b"\nA,small,failure,6\n")?;
     Ok(text)
 }
 
@@ -98,61 +99,58 @@ fn with_first_count(alloc: Global, count: &str) -> Result<String, Fail> {
 fn texts_are_read(rt: HostRuntime) -> Result<(), Fail> {
     let alloc = rt.alloc();
     let tsr = ["T", "S", "R"];
-    let cases: [(&str, Option<&str>, &str); 13] = [
+    let cases: [(&[u8], Option<&str>, &[u8]); 13] = [
         (
             STONES,
             Some("count"),
-            "A|B; small|large; success|failure; 0 0 0 0 0 1 1 0 0 1 0 1 0 1 0 0 1 1 1 1 0 1 1 1 ; 81 6 234 36 192 71 55 25; 700",
+            b"A|B; small|large; success|failure; 0 0 0 0 0 1 1 0 0 1 0 1 0 1 0 0 1 1 1 1 0 1 1 1 ; 81 6 234 36 192 71 55 25; 700",
         ),
-        (STONES, Some("weight"), "2: weight"),
-        ("T,S,T,R\n", None, "3: T"),
-        ("R,T,R\n", None, "2: S"),
-        ("", None, "2: T"),
-        ("T,S,R\n", None, "7"),
-        ("T,S,R\na,b,c\nd,e\n", None, "1: 2"),
-        ("T,S,R,n\na,b,c,1\na,b,c,\n", Some("n"), "4: 2"),
-        ("T,S,R,n\na,b,c,0\nx,b,c,0\n", Some("n"), "7"),
+        (STONES, Some("weight"), b"2: weight"),
+        (b"T,S,T,R\n", None, b"3: T"),
+        (b"R,T,R\n", None, b"2: S"),
+        (b"", None, b"2: T"),
+        (b"T,S,R\n", None, b"7"),
+        (b"T,S,R\na,b,c\nd,e\n", None, b"1: 2"),
+        (b"T,S,R,n\na,b,c,1\na,b,c,\n", Some("n"), b"4: 2"),
+        (b"T,S,R,n\na,b,c,0\nx,b,c,0\n", Some("n"), b"7"),
         (
-            "S,R,T\r\n\r\n\"a,\"\"b\",\"c\nd\",e\r\n\n\"\",,e\r\n",
+            b"S,R,T\r\n\r\n\"a,\"\"b\",\"c\nd\",e\r\n\n\"\",,e\r\n",
             None,
-            "e; a,\"b|; c\nd|; 0 0 0 0 1 1 ; 1 1; 2",
+            b"e; a,\"b|; c\nd|; 0 0 0 0 1 1 ; 1 1; 2",
         ),
         (
-            "\u{feff}T,S,R\na,b,c\na,b,c",
+            b"\xef\xbb\xbfT,S,R\na,b,c\na,b,c",
             None,
-            "a; b; c; 0 0 0 0 0 0 ; 1 1; 2",
+            b"a; b; c; 0 0 0 0 0 0 ; 1 1; 2",
         ),
-        ("\u{feff}\u{feff}T,S,R\na,b,c\n", None, "2: T"),
+        (b"\xef\xbb\xbf\xef\xbb\xbfT,S,R\na,b,c\n", None, b"2: T"),
         (
-            "R,T,S,R2\n5,6,007,8\n",
+            b"R,T,S,R2\n5,6,007,8\n",
             Some("S"),
-            "6; 007; 5; 0 0 0 ; 7; 7",
+            b"6; 007; 5; 0 0 0 ; 7; 7",
         ),
     ];
     for (text, count, expected) in cases {
-        let line = reading(&rt, alloc, text.as_bytes(), &tsr, count)?;
-        assert!(rt; line.as_str() == expected, "{line:?} is not {expected:?}");
+        let line = reading(&rt, alloc, text, &tsr, count)?;
+        assert!(rt; line.as_bytes() == expected, "{line:?}");
     }
 
-    let counts: [(&str, &str); 7] = [
-        ("x", "4: 1"),
-        ("1000000000000001", "4: 1"),
-        ("1000000000000000", "6"),
-        ("99999999999999999999999999", "4: 1"),
-        ("-1", "4: 1"),
+    let counts: [(&[u8], &[u8]); 7] = [
+        (b"x", b"4: 1"),
+        (b"1000000000000001", b"4: 1"),
+        (b"1000000000000000", b"6"),
+        (b"99999999999999999999999999", b"4: 1"),
+        (b"-1", b"4: 1"),
+        (b"0", b"A; small; success|failure; 0 0 0 0 0 1 ; 0 6; 6"),
         (
-            "0",
-            "A; small; success|failure; 0 0 0 0 0 1 ; 0 6; 6",
-        ),
-        (
-            "999999999999994",
-            "A; small; success|failure; 0 0 0 0 0 1 ; 999999999999994 6; 1000000000000000",
+            b"999999999999994",
+            b"A; small; success|failure; 0 0 0 0 0 1 ; 999999999999994 6; 1000000000000000",
         ),
     ];
     for (count, expected) in counts {
         let text = with_first_count(alloc, count)?;
-        let line = reading(&rt, alloc, text.as_bytes(), &tsr, Some("count"))?;
-        assert!(rt; line.as_str() == expected, "{line:?} is not {expected:?}");
+        let line = reading(&rt, alloc, text.as_slice(), &tsr, Some("count"))?;
+        assert!(rt; line.as_bytes() == expected, "{line:?}");
     }
 
     // Two columns of 1024 levels each are 2^20 cells; one level more is too many.
@@ -161,9 +159,9 @@ fn texts_are_read(rt: HostRuntime) -> Result<(), Fail> {
         text.push_str(format!(in alloc; "a{k},b{k}\n")?.as_str())?;
     }
     let line = reading(&rt, alloc, text.as_bytes(), &["X", "Y"], None)?;
-    assert!(rt; line.as_str().ends_with("; 1024"), "{line:?}");
+    assert!(rt; line.as_bytes().ends_with(b"; 1024"));
     text.push_str("more,b7\n")?;
     let line = reading(&rt, alloc, text.as_bytes(), &["X", "Y"], None)?;
-    assert!(rt; line.as_str() == "5", "{line:?}");
+    assert!(rt; line.as_bytes() == b"5".as_slice());
     Ok(())
 }

@@ -18,10 +18,10 @@ loop-v-preserved c =
     let more = names-more names vertices c.loop-v.v-index c.get.result.now (omega arith) c.get.ensures.name in
     record {
       places =
-        items ∙ ap (λ (l : List ℕ). l ++ c.in-Ok.place ∷ []) c.loop-v.invariant.places
-        ∙ ap (λ k. map (index_of header) (map (name_of names) (take c.loop-v.v-index vertices)) ++ k ∷ []) c.in-Ok.ensures.place
-        ∙ sym (map-append (index_of header) (map (name_of names) (take c.loop-v.v-index vertices)) (c.get.result.now ∷ []))
-        ∙ ap (map (index_of header)) (sym more);
+          items ∙ ap (λ (l : List ℕ). l ++ c.in-Ok.place ∷ []) c.loop-v.invariant.places
+          ∙ ap (λ k. map (index_of header) (map (name_of names) (take c.loop-v.v-index vertices)) ++ k ∷ []) c.in-Ok.ensures.place
+          ∙ sym (map-append (index_of header) (map (name_of names) (take c.loop-v.v-index vertices)) (c.get.result.now ∷ []))
+          ∙ ap (map (index_of header)) (sym more);
       fit = ap (header_fault header) more ∙ header_fault-last header (map (name_of names) (take c.loop-v.v-index vertices)) c.get.result.now c.loop-v.invariant.fit ∙ c.in-Ok.ensures.fit;
     }
 

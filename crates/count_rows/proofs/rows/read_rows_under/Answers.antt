@@ -44,11 +44,15 @@ unfolding StepGives
 loop-number-preserved c = record {
   width = c.add.ensures.width ∙ c.loop-number.invariant.width;
   so_far = λ text header h.
-    let (rows, at, held, fine, number) = c.loop-number.invariant.so_far text header h in
-    let (read, long) = c.in-Record.ensures text (header ∷ rows) at in
-    let (more, fit) = c.in-Ok-add.ensures.row rows held number in
-    let r = fields_of c.read.new.into in
-    let n : c.loop-number.number + 1 ≡ length (rows ++ r ∷ []) + 1 = omega (arith, number, length-append rows (r ∷ [])) in
-    (rows ++ r ∷ [], read, more,
-      rows_fault-last (length header) (layout_from c.args.columns.now) rows r fine ∙ ap (λ w. row_fault w (layout_from c.args.columns.now) rows r) (sym long) ∙ fit, n);
+      let (rows, at, held, fine, number) = c.loop-number.invariant.so_far text header h in
+      let (read, long) = c.in-Record.ensures text (header ∷ rows) at in
+      let (more, fit) = c.in-Ok-add.ensures.row rows held number in
+      let r = fields_of c.read.new.into in
+      let n : c.loop-number.number + 1 ≡ length (rows ++ r ∷ []) + 1 = omega (arith, number, length-append rows (r ∷ [])) in (
+        rows ++ r ∷ [],
+        read,
+        more,
+        rows_fault-last (length header) (layout_from c.args.columns.now) rows r fine ∙ ap (λ w. row_fault w (layout_from c.args.columns.now) rows r) (sym long) ∙ fit,
+        n,
+      );
 }

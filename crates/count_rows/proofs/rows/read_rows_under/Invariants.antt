@@ -10,6 +10,6 @@ abbrev pub invariant-loop-number : goal.invariant-loop-number
 invariant-loop-number l = record {
   width : length l.tally.levels.items ≡ length l.columns.places.items;
   so_far : (text : List ℕ) (header : Record) → HasRead text (header ∷ []) l.fn.reader →
-    (rows : List Record) × HasRead text (header ∷ rows) l.reader × Holds (layout_from l.columns) rows l.tally
-    × (rows_fault (length header) (layout_from l.columns) [] rows ≡ None) × (l.number ≡ length rows + 1);
+      (rows : List Record) × HasRead text (header ∷ rows) l.reader × Holds (layout_from l.columns) rows l.tally
+      × (rows_fault (length header) (layout_from l.columns) [] rows ≡ None) × (l.number ≡ length rows + 1);
 }
