@@ -1,9 +1,9 @@
 -- What a reader's step says of the records of a text.
-use Rattle.std.proofs.Common.{ℕ, zero, suc, ◌≡◌, ◌≢◌, ◌+◌, Bool, true, false, List, [], ◌∷◌, ◌++◌, length, Option, Some, None, refl, sym, ap, ◌∙◌, subst, Bor, inl, inr}
+use Rattle.std.proofs.Common.{ℕ, ◌≡◌, ◌≢◌, ◌+◌, true, false, List, [], ◌∷◌, ◌++◌, length, Option, Some, None, refl, sym, ap, ◌∙◌, subst, Bor, inl}
 use Rattle.std.proofs.lemmas.List.{append-nil}
 use Rattle.std.specs.Prelude.{IfSome, IsSomeAnd}
 use Rattle.csv.specs.Machine.{Read, next_record}
-use Rattle.csv.specs.Reading.{Reached, Ready, ReadsNext, NextIs, ReadRecord, ExplainsRead, default_config, records_from, strip_bom, source_of, pending_of, is_flexible}
+use Rattle.csv.specs.Reading.{ReadsNext, NextIs, ReadRecord, ExplainsRead, default_config, records_from, strip_bom, pending_of, is_flexible}
 use Rattle.csv.specs.declared.parser.Config.{Config}
 use Rattle.csv.specs.declared.parser.State.{State}
 use Rattle.csv.specs.declared.parser.State.TheVariants as st
@@ -13,7 +13,6 @@ use Rattle.csv.specs.declared.error.ErrorKind.TheVariants as kind
 use Rattle.csv.proofs.ReadFacts.{rows-more, rows-end}
 use Rattle.count_rows.specs.Records.{Record, records_of}
 use Rattle.count_rows.specs.Reader.{HasRead, StepGives, width_of, failure_of}
-use Rattle.count_rows.specs.declared.reader.Step.{Step}
 use Rattle.count_rows.specs.declared.reader.Step.TheVariants as step
 use Rattle.count_rows.proofs.Cutting.{read_first, none_left, some_left}
 

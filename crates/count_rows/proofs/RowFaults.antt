@@ -1,5 +1,5 @@
 -- The first fault of the rows.
-use Rattle.std.proofs.Common.{◌≡◌, ◌≢◌, ℕ, zero, suc, ◌+◌, ◌<◌, ◌≤◌, Bool, true, false, cond, not, ◌==◌, List, [], ◌∷◌, ◌++◌, length, refl, ap, sym, ◌∙◌, arith, subst, Option, Some, None, Result, Ok, Err, Bor}
+use Rattle.std.proofs.Common.{◌≡◌, ◌≢◌, ℕ, ◌+◌, ◌<◌, cond, List, [], ◌∷◌, ◌++◌, length, refl, ap, sym, ◌∙◌, arith, subst, Option, Some, None, Result, Ok, Err, Bor}
 use Rattle.std.specs.Prelude.{IfOk, IfErr, MatchResult, map, slice_get}
 use Rattle.std.specs.Option.{option_to_list}
 use Rattle.std.proofs.Common.{get_or}
@@ -9,10 +9,10 @@ use Rattle.std.proofs.lemmas.Bool.{ne_eqb, eq-eqb}
 use Rattle.std.proofs.lemmas.List.{append_assoc, append-nil}
 use Rattle.csv.specs.declared.reader.Reader.{Reader}
 use Rattle.count_rows.specs.declared.fault.CountFault.{CountFault}
-use Rattle.count_rows.specs.declared.fault.CountFault.TheVariants.{NotCsv, NoColumn, NoRows, NoMemory}
+use Rattle.count_rows.specs.declared.fault.CountFault.TheVariants.{NotCsv, NoColumn, NoRows}
 use Rattle.count_rows.specs.declared.tally.Tally.{Tally}
 use Rattle.count_rows.specs.Records.{Record, Layout, records_of, header_of, rows_of, layout_of, sum_of}
-use Rattle.count_rows.specs.Faults.{or_else, row_fault, rows_fault, empty_fault, records_fault, header_fault, name_fault, Explains}
+use Rattle.count_rows.specs.Faults.{or_else, row_fault, rows_fault, empty_fault, records_fault, header_fault, Explains}
 use Rattle.count_rows.specs.Reader.{HasRead}
 use Rattle.count_rows.specs.Tally.{Holds}
 use Rattle.count_rows.proofs.ReadingSteps.{split}

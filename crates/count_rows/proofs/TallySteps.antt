@@ -1,14 +1,13 @@
 -- One more row in a table of counts.
-use Rattle.std.proofs.Common.{◌≡◌, ◌≢◌, ℕ, zero, suc, ◌+◌, ◌*◌, ◌-◌, ◌^◌, ◌<◌, ◌≤◌, Bool, true, false, cond, not, ◌==◌, leb, List, [], ◌∷◌, ◌++◌, length, take, drop, get_or, drop-cons, inl, inr, refl, ap, ap₂, sym, ◌∙◌, arith, subst, Option, Some, None, set}
-use Rattle.std.specs.Prelude.{replicate, map, fold, sum_by, unwrap_or, is_none, nat_le}
+use Rattle.std.proofs.Common.{◌≡◌, ℕ, zero, suc, ◌+◌, ◌*◌, ◌^◌, ◌<◌, ◌≤◌, true, false, not, List, [], ◌∷◌, ◌++◌, length, take, drop, get_or, drop-cons, inl, inr, refl, ap, ap₂, sym, ◌∙◌, arith, Option, Some, None, set}
+use Rattle.std.specs.Prelude.{replicate, map, fold, unwrap_or, nat_le}
 use Rattle.std.specs.List.{flat_map}
 use Rattle.std.proofs.lemmas.List.Concat.{flat_map-append}
-use Rattle.std.proofs.lemmas.Bool.{cases_Bool, cases_eq, eq-eqb, ne_eqb, le-leb, lt-leb}
-use Rattle.std.proofs.lemmas.List.{map-append, take_more, get_or-set_same, get_or-set_other, get_or_default, append_assoc, append-nil, length-map}
+use Rattle.std.proofs.lemmas.Bool.{cases_eq, eq-eqb, le-leb, lt-leb}
+use Rattle.std.proofs.lemmas.List.{map-append, take_more, get_or-set_same, get_or-set_other, append_assoc, append-nil, length-map}
 use Rattle.std.proofs.lemmas.List.Sums.{sum_by_push}
 use Rattle.std.proofs.Math.Nat.{one-le-mul, le-mul_of_pos_right, mul_assoc}
 use Rattle.mixed_graph.specs.Names.{index_of, is_named, with_name}
-use Rattle.count_rows.specs.declared.fault.CountFault.{CountFault}
 use Rattle.count_rows.specs.declared.fault.CountFault.TheVariants.{Count, TooLarge, SumTooLarge}
 use Rattle.count_rows.specs.declared.tally.Tally.{Tally}
 use Rattle.count_rows.specs.Tally.{Holds}

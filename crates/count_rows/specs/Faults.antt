@@ -1,5 +1,5 @@
 -- Why a text gives no counts: the first fault, of the header before the rows, and of the rows before their sum.
-use Rattle.std.specs.Prelude.{ℕ, ◌+◌, ◌^◌, List, [], ◌∷◌, ◌++◌, length, map, count_by, Bool, ◌==◌, nat_le, ◌≡◌, ◌≢◌, not, if◌then◌else◌, is_none, Option, Some, None}
+use Rattle.std.specs.Prelude.{ℕ, ◌+◌, ◌^◌, List, [], ◌∷◌, ◌++◌, length, map, count_by, ◌==◌, nat_le, ◌≡◌, ◌≢◌, not, if◌then◌else◌, is_none, Option, Some, None}
 use Rattle.std.specs.Option.{option_to_list}
 use Rattle.std.specs.Str.{bytes_eq}
 use Rattle.mixed_graph.specs.Bits.{has, members_below}

@@ -1,5 +1,5 @@
 -- The numbers in a column of counts.
-use Rattle.std.specs.Prelude.{ℕ, ◌+◌, ◌*◌, ◌-◌, ◌^◌, List, [], ◌∷◌, Bool, ◌&&◌, not, cond, nat_le, Option, Some, None}
+use Rattle.std.specs.Prelude.{ℕ, ◌+◌, ◌*◌, ◌-◌, ◌^◌, List, [], ◌∷◌, Bool, ◌&&◌, cond, nat_le, Option, Some, None}
 use Rattle.std.specs.List.{list_all}
 
 -- the most that the counts of a table may come to

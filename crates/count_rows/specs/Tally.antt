@@ -1,5 +1,5 @@
 -- What was read of the rows so far.
-use Rattle.std.specs.Prelude.{ℕ, ◌≡◌, List, []}
+use Rattle.std.specs.Prelude.{◌≡◌, List}
 use Rattle.std.specs.List.{flat_map}
 use Rattle.std.specs.Prelude.{map}
 use Rattle.count_rows.specs.declared.tally.Tally.{Tally}

@@ -1,6 +1,5 @@
-use Rattle.std.specs.List.{list_all}
 use Rattle.std.proofs.Common.{ℕ, suc, ◌≡◌, ◌+◌, ◌-◌, ◌*◌, ◌<◌, ◌≤◌, ◌∙◌, ap, sym, subst, arith, List, ◌∷◌, drop, length, get_or, drop-cons}
-use Rattle.count_rows.specs.Numbers.{is_digit, value_after, most_counted}
+use Rattle.count_rows.specs.Numbers.{value_after, most_counted}
 use Rattle.count_rows.proofs.DecimalSteps.{digits_step, value_over}
 use Rattle.count_rows.proofs.digits.read_count.Invariants.{IsRead}
 use Rattle.count_rows.proofs.digits.read_count.Goals as goal

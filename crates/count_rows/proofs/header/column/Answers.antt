@@ -1,6 +1,4 @@
-use Rattle.std.proofs.Common.{◌≡◌, ◌∙◌, ◌+◌, ◌<◌, ◌≤◌, length, drop, arith, sym, ap, Bool, true, false, List, ℕ, length-drop}
-use Rattle.std.specs.Str.{bytes_eq}
-use Rattle.std.specs.List.{position_or_len}
+use Rattle.std.proofs.Common.{◌∙◌, ◌+◌, arith, length-drop}
 use Rattle.csv.specs.Records.{fields_of}
 use Rattle.count_rows.proofs.HeaderSteps.{absent, once, twice}
 use Rattle.count_rows.proofs.header.column.Goals as goal

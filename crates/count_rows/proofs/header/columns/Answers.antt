@@ -1,4 +1,4 @@
-use Rattle.std.proofs.Common.{◌≡◌, ◌∙◌, ◌+◌, ◌<◌, length, take, arith, sym, ap, rules, true, List, ℕ, [], ◌∷◌, ◌++◌, map, get_or, refl}
+use Rattle.std.proofs.Common.{◌≡◌, ◌∙◌, take, arith, sym, ap, rules, true, List, ℕ, [], ◌∷◌, ◌++◌, map}
 use Rattle.std.specs.Prelude.{is_ok}
 use Rattle.std.proofs.lemmas.List.{map-append}
 use Rattle.csv.specs.Records.{fields_of}

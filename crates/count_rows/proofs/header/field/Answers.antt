@@ -1,4 +1,4 @@
-use Rattle.std.proofs.Common.{ℕ, Some, None, sym}
+use Rattle.std.proofs.Common.{sym}
 use Rattle.csv.proofs.RecordFacts.{field-get}
 use Rattle.csv.specs.Records.{fields_of}
 use Rattle.count_rows.proofs.HeaderSteps.{no_field}

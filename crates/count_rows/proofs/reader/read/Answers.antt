@@ -1,8 +1,5 @@
-use Rattle.std.proofs.Common.{◌≡◌, true, false, subst, sym, refl, ◌∙◌, Bool, Bor, List, ℕ, Some}
-use Rattle.csv.specs.Reading.{ReadRecord}
 use Rattle.csv.specs.Records.{fields_of}
 use Rattle.count_rows.proofs.ReadingSteps.{another, all_read, failed}
-use Rattle.count_rows.specs.Reader.{StepGives}
 use Rattle.count_rows.proofs.reader.read.Goals as goal
 
 pub returns-in-Ok-true : goal.returns-in-Ok-true

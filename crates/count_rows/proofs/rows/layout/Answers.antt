@@ -1,4 +1,4 @@
-use Rattle.std.proofs.Common.{◌≡◌, ◌∙◌, sym, ap, refl, List, ℕ, [], ◌∷◌, ◌++◌, map, Option, Some, Bor}
+use Rattle.std.proofs.Common.{◌∙◌, ap, List, ℕ, ◌++◌, map, Option, Bor}
 use Rattle.std.specs.Prelude.{option_map}
 use Rattle.std.specs.Option.{option_to_list}
 use Rattle.csv.specs.Records.{fields_of}

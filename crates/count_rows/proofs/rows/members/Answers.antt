@@ -1,6 +1,6 @@
-use Rattle.std.proofs.Common.{◌≡◌, ◌∙◌, ◌+◌, sym, ap, List, ℕ, [], ◌∷◌, ◌++◌}
+use Rattle.std.proofs.Common.{◌∙◌, sym, ap, List, ℕ, [], ◌∷◌, ◌++◌}
 use Rattle.std.specs.Global.{Vec}
-use Rattle.mixed_graph.specs.Bits.{has, members_below}
+use Rattle.mixed_graph.specs.Bits.{has}
 use Rattle.count_rows.proofs.MemberLists.{members-nil, members-in, members-out}
 use Rattle.count_rows.proofs.rows.members.Goals as goal
 use Rattle.count_rows.proofs.rows.members.Goals.{then-has+in_ok-push, else-has}

@@ -1,12 +1,5 @@
-use Rattle.std.proofs.Common.{◌≡◌, ◌∙◌, ◌<◌, sym, ap, subst, length, List, ℕ, arith}
-use Rattle.std.specs.Prelude.{All, map}
+use Rattle.std.proofs.Common.{◌≡◌, ◌∙◌, length, arith}
 use Rattle.mixed_graph.specs.Bits.{has, members_below}
-use Rattle.mixed_graph.specs.Names.{name_of}
-use Rattle.count_rows.specs.declared.fault.CountFault.{CountFault}
-use Rattle.count_rows.specs.declared.tally.Tally.{Tally}
-use Rattle.count_rows.specs.Records.{records_of, header_of, rows_of, layout_of}
-use Rattle.count_rows.specs.Faults.{records_fault, Explains}
-use Rattle.count_rows.specs.Tally.{Holds}
 use Rattle.count_rows.proofs.MemberLists.{members-all, members-pos}
 use Rattle.count_rows.proofs.rows.read_rows.Goals as goal
 

@@ -1,12 +1,10 @@
-use Rattle.std.proofs.Common.{◌≡◌, ◌∙◌, ◌<◌, sym, ap, refl, subst, arith, List, ℕ, [], ◌∷◌, map, Option, Some, None, Bor, get_or}
-use Rattle.std.specs.Prelude.{option_map, slice_get, IfOk, IfErr}
-use Rattle.std.proofs.lemmas.List.{get_or_default}
+use Rattle.std.proofs.Common.{◌≡◌, ◌∙◌, sym, ap, subst, List, ℕ, [], map, Bor}
+use Rattle.std.specs.Prelude.{option_map}
 use Rattle.csv.specs.Records.{fields_of}
 use Rattle.mixed_graph.specs.Names.{name_of}
 use Rattle.count_rows.specs.declared.fault.CountFault.{CountFault}
 use Rattle.count_rows.specs.declared.tally.Tally.{Tally}
 use Rattle.count_rows.specs.Records.{Record, Layout, records_of, rows_of, header_of, layout_of}
-use Rattle.count_rows.specs.Faults.{records_fault, rows_fault, empty_fault, or_else, Explains}
 use Rattle.count_rows.specs.Reader.{StepGives}
 use Rattle.count_rows.specs.Tally.{layout_from, Holds}
 use Rattle.count_rows.proofs.RowFaults.{no_header, bad_header, good_header, header_first, when_ok, when_err, ok_both, err_both}

@@ -1,11 +1,9 @@
-use Rattle.std.proofs.Common.{◌≡◌, ◌∙◌, ◌+◌, sym, ap, refl, arith, rules, List, ℕ, [], ◌∷◌, ◌++◌, Option, Some, replicate, length, length-append}
+use Rattle.std.proofs.Common.{◌≡◌, ◌∙◌, ◌+◌, sym, ap, refl, arith, List, ℕ, [], ◌∷◌, ◌++◌, Some, replicate, length, length-append}
 use Rattle.csv.specs.Records.{fields_of}
-use Rattle.count_rows.specs.declared.fault.CountFault.{CountFault}
 use Rattle.count_rows.specs.declared.fault.CountFault.TheVariants.{NotCsv}
-use Rattle.count_rows.specs.Records.{Record}
 use Rattle.count_rows.specs.Faults.{row_fault}
-use Rattle.count_rows.specs.Reader.{StepGives, HasRead}
-use Rattle.count_rows.specs.Tally.{layout_from, Holds}
+use Rattle.count_rows.specs.Reader.{StepGives}
+use Rattle.count_rows.specs.Tally.{layout_from}
 use Rattle.count_rows.proofs.RowFaults.{ended, row_refused, row_too_long, rows_fault-nil, rows_fault-last}
 use Rattle.count_rows.proofs.TallySteps.{holds-nil, length-replicate}
 use Rattle.count_rows.proofs.rows.read_rows_under.Goals as goal

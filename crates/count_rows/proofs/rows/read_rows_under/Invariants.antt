@@ -1,6 +1,5 @@
 use Rattle.std.proofs.Common.{ℕ, ◌≡◌, ◌∷◌, ◌+◌, [], List, None, length}
-use Rattle.count_rows.specs.declared.tally.Tally.{Tally}
-use Rattle.count_rows.specs.Records.{Record, Layout}
+use Rattle.count_rows.specs.Records.{Record}
 use Rattle.count_rows.specs.Faults.{rows_fault}
 use Rattle.count_rows.specs.Reader.{HasRead}
 use Rattle.count_rows.specs.Tally.{layout_from, Holds}

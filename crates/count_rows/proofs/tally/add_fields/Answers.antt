@@ -1,9 +1,7 @@
-use Rattle.std.proofs.Common.{◌≡◌, ◌∙◌, ◌+◌, ◌<◌, length, arith, sym, ap, rules, true, List, ℕ, [], ◌∷◌, ◌++◌, get_or, refl, suc}
-use Rattle.std.specs.Prelude.{is_ok}
+use Rattle.std.proofs.Common.{◌≡◌, ◌∙◌, arith, ap, List, ℕ, [], get_or}
 use Rattle.csv.specs.Records.{fields_of}
 use Rattle.mixed_graph.specs.Names.{with_name, index_of}
 use Rattle.count_rows.specs.Records.{field_in}
-use Rattle.count_rows.specs.Rows.{list_below}
 use Rattle.count_rows.proofs.TallySteps.{written_here, cells_more}
 use Rattle.std.proofs.lemmas.List.{get_or-set_other, get_or_default}
 use Rattle.count_rows.proofs.tally.add_fields.Goals as goal

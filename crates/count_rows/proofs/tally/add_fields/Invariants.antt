@@ -1,4 +1,4 @@
-use Rattle.std.proofs.Common.{◌≡◌, ◌<◌, ◌≤◌, ◌++◌, ℕ, [], length, get_or}
+use Rattle.std.proofs.Common.{◌≡◌, ◌<◌, ◌≤◌, ◌++◌, ℕ, [], get_or}
 use Rattle.csv.specs.Records.{fields_of}
 use Rattle.mixed_graph.specs.Names.{with_name, index_of}
 use Rattle.count_rows.specs.Records.{field_in}

@@ -1,4 +1,4 @@
-use Rattle.std.proofs.Common.{◌≡◌, ◌∙◌, ◌+◌, ◌<◌, length, arith, sym, ap, rules, true, List, ℕ, [], ◌∷◌, ◌++◌, get_or, refl, suc, subst, ◌*◌, ◌^◌}
+use Rattle.std.proofs.Common.{◌∙◌, ◌<◌, length, arith, ap, List, ℕ, [], subst, ◌*◌, ◌^◌}
 use Rattle.std.proofs.lemmas.List.{get_or_default}
 use Rattle.count_rows.proofs.TallySteps.{too_many}
 use Rattle.count_rows.proofs.tally.is_too_large.Goals as goal

@@ -1,4 +1,4 @@
-use Rattle.std.proofs.Common.{◌≡◌, ◌<◌, ◌≤◌, ◌*◌, ◌^◌, drop}
+use Rattle.std.proofs.Common.{◌≡◌, ◌≤◌, ◌*◌, ◌^◌, drop}
 use Rattle.count_rows.specs.Records.{cell_count}
 use Rattle.count_rows.proofs.tally.is_too_large.Given as goal
 

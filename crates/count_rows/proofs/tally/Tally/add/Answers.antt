@@ -1,14 +1,13 @@
-use Rattle.std.proofs.Common.{◌≡◌, ◌∙◌, ◌+◌, ◌<◌, ◌≤◌, length, arith, sym, ap, rules, true, false, List, ℕ, [], ◌∷◌, ◌++◌, Some, refl, subst}
-use Rattle.std.specs.Prelude.{is_ok, is_err, Option, not, nat_le}
+use Rattle.std.proofs.Common.{◌≡◌, ◌∙◌, ◌+◌, arith, sym, ap, rules, true, List, ℕ, Some}
+use Rattle.std.specs.Prelude.{is_ok, not, nat_le}
 use Rattle.std.specs.Vec.{with_items}
 use Rattle.std.proofs.lemmas.List.{with_items_is}
 use Rattle.csv.specs.Records.{fields_of}
 use Rattle.csv.proofs.ReadFacts.{on-ok}
-use Rattle.count_rows.specs.declared.fault.CountFault.{CountFault}
 use Rattle.count_rows.specs.declared.fault.CountFault.TheVariants.{Count}
-use Rattle.count_rows.specs.Records.{count_of, cell_count}
+use Rattle.count_rows.specs.Records.{cell_count}
 use Rattle.count_rows.specs.Faults.{most_cells}
-use Rattle.count_rows.specs.Tally.{layout_from, Holds}
+use Rattle.count_rows.specs.Tally.{layout_from}
 use Rattle.count_rows.proofs.TallySteps.{row_no_count, row_too_large, row_too_much, row_fits, levels_grown, cells_held, counts_held, sum_of-append}
 use Rattle.count_rows.proofs.tally.Tally.add.Goals as goal
 

@@ -1,4 +1,4 @@
-use Rattle.std.proofs.Common.{◌≡◌, [], replicate, ℕ, List}
+use Rattle.std.proofs.Common.{◌≡◌, [], replicate}
 use Rattle.count_rows.proofs.tally.Tally.empty.Given as goal
 
 abbrev pub invariant-loop : goal.invariant-loop
