@@ -1,0 +1,94 @@
+ghost use Rattle.std.specs.Prelude.{◌≡◌, ◌<◌, List, ℕ, [], ◌∷◌, ◌++◌, false, is_some, length, OnOk, OnErr, IfOk, IfSome, slice_get};
+ghost use Rattle.mixed_graph.specs.Names.{with_name, index_of, is_named, texts};
+ghost use Rattle.count_rows.specs.Levels.{AreLevels};
+
+use indexmap::IndexSet;
+use std::alloc::{AllocError, Global};
+use std::marker::Model;
+
+/// The levels of a vertex, in order of first appearance: no two are equal.
+///
+/// Contracts see the list of the levels, each as its bytes.
+#[derive(Drop)]
+pub struct Levels {
+    set: IndexSet<Vec<u8>>,
+}
+
+impl Model for Levels {
+    ghost use Rattle.std.specs.Prelude.{List, ℕ};
+    ghost use Rattle.mixed_graph.specs.Names.{texts};
+    ghost use Rattle.count_rows.specs.Levels.{AreLevels};
+
+    ghost Value = { List (List ℕ) };
+
+    ghost view = { λ s. texts s.set.keys };
+
+    ghost invariant = { λ s. AreLevels (texts s.set.keys) };
+}
+
+impl Levels {
+    /// No level.
+    pub fn empty(alloc: Global) -> Levels
+        ensures { result ≡ [] }
+    {
+        Levels {
+            set: IndexSet::new(alloc),
+        }
+    }
+
+    /// The number of levels.
+    pub fn count(&self) -> u32
+        ensures count { result ≡ length self.now }
+        ensures levels { AreLevels self.now }
+    {
+        self.set.len() as u32
+    }
+
+    /// The level with the number k.
+    pub fn get(&self, k: u32) -> &[u8]
+        requires { k < length self.now }
+        ensures { slice_get self.now k ≡ Some result.now }
+    {
+        match self.set.get_index(k as usize) {
+            Some(level) => level.as_slice(),
+            None => unreachable!(),
+        }
+    }
+
+    /// The number of a level, which is added last if it is new.
+    pub fn add(&mut self, alloc: Global, level: &[u8]) -> Result<u32, AllocError>
+        ensures added { OnOk result (self.new ≡ with_name self.old level.now) }
+        ensures number { IfOk result (λ k. k ≡ index_of self.old level.now) }
+        ensures within { IfOk result (λ k. k < length self.new) }
+    {
+        let number = self.set.len();
+        if let Some(number) = place(&self.set, level) {
+            return Ok(number as u32);
+        }
+        // Numbers have 32 bits. So many levels are far beyond what a table may have.
+        if number >= u32::MAX as usize {
+            return Err(AllocError);
+        }
+        put(alloc, &mut self.set, level)?;
+        Ok(number as u32)
+    }
+}
+
+/// Where a level is.
+fn place(set: &IndexSet<Vec<u8>>, level: &[u8]) -> Option<usize>
+    ensures found { IfSome result (λ i. (i ≡ index_of (texts set.now.keys) level.now) × (i < length set.now.keys)) }
+    ensures has { is_some result ≡ is_named (texts set.now.keys) level.now }
+{
+    set.get_index_of(level)
+}
+
+/// Adds a level that isn't there.
+fn put(alloc: Global, set: &mut IndexSet<Vec<u8>>, level: &[u8]) -> Result<(), AllocError>
+    requires { is_named (texts set.old.keys) level.now ≡ false }
+    ensures ok { OnOk result (texts set.new.keys ≡ texts set.old.keys ++ level.now ∷ []) }
+    ensures err { OnErr result (set.new.keys ≡ set.old.keys) }
+{
+    let owned = Vec::from_slice(alloc, level)?;
+    set.insert(owned)?;
+    Ok(())
+}

@@ -1,0 +1,17 @@
+//! The rows that are counted in a text of CSV: the levels of each used vertex, and each record as a row with its count.
+#![tactic(auto)]
+
+mod digits;
+mod fault;
+mod header;
+mod levels;
+mod reader;
+mod rows;
+mod tally;
+#[cfg(test)]
+mod tests;
+
+pub use fault::CountFault;
+pub use levels::Levels;
+pub use rows::read_rows;
+pub use tally::Tally;

@@ -1,0 +1,161 @@
+ghost use Rattle.std.specs.Prelude.{ℕ, ◌≡◌, ◌<◌, ◌++◌, ◌∷◌, [], List, None, All, IfOk, IfErr, MatchResult, length, map, option_map};
+ghost use Rattle.std.specs.Option.{option_to_list};
+ghost use Rattle.csv.specs.Records.{fields_of};
+ghost use Rattle.mixed_graph.specs.Names.{name_of, index_of};
+ghost use Rattle.count_rows.specs.Records.{Record, records_of, header_of, rows_of, layout_of};
+ghost use Rattle.count_rows.specs.Faults.{name_fault, header_fault, rows_fault, empty_fault, or_else, records_fault, used_names, Explains};
+ghost use Rattle.mixed_graph.specs.Bits.{has, members_below};
+ghost use Rattle.mixed_graph.specs.Sets.{Within};
+ghost use Rattle.count_rows.specs.Reader.{HasRead};
+ghost use Rattle.count_rows.specs.Tally.{layout_from, Holds};
+
+use crate::fault::CountFault;
+use crate::header::{column, columns, no_column};
+use crate::reader::{Step, open, read};
+use crate::tally::{Columns, Tally};
+use csv::{ByteRecord, Reader};
+use mixed_graph::{Names, VSet};
+use std::alloc::{AllocError, Global};
+
+/// Where the records have the used vertices and the counts.
+fn layout(
+    alloc: Global,
+    header: &ByteRecord,
+    names: &Names,
+    vertices: &[u8],
+    count_column: Option<&[u8]>,
+) -> Result<Columns, CountFault>
+    requires { All (λ v. v < length names.now) vertices.now }
+    ensures layout { IfOk result (λ c. layout_from c
+        ≡ layout_of (fields_of header.now) (map (name_of names.now) vertices.now) (option_map (λ s. s.now) count_column.entry)) }
+    ensures fit { IfOk result (λ c. header_fault (fields_of header.now) (map (name_of names.now) vertices.now ++ option_to_list (option_map (λ s. s.now) count_column.entry)) ≡ None) }
+    ensures fault { IfErr result (Explains (header_fault (fields_of header.now) (map (name_of names.now) vertices.now ++ option_to_list (option_map (λ s. s.now) count_column.entry)))) }
+{
+    let places = match columns(alloc, header, names, vertices) {
+        Ok(places) => places,
+        Err(fault) => return Err(fault),
+    };
+    let Some(name) = count_column else {
+        return Ok(Columns {
+            places,
+            count_place: None,
+        });
+    };
+    match column(alloc, header, name) {
+        Ok(place) => Ok(Columns {
+            places,
+            count_place: Some(place),
+        }),
+        Err(fault) => Err(fault),
+    }
+}
+
+/// The rows, unless the sum of their counts is 0.
+fn finished(tally: Tally) -> Result<Tally, CountFault>
+    ensures ok { IfOk result (λ t. (t ≡ tally) × (0 < tally.sum)) }
+    ensures empty { IfErr result (λ f. (f ≡ CountFault.NoRows) × (tally.sum ≡ 0)) }
+{
+    if tally.sum == 0 {
+        return Err(CountFault::NoRows);
+    }
+    Ok(tally)
+}
+
+/// Reads the rows under a header.
+fn read_rows_under(
+    alloc: Global,
+    reader: &mut Reader<&[u8]>,
+    columns: &Columns,
+) -> Result<Tally, CountFault>
+    ensures { (text : List ℕ) (header : Record) → HasRead text (header ∷ []) reader.old →
+        MatchResult result
+        (λ t. Holds (layout_from columns.now) (rows_of (records_of text)) t
+        × (or_else (rows_fault (length header) (layout_from columns.now) [] (rows_of (records_of text))) (empty_fault (layout_from columns.now) (rows_of (records_of text))) ≡ None))
+        (Explains (or_else (rows_fault (length header) (layout_from columns.now) [] (rows_of (records_of text))) (empty_fault (layout_from columns.now) (rows_of (records_of text))))) }
+{
+    let Ok(mut tally) = Tally::empty(alloc, columns.places.len()) else {
+        return Err(CountFault::NoMemory);
+    };
+    let mut row = ByteRecord::new(alloc);
+    for number in 1..u64::MAX {
+        match read(reader, &mut row) {
+            Step::Record => {}
+            Step::End => return finished(tally),
+            Step::OtherLength => return Err(CountFault::NotCsv(number)),
+            Step::NoMemory => return Err(CountFault::NoMemory),
+        }
+        match tally.add(alloc, &row, number, columns) {
+            Ok(()) => {}
+            Err(fault) => return Err(fault),
+        }
+    }
+    // So many records don't fit in memory.
+    Err(CountFault::NoMemory)
+}
+
+/// Reads the rows of the vertices.
+fn read_rows_of(
+    alloc: Global,
+    text: &[u8],
+    names: &Names,
+    vertices: &[u8],
+    count_column: Option<&[u8]>,
+) -> Result<Tally, CountFault>
+    requires some { 0 < length vertices.now }
+    requires named { All (λ v. v < length names.now) vertices.now }
+    ensures rows { IfOk result (λ t. Holds (layout_of (header_of (records_of text.now)) (map (name_of names.now) vertices.now) (option_map (λ s. s.now) count_column.entry))
+        (rows_of (records_of text.now)) t) }
+    ensures fit { IfOk result (λ t. records_fault (records_of text.now) (map (name_of names.now) vertices.now) (option_map (λ s. s.now) count_column.entry) ≡ None) }
+    ensures fault { IfErr result (Explains (records_fault (records_of text.now) (map (name_of names.now) vertices.now) (option_map (λ s. s.now) count_column.entry))) }
+{
+    let mut reader = open(alloc, text);
+    let mut header = ByteRecord::new(alloc);
+    match read(&mut reader, &mut header) {
+        Step::Record => {}
+        Step::End => return Err(no_column(alloc, names.get(vertices[0]))),
+        Step::OtherLength | Step::NoMemory => return Err(CountFault::NoMemory),
+    }
+    let columns = match layout(alloc, &header, names, vertices, count_column) {
+        Ok(columns) => columns,
+        Err(fault) => return Err(fault),
+    };
+    read_rows_under(alloc, &mut reader, &columns)
+}
+
+/// The members of a set, in ascending order.
+fn members(alloc: Global, set: VSet) -> Result<Vec<u8>, AllocError>
+    ensures { IfOk result (λ list. list.items ≡ members_below (has set.bits) 64) }
+{
+    let mut list = Vec::new(alloc);
+    for v in 0..64 {
+        if set.has(v) {
+            list.push(v)?;
+        }
+    }
+    Ok(list)
+}
+
+/// Reads the rows of a text of CSV: the levels of the vertices, and each record as a row.
+///
+/// The first record is the header, whose fields name the columns; a text without a record has a header without fields.
+/// Without a column of counts each record counts 1. Other columns are ignored. A byte order mark at the start is dropped.
+/// The fault is the first one: of the header, name by name, then of the rows in order, then of their sum.
+pub fn read_rows(
+    alloc: Global,
+    text: &[u8],
+    names: &Names,
+    used: VSet,
+    count_column: Option<&[u8]>,
+) -> Result<Tally, CountFault>
+    requires some { 0 < used.bits }
+    requires named { Within (length names.now) (has used.bits) }
+    ensures rows { IfOk result (λ t. Holds (layout_of (header_of (records_of text.now)) (used_names names.now used.bits) (option_map (λ s. s.now) count_column.entry))
+        (rows_of (records_of text.now)) t) }
+    ensures fit { IfOk result (λ t. records_fault (records_of text.now) (used_names names.now used.bits) (option_map (λ s. s.now) count_column.entry) ≡ None) }
+    ensures fault { IfErr result (Explains (records_fault (records_of text.now) (used_names names.now used.bits) (option_map (λ s. s.now) count_column.entry))) }
+{
+    let Ok(vertices) = members(alloc, used) else {
+        return Err(CountFault::NoMemory);
+    };
+    read_rows_of(alloc, text, names, vertices.as_slice(), count_column)
+}
