@@ -1,7 +1,10 @@
+pub mod Accepted
 pub mod Boxes
-pub mod TermSets
-pub mod TermLaws
-pub mod ValueLaws
-pub mod Products
-pub mod TreeTerms
+pub mod Exact
 pub mod Keeps
+pub mod Preserved
+pub mod Products
+pub mod TermLaws
+pub mod TermSets
+pub mod TreeTerms
+pub mod ValueLaws

@@ -1,6 +1,7 @@
 pub mod Accepts
 pub mod Plans
 pub mod Shapes
+pub mod Sound
 pub mod Steps
 pub mod Table
 pub mod View

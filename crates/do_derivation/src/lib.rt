@@ -2,7 +2,9 @@
 #![tactic(auto)]
 
 mod faults;
+mod sound;
 mod steps;
 
 pub use faults::{ApplyFault, CheckFault, StepFault, StepPlace};
+pub use sound::laws;
 pub use steps::{Derivation, Lemma, Step};
