@@ -1,6 +1,9 @@
 pub mod Check
 pub mod Free
+pub mod Laws
+pub mod Listed
 pub mod Masks
+pub mod Same
 pub mod Terms
 pub mod Tree
 pub mod Values

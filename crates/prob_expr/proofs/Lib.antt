@@ -1,0 +1,7 @@
+pub mod Boxes
+mod FreeSteps
+pub mod MaskLaws
+pub mod Observed
+mod SameTrees
+pub mod ValueLaws
+pub mod Views
