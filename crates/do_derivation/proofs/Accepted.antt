@@ -18,7 +18,7 @@ use Rattle.do_derivation.specs.Plans.{PlainLemma, PlainDerivation}
 use Rattle.do_derivation.specs.Sound.{AcceptedIsEffect, StepKeepsValue}
 use Rattle.do_derivation.proofs.TermSets.{IsTerm, minus_left, minus_taken, term_from, term_filled}
 use Rattle.do_derivation.proofs.TreeTerms.{terms_of}
-use Rattle.do_derivation.proofs.ValueLaws
+use Rattle.prob_expr.proofs.ValueLaws.{ArePositive, next_positive}
 use Rattle.do_derivation.proofs.Keeps
 
 -- a lemma's term
@@ -35,35 +35,11 @@ start_term n l e = record {
         go false k = absurd (grind (arith, h, has_all_above n v (let d : v < n → ⊥ = λ lt. absurd (grind (arith, k, lt)) in omega arith)))
 
 module _ (g : MixedGraph) (ok : IsMixedGraph g) (m : FiniteModel) (fit : Fits g m) (positive : IsPositiveModel m) where
-  -- positive values
-  abbrev pub ArePositive : (ℕ → (ℕ → ℕ) → Fraction) → Type 0
-  ArePositive q = (k : ℕ) (s : ℕ → ℕ) → IsAssignment m.vertices m.size s → IsPositive (q k s)
-
   -- each has the value of its lemma's term
   abbrev pub AreCited : List ℕ → (ℕ → (ℕ → ℕ) → Fraction) → Type 0
   AreCited ls q = (k : ℕ) (s : ℕ → ℕ) → k < length ls → IsAssignment m.vertices m.size s → IsEqual (q k s) (term_value (weights_of m) (get_or ls k 0) (minus (all g.vertices) (get_or ls k 0)) 0 s)
 
-  abbrev with_value : (ℕ → (ℕ → ℕ) → Fraction) → ℕ → Tree → ℕ → (ℕ → ℕ) → Fraction
-  with_value q k d j s = cond (eqb j k) (value (weights_of m) q d s) (q j s)
-
-  next_positive : (q : ℕ → (ℕ → ℕ) → Fraction) (k : ℕ) (d : Tree) → ArePositive q → ArePositive (λ j s. cond (eqb j k) (value (weights_of m) q d s) (q j s))
-  next_positive q k d p j s w = go (eqb j k)
-    where
-      go : (b : Bool) → IsPositive (cond b (value (weights_of m) q d s) (q j s))
-      go true = ValueLaws.value_positive g ok m fit positive q p d s w
-      go false = p j s w
-
-  -- every definition has positive values
-  pub all_positive : (ds : List Tree) (k : ℕ) (q : ℕ → (ℕ → ℕ) → Fraction) → ArePositive q → ArePositive (values_from (weights_of m) q k ds)
-  all_positive [] k q p = p
-  all_positive (d ∷ ds) k q p = all_positive ds (suc k) (λ j s. cond (eqb j k) (value (weights_of m) q d s) (q j s)) (next_positive q k d p)
-
-  pub formula_positive : (f : PlainFormula) (s : ℕ → ℕ) → IsAssignment m.vertices m.size s → IsPositive (value_of (weights_of m) f s)
-  formula_positive f s w =
-      ValueLaws.value_positive g ok m fit positive (values_from (weights_of m) (λ j s. over 1 1) 0 f.defs)
-        (all_positive f.defs 0 (λ j s. over 1 1) (λ k s w. record { top = omega arith; bottom = omega arith })) f.main s w
-
-  next_cited : (q : ℕ → (ℕ → ℕ) → Fraction) (ls : List ℕ) (l : ℕ) (d : Tree) → ArePositive q → AreCited ls q → is_below g.vertices l ≡ true
+  next_cited : (q : ℕ → (ℕ → ℕ) → Fraction) (ls : List ℕ) (l : ℕ) (d : Tree) → ArePositive g ok m fit positive q → AreCited ls q → is_below g.vertices l ≡ true
       → ((s : ℕ → ℕ) → IsAssignment m.vertices m.size s → IsEqual (value (weights_of m) q d s) (term_value (weights_of m) l (minus (all g.vertices) l) 0 s))
       → AreCited (ls ++ (l ∷ [])) (λ j s. cond (eqb j (length ls)) (value (weights_of m) q d s) (q j s))
   next_cited q ls l d p c low h j s lt w = go (eqb j (length ls)) refl
@@ -75,8 +51,8 @@ module _ (g : MixedGraph) (ok : IsMixedGraph g) (m : FiniteModel) (fit : Fits g 
           rw (get_or-append ls (l ∷ []) 0 j below) (c j s below w)
 
   -- the lemmas' definitions have their values
-  pub define_cited : (before : List ℕ) (ls : List PlainLemma) (ds : List Tree) (q : ℕ → (ℕ → ℕ) → Fraction) → are_sets g.vertices (sets_of ls) ≡ true → Define g before ls ds → ArePositive q → AreCited before q
-      → ArePositive (values_from (weights_of m) q (length before) ds) × AreCited (before ++ sets_of ls) (values_from (weights_of m) q (length before) ds)
+  pub define_cited : (before : List ℕ) (ls : List PlainLemma) (ds : List Tree) (q : ℕ → (ℕ → ℕ) → Fraction) → are_sets g.vertices (sets_of ls) ≡ true → Define g before ls ds → ArePositive g ok m fit positive q → AreCited before q
+      → ArePositive g ok m fit positive (values_from (weights_of m) q (length before) ds) × AreCited (before ++ sets_of ls) (values_from (weights_of m) q (length before) ds)
   define_cited before [] [] q sets h p c = (p, subst (λ x. AreCited x q) (sym (append-nil before)) c)
   define_cited before [] (d ∷ ds) q sets h p c = absurd h
   define_cited before (l ∷ ls) [] q sets h p c = absurd h
@@ -87,8 +63,8 @@ module _ (g : MixedGraph) (ok : IsMixedGraph g) (m : FiniteModel) (fit : Fits g 
       let long : length (before ++ (l.set ∷ [])) ≡ suc (length before) = length-append before (l.set ∷ []) ∙ omega arith in
       let q' : ℕ → (ℕ → ℕ) → Fraction = λ j s. cond (eqb j (length before)) (value (weights_of m) q d s) (q j s) in
       let rest = define_cited (before ++ (l.set ∷ [])) ls ds q' (and_second (is_below g.vertices l.set && not (is_empty l.set)) (are_sets g.vertices (sets_of ls)) sets) h.1
-            (next_positive q (length before) d p) (next_cited q before l.set d p c low (λ s w. equal_sym (value (weights_of m) q (start_of g.vertices l.set) s) (value (weights_of m) q d s) (Keeps.kept_same g ok m fit positive q p before c (start_of g.vertices l.set) d kept s w))) in
-      (subst (λ k. ArePositive (values_from (weights_of m) q' k ds)) long rest.0,
+            (next_positive g ok m fit positive (length before) q d p) (next_cited q before l.set d p c low (λ s w. equal_sym (value (weights_of m) q (start_of g.vertices l.set) s) (value (weights_of m) q d s) (Keeps.kept_same g ok m fit positive q p before c (start_of g.vertices l.set) d kept s w))) in
+      (subst (λ k. ArePositive g ok m fit positive (values_from (weights_of m) q' k ds)) long rest.0,
        subst (λ k. AreCited (before ++ (l.set ∷ sets_of ls)) (values_from (weights_of m) q' k ds)) long (subst (λ x. AreCited x (values_from (weights_of m) q' (length (before ++ (l.set ∷ []))) ds)) (append_assoc before (l.set ∷ []) (sets_of ls)) rest.1))
 
   pub accepted_equal : (allowed : List ℕ) (t : PlainTarget) (f : PlainFormula) (d : PlainDerivation) → is_term g.vertices t.y t.x t.given ≡ true → Accepts g allowed t f d

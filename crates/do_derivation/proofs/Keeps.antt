@@ -24,8 +24,10 @@ use Rattle.do_derivation.proofs.TermSets
 use Rattle.do_derivation.proofs.TermSets.{IsTerm, IsNew}
 use Rattle.do_derivation.proofs.TermLaws
 use Rattle.do_derivation.proofs.Products
-use Rattle.do_derivation.proofs.ValueLaws
-use Rattle.do_derivation.proofs.ValueLaws.{IsSame, some_is}
+use Rattle.prob_expr.proofs.ValueLaws
+use Rattle.prob_expr.proofs.ValueLaws.{IsSame}
+use Rattle.do_derivation.proofs.Children
+use Rattle.do_derivation.proofs.Children.{some_is}
 
 cond_some : {A : Type 0} (t : Bool) (o : Option A) (x : A) → cond t o None ≡ Some x → (t ≡ true) × (o ≡ Some x)
 cond_some true o x e = (refl, e)
@@ -76,7 +78,7 @@ module _ (g : MixedGraph) (ok : IsMixedGraph g) (m : FiniteModel) (fit : Fits g 
       → (IsTerm g.vertices u b c × (u ≡ 0 → ⊥)) × ((s : ℕ → ℕ) → IsAssignment m.vertices m.size s → IsEqual (mul (term_value (weights_of m) a b c s) (product_value (weights_of m) q ts s)) (term_value (weights_of m) u b c s))
   gathered_kept no_trees a b c u e t full r =
       subst (λ x. (IsTerm g.vertices x b c × (x ≡ 0 → ⊥)) × ((s : ℕ → ℕ) → IsAssignment m.vertices m.size s → IsEqual (mul (term_value (weights_of m) a b c s) (over 1 1)) (term_value (weights_of m) x b c s))) (some_is a u e)
-        ((t, full), λ s w. rw (mul-one (term_value (weights_of m) a b c s)) (equal_refl (term_value (weights_of m) a b c s) (TermLaws.term_positive g ok m fit positive s w a b c).bottom))
+        ((t, full), λ s w. rw (mul-one (term_value (weights_of m) a b c s)) (equal_refl (term_value (weights_of m) a b c s) (ValueLaws.term_positive g ok m fit positive a b c s w).bottom))
   gathered_kept (tree (prob a' b' c') ts) a b c u e t full r =
       let h = cond_some (is_apart a' a && (eqb b' b && eqb c' (join c a))) (gathered (join a a') b c ts) u e in
       let both = and_second (is_apart a' a) (eqb b' b && eqb c' (join c a)) h.0 in
@@ -281,7 +283,7 @@ module _ (g : MixedGraph) (ok : IsMixedGraph g) (m : FiniteModel) (fit : Fits g 
   at_kept e i None e' R h t k made = absurd made
   at_kept e i (Some c) e' R h t k made =
       let r = k c made.0 (child_terms g.vertices e i c h t) made.1 in
-      kept_of e (with_child e i made.0) e' made.2 (with_child_terms g.vertices e i made.0 t r.0) (ValueLaws.child_same g ok m fit positive q defined e i c made.0 h r.1)
+      kept_of e (with_child e i made.0) e' made.2 (with_child_terms g.vertices e i made.0 t r.0) (Children.child_same g ok m fit positive q defined e i c made.0 h r.1)
 
   mutual
     pub step_kept : (p : Plan) (e e' : Tree) → AreTerms g.vertices e → Makes g lemmas p e e' → Kept e e'

@@ -1,5 +1,5 @@
 pub mod Accepted
-pub mod Boxes
+pub mod Children
 pub mod Exact
 pub mod Keeps
 pub mod Preserved
@@ -7,4 +7,3 @@ pub mod Products
 pub mod TermLaws
 pub mod TermSets
 pub mod TreeTerms
-pub mod ValueLaws

@@ -8,7 +8,7 @@ use Rattle.finite_models.proofs.Solutions.{agree_from}
 use Rattle.prob_expr.specs.Masks.{minus, all}
 use Rattle.prob_expr.specs.Values.{weights_of, term_value}
 use Rattle.do_derivation.specs.Sound.{StepKeepsTerms}
-use Rattle.do_derivation.proofs.TermLaws
+use Rattle.prob_expr.proofs.ValueLaws.{term_positive}
 use Rattle.do_derivation.proofs.TreeTerms.{terms_of, terms_test}
 use Rattle.do_derivation.proofs.Keeps
 
@@ -42,6 +42,6 @@ step_keeps_terms = λ g ok lemmas p e e' terms made.
     let fit = single_fits g in
     let positive = single_positive g.vertices in
     let q : ℕ → (ℕ → ℕ) → Fraction = λ j s. term_value (weights_of m) (get_or lemmas j 0) (minus (all g.vertices) (get_or lemmas j 0)) 0 s in
-    let defined : (j : ℕ) (s : ℕ → ℕ) → IsAssignment m.vertices m.size s → IsPositive (q j s) = λ j s w. TermLaws.term_positive g ok m fit positive s w (get_or lemmas j 0) (minus (all g.vertices) (get_or lemmas j 0)) 0 in
+    let defined : (j : ℕ) (s : ℕ → ℕ) → IsAssignment m.vertices m.size s → IsPositive (q j s) = λ j s w. term_positive g ok m fit positive (get_or lemmas j 0) (minus (all g.vertices) (get_or lemmas j 0)) 0 s w in
     let cited : (j : ℕ) (s : ℕ → ℕ) → j < length lemmas → IsAssignment m.vertices m.size s → IsEqual (q j s) (q j s) = λ j s lt w. equal_refl (q j s) (defined j s w).bottom in
     terms_test g.vertices e' (Keeps.kept_terms g ok m fit positive q defined lemmas cited e e' (Keeps.step_kept g ok m fit positive q defined lemmas cited p e e' (terms_of g.vertices e terms) made))

@@ -23,7 +23,7 @@ use Rattle.prob_expr.proofs.MaskLaws.{has_join, has_minus, has_none, has_one, em
 use Rattle.do_derivation.specs.Shapes.{is_list_of, chained}
 use Rattle.do_derivation.specs.Steps.{Holds}
 use Rattle.do_derivation.specs.Table.{Rule}
-use Rattle.do_derivation.proofs.Boxes.{add_over_whole}
+use Rattle.prob_expr.proofs.Boxes.{add_over_whole}
 use Rattle.do_derivation.proofs.TermSets.{IsTerm, IsNew, apart_back, four_sets}
 
 pub weight_same : (m : FiniteModel) (B A A' : ℕ → Bool) (s : ℕ → ℕ) → ((v : ℕ) → A v ≡ A' v) → weight_of m B A s ≡ weight_of m B A' s
@@ -65,9 +65,6 @@ spread false false r h = or_comm r false
 module _ (g : MixedGraph) (ok : IsMixedGraph g) (m : FiniteModel) (fit : Fits g m) (positive : IsPositiveModel m) (s : ℕ → ℕ) (within : IsAssignment m.vertices m.size s) where
   pub weight_positive : (B C : ℕ → Bool) → 1 ≤ weight_of m B C s
   weight_positive B C = positive_weight g m ok (follows_of g m fit) positive B C s within
-
-  pub term_positive : (a b c : ℕ) → IsPositive (term_value (weights_of m) a b c s)
-  term_positive a b c = record { top = weight_positive (has b) (λ v. has a v || has c v); bottom = weight_positive (has b) (has c) }
 
   -- ---- the three rules
   turned : (c z : ℕ) → (λ v. has z v || has c v) ≡ has (join c z)

@@ -10,7 +10,7 @@ use Rattle.prob_expr.specs.Tree.{Tree, prob, sum, product, quotient, named, Tree
 use Rattle.prob_expr.proofs.MaskLaws.{has_one, filled_has, below_has, below_from}
 use Rattle.do_derivation.specs.Shapes.{is_list_of, chained, picked, as_one, or_nothing, groups_of, factor_at, flat, joined, child, with_child, with_factor}
 use Rattle.do_derivation.proofs.TermSets.{IsTerm, of_part, chain_on, term_from, term_filled, term_test}
-use Rattle.do_derivation.proofs.ValueLaws.{some_is}
+use Rattle.do_derivation.proofs.Children.{some_is}
 
 -- each term's sets are apart and below n, and its first is not empty; each sum's set is below n
 abbrev mutual
