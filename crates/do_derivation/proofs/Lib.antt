@@ -1,9 +1,12 @@
 pub mod Accepted
+pub mod Asked
 pub mod Children
 pub mod Exact
 pub mod Keeps
+pub mod Lists
 pub mod Preserved
 pub mod Products
 pub mod TermLaws
 pub mod TermSets
 pub mod TreeTerms
+pub mod Views

@@ -1,4 +1,5 @@
 pub mod Accepts
+pub mod Applied
 pub mod Plans
 pub mod Shapes
 pub mod Sound

@@ -2,8 +2,11 @@
 #![tactic(auto)]
 
 mod faults;
+mod product_moves;
+mod rule_moves;
 mod sound;
 mod steps;
+mod term_moves;
 
 pub use faults::{ApplyFault, CheckFault, StepFault, StepPlace};
 pub use sound::laws;
