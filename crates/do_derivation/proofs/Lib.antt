@@ -10,3 +10,4 @@ pub mod TermLaws
 pub mod TermSets
 pub mod TreeTerms
 pub mod Views
+pub mod Walks

@@ -111,7 +111,10 @@ fn is_list_of(list: &[u8], set: VSet) -> bool
 {
     let mut rest = set;
     for v in list {
-        if *v >= 64 || !rest.has(*v) {
+        if *v >= 64 {
+            return false;
+        }
+        if !rest.has(*v) {
             return false;
         }
         rest = minus(rest, one(*v));

@@ -1,0 +1,30 @@
+use Rattle.std.proofs.Common.{◌≡◌, ◌<◌, ◌≤◌, ◌+◌, true, false, [], ◌∷◌, ◌++◌, length, get_or, drop, refl, sym, ap, ◌∙◌, subst, rules, arith}
+use Rattle.mixed_graph.specs.Bits.{has}
+use Rattle.mixed_graph.specs.Shown.{graph_of}
+use Rattle.prob_expr.specs.Tree.{product, no_trees, tree}
+use Rattle.prob_expr.specs.View.{view, views}
+use Rattle.prob_expr.proofs.Views.{view-Product}
+use Rattle.do_derivation.specs.View.{numbers_of}
+use Rattle.do_derivation.specs.Shapes.{is_list_of, chained, joined, flat, has_product, picked, as_one, groups_of, times_in, each_below, all_of, is_grouping}
+use Rattle.do_derivation.proofs.Lists
+use Rattle.do_derivation.proofs.Walks
+use Rattle.do_derivation.proofs.product_moves.picked.Goals as goal
+
+pub index-requires : goal.index-requires
+index-requires c =
+    let h : each_below (length c.args.factors.now.items) c.deref-i-items.result.now ≡ true = rw c.deref-i-items.ensures.value c.requires.within in
+    let low = Walks.below_at (length c.args.factors.now.items) c.deref-i-items.result.now c.loop-i.i-index h (omega arith) in
+    search (rules, low)
+
+pub loop-i-preserved : goal.loop-i-preserved
+loop-i-preserved c =
+    let h : each_below (length c.args.factors.now.items) c.deref-i-items.result.now ≡ true = rw c.deref-i-items.ensures.value c.requires.within in
+    let low = Walks.below_at (length c.args.factors.now.items) c.deref-i-items.result.now c.loop-i.i-index h (omega arith) in
+    ap (λ es. joined (views es) (picked (views c.args.factors.now.items) (drop (c.loop-i.i-index + 1) c.deref-i-items.result.now))) c.in_ok-push.ensures.items
+    ∙ Walks.picked_step c.args.factors.now.items c.loop-i.made.items c.deref-i-items.result.now c.loop-i.i-index c.in_ok-copy_expr.field-0 c.index.result.now (omega arith) low c.index.ensures c.in_ok-copy_expr.ensures
+    ∙ c.loop-i.invariant
+
+pub returns : goal.returns
+returns c =
+    rw (← c.deref-i-items.ensures.value)
+    (sym (Walks.walk_end (λ l. picked (views c.args.factors.now.items) l) c.loop-i.made.items c.deref-i-items.result.now c.loop-i.i-index (omega arith) refl) ∙ c.loop-i.invariant)
