@@ -1,4 +1,5 @@
 pub mod Accepted
+pub mod Turns
 pub mod Asked
 pub mod Children
 pub mod Exact

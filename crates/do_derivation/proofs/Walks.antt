@@ -1,10 +1,11 @@
 -- One step of the loops over lists, and their ends.
-use Rattle.std.proofs.Common.{ℕ, zero, suc, ◌+◌, ◌≡◌, ◌<◌, ◌≤◌, Bool, true, false, cond, eqb, ltb, ◌&&◌, refl, sym, ap, ap₂, ◌∙◌, List, [], ◌∷◌, ◌++◌, length, get_or, drop, Some, None, arith, ltb-true, ne_eqb, subst}
+use Rattle.std.proofs.Common.{ℕ, zero, suc, ◌+◌, ◌≡◌, ◌<◌, ◌≤◌, Bool, true, false, cond, eqb, ltb, ◌&&◌, refl, sym, ap, ap₂, ◌∙◌, List, [], ◌∷◌, ◌++◌, length, get_or, drop, Some, None, arith, ltb-true, eqb-true, ne_eqb, subst}
 use Rattle.std.specs.Global.{Vec}
 use Rattle.std.proofs.lemmas.List.{at_drop_more, at_drop_all}
 use Rattle.mixed_graph.specs.Bits.{has}
 use Rattle.mixed_graph.specs.Graphs.{MixedGraph}
 use Rattle.finite_models.proofs.Bools.{and_first, and_second}
+use Rattle.prob_expr.specs.Masks.{one, join, minus}
 use Rattle.prob_expr.specs.Tree.{Tree, prob, sum, product, quotient, named, Trees, no_trees, tree}
 use Rattle.prob_expr.specs.View.{view, views}
 use Rattle.prob_expr.specs.declared.expr.Expr.{Expr}
@@ -18,10 +19,26 @@ use Rattle.do_derivation.proofs.Lists.{joined-nothing, joined_more, each_below_a
 pub list_fails : (list : List ℕ) (i rest : ℕ) → i < length list → has rest (get_or list i 0) ≡ false → is_list_of (drop i list) rest ≡ false
 list_fails list i rest lt h = at_drop_more (λ l. is_list_of l rest) list i 0 lt ∙ rw h refl
 
-pub chained_step : (made : List Expr) (b c c' : ℕ) (list : List ℕ) (i : ℕ) (x : Expr) (rest : ℕ → ℕ → List ℕ → Trees) → i < length list
-    → ((v : ℕ) (l : List ℕ) → rest b c (v ∷ l) ≡ tree (view x) (rest b c' l))
-    → joined (views (made ++ x ∷ [])) (rest b c' (drop (i + 1) list)) ≡ joined (views made) (rest b c (drop i list))
-chained_step made b c c' list i x rest lt h = joined_more made x (rest b c' (drop (i + 1) list)) ∙ ap (λ t. joined (views made) t) (sym (at_drop_more (λ l. rest b c l) list i 0 lt ∙ h (get_or list i 0) (drop (i + 1) list)))
+pub chained_step : (made : List Expr) (b c c' : ℕ) (list : List ℕ) (i : ℕ) (x : Expr) → i < length list → view x ≡ prob (one (get_or list i 0)) b c → c' ≡ join c (one (get_or list i 0))
+    → joined (views (made ++ x ∷ [])) (chained b c' (drop (i + 1) list)) ≡ joined (views made) (chained b c (drop i list))
+chained_step made b c c' list i x lt h k =
+    joined_more made x (chained b c' (drop (i + 1) list))
+    ∙ ap (λ t. joined (views made) t) (ap₂ (λ y d. tree y (chained b d (drop (i + 1) list))) h k ∙ sym (at_drop_more (λ l. chained b c l) list i 0 lt))
+
+any_default : (list : List ℕ) (i d : ℕ) → i < length list → get_or list i d ≡ get_or list i 0
+any_default [] i d lt = absurd (omega arith)
+any_default (v ∷ list) zero d lt = refl
+any_default (v ∷ list) (suc i) d lt = any_default list i d (omega arith)
+
+pub small_more : (list : List ℕ) (i : ℕ) → i < length list → ((k d : ℕ) → k < i → get_or list k d < 64) → get_or list i 0 < 64 → (k d : ℕ) → k < i + 1 → get_or list k d < 64
+small_more list i lt before now k d le = go (eqb k i) refl
+  where
+    go : (b : Bool) → eqb k i ≡ b → get_or list k d < 64
+    go true same = subst (λ j. get_or list j d < 64) (sym (eqb-true k i same)) (rw (any_default list i d lt) now)
+    go false other = before k d (let e : k ≡ i → ⊥ = λ same. absurd (grind (arith, same, other)) in omega arith)
+
+pub list_step : (list : List ℕ) (i rest rest' : ℕ) → i < length list → has rest (get_or list i 0) ≡ true → rest' ≡ minus rest (one (get_or list i 0)) → is_list_of (drop (i + 1) list) rest' ≡ is_list_of (drop i list) rest
+list_step list i rest rest' lt h e = rw e (sym (at_drop_more (λ l. is_list_of l rest) list i 0 lt ∙ rw h refl))
 
 pub walk_end : {X : Type 0} (F : List X → Trees) (made : List Expr) (list : List X) (i : ℕ) → length list ≤ i → F [] ≡ no_trees → joined (views made) (F (drop i list)) ≡ views made
 walk_end {X} F made list i le none = ap (λ t. joined (views made) t) (at_drop_all F list i le ∙ none) ∙ joined-nothing (views made)

@@ -1,6 +1,7 @@
 //! Derivations in the do-calculus, and the checker that accepts them.
 #![tactic(auto)]
 
+mod applying;
 mod faults;
 mod product_moves;
 mod rule_moves;

@@ -232,22 +232,33 @@ fn has_product(factors: &Vec<Expr>) -> bool
     false
 }
 
+fn is_product(e: &Expr) -> bool
+    ensures { result ≡ has_product (tree (view e.now) no_trees) }
+{
+    matches!(e, Expr::Product(_))
+}
+
+// The factors of a product.
+fn factors_of(e: Expr) -> Vec<Expr>
+    requires { has_product (tree (view e) no_trees) ≡ true }
+    ensures { view e ≡ product (views result.items) }
+{
+    match e {
+        Expr::Product(factors) => factors,
+        _ => unreachable!(),
+    }
+}
+
 // Puts the factors of a product, or another factor, behind the others.
-#[tactic(auto, using(crate::proofs::Lists::views_append, crate::proofs::Lists::joined_nothing))]
 fn push_flat(made: &mut Vec<Expr>, factor: Expr) -> Result<(), AllocError>
     ensures { OnOk result (views made.new.items ≡ joined (views made.old.items) (flat (tree (view factor) no_trees))) }
 {
-    match factor {
-        Expr::Product(inner) => {
-            let mut inner = inner;
-            made.append(&mut inner)?;
-            Ok(())
-        }
-        other => {
-            made.push(other)?;
-            Ok(())
-        }
+    if is_product(&factor) {
+        made.append(&mut factors_of(factor))?;
+    } else {
+        made.push(factor)?;
     }
+    Ok(())
 }
 
 // The factors, each product replaced by its own.

@@ -1,4 +1,6 @@
 ghost use Rattle.std.specs.Prelude.{◌≡◌, ◌<◌, ◌≤◌, ℕ, [], true, length, IfOk, All};
+ghost use Rattle.std.specs.Bool.{OnTrue};
+ghost use Rattle.mixed_graph.specs.Bits.{has};
 ghost use Rattle.mixed_graph.specs.Shown.{graph_of};
 ghost use Rattle.prob_expr.specs.Tree.{prob};
 ghost use Rattle.prob_expr.specs.View.{view, views};
@@ -104,17 +106,26 @@ pub fn cite(g: &Graph, lemmas: &[VSet], k: u32, e: Expr) -> Result<Expr, Refusal
     }
 }
 
-// Whether the list holds each vertex of the set once, and nothing else.
+// Whether v is a vertex of the set.
 #[tactic(auto, using(crate::proofs::Lists::not_above))]
+fn is_member(set: VSet, v: u8) -> bool
+    ensures member { result ≡ has set.bits v }
+    ensures small { OnTrue result (v < 64) }
+{
+    if v >= 64 {
+        return false;
+    }
+    set.has(v)
+}
+
+// Whether the list holds each vertex of the set once, and nothing else.
 fn is_list_of(list: &[u8], set: VSet) -> bool
-    ensures { result ≡ is_list_of list.now set.bits }
+    ensures list { result ≡ is_list_of list.now set.bits }
+    ensures small { OnTrue result (All (λ v. v < 64) list.now) }
 {
     let mut rest = set;
     for v in list {
-        if *v >= 64 {
-            return false;
-        }
-        if !rest.has(*v) {
+        if !is_member(rest, *v) {
             return false;
         }
         rest = minus(rest, one(*v));
@@ -123,7 +134,6 @@ fn is_list_of(list: &[u8], set: VSet) -> bool
 }
 
 // The term as a product over the vertices of the list.
-#[tactic(auto, using(crate::proofs::Lists::joined_more, crate::proofs::Lists::joined_nothing))]
 fn chained(
     alloc: Global,
     doing: VSet,
