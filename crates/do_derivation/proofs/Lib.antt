@@ -7,6 +7,7 @@ pub mod Keeps
 pub mod Lists
 pub mod Preserved
 pub mod Products
+pub mod StepViews
 pub mod TermLaws
 pub mod TermSets
 pub mod TreeTerms
