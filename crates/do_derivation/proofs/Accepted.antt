@@ -22,7 +22,7 @@ use Rattle.prob_expr.proofs.ValueLaws.{ArePositive, next_positive}
 use Rattle.do_derivation.proofs.Keeps
 
 -- a lemma's term
-start_term : (n l : ℕ) → is_below n l ≡ true → IsTerm n l (minus (all n) l) 0
+pub start_term : (n l : ℕ) → is_below n l ≡ true → IsTerm n l (minus (all n) l) 0
 start_term n l e = record {
     of_below = λ v. below_has n l v e; doing_below = λ v h. below v (minus_left (all n) l v h); given_below = λ v h. absurd (grind (arith, h, has_none v));
     of_doing = λ v h. minus_taken (all n) l v h; of_given = λ v h. has_none v; doing_given = λ v h. has_none v }

@@ -2,6 +2,7 @@ pub mod Accepted
 pub mod Turns
 pub mod Asked
 pub mod Children
+pub mod Defining
 pub mod Exact
 pub mod Keeps
 pub mod Lists

@@ -1,4 +1,5 @@
 pub mod Accepts
+pub mod Answers
 pub mod Applied
 pub mod Plans
 pub mod Shapes

@@ -2,6 +2,7 @@
 #![tactic(auto)]
 
 mod applying;
+mod checking;
 mod faults;
 mod product_moves;
 mod rule_moves;
@@ -9,6 +10,7 @@ mod sound;
 mod steps;
 mod term_moves;
 
+pub use checking::{apply, check, check_with};
 pub use faults::{ApplyFault, CheckFault, StepFault, StepPlace};
 pub use sound::laws;
 pub use steps::{Derivation, Lemma, Step};
