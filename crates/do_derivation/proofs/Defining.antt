@@ -38,6 +38,10 @@ start_is_term n (x ∷ ls) zero l h lt is =
     (filled_from x.set.bits (and_second (is_below n x.set.bits) (not (is_empty x.set.bits)) own)))
 start_is_term n (x ∷ ls) (suc k) l h lt is = start_is_term n ls k l (and_second (is_below n x.set.bits && not (is_empty x.set.bits)) (are_sets n (sets_of (map lemma_view ls))) h) (omega arith) is
 
+pub length_lemmas : (ls : List Lemma) → length (map lemma_view ls) ≡ length ls
+length_lemmas [] = refl
+length_lemmas (l ∷ ls) = ap suc (length_lemmas ls)
+
 -- what holds of the lemmas and definitions from number k on holds of all
 pub record IsDefining (g : MixedGraph) (ls : List Lemma) (ds : List Expr) (sets : List VSet) (k : ℕ) : Type 0 where
   pub room : k ≤ length ds

@@ -20,7 +20,8 @@ pub returns-in_err-run-clause-fault : goal.returns-in_err-run-clause-fault
 returns-in_err-run-clause-fault c =
     let term = view-Prob c.args.target.now.y c.args.target.now.x c.args.target.now.given in
     let p = err_from_is_err_and c.from_residual-in_err-run.result c.from_residual-in_err-run.ensures.1 in
-    let count : c.cap.result ≡ cap (length (derivation_view c.args.d.now).lemmas) = c.cap.ensures ∙ ap cap (search rules) in
+    let many : c.len.result ≡ length c.args.d.now.lemmas.items = search rules in
+    let count : c.cap.result ≡ cap (length (derivation_view c.args.d.now).lemmas) = c.cap.ensures ∙ ap cap (many ∙ sym (Defining.length_lemmas c.args.d.now.lemmas.items)) in
     rw (p.1, p.2)
     (Defining.unless_weaker c.in_err-run.field-0.0
     (IsStopped (graph_of c.args.g.now) (masks_of c.in_ok-sets.sets.items) (step_view c.args.d.now.main) (view (Prob c.args.target.now.y c.args.target.now.x c.args.target.now.given)) (view c.args.f.now.main) None c.cap.result c.in_err-run.field-0.0)
