@@ -1,15 +1,15 @@
 -- An accepted derivation's formula has the value of the effect.
-use Rattle.std.proofs.Common.{ℕ, suc, ◌+◌, ◌≡◌, ◌<◌, Bool, true, false, cond, eqb, ltb, not, refl, sym, ap, ◌∙◌, ◌&&◌, subst, List, [], ◌∷◌, ◌++◌, length, get_or, length-append, append_assoc, append-nil, arith, eqb-true, ltb-true, lt-ltb}
+use Rattle.std.proofs.Common.{ℕ, suc, ◌≡◌, ◌<◌, Bool, true, false, cond, eqb, ltb, not, refl, sym, ap, ◌∙◌, ◌&&◌, subst, List, [], ◌∷◌, ◌++◌, length, get_or, length-append, append_assoc, append-nil, arith, eqb-true, ltb-true}
 use lib.ListN.{get_or-append}
 use lib.Seq.{get_or-append_seam}
 use Rattle.mixed_graph.specs.Bits.{has}
 use Rattle.mixed_graph.specs.Graphs.{MixedGraph, IsMixedGraph}
-use Rattle.fractions.specs.Fractions.{Fraction, over, IsEqual, IsPositive}
+use Rattle.fractions.specs.Fractions.{Fraction, over, IsEqual}
 use Rattle.fractions.proofs.FractionLaws.{equal_sym}
 use Rattle.finite_models.specs.Models.{FiniteModel, Fits, IsAssignment, IsPositiveModel}
 use Rattle.finite_models.proofs.Bools.{and_first, and_second}
 use Rattle.prob_expr.specs.Masks.{minus, all, is_empty, is_below}
-use Rattle.prob_expr.specs.Terms.{is_term, are_terms}
+use Rattle.prob_expr.specs.Terms.{is_term}
 use Rattle.prob_expr.specs.Tree.{Tree, prob, PlainFormula, PlainTarget}
 use Rattle.prob_expr.specs.Values.{weights_of, term_value, value, values_from, value_of, effect}
 use Rattle.prob_expr.proofs.MaskLaws.{has_none, has_all_above, below_has, filled_from}
@@ -24,8 +24,13 @@ use Rattle.do_derivation.proofs.Keeps
 -- a lemma's term
 pub start_term : (n l : ℕ) → is_below n l ≡ true → IsTerm n l (minus (all n) l) 0
 start_term n l e = record {
-    of_below = λ v. below_has n l v e; doing_below = λ v h. below v (minus_left (all n) l v h); given_below = λ v h. absurd (grind (arith, h, has_none v));
-    of_doing = λ v h. minus_taken (all n) l v h; of_given = λ v h. has_none v; doing_given = λ v h. has_none v }
+  of_below = λ v. below_has n l v e;
+  doing_below = λ v h. below v (minus_left (all n) l v h);
+  given_below = λ v h. absurd (grind (arith, h, has_none v));
+  of_doing = λ v h. minus_taken (all n) l v h;
+  of_given = λ v h. has_none v;
+  doing_given = λ v h. has_none v;
+}
   where
     below : (v : ℕ) → has (all n) v ≡ true → v < n
     below v h = go (ltb v n) refl
@@ -63,9 +68,10 @@ module _ (g : MixedGraph) (ok : IsMixedGraph g) (m : FiniteModel) (fit : Fits g 
       let long : length (before ++ (l.set ∷ [])) ≡ suc (length before) = length-append before (l.set ∷ []) ∙ omega arith in
       let q' : ℕ → (ℕ → ℕ) → Fraction = λ j s. cond (eqb j (length before)) (value (weights_of m) q d s) (q j s) in
       let rest = define_cited (before ++ (l.set ∷ [])) ls ds q' (and_second (is_below g.vertices l.set && not (is_empty l.set)) (are_sets g.vertices (sets_of ls)) sets) h.1
-            (next_positive g ok m fit positive (length before) q d p) (next_cited q before l.set d p c low (λ s w. equal_sym (value (weights_of m) q (start_of g.vertices l.set) s) (value (weights_of m) q d s) (Keeps.kept_same g ok m fit positive q p before c (start_of g.vertices l.set) d kept s w))) in
-      (subst (λ k. ArePositive g ok m fit positive (values_from (weights_of m) q' k ds)) long rest.0,
-       subst (λ k. AreCited (before ++ (l.set ∷ sets_of ls)) (values_from (weights_of m) q' k ds)) long (subst (λ x. AreCited x (values_from (weights_of m) q' (length (before ++ (l.set ∷ []))) ds)) (append_assoc before (l.set ∷ []) (sets_of ls)) rest.1))
+      (next_positive g ok m fit positive (length before) q d p) (next_cited q before l.set d p c low (λ s w. equal_sym (value (weights_of m) q (start_of g.vertices l.set) s) (value (weights_of m) q d s) (Keeps.kept_same g ok m fit positive q p before c (start_of g.vertices l.set) d kept s w))) in (
+        subst (λ k. ArePositive g ok m fit positive (values_from (weights_of m) q' k ds)) long rest.0,
+        subst (λ k. AreCited (before ++ (l.set ∷ sets_of ls)) (values_from (weights_of m) q' k ds)) long (subst (λ x. AreCited x (values_from (weights_of m) q' (length (before ++ (l.set ∷ []))) ds)) (append_assoc before (l.set ∷ []) (sets_of ls)) rest.1),
+      )
 
   pub accepted_equal : (allowed : List ℕ) (t : PlainTarget) (f : PlainFormula) (d : PlainDerivation) → is_term g.vertices t.y t.x t.given ≡ true → Accepts g allowed t f d
       → (s : ℕ → ℕ) → IsAssignment m.vertices m.size s → IsEqual (value_of (weights_of m) f s) (effect m t s)

@@ -19,7 +19,6 @@ some_is {A} x y e = ap (λ o. or_else o) e
 
 module _ (g : MixedGraph) (ok : IsMixedGraph g) (m : FiniteModel) (fit : Fits g m) (positive : IsPositiveModel m)
     (q : ℕ → (ℕ → ℕ) → Fraction) (defined : (k : ℕ) (s : ℕ → ℕ) → IsAssignment m.vertices m.size s → IsPositive (q k s)) where
-
   factor_same : (ts : Trees) (i : ℕ) (c c' : Tree) → factor_at ts i ≡ Some c → (s : ℕ → ℕ) → IsAssignment m.vertices m.size s → IsEqual (value (weights_of m) q c s) (value (weights_of m) q c' s) → IsEqual (product_value (weights_of m) q ts s) (product_value (weights_of m) q (with_factor ts i c') s)
   factor_same no_trees i c c' e s w h = absurd (none-some c e)
   factor_same (tree f ts) zero c c' e s w h =

@@ -1,5 +1,5 @@
 -- The lemmas of a derivation in turn, and what an accepted derivation means.
-use Rattle.std.proofs.Common.{ℕ, zero, suc, ◌+◌, ◌≡◌, ◌<◌, ◌≤◌, Bool, true, false, not, refl, sym, ap, ◌∙◌, ◌&&◌, List, [], ◌∷◌, ◌++◌, length, get_or, drop, map, Some, None, inl, inr, subst, arith, append_assoc}
+use Rattle.std.proofs.Common.{ℕ, zero, suc, ◌+◌, ◌≡◌, ◌<◌, ◌≤◌, true, not, refl, sym, ap, ◌∙◌, ◌&&◌, List, [], ◌∷◌, ◌++◌, length, get_or, drop, map, Some, None, inl, inr, subst, arith, append_assoc}
 use Rattle.std.proofs.lemmas.List.{at_drop_more, at_drop_all}
 use Rattle.mixed_graph.specs.Graphs.{MixedGraph}
 use Rattle.mixed_graph.specs.declared.sets.VSet.{VSet}
@@ -7,14 +7,14 @@ use Rattle.finite_models.proofs.Bools.{and_first, and_second}
 use Rattle.prob_expr.specs.Check.{cap}
 use Rattle.prob_expr.specs.Listed.{masks_of}
 use Rattle.prob_expr.specs.Masks.{minus, all, is_empty, is_below}
-use Rattle.prob_expr.specs.Terms.{is_term, are_terms, is_allowed}
+use Rattle.prob_expr.specs.Terms.{are_terms, is_allowed}
 use Rattle.prob_expr.specs.Tree.{Tree, PlainFormula, PlainTarget, term_of}
 use Rattle.prob_expr.specs.View.{view}
 use Rattle.prob_expr.specs.declared.expr.Expr.{Expr}
 use Rattle.prob_expr.proofs.MaskLaws.{filled_from}
 use Rattle.do_derivation.specs.Accepts.{Accepts, AcceptsNot, Define, DefinesNot, are_sets, sets_of, start_of}
 use Rattle.do_derivation.specs.Answers.{UnlessNoMemory, IsStopped}
-use Rattle.do_derivation.specs.Plans.{PlainLemma, PlainDerivation}
+use Rattle.do_derivation.specs.Plans.{PlainDerivation}
 use Rattle.do_derivation.specs.Steps.{Makes, Refuses}
 use Rattle.do_derivation.specs.View.{step_view, lemma_view}
 use Rattle.do_derivation.specs.declared.faults.CheckFault.{CheckFault}

@@ -1,19 +1,19 @@
 -- A step makes at most one expression, and is refused in at most one way; never both.
-use Rattle.std.proofs.Common.{ℕ, ◌+◌, ◌-◌, ◌≡◌, Bool, true, false, sym, ap, ◌∙◌, ◌||◌, inl, inr, subst, List, [], ◌∷◌, ◌++◌, Some, None, Option, MatchOption, arith}
+use Rattle.std.proofs.Common.{ℕ, ◌+◌, ◌-◌, ◌≡◌, Bool, true, sym, ap, ◌∙◌, ◌||◌, inl, inr, subst, List, [], ◌∷◌, ◌++◌, Some, None, Option, MatchOption, arith}
 use mathlib.Core.Path.{fun_ext}
 use Rattle.std.proofs.lemmas.Bool.{true_from_ne_false}
 use Rattle.mixed_graph.specs.Bits.{has}
-use Rattle.mixed_graph.specs.Graphs.{MixedGraph, IsMixedGraph}
+use Rattle.mixed_graph.specs.Graphs.{MixedGraph}
 use Rattle.finite_models.proofs.Bools.{same_truth}
 use Rattle.surgery.specs.Cuts.{cut_into, cut_out}
 use Rattle.m_separation.specs.Walks.{IsSeparated}
 use Rattle.m_separation.specs.Paths.{IsOpenPath, steps_from}
 use Rattle.std.specs.Prelude.{slice_index}
 use Rattle.m_separation.specs.declared.paths.OpenPath.{OpenPath}
-use Rattle.do_rules.specs.Rules.{IsFarPart, IsBlockedForRule1, IsBlockedForRule2, IsBlockedForRule3, IsOpenForRule1, IsOpenForRule2, IsOpenForRule3}
+use Rattle.do_rules.specs.Rules.{IsFarPart}
 use Rattle.prob_expr.specs.Check.{cap}
 use Rattle.prob_expr.specs.Tree.{Tree, PlainFormula, PlainTarget, term_of}
-use Rattle.do_derivation.specs.Plans.{Move, Plan, Plans, no_plans, plan, numbered, PlainLemma, PlainDerivation}
+use Rattle.do_derivation.specs.Plans.{Plan, Plans, no_plans, plan, numbered, PlainLemma, PlainDerivation}
 use Rattle.do_derivation.specs.Shapes.{child, with_child}
 use Rattle.do_derivation.specs.Table.{Rule, Row, row}
 use Rattle.do_derivation.specs.Steps.{Holds, Fails, IsMade, IsRefused, Makes, MakesAll, Refuses, RefusesAny}

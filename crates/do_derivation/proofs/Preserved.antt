@@ -1,5 +1,5 @@
 -- A step makes an expression of terms of one, whatever the model: the law on values at the model in which each vertex has one value.
-use Rattle.std.proofs.Common.{ℕ, zero, suc, ◌≡◌, ◌≤◌, ◌<◌, true, false, cond, refl, sym, ◌∙◌, subst, get_or, List, length, arith}
+use Rattle.std.proofs.Common.{ℕ, zero, suc, ◌≡◌, ◌≤◌, ◌<◌, true, false, cond, refl, sym, ◌∙◌, subst, get_or, length, arith}
 use Rattle.mixed_graph.specs.Graphs.{MixedGraph}
 use Rattle.fractions.specs.Fractions.{Fraction, IsEqual, IsPositive}
 use Rattle.fractions.proofs.FractionLaws.{equal_refl}

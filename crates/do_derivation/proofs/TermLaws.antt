@@ -5,7 +5,7 @@ use Rattle.std.proofs.lemmas.Bool.{or_from}
 use mathlib.Core.Path.{fun_ext}
 use Rattle.mixed_graph.specs.Bits.{has}
 use Rattle.mixed_graph.specs.Graphs.{MixedGraph, IsMixedGraph}
-use Rattle.fractions.specs.Fractions.{Fraction, over, IsEqual, IsPositive, mul, div}
+use Rattle.fractions.specs.Fractions.{Fraction, over, IsEqual, mul, div}
 use Rattle.fractions.proofs.FractionLaws.{equal_refl, equal_trans, mul_equal}
 use Rattle.finite_models.specs.Sums.{all_below, sum_over}
 use Rattle.finite_models.specs.Models.{FiniteModel, Fits, IsAssignment, IsPositiveModel, solution, agree, event_weight, world_weight, intervene, weight_of, probability}
@@ -33,11 +33,12 @@ weight_same m B A A' s h = ap (λ C. weight_of m B C s) (fun_ext h)
 pub event_same : (m : FiniteModel) (A : ℕ → Bool) (s t : ℕ → ℕ) → ((v : ℕ) → A v ≡ true → t v ≡ s v) → event_weight m A t ≡ event_weight m A s
 event_same m A s t h =
     over-congr (λ j. true) m.values m.causes (λ u. cond (agree m.vertices A (solution m u) t) (world_weight m u) 0) (λ u. cond (agree m.vertices A (solution m u) s) (world_weight m u) 0) (λ j. 0)
-      (λ u. ap (λ c. cond c (world_weight m u) 0) (read u))
+    (λ u. ap (λ c. cond c (world_weight m u) 0) (read u))
   where
     alike : (a : Bool) (x p r : ℕ) → (a ≡ true → p ≡ r) → cond a (eqb x p) true ≡ cond a (eqb x r) true
     alike true x p r e = ap (λ z. eqb x z) (e refl)
     alike false x p r e = refl
+
     read : (u : ℕ → ℕ) → agree m.vertices A (solution m u) t ≡ agree m.vertices A (solution m u) s
     read u = ap (λ p. all_below m.vertices p) (fun_ext (λ v. alike (A v) (solution m u v) (t v) (s v) (h v)))
 
@@ -126,8 +127,10 @@ module _ (g : MixedGraph) (ok : IsMixedGraph g) (m : FiniteModel) (fit : Fits g 
     left_bottom = weight_positive (has b) (has c);
     right_bottom = mul-pos (weight_positive (has b) (has 0)) (weight_positive (has b) (λ v. has c v || has 0 v));
     products =
-        rw (weight_same m (has b) (λ v. has (join a c) v || has 0 v) (λ v. has a v || has c v) s (λ v. ap (λ p. has (join a c) v || p) (has_none v) ∙ or_comm (has (join a c) v) false ∙ has_join a c v),
-        weight_same m (has b) (λ v. has c v || has 0 v) (has c) s (λ v. ap (λ p. has c v || p) (has_none v) ∙ or_comm (has c v) false))
+        rw (
+          weight_same m (has b) (λ v. has (join a c) v || has 0 v) (λ v. has a v || has c v) s (λ v. ap (λ p. has (join a c) v || p) (has_none v) ∙ or_comm (has (join a c) v) false ∙ has_join a c v),
+          weight_same m (has b) (λ v. has c v || has 0 v) (has c) s (λ v. ap (λ p. has c v || p) (has_none v) ∙ or_comm (has c v) false),
+        )
         (split_numbers (weight_of m (has b) (λ v. has a v || has c v) s) (weight_of m (has b) (has c) s) (weight_of m (has b) (has 0) s));
   }
 

@@ -105,88 +105,137 @@ new_from n z a b c e =
       below = λ v. below_has n z v (and_first (is_below n z) (is_apart z a && (is_apart z b && is_apart z c)) r₁);
       apart_of = λ v. apart_has z a v (and_first (is_apart z a) (is_apart z b && is_apart z c) r₂);
       apart_doing = λ v. apart_has z b v (and_first (is_apart z b) (is_apart z c) r₃);
-      apart_given = λ v. apart_has z c v (and_second (is_apart z b) (is_apart z c) r₃) }
+      apart_given = λ v. apart_has z c v (and_second (is_apart z b) (is_apart z c) r₃);
+    }
 
 module _ (n : ℕ) where
   pub given_more : (a b c z : ℕ) → IsTerm n a b c → IsNew n z a b c → IsTerm n a b (join c z)
   given_more a b c z t k = record {
-      of_below = t.of_below; doing_below = t.doing_below; given_below = λ v e. join_cases c z v (v < n) e (t.given_below v) (k.below v);
-      of_doing = t.of_doing; of_given = λ v e. join_false c z v (t.of_given v e) (apart_back (has z) (has a) k.apart_of v e);
-      doing_given = λ v e. join_false c z v (t.doing_given v e) (apart_back (has z) (has b) k.apart_doing v e) }
+    of_below = t.of_below;
+    doing_below = t.doing_below;
+    given_below = λ v e. join_cases c z v (v < n) e (t.given_below v) (k.below v);
+    of_doing = t.of_doing;
+    of_given = λ v e. join_false c z v (t.of_given v e) (apart_back (has z) (has a) k.apart_of v e);
+    doing_given = λ v e. join_false c z v (t.doing_given v e) (apart_back (has z) (has b) k.apart_doing v e);
+  }
 
   pub doing_more : (a b c z : ℕ) → IsTerm n a b c → IsNew n z a b c → IsTerm n a (join b z) c
   doing_more a b c z t k = record {
-      of_below = t.of_below; doing_below = λ v e. join_cases b z v (v < n) e (t.doing_below v) (k.below v); given_below = t.given_below;
-      of_doing = λ v e. join_false b z v (t.of_doing v e) (apart_back (has z) (has a) k.apart_of v e); of_given = t.of_given;
-      doing_given = λ v e. join_cases b z v (has c v ≡ false) e (t.doing_given v) (k.apart_given v) }
+    of_below = t.of_below;
+    doing_below = λ v e. join_cases b z v (v < n) e (t.doing_below v) (k.below v);
+    given_below = t.given_below;
+    of_doing = λ v e. join_false b z v (t.of_doing v e) (apart_back (has z) (has a) k.apart_of v e);
+    of_given = t.of_given;
+    doing_given = λ v e. join_cases b z v (has c v ≡ false) e (t.doing_given v) (k.apart_given v);
+  }
 
   pub of_more : (a b c z : ℕ) → IsTerm n a b c → IsNew n z a b c → IsTerm n (join a z) b c
   of_more a b c z t k = record {
-      of_below = λ v e. join_cases a z v (v < n) e (t.of_below v) (k.below v); doing_below = t.doing_below; given_below = t.given_below;
-      of_doing = λ v e. join_cases a z v (has b v ≡ false) e (t.of_doing v) (k.apart_doing v);
-      of_given = λ v e. join_cases a z v (has c v ≡ false) e (t.of_given v) (k.apart_given v); doing_given = t.doing_given }
+    of_below = λ v e. join_cases a z v (v < n) e (t.of_below v) (k.below v);
+    doing_below = t.doing_below;
+    given_below = t.given_below;
+    of_doing = λ v e. join_cases a z v (has b v ≡ false) e (t.of_doing v) (k.apart_doing v);
+    of_given = λ v e. join_cases a z v (has c v ≡ false) e (t.of_given v) (k.apart_given v);
+    doing_given = t.doing_given;
+  }
 
   pub given_less : (a b c z : ℕ) → IsTerm n a b c → IsTerm n a b (minus c z)
   given_less a b c z t = record {
-      of_below = t.of_below; doing_below = t.doing_below; given_below = λ v e. t.given_below v (minus_left c z v e);
-      of_doing = t.of_doing; of_given = λ v e. minus_false c z v (t.of_given v e); doing_given = λ v e. minus_false c z v (t.doing_given v e) }
+    of_below = t.of_below;
+    doing_below = t.doing_below;
+    given_below = λ v e. t.given_below v (minus_left c z v e);
+    of_doing = t.of_doing;
+    of_given = λ v e. minus_false c z v (t.of_given v e);
+    doing_given = λ v e. minus_false c z v (t.doing_given v e);
+  }
 
   pub doing_less : (a b c z : ℕ) → IsTerm n a b c → IsTerm n a (minus b z) c
   doing_less a b c z t = record {
-      of_below = t.of_below; doing_below = λ v e. t.doing_below v (minus_left b z v e); given_below = t.given_below;
-      of_doing = λ v e. minus_false b z v (t.of_doing v e); of_given = t.of_given; doing_given = λ v e. t.doing_given v (minus_left b z v e) }
+    of_below = t.of_below;
+    doing_below = λ v e. t.doing_below v (minus_left b z v e);
+    given_below = t.given_below;
+    of_doing = λ v e. minus_false b z v (t.of_doing v e);
+    of_given = t.of_given;
+    doing_given = λ v e. t.doing_given v (minus_left b z v e);
+  }
 
   -- with a part of the first set
   pub of_part : (a b c z : ℕ) → IsTerm n a b c → ((v : ℕ) → has z v ≡ true → has a v ≡ true) → IsTerm n z b c
   of_part a b c z t h = record {
-      of_below = λ v e. t.of_below v (h v e); doing_below = t.doing_below; given_below = t.given_below;
-      of_doing = λ v e. t.of_doing v (h v e); of_given = λ v e. t.of_given v (h v e); doing_given = t.doing_given }
+    of_below = λ v e. t.of_below v (h v e);
+    doing_below = t.doing_below;
+    given_below = t.given_below;
+    of_doing = λ v e. t.of_doing v (h v e);
+    of_given = λ v e. t.of_given v (h v e);
+    doing_given = t.doing_given;
+  }
 
   pub taken_given : (a b c z : ℕ) → IsTerm n a b c → is_inside z c ≡ true → IsNew n z a b (minus c z)
   taken_given a b c z t i = record {
-      below = λ v e. t.given_below v (inside_has z c v i e);
-      apart_of = λ v e. apart_back (has a) (has c) t.of_given v (inside_has z c v i e);
-      apart_doing = λ v e. apart_back (has b) (has c) t.doing_given v (inside_has z c v i e); apart_given = λ v e. minus_taken c z v e }
+    below = λ v e. t.given_below v (inside_has z c v i e);
+    apart_of = λ v e. apart_back (has a) (has c) t.of_given v (inside_has z c v i e);
+    apart_doing = λ v e. apart_back (has b) (has c) t.doing_given v (inside_has z c v i e);
+    apart_given = λ v e. minus_taken c z v e;
+  }
 
   pub taken_doing : (a b c z : ℕ) → IsTerm n a b c → is_inside z b ≡ true → IsNew n z a (minus b z) c
   taken_doing a b c z t i = record {
-      below = λ v e. t.doing_below v (inside_has z b v i e);
-      apart_of = λ v e. apart_back (has a) (has b) t.of_doing v (inside_has z b v i e);
-      apart_doing = λ v e. minus_taken b z v e; apart_given = λ v e. t.doing_given v (inside_has z b v i e) }
+    below = λ v e. t.doing_below v (inside_has z b v i e);
+    apart_of = λ v e. apart_back (has a) (has b) t.of_doing v (inside_has z b v i e);
+    apart_doing = λ v e. minus_taken b z v e;
+    apart_given = λ v e. t.doing_given v (inside_has z b v i e);
+  }
 
   pub taken_of : (a b c z : ℕ) → IsTerm n a b c → is_inside z a ≡ true → IsNew n z (minus a z) b c
   taken_of a b c z t i = record {
-      below = λ v e. t.of_below v (inside_has z a v i e);
-      apart_of = λ v e. minus_taken a z v e; apart_doing = λ v e. t.of_doing v (inside_has z a v i e); apart_given = λ v e. t.of_given v (inside_has z a v i e) }
+    below = λ v e. t.of_below v (inside_has z a v i e);
+    apart_of = λ v e. minus_taken a z v e;
+    apart_doing = λ v e. t.of_doing v (inside_has z a v i e);
+    apart_given = λ v e. t.of_given v (inside_has z a v i e);
+  }
 
   -- both sides of a split
   pub of_and_given : (a b c : ℕ) → IsTerm n a b c → IsTerm n (join a c) b 0
   of_and_given a b c t = record {
-      of_below = λ v e. join_cases a c v (v < n) e (t.of_below v) (t.given_below v); doing_below = t.doing_below; given_below = λ v e. absurd (grind (arith, e, has_none v));
-      of_doing = λ v e. join_cases a c v (has b v ≡ false) e (t.of_doing v) (apart_back (has b) (has c) t.doing_given v);
-      of_given = λ v e. has_none v; doing_given = λ v e. has_none v }
+    of_below = λ v e. join_cases a c v (v < n) e (t.of_below v) (t.given_below v);
+    doing_below = t.doing_below;
+    given_below = λ v e. absurd (grind (arith, e, has_none v));
+    of_doing = λ v e. join_cases a c v (has b v ≡ false) e (t.of_doing v) (apart_back (has b) (has c) t.doing_given v);
+    of_given = λ v e. has_none v;
+    doing_given = λ v e. has_none v;
+  }
 
   pub given_alone : (a b c : ℕ) → IsTerm n a b c → IsTerm n c b 0
   given_alone a b c t = record {
-      of_below = t.given_below; doing_below = t.doing_below; given_below = λ v e. absurd (grind (arith, e, has_none v));
-      of_doing = apart_back (has b) (has c) t.doing_given; of_given = λ v e. has_none v; doing_given = λ v e. has_none v }
+    of_below = t.given_below;
+    doing_below = t.doing_below;
+    given_below = λ v e. absurd (grind (arith, e, has_none v));
+    of_doing = apart_back (has b) (has c) t.doing_given;
+    of_given = λ v e. has_none v;
+    doing_given = λ v e. has_none v;
+  }
 
   -- two neighbours in a chain
   pub of_next : (a b c a' : ℕ) → IsTerm n a b c → IsTerm n a' b (join c a) → IsTerm n (join a a') b c
   of_next a b c a' t r = record {
-      of_below = λ v e. join_cases a a' v (v < n) e (t.of_below v) (r.of_below v); doing_below = t.doing_below; given_below = t.given_below;
-      of_doing = λ v e. join_cases a a' v (has b v ≡ false) e (t.of_doing v) (r.of_doing v);
-      of_given = λ v e. join_cases a a' v (has c v ≡ false) e (t.of_given v) (λ i. false_from_ne_true (has c v) (λ o. absurd (grind (arith, has_join c a v ∙ ap (λ p. p || has a v) o, r.of_given v i))));
-      doing_given = t.doing_given }
+    of_below = λ v e. join_cases a a' v (v < n) e (t.of_below v) (r.of_below v);
+    doing_below = t.doing_below;
+    given_below = t.given_below;
+    of_doing = λ v e. join_cases a a' v (has b v ≡ false) e (t.of_doing v) (r.of_doing v);
+    of_given = λ v e. join_cases a a' v (has c v ≡ false) e (t.of_given v) (λ i. false_from_ne_true (has c v) (λ o. absurd (grind (arith, has_join c a v ∙ ap (λ p. p || has a v) o, r.of_given v i))));
+    doing_given = t.doing_given;
+  }
 
   -- a member taken from the first set to the given one
   pub chain_on : (a b c v : ℕ) → IsTerm n a b c → has a v ≡ true → IsTerm n (minus a (one v)) b (join c (one v))
   chain_on a b c v t i = record {
-      of_below = λ w e. t.of_below w (minus_left a (one v) w e); doing_below = t.doing_below;
-      given_below = λ w e. join_cases c (one v) w (w < n) e (t.given_below w) (λ o. t.of_below w (in_one w o));
-      of_doing = λ w e. t.of_doing w (minus_left a (one v) w e);
-      of_given = λ w e. join_false c (one v) w (t.of_given w (minus_left a (one v) w e)) (minus_right a (one v) w e);
-      doing_given = λ w e. join_false c (one v) w (t.doing_given w e) (false_from_ne_true (has (one v) w) (λ o. absurd (grind (arith, t.of_doing w (in_one w o), e)))) }
+    of_below = λ w e. t.of_below w (minus_left a (one v) w e);
+    doing_below = t.doing_below;
+    given_below = λ w e. join_cases c (one v) w (w < n) e (t.given_below w) (λ o. t.of_below w (in_one w o));
+    of_doing = λ w e. t.of_doing w (minus_left a (one v) w e);
+    of_given = λ w e. join_false c (one v) w (t.of_given w (minus_left a (one v) w e)) (minus_right a (one v) w e);
+    doing_given = λ w e. join_false c (one v) w (t.doing_given w e) (false_from_ne_true (has (one v) w) (λ o. absurd (grind (arith, t.of_doing w (in_one w o), e))));
+  }
     where
       in_one : (w : ℕ) → has (one v) w ≡ true → has a w ≡ true
       in_one w o = subst (λ x. has a x ≡ true) (sym (eqb-true w v (sym (has_one v w) ∙ o))) i

@@ -1,5 +1,5 @@
 -- Expressions all of whose terms are terms, and the ways in which the moves make further ones of their parts.
-use Rattle.std.proofs.Common.{ℕ, zero, suc, ◌≡◌, ◌<◌, Bool, true, false, eqb, refl, sym, ◌∙◌, ◌&&◌, subst, List, [], ◌∷◌, Some, None, arith, eqb-true, eq-eqb}
+use Rattle.std.proofs.Common.{ℕ, zero, suc, ◌≡◌, ◌<◌, true, refl, sym, ◌∙◌, subst, List, [], ◌∷◌, Some, eqb-true, eq-eqb}
 use Rattle.std.proofs.lemmas.Bool.{and_from}
 use Rattle.std.proofs.lemmas.Option.{none-some}
 use Rattle.mixed_graph.specs.Bits.{has}
@@ -58,10 +58,13 @@ flat_terms n (tree (named k) ts) t = (t.0, flat_terms n ts t.1)
 
 pub chained_terms : (n : ℕ) (o : List ℕ) (a b c : ℕ) → is_list_of o a ≡ true → IsTerm n a b c → AreTermsEach n (chained b c o)
 chained_terms n [] a b c e t = tt
-chained_terms n (v ∷ o) a b c e t =
-    ((of_part n a b c (one v) t (λ w i. subst (λ x. has a x ≡ true) (sym (eqb-true w v (sym (has_one v w) ∙ i))) (and_first (has a v) (is_list_of o (minus a (one v))) e)),
-      filled_has (one v) v (has_one v v ∙ eq-eqb v v refl)),
-     chained_terms n o (minus a (one v)) b (join c (one v)) (and_second (has a v) (is_list_of o (minus a (one v))) e) (chain_on n a b c v t (and_first (has a v) (is_list_of o (minus a (one v))) e)))
+chained_terms n (v ∷ o) a b c e t = (
+  (
+    of_part n a b c (one v) t (λ w i. subst (λ x. has a x ≡ true) (sym (eqb-true w v (sym (has_one v w) ∙ i))) (and_first (has a v) (is_list_of o (minus a (one v))) e)),
+    filled_has (one v) v (has_one v v ∙ eq-eqb v v refl),
+  ),
+  chained_terms n o (minus a (one v)) b (join c (one v)) (and_second (has a v) (is_list_of o (minus a (one v))) e) (chain_on n a b c v t (and_first (has a v) (is_list_of o (minus a (one v))) e)),
+)
 
 pub child_terms : (n : ℕ) (e : Tree) (i : ℕ) (c : Tree) → child e i ≡ Some c → AreTerms n e → AreTerms n c
 child_terms n (prob x y z) i c h t = absurd (none-some c h)

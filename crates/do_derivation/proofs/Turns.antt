@@ -1,16 +1,16 @@
 -- The counter of nodes, and steps in turn.
-use Rattle.std.proofs.Common.{ℕ, zero, suc, ◌+◌, ◌^◌, ◌-◌, min, ◌≡◌, ◌<◌, ◌≤◌, Bool, true, false, refl, sym, ap, ◌∙◌, List, [], ◌∷◌, length, get_or, drop, Some, None, Option, MatchOption, Result, Ok, Err, subst, inl, inr, arith}
+use Rattle.std.proofs.Common.{ℕ, zero, suc, ◌+◌, ◌≡◌, ◌<◌, true, sym, ap, ◌∙◌, List, length, get_or, drop, Some, None, Option, MatchOption, Result, Ok, Err, subst, inl, inr, arith}
 use Rattle.std.proofs.lemmas.List.{at_drop_more}
 use Rattle.mixed_graph.specs.Graphs.{MixedGraph, IsMixedGraph}
 use Rattle.finite_models.proofs.Bools.{and_first, and_second}
 use Rattle.prob_expr.specs.Check.{cap}
 use Rattle.prob_expr.specs.Terms.{are_terms, are_terms_each}
 use Rattle.prob_expr.specs.Tree.{Tree, product, Trees, no_trees, tree}
-use Rattle.prob_expr.specs.View.{view, views}
+use Rattle.prob_expr.specs.View.{view}
 use Rattle.prob_expr.specs.declared.expr.Expr.{Expr}
 use Rattle.do_derivation.specs.Applied.{IsRow, IsApplied, IsAppliedBoxed, IsAppliedAt}
 use Rattle.do_derivation.specs.Plans.{Move, Plan, Plans, no_plans, plan, numbered, numbered_all}
-use Rattle.do_derivation.specs.Shapes.{child, factor_at, with_factor}
+use Rattle.do_derivation.specs.Shapes.{child, factor_at}
 use Rattle.do_derivation.specs.Steps.{Makes, MakesAll, Refuses, RefusesAny}
 use Rattle.do_derivation.specs.Table.{row}
 use Rattle.do_derivation.specs.View.{step_view, steps_view}

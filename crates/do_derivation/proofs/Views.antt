@@ -1,5 +1,5 @@
 -- The plain tree of a term, and the sets that a rule takes of it.
-use Rattle.std.proofs.Common.{ℕ, ◌≡◌, true, sym, ap, ◌∙◌, ◌&&◌, not, rules}
+use Rattle.std.proofs.Common.{ℕ, ◌≡◌, true, not, rules}
 use Rattle.std.specs.Global.{Box}
 use Rattle.mixed_graph.specs.Bits.{has}
 use Rattle.mixed_graph.specs.declared.sets.VSet.{VSet}

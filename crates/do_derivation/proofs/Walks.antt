@@ -1,5 +1,5 @@
 -- One step of the loops over lists, and their ends.
-use Rattle.std.proofs.Common.{ℕ, zero, suc, ◌+◌, ◌≡◌, ◌<◌, ◌≤◌, Bool, true, false, cond, eqb, ltb, ◌&&◌, refl, sym, ap, ap₂, ◌∙◌, List, [], ◌∷◌, ◌++◌, length, get_or, drop, Some, None, arith, ltb-true, eqb-true, ne_eqb, subst}
+use Rattle.std.proofs.Common.{ℕ, zero, suc, ◌+◌, ◌≡◌, ◌<◌, ◌≤◌, Bool, true, false, eqb, ltb, ◌&&◌, refl, sym, ap, ap₂, ◌∙◌, List, [], ◌∷◌, ◌++◌, length, get_or, drop, arith, ltb-true, eqb-true, ne_eqb, subst}
 use Rattle.std.specs.Global.{Vec}
 use Rattle.std.proofs.lemmas.List.{at_drop_more, at_drop_all}
 use Rattle.mixed_graph.specs.Bits.{has}
@@ -10,7 +10,7 @@ use Rattle.prob_expr.specs.Tree.{Tree, prob, sum, product, quotient, named, Tree
 use Rattle.prob_expr.specs.View.{view, views}
 use Rattle.prob_expr.specs.declared.expr.Expr.{Expr}
 use Rattle.do_derivation.specs.View.{numbers_of}
-use Rattle.do_derivation.specs.Shapes.{is_list_of, chained, joined, flat, has_product, picked, as_one, groups_of, times_in, each_below, all_of, or_nothing, factor_at, count_factors, grouped, is_grouping, unwrapped}
+use Rattle.do_derivation.specs.Shapes.{is_list_of, chained, joined, flat, has_product, picked, as_one, groups_of, times_in, each_below, all_of, grouped, is_grouping, unwrapped}
 use Rattle.do_derivation.specs.Steps.{IsMade, IsRefused}
 use Rattle.do_derivation.specs.Table.{if_made}
 use Rattle.do_derivation.specs.declared.faults.StepFault.TheVariants.{Grouping, Shape}

@@ -119,7 +119,16 @@ fn define(
             return Err(CheckFault::EndDiffers(cap(k)));
         }
         let start = start_of(g, lemma.set);
-        run(alloc, g, &sets, Some(cap(k)), cap(k), &lemma.step, start, &defs[k])?;
+        run(
+            alloc,
+            g,
+            &sets,
+            Some(cap(k)),
+            cap(k),
+            &lemma.step,
+            start,
+            &defs[k],
+        )?;
         match sets.push(lemma.set) {
             Ok(()) => {}
             Err(_) => return Err(CheckFault::NoMemory),
@@ -160,7 +169,16 @@ pub fn check_with(
         doing: target.x,
         given: target.given,
     };
-    run(alloc, g, &sets, None, cap(d.lemmas.len()), &d.main, start, &f.main)?;
+    run(
+        alloc,
+        g,
+        &sets,
+        None,
+        cap(d.lemmas.len()),
+        &d.main,
+        start,
+        &f.main,
+    )?;
     if is_allowed(f, allowed) {
         Ok(())
     } else {

@@ -154,11 +154,7 @@ fn is_grouping(m: usize, groups: &Vec<Vec<u32>>) -> bool
 
 // The factors with these numbers.
 #[tactic(auto, using(crate::proofs::Lists::joined_more, crate::proofs::Lists::joined_nothing, crate::proofs::Lists::picked_some))]
-fn picked(
-    alloc: Global,
-    factors: &Vec<Expr>,
-    numbers: &Vec<u32>,
-) -> Result<Vec<Expr>, AllocError>
+fn picked(alloc: Global, factors: &Vec<Expr>, numbers: &Vec<u32>) -> Result<Vec<Expr>, AllocError>
     requires within { each_below (length factors.now.items) numbers.now.items ≡ true }
     ensures { IfOk result (λ made. views made.items ≡ picked (views factors.now.items) numbers.now.items) }
 {
@@ -201,12 +197,7 @@ fn groups_of(
 }
 
 #[tactic(auto, using(crate::proofs::Lists::count_views))]
-pub fn group(
-    alloc: Global,
-    g: &Graph,
-    groups: &Vec<Vec<u32>>,
-    e: Expr,
-) -> Result<Expr, Refusal>
+pub fn group(alloc: Global, g: &Graph, groups: &Vec<Vec<u32>>, e: Expr) -> Result<Expr, Refusal>
     ensures row { IsRow (graph_of g.now) (row g.now.n [] (Move.Group (numbers_of groups.now.items)) (view e)) result }
 {
     let Expr::Product(factors) = e else {

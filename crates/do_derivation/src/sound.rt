@@ -11,5 +11,4 @@ pub fn laws()
     ensures accepted_is_effect { AcceptedIsEffect }
     ensures exact { StepsAreExact }
     ensures accepted_or_not { AcceptsOrNot }
-{
-}
+{}

@@ -134,12 +134,7 @@ fn is_list_of(list: &[u8], set: VSet) -> bool
 }
 
 // The term as a product over the vertices of the list.
-fn chained(
-    alloc: Global,
-    doing: VSet,
-    given: VSet,
-    list: &[u8],
-) -> Result<Vec<Expr>, AllocError>
+fn chained(alloc: Global, doing: VSet, given: VSet, list: &[u8]) -> Result<Vec<Expr>, AllocError>
     requires in_range { All (λ v. v < 64) list.now }
     ensures { IfOk result (λ made. views made.items ≡ chained doing.bits given.bits list.now) }
 {

@@ -27,8 +27,8 @@ returns-in_err-run-clause-fault c =
     (IsStopped (graph_of c.args.g.now) (masks_of c.in_ok-sets.sets.items) (step_view c.args.d.now.main) (view (Prob c.args.target.now.y c.args.target.now.x c.args.target.now.given)) (view c.args.f.now.main) None c.cap.result c.in_err-run.field-0.0)
     (AcceptsNot (graph_of c.args.g.now) (masks_of c.args.allowed.now) (target_view c.args.target.now) (formula_view c.args.f.now) (derivation_view c.args.d.now) c.in_err-run.field-0.0)
     (λ h. Defining.main_fails (graph_of c.args.g.now) (masks_of c.args.allowed.now) (target_view c.args.target.now) (formula_view c.args.f.now) (derivation_view c.args.d.now) c.in_ok-sets.sets.items c.in_ok-sets.ensures.sets c.in_ok-sets.ensures.define c.in_err-run.field-0.0
-        (subst (λ n. IsStopped (graph_of c.args.g.now) (masks_of c.in_ok-sets.sets.items) (step_view c.args.d.now.main) (term_of (target_view c.args.target.now)) (view c.args.f.now.main) None n c.in_err-run.field-0.0) count
-        (subst (λ e. IsStopped (graph_of c.args.g.now) (masks_of c.in_ok-sets.sets.items) (step_view c.args.d.now.main) e (view c.args.f.now.main) None c.cap.result c.in_err-run.field-0.0) term h)))
+    (subst (λ n. IsStopped (graph_of c.args.g.now) (masks_of c.in_ok-sets.sets.items) (step_view c.args.d.now.main) (term_of (target_view c.args.target.now)) (view c.args.f.now.main) None n c.in_err-run.field-0.0) count
+    (subst (λ e. IsStopped (graph_of c.args.g.now) (masks_of c.in_ok-sets.sets.items) (step_view c.args.d.now.main) e (view c.args.f.now.main) None c.cap.result c.in_err-run.field-0.0) term h)))
     c.in_err-run.ensures.fault)
 
 pub returns-then-is_allowed-clause-effect : goal.returns-then-is_allowed-clause-effect
@@ -36,5 +36,5 @@ returns-then-is_allowed-clause-effect c =
     let term = view-Prob c.args.target.now.y c.args.target.now.x c.args.target.now.given in
     let listed : is_allowed (masks_of c.args.allowed.now) (formula_view c.args.f.now) ≡ true = search rules in
     let accepted = Defining.accepts (graph_of c.args.g.now) (masks_of c.args.allowed.now) (target_view c.args.target.now) (formula_view c.args.f.now) (derivation_view c.args.d.now) c.in_ok-sets.sets.items c.in_ok-sets.ensures.sets c.in_ok-sets.ensures.define
-        c.requires.sets (subst (λ e. Makes (graph_of c.args.g.now) (masks_of c.in_ok-sets.sets.items) (step_view c.args.d.now.main) e (view c.args.f.now.main)) term c.in_ok-run.ensures.made) listed in
+    c.requires.sets (subst (λ e. Makes (graph_of c.args.g.now) (masks_of c.in_ok-sets.sets.items) (step_view c.args.d.now.main) e (view c.args.f.now.main)) term c.in_ok-run.ensures.made) listed in
     (accepted_is_effect (graph_of c.args.g.now) c.args.g.now.valid (masks_of c.args.allowed.now) (target_view c.args.target.now) (formula_view c.args.f.now) (derivation_view c.args.d.now) c.requires.target accepted).1

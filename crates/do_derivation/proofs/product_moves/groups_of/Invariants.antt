@@ -1,8 +1,7 @@
-use Rattle.std.proofs.Common.{◌≡◌, ◌+◌, ◌≤◌, ◌<◌, drop, true, cond, eqb}
-use Rattle.finite_models.specs.Sums.{all_below}
+use Rattle.std.proofs.Common.{◌≡◌, drop}
 use Rattle.prob_expr.specs.View.{views}
 use Rattle.do_derivation.specs.View.{numbers_of}
-use Rattle.do_derivation.specs.Shapes.{gathered, none_empty, each_below, times_in, all_of, picked, groups_of, has_product, flat, joined}
+use Rattle.do_derivation.specs.Shapes.{groups_of, joined}
 use Rattle.do_derivation.proofs.product_moves.groups_of.Given as goal
 
 abbrev pub invariant-loop-group : goal.invariant-loop-group

@@ -1,7 +1,7 @@
 use Rattle.std.proofs.Common.{◌≡◌, true, ap, ◌∙◌, subst, rules}
 use Rattle.prob_expr.specs.Terms.{are_terms}
 use Rattle.prob_expr.specs.View.{view}
-use Rattle.do_derivation.specs.Table.{is_new, is_part}
+use Rattle.do_derivation.specs.Table.{is_new}
 use Rattle.do_derivation.proofs.Views.{view-Prob, new_four_sets}
 use Rattle.do_derivation.proofs.rule_moves.rule1_in.Goals as goal
 

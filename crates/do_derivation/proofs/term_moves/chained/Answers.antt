@@ -1,14 +1,9 @@
-use Rattle.std.proofs.Common.{◌≡◌, ◌<◌, ◌≤◌, ◌+◌, true, false, [], ◌∷◌, ◌++◌, length, get_or, drop, refl, sym, ap, ◌∙◌, subst, rules, arith}
-use Rattle.mixed_graph.specs.Bits.{has}
-use Rattle.mixed_graph.specs.Shown.{graph_of}
-use Rattle.prob_expr.specs.Masks.{one, join, minus}
-use Rattle.prob_expr.specs.Tree.{prob, product, no_trees, tree}
-use Rattle.prob_expr.specs.View.{view, views}
-use Rattle.prob_expr.proofs.Views.{view-Product}
-use Rattle.do_derivation.specs.View.{numbers_of}
-use Rattle.do_derivation.specs.Shapes.{is_list_of, chained, joined, flat, has_product, picked, as_one, groups_of, times_in, each_below, all_of, is_grouping}
+use Rattle.std.proofs.Common.{◌+◌, drop, refl, sym, ap, ◌∙◌, arith}
+use Rattle.prob_expr.specs.Masks.{join}
+use Rattle.prob_expr.specs.Tree.{prob}
+use Rattle.prob_expr.specs.View.{views}
+use Rattle.do_derivation.specs.Shapes.{chained, joined}
 use Rattle.do_derivation.proofs.Views.{view-Prob}
-use Rattle.do_derivation.proofs.Lists
 use Rattle.do_derivation.proofs.Walks
 use Rattle.do_derivation.proofs.term_moves.chained.Goals as goal
 
