@@ -1,6 +1,9 @@
 pub mod Accepts
+pub mod Answers
+pub mod Applied
 pub mod Plans
 pub mod Shapes
+pub mod Sound
 pub mod Steps
 pub mod Table
 pub mod View

@@ -1,5 +1,6 @@
 -- The plain trees of the code's steps and derivations.
 use Rattle.std.specs.Prelude.{ℕ, List, map, take}
+use Rattle.std.specs.Global.{Vec}
 use Rattle.mixed_graph.specs.declared.lists.Order.{Order}
 use Rattle.do_derivation.specs.Plans.{Move, Plan, Plans, plans_of, PlainLemma, PlainDerivation}
 use Rattle.do_derivation.specs.declared.steps.Lemma.{Lemma}
@@ -11,6 +12,10 @@ use Rattle.do_derivation.specs.declared.steps.Step.TheOpen.{Step-F}
 abbrev pub listed : Order → List ℕ
 listed o = take o.count o.list
 
+-- the numbers of each group
+abbrev pub numbers_of : List (Vec ℕ) → List (List ℕ)
+numbers_of groups = map (λ (numbers : Vec ℕ). numbers.items) groups
+
 -- the plan of a step whose inner steps have theirs
 abbrev pub node_view : Step-F Plan → Plan
 node_view (Step-F.Rule1In z) = Plan.Make (Move.Rule1In z.bits)
@@ -21,7 +26,7 @@ node_view (Step-F.Rule3In z) = Plan.Make (Move.Rule3In z.bits)
 node_view (Step-F.Rule3Out z) = Plan.Make (Move.Rule3Out z.bits)
 node_view (Step-F.Chain o) = Plan.Make (Move.Chain (listed o))
 node_view (Step-F.Unchain) = Plan.Make Move.Unchain
-node_view (Step-F.Group l) = Plan.Make (Move.Group (map (λ numbers. numbers.items) l.items))
+node_view (Step-F.Group l) = Plan.Make (Move.Group (numbers_of l.items))
 node_view (Step-F.Widen u) = Plan.Make (Move.Widen u.bits)
 node_view (Step-F.Narrow) = Plan.Make Move.Narrow
 node_view (Step-F.Split) = Plan.Make Move.Split

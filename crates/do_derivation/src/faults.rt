@@ -51,3 +51,10 @@ pub enum CheckFault {
     /// Memory was refused.
     NoMemory,
 }
+
+/// Why a move has no result.
+#[derive(Clone, Copy)]
+pub(crate) enum Refusal {
+    Fault(StepFault),
+    NoMemory,
+}

@@ -1,8 +1,16 @@
 //! Derivations in the do-calculus, and the checker that accepts them.
 #![tactic(auto)]
 
+mod applying;
+mod checking;
 mod faults;
+mod product_moves;
+mod rule_moves;
+mod sound;
 mod steps;
+mod term_moves;
 
+pub use checking::{apply, check, check_with};
 pub use faults::{ApplyFault, CheckFault, StepFault, StepPlace};
+pub use sound::laws;
 pub use steps::{Derivation, Lemma, Step};

@@ -1,0 +1,16 @@
+pub mod Accepted
+pub mod Turns
+pub mod Asked
+pub mod Children
+pub mod Defining
+pub mod Exact
+pub mod Keeps
+pub mod Lists
+pub mod Preserved
+pub mod Products
+pub mod StepViews
+pub mod TermLaws
+pub mod TermSets
+pub mod TreeTerms
+pub mod Views
+pub mod Walks

@@ -1,0 +1,50 @@
+-- The plans of the code's steps.
+use Rattle.std.proofs.Common.{ℕ, ◌≡◌, rules}
+use Rattle.std.specs.Global.{Vec}
+use Rattle.mixed_graph.specs.declared.lists.Order.{Order}
+use Rattle.mixed_graph.specs.declared.sets.VSet.{VSet}
+use Rattle.do_derivation.specs.Plans.{Move, Plan}
+use Rattle.do_derivation.specs.View.{step_view, listed, numbers_of}
+use Rattle.do_derivation.specs.declared.steps.Step.{the_lemmas, Rule1In, Rule1Out, Rule2See, Rule2Do, Rule3In, Rule3Out, Chain, Unchain, Group, Widen, Narrow, Split, Cite, Unwrap}
+
+pub step-Rule1In : (z : VSet) → step_view (Rule1In z) ≡ Plan.Make (Move.Rule1In z.bits)
+step-Rule1In z = search (rules, the_lemmas)
+
+pub step-Rule1Out : (z : VSet) → step_view (Rule1Out z) ≡ Plan.Make (Move.Rule1Out z.bits)
+step-Rule1Out z = search (rules, the_lemmas)
+
+pub step-Rule2See : (z : VSet) → step_view (Rule2See z) ≡ Plan.Make (Move.Rule2See z.bits)
+step-Rule2See z = search (rules, the_lemmas)
+
+pub step-Rule2Do : (z : VSet) → step_view (Rule2Do z) ≡ Plan.Make (Move.Rule2Do z.bits)
+step-Rule2Do z = search (rules, the_lemmas)
+
+pub step-Rule3In : (z : VSet) → step_view (Rule3In z) ≡ Plan.Make (Move.Rule3In z.bits)
+step-Rule3In z = search (rules, the_lemmas)
+
+pub step-Rule3Out : (z : VSet) → step_view (Rule3Out z) ≡ Plan.Make (Move.Rule3Out z.bits)
+step-Rule3Out z = search (rules, the_lemmas)
+
+pub step-Chain : (order : Order) → step_view (Chain order) ≡ Plan.Make (Move.Chain (listed order))
+step-Chain order = search (rules, the_lemmas)
+
+pub step-Unchain : step_view Unchain ≡ Plan.Make Move.Unchain
+step-Unchain = search (rules, the_lemmas)
+
+pub step-Group : (groups : Vec (Vec ℕ)) → step_view (Group groups) ≡ Plan.Make (Move.Group (numbers_of groups.items))
+step-Group groups = search (rules, the_lemmas)
+
+pub step-Widen : (u : VSet) → step_view (Widen u) ≡ Plan.Make (Move.Widen u.bits)
+step-Widen u = search (rules, the_lemmas)
+
+pub step-Narrow : step_view Narrow ≡ Plan.Make Move.Narrow
+step-Narrow = search (rules, the_lemmas)
+
+pub step-Split : step_view Split ≡ Plan.Make Move.Split
+step-Split = search (rules, the_lemmas)
+
+pub step-Cite : (k : ℕ) → step_view (Cite k) ≡ Plan.Make (Move.Cite k)
+step-Cite k = search (rules, the_lemmas)
+
+pub step-Unwrap : step_view Unwrap ≡ Plan.Make Move.Unwrap
+step-Unwrap = search (rules, the_lemmas)
