@@ -1,6 +1,8 @@
 pub mod Check
 pub mod Free
+pub mod Listed
 pub mod Masks
+pub mod Same
 pub mod Terms
 pub mod Tree
 pub mod Values

@@ -1,8 +1,21 @@
 //! Expressions of probabilities, formulas and targets.
+//!
+//! A formula is a list of definitions and a main expression. Contracts speak of the plain trees of
+//! `specs/Tree.antt`, which `specs/View.antt` reads off the code's; `specs/Values.antt` says what
+//! the value of a formula in a model is.
 #![tactic(auto)]
 
+mod allowing;
 mod checking;
+mod comparing;
+mod copying;
 mod expr;
+mod freeing;
+pub mod masks;
 
-pub use checking::ExprFault;
+pub use allowing::{is_allowed, is_do_free};
+pub use checking::{ExprFault, check};
+pub use comparing::is_same;
+pub use copying::copy_expr;
 pub use expr::{Expr, Formula, Place, Target};
+pub use freeing::free;

@@ -1,0 +1,11 @@
+use Rattle.std.proofs.Common.{◌<◌, ◌^◌, length}
+use Rattle.mixed_graph.specs.Bits.{has}
+use Rattle.mixed_graph.specs.Sets.{Within}
+use Rattle.expr_text.proofs.LatexLists.{IsWriting}
+use Rattle.expr_text.proofs.latex.push_members.Given as goal
+
+abbrev pub invariant-members : goal.invariant-members
+invariant-members l = IsWriting l.names l.initial.out.items l.out.items l.fn.set.bits l.rest.bits × Within (length l.names) (has l.rest.bits) × (l.rest.bits < 2 ^ 64)
+
+abbrev pub decreases-members : goal.decreases-members
+decreases-members l = l.rest.bits

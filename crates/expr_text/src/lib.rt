@@ -1,0 +1,29 @@
+//! Expressions and formulas as text and as LaTeX, and texts read as expressions and formulas.
+//!
+//! ```text
+//! expr    = "sum" "{" names "}" expr | operand { "*" operand } | operand "/" operand
+//! operand = "P(" names ["|" conds] ")" | "q" number | "(" expr ")"
+//! conds   = "do(" names ")" ["," names] | names
+//! names   = name { "," name }
+//! ```
+//!
+//! A formula's text is its main expression and then `qk = expr` for each definition, in order from `q0`.
+#![tactic(auto)]
+
+mod bytes;
+mod latex;
+mod laws;
+mod reading;
+mod stop;
+mod target;
+mod tokens;
+mod writing;
+
+pub use latex::latex_text;
+pub use laws::{the_grammar, written_is_read};
+pub use reading::{TextFault, read_expr, read_formula};
+pub use target::{target_latex, target_text};
+pub use writing::{formula_text, write_expr};
+
+#[cfg(test)]
+mod tests;

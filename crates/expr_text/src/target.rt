@@ -1,0 +1,50 @@
+ghost use Rattle.std.specs.Prelude.{◌≡◌, ◌++◌, length, IfOk};
+ghost use Rattle.mixed_graph.specs.Bits.{has};
+ghost use Rattle.mixed_graph.specs.Sets.{Within};
+ghost use Rattle.prob_expr.specs.Tree.{term_of};
+ghost use Rattle.prob_expr.specs.View.{target_view};
+ghost use Rattle.expr_text.specs.Latex.{latex_of};
+ghost use Rattle.expr_text.specs.Write.{text_of};
+
+use crate::latex;
+use answer_text::{Term, push_term};
+use mixed_graph::Names;
+use prob_expr::Target;
+use std::alloc::{AllocError, Global};
+
+/// The target as a term.
+fn term(target: &Target) -> Term
+    ensures what { result.of.bits ≡ target.now.y.bits }
+    ensures doing { result.doing.bits ≡ target.now.x.bits }
+    ensures given { result.given.bits ≡ target.now.given.bits }
+{
+    Term {
+        of: target.y,
+        doing: target.x,
+        given: target.given,
+    }
+}
+
+/// The text of a target: the term `P(Y|do(X))`, or `P(Y)` where X is empty.
+pub fn target_text(alloc: Global, target: &Target, names: &Names) -> Result<Vec<u8>, AllocError>
+    requires what { Within (length names.now) (has target.now.y.bits) }
+    requires doing { Within (length names.now) (has target.now.x.bits) }
+    requires given { Within (length names.now) (has target.now.given.bits) }
+    ensures { IfOk result (λ v. v.items ≡ text_of names.now (term_of (target_view target.now))) }
+{
+    let mut out = Vec::new(alloc);
+    push_term(&mut out, names, term(target))?;
+    Ok(out)
+}
+
+/// A target as LaTeX: the term `P(Y \mid \mathrm{do}(X))`, or `P(Y)` where X is empty.
+pub fn target_latex(alloc: Global, target: &Target, names: &Names) -> Result<Vec<u8>, AllocError>
+    requires what { Within (length names.now) (has target.now.y.bits) }
+    requires doing { Within (length names.now) (has target.now.x.bits) }
+    requires given { Within (length names.now) (has target.now.given.bits) }
+    ensures { IfOk result (λ v. v.items ≡ latex_of names.now (term_of (target_view target.now))) }
+{
+    let mut out = Vec::new(alloc);
+    latex::push_term(alloc, &mut out, names, term(target))?;
+    Ok(out)
+}

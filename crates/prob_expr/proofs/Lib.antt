@@ -1,0 +1,4 @@
+mod FreeSteps
+pub mod MaskLaws
+mod SameTrees
+pub mod Views

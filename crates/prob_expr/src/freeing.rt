@@ -1,0 +1,58 @@
+ghost use Rattle.std.specs.Prelude.{◌≡◌, IfOk, get_or};
+ghost use Rattle.prob_expr.specs.Listed.{masks_of};
+ghost use Rattle.prob_expr.specs.View.{view, views, formula_view};
+ghost use Rattle.prob_expr.specs.Free.{free_in, free_in_any, free_of};
+
+use crate::expr::{Expr, Formula};
+use crate::masks::{join, minus};
+use mixed_graph::VSet;
+use std::alloc::{AllocError, Global};
+
+#[cycle(free_expr)]
+fn free_expr(e: &Expr, sets: &[VSet]) -> VSet
+    ensures { result.bits ≡ free_in (masks_of sets.now) (view e.now) }
+{
+    match e {
+        Expr::Prob { of, doing, given } => join(join(*of, *doing), *given),
+        Expr::Sum { over, body } => minus(free_expr(body, sets), *over),
+        Expr::Product(factors) => free_factors(factors, sets),
+        Expr::Quotient { top, bottom } => join(free_expr(top, sets), free_expr(bottom, sets)),
+        Expr::Named(k) => set_at(sets, *k),
+    }
+}
+
+// The set of a definition; none is there only if the formula isn't checked.
+fn set_at(sets: &[VSet], k: u32) -> VSet
+    ensures { result.bits ≡ get_or (masks_of sets.now) k 0 }
+{
+    match sets.get(k as usize) {
+        Some(set) => *set,
+        None => VSet { bits: 0 },
+    }
+}
+
+#[cycle(free_expr)]
+fn free_factors(factors: &Vec<Expr>, sets: &[VSet]) -> VSet
+    ensures { result.bits ≡ free_in_any (masks_of sets.now) (views factors.now.items) }
+{
+    let mut free = VSet { bits: 0 };
+    for factor in factors {
+        free = join(free, free_expr(factor, sets));
+    }
+    free
+}
+
+/// The free variables of a formula: those whose values its value may depend on.
+///
+/// A sum binds its own. The set of each definition is kept, so each node is visited once. A number
+/// without a definition, which `check` refuses, has none.
+pub fn free(alloc: Global, f: &Formula) -> Result<VSet, AllocError>
+    ensures { IfOk result (λ s. s.bits ≡ free_of (formula_view f.now)) }
+{
+    let mut sets = Vec::new(alloc);
+    for def in &f.defs {
+        let set = free_expr(def, &sets);
+        sets.push(set)?;
+    }
+    Ok(free_expr(&f.main, &sets))
+}
