@@ -1,0 +1,171 @@
+ghost use Rattle.std.specs.Prelude.{◌≡◌, ◌==◌, codes, map, option_and_then};
+ghost use Rattle.std.specs.Str.{bytes_eq};
+ghost use Rattle.serde_json.specs.View.{view as data_view};
+ghost use Rattle.serde_json.specs.Find.{as_object, get};
+ghost use Rattle.prob_expr.specs.View.{view, formula_view, target_view};
+ghost use Rattle.do_derivation.specs.View.{derivation_view, step_view, lemma_view};
+ghost use Rattle.step_json.specs.Reading.{set_in, filled_set_in, step_in};
+ghost use Rattle.certificate.specs.Faults.{Gives, at_key};
+ghost use Rattle.certificate.specs.declared.fault.Key.TheVariants as keys;
+ghost use Rattle.certificate.specs.Reading.{member_by, main_in, defs_in, lemmas_in, version_in, target_in, whole, formula_in, derivation_in, member_count, is_formula, is_word};
+
+use crate::fault::{CertFault, Key, fault_at};
+use crate::formulas::{defs_in, lemmas_in, main_in};
+use do_derivation::{Derivation, Lemma, Step};
+use mixed_graph::{Names, VSet};
+use prob_expr::{Expr, Formula, Target, check_expr};
+use serde_json::Value;
+use std::alloc::Global;
+use step_json::{ValueFault, read_filled_set, read_set, read_step};
+
+// What was read of the member of a key.
+fn at_key<T>(key: Key, read: Result<T, ValueFault>) -> Result<T, CertFault>
+    ensures { result ≡ at_key key read }
+{
+    match read {
+        Ok(value) => Ok(value),
+        Err(fault) => Err(fault_at(key, fault)),
+    }
+}
+
+fn x_in(alloc: Global, names: &Names, d: &Value) -> Result<VSet, CertFault>
+    ensures { Gives (λ s. s.bits) result (member_by keys.X (codes "x") (set_in names.now 0) (data_view d.now)) }
+{
+    match d.get("x") {
+        Some(value) => at_key(Key::X, read_set(alloc, names, VSet { bits: 0 }, value)),
+        None => Err(CertFault::Member(Key::X)),
+    }
+}
+
+fn y_in(alloc: Global, names: &Names, x: VSet, d: &Value) -> Result<VSet, CertFault>
+    ensures { Gives (λ s. s.bits) result (member_by keys.Y (codes "y") (filled_set_in names.now x.bits) (data_view d.now)) }
+{
+    match d.get("y") {
+        Some(value) => at_key(Key::Y, read_filled_set(alloc, names, x, value)),
+        None => Err(CertFault::Member(Key::Y)),
+    }
+}
+
+fn formula_text_in(alloc: Global, names: &Names, d: &Value) -> Result<Expr, CertFault>
+    ensures { Gives (λ e. view e) result (member_by keys.Formula (codes "formula") (main_in names.now) (data_view d.now)) }
+{
+    match d.get("formula") {
+        Some(value) => at_key(Key::Formula, main_in(alloc, names, value)),
+        None => Err(CertFault::Member(Key::Formula)),
+    }
+}
+
+fn defs_texts_in(alloc: Global, names: &Names, d: &Value) -> Result<Vec<Expr>, CertFault>
+    ensures { Gives (λ v. map view v.items) result (member_by keys.Defs (codes "defs") (defs_in names.now) (data_view d.now)) }
+{
+    match d.get("defs") {
+        Some(value) => at_key(Key::Defs, defs_in(alloc, names, value)),
+        None => Err(CertFault::Member(Key::Defs)),
+    }
+}
+
+fn lemma_list_in(alloc: Global, names: &Names, d: &Value) -> Result<Vec<Lemma>, CertFault>
+    ensures { Gives (λ v. map lemma_view v.items) result (member_by keys.Lemmas (codes "lemmas") (lemmas_in names.now) (data_view d.now)) }
+{
+    match d.get("lemmas") {
+        Some(value) => at_key(Key::Lemmas, lemmas_in(alloc, names, value)),
+        None => Err(CertFault::Member(Key::Lemmas)),
+    }
+}
+
+fn main_step_in(alloc: Global, names: &Names, d: &Value) -> Result<Step, CertFault>
+    ensures { Gives step_view result (member_by keys.Main (codes "main") (step_in names.now) (data_view d.now)) }
+{
+    match d.get("main") {
+        Some(value) => at_key(Key::Main, read_step(alloc, names, value)),
+        None => Err(CertFault::Member(Key::Main)),
+    }
+}
+
+// The version: a whole number.
+#[tactic(auto, unfolding(crate::specs::Reading::version_in))]
+pub fn version_in(d: &Value) -> Result<u64, CertFault>
+    ensures { Gives (λ k. k) result (version_in (data_view d.now)) }
+{
+    let Some(value) = d.get("version") else {
+        return Err(CertFault::Member(Key::Version));
+    };
+    match value.as_u64() {
+        Some(version) => Ok(version),
+        None => Err(CertFault::Member(Key::Version)),
+    }
+}
+
+// The two sets of a target, which don't meet; y isn't empty.
+#[tactic(auto, unfolding(crate::specs::Reading::target_in))]
+pub fn target_in(alloc: Global, names: &Names, d: &Value) -> Result<Target, CertFault>
+    ensures { Gives (λ t. target_view t) result (target_in names.now (data_view d.now)) }
+{
+    let x = x_in(alloc, names, d)?;
+    let y = y_in(alloc, names, x, d)?;
+    Ok(Target {
+        x,
+        y,
+        given: VSet { bits: 0 },
+    })
+}
+
+// The formula, where main names no definition that isn't there.
+fn whole(names: &Names, formula: Formula) -> Result<Formula, CertFault>
+    ensures { Gives (λ f. formula_view f) result (whole names.now (formula_view formula)) }
+{
+    let count = formula.defs.len();
+    if check_expr(&formula.main, names.count(), None, count, 0).is_err() {
+        return Err(CertFault::Member(Key::Formula));
+    }
+    Ok(formula)
+}
+
+// A formula: main by itself, then the definitions, and then what main names.
+#[tactic(auto, unfolding(crate::specs::Reading::formula_in))]
+pub fn formula_in(alloc: Global, names: &Names, d: &Value) -> Result<Formula, CertFault>
+    ensures { Gives (λ f. formula_view f) result (formula_in names.now (data_view d.now)) }
+{
+    let main = formula_text_in(alloc, names, d)?;
+    let defs = defs_texts_in(alloc, names, d)?;
+    whole(names, Formula { defs, main })
+}
+
+#[tactic(auto, unfolding(crate::specs::Reading::derivation_in))]
+pub fn derivation_in(alloc: Global, names: &Names, d: &Value) -> Result<Derivation, CertFault>
+    ensures { Gives (λ p. derivation_view p) result (derivation_in names.now (data_view d.now)) }
+{
+    let lemmas = lemma_list_in(alloc, names, d)?;
+    let main = main_step_in(alloc, names, d)?;
+    Ok(Derivation { lemmas, main })
+}
+
+// The number of members of an object.
+#[tactic(auto, using(crate::proofs::Texts::count_is))]
+pub fn member_count(d: &Value) -> usize
+    ensures { result ≡ member_count (as_object (data_view d.now)) }
+{
+    match d.as_object() {
+        Some(members) => members.len(),
+        None => 0,
+    }
+}
+
+fn is_word(text: &[u8]) -> bool
+    ensures { result ≡ bytes_eq text.now (codes "formula") }
+{
+    text == b"formula".as_slice()
+}
+
+// Whether the answer is the word `formula`.
+pub fn is_formula(d: &Value) -> bool
+    ensures { result ≡ is_formula (data_view d.now) }
+{
+    let Some(value) = d.get("answer") else {
+        return false;
+    };
+    match value.as_str() {
+        Some(text) => is_word(text.as_bytes()),
+        None => false,
+    }
+}

@@ -1,0 +1,85 @@
+ghost use Rattle.std.specs.Prelude.{◌≡◌};
+ghost use Rattle.serde_json.specs.View.{view};
+ghost use Rattle.certificate.specs.Faults.{Gives, or_fault};
+ghost use Rattle.certificate.specs.Plain.{certificate_view};
+ghost use Rattle.certificate.specs.declared.fault.CertFault.TheVariants.{NotJson};
+ghost use Rattle.certificate.specs.Reading.{formula_certificate_in, first_version_in, value_certificate, json_of, certificate_in};
+
+use crate::fault::{CertFault, Key};
+use crate::keys::{derivation_in, formula_in, is_formula, member_count, target_in, version_in};
+use crate::values::Certificate;
+use mixed_graph::Names;
+use serde_json::Value;
+use std::alloc::Global;
+
+// The value of a text.
+#[tactic(auto, using(crate::proofs::Texts::some_text, crate::proofs::Texts::no_text))]
+fn json_of(alloc: Global, text: &[u8]) -> Result<Value, CertFault>
+    ensures { Gives (λ d. view d) result (or_fault NotJson (json_of text.now)) }
+{
+    match Value::from_slice(alloc, text) {
+        Ok(value) => Ok(value),
+        Err(e) => {
+            if e.is_memory() {
+                return Err(CertFault::NoMemory);
+            }
+            Err(CertFault::NotJson)
+        }
+    }
+}
+
+// The certificate of a formula: its eight keys, and no further one.
+#[tactic(auto, unfolding(crate::specs::Reading::formula_certificate_in))]
+fn formula_certificate_in(
+    alloc: Global,
+    names: &Names,
+    d: &Value,
+) -> Result<Certificate, CertFault>
+    ensures { Gives (λ c. certificate_view c) result (formula_certificate_in names.now (view d.now)) }
+{
+    let target = target_in(alloc, names, d)?;
+    let formula = formula_in(alloc, names, d)?;
+    let derivation = derivation_in(alloc, names, d)?;
+    if member_count(d) != 8 {
+        return Err(CertFault::Member(Key::Extra));
+    }
+    Ok(Certificate::Formula {
+        target,
+        formula,
+        derivation,
+    })
+}
+
+fn first_version_in(alloc: Global, names: &Names, d: &Value) -> Result<Certificate, CertFault>
+    ensures { Gives (λ c. certificate_view c) result (first_version_in names.now (view d.now)) }
+{
+    if !is_formula(d) {
+        return Err(CertFault::Member(Key::Answer));
+    }
+    formula_certificate_in(alloc, names, d)
+}
+
+#[tactic(auto, unfolding(crate::specs::Reading::value_certificate))]
+fn value_certificate(alloc: Global, names: &Names, d: &Value) -> Result<Certificate, CertFault>
+    ensures { Gives (λ c. certificate_view c) result (value_certificate names.now (view d.now)) }
+{
+    let version = version_in(d)?;
+    if version != 1 {
+        return Err(CertFault::Version(version));
+    }
+    first_version_in(alloc, names, d)
+}
+
+/// The certificate that a text is.
+///
+/// `NotJson` where the text is no JSON; then `Member(Version)` where the value has no whole number as its version, `Version` where
+/// that isn't 1. Then the keys are tried in the order answer, x, y, formula, defs, lemmas, main: `Member` of the first that is missing or
+/// hasn't its form, `Name` where a text stands in place of a name and isn't one, `TooDeep` where a 61st step nests, whatever comes first in
+/// its text. `Member(Extra)` where there is a further key.
+#[tactic(auto, unfolding(crate::specs::Reading::certificate_in))]
+pub fn read_answer(alloc: Global, text: &[u8], names: &Names) -> Result<Certificate, CertFault>
+    ensures { Gives (λ c. certificate_view c) result (certificate_in names.now text.now) }
+{
+    let value = json_of(alloc, text)?;
+    value_certificate(alloc, names, &value)
+}

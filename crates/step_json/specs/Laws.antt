@@ -1,0 +1,86 @@
+-- What is written for a step is read again, and doesn't nest too deep for JSON.
+use Rattle.std.specs.Prelude.{◌≡◌, ℕ, suc, ◌+◌, ◌*◌, ◌≤◌, ◌^◌, max, Bool, true, ◌&&◌, ltb, leb, List, [], ◌∷◌, length, Ok}
+use Rattle.mixed_graph.specs.Names.{AreNames}
+use Rattle.prob_expr.specs.Masks.{is_below, is_apart}
+use Rattle.do_derivation.specs.Plans.{Move, Plan, Plans, no_plans, plan}
+use Rattle.serde_json.specs.Data.{depth}
+use Rattle.step_json.specs.Values.{set_value, step_value}
+use Rattle.step_json.specs.Reading.{set_in, step_in}
+
+abbrev pub are_below : ℕ → List ℕ → Bool
+are_below n [] = true
+are_below n (v ∷ vs) = ltb v n && are_below n vs
+
+abbrev pub groups_below : ℕ → List (List ℕ) → Bool
+groups_below n [] = true
+groups_below n (l ∷ ls) = are_below n l && groups_below n ls
+
+-- the vertices of a move are below n
+abbrev pub is_move_within : ℕ → Move → Bool
+is_move_within n (Move.Rule1In z) = is_below n z
+is_move_within n (Move.Rule1Out z) = is_below n z
+is_move_within n (Move.Rule2See z) = is_below n z
+is_move_within n (Move.Rule2Do z) = is_below n z
+is_move_within n (Move.Rule3In z) = is_below n z
+is_move_within n (Move.Rule3Out z) = is_below n z
+is_move_within n (Move.Chain o) = are_below n o
+is_move_within n Move.Unchain = true
+is_move_within n (Move.Group l) = true
+is_move_within n (Move.Widen u) = is_below n u
+is_move_within n Move.Narrow = true
+is_move_within n Move.Split = true
+is_move_within n (Move.Cite k) = true
+is_move_within n Move.Unwrap = true
+
+-- the vertices of a step are below n
+abbrev mutual
+  pub is_within : ℕ → Plan → Bool
+  is_within n (Plan.Make m) = is_move_within n m
+  is_within n (Plan.At i p) = is_within n p
+  is_within n (Plan.Then ps) = are_within n ps
+
+  pub are_within : ℕ → Plans → Bool
+  are_within n no_plans = true
+  are_within n (plan p ps) = is_within n p && are_within n ps
+
+-- numbers have 32 bits, and a list of vertices has 64 at most, as those of each step of the code
+abbrev pub is_move_short : Move → Bool
+is_move_short (Move.Chain o) = leb (length o) 64
+is_move_short (Move.Group l) = groups_below (2 ^ 32) l
+is_move_short (Move.Cite k) = ltb k (2 ^ 32)
+is_move_short _ = true
+
+abbrev mutual
+  pub is_short : Plan → Bool
+  is_short (Plan.Make m) = is_move_short m
+  is_short (Plan.At i p) = ltb i (2 ^ 32) && is_short p
+  is_short (Plan.Then ps) = are_short ps
+
+  pub are_short : Plans → Bool
+  are_short no_plans = true
+  are_short (plan p ps) = is_short p && are_short ps
+
+-- how deep steps nest: one that has none inside is 1 deep
+abbrev mutual
+  pub nesting : Plan → ℕ
+  nesting (Plan.Make m) = 1
+  nesting (Plan.At i p) = suc (nesting p)
+  nesting (Plan.Then ps) = suc (nesting_each ps)
+
+  pub nesting_each : Plans → ℕ
+  nesting_each no_plans = 0
+  nesting_each (plan p ps) = max (nesting p) (nesting_each ps)
+
+-- a set's value is read again
+abbrev pub SetReadsBack : Type 0
+SetReadsBack = (names : List (List ℕ)) (barred set : ℕ) → AreNames names → is_below (length names) set ≡ true → is_apart barred set ≡ true
+    → set_in names barred (set_value names set) ≡ Ok set
+
+-- a step's value is read again
+abbrev pub StepReadsBack : Type 0
+StepReadsBack = (names : List (List ℕ)) (p : Plan) → AreNames names → is_within (length names) p ≡ true → is_short p ≡ true → nesting p ≤ 60
+    → step_in names (step_value names p) ≡ Ok p
+
+-- a step alone nests three lists at most, and each step round it adds two or fewer
+abbrev pub StepNests : Type 0
+StepNests = (names : List (List ℕ)) (p : Plan) → depth (step_value names p) ≤ 2 * nesting p + 1

@@ -1,0 +1,5 @@
+pub mod Laws
+pub mod Reading
+pub mod Values
+pub mod View
+pub mod Words
