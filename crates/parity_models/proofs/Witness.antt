@@ -10,7 +10,7 @@ use Rattle.finite_models.proofs.Indicators.{number}
 use Rattle.finite_models.proofs.Ranks.{with_rank}
 use Rattle.parity_models.specs.Hedges.{ParityHedge, IsWholeHedge, links_of, noise_of}
 use Rattle.parity_models.specs.Pairs.{first_model, second_model, first_mechanism, second_mechanism, serves_of, size_of, event_even}
-use Rattle.parity_models.specs.Laws.{DifferAt}
+use Rattle.parity_models.specs.Laws.{AgreeObserved, DifferAt}
 use Rattle.parity_models.proofs.Agreement.{observations_agree}
 use Rattle.parity_models.proofs.Counting.{over-base, over-term}
 use Rattle.parity_models.proofs.CounterFits.{first_fits, second_fits}
@@ -55,8 +55,8 @@ module _ (g : MixedGraph) (is_graph : IsMixedGraph g) (x : ℕ → Bool) (d : Pa
   observed s = with_rank g is_graph (event_weight One (λ v. true) s) (event_weight Two (λ v. true) s)
       (λ rank ranked. observations_agree g x d ok.hedge ok.tree is_graph s rank ranked (serves_of d) follows_one follows_two)
 
-  pub agree_observed : (s : ℕ → ℕ) → event_weight One (λ v. true) s * total Two ≡ event_weight Two (λ v. true) s * total One
-  agree_observed s = ap (λ r. r * total Two) (observed s)
+  pub agree_observed : AgreeObserved One Two
+  agree_observed = record { vertices = refl; sizes = λ v lt. refl; weights = λ s within. ap (λ r. r * total Two) (observed s) }
 
   pub positive_two : IsPositiveModel Two
   positive_two s within = from (event_weight Two (λ v. true) s)

@@ -1,0 +1,5 @@
+use Rattle.counter_models.proofs.Bridge.{whole}
+use Rattle.counter_models.proofs.theory.laws.Goals as goal
+
+pub returns : goal.returns
+returns c = record { whole = whole }

@@ -1,0 +1,16 @@
+//! The two models of a hedge, as data: they agree on all observations, and differ on the effect.
+#![tactic(auto)]
+
+mod carrying;
+mod causes;
+mod kinds;
+mod mechanisms;
+mod pairs;
+mod parts;
+#[cfg(test)]
+mod tests;
+mod theory;
+
+pub use kinds::CounterPair;
+pub use pairs::build;
+pub use theory::laws;
