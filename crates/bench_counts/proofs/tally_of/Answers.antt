@@ -1,4 +1,4 @@
-use Rattle.std.proofs.Common.{◌≡◌, ◌∙◌, ◌<◌, length, arith, sym, true, nat_lt}
+use Rattle.std.proofs.Common.{◌≡◌, ◌∙◌, arith, sym, true, nat_lt}
 use borrow.Author.Tests.{ltb-true}
 use Rattle.bench_counts.proofs.tally_of.Goals as goal
 
