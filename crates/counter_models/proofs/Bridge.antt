@@ -50,10 +50,10 @@ module _ (g : MixedGraph) (graph : IsMixedGraph g) (few : g.vertices ≤ 64) (x 
   root_placed : IsPlaced h hedge.sets.rooted.0
   root_placed = hedge.links.placed hedge.sets.rooted.0 (small_big hedge.sets.rooted.0 (hedge.sets.roots_inside hedge.sets.rooted.0 hedge.sets.rooted.1))
 
-  some_small : 1 ≤ size_of h.small.bits
+  pub some_small : 1 ≤ size_of h.small.bits
   some_small = let l = root_placed.small_first.0 (hedge.sets.roots_inside hedge.sets.rooted.0 hedge.sets.rooted.1) in omega arith
 
-  some_entry : 1 ≤ h.links.count
+  pub some_entry : 1 ≤ h.links.count
   some_entry = let l = root_placed.listed in omega arith
 
   kept_low : (v : ℕ) → IsKept g x y h.roots.bits v → v < g.vertices

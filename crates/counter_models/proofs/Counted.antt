@@ -8,12 +8,12 @@ use Rattle.parity_models.proofs.ParityLaws.{odd-congr, odd-one}
 use Rattle.counter_models.specs.Pairs.{before}
 use Rattle.counter_models.proofs.Lists.{before-less, members-suc}
 
-get-first : (xs ys : List ℕ) (j d : ℕ) → j < length xs → get_or (xs ++ ys) j d ≡ get_or xs j d
+pub get-first : (xs ys : List ℕ) (j d : ℕ) → j < length xs → get_or (xs ++ ys) j d ≡ get_or xs j d
 get-first [] ys j d lt = absurd (omega arith)
 get-first (x ∷ xs) ys zero d lt = refl
 get-first (x ∷ xs) ys (suc j) d lt = get-first xs ys j d (omega arith)
 
-get-last : (xs : List ℕ) (k j d : ℕ) → j ≡ length xs → get_or (xs ++ k ∷ []) j d ≡ k
+pub get-last : (xs : List ℕ) (k j d : ℕ) → j ≡ length xs → get_or (xs ++ k ∷ []) j d ≡ k
 get-last [] k zero d e = refl
 get-last [] k (suc j) d e = absurd (omega arith)
 get-last (x ∷ xs) k zero d e = absurd (omega arith)

@@ -1,6 +1,15 @@
+pub mod Alike
 pub mod Bridge
+pub mod CauseNumbers
 pub mod Choosing
 pub mod Counted
 pub mod Entries
+pub mod Final
 pub mod Following
+pub mod Inputs
 pub mod Lists
+pub mod Reading
+pub mod Same
+pub mod SoundData
+pub mod Sums
+pub mod Values

@@ -1,3 +1,4 @@
+pub mod Events
 pub mod Kept
 pub mod Pairs
 pub mod Theory

@@ -1,6 +1,11 @@
 ghost use Rattle.counter_models.specs.Theory.{HedgeIsWhole};
+ghost use Rattle.counter_models.specs.Events.{PairsAreCounterModels};
 
-/// Each hedge, with the vertices that carry its roots' bits to y, keeps what the two models of the theory need.
+/// What the two models of a hedge show (Shpitser and Pearl).
 pub fn laws()
+    // Each hedge, with the vertices that carry its roots' bits to y, keeps what the theory of the two models needs.
     ensures whole { HedgeIsWhole }
+
+    // Its two models agree on all observations and differ on the effect.
+    ensures counter { PairsAreCounterModels }
 {}

@@ -1,5 +1,6 @@
 use Rattle.counter_models.proofs.Bridge.{whole}
+use Rattle.counter_models.proofs.Final.{counter}
 use Rattle.counter_models.proofs.theory.laws.Goals as goal
 
 pub returns : goal.returns
-returns c = record { whole = whole }
+returns c = record { whole = whole; counter = counter }
