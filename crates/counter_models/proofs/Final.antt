@@ -13,7 +13,8 @@ use Rattle.hedge.specs.declared.kinds.Hedge.{Hedge}
 use Rattle.parity_models.specs.Parities.{bit}
 use Rattle.parity_models.specs.Hedges.{ParityHedge, IsWholeHedge, links_of, noise_of}
 use Rattle.parity_models.specs.Pairs.{first_model, second_model, event_odd, event_even, size_of}
-use Rattle.parity_models.specs.Laws.{AgreeObserved, DifferAt}
+use Rattle.finite_models.specs.Agreement.{AgreeObserved}
+use Rattle.parity_models.specs.Laws.{DifferAt}
 use Rattle.parity_models.proofs.ParityLaws.{odd-congr}
 use Rattle.parity_models.proofs.Witness.{fit_one, fit_two, positive_one, positive_two, agree_observed, half, more, effects}
 use Rattle.counter_models.specs.Events.{carried_sum, even_weight, IsProperModel, AreCounterModels}

@@ -8,7 +8,8 @@ use Rattle.finite_models.specs.Models.{Fits, IsAssignment, IsPositiveModel, sum_
 use Rattle.finite_models.specs.Data.{meaning, carried_bit}
 use Rattle.finite_models.specs.Faults.{IsSoundModel}
 use Rattle.finite_models.specs.declared.kinds.Model.{Model}
-use Rattle.parity_models.specs.Laws.{AgreeObserved, DifferAt}
+use Rattle.finite_models.specs.Agreement.{AgreeObserved}
+use Rattle.parity_models.specs.Laws.{DifferAt}
 use Rattle.hedge.specs.Hedges.{IsHedge}
 use Rattle.hedge.specs.declared.kinds.Hedge.{Hedge}
 use Rattle.counter_models.specs.Pairs.{IsPairOf}

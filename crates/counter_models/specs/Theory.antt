@@ -19,12 +19,15 @@ links_from h k (suc c) = record { entry = slice_index h.links.found k; partner =
 abbrev pub inner_entries : Hedge → ℕ
 inner_entries h = size_of h.small.bits - (size_of h.small.bits - h.links.count)
 
+-- the links inside small
 abbrev pub inner_of : Hedge → List Link
 inner_of h = links_from h 1 (inner_entries h - 1)
 
+-- the links of the rest of big
 abbrev pub outer_of : Hedge → List Link
 outer_of h = links_from h (inner_entries h) (h.links.count - inner_entries h)
 
+-- the hedge's data, as the laws of the two models take it
 abbrev pub data_of : (y : ℕ) → Hedge → (kept : ℕ) → (carry : List ℕ) → ParityHedge
 data_of y h kept carry = record {
   big = has h.big.bits;

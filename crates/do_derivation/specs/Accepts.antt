@@ -15,6 +15,7 @@ use Rattle.do_derivation.specs.declared.faults.CheckFault.TheVariants.{Step, End
 abbrev pub start_of : ℕ → ℕ → Tree
 start_of n set = prob set (minus (all n) set) 0
 
+-- the sets of the lemmas
 abbrev pub sets_of : List PlainLemma → List ℕ
 sets_of lemmas = map (λ l. l.set) lemmas
 

@@ -31,6 +31,7 @@ mutual
     no_plans : Plans
     plan : Plan → Plans → Plans
 
+-- a list of steps as one that a step can hold
 abbrev pub plans_of : List Plan → Plans
 plans_of [] = no_plans
 plans_of (p ∷ ps) = plan p (plans_of ps)

@@ -24,6 +24,7 @@ gathered a b c (tree (product es) ts) = None
 gathered a b c (tree (quotient p q) ts) = None
 gathered a b c (tree (named k) ts) = None
 
+-- the term with this first set, where there is one
 abbrev pub term_with : (b c : ℕ) → Option ℕ → Option Tree
 term_with b c (Some a) = Some (prob a b c)
 term_with b c None = None
@@ -33,10 +34,12 @@ abbrev pub unchained : Tree → Option Tree
 unchained (product (tree (prob a b c) (tree e ts))) = term_with b c (gathered a b c (tree e ts))
 unchained _ = None
 
+-- how many factors there are
 abbrev pub count_factors : Trees → ℕ
 count_factors no_trees = 0
 count_factors (tree t ts) = suc (count_factors ts)
 
+-- factor number i, from 0
 abbrev pub factor_at : Trees → ℕ → Option Tree
 factor_at no_trees i = None
 factor_at (tree t ts) zero = Some t
@@ -68,6 +71,7 @@ abbrev pub groups_of : Trees → List (List ℕ) → Trees
 groups_of ts [] = no_trees
 groups_of ts (l ∷ rest) = tree (as_one (picked ts l)) (groups_of ts rest)
 
+-- the numbers of all groups in turn
 abbrev pub all_of : List (List ℕ) → List ℕ
 all_of [] = []
 all_of (l ∷ rest) = l ++ all_of rest
@@ -77,10 +81,12 @@ abbrev pub times_in : ℕ → List ℕ → ℕ
 times_in i [] = 0
 times_in i (j ∷ rest) = cond (eqb i j) 1 0 + times_in i rest
 
+-- each number is below m
 abbrev pub each_below : ℕ → List ℕ → Bool
 each_below m [] = true
 each_below m (j ∷ rest) = ltb j m && each_below m rest
 
+-- no group is empty
 abbrev pub none_empty : List (List ℕ) → Bool
 none_empty [] = true
 none_empty ([] ∷ rest) = false
@@ -100,6 +106,7 @@ abbrev pub narrowed : Tree → Option Tree
 narrowed (sum u (prob a b c)) = cond (is_inside u a && not (eqb u a)) (Some (prob (minus a u) b c)) None
 narrowed _ = None
 
+-- some factor is a product
 abbrev pub has_product : Trees → Bool
 has_product no_trees = false
 has_product (tree (product es) ts) = true
@@ -130,6 +137,7 @@ child (quotient p q) (suc zero) = Some q
 child (quotient p q) (suc (suc i)) = None
 child (named k) i = None
 
+-- the factors with factor i replaced by x
 abbrev pub with_factor : Trees → ℕ → Tree → Trees
 with_factor no_trees i x = no_trees
 with_factor (tree t ts) zero x = tree x ts

@@ -50,6 +50,7 @@ pub record IsExact (g : MixedGraph) (lemmas : List ℕ) (p : Plan) (e : Tree) : 
   pub one_fault : (before k j : ℕ) (f h : StepFault) → Refuses g lemmas p e before k f → Refuses g lemmas p e before j h → (k ≡ j) × (kind_of f ≡ kind_of h)
   pub not_both : (x : Tree) (before k : ℕ) (f : StepFault) → Makes g lemmas p e x → Refuses g lemmas p e before k f → ⊥
 
+-- each step is exact
 abbrev pub StepsAreExact : Type 0
 StepsAreExact = (g : MixedGraph) (lemmas : List ℕ) (p : Plan) (e : Tree) → IsExact g lemmas p e
 

@@ -25,9 +25,11 @@ on_term f (product ts) = Row.Refuse NotATerm
 on_term f (quotient p q) = Row.Refuse NotATerm
 on_term f (named k) = Row.Refuse NotATerm
 
+-- the row where the condition holds, else the refusal
 abbrev pub if_so : Bool → Row → StepFault → Row
 if_so holds row fault = cond holds row (Row.Refuse fault)
 
+-- what was made, else the refusal
 abbrev pub if_made : Option Tree → StepFault → Row
 if_made (Some t) fault = Row.Make t
 if_made None fault = Row.Refuse fault

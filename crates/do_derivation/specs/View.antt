@@ -39,11 +39,14 @@ node_view (Step-F.Then l) = Plan.Then (plans_of l.items)
 abbrev pub step_view : Step → Plan
 step_view = fold-Step Plan node_view
 
+-- those of several steps
 abbrev pub steps_view : List Step → Plans
 steps_view l = plans_of (map step_view l)
 
+-- the plain lemma
 abbrev pub lemma_view : Lemma → PlainLemma
 lemma_view l = record { set = l.set.bits; plan = step_view l.step }
 
+-- the plain derivation
 abbrev pub derivation_view : Derivation → PlainDerivation
 derivation_view d = record { lemmas = map lemma_view d.lemmas.items; main = step_view d.main }

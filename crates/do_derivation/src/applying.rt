@@ -57,6 +57,7 @@ fn put_factor(factors: &mut Vec<Expr>, k: usize, x: Expr)
     factors[k] = x;
 }
 
+/// Applies a step and counts its nodes; at a refusal the counter stands at the number of the refused node.
 #[cycle(applying)]
 pub fn apply_step(
     alloc: Global,

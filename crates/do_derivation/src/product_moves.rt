@@ -54,6 +54,7 @@ fn unchained(factors: &Vec<Expr>) -> Option<Expr>
     }
 }
 
+/// The one term of a chain of terms.
 pub fn unchain(g: &Graph, e: Expr) -> Result<Expr, Refusal>
     ensures row { IsRow (graph_of g.now) (row g.now.n [] Move.Unchain (view e)) result }
 {
@@ -196,6 +197,7 @@ fn groups_of(
     Ok(made)
 }
 
+/// The factors of a product in groups.
 #[tactic(auto, using(crate::proofs::Lists::count_views))]
 pub fn group(alloc: Global, g: &Graph, groups: &Vec<Vec<u32>>, e: Expr) -> Result<Expr, Refusal>
     ensures row { IsRow (graph_of g.now) (row g.now.n [] (Move.Group (numbers_of groups.now.items)) (view e)) result }
@@ -264,6 +266,7 @@ fn flat(alloc: Global, factors: Vec<Expr>) -> Result<Vec<Expr>, AllocError>
     Ok(made)
 }
 
+/// A product whose factors that are products are opened.
 pub fn unwrap(alloc: Global, g: &Graph, e: Expr) -> Result<Expr, Refusal>
     ensures row { IsRow (graph_of g.now) (row g.now.n [] Move.Unwrap (view e)) result }
 {

@@ -12,20 +12,21 @@ use mixed_graph::{Graph, VSet};
 use prob_expr::Expr;
 use prob_expr::masks::{is_apart, is_below, is_empty, is_inside, join, minus};
 
-// Whether z isn't empty and stands within the graph apart from a, b and c.
+/// Whether z isn't empty and stands within the graph apart from a, b and c.
 pub fn is_new(g: &Graph, z: VSet, a: VSet, b: VSet, c: VSet) -> bool
     ensures { result ≡ is_new g.now.n z.bits a.bits b.bits c.bits }
 {
     !is_empty(z) && is_below(g.n, z) && is_apart(z, a) && is_apart(z, b) && is_apart(z, c)
 }
 
-// Whether z isn't empty and is a part of b.
+/// Whether z isn't empty and is a part of b.
 pub fn is_part(z: VSet, b: VSet) -> bool
     ensures { result ≡ is_part z.bits b.bits }
 {
     !is_empty(z) && is_inside(z, b)
 }
 
+/// Rule 1: z comes into the condition.
 pub fn rule1_in(g: &Graph, z: VSet, e: Expr) -> Result<Expr, Refusal>
     requires terms { are_terms g.now.n (view e) ≡ true }
     ensures row { IsRow (graph_of g.now) (row g.now.n [] (Move.Rule1In z.bits) (view e)) result }
@@ -46,6 +47,7 @@ pub fn rule1_in(g: &Graph, z: VSet, e: Expr) -> Result<Expr, Refusal>
     }
 }
 
+/// Rule 1 backwards: z leaves the condition.
 pub fn rule1_out(g: &Graph, z: VSet, e: Expr) -> Result<Expr, Refusal>
     requires terms { are_terms g.now.n (view e) ≡ true }
     ensures row { IsRow (graph_of g.now) (row g.now.n [] (Move.Rule1Out z.bits) (view e)) result }
@@ -67,6 +69,7 @@ pub fn rule1_out(g: &Graph, z: VSet, e: Expr) -> Result<Expr, Refusal>
     }
 }
 
+/// Rule 2: z leaves the intervention for the condition.
 pub fn rule2_see(g: &Graph, z: VSet, e: Expr) -> Result<Expr, Refusal>
     requires terms { are_terms g.now.n (view e) ≡ true }
     ensures row { IsRow (graph_of g.now) (row g.now.n [] (Move.Rule2See z.bits) (view e)) result }
@@ -88,6 +91,7 @@ pub fn rule2_see(g: &Graph, z: VSet, e: Expr) -> Result<Expr, Refusal>
     }
 }
 
+/// Rule 2 backwards: z leaves the condition for the intervention.
 pub fn rule2_do(g: &Graph, z: VSet, e: Expr) -> Result<Expr, Refusal>
     requires terms { are_terms g.now.n (view e) ≡ true }
     ensures row { IsRow (graph_of g.now) (row g.now.n [] (Move.Rule2Do z.bits) (view e)) result }
@@ -109,6 +113,7 @@ pub fn rule2_do(g: &Graph, z: VSet, e: Expr) -> Result<Expr, Refusal>
     }
 }
 
+/// Rule 3 backwards: z comes into the intervention.
 pub fn rule3_in(g: &Graph, z: VSet, e: Expr) -> Result<Expr, Refusal>
     requires terms { are_terms g.now.n (view e) ≡ true }
     ensures row { IsRow (graph_of g.now) (row g.now.n [] (Move.Rule3In z.bits) (view e)) result }
@@ -129,6 +134,7 @@ pub fn rule3_in(g: &Graph, z: VSet, e: Expr) -> Result<Expr, Refusal>
     }
 }
 
+/// Rule 3: z leaves the intervention.
 pub fn rule3_out(g: &Graph, z: VSet, e: Expr) -> Result<Expr, Refusal>
     requires terms { are_terms g.now.n (view e) ≡ true }
     ensures row { IsRow (graph_of g.now) (row g.now.n [] (Move.Rule3Out z.bits) (view e)) result }

@@ -25,6 +25,7 @@ fn boxed(alloc: Global, of: VSet, doing: VSet, given: VSet) -> Result<Box<Expr>,
     Ok(Box::new(alloc, Expr::Prob { of, doing, given })?)
 }
 
+/// A term as the sum over u of the term with u.
 pub fn widen(alloc: Global, g: &Graph, u: VSet, e: Expr) -> Result<Expr, Refusal>
     ensures row { IsRow (graph_of g.now) (row g.now.n [] (Move.Widen u.bits) (view e)) result }
 {
@@ -42,6 +43,7 @@ pub fn widen(alloc: Global, g: &Graph, u: VSet, e: Expr) -> Result<Expr, Refusal
     }
 }
 
+/// A sum of a term as the term without the summed vertices.
 pub fn narrow(g: &Graph, e: Expr) -> Result<Expr, Refusal>
     ensures row { IsRow (graph_of g.now) (row g.now.n [] Move.Narrow (view e)) result }
 {
@@ -64,6 +66,7 @@ pub fn narrow(g: &Graph, e: Expr) -> Result<Expr, Refusal>
     }
 }
 
+/// A conditional term as a quotient.
 pub fn split(alloc: Global, g: &Graph, e: Expr) -> Result<Expr, Refusal>
     ensures row { IsRow (graph_of g.now) (row g.now.n [] Move.Split (view e)) result }
 {
@@ -86,6 +89,7 @@ pub fn split(alloc: Global, g: &Graph, e: Expr) -> Result<Expr, Refusal>
     }
 }
 
+/// A lemma's term as its definition.
 pub fn cite(g: &Graph, lemmas: &[VSet], k: u32, e: Expr) -> Result<Expr, Refusal>
     ensures row { IsRow (graph_of g.now) (row g.now.n (masks_of lemmas.now) (Move.Cite k) (view e)) result }
 {
@@ -152,6 +156,7 @@ fn chained(alloc: Global, doing: VSet, given: VSet, list: &[u8]) -> Result<Vec<E
     Ok(factors)
 }
 
+/// A term as the product over the order of its vertices.
 pub fn chain(alloc: Global, g: &Graph, order: &Order, e: Expr) -> Result<Expr, Refusal>
     ensures row { IsRow (graph_of g.now) (row g.now.n [] (Move.Chain (listed order.now)) (view e)) result }
 {

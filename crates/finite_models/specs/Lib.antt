@@ -1,3 +1,4 @@
+pub mod Agreement
 pub mod Data
 pub mod Faults
 pub mod Inputs

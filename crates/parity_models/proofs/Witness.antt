@@ -10,7 +10,8 @@ use Rattle.finite_models.proofs.Indicators.{number}
 use Rattle.finite_models.proofs.Ranks.{with_rank}
 use Rattle.parity_models.specs.Hedges.{ParityHedge, IsWholeHedge, links_of, noise_of}
 use Rattle.parity_models.specs.Pairs.{first_model, second_model, first_mechanism, second_mechanism, serves_of, size_of, event_even}
-use Rattle.parity_models.specs.Laws.{AgreeObserved, DifferAt}
+use Rattle.finite_models.specs.Agreement.{AgreeObserved}
+use Rattle.parity_models.specs.Laws.{DifferAt}
 use Rattle.parity_models.proofs.Agreement.{observations_agree}
 use Rattle.parity_models.proofs.Counting.{over-base, over-term}
 use Rattle.parity_models.proofs.CounterFits.{first_fits, second_fits}

@@ -1,6 +1,7 @@
 -- What the two models of a hedge's data have in common, and in what they differ.
-use Rattle.std.specs.Prelude.{ℕ, ◌+◌, ◌*◌, ◌^◌, ◌≡◌, ◌≢◌, ◌<◌, Bool, true, false}
+use Rattle.std.specs.Prelude.{ℕ, ◌+◌, ◌*◌, ◌^◌, ◌≡◌, ◌≢◌, Bool}
 use Rattle.mixed_graph.specs.Graphs.{MixedGraph, IsMixedGraph}
+use Rattle.finite_models.specs.Agreement.{AgreeObserved}
 use Rattle.finite_models.specs.Models.{FiniteModel, Fits, IsAssignment, IsPositiveModel, weight_of, total}
 use Rattle.parity_models.specs.Hedges.{ParityHedge, IsWholeHedge, noise_of}
 use Rattle.parity_models.specs.Pairs.{first_model, second_model, size_of, event_even}
@@ -14,12 +15,6 @@ BothFit = (g : MixedGraph) → IsMixedGraph g → (x : ℕ → Bool) (d : Parity
 abbrev pub BothPositive : Type 0
 BothPositive = (g : MixedGraph) → IsMixedGraph g → (x : ℕ → Bool) (d : ParityHedge) → IsWholeHedge g x d
     → IsPositiveModel (first_model g.vertices d) × IsPositiveModel (second_model g.vertices d)
-
--- two models have equal sizes and equal observed probabilities: at each assignment of all vertices the weights are in the ratio of the totals
-pub record AgreeObserved (m₁ m₂ : FiniteModel) : Type 0 where
-  pub vertices : m₁.vertices ≡ m₂.vertices
-  pub sizes : (v : ℕ) → v < m₁.vertices → m₁.size v ≡ m₂.size v
-  pub weights : (s : ℕ → ℕ) → IsAssignment m₁.vertices m₁.size s → weight_of m₁ (λ v. false) (λ v. true) s * total m₂ ≡ weight_of m₂ (λ v. false) (λ v. true) s * total m₁
 
 -- they give each observation the same probability
 abbrev pub ObservationsAgree : Type 0

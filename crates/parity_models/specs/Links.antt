@@ -3,6 +3,7 @@ use Rattle.std.specs.Prelude.{ℕ, suc, ◌≡◌, ◌≢◌, ◌<◌, Bool, tru
 use Rattle.mixed_graph.specs.Graphs.{MixedGraph}
 use Rattle.parity_models.specs.Parities.{differ}
 
+-- a link joins an entry to a partner that was found before it
 pub record Link : Type 0 where
   pub entry : ℕ
   pub partner : ℕ

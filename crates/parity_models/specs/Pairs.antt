@@ -53,9 +53,11 @@ carries d u = d.kept u && not (d.target u)
 abbrev pub top_bit : ℕ → ParityHedge → (ℕ → ℕ) → (ℕ → ℕ) → Bool → ℕ → Bool
 top_bit n d s u h v = differ (chosen n (carries d) d.carry (carried_bit d s) v) (differ (d.roots v && h) (world_bit u (d.kept_cause v)))
 
+-- how v gets its value in the first model
 abbrev pub first_mechanism : ℕ → ParityHedge → ℕ → (ℕ → ℕ) → (ℕ → ℕ) → ℕ
 first_mechanism n d v s u = value (d.big v) (d.kept v) (first_bit n d s u v) (top_bit n d s u (first_bit n d s u v) v)
 
+-- and in the second
 abbrev pub second_mechanism : ℕ → ParityHedge → ℕ → (ℕ → ℕ) → (ℕ → ℕ) → ℕ
 second_mechanism n d v s u = value (d.big v) (d.kept v) (second_bit n d s u v) (top_bit n d s u (second_bit n d s u v) v)
 
@@ -83,9 +85,11 @@ counter_model n d serves mechanism = record {
   mechanism = mechanism;
 }
 
+-- the first model
 abbrev pub first_model : ℕ → ParityHedge → FiniteModel
 first_model n d = counter_model n d (serves_of d) (first_mechanism n d)
 
+-- the second model
 abbrev pub second_model : ℕ → ParityHedge → FiniteModel
 second_model n d = counter_model n d (serves_of d) (second_mechanism n d)
 

@@ -19,7 +19,8 @@ use Rattle.prob_expr.specs.Masks.{is_empty}
 use Rattle.prob_expr.specs.Tree.{Tree, prob, sum, product, quotient, named, Trees, no_trees, tree, PlainFormula}
 use Rattle.prob_expr.specs.Terms.{is_listed, is_under, are_under, all_under, is_do_free}
 use Rattle.prob_expr.specs.Values.{Weights, weights_of, term_value, value, product_value, values_from, value_of, effect, add_over}
-use Rattle.prob_expr.specs.Laws.{AgreeObserved, EffectIsOverTotal, ObservedFixesValue, FormulaFixesEffect}
+use Rattle.finite_models.specs.Agreement.{AgreeObserved}
+use Rattle.prob_expr.specs.Laws.{EffectIsOverTotal, ObservedFixesValue, FormulaFixesEffect}
 use Rattle.prob_expr.proofs.Boxes.{assignment_set, add_over_equal, add_over_positive, sum_over_equal}
 use Rattle.prob_expr.proofs.MaskLaws.{has_none, empty_has}
 

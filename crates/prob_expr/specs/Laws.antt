@@ -1,21 +1,16 @@
 -- Laws of formulas: what check accepts; the free variables; values are positive fractions in positive models, and without interventions they come from what is observed.
-use Rattle.std.specs.Prelude.{ℕ, ◌*◌, ◌≡◌, ◌<◌, true, false, None, All}
+use Rattle.std.specs.Prelude.{ℕ, ◌≡◌, true, None, All}
 use Rattle.mixed_graph.specs.Bits.{has}
 use Rattle.mixed_graph.specs.Graphs.{MixedGraph, IsMixedGraph}
 use Rattle.fractions.specs.Fractions.{IsEqual, IsPositive}
-use Rattle.finite_models.specs.Models.{FiniteModel, Fits, IsAssignment, IsPositiveModel, weight_of, total}
+use Rattle.finite_models.specs.Agreement.{AgreeObserved}
+use Rattle.finite_models.specs.Models.{FiniteModel, Fits, IsAssignment, IsPositiveModel, total}
 use Rattle.prob_expr.specs.Tree.{Tree, PlainFormula, PlainTarget}
 use Rattle.prob_expr.specs.Terms.{are_terms, is_do_free}
 use Rattle.prob_expr.specs.Check.{fault_in}
 use Rattle.prob_expr.specs.Free.{free_of}
 use Rattle.prob_expr.specs.Fold.{has_factors}
 use Rattle.prob_expr.specs.Values.{weights_of, value_of, effect, EqualsEffect}
-
--- two models have equal sizes and equal observed probabilities: at each assignment of all vertices the weights are in the ratio of the totals
-pub record AgreeObserved (m₁ m₂ : FiniteModel) : Type 0 where
-  pub vertices : m₁.vertices ≡ m₂.vertices
-  pub sizes : (v : ℕ) → v < m₁.vertices → m₁.size v ≡ m₂.size v
-  pub weights : (s : ℕ → ℕ) → IsAssignment m₁.vertices m₁.size s → weight_of m₁ (λ v. false) (λ v. true) s * total m₂ ≡ weight_of m₂ (λ v. false) (λ v. true) s * total m₁
 
 -- the tree is made of terms, and each product in it has a factor
 pub record IsWhole (n : ℕ) (t : Tree) : Type 0 where

@@ -35,7 +35,13 @@ fn cap(k: usize) -> u32
 
 /// Checks an expression that begins at a node of definition `def` and may name the definitions below `limit`: the number of the node behind it, or the first fault in preorder.
 #[cycle(check)]
-pub fn check_expr(e: &Expr, n: u32, def: Option<u32>, limit: usize, node: u32) -> Result<u32, ExprFault>
+pub fn check_expr(
+    e: &Expr,
+    n: u32,
+    def: Option<u32>,
+    limit: usize,
+    node: u32,
+) -> Result<u32, ExprFault>
     requires { n ≤ 64 }
     ensures { result ≡ check_tree n def limit (view e.now) node }
 {
