@@ -30,11 +30,7 @@ fn json_of(alloc: Global, text: &[u8]) -> Result<Value, CertFault>
 
 // The certificate of a formula: its eight keys, and no further one.
 #[tactic(auto, unfolding(crate::specs::Reading::formula_certificate_in))]
-fn formula_certificate_in(
-    alloc: Global,
-    names: &Names,
-    d: &Value,
-) -> Result<Certificate, CertFault>
+fn formula_certificate_in(alloc: Global, names: &Names, d: &Value) -> Result<Certificate, CertFault>
     ensures { Gives (λ c. certificate_view c) result (formula_certificate_in names.now (view d.now)) }
 {
     let target = target_in(alloc, names, d)?;
