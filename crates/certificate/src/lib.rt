@@ -16,6 +16,8 @@ mod fault;
 mod formulas;
 mod keys;
 mod reading;
+#[cfg(test)]
+mod tests;
 mod values;
 
 pub use fault::{CertFault, Key};
