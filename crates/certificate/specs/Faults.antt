@@ -13,6 +13,7 @@ fault_at key value.TooDeep = TooDeep
 fault_at key (value.Name t) = Name t
 fault_at key value.NoMemory = NoMemory
 
+-- the next part is read where the first has no fault
 infixl 10 ◌>>=◌
 abbrev pub ◌>>=◌ : {A B : Type 0} → Result A CertFault → (A → Result B CertFault) → Result B CertFault
 (Ok x) >>= f = f x
@@ -37,6 +38,7 @@ Fails TooDeep read = read ≡ Err TooDeep
 Fails (Name t) read = read ≡ Err (Name t)
 Fails NoMemory read = Unit {0}
 
+-- the answer, seen by `view`, is what reading gives
 abbrev pub Gives : {X A : Type 0} → (X → A) → Result X CertFault → Result A CertFault → Type 0
 Gives view (Ok x) read = read ≡ Ok (view x)
 Gives view (Err e) read = Fails e read

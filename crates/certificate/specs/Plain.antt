@@ -6,8 +6,10 @@ use Rattle.do_derivation.specs.View.{derivation_view}
 use Rattle.certificate.specs.declared.values.Certificate.{Certificate}
 use Rattle.certificate.specs.declared.values.Certificate.TheVariants.{Formula}
 
+-- a certificate of a formula: its target, the formula and its derivation
 pub data PlainCertificate : Type 0 where
   formula : PlainTarget → PlainFormula → PlainDerivation → PlainCertificate
 
+-- the plain trees of a certificate
 abbrev pub certificate_view : Certificate → PlainCertificate
 certificate_view (Formula t f d) = formula (target_view t) (formula_view f) (derivation_view d)

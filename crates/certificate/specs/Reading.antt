@@ -43,10 +43,12 @@ main_in names d = value.◌>>=◌ (expr_in names d) (sound names None (2 ^ 32))
 abbrev pub def_in : List (List ℕ) → ℕ → Data → Result Tree ValueFault
 def_in names k d = value.◌>>=◌ (expr_in names d) (sound names (Some (cap k)) k)
 
+-- definitions behind those before
 abbrev pub more_defs : List (List ℕ) → List Tree → Items → Result (List Tree) ValueFault
 more_defs names before no_items = Ok before
 more_defs names before (item d ds) = value.◌>>=◌ (def_in names (length before) d) (λ t. more_defs names (before ++ t ∷ []) ds)
 
+-- a list of definitions
 unfoldable pub defs_in : List (List ℕ) → Data → Result (List Tree) ValueFault
 defs_in names d = list_by (more_defs names []) d
 
@@ -57,6 +59,7 @@ abbrev pub lemma_of : List (List ℕ) → ℕ → Items → Result PlainLemma Va
 lemma_of names set no_items = Err Form
 lemma_of names set (item d ds) = value.◌>>=◌ (step_in names d) (λ p. if is_end ds then Ok (record { set = set; plan = p }) else Err Form)
 
+-- the items of a lemma: its set before its step
 abbrev pub lemma_items : List (List ℕ) → Items → Result PlainLemma ValueFault
 lemma_items names no_items = Err Form
 lemma_items names (item d ds) = value.◌>>=◌ (filled_set_in names 0 d) (λ set. lemma_of names set ds)
@@ -65,6 +68,7 @@ lemma_items names (item d ds) = value.◌>>=◌ (filled_set_in names 0 d) (λ se
 unfoldable pub lemma_in : List (List ℕ) → Data → Result PlainLemma ValueFault
 lemma_in names d = list_by (lemma_items names) d
 
+-- a list of lemmas
 unfoldable pub lemmas_in : List (List ℕ) → Data → Result (List PlainLemma) ValueFault
 lemmas_in names d = list_by (each (lemma_in names) []) d
 
@@ -92,6 +96,7 @@ formula_in names d = do
   defs ← member_by keys.Defs (codes "defs") (defs_in names) d
   whole names (record { defs = defs; main = main })
 
+-- a derivation: its lemmas, and then its main step
 unfoldable pub derivation_in : List (List ℕ) → Data → Result PlainDerivation CertFault
 derivation_in names d = do
   lemmas ← member_by keys.Lemmas (codes "lemmas") (lemmas_in names) d
@@ -111,6 +116,7 @@ formula_certificate_in names d = do
   p ← derivation_in names d
   if member_count (as_object d) == 8 then Ok (formula t f p) else Err (Member keys.Extra)
 
+-- the text is the word `formula`
 abbrev pub is_word : Option (List ℕ) → Bool
 is_word (Some text) = bytes_eq text (codes "formula")
 is_word None = false

@@ -39,7 +39,7 @@ fn sound(names: &Names, def: Option<u32>, limit: usize, e: Expr) -> Result<Expr,
     Ok(e)
 }
 
-// The main expression, whatever it names.
+/// The main expression, whatever it names.
 pub fn main_in(alloc: Global, names: &Names, d: &Value) -> Result<Expr, ValueFault>
     ensures { Gives (λ e. view e) result (main_in names.now (data_view d.now)) }
 {
@@ -76,7 +76,7 @@ fn more_defs(alloc: Global, names: &Names, ds: &[Value]) -> Result<Vec<Expr>, Va
     Ok(all)
 }
 
-// The definitions that a list is.
+/// The definitions that a list is.
 #[tactic(auto, unfolding(crate::specs::Reading::defs_in))]
 pub fn defs_in(alloc: Global, names: &Names, d: &Value) -> Result<Vec<Expr>, ValueFault>
     ensures { Gives (λ v. map view v.items) result (defs_in names.now (data_view d.now)) }
@@ -140,7 +140,7 @@ fn each_lemma(alloc: Global, names: &Names, ds: &[Value]) -> Result<Vec<Lemma>, 
     Ok(all)
 }
 
-// The lemmas that a list is.
+/// The lemmas that a list is.
 #[tactic(auto, unfolding(crate::specs::Reading::lemmas_in))]
 pub fn lemmas_in(alloc: Global, names: &Names, d: &Value) -> Result<Vec<Lemma>, ValueFault>
     ensures { Gives (λ v. map lemma_view v.items) result (lemmas_in names.now (data_view d.now)) }

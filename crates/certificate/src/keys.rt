@@ -82,7 +82,7 @@ fn main_step_in(alloc: Global, names: &Names, d: &Value) -> Result<Step, CertFau
     }
 }
 
-// The version: a whole number.
+/// The version: a whole number.
 #[tactic(auto, unfolding(crate::specs::Reading::version_in))]
 pub fn version_in(d: &Value) -> Result<u64, CertFault>
     ensures { Gives (λ k. k) result (version_in (data_view d.now)) }
@@ -96,7 +96,7 @@ pub fn version_in(d: &Value) -> Result<u64, CertFault>
     }
 }
 
-// The two sets of a target, which don't meet; y isn't empty.
+/// The two sets of a target, which don't meet; y isn't empty.
 #[tactic(auto, unfolding(crate::specs::Reading::target_in))]
 pub fn target_in(alloc: Global, names: &Names, d: &Value) -> Result<Target, CertFault>
     ensures { Gives (λ t. target_view t) result (target_in names.now (data_view d.now)) }
@@ -121,7 +121,7 @@ fn whole(names: &Names, formula: Formula) -> Result<Formula, CertFault>
     Ok(formula)
 }
 
-// A formula: main by itself, then the definitions, and then what main names.
+/// A formula: main by itself, then the definitions, and then what main names.
 #[tactic(auto, unfolding(crate::specs::Reading::formula_in))]
 pub fn formula_in(alloc: Global, names: &Names, d: &Value) -> Result<Formula, CertFault>
     ensures { Gives (λ f. formula_view f) result (formula_in names.now (data_view d.now)) }
@@ -140,7 +140,7 @@ pub fn derivation_in(alloc: Global, names: &Names, d: &Value) -> Result<Derivati
     Ok(Derivation { lemmas, main })
 }
 
-// The number of members of an object.
+/// The number of members of an object.
 #[tactic(auto, using(crate::proofs::Texts::count_is))]
 pub fn member_count(d: &Value) -> usize
     ensures { result ≡ member_count (as_object (data_view d.now)) }
@@ -157,7 +157,7 @@ fn is_word(text: &[u8]) -> bool
     text == b"formula".as_slice()
 }
 
-// Whether the answer is the word `formula`.
+/// Whether the answer is the word `formula`.
 pub fn is_formula(d: &Value) -> bool
     ensures { result ≡ is_formula (data_view d.now) }
 {

@@ -7,10 +7,12 @@ use Rattle.serde_json.specs.Data.{depth}
 use Rattle.step_json.specs.Values.{set_value, step_value}
 use Rattle.step_json.specs.Reading.{set_in, step_in}
 
+-- each number is below n
 abbrev pub are_below : ℕ → List ℕ → Bool
 are_below n [] = true
 are_below n (v ∷ vs) = ltb v n && are_below n vs
 
+-- each number of each group is below n
 abbrev pub groups_below : ℕ → List (List ℕ) → Bool
 groups_below n [] = true
 groups_below n (l ∷ ls) = are_below n l && groups_below n ls

@@ -12,6 +12,7 @@ use Rattle.step_json.specs.declared.words.Word.TheVariants as words
 use Rattle.step_json.specs.declared.fault.ValueFault.{ValueFault}
 use Rattle.step_json.specs.declared.fault.ValueFault.TheVariants.{Form, TooDeep, Name, NoMemory}
 
+-- the next part is read where the first has no fault
 infixl 10 ◌>>=◌
 abbrev pub ◌>>=◌ : {A B : Type 0} → Result A ValueFault → (A → Result B ValueFault) → Result B ValueFault
 (Ok x) >>= f = f x
@@ -24,6 +25,7 @@ Fails TooDeep read = read ≡ Err TooDeep
 Fails (Name t) read = read ≡ Err (Name t)
 Fails NoMemory read = Unit {0}
 
+-- the answer, seen by a view, is what reading gives
 abbrev pub Gives : {X A : Type 0} → (X → A) → Result X ValueFault → Result A ValueFault → Type 0
 Gives view (Ok x) read = read ≡ Ok (view x)
 Gives view (Err e) read = Fails e read
@@ -48,6 +50,7 @@ each f before (item d ds) = f d >>= λ x. each f (before ++ x ∷ []) ds
 abbrev pub vertex_of : List (List ℕ) → List ℕ → Result ℕ ValueFault
 vertex_of names text = if is_named names text then Ok (index_of names text) else Err (Name text)
 
+-- a name of a vertex
 abbrev pub vertex_in : List (List ℕ) → Data → Result ℕ ValueFault
 vertex_in names d = or_form (as_str d) >>= vertex_of names
 
@@ -70,6 +73,7 @@ set_in names barred d = list_by (more_of_set names barred 0 0) d
 abbrev pub filled : ℕ → Result ℕ ValueFault
 filled set = if is_empty set then Err Form else Ok set
 
+-- a set that isn't empty
 abbrev pub filled_set_in : List (List ℕ) → (barred : ℕ) → Data → Result ℕ ValueFault
 filled_set_in names barred d = set_in names barred d >>= filled
 
@@ -79,9 +83,11 @@ more_vertices names before no_items = Ok before
 more_vertices names before (item d ds) =
     if nat_lt (length before) 64 then (vertex_in names d >>= λ v. more_vertices names (before ++ v ∷ []) ds) else Err Form
 
+-- names of vertices in their order
 unfoldable pub vertices_in : List (List ℕ) → Data → Result (List ℕ) ValueFault
 vertices_in names d = list_by (more_vertices names []) d
 
+-- a number of 32 bits
 abbrev pub short : ℕ → Result ℕ ValueFault
 short n = if nat_lt n (2 ^ 32) then Ok n else Err Form
 
@@ -89,9 +95,11 @@ short n = if nat_lt n (2 ^ 32) then Ok n else Err Form
 unfoldable pub number_in : Data → Result ℕ ValueFault
 number_in d = or_form (option_and_then as_u64 (as_number d)) >>= short
 
+-- a list of numbers
 unfoldable pub numbers_in : Data → Result (List ℕ) ValueFault
 numbers_in d = list_by (each number_in []) d
 
+-- a list of such lists
 unfoldable pub groups_in : Data → Result (List (List ℕ)) ValueFault
 groups_in d = list_by (each numbers_in []) d
 

@@ -5,14 +5,17 @@ use Rattle.mixed_graph.specs.Names.{name_of}
 use Rattle.do_derivation.specs.Plans.{Move, Plan, Plans, no_plans, plan}
 use Rattle.serde_json.specs.Data.{Data, number, string, array, unsigned, Items, no_items, item}
 
+-- texts as items
 abbrev pub strings : List (List ℕ) → Items
 strings [] = no_items
 strings (t ∷ ts) = item (string t) (strings ts)
 
+-- numbers as items
 abbrev pub numbers : List ℕ → Items
 numbers [] = no_items
 numbers (n ∷ ns) = item (number (unsigned n)) (numbers ns)
 
+-- lists of numbers as items
 abbrev pub groups : List (List ℕ) → Items
 groups [] = no_items
 groups (l ∷ ls) = item (array (numbers l)) (groups ls)
@@ -29,9 +32,11 @@ set_value names set = names_value names (members_below (has set) 64)
 abbrev pub said : List ℕ → Items → Data
 said word rest = array (item (string word) rest)
 
+-- a word with a set
 abbrev pub said_set : List (List ℕ) → List ℕ → ℕ → Data
 said_set names word z = said word (item (set_value names z) no_items)
 
+-- the value of a move
 abbrev pub move_value : List (List ℕ) → Move → Data
 move_value names (Move.Rule1In z) = said_set names (codes "rule1in") z
 move_value names (Move.Rule1Out z) = said_set names (codes "rule1out") z

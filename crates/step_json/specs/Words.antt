@@ -30,6 +30,7 @@ bare_rule_of text =
     if bytes_eq text (codes "unwrap") then Some bares.Unwrap else (
     None))))
 
+-- the words with arguments of their own
 unfoldable pub other_word_of : List ℕ → Option Word
 other_word_of text =
     if bytes_eq text (codes "chain") then Some words.Chain else (
@@ -39,10 +40,12 @@ other_word_of text =
     if bytes_eq text (codes "then") then Some words.Then else (
     None)))))
 
+-- the first word, where there is one, else the other
 abbrev pub or_bare : Option BareRule → Option Word → Option Word
 or_bare (Some r) other = Some (words.Bare r)
 or_bare None other = other
 
+-- the same for words with a set
 abbrev pub or_set : Option SetRule → Option Word → Option Word
 or_set (Some r) other = Some (words.WithSet r)
 or_set None other = other

@@ -120,7 +120,7 @@ fn order_of(vertices: &[u8]) -> Order
     }
 }
 
-// The vertices that a list of names is, in its order.
+/// The vertices that a list of names is, in its order.
 #[tactic(auto, unfolding(crate::specs::Reading::vertices_in))]
 pub fn vertices_in(alloc: Global, names: &Names, d: &Value) -> Result<Order, ValueFault>
     ensures { Gives listed result (vertices_in names.now (view d.now)) }
@@ -132,7 +132,7 @@ pub fn vertices_in(alloc: Global, names: &Names, d: &Value) -> Result<Order, Val
     Ok(order_of(all.as_slice()))
 }
 
-// The number of 32 bits that a value is.
+/// The number of 32 bits that a value is.
 #[tactic(auto, unfolding(crate::specs::Reading::number_in))]
 pub fn number_in(d: &Value) -> Result<u32, ValueFault>
     ensures { Gives (λ n. n) result (number_in (view d.now)) }
@@ -180,7 +180,7 @@ fn each_group(alloc: Global, ds: &[Value]) -> Result<Vec<Vec<u32>>, ValueFault>
     Ok(all)
 }
 
-// The lists of numbers that a list is.
+/// The lists of numbers that a list is.
 #[tactic(auto, unfolding(crate::specs::Reading::groups_in))]
 pub fn groups_in(alloc: Global, d: &Value) -> Result<Vec<Vec<u32>>, ValueFault>
     ensures { Gives (λ v. groups_view v.items) result (groups_in (view d.now)) }

@@ -110,6 +110,7 @@ fn other_word_of(text: &[u8]) -> Option<Word>
     None
 }
 
+/// The word of a step, where the text is one.
 #[tactic(auto, unfolding(crate::specs::Words::word_of))]
 pub fn word_of(text: &[u8]) -> Option<Word>
     ensures { result ≡ word_of text.now }
