@@ -1,36 +1,75 @@
 -- From the answer on a graph that was read, or from its fault, to the defined answer.
-use Rattle.std.proofs.Common.{◌≡◌, ℕ, ◌≤◌, List, Result, Ok, Err, IfOk, OnOk, length, inl, inr, sym, subst}
+use Rattle.std.proofs.Common.{◌≡◌, ℕ, ◌≤◌, List, Result, Ok, Err, Option, Some, IfOk, OnOk, length, inl, inr, ap, sym, subst}
 use Rattle.dag_reader.specs.declared.graph.ReadGraph.{ReadGraph}
 use Rattle.dag_reader.specs.declared.faults.GraphFault.{GraphFault}
 use Rattle.dag_reader.specs.declared.faults.GraphFault.TheVariants.{NoMemory}
 use Rattle.dag_reader.specs.Reads.{Reads}
 use Rattle.fault_text.specs.Lines.{line_of, graph_fault_text}
-use Rattle.causal_cli.specs.Wishes.{Wish}
-use Rattle.causal_cli.specs.Answers.{HoldsAnswer, faulty, Defined}
-use Rattle.causal_cli.specs.Replies.{GivesAnswer, GivesDefined}
-use Rattle.causal_cli.specs.declared.reply.Reply.{Reply}
-use Rattle.causal_cli.specs.declared.verdict.Verdict.{Verdict}
-use Rattle.causal_cli.specs.declared.verdict.Verdict.TheVariants.{Yes, No, Words, Graph, Read, Write, Memory}
+use Rattle.replies.specs.declared.outcome.Reply.{Reply}
+use Rattle.replies.specs.declared.outcome.Outcome.{Outcome}
+use Rattle.replies.specs.declared.outcome.Outcome.TheVariants.{Yes, No, Graph, Second, Evaluation}
+use Rattle.replies.specs.Observed.{Holds}
+use Rattle.causal_cli.specs.Wishes.{Wish, graph, separate, rule, identify, check, second_of}
+use Rattle.causal_cli.specs.Answers.{HoldsAnswer, faulty, Defined, NeedsSecond, SecondAnswer, Continues, DefinedWith}
+use Rattle.causal_cli.specs.Pendings.{second_in, GivesSecond, IsPendingOn, GivesOn, IsPending, GivesFirst}
+use Rattle.causal_cli.specs.declared.pending.Pending.{Pending}
+use Rattle.causal_cli.specs.declared.pending.Pending.TheVariants as pending
+use Rattle.causal_cli.specs.declared.answer.First.{First}
+use Rattle.causal_cli.specs.declared.answer.First.TheVariants as first
 
-held : (w : Wish) (bytes : List ℕ) (v : Verdict) (text : List ℕ) → HoldsAnswer w bytes v text → Defined w bytes v text
+held : (w : Wish) (bytes : List ℕ) (o : Outcome) (text : List ℕ) → HoldsAnswer w bytes o text → Defined w bytes o text
 held w bytes Yes text h = h
 held w bytes No text h = h
-held w bytes Words text h = h
 held w bytes Graph text h = inr h
-held w bytes Read text h = h
-held w bytes Write text h = h
-held w bytes Memory text h = h
+held w bytes Second text h = h
+held w bytes Evaluation text h = h
 
--- a reply on the graph that the bytes hold
-pub defined_on : {E : Type 0} (w : Wish) (bytes : List ℕ) (g : ReadGraph) (r : Result Reply E) → length bytes ≤ 1048576 → Reads bytes (Ok g) →
-    IfOk r (GivesAnswer w g) → IfOk r (GivesDefined w bytes)
+-- what a wish gives on the graph that the bytes hold
+given_on : (w : Wish) (bytes : List ℕ) (g : ReadGraph) (f : First) → Holds bytes g → GivesOn w g f → GivesFirst w bytes f
+given_on w bytes g (first.Replied reply) h a = held w bytes reply.outcome reply.text.items (record { graph = g; holds = h; answer = a })
+given_on w bytes g (first.Continues p) h a = (g, h, a)
+
+pub defined_on : {E : Type 0} (w : Wish) (bytes : List ℕ) (g : ReadGraph) (r : Result First E) → length bytes ≤ 1048576 → Reads bytes (Ok g) →
+    IfOk r (GivesOn w g) → IfOk r (GivesFirst w bytes)
 defined_on w bytes g (Err e) small reads a = tt
-defined_on w bytes g (Ok reply) small reads a = held w bytes reply.verdict reply.text.items
-    (record { graph = g; holds = record { small = small; reads = reads }; answer = a })
+defined_on w bytes g (Ok f) small reads a = given_on w bytes g f (record { small = small; reads = reads }) a
 
 -- a reply to bytes with a fault
-pub defined_fault : {E : Type 0} (w : Wish) (bytes : List ℕ) (f : GraphFault) (r : Result Reply E) → length bytes ≤ 1048576 → Reads bytes (Err f) →
-    IfOk r (λ s. s.verdict ≡ Graph) → IfOk r (λ s. s.text.items ≡ line_of (graph_fault_text f)) → OnOk r (f ≡ NoMemory → ⊥) → IfOk r (GivesDefined w bytes)
-defined_fault w bytes f (Err e) small reads v l n = tt
-defined_fault w bytes f (Ok reply) small reads v l n =
-    subst (λ u. Defined w bytes u reply.text.items) (sym v) (inl (faulty f small n reads l))
+pub defined_fault : (w : Wish) (bytes : List ℕ) (f : GraphFault) (reply : Reply) → length bytes ≤ 1048576 → Reads bytes (Err f) →
+    reply.outcome ≡ Graph → reply.text.items ≡ line_of (graph_fault_text f) → (f ≡ NoMemory → ⊥) → Defined w bytes reply.outcome reply.text.items
+defined_fault w bytes f reply small reads v l n = subst (λ u. Defined w bytes u reply.text.items) (sym v) (inl (faulty f small n reads l))
+
+-- what is left names the second input of the wish
+named_on : (w : Wish) (g : ReadGraph) (p : Pending) → IsPendingOn w g p → second_of w ≡ Some (second_in p)
+named_on (check f c) g (pending.Check kept certificate) is = ap (λ t. Some t) (sym is.0)
+named_on (graph f p) g q is = absurd is
+named_on (separate f x y h) g q is = absurd is
+named_on (rule f r a b c d) g q is = absurd is
+named_on (identify f x y form) g q is = absurd is
+
+pub named : (w : Wish) (bytes : List ℕ) (p : Pending) → IsPending w bytes p → second_of w ≡ Some (second_in p)
+named w bytes p is = named_on w is.0 p is.2
+
+-- the graph is accepted, where something is left
+needed : (w : Wish) (g : ReadGraph) (p : Pending) → IsPendingOn w g p → NeedsSecond w g
+needed (check f c) g (pending.Check kept certificate) is = tt
+needed (graph f p) g q is = absurd is
+needed (separate f x y h) g q is = absurd is
+needed (rule f r a b c d) g q is = absurd is
+needed (identify f x y form) g q is = absurd is
+
+pub continues : (w : Wish) (bytes : List ℕ) (p : Pending) → IsPending w bytes p → Continues w bytes
+continues w bytes p is = (is.0, is.1, needed w is.0 p is.2)
+
+-- the answer on the bytes of the second input
+answered : (w : Wish) (g : ReadGraph) (p : Pending) (other : List ℕ) (reply : Reply) → IsPendingOn w g p → GivesSecond p other reply →
+    SecondAnswer w g other reply.outcome reply.text.items
+answered (check f c) g (pending.Check kept certificate) other reply is gives = subst (λ k. SecondAnswer (check f c) k other reply.outcome reply.text.items) is.1 gives
+answered (graph f p) g q other reply is gives = absurd is
+answered (separate f x y h) g q other reply is gives = absurd is
+answered (rule f r a b c d) g q other reply is gives = absurd is
+answered (identify f x y form) g q other reply is gives = absurd is
+
+pub defined_with : (w : Wish) (bytes : List ℕ) (p : Pending) (other : List ℕ) (reply : Reply) → IsPending w bytes p → GivesSecond p other reply →
+    DefinedWith w bytes other reply.outcome reply.text.items
+defined_with w bytes p other reply is gives = (is.0, is.1, needed w is.0 p is.2, answered w is.0 p other reply is.2 gives)

@@ -1,4 +1,4 @@
--- The defined answer of a command on the bytes of its file.
+-- The defined answer of a command on the bytes of its inputs.
 use Rattle.std.specs.Prelude.{ℕ, ◌≡◌, ◌<◌, ◌≤◌, ◌⊎◌, Bool, true, false, List, length, Ok, Err}
 use Rattle.mixed_graph.specs.Bits.{has}
 use Rattle.mixed_graph.specs.Graphs.{MixedGraph}
@@ -13,20 +13,20 @@ use Rattle.dag_reader.specs.declared.faults.GraphFault.{GraphFault}
 use Rattle.dag_reader.specs.declared.faults.GraphFault.TheVariants.{NoMemory}
 use Rattle.dag_reader.specs.Reads.{Reads}
 use Rattle.dag_reader.specs.Written.{drawn_of, written}
-use Rattle.latent_projection.specs.Renumbering.{IsObserved, observed_below, renumbered_set, names_at}
+use Rattle.latent_projection.specs.Renumbering.{observed_below, renumbered_set}
 use Rattle.targets.specs.declared.fault.TargetFault.{TargetFault}
-use Rattle.targets.specs.Targets.{Lists, listed, AreSets, IsTargetFault, RuleLists, AreRuleSets, IsRuleFault}
+use Rattle.targets.specs.Targets.{Lists, listed, AreSets, RuleLists, AreRuleSets, IsRuleFault}
 use Rattle.fault_text.specs.Lines.{line_of, graph_fault_text, target_fault_text}
-use Rattle.causal_cli.specs.Wishes.{Wish, Names, graph, separate, rule}
-use Rattle.causal_cli.specs.Lines.{separated_text, not_separated_text, open_text, rule_holds_text, rule_fails_text, size_line}
+use Rattle.replies.specs.declared.outcome.Outcome.{Outcome}
+use Rattle.replies.specs.declared.outcome.Outcome.TheVariants.{Yes, No, Graph, Second, Evaluation}
+use Rattle.replies.specs.Lines.{open_text}
+use Rattle.replies.specs.Observed.{Names, observed_names, IsObservedGraph, Holds, IsTargetRefusal}
+use Rattle.identify_command.specs.Answers.{IdentifyAnswer}
+use Rattle.check_command.specs.Answers.{CheckAnswer}
+use Rattle.causal_cli.specs.Wishes.{Wish, graph, separate, rule, identify, check}
+use Rattle.causal_cli.specs.Lines.{separated_text, not_separated_text, rule_holds_text, rule_fails_text, size_line}
 use Rattle.causal_cli.specs.declared.rule.Rule.{Rule}
 use Rattle.causal_cli.specs.declared.rule.Rule.TheVariants.{One, Two, Three}
-use Rattle.causal_cli.specs.declared.verdict.Verdict.{Verdict}
-use Rattle.causal_cli.specs.declared.verdict.Verdict.TheVariants.{Yes, No, Words, Graph, Read, Write, Memory}
-
--- the names of the observed vertices, in their order
-abbrev pub observed_names : ReadGraph → List (List ℕ)
-observed_names g = names_at (observed_below (has g.latent.bits) g.graph.n) g.names
 
 -- the lists of a separation: those that are given, or else the exposures, the outcomes and the adjusted vertices
 abbrev pub separation_lists : ReadGraph → Names → Names → Names → Lists
@@ -60,21 +60,12 @@ pub record IsOpenAnswer (q : MixedGraph) (l : Lists) (text : List ℕ) : Type 0 
   pub path : IsOpenPath q (has x) (has y) (has w) vertices marks count
   pub prints : text ≡ not_separated_text l.observed x y w (open_text l.observed vertices marks count)
 
--- a name is at fault, or a set is empty
-pub record IsTargetRefusal (l : Lists) (line : List ℕ) : Type 0 where
-  pub fault : TargetFault
-  pub is_fault : IsTargetFault l fault
-  pub prints : line ≡ line_of (target_fault_text fault)
-
 -- the answer of a separation in the observed graph q
-abbrev pub SeparationAnswer : MixedGraph → Lists → Verdict → List ℕ → Type 0
+abbrev pub SeparationAnswer : MixedGraph → Lists → Outcome → List ℕ → Type 0
 SeparationAnswer q l Yes text = IsSeparatedAnswer q l text
 SeparationAnswer q l No text = IsOpenAnswer q l text
 SeparationAnswer q l Graph text = IsTargetRefusal l text
-SeparationAnswer q l Words text = ⊥
-SeparationAnswer q l Read text = ⊥
-SeparationAnswer q l Write text = ⊥
-SeparationAnswer q l Memory text = ⊥
+SeparationAnswer q l o text = ⊥
 
 -- the set in the numbers of the observed vertices
 abbrev pub observed_set : ReadGraph → ℕ → ℕ → Bool
@@ -83,7 +74,7 @@ observed_set g set = renumbered_set (observed_below (has g.latent.bits) g.graph.
 -- p is the observed graph of g, with the names and the flags of the observed vertices; it has no latent vertex
 pub record IsObservedPart (g p : ReadGraph) : Type 0 where
   pub names : p.names ≡ observed_names g
-  pub graph : IsObserved (graph_of g.graph) (has g.latent.bits) (graph_of p.graph)
+  pub graph : IsObservedGraph g (graph_of p.graph)
   pub exposures : (v : ℕ) → has p.exposures.bits v ≡ observed_set g g.exposures.bits v
   pub outcomes : (v : ℕ) → has p.outcomes.bits v ≡ observed_set g g.outcomes.bits v
   pub adjusted : (v : ℕ) → has p.adjusted.bits v ≡ observed_set g g.adjusted.bits v
@@ -101,14 +92,9 @@ pub record IsGraphText (project : Bool) (g : ReadGraph) (text : List ℕ) : Type
   pub prints : text ≡ written (drawn_of shown)
 
 -- the answer of a graph is always its text
-abbrev pub TextAnswer : Bool → ReadGraph → Verdict → List ℕ → Type 0
+abbrev pub TextAnswer : Bool → ReadGraph → Outcome → List ℕ → Type 0
 TextAnswer project g Yes text = IsGraphText project g text
-TextAnswer project g No text = ⊥
-TextAnswer project g Words text = ⊥
-TextAnswer project g Graph text = ⊥
-TextAnswer project g Read text = ⊥
-TextAnswer project g Write text = ⊥
-TextAnswer project g Memory text = ⊥
+TextAnswer project g o text = ⊥
 
 -- the lists of a rule
 abbrev pub rule_lists : ReadGraph → (y done z given : List (List ℕ)) → RuleLists
@@ -161,27 +147,29 @@ pub record IsRuleRefusal (l : RuleLists) (line : List ℕ) : Type 0 where
   pub prints : line ≡ line_of (target_fault_text fault)
 
 -- the answer of a rule in the observed graph q
-abbrev pub RuleAnswer : Rule → MixedGraph → RuleLists → Verdict → List ℕ → Type 0
+abbrev pub RuleAnswer : Rule → MixedGraph → RuleLists → Outcome → List ℕ → Type 0
 RuleAnswer r q l Yes text = IsRuleThatHolds r q l text
 RuleAnswer r q l No text = IsRuleThatFails r q l text
 RuleAnswer r q l Graph text = IsRuleRefusal l text
-RuleAnswer r q l Words text = ⊥
-RuleAnswer r q l Read text = ⊥
-RuleAnswer r q l Write text = ⊥
-RuleAnswer r q l Memory text = ⊥
+RuleAnswer r q l o text = ⊥
 
--- the answer of a command on a graph that was read
-abbrev pub GraphAnswer : Wish → ReadGraph → Verdict → List ℕ → Type 0
-GraphAnswer (graph file project) g v text = TextAnswer project g v text
-GraphAnswer (separate file x y given) g v text =
-    (q : MixedGraph) × IsObserved (graph_of g.graph) (has g.latent.bits) q × SeparationAnswer q (separation_lists g x y given) v text
-GraphAnswer (rule file r y done z given) g v text =
-    (q : MixedGraph) × IsObserved (graph_of g.graph) (has g.latent.bits) q × RuleAnswer r q (rule_lists g y done z given) v text
+-- the answer of a command on a graph that was read, where its file alone decides
+abbrev pub GraphAnswer : Wish → ReadGraph → Outcome → List ℕ → Type 0
+GraphAnswer (graph file project) g o text = TextAnswer project g o text
+GraphAnswer (separate file x y given) g o text = (q : MixedGraph) × IsObservedGraph g q × SeparationAnswer q (separation_lists g x y given) o text
+GraphAnswer (rule file r y done z given) g o text = (q : MixedGraph) × IsObservedGraph g q × RuleAnswer r q (rule_lists g y done z given) o text
+GraphAnswer (identify file x y form) g o text = IdentifyAnswer form g x y o text
+GraphAnswer (check file certificate) g o text = ⊥
 
--- the bytes are the text of this graph, and at most 1,048,576
-pub record Holds (bytes : List ℕ) (g : ReadGraph) : Type 0 where
-  pub small : length bytes ≤ 1048576
-  pub reads : Reads bytes (Ok g)
+-- the graph is accepted, and the second input is read
+abbrev pub NeedsSecond : Wish → ReadGraph → Type 0
+NeedsSecond (check file certificate) g = Unit {0}
+NeedsSecond w g = ⊥
+
+-- the answer of a command on a graph that was read and the bytes of its second input
+abbrev pub SecondAnswer : Wish → ReadGraph → List ℕ → Outcome → List ℕ → Type 0
+SecondAnswer (check file certificate) g other o text = CheckAnswer g other o text
+SecondAnswer w g other o text = ⊥
 
 -- the bytes are no graph: they are too many, or their text has a fault
 pub data IsGraphRefusal (bytes line : List ℕ) : Type 0 where
@@ -190,12 +178,20 @@ pub data IsGraphRefusal (bytes line : List ℕ) : Type 0 where
       → IsGraphRefusal bytes line
 
 -- the answer of a command on a graph that the bytes hold
-pub record HoldsAnswer (w : Wish) (bytes : List ℕ) (v : Verdict) (text : List ℕ) : Type 0 where
+pub record HoldsAnswer (w : Wish) (bytes : List ℕ) (o : Outcome) (text : List ℕ) : Type 0 where
   pub graph : ReadGraph
   pub holds : Holds bytes graph
-  pub answer : GraphAnswer w graph v text
+  pub answer : GraphAnswer w graph o text
 
--- the defined answer: yes or no with its text, or the line of a refused graph or target
-abbrev pub Defined : Wish → List ℕ → Verdict → List ℕ → Type 0
+-- the defined answer on the bytes of the file alone: yes or no with its text, or the line of a refused graph or target
+abbrev pub Defined : Wish → List ℕ → Outcome → List ℕ → Type 0
 Defined w bytes Graph line = IsGraphRefusal bytes line ⊎ HoldsAnswer w bytes Graph line
-Defined w bytes v text = HoldsAnswer w bytes v text
+Defined w bytes o text = HoldsAnswer w bytes o text
+
+-- the bytes hold a graph that is accepted, and the second input is read
+abbrev pub Continues : Wish → List ℕ → Type 0
+Continues w bytes = (g : ReadGraph) × Holds bytes g × NeedsSecond w g
+
+-- the defined answer on the bytes of both inputs
+abbrev pub DefinedWith : Wish → (bytes other : List ℕ) → Outcome → List ℕ → Type 0
+DefinedWith w bytes other o text = (g : ReadGraph) × Holds bytes g × NeedsSecond w g × SecondAnswer w g other o text

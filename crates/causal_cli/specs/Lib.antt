@@ -5,3 +5,4 @@ pub mod Answers
 pub mod Run
 pub mod Replies
 pub mod Endings
+pub mod Pendings

@@ -1,7 +1,6 @@
 -- What is printed for an answer, and the lines of refusals.
 use Rattle.std.specs.Prelude.{ℕ, Bool, ◌||◌, List, [], ◌∷◌, ◌++◌, codes}
-use Rattle.m_separation.specs.declared.marks.Mark.{Mark}
-use Rattle.answer_text.specs.Texts.{set_text, path_text, term_text}
+use Rattle.answer_text.specs.Texts.{set_text, term_text}
 use Rattle.fault_text.specs.Lines.{line_of}
 use Rattle.causal_cli.specs.declared.rule.Rule.{Rule}
 use Rattle.causal_cli.specs.declared.rule.Rule.TheVariants.{One, Two, Three}
@@ -13,10 +12,6 @@ query_text names x y given = set_text names x ++ (codes " from " ++ (set_text na
 -- the answer of a separation
 abbrev pub separated_text : List (List ℕ) → ℕ → ℕ → ℕ → List ℕ
 separated_text names x y given = codes "separated: " ++ (query_text names x y given ++ 10 ∷ [])
-
--- the line of an open path
-abbrev pub open_text : List (List ℕ) → List ℕ → List Mark → ℕ → List ℕ
-open_text names vertices marks count = codes "open: " ++ (path_text names vertices marks count ++ 10 ∷ [])
 
 -- the answer where a path is open
 abbrev pub not_separated_text : List (List ℕ) → ℕ → ℕ → ℕ → List ℕ → List ℕ
@@ -44,7 +39,7 @@ rule_fails_text r names x y z w open_line = codes "rule " ++ (digit_text r ++ (c
 
 -- words that have no form, with the commands that are built
 abbrev pub words_line : List ℕ
-words_line = line_of (codes "words not understood; commands are graph separate rule")
+words_line = line_of (codes "words not understood; commands are graph separate rule identify check")
 
 -- a graph text of more than 1,048,576 bytes
 abbrev pub size_line : List ℕ

@@ -9,23 +9,23 @@ use Rattle.m_separation.specs.Paths.{IsOpenPath}
 use Rattle.m_separation.specs.declared.paths.OpenPath.{OpenPath}
 use Rattle.do_rules.specs.Rules.{AreIndependent}
 use Rattle.dag_reader.specs.declared.graph.ReadGraph.{ReadGraph}
-use Rattle.latent_projection.specs.Renumbering.{IsObserved}
-use Rattle.causal_cli.specs.Wishes.{Names, Wish}
-use Rattle.causal_cli.specs.Lines.{separated_text, not_separated_text, open_text, rule_holds_text, rule_fails_text}
-use Rattle.causal_cli.specs.Answers.{separation_lists, SeparationAnswer, TextAnswer, rule_lists, IsBlockedFor, IsRuleFor, IsOpenFor, RuleAnswer, GraphAnswer, Defined}
-use Rattle.causal_cli.specs.declared.reply.Reply.{Reply}
+use Rattle.causal_cli.specs.Lines.{separated_text, not_separated_text, rule_holds_text, rule_fails_text}
+use Rattle.causal_cli.specs.Answers.{separation_lists, SeparationAnswer, TextAnswer, rule_lists, IsBlockedFor, IsRuleFor, IsOpenFor, RuleAnswer}
+use Rattle.replies.specs.declared.outcome.Reply.{Reply}
+use Rattle.replies.specs.declared.outcome.Outcome.{Outcome}
+use Rattle.replies.specs.declared.outcome.Outcome.TheVariants.{Yes, No, Graph, Second, Evaluation}
+use Rattle.replies.specs.Lines.{open_text}
+use Rattle.replies.specs.Observed.{Names, IsObservedGraph}
 use Rattle.causal_cli.specs.declared.rule.Rule.{Rule}
-use Rattle.causal_cli.specs.declared.verdict.Verdict.{Verdict}
-use Rattle.causal_cli.specs.declared.verdict.Verdict.TheVariants.{Yes, No, Words, Graph, Read, Write, Memory}
 
 -- the reply is the answer of a separation in the graph that was read
 abbrev pub GivesSeparation : ReadGraph → Names → Names → Names → Reply → Type 0
 GivesSeparation g x y given reply =
-    (q : MixedGraph) × IsObserved (graph_of g.graph) (has g.latent.bits) q × SeparationAnswer q (separation_lists g x y given) reply.verdict reply.text.items
+    (q : MixedGraph) × IsObservedGraph g q × SeparationAnswer q (separation_lists g x y given) reply.outcome reply.text.items
 
 -- the reply is the text of the graph that was read, or of its observed graph
 abbrev pub GivesText : Bool → ReadGraph → Reply → Type 0
-GivesText project g reply = TextAnswer project g reply.verdict reply.text.items
+GivesText project g reply = TextAnswer project g reply.outcome reply.text.items
 
 -- an open path, and the text that prints it
 pub record PrintsPath (q : MixedGraph) (names : List (List ℕ)) (x y w : ℕ) (text : List ℕ) : Type 0 where
@@ -42,23 +42,19 @@ pub record PrintsSeparation (q : MixedGraph) (names : List (List ℕ)) (x y w : 
   pub prints : text ≡ separated_text names x y w
 
 -- the answer for sets: separated, or not with an open path
-abbrev pub SetsAnswer : MixedGraph → List (List ℕ) → ℕ → ℕ → ℕ → Verdict → List ℕ → Type 0
+abbrev pub SetsAnswer : MixedGraph → List (List ℕ) → ℕ → ℕ → ℕ → Outcome → List ℕ → Type 0
 SetsAnswer q names x y w Yes text = PrintsSeparation q names x y w text
 SetsAnswer q names x y w No text = PrintsPath q names x y w text
-SetsAnswer q names x y w Words text = ⊥
-SetsAnswer q names x y w Graph text = ⊥
-SetsAnswer q names x y w Read text = ⊥
-SetsAnswer q names x y w Write text = ⊥
-SetsAnswer q names x y w Memory text = ⊥
+SetsAnswer q names x y w o text = ⊥
 
 -- the reply for sets
 abbrev pub AnswersSets : MixedGraph → List (List ℕ) → ℕ → ℕ → ℕ → Reply → Type 0
-AnswersSets q names x y w reply = SetsAnswer q names x y w reply.verdict reply.text.items
+AnswersSets q names x y w reply = SetsAnswer q names x y w reply.outcome reply.text.items
 
 -- the reply is the answer of a rule in the graph that was read
 abbrev pub GivesRule : Rule → ReadGraph → (y done z given : List (List ℕ)) → Reply → Type 0
 GivesRule r g y done z given reply =
-    (q : MixedGraph) × IsObserved (graph_of g.graph) (has g.latent.bits) q × RuleAnswer r q (rule_lists g y done z given) reply.verdict reply.text.items
+    (q : MixedGraph) × IsObservedGraph g q × RuleAnswer r q (rule_lists g y done z given) reply.outcome reply.text.items
 
 -- a path that is open in the graph of a rule, and the text that prints it
 pub record PrintsRulePath (r : Rule) (q : MixedGraph) (names : List (List ℕ)) (y done z given : ℕ) (text : List ℕ) : Type 0 where
@@ -73,23 +69,11 @@ pub record PrintsRule (r : Rule) (q : MixedGraph) (names : List (List ℕ)) (y d
   pub prints : text ≡ rule_holds_text r names (has done) (has y) (has z) (has given)
 
 -- the answer of a rule for sets: it holds, or not with an open path
-abbrev pub RuleSetsAnswer : Rule → MixedGraph → List (List ℕ) → (y done z given : ℕ) → Verdict → List ℕ → Type 0
+abbrev pub RuleSetsAnswer : Rule → MixedGraph → List (List ℕ) → (y done z given : ℕ) → Outcome → List ℕ → Type 0
 RuleSetsAnswer r q names y done z given Yes text = PrintsRule r q names y done z given text
 RuleSetsAnswer r q names y done z given No text = PrintsRulePath r q names y done z given text
-RuleSetsAnswer r q names y done z given Words text = ⊥
-RuleSetsAnswer r q names y done z given Graph text = ⊥
-RuleSetsAnswer r q names y done z given Read text = ⊥
-RuleSetsAnswer r q names y done z given Write text = ⊥
-RuleSetsAnswer r q names y done z given Memory text = ⊥
+RuleSetsAnswer r q names y done z given o text = ⊥
 
 -- the reply of a rule for sets
 abbrev pub AnswersRuleSets : Rule → MixedGraph → List (List ℕ) → (y done z given : ℕ) → Reply → Type 0
-AnswersRuleSets r q names y done z given reply = RuleSetsAnswer r q names y done z given reply.verdict reply.text.items
-
--- the reply is the answer of a wish on a graph that was read
-abbrev pub GivesAnswer : Wish → ReadGraph → Reply → Type 0
-GivesAnswer w g reply = GraphAnswer w g reply.verdict reply.text.items
-
--- the reply is the defined answer of a wish on the bytes of its file
-abbrev pub GivesDefined : Wish → List ℕ → Reply → Type 0
-GivesDefined w bytes reply = Defined w bytes reply.verdict reply.text.items
+AnswersRuleSets r q names y done z given reply = RuleSetsAnswer r q names y done z given reply.outcome reply.text.items

@@ -1,13 +1,16 @@
 -- How a run ends.
-use Rattle.std.specs.Prelude.{ℕ, ◌≡◌, ◌≤◌, Bool, false, List, length, take, Option, IfSome}
+use Rattle.std.specs.Prelude.{ℕ, ◌≡◌, ◌≤◌, Bool, false, List, length, take, Option, Some, IfSome}
 use Rattle.std.specs.Io.KnownBytes.{Appends}
 use Rattle.causal_io.specs.Causes.{Rose}
 use Rattle.word_forms.specs.Form.{Text}
-use Rattle.causal_cli.specs.Wishes.{Wish, Wants, file_of}
+use Rattle.replies.specs.declared.outcome.Outcome.{Outcome}
+use Rattle.replies.specs.declared.outcome.Outcome.TheVariants as outcome
+use Rattle.replies.specs.Outcomes as outcomes
+use Rattle.causal_cli.specs.Wishes.{Wish, Wants, file_of, second_of}
 use Rattle.causal_cli.specs.Lines.{words_line, read_line, write_line, memory_line}
-use Rattle.causal_cli.specs.Answers.{Defined}
+use Rattle.causal_cli.specs.Answers.{Defined, Continues, DefinedWith}
 use Rattle.causal_cli.specs.declared.verdict.Verdict.{Verdict}
-use Rattle.causal_cli.specs.declared.verdict.Verdict.TheVariants.{Yes, No, Words, Graph, Read, Write, Memory}
+use Rattle.causal_cli.specs.declared.verdict.Verdict.TheVariants.{Yes, No, Words, Graph, Second, Evaluation, Read, Write, Memory}
 
 -- the status of a verdict
 abbrev pub code_of : Verdict → ℕ
@@ -15,6 +18,8 @@ code_of Yes = 0
 code_of No = 1
 code_of Words = 2
 code_of Graph = 3
+code_of Second = 4
+code_of Evaluation = 5
 code_of Read = 6
 code_of Write = 7
 code_of Memory = 8
@@ -36,20 +41,36 @@ pub record Run : Type 0 where
   pub out : Stream
 
 -- the words have a wish whose file was read, and on the bytes that it holds this is the defined answer
-pub record Answers (r : Run) (v : Verdict) (text : List ℕ) : Type 0 where
+pub record AnswersFile (r : Run) (o : Outcome) (text : List ℕ) : Type 0 where
   pub wish : Wish
   pub wants : Wants r.words wish
   pub there : r.lacks (file_of wish) ≡ false
-  pub defined : IfSome (r.held (file_of wish)) (λ bytes. Defined wish bytes v text)
+  pub defined : IfSome (r.held (file_of wish)) (λ bytes. Defined wish bytes o text)
+
+-- the words have a wish whose file was read and accepted, and whose second input was read, and on the bytes of both this is the defined answer
+pub record AnswersBoth (r : Run) (o : Outcome) (text : List ℕ) : Type 0 where
+  pub wish : Wish
+  pub wants : Wants r.words wish
+  pub second : Text
+  pub names_it : second_of wish ≡ Some second
+  pub there : r.lacks (file_of wish) ≡ false
+  pub second_there : r.lacks second ≡ false
+  pub accepted : IfSome (r.held (file_of wish)) (λ bytes. Continues wish bytes)
+  pub defined : IfSome (r.held (file_of wish)) (λ bytes. IfSome (r.held second) (λ other. DefinedWith wish bytes other o text))
+
+-- the defined answer: by the file alone, or by both inputs
+pub data Answers (r : Run) (o : Outcome) (text : List ℕ) : Type 0 where
+  by_file : AnswersFile r o text → Answers r o text
+  by_both : AnswersBoth r o text → Answers r o text
 
 -- an answer was written whole
-pub record Written (r : Run) (v : Verdict) (text : List ℕ) : Type 0 where
-  pub answers : Answers r v text
+pub record Written (r : Run) (o : Outcome) (text : List ℕ) : Type 0 where
+  pub answers : Answers r o text
   pub whole : Appends r.out.before r.out.after text
 
--- a graph or target was refused by this line, and nothing was written
-pub record Refused (r : Run) (line : List ℕ) : Type 0 where
-  pub answers : Answers r Graph line
+-- an input was refused by this line, and nothing was written
+pub record Refused (r : Run) (o : Outcome) (line : List ℕ) : Type 0 where
+  pub answers : Answers r o line
   pub nothing : r.out.after ≡ r.out.before
 
 -- the words have no wish
@@ -57,30 +78,39 @@ pub record NotUnderstood (r : Run) : Type 0 where
   pub no_wish : (w : Wish) → Wants r.words w → ⊥
   pub nothing : r.out.after ≡ r.out.before
 
--- a read of the file failed
+-- the wish reads this name: it is that of its file, or that of its second input, where the file is accepted
+pub data IsRead (r : Run) (w : Wish) (name : Text) : Type 0 where
+  file : name ≡ file_of w → IsRead r w name
+  second : second_of w ≡ Some name → r.lacks (file_of w) ≡ false → IfSome (r.held (file_of w)) (λ bytes. Continues w bytes) → IsRead r w name
+
+-- a read of an input failed
 pub record Unread (r : Run) : Type 0 where
   pub wish : Wish
   pub wants : Wants r.words wish
-  pub rose : Rose (r.read_faults (file_of wish)) (r.read_faults_after (file_of wish))
+  pub name : Text
+  pub is_read : IsRead r wish name
+  pub rose : Rose (r.read_faults name) (r.read_faults_after name)
   pub nothing : r.out.after ≡ r.out.before
 
 -- a write of the answer failed, and the front of it was written
 pub record Unwritten (r : Run) : Type 0 where
-  pub verdict : Verdict
+  pub outcome : Outcome
   pub text : List ℕ
   pub count : ℕ
-  pub is_answer : code_of verdict ≤ 1
-  pub answers : Answers r verdict text
+  pub is_answer : outcomes.code_of outcome ≤ 1
+  pub answers : Answers r outcome text
   pub within : count ≤ length text
   pub front : Appends r.out.before r.out.after (take count text)
   pub rose : Rose r.out.faults r.out.faults_after
 
 -- what a verdict says of the run, with the text on `out` or the line on `err`
 abbrev pub Ends : Run → Verdict → List ℕ → Type 0
-Ends r Yes text = Written r Yes text
-Ends r No text = Written r No text
+Ends r Yes text = Written r outcome.Yes text
+Ends r No text = Written r outcome.No text
 Ends r Words line = NotUnderstood r × (line ≡ words_line)
-Ends r Graph line = Refused r line
+Ends r Graph line = Refused r outcome.Graph line
+Ends r Second line = Refused r outcome.Second line
+Ends r Evaluation line = Refused r outcome.Evaluation line
 Ends r Read line = Unread r × (line ≡ read_line)
 Ends r Write line = Unwritten r × (line ≡ write_line)
 Ends r Memory line = (r.out.after ≡ r.out.before) × (line ≡ memory_line)

@@ -1,10 +1,10 @@
 -- What the code's wishes stand for.
-use Rattle.std.specs.Prelude.{◌≡◌, Option, option_map}
+use Rattle.std.specs.Prelude.{◌≡◌, Bool, Option, option_map}
 use Rattle.word_forms.specs.Form.{Text}
 use Rattle.word_lists.specs.Lists.{IsList}
 use Rattle.word_lists.specs.Numbers.{IsNumber}
 use Rattle.word_lists.specs.Views.{names_in}
-use Rattle.causal_cli.specs.Wishes.{Wish, graph, separate, rule, number_of, IsListed, IsListedOrEmpty}
+use Rattle.causal_cli.specs.Wishes.{Wish, graph, separate, rule, identify, check, number_of, IsListed, IsListedOrEmpty, IsForm}
 use Rattle.causal_cli.specs.declared.wish.Wish.{Wish as CodeWish}
 use Rattle.causal_cli.specs.declared.wish.Wish.TheVariants as wish
 
@@ -13,17 +13,28 @@ abbrev pub wish_of : CodeWish → Wish
 wish_of (wish.Graph file project) = graph file.now project
 wish_of (wish.Separate file x y given) = separate file.now (option_map names_in x) (option_map names_in y) (option_map names_in given)
 wish_of (wish.Rule file r y done z given) = rule file.now r (names_in y) (names_in done) (names_in z) (names_in given)
+wish_of (wish.Identify file x y form) = identify file.now (option_map names_in x) (option_map names_in y) form
+wish_of (wish.Check file certificate) = check file.now certificate.now
 
 -- the wish is a separation of this file, with the lists of these values
 abbrev pub IsSeparation : Text → Option Text → Option Text → Option Text → CodeWish → Type 0
-IsSeparation file text_x text_y text_given (wish.Graph f project) = ⊥
 IsSeparation file text_x text_y text_given (wish.Separate f x y given) = (f.now ≡ file) × IsListed text_x (option_map names_in x)
     × IsListed text_y (option_map names_in y) × IsListed text_given (option_map names_in given)
-IsSeparation file text_x text_y text_given (wish.Rule f r y done z given) = ⊥
+IsSeparation file text_x text_y text_given w = ⊥
 
 -- the wish is a rule on this file, with the number and the lists of these values
 abbrev pub IsRuleWish : Text → (text_number text_y text_z : Text) → (text_done text_given : Option Text) → CodeWish → Type 0
-IsRuleWish file text_number text_y text_z text_done text_given (wish.Graph f project) = ⊥
-IsRuleWish file text_number text_y text_z text_done text_given (wish.Separate f x y given) = ⊥
 IsRuleWish file text_number text_y text_z text_done text_given (wish.Rule f r y done z given) = (f.now ≡ file) × IsNumber text_number 1 3 (number_of r)
     × IsList text_y (names_in y) × IsListedOrEmpty text_done (names_in done) × IsList text_z (names_in z) × IsListedOrEmpty text_given (names_in given)
+IsRuleWish file text_number text_y text_z text_done text_given w = ⊥
+
+-- the wish is an identification on this file, with the lists of these values and the form of these flags
+abbrev pub IsIdentification : Text → (text_x text_y : Option Text) → (certificate latex : Bool) → CodeWish → Type 0
+IsIdentification file text_x text_y certificate latex (wish.Identify f x y form) = (f.now ≡ file) × IsListed text_x (option_map names_in x)
+    × IsListed text_y (option_map names_in y) × IsForm certificate latex form
+IsIdentification file text_x text_y certificate latex w = ⊥
+
+-- the wish is a check of this certificate on this file
+abbrev pub IsCheckWish : (file certificate : Text) → CodeWish → Type 0
+IsCheckWish file certificate (wish.Check f c) = (f.now ≡ file) × (c.now ≡ certificate)
+IsCheckWish file certificate w = ⊥

@@ -1,29 +1,38 @@
 -- What the words ask for, with the lists in them read.
-use Rattle.std.specs.Prelude.{ℕ, ◌≡◌, Bool, List, [], Option, Some, None}
+use Rattle.std.specs.Prelude.{ℕ, ◌≡◌, Bool, true, false, List, [], Option, Some, None, codes}
 use Rattle.word_forms.specs.Form.{Text}
 use Rattle.word_lists.specs.Lists.{IsList}
 use Rattle.word_lists.specs.Numbers.{IsNumber}
 use Rattle.word_values.specs.Commands.{Asks}
 use Rattle.word_values.specs.Commands as asked
+use Rattle.replies.specs.Observed.{Names}
+use Rattle.identify_command.specs.declared.form.Form.{Form}
+use Rattle.identify_command.specs.declared.form.Form.TheVariants as form
 use Rattle.causal_cli.specs.declared.rule.Rule.{Rule}
 use Rattle.causal_cli.specs.declared.rule.Rule.TheVariants.{One, Two, Three}
 
--- the names of a list, where an option gives one
-abbrev pub Names : Type 0
-Names = Option (List (List ℕ))
-
 -- a wish: `graph` of a file, projected or not; `separate` of a file, with the names of x, y and given where they are listed;
--- `rule` of a file, with one of the three rules and the names of y, of what is done, of z, and of what is given
+-- `rule` of a file, with one of the three rules and the names of y, of what is done, of z, and of what is given;
+-- `identify` of a file, with the names of x and y where they are listed, and the form of the answer; `check` of a file and a certificate
 pub data Wish : Type 0 where
   graph : Text → Bool → Wish
   separate : Text → Names → Names → Names → Wish
   rule : Text → Rule → (y done z given : List (List ℕ)) → Wish
+  identify : Text → Names → Names → Form → Wish
+  check : Text → Text → Wish
 
 -- the file that a wish names
 abbrev pub file_of : Wish → Text
 file_of (graph file project) = file
 file_of (separate file x y given) = file
 file_of (rule file r y done z given) = file
+file_of (identify file x y form) = file
+file_of (check file certificate) = file
+
+-- the second input that a wish names
+abbrev pub second_of : Wish → Option Text
+second_of (check file certificate) = Some certificate
+second_of w = None
 
 -- the number of a rule
 abbrev pub number_of : Rule → ℕ
@@ -67,8 +76,33 @@ pub record WantsRule (words : List Text) (file : Text) (r : Rule) (y done z give
   pub list_z : IsList text_z z
   pub list_given : IsListedOrEmpty text_given given
 
+-- the form of an answer, by its two flags, of which one stands at most
+abbrev pub IsForm : (certificate latex : Bool) → Form → Type 0
+IsForm false false f = f ≡ form.Plain
+IsForm true false f = f ≡ form.Certificate
+IsForm false true f = f ≡ form.Latex
+IsForm true true f = ⊥
+
+-- the words ask for this: they have the form, each value of a list is one, and one form of the answer is asked for
+pub record WantsIdentify (words : List Text) (file : Text) (x y : Names) (f : Form) : Type 0 where
+  pub text_x : Option Text
+  pub text_y : Option Text
+  pub certificate : Bool
+  pub latex : Bool
+  pub asks : Asks words (asked.identify file text_x text_y certificate latex)
+  pub list_x : IsListed text_x x
+  pub list_y : IsListed text_y y
+  pub form : IsForm certificate latex f
+
+-- the words ask for this: they have the form, and the two inputs aren't both standard input
+pub record WantsCheck (words : List Text) (file certificate : Text) : Type 0 where
+  pub asks : Asks words (asked.check file certificate)
+  pub one_standard : file ≡ codes "-" → certificate ≡ codes "-" → ⊥
+
 -- what the words want
 abbrev pub Wants : List Text → Wish → Type 0
 Wants words (graph file project) = Asks words (asked.graph file project)
 Wants words (separate file x y given) = WantsSeparate words file x y given
 Wants words (rule file r y done z given) = WantsRule words file r y done z given
+Wants words (identify file x y form) = WantsIdentify words file x y form
+Wants words (check file certificate) = WantsCheck words file certificate

@@ -1,41 +1,53 @@
 ghost use Rattle.std.specs.Prelude.{◌≡◌, ◌≤◌, IfOk, OnOk, length, option_map};
 ghost use Rattle.fault_text.specs.Lines.{line_of, graph_fault_text};
-ghost use Rattle.causal_cli.specs.Replies.{GivesAnswer, GivesDefined};
+ghost use Rattle.causal_cli.specs.Pendings.{GivesOn, GivesFirst};
 ghost use Rattle.causal_cli.specs.WishViews.{wish_of};
 
 use crate::graph::graph_text;
-use crate::reply::Reply;
+use crate::pending::Pending;
 use crate::rule::apply_rule;
 use crate::separate::separate;
-use crate::verdict::Verdict;
 use crate::wish::Wish;
 use dag_reader::{GraphFault, ReadGraph, read_graph};
 use fault_text::graph_line;
+use identify_command::identify_reply;
+use replies::{Outcome, Reply};
 use std::alloc::{AllocError, Global};
 
-/// The defined answer of a wish on the bytes of its file, of which there are at most 1,048,576.
-pub fn answer(alloc: Global, wish: Wish<'_>, bytes: &[u8]) -> Result<Reply, AllocError>
+/// What the file alone gives.
+#[derive(Drop)]
+pub enum First<'a> {
+    /// The defined answer.
+    Replied(Reply),
+    /// The second input is read.
+    Continues(Pending<'a>),
+}
+
+/// What a wish's file alone gives, on its bytes, of which there are at most 1,048,576.
+pub fn answer<'a>(alloc: Global, wish: Wish<'a>, bytes: &[u8]) -> Result<First<'a>, AllocError>
     requires { length bytes.now ≤ 1048576 }
-    ensures { IfOk result (GivesDefined (wish_of wish.entry) bytes.now) }
+    ensures { IfOk result (GivesFirst (wish_of wish.entry) bytes.now) }
 {
     match read_graph(alloc, bytes) {
-        Ok(graph) => answer_on(alloc, wish, &graph),
-        Err(fault) => refuse(alloc, &fault),
+        Ok(graph) => answer_on(alloc, wish, graph),
+        Err(fault) => Ok(First::Replied(refuse_graph(alloc, &fault)?)),
     }
 }
 
-/// The answer of a wish on a graph that was read.
-fn answer_on(alloc: Global, wish: Wish<'_>, graph: &ReadGraph) -> Result<Reply, AllocError>
-    ensures { IfOk result (GivesAnswer (wish_of wish.entry) graph.now) }
+/// What a wish gives on a graph that was read.
+fn answer_on<'a>(alloc: Global, wish: Wish<'a>, graph: ReadGraph) -> Result<First<'a>, AllocError>
+    ensures { IfOk result (GivesOn (wish_of wish.entry) graph) }
 {
     match wish {
-        Wish::Graph { file: _, project } => graph_text(alloc, graph, project),
+        Wish::Graph { file: _, project } => {
+            Ok(First::Replied(graph_text(alloc, &graph, project)?))
+        }
         Wish::Separate {
             file: _,
             x,
             y,
             given,
-        } => separate(alloc, graph, x, y, given),
+        } => Ok(First::Replied(separate(alloc, &graph, x, y, given)?)),
         Wish::Rule {
             file: _,
             rule,
@@ -43,13 +55,23 @@ fn answer_on(alloc: Global, wish: Wish<'_>, graph: &ReadGraph) -> Result<Reply, 
             done,
             z,
             given,
-        } => apply_rule(alloc, graph, rule, &y, &done, &z, &given),
+        } => Ok(First::Replied(apply_rule(alloc, &graph, rule, &y, &done, &z, &given)?)),
+        Wish::Identify {
+            file: _,
+            x,
+            y,
+            form,
+        } => Ok(First::Replied(identify_reply(alloc, &graph, x, y, form)?)),
+        Wish::Check {
+            file: _,
+            certificate,
+        } => Ok(First::Continues(Pending::Check { graph, certificate })),
     }
 }
 
 /// The reply to a graph text with a fault.
-fn refuse(alloc: Global, fault: &GraphFault) -> Result<Reply, AllocError>
-    ensures verdict { IfOk result (λ r. r.verdict ≡ Verdict.Graph) }
+fn refuse_graph(alloc: Global, fault: &GraphFault) -> Result<Reply, AllocError>
+    ensures outcome { IfOk result (λ r. r.outcome ≡ Outcome.Graph) }
     ensures line { IfOk result (λ r. r.text.items ≡ line_of (graph_fault_text fault.now)) }
     ensures fault { OnOk result (fault.now ≡ GraphFault.NoMemory → ⊥) }
 {
@@ -58,7 +80,7 @@ fn refuse(alloc: Global, fault: &GraphFault) -> Result<Reply, AllocError>
     }
     let text = graph_line(alloc, fault)?;
     Ok(Reply {
-        verdict: Verdict::Graph,
+        outcome: Outcome::Graph,
         text,
     })
 }

@@ -13,6 +13,10 @@ pub enum Ending {
     NotUnderstood,
     /// The graph or the target is refused, with this line.
     Refused(Vec<u8>),
+    /// The second input is refused, with this line.
+    SecondRefused(Vec<u8>),
+    /// The formula has no value at some cell, with this line.
+    NoValue(Vec<u8>),
     /// A read failed.
     Unread,
     /// A write failed.
@@ -33,6 +37,8 @@ impl Ending {
             Ending::Denied => Verdict::No,
             Ending::NotUnderstood => Verdict::Words,
             Ending::Refused(_) => Verdict::Graph,
+            Ending::SecondRefused(_) => Verdict::Second,
+            Ending::NoValue(_) => Verdict::Evaluation,
             Ending::Unread => Verdict::Read,
             Ending::Unwritten => Verdict::Write,
             Ending::NoMemory => Verdict::Memory,
@@ -46,9 +52,11 @@ impl Ending {
         match self {
             Ending::Affirmed | Ending::Denied => b"",
             Ending::NotUnderstood => {
-                b"causal: words not understood; commands are graph separate rule\n"
+                b"causal: words not understood; commands are graph separate rule identify check\n"
             }
             Ending::Refused(line) => line.as_slice(),
+            Ending::SecondRefused(line) => line.as_slice(),
+            Ending::NoValue(line) => line.as_slice(),
             Ending::Unread => b"causal: read failed\n",
             Ending::Unwritten => b"causal: write failed\n",
             Ending::NoMemory => b"causal: no memory\n",

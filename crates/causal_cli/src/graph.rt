@@ -2,11 +2,10 @@ ghost use Rattle.std.specs.Prelude.{◌≡◌, IfOk};
 ghost use Rattle.causal_cli.specs.Answers.{IsGraphText, IsObservedPart};
 ghost use Rattle.causal_cli.specs.Replies.{GivesText};
 
-use crate::reply::Reply;
-use crate::verdict::Verdict;
 use dag_reader::{ReadGraph, write_graph};
 use latent_projection::{observed, renumber};
 use mixed_graph::VSet;
+use replies::{Outcome, Reply};
 use std::alloc::{AllocError, Global};
 
 /// The text of a graph, or of its observed graph.
@@ -14,7 +13,7 @@ pub fn graph_text(alloc: Global, graph: &ReadGraph, project: bool) -> Result<Rep
     ensures { IfOk result (GivesText project graph.now) }
 {
     Ok(Reply {
-        verdict: Verdict::Yes,
+        outcome: Outcome::Yes,
         text: text_of(alloc, graph, project)?,
     })
 }

@@ -4,8 +4,8 @@
 mod answer;
 mod ending;
 mod graph;
+mod pending;
 mod printing;
-mod reply;
 mod rule;
 mod separate;
 mod sure;

@@ -2,12 +2,14 @@ ghost use Rattle.std.specs.Prelude.{◌≡◌, ◌++◌, ◌∷◌, [], ◌<◌,
 ghost use Rattle.mixed_graph.specs.Bits.{has};
 ghost use Rattle.mixed_graph.specs.Sets.{Within};
 ghost use Rattle.answer_text.specs.Texts.{term_text};
-ghost use Rattle.causal_cli.specs.Lines.{query_text, separated_text, not_separated_text, open_text, digit_text, equation_text, rule_holds_text, rule_fails_text};
+ghost use Rattle.replies.specs.Lines.{open_text};
+ghost use Rattle.causal_cli.specs.Lines.{query_text, separated_text, not_separated_text, digit_text, equation_text, rule_holds_text, rule_fails_text};
 
 use crate::rule::Rule;
-use answer_text::{Term, push_path, push_set, push_term};
+use answer_text::{Term, push_set, push_term};
 use m_separation::OpenPath;
 use mixed_graph::Names;
+use replies::push_open;
 use std::alloc::{AllocError, Global};
 use targets::{RuleSets, Sets};
 
@@ -59,19 +61,6 @@ fn push_query(out: &mut Vec<u8>, names: &Names, sets: Sets) -> Result<(), AllocE
     push_set(out, names, sets.y)?;
     out.extend_from_slice(b" given ")?;
     push_set(out, names, sets.given)?;
-    Ok(())
-}
-
-/// Appends the line of an open path.
-fn push_open(out: &mut Vec<u8>, names: &Names, path: &OpenPath) -> Result<(), AllocError>
-    requires some { 0 < path.now.count }
-    requires few { path.now.count ≤ 64 }
-    requires named { (i : ℕ) → i < path.now.count → slice_index path.now.vertices i < length names.now }
-    ensures { OnOk result (out.new.items ≡ out.old.items ++ open_text names.now path.now.vertices path.now.marks path.now.count) }
-{
-    out.extend_from_slice(b"open: ")?;
-    push_path(out, names, &path.vertices, &path.marks, path.count)?;
-    out.push(b'\n')?;
     Ok(())
 }
 

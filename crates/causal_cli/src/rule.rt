@@ -8,13 +8,11 @@ ghost use Rattle.causal_cli.specs.Answers.{IsBlockedFor, IsRuleFor, IsOpenFor};
 ghost use Rattle.causal_cli.specs.Replies.{GivesRule, AnswersRuleSets};
 
 use crate::printing::{rule_fails_text, rule_holds_text};
-use crate::reply::Reply;
-use crate::separate::refuse;
-use crate::verdict::Verdict;
 use dag_reader::ReadGraph;
 use do_rules::{rule1, rule2, rule3};
 use latent_projection::{Observed, observed};
 use m_separation::OpenPath;
+use replies::{Outcome, Reply, refuse};
 use std::alloc::{AllocError, Global};
 use targets::{RuleSets, find_rule_sets};
 
@@ -57,11 +55,11 @@ fn decide(alloc: Global, seen: &Observed, rule: Rule, sets: RuleSets) -> Result<
 {
     match ask(seen, rule, sets) {
         Ok(()) => Ok(Reply {
-            verdict: Verdict::Yes,
+            outcome: Outcome::Yes,
             text: rule_holds_text(alloc, &seen.names, rule, sets)?,
         }),
         Err(path) => Ok(Reply {
-            verdict: Verdict::No,
+            outcome: Outcome::No,
             text: rule_fails_text(alloc, &seen.names, rule, sets, &path)?,
         }),
     }

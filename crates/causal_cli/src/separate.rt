@@ -1,24 +1,17 @@
-ghost use Rattle.std.specs.Prelude.{◌≡◌, IfOk, OnOk, length, option_map};
+ghost use Rattle.std.specs.Prelude.{◌≡◌, IfOk, length, option_map};
 ghost use Rattle.mixed_graph.specs.Bits.{has};
-ghost use Rattle.mixed_graph.specs.Sets.{Within};
-ghost use Rattle.mixed_graph.specs.Names.{texts};
 ghost use Rattle.mixed_graph.specs.Shown.{graph_of};
 ghost use Rattle.do_rules.specs.Rules.{AreThreeSets};
 ghost use Rattle.word_lists.specs.Views.{names_in};
-ghost use Rattle.targets.specs.Targets.{listed};
-ghost use Rattle.fault_text.specs.Lines.{line_of, target_fault_text};
 ghost use Rattle.causal_cli.specs.Replies.{GivesSeparation, AnswersSets};
 
 use crate::printing::{not_separated_text, separated_text};
-use crate::reply::Reply;
-use crate::verdict::Verdict;
 use dag_reader::ReadGraph;
 use do_rules::independence;
-use fault_text::target_line;
 use latent_projection::{Observed, observed};
-use mixed_graph::{Names, VSet};
+use replies::{Outcome, Reply, list_or, refuse};
 use std::alloc::{AllocError, Global};
-use targets::{Sets, TargetFault, find_sets, names_of};
+use targets::{Sets, find_sets};
 
 /// Whether x and y are separated given a set, in the observed graph: then they are independent given it in each model that fits that graph.
 ///
@@ -42,38 +35,6 @@ pub fn separate(
     }
 }
 
-/// The reply to listed names that are at fault.
-pub fn refuse(alloc: Global, fault: &TargetFault) -> Result<Reply, AllocError>
-    ensures verdict { IfOk result (λ r. r.verdict ≡ Verdict.Graph) }
-    ensures line { IfOk result (λ r. r.text.items ≡ line_of (target_fault_text fault.now)) }
-    ensures fault { OnOk result (fault.now ≡ TargetFault.NoMemory → ⊥) }
-{
-    if let TargetFault::NoMemory = fault {
-        return Err(AllocError);
-    }
-    let text = target_line(alloc, fault)?;
-    Ok(Reply {
-        verdict: Verdict::Graph,
-        text,
-    })
-}
-
-/// The names of a list that is given, or else those of a default set.
-fn list_or(
-    alloc: Global,
-    names: &Names,
-    default: VSet,
-    list: Option<Vec<Vec<u8>>>,
-) -> Result<Vec<Vec<u8>>, AllocError>
-    requires { Within (length names.now) (has default.bits) }
-    ensures { IfOk result (λ v. texts v.items ≡ listed names.now default.bits (option_map names_in list)) }
-{
-    match list {
-        Some(list) => Ok(list),
-        None => names_of(alloc, names, default),
-    }
-}
-
 /// The answer for sets of the observed graph.
 fn decide(alloc: Global, seen: &Observed, sets: Sets) -> Result<Reply, AllocError>
     requires named { length seen.now.names ≡ seen.now.graph.n }
@@ -82,11 +43,11 @@ fn decide(alloc: Global, seen: &Observed, sets: Sets) -> Result<Reply, AllocErro
 {
     match independence(&seen.graph, sets.x, sets.y, sets.given) {
         Ok(()) => Ok(Reply {
-            verdict: Verdict::Yes,
+            outcome: Outcome::Yes,
             text: separated_text(alloc, &seen.names, sets)?,
         }),
         Err(path) => Ok(Reply {
-            verdict: Verdict::No,
+            outcome: Outcome::No,
             text: not_separated_text(alloc, &seen.names, sets, &path)?,
         }),
     }

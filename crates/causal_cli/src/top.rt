@@ -1,14 +1,16 @@
-ghost use Rattle.std.specs.Prelude.{◌≡◌, ◌≤◌, List, ℕ, length};
+ghost use Rattle.std.specs.Prelude.{◌≡◌, ◌≤◌, List, ℕ, true, false, length, IfSome, IsErrOf};
+ghost use Rattle.causal_io.specs.Causes.{Rose};
+ghost use Rattle.causal_io.specs.Reading.{AnswersAll};
 ghost use Rattle.word_forms.specs.Views.{texts_of};
 ghost use Rattle.causal_cli.specs.Run.{Ended, Received};
-ghost use Rattle.causal_cli.specs.Endings.{EndsAs, IsTooLong, Delivers, verdict_of, line_in};
+ghost use Rattle.causal_cli.specs.Endings.{EndsAs, IsTooLong, Delivers, Proceeds, verdict_of, line_in};
 
-use crate::answer::answer;
+use crate::answer::{First, answer};
 use crate::ending::Ending;
-use crate::reply::Reply;
-use crate::verdict::Verdict;
+use crate::pending::{Pending, long_reply, second_reply};
 use crate::wish::{WordsFault, read_wish};
 use causal_io::{ReadError, Shelf, Sink, read_all, write_all};
+use replies::{Outcome, Reply};
 use std::alloc::Global;
 
 /// The most bytes of a graph text.
@@ -79,16 +81,76 @@ fn respond<S: Shelf, O: Sink>(alloc: Global, words: &[String], shelf: &mut S, ou
         Err(WordsFault::NotUnderstood) => return Ending::NotUnderstood,
         Err(WordsFault::NoMemory) => return Ending::NoMemory,
     };
-    let bytes = match read_all(alloc, shelf, wish.file(), MAX_GRAPH_BYTES) {
+    let file = wish.file();
+    let bytes = match read_all(alloc, shelf, file, MAX_GRAPH_BYTES) {
         Ok(bytes) => bytes,
         Err(ReadError::Fault) => return Ending::Unread,
         Err(ReadError::TooLong { limit: _ }) => return too_long(alloc),
         Err(ReadError::NoMemory) => return Ending::NoMemory,
     };
-    let Ok(reply) = answer(alloc, wish, &bytes) else {
-        return Ending::NoMemory;
-    };
-    deliver(out, reply)
+    match answer(alloc, wish, &bytes) {
+        Err(_) => Ending::NoMemory,
+        Ok(First::Replied(reply)) => deliver(out, reply),
+        Ok(First::Continues(pending)) => proceed(alloc, file, &bytes, &pending, shelf, out),
+    }
+}
+
+/// Reads the second input and answers on it.
+fn proceed<S: Shelf, O: Sink>(
+    alloc: Global,
+    file: &str,
+    bytes: &[u8],
+    pending: &Pending<'_>,
+    shelf: &mut S,
+    out: &mut O,
+) -> Ending
+    requires held { IfSome (S.held shelf.now file.now) (λ all. bytes.now ≡ all) }
+    requires there { S.lacks shelf.now file.now ≡ false }
+    requires small { length bytes.now ≤ 1048576 }
+    ensures proceeds { Proceeds (S.held shelf.old) (S.lacks shelf.old) (S.faults shelf.old) (S.faults shelf.new)
+        (record { before = O.written out.old; after = O.written out.new; faults = O.faults out.old; faults_after = O.faults out.new }) pending.now result }
+    ensures holds { S.held shelf.new ≡ S.held shelf.old }
+    ensures lack { S.lacks shelf.new ≡ S.lacks shelf.old }
+{
+    match read_second(alloc, file, bytes, pending.second(), pending.limit(), shelf) {
+        Ok(other) => match second_reply(alloc, pending, &other) {
+            Ok(reply) => deliver(out, reply),
+            Err(_) => Ending::NoMemory,
+        },
+        Err(ReadError::TooLong { limit: _ }) => match long_reply(alloc, pending) {
+            Ok(reply) => deliver(out, reply),
+            Err(_) => Ending::NoMemory,
+        },
+        Err(ReadError::Fault) => Ending::Unread,
+        Err(ReadError::NoMemory) => Ending::NoMemory,
+    }
+}
+
+/// The bytes of the second input. An input that is named twice is read once.
+fn read_second<S: Shelf>(
+    alloc: Global,
+    file: &str,
+    bytes: &[u8],
+    second: &str,
+    limit: u64,
+    shelf: &mut S,
+) -> Result<Vec<u8>, ReadError>
+    requires held { IfSome (S.held shelf.now file.now) (λ all. bytes.now ≡ all) }
+    requires there { S.lacks shelf.now file.now ≡ false }
+    requires small { length bytes.now ≤ limit }
+    ensures answer { AnswersAll (S.held shelf.old second.now) limit result }
+    ensures lacked { S.lacks shelf.old second.now ≡ true → IsErrOf result ReadError.Fault }
+    ensures fault { IsErrOf result ReadError.Fault → Rose (S.faults shelf.old second.now) (S.faults shelf.new second.now) }
+    ensures holds { S.held shelf.new ≡ S.held shelf.old }
+    ensures lack { S.lacks shelf.new ≡ S.lacks shelf.old }
+{
+    if second == file {
+        return match Vec::from_slice(alloc, bytes) {
+            Ok(copy) => Ok(copy),
+            Err(_) => Err(ReadError::NoMemory),
+        };
+    }
+    read_all(alloc, shelf, second, limit)
 }
 
 /// The ending of a graph text that is too long.
@@ -105,15 +167,17 @@ fn too_long(alloc: Global) -> Ending
 fn deliver<O: Sink>(out: &mut O, reply: Reply) -> Ending
     ensures { Delivers (record { before = O.written out.old; after = O.written out.new; faults = O.faults out.old; faults_after = O.faults out.new }) reply result }
 {
-    match reply.verdict {
-        Verdict::Yes => match write_all(out, &reply.text) {
+    match reply.outcome {
+        Outcome::Yes => match write_all(out, &reply.text) {
             Ok(()) => Ending::Affirmed,
             Err(_) => Ending::Unwritten,
         },
-        Verdict::No => match write_all(out, &reply.text) {
+        Outcome::No => match write_all(out, &reply.text) {
             Ok(()) => Ending::Denied,
             Err(_) => Ending::Unwritten,
         },
-        _ => Ending::Refused(reply.text),
+        Outcome::Graph => Ending::Refused(reply.text),
+        Outcome::Second => Ending::SecondRefused(reply.text),
+        Outcome::Evaluation => Ending::NoValue(reply.text),
     }
 }

@@ -11,6 +11,10 @@ pub enum Verdict {
     Words,
     /// The graph or the target is refused.
     Graph,
+    /// The second input is refused.
+    Second,
+    /// The formula has no value at some cell.
+    Evaluation,
     /// A read failed.
     Read,
     /// A write failed.
@@ -31,6 +35,8 @@ impl Verdict {
             Verdict::No => 1,
             Verdict::Words => 2,
             Verdict::Graph => 3,
+            Verdict::Second => 4,
+            Verdict::Evaluation => 5,
             Verdict::Read => 6,
             Verdict::Write => 7,
             Verdict::Memory => 8,

@@ -1,14 +1,17 @@
-ghost use Rattle.std.specs.Prelude.{ℕ, List, ◌≡◌, IfSome, IfNone, IfOk, IfErr, IsErrOf, option_map};
+ghost use Rattle.std.specs.Prelude.{ℕ, List, ◌≡◌, IfSome, IfNone, IfOk, IfErr, OnOk, IsErrOf, option_map, codes};
 ghost use Rattle.word_forms.specs.Views.{texts_of};
 ghost use Rattle.word_lists.specs.Lists.{IsList};
 ghost use Rattle.word_lists.specs.Numbers.{IsNumber};
 ghost use Rattle.word_lists.specs.Views.{names_in};
-ghost use Rattle.causal_cli.specs.Wishes.{Names, Wants, IsListed, IsListedOrEmpty, number_of};
+ghost use Rattle.replies.specs.Observed.{Names};
+ghost use Rattle.identify_command.specs.declared.form.Form.{Form};
+ghost use Rattle.causal_cli.specs.Wishes.{Wants, IsListed, IsListedOrEmpty, IsForm, number_of};
 ghost use Rattle.causal_cli.specs.Wishes as spec;
 ghost use Rattle.causal_cli.specs.declared.rule.Rule.{Rule};
-ghost use Rattle.causal_cli.specs.WishViews.{wish_of, IsSeparation, IsRuleWish};
+ghost use Rattle.causal_cli.specs.WishViews.{wish_of, IsSeparation, IsRuleWish, IsIdentification, IsCheckWish};
 
 use crate::rule::Rule;
+use identify_command::Form;
 use std::alloc::{AllocError, Global};
 use word_lists::{read_list, read_number};
 use word_values::{Request, read_words};
@@ -37,6 +40,18 @@ pub enum Wish<'a> {
         z: Vec<Vec<u8>>,
         given: Vec<Vec<u8>>,
     },
+    /// The effect of x on y, in the graph of the file.
+    Identify {
+        file: &'a str,
+        x: Option<Vec<Vec<u8>>>,
+        y: Option<Vec<Vec<u8>>>,
+        form: Form,
+    },
+    /// Whether a certificate is accepted for the graph of the file.
+    Check {
+        file: &'a str,
+        certificate: &'a str,
+    },
 }
 
 impl<'a> Wish<'a> {
@@ -51,6 +66,8 @@ impl<'a> Wish<'a> {
             Wish::Graph { file, .. } => file,
             Wish::Separate { file, .. } => file,
             Wish::Rule { file, .. } => file,
+            Wish::Identify { file, .. } => file,
+            Wish::Check { file, .. } => file,
         }
     }
 }
@@ -84,6 +101,22 @@ pub fn read_wish<'a>(alloc: Global, words: &'a [String]) -> Result<Wish<'a>, Wor
                 },
             ),
         ) => rule_wish(alloc, file, number, y, z, doing, given),
+        Ok(
+            Some(
+                Request::Identify {
+                    file,
+                    x,
+                    y,
+                    certificate,
+                    latex,
+                },
+            ),
+        ) => identification(alloc, file, x, y, certificate, latex),
+        Ok(Some(Request::Check { file, certificate })) => certificate_wish(file, certificate),
+        Ok(Some(Request::Adjust { .. })) => Err(WordsFault::NotUnderstood),
+        Ok(Some(Request::Evaluate { .. })) => Err(WordsFault::NotUnderstood),
+        Ok(Some(Request::Equivalent { .. })) => Err(WordsFault::NotUnderstood),
+        Ok(Some(Request::Survey { .. })) => Err(WordsFault::NotUnderstood),
         Ok(None) => Err(WordsFault::NotUnderstood),
         Err(_) => Err(WordsFault::NoMemory),
     }
@@ -114,6 +147,59 @@ fn separation<'a>(
         Err(fault) => return Err(fault),
     };
     Ok(Wish::Separate { file, x, y, given })
+}
+
+/// An identification, where each value of a list is one and at most one form of the answer is asked for.
+fn identification<'a>(
+    alloc: Global,
+    file: &'a str,
+    x: Option<&str>,
+    y: Option<&str>,
+    certificate: bool,
+    latex: bool,
+) -> Result<Wish<'a>, WordsFault>
+    ensures ok { IfOk result (IsIdentification file.entry.now (option_map (λ s. s.now) x.entry) (option_map (λ s. s.now) y.entry) certificate latex) }
+    ensures none { IsErrOf result WordsFault.NotUnderstood → (a b : Names) → (f : Form) → IsListed (option_map (λ s. s.now) x.entry) a
+        → IsListed (option_map (λ s. s.now) y.entry) b → IsForm certificate latex f → ⊥ }
+{
+    let Some(form) = read_form(certificate, latex) else {
+        return Err(WordsFault::NotUnderstood);
+    };
+    let x = match read_option(alloc, x) {
+        Ok(names) => names,
+        Err(fault) => return Err(fault),
+    };
+    let y = match read_option(alloc, y) {
+        Ok(names) => names,
+        Err(fault) => return Err(fault),
+    };
+    Ok(Wish::Identify { file, x, y, form })
+}
+
+/// The form of an answer, where at most one is asked for.
+fn read_form(certificate: bool, latex: bool) -> Option<Form>
+    ensures some { IfSome result (λ f. IsForm certificate latex f) }
+    ensures none { IfNone result ((f : Form) → IsForm certificate latex f → ⊥) }
+{
+    match (certificate, latex) {
+        (false, false) => Some(Form::Plain),
+        (true, false) => Some(Form::Certificate),
+        (false, true) => Some(Form::Latex),
+        (true, true) => None,
+    }
+}
+
+/// A check of a certificate, where the two inputs aren't both standard input.
+fn certificate_wish<'a>(file: &'a str, certificate: &'a str) -> Result<Wish<'a>, WordsFault>
+    ensures ok { IfOk result (IsCheckWish file.entry.now certificate.entry.now) }
+    ensures one { OnOk result (file.entry.now ≡ codes "-" → certificate.entry.now ≡ codes "-" → ⊥) }
+    ensures both { IsErrOf result WordsFault.NotUnderstood → (file.entry.now ≡ codes "-") × (certificate.entry.now ≡ codes "-") }
+    ensures fault { IfErr result (λ e. e ≡ WordsFault.NotUnderstood) }
+{
+    if file == "-" && certificate == "-" {
+        return Err(WordsFault::NotUnderstood);
+    }
+    Ok(Wish::Check { file, certificate })
 }
 
 /// The names that the value of an option lists, where it is given.

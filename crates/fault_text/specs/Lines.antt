@@ -15,6 +15,10 @@ at_byte at = codes ": byte " ++ decimal at
 abbrev pub with_name : List ℕ → List ℕ
 with_name name = codes ": " ++ printed name
 
+-- the two names at fault
+abbrev pub with_names : List ℕ → List ℕ → List ℕ
+with_names a b = codes ": " ++ (printed a ++ 32 ∷ printed b)
+
 -- names, each behind a space
 abbrev pub spaced : List (List ℕ) → List ℕ
 spaced [] = []
@@ -42,8 +46,19 @@ target_fault_text (target.Latent name) = codes "target fault 2" ++ with_name nam
 target_fault_text (target.Twice name) = codes "target fault 3" ++ with_name name
 target_fault_text target.EmptyY = codes "target fault 4"
 target_fault_text target.EmptyX = codes "target fault 5"
+target_fault_text target.NotOneX = codes "target fault 6"
+target_fault_text (target.Bidirected a b) = codes "target fault 7" ++ with_names a b
+target_fault_text (target.OtherNames name) = codes "target fault 8" ++ with_name name
 target_fault_text target.NoMemory = codes "no memory"
 
 -- the line of a refusal
 abbrev pub line_of : List ℕ → List ℕ
 line_of text = codes "causal: " ++ (text ++ 10 ∷ [])
+
+-- what is wrong with the second of two graphs, or with its names
+abbrev pub second : List ℕ → List ℕ
+second text = codes "second " ++ text
+
+-- what is wrong with a graph text of more than 1,048,576 bytes
+abbrev pub size_text : List ℕ
+size_text = codes "graph fault 12: over 1048576 bytes"

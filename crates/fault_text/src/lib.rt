@@ -2,7 +2,7 @@
 #![tactic(auto)]
 
 ghost use Rattle.std.specs.Prelude.{◌≡◌, ◌++◌, OnOk, IfOk, codes};
-ghost use Rattle.fault_text.specs.Lines.{at_byte, with_name, spaced, graph_fault_text, target_fault_text, line_of};
+ghost use Rattle.fault_text.specs.Lines.{at_byte, with_name, with_names, spaced, graph_fault_text, target_fault_text, line_of, second, size_text};
 
 use dag_reader::GraphFault;
 use mixed_graph::Text;
@@ -28,6 +28,51 @@ pub fn target_line(alloc: Global, fault: &TargetFault) -> Result<Vec<u8>, AllocE
     push_target_fault(&mut line, fault)?;
     line.push(b'\n')?;
     Ok(line)
+}
+
+/// The line of the fault of a second graph's text. Want of memory has no line.
+pub fn second_graph_line(alloc: Global, fault: &GraphFault) -> Result<Vec<u8>, AllocError>
+    ensures line { IfOk result (λ v. v.items ≡ line_of (second (graph_fault_text fault.now))) }
+    ensures memory { OnOk result (fault.now ≡ GraphFault.NoMemory → ⊥) }
+{
+    if let GraphFault::NoMemory = fault {
+        return Err(AllocError);
+    }
+    let mut line = Vec::from_slice(alloc, b"causal: second ")?;
+    push_graph_fault(alloc, &mut line, fault)?;
+    line.push(b'\n')?;
+    Ok(line)
+}
+
+/// The line of a fault of the names of a second graph. Want of memory has no line.
+pub fn second_target_line(alloc: Global, fault: &TargetFault) -> Result<Vec<u8>, AllocError>
+    ensures line { IfOk result (λ v. v.items ≡ line_of (second (target_fault_text fault.now))) }
+    ensures memory { OnOk result (fault.now ≡ TargetFault.NoMemory → ⊥) }
+{
+    if let TargetFault::NoMemory = fault {
+        return Err(AllocError);
+    }
+    let mut line = Vec::from_slice(alloc, b"causal: second ")?;
+    push_target_fault(&mut line, fault)?;
+    line.push(b'\n')?;
+    Ok(line)
+}
+
+/// The line of a graph text of more than 1,048,576 bytes.
+pub fn size_line(alloc: Global) -> Result<Vec<u8>, AllocError>
+    ensures { IfOk result (λ v. v.items ≡ line_of size_text) }
+{
+    Vec::from_slice(alloc, b"causal: graph fault 12: over 1048576 bytes\n")
+}
+
+/// The line of a second graph's text of more than 1,048,576 bytes.
+pub fn second_size_line(alloc: Global) -> Result<Vec<u8>, AllocError>
+    ensures { IfOk result (λ v. v.items ≡ line_of (second size_text)) }
+{
+    Vec::from_slice(
+        alloc,
+        b"causal: second graph fault 12: over 1048576 bytes\n",
+    )
 }
 
 /// Appends what is wrong with a graph text.
@@ -60,6 +105,9 @@ fn push_target_fault(out: &mut Vec<u8>, fault: &TargetFault) -> Result<(), Alloc
         TargetFault::Twice(name) => push_named(out, b"target fault 3", name),
         TargetFault::EmptyY => out.extend_from_slice(b"target fault 4"),
         TargetFault::EmptyX => out.extend_from_slice(b"target fault 5"),
+        TargetFault::NotOneX => out.extend_from_slice(b"target fault 6"),
+        TargetFault::Bidirected(a, b) => push_two_named(out, b"target fault 7", a, b),
+        TargetFault::OtherNames(name) => push_named(out, b"target fault 8", name),
         TargetFault::NoMemory => out.extend_from_slice(b"no memory"),
     }
 }
@@ -81,6 +129,15 @@ fn push_named(out: &mut Vec<u8>, fault: &[u8], name: &Text) -> Result<(), AllocE
     out.extend_from_slice(fault)?;
     out.extend_from_slice(b": ")?;
     push_name(out, name.bytes())
+}
+
+/// Appends a fault with its two names.
+fn push_two_named(out: &mut Vec<u8>, fault: &[u8], a: &Text, b: &Text) -> Result<(), AllocError>
+    ensures { OnOk result (out.new.items ≡ out.old.items ++ (fault.now ++ with_names a.now b.now)) }
+{
+    push_named(out, fault, a)?;
+    out.push(b' ')?;
+    push_name(out, b.bytes())
 }
 
 /// Appends the fault of a cycle with the names of its vertices.

@@ -1,3 +1,4 @@
 pub mod Queries
 pub mod RuleWalks
 pub mod Walking
+pub mod Effects

@@ -7,7 +7,7 @@ use Rattle.mixed_graph.specs.Bits.{has}
 use Rattle.mixed_graph.specs.Sets.{Within}
 use Rattle.mixed_graph.specs.Names.{is_named, index_of, name_of}
 use Rattle.targets.specs.declared.fault.TargetFault.{TargetFault}
-use Rattle.targets.specs.declared.fault.TargetFault.TheVariants.{Unknown, Latent, Twice, EmptyY, EmptyX, NoMemory}
+use Rattle.targets.specs.declared.fault.TargetFault.TheVariants.{Unknown, Latent, Twice, EmptyY, EmptyX, NotOneX, Bidirected, OtherNames, NoMemory}
 use Rattle.targets.specs.Targets.{NameFault, name_fault, or_fault, first_fault, walked_in, IsSetOf, IsNameFault, Lists, fault_in, IsFaultOrMemory}
 use Rattle.targets.proofs.Walking.{named_here, same_first_fault}
 
@@ -92,6 +92,9 @@ fault_of_query l o (Latent t) e h = e ∙ h
 fault_of_query l o (Twice t) e h = e ∙ h
 fault_of_query l o EmptyY e h = absurd h
 fault_of_query l o EmptyX e h = absurd h
+fault_of_query l o NotOneX e h = absurd h
+fault_of_query l o (Bidirected a b) e h = absurd h
+fault_of_query l o (OtherNames t) e h = absurd h
 fault_of_query l o NoMemory e h = tt
 
 -- the first list is without fault: what is left of the query

@@ -9,7 +9,7 @@ use Rattle.mixed_graph.proofs.Masks.{has-zero}
 use Rattle.mixed_graph.specs.Sets.{Apart}
 use Rattle.mixed_graph.specs.Names.{is_named, index_of, name_of}
 use Rattle.targets.specs.declared.fault.TargetFault.{TargetFault}
-use Rattle.targets.specs.declared.fault.TargetFault.TheVariants.{Unknown, Latent, Twice, EmptyY, EmptyX, NoMemory}
+use Rattle.targets.specs.declared.fault.TargetFault.TheVariants.{Unknown, Latent, Twice, EmptyY, EmptyX, NotOneX, Bidirected, OtherNames, NoMemory}
 use Rattle.targets.specs.Targets.{NameFault, name_fault, or_fault, first_fault, walked_in, IsSetOf, IsNameFault, RuleLists, rule_fault, AreRuleSets, IsRuleFaultOrMemory}
 use Rattle.targets.proofs.Walking.{same_first_fault, no_fault}
 use Rattle.targets.proofs.Queries.{first_fault-append, set_test}
@@ -44,6 +44,9 @@ fault_of_rule l o (Latent t) e h = e ∙ h
 fault_of_rule l o (Twice t) e h = e ∙ h
 fault_of_rule l o EmptyY e h = absurd h
 fault_of_rule l o EmptyX e h = absurd h
+fault_of_rule l o NotOneX e h = absurd h
+fault_of_rule l o (Bidirected a b) e h = absurd h
+fault_of_rule l o (OtherNames t) e h = absurd h
 fault_of_rule l o NoMemory e h = tt
 
 -- neither of two has a fault where there is none first
@@ -52,7 +55,7 @@ neither None b e = (refl, e)
 neither (Some f) b e = absurd (cc)
 
 -- a name of a list without fault wasn't walked before
-not_walked : (all observed : List (List ℕ)) (walked : List ℕ → Bool) (list : List (List ℕ)) → first_fault all observed walked list ≡ None →
+pub not_walked : (all observed : List (List ℕ)) (walked : List ℕ → Bool) (list : List (List ℕ)) → first_fault all observed walked list ≡ None →
     (m : List ℕ) → is_named list m ≡ true → walked m ≡ false
 not_walked all observed walked [] clear m h = absurd (cc)
 not_walked all observed walked (n ∷ ns) clear m h =
@@ -68,12 +71,12 @@ not_walked all observed walked (n ∷ ns) clear m h =
     go false e here clean later = front (walked m) (bytes_eq m n) (later here)
 
 -- what is left behind a list, where nothing has a fault
-behind : (all observed : List (List ℕ)) (walked : List ℕ → Bool) (list later : List (List ℕ)) → first_fault all observed walked (list ++ later) ≡ None →
+pub behind : (all observed : List (List ℕ)) (walked : List ℕ → Bool) (list later : List (List ℕ)) → first_fault all observed walked (list ++ later) ≡ None →
     (first_fault all observed walked list ≡ None) × (first_fault all observed (λ m. walked m || is_named list m) later ≡ None)
 behind all observed walked list later clear = neither _ _ (sym (first_fault-append all observed walked list later) ∙ clear)
 
 -- sets of lists of which no name stands in both are disjoint
-sets_apart : (observed a b : List (List ℕ)) (s t : ℕ) → IsSetOf observed a s → IsSetOf observed b t →
+pub sets_apart : (observed a b : List (List ℕ)) (s t : ℕ) → IsSetOf observed a s → IsSetOf observed b t →
     ((m : List ℕ) → is_named b m ≡ true → is_named a m ≡ false) → Apart (has s) (has t)
 sets_apart observed a b s t is_s is_t distinct v hs =
     is_t v ∙ go (nat_lt v (length observed)) (is_named a (name_of observed v)) (is_named b (name_of observed v)) (sym (is_s v) ∙ hs) (distinct (name_of observed v))
@@ -122,7 +125,7 @@ pairwise_apart l y done z given s =
     }
 
 -- the set of a list that isn't empty has a member
-some_in : (all observed : List (List ℕ)) (walked : List ℕ → Bool) (list : List (List ℕ)) (mask : ℕ) → first_fault all observed walked list ≡ None →
+pub some_in : (all observed : List (List ℕ)) (walked : List ℕ → Bool) (list : List (List ℕ)) (mask : ℕ) → first_fault all observed walked list ≡ None →
     (list ≡ [] → ⊥) → IsSetOf observed list mask → 0 < mask
 some_in all observed walked [] mask clear some s = absurd (some refl)
 some_in all observed walked (n ∷ ns) mask clear some s =

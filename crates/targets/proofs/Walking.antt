@@ -7,10 +7,11 @@ use Rattle.std.proofs.lemmas.Slice.Eq.{bytes_eq-Decides}
 use Rattle.mixed_graph.specs.Bits.{has}
 use Rattle.mixed_graph.specs.Names.{AreNames, is_named, index_of, name_of}
 use Rattle.std.proofs.Math.ListN.{drop_of_length-le}
+use Rattle.std.proofs.lemmas.List.{length-map}
 use Rattle.std.specs.Global.{Vec}
 use Rattle.mixed_graph.specs.Names.{texts}
 use Rattle.targets.specs.declared.fault.TargetFault.{TargetFault}
-use Rattle.targets.specs.declared.fault.TargetFault.TheVariants.{Unknown, Latent, Twice, EmptyY, EmptyX, NoMemory}
+use Rattle.targets.specs.declared.fault.TargetFault.TheVariants.{Unknown, Latent, Twice, EmptyY, EmptyX, NotOneX, Bidirected, OtherNames, NoMemory}
 use Rattle.targets.specs.Targets.{IsNameFault, NameFault, unknown, latent, twice, name_fault, or_fault, first_fault, walked_in, IsSetOf}
 
 same_from : (m n : List ℕ) → bytes_eq m n ≡ true → m ≡ n
@@ -151,6 +152,9 @@ fault_first o later (Latent t) h = ap (λ p. or_fault p later) h
 fault_first o later (Twice t) h = ap (λ p. or_fault p later) h
 fault_first o later EmptyY h = h
 fault_first o later EmptyX h = h
+fault_first o later NotOneX h = h
+fault_first o later (Bidirected a b) h = h
+fault_first o later (OtherNames t) h = h
 fault_first o later NoMemory h = tt
 
 -- the names that are still to come, by the next of them
@@ -160,3 +164,7 @@ texts-drop list i d below = ap texts (drop-cons list i d below ∙ ap (λ k. get
 -- nothing is still to come at the end
 pub texts-drop_end : (list : List (Vec ℕ)) (i : ℕ) → length list ≤ i → texts (drop i list) ≡ []
 texts-drop_end list i h = ap texts (drop_of_length-le list h)
+
+-- vectors without texts are no vectors
+pub texts-none : (list : List (Vec ℕ)) → texts list ≡ [] → length list ≡ 0
+texts-none list e = let s : length (texts list) ≡ length list = simp length-map in sym s ∙ ap (λ (ns : List (List ℕ)). length ns) e

@@ -4,7 +4,7 @@ use Rattle.std.specs.Str.{bytes_eq}
 use Rattle.mixed_graph.specs.Bits.{has, members_below}
 use Rattle.mixed_graph.specs.Names.{is_named, index_of, name_of}
 use Rattle.targets.specs.declared.fault.TargetFault.{TargetFault}
-use Rattle.targets.specs.declared.fault.TargetFault.TheVariants.{Unknown, Latent, Twice, EmptyY, EmptyX, NoMemory}
+use Rattle.targets.specs.declared.fault.TargetFault.TheVariants.{Unknown, Latent, Twice, EmptyY, EmptyX, NotOneX, Bidirected, OtherNames, NoMemory}
 
 -- the names of a list that is given, or else those of a default set, in index order
 abbrev pub listed : List (List ℕ) → ℕ → Option (List (List ℕ)) → List (List ℕ)
@@ -41,6 +41,9 @@ IsNameFault o (Latent t) = o ≡ Some (latent t)
 IsNameFault o (Twice t) = o ≡ Some (twice t)
 IsNameFault o EmptyY = ⊥
 IsNameFault o EmptyX = ⊥
+IsNameFault o NotOneX = ⊥
+IsNameFault o (Bidirected a b) = ⊥
+IsNameFault o (OtherNames t) = ⊥
 IsNameFault o NoMemory = Unit {0}
 
 -- the mask holds the observed vertices whose names are listed
@@ -75,6 +78,9 @@ IsFaultOf first y x (Latent t) = first ≡ Some (latent t)
 IsFaultOf first y x (Twice t) = first ≡ Some (twice t)
 IsFaultOf first y x EmptyY = (first ≡ None) × (y ≡ [])
 IsFaultOf first y x EmptyX = (first ≡ None) × (y ≡ [] → ⊥) × (x ≡ [])
+IsFaultOf first y x NotOneX = ⊥
+IsFaultOf first y x (Bidirected a b) = ⊥
+IsFaultOf first y x (OtherNames t) = ⊥
 IsFaultOf first y x NoMemory = ⊥
 
 -- the fault of a query
@@ -117,3 +123,31 @@ IsRuleFault l f = IsFaultOf (rule_fault l) l.y l.z f
 abbrev pub IsRuleFaultOrMemory : RuleLists → TargetFault → Type 0
 IsRuleFaultOrMemory l NoMemory = Unit {0}
 IsRuleFaultOrMemory l f = IsRuleFault l f
+
+-- the lists of an effect: what is done, which may be empty, and y
+pub record EffectLists : Type 0 where
+  pub all : List (List ℕ)
+  pub observed : List (List ℕ)
+  pub x : List (List ℕ)
+  pub y : List (List ℕ)
+
+-- the first name at fault of both lists, x first, then y
+abbrev pub effect_fault : EffectLists → Option NameFault
+effect_fault l = first_fault l.all l.observed (λ n. false) (l.x ++ l.y)
+
+-- the sets of an effect: no name is at fault, and y isn't empty
+pub record AreEffectSets (l : EffectLists) (x y : ℕ) : Type 0 where
+  pub no_fault : effect_fault l ≡ None
+  pub some_y : l.y ≡ [] → ⊥
+  pub set_x : IsSetOf l.observed l.x x
+  pub set_y : IsSetOf l.observed l.y y
+
+-- the fault of the lists of an effect, for which an empty x is none
+abbrev pub IsEffectFault : EffectLists → TargetFault → Type 0
+IsEffectFault l EmptyX = ⊥
+IsEffectFault l f = IsFaultOf (effect_fault l) l.y l.x f
+
+-- the fault of the lists of an effect; want of memory may stand in its place
+abbrev pub IsEffectFaultOrMemory : EffectLists → TargetFault → Type 0
+IsEffectFaultOrMemory l NoMemory = Unit {0}
+IsEffectFaultOrMemory l f = IsEffectFault l f

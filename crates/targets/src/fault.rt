@@ -17,6 +17,12 @@ pub enum TargetFault {
     EmptyY,
     /// The exposures are empty, for a command that needs some.
     EmptyX,
+    /// The exposures are another number than one, for the back-door criterion.
+    NotOneX,
+    /// A graph that has to be without hidden common causes has this bidirected edge between observed vertices.
+    Bidirected(Text, Text),
+    /// A name is in one of two graphs alone.
+    OtherNames(Text),
     /// Memory was refused.
     NoMemory,
 }

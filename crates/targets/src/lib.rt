@@ -12,7 +12,9 @@ mod query;
 pub use fault::TargetFault;
 use fault::{latent, twice, unknown};
 use mixed_graph::{Names, VSet};
-pub use query::{RuleSets, Sets, find_rule_sets, find_sets, names_of};
+pub use query::{
+    EffectSets, RuleSets, Sets, find_effect_sets, find_rule_sets, find_sets, names_of,
+};
 use std::alloc::Global;
 
 /// The set of the observed vertices that a list names, where no name of it is at fault and none is in `walked`.

@@ -2,7 +2,7 @@ ghost use Rattle.std.specs.Prelude.{◌≡◌, ◌<◌, IfOk, IfErr, length, map
 ghost use Rattle.mixed_graph.specs.Bits.{has, members_below};
 ghost use Rattle.mixed_graph.specs.Sets.{Within};
 ghost use Rattle.mixed_graph.specs.Names.{texts, name_of};
-ghost use Rattle.targets.specs.Targets.{AreSets, IsFaultOrMemory, AreRuleSets, IsRuleFaultOrMemory};
+ghost use Rattle.targets.specs.Targets.{AreSets, IsFaultOrMemory, AreRuleSets, IsRuleFaultOrMemory, AreEffectSets, IsEffectFaultOrMemory};
 
 use crate::fault::TargetFault;
 use crate::walk;
@@ -109,6 +109,43 @@ pub fn find_rule_sets(
         done: set_done,
         z: set_z,
         given: set_given,
+    })
+}
+
+/// The sets of an effect of x on y.
+#[derive(Clone, Copy)]
+pub struct EffectSets {
+    pub x: VSet,
+    pub y: VSet,
+}
+
+/// The sets that the lists of an effect name, all of them observed and none named twice. x may be empty.
+///
+/// Else the first name at fault, x walked first, then y; else `EmptyY`.
+pub fn find_effect_sets(
+    alloc: Global,
+    all: &Names,
+    observed: &Names,
+    x: &[Vec<u8>],
+    y: &[Vec<u8>],
+) -> Result<EffectSets, TargetFault>
+    ensures sets { IfOk result (λ s. AreEffectSets (record { all = all.now; observed = observed.now; x = texts x.now; y = texts y.now }) s.x.bits s.y.bits) }
+    ensures fault { IfErr result (IsEffectFaultOrMemory (record { all = all.now; observed = observed.now; x = texts x.now; y = texts y.now })) }
+{
+    let exposures = match walk(alloc, all, observed, VSet::empty(), x) {
+        Ok(set) => set,
+        Err(fault) => return Err(fault),
+    };
+    let outcomes = match walk(alloc, all, observed, exposures, y) {
+        Ok(set) => set,
+        Err(fault) => return Err(fault),
+    };
+    if y.is_empty() {
+        return Err(TargetFault::EmptyY);
+    }
+    Ok(EffectSets {
+        x: exposures,
+        y: outcomes,
     })
 }
 

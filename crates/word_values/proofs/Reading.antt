@@ -15,7 +15,7 @@ use Rattle.word_forms.specs.Form.{Text, Row, Use, IsCall}
 use Rattle.word_values.specs.Commands.{table}
 use Rattle.word_values.specs.App.{app_of_table}
 use Rattle.word_values.specs.Gives.{GivesCall}
-use Rattle.word_values.proofs.Table.{call_is_taken, rows_below, call_found, call_gives, table_simple}
+use Rattle.word_values.proofs.Computed.{call_is_taken, rows_below, call_found, call_gives, table_simple}
 use Rattle.word_values.proofs.Counts.{allowed}
 use Rattle.word_values.proofs.Level.{positional_given, option_given}
 use Rattle.word_forms.proofs.Names.{all_at}

@@ -4,8 +4,8 @@ use Rattle.clap.specs.Walk.{Rule}
 use Rattle.clap.specs.Simple.{App, Shape, new_rule, new_shape, with_subcommand}
 use Rattle.clap.specs.declared.builder.action.ArgAction.TheVariants.{SetTrue}
 use Rattle.word_forms.specs.Form.{Text, Row}
-use Rattle.word_values.specs.declared.Kind.{Kind}
-use Rattle.word_values.specs.declared.Kind.TheVariants as kind
+use Rattle.word_values.specs.declared.program.Kind.{Kind}
+use Rattle.word_values.specs.declared.program.Kind.TheVariants as kind
 
 -- a positional without brackets
 abbrev pub positional_rule : Text → Rule

@@ -1,6 +1,7 @@
 use Rattle.std.proofs.Common.{codes}
 use Rattle.mixed_graph.specs.Bits.{has}
-use Rattle.causal_cli.specs.Lines.{digit_text, equation_text, open_text}
+use Rattle.replies.specs.Lines.{open_text}
+use Rattle.causal_cli.specs.Lines.{digit_text, equation_text}
 use Rattle.causal_cli.proofs.Equations.{in_pieces}
 use Rattle.causal_cli.proofs.printing.rule_fails_text.Goals as goal
 

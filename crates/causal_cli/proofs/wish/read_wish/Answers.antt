@@ -1,5 +1,6 @@
+use Rattle.std.proofs.Common.{refl}
 use Rattle.word_forms.specs.Views.{texts_of}
-use Rattle.causal_cli.proofs.WishLemmas.{no_separation, no_rule, no_form}
+use Rattle.causal_cli.proofs.WishLemmas.{no_separation, no_rule, no_identification, no_check, no_form, not_built}
 use Rattle.causal_cli.proofs.wish.read_wish.Goals as goal
 
 pub returns-in-Ok-Some-Separate-clause-none : goal.returns-in-Ok-Some-Separate-clause-none
@@ -12,5 +13,36 @@ returns-in-Ok-Some-Rule-clause-none c = λ e.
     let only = rw (c.in-Ok-Some-Rule.field-0-is, c.in-Ok-Some-Rule.field-0-0-is) at c.in-Ok-Some-Rule.ensures.only in
     no_rule (texts_of c.args.words.now) c.in-Ok-Some-Rule.file.now _ _ _ _ _ only (c.rule_wish.ensures.none e)
 
+pub returns-in-Ok-Some-Identify-clause-none : goal.returns-in-Ok-Some-Identify-clause-none
+returns-in-Ok-Some-Identify-clause-none c = λ e.
+    let only = rw (c.in-Ok-Some-Identify.field-0-is, c.in-Ok-Some-Identify.field-0-0-is) at c.in-Ok-Some-Identify.ensures.only in
+    no_identification (texts_of c.args.words.now) c.in-Ok-Some-Identify.file.now _ _ _ _ only (c.identification.ensures.none e)
+
 pub returns-in-Ok-None-clause-none : goal.returns-in-Ok-None-clause-none
 returns-in-Ok-None-clause-none c = λ e. let none = rw c.in-Ok-None.field-0-is at c.in-Ok-None.ensures.none in no_form (texts_of c.args.words.now) none
+
+pub returns-in-Ok-Some-Check-clause-none : goal.returns-in-Ok-Some-Check-clause-none
+returns-in-Ok-Some-Check-clause-none c = λ e.
+    let only = rw (c.in-Ok-Some-Check.field-0-is, c.in-Ok-Some-Check.field-0-0-is) at c.in-Ok-Some-Check.ensures.only in
+    let both = c.certificate_wish.ensures.both e in
+    no_check (texts_of c.args.words.now) c.in-Ok-Some-Check.file.now c.in-Ok-Some-Check.certificate.now only both.0 both.1
+
+pub returns-in-Ok-Some-Adjust-clause-none : goal.returns-in-Ok-Some-Adjust-clause-none
+returns-in-Ok-Some-Adjust-clause-none c = λ e.
+    let only = rw (c.in-Ok-Some-Adjust.field-0-is, c.in-Ok-Some-Adjust.field-0-0-is) at c.in-Ok-Some-Adjust.ensures.only in
+    not_built (texts_of c.args.words.now) _ only refl
+
+pub returns-in-Ok-Some-Evaluate-clause-none : goal.returns-in-Ok-Some-Evaluate-clause-none
+returns-in-Ok-Some-Evaluate-clause-none c = λ e.
+    let only = rw (c.in-Ok-Some-Evaluate.field-0-is, c.in-Ok-Some-Evaluate.field-0-0-is) at c.in-Ok-Some-Evaluate.ensures.only in
+    not_built (texts_of c.args.words.now) _ only refl
+
+pub returns-in-Ok-Some-Equivalent-clause-none : goal.returns-in-Ok-Some-Equivalent-clause-none
+returns-in-Ok-Some-Equivalent-clause-none c = λ e.
+    let only = rw (c.in-Ok-Some-Equivalent.field-0-is, c.in-Ok-Some-Equivalent.field-0-0-is) at c.in-Ok-Some-Equivalent.ensures.only in
+    not_built (texts_of c.args.words.now) _ only refl
+
+pub returns-in-Ok-Some-Survey-clause-none : goal.returns-in-Ok-Some-Survey-clause-none
+returns-in-Ok-Some-Survey-clause-none c = λ e.
+    let only = rw (c.in-Ok-Some-Survey.field-0-is, c.in-Ok-Some-Survey.field-0-0-is) at c.in-Ok-Some-Survey.ensures.only in
+    not_built (texts_of c.args.words.now) _ only refl

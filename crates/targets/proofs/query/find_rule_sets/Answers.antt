@@ -1,18 +1,12 @@
-use Rattle.std.proofs.Common.{◌≡◌, ℕ, ◌||◌, ◌++◌, [], List, length, sym, ap, ◌∙◌, rules}
-use Rattle.std.specs.Global.{Vec}
-use Rattle.std.proofs.lemmas.List.{nil_from_length, length-map}
-use Rattle.mixed_graph.specs.Bits.{has}
+use Rattle.std.proofs.Common.{◌≡◌, ◌++◌, length, ap, ◌∙◌, rules}
+use Rattle.std.proofs.lemmas.List.{nil_from_length}
 use Rattle.mixed_graph.specs.Names.{texts}
 use Rattle.targets.specs.Targets.{RuleLists, rule_fault, first_fault, walked_in}
-use Rattle.targets.proofs.Walking.{fault_first}
+use Rattle.targets.proofs.Walking.{fault_first, texts-none}
 use Rattle.targets.proofs.Queries.{first_fault-append}
 use Rattle.targets.proofs.RuleWalks.{after_list, from_none, after_y, fault_of_rule}
 use Rattle.targets.proofs.query.find_rule_sets.Goals as goal
 use Rattle.targets.proofs.query.find_rule_sets.Goals.{After-walk, After-walk-2, After-walk-3, After-walk-4}
-
--- vectors without texts are no vectors
-length_none : (list : List (Vec ℕ)) → texts list ≡ [] → length list ≡ 0
-length_none list e = let s : length (texts list) ≡ length list = simp length-map in sym s ∙ ap (λ (ns : List (List ℕ)). length ns) e
 
 abbrev lists : After-walk → RuleLists
 lists c = record { all = c.args.all.now; observed = c.args.observed.now; y = texts c.args.y.now; done = texts c.args.done.now; z = texts c.args.z.now; given = texts c.args.given.now }
@@ -82,7 +76,7 @@ returns-then-is_empty-2-clause-fault c =
     let at = goal.at.returns-then-is_empty-2-clause-fault c in
     let none : length c.args.z.now ≡ 0 = search rules in
     let some : length c.args.y.now ≡ 0 → ⊥ = search rules in
-    (given_on at.After-walk-4 ∙ c.in-Ok-walk-3.ensures.none, λ e. some (length_none c.args.y.now e), ap texts (nil_from_length c.args.z.now none))
+    (given_on at.After-walk-4 ∙ c.in-Ok-walk-3.ensures.none, λ e. some (texts-none c.args.y.now e), ap texts (nil_from_length c.args.z.now none))
 
 pub returns-clause-sets : goal.returns-clause-sets
 returns-clause-sets c =
@@ -90,8 +84,8 @@ returns-clause-sets c =
     let some_y : length c.args.y.now ≡ 0 → ⊥ = search rules in
     let some_z : length c.args.z.now ≡ 0 → ⊥ = search rules in record {
       no_fault = given_on at.After-walk-4 ∙ c.in-Ok-walk-3.ensures.none;
-      some_y = λ e. some_y (length_none c.args.y.now e);
-      some_z = λ e. some_z (length_none c.args.z.now e);
+      some_y = λ e. some_y (texts-none c.args.y.now e);
+      some_z = λ e. some_z (texts-none c.args.z.now e);
       set_y = c.in-Ok.ensures.set;
       set_done = c.in-Ok-walk.ensures.set;
       set_z = c.in-Ok-walk-2.ensures.set;

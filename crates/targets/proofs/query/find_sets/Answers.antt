@@ -1,9 +1,8 @@
-use Rattle.std.proofs.Common.{◌≡◌, ℕ, ◌||◌, [], List, length, sym, ap, ◌∙◌, rules}
-use Rattle.std.specs.Global.{Vec}
-use Rattle.std.proofs.lemmas.List.{nil_from_length, length-map}
+use Rattle.std.proofs.Common.{◌≡◌, ◌||◌, length, ap, ◌∙◌, rules}
+use Rattle.std.proofs.lemmas.List.{nil_from_length}
 use Rattle.mixed_graph.specs.Names.{texts, is_named}
 use Rattle.targets.specs.Targets.{Lists, fault_in, first_fault, walked_in, or_fault}
-use Rattle.targets.proofs.Walking.{fault_first}
+use Rattle.targets.proofs.Walking.{fault_first, texts-none}
 use Rattle.targets.proofs.Queries.{query_first, query_after_first, query_after_second, fault_of_query}
 use Rattle.targets.proofs.query.find_sets.Goals as goal
 use Rattle.targets.proofs.query.find_sets.Goals.{After-walk, After-walk-2, After-walk-3}
@@ -13,10 +12,6 @@ lists-2 c = record { all = c.args.all.now; observed = c.args.observed.now; x = t
 
 abbrev lists-3 : After-walk-3 → Lists
 lists-3 c = record { all = c.args.all.now; observed = c.args.observed.now; x = texts c.args.x.now; y = texts c.args.y.now; given = texts c.args.given.now }
-
--- vectors without texts are no vectors
-length_none : (list : List (Vec ℕ)) → texts list ≡ [] → length list ≡ 0
-length_none list e = let s : length (texts list) ≡ length list = simp length-map in sym s ∙ ap (λ (ns : List (List ℕ)). length ns) e
 
 abbrev lists : After-walk → Lists
 lists c = record { all = c.args.all.now; observed = c.args.observed.now; x = texts c.args.x.now; y = texts c.args.y.now; given = texts c.args.given.now }
@@ -57,7 +52,7 @@ returns-then-is_empty-2-clause-fault c =
     let at = goal.at.returns-then-is_empty-2-clause-fault c in
     let none : length c.args.x.now ≡ 0 = search rules in
     let some : length c.args.y.now ≡ 0 → ⊥ = search rules in
-    (after_second at.After-walk-3 ∙ c.in-Ok-walk-2.ensures.none, λ e. some (length_none c.args.y.now e), ap texts (nil_from_length c.args.x.now none))
+    (after_second at.After-walk-3 ∙ c.in-Ok-walk-2.ensures.none, λ e. some (texts-none c.args.y.now e), ap texts (nil_from_length c.args.x.now none))
 
 pub returns-clause-sets : goal.returns-clause-sets
 returns-clause-sets c =
@@ -65,8 +60,8 @@ returns-clause-sets c =
     let some_y : length c.args.y.now ≡ 0 → ⊥ = search rules in
     let some_x : length c.args.x.now ≡ 0 → ⊥ = search rules in record {
       no_fault = after_second at.After-walk-3 ∙ c.in-Ok-walk-2.ensures.none;
-      some_y = λ e. some_y (length_none c.args.y.now e);
-      some_x = λ e. some_x (length_none c.args.x.now e);
+      some_y = λ e. some_y (texts-none c.args.y.now e);
+      some_x = λ e. some_x (texts-none c.args.x.now e);
       set_x = c.in-Ok.ensures.set;
       set_y = c.in-Ok-walk.ensures.set;
       set_given = c.in-Ok-walk-2.ensures.set;

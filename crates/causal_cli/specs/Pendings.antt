@@ -1,0 +1,44 @@
+-- What is left to answer once the file was accepted.
+use Rattle.std.specs.Prelude.{ℕ, ◌≡◌, List}
+use Rattle.word_forms.specs.Form.{Text}
+use Rattle.check_command.specs.Answers.{CheckAnswer}
+use Rattle.dag_reader.specs.declared.graph.ReadGraph.{ReadGraph}
+use Rattle.replies.specs.declared.outcome.Reply.{Reply}
+use Rattle.replies.specs.Observed.{Holds}
+use Rattle.causal_cli.specs.Wishes.{Wish, check}
+use Rattle.causal_cli.specs.Answers.{GraphAnswer, Defined}
+use Rattle.causal_cli.specs.declared.pending.Pending.{Pending}
+use Rattle.causal_cli.specs.declared.pending.Pending.TheVariants as pending
+use Rattle.causal_cli.specs.declared.answer.First.{First}
+use Rattle.causal_cli.specs.declared.answer.First.TheVariants as first
+
+-- the name of the second input
+abbrev pub second_in : Pending → Text
+second_in (pending.Check g certificate) = certificate.now
+
+-- the most bytes of the second input
+abbrev pub limit_of : Pending → ℕ
+limit_of (pending.Check g certificate) = 67108864
+
+-- the reply is the answer on these bytes of the second input
+abbrev pub GivesSecond : Pending → List ℕ → Reply → Type 0
+GivesSecond (pending.Check g certificate) other reply = CheckAnswer g other reply.outcome reply.text.items
+
+-- what is left of a wish on a graph that was read
+abbrev pub IsPendingOn : Wish → ReadGraph → Pending → Type 0
+IsPendingOn (check file c) g (pending.Check kept certificate) = (certificate.now ≡ c) × (kept ≡ g)
+IsPendingOn w g p = ⊥
+
+-- what a graph that was read gives: the answer on it, or what is left
+abbrev pub GivesOn : Wish → ReadGraph → First → Type 0
+GivesOn w g (first.Replied reply) = GraphAnswer w g reply.outcome reply.text.items
+GivesOn w g (first.Continues p) = IsPendingOn w g p
+
+-- what is left of a wish whose file has these bytes
+abbrev pub IsPending : Wish → List ℕ → Pending → Type 0
+IsPending w bytes p = (g : ReadGraph) × Holds bytes g × IsPendingOn w g p
+
+-- what the file alone gives: the defined answer, or what is left
+abbrev pub GivesFirst : Wish → List ℕ → First → Type 0
+GivesFirst w bytes (first.Replied reply) = Defined w bytes reply.outcome reply.text.items
+GivesFirst w bytes (first.Continues p) = IsPending w bytes p

@@ -1,0 +1,57 @@
+ghost use Rattle.std.specs.Prelude.{◌≡◌, ◌≤◌, ◌<◌, ℕ, List, IfOk, length};
+ghost use Rattle.causal_cli.specs.Pendings.{limit_of, second_in, GivesSecond};
+
+use check_command::{check_reply, long_certificate};
+use dag_reader::ReadGraph;
+use replies::Reply;
+use std::alloc::{AllocError, Global};
+
+/// What is left to answer once the file was accepted, where a second input is read.
+#[derive(Drop)]
+pub enum Pending<'a> {
+    /// Whether a certificate is accepted.
+    Check {
+        graph: ReadGraph,
+        certificate: &'a str,
+    },
+}
+
+impl<'a> Pending<'a> {
+    /// The second input.
+    pub fn second(&self) -> &'a str
+        ensures { result.now ≡ second_in self.now }
+    {
+        match self {
+            Pending::Check { certificate, .. } => certificate,
+        }
+    }
+
+    /// The most bytes of the second input.
+    pub fn limit(&self) -> u64
+        ensures limit { result ≡ limit_of self.now }
+        ensures least { 1048576 ≤ result }
+    {
+        match self {
+            Pending::Check { .. } => 67_108_864,
+        }
+    }
+}
+
+/// The reply on the bytes of the second input.
+pub fn second_reply(alloc: Global, pending: &Pending<'_>, other: &[u8]) -> Result<Reply, AllocError>
+    requires { length other.now ≤ limit_of pending.now }
+    ensures { IfOk result (GivesSecond pending.now other.now) }
+{
+    match pending {
+        Pending::Check { graph, .. } => check_reply(alloc, graph, other),
+    }
+}
+
+/// The reply where the second input has more bytes than its limit.
+pub fn long_reply(alloc: Global, pending: &Pending<'_>) -> Result<Reply, AllocError>
+    ensures { IfOk result (λ reply. (other : List ℕ) → limit_of pending.now < length other → GivesSecond pending.now other reply) }
+{
+    match pending {
+        Pending::Check { graph, .. } => long_certificate(alloc, graph),
+    }
+}

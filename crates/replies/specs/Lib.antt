@@ -1,0 +1,3 @@
+pub mod Observed
+pub mod Outcomes
+pub mod Lines

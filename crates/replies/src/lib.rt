@@ -1,0 +1,13 @@
+//! What the commands have in common: the outcome of an answer with its text, the lists of names with their defaults, refused names, and
+//! the line of an open path.
+#![tactic(auto)]
+
+mod lists;
+mod outcome;
+mod path;
+mod refusal;
+
+pub use lists::list_or;
+pub use outcome::{Outcome, Reply};
+pub use path::push_open;
+pub use refusal::refuse;

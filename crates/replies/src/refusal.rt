@@ -1,0 +1,23 @@
+ghost use Rattle.std.specs.Prelude.{◌≡◌, IfOk, OnOk};
+ghost use Rattle.fault_text.specs.Lines.{line_of, target_fault_text};
+
+use crate::outcome::{Outcome, Reply};
+use fault_text::target_line;
+use std::alloc::{AllocError, Global};
+use targets::TargetFault;
+
+/// The reply to listed names that are at fault; want of memory has none.
+pub fn refuse(alloc: Global, fault: &TargetFault) -> Result<Reply, AllocError>
+    ensures outcome { IfOk result (λ r. r.outcome ≡ Outcome.Graph) }
+    ensures line { IfOk result (λ r. r.text.items ≡ line_of (target_fault_text fault.now)) }
+    ensures fault { OnOk result (fault.now ≡ TargetFault.NoMemory → ⊥) }
+{
+    if let TargetFault::NoMemory = fault {
+        return Err(AllocError);
+    }
+    let text = target_line(alloc, fault)?;
+    Ok(Reply {
+        outcome: Outcome::Graph,
+        text,
+    })
+}
