@@ -4,6 +4,7 @@
 #![tactic(auto)]
 
 ghost use Rattle.std.specs.Prelude.{◌≡◌, IfOk, IfSome, IfNone};
+ghost use Rattle.clap.specs.Values.{kind_of};
 ghost use Rattle.word_forms.specs.Form.{HasForm};
 ghost use Rattle.word_forms.specs.Views.{texts_of};
 ghost use Rattle.word_values.specs.Commands.{Asked, table, Asks};
@@ -15,7 +16,9 @@ mod table;
 #[cfg(test)]
 mod tests;
 
-use program::{memory_error, read_matches};
+use clap::Error;
+use clap::error::ErrorKind;
+use program::read_matches;
 use requests::request_in;
 use std::alloc::{AllocError, Global};
 use table::{command_named, rows};
@@ -85,6 +88,14 @@ pub enum Request<'a> {
     Survey {
         number: &'a str,
     },
+}
+
+// Want of memory, as `clap` reports it.
+fn memory_error(error: Error) -> AllocError
+    requires { kind_of error ≡ ErrorKind.OutOfMemory }
+{
+    drop(error);
+    AllocError
 }
 
 /// What the words ask for, exactly where they have the form. They ask for one thing at most.

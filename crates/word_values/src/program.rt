@@ -126,11 +126,3 @@ pub fn read_matches<'a>(
     let program = program_of(alloc, rows())?;
     program.try_get_matches_from(words)
 }
-
-/// Want of memory, as `clap` reports it.
-pub fn memory_error(error: Error) -> AllocError
-    requires { kind_of error ≡ ErrorKind.OutOfMemory }
-{
-    drop(error);
-    AllocError
-}

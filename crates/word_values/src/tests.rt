@@ -2,6 +2,279 @@ use crate::{Request, read_words};
 use std::alloc::{AllocError, Global};
 use std::test::Fail;
 
+/// Words of the form, and what they ask for.
+const ASKED: [(&[&str], Request<'static>); 23] = [
+    (
+        &["graph", "g"],
+        Request::Graph {
+            file: "g",
+            project: false,
+        },
+    ),
+    (
+        &["graph", "-"],
+        Request::Graph {
+            file: "-",
+            project: false,
+        },
+    ),
+    (
+        &["graph", "g", "--project"],
+        Request::Graph {
+            file: "g",
+            project: true,
+        },
+    ),
+    (
+        &["graph", "--project", "graph"],
+        Request::Graph {
+            file: "graph",
+            project: true,
+        },
+    ),
+    (
+        &["separate", "--given=B", "--y", "C", "g", "--x=A"],
+        Request::Separate {
+            file: "g",
+            x: Some("A"),
+            y: Some("C"),
+            given: Some("B"),
+        },
+    ),
+    (
+        &["separate", "g", "--x", "A", "--y", "C", "--given", "B"],
+        Request::Separate {
+            file: "g",
+            x: Some("A"),
+            y: Some("C"),
+            given: Some("B"),
+        },
+    ),
+    (
+        &["separate", "-"],
+        Request::Separate {
+            file: "-",
+            x: None,
+            y: None,
+            given: None,
+        },
+    ),
+    (
+        &["separate", "help"],
+        Request::Separate {
+            file: "help",
+            x: None,
+            y: None,
+            given: None,
+        },
+    ),
+    (
+        &["separate", "g", "--x={}"],
+        Request::Separate {
+            file: "g",
+            x: Some("{}"),
+            y: None,
+            given: None,
+        },
+    ),
+    (
+        &["separate", "g", "--y==-"],
+        Request::Separate {
+            file: "g",
+            x: None,
+            y: Some("=-"),
+            given: None,
+        },
+    ),
+    (
+        &["separate", "g", "--given", "A,-b"],
+        Request::Separate {
+            file: "g",
+            x: None,
+            y: None,
+            given: Some("A,-b"),
+        },
+    ),
+    (
+        &["rule", "g", "--rule", "2", "--y", "M", "--z", "X"],
+        Request::Rule {
+            file: "g",
+            number: "2",
+            y: "M",
+            z: "X",
+            doing: None,
+            given: None,
+        },
+    ),
+    (
+        &[
+            "rule",
+            "--given=W",
+            "--z={}",
+            "g",
+            "--do",
+            "X",
+            "--y",
+            "Y",
+            "--rule=9",
+        ],
+        Request::Rule {
+            file: "g",
+            number: "9",
+            y: "Y",
+            z: "{}",
+            doing: Some("X"),
+            given: Some("W"),
+        },
+    ),
+    (
+        &["identify", "g"],
+        Request::Identify {
+            file: "g",
+            x: None,
+            y: None,
+            certificate: false,
+            latex: false,
+        },
+    ),
+    (
+        &[
+            "identify",
+            "--latex",
+            "--x",
+            "A",
+            "g",
+            "--certificate",
+            "--y=B",
+        ],
+        Request::Identify {
+            file: "g",
+            x: Some("A"),
+            y: Some("B"),
+            certificate: true,
+            latex: true,
+        },
+    ),
+    (
+        &["check", "g", "c"],
+        Request::Check {
+            file: "g",
+            certificate: "c",
+        },
+    ),
+    (
+        &["check", "-", "-"],
+        Request::Check {
+            file: "-",
+            certificate: "-",
+        },
+    ),
+    (
+        &[
+            "adjust",
+            "g",
+            "--back-door",
+            "--set",
+            "{}",
+            "--most=0",
+            "--x=A",
+        ],
+        Request::Adjust {
+            file: "g",
+            x: Some("A"),
+            y: None,
+            set: Some("{}"),
+            back_door: true,
+            most: Some("0"),
+        },
+    ),
+    (
+        &["adjust", "g", "--y", "B"],
+        Request::Adjust {
+            file: "g",
+            x: None,
+            y: Some("B"),
+            set: None,
+            back_door: false,
+            most: None,
+        },
+    ),
+    (
+        &["evaluate", "--count", "N", "g", "--exact", "c"],
+        Request::Evaluate {
+            file: "g",
+            counts: "c",
+            x: None,
+            y: None,
+            count: Some("N"),
+            exact: true,
+        },
+    ),
+    (
+        &["evaluate", "g", "c", "--y", "B", "--x=A"],
+        Request::Evaluate {
+            file: "g",
+            counts: "c",
+            x: Some("A"),
+            y: Some("B"),
+            count: None,
+            exact: false,
+        },
+    ),
+    (
+        &["equivalent", "g", "h"],
+        Request::Equivalent {
+            file: "g",
+            second: "h",
+        },
+    ),
+    (&["survey", "7"], Request::Survey { number: "7" }),
+];
+
+/// Words without the form.
+const REFUSED: [&[&str]; 40] = [
+    &["rule", "g", "--y", "M", "--z", "X"],
+    &["rule", "g", "--rule", "2", "--y", "M", "--z", "X", "--z=Y"],
+    &[],
+    &["graph"],
+    &["graph", ""],
+    &["graph", "-g"],
+    &["graph", "--", "g"],
+    &["graph", "g", "h"],
+    &["graph", "g", "--project", "--project"],
+    &["graph", "g", "--project=true"],
+    &["graph", "g", "--proj"],
+    &["graph", "g", "--x", "A"],
+    &["graph", "g", "-h"],
+    &["graph", "g", "--help"],
+    &["separate", "--x", "A"],
+    &["separate", "g", "--x", "A", "--x", "C", "--y", "B"],
+    &["separate", "g", "--x", "A", "--x=A"],
+    &["separate", "g", "--x"],
+    &["separate", "g", "--x="],
+    &["separate", "g", "--x", ""],
+    &["separate", "g", "--x", "-a"],
+    &["separate", "g", "--x=-a"],
+    &["separate", "g", "--proj"],
+    &["separate", "g", "--project"],
+    &["identify", "g", "--given", "A"],
+    &["identify", "g", "--latex", "--latex"],
+    &["check", "g"],
+    &["check", "g", "c", "d"],
+    &["adjust", "g", "--most", "3", "--most", "4"],
+    &["adjust", "g", "--back"],
+    &["evaluate", "g"],
+    &["equivalent", "g"],
+    &["survey"],
+    &["survey", "-1"],
+    &["implications", "g"],
+    &["Graph", "g"],
+    &["help", "graph"],
+    &["help"],
+    &["-h"],
+    &["--version"],
+];
+
 fn words_of(alloc: Global, texts: &[&str]) -> Result<Vec<String>, AllocError> {
     let mut words = Vec::new(alloc);
     for text in texts {
@@ -10,215 +283,19 @@ fn words_of(alloc: Global, texts: &[&str]) -> Result<Vec<String>, AllocError> {
     Ok(words)
 }
 
-fn graph(file: &str, project: bool) -> Option<Request<'_>> {
-    Some(Request::Graph { file, project })
-}
-
-fn separate<'a>(
-    file: &'a str,
-    x: Option<&'a str>,
-    y: Option<&'a str>,
-    given: Option<&'a str>,
-) -> Option<Request<'a>> {
-    Some(Request::Separate { file, x, y, given })
-}
-
-fn rule<'a>(
-    file: &'a str,
-    number: &'a str,
-    y: &'a str,
-    z: &'a str,
-    doing: Option<&'a str>,
-    given: Option<&'a str>,
-) -> Option<Request<'a>> {
-    Some(Request::Rule {
-        file,
-        number,
-        y,
-        z,
-        doing,
-        given,
-    })
-}
-
-fn identify<'a>(
-    file: &'a str,
-    x: Option<&'a str>,
-    y: Option<&'a str>,
-    certificate: bool,
-    latex: bool,
-) -> Option<Request<'a>> {
-    Some(Request::Identify {
-        file,
-        x,
-        y,
-        certificate,
-        latex,
-    })
-}
-
-fn check<'a>(file: &'a str, certificate: &'a str) -> Option<Request<'a>> {
-    Some(Request::Check { file, certificate })
-}
-
-fn evaluate<'a>(
-    x: Option<&'a str>,
-    y: Option<&'a str>,
-    count: Option<&'a str>,
-    exact: bool,
-) -> Option<Request<'a>> {
-    Some(Request::Evaluate {
-        file: "g",
-        counts: "c",
-        x,
-        y,
-        count,
-        exact,
-    })
-}
-
 #[test]
 fn words_are_read(rt: HostRuntime) -> Result<(), Fail> {
-    let all = separate("g", Some("A"), Some("C"), Some("B"));
-    let cases: [(&[&str], Option<Request<'_>>); 62] = [
-        (&["graph", "g"], graph("g", false)),
-        (&["graph", "-"], graph("-", false)),
-        (&["graph", "g", "--project"], graph("g", true)),
-        (&["graph", "--project", "graph"], graph("graph", true)),
-        (&["separate", "--given=B", "--y", "C", "g", "--x=A"], all),
-        (
-            &["separate", "g", "--x", "A", "--y", "C", "--given", "B"],
-            all,
-        ),
-        (&["separate", "-"], separate("-", None, None, None)),
-        (&["separate", "help"], separate("help", None, None, None)),
-        (
-            &["separate", "g", "--x={}"],
-            separate("g", Some("{}"), None, None),
-        ),
-        (
-            &["separate", "g", "--y==-"],
-            separate("g", None, Some("=-"), None),
-        ),
-        (
-            &["separate", "g", "--given", "A,-b"],
-            separate("g", None, None, Some("A,-b")),
-        ),
-        (
-            &["rule", "g", "--rule", "2", "--y", "M", "--z", "X"],
-            rule("g", "2", "M", "X", None, None),
-        ),
-        (
-            &[
-                "rule",
-                "--given=W",
-                "--z={}",
-                "g",
-                "--do",
-                "X",
-                "--y",
-                "Y",
-                "--rule=9",
-            ],
-            rule("g", "9", "Y", "{}", Some("X"), Some("W")),
-        ),
-        (&["rule", "g", "--y", "M", "--z", "X"], None),
-        (
-            &["rule", "g", "--rule", "2", "--y", "M", "--z", "X", "--z=Y"],
-            None,
-        ),
-        (&[], None),
-        (&["graph"], None),
-        (&["graph", ""], None),
-        (&["graph", "-g"], None),
-        (&["graph", "--", "g"], None),
-        (&["graph", "g", "h"], None),
-        (&["graph", "g", "--project", "--project"], None),
-        (&["graph", "g", "--project=true"], None),
-        (&["graph", "g", "--proj"], None),
-        (&["graph", "g", "--x", "A"], None),
-        (&["graph", "g", "-h"], None),
-        (&["graph", "g", "--help"], None),
-        (&["separate", "--x", "A"], None),
-        (&["separate", "g", "--x", "A", "--x", "C", "--y", "B"], None),
-        (&["separate", "g", "--x", "A", "--x=A"], None),
-        (&["separate", "g", "--x"], None),
-        (&["separate", "g", "--x="], None),
-        (&["separate", "g", "--x", ""], None),
-        (&["separate", "g", "--x", "-a"], None),
-        (&["separate", "g", "--x=-a"], None),
-        (&["separate", "g", "--proj"], None),
-        (&["separate", "g", "--project"], None),
-        (&["Graph", "g"], None),
-        (&["help", "graph"], None),
-        (&["help"], None),
-        (&["-h"], None),
-        (&["--version"], None),
-        (&["identify", "g"], identify("g", None, None, false, false)),
-        (
-            &[
-                "identify",
-                "--latex",
-                "--x",
-                "A",
-                "g",
-                "--certificate",
-                "--y=B",
-            ],
-            identify("g", Some("A"), Some("B"), true, true),
-        ),
-        (&["identify", "g", "--given", "A"], None),
-        (&["identify", "g", "--latex", "--latex"], None),
-        (&["check", "g", "c"], check("g", "c")),
-        (&["check", "-", "-"], check("-", "-")),
-        (&["check", "g"], None),
-        (&["check", "g", "c", "d"], None),
-        (
-            &[
-                "adjust",
-                "g",
-                "--back-door",
-                "--set",
-                "{}",
-                "--most=0",
-                "--x=A",
-            ],
-            Some(Request::Adjust {
-                file: "g",
-                x: Some("A"),
-                y: None,
-                set: Some("{}"),
-                back_door: true,
-                most: Some("0"),
-            }),
-        ),
-        (&["adjust", "g", "--most", "3", "--most", "4"], None),
-        (&["adjust", "g", "--back"], None),
-        (
-            &["evaluate", "--count", "N", "g", "--exact", "c"],
-            evaluate(None, None, Some("N"), true),
-        ),
-        (
-            &["evaluate", "g", "c", "--y", "B", "--x=A"],
-            evaluate(Some("A"), Some("B"), None, false),
-        ),
-        (&["evaluate", "g"], None),
-        (
-            &["equivalent", "g", "h"],
-            Some(Request::Equivalent {
-                file: "g",
-                second: "h",
-            }),
-        ),
-        (&["equivalent", "g"], None),
-        (&["survey", "7"], Some(Request::Survey { number: "7" })),
-        (&["survey"], None),
-        (&["survey", "-1"], None),
-        (&["implications", "g"], None),
-    ];
-    for (texts, want) in cases {
+    for (texts, request) in ASKED {
         let words = words_of(rt.alloc(), texts)?;
-        assert_eq!(rt; read_words(rt.alloc(), &words)?, want, "at {texts:?}");
+        assert_eq!(rt;
+            read_words(rt.alloc(), &words)?,
+            Some(request),
+            "at {texts:?}"
+        );
+    }
+    for texts in REFUSED {
+        let words = words_of(rt.alloc(), texts)?;
+        assert_eq!(rt; read_words(rt.alloc(), &words)?, None, "at {texts:?}");
     }
     Ok(())
 }

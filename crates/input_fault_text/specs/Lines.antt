@@ -1,0 +1,67 @@
+-- What is wrong with a certificate or with counts, as a line says it.
+use Rattle.std.specs.Prelude.{ℕ, List, [], ◌++◌, codes}
+use Rattle.std.specs.Fmt.{decimal}
+use Rattle.fault_text.specs.Lines.{with_name}
+use Rattle.certificate.specs.declared.fault.Key.{Key}
+use Rattle.certificate.specs.declared.fault.Key.TheVariants as key
+use Rattle.certificate.specs.declared.fault.CertFault.{CertFault}
+use Rattle.certificate.specs.declared.fault.CertFault.TheVariants as certificate
+use Rattle.count_rows.specs.declared.fault.CountFault.{CountFault}
+use Rattle.count_rows.specs.declared.fault.CountFault.TheVariants as counts
+
+-- a key of certificates
+abbrev pub key_text : Key → List ℕ
+key_text key.Answer = codes "answer"
+key_text key.Version = codes "version"
+key_text key.X = codes "x"
+key_text key.Y = codes "y"
+key_text key.Formula = codes "formula"
+key_text key.Defs = codes "defs"
+key_text key.Lemmas = codes "lemmas"
+key_text key.Main = codes "main"
+key_text key.Big = codes "big"
+key_text key.Small = codes "small"
+key_text key.Roots = codes "roots"
+key_text key.Choice = codes "choice"
+key_text key.Links = codes "links"
+key_text key.Extra = codes "extra"
+
+-- the key at fault
+abbrev pub with_key : Key → List ℕ
+with_key k = codes ": " ++ key_text k
+
+-- the number at fault
+abbrev pub with_number : ℕ → List ℕ
+with_number n = codes ": " ++ decimal n
+
+-- the row at fault
+abbrev pub at_row : ℕ → List ℕ
+at_row r = codes ": row " ++ decimal r
+
+-- what is wrong with a certificate; want of memory has no line
+abbrev pub cert_fault_text : CertFault → List ℕ
+cert_fault_text certificate.NotJson = codes "certificate fault 1"
+cert_fault_text (certificate.Member k) = codes "certificate fault 2" ++ with_key k
+cert_fault_text (certificate.Version n) = codes "certificate fault 3" ++ with_number n
+cert_fault_text certificate.TooDeep = codes "certificate fault 4"
+cert_fault_text (certificate.Name name) = codes "certificate fault 5" ++ with_name name
+cert_fault_text certificate.NoMemory = []
+
+-- what is wrong with a certificate of more than 67,108,864 bytes
+abbrev pub cert_size_text : List ℕ
+cert_size_text = codes "certificate fault 6: over 67108864 bytes"
+
+-- what is wrong with counts; want of memory has no line
+abbrev pub count_fault_text : CountFault → List ℕ
+count_fault_text (counts.NotCsv r) = codes "counts fault 1" ++ at_row r
+count_fault_text (counts.NoColumn name) = codes "counts fault 2" ++ with_name name
+count_fault_text (counts.TwoColumns name) = codes "counts fault 3" ++ with_name name
+count_fault_text (counts.Count r) = codes "counts fault 4" ++ at_row r
+count_fault_text counts.TooLarge = codes "counts fault 5"
+count_fault_text counts.SumTooLarge = codes "counts fault 6"
+count_fault_text counts.NoRows = codes "counts fault 7"
+count_fault_text counts.NoMemory = []
+
+-- what is wrong with counts of more than 67,108,864 bytes
+abbrev pub count_size_text : List ℕ
+count_size_text = codes "counts fault 8: over 67108864 bytes"
