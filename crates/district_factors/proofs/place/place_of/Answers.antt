@@ -1,0 +1,24 @@
+use Rattle.std.proofs.Common.{◌≡◌, ◌<◌, ℕ, IsTrue, inl, inr, sym, ap, ◌∙◌, subst}
+use Rattle.std.proofs.lemmas.Bool.{and_parts, or_cases, or_right}
+use Rattle.mixed_graph.specs.Bits.{has}
+use Rattle.identification.proofs.Sets.{one-self, one-is}
+use Rattle.prob_expr.specs.Masks.{join, one}
+use Rattle.prob_expr.proofs.MaskLaws.{has_join, has_meet}
+use Rattle.identification.specs.Procedure.{common}
+use Rattle.district_factors.proofs.place.place_of.Goals as goal
+
+-- the earlier members of a set below n, and a vertex below n
+below : (n a p v s : ℕ) → s ≡ join (common a p) (one v) → v < n → ((u : ℕ) → IsTrue (has a u) → u < n) → (u : ℕ) → IsTrue (has s u) → u < n
+below n a p v s is lt low u i = elim (or_cases _ _ (sym (has_join (common a p) (one v) u) ∙ ap (λ m. has m u) (sym is) ∙ i)) [
+  | inl e ↦ low u (and_parts _ _ (sym (has_meet a p u) ∙ e)).0
+  | inr e ↦ subst (λ w. w < n) (sym (one-is v u e)) lt
+]
+
+member : (a p v s : ℕ) → s ≡ join (common a p) (one v) → IsTrue (has s v)
+member a p v s is = ap (λ m. has m v) is ∙ has_join (common a p) (one v) v ∙ or_right _ _ (one-self v)
+
+pub pillow-m-requires-clause-within : goal.pillow-m-requires-clause-within
+pillow-m-requires-clause-within c = below c.args.g.now.n c.args.a.bits c.args.before.bits c.args.v c.join-near.result.bits (let a = c.join-near.ensures in let b = c.common.ensures in let d = c.one.ensures in cc) c.requires.vertex c.requires.within
+
+pub pillow-m-requires-clause-member : goal.pillow-m-requires-clause-member
+pillow-m-requires-clause-member c = member c.args.a.bits c.args.before.bits c.args.v c.join-near.result.bits (let a = c.join-near.ensures in let b = c.common.ensures in let d = c.one.ensures in cc)

@@ -1,0 +1,23 @@
+use Rattle.std.proofs.Common.{◌≡◌, ◌≤◌, ◌+◌, length}
+use Rattle.mixed_graph.specs.Bits.{has}
+use Rattle.mixed_graph.specs.Sets.{Within}
+use Rattle.mixed_graph.specs.Shown.{graph_of}
+use Rattle.districts.specs.Linked.{IsInside}
+use Rattle.do_derivation.specs.View.{listed}
+use Rattle.district_factors.specs.Parts.{source_of}
+use Rattle.district_factors.proofs.Reaching.{Reaching}
+use Rattle.district_factors.proofs.Shrinking.{size}
+use Rattle.district_factors.proofs.rounds.factor.Given as goal
+
+abbrev pub invariant-rounds : goal.invariant-rounds
+invariant-rounds l = record {
+  within : Within l.g.n (has l.a.bits);
+  inside : IsInside l.c.bits l.a.bits;
+  number : l.next ≡ l.first + length l.defs.items;
+  few : length l.defs.items + size l.a.bits ≤ 64;
+  paired : length l.lemmas.items ≡ length l.defs.items;
+  reaching : Reaching (graph_of l.g) (listed l.order) l.c.bits l.initial.a.bits l.first l.a.bits (source_of l.from) l.next l.defs.items l.lemmas.items;
+}
+
+abbrev pub decreases-rounds : goal.decreases-rounds
+decreases-rounds l = size l.a.bits

@@ -1,0 +1,4 @@
+pub mod Bodies
+pub mod Factors
+pub mod Parts
+pub mod Rounds

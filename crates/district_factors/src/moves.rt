@@ -1,0 +1,144 @@
+//! The steps that make the expressions of a factor.
+
+ghost use Rattle.std.specs.Prelude.{◌≡◌, ◌<◌, ◌≤◌, ◌++◌, [], ◌∷◌, All, cond, length, IfOk, OnOk};
+ghost use Rattle.prob_expr.specs.Masks.{is_empty};
+ghost use Rattle.do_derivation.specs.Plans.{Plan, Plans};
+ghost use Rattle.do_derivation.specs.View.{listed, step_view, steps_view};
+ghost use Rattle.identification.specs.Derivations.{at_place, marginal_steps, source_steps, place_list, cut_steps, in_order};
+ghost use Rattle.district_factors.specs.Parts.{source_of, steps_then};
+
+use crate::sets::common;
+use crate::terms::Source;
+use do_derivation::Step;
+use mixed_graph::{Order, VSet};
+use prob_expr::masks::{is_empty, join, minus, one};
+use std::alloc::{AllocError, Global};
+
+/// The steps on the child of that number.
+fn at(alloc: Global, child: u32, steps: Vec<Step>) -> Result<Step, AllocError>
+    ensures { IfOk result (λ s. step_view s ≡ Plan.At child (Plan.Then (steps_view steps.items))) }
+{
+    Ok(Step::At(child, Box::new(alloc, Step::Then(steps))?))
+}
+
+/// Adds a list of steps at a factor, where it isn't empty.
+pub fn add_at(
+    alloc: Global,
+    steps: &mut Vec<Step>,
+    factor: u32,
+    list: Vec<Step>,
+) -> Result<(), AllocError>
+    ensures { OnOk result ((rest : Plans) → steps_then steps.new.items rest ≡ steps_then steps.old.items (at_place factor (steps_view list.items) rest)) }
+{
+    if list.is_empty() {
+        return Ok(());
+    }
+    steps.push(at(alloc, factor, list)?)?;
+    Ok(())
+}
+
+/// From P(u | do(all others)) to definition k, of the set a, summed down to u.
+fn marginal_steps(alloc: Global, k: u32, a: VSet, u: VSet) -> Result<Vec<Step>, AllocError>
+    ensures { IfOk result (λ s. steps_view s.items ≡ marginal_steps k a.bits u.bits) }
+{
+    let rest = minus(a, u);
+    let cited = vec![in alloc; Step::Cite(k)]?;
+    if is_empty(rest) {
+        return Ok(cited);
+    }
+    let inner = at(alloc, 0, cited)?;
+    Ok(vec![in alloc; Step::Widen(rest), inner]?)
+}
+
+/// From P(v | do(all outside a), m) to what the source has for it.
+pub fn source_steps(
+    alloc: Global,
+    from: Source,
+    a: VSet,
+    v: u8,
+    m: VSet,
+) -> Result<Vec<Step>, AllocError>
+    requires { v < 64 }
+    ensures { IfOk result (λ s. steps_view s.items ≡ source_steps (source_of from) a.bits v m.bits) }
+{
+    match from {
+        Source::Under(_) => Ok(Vec::new(alloc)),
+        Source::Defined(k) => {
+            if is_empty(m) {
+                return marginal_steps(alloc, k, a, one(v));
+            }
+            let top = at(alloc, 0, marginal_steps(alloc, k, a, join(m, one(v)))?)?;
+            let bottom = at(alloc, 1, marginal_steps(alloc, k, a, m)?)?;
+            Ok(vec![in alloc; Step::Split, top, bottom]?)
+        }
+    }
+}
+
+/// Adds a step, where its set isn't empty.
+fn add(steps: &mut Vec<Step>, set: VSet, step: Step) -> Result<(), AllocError>
+    ensures { OnOk result (steps.new.items ≡ steps.old.items ++ cond (is_empty set.bits) [] (step ∷ [])) }
+{
+    if is_empty(set) {
+        return Ok(());
+    }
+    steps.push(step)?;
+    Ok(())
+}
+
+/// The rules at the term of one vertex of the district t of a, where `before` has the vertices
+/// before it and m is its pillow, and then the rest.
+///
+/// Rule 3 drops the actions on what comes later or lies outside a, rule 2 makes those on earlier
+/// members of a outside t observations, and rule 1 drops what isn't in the pillow.
+pub fn place_steps(
+    alloc: Global,
+    before: VSet,
+    universe: VSet,
+    a: VSet,
+    t: VSet,
+    m: VSet,
+    rest: Vec<Step>,
+) -> Result<Vec<Step>, AllocError>
+    ensures { IfOk result (λ s. steps_view s.items ≡ place_list before.bits universe.bits a.bits t.bits m.bits (steps_view rest.items)) }
+{
+    let earlier = common(a, before);
+    let acted = minus(earlier, t);
+    let idle = minus(minus(universe, t), acted);
+    let unneeded = minus(earlier, m);
+    let mut rest = rest;
+    let mut steps = Vec::new(alloc);
+    add(&mut steps, idle, Step::Rule3Out(idle))?;
+    add(&mut steps, acted, Step::Rule2See(acted))?;
+    add(&mut steps, unneeded, Step::Rule1Out(unneeded))?;
+    steps.append(&mut rest)?;
+    Ok(steps)
+}
+
+/// To a sum over a set of the larger term, whose steps work inside the sum.
+pub fn cut_steps(alloc: Global, over: VSet, inner: Vec<Step>) -> Result<Vec<Step>, AllocError>
+    ensures { IfOk result (λ s. steps_view s.items ≡ cut_steps over.bits (steps_view inner.items)) }
+{
+    let mut steps = vec![in alloc; Step::Rule3Out(over), Step::Widen(over)]?;
+    add_at(alloc, &mut steps, 0, inner)?;
+    Ok(steps)
+}
+
+/// The members of t in the order.
+pub fn members_in(order: &[u8], t: VSet) -> Order
+    requires long { length order.now ≤ 64 }
+    requires low { All (λ v. v < 64) order.now }
+    ensures { listed result ≡ in_order t.bits order.now }
+{
+    let mut list = [0u8; 64];
+    let mut count = 0usize;
+    for v in order {
+        if t.has(*v) {
+            list[count] = *v;
+            count += 1;
+        }
+    }
+    Order {
+        list,
+        count: count as u32,
+    }
+}

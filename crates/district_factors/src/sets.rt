@@ -1,0 +1,54 @@
+//! Sets of vertices that the procedure reads off the graph.
+
+ghost use Rattle.std.specs.Prelude.{◌≡◌, ◌<◌, ℕ, IsTrue};
+ghost use Rattle.mixed_graph.specs.Bits.{has};
+ghost use Rattle.mixed_graph.specs.Sets.{Within};
+ghost use Rattle.mixed_graph.specs.Shown.{graph_of};
+ghost use Rattle.districts.specs.Linked.{IsSetOf};
+ghost use Rattle.identification.specs.Procedure.{common, AreAncestorsIn, IsParent, IsPillow};
+
+use districts::district_of;
+use mixed_graph::{Graph, VSet};
+
+/// The members of both sets.
+pub fn common(a: VSet, b: VSet) -> VSet
+    ensures { result.bits ≡ common a.bits b.bits }
+{
+    VSet {
+        bits: a.bits & b.bits,
+    }
+}
+
+/// The ancestors of s in the graph induced on `within`.
+pub fn ancestors_in(g: &Graph, within: VSet, s: VSet) -> VSet
+    requires { Within g.now.n (has s.bits) }
+    ensures { AreAncestorsIn (graph_of g.now) within.bits s.bits result.bits }
+{
+    g.induced(within).ancestors(s)
+}
+
+/// The parents of the members of a set.
+fn parents_of(g: &Graph, set: VSet) -> VSet
+    ensures { IsSetOf result.bits (IsParent (graph_of g.now) (λ v. IsTrue (has set.bits v))) }
+{
+    let mut parents = VSet::empty();
+    for v in 0..64u8 {
+        let row = VSet {
+            bits: g.parents[v as usize],
+        };
+        parents = parents.union(row.only_if(set.has(v)));
+    }
+    parents
+}
+
+/// The pillow of v in s: its district in s and the parents in s of that district, without v.
+pub fn pillow(g: &Graph, s: VSet, v: u8) -> VSet
+    requires within { Within g.now.n (has s.bits) }
+    requires member { IsTrue (has s.bits v) }
+    requires vertex { v < 64 }
+    ensures { IsPillow (graph_of g.now) s.bits v result.bits }
+{
+    let near = district_of(g, s, v);
+    let above = parents_of(g, near).intersection(s);
+    near.union(above).difference(VSet::one(v))
+}

@@ -1,0 +1,4 @@
+pub mod Belows
+pub mod Free
+pub mod Lines
+pub mod NoChoice

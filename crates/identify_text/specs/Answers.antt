@@ -1,0 +1,30 @@
+-- The printed answer of an effect that has a formula.
+use Rattle.std.specs.Prelude.{ℕ, List, [], ◌++◌, if◌then◌else◌, codes}
+use Rattle.answer_text.specs.Texts.{set_text}
+use Rattle.prob_expr.specs.Masks.{is_empty, join, minus}
+use Rattle.prob_expr.specs.Tree.{Tree, term_of, PlainFormula}
+use Rattle.prob_expr.specs.Free.{free_of}
+use Rattle.expr_text.specs.Write.{text_of, formula_text}
+use Rattle.expr_text.specs.Latex.{latex_of, formula_latex}
+
+-- the effect of x on y as a term: P(y | do(x)), or P(y) for an empty x
+abbrev pub effect : (x y : ℕ) → Tree
+effect x y = term_of (record { x = x; y = y; given = 0 })
+
+-- the free variables of a formula that are neither in x nor in y: its value doesn't depend on them, whatever value they get
+abbrev pub free_outside : (x y : ℕ) → PlainFormula → ℕ
+free_outside x y f = minus (free_of f) (join x y)
+
+-- the line `free {Z}` of a set; nothing where the set is empty
+abbrev pub free_line : List (List ℕ) → ℕ → List ℕ
+free_line names free = if is_empty free then [] else codes "free " ++ (set_text names free ++ codes "\n")
+
+-- the effect, an equals sign, the lines of the formula, and the line of what is free outside x and y
+abbrev pub formula_answer : List (List ℕ) → (x y : ℕ) → PlainFormula → List ℕ
+formula_answer names x y f =
+    text_of names (effect x y) ++ (codes " = " ++ (formula_text names f ++ (codes "\n" ++ free_line names (free_outside x y f))))
+
+-- the same with effect and formula as LaTeX
+abbrev pub latex_answer : List (List ℕ) → (x y : ℕ) → PlainFormula → List ℕ
+latex_answer names x y f =
+    latex_of names (effect x y) ++ (codes " = " ++ (formula_latex names f ++ (codes "\n" ++ free_line names (free_outside x y f))))

@@ -1,0 +1,6 @@
+pub mod Answers
+pub mod Below
+pub mod HedgeLines
+pub mod Laws
+pub mod ModelLines
+pub mod PairLines

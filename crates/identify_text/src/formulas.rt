@@ -1,0 +1,117 @@
+ghost use Rattle.std.specs.Prelude.{◌≡◌, ◌++◌, length, None, OnOk, IfOk};
+ghost use Rattle.mixed_graph.specs.Bits.{has};
+ghost use Rattle.mixed_graph.specs.Sets.{Within};
+ghost use Rattle.prob_expr.specs.Check.{fault_in};
+ghost use Rattle.prob_expr.specs.Masks.{join, minus};
+ghost use Rattle.prob_expr.specs.View.{formula_view};
+ghost use Rattle.expr_text.specs.Latex.{latex_of};
+ghost use Rattle.expr_text.specs.Write.{text_of};
+ghost use Rattle.identify_text.specs.Answers.{effect, free_outside, free_line, formula_answer, latex_answer};
+
+use answer_text::push_set;
+use expr_text::{formula_text, latex_text, target_latex, target_text};
+use mixed_graph::{Names, VSet};
+use prob_expr::masks::{is_empty, join, minus};
+use prob_expr::{Formula, Target, free};
+use std::alloc::{AllocError, Global};
+
+/// The target P(y | do(x)).
+fn effect(x: VSet, y: VSet) -> Target
+    ensures what { result.y.bits ≡ y.bits }
+    ensures doing { result.x.bits ≡ x.bits }
+    ensures given { result.given.bits ≡ 0 }
+{
+    Target {
+        x,
+        y,
+        given: VSet { bits: 0 },
+    }
+}
+
+/// The text of an effect.
+pub fn effect_text(alloc: Global, x: VSet, y: VSet, names: &Names) -> Result<Vec<u8>, AllocError>
+    requires x { Within (length names.now) (has x.bits) }
+    requires y { Within (length names.now) (has y.bits) }
+    ensures { IfOk result (λ v. v.items ≡ text_of names.now (effect x.bits y.bits)) }
+{
+    target_text(alloc, &effect(x, y), names)
+}
+
+/// An effect as LaTeX.
+fn effect_latex(alloc: Global, x: VSet, y: VSet, names: &Names) -> Result<Vec<u8>, AllocError>
+    requires x { Within (length names.now) (has x.bits) }
+    requires y { Within (length names.now) (has y.bits) }
+    ensures { IfOk result (λ v. v.items ≡ latex_of names.now (effect x.bits y.bits)) }
+{
+    target_latex(alloc, &effect(x, y), names)
+}
+
+/// Appends the line of the free variables, where there are some.
+fn push_free(out: &mut Vec<u8>, names: &Names, free: VSet) -> Result<(), AllocError>
+    requires { Within (length names.now) (has free.bits) }
+    ensures { OnOk result (out.new.items ≡ out.old.items ++ free_line names.now free.bits) }
+{
+    if is_empty(free) {
+        return Ok(());
+    }
+    out.extend_from_slice(b"free ")?;
+    push_set(out, names, free)?;
+    out.push(b'\n')?;
+    Ok(())
+}
+
+/// The free variables of a formula that are neither in x nor in y.
+fn free_outside(alloc: Global, f: &Formula, x: VSet, y: VSet) -> Result<VSet, AllocError>
+    ensures { IfOk result (λ s. s.bits ≡ free_outside x.bits y.bits (formula_view f.now)) }
+{
+    let all = free(alloc, f)?;
+    Ok(minus(all, join(x, y)))
+}
+
+/// The text of an effect's formula, as `P(Y|do(X)) = sum{Z} P(Z) * P(Y|Z,X)`, and the line of the variables that are free beside x and y.
+///
+/// Each line ends with a line feed.
+pub fn formula_answer(
+    alloc: Global,
+    f: &Formula,
+    x: VSet,
+    y: VSet,
+    names: &Names,
+) -> Result<Vec<u8>, AllocError>
+    requires x { Within (length names.now) (has x.bits) }
+    requires y { Within (length names.now) (has y.bits) }
+    requires formula { fault_in (length names.now) (formula_view f.now) ≡ None }
+    ensures { IfOk result (λ v. v.items ≡ formula_answer names.now x.bits y.bits (formula_view f.now)) }
+{
+    let mut text = effect_text(alloc, x, y, names)?;
+    text.extend_from_slice(b" = ")?;
+    let formula = formula_text(alloc, f, names)?;
+    text.extend_from_slice(formula.as_slice())?;
+    text.push(b'\n')?;
+    let free = free_outside(alloc, f, x, y)?;
+    push_free(&mut text, names, free)?;
+    Ok(text)
+}
+
+/// The same as LaTeX; the line of the free variables is as in the plain text.
+pub fn latex_answer(
+    alloc: Global,
+    f: &Formula,
+    x: VSet,
+    y: VSet,
+    names: &Names,
+) -> Result<Vec<u8>, AllocError>
+    requires x { Within (length names.now) (has x.bits) }
+    requires y { Within (length names.now) (has y.bits) }
+    requires formula { fault_in (length names.now) (formula_view f.now) ≡ None }
+    ensures { IfOk result (λ v. v.items ≡ latex_answer names.now x.bits y.bits (formula_view f.now)) }
+{
+    let mut text = effect_latex(alloc, x, y, names)?;
+    text.extend_from_slice(b" = ")?;
+    let formula = latex_text(alloc, f, names)?;
+    text.extend_from_slice(formula.as_slice())?;
+    text.push(b'\n')?;
+    let free = free_outside(alloc, f, x, y)?;
+    push_free(&mut text, names, free)?;
+    Ok(text)
+}

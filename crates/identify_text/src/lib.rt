@@ -1,0 +1,17 @@
+//! The printed answers of identification: a formula, or a hedge with its two models.
+#![tactic(auto)]
+
+mod bits;
+mod formulas;
+mod hedges;
+mod models;
+mod pairs;
+mod parts;
+#[cfg(test)]
+mod tests;
+mod theory;
+
+pub use formulas::{formula_answer, latex_answer};
+pub use hedges::hedge_heading;
+pub use pairs::hedge_answer;
+pub use theory::laws;

@@ -1,0 +1,82 @@
+ghost use Rattle.std.specs.Prelude.{◌≡◌, ◌+◌, ◌++◌, decimal, length, OnOk, IfOk};
+ghost use Rattle.mixed_graph.specs.Bits.{has};
+ghost use Rattle.mixed_graph.specs.Sets.{Within};
+ghost use Rattle.identify_text.specs.Below.{IsHedgeBelow, ArePairBelow};
+ghost use Rattle.identify_text.specs.PairLines.{event_line, hedge_answer};
+
+use crate::bits::{Bit, add_bits, push_sum};
+use crate::hedges::{hedge_heading, push_choices, push_links};
+use crate::models::{push_causes, push_vertices};
+use counter_models::CounterPair;
+use hedge::Hedge;
+use mixed_graph::{Names, VSet};
+use std::alloc::{AllocError, Global};
+
+/// Appends the exponent of the second model's gain: one more than the noise.
+fn push_exponent(alloc: Global, out: &mut Vec<u8>, noise: u32) -> Result<(), AllocError>
+    ensures { OnOk result (out.new.items ≡ out.old.items ++ decimal (noise + 1)) }
+{
+    let exponent = u64::from(noise) + 1;
+    let text = format!(in alloc; "{exponent}")?;
+    out.extend_from_slice(text.as_bytes())?;
+    Ok(())
+}
+
+/// Appends the line of the event, with its probability in each model.
+fn push_event(
+    alloc: Global,
+    out: &mut Vec<u8>,
+    names: &Names,
+    pair: &CounterPair,
+) -> Result<(), AllocError>
+    requires { Within (length names.now) (has pair.now.event.bits) }
+    ensures { OnOk result (out.new.items ≡ out.old.items ++ event_line names.now pair.now) }
+{
+    let mut terms = Vec::new(alloc);
+    add_bits(&mut terms, names, Bit::Carried, pair.event)?;
+    out.extend_from_slice(b"event ")?;
+    push_sum(out, terms.as_slice())?;
+    out.extend_from_slice(b" even: 1/2 in the first, 1/2 + 1/2^")?;
+    push_exponent(alloc, out, pair.noise)?;
+    out.extend_from_slice(b" in the second\n")?;
+    Ok(())
+}
+
+/// The text of a hedge: its heading, its choices and links, and the two models by which the effect differs though all observations agree.
+///
+/// Each line ends with a line feed.
+pub fn hedge_answer(
+    alloc: Global,
+    x: VSet,
+    y: VSet,
+    h: &Hedge,
+    pair: &CounterPair,
+    names: &Names,
+) -> Result<Vec<u8>, AllocError>
+    requires x { Within (length names.now) (has x.bits) }
+    requires y { Within (length names.now) (has y.bits) }
+    requires hedge { IsHedgeBelow (length names.now) h.now }
+    requires models { ArePairBelow (length names.now) pair.now }
+    ensures { IfOk result (λ v. v.items ≡ hedge_answer names.now x.bits y.bits h.now pair.now) }
+{
+    let mut text = hedge_heading(alloc, x, y, h, names)?;
+    push_choices(&mut text, names, h)?;
+    push_links(&mut text, names, h)?;
+    push_causes(alloc, &mut text, names, pair.first.causes.as_slice())?;
+    push_vertices(
+        alloc,
+        &mut text,
+        names,
+        b"first",
+        pair.first.mechanisms.as_slice(),
+    )?;
+    push_vertices(
+        alloc,
+        &mut text,
+        names,
+        b"second",
+        pair.second.mechanisms.as_slice(),
+    )?;
+    push_event(alloc, &mut text, names, pair)?;
+    Ok(text)
+}

@@ -1,0 +1,7 @@
+ghost use Rattle.identify_text.specs.Laws.{HedgesAreBelow, SoundModelsAreBelow};
+
+/// What keeps a hedge and its models printable: all their vertices have names where the graph's have.
+pub fn laws()
+    ensures hedges { HedgesAreBelow }
+    ensures models { SoundModelsAreBelow }
+{}

@@ -1,0 +1,5 @@
+pub mod FirstPairs
+pub mod ParentsSeparate
+pub mod Places
+pub mod Shows
+pub mod Ways

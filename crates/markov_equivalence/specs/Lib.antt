@@ -1,0 +1,4 @@
+pub mod Comparisons
+pub mod Firsts
+pub mod Laters
+pub mod Skeletons

@@ -1,0 +1,10 @@
+//! Whether two graphs without bidirected edges have the same skeleton and the same unshielded colliders.
+#![tactic(auto)]
+
+mod comparison;
+mod firsts;
+mod skeleton;
+#[cfg(test)]
+mod tests;
+
+pub use comparison::{Compared, Difference, compare};

@@ -1,0 +1,50 @@
+ghost use Rattle.std.specs.Prelude.{◌≡◌, ◌≢◌, ℕ, ◌<◌, ◌≤◌, false, IsTrue, IfSome, IfNone};
+ghost use Rattle.mixed_graph.specs.Bits.{has};
+ghost use Rattle.mixed_graph.specs.Shown.{graph_of};
+ghost use Rattle.markov_equivalence.specs.Skeletons.{is_adjacent, is_unshielded_collider};
+
+use mixed_graph::{Graph, VSet};
+
+/// The vertices that an arrow joins to a.
+pub fn neighbours(g: &Graph, a: u8) -> VSet
+    requires { a < 64 }
+    ensures { (v : ℕ) → has result.bits v ≡ is_adjacent (graph_of g.now) a v }
+{
+    let children = VSet {
+        bits: g.children[a as usize],
+    };
+    children.union(VSet {
+        bits: g.parents[a as usize],
+    })
+}
+
+/// The unshielded colliders between a and b.
+pub fn colliders(g: &Graph, a: u8, b: u8) -> VSet
+    requires a { a < 64 }
+    requires b { b < 64 }
+    ensures { (m : ℕ) → has result.bits m ≡ is_unshielded_collider (graph_of g.now) a m b }
+{
+    let children = VSet {
+        bits: g.children[a as usize],
+    };
+    children
+        .intersection(VSet {
+            bits: g.children[b as usize],
+        })
+        .only_if(!neighbours(g, a).has(b))
+}
+
+/// The lowest vertex that one of the sets has alone, if there is one.
+pub fn lowest_difference(s: VSet, t: VSet) -> Option<u8>
+    ensures differs { IfSome result (λ v. has s.bits v ≢ has t.bits v) }
+    ensures lowest { IfSome result (λ v. (u : ℕ) → u < v → has s.bits u ≡ has t.bits u) }
+    ensures in_range { IfSome result (λ v. v < 64) }
+    ensures same { IfNone result ((v : ℕ) → has s.bits v ≡ has t.bits v) }
+{
+    let alone = s.difference(t).union(t.difference(s));
+    if alone.is_empty() {
+        None
+    } else {
+        Some(alone.lowest())
+    }
+}

@@ -1,0 +1,4 @@
+pub mod Counts
+pub mod Drawn
+pub mod Draws
+pub mod Rows

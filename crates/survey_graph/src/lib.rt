@@ -1,0 +1,12 @@
+//! A large graph made from a number, for surveys, and counts of edges.
+#![tactic(auto)]
+
+mod count;
+mod draws;
+mod edges;
+mod survey;
+#[cfg(test)]
+mod tests;
+
+pub use count::{bidirected_count, directed_count};
+pub use survey::survey_graph;
