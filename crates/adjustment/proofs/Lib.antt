@@ -1,0 +1,5 @@
+pub mod Walks
+pub mod Separating
+pub mod PathParts
+pub mod Held
+pub mod Effects

@@ -1,0 +1,66 @@
+use Rattle.std.proofs.Common.{ℕ, ◌≡◌, ◌↔◌, IsTrue, subst}
+use Rattle.mixed_graph.specs.Bits.{has}
+use Rattle.mixed_graph.specs.Shown.{graph_of}
+use Rattle.m_separation.specs.Paths.{IsOpenPath}
+use Rattle.m_separation.specs.Walks.{IsSeparated}
+use Rattle.proper_paths.proofs.Causal.{below_from}
+use Rattle.proper_paths.proofs.FirstEdges.{cut_arrows, firsts, back_door_graph_is}
+use Rattle.adjustment.specs.Criteria.{IsExcluded}
+use Rattle.adjustment.specs.Faults.{IsClearOf}
+use Rattle.adjustment.proofs.Effects.{separating_adjusts}
+use Rattle.adjustment.proofs.PathParts.{path_begins, part_unblocked}
+use Rattle.adjustment.proofs.Separating.{excluded_is, admissible_from}
+use Rattle.adjustment.proofs.criteria.adjusts.Goals as goal
+use Rattle.adjustment.proofs.criteria.adjusts.Goals.{After-descendants-excluded, After-open_path}
+
+pub descendants-excluded-requires : goal.descendants-excluded-requires
+descendants-excluded-requires c = λ v e.
+    (below_from (graph_of c.args.g.now) c.args.g.now.valid (has c.args.x.bits) (has c.args.y.bits) c.requires.x_within v ((c.proper_causal.ensures v).0 e)).vertex
+
+excluded : (c : After-descendants-excluded) → (v : ℕ) → IsTrue (has c.descendants-excluded.result.bits v) ↔ IsExcluded (graph_of c.args.g.now) (has c.args.x.bits) (has c.args.y.bits) v
+excluded c = excluded_is (graph_of c.args.g.now) c.args.g.now.valid (has c.args.x.bits) (has c.args.y.bits) c.requires.x_within (has c.proper_causal.result.bits) (has c.descendants-excluded.result.bits)
+    c.proper_causal.ensures c.descendants-excluded.ensures
+
+pub returns-in-Some-clause-fault : goal.returns-in-Some-clause-fault
+returns-in-Some-clause-fault c = let l = c.in-Some.ensures.found in let e = excluded (goal.at.returns-in-Some-clause-fault c).After-descendants-excluded in record {
+  member = l.member;
+  holds = (e c.in-Some.v).0 l.holds;
+  lowest = λ u zu k. l.lowest u zu ((e u).1 k);
+}
+
+-- no member of z is excluded
+clear : (c : After-open_path) → IsClearOf (IsExcluded (graph_of c.args.g.now) (has c.args.x.bits) (has c.args.y.bits)) (has c.args.z.bits)
+clear c = let none = c.in_default.ensures.none in
+    λ v zv e. none v zv ((excluded_is (graph_of c.args.g.now) c.args.g.now.valid (has c.args.x.bits) (has c.args.y.bits) c.requires.x_within (has c.proper_causal.result.bits) (has c.descendants-excluded.result.bits)
+    c.proper_causal.ensures c.descendants-excluded.ensures v).1 e)
+
+-- the back-door graph is g without the arrows from x to the vertices between
+graph_is : (c : After-open_path) → graph_of c.back_door_graph.result ≡ cut_arrows (graph_of c.args.g.now) (firsts (has c.args.x.bits) (has c.proper_causal.result.bits))
+graph_is c = back_door_graph_is (graph_of c.args.g.now) c.args.g.now.valid (has c.args.x.bits) (has c.args.y.bits) c.requires.x_within (has c.proper_causal.result.bits) c.proper_causal.ensures
+    (graph_of c.back_door_graph.result) c.back_door_graph.ensures
+
+separates : (c : After-open_path) → IsSeparated (graph_of c.back_door_graph.result) (has c.args.x.bits) (has c.args.y.bits) (has c.args.z.bits)
+    → IsSeparated (cut_arrows (graph_of c.args.g.now) (firsts (has c.args.x.bits) (has c.proper_causal.result.bits))) (has c.args.x.bits) (has c.args.y.bits) (has c.args.z.bits)
+separates c sep = subst (λ h. IsSeparated h (has c.args.x.bits) (has c.args.y.bits) (has c.args.z.bits)) (graph_is c) sep
+
+pub last_part-requires : goal.last_part-requires
+last_part-requires c =
+    path_begins (graph_of c.back_door_graph.result) c.back_door_graph.result.valid c.back_door_graph.result.small (has c.args.x.bits) (has c.args.y.bits) (has c.args.z.bits) c.in-Some-open_path.path c.in-Some-open_path.ensures.found
+
+pub returns-in-None-clause-admissible : goal.returns-in-None-clause-admissible
+returns-in-None-clause-admissible c = let a = (goal.at.returns-in-None-clause-admissible c).After-open_path in
+    admissible_from (graph_of c.args.g.now) c.args.g.now.valid (has c.args.x.bits) (has c.args.y.bits) c.requires.x_within c.requires.x_y (has c.proper_causal.result.bits) c.proper_causal.ensures (has c.args.z.bits)
+    (clear a) (separates a c.in-None.ensures.none)
+
+pub returns-in-None-clause-effect : goal.returns-in-None-clause-effect
+returns-in-None-clause-effect c = let a = (goal.at.returns-in-None-clause-effect c).After-open_path in
+    separating_adjusts (graph_of c.args.g.now) c.args.g.now.valid c.args.x.bits c.args.y.bits c.args.z.bits c.requires (has c.proper_causal.result.bits) c.proper_causal.ensures (clear a) (separates a c.in-None.ensures.none)
+
+pub returns-in-Some-open_path-clause-fault : goal.returns-in-Some-open_path-clause-fault
+returns-in-Some-open_path-clause-fault c = let a = (goal.at.returns-in-Some-open_path-clause-fault c).After-open_path in (
+  clear a,
+  part_unblocked (graph_of c.args.g.now) c.args.g.now.valid (has c.args.x.bits) (has c.args.y.bits) c.requires.x_within c.requires.x_y (has c.proper_causal.result.bits) c.proper_causal.ensures (has c.args.z.bits) c.requires.x_w
+      c.in-Some-open_path.path c.last_part.result
+      (subst (λ h. IsOpenPath h (has c.args.x.bits) (has c.args.y.bits) (has c.args.z.bits) c.in-Some-open_path.path.vertices c.in-Some-open_path.path.marks c.in-Some-open_path.path.count) (graph_is a) c.in-Some-open_path.ensures.found)
+      c.last_part.ensures,
+)

@@ -1,0 +1,33 @@
+-- The criteria are separation in a graph with fewer arrows, and their formula is the effect.
+use Rattle.std.specs.Prelude.{ℕ, ◌==◌, Bool, ◌↔◌}
+use Rattle.mixed_graph.specs.Bits.{has}
+use Rattle.mixed_graph.specs.Graphs.{MixedGraph, IsMixedGraph, IsDescendant}
+use Rattle.m_separation.specs.Walks.{IsSeparated}
+use Rattle.surgery.specs.Cuts.{cut_out}
+use Rattle.do_rules.specs.Rules.{AreThreeSets}
+use Rattle.proper_paths.specs.Proper.{IsBackDoorGraph}
+use Rattle.prob_expr.specs.Masks.{one}
+use Rattle.prob_expr.specs.Values.{EqualsEffect}
+use Rattle.adjustment.specs.Criteria.{IsExcluded, IsAdmissible, IsBackDoorSet}
+use Rattle.adjustment.specs.Faults.{IsClearOf}
+use Rattle.adjustment.specs.Formulas.{adjustment_formula, effect_on}
+
+-- a set is admissible exactly where none of its members is excluded and it separates x from y in the back-door graph
+abbrev pub AdmissibleIsSeparating : Type 0
+AdmissibleIsSeparating = (g h : MixedGraph) → IsMixedGraph g → (x y z : ℕ → Bool) → AreThreeSets g.vertices x y z → IsBackDoorGraph g x y h
+    → IsAdmissible g x y z ↔ (IsClearOf (IsExcluded g x y) z × IsSeparated h x y z)
+
+-- a set meets the back-door criterion exactly where no member is a descendant of x and it separates x from y in the graph without the arrows out of x
+abbrev pub BackDoorIsSeparating : Type 0
+BackDoorIsSeparating = (g : MixedGraph) → IsMixedGraph g → (x : ℕ) (y z : ℕ → Bool) → AreThreeSets g.vertices (λ u. u == x) y z
+    → IsBackDoorSet g x y z ↔ (IsClearOf (IsDescendant g (λ u. u == x)) z × IsSeparated (cut_out g (λ u. u == x)) (λ u. u == x) y z)
+
+-- in each positive model the formula of an admissible set is the effect
+abbrev pub AdmissibleAdjusts : Type 0
+AdmissibleAdjusts = (g : MixedGraph) → IsMixedGraph g → (x y z : ℕ) → AreThreeSets g.vertices (has x) (has y) (has z) → IsAdmissible g (has x) (has y) (has z)
+    → EqualsEffect g (effect_on x y) (adjustment_formula x y z)
+
+-- and so is that of a set with the back-door criterion
+abbrev pub BackDoorAdjusts : Type 0
+BackDoorAdjusts = (g : MixedGraph) → IsMixedGraph g → (x y z : ℕ) → AreThreeSets g.vertices (has (one x)) (has y) (has z) → IsBackDoorSet g x (has y) (has z)
+    → EqualsEffect g (effect_on (one x) y) (adjustment_formula (one x) y z)

@@ -1,0 +1,5 @@
+pub mod Criteria
+pub mod Faults
+pub mod Formulas
+pub mod Laws
+pub mod Parts

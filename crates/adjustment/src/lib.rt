@@ -1,0 +1,13 @@
+//! The adjustment criterion and the back-door criterion, with the formula that they allow.
+#![tactic(auto)]
+
+mod criteria;
+mod formulas;
+mod parts;
+#[cfg(test)]
+mod tests;
+mod theory;
+
+pub use criteria::{AdjFault, adjusts, back_door};
+pub use formulas::formula_for;
+pub use theory::laws;

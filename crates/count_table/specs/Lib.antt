@@ -1,0 +1,4 @@
+pub mod Cells
+pub mod Codes
+pub mod Tables
+pub mod Reading

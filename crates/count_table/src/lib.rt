@@ -1,0 +1,13 @@
+//! Dense tables of counts, read from CSV: a count for each combination of levels of the used vertices, and sums over them.
+#![tactic(auto)]
+
+mod cells;
+mod codes;
+mod counts;
+mod reading;
+#[cfg(test)]
+mod tests;
+
+pub use count_rows::CountFault;
+pub use counts::{Counts, marginal};
+pub use reading::read_counts;

@@ -1,0 +1,7 @@
+pub mod GatheredFactors
+pub mod HedgeData
+pub mod NoHedge
+pub mod Orders
+pub mod RightAnswers
+pub mod Roots
+pub mod StepLists

@@ -1,0 +1,57 @@
+use Rattle.std.proofs.Common.{◌≡◌, ◌<◌, ◌≤◌, List, get_or, take, drop, ◌+◌, map, length, refl, sym, ap, subst, ◌∙◌, arith}
+use Rattle.mixed_graph.specs.Shown.{graph_of}
+use Rattle.mixed_graph.specs.declared.sets.VSet.{VSet}
+use Rattle.districts.specs.Linked.{IsMaximalJoined}
+use Rattle.do_derivation.specs.View.{listed}
+use Rattle.id_recursion.specs.Factored.{AreFactorsOf, IsStopOf, stop_for}
+use Rattle.id_recursion.proofs.StepLists.{masks_taken}
+use Rattle.id_recursion.proofs.GatheredFactors.{gathered_all, gathered_next, stopped_here, sets_all, set_at, set_in, sets_split, sets_more}
+use Rattle.id_recursion.proofs.gathering.factors.Goals as goal
+use Rattle.id_recursion.proofs.gathering.factors.Goals.{After-len}
+
+-- the set at hand is a district
+maximal : (c : After-len) → IsMaximalJoined (graph_of c.args.g.now) c.args.d.bits (get_or (take c.args.parts.now.count c.args.parts.now.sets) c.loop-c.c-index (record { bits = 0 })).bits
+maximal c =
+    let sets = c.args.parts.now.sets in
+    let n = c.args.parts.now.count in
+    let lt : c.loop-c.c-index < length (take n sets) = c.loop-c-test.true in
+    subst (IsMaximalJoined (graph_of c.args.g.now) c.args.d.bits) (set_at sets n c.loop-c.c-index lt) (c.requires.districts c.loop-c.c-index 0 (set_in sets n c.loop-c.c-index lt))
+
+pub factor-requires-clause-within : goal.factor-requires-clause-within
+factor-requires-clause-within c = λ v i. c.requires.within v ((maximal (goal.at.factor-requires-clause-within c).After-len).inside v i)
+
+pub factor-requires-clause-some : goal.factor-requires-clause-some
+factor-requires-clause-some c = (maximal (goal.at.factor-requires-clause-some c).After-len).some
+
+pub factor-requires-clause-joined : goal.factor-requires-clause-joined
+factor-requires-clause-joined c = (maximal (goal.at.factor-requires-clause-joined c).After-len).joined
+
+pub returns-in-Err : goal.returns-in-Err
+returns-in-Err c =
+    let sets = c.args.parts.now.sets in
+    let n = c.args.parts.now.count in
+    let lt : c.loop-c.c-index < length (take n sets) = c.loop-c-test.true in
+    let g = graph_of c.args.g.now in
+    let order = listed c.args.order.now in
+    let set : VSet = get_or (take n sets) c.loop-c.c-index (record { bits = 0 }) in
+    subst (IsStopOf g order _) (sym c.stop_for.ensures)
+    (subst (λ ts. IsStopOf g order ts (stop_for set c.in-Err.fault)) (sym (sets_split sets n c.loop-c.c-index lt))
+    (stopped_here g order (map (λ (s : VSet). s.bits) (take c.loop-c.c-index (take n sets))) c.loop-c.made.defs.items c.loop-c.made.lemmas.items c.loop-c.made.values.items c.loop-c.made.lists.items c.loop-c.invariant
+    set (map (λ (s : VSet). s.bits) (drop (c.loop-c.c-index + 1) (take n sets))) c.in-Err.fault c.in-Err.ensures.fault))
+
+pub loop-c-preserved : goal.loop-c-preserved
+loop-c-preserved c =
+    let sets = c.args.parts.now.sets in
+    let n = c.args.parts.now.count in
+    let lt : c.loop-c.c-index < length (take n sets) = c.loop-c-test.true in
+    gathered_next (graph_of c.args.g.now) (listed c.args.order.now) (map (λ (s : VSet). s.bits) (take c.loop-c.c-index (take n sets))) _ c.loop-c.made c.add.new.made _ c.len.result c.in-Ok.more
+    c.loop-c.invariant (sets_more sets n c.loop-c.c-index lt) (let e = c.len.ensures in let o = c.loop-c.made.defs.ok in omega (arith, e, o)) c.in-Ok.ensures.factor c.in-Ok.ensures.few c.in-Ok.ensures.paired c.in-Ok-add.ensures
+
+pub returns : goal.returns
+returns c =
+    let sets = c.args.parts.now.sets in
+    let n = c.args.parts.now.count in
+    let le : length (take n sets) ≤ c.loop-c.c-index = c.loop-c-test.false in
+    subst (λ ts. AreFactorsOf (graph_of c.args.g.now) (listed c.args.order.now) ts c.loop-c.made) (sets_all sets n c.loop-c.c-index le)
+    (gathered_all (graph_of c.args.g.now) (listed c.args.order.now) (map (λ (s : VSet). s.bits) (take c.loop-c.c-index (take n sets))) c.loop-c.made.defs.items c.loop-c.made.lemmas.items c.loop-c.made.values.items c.loop-c.made.lists.items
+    c.loop-c.invariant c.loop-c.made refl refl refl refl)

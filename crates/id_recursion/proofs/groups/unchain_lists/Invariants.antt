@@ -1,0 +1,12 @@
+use Rattle.std.proofs.Common.{◌≡◌, length, drop, map}
+use Rattle.mixed_graph.specs.declared.sets.VSet.{VSet}
+use Rattle.do_derivation.specs.View.{listed}
+use Rattle.identification.specs.Derivations.{unchain_lists}
+use Rattle.id_recursion.specs.Lists.{lists_onto}
+use Rattle.id_recursion.proofs.groups.unchain_lists.Given as goal
+
+abbrev pub invariant-loop-t : goal.invariant-loop-t
+invariant-loop-t l = record {
+  made : lists_onto l.lists.items (unchain_lists (map (λ (s : VSet). s.bits) (drop l.t-index l.t-items)) (listed l.chain)) ≡ unchain_lists (map (λ (s : VSet). s.bits) l.t-items) (listed l.chain);
+  counted : length l.lists.items ≡ l.t-index;
+}

@@ -1,0 +1,38 @@
+-- What the factors of the districts have to be, and where one stops.
+use Rattle.std.specs.Prelude.{ℕ, ◌≡◌, List, [], ◌∷◌, ◌++◌, length, map}
+use Rattle.mixed_graph.specs.Graphs.{MixedGraph}
+use Rattle.prob_expr.specs.View.{view, views}
+use Rattle.do_derivation.specs.View.{lemma_view}
+use Rattle.identification.specs.Procedure.{AreFactored, StopsAt}
+use Rattle.identification.specs.Derivations.{AreAllSteps}
+use Rattle.mixed_graph.specs.declared.sets.VSet.{VSet}
+use Rattle.district_factors.specs.declared.kinds.Factor.{Factor}
+use Rattle.district_factors.specs.declared.kinds.FactorFault.{FactorFault}
+use Rattle.district_factors.specs.declared.kinds.FactorFault.TheVariants as faults
+use Rattle.id_recursion.specs.Lists.{lists_view}
+use Rattle.id_recursion.specs.declared.kinds.Factors.{Factors}
+use Rattle.id_recursion.specs.declared.kinds.Stop.{Stop}
+use Rattle.id_recursion.specs.declared.kinds.Stop.TheVariants.{At, NoMemory}
+
+-- by this order of the vertices, the factors of these districts with their definitions, and the steps to them
+pub record AreFactorsOf (g : MixedGraph) (order : List ℕ) (districts : List ℕ) (f : Factors) : Type 0 where
+  pub formulas : AreFactored g order 0 districts (map view f.defs.items) (views f.values.items)
+  pub steps : AreAllSteps g order 0 districts (map lemma_view f.lemmas.items) (lists_view f.lists.items)
+  pub counted : length f.lists.items ≡ length districts
+
+-- the first district whose factor stops, and where
+abbrev pub IsStopOf : MixedGraph → (order : List ℕ) → (districts : List ℕ) → Stop → Type 0
+IsStopOf g order districts (At small big) = StopsAt g order 0 districts small.bits big.bits
+IsStopOf g order districts NoMemory = Unit {0}
+
+-- the factor of one more district behind the others
+pub record AreWithMore (old : Factors) (more : Factor) (new : Factors) : Type 0 where
+  pub defs : new.defs.items ≡ old.defs.items ++ more.defs.items
+  pub lemmas : new.lemmas.items ≡ old.lemmas.items ++ more.lemmas.items
+  pub values : new.values.items ≡ old.values.items ++ more.value ∷ []
+  pub lists : new.lists.items ≡ old.lists.items ++ more.steps ∷ []
+
+-- why there are no factors where that of c has this fault
+abbrev pub stop_for : VSet → FactorFault → Stop
+stop_for c (faults.Stopped big) = At c big
+stop_for c faults.NoMemory = NoMemory

@@ -1,0 +1,4 @@
+pub mod Answers
+pub mod Factored
+pub mod Hedged
+pub mod Lists

@@ -1,0 +1,18 @@
+//! Identification of effects: a formula for P(y | do(x)) from what is observed, or a hedge, which
+//! shows that there is none (Shpitser and Pearl 2006).
+#![tactic(auto)]
+
+mod expressions;
+mod gathering;
+mod groups;
+mod homes;
+mod identifying;
+mod kinds;
+mod mains;
+mod pushing;
+mod stops;
+#[cfg(test)]
+mod tests;
+
+pub use identifying::identify;
+pub use kinds::Answer;

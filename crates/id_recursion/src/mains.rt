@@ -1,0 +1,130 @@
+//! The steps of main, from P(y | do(x)) to the formula's main expression.
+
+ghost use Rattle.std.specs.Prelude.{◌≡◌, ℕ, ◌<◌, ◌≤◌, IfOk, OnOk, length, All};
+ghost use Rattle.mixed_graph.specs.Orders.{IsOrder};
+ghost use Rattle.mixed_graph.specs.Shown.{graph_of};
+ghost use Rattle.districts.specs.Linked.{AreDistricts};
+ghost use Rattle.districts.specs.Listed.{first_masks};
+ghost use Rattle.prob_expr.specs.Masks.{minus, all};
+ghost use Rattle.prob_expr.specs.Tree.{Trees};
+ghost use Rattle.prob_expr.specs.View.{formula_view};
+ghost use Rattle.do_derivation.specs.Plans.{Plans, no_plans};
+ghost use Rattle.do_derivation.specs.Shapes.{has_product};
+ghost use Rattle.do_derivation.specs.View.{steps_view, listed, derivation_view};
+ghost use Rattle.identification.specs.Procedure.{AreAncestorsIn};
+ghost use Rattle.identification.specs.Derivations.{unwrap_steps, district_steps, main_steps, IsComposedWith};
+ghost use Rattle.id_recursion.specs.Lists.{onto, lists_view};
+ghost use Rattle.id_recursion.specs.Factored.{AreFactorsOf};
+
+use crate::expressions::{has_product, product_of, sum_if};
+use crate::groups::{in_order, push_groups};
+use crate::homes::home_lists;
+use crate::kinds::Factors;
+use crate::pushing::{push_at, push_each, push_with};
+use districts::Districts;
+use do_derivation::{Derivation, Step};
+use mixed_graph::{Graph, Order, VSet};
+use prob_expr::Formula;
+use prob_expr::masks::{all, is_empty, minus};
+use std::alloc::{AllocError, Global};
+
+/// Adds the step that opens products, where a factor is one.
+fn push_unwrap(out: &mut Vec<Step>, opens: bool) -> Result<(), AllocError>
+    ensures { OnOk result ((fs : Trees) → has_product fs ≡ opens → steps_view out.new.items ≡ onto out.old.items (unwrap_steps fs)) }
+{
+    if !opens {
+        return Ok(());
+    }
+    out.push(Step::Unwrap)?;
+    Ok(())
+}
+
+/// The steps from the term of d to the product of the factors of its districts, which have these lists of steps.
+fn district_steps(
+    alloc: Global,
+    order: &Order,
+    d: VSet,
+    parts: &Districts,
+    lists: Vec<Vec<Step>>,
+    opens: bool,
+) -> Result<Vec<Step>, AllocError>
+    requires order { All (λ v. v < 64) (listed order.now) }
+    requires counted { length lists.items ≡ length (first_masks parts.now.sets parts.now.count) }
+    ensures { IfOk result (λ l. (fs : Trees) → has_product fs ≡ opens
+        → steps_view l.items ≡ district_steps (listed order.now) d.bits (first_masks parts.now.sets parts.now.count) (lists_view lists.items) fs) }
+{
+    let mut lists = lists;
+    if lists.len() < 2 {
+        let Some(list) = lists.pop() else {
+            return Ok(Vec::new(alloc));
+        };
+        return Ok(list);
+    }
+    let chain = in_order(order, d);
+    let mut out = Vec::new(alloc);
+    out.push(Step::Chain(chain))?;
+    push_each(alloc, &mut out, home_lists(alloc, order, d, parts)?)?;
+    push_groups(alloc, &mut out, order, &chain, parts)?;
+    push_each(alloc, &mut out, lists)?;
+    push_unwrap(&mut out, opens)?;
+    Ok(out)
+}
+
+/// The steps from P(y | do(x)) on, where `rest` are those from the term of d, the ancestors of y once x is left out.
+fn main_steps(
+    alloc: Global,
+    n: u32,
+    x: VSet,
+    y: VSet,
+    d: VSet,
+    rest: Vec<Step>,
+) -> Result<Vec<Step>, AllocError>
+    requires { n ≤ 64 }
+    ensures { IfOk result (λ l. steps_view l.items ≡ main_steps n x.bits y.bits d.bits (steps_view rest.items)) }
+{
+    let others = minus(minus(all(n), x), d);
+    let further = minus(d, y);
+    let mut rest = rest;
+    let mut out = Vec::new(alloc);
+    push_with(&mut out, others, Step::Rule3In(others))?;
+    if is_empty(further) {
+        out.append(&mut rest)?;
+        return Ok(out);
+    }
+    out.push(Step::Widen(further))?;
+    push_at(alloc, &mut out, 0, rest)?;
+    Ok(out)
+}
+
+/// The formula with its derivation, where d are the ancestors of y once x is left out, and these the factors of its districts.
+pub fn composed(
+    alloc: Global,
+    g: &Graph,
+    x: VSet,
+    y: VSet,
+    d: VSet,
+    order: &Order,
+    parts: &Districts,
+    made: Factors,
+) -> Result<(Formula, Derivation), AllocError>
+    requires order { IsOrder (graph_of g.now) order.now.list order.now.count }
+    requires ancestors { AreAncestorsIn (graph_of g.now) (minus (all g.now.n) x.bits) y.bits d.bits }
+    requires districts { AreDistricts (graph_of g.now) d.bits 0 (listed order.now) (first_masks parts.now.sets parts.now.count) }
+    requires factors { AreFactorsOf (graph_of g.now) (listed order.now) (first_masks parts.now.sets parts.now.count) made }
+    ensures { IfOk result (λ p. IsComposedWith (graph_of g.now) (listed order.now) x.bits y.bits (formula_view p.0) (derivation_view p.1)) }
+{
+    let opens = has_product(&made.values);
+    let rest = district_steps(alloc, order, d, parts, made.lists, opens)?;
+    let steps = main_steps(alloc, g.n, x, y, d, rest)?;
+    let body = product_of(alloc, made.values)?;
+    let main = sum_if(alloc, minus(d, y), body)?;
+    let formula = Formula {
+        defs: made.defs,
+        main,
+    };
+    let derivation = Derivation {
+        lemmas: made.lemmas,
+        main: Step::Then(steps),
+    };
+    Ok((formula, derivation))
+}

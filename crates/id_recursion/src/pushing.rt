@@ -1,0 +1,58 @@
+//! Lists of steps, built from the front.
+
+ghost use Rattle.std.specs.Prelude.{◌≡◌, ℕ, ◌≤◌, OnOk, length, cond};
+ghost use Rattle.prob_expr.specs.Masks.{is_empty};
+ghost use Rattle.do_derivation.specs.Plans.{Plans};
+ghost use Rattle.do_derivation.specs.View.{step_view, steps_view};
+ghost use Rattle.identification.specs.Derivations.{with_set, at_place, at_each};
+ghost use Rattle.id_recursion.specs.Lists.{onto, lists_view};
+
+use do_derivation::Step;
+use mixed_graph::VSet;
+use prob_expr::masks::is_empty;
+use std::alloc::{AllocError, Global};
+
+/// Adds the step, left out where its set is empty.
+pub fn push_with(out: &mut Vec<Step>, z: VSet, step: Step) -> Result<(), AllocError>
+    ensures { OnOk result ((rest : Plans) → onto out.new.items rest ≡ onto out.old.items (with_set z.bits (step_view step) rest)) }
+{
+    if is_empty(z) {
+        return Ok(());
+    }
+    out.push(step)?;
+    Ok(())
+}
+
+/// Adds the steps at child i, left out where there are none.
+pub fn push_at(
+    alloc: Global,
+    out: &mut Vec<Step>,
+    i: u32,
+    list: Vec<Step>,
+) -> Result<(), AllocError>
+    ensures { OnOk result ((rest : Plans) → onto out.new.items rest ≡ onto out.old.items (at_place i (steps_view list.items) rest)) }
+{
+    if list.is_empty() {
+        return Ok(());
+    }
+    let inner = Box::new(alloc, Step::Then(list))?;
+    out.push(Step::At(i, inner))?;
+    Ok(())
+}
+
+/// Adds each list at its child, the first at child 0.
+pub fn push_each(
+    alloc: Global,
+    out: &mut Vec<Step>,
+    lists: Vec<Vec<Step>>,
+) -> Result<(), AllocError>
+    requires { length lists.items ≤ 64 }
+    ensures { OnOk result ((rest : Plans) → onto out.new.items rest ≡ onto out.old.items (at_each 0 (lists_view lists.items) rest)) }
+{
+    let mut i = 0u32;
+    for list in lists {
+        push_at(alloc, out, i, list)?;
+        i += 1;
+    }
+    Ok(())
+}

@@ -1,0 +1,2 @@
+pub mod MinimalSets
+pub mod Moral

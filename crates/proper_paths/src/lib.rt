@@ -1,0 +1,8 @@
+//! Proper causal paths, and the graph without their first edges.
+#![tactic(auto)]
+
+mod proper;
+#[cfg(test)]
+mod tests;
+
+pub use proper::{back_door_graph, proper_causal};
