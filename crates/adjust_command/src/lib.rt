@@ -1,0 +1,8 @@
+//! The command `adjust`.
+#![tactic(auto)]
+
+mod query;
+mod reply;
+
+pub use query::Query;
+pub use reply::adjust_reply;
