@@ -9,9 +9,10 @@ use Rattle.replies.specs.declared.outcome.Reply.{Reply}
 use Rattle.replies.specs.declared.outcome.Outcome.{Outcome}
 use Rattle.replies.specs.declared.outcome.Outcome.TheVariants.{Yes, No, Graph, Second, Evaluation}
 use Rattle.replies.specs.Observed.{Holds}
-use Rattle.causal_cli.specs.Wishes.{Wish, graph, separate, rule, identify, check, second_of}
+use Rattle.causal_cli.specs.Wishes.{Wish, graph, separate, rule, identify, check, adjust, equivalent, second_of}
 use Rattle.causal_cli.specs.Answers.{HoldsAnswer, faulty, Defined, NeedsSecond, SecondAnswer, Continues, DefinedWith}
-use Rattle.causal_cli.specs.Pendings.{second_in, GivesSecond, IsPendingOn, GivesOn, IsPending, GivesFirst}
+use Rattle.equivalent_command.specs.Answers.{IsDirected}
+use Rattle.causal_cli.specs.Pendings.{second_in, GivesSecond, GivesComparison, IsAccepted, IsPendingOn, GivesOn, IsPending, GivesFirst}
 use Rattle.causal_cli.specs.declared.pending.Pending.{Pending}
 use Rattle.causal_cli.specs.declared.pending.Pending.TheVariants as pending
 use Rattle.causal_cli.specs.declared.answer.First.{First}
@@ -46,6 +47,10 @@ named_on (graph f p) g q is = absurd is
 named_on (separate f x y h) g q is = absurd is
 named_on (rule f r a b c d) g q is = absurd is
 named_on (identify f x y form) g q is = absurd is
+named_on (adjust f x y a) g q is = absurd is
+named_on (equivalent f h) g (pending.Equivalent kept second) is = ap (λ t. Some t) (sym is.0)
+named_on (check f c) g (pending.Equivalent kept second) is = absurd is
+named_on (equivalent f h) g (pending.Check kept certificate) is = absurd is
 
 pub named : (w : Wish) (bytes : List ℕ) (p : Pending) → IsPending w bytes p → second_of w ≡ Some (second_in p)
 named w bytes p is = named_on w is.0 p is.2
@@ -57,6 +62,10 @@ needed (graph f p) g q is = absurd is
 needed (separate f x y h) g q is = absurd is
 needed (rule f r a b c d) g q is = absurd is
 needed (identify f x y form) g q is = absurd is
+needed (adjust f x y a) g q is = absurd is
+needed (equivalent f h) g (pending.Equivalent kept second) is = is.2
+needed (check f c) g (pending.Equivalent kept second) is = absurd is
+needed (equivalent f h) g (pending.Check kept certificate) is = absurd is
 
 pub continues : (w : Wish) (bytes : List ℕ) (p : Pending) → IsPending w bytes p → Continues w bytes
 continues w bytes p is = (is.0, is.1, needed w is.0 p is.2)
@@ -69,7 +78,33 @@ answered (graph f p) g q other reply is gives = absurd is
 answered (separate f x y h) g q other reply is gives = absurd is
 answered (rule f r a b c d) g q other reply is gives = absurd is
 answered (identify f x y form) g q other reply is gives = absurd is
+answered (adjust f x y a) g q other reply is gives = absurd is
+answered (equivalent f h) g (pending.Equivalent kept second) other reply is gives = subst (λ k. SecondAnswer (equivalent f h) k other reply.outcome reply.text.items) is.1 gives
+answered (check f c) g (pending.Equivalent kept second) other reply is gives = absurd is
+answered (equivalent f h) g (pending.Check kept certificate) other reply is gives = absurd is
 
 pub defined_with : (w : Wish) (bytes : List ℕ) (p : Pending) (other : List ℕ) (reply : Reply) → IsPending w bytes p → GivesSecond p other reply →
     DefinedWith w bytes other reply.outcome reply.text.items
 defined_with w bytes p other reply is gives = (is.0, is.1, needed w is.0 p is.2, answered w is.0 p other reply is.2 gives)
+
+-- the graph that is kept is accepted, where something is left
+pub accepted : (w : Wish) (bytes : List ℕ) (p : Pending) → IsPending w bytes p → IsAccepted p
+accepted w bytes p is = accepted_on w is.0 p is.2
+  where
+    accepted_on : (w : Wish) (g : ReadGraph) (p : Pending) → IsPendingOn w g p → IsAccepted p
+    accepted_on (check f c) g (pending.Check kept certificate) is = tt
+    accepted_on (equivalent f h) g (pending.Equivalent kept second) is = subst IsDirected (sym is.1) is.2
+    accepted_on (check f c) g (pending.Equivalent kept second) is = absurd is
+    accepted_on (equivalent f h) g (pending.Check kept certificate) is = absurd is
+    accepted_on (graph f p) g q is = absurd is
+    accepted_on (separate f x y h) g q is = absurd is
+    accepted_on (rule f r a b c d) g q is = absurd is
+    accepted_on (identify f x y form) g q is = absurd is
+    accepted_on (adjust f x y a) g q is = absurd is
+
+-- what a comparison gives is what the wish gives
+pub compared : {E : Type 0} (f h : List ℕ) (g : ReadGraph) (r : Result First E) → IfOk r (GivesComparison g h) → IfOk r (GivesOn (equivalent f h) g)
+compared f h g (Err e) gives = tt
+compared f h g (Ok (first.Replied reply)) gives = gives
+compared f h g (Ok (first.Continues (pending.Equivalent kept second))) gives = gives
+compared f h g (Ok (first.Continues (pending.Check kept certificate))) gives = absurd gives

@@ -7,3 +7,4 @@ mod PathLemmas
 mod RuleSets
 mod WishLemmas
 mod Separations
+mod RangeLemmas

@@ -23,7 +23,9 @@ use Rattle.replies.specs.Lines.{open_text}
 use Rattle.replies.specs.Observed.{Names, observed_names, IsObservedGraph, Holds, IsTargetRefusal}
 use Rattle.identify_command.specs.Answers.{IdentifyAnswer}
 use Rattle.check_command.specs.Answers.{CheckAnswer}
-use Rattle.causal_cli.specs.Wishes.{Wish, graph, separate, rule, identify, check}
+use Rattle.adjust_command.specs.Answers.{AdjustAnswer}
+use Rattle.equivalent_command.specs.Answers.{IsDirected, IsFirstRefusal, EquivalentAnswer}
+use Rattle.causal_cli.specs.Wishes.{Wish, graph, separate, rule, identify, check, adjust, equivalent}
 use Rattle.causal_cli.specs.Lines.{separated_text, not_separated_text, rule_holds_text, rule_fails_text, size_line}
 use Rattle.causal_cli.specs.declared.rule.Rule.{Rule}
 use Rattle.causal_cli.specs.declared.rule.Rule.TheVariants.{One, Two, Three}
@@ -160,15 +162,19 @@ GraphAnswer (separate file x y given) g o text = (q : MixedGraph) × IsObservedG
 GraphAnswer (rule file r y done z given) g o text = (q : MixedGraph) × IsObservedGraph g q × RuleAnswer r q (rule_lists g y done z given) o text
 GraphAnswer (identify file x y form) g o text = IdentifyAnswer form g x y o text
 GraphAnswer (check file certificate) g o text = ⊥
+GraphAnswer (adjust file x y q) g o text = AdjustAnswer g x y q o text
+GraphAnswer (equivalent file second) g o text = IsFirstRefusal g o text
 
 -- the graph is accepted, and the second input is read
 abbrev pub NeedsSecond : Wish → ReadGraph → Type 0
 NeedsSecond (check file certificate) g = Unit {0}
+NeedsSecond (equivalent file second) g = IsDirected g
 NeedsSecond w g = ⊥
 
 -- the answer of a command on a graph that was read and the bytes of its second input
 abbrev pub SecondAnswer : Wish → ReadGraph → List ℕ → Outcome → List ℕ → Type 0
 SecondAnswer (check file certificate) g other o text = CheckAnswer g other o text
+SecondAnswer (equivalent file second) g other o text = EquivalentAnswer g other o text
 SecondAnswer w g other o text = ⊥
 
 -- the bytes are no graph: they are too many, or their text has a fault

@@ -6,3 +6,4 @@ pub mod Run
 pub mod Replies
 pub mod Endings
 pub mod Pendings
+pub mod Ranges

@@ -39,7 +39,7 @@ rule_fails_text r names x y z w open_line = codes "rule " ++ (digit_text r ++ (c
 
 -- words that have no form, with the commands that are built
 abbrev pub words_line : List ℕ
-words_line = line_of (codes "words not understood; commands are graph separate rule identify check")
+words_line = line_of (codes "words not understood; commands are graph separate rule identify check adjust equivalent")
 
 -- a graph text of more than 1,048,576 bytes
 abbrev pub size_line : List ℕ

@@ -1,10 +1,11 @@
 -- What the code's wishes stand for.
-use Rattle.std.specs.Prelude.{◌≡◌, Bool, Option, option_map}
+use Rattle.std.specs.Prelude.{ℕ, ◌≡◌, Bool, Option, option_map}
 use Rattle.word_forms.specs.Form.{Text}
 use Rattle.word_lists.specs.Lists.{IsList}
 use Rattle.word_lists.specs.Numbers.{IsNumber}
 use Rattle.word_lists.specs.Views.{names_in}
-use Rattle.causal_cli.specs.Wishes.{Wish, graph, separate, rule, identify, check, number_of, IsListed, IsListedOrEmpty, IsForm}
+use Rattle.adjust_command.specs.Queries.{query_of}
+use Rattle.causal_cli.specs.Wishes.{Wish, graph, separate, rule, identify, check, adjust, equivalent, number_of, IsListed, IsListedOrEmpty, IsForm, IsMost, IsQuery}
 use Rattle.causal_cli.specs.declared.wish.Wish.{Wish as CodeWish}
 use Rattle.causal_cli.specs.declared.wish.Wish.TheVariants as wish
 
@@ -15,6 +16,8 @@ wish_of (wish.Separate file x y given) = separate file.now (option_map names_in 
 wish_of (wish.Rule file r y done z given) = rule file.now r (names_in y) (names_in done) (names_in z) (names_in given)
 wish_of (wish.Identify file x y form) = identify file.now (option_map names_in x) (option_map names_in y) form
 wish_of (wish.Check file certificate) = check file.now certificate.now
+wish_of (wish.Adjust file x y a) = adjust file.now (option_map names_in x) (option_map names_in y) (query_of a.query)
+wish_of (wish.Equivalent file second) = equivalent file.now second.now
 
 -- the wish is a separation of this file, with the lists of these values
 abbrev pub IsSeparation : Text → Option Text → Option Text → Option Text → CodeWish → Type 0
@@ -38,3 +41,14 @@ IsIdentification file text_x text_y certificate latex w = ⊥
 abbrev pub IsCheckWish : (file certificate : Text) → CodeWish → Type 0
 IsCheckWish file certificate (wish.Check f c) = (f.now ≡ file) × (c.now ≡ certificate)
 IsCheckWish file certificate w = ⊥
+
+-- the wish is a comparison of this file with a second one
+abbrev pub IsEquivalenceWish : (file second : Text) → CodeWish → Type 0
+IsEquivalenceWish file second (wish.Equivalent f h) = (f.now ≡ file) × (h.now ≡ second)
+IsEquivalenceWish file second w = ⊥
+
+-- the wish is an adjustment on this file, with the lists of these values, and with what they ask for
+abbrev pub IsAdjustment : Text → (text_x text_y text_set : Option Text) → (back_door : Bool) → (text_most : Option Text) → CodeWish → Type 0
+IsAdjustment file text_x text_y text_set back_door text_most (wish.Adjust f x y a) = (f.now ≡ file) × IsListed text_x (option_map names_in x)
+    × IsListed text_y (option_map names_in y) × (most : ℕ) × IsMost text_most most × IsQuery text_set back_door most (query_of a.query)
+IsAdjustment file text_x text_y text_set back_door text_most w = ⊥

@@ -6,6 +6,7 @@ use Rattle.word_lists.specs.Numbers.{IsNumber}
 use Rattle.word_values.specs.Commands.{Asks}
 use Rattle.word_values.specs.Commands as asked
 use Rattle.replies.specs.Observed.{Names}
+use Rattle.adjust_command.specs.Queries.{Query, by_set, by_back_door, listing}
 use Rattle.identify_command.specs.declared.form.Form.{Form}
 use Rattle.identify_command.specs.declared.form.Form.TheVariants as form
 use Rattle.causal_cli.specs.declared.rule.Rule.{Rule}
@@ -13,13 +14,16 @@ use Rattle.causal_cli.specs.declared.rule.Rule.TheVariants.{One, Two, Three}
 
 -- a wish: `graph` of a file, projected or not; `separate` of a file, with the names of x, y and given where they are listed;
 -- `rule` of a file, with one of the three rules and the names of y, of what is done, of z, and of what is given;
--- `identify` of a file, with the names of x and y where they are listed, and the form of the answer; `check` of a file and a certificate
+-- `identify` of a file, with the names of x and y where they are listed, and the form of the answer; `check` of a file and a certificate;
+-- `adjust` of a file, with the names of x and y where they are listed, and what is asked; `equivalent` of two files
 pub data Wish : Type 0 where
   graph : Text → Bool → Wish
   separate : Text → Names → Names → Names → Wish
   rule : Text → Rule → (y done z given : List (List ℕ)) → Wish
   identify : Text → Names → Names → Form → Wish
   check : Text → Text → Wish
+  adjust : Text → Names → Names → Query → Wish
+  equivalent : Text → Text → Wish
 
 -- the file that a wish names
 abbrev pub file_of : Wish → Text
@@ -28,10 +32,13 @@ file_of (separate file x y given) = file
 file_of (rule file r y done z given) = file
 file_of (identify file x y form) = file
 file_of (check file certificate) = file
+file_of (adjust file x y q) = file
+file_of (equivalent file second) = file
 
 -- the second input that a wish names
 abbrev pub second_of : Wish → Option Text
 second_of (check file certificate) = Some certificate
+second_of (equivalent file second) = Some second
 second_of w = None
 
 -- the number of a rule
@@ -99,6 +106,37 @@ pub record WantsCheck (words : List Text) (file certificate : Text) : Type 0 whe
   pub asks : Asks words (asked.check file certificate)
   pub one_standard : file ≡ codes "-" → certificate ≡ codes "-" → ⊥
 
+-- the words ask for this: they have the form, and the two inputs aren't both standard input
+pub record WantsEquivalent (words : List Text) (file second : Text) : Type 0 where
+  pub asks : Asks words (asked.equivalent file second)
+  pub one_standard : file ≡ codes "-" → second ≡ codes "-" → ⊥
+
+-- the most sets of a listing: the number that is given, from 1 to 10,000, or else 100
+abbrev pub IsMost : Option Text → ℕ → Type 0
+IsMost None most = most ≡ 100
+IsMost (Some text) most = IsNumber text 1 10000 most
+
+-- what is asked: whether a set may be adjusted for, by one of two criteria, or the minimal sets; the back-door criterion needs a set
+abbrev pub IsQuery : Option Text → Bool → ℕ → Query → Type 0
+IsQuery (Some set) false most (by_set names) = IsList set names
+IsQuery (Some set) true most (by_back_door names) = IsList set names
+IsQuery None false most (listing number) = number ≡ most
+IsQuery set back_door most q = ⊥
+
+-- the words ask for this: they have the form, each value of a list is one, and the most sets are a number in its range
+pub record WantsAdjust (words : List Text) (file : Text) (x y : Names) (q : Query) : Type 0 where
+  pub text_x : Option Text
+  pub text_y : Option Text
+  pub text_set : Option Text
+  pub back_door : Bool
+  pub text_most : Option Text
+  pub most : ℕ
+  pub asks : Asks words (asked.adjust file text_x text_y text_set back_door text_most)
+  pub list_x : IsListed text_x x
+  pub list_y : IsListed text_y y
+  pub is_most : IsMost text_most most
+  pub is_query : IsQuery text_set back_door most q
+
 -- what the words want
 abbrev pub Wants : List Text → Wish → Type 0
 Wants words (graph file project) = Asks words (asked.graph file project)
@@ -106,3 +144,5 @@ Wants words (separate file x y given) = WantsSeparate words file x y given
 Wants words (rule file r y done z given) = WantsRule words file r y done z given
 Wants words (identify file x y form) = WantsIdentify words file x y form
 Wants words (check file certificate) = WantsCheck words file certificate
+Wants words (adjust file x y q) = WantsAdjust words file x y q
+Wants words (equivalent file second) = WantsEquivalent words file second

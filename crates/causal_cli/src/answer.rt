@@ -1,6 +1,6 @@
 ghost use Rattle.std.specs.Prelude.{◌≡◌, ◌≤◌, IfOk, OnOk, length, option_map};
 ghost use Rattle.fault_text.specs.Lines.{line_of, graph_fault_text};
-ghost use Rattle.causal_cli.specs.Pendings.{GivesOn, GivesFirst};
+ghost use Rattle.causal_cli.specs.Pendings.{GivesOn, GivesFirst, GivesComparison};
 ghost use Rattle.causal_cli.specs.WishViews.{wish_of};
 
 use crate::graph::graph_text;
@@ -8,7 +8,9 @@ use crate::pending::Pending;
 use crate::rule::apply_rule;
 use crate::separate::separate;
 use crate::wish::Wish;
+use adjust_command::adjust_reply;
 use dag_reader::{GraphFault, ReadGraph, read_graph};
+use equivalent_command::refuse_bidirected;
 use fault_text::graph_line;
 use identify_command::identify_reply;
 use replies::{Outcome, Reply};
@@ -66,6 +68,27 @@ fn answer_on<'a>(alloc: Global, wish: Wish<'a>, graph: ReadGraph) -> Result<Firs
             file: _,
             certificate,
         } => Ok(First::Continues(Pending::Check { graph, certificate })),
+        Wish::Adjust {
+            file: _,
+            x,
+            y,
+            asked,
+        } => Ok(First::Replied(adjust_reply(alloc, &graph, x, y, asked.query)?)),
+        Wish::Equivalent { file: _, second } => compare_with(alloc, graph, second),
+    }
+}
+
+/// What a comparison gives on its first graph.
+fn compare_with<'a>(
+    alloc: Global,
+    graph: ReadGraph,
+    second: &'a str,
+) -> Result<First<'a>, AllocError>
+    ensures { IfOk result (GivesComparison graph second.entry.now) }
+{
+    match refuse_bidirected(alloc, &graph)? {
+        Some(reply) => Ok(First::Replied(reply)),
+        None => Ok(First::Continues(Pending::Equivalent { graph, second })),
     }
 }
 

@@ -1,7 +1,8 @@
 ghost use Rattle.std.specs.Prelude.{◌≡◌, ◌≤◌, ◌<◌, ℕ, List, IfOk, length};
-ghost use Rattle.causal_cli.specs.Pendings.{limit_of, second_in, GivesSecond};
+ghost use Rattle.causal_cli.specs.Pendings.{limit_of, second_in, IsAccepted, GivesSecond};
 
 use check_command::{check_reply, long_certificate};
+use equivalent_command::{equivalent_reply, long_second_graph};
 use dag_reader::ReadGraph;
 use replies::Reply;
 use std::alloc::{AllocError, Global};
@@ -14,6 +15,11 @@ pub enum Pending<'a> {
         graph: ReadGraph,
         certificate: &'a str,
     },
+    /// Whether a second graph is equivalent.
+    Equivalent {
+        graph: ReadGraph,
+        second: &'a str,
+    },
 }
 
 impl<'a> Pending<'a> {
@@ -23,6 +29,7 @@ impl<'a> Pending<'a> {
     {
         match self {
             Pending::Check { certificate, .. } => certificate,
+            Pending::Equivalent { second, .. } => second,
         }
     }
 
@@ -33,17 +40,20 @@ impl<'a> Pending<'a> {
     {
         match self {
             Pending::Check { .. } => 67_108_864,
+            Pending::Equivalent { .. } => 1_048_576,
         }
     }
 }
 
 /// The reply on the bytes of the second input.
 pub fn second_reply(alloc: Global, pending: &Pending<'_>, other: &[u8]) -> Result<Reply, AllocError>
-    requires { length other.now ≤ limit_of pending.now }
+    requires limit { length other.now ≤ limit_of pending.now }
+    requires accepted { IsAccepted pending.now }
     ensures { IfOk result (GivesSecond pending.now other.now) }
 {
     match pending {
         Pending::Check { graph, .. } => check_reply(alloc, graph, other),
+        Pending::Equivalent { graph, .. } => equivalent_reply(alloc, graph, other),
     }
 }
 
@@ -53,5 +63,6 @@ pub fn long_reply(alloc: Global, pending: &Pending<'_>) -> Result<Reply, AllocEr
 {
     match pending {
         Pending::Check { graph, .. } => long_certificate(alloc, graph),
+        Pending::Equivalent { graph, .. } => long_second_graph(alloc, graph),
     }
 }

@@ -3,6 +3,7 @@ ghost use Rattle.causal_io.specs.Causes.{Rose};
 ghost use Rattle.causal_io.specs.Reading.{AnswersAll};
 ghost use Rattle.word_forms.specs.Views.{texts_of};
 ghost use Rattle.causal_cli.specs.Run.{Ended, Received};
+ghost use Rattle.causal_cli.specs.Pendings.{IsAccepted};
 ghost use Rattle.causal_cli.specs.Endings.{EndsAs, IsTooLong, Delivers, Proceeds, verdict_of, line_in};
 
 use crate::answer::{First, answer};
@@ -107,6 +108,7 @@ fn proceed<S: Shelf, O: Sink>(
     requires held { IfSome (S.held shelf.now file.now) (λ all. bytes.now ≡ all) }
     requires there { S.lacks shelf.now file.now ≡ false }
     requires small { length bytes.now ≤ 1048576 }
+    requires accepted { IsAccepted pending.now }
     ensures proceeds { Proceeds (S.held shelf.old) (S.lacks shelf.old) (S.faults shelf.old) (S.faults shelf.new)
         (record { before = O.written out.old; after = O.written out.new; faults = O.faults out.old; faults_after = O.faults out.new }) pending.now result }
     ensures holds { S.held shelf.new ≡ S.held shelf.old }

@@ -1,16 +1,21 @@
-ghost use Rattle.std.specs.Prelude.{ℕ, List, ◌≡◌, IfSome, IfNone, IfOk, IfErr, OnOk, IsErrOf, option_map, codes};
+ghost use Rattle.std.specs.Prelude.{ℕ, List, ◌≡◌, ◌≤◌, IfSome, IfNone, IfOk, IfErr, OnOk, IsErrOf, option_map, codes};
 ghost use Rattle.word_forms.specs.Views.{texts_of};
 ghost use Rattle.word_lists.specs.Lists.{IsList};
 ghost use Rattle.word_lists.specs.Numbers.{IsNumber};
 ghost use Rattle.word_lists.specs.Views.{names_in};
 ghost use Rattle.replies.specs.Observed.{Names};
+ghost use Rattle.adjust_command.specs.Queries.{query_of};
+ghost use Rattle.causal_cli.specs.Ranges.{HasRange};
+ghost use Rattle.adjust_command.specs.Queries as queries;
 ghost use Rattle.identify_command.specs.declared.form.Form.{Form};
-ghost use Rattle.causal_cli.specs.Wishes.{Wants, IsListed, IsListedOrEmpty, IsForm, number_of};
+ghost use Rattle.causal_cli.specs.Wishes.{Wants, IsListed, IsListedOrEmpty, IsForm, IsMost, IsQuery, number_of};
 ghost use Rattle.causal_cli.specs.Wishes as spec;
 ghost use Rattle.causal_cli.specs.declared.rule.Rule.{Rule};
-ghost use Rattle.causal_cli.specs.WishViews.{wish_of, IsSeparation, IsRuleWish, IsIdentification, IsCheckWish};
+ghost use Rattle.causal_cli.specs.WishViews.{wish_of, IsSeparation, IsRuleWish, IsIdentification, IsCheckWish, IsAdjustment, IsEquivalenceWish};
 
+use crate::adjustment::Adjustment;
 use crate::rule::Rule;
+use adjust_command::Query;
 use identify_command::Form;
 use std::alloc::{AllocError, Global};
 use word_lists::{read_list, read_number};
@@ -52,6 +57,18 @@ pub enum Wish<'a> {
         file: &'a str,
         certificate: &'a str,
     },
+    /// Which sets may be adjusted for, in the graph of the file.
+    Adjust {
+        file: &'a str,
+        x: Option<Vec<Vec<u8>>>,
+        y: Option<Vec<Vec<u8>>>,
+        asked: Adjustment,
+    },
+    /// Whether a second graph is equivalent to that of the file.
+    Equivalent {
+        file: &'a str,
+        second: &'a str,
+    },
 }
 
 impl<'a> Wish<'a> {
@@ -68,6 +85,8 @@ impl<'a> Wish<'a> {
             Wish::Rule { file, .. } => file,
             Wish::Identify { file, .. } => file,
             Wish::Check { file, .. } => file,
+            Wish::Adjust { file, .. } => file,
+            Wish::Equivalent { file, .. } => file,
         }
     }
 }
@@ -113,9 +132,20 @@ pub fn read_wish<'a>(alloc: Global, words: &'a [String]) -> Result<Wish<'a>, Wor
             ),
         ) => identification(alloc, file, x, y, certificate, latex),
         Ok(Some(Request::Check { file, certificate })) => certificate_wish(file, certificate),
-        Ok(Some(Request::Adjust { .. })) => Err(WordsFault::NotUnderstood),
+        Ok(
+            Some(
+                Request::Adjust {
+                    file,
+                    x,
+                    y,
+                    set,
+                    back_door,
+                    most,
+                },
+            ),
+        ) => adjustment_wish(alloc, file, x, y, set, back_door, most),
+        Ok(Some(Request::Equivalent { file, second })) => equivalence(file, second),
         Ok(Some(Request::Evaluate { .. })) => Err(WordsFault::NotUnderstood),
-        Ok(Some(Request::Equivalent { .. })) => Err(WordsFault::NotUnderstood),
         Ok(Some(Request::Survey { .. })) => Err(WordsFault::NotUnderstood),
         Ok(None) => Err(WordsFault::NotUnderstood),
         Err(_) => Err(WordsFault::NoMemory),
@@ -200,6 +230,98 @@ fn certificate_wish<'a>(file: &'a str, certificate: &'a str) -> Result<Wish<'a>,
         return Err(WordsFault::NotUnderstood);
     }
     Ok(Wish::Check { file, certificate })
+}
+
+/// A comparison of two graphs, where they aren't both standard input.
+fn equivalence<'a>(file: &'a str, second: &'a str) -> Result<Wish<'a>, WordsFault>
+    ensures ok { IfOk result (IsEquivalenceWish file.entry.now second.entry.now) }
+    ensures one { OnOk result (file.entry.now ≡ codes "-" → second.entry.now ≡ codes "-" → ⊥) }
+    ensures both { IsErrOf result WordsFault.NotUnderstood → (file.entry.now ≡ codes "-") × (second.entry.now ≡ codes "-") }
+    ensures fault { IfErr result (λ e. e ≡ WordsFault.NotUnderstood) }
+{
+    if file == "-" && second == "-" {
+        return Err(WordsFault::NotUnderstood);
+    }
+    Ok(Wish::Equivalent { file, second })
+}
+
+/// An adjustment, where each value of a list is one, the number is in its range and the back-door criterion has a set.
+fn adjustment_wish<'a>(
+    alloc: Global,
+    file: &'a str,
+    x: Option<&str>,
+    y: Option<&str>,
+    set: Option<&str>,
+    back_door: bool,
+    most: Option<&str>,
+) -> Result<Wish<'a>, WordsFault>
+    ensures ok { IfOk result (IsAdjustment file.entry.now (option_map (λ s. s.now) x.entry) (option_map (λ s. s.now) y.entry) (option_map (λ s. s.now) set.entry) back_door
+        (option_map (λ s. s.now) most.entry)) }
+    ensures none { IsErrOf result WordsFault.NotUnderstood → (a b : Names) → (number : ℕ) → (q : queries.Query) → IsListed (option_map (λ s. s.now) x.entry) a
+        → IsListed (option_map (λ s. s.now) y.entry) b → IsMost (option_map (λ s. s.now) most.entry) number
+        → IsQuery (option_map (λ s. s.now) set.entry) back_door number q → ⊥ }
+{
+    let Some(most) = read_most(most) else {
+        return Err(WordsFault::NotUnderstood);
+    };
+    let query = match read_query(alloc, set, back_door, most) {
+        Ok(query) => query,
+        Err(fault) => return Err(fault),
+    };
+    let x = match read_option(alloc, x) {
+        Ok(names) => names,
+        Err(fault) => return Err(fault),
+    };
+    let y = match read_option(alloc, y) {
+        Ok(names) => names,
+        Err(fault) => return Err(fault),
+    };
+    let asked = Adjustment { query };
+    Ok(Wish::Adjust { file, x, y, asked })
+}
+
+/// The most sets of a listing, where the number is in its range; 100 where none is given.
+fn read_most(most: Option<&str>) -> Option<u32>
+    ensures some { IfSome result (λ k. IsMost (option_map (λ s. s.now) most.entry) k) }
+    ensures range { IfSome result (λ k. (1 ≤ k) × (k ≤ 10000)) }
+    ensures none { IfNone result ((number : ℕ) → IsMost (option_map (λ s. s.now) most.entry) number → ⊥) }
+{
+    match most {
+        None => Some(100),
+        Some(text) => match read_number(text, 1, 10_000) {
+            Some(number) => Some(number as u32),
+            None => None,
+        },
+    }
+}
+
+/// What an adjustment asks for: a set by one of the two criteria, or a listing.
+#[tactic(auto, using(crate::proofs::RangeLemmas::range_of_listing, crate::proofs::RangeLemmas::range_of_set, crate::proofs::RangeLemmas::range_of_back_door))]
+fn read_query(
+    alloc: Global,
+    set: Option<&str>,
+    back_door: bool,
+    most: u32,
+) -> Result<Query, WordsFault>
+    requires range { (1 ≤ most) × (most ≤ 10000) }
+    ensures ok { IfOk result (λ q. IsQuery (option_map (λ s. s.now) set.entry) back_door most (query_of q)) }
+    ensures range { IfOk result (λ q. HasRange (query_of q)) }
+    ensures none { IsErrOf result WordsFault.NotUnderstood → (q : queries.Query) → IsQuery (option_map (λ s. s.now) set.entry) back_door most q → ⊥ }
+{
+    let Some(set) = set else {
+        if back_door {
+            return Err(WordsFault::NotUnderstood);
+        }
+        return Ok(Query::List(most));
+    };
+    let names = match read_names(alloc, set) {
+        Ok(names) => names,
+        Err(fault) => return Err(fault),
+    };
+    if back_door {
+        return Ok(Query::BackDoor(names));
+    }
+    Ok(Query::Set(names))
 }
 
 /// The names that the value of an option lists, where it is given.

@@ -1,6 +1,6 @@
 use Rattle.std.proofs.Common.{refl}
 use Rattle.word_forms.specs.Views.{texts_of}
-use Rattle.causal_cli.proofs.WishLemmas.{no_separation, no_rule, no_identification, no_check, no_form, not_built}
+use Rattle.causal_cli.proofs.WishLemmas.{no_separation, no_rule, no_identification, no_check, no_adjustment, no_equivalence, no_form, not_built}
 use Rattle.causal_cli.proofs.wish.read_wish.Goals as goal
 
 pub returns-in-Ok-Some-Separate-clause-none : goal.returns-in-Ok-Some-Separate-clause-none
@@ -27,22 +27,23 @@ returns-in-Ok-Some-Check-clause-none c = λ e.
     let both = c.certificate_wish.ensures.both e in
     no_check (texts_of c.args.words.now) c.in-Ok-Some-Check.file.now c.in-Ok-Some-Check.certificate.now only both.0 both.1
 
-pub returns-in-Ok-Some-Adjust-clause-none : goal.returns-in-Ok-Some-Adjust-clause-none
-returns-in-Ok-Some-Adjust-clause-none c = λ e.
-    let only = rw (c.in-Ok-Some-Adjust.field-0-is, c.in-Ok-Some-Adjust.field-0-0-is) at c.in-Ok-Some-Adjust.ensures.only in
-    not_built (texts_of c.args.words.now) _ only refl
-
 pub returns-in-Ok-Some-Evaluate-clause-none : goal.returns-in-Ok-Some-Evaluate-clause-none
 returns-in-Ok-Some-Evaluate-clause-none c = λ e.
     let only = rw (c.in-Ok-Some-Evaluate.field-0-is, c.in-Ok-Some-Evaluate.field-0-0-is) at c.in-Ok-Some-Evaluate.ensures.only in
-    not_built (texts_of c.args.words.now) _ only refl
-
-pub returns-in-Ok-Some-Equivalent-clause-none : goal.returns-in-Ok-Some-Equivalent-clause-none
-returns-in-Ok-Some-Equivalent-clause-none c = λ e.
-    let only = rw (c.in-Ok-Some-Equivalent.field-0-is, c.in-Ok-Some-Equivalent.field-0-0-is) at c.in-Ok-Some-Equivalent.ensures.only in
     not_built (texts_of c.args.words.now) _ only refl
 
 pub returns-in-Ok-Some-Survey-clause-none : goal.returns-in-Ok-Some-Survey-clause-none
 returns-in-Ok-Some-Survey-clause-none c = λ e.
     let only = rw (c.in-Ok-Some-Survey.field-0-is, c.in-Ok-Some-Survey.field-0-0-is) at c.in-Ok-Some-Survey.ensures.only in
     not_built (texts_of c.args.words.now) _ only refl
+
+pub returns-in-Ok-Some-Adjust-clause-none : goal.returns-in-Ok-Some-Adjust-clause-none
+returns-in-Ok-Some-Adjust-clause-none c = λ e.
+    let only = rw (c.in-Ok-Some-Adjust.field-0-is, c.in-Ok-Some-Adjust.field-0-0-is) at c.in-Ok-Some-Adjust.ensures.only in
+    no_adjustment (texts_of c.args.words.now) c.in-Ok-Some-Adjust.file.now _ _ _ _ _ only (c.adjustment_wish.ensures.none e)
+
+pub returns-in-Ok-Some-Equivalent-clause-none : goal.returns-in-Ok-Some-Equivalent-clause-none
+returns-in-Ok-Some-Equivalent-clause-none c = λ e.
+    let only = rw (c.in-Ok-Some-Equivalent.field-0-is, c.in-Ok-Some-Equivalent.field-0-0-is) at c.in-Ok-Some-Equivalent.ensures.only in
+    let both = c.equivalence.ensures.both e in
+    no_equivalence (texts_of c.args.words.now) c.in-Ok-Some-Equivalent.file.now c.in-Ok-Some-Equivalent.second.now only both.0 both.1

@@ -1,4 +1,4 @@
-use Rattle.std.proofs.Common.{◌≡◌, length, sym, ap, ◌∙◌, arith}
+use Rattle.std.proofs.Common.{◌≡◌, length, ap, ◌∙◌, arith}
 use Rattle.prob_expr.proofs.Views.{view-Product}
 use Rattle.prob_expr.specs.Tree.{product}
 use Rattle.id_recursion.proofs.StepLists.{flat_is}

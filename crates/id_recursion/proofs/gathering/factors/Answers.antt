@@ -1,10 +1,9 @@
-use Rattle.std.proofs.Common.{◌≡◌, ◌<◌, ◌≤◌, List, get_or, take, drop, ◌+◌, map, length, refl, sym, ap, subst, ◌∙◌, arith}
+use Rattle.std.proofs.Common.{◌<◌, ◌≤◌, get_or, take, drop, ◌+◌, map, length, refl, sym, subst, arith}
 use Rattle.mixed_graph.specs.Shown.{graph_of}
 use Rattle.mixed_graph.specs.declared.sets.VSet.{VSet}
 use Rattle.districts.specs.Linked.{IsMaximalJoined}
 use Rattle.do_derivation.specs.View.{listed}
 use Rattle.id_recursion.specs.Factored.{AreFactorsOf, IsStopOf, stop_for}
-use Rattle.id_recursion.proofs.StepLists.{masks_taken}
 use Rattle.id_recursion.proofs.GatheredFactors.{gathered_all, gathered_next, stopped_here, sets_all, set_at, set_in, sets_split, sets_more}
 use Rattle.id_recursion.proofs.gathering.factors.Goals as goal
 use Rattle.id_recursion.proofs.gathering.factors.Goals.{After-len}

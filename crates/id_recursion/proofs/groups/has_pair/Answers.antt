@@ -1,8 +1,8 @@
-use Rattle.std.proofs.Common.{◌≡◌, true, List, take, map, get_or, refl, sym, ap, ◌∙◌, arith}
+use Rattle.std.proofs.Common.{List, take, map, refl, sym, ap, ◌∙◌, arith}
 use Rattle.std.proofs.lemmas.List.{at_drop_more, at_drop_all}
 use Rattle.mixed_graph.specs.declared.sets.VSet.{VSet}
 use Rattle.do_derivation.specs.View.{listed}
-use Rattle.identification.specs.Derivations.{in_order, two_or_more, has_pair}
+use Rattle.identification.specs.Derivations.{has_pair}
 use Rattle.id_recursion.proofs.StepLists.{masks_taken}
 use Rattle.id_recursion.proofs.groups.has_pair.Goals as goal
 

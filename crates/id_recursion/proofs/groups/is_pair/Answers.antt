@@ -1,4 +1,4 @@
-use Rattle.std.proofs.Common.{leb, length, sym, ap, ◌∙◌}
+use Rattle.std.proofs.Common.{leb, sym, ap, ◌∙◌}
 use Rattle.do_derivation.specs.View.{listed}
 use Rattle.identification.specs.Derivations.{two_or_more}
 use Rattle.id_recursion.proofs.StepLists.{two_from}

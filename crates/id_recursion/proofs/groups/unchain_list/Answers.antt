@@ -1,5 +1,5 @@
 use Rattle.std.proofs.Common.{◌≡◌, true, false, cond, [], ◌∷◌, ◌++◌, sym, ap, ◌∙◌, arith}
-use Rattle.do_derivation.specs.Plans.{Move, Plan, no_plans, plan}
+use Rattle.do_derivation.specs.Plans.{Move, Plan, no_plans}
 use Rattle.do_derivation.specs.View.{listed, steps_view}
 use Rattle.do_derivation.specs.declared.steps.Step.{Unchain}
 use Rattle.do_derivation.proofs.StepViews.{step-Unchain}

@@ -1,4 +1,4 @@
-use Rattle.std.proofs.Common.{◌≡◌, true, List, take, map, refl, sym, ap, ◌∙◌, arith}
+use Rattle.std.proofs.Common.{List, take, map, refl, sym, ap, ◌∙◌, arith}
 use Rattle.std.proofs.lemmas.List.{at_drop_more, at_drop_all}
 use Rattle.mixed_graph.specs.declared.sets.VSet.{VSet}
 use Rattle.identification.specs.Derivations.{home}

@@ -1,9 +1,9 @@
-use Rattle.std.proofs.Common.{◌≡◌, sym, ap, ◌∙◌}
+use Rattle.std.proofs.Common.{sym, ap, ◌∙◌}
 use Rattle.districts.specs.Listed.{first_masks}
 use Rattle.prob_expr.specs.Masks.{minus}
 use Rattle.prob_expr.specs.View.{view, views}
 use Rattle.do_derivation.specs.Plans.{Plan}
-use Rattle.identification.specs.Procedure.{sum_if, product_of}
+use Rattle.identification.specs.Procedure.{sum_if}
 use Rattle.identification.specs.Derivations.{main_steps}
 use Rattle.id_recursion.specs.Lists.{lists_view}
 use Rattle.id_recursion.proofs.StepLists.{step-Then}

@@ -1,4 +1,4 @@
-use Rattle.std.proofs.Common.{◌≡◌, ◌<◌, ◌≤◌, All, List, length, subst, sym, ap, ◌∙◌, arith}
+use Rattle.std.proofs.Common.{◌<◌, ◌≤◌, All, length, subst, sym, ap, ◌∙◌, arith}
 use Rattle.districts.specs.Listed.{first_masks}
 use Rattle.do_derivation.specs.Plans.{Move, Plan, plan}
 use Rattle.do_derivation.specs.View.{listed}

@@ -1,6 +1,5 @@
 use Rattle.std.proofs.Common.{◌≡◌, true, false, cond, sym, ap, ◌∙◌, arith}
 use Rattle.do_derivation.specs.Plans.{Move, Plan, no_plans, plan}
-use Rattle.do_derivation.specs.Shapes.{has_product}
 use Rattle.do_derivation.specs.declared.steps.Step.{Unwrap}
 use Rattle.do_derivation.proofs.StepViews.{step-Unwrap}
 use Rattle.identification.specs.Derivations.{single}

@@ -1,4 +1,4 @@
-use Rattle.std.proofs.Common.{◌≡◌, ◌+◌, ◌≤◌, [], ◌∷◌, length, length-append, sym, ap, ◌∙◌, rules, arith}
+use Rattle.std.proofs.Common.{[], ◌∷◌, length-append, sym, ap, ◌∙◌, arith}
 use Rattle.do_derivation.specs.View.{steps_view}
 use Rattle.identification.specs.Derivations.{at_place, at_each}
 use Rattle.id_recursion.specs.Lists.{onto, lists_view}

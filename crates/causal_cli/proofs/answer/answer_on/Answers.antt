@@ -1,0 +1,6 @@
+use Rattle.adjust_command.specs.Queries.{query_of}
+use Rattle.causal_cli.proofs.RangeLemmas.{in_range}
+use Rattle.causal_cli.proofs.answer.answer_on.Goals as goal
+
+pub adjust_reply-requires : goal.adjust_reply-requires
+adjust_reply-requires c = record { most = in_range (query_of c.in-Adjust.asked.query) c.in-Adjust.asked.range }
