@@ -1,3 +1,4 @@
 pub mod Faults
+pub mod HedgeReading
 pub mod Plain
 pub mod Reading

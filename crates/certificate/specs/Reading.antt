@@ -1,10 +1,10 @@
 -- Reading a certificate: the keys in their order, each with what it has to be, and the first fault.
-use Rattle.std.specs.Prelude.{◌≡◌, ℕ, ◌+◌, ◌^◌, ◌==◌, Bool, true, false, List, [], ◌∷◌, ◌++◌, length, Option, Some, None, is_ok, is_none, option_and_then, Result, Ok, Err, if◌then◌else◌, codes}
+use Rattle.std.specs.Prelude.{ℕ, ◌^◌, ◌==◌, Bool, false, List, [], ◌∷◌, ◌++◌, length, Option, Some, None, is_ok, option_and_then, Result, Ok, Err, if◌then◌else◌, codes}
 use Rattle.std.specs.Result.{result_ok}
 use Rattle.std.specs.Str.{bytes_eq, is_utf8}
 use Rattle.prob_expr.specs.Tree.{Tree, PlainTarget, PlainFormula}
 use Rattle.prob_expr.specs.Check.{check_tree, cap}
-use Rattle.do_derivation.specs.Plans.{Plan, PlainLemma, PlainDerivation}
+use Rattle.do_derivation.specs.Plans.{PlainLemma, PlainDerivation}
 use Rattle.expr_text.specs.Read.{expr_of}
 use Rattle.serde_json.specs.Data.{Data, Items, no_items, item, Members}
 use Rattle.serde_json.specs.Events.{members_len}
@@ -19,7 +19,8 @@ use Rattle.certificate.specs.declared.fault.Key.TheVariants as keys
 use Rattle.certificate.specs.declared.fault.CertFault.{CertFault}
 use Rattle.certificate.specs.declared.fault.CertFault.TheVariants.{NotJson, Member, Version}
 use Rattle.certificate.specs.Faults.{◌>>=◌, at_key, or_fault}
-use Rattle.certificate.specs.Plain.{PlainCertificate, formula}
+use Rattle.certificate.specs.Plain.{PlainHedge, PlainCertificate, formula, hedge}
+use Rattle.certificate.specs.HedgeReading.{choice_in, links_in}
 
 -- the member of a key: that it is there, and what f reads from it
 abbrev pub member_by : {A : Type 0} → Key → List ℕ → (Data → Result A ValueFault) → Data → Result A CertFault
@@ -116,18 +117,38 @@ formula_certificate_in names d = do
   p ← derivation_in names d
   if member_count (as_object d) == 8 then Ok (formula t f p) else Err (Member keys.Extra)
 
--- the text is the word `formula`
-abbrev pub is_word : Option (List ℕ) → Bool
-is_word (Some text) = bytes_eq text (codes "formula")
-is_word None = false
+-- a hedge: its sets, then its choice and its links
+unfoldable pub hedge_in : List (List ℕ) → Data → Result PlainHedge CertFault
+hedge_in names d = do
+  big ← member_by keys.Big (codes "big") (set_in names 0) d
+  small ← member_by keys.Small (codes "small") (set_in names 0) d
+  roots ← member_by keys.Roots (codes "roots") (set_in names 0) d
+  choice ← member_by keys.Choice (codes "choice") (choice_in names) d
+  links ← member_by keys.Links (codes "links") (links_in names) d
+  Ok (record { big = big; small = small; roots = roots; choice = choice; links = links })
 
--- whether the answer is the word `formula`
-abbrev pub is_formula : Data → Bool
-is_formula d = is_word (option_and_then as_str (get (codes "answer") d))
+-- the certificate of a hedge: its nine keys, and no further one
+unfoldable pub hedge_certificate_in : List (List ℕ) → Data → Result PlainCertificate CertFault
+hedge_certificate_in names d = do
+  t ← target_in names d
+  h ← hedge_in names d
+  if member_count (as_object d) == 9 then Ok (hedge t h) else Err (Member keys.Extra)
 
--- version 1
+-- the text is the word
+abbrev pub is_word : List ℕ → Option (List ℕ) → Bool
+is_word word (Some text) = bytes_eq text word
+is_word word None = false
+
+-- whether the answer is the word
+abbrev pub is_answer : List ℕ → Data → Bool
+is_answer word d = is_word word (option_and_then as_str (get (codes "answer") d))
+
+-- version 1: the answer says which certificate it is
 abbrev pub first_version_in : List (List ℕ) → Data → Result PlainCertificate CertFault
-first_version_in names d = if is_formula d then formula_certificate_in names d else Err (Member keys.Answer)
+first_version_in names d =
+    if is_answer (codes "formula") d then formula_certificate_in names d
+    else (if is_answer (codes "hedge") d then hedge_certificate_in names d
+    else Err (Member keys.Answer))
 
 -- a value: its version is asked first
 unfoldable pub value_certificate : List (List ℕ) → Data → Result PlainCertificate CertFault

@@ -3,9 +3,10 @@ ghost use Rattle.serde_json.specs.View.{view as data_view, items_view};
 ghost use Rattle.prob_expr.specs.Check.{check_tree, cap};
 ghost use Rattle.prob_expr.specs.View.{view};
 ghost use Rattle.do_derivation.specs.View.{lemma_view};
-ghost use Rattle.step_json.specs.Reading.{Gives, each, is_end};
+ghost use Rattle.step_json.specs.Reading.{Gives, each};
 ghost use Rattle.certificate.specs.Reading.{expr_in, sound, main_in, def_in, more_defs, defs_in, lemma_of, lemma_items, lemma_in, lemmas_in};
 
+use crate::sizes::is_end;
 use do_derivation::Lemma;
 use expr_text::{TextFault, read_expr};
 use mixed_graph::{Names, VSet};
@@ -85,14 +86,6 @@ pub fn defs_in(alloc: Global, names: &Names, d: &Value) -> Result<Vec<Expr>, Val
         Some(ds) => more_defs(alloc, names, ds.as_slice()),
         None => Err(ValueFault::Form),
     }
-}
-
-// No item more.
-#[tactic(auto, using(crate::proofs::Texts::end_is))]
-fn is_end(ds: &[Value]) -> bool
-    ensures { result ≡ is_end (items_view ds.now) }
-{
-    ds.len() == 0
 }
 
 // The step of a lemma, and nothing else.

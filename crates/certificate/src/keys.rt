@@ -1,17 +1,21 @@
 ghost use Rattle.std.specs.Prelude.{◌≡◌, ◌==◌, codes, map, option_and_then};
 ghost use Rattle.std.specs.Str.{bytes_eq};
 ghost use Rattle.serde_json.specs.View.{view as data_view};
-ghost use Rattle.serde_json.specs.Find.{as_object, get};
+ghost use Rattle.serde_json.specs.Find.{get};
 ghost use Rattle.prob_expr.specs.View.{view, formula_view, target_view};
 ghost use Rattle.do_derivation.specs.View.{derivation_view, step_view, lemma_view};
 ghost use Rattle.step_json.specs.Reading.{set_in, filled_set_in, step_in};
 ghost use Rattle.certificate.specs.Faults.{Gives, at_key};
 ghost use Rattle.certificate.specs.declared.fault.Key.TheVariants as keys;
-ghost use Rattle.certificate.specs.Reading.{member_by, main_in, defs_in, lemmas_in, version_in, target_in, whole, formula_in, derivation_in, member_count, is_formula, is_word};
+ghost use Rattle.certificate.specs.Plain.{hedge_view, links_view};
+ghost use Rattle.certificate.specs.HedgeReading.{choice_in, links_in};
+ghost use Rattle.certificate.specs.Reading.{member_by, main_in, defs_in, lemmas_in, version_in, target_in, whole, formula_in, derivation_in, hedge_in, is_answer};
 
 use crate::fault::{CertFault, Key, fault_at};
 use crate::formulas::{defs_in, lemmas_in, main_in};
+use crate::hedges::{choice_in, links_in};
 use do_derivation::{Derivation, Lemma, Step};
+use hedge::{Choice, Hedge, Links};
 use mixed_graph::{Names, VSet};
 use prob_expr::{Expr, Formula, Target, check_expr};
 use serde_json::Value;
@@ -140,32 +144,85 @@ pub fn derivation_in(alloc: Global, names: &Names, d: &Value) -> Result<Derivati
     Ok(Derivation { lemmas, main })
 }
 
-/// The number of members of an object.
-#[tactic(auto, using(crate::proofs::Texts::count_is))]
-pub fn member_count(d: &Value) -> usize
-    ensures { result ≡ member_count (as_object (data_view d.now)) }
+fn big_in(alloc: Global, names: &Names, d: &Value) -> Result<VSet, CertFault>
+    ensures { Gives (λ s. s.bits) result (member_by keys.Big (codes "big") (set_in names.now 0) (data_view d.now)) }
 {
-    match d.as_object() {
-        Some(members) => members.len(),
-        None => 0,
+    match d.get("big") {
+        Some(value) => at_key(Key::Big, read_set(alloc, names, VSet { bits: 0 }, value)),
+        None => Err(CertFault::Member(Key::Big)),
     }
 }
 
-fn is_word(text: &[u8]) -> bool
-    ensures { result ≡ bytes_eq text.now (codes "formula") }
+fn small_in(alloc: Global, names: &Names, d: &Value) -> Result<VSet, CertFault>
+    ensures { Gives (λ s. s.bits) result (member_by keys.Small (codes "small") (set_in names.now 0) (data_view d.now)) }
 {
-    text == b"formula".as_slice()
+    match d.get("small") {
+        Some(value) => at_key(Key::Small, read_set(alloc, names, VSet { bits: 0 }, value)),
+        None => Err(CertFault::Member(Key::Small)),
+    }
 }
 
-/// Whether the answer is the word `formula`.
-pub fn is_formula(d: &Value) -> bool
-    ensures { result ≡ is_formula (data_view d.now) }
+fn roots_in(alloc: Global, names: &Names, d: &Value) -> Result<VSet, CertFault>
+    ensures { Gives (λ s. s.bits) result (member_by keys.Roots (codes "roots") (set_in names.now 0) (data_view d.now)) }
+{
+    match d.get("roots") {
+        Some(value) => at_key(Key::Roots, read_set(alloc, names, VSet { bits: 0 }, value)),
+        None => Err(CertFault::Member(Key::Roots)),
+    }
+}
+
+fn choices_in(alloc: Global, names: &Names, d: &Value) -> Result<Choice, CertFault>
+    ensures { Gives (λ c. c.next) result (member_by keys.Choice (codes "choice") (choice_in names.now) (data_view d.now)) }
+{
+    match d.get("choice") {
+        Some(value) => at_key(Key::Choice, choice_in(alloc, names, value)),
+        None => Err(CertFault::Member(Key::Choice)),
+    }
+}
+
+fn link_list_in(alloc: Global, names: &Names, d: &Value) -> Result<Links, CertFault>
+    ensures { Gives links_view result (member_by keys.Links (codes "links") (links_in names.now) (data_view d.now)) }
+{
+    match d.get("links") {
+        Some(value) => at_key(Key::Links, links_in(alloc, names, value)),
+        None => Err(CertFault::Member(Key::Links)),
+    }
+}
+
+/// A hedge: its sets, then its choice and its links.
+#[tactic(auto, unfolding(crate::specs::Reading::hedge_in))]
+pub fn hedge_in(alloc: Global, names: &Names, d: &Value) -> Result<Hedge, CertFault>
+    ensures { Gives hedge_view result (hedge_in names.now (data_view d.now)) }
+{
+    let big = big_in(alloc, names, d)?;
+    let small = small_in(alloc, names, d)?;
+    let roots = roots_in(alloc, names, d)?;
+    let choice = choices_in(alloc, names, d)?;
+    let links = link_list_in(alloc, names, d)?;
+    Ok(Hedge {
+        big,
+        small,
+        roots,
+        choice,
+        links,
+    })
+}
+
+fn is_word(text: &[u8], word: &[u8]) -> bool
+    ensures { result ≡ bytes_eq text.now word.now }
+{
+    text == word
+}
+
+/// Whether the answer is the word.
+pub fn is_answer(d: &Value, word: &[u8]) -> bool
+    ensures { result ≡ is_answer word.now (data_view d.now) }
 {
     let Some(value) = d.get("answer") else {
         return false;
     };
     match value.as_str() {
-        Some(text) => is_word(text.as_bytes()),
+        Some(text) => is_word(text.as_bytes(), word),
         None => false,
     }
 }

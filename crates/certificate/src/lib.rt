@@ -1,21 +1,36 @@
 //! Certificates of answers, as JSON texts.
 //!
-//! A certificate of a formula is one object, in compact form with its members sorted by key:
+//! A certificate is one object, in compact form with its members sorted by key:
 //!
 //! | Key | Value |
 //! |---|---|
-//! | `answer` | `"formula"` |
+//! | `answer` | `"formula"` or `"hedge"` |
 //! | `version` | 1 |
 //! | `x`, `y` | lists of names in index order |
+//!
+//! That of a formula has further
+//!
+//! | Key | Value |
+//! |---|---|
 //! | `formula`, `defs` | the text of the main expression; a list of the definitions' texts |
 //! | `lemmas` | a list of `[set, step]` |
 //! | `main` | a step |
+//!
+//! and that of a hedge
+//!
+//! | Key | Value |
+//! |---|---|
+//! | `big`, `small`, `roots` | lists of names in index order |
+//! | `choice` | a list of `[vertex, child]` in index order |
+//! | `links` | a list of `[start]` and then `[found, partner]` |
 #![tactic(auto)]
 
 mod fault;
 mod formulas;
+mod hedges;
 mod keys;
 mod reading;
+mod sizes;
 #[cfg(test)]
 mod tests;
 mod values;

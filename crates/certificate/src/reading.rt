@@ -3,10 +3,11 @@ ghost use Rattle.serde_json.specs.View.{view};
 ghost use Rattle.certificate.specs.Faults.{Gives, or_fault};
 ghost use Rattle.certificate.specs.Plain.{certificate_view};
 ghost use Rattle.certificate.specs.declared.fault.CertFault.TheVariants.{NotJson};
-ghost use Rattle.certificate.specs.Reading.{formula_certificate_in, first_version_in, value_certificate, json_of, certificate_in};
+ghost use Rattle.certificate.specs.Reading.{formula_certificate_in, hedge_certificate_in, first_version_in, value_certificate, json_of, certificate_in};
 
 use crate::fault::{CertFault, Key};
-use crate::keys::{derivation_in, formula_in, is_formula, member_count, target_in, version_in};
+use crate::keys::{derivation_in, formula_in, hedge_in, is_answer, target_in, version_in};
+use crate::sizes::member_count;
 use crate::values::Certificate;
 use mixed_graph::Names;
 use serde_json::Value;
@@ -39,20 +40,32 @@ fn formula_certificate_in(alloc: Global, names: &Names, d: &Value) -> Result<Cer
     if member_count(d) != 8 {
         return Err(CertFault::Member(Key::Extra));
     }
-    Ok(Certificate::Formula {
-        target,
-        formula,
-        derivation,
-    })
+    Ok(Certificate::Formula(target, formula, derivation))
+}
+
+// The certificate of a hedge: its nine keys, and no further one.
+#[tactic(auto, unfolding(crate::specs::Reading::hedge_certificate_in))]
+fn hedge_certificate_in(alloc: Global, names: &Names, d: &Value) -> Result<Certificate, CertFault>
+    ensures { Gives (λ c. certificate_view c) result (hedge_certificate_in names.now (view d.now)) }
+{
+    let target = target_in(alloc, names, d)?;
+    let hedge = hedge_in(alloc, names, d)?;
+    if member_count(d) != 9 {
+        return Err(CertFault::Member(Key::Extra));
+    }
+    Ok(Certificate::Hedge(target, hedge))
 }
 
 fn first_version_in(alloc: Global, names: &Names, d: &Value) -> Result<Certificate, CertFault>
     ensures { Gives (λ c. certificate_view c) result (first_version_in names.now (view d.now)) }
 {
-    if !is_formula(d) {
-        return Err(CertFault::Member(Key::Answer));
+    if is_answer(d, b"formula") {
+        return formula_certificate_in(alloc, names, d);
     }
-    formula_certificate_in(alloc, names, d)
+    if is_answer(d, b"hedge") {
+        return hedge_certificate_in(alloc, names, d);
+    }
+    Err(CertFault::Member(Key::Answer))
 }
 
 #[tactic(auto, unfolding(crate::specs::Reading::value_certificate))]
@@ -69,9 +82,9 @@ fn value_certificate(alloc: Global, names: &Names, d: &Value) -> Result<Certific
 /// The certificate that a text is.
 ///
 /// `NotJson` where the text is no JSON; then `Member(Version)` where the value has no whole number as its version, `Version` where
-/// that isn't 1. Then the keys are tried in the order answer, x, y, formula, defs, lemmas, main: `Member` of the first that is missing or
-/// hasn't its form, `Name` where a text stands in place of a name and isn't one, `TooDeep` where a 61st step nests, whatever comes first in
-/// its text. `Member(Extra)` where there is a further key.
+/// that isn't 1. Then the keys are tried in the order answer, x, y, and then formula, defs, lemmas, main for a formula or big, small, roots,
+/// choice, links for a hedge: `Member` of the first that is missing or hasn't its form, `Name` where a text stands in place of a name and
+/// isn't one, `TooDeep` where a 61st step nests, whatever comes first in its text. `Member(Extra)` where there is a further key.
 #[tactic(auto, unfolding(crate::specs::Reading::certificate_in))]
 pub fn read_answer(alloc: Global, text: &[u8], names: &Names) -> Result<Certificate, CertFault>
     ensures { Gives (λ c. certificate_view c) result (certificate_in names.now text.now) }

@@ -7,6 +7,10 @@ use std::test::Fail;
 const FRONT_DOOR: &str =
     r#"{"answer":"formula","defs":[],"formula":"sum{M} P(M|X) * (sum{X} P(X) * P(Y|X,M))","lemmas":[],"main":["then",[["widen",["M"]],["at",0,["then",[["chain",["M","Y"]],["at",0,["then",[["rule3in",["Y"]]]]],["at",1,["then",[["rule2do",["M"]]]]],["at",0,["then",[["rule3out",["Y"]],["rule2see",["X"]]]]],["at",1,["then",[["rule3out",["X"]],["widen",["X"]],["at",0,["then",[["chain",["X","Y"]],["at",0,["then",[["rule3out",["M"]]]]],["at",1,["then",[["rule2see",["M"]]]]]]]]]]]]]]]],"version":1,"x":["X"],"y":["Y"]}"#;
 
+// That of the graph `X -> Y`, `X <-> Y`, without its closing brace.
+const BOW: &str =
+    r#"{"answer":"hedge","big":["X","Y"],"choice":[["X","Y"]],"links":[["Y"],["X","Y"]],"roots":["Y"],"small":["Y"],"version":1,"x":["X"],"y":["Y"]"#;
+
 // What reading answers: a key's number and a text in place of the fault's own.
 fn line_of(read: Result<Certificate, CertFault>, alloc: Global) -> Result<String, AllocError> {
     match read {
@@ -94,7 +98,8 @@ fn ends(rt: &impl Abort, alloc: Global, names: &Names) -> Result<(), AllocError>
         (r#"["Q"],"x":7}"#, "X"),
         (r#"["M"],"version":3}"#, "version 3"),
         (r#"["M"],"version":1.0}"#, "Version"),
-        (r#"["M"],"answer":"hedge"}"#, "Answer"),
+        (r#"["M"],"answer":"none"}"#, "Answer"),
+        (r#"["M"],"answer":"hedge"}"#, "Big"),
         (r#"["M"],"formula":null}"#, "Formula"),
         (r#"["M"],"formula":"q0","defs":["q0"]}"#, "Defs"),
         (
@@ -128,6 +133,34 @@ fn mains(rt: &impl Abort, alloc: Global, names: &Names) -> Result<(), AllocError
     Ok(())
 }
 
+// Hedges whose certificate ends so; of two members with one key the last counts.
+fn hedges(rt: &impl Abort, alloc: Global, names: &Names) -> Result<(), AllocError> {
+    for (end, want) in [
+        ("}", "read"),
+        (r#","big":7}"#, "Big"),
+        (r#","big":["X","X"]}"#, "Big"),
+        (r#","small":["Q"]}"#, "name Q"),
+        (r#","roots":{}}"#, "Roots"),
+        (r#","big":[],"roots":[]}"#, "read"),
+        (r#","choice":"X"}"#, "Choice"),
+        (r#","choice":[["Y","X"],["X","M"]]}"#, "read"),
+        (r#","choice":[["X","Y"],["X","Q"]]}"#, "Choice"),
+        (r#","choice":[["X","Y","M"]]}"#, "Choice"),
+        (r#","choice":[["X","Q"],7],"links":[]}"#, "name Q"),
+        (r#","links":null}"#, "Links"),
+        (r#","links":[]}"#, "Links"),
+        (r#","links":[["Y","X"]]}"#, "Links"),
+        (r#","links":[["Y"],["X"]]}"#, "Links"),
+        (r#","links":[["Y"],["X","Y"],["X","Q"]]}"#, "name Q"),
+        (r#","formula":"P(Y)"}"#, "Extra"),
+    ] {
+        let mut text = String::from_str(alloc, BOW)?;
+        text.push_str(end)?;
+        assert_eq!(rt; answer(alloc, names, text.as_bytes())?.as_str(), want);
+    }
+    Ok(())
+}
+
 #[test]
 fn certificates(rt: HostRuntime) -> Result<(), Fail> {
     let alloc = rt.alloc();
@@ -139,5 +172,6 @@ fn certificates(rt: HostRuntime) -> Result<(), Fail> {
     depths(&rt, alloc, &names)?;
     ends(&rt, alloc, &names)?;
     mains(&rt, alloc, &names)?;
+    hedges(&rt, alloc, &names)?;
     Ok(())
 }

@@ -1,13 +1,12 @@
 use do_derivation::Derivation;
+use hedge::Hedge;
 use prob_expr::{Formula, Target};
 
 /// What shows that an answer is right.
 #[derive(Drop)]
 pub enum Certificate {
     /// The derivation makes the formula of the target.
-    Formula {
-        target: Target,
-        formula: Formula,
-        derivation: Derivation,
-    },
+    Formula(Target, Formula, Derivation),
+    /// The hedge keeps the target from being identified.
+    Hedge(Target, Hedge),
 }

@@ -1,8 +1,95 @@
--- stub
-use Rattle.std.specs.Prelude.{ℕ, List}
+-- The defined answer of a check on a graph that was read and the bytes of a certificate.
+use Rattle.std.specs.Prelude.{ℕ, ◌≡◌, ◌<◌, ◌≤◌, true, List, [], length, Ok, Err}
+use Rattle.mixed_graph.specs.Graphs.{MixedGraph}
+use Rattle.prob_expr.specs.Terms.{is_do_free}
+use Rattle.prob_expr.specs.Tree.{PlainFormula, PlainTarget}
+use Rattle.prob_expr.specs.Values.{EqualsEffect}
+use Rattle.do_derivation.specs.Accepts.{Accepts, AcceptsNot}
+use Rattle.do_derivation.specs.Plans.{PlainDerivation}
+use Rattle.do_derivation.specs.declared.faults.CheckFault.{CheckFault}
+use Rattle.hedge.specs.Faults.{IsFirstFault}
+use Rattle.hedge.specs.Hedges.{IsHedge}
+use Rattle.hedge.specs.declared.kinds.Hedge.{Hedge}
+use Rattle.hedge.specs.declared.kinds.HedgeFault.{HedgeFault}
+use Rattle.counter_models.specs.Events.{AreCounterModels}
+use Rattle.counter_models.specs.declared.kinds.CounterPair.{CounterPair}
+use Rattle.certificate.specs.Plain.{PlainCertificate, formula, hedge, hedge_view}
+use Rattle.certificate.specs.Reading.{certificate_in}
+use Rattle.certificate.specs.declared.fault.CertFault.{CertFault}
+use Rattle.certificate.specs.declared.fault.CertFault.TheVariants.{NoMemory}
+use Rattle.identify_text.specs.Answers.{formula_answer}
+use Rattle.identify_text.specs.HedgeLines.{heading_text}
+use Rattle.fault_text.specs.Lines.{line_of}
+use Rattle.input_fault_text.specs.Lines.{cert_fault_text, cert_size_text}
 use Rattle.dag_reader.specs.declared.graph.ReadGraph.{ReadGraph}
 use Rattle.replies.specs.declared.outcome.Outcome.{Outcome}
+use Rattle.replies.specs.declared.outcome.Outcome.TheVariants.{Yes, No, Second}
+use Rattle.replies.specs.Observed.{observed_names, IsObservedGraph}
+use Rattle.check_command.specs.Lines.{accepted_text, derivation_text, hedge_text}
 
--- the answer
-pub record CheckAnswer (g : ReadGraph) (other : List ℕ) (o : Outcome) (text : List ℕ) : Type 0 where
-  pub none : ⊥
+-- the bytes are the text of this certificate, and at most 67,108,864
+pub record IsRead (names : List (List ℕ)) (bytes : List ℕ) (c : PlainCertificate) : Type 0 where
+  pub small : length bytes ≤ 67108864
+  pub reads : certificate_in names bytes ≡ Ok c
+
+-- yes: the derivation is accepted for the formula, which has no intervention and is the effect in each positive model that fits the graph
+pub record AcceptsFormula (q : MixedGraph) (names : List (List ℕ)) (t : PlainTarget) (f : PlainFormula) (d : PlainDerivation) (text : List ℕ) : Type 0 where
+  pub accepted : Accepts q [] t f d
+  pub do_free : is_do_free f ≡ true
+  pub effect : EqualsEffect q t f
+  pub prints : text ≡ accepted_text (formula_answer names t.x t.y f)
+
+-- no: the derivation has this first fault
+pub record RefusesFormula (q : MixedGraph) (names : List (List ℕ)) (t : PlainTarget) (f : PlainFormula) (d : PlainDerivation) (text : List ℕ) : Type 0 where
+  pub fault : CheckFault
+  pub is_fault : AcceptsNot q [] t f d fault
+  pub prints : text ≡ derivation_text names (length d.lemmas) fault
+
+-- yes: it is a hedge for the effect; two positive models that fit the graph agree on all observations and differ on the effect (Shpitser and Pearl)
+pub record AcceptsHedge (q : MixedGraph) (names : List (List ℕ)) (t : PlainTarget) (h : Hedge) (text : List ℕ) : Type 0 where
+  pub holds : IsHedge q t.x t.y h
+  pub pair : CounterPair
+  pub models : AreCounterModels q t.x t.y pair
+  pub prints : text ≡ accepted_text (heading_text names t.x t.y h)
+
+-- no: what keeps it from being a hedge, the first in order
+pub record RefusesHedge (q : MixedGraph) (names : List (List ℕ)) (t : PlainTarget) (h : Hedge) (text : List ℕ) : Type 0 where
+  pub fault : HedgeFault
+  pub is_fault : IsFirstFault q t.x t.y h fault
+  pub prints : text ≡ hedge_text names fault
+
+-- the answer for a formula with its derivation
+abbrev pub FormulaAnswer : MixedGraph → List (List ℕ) → PlainTarget → PlainFormula → PlainDerivation → Outcome → List ℕ → Type 0
+FormulaAnswer q names t f d Yes text = AcceptsFormula q names t f d text
+FormulaAnswer q names t f d No text = RefusesFormula q names t f d text
+FormulaAnswer q names t f d o text = ⊥
+
+-- the answer for a hedge
+abbrev pub HedgeAnswer : MixedGraph → List (List ℕ) → PlainTarget → Hedge → Outcome → List ℕ → Type 0
+HedgeAnswer q names t h Yes text = AcceptsHedge q names t h text
+HedgeAnswer q names t h No text = RefusesHedge q names t h text
+HedgeAnswer q names t h o text = ⊥
+
+-- the bytes are a certificate of a formula or of a hedge, and this is its answer
+pub data CertificateAnswer (q : MixedGraph) (names : List (List ℕ)) (bytes : List ℕ) (o : Outcome) (text : List ℕ) : Type 0 where
+  of_formula : (t : PlainTarget) (f : PlainFormula) (d : PlainDerivation) → IsRead names bytes (formula t f d) → FormulaAnswer q names t f d o text
+      → CertificateAnswer q names bytes o text
+  of_hedge : (t : PlainTarget) (h : Hedge) → IsRead names bytes (hedge t (hedge_view h)) → HedgeAnswer q names t h o text
+      → CertificateAnswer q names bytes o text
+
+-- the bytes are no certificate: they are too many, or their text has a fault
+pub data IsCertificateRefusal (names : List (List ℕ)) (bytes line : List ℕ) : Type 0 where
+  too_long : 67108864 < length bytes → line ≡ line_of cert_size_text → IsCertificateRefusal names bytes line
+  faulty : (fault : CertFault) → length bytes ≤ 67108864 → (fault ≡ NoMemory → ⊥) → certificate_in names bytes ≡ Err fault → line ≡ line_of (cert_fault_text fault)
+      → IsCertificateRefusal names bytes line
+
+-- the answer of a certificate in the observed graph
+abbrev pub ObservedAnswer : ReadGraph → List ℕ → Outcome → List ℕ → Type 0
+ObservedAnswer g bytes o text = (q : MixedGraph) × IsObservedGraph g q × CertificateAnswer q (observed_names g) bytes o text
+
+-- the answer of a check: yes or no with its text, or the line of a refused certificate
+abbrev pub CheckAnswer : ReadGraph → List ℕ → Outcome → List ℕ → Type 0
+CheckAnswer g bytes Yes text = ObservedAnswer g bytes Yes text
+CheckAnswer g bytes No text = ObservedAnswer g bytes No text
+CheckAnswer g bytes Second line = IsCertificateRefusal (observed_names g) bytes line
+CheckAnswer g bytes o text = ⊥

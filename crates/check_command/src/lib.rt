@@ -1,6 +1,9 @@
-//! The command `check`.
+//! The command `check`: whether the derivation or the hedge of a certificate shows what it says of an effect.
 #![tactic(auto)]
 
+mod formula;
+mod hedge_data;
+mod lines;
 mod reply;
 
 pub use reply::{check_reply, long_certificate};

@@ -1,21 +1,46 @@
-ghost use Rattle.std.specs.Prelude.{◌≡◌, ◌≤◌, ◌<◌, ℕ, List, IfOk, length};
+ghost use Rattle.std.specs.Prelude.{◌≤◌, ◌<◌, ℕ, List, IfOk, length};
 ghost use Rattle.check_command.specs.Answers.{CheckAnswer};
 
+use crate::formula::check_formula;
+use crate::hedge_data::check_hedge;
+use certificate::{Certificate, read_answer};
 use dag_reader::ReadGraph;
-use replies::Reply;
+use input_fault_text::{certificate_line, certificate_size_line};
+use latent_projection::observed;
+use replies::{Outcome, Reply};
 use std::alloc::{AllocError, Global};
 
-/// The answer of `check` on a graph that was read and the bytes of a certificate.
-pub fn check_reply(alloc: Global, graph: &ReadGraph, certificate: &[u8]) -> Result<Reply, AllocError>
+/// Whether a certificate shows what it says of an effect, in the observed graph.
+///
+/// Yes where the steps make the formula of the effect, or where the hedge is one; no with the first fault. A certificate that isn't read is
+/// refused with its line.
+pub fn check_reply(
+    alloc: Global,
+    graph: &ReadGraph,
+    certificate: &[u8],
+) -> Result<Reply, AllocError>
     requires { length certificate.now ≤ 67108864 }
     ensures { IfOk result (λ r. CheckAnswer graph.now certificate.now r.outcome r.text.items) }
 {
-    Err(AllocError)
+    let seen = observed(alloc, &graph.names, &graph.graph, graph.latent)?;
+    match read_answer(alloc, certificate, &seen.names) {
+        Ok(Certificate::Formula(target, formula, derivation)) => {
+            check_formula(alloc, &seen, &target, &formula, &derivation)
+        }
+        Ok(Certificate::Hedge(target, hedge)) => check_hedge(alloc, &seen, &target, &hedge),
+        Err(fault) => Ok(Reply {
+            outcome: Outcome::Second,
+            text: certificate_line(alloc, &fault)?,
+        }),
+    }
 }
 
-/// The answer of `check` where the certificate has more than 67,108,864 bytes.
+/// The answer where a certificate has more than 67,108,864 bytes.
 pub fn long_certificate(alloc: Global, graph: &ReadGraph) -> Result<Reply, AllocError>
     ensures { IfOk result (λ r. (certificate : List ℕ) → 67108864 < length certificate → CheckAnswer graph.now certificate r.outcome r.text.items) }
 {
-    Err(AllocError)
+    Ok(Reply {
+        outcome: Outcome::Second,
+        text: certificate_size_line(alloc)?,
+    })
 }

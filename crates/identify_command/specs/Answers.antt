@@ -1,10 +1,110 @@
--- stub
-use Rattle.std.specs.Prelude.{ℕ, List}
+-- The answer of `identify`: whether the effect of x on y can be computed from observations, in the observed graph of the one that was read.
+use Rattle.std.specs.Prelude.{ℕ, ◌≡◌, List, ◌++◌, codes}
+use Rattle.mixed_graph.specs.Bits.{has}
+use Rattle.mixed_graph.specs.Graphs.{MixedGraph, IsAncestor}
 use Rattle.dag_reader.specs.declared.graph.ReadGraph.{ReadGraph}
+use Rattle.targets.specs.declared.fault.TargetFault.{TargetFault}
+use Rattle.targets.specs.Targets.{listed, EffectLists, AreEffectSets, IsEffectFault}
+use Rattle.fault_text.specs.Lines.{line_of, target_fault_text}
 use Rattle.replies.specs.declared.outcome.Outcome.{Outcome}
-use Rattle.replies.specs.Observed.{Names}
+use Rattle.replies.specs.declared.outcome.Outcome.TheVariants.{Yes, No, Graph}
+use Rattle.replies.specs.Observed.{Names, observed_names, IsObservedGraph}
+use Rattle.prob_expr.specs.Tree.{PlainFormula}
+use Rattle.do_derivation.specs.Plans.{PlainDerivation}
+use Rattle.hedge.specs.declared.kinds.Hedge.{Hedge}
+use Rattle.counter_models.specs.Pairs.{IsPairOf}
+use Rattle.counter_models.specs.declared.kinds.CounterPair.{CounterPair}
+use Rattle.identification.specs.Derivations.{IsDerived}
+use Rattle.identification.specs.Procedure.{IsUnidentified}
+use Rattle.identification_answers.specs.Names.{FormulaNamesOnly}
+use Rattle.id_recursion.specs.Answers.{effect_on, IsRightFormula, IsRightHedge}
+use Rattle.id_recursion.specs.Hedged.{IsHedgeOf}
+use Rattle.identify_text.specs.Answers.{formula_answer, latex_answer}
+use Rattle.identify_text.specs.PairLines.{hedge_answer}
+use Rattle.certificate.specs.Plain.{PlainCertificate, hedge_view}
+use Rattle.certificate.specs.Plain as plain
+use Rattle.certificate_writing.specs.Written.{certificate_text}
 use Rattle.identify_command.specs.declared.form.Form.{Form}
+use Rattle.identify_command.specs.declared.form.Form.TheVariants.{Plain, Certificate, Latex}
 
--- the answer
-pub record IdentifyAnswer (form : Form) (g : ReadGraph) (x y : Names) (o : Outcome) (text : List ℕ) : Type 0 where
-  pub none : ⊥
+-- ---- texts
+
+-- a certificate on a line of its own
+abbrev pub certificate_line : List (List ℕ) → PlainCertificate → List ℕ
+certificate_line names c = certificate_text names c ++ codes "\n"
+
+-- the text of a formula for the effect of x on y: the formula, its certificate or its LaTeX
+abbrev pub formula_text : Form → List (List ℕ) → (x y : ℕ) → PlainFormula → PlainDerivation → List ℕ
+formula_text Plain names x y f d = formula_answer names x y f
+formula_text Certificate names x y f d = certificate_line names (plain.formula (effect_on x y) f d)
+formula_text Latex names x y f d = latex_answer names x y f
+
+-- the text of a hedge for that effect: the hedge with its two models, or its certificate
+abbrev pub hedge_text : Form → List (List ℕ) → (x y : ℕ) → Hedge → CounterPair → List ℕ
+hedge_text Plain names x y h pair = hedge_answer names x y h pair
+hedge_text Certificate names x y h pair = certificate_line names (plain.hedge (effect_on x y) (hedge_view h))
+hedge_text Latex names x y h pair = hedge_answer names x y h pair
+
+-- ---- answers for sets of the observed graph q
+
+-- Yes: the formula has no intervention, equals P(y | do(x)) in each positive model that fits q, and names ancestors of y alone; the derivation turns the effect into it.
+-- Both are those of the identification procedure, and the text shows them.
+pub record ShowsFormula (form : Form) (q : MixedGraph) (names : List (List ℕ)) (x y : ℕ) (text : List ℕ) : Type 0 where
+  pub formula : PlainFormula
+  pub derivation : PlainDerivation
+  pub right : IsRightFormula q x y formula derivation
+  pub ancestors : FormulaNamesOnly (IsAncestor q (has y)) formula
+  pub derived : IsDerived q x y formula derivation
+  pub prints : text ≡ formula_text form names x y formula derivation
+
+-- No: it is a hedge for the effect of x on y, and its two models, which are positive and fit q, agree on all observations and differ on the effect.
+-- It is the hedge at which the identification procedure stops, with its data and its models, and the text shows it.
+pub record ShowsHedge (form : Form) (q : MixedGraph) (names : List (List ℕ)) (x y : ℕ) (text : List ℕ) : Type 0 where
+  pub hedge : Hedge
+  pub pair : CounterPair
+  pub right : IsRightHedge q x y hedge pair
+  pub stop : IsUnidentified q x y hedge.small.bits hedge.big.bits
+  pub built : IsHedgeOf q hedge
+  pub models : IsPairOf q x y hedge pair
+  pub prints : text ≡ hedge_text form names x y hedge pair
+
+-- the answer for the sets x and y
+abbrev pub SetsAnswer : Form → MixedGraph → List (List ℕ) → (x y : ℕ) → Outcome → List ℕ → Type 0
+SetsAnswer form q names x y Yes text = ShowsFormula form q names x y text
+SetsAnswer form q names x y No text = ShowsHedge form q names x y text
+SetsAnswer form q names x y o text = ⊥
+
+-- ---- answers on a graph that was read
+
+-- the lists of an effect: those that are given, or else the exposures and the outcomes
+abbrev pub effect_lists : ReadGraph → Names → Names → EffectLists
+effect_lists g x y = record {
+  all = g.names;
+  observed = observed_names g;
+  x = listed g.names g.exposures.bits x;
+  y = listed g.names g.outcomes.bits y;
+}
+
+-- the lists name these sets, for which the answer is given
+pub record IsAnswerOfSets (form : Form) (q : MixedGraph) (l : EffectLists) (o : Outcome) (text : List ℕ) : Type 0 where
+  pub x : ℕ
+  pub y : ℕ
+  pub sets : AreEffectSets l x y
+  pub answer : SetsAnswer form q l.observed x y o text
+
+-- a listed name is at fault, or y is empty: the line says so
+pub record IsEffectRefusal (l : EffectLists) (line : List ℕ) : Type 0 where
+  pub fault : TargetFault
+  pub is_fault : IsEffectFault l fault
+  pub prints : line ≡ line_of (target_fault_text fault)
+
+-- the answer for lists of names
+abbrev pub EffectAnswer : Form → MixedGraph → EffectLists → Outcome → List ℕ → Type 0
+EffectAnswer form q l Yes text = IsAnswerOfSets form q l Yes text
+EffectAnswer form q l No text = IsAnswerOfSets form q l No text
+EffectAnswer form q l Graph text = IsEffectRefusal l text
+EffectAnswer form q l o text = ⊥
+
+-- the answer on a graph that was read, in its observed graph
+abbrev pub IdentifyAnswer : Form → ReadGraph → Names → Names → Outcome → List ℕ → Type 0
+IdentifyAnswer form g x y o text = (q : MixedGraph) × IsObservedGraph g q × EffectAnswer form q (effect_lists g x y) o text

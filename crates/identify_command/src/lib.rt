@@ -3,6 +3,7 @@
 
 mod form;
 mod reply;
+mod texts;
 
 pub use form::Form;
 pub use reply::identify_reply;

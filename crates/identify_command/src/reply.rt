@@ -1,13 +1,24 @@
-ghost use Rattle.std.specs.Prelude.{◌≡◌, IfOk, option_map};
+ghost use Rattle.std.specs.Prelude.{◌≡◌, ◌<◌, IfOk, length, option_map};
+ghost use Rattle.mixed_graph.specs.Bits.{has};
+ghost use Rattle.mixed_graph.specs.Sets.{Within, Apart};
+ghost use Rattle.mixed_graph.specs.Shown.{graph_of};
 ghost use Rattle.word_lists.specs.Views.{names_in};
-ghost use Rattle.identify_command.specs.Answers.{IdentifyAnswer};
+ghost use Rattle.identify_command.specs.Answers.{IdentifyAnswer, SetsAnswer};
 
 use crate::form::Form;
+use crate::texts::{formula_text, hedge_text};
 use dag_reader::ReadGraph;
-use replies::Reply;
+use hedge::Hedge;
+use id_recursion::{Answer, identify};
+use latent_projection::{Observed, observed};
+use replies::{Outcome, Reply, list_or, refuse};
 use std::alloc::{AllocError, Global};
+use targets::{EffectSets, find_effect_sets};
 
-/// The answer of `identify` on a graph that was read.
+/// Whether the effect of x on y can be computed from observations, in the observed graph: a formula for
+/// P(y | do(x)), or a hedge, which shows that there is none (Shpitser and Pearl 2006).
+///
+/// A list that is missing is that of the exposures or of the outcomes.
 pub fn identify_reply(
     alloc: Global,
     graph: &ReadGraph,
@@ -17,5 +28,44 @@ pub fn identify_reply(
 ) -> Result<Reply, AllocError>
     ensures { IfOk result (λ r. IdentifyAnswer form graph.now (option_map names_in x) (option_map names_in y) r.outcome r.text.items) }
 {
-    Err(AllocError)
+    let seen = observed(alloc, &graph.names, &graph.graph, graph.latent)?;
+    let x = list_or(alloc, &graph.names, graph.exposures, x)?;
+    let y = list_or(alloc, &graph.names, graph.outcomes, y)?;
+    match find_effect_sets(alloc, &graph.names, &seen.names, &x, &y) {
+        Ok(sets) => decide(alloc, &seen, sets, form),
+        Err(fault) => refuse(alloc, &fault),
+    }
+}
+
+/// The answer for sets of the observed graph.
+fn decide(alloc: Global, seen: &Observed, sets: EffectSets, form: Form) -> Result<Reply, AllocError>
+    requires named { length seen.now.names ≡ seen.now.graph.n }
+    requires x { Within seen.now.graph.n (has sets.x.bits) }
+    requires y { Within seen.now.graph.n (has sets.y.bits) }
+    requires apart { Apart (has sets.x.bits) (has sets.y.bits) }
+    requires some { 0 < sets.y.bits }
+    ensures { IfOk result (λ r. SetsAnswer form (graph_of seen.now.graph) seen.now.names sets.x.bits sets.y.bits r.outcome r.text.items) }
+{
+    match identify(alloc, &seen.graph, sets.x, sets.y)? {
+        Answer::Formula(formula, derivation) => Ok(Reply {
+            outcome: Outcome::Yes,
+            text: formula_text(alloc, &seen.names, sets, formula, derivation, form)?,
+        }),
+        Answer::Hedge(hedge, pair) => {
+            sized(&hedge);
+            Ok(Reply {
+                outcome: Outcome::No,
+                text: hedge_text(alloc, &seen.names, sets, hedge, &pair, form)?,
+            })
+        }
+    }
+}
+
+/// How many places a hedge has for links.
+fn sized(hedge: &Hedge)
+    ensures found { length hedge.now.links.found ≡ 64 }
+    ensures partner { length hedge.now.links.partner ≡ 64 }
+{
+    let _ = hedge.links.found[0];
+    let _ = hedge.links.partner[0];
 }

@@ -1,0 +1,3 @@
+pub mod Floats
+pub mod Pairs
+pub mod Utf8

@@ -1,0 +1,96 @@
+ghost use Rattle.std.specs.Prelude.{◌≡◌, length, IfOk, Ok, None};
+ghost use Rattle.mixed_graph.specs.Names.{AreNames};
+ghost use Rattle.serde_json.specs.View.{view as data_view};
+ghost use Rattle.prob_expr.specs.Check.{fault_in};
+ghost use Rattle.prob_expr.specs.View.{formula_view, target_view};
+ghost use Rattle.do_derivation.specs.View.{derivation_view};
+ghost use Rattle.certificate.specs.Plain.{certificate_view, hedge_view, formula as formula_case, hedge as hedge_case};
+ghost use Rattle.certificate.specs.Reading.{certificate_in};
+ghost use Rattle.certificate_writing.specs.Writable.{IsBareTarget, IsDerivationWithin, IsHedgeWithin, IsWritable, IsShallow};
+ghost use Rattle.certificate_writing.specs.Written.{certificate_value, certificate_text};
+
+use crate::formulas::{expr_value, exprs_value, lemmas_value};
+use crate::hedges::{choices_value, links_value};
+use crate::objects::{formula_object, hedge_object};
+use certificate::Certificate;
+use do_derivation::Derivation;
+use hedge::Hedge;
+use mixed_graph::Names;
+use prob_expr::{Formula, Target};
+use serde_json::Value;
+use std::alloc::{AllocError, Global};
+use step_json::{set_value, step_value};
+
+fn formula_value(
+    alloc: Global,
+    names: &Names,
+    target: &Target,
+    formula: &Formula,
+    derivation: &Derivation,
+) -> Result<Value, AllocError>
+    requires names { AreNames names.now }
+    requires target { IsBareTarget (length names.now) (target_view target.now) }
+    requires formula { fault_in (length names.now) (formula_view formula.now) ≡ None }
+    requires derivation { IsDerivationWithin (length names.now) (derivation_view derivation.now) }
+    ensures { IfOk result (λ d. data_view d ≡ certificate_value names.now (formula_case (target_view target.now) (formula_view formula.now) (derivation_view derivation.now))) }
+{
+    let defs = exprs_value(alloc, names, &formula.defs)?;
+    let text = expr_value(alloc, names, &formula.main)?;
+    let lemmas = lemmas_value(alloc, names, &derivation.lemmas)?;
+    let main = step_value(alloc, names, &derivation.main)?;
+    let x = set_value(alloc, names, target.x)?;
+    let y = set_value(alloc, names, target.y)?;
+    formula_object(alloc, defs, text, lemmas, main, x, y)
+}
+
+fn hedge_value(
+    alloc: Global,
+    names: &Names,
+    target: &Target,
+    hedge: &Hedge,
+) -> Result<Value, AllocError>
+    requires target { IsBareTarget (length names.now) (target_view target.now) }
+    requires hedge { IsHedgeWithin (length names.now) (hedge_view hedge.now) }
+    ensures { IfOk result (λ d. data_view d ≡ certificate_value names.now (hedge_case (target_view target.now) (hedge_view hedge.now))) }
+{
+    let big = set_value(alloc, names, hedge.big)?;
+    let choice = choices_value(alloc, names, &hedge.choice)?;
+    let links = links_value(alloc, names, &hedge.links)?;
+    let roots = set_value(alloc, names, hedge.roots)?;
+    let small = set_value(alloc, names, hedge.small)?;
+    let x = set_value(alloc, names, target.x)?;
+    let y = set_value(alloc, names, target.y)?;
+    hedge_object(alloc, big, choice, links, roots, small, x, y)
+}
+
+// The object of a certificate.
+fn certificate_value(alloc: Global, names: &Names, c: &Certificate) -> Result<Value, AllocError>
+    requires names { AreNames names.now }
+    requires writable { IsWritable (length names.now) (certificate_view c.now) }
+    ensures { IfOk result (λ d. data_view d ≡ certificate_value names.now (certificate_view c.now)) }
+{
+    match c {
+        Certificate::Formula(target, formula, derivation) => {
+            formula_value(alloc, names, target, formula, derivation)
+        }
+        Certificate::Hedge(target, hedge) => hedge_value(alloc, names, target, hedge),
+    }
+}
+
+// What is known of names: they differ, and each has the form of a name.
+fn known(names: &Names)
+    ensures { AreNames names.now }
+{
+    names.count();
+}
+
+/// The text of a certificate: one JSON object in compact form, its members sorted by key, and no line feed at the end.
+pub fn write_answer(alloc: Global, c: &Certificate, names: &Names) -> Result<Vec<u8>, AllocError>
+    requires { IsWritable (length names.now) (certificate_view c.now) }
+    ensures { IfOk result (λ v. v.items ≡ certificate_text names.now (certificate_view c.now)) }
+{
+    known(names);
+    let value = certificate_value(alloc, names, c)?;
+    let text = value.to_vec(alloc)?;
+    Ok(text)
+}

@@ -1,0 +1,5 @@
+pub mod Answering
+pub mod LowPaths
+pub mod ReadFormulas
+pub mod ReadTargets
+pub mod Using

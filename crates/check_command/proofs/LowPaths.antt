@@ -1,0 +1,133 @@
+-- The open path of a refused step lies in the graph.
+use Rattle.std.proofs.Common.{◌≡◌, ℕ, ◌+◌, ◌<◌, Bool, true, false, List, [], ◌∷◌, ◌++◌, length, Option, Some, None, MatchOption, inl, inr, sym, subst, arith}
+use Rattle.std.specs.Prelude.{zero, suc, not, eqb, ltb, leb, get_or, ◌||◌, ◌&&◌, ◌≤◌, ◌-◌, slice_index}
+use Rattle.mixed_graph.specs.Bits.{has}
+use Rattle.mixed_graph.specs.Graphs.{MixedGraph, IsMixedGraph}
+use Rattle.m_separation.specs.declared.marks.Mark.{Mark}
+use Rattle.m_separation.specs.declared.paths.OpenPath.{OpenPath}
+use Rattle.m_separation.specs.Walks.{IsWalk}
+use Rattle.m_separation.specs.Paths.{steps_from, IsOpenPath}
+use Rattle.m_separation.proofs.Going.{joined_below}
+use Rattle.surgery.specs.Cuts.{cut_into, cut_out}
+use Rattle.surgery.proofs.Fewer.{graph_into, graph_out}
+use Rattle.prob_expr.specs.Check.{cap}
+use Rattle.prob_expr.specs.Masks.{join, minus, all, is_empty}
+use Rattle.prob_expr.specs.Tree.{Tree, prob, sum, product, quotient, named, PlainFormula, PlainTarget, term_of}
+use Rattle.do_derivation.specs.Plans.{Move, Plan, Plans, no_plans, plan, numbered, PlainLemma, PlainDerivation}
+use Rattle.do_derivation.specs.Shapes.{child, is_list_of, chained, unchained, grouped, narrowed, unwrapped}
+use Rattle.do_derivation.specs.Table.{Rule, Row, row, on_term, if_so, if_made, is_new, is_part}
+use Rattle.do_derivation.specs.Steps.{Fails, IsRefused, Refuses, RefusesAny}
+use Rattle.do_derivation.specs.Accepts.{AcceptsNot, DefinesNot, EndsNot, start_of, sets_of}
+use Rattle.do_derivation.specs.declared.faults.StepFault.{StepFault}
+use Rattle.do_derivation.specs.declared.faults.StepFault.TheVariants.{Sets, BadOrder, Grouping, NoLemma, NoPlace, Shape}
+use Rattle.do_derivation.specs.declared.faults.CheckFault.{CheckFault}
+use Rattle.check_command.specs.Replies.{IsLowPath, HasLowPath, IsLowFault}
+
+steps_below : (g : MixedGraph) → IsMixedGraph g → (vertices : List ℕ) (marks : List Mark) (i k : ℕ) →
+    slice_index vertices i < g.vertices → IsWalk g (slice_index vertices i) (steps_from vertices marks i k) →
+    (j : ℕ) → j ≤ k → slice_index vertices (i + j) < g.vertices
+steps_below g valid vertices marks i k below walk zero h = let e : i + 0 ≡ i = omega arith in rw e below
+steps_below g valid vertices marks i zero below walk (suc j) h = absurd (omega arith)
+steps_below g valid vertices marks i (suc k) below walk (suc j) h =
+    let next = joined_below g valid (slice_index vertices i) _ (slice_index vertices (i + 1)) walk.0 in
+    let e : i + suc j ≡ i + 1 + j = omega arith in
+    rw e (steps_below g valid vertices marks (i + 1) k next walk.1 j (omega arith))
+
+path_below : (g : MixedGraph) → IsMixedGraph g → (x y w : ℕ → Bool) (vertices : List ℕ) (marks : List Mark) (count : ℕ) →
+    IsOpenPath g x y w vertices marks count → (i : ℕ) → i < count → slice_index vertices i < g.vertices
+path_below g valid x y w vertices marks count p i h =
+    let e : 0 + i ≡ i = omega arith in
+    let r = steps_below g valid vertices marks 0 (count - 1) p.walk.vertex p.walk.walk i (omega (arith, p.some)) in
+    rw e at r
+
+low : (g : MixedGraph) → IsMixedGraph g → (x y w : ℕ → Bool) (p : OpenPath) → IsOpenPath g x y w p.vertices p.marks p.count → IsLowPath g.vertices p
+low g valid x y w p h = record { some = h.some; few = h.few; low = λ i lt. path_below g valid x y w p.vertices p.marks p.count h i lt }
+
+open_low : (g : MixedGraph) → IsMixedGraph g → (r : Rule) (x y z w : ℕ) (p : OpenPath) → Fails g r x y z w p → IsLowPath g.vertices p
+open_low g valid Rule.One x y z w p h = low (cut_into g (has x)) (graph_into g (has x) valid) (has y) (has z) (λ v. has x v || has w v) p h
+open_low g valid Rule.Two x y z w p h =
+    low (cut_out (cut_into g (has x)) (has z)) (graph_out (cut_into g (has x)) (has z) (graph_into g (has x) valid)) (has y) (has z) (λ v. has x v || has w v) p h
+open_low g valid Rule.Three x y z w p h =
+    low (cut_into (cut_into g (has x)) h.part) (graph_into (cut_into g (has x)) h.part (graph_into g (has x) valid)) (has y) (has z) (λ v. has x v || has w v) p h.path
+
+-- a row that refuses at once has no path, or one below n
+abbrev IsLowRow : ℕ → Row → Type 0
+IsLowRow n (Row.Refuse f) = HasLowPath n f
+IsLowRow n (Row.Make e) = Unit {0}
+IsLowRow n (Row.Ask r x y z w e) = Unit {0}
+
+low_if : (n : ℕ) (b : Bool) (r : Row) (f : StepFault) → IsLowRow n r → HasLowPath n f → IsLowRow n (if_so b r f)
+low_if n true r f h k = h
+low_if n false r f h k = k
+
+low_made : (n : ℕ) (o : Option Tree) (f : StepFault) → HasLowPath n f → IsLowRow n (if_made o f)
+low_made n (Some t) f h = tt
+low_made n None f h = h
+
+low_term : (n : ℕ) (f : ℕ → ℕ → ℕ → Row) (e : Tree) → ((a b c : ℕ) → IsLowRow n (f a b c)) → IsLowRow n (on_term f e)
+low_term n f (prob a b c) h = h a b c
+low_term n f (sum u e) h = tt
+low_term n f (product ts) h = tt
+low_term n f (quotient p q) h = tt
+low_term n f (named k) h = tt
+
+low_row : (n : ℕ) (lemmas : List ℕ) (m : Move) (e : Tree) → IsLowRow n (row n lemmas m e)
+low_row n lemmas (Move.Rule1In z) e = low_term n (λ a b c. if_so (is_new n z a b c) (Row.Ask Rule.One b a z c (prob a b (join c z))) Sets) e (λ a b c. low_if n (is_new n z a b c) (Row.Ask Rule.One b a z c (prob a b (join c z))) Sets tt tt)
+low_row n lemmas (Move.Rule1Out z) e = low_term n (λ a b c. if_so (is_part z c) (Row.Ask Rule.One b a z (minus c z) (prob a b (minus c z))) Sets) e (λ a b c. low_if n (is_part z c) (Row.Ask Rule.One b a z (minus c z) (prob a b (minus c z))) Sets tt tt)
+low_row n lemmas (Move.Rule2See z) e = low_term n (λ a b c. if_so (is_part z b) (Row.Ask Rule.Two (minus b z) a z c (prob a (minus b z) (join c z))) Sets) e (λ a b c. low_if n (is_part z b) (Row.Ask Rule.Two (minus b z) a z c (prob a (minus b z) (join c z))) Sets tt tt)
+low_row n lemmas (Move.Rule2Do z) e = low_term n (λ a b c. if_so (is_part z c) (Row.Ask Rule.Two b a z (minus c z) (prob a (join b z) (minus c z))) Sets) e (λ a b c. low_if n (is_part z c) (Row.Ask Rule.Two b a z (minus c z) (prob a (join b z) (minus c z))) Sets tt tt)
+low_row n lemmas (Move.Rule3In z) e = low_term n (λ a b c. if_so (is_new n z a b c) (Row.Ask Rule.Three b a z c (prob a (join b z) c)) Sets) e (λ a b c. low_if n (is_new n z a b c) (Row.Ask Rule.Three b a z c (prob a (join b z) c)) Sets tt tt)
+low_row n lemmas (Move.Rule3Out z) e = low_term n (λ a b c. if_so (is_part z b) (Row.Ask Rule.Three (minus b z) a z c (prob a (minus b z) c)) Sets) e (λ a b c. low_if n (is_part z b) (Row.Ask Rule.Three (minus b z) a z c (prob a (minus b z) c)) Sets tt tt)
+low_row n lemmas (Move.Chain o) e = low_term n (λ a b c. if_so (leb 2 (length o) && is_list_of o a) (Row.Make (product (chained b c o))) BadOrder) e (λ a b c. low_if n (leb 2 (length o) && is_list_of o a) (Row.Make (product (chained b c o))) BadOrder tt tt)
+low_row n lemmas Move.Unchain e = low_made n (unchained e) Shape tt
+low_row n lemmas (Move.Group l) e = low_made n (grouped l e) Grouping tt
+low_row n lemmas (Move.Widen u) e = low_term n (λ a b c. if_so (is_new n u a b c) (Row.Make (sum u (prob (join a u) b c))) Sets) e (λ a b c. low_if n (is_new n u a b c) (Row.Make (sum u (prob (join a u) b c))) Sets tt tt)
+low_row n lemmas Move.Narrow e = low_made n (narrowed e) Shape tt
+low_row n lemmas Move.Split e = low_term n (λ a b c. if_so (not (is_empty c)) (Row.Make (quotient (prob (join a c) b 0) (prob c b 0))) Sets) e (λ a b c. low_if n (not (is_empty c)) (Row.Make (quotient (prob (join a c) b 0) (prob c b 0))) Sets tt tt)
+low_row n lemmas (Move.Cite k) e =
+    let fits : ℕ → ℕ → ℕ → Bool = λ a b c. eqb a (get_or lemmas k 0) && (eqb b (minus (all n) (get_or lemmas k 0)) && is_empty c) in
+    let at_term : ℕ → ℕ → ℕ → Row = λ a b c. if_so (fits a b c) (Row.Make (named k)) Shape in
+    low_if n (ltb k (length lemmas)) (on_term at_term e) (NoLemma k) (low_term n at_term e (λ a b c. low_if n (fits a b c) (Row.Make (named k)) Shape tt tt)) tt
+low_row n lemmas Move.Unwrap e = low_made n (unwrapped e) Shape tt
+
+module _ (g : MixedGraph) (valid : IsMixedGraph g) where
+  row_low : (r : Row) (f : StepFault) → IsLowRow g.vertices r → IsRefused g r f → HasLowPath g.vertices f
+  row_low (Row.Refuse x) f h e = subst (HasLowPath g.vertices) (sym e) h
+  row_low (Row.Make x) f h e = absurd e
+  row_low (Row.Ask r x y z w made) f h e = subst (HasLowPath g.vertices) (sym e.2) (open_low g valid r x y z w e.0 e.1)
+
+  at_low : (lemmas : List ℕ) (i k number : ℕ) (f : StepFault) (o : Option Tree) (Q : Tree → Type 0) → ((c : Tree) → Q c → HasLowPath g.vertices f)
+      → MatchOption o ((number ≡ k) × (f ≡ NoPlace i)) (λ c. Q c) → HasLowPath g.vertices f
+  at_low lemmas i k number f None Q h e = subst (HasLowPath g.vertices) (sym e.1) tt
+  at_low lemmas i k number f (Some c) Q h e = h c e
+
+  mutual
+    step_low : (lemmas : List ℕ) (p : Plan) (e : Tree) (before number : ℕ) (f : StepFault) → Refuses g lemmas p e before number f → HasLowPath g.vertices f
+    step_low lemmas (Plan.Make m) e before number f h = row_low (row g.vertices lemmas m e) f (low_row g.vertices lemmas m e) h.1
+    step_low lemmas (Plan.At i p) e before number f h =
+        at_low lemmas i (cap (before + 1)) number f (child e i) (λ c. Refuses g lemmas p c (before + 1) number f) (λ c r. step_low lemmas p c (before + 1) number f r) h
+    step_low lemmas (Plan.Then ps) e before number f h = steps_low lemmas ps e before number f h
+
+    steps_low : (lemmas : List ℕ) (ps : Plans) (e : Tree) (before number : ℕ) (f : StepFault) → RefusesAny g lemmas ps e before number f → HasLowPath g.vertices f
+    steps_low lemmas no_plans e before number f h = absurd h
+    steps_low lemmas (plan p ps) e before number f (inl r) = step_low lemmas p e before number f r
+    steps_low lemmas (plan p ps) e before number f (inr r) = steps_low lemmas ps r.0 (before + numbered p) number f r.2
+
+  lemmas_low : (before : List ℕ) (k : ℕ) (ls : List PlainLemma) (ds : List Tree) (fault : CheckFault) → DefinesNot g before k ls ds fault → IsLowFault g.vertices fault
+  lemmas_low before k [] [] fault h = absurd h
+  lemmas_low before k [] (d ∷ ds) fault h = subst (IsLowFault g.vertices) (sym h) tt
+  lemmas_low before k (l ∷ ls) [] fault h = subst (IsLowFault g.vertices) (sym h) tt
+  lemmas_low before k (l ∷ ls) (d ∷ ds) fault (inl h) =
+      subst (IsLowFault g.vertices) (sym h.3) (step_low before l.plan (start_of g.vertices l.set) 0 h.0 h.1 h.2)
+  lemmas_low before k (l ∷ ls) (d ∷ ds) fault (inr (inl h)) = subst (IsLowFault g.vertices) (sym h.3) tt
+  lemmas_low before k (l ∷ ls) (d ∷ ds) fault (inr (inr h)) = lemmas_low (before ++ (l.set ∷ [])) (k + 1) ls ds fault h.1
+
+  main_low : (allowed : List ℕ) (t : PlainTarget) (f : PlainFormula) (d : PlainDerivation) (fault : CheckFault) → EndsNot g allowed t f d fault → IsLowFault g.vertices fault
+  main_low allowed t f d fault (inl h) = subst (IsLowFault g.vertices) (sym h.3) (step_low (sets_of d.lemmas) d.main (term_of t) 0 h.0 h.1 h.2)
+  main_low allowed t f d fault (inr (inl h)) = subst (IsLowFault g.vertices) (sym h.3) tt
+  main_low allowed t f d fault (inr (inr h)) = subst (IsLowFault g.vertices) (sym h.2) tt
+
+  -- the path of a derivation's first fault, where it has one, lies in the graph
+  pub fault_low : (allowed : List ℕ) (t : PlainTarget) (f : PlainFormula) (d : PlainDerivation) (fault : CheckFault) → AcceptsNot g allowed t f d fault → IsLowFault g.vertices fault
+  fault_low allowed t f d fault (inl h) = lemmas_low [] 0 d.lemmas f.defs fault h
+  fault_low allowed t f d fault (inr h) = main_low allowed t f d fault h.1

@@ -1,0 +1,60 @@
+-- What the parts of a check ask and reply.
+use Rattle.std.specs.Prelude.{ℕ, ◌≡◌, ◌<◌, ◌≤◌, true, List, None, slice_index}
+use Rattle.mixed_graph.specs.Graphs.{MixedGraph}
+use Rattle.m_separation.specs.declared.paths.OpenPath.{OpenPath}
+use Rattle.prob_expr.specs.Check.{fault_in}
+use Rattle.prob_expr.specs.Terms.{is_term}
+use Rattle.prob_expr.specs.Tree.{PlainFormula, PlainTarget}
+use Rattle.do_derivation.specs.Accepts.{are_sets, sets_of}
+use Rattle.do_derivation.specs.Plans.{PlainDerivation}
+use Rattle.do_derivation.specs.declared.faults.StepFault.{StepFault}
+use Rattle.do_derivation.specs.declared.faults.StepFault.TheVariants.{NotATerm, Sets, Unblocked, BadOrder, Grouping, NoLemma, NoPlace, Shape}
+use Rattle.do_derivation.specs.declared.faults.CheckFault.{CheckFault}
+use Rattle.do_derivation.specs.declared.faults.CheckFault.TheVariants.{Step, EndDiffers, DoLeft, NoMemory}
+use Rattle.hedge.specs.declared.kinds.Hedge.{Hedge}
+use Rattle.replies.specs.declared.outcome.Reply.{Reply}
+use Rattle.check_command.specs.Answers.{FormulaAnswer, HedgeAnswer}
+
+-- the target of a certificate that was read: its sets are below n and don't meet, and y isn't empty
+abbrev pub IsSoundTarget : ℕ → PlainTarget → Type 0
+IsSoundTarget n t = is_term n t.y t.x t.given ≡ true
+
+-- the formula of a certificate that was read has no fault
+abbrev pub IsSoundFormula : ℕ → PlainFormula → Type 0
+IsSoundFormula n f = fault_in n f ≡ None
+
+-- the lemmas of a certificate that was read have sets below n that aren't empty
+abbrev pub IsSoundDerivation : ℕ → PlainDerivation → Type 0
+IsSoundDerivation n d = are_sets n (sets_of d.lemmas) ≡ true
+
+-- the path has a vertex and at most 64, all of them below n
+pub record IsLowPath (n : ℕ) (p : OpenPath) : Type 0 where
+  pub some : 0 < p.count
+  pub few : p.count ≤ 64
+  pub low : (i : ℕ) → i < p.count → slice_index p.vertices i < n
+
+-- the path of a step's fault, where it has one, lies below n
+abbrev pub HasLowPath : ℕ → StepFault → Type 0
+HasLowPath n NotATerm = Unit {0}
+HasLowPath n Sets = Unit {0}
+HasLowPath n (Unblocked p) = IsLowPath n p
+HasLowPath n BadOrder = Unit {0}
+HasLowPath n Grouping = Unit {0}
+HasLowPath n (NoLemma k) = Unit {0}
+HasLowPath n (NoPlace i) = Unit {0}
+HasLowPath n Shape = Unit {0}
+
+-- the path of a derivation's fault, where it has one, lies below n
+abbrev pub IsLowFault : ℕ → CheckFault → Type 0
+IsLowFault n (Step place fault) = HasLowPath n fault
+IsLowFault n (EndDiffers k) = Unit {0}
+IsLowFault n DoLeft = Unit {0}
+IsLowFault n NoMemory = Unit {0}
+
+-- the reply is the answer for a formula with its derivation
+abbrev pub AnswersFormula : MixedGraph → List (List ℕ) → PlainTarget → PlainFormula → PlainDerivation → Reply → Type 0
+AnswersFormula q names t f d reply = FormulaAnswer q names t f d reply.outcome reply.text.items
+
+-- the reply is the answer for a hedge
+abbrev pub AnswersHedge : MixedGraph → List (List ℕ) → PlainTarget → Hedge → Reply → Type 0
+AnswersHedge q names t h reply = HedgeAnswer q names t h reply.outcome reply.text.items

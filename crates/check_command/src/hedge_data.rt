@@ -1,0 +1,55 @@
+ghost use Rattle.std.specs.Prelude.{◌≡◌, IfOk, length};
+ghost use Rattle.mixed_graph.specs.Shown.{graph_of};
+ghost use Rattle.prob_expr.specs.View.{target_view};
+ghost use Rattle.hedge.specs.Hedges.{IsHedge};
+ghost use Rattle.check_command.specs.Replies.{IsSoundTarget, AnswersHedge};
+
+use crate::lines::{accepted_text, hedge_text};
+use counter_models::{build, laws};
+use hedge::{Hedge, holds};
+use identify_text::hedge_heading;
+use latent_projection::Observed;
+use prob_expr::Target;
+use replies::{Outcome, Reply};
+use std::alloc::{AllocError, Global};
+
+/// The answer for a hedge.
+pub fn check_hedge(
+    alloc: Global,
+    seen: &Observed,
+    target: &Target,
+    hedge: &Hedge,
+) -> Result<Reply, AllocError>
+    requires named { length seen.now.names ≡ seen.now.graph.n }
+    requires target { IsSoundTarget (length seen.now.names) (target_view target.now) }
+    ensures { IfOk result (AnswersHedge (graph_of seen.now.graph) seen.now.names (target_view target.now) hedge.now) }
+{
+    match holds(&seen.graph, target.x, target.y, hedge) {
+        Ok(()) => accept(alloc, seen, target, hedge),
+        Err(fault) => Ok(Reply {
+            outcome: Outcome::No,
+            text: hedge_text(alloc, &seen.names, fault)?,
+        }),
+    }
+}
+
+/// The answer for a hedge that holds: its two models show that the effect isn't identifiable.
+fn accept(
+    alloc: Global,
+    seen: &Observed,
+    target: &Target,
+    hedge: &Hedge,
+) -> Result<Reply, AllocError>
+    requires named { length seen.now.names ≡ seen.now.graph.n }
+    requires target { IsSoundTarget (length seen.now.names) (target_view target.now) }
+    requires hedge { IsHedge (graph_of seen.now.graph) target.now.x.bits target.now.y.bits hedge.now }
+    ensures { IfOk result (AnswersHedge (graph_of seen.now.graph) seen.now.names (target_view target.now) hedge.now) }
+{
+    laws();
+    let _pair = build(alloc, &seen.graph, target.x, target.y, hedge)?;
+    let heading = hedge_heading(alloc, target.x, target.y, hedge, &seen.names)?;
+    Ok(Reply {
+        outcome: Outcome::Yes,
+        text: accepted_text(alloc, &heading)?,
+    })
+}

@@ -1,0 +1,108 @@
+-- The steps of an accepted derivation name vertices of the graph alone.
+use Rattle.std.proofs.Common.{ℕ, ◌≡◌, ◌<◌, Bool, true, false, not, ◌&&◌, leb, ltb, List, [], ◌∷◌, ◌++◌, length, Option, Some, None, MatchOption, refl}
+use Rattle.std.proofs.lemmas.Bool.{and_from, lt-ltb}
+use Rattle.mixed_graph.specs.Bits.{has}
+use Rattle.mixed_graph.specs.Graphs.{MixedGraph, IsMixedGraph}
+use Rattle.finite_models.proofs.Bools.{and_first, and_second}
+use Rattle.prob_expr.specs.Masks.{minus, one, is_empty, is_apart, is_inside, is_below}
+use Rattle.prob_expr.specs.Terms.{is_term}
+use Rattle.prob_expr.specs.Tree.{Tree, prob, sum, product, quotient, named, PlainFormula, PlainTarget, term_of}
+use Rattle.prob_expr.proofs.MaskLaws.{below_from, inside_has}
+use Rattle.do_derivation.specs.Accepts.{Accepts, Define, start_of, sets_of, are_sets}
+use Rattle.do_derivation.specs.Plans.{Move, Plan, Plans, no_plans, plan, PlainLemma, PlainDerivation}
+use Rattle.do_derivation.specs.Shapes.{is_list_of, child, with_child}
+use Rattle.do_derivation.specs.Steps.{IsMade, Makes, MakesAll}
+use Rattle.do_derivation.specs.Table.{Row, row, on_term, if_so, is_new, is_part}
+use Rattle.do_derivation.specs.declared.faults.StepFault.{StepFault}
+use Rattle.do_derivation.proofs.Accepted.{start_term}
+use Rattle.do_derivation.proofs.Preserved.{step_keeps_terms}
+use Rattle.do_derivation.proofs.TermSets.{IsTerm, minus_left, term_from, term_filled}
+use Rattle.do_derivation.proofs.TreeTerms.{AreTerms, child_terms, terms_of, terms_test}
+use Rattle.prob_expr.proofs.MaskLaws.{filled_from}
+use Rattle.step_json.specs.Laws.{are_below, is_move_within, is_within, are_within}
+use Rattle.certificate_writing.specs.Writable.{are_steps_within, IsDerivationWithin}
+
+-- what is made where a test holds is made only where it does
+so : (g : MixedGraph) (b : Bool) (r : Row) (f : StepFault) (e : Tree) → IsMade g (if_so b r f) e → b ≡ true
+so g true r f e h = refl
+so g false r f e h = absurd h
+
+-- what is made of a term alone
+on_a_term : (g : MixedGraph) (f : ℕ → ℕ → ℕ → Row) (P : Type 0) (e e' : Tree) → AreTerms g.vertices e → ((a b c : ℕ) → IsTerm g.vertices a b c → IsMade g (f a b c) e' → P) → IsMade g (on_term f e) e' → P
+on_a_term g f P (prob a b c) e' t k h = k a b c t.0 h
+on_a_term g f P (sum u e) e' t k h = absurd h
+on_a_term g f P (product ts) e' t k h = absurd h
+on_a_term g f P (quotient p q) e' t k h = absurd h
+on_a_term g f P (named i) e' t k h = absurd h
+
+new_below : (n z a b c : ℕ) → is_new n z a b c ≡ true → is_below n z ≡ true
+new_below n z a b c e =
+    and_first (is_below n z) (is_apart z a && (is_apart z b && is_apart z c)) (and_second (not (is_empty z)) (is_below n z && (is_apart z a && (is_apart z b && is_apart z c))) e)
+
+part_below : (n z b : ℕ) → is_part z b ≡ true → ((v : ℕ) → has b v ≡ true → v < n) → is_below n z ≡ true
+part_below n z b e low = below_from n z (λ v h. low v (inside_has z b v (and_second (not (is_empty z)) (is_inside z b) e) h))
+
+-- the vertices of a chain are those of the term
+list_below : (n : ℕ) (o : List ℕ) (a : ℕ) → is_list_of o a ≡ true → ((v : ℕ) → has a v ≡ true → v < n) → are_below n o ≡ true
+list_below n [] a e low = refl
+list_below n (v ∷ o) a e low =
+    and_from (ltb v n) (are_below n o) (lt-ltb v n (low v (and_first (has a v) (is_list_of o (minus a (one v))) e)))
+    (list_below n o (minus a (one v)) (and_second (has a v) (is_list_of o (minus a (one v))) e) (λ u h. low u (minus_left a (one v) u h)))
+
+module _ (g : MixedGraph) (ok : IsMixedGraph g) (lemmas : List ℕ) where
+  move_within : (m : Move) (e e' : Tree) → AreTerms g.vertices e → IsMade g (row g.vertices lemmas m e) e' → is_move_within g.vertices m ≡ true
+  move_within (Move.Rule1In z) e e' t h = on_a_term g _ (is_below g.vertices z ≡ true) e e' t (λ a b c k made. new_below g.vertices z a b c (so g (is_new g.vertices z a b c) _ _ e' made)) h
+  move_within (Move.Rule1Out z) e e' t h = on_a_term g _ (is_below g.vertices z ≡ true) e e' t (λ a b c k made. part_below g.vertices z c (so g (is_part z c) _ _ e' made) k.given_below) h
+  move_within (Move.Rule2See z) e e' t h = on_a_term g _ (is_below g.vertices z ≡ true) e e' t (λ a b c k made. part_below g.vertices z b (so g (is_part z b) _ _ e' made) k.doing_below) h
+  move_within (Move.Rule2Do z) e e' t h = on_a_term g _ (is_below g.vertices z ≡ true) e e' t (λ a b c k made. part_below g.vertices z c (so g (is_part z c) _ _ e' made) k.given_below) h
+  move_within (Move.Rule3In z) e e' t h = on_a_term g _ (is_below g.vertices z ≡ true) e e' t (λ a b c k made. new_below g.vertices z a b c (so g (is_new g.vertices z a b c) _ _ e' made)) h
+  move_within (Move.Rule3Out z) e e' t h = on_a_term g _ (is_below g.vertices z ≡ true) e e' t (λ a b c k made. part_below g.vertices z b (so g (is_part z b) _ _ e' made) k.doing_below) h
+  move_within (Move.Chain o) e e' t h = on_a_term g _ (are_below g.vertices o ≡ true) e e' t (λ a b c k made.
+      list_below g.vertices o a (and_second (leb 2 (length o)) (is_list_of o a) (so g (leb 2 (length o) && is_list_of o a) _ _ e' made)) k.of_below) h
+  move_within Move.Unchain e e' t h = refl
+  move_within (Move.Group l) e e' t h = refl
+  move_within (Move.Widen u) e e' t h = on_a_term g _ (is_below g.vertices u ≡ true) e e' t (λ a b c k made. new_below g.vertices u a b c (so g (is_new g.vertices u a b c) _ _ e' made)) h
+  move_within Move.Narrow e e' t h = refl
+  move_within Move.Split e e' t h = refl
+  move_within (Move.Cite k) e e' t h = refl
+  move_within Move.Unwrap e e' t h = refl
+
+  -- a step on a child
+  at_child : (p : Plan) (e : Tree) (i : ℕ) (o : Option Tree) (e' : Tree) → child e i ≡ o → AreTerms g.vertices e
+      → ((c c' : Tree) → AreTerms g.vertices c → Makes g lemmas p c c' → is_within g.vertices p ≡ true)
+      → MatchOption o ⊥ (λ c. (c' : Tree) × Makes g lemmas p c c' × (e' ≡ with_child e i c')) → is_within g.vertices p ≡ true
+  at_child p e i None e' is t k h = absurd h
+  at_child p e i (Some c) e' is t k h = k c h.0 (child_terms g.vertices e i c is t) h.1
+
+  kept : (p : Plan) (e e' : Tree) → AreTerms g.vertices e → Makes g lemmas p e e' → AreTerms g.vertices e'
+  kept p e e' t h = terms_of g.vertices e' (step_keeps_terms g ok lemmas p e e' (terms_test g.vertices e t) h)
+
+  mutual
+    -- a step that makes something of terms names vertices of the graph alone
+    pub step_within : (p : Plan) (e e' : Tree) → AreTerms g.vertices e → Makes g lemmas p e e' → is_within g.vertices p ≡ true
+    step_within (Plan.Make m) e e' t h = move_within m e e' t h
+    step_within (Plan.At i p) e e' t h = at_child p e i (child e i) e' refl t (λ c c' tc k. step_within p c c' tc k) h
+    step_within (Plan.Then ps) e e' t h = steps_within ps e e' t h
+
+    steps_within : (ps : Plans) (e e' : Tree) → AreTerms g.vertices e → MakesAll g lemmas ps e e' → are_within g.vertices ps ≡ true
+    steps_within no_plans e e' t h = refl
+    steps_within (plan p ps) e e' t h = and_from (is_within g.vertices p) (are_within g.vertices ps) (step_within p e h.0 t h.1) (steps_within ps h.0 e' (kept p e h.0 t h.1) h.2)
+
+-- and so do the steps of the lemmas
+lemmas_within : (g : MixedGraph) → IsMixedGraph g → (before : List ℕ) (ls : List PlainLemma) (ds : List Tree) → are_sets g.vertices (sets_of ls) ≡ true → Define g before ls ds → are_steps_within g.vertices ls ≡ true
+lemmas_within g ok before [] ds s h = refl
+lemmas_within g ok before (l ∷ ls) [] s h = absurd h
+lemmas_within g ok before (l ∷ ls) (d ∷ ds) s h =
+    let here = and_first (is_below g.vertices l.set && not (is_empty l.set)) (are_sets g.vertices (sets_of ls)) s in
+    and_from (is_within g.vertices l.plan) (are_steps_within g.vertices ls)
+    (step_within g ok before l.plan (start_of g.vertices l.set) d
+    (start_term g.vertices l.set (and_first (is_below g.vertices l.set) (not (is_empty l.set)) here), filled_from l.set (and_second (is_below g.vertices l.set) (not (is_empty l.set)) here)) h.0)
+    (lemmas_within g ok (before ++ (l.set ∷ [])) ls ds (and_second (is_below g.vertices l.set && not (is_empty l.set)) (are_sets g.vertices (sets_of ls)) s) h.1)
+
+-- an accepted derivation names vertices of the graph alone
+pub derivation_within : (g : MixedGraph) → IsMixedGraph g → (allowed : List ℕ) (t : PlainTarget) (f : PlainFormula) (d : PlainDerivation) → is_term g.vertices t.y t.x t.given ≡ true → Accepts g allowed t f d → IsDerivationWithin g.vertices d
+derivation_within g ok allowed t f d term a = record {
+  sets = a.sets;
+  lemmas = lemmas_within g ok [] d.lemmas f.defs a.sets a.define;
+  main = step_within g ok (sets_of d.lemmas) d.main (term_of t) f.main (term_from g.vertices t.y t.x t.given term, term_filled g.vertices t.y t.x t.given term) a.main;
+}

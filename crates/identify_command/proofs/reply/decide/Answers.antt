@@ -1,0 +1,69 @@
+use Rattle.std.proofs.Common.{[], sym, subst}
+use Rattle.mixed_graph.specs.Shown.{graph_of}
+use Rattle.hedge.specs.Hedges.{IsHedge}
+use Rattle.prob_expr.specs.View.{formula_view}
+use Rattle.do_derivation.specs.Accepts.{Accepts}
+use Rattle.do_derivation.specs.View.{derivation_view}
+use Rattle.counter_models.specs.Events.{AreCounterModels}
+use Rattle.counter_models.specs.Pairs.{IsPairOf}
+use Rattle.identification.specs.Procedure.{IsUnidentified}
+use Rattle.id_recursion.specs.Answers.{effect_on, IsRight, IfFormula, IfHedge}
+use Rattle.id_recursion.specs.Hedged.{IsHedgeOf}
+use Rattle.identify_text.specs.Below.{IsHedgeBelow, ArePairBelow}
+use Rattle.identify_text.proofs.Belows.{hedge_below}
+use Rattle.certificate.specs.Plain.{hedge_view}
+use Rattle.certificate_writing.specs.Writable.{IsBareTarget, IsDerivationWithin, IsHedgeWithin}
+use Rattle.identify_command.proofs.Within.{derivation_within}
+use Rattle.identify_command.proofs.Writing.{bare_target, hedge_within, pair_below}
+use Rattle.identify_command.proofs.reply.decide.Goals as goal
+
+pub formula_text-requires-clause-target : goal.formula_text-requires-clause-target
+formula_text-requires-clause-target c = subst (λ n. IsBareTarget n (effect_on c.args.sets.x.bits c.args.sets.y.bits)) (sym c.requires.named)
+    (bare_target c.args.seen.now.graph.n c.args.sets.x.bits c.args.sets.y.bits c.requires.x c.requires.y c.requires.apart c.requires.some)
+
+pub formula_text-requires-clause-derivation : goal.formula_text-requires-clause-derivation
+formula_text-requires-clause-derivation c =
+    let g = graph_of c.args.seen.now.graph in
+    subst (λ n. IsDerivationWithin n (derivation_view c.in-Formula.derivation)) (sym c.requires.named)
+    (derivation_within g c.args.seen.now.graph.valid [] (effect_on c.args.sets.x.bits c.args.sets.y.bits) (formula_view c.in-Formula.formula) (derivation_view c.in-Formula.derivation)
+    (bare_target c.args.seen.now.graph.n c.args.sets.x.bits c.args.sets.y.bits c.requires.x c.requires.y c.requires.apart c.requires.some).sets
+    (subst (λ a. IfFormula a (Accepts g [] (effect_on c.args.sets.x.bits c.args.sets.y.bits))) c.in-Formula.is c.in_ok-formula.ensures.accepted))
+
+pub hedge_text-requires-clause-target : goal.hedge_text-requires-clause-target
+hedge_text-requires-clause-target c = subst (λ n. IsBareTarget n (effect_on c.args.sets.x.bits c.args.sets.y.bits)) (sym c.requires.named)
+    (bare_target c.args.seen.now.graph.n c.args.sets.x.bits c.args.sets.y.bits c.requires.x c.requires.y c.requires.apart c.requires.some)
+
+pub hedge_text-requires-clause-hedge : goal.hedge_text-requires-clause-hedge
+hedge_text-requires-clause-hedge c =
+    let g = graph_of c.args.seen.now.graph in
+    subst (λ n. IsHedgeBelow n c.in-Hedge.hedge) (sym c.requires.named)
+    (hedge_below g c.args.sets.x.bits c.args.sets.y.bits c.in-Hedge.hedge c.args.seen.now.graph.small
+    (subst (λ a. IfHedge a (λ h pair. IsHedge g c.args.sets.x.bits c.args.sets.y.bits h)) c.in-Hedge.is c.in_ok-formula.ensures.hedge))
+
+pub hedge_text-requires-clause-models : goal.hedge_text-requires-clause-models
+hedge_text-requires-clause-models c =
+    let g = graph_of c.args.seen.now.graph in
+    subst (λ n. ArePairBelow n c.in-Hedge.pair) (sym c.requires.named)
+    (pair_below g c.args.seen.now.graph.valid c.args.sets.x.bits c.args.sets.y.bits c.in-Hedge.hedge c.in-Hedge.pair c.requires.y
+    (subst (λ a. IfHedge a (IsPairOf g c.args.sets.x.bits c.args.sets.y.bits)) c.in-Hedge.is c.in_ok-formula.ensures.pair)
+    (subst (λ a. IfHedge a (λ h pair. AreCounterModels g c.args.sets.x.bits c.args.sets.y.bits pair)) c.in-Hedge.is c.in_ok-formula.ensures.counter))
+
+pub hedge_text-requires-clause-data : goal.hedge_text-requires-clause-data
+hedge_text-requires-clause-data c =
+    let g = graph_of c.args.seen.now.graph in
+    subst (λ n. IsHedgeWithin n (hedge_view c.in-Hedge.hedge)) (sym c.requires.named)
+    (hedge_within g c.args.sets.x.bits c.args.sets.y.bits c.in-Hedge.hedge c.sized.ensures.found c.sized.ensures.partner
+    (subst (λ a. IfHedge a (λ h pair. IsHedge g c.args.sets.x.bits c.args.sets.y.bits h)) c.in-Hedge.is c.in_ok-formula.ensures.hedge))
+
+pub returns-in_ok-hedge_text-in-Hedge : goal.returns-in_ok-hedge_text-in-Hedge
+returns-in_ok-hedge_text-in-Hedge c =
+    let g = graph_of c.args.seen.now.graph in
+    record {
+      hedge = c.in-Hedge.hedge;
+      pair = c.in-Hedge.pair;
+      right = subst (IsRight g c.args.sets.x.bits c.args.sets.y.bits) c.in-Hedge.is c.in_ok-formula.ensures.right;
+      stop = subst (λ a. IfHedge a (λ h pair. IsUnidentified g c.args.sets.x.bits c.args.sets.y.bits h.small.bits h.big.bits)) c.in-Hedge.is c.in_ok-formula.ensures.stop;
+      built = subst (λ a. IfHedge a (λ h pair. IsHedgeOf g h)) c.in-Hedge.is c.in_ok-formula.ensures.data;
+      models = subst (λ a. IfHedge a (IsPairOf g c.args.sets.x.bits c.args.sets.y.bits)) c.in-Hedge.is c.in_ok-formula.ensures.pair;
+      prints = c.in_ok-hedge_text-in-Hedge.ensures;
+    }

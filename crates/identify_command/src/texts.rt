@@ -1,0 +1,102 @@
+//! The texts of the answers.
+
+ghost use Rattle.std.specs.Prelude.{◌≡◌, ◌++◌, length, codes, None, IfOk};
+ghost use Rattle.mixed_graph.specs.Bits.{has};
+ghost use Rattle.mixed_graph.specs.Sets.{Within};
+ghost use Rattle.prob_expr.specs.Check.{fault_in};
+ghost use Rattle.prob_expr.specs.View.{target_view, formula_view};
+ghost use Rattle.do_derivation.specs.View.{derivation_view};
+ghost use Rattle.id_recursion.specs.Answers.{effect_on};
+ghost use Rattle.identify_text.specs.Below.{IsHedgeBelow, ArePairBelow};
+ghost use Rattle.certificate.specs.Plain.{certificate_view, hedge_view};
+ghost use Rattle.certificate_writing.specs.Writable.{IsBareTarget, IsDerivationWithin, IsHedgeWithin, IsWritable};
+ghost use Rattle.identify_command.specs.Answers.{certificate_line, formula_text, hedge_text};
+
+use crate::form::Form;
+use certificate::Certificate;
+use certificate_writing::write_answer;
+use counter_models::CounterPair;
+use do_derivation::Derivation;
+use hedge::Hedge;
+use identify_text::{formula_answer, hedge_answer, latex_answer};
+use mixed_graph::{Names, VSet};
+use prob_expr::{Formula, Target};
+use std::alloc::{AllocError, Global};
+use targets::EffectSets;
+
+/// The target P(y | do(x)).
+fn target_of(sets: EffectSets) -> Target
+    ensures { target_view result ≡ effect_on sets.x.bits sets.y.bits }
+{
+    Target {
+        x: sets.x,
+        y: sets.y,
+        given: VSet { bits: 0 },
+    }
+}
+
+/// A certificate, and a line feed.
+fn certificate_line(
+    alloc: Global,
+    certificate: &Certificate,
+    names: &Names,
+) -> Result<Vec<u8>, AllocError>
+    requires { IsWritable (length names.now) (certificate_view certificate.now) }
+    ensures { IfOk result (λ v. v.items ≡ certificate_line names.now (certificate_view certificate.now)) }
+{
+    let mut text = write_answer(alloc, certificate, names)?;
+    text.push(b'\n')?;
+    Ok(text)
+}
+
+/// The text of a formula with its derivation.
+pub fn formula_text(
+    alloc: Global,
+    names: &Names,
+    sets: EffectSets,
+    formula: Formula,
+    derivation: Derivation,
+    form: Form,
+) -> Result<Vec<u8>, AllocError>
+    requires x { Within (length names.now) (has sets.x.bits) }
+    requires y { Within (length names.now) (has sets.y.bits) }
+    requires target { IsBareTarget (length names.now) (effect_on sets.x.bits sets.y.bits) }
+    requires formula { fault_in (length names.now) (formula_view formula) ≡ None }
+    requires derivation { IsDerivationWithin (length names.now) (derivation_view derivation) }
+    ensures { IfOk result (λ v. v.items ≡ formula_text form names.now sets.x.bits sets.y.bits (formula_view formula) (derivation_view derivation)) }
+{
+    match form {
+        Form::Plain => formula_answer(alloc, &formula, sets.x, sets.y, names),
+        Form::Latex => latex_answer(alloc, &formula, sets.x, sets.y, names),
+        Form::Certificate => {
+            let certificate = Certificate::Formula(target_of(sets), formula, derivation);
+            certificate_line(alloc, &certificate, names)
+        }
+    }
+}
+
+/// The text of a hedge with its two models.
+pub fn hedge_text(
+    alloc: Global,
+    names: &Names,
+    sets: EffectSets,
+    hedge: Hedge,
+    pair: &CounterPair,
+    form: Form,
+) -> Result<Vec<u8>, AllocError>
+    requires x { Within (length names.now) (has sets.x.bits) }
+    requires y { Within (length names.now) (has sets.y.bits) }
+    requires target { IsBareTarget (length names.now) (effect_on sets.x.bits sets.y.bits) }
+    requires hedge { IsHedgeBelow (length names.now) hedge }
+    requires models { ArePairBelow (length names.now) pair.now }
+    requires data { IsHedgeWithin (length names.now) (hedge_view hedge) }
+    ensures { IfOk result (λ v. v.items ≡ hedge_text form names.now sets.x.bits sets.y.bits hedge pair.now) }
+{
+    match form {
+        Form::Plain | Form::Latex => hedge_answer(alloc, sets.x, sets.y, &hedge, pair, names),
+        Form::Certificate => {
+            let certificate = Certificate::Hedge(target_of(sets), hedge);
+            certificate_line(alloc, &certificate, names)
+        }
+    }
+}
