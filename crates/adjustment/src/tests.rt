@@ -23,15 +23,30 @@ enum Want {
     Open(&'static [u8], &'static [Mark]),
 }
 
-/// A graph, the sets x, y and z, and the answers of `adjusts` and of `back_door` for the exposure, if one is asked.
+/// A graph, the sets x, y and z, and the answers of `adjusts` and of `back_door` for vertex 0, if that is asked.
 #[derive(Clone, Copy)]
 struct Row {
     n: u32,
     directed: &'static [(u8, u8)],
     sets: [u64; 3],
     adjusts: Want,
-    exposure: u8,
     back_door: Option<Want>,
+}
+
+fn row_of(
+    n: u32,
+    directed: &'static [(u8, u8)],
+    sets: [u64; 3],
+    adjusts: Want,
+    back_door: Option<Want>,
+) -> Row {
+    Row {
+        n,
+        directed,
+        sets,
+        adjusts,
+        back_door,
+    }
 }
 
 fn shows(answer: &Result<(), AdjFault>, want: Want) -> bool {
@@ -56,90 +71,75 @@ fn ask_alone(g: &Graph, x: u8, y: VSet, z: VSet) -> Option<Result<(), AdjFault>>
     }
 }
 
+/// Whether the answers on the row's graph are those wanted.
+fn holds(row: &Row) -> bool {
+    if row.n > 64 || !all_below(row.n, row.directed) {
+        return false;
+    }
+    let Ok(g) = Graph::build(row.n, row.directed, &[]) else {
+        return false;
+    };
+    let [x, y, z] = row.sets.map(|bits| VSet { bits });
+    if !are_three_sets(&g, x, y, z) || !shows(&adjusts(&g, x, y, z), row.adjusts) {
+        return false;
+    }
+    match (row.back_door, ask_alone(&g, 0, y, z)) {
+        (None, _) => true,
+        (Some(want), Some(answer)) => shows(&answer, want),
+        (Some(_), None) => false,
+    }
+}
+
+fn term(of: u64, given: u64) -> Expr {
+    Expr::Prob {
+        of: VSet { bits: of },
+        doing: VSet { bits: 0 },
+        given: VSet { bits: given },
+    }
+}
+
 #[test]
 fn small_graphs(rt: HostRuntime) -> Result<(), AllocError> {
+    let open = Want::Open(
+        &[0, 1, 2, 3, 4],
+        &[Mark::Into, Mark::Out, Mark::Into, Mark::Out],
+    );
     let rows = [
         // X -> Y, X -> D: a descendant of x may stand in z, but not by the back-door criterion
-        Row {
-            n: 3,
-            directed: &[(0, 1), (0, 2)],
-            sets: [1, 2, 4],
-            adjusts: Want::Yes,
-            exposure: 0,
-            back_door: Some(Want::Forbidden(2)),
-        },
+        row_of(
+            3,
+            &[(0, 1), (0, 2)],
+            [1, 2, 4],
+            Want::Yes,
+            Some(Want::Forbidden(2)),
+        ),
         // X <- A -> M <- B -> Y, X -> Y: M opens a path
-        Row {
-            n: 5,
-            directed: M_BIAS,
-            sets: [1, 16, 4],
-            adjusts: Want::Open(
-                &[0, 1, 2, 3, 4],
-                &[Mark::Into, Mark::Out, Mark::Into, Mark::Out],
-            ),
-            exposure: 0,
-            back_door: Some(Want::Open(
-                &[0, 1, 2, 3, 4],
-                &[Mark::Into, Mark::Out, Mark::Into, Mark::Out],
-            )),
-        },
-        Row {
-            n: 5,
-            directed: M_BIAS,
-            sets: [1, 16, 0],
-            adjusts: Want::Yes,
-            exposure: 0,
-            back_door: Some(Want::Yes),
-        },
+        row_of(5, M_BIAS, [1, 16, 4], open, Some(open)),
+        row_of(5, M_BIAS, [1, 16, 0], Want::Yes, Some(Want::Yes)),
         // A -> B -> Y, A -> Y with both exposures: A -> B -> Y isn't proper
-        Row {
-            n: 3,
-            directed: &[(0, 1), (1, 2), (0, 2)],
-            sets: [3, 4, 0],
-            adjusts: Want::Yes,
-            exposure: 0,
-            back_door: None,
-        },
+        row_of(3, &[(0, 1), (1, 2), (0, 2)], [3, 4, 0], Want::Yes, None),
         // X -> M -> Y, M -> D: M and D are excluded
-        Row {
-            n: 4,
-            directed: &[(0, 1), (1, 2), (1, 3)],
-            sets: [1, 4, 10],
-            adjusts: Want::Forbidden(1),
-            exposure: 0,
-            back_door: Some(Want::Forbidden(1)),
-        },
+        row_of(
+            4,
+            &[(0, 1), (1, 2), (1, 3)],
+            [1, 4, 10],
+            Want::Forbidden(1),
+            Some(Want::Forbidden(1)),
+        ),
     ];
     for row in &rows {
-        assert!(rt; row.n <= 64 && all_below(row.n, row.directed));
-        match Graph::build(row.n, row.directed, &[]) {
-            Ok(g) => {
-                let [x, y, z] = row.sets.map(|bits| VSet { bits });
-                assert!(rt; are_three_sets(&g, x, y, z));
-                assert!(rt; shows(&adjusts(&g, x, y, z), row.adjusts));
-                if let Some(want) = row.back_door {
-                    match ask_alone(&g, row.exposure, y, z) {
-                        Some(answer) => assert!(rt; shows(&answer, want)),
-                        None => assert!(rt; false),
-                    }
-                }
-            }
-            Err(_) => assert!(rt; false),
-        }
+        assert!(rt; holds(row));
     }
     // sum{D} P(D) * P(Y | X, D), and P(Y | X)
     let alloc = rt.alloc();
     let [x, y, d] = [1, 2, 4].map(|bits| VSet { bits });
-    let term = |of: u64, given: u64| Expr::Prob {
-        of: VSet { bits: of },
-        doing: VSet { bits: 0 },
-        given: VSet { bits: given },
-    };
     let found = formula_for(alloc, x, y, d)?;
-    let body = Expr::Product(vec![in alloc; term(4, 0), term(2, 5)]?);
     let want = Expr::Sum {
         over: d,
-        body: Box::new(alloc, body)?,
+        body: Box::new(
+            alloc,
+            Expr::Product(vec![in alloc; term(4, 0), term(2, 5)]?),
+        )?,
     };
     assert!(rt; found.defs.is_empty() && is_same(&found.main, &want));
     let found = formula_for(alloc, x, y, VSet { bits: 0 })?;

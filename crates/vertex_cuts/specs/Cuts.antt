@@ -1,4 +1,4 @@
--- Vertex cuts in undirected graphs.
+-- Vertex cuts in undirected graphs (closest separators: Takata, 2010; van der Zander, Liskiewicz and Textor, 2014).
 use Rattle.std.specs.Prelude.{ℕ, ◌≡◌, Bool, true, false}
 
 -- v is reached from s by edges of `near` outside z
@@ -10,6 +10,7 @@ pub data Reached (near : ℕ → ℕ → Bool) (s z : ℕ → Bool) : ℕ → Ty
 abbrev pub IsCut : (ℕ → ℕ → Bool) → (x y z : ℕ → Bool) → Type 0
 IsCut near x y z = (v : ℕ) → y v ≡ true → Reached near x z v → ⊥
 
+-- each member of a is one of b
 abbrev pub IsPart : (ℕ → Bool) → (ℕ → Bool) → Type 0
 IsPart a b = (v : ℕ) → a v ≡ true → b v ≡ true
 
@@ -19,11 +20,11 @@ pub record IsMinimalCut (near : ℕ → ℕ → Bool) (allowed x y z : ℕ → B
   pub cuts : IsCut near x y z
   pub minimal : (p : ℕ → Bool) → IsPart p z → IsCut near x y p → IsPart z p
 
--- s stands on the side of x
+-- each member of s is reached from x outside z
 abbrev pub IsOnSide : (ℕ → ℕ → Bool) → (x z s : ℕ → Bool) → Type 0
 IsOnSide near x z s = (v : ℕ) → s v ≡ true → Reached near x z v
 
--- the minimal cut nearest to the side s, with its own side of x
+-- of the minimal cuts with s on the side of x, the one nearest to s: what it leaves on the side of x, each other leaves there too; and each vertex of it is next to that side
 pub record IsClosest (near : ℕ → ℕ → Bool) (allowed x y s cut side : ℕ → Bool) : Type 0 where
   pub minimal : IsMinimalCut near allowed x y cut
   pub side_is : IsOnSide near x cut side

@@ -1,10 +1,12 @@
 -- Properties of the members of a list.
 use Rattle.std.specs.Prelude.{List, [], ◌∷◌, ◌⊎◌}
 
+-- P holds of each member
 abbrev pub Each : {A : Type 0} → (A → Type 0) → List A → Type 0
 Each P [] = Unit {0}
 Each P (x ∷ xs) = P x × Each P xs
 
+-- P holds of some member
 abbrev pub SomeOf : {A : Type 0} → (A → Type 0) → List A → Type 0
 SomeOf P [] = ⊥
 SomeOf P (x ∷ xs) = P x ⊎ SomeOf P xs

@@ -1,0 +1,72 @@
+-- What values in a kind of quantity have to do with true values, over counts and in models.
+use Rattle.std.specs.Prelude.{ℕ, ◌*◌, ◌≡◌, ◌≤◌, ◌<◌, Bool, true, false, List, [], ◌∷◌, Result, Ok, Err}
+use Rattle.finite_models.specs.Models.{FiniteModel, IsPositiveModel, IsAssignment, Fits, weight_of, total}
+use Rattle.mixed_graph.specs.Graphs.{MixedGraph, IsMixedGraph}
+use Rattle.mixed_graph.specs.Bits.{has}
+use Rattle.prob_expr.specs.Tree.{Tree, prob, sum, product, quotient, named, Trees, no_trees, tree, PlainFormula}
+use Rattle.prob_expr.specs.Terms.{is_do_free}
+use Rattle.fractions.specs.Fractions.{Fraction, over, IsEqual}
+use Rattle.prob_expr.specs.Tree.{PlainTarget}
+use Rattle.prob_expr.specs.Values.{effect, EqualsEffect, Weights, weights_of, values_from, value_of}
+use Rattle.quantity.specs.declared.fault.QuantityFault.TheVariants.{ZeroBelow}
+use Rattle.quantity.specs.Kinds.{Pair, Kind}
+use Rattle.count_eval.specs.Stops.{Stop}
+use Rattle.count_eval.specs.Supported.{has_value, supported_from}
+use Rattle.count_eval.specs.Evaluated.{formula_value}
+
+-- whether the formula has a value over the weights: no denominator that is met is 0
+abbrev pub is_supported : Weights → PlainFormula → (ℕ → ℕ) → Bool
+is_supported w f = has_value w (values_from w (λ j s. over 1 1) 0 f.defs) (supported_from w (λ j s. over 1 1) (λ j s. true) 0 f.defs) f.main
+
+-- a value covers the true one, and a zero below means that there is none
+pub record IsCovered (covers : Pair → Fraction → Type 0) (w : Weights) (f : PlainFormula) (s : ℕ → ℕ) (r : Result Pair Stop) : Type 0 where
+  pub found : (c : Pair) → r ≡ Ok c → (is_supported w f s ≡ true) × covers c (value_of w f s)
+  pub none : (e : Stop) → r ≡ Err e → e.why ≡ ZeroBelow → is_supported w f s ≡ false
+
+-- each term and each sum has used vertices alone
+abbrev mutual
+  pub IsUsed : (ℕ → Bool) → Tree → Type 0
+  IsUsed used (prob a b c) = ((v : ℕ) → has a v ≡ true → used v ≡ true) × ((v : ℕ) → has c v ≡ true → used v ≡ true)
+  IsUsed used (sum u e) = ((v : ℕ) → has u v ≡ true → used v ≡ true) × IsUsed used e
+  IsUsed used (product fs) = AreUsed used fs
+  IsUsed used (quotient x y) = IsUsed used x × IsUsed used y
+  IsUsed used (named k) = Unit {0}
+
+  pub AreUsed : (ℕ → Bool) → Trees → Type 0
+  AreUsed used no_trees = Unit {0}
+  AreUsed used (tree e fs) = IsUsed used e × AreUsed used fs
+
+-- and so have all trees of the list
+abbrev pub AllUsed : (ℕ → Bool) → List Tree → Type 0
+AllUsed used [] = Unit {0}
+AllUsed used (d ∷ ds) = IsUsed used d × AllUsed used ds
+
+-- the model's observed weights are those of the counts, up to one factor
+pub record IsMatched (used : ℕ → Bool) (w : Weights) (all : ℕ) (m : FiniteModel) : Type 0 where
+  pub vertices : w.vertices ≡ m.vertices
+  pub sizes : (v : ℕ) → v < m.vertices → used v ≡ true → w.size v ≡ m.size v
+  pub some : 1 ≤ all
+  pub weights : (a : ℕ → Bool) → ((v : ℕ) → a v ≡ true → used v ≡ true) → (s : ℕ → ℕ) → IsAssignment m.vertices m.size s
+      → weight_of m (λ v. false) a s * all ≡ w.weight (λ v. false) a s * total m
+
+-- over any weights, what a kind gives is covered
+abbrev pub EachIsCovered : Kind → (Pair → Fraction → Type 0) → Type 0
+EachIsCovered kind covers = (w : Weights) (f : PlainFormula) (s : ℕ → ℕ) → IsCovered covers w f s (formula_value kind w f s)
+
+-- in a matching positive model the formula has a value over the counts, and it is the model's
+abbrev pub MatchedHasValue : Type 0
+MatchedHasValue = (g : MixedGraph) → IsMixedGraph g → (m : FiniteModel) → Fits g m → IsPositiveModel m → (used : ℕ → Bool) (w : Weights) (all : ℕ) → IsMatched used w all m
+    → (f : PlainFormula) → is_do_free f ≡ true → AllUsed used f.defs → IsUsed used f.main → (s : ℕ → ℕ) → IsAssignment m.vertices m.size s
+    → (is_supported w f s ≡ true) × IsEqual (value_of w f s) (value_of (weights_of m) f s)
+
+-- what a kind gives over counts that match a positive model covers the formula's value in the model
+abbrev pub MatchedIsCovered : Kind → (Pair → Fraction → Type 0) → Type 0
+MatchedIsCovered kind covers = (g : MixedGraph) → IsMixedGraph g → (m : FiniteModel) → Fits g m → IsPositiveModel m → (used : ℕ → Bool) (w : Weights) (all : ℕ) → IsMatched used w all m
+    → (f : PlainFormula) → is_do_free f ≡ true → AllUsed used f.defs → IsUsed used f.main → (s : ℕ → ℕ) → IsAssignment m.vertices m.size s
+    → (c : Pair) → formula_value kind w f s ≡ Ok c → covers c (value_of (weights_of m) f s)
+
+-- and where the formula equals an effect in each positive model of the graph, it covers the effect in the model
+abbrev pub MatchedCoversEffect : Kind → (Pair → Fraction → Type 0) → Type 0
+MatchedCoversEffect kind covers = (g : MixedGraph) → IsMixedGraph g → (m : FiniteModel) → Fits g m → IsPositiveModel m → (used : ℕ → Bool) (w : Weights) (all : ℕ) → IsMatched used w all m
+    → (f : PlainFormula) → is_do_free f ≡ true → AllUsed used f.defs → IsUsed used f.main → (t : PlainTarget) → EqualsEffect g t f → (s : ℕ → ℕ) → IsAssignment m.vertices m.size s
+    → (c : Pair) → formula_value kind w f s ≡ Ok c → covers c (effect m t s)

@@ -1,0 +1,6 @@
+pub mod Stops
+pub mod Steps
+pub mod Evaluated
+pub mod Supported
+pub mod Laws
+pub mod Programs
