@@ -26,50 +26,6 @@ struct Row {
     sets: &'static [u64],
 }
 
-fn row_of(
-    n: u32,
-    directed: &'static [(u8, u8)],
-    both: &'static [(u8, u8)],
-    x: u64,
-    y: u64,
-    sets: &'static [u64],
-) -> Row {
-    Row {
-        n,
-        directed,
-        both,
-        x,
-        y,
-        sets,
-    }
-}
-
-/// A -> E, A -> Z, B -> D, B -> Z, E -> D, Z -> D, Z -> E
-const TWO_SETS: &[(u8, u8)] = &[(0, 3), (0, 4), (1, 2), (1, 4), (3, 2), (4, 2), (4, 3)];
-
-/// 62 common causes of 62 and 63, and 62 -> 63.
-fn common_causes(alloc: Global) -> Result<Vec<(u8, u8)>, AllocError> {
-    let mut directed = Vec::new(alloc);
-    for i in 0..62u8 {
-        directed.push((i, 62u8))?;
-        directed.push((i, 63u8))?;
-    }
-    directed.push((62, 63))?;
-    Ok(directed)
-}
-
-/// 31 chains 62 <- 2i -> 2i + 1 -> 63, and 62 -> 63.
-fn chains(alloc: Global) -> Result<Vec<(u8, u8)>, AllocError> {
-    let mut directed = Vec::new(alloc);
-    for i in 0..31u8 {
-        directed.push((2 * i, 62u8))?;
-        directed.push((2 * i, 2 * i + 1))?;
-        directed.push((2 * i + 1, 63u8))?;
-    }
-    directed.push((62, 63))?;
-    Ok(directed)
-}
-
 /// The listing on the graph with these edges; none where they or the sets aren't allowed.
 fn ask<L: Ledger>(
     alloc: Global,
@@ -116,43 +72,50 @@ fn one_of_each_pair(s: VSet) -> bool {
     s.bits >> 62 == 0 && (s.bits ^ (s.bits >> 1)) & first == first
 }
 
-/// Whether there are a hundred such sets, in ascending order, and more.
-fn shows_a_hundred(found: &Option<Listing>) -> bool {
-    match found {
-        None => false,
-        Some(l) => {
-            l.more
-                && l.sets.len() == 100
-                && l.sets.iter().all(|s| one_of_each_pair(*s))
-                && l.sets
-                    .windows(2)
-                    .all(|p| p[0].compare_members(p[1]) == Ordering::Less)
-        }
-    }
-}
-
 #[test]
 fn minimal_sets_of_graphs(rt: HostRuntime) -> Result<(), AllocError> {
     let alloc = rt.alloc();
     let rows = [
         // X -> Y: the empty set
-        row_of(2, &[(0, 1)], &[], 1, 2, &[0]),
+        Row {
+            n: 2,
+            directed: &[(0, 1)],
+            both: &[],
+            x: 1,
+            y: 2,
+            sets: &[0],
+        },
         // X -> Y, X <-> Y: none
-        row_of(2, &[(0, 1)], &[(0, 1)], 1, 2, &[]),
+        Row {
+            n: 2,
+            directed: &[(0, 1)],
+            both: &[(0, 1)],
+            x: 1,
+            y: 2,
+            sets: &[],
+        },
         // X <- A -> M <- B -> Y, X -> Y: the empty set alone
-        row_of(
-            5,
-            &[(1, 0), (1, 2), (3, 2), (3, 4), (0, 4)],
-            &[],
-            1,
-            16,
-            &[0],
-        ),
-        // {A,Z} and {B,Z} for E on D
-        row_of(5, TWO_SETS, &[], 8, 4, &[17, 18]),
+        Row {
+            n: 5,
+            directed: &[(1, 0), (1, 2), (3, 2), (3, 4), (0, 4)],
+            both: &[],
+            x: 1,
+            y: 16,
+            sets: &[0],
+        },
+        // A -> E, A -> Z, B -> D, B -> Z, E -> D, Z -> D, Z -> E: {A,Z} and {B,Z} for E on D
+        Row {
+            n: 5,
+            directed: &[(0, 3), (0, 4), (1, 2), (1, 4), (3, 2), (4, 2), (4, 3)],
+            both: &[],
+            x: 8,
+            y: 4,
+            sets: &[17, 18],
+        },
     ];
     for row in &rows {
-        let [x, y] = [row.x, row.y].map(|bits| VSet { bits });
+        let x = VSet { bits: row.x };
+        let y = VSet { bits: row.y };
         let found = ask::<Brand>(
             alloc,
             Blank::new(1),
@@ -166,24 +129,47 @@ fn minimal_sets_of_graphs(rt: HostRuntime) -> Result<(), AllocError> {
         assert!(rt; shows(&found, row.sets, false));
     }
     // as many as asked for, and more
-    let [x, y] = [8, 4].map(|bits| VSet { bits });
-    let found = ask::<Brand>(alloc, Blank::new(1), 5, TWO_SETS, &[], x, y, 1)?;
-    assert!(rt; shows(&found, &[17], true) || shows(&found, &[18], true));
-    // 62 common causes: all of them
-    let [x, y] = [1 << 62, 1 << 63].map(|bits| VSet { bits });
     let found = ask::<Brand>(
         alloc,
         Blank::new(1),
-        64,
-        &common_causes(alloc)?,
+        5,
+        rows[3].directed,
         &[],
-        x,
-        y,
+        VSet { bits: 8 },
+        VSet { bits: 4 },
         1,
     )?;
+    assert!(rt; shows(&found, &[17], true) || shows(&found, &[18], true));
+    let x = VSet { bits: 1 << 62 };
+    let y = VSet { bits: 1 << 63 };
+    // 62 common causes: all of them
+    let mut directed = Vec::new(alloc);
+    for i in 0..62u8 {
+        directed.push((i, 62u8))?;
+        directed.push((i, 63u8))?;
+    }
+    directed.push((62, 63))?;
+    let found = ask::<Brand>(alloc, Blank::new(1), 64, &directed, &[], x, y, 1)?;
     assert!(rt; shows(&found, &[(1 << 62) - 1], false));
     // 31 chains: one vertex of each, 2^31 sets
-    let found = ask::<Brand>(alloc, Blank::new(1), 64, &chains(alloc)?, &[], x, y, 100)?;
-    assert!(rt; shows_a_hundred(&found));
+    let mut directed = Vec::new(alloc);
+    for i in 0..31u8 {
+        directed.push((2 * i, 62u8))?;
+        directed.push((2 * i, 2 * i + 1))?;
+        directed.push((2 * i + 1, 63u8))?;
+    }
+    directed.push((62, 63))?;
+    match ask::<Brand>(alloc, Blank::new(1), 64, &directed, &[], x, y, 100)? {
+        Some(l) => {
+            assert!(rt; l.more && l.sets.len() == 100);
+            assert!(rt; l.sets.iter().all(|s| one_of_each_pair(*s)));
+            assert!(rt;
+                l.sets
+                    .windows(2)
+                    .all(|p| p[0].compare_members(p[1]) == Ordering::Less)
+            );
+        }
+        None => assert!(rt; false),
+    }
     Ok(())
 }
