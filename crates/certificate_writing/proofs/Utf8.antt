@@ -1,6 +1,5 @@
 -- The text of an expression is UTF-8.
-use Rattle.std.proofs.Common.{◌≡◌, ◌<◌, ◌≤◌, ℕ, zero, suc, ◌+◌, ◌/◌, ◌%◌, ◌==◌, Bool, true, false, cond, inl, inr, List, [], ◌∷◌, ◌++◌, map, length, codes, decimal, refl, arith, get_or, subst, sym}
-use Rattle.std.specs.Prelude.{All}
+use Rattle.std.proofs.Common.{◌<◌, ℕ, zero, suc, ◌/◌, ◌%◌, ◌==◌, Bool, true, false, cond, inl, inr, List, [], ◌∷◌, ◌++◌, map, length, codes, decimal, arith, subst, sym}
 use Rattle.std.specs.Str.{IsUtf8, IsAscii}
 use Rattle.std.specs.Fmt.{digits, digits_onto, digit_glyph}
 use Rattle.std.proofs.lemmas.Bool.{cases_lt}
@@ -8,9 +7,9 @@ use Rattle.std.proofs.lemmas.List.{get_or_past}
 use Rattle.std.proofs.lemmas.Str.{IsUtf8-nil, IsUtf8-from_ascii, IsUtf8-from_is_utf8, IsUtf8-append}
 use Rattle.std.proofs.lemmas.Str.Ascii.{IsAscii-cons, IsAscii-nil}
 use Rattle.mixed_graph.specs.Bits.{has, members_below}
-use Rattle.mixed_graph.specs.Names.{AreNames, IsName, name_of}
+use Rattle.mixed_graph.specs.Names.{AreNames, name_of}
 use Rattle.name_text.specs.Printing.{is_plain, printed, comma_text}
-use Rattle.answer_text.specs.Texts.{set_text, member_names, conditions_text, term_text}
+use Rattle.answer_text.specs.Texts.{set_text, conditions_text, term_text}
 use Rattle.prob_expr.specs.Tree.{Tree, prob, sum, product, quotient, named, Trees, no_trees, tree}
 use Rattle.expr_text.specs.Write.{parenthesized, wrapped, text_of, factors_text, more_factors_text}
 

@@ -1,8 +1,9 @@
-//! Certificates of answers, written as JSON texts.
+//! Certificates of answers, written as JSON texts that are read again.
 #![tactic(auto)]
 
 mod formulas;
 mod hedges;
+mod kept;
 mod objects;
 mod writing;
 

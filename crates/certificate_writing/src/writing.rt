@@ -11,6 +11,7 @@ ghost use Rattle.certificate_writing.specs.Written.{certificate_value, certifica
 
 use crate::formulas::{expr_value, exprs_value, lemmas_value};
 use crate::hedges::{choices_value, links_value};
+use crate::kept::certificate_kept;
 use crate::objects::{formula_object, hedge_object};
 use certificate::Certificate;
 use do_derivation::Derivation;
@@ -85,11 +86,15 @@ fn known(names: &Names)
 }
 
 /// The text of a certificate: one JSON object in compact form, its members sorted by key, and no line feed at the end.
+///
+/// It is read again, unless steps, or parentheses and sums of an expression, nest more than 60 deep.
 pub fn write_answer(alloc: Global, c: &Certificate, names: &Names) -> Result<Vec<u8>, AllocError>
     requires { IsWritable (length names.now) (certificate_view c.now) }
-    ensures { IfOk result (λ v. v.items ≡ certificate_text names.now (certificate_view c.now)) }
+    ensures text { IfOk result (λ v. v.items ≡ certificate_text names.now (certificate_view c.now)) }
+    ensures reads_back { IfOk result (λ v. IsShallow (certificate_view c.now) → certificate_in names.now v.items ≡ Ok (certificate_view c.now)) }
 {
     known(names);
+    certificate_kept(c);
     let value = certificate_value(alloc, names, c)?;
     let text = value.to_vec(alloc)?;
     Ok(text)

@@ -1,4 +1,4 @@
-use Rattle.std.proofs.Common.{◌≡◌, refl, ◌∙◌, arith}
+use Rattle.std.proofs.Common.{arith}
 use Rattle.certificate_writing.specs.Written.{choices_from}
 use Rattle.certificate_writing.proofs.Pairs.{choice_listed, choices_listed}
 use Rattle.certificate_writing.proofs.hedges.choices_of.Goals as goal

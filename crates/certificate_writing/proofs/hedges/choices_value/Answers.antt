@@ -1,4 +1,4 @@
-use Rattle.std.proofs.Common.{◌≡◌, length, sym, subst, ◌∙◌, arith}
+use Rattle.std.proofs.Common.{length, sym, subst, ◌∙◌, arith}
 use Rattle.std.specs.Prelude.{All}
 use Rattle.certificate_writing.proofs.Pairs.{IsWithin, choices_within}
 use Rattle.certificate_writing.proofs.hedges.choices_value.Goals as goal

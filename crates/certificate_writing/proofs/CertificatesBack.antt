@@ -1,0 +1,207 @@
+-- What is written for a certificate is read again.
+use Rattle.std.proofs.Common.{◌≡◌, ◌≤◌, ◌<◌, ◌==◌, ℕ, Bool, true, false, cond, not, ◌&&◌, List, [], ◌∷◌, length, codes, Some, None, Result, Ok, Err, is_ok, refl, sym, ap, subst, ◌∙◌, arith}
+use Rattle.std.specs.Prelude.{All}
+use Rattle.mixed_graph.specs.Bits.{has, members_below}
+use Rattle.mixed_graph.specs.Names.{AreNames}
+use Rattle.prob_expr.specs.Masks.{is_empty, is_below, is_apart, are_term_sets}
+use Rattle.prob_expr.specs.Tree.{Tree, PlainTarget, PlainFormula}
+use Rattle.prob_expr.specs.Check.{check_tree, fault_of, fault_in_defs, fault_in}
+use Rattle.expr_text.proofs.Checked.{neither}
+use Rattle.prob_expr.proofs.MaskLaws.{apart_from, apart_has, has_none}
+use Rattle.do_derivation.specs.Plans.{PlainLemma, PlainDerivation}
+use Rattle.expr_text.specs.Write.{text_of}
+use Rattle.expr_text.proofs.Within.{and_true}
+use Rattle.serde_json.specs.Data.{Data, string, array, depth, items_depth}
+use Rattle.serde_json.specs.Find.{get, as_object}
+use Rattle.step_json.specs.Reading.{each, set_in, filled_set_in, step_in}
+use Rattle.step_json.specs.Values.{set_value, step_value}
+use Rattle.step_json.specs.declared.fault.ValueFault.{ValueFault}
+use Rattle.step_json.proofs.SetsBack.{set_reads_back}
+use Rattle.step_json.proofs.StepsBack.{step_reads_back}
+use Rattle.step_json.proofs.StepDepth.{names_flat, step_nests}
+use Rattle.certificate.specs.declared.fault.Key.{Key}
+use Rattle.certificate.specs.declared.fault.Key.TheVariants as keys
+use Rattle.certificate.specs.declared.fault.CertFault.TheVariants.{NotJson, Member}
+use Rattle.certificate.specs.Faults.{◌>>=◌, at_key, or_fault}
+use Rattle.certificate.specs.Plain.{PlainHedge, PlainCertificate, formula, hedge}
+use Rattle.certificate.specs.HedgeReading.{choice_in, links_in}
+use Rattle.certificate.specs.Reading.{member_by, main_in, more_defs, defs_in, lemma_in, lemmas_in, version_in, target_in, whole, formula_in, derivation_in, member_count, formula_certificate_in, hedge_in, hedge_certificate_in, value_certificate, json_of, certificate_in}
+use Rattle.certificate_writing.specs.Kept.{IsKept, IsStartBlank}
+use Rattle.certificate_writing.specs.Writable.{IsBareTarget, IsHedgeWithin, IsWritable, AreStepsShallow, IsShallow}
+use Rattle.certificate_writing.specs.Written.{expr_items, lemma_items, choices_from, pair_items, link_items, certificate_value}
+use Rattle.certificate_writing.proofs.FormulasBack.{main_back, whole_back, defs_back, filled_back, lemmas_back}
+use Rattle.certificate_writing.proofs.HedgesBack.{choice_back, links_back}
+use Rattle.certificate_writing.proofs.Pairs.{IsWithin}
+
+-- ---- members
+
+-- a member that is there and reads back
+member_back : {A : Type 0} (key : Key) (name : List ℕ) (f : Data → Result A ValueFault) (d v : Data) (x : A) → get name d ≡ Some v → f v ≡ Ok x → member_by key name f d ≡ Ok x
+member_back key name f d v x at reads = ap (λ r. or_fault (Member key) r >>= λ v. at_key key (f v)) at ∙ ap (at_key key) reads
+
+none_apart : (set : ℕ) → is_apart 0 set ≡ true
+none_apart set = apart_from 0 set (λ v h. absurd (nothing_in v h))
+  where
+    nothing_in : (v : ℕ) → has 0 v ≡ true → ⊥
+    nothing_in v h = cc (h, has_none v)
+
+set_back : (names : List (List ℕ)) (key : Key) (name : List ℕ) (d : Data) (set : ℕ) → AreNames names → is_below (length names) set ≡ true → get name d ≡ Some (set_value names set)
+    → member_by key name (set_in names 0) d ≡ Ok set
+set_back names key name d set are within at = member_back key name (set_in names 0) d (set_value names set) set at (set_reads_back names 0 set are within (none_apart set))
+
+-- the parts of a bare target
+record TargetParts (n : ℕ) (t : PlainTarget) : Type 0 where
+  x_below : is_below n t.x ≡ true
+  y_below : is_below n t.y ≡ true
+  apart : is_apart t.x t.y ≡ true
+  some : not (is_empty t.y) ≡ true
+
+other_way : (a b : ℕ) → is_apart a b ≡ true → is_apart b a ≡ true
+other_way a b h = apart_from b a (λ v e. go v e (has a v) refl)
+  where
+    go : (v : ℕ) → has b v ≡ true → (c : Bool) → has a v ≡ c → has a v ≡ false
+    go v e true k = cc (e, apart_has a b v h k)
+    go v e false k = k
+
+target_parts : (n : ℕ) (t : PlainTarget) → IsBareTarget n t → TargetParts n t
+target_parts n t bare =
+    let a = and_true (are_term_sets n t.y t.x t.given) (not (is_empty t.y)) bare.sets in
+    let s = and_true (is_below n t.y && (is_below n t.x && is_below n t.given)) (is_apart t.y t.x && (is_apart t.y t.given && is_apart t.x t.given)) a.0 in
+    let y = and_true (is_below n t.y) (is_below n t.x && is_below n t.given) s.0 in
+    let x = and_true (is_below n t.x) (is_below n t.given) y.1 in
+    let p = and_true (is_apart t.y t.x) (is_apart t.y t.given && is_apart t.x t.given) s.1 in
+    record { x_below = x.0; y_below = y.0; apart = other_way t.y t.x p.0; some = a.1 }
+
+target_back : (names : List (List ℕ)) (d : Data) (t : PlainTarget) → AreNames names → IsBareTarget (length names) t → get (codes "x") d ≡ Some (set_value names t.x) → get (codes "y") d ≡ Some (set_value names t.y)
+    → target_in names d ≡ Ok t
+unfolding target_in
+target_back names d t are bare at_x at_y =
+    let p = target_parts (length names) t bare in
+    ap (λ r. r >>= λ x. member_by keys.Y (codes "y") (filled_set_in names x) d >>= λ y. Ok (record { x = x; y = y; given = 0 })) (set_back names keys.X (codes "x") d t.x are p.x_below at_x)
+    ∙ ap (λ r. r >>= λ y. Ok (record { x = t.x; y = y; given = 0 })) (member_back keys.Y (codes "y") (filled_set_in names t.x) d (set_value names t.y) t.y at_y (filled_back names t.x t.y are p.y_below p.apart p.some))
+    ∙ ap (λ g. Ok (record { x = t.x; y = t.y; given = g })) (sym bare.bare)
+
+-- ---- formulas
+
+defs_checked : (names : List (List ℕ)) (f : PlainFormula) → fault_in (length names) f ≡ None → fault_in_defs (length names) 0 f.defs ≡ None
+defs_checked names f ok = (neither (fault_in_defs (length names) 0 f.defs) (fault_of (check_tree (length names) None (length f.defs) f.main 0)) ok).0
+
+def_list_back : (names : List (List ℕ)) (ds : List Tree) → more_defs names [] (expr_items names ds) ≡ Ok ds → defs_in names (array (expr_items names ds)) ≡ Ok ds
+unfolding defs_in
+def_list_back names ds h = h
+
+lemma_list_back : (names : List (List ℕ)) (ls : List PlainLemma) → each (lemma_in names) [] (lemma_items names ls) ≡ Ok ls → lemmas_in names (array (lemma_items names ls)) ≡ Ok ls
+unfolding lemmas_in
+lemma_list_back names ls h = h
+
+formula_back : (names : List (List ℕ)) (d : Data) (f : PlainFormula) → main_in names (string (text_of names f.main)) ≡ Ok f.main → defs_in names (array (expr_items names f.defs)) ≡ Ok f.defs
+    → is_ok (check_tree (length names) None (length f.defs) f.main 0) ≡ true
+    → get (codes "formula") d ≡ Some (string (text_of names f.main)) → get (codes "defs") d ≡ Some (array (expr_items names f.defs))
+    → formula_in names d ≡ Ok f
+unfolding formula_in
+formula_back names d f main defs ok at_main at_defs =
+    ap (λ r. r >>= λ main. member_by keys.Defs (codes "defs") (defs_in names) d >>= λ defs. whole names (record { defs = defs; main = main })) (member_back keys.Formula (codes "formula") (main_in names) d (string (text_of names f.main)) f.main at_main main)
+    ∙ ap (λ r. r >>= λ defs. whole names (record { defs = defs; main = f.main })) (member_back keys.Defs (codes "defs") (defs_in names) d (array (expr_items names f.defs)) f.defs at_defs defs)
+    ∙ ap (λ b. cond b (Ok f) (Err (Member keys.Formula))) ok
+
+derivation_back : (names : List (List ℕ)) (d : Data) (p : PlainDerivation) → lemmas_in names (array (lemma_items names p.lemmas)) ≡ Ok p.lemmas → step_in names (step_value names p.main) ≡ Ok p.main
+    → get (codes "lemmas") d ≡ Some (array (lemma_items names p.lemmas)) → get (codes "main") d ≡ Some (step_value names p.main)
+    → derivation_in names d ≡ Ok p
+unfolding derivation_in
+derivation_back names d p lemmas main at_lemmas at_main =
+    ap (λ r. r >>= λ lemmas. member_by keys.Main (codes "main") (step_in names) d >>= λ main. Ok (record { lemmas = lemmas; main = main })) (member_back keys.Lemmas (codes "lemmas") (lemmas_in names) d (array (lemma_items names p.lemmas)) p.lemmas at_lemmas lemmas)
+    ∙ ap (λ r. r >>= λ main. Ok (record { lemmas = p.lemmas; main = main })) (member_back keys.Main (codes "main") (step_in names) d (step_value names p.main) p.main at_main main)
+
+formula_certificate_back : (names : List (List ℕ)) (t : PlainTarget) (f : PlainFormula) (p : PlainDerivation) → AreNames names → IsWritable (length names) (formula t f p) → IsKept (formula t f p) → IsShallow (formula t f p)
+    → formula_certificate_in names (certificate_value names (formula t f p)) ≡ Ok (formula t f p)
+unfolding formula_certificate_in
+formula_certificate_back names t f p are writable kept shallow =
+    let d = certificate_value names (formula t f p) in
+    let defs = def_list_back names f.defs (defs_back names f.defs [] 0 are refl (defs_checked names f writable.1) (omega (arith, shallow.numbered)) shallow.defs_texts) in
+    let lemmas = lemma_list_back names p.lemmas (lemmas_back names p.lemmas [] are writable.2.sets writable.2.lemmas kept.0 shallow.lemmas none_apart) in
+    ap (λ r. r >>= λ t. formula_in names d >>= λ f. derivation_in names d >>= λ p. cond (member_count (as_object d) == 8) (Ok (formula t f p)) (Err (Member keys.Extra))) (target_back names d t are writable.0 refl refl)
+    ∙ ap (λ r. r >>= λ f. derivation_in names d >>= λ p. cond (member_count (as_object d) == 8) (Ok (formula t f p)) (Err (Member keys.Extra)))
+    (formula_back names d f (main_back names f are writable.1 shallow.numbered shallow.main_text) defs (whole_back (length names) f writable.1) refl refl)
+    ∙ ap (λ r. r >>= λ p. cond (member_count (as_object d) == 8) (Ok (formula t f p)) (Err (Member keys.Extra)))
+    (derivation_back names d p lemmas (step_reads_back names p.main are writable.2.main kept.1 shallow.main) refl refl)
+
+-- ---- hedges
+
+hedge_back : (names : List (List ℕ)) (d : Data) (h : PlainHedge) → AreNames names → IsHedgeWithin (length names) h
+    → choice_in names (array (pair_items names (choices_from 0 h.choice))) ≡ Ok h.choice → links_in names (array (link_items names h.links)) ≡ Ok h.links
+    → get (codes "big") d ≡ Some (set_value names h.big) → get (codes "small") d ≡ Some (set_value names h.small) → get (codes "roots") d ≡ Some (set_value names h.roots)
+    → get (codes "choice") d ≡ Some (array (pair_items names (choices_from 0 h.choice))) → get (codes "links") d ≡ Some (array (link_items names h.links))
+    → hedge_in names d ≡ Ok h
+unfolding hedge_in
+hedge_back names d h are within choice links at_big at_small at_roots at_choice at_links =
+    ap (λ r. r >>= λ big. member_by keys.Small (codes "small") (set_in names 0) d >>= λ small. member_by keys.Roots (codes "roots") (set_in names 0) d >>= λ roots.
+    member_by keys.Choice (codes "choice") (choice_in names) d >>= λ choice. member_by keys.Links (codes "links") (links_in names) d >>= λ links.
+    Ok (record { big = big; small = small; roots = roots; choice = choice; links = links })) (set_back names keys.Big (codes "big") d h.big are within.big at_big)
+    ∙ ap (λ r. r >>= λ small. member_by keys.Roots (codes "roots") (set_in names 0) d >>= λ roots.
+    member_by keys.Choice (codes "choice") (choice_in names) d >>= λ choice. member_by keys.Links (codes "links") (links_in names) d >>= λ links.
+    Ok (record { big = h.big; small = small; roots = roots; choice = choice; links = links })) (set_back names keys.Small (codes "small") d h.small are within.small at_small)
+    ∙ ap (λ r. r >>= λ roots. member_by keys.Choice (codes "choice") (choice_in names) d >>= λ choice. member_by keys.Links (codes "links") (links_in names) d >>= λ links.
+    Ok (record { big = h.big; small = h.small; roots = roots; choice = choice; links = links })) (set_back names keys.Roots (codes "roots") d h.roots are within.roots at_roots)
+    ∙ ap (λ r. r >>= λ choice. member_by keys.Links (codes "links") (links_in names) d >>= λ links.
+    Ok (record { big = h.big; small = h.small; roots = h.roots; choice = choice; links = links }))
+    (member_back keys.Choice (codes "choice") (choice_in names) d (array (pair_items names (choices_from 0 h.choice))) h.choice at_choice choice)
+    ∙ ap (λ r. r >>= λ links. Ok (record { big = h.big; small = h.small; roots = h.roots; choice = h.choice; links = links }))
+    (member_back keys.Links (codes "links") (links_in names) d (array (link_items names h.links)) h.links at_links links)
+
+all_links_back : (names : List (List ℕ)) (ls : List (ℕ × ℕ)) → AreNames names → All (IsWithin (length names)) ls → 0 < length ls → length ls ≤ 64 → IsStartBlank ls
+    → links_in names (array (link_items names ls)) ≡ Ok ls
+all_links_back names [] are within some room blank = absurd (omega (arith, some))
+all_links_back names (l ∷ ls) are within some room blank =
+    let e : l ≡ (l.0, 0) = ap (λ k. (l.0, k)) blank in
+    ap (λ m. links_in names (array (link_items names (m ∷ ls)))) e
+    ∙ links_back names l.0 ls are (subst (λ m. All (IsWithin (length names)) (m ∷ ls)) e within) (omega (arith, room))
+    ∙ ap (λ m. Ok (m ∷ ls)) (sym e)
+
+hedge_certificate_back : (names : List (List ℕ)) (t : PlainTarget) (h : PlainHedge) → AreNames names → IsWritable (length names) (hedge t h) → IsKept (hedge t h)
+    → hedge_certificate_in names (certificate_value names (hedge t h)) ≡ Ok (hedge t h)
+unfolding hedge_certificate_in
+hedge_certificate_back names t h are writable kept =
+    let d = certificate_value names (hedge t h) in
+    ap (λ r. r >>= λ t. hedge_in names d >>= λ h. cond (member_count (as_object d) == 9) (Ok (hedge t h)) (Err (Member keys.Extra))) (target_back names d t are writable.0 refl refl)
+    ∙ ap (λ r. r >>= λ h. cond (member_count (as_object d) == 9) (Ok (hedge t h)) (Err (Member keys.Extra)))
+    (hedge_back names d h are writable.1 (choice_back names h.choice are kept.0 writable.1.choice) (all_links_back names h.links are writable.1.links writable.1.some kept.1 kept.2) refl refl refl refl refl)
+
+-- ---- certificates
+
+value_back : (names : List (List ℕ)) (c : PlainCertificate) → AreNames names → IsWritable (length names) c → IsKept c → IsShallow c → value_certificate names (certificate_value names c) ≡ Ok c
+unfolding value_certificate version_in
+value_back names (formula t f p) are writable kept shallow = formula_certificate_back names t f p are writable kept shallow
+value_back names (hedge t h) are writable kept shallow = hedge_certificate_back names t h are writable kept
+
+pub certificate_back : (names : List (List ℕ)) (c : PlainCertificate) (text : List ℕ) → AreNames names → IsWritable (length names) c → IsKept c → IsShallow c → json_of text ≡ Some (certificate_value names c)
+    → certificate_in names text ≡ Ok c
+unfolding certificate_in
+certificate_back names c text are writable kept shallow json =
+    ap (λ r. or_fault NotJson r >>= value_certificate names) json ∙ value_back names c are writable kept shallow
+
+-- ---- depths
+
+exprs_deep : (names : List (List ℕ)) (ts : List Tree) → items_depth (expr_items names ts) ≡ 0
+exprs_deep names [] = refl
+exprs_deep names (t ∷ ts) = omega (arith, exprs_deep names ts)
+
+pairs_deep : (names : List (List ℕ)) (ps : List (ℕ × ℕ)) → items_depth (pair_items names ps) ≤ 1
+pairs_deep names [] = omega arith
+pairs_deep names (p ∷ ps) = omega (arith, names_flat names (p.0 ∷ p.1 ∷ []), pairs_deep names ps)
+
+links_deep : (names : List (List ℕ)) (ls : List (ℕ × ℕ)) → items_depth (link_items names ls) ≤ 1
+links_deep names [] = omega arith
+links_deep names (l ∷ ls) = omega (arith, names_flat names (l.0 ∷ []), pairs_deep names ls)
+
+set_deep : (names : List (List ℕ)) (set : ℕ) → depth (set_value names set) ≡ 1
+set_deep names set = names_flat names (members_below (has set) 64)
+
+lemmas_deep : (names : List (List ℕ)) (ls : List PlainLemma) → AreStepsShallow ls → items_depth (lemma_items names ls) ≤ 122
+lemmas_deep names [] shallow = omega arith
+lemmas_deep names (l ∷ ls) shallow = omega (arith, set_deep names l.set, step_nests names l.plan, shallow.0, lemmas_deep names ls shallow.1)
+
+pub certificate_deep : (names : List (List ℕ)) (c : PlainCertificate) → IsShallow c → depth (certificate_value names c) ≤ 127
+certificate_deep names (formula t f p) shallow =
+    omega (arith, exprs_deep names f.defs, lemmas_deep names p.lemmas shallow.lemmas, step_nests names p.main, shallow.main, set_deep names t.x, set_deep names t.y)
+certificate_deep names (hedge t h) shallow =
+    omega (arith, set_deep names h.big, pairs_deep names (choices_from 0 h.choice), links_deep names h.links, set_deep names h.roots, set_deep names h.small, set_deep names t.x, set_deep names t.y)
