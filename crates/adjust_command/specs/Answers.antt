@@ -1,10 +1,133 @@
--- stub
-use Rattle.std.specs.Prelude.{ℕ, List}
+-- The answer of `adjust`: whether a set may be adjusted for to compute the effect of x on y, or the minimal such sets, in the observed graph of the one that was read.
+use Rattle.std.specs.Prelude.{ℕ, ◌≡◌, ◌⊎◌, Bool, List, [], All, codes}
+use Rattle.mixed_graph.specs.Bits.{has}
+use Rattle.mixed_graph.specs.Graphs.{MixedGraph}
+use Rattle.mixed_graph.specs.declared.sets.VSet.{VSet}
 use Rattle.dag_reader.specs.declared.graph.ReadGraph.{ReadGraph}
+use Rattle.do_rules.specs.Rules.{AreThreeSets}
+use Rattle.targets.specs.declared.fault.TargetFault.TheVariants.{NotOneX}
+use Rattle.targets.specs.Targets.{listed, Lists, AreSets}
+use Rattle.fault_text.specs.Lines.{line_of, target_fault_text}
 use Rattle.replies.specs.declared.outcome.Outcome.{Outcome}
-use Rattle.replies.specs.Observed.{Names}
-use Rattle.adjust_command.specs.Queries.{Query}
+use Rattle.replies.specs.declared.outcome.Outcome.TheVariants.{Yes, No, Graph}
+use Rattle.replies.specs.Observed.{Names, observed_names, IsObservedGraph, IsTargetRefusal}
+use Rattle.prob_expr.specs.Masks.{one}
+use Rattle.prob_expr.specs.Values.{EqualsEffect}
+use Rattle.adjustment.specs.declared.criteria.AdjFault.{AdjFault}
+use Rattle.adjustment.specs.Criteria.{IsAdmissible, IsBackDoorSet}
+use Rattle.adjustment.specs.Faults.{IsAdjustmentFault, IsBackDoorFault}
+use Rattle.adjustment.specs.Formulas.{adjustment_formula, effect_on}
+use Rattle.vertex_cuts.specs.Listings.{IsListingOf}
+use Rattle.minimal_sets.specs.MinimalSets.{IsMinimalSet}
+use Rattle.adjust_command.specs.Queries.{Query, by_set, by_back_door, listing}
+use Rattle.adjust_command.specs.Lines.{admissible_text, not_admissible_text, listing_text}
 
--- the answer
-pub record AdjustAnswer (g : ReadGraph) (x y : Names) (q : Query) (o : Outcome) (text : List ℕ) : Type 0 where
-  pub none : ⊥
+-- ---- answers for sets of the observed graph q
+
+-- Yes: z meets the adjustment criterion, its formula equals P(y | do(x)) in each positive model that fits q, and the text shows it
+pub record ShowsAdmissible (q : MixedGraph) (names : List (List ℕ)) (x y z : ℕ) (text : List ℕ) : Type 0 where
+  pub admissible : IsAdmissible q (has x) (has y) (has z)
+  pub effect : EqualsEffect q (effect_on x y) (adjustment_formula x y z)
+  pub prints : text ≡ admissible_text names x y z
+
+-- No: this breaks the adjustment criterion for z, and the text shows it
+pub record ShowsFault (q : MixedGraph) (names : List (List ℕ)) (x y z : ℕ) (text : List ℕ) : Type 0 where
+  pub fault : AdjFault
+  pub breaks : IsAdjustmentFault q (has x) (has y) (has z) fault
+  pub prints : text ≡ not_admissible_text names z fault
+
+-- the answer for a set by the adjustment criterion
+abbrev pub SetAnswer : MixedGraph → List (List ℕ) → (x y z : ℕ) → Outcome → List ℕ → Type 0
+SetAnswer q names x y z Yes text = ShowsAdmissible q names x y z text
+SetAnswer q names x y z No text = ShowsFault q names x y z text
+SetAnswer q names x y z o text = ⊥
+
+-- Yes: v is the one exposure, for which z meets the back-door criterion; its formula equals P(y | do(v)) in each positive model that fits q, and the text shows it
+pub record ShowsBackDoorSet (q : MixedGraph) (names : List (List ℕ)) (x y z : ℕ) (text : List ℕ) : Type 0 where
+  pub v : ℕ
+  pub exposure : x ≡ one v
+  pub meets : IsBackDoorSet q v (has y) (has z)
+  pub effect : EqualsEffect q (effect_on x y) (adjustment_formula x y z)
+  pub prints : text ≡ admissible_text names x y z
+
+-- No: v is the one exposure, this breaks the back-door criterion for z, and the text shows it
+pub record ShowsBackDoorFault (q : MixedGraph) (names : List (List ℕ)) (x y z : ℕ) (text : List ℕ) : Type 0 where
+  pub v : ℕ
+  pub exposure : x ≡ one v
+  pub fault : AdjFault
+  pub breaks : IsBackDoorFault q v (has y) (has z) fault
+  pub prints : text ≡ not_admissible_text names z fault
+
+-- refused: the exposures aren't one vertex, and the line says so
+pub record ShowsNotOne (x : ℕ) (line : List ℕ) : Type 0 where
+  pub not_one : (v : ℕ) → x ≡ one v → ⊥
+  pub prints : line ≡ line_of (target_fault_text NotOneX)
+
+-- the answer for a set by the back-door criterion
+abbrev pub BackDoorAnswer : MixedGraph → List (List ℕ) → (x y z : ℕ) → Outcome → List ℕ → Type 0
+BackDoorAnswer q names x y z Yes text = ShowsBackDoorSet q names x y z text
+BackDoorAnswer q names x y z No text = ShowsBackDoorFault q names x y z text
+BackDoorAnswer q names x y z Graph text = ShowsNotOne x text
+BackDoorAnswer q names x y z o text = ⊥
+
+-- Yes: these are the minimal admissible sets, of which there is one or more: all of them, or `most` where there are more; the formula of each equals P(y | do(x)) in each
+-- positive model that fits q, and the text shows them
+pub record ShowsSets (q : MixedGraph) (names : List (List ℕ)) (x y most : ℕ) (text : List ℕ) : Type 0 where
+  pub sets : List VSet
+  pub more : Bool
+  pub listed : IsListingOf (IsMinimalSet q (has x) (has y)) most sets more
+  pub some : sets ≡ [] → ⊥
+  pub effect : All (λ s. EqualsEffect q (effect_on x y) (adjustment_formula x y s.bits)) sets
+  pub prints : text ≡ listing_text names sets more
+
+-- No: no set is admissible, and the text says so
+pub record ShowsNone (q : MixedGraph) (x y : ℕ) (text : List ℕ) : Type 0 where
+  pub none : (z : ℕ → Bool) → AreThreeSets q.vertices (has x) (has y) z → IsAdmissible q (has x) (has y) z → ⊥
+  pub prints : text ≡ codes "none\n"
+
+-- the answer of a listing
+abbrev pub ListingAnswer : MixedGraph → List (List ℕ) → (x y most : ℕ) → Outcome → List ℕ → Type 0
+ListingAnswer q names x y most Yes text = ShowsSets q names x y most text
+ListingAnswer q names x y most No text = ShowsNone q x y text
+ListingAnswer q names x y most o text = ⊥
+
+-- the answer to a query
+abbrev pub SetsAnswer : Query → MixedGraph → List (List ℕ) → (x y z : ℕ) → Outcome → List ℕ → Type 0
+SetsAnswer (by_set set) q names x y z o text = SetAnswer q names x y z o text
+SetsAnswer (by_back_door set) q names x y z o text = BackDoorAnswer q names x y z o text
+SetsAnswer (listing most) q names x y z o text = ListingAnswer q names x y most o text
+
+-- ---- answers on a graph that was read
+
+-- the names of the set that is asked about; a listing has none
+abbrev pub set_of : Query → List (List ℕ)
+set_of (by_set set) = set
+set_of (by_back_door set) = set
+set_of (listing most) = []
+
+-- the lists of a query: those that are given, or else the exposures and the outcomes; and the set
+abbrev pub adjust_lists : ReadGraph → Names → Names → Query → Lists
+adjust_lists g x y query = record {
+  all = g.names;
+  observed = observed_names g;
+  x = listed g.names g.exposures.bits x;
+  y = listed g.names g.outcomes.bits y;
+  given = set_of query;
+}
+
+-- the lists name these sets, for which the answer is given
+pub record IsAnswerOfSets (query : Query) (q : MixedGraph) (l : Lists) (o : Outcome) (text : List ℕ) : Type 0 where
+  pub x : ℕ
+  pub y : ℕ
+  pub z : ℕ
+  pub sets : AreSets l x y z
+  pub answer : SetsAnswer query q l.observed x y z o text
+
+-- the answer for lists of names
+abbrev pub ListsAnswer : Query → MixedGraph → Lists → Outcome → List ℕ → Type 0
+ListsAnswer query q l Graph text = IsTargetRefusal l text ⊎ IsAnswerOfSets query q l Graph text
+ListsAnswer query q l o text = IsAnswerOfSets query q l o text
+
+-- the answer on a graph that was read, in its observed graph
+abbrev pub AdjustAnswer : ReadGraph → Names → Names → Query → Outcome → List ℕ → Type 0
+AdjustAnswer g x y query o text = (q : MixedGraph) × IsObservedGraph g q × ListsAnswer query q (adjust_lists g x y query) o text

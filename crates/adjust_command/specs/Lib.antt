@@ -1,2 +1,4 @@
 pub mod Queries
+pub mod Lines
+pub mod Faults
 pub mod Answers

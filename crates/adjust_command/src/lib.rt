@@ -1,8 +1,11 @@
-//! The command `adjust`.
+//! The command `adjust`: whether a set may be adjusted for, or the minimal sets that may.
 #![tactic(auto)]
 
+mod criteria;
+mod listing;
 mod query;
 mod reply;
+mod texts;
 
 pub use query::Query;
 pub use reply::adjust_reply;

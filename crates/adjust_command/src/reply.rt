@@ -1,14 +1,26 @@
-ghost use Rattle.std.specs.Prelude.{◌≡◌, IfOk, option_map};
+ghost use Rattle.std.specs.Prelude.{◌≡◌, ◌<◌, IfOk, length, option_map};
+ghost use Rattle.mixed_graph.specs.Bits.{has};
+ghost use Rattle.mixed_graph.specs.Names.{texts};
+ghost use Rattle.mixed_graph.specs.Shown.{graph_of};
+ghost use Rattle.do_rules.specs.Rules.{AreThreeSets};
 ghost use Rattle.word_lists.specs.Views.{names_in};
 ghost use Rattle.adjust_command.specs.Queries.{query_of, IsInRange};
-ghost use Rattle.adjust_command.specs.Answers.{AdjustAnswer};
+ghost use Rattle.adjust_command.specs.Answers.{set_of, SetsAnswer, AdjustAnswer};
 
+use crate::criteria::{by_back_door, by_set};
+use crate::listing::list_sets;
 use crate::query::Query;
 use dag_reader::ReadGraph;
-use replies::Reply;
+use latent_projection::{Observed, observed};
+use replies::{Reply, list_or, refuse};
 use std::alloc::{AllocError, Global};
+use targets::{Sets, find_sets};
 
-/// The answer of `adjust` on a graph that was read.
+/// Whether a set may be adjusted for to compute the effect of x on y, in the observed graph, or the minimal
+/// sets that may (Shpitser, VanderWeele and Robins; van der Zander, Liskiewicz and Textor; Pearl).
+///
+/// A list that is missing is that of the exposures or of the outcomes. A listing gives at least one set and at
+/// most 10,000.
 pub fn adjust_reply(
     alloc: Global,
     graph: &ReadGraph,
@@ -19,5 +31,38 @@ pub fn adjust_reply(
     requires most { IsInRange (query_of query) }
     ensures { IfOk result (λ r. AdjustAnswer graph.now (option_map names_in x) (option_map names_in y) (query_of query) r.outcome r.text.items) }
 {
-    Err(AllocError)
+    let seen = observed(alloc, &graph.names, &graph.graph, graph.latent)?;
+    let x = list_or(alloc, &graph.names, graph.exposures, x)?;
+    let y = list_or(alloc, &graph.names, graph.outcomes, y)?;
+    match find_sets(alloc, &graph.names, &seen.names, &x, &y, set_of(&query)) {
+        Ok(sets) => decide(alloc, &seen, sets, &query),
+        Err(fault) => refuse(alloc, &fault),
+    }
+}
+
+/// The names of the set that is asked about.
+fn set_of(query: &Query) -> &[Vec<u8>]
+    ensures { texts result.now ≡ set_of (query_of query.now) }
+{
+    match query {
+        Query::Set(set) => set.as_slice(),
+        Query::BackDoor(set) => set.as_slice(),
+        Query::List(_) => &[],
+    }
+}
+
+/// The answer for sets of the observed graph.
+fn decide(alloc: Global, seen: &Observed, sets: Sets, query: &Query) -> Result<Reply, AllocError>
+    requires named { length seen.now.names ≡ seen.now.graph.n }
+    requires sets { AreThreeSets seen.now.graph.n (has sets.x.bits) (has sets.y.bits) (has sets.given.bits) }
+    requires some_x { 0 < sets.x.bits }
+    requires some_y { 0 < sets.y.bits }
+    requires most { IsInRange (query_of query.now) }
+    ensures { IfOk result (λ r. SetsAnswer (query_of query.now) (graph_of seen.now.graph) seen.now.names sets.x.bits sets.y.bits sets.given.bits r.outcome r.text.items) }
+{
+    match query {
+        Query::Set(_) => by_set(alloc, seen, sets),
+        Query::BackDoor(_) => by_back_door(alloc, seen, sets),
+        Query::List(most) => list_sets(alloc, seen, sets, *most),
+    }
 }

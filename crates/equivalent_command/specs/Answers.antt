@@ -1,16 +1,101 @@
--- stub
-use Rattle.std.specs.Prelude.{ℕ, List}
+-- The answer of the command `equivalent`.
+use Rattle.std.specs.Prelude.{ℕ, ◌≡◌, ◌<◌, ◌≤◌, ◌⊎◌, List, length, Err}
+use Rattle.mixed_graph.specs.Graphs.{MixedGraph}
 use Rattle.dag_reader.specs.declared.graph.ReadGraph.{ReadGraph}
+use Rattle.dag_reader.specs.declared.faults.GraphFault.{GraphFault}
+use Rattle.dag_reader.specs.declared.faults.GraphFault.TheVariants.{NoMemory}
+use Rattle.dag_reader.specs.Reads.{Reads}
+use Rattle.targets.specs.declared.fault.TargetFault.{TargetFault}
+use Rattle.fault_text.specs.Lines.{line_of, graph_fault_text, target_fault_text, size_text, second as of_second}
+use Rattle.markov_equivalence.specs.Skeletons.{HasArrowsAlone, AreEquivalent}
+use Rattle.markov_equivalence.specs.Comparisons.{IsEdgeDifference, IsColliderDifference, IsShown}
+use Rattle.markov_equivalence.specs.declared.comparison.Difference.{Difference}
 use Rattle.replies.specs.declared.outcome.Outcome.{Outcome}
+use Rattle.replies.specs.declared.outcome.Outcome.TheVariants.{Yes, No, Graph, Second, Evaluation}
+use Rattle.replies.specs.Observed.{observed_names, IsObservedGraph, Holds}
+use Rattle.equivalent_command.specs.Numbers.{HaveSameNames, on_names}
+use Rattle.equivalent_command.specs.Faults.{IsBidirectedFault, IsNamesFault}
+use Rattle.equivalent_command.specs.Lines.{edge_text, collider_text, equivalent_text}
 
--- no bidirected edge
-pub record IsDirected (g : ReadGraph) : Type 0 where
-  pub none : ⊥
+-- the observed graph has no bidirected edge
+abbrev pub IsDirected : ReadGraph → Type 0
+IsDirected g = (q : MixedGraph) × IsObservedGraph g q × HasArrowsAlone q
 
--- the refusal
+-- the observed graph has a bidirected edge: the fault has the names of the first one
+abbrev pub HasBidirected : ReadGraph → TargetFault → Type 0
+HasBidirected g f = (q : MixedGraph) × IsObservedGraph g q × IsBidirectedFault q (observed_names g) f
+
+-- the line of a first graph with a bidirected edge
 pub record IsFirstRefusal (g : ReadGraph) (o : Outcome) (line : List ℕ) : Type 0 where
-  pub none : ⊥
+  pub outcome : o ≡ Graph
+  pub fault : TargetFault
+  pub is_fault : HasBidirected g fault
+  pub prints : line ≡ line_of (target_fault_text fault)
 
--- the answer
-pub record EquivalentAnswer (g : ReadGraph) (second : List ℕ) (o : Outcome) (text : List ℕ) : Type 0 where
-  pub none : ⊥
+-- the observed graphs of g and h have no bidirected edge and the same names: p is that of g, and q is that of h on the numbers of g's names
+pub record AreComparable (g h : ReadGraph) (p q : MixedGraph) : Type 0 where
+  pub first : IsObservedGraph g p
+  pub first_arrows : HasArrowsAlone p
+  pub other : MixedGraph
+  pub second : IsObservedGraph h other
+  pub second_arrows : HasArrowsAlone other
+  pub names : HaveSameNames (observed_names g) (observed_names h)
+  pub numbers : q ≡ on_names (observed_names g) (observed_names h) other
+
+-- the same skeleton and the same unshielded colliders
+pub record IsSame (p q : MixedGraph) (text : List ℕ) : Type 0 where
+  pub equivalent : AreEquivalent p q
+  pub prints : text ≡ equivalent_text
+
+-- the first edge, or else the first unshielded collider, that one of the graphs has alone, with a separation that holds in one of them alone
+pub data IsDifferent (names : List (List ℕ)) (p q : MixedGraph) (text : List ℕ) : Type 0 where
+  edge : (d : Difference) → IsEdgeDifference p q d → IsShown p q d → text ≡ edge_text names d → IsDifferent names p q text
+  collider : (d : Difference) (m : ℕ) → IsColliderDifference p q d m → IsShown p q d → text ≡ collider_text names d m → IsDifferent names p q text
+
+-- the answer of two graphs that are compared
+abbrev pub ComparisonAnswer : List (List ℕ) → MixedGraph → MixedGraph → Outcome → List ℕ → Type 0
+ComparisonAnswer names p q Yes text = IsSame p q text
+ComparisonAnswer names p q No text = IsDifferent names p q text
+ComparisonAnswer names p q o text = ⊥
+
+-- the observed graphs of g and h are compared
+pub record ComparedAnswer (g h : ReadGraph) (o : Outcome) (text : List ℕ) : Type 0 where
+  pub p : MixedGraph
+  pub q : MixedGraph
+  pub comparable : AreComparable g h p q
+  pub answer : ComparisonAnswer (observed_names g) p q o text
+
+-- what is wrong with a second observed graph: a bidirected edge, or else a name that it or the first names have alone
+pub data ObservedFault (names : List (List ℕ)) (q : MixedGraph) (others : List (List ℕ)) (f : TargetFault) : Type 0 where
+  bidirected : IsBidirectedFault q others f → ObservedFault names q others f
+  other_names : HasArrowsAlone q → IsNamesFault names others f → ObservedFault names q others f
+
+-- the line of a second graph that can't be compared with g
+pub record IsUnlike (g h : ReadGraph) (line : List ℕ) : Type 0 where
+  pub q : MixedGraph
+  pub observed : IsObservedGraph h q
+  pub fault : TargetFault
+  pub is_fault : ObservedFault (observed_names g) q (observed_names h) fault
+  pub prints : line ≡ line_of (of_second (target_fault_text fault))
+
+-- the answer of two graphs that were read
+abbrev pub GraphsAnswer : ReadGraph → ReadGraph → Outcome → List ℕ → Type 0
+GraphsAnswer g h Yes text = ComparedAnswer g h Yes text
+GraphsAnswer g h No text = ComparedAnswer g h No text
+GraphsAnswer g h Second line = IsUnlike g h line
+GraphsAnswer g h o text = ⊥
+
+-- the bytes are no graph: they are too many, or their text has a fault
+pub data IsSecondRefusal (second line : List ℕ) : Type 0 where
+  too_long : 1048576 < length second → line ≡ line_of (of_second size_text) → IsSecondRefusal second line
+  faulty : (fault : GraphFault) → length second ≤ 1048576 → (fault ≡ NoMemory → ⊥) → Reads second (Err fault)
+      → line ≡ line_of (of_second (graph_fault_text fault)) → IsSecondRefusal second line
+
+-- the bytes hold a graph, and this is the answer of the two
+abbrev pub HoldsAnswer : ReadGraph → List ℕ → Outcome → List ℕ → Type 0
+HoldsAnswer g second o text = (h : ReadGraph) × Holds second h × GraphsAnswer g h o text
+
+-- the answer of `equivalent` on a graph that was read and the bytes of a second graph's text
+abbrev pub EquivalentAnswer : ReadGraph → List ℕ → Outcome → List ℕ → Type 0
+EquivalentAnswer g second Second line = IsSecondRefusal second line ⊎ HoldsAnswer g second Second line
+EquivalentAnswer g second o text = HoldsAnswer g second o text

@@ -1,6 +1,9 @@
-//! The command `equivalent`.
+//! The command `equivalent`: whether the observed graphs of two graphs without bidirected edges have the same separations.
 #![tactic(auto)]
 
+mod faults;
+mod numbers;
+mod printing;
 mod reply;
 
 pub use reply::{equivalent_reply, long_second_graph, refuse_bidirected};

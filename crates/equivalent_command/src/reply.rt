@@ -1,30 +1,117 @@
 ghost use Rattle.std.specs.Prelude.{◌≡◌, ◌≤◌, ◌<◌, ℕ, List, IfOk, IfSome, IfNone, length};
-ghost use Rattle.equivalent_command.specs.Answers.{IsDirected, IsFirstRefusal, EquivalentAnswer};
+ghost use Rattle.mixed_graph.specs.Shown.{graph_of};
+ghost use Rattle.markov_equivalence.specs.Skeletons.{HasArrowsAlone};
+ghost use Rattle.equivalent_command.specs.Numbers.{HaveSameNames, on_names};
+ghost use Rattle.equivalent_command.specs.Answers.{IsDirected, IsFirstRefusal, EquivalentAnswer, ComparisonAnswer, GraphsAnswer, ObservedFault};
 
-use dag_reader::ReadGraph;
-use replies::Reply;
+use crate::faults::{bidirected_fault, names_fault};
+use crate::numbers::graph_on;
+use crate::printing::{collider_text, edge_text};
+use dag_reader::{ReadGraph, read_graph};
+use fault_text::{second_graph_line, second_size_line, second_target_line};
+use latent_projection::{Observed, observed};
+use markov_equivalence::{Compared, compare};
+use mixed_graph::{Graph, Names};
+use replies::{Outcome, Reply, refuse};
 use std::alloc::{AllocError, Global};
+use targets::TargetFault;
 
 /// The refusal of a first graph whose observed graph has a bidirected edge; none where it has none.
 pub fn refuse_bidirected(alloc: Global, graph: &ReadGraph) -> Result<Option<Reply>, AllocError>
     ensures refused { IfOk result (λ o. IfSome o (λ r. IsFirstRefusal graph.now r.outcome r.text.items)) }
     ensures none { IfOk result (λ o. IfNone o (IsDirected graph.now)) }
 {
-    Err(AllocError)
+    let seen = observed(alloc, &graph.names, &graph.graph, graph.latent)?;
+    match bidirected_fault(alloc, &seen)? {
+        Some(fault) => Ok(Some(refuse(alloc, &fault)?)),
+        None => Ok(None),
+    }
 }
 
 /// The answer of `equivalent` on a graph that was read and the bytes of a second one.
-pub fn equivalent_reply(alloc: Global, graph: &ReadGraph, second: &[u8]) -> Result<Reply, AllocError>
+pub fn equivalent_reply(
+    alloc: Global,
+    graph: &ReadGraph,
+    second: &[u8],
+) -> Result<Reply, AllocError>
     requires directed { IsDirected graph.now }
     requires small { length second.now ≤ 1048576 }
     ensures { IfOk result (λ r. EquivalentAnswer graph.now second.now r.outcome r.text.items) }
 {
-    Err(AllocError)
+    match read_graph(alloc, second) {
+        Ok(other) => reply_to(alloc, graph, &other),
+        Err(fault) => Ok(Reply {
+            outcome: Outcome::Second,
+            text: second_graph_line(alloc, &fault)?,
+        }),
+    }
 }
 
 /// The answer of `equivalent` where the second graph's text has more than 1,048,576 bytes.
 pub fn long_second_graph(alloc: Global, graph: &ReadGraph) -> Result<Reply, AllocError>
     ensures { IfOk result (λ r. (second : List ℕ) → 1048576 < length second → EquivalentAnswer graph.now second r.outcome r.text.items) }
 {
-    Err(AllocError)
+    Ok(Reply {
+        outcome: Outcome::Second,
+        text: second_size_line(alloc)?,
+    })
+}
+
+/// The answer for two graphs that were read.
+fn reply_to(alloc: Global, graph: &ReadGraph, other: &ReadGraph) -> Result<Reply, AllocError>
+    requires { IsDirected graph.now }
+    ensures { IfOk result (λ r. GraphsAnswer graph.now other.now r.outcome r.text.items) }
+{
+    let first = observed(alloc, &graph.names, &graph.graph, graph.latent)?;
+    let second = observed(alloc, &other.names, &other.graph, other.latent)?;
+    match second_fault(alloc, &first.names, &second)? {
+        Some(fault) => Ok(Reply {
+            outcome: Outcome::Second,
+            text: second_target_line(alloc, &fault)?,
+        }),
+        None => compared_reply(alloc, &first, &second),
+    }
+}
+
+/// What is wrong with the second observed graph: a bidirected edge, or else a name that one of the graphs has alone.
+fn second_fault(
+    alloc: Global,
+    names: &Names,
+    second: &Observed,
+) -> Result<Option<TargetFault>, AllocError>
+    requires { length second.now.names ≡ second.now.graph.n }
+    ensures found { IfOk result (λ o. IfSome o (ObservedFault names.now (graph_of second.now.graph) second.now.names)) }
+    ensures arrows { IfOk result (λ o. IfNone o (HasArrowsAlone (graph_of second.now.graph))) }
+    ensures names { IfOk result (λ o. IfNone o (HaveSameNames names.now second.now.names)) }
+{
+    match bidirected_fault(alloc, second)? {
+        Some(fault) => Ok(Some(fault)),
+        None => names_fault(alloc, names, &second.names),
+    }
+}
+
+/// The answer of the comparison of two observed graphs with the same names.
+fn compared_reply(alloc: Global, first: &Observed, second: &Observed) -> Result<Reply, AllocError>
+    requires named { length first.now.names ≡ first.now.graph.n }
+    requires names { HaveSameNames first.now.names second.now.names }
+    requires first_arrows { HasArrowsAlone (graph_of first.now.graph) }
+    requires second_arrows { HasArrowsAlone (graph_of second.now.graph) }
+    ensures { IfOk result (λ r. ComparisonAnswer first.now.names (graph_of first.now.graph)
+        (on_names first.now.names second.now.names (graph_of second.now.graph)) r.outcome r.text.items) }
+{
+    let moved = graph_on(&first.names, second);
+    match compare(&first.graph, &moved) {
+        Compared::Same => Ok(Reply {
+            outcome: Outcome::Yes,
+            text: Vec::from_slice(alloc, b"equivalent\n")?,
+        }),
+        Compared::Edge(d) => Ok(Reply {
+            outcome: Outcome::No,
+            text: edge_text(alloc, &first.names, d)?,
+        }),
+        Compared::Collider(d, m) => Ok(Reply {
+            outcome: Outcome::No,
+            text: collider_text(alloc, &first.names, d, m)?,
+        }),
+    }
 }

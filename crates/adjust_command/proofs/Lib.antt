@@ -1,0 +1,5 @@
+pub mod Formulas
+pub mod Paths
+pub mod Exposures
+pub mod Minimal
+pub mod Lists

@@ -1,0 +1,54 @@
+ghost use Rattle.std.specs.Prelude.{ℕ, ◌≡◌, ◌<◌, ◌≤◌, IfOk, length};
+ghost use Rattle.mixed_graph.specs.Bits.{has};
+ghost use Rattle.mixed_graph.specs.Shown.{graph_of};
+ghost use Rattle.do_rules.specs.Rules.{AreThreeSets};
+ghost use Rattle.adjust_command.specs.Answers.{ListingAnswer};
+
+use crate::texts::listing_text;
+use latent_projection::Observed;
+use minimal_sets::{Listing, Steps, list};
+use replies::{Outcome, Reply};
+use std::alloc::{AllocError, Global};
+use std::marker::Brand;
+use std::sync::ledger::{Blank, Ledger};
+use targets::Sets;
+
+/// The answer of a listing.
+pub fn list_sets(alloc: Global, seen: &Observed, sets: Sets, most: u32) -> Result<Reply, AllocError>
+    requires named { length seen.now.names ≡ seen.now.graph.n }
+    requires sets { AreThreeSets seen.now.graph.n (has sets.x.bits) (has sets.y.bits) (has sets.given.bits) }
+    requires most { 1 ≤ most }
+    ensures { IfOk result (λ r. ListingAnswer (graph_of seen.now.graph) seen.now.names sets.x.bits sets.y.bits most r.outcome r.text.items) }
+{
+    list_counted::<Brand>(alloc, Blank::new(1), seen, sets, most)
+}
+
+/// The same with a blank for the count of the cuts computed.
+fn list_counted<L: Ledger>(
+    alloc: Global,
+    blank: Blank,
+    seen: &Observed,
+    sets: Sets,
+    most: u32,
+) -> Result<Reply, AllocError>
+    requires name { blank.name ≡ L.name }
+    requires parts { blank.parts ≡ L.parts }
+    requires some { 0 < blank.parts }
+    requires named { length seen.now.names ≡ seen.now.graph.n }
+    requires sets { AreThreeSets seen.now.graph.n (has sets.x.bits) (has sets.y.bits) (has sets.given.bits) }
+    requires most { 1 ≤ most }
+    ensures { IfOk result (λ r. ListingAnswer (graph_of seen.now.graph) seen.now.names sets.x.bits sets.y.bits most r.outcome r.text.items) }
+{
+    let mut steps = Steps::<L>::new(blank);
+    let listing = list(alloc, &seen.graph, sets.x, sets.y, most, &mut steps)?;
+    if listing.sets.is_empty() {
+        return Ok(Reply {
+            outcome: Outcome::No,
+            text: Vec::from_slice(alloc, b"none\n")?,
+        });
+    }
+    Ok(Reply {
+        outcome: Outcome::Yes,
+        text: listing_text(alloc, &seen.names, &listing.sets, listing.more)?,
+    })
+}

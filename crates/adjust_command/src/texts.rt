@@ -1,0 +1,106 @@
+ghost use Rattle.std.specs.Prelude.{ℕ, ◌≡◌, ◌++◌, ◌<◌, IfOk, OnOk, All, length};
+ghost use Rattle.mixed_graph.specs.Bits.{has};
+ghost use Rattle.mixed_graph.specs.Sets.{Within};
+ghost use Rattle.do_rules.specs.Rules.{AreThreeSets};
+ghost use Rattle.adjust_command.specs.Faults.{IsPrintable};
+ghost use Rattle.adjust_command.specs.Lines.{set_line, set_lines, admissible_text, forbidden_line, fault_line, not_admissible_text, listing_text};
+
+use adjustment::{AdjFault, formula_for};
+use answer_text::{push_set, push_vertex};
+use identify_text::formula_answer;
+use mixed_graph::{Names, VSet};
+use replies::push_open;
+use std::alloc::{AllocError, Global};
+use targets::Sets;
+
+/// Appends a set and a line feed.
+fn push_line(out: &mut Vec<u8>, names: &Names, set: VSet) -> Result<(), AllocError>
+    requires { Within (length names.now) (has set.bits) }
+    ensures { OnOk result (out.new.items ≡ out.old.items ++ set_line names.now set.bits) }
+{
+    push_set(out, names, set)?;
+    out.push(b'\n')?;
+    Ok(())
+}
+
+/// The text of a set that may be adjusted for.
+pub fn admissible_text(alloc: Global, names: &Names, sets: Sets) -> Result<Vec<u8>, AllocError>
+    requires sets { AreThreeSets (length names.now) (has sets.x.bits) (has sets.y.bits) (has sets.given.bits) }
+    requires some { 0 < sets.y.bits }
+    ensures { IfOk result (λ v. v.items ≡ admissible_text names.now sets.x.bits sets.y.bits sets.given.bits) }
+{
+    let formula = formula_for(alloc, sets.x, sets.y, sets.given)?;
+    let answer = formula_answer(alloc, &formula, sets.x, sets.y, names)?;
+    let mut text = Vec::from_slice(alloc, b"admissible: ")?;
+    push_line(&mut text, names, sets.given)?;
+    text.extend_from_slice(answer.as_slice())?;
+    Ok(text)
+}
+
+/// Appends the line of a member that is excluded.
+fn push_forbidden(out: &mut Vec<u8>, names: &Names, v: u8) -> Result<(), AllocError>
+    requires { v < length names.now }
+    ensures { OnOk result (out.new.items ≡ out.old.items ++ forbidden_line names.now v) }
+{
+    out.extend_from_slice(b"forbidden: ")?;
+    push_vertex(out, names, v)?;
+    out.push(b'\n')?;
+    Ok(())
+}
+
+/// Appends what breaks a criterion.
+fn push_fault(out: &mut Vec<u8>, names: &Names, fault: &AdjFault) -> Result<(), AllocError>
+    requires { IsPrintable (length names.now) fault.now }
+    ensures { OnOk result (out.new.items ≡ out.old.items ++ fault_line names.now fault.now) }
+{
+    match fault {
+        AdjFault::Forbidden(v) => push_forbidden(out, names, *v),
+        AdjFault::Unblocked(path) => push_open(out, names, path),
+    }
+}
+
+/// The text of a set that a criterion doesn't allow.
+pub fn not_admissible_text(
+    alloc: Global,
+    names: &Names,
+    set: VSet,
+    fault: &AdjFault,
+) -> Result<Vec<u8>, AllocError>
+    requires set { Within (length names.now) (has set.bits) }
+    requires fault { IsPrintable (length names.now) fault.now }
+    ensures { IfOk result (λ v. v.items ≡ not_admissible_text names.now set.bits fault.now) }
+{
+    let mut text = Vec::from_slice(alloc, b"not admissible: ")?;
+    push_line(&mut text, names, set)?;
+    push_fault(&mut text, names, fault)?;
+    Ok(text)
+}
+
+/// Appends each set on a line of its own.
+fn push_sets(out: &mut Vec<u8>, names: &Names, sets: &[VSet]) -> Result<(), AllocError>
+    requires { All (λ s. Within (length names.now) (has s.bits)) sets.now }
+    ensures { OnOk result (out.new.items ≡ out.old.items ++ set_lines names.now sets.now) }
+{
+    for set in sets {
+        push_line(out, names, *set)?;
+    }
+    Ok(())
+}
+
+/// The text of a listing.
+pub fn listing_text(
+    alloc: Global,
+    names: &Names,
+    sets: &[VSet],
+    more: bool,
+) -> Result<Vec<u8>, AllocError>
+    requires { All (λ s. Within (length names.now) (has s.bits)) sets.now }
+    ensures { IfOk result (λ v. v.items ≡ listing_text names.now sets.now more) }
+{
+    let mut text = Vec::new(alloc);
+    push_sets(&mut text, names, sets)?;
+    if more {
+        text.extend_from_slice(b"more\n")?;
+    }
+    Ok(text)
+}

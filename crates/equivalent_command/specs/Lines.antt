@@ -1,0 +1,41 @@
+-- How the answer of a comparison is printed.
+use Rattle.std.specs.Prelude.{ℕ, Bool, true, false, not, List, [], ◌∷◌, ◌++◌, codes}
+use Rattle.mixed_graph.specs.Names.{name_of}
+use Rattle.name_text.specs.Printing.{printed}
+use Rattle.answer_text.specs.Texts.{set_text}
+use Rattle.markov_equivalence.specs.declared.comparison.Difference.{Difference}
+
+-- the first of the two graphs, or the second
+abbrev pub which : Bool → List ℕ
+which true = codes "first"
+which false = codes "second"
+
+-- `{A}`
+abbrev pub braced : List (List ℕ) → ℕ → List ℕ
+braced names v = 123 ∷ printed (name_of names v) ++ 125 ∷ []
+
+-- `{A} from {B} given {C}`
+abbrev pub query_text : List (List ℕ) → Difference → List ℕ
+query_text names d = braced names d.a ++ (codes " from " ++ (braced names d.b ++ (codes " given " ++ set_text names d.given.bits)))
+
+-- `separated in the first alone: {A} from {B} given {C}`
+abbrev pub separation_text : List (List ℕ) → Difference → List ℕ
+separation_text names d = codes "separated in the " ++ (which d.first ++ (codes " alone: " ++ (query_text names d ++ 10 ∷ [])))
+
+-- the graph that isn't the one of the separation has the edge or the collider: ` in the second`
+abbrev pub place_text : Difference → List ℕ
+place_text d = codes " in the " ++ (which (not d.first) ++ 10 ∷ [])
+
+-- `not equivalent: edge A,B in the second`, and the separation
+abbrev pub edge_text : List (List ℕ) → Difference → List ℕ
+edge_text names d = codes "not equivalent: edge " ++ (printed (name_of names d.a) ++ (44 ∷ printed (name_of names d.b)
+    ++ (place_text d ++ separation_text names d)))
+
+-- `not equivalent: collider A,M,B in the second`, and the separation
+abbrev pub collider_text : List (List ℕ) → Difference → ℕ → List ℕ
+collider_text names d m = codes "not equivalent: collider " ++ (printed (name_of names d.a) ++ (44 ∷ printed (name_of names m)
+    ++ (44 ∷ printed (name_of names d.b) ++ (place_text d ++ separation_text names d))))
+
+-- the line of two graphs that don't differ
+abbrev pub equivalent_text : List ℕ
+equivalent_text = codes "equivalent" ++ 10 ∷ []
