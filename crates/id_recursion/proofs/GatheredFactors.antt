@@ -80,6 +80,7 @@ module _ (g : MixedGraph) (order first : List ℕ) (defs : List Expr) (lemmas : 
         (subst (λ z. AreAllSteps g order 0 z (map lemma_view lemmas) (lists_view lists)) (append-nil first) (subst (λ z. AreAllSteps g order 0 (first ++ []) z (lists_view lists)) (append-nil (map lemma_view lemmas))
         (s.steps [] [] no_more AreAllSteps.none))));
     counted = ap length k ∙ s.listed;
+    few = subst (λ z. length z ≤ 64 * length first) (sym d) s.few;
   }
 
   pub stopped_here : (c : VSet) (rest : List ℕ) (fault : FactorFault) → IsFactorFault g c.bits fault → IsStopOf g order (first ++ c.bits ∷ rest) (stop_for c fault)

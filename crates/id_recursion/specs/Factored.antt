@@ -1,5 +1,5 @@
 -- What the factors of the districts have to be, and where one stops.
-use Rattle.std.specs.Prelude.{ℕ, ◌≡◌, List, [], ◌∷◌, ◌++◌, length, map}
+use Rattle.std.specs.Prelude.{ℕ, ◌≡◌, ◌≤◌, ◌*◌, List, [], ◌∷◌, ◌++◌, length, map}
 use Rattle.mixed_graph.specs.Graphs.{MixedGraph}
 use Rattle.prob_expr.specs.View.{view, views}
 use Rattle.do_derivation.specs.View.{lemma_view}
@@ -14,11 +14,12 @@ use Rattle.id_recursion.specs.declared.kinds.Factors.{Factors}
 use Rattle.id_recursion.specs.declared.kinds.Stop.{Stop}
 use Rattle.id_recursion.specs.declared.kinds.Stop.TheVariants.{At, NoMemory}
 
--- by this order of the vertices, the factors of these districts with their definitions, and the steps to them
+-- by this order of the vertices, the factors of these districts with their definitions, at most 64 for each, and the steps to them
 pub record AreFactorsOf (g : MixedGraph) (order : List ℕ) (districts : List ℕ) (f : Factors) : Type 0 where
   pub formulas : AreFactored g order 0 districts (map view f.defs.items) (views f.values.items)
   pub steps : AreAllSteps g order 0 districts (map lemma_view f.lemmas.items) (lists_view f.lists.items)
   pub counted : length f.lists.items ≡ length districts
+  pub few : length f.defs.items ≤ 64 * length districts
 
 -- the first district whose factor stops, and where
 abbrev pub IsStopOf : MixedGraph → (order : List ℕ) → (districts : List ℕ) → Stop → Type 0

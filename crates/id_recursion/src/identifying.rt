@@ -1,6 +1,6 @@
 //! Identification of an effect from a graph.
 
-ghost use Rattle.std.specs.Prelude.{◌≡◌, ℕ, ◌<◌, ◌↔◌, [], true, length, IsTrue, IfOk, None};
+ghost use Rattle.std.specs.Prelude.{◌≡◌, ℕ, ◌<◌, ◌≤◌, ◌↔◌, [], true, length, IsTrue, IfOk, None};
 ghost use Rattle.mixed_graph.specs.Bits.{has};
 ghost use Rattle.mixed_graph.specs.Graphs.{IsAncestor};
 ghost use Rattle.mixed_graph.specs.Orders.{IsOrder};
@@ -80,7 +80,8 @@ fn answer(alloc: Global, g: &Graph, x: VSet, y: VSet) -> Result<Answer, AllocErr
     requires y_within { Within g.now.n (has y.bits) }
     requires apart { Apart (has x.bits) (has y.bits) }
     requires some { 0 < y.bits }
-    ensures { IfOk result (IsAnswerOf (graph_of g.now) x.bits y.bits) }
+    ensures answer { IfOk result (IsAnswerOf (graph_of g.now) x.bits y.bits) }
+    ensures few { IfOk result (λ a. IfFormula a (λ f d. length f.defs ≤ 4096)) }
 {
     let order = order_of(g);
     if is_empty(x) {
@@ -127,6 +128,7 @@ pub fn identify(alloc: Global, g: &Graph, x: VSet, y: VSet) -> Result<Answer, Al
     ensures effect { IfOk result (λ a. IfFormula a (λ f d. EqualsEffect (graph_of g.now) (effect_on x.bits y.bits) f)) }
     ensures shallow_steps { IfOk result (λ a. IfFormula a (λ f d. AreShallowSteps d)) }
     ensures shallow_formula { IfOk result (λ a. IfFormula a (λ f d. IsShallowFormula f)) }
+    ensures few { IfOk result (λ a. IfFormula a (λ f d. length f.defs ≤ 4096)) }
 
     // The hedge, its data, and its two models.
     ensures stop { IfOk result (λ a. IfHedge a (λ h pair. IsUnidentified (graph_of g.now) x.bits y.bits h.small.bits h.big.bits)) }

@@ -1,6 +1,6 @@
 //! The steps of main, from P(y | do(x)) to the formula's main expression.
 
-ghost use Rattle.std.specs.Prelude.{◌≡◌, ℕ, ◌<◌, ◌≤◌, IfOk, OnOk, length, All};
+ghost use Rattle.std.specs.Prelude.{◌≡◌, ℕ, ◌*◌, ◌<◌, ◌≤◌, IfOk, OnOk, length, All};
 ghost use Rattle.mixed_graph.specs.Orders.{IsOrder};
 ghost use Rattle.mixed_graph.specs.Shown.{graph_of};
 ghost use Rattle.districts.specs.Linked.{AreDistricts};
@@ -111,7 +111,8 @@ pub fn composed(
     requires ancestors { AreAncestorsIn (graph_of g.now) (minus (all g.now.n) x.bits) y.bits d.bits }
     requires districts { AreDistricts (graph_of g.now) d.bits 0 (listed order.now) (first_masks parts.now.sets parts.now.count) }
     requires factors { AreFactorsOf (graph_of g.now) (listed order.now) (first_masks parts.now.sets parts.now.count) made }
-    ensures { IfOk result (λ p. IsComposedWith (graph_of g.now) (listed order.now) x.bits y.bits (formula_view p.0) (derivation_view p.1)) }
+    ensures composed { IfOk result (λ p. IsComposedWith (graph_of g.now) (listed order.now) x.bits y.bits (formula_view p.0) (derivation_view p.1)) }
+    ensures few { IfOk result (λ p. length (formula_view p.0).defs ≤ 64 * length (first_masks parts.now.sets parts.now.count)) }
 {
     let opens = has_product(&made.values);
     let rest = district_steps(alloc, order, d, parts, made.lists, opens)?;

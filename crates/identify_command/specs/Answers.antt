@@ -1,5 +1,5 @@
 -- The answer of `identify`: whether the effect of x on y can be computed from observations, in the observed graph of the one that was read.
-use Rattle.std.specs.Prelude.{ℕ, ◌≡◌, List, ◌++◌, codes}
+use Rattle.std.specs.Prelude.{ℕ, ◌≡◌, List, ◌++◌, codes, Ok}
 use Rattle.mixed_graph.specs.Bits.{has}
 use Rattle.mixed_graph.specs.Graphs.{MixedGraph, IsAncestor}
 use Rattle.dag_reader.specs.declared.graph.ReadGraph.{ReadGraph}
@@ -23,6 +23,7 @@ use Rattle.identify_text.specs.Answers.{formula_answer, latex_answer}
 use Rattle.identify_text.specs.PairLines.{hedge_answer}
 use Rattle.certificate.specs.Plain.{PlainCertificate, hedge_view}
 use Rattle.certificate.specs.Plain as plain
+use Rattle.certificate.specs.Reading.{certificate_in}
 use Rattle.certificate_writing.specs.Written.{certificate_text}
 use Rattle.identify_command.specs.declared.form.Form.{Form}
 use Rattle.identify_command.specs.declared.form.Form.TheVariants.{Plain, Certificate, Latex}
@@ -45,6 +46,10 @@ hedge_text Plain names x y h pair = hedge_answer names x y h pair
 hedge_text Certificate names x y h pair = certificate_line names (plain.hedge (effect_on x y) (hedge_view h))
 hedge_text Latex names x y h pair = hedge_answer names x y h pair
 
+-- where the form is the certificate, this one is read back from its text
+abbrev pub ReadsBack : Form → List (List ℕ) → PlainCertificate → Type 0
+ReadsBack form names c = form ≡ Certificate → certificate_in names (certificate_text names c) ≡ Ok c
+
 -- ---- answers for sets of the observed graph q
 
 -- Yes: the formula has no intervention, equals P(y | do(x)) in each positive model that fits q, and names ancestors of y alone; the derivation turns the effect into it.
@@ -56,6 +61,7 @@ pub record ShowsFormula (form : Form) (q : MixedGraph) (names : List (List ℕ))
   pub ancestors : FormulaNamesOnly (IsAncestor q (has y)) formula
   pub derived : IsDerived q x y formula derivation
   pub prints : text ≡ formula_text form names x y formula derivation
+  pub reads_back : ReadsBack form names (plain.formula (effect_on x y) formula derivation)
 
 -- No: it is a hedge for the effect of x on y, and its two models, which are positive and fit q, agree on all observations and differ on the effect.
 -- It is the hedge at which the identification procedure stops, with its data and its models, and the text shows it.
@@ -67,6 +73,7 @@ pub record ShowsHedge (form : Form) (q : MixedGraph) (names : List (List ℕ)) (
   pub built : IsHedgeOf q hedge
   pub models : IsPairOf q x y hedge pair
   pub prints : text ≡ hedge_text form names x y hedge pair
+  pub reads_back : ReadsBack form names (plain.hedge (effect_on x y) (hedge_view hedge))
 
 -- the answer for the sets x and y
 abbrev pub SetsAnswer : Form → MixedGraph → List (List ℕ) → (x y : ℕ) → Outcome → List ℕ → Type 0

@@ -1,6 +1,6 @@
 //! The texts of the answers.
 
-ghost use Rattle.std.specs.Prelude.{◌≡◌, ◌++◌, length, codes, None, IfOk};
+ghost use Rattle.std.specs.Prelude.{◌≡◌, ◌++◌, length, codes, None, IfOk, Ok};
 ghost use Rattle.mixed_graph.specs.Bits.{has};
 ghost use Rattle.mixed_graph.specs.Sets.{Within};
 ghost use Rattle.prob_expr.specs.Check.{fault_in};
@@ -8,9 +8,11 @@ ghost use Rattle.prob_expr.specs.View.{target_view, formula_view};
 ghost use Rattle.do_derivation.specs.View.{derivation_view};
 ghost use Rattle.id_recursion.specs.Answers.{effect_on};
 ghost use Rattle.identify_text.specs.Below.{IsHedgeBelow, ArePairBelow};
-ghost use Rattle.certificate.specs.Plain.{certificate_view, hedge_view};
-ghost use Rattle.certificate_writing.specs.Writable.{IsBareTarget, IsDerivationWithin, IsHedgeWithin, IsWritable};
-ghost use Rattle.identify_command.specs.Answers.{certificate_line, formula_text, hedge_text};
+ghost use Rattle.certificate.specs.Plain.{certificate_view, hedge_view, formula as formula_case, hedge as hedge_case};
+ghost use Rattle.certificate.specs.Reading.{certificate_in};
+ghost use Rattle.certificate_writing.specs.Writable.{IsBareTarget, IsDerivationWithin, IsHedgeWithin, IsWritable, IsShallow, IsFormulaShallow};
+ghost use Rattle.certificate_writing.specs.Written.{certificate_text};
+ghost use Rattle.identify_command.specs.Answers.{certificate_line, formula_text, hedge_text, ReadsBack};
 
 use crate::form::Form;
 use certificate::Certificate;
@@ -41,8 +43,10 @@ fn certificate_line(
     certificate: &Certificate,
     names: &Names,
 ) -> Result<Vec<u8>, AllocError>
-    requires { IsWritable (length names.now) (certificate_view certificate.now) }
-    ensures { IfOk result (λ v. v.items ≡ certificate_line names.now (certificate_view certificate.now)) }
+    requires writable { IsWritable (length names.now) (certificate_view certificate.now) }
+    requires shallow { IsShallow (certificate_view certificate.now) }
+    ensures line { IfOk result (λ v. v.items ≡ certificate_line names.now (certificate_view certificate.now)) }
+    ensures reads_back { IfOk result (λ v. certificate_in names.now (certificate_text names.now (certificate_view certificate.now)) ≡ Ok (certificate_view certificate.now)) }
 {
     let mut text = write_answer(alloc, certificate, names)?;
     text.push(b'\n')?;
@@ -63,7 +67,9 @@ pub fn formula_text(
     requires target { IsBareTarget (length names.now) (effect_on sets.x.bits sets.y.bits) }
     requires formula { fault_in (length names.now) (formula_view formula) ≡ None }
     requires derivation { IsDerivationWithin (length names.now) (derivation_view derivation) }
-    ensures { IfOk result (λ v. v.items ≡ formula_text form names.now sets.x.bits sets.y.bits (formula_view formula) (derivation_view derivation)) }
+    requires shallow { IsFormulaShallow (formula_view formula) (derivation_view derivation) }
+    ensures text { IfOk result (λ v. v.items ≡ formula_text form names.now sets.x.bits sets.y.bits (formula_view formula) (derivation_view derivation)) }
+    ensures reads_back { IfOk result (λ v. ReadsBack form names.now (formula_case (effect_on sets.x.bits sets.y.bits) (formula_view formula) (derivation_view derivation))) }
 {
     match form {
         Form::Plain => formula_answer(alloc, &formula, sets.x, sets.y, names),
@@ -90,7 +96,8 @@ pub fn hedge_text(
     requires hedge { IsHedgeBelow (length names.now) hedge }
     requires models { ArePairBelow (length names.now) pair.now }
     requires data { IsHedgeWithin (length names.now) (hedge_view hedge) }
-    ensures { IfOk result (λ v. v.items ≡ hedge_text form names.now sets.x.bits sets.y.bits hedge pair.now) }
+    ensures text { IfOk result (λ v. v.items ≡ hedge_text form names.now sets.x.bits sets.y.bits hedge pair.now) }
+    ensures reads_back { IfOk result (λ v. ReadsBack form names.now (hedge_case (effect_on sets.x.bits sets.y.bits) (hedge_view hedge))) }
 {
     match form {
         Form::Plain | Form::Latex => hedge_answer(alloc, sets.x, sets.y, &hedge, pair, names),

@@ -12,40 +12,40 @@ target c = target_of (graph_of c.args.g.now) c.args.x.bits c.args.y.bits c.requi
 
 pub returns-clause-right : goal.returns-clause-right
 returns-clause-right c = if_ok c.answer.result (IsAnswerOf (graph_of c.args.g.now) c.args.x.bits c.args.y.bits) _
-    (right (graph_of c.args.g.now) c.args.g.now.valid c.args.g.now.small c.args.x.bits c.args.y.bits (target (goal.at.returns-clause-right c).After-answer) c.requires.apart) c.answer.ensures
+    (right (graph_of c.args.g.now) c.args.g.now.valid c.args.g.now.small c.args.x.bits c.args.y.bits (target (goal.at.returns-clause-right c).After-answer) c.requires.apart) c.answer.ensures.answer
 
 pub returns-clause-exact : goal.returns-clause-exact
 returns-clause-exact c = if_ok c.answer.result (IsAnswerOf (graph_of c.args.g.now) c.args.x.bits c.args.y.bits) _
-    (exact (graph_of c.args.g.now) c.args.g.now.valid c.args.g.now.small c.args.x.bits c.args.y.bits (target (goal.at.returns-clause-exact c).After-answer) c.requires.apart) c.answer.ensures
+    (exact (graph_of c.args.g.now) c.args.g.now.valid c.args.g.now.small c.args.x.bits c.args.y.bits (target (goal.at.returns-clause-exact c).After-answer) c.requires.apart) c.answer.ensures.answer
 
 pub returns-clause-accepted : goal.returns-clause-accepted
 returns-clause-accepted c = if_ok c.answer.result (IsAnswerOf (graph_of c.args.g.now) c.args.x.bits c.args.y.bits) _
-    (accepted (graph_of c.args.g.now) c.args.g.now.valid c.args.g.now.small c.args.x.bits c.args.y.bits (target (goal.at.returns-clause-accepted c).After-answer) c.requires.apart) c.answer.ensures
+    (accepted (graph_of c.args.g.now) c.args.g.now.valid c.args.g.now.small c.args.x.bits c.args.y.bits (target (goal.at.returns-clause-accepted c).After-answer) c.requires.apart) c.answer.ensures.answer
 
 pub returns-clause-formed : goal.returns-clause-formed
 returns-clause-formed c = if_ok c.answer.result (IsAnswerOf (graph_of c.args.g.now) c.args.x.bits c.args.y.bits) _
-    (formed (graph_of c.args.g.now) c.args.g.now.valid c.args.g.now.small c.args.x.bits c.args.y.bits (target (goal.at.returns-clause-formed c).After-answer) c.requires.apart) c.answer.ensures
+    (formed (graph_of c.args.g.now) c.args.g.now.valid c.args.g.now.small c.args.x.bits c.args.y.bits (target (goal.at.returns-clause-formed c).After-answer) c.requires.apart) c.answer.ensures.answer
 
 pub returns-clause-do_free : goal.returns-clause-do_free
 returns-clause-do_free c = if_ok c.answer.result (IsAnswerOf (graph_of c.args.g.now) c.args.x.bits c.args.y.bits) _
-    (do_free (graph_of c.args.g.now) c.args.g.now.valid c.args.g.now.small c.args.x.bits c.args.y.bits (target (goal.at.returns-clause-do_free c).After-answer) c.requires.apart) c.answer.ensures
+    (do_free (graph_of c.args.g.now) c.args.g.now.valid c.args.g.now.small c.args.x.bits c.args.y.bits (target (goal.at.returns-clause-do_free c).After-answer) c.requires.apart) c.answer.ensures.answer
 
 pub returns-clause-names : goal.returns-clause-names
 returns-clause-names c = if_ok c.answer.result (IsAnswerOf (graph_of c.args.g.now) c.args.x.bits c.args.y.bits) _
-    (names (graph_of c.args.g.now) c.args.g.now.valid c.args.g.now.small c.args.x.bits c.args.y.bits (target (goal.at.returns-clause-names c).After-answer) c.requires.apart) c.answer.ensures
+    (names (graph_of c.args.g.now) c.args.g.now.valid c.args.g.now.small c.args.x.bits c.args.y.bits (target (goal.at.returns-clause-names c).After-answer) c.requires.apart) c.answer.ensures.answer
 
 pub returns-clause-effect : goal.returns-clause-effect
 returns-clause-effect c = if_ok c.answer.result (IsAnswerOf (graph_of c.args.g.now) c.args.x.bits c.args.y.bits) _
-    (equals (graph_of c.args.g.now) c.args.g.now.valid c.args.g.now.small c.args.x.bits c.args.y.bits (target (goal.at.returns-clause-effect c).After-answer) c.requires.apart) c.answer.ensures
+    (equals (graph_of c.args.g.now) c.args.g.now.valid c.args.g.now.small c.args.x.bits c.args.y.bits (target (goal.at.returns-clause-effect c).After-answer) c.requires.apart) c.answer.ensures.answer
 
 pub returns-clause-shallow_steps : goal.returns-clause-shallow_steps
 returns-clause-shallow_steps c = if_ok c.answer.result (IsAnswerOf (graph_of c.args.g.now) c.args.x.bits c.args.y.bits) _
-    (shallow_steps (graph_of c.args.g.now) c.args.g.now.valid c.args.g.now.small c.args.x.bits c.args.y.bits (target (goal.at.returns-clause-shallow_steps c).After-answer) c.requires.apart) c.answer.ensures
+    (shallow_steps (graph_of c.args.g.now) c.args.g.now.valid c.args.g.now.small c.args.x.bits c.args.y.bits (target (goal.at.returns-clause-shallow_steps c).After-answer) c.requires.apart) c.answer.ensures.answer
 
 pub returns-clause-shallow_formula : goal.returns-clause-shallow_formula
 returns-clause-shallow_formula c = if_ok c.answer.result (IsAnswerOf (graph_of c.args.g.now) c.args.x.bits c.args.y.bits) _
-    (shallow_formula (graph_of c.args.g.now) c.args.g.now.valid c.args.g.now.small c.args.x.bits c.args.y.bits (target (goal.at.returns-clause-shallow_formula c).After-answer) c.requires.apart) c.answer.ensures
+    (shallow_formula (graph_of c.args.g.now) c.args.g.now.valid c.args.g.now.small c.args.x.bits c.args.y.bits (target (goal.at.returns-clause-shallow_formula c).After-answer) c.requires.apart) c.answer.ensures.answer
 
 pub returns-clause-counter : goal.returns-clause-counter
 returns-clause-counter c = if_ok c.answer.result (IsAnswerOf (graph_of c.args.g.now) c.args.x.bits c.args.y.bits) _
-    (counters (graph_of c.args.g.now) c.args.g.now.valid c.args.g.now.small c.args.x.bits c.args.y.bits (target (goal.at.returns-clause-counter c).After-answer) c.requires.apart) c.answer.ensures
+    (counters (graph_of c.args.g.now) c.args.g.now.valid c.args.g.now.small c.args.x.bits c.args.y.bits (target (goal.at.returns-clause-counter c).After-answer) c.requires.apart) c.answer.ensures.answer

@@ -1,4 +1,5 @@
-use Rattle.std.proofs.Common.{sym, ap, ◌∙◌}
+use Rattle.std.proofs.Common.{sym, ap, ◌∙◌, arith}
+use Rattle.std.proofs.lemmas.List.{length-map}
 use Rattle.districts.specs.Listed.{first_masks}
 use Rattle.prob_expr.specs.Masks.{minus}
 use Rattle.prob_expr.specs.View.{view, views}
@@ -9,8 +10,8 @@ use Rattle.id_recursion.specs.Lists.{lists_view}
 use Rattle.id_recursion.proofs.StepLists.{step-Then}
 use Rattle.id_recursion.proofs.mains.composed.Goals as goal
 
-pub returns : goal.returns
-returns c =
+pub returns-clause-composed : goal.returns-clause-composed
+returns-clause-composed c =
     let fs = views c.args.made.values.items in
     record {
       composed = record {
@@ -27,3 +28,6 @@ returns c =
       main = step-Then c.in_ok-steps.steps ∙ ap (λ p. Plan.Then p) (c.in_ok-steps.ensures
           ∙ ap (main_steps c.args.g.now.n c.args.x.bits c.args.y.bits c.args.d.bits) (c.in_ok-rest.ensures fs (sym c.has_product-opens.ensures)));
     }
+
+pub returns-clause-few : goal.returns-clause-few
+returns-clause-few c = (let n = length-map c.args.made.defs.items view in let f = c.requires.factors.few in omega (arith, n, f))

@@ -1,4 +1,4 @@
-use Rattle.std.proofs.Common.{[], sym, subst}
+use Rattle.std.proofs.Common.{◌≤◌, [], length, sym, subst}
 use Rattle.mixed_graph.specs.Shown.{graph_of}
 use Rattle.hedge.specs.Hedges.{IsHedge}
 use Rattle.prob_expr.specs.View.{formula_view}
@@ -7,12 +7,13 @@ use Rattle.do_derivation.specs.View.{derivation_view}
 use Rattle.counter_models.specs.Events.{AreCounterModels}
 use Rattle.counter_models.specs.Pairs.{IsPairOf}
 use Rattle.identification.specs.Procedure.{IsUnidentified}
-use Rattle.id_recursion.specs.Answers.{effect_on, IsRight, IfFormula, IfHedge}
+use Rattle.id_recursion.specs.Answers.{effect_on, IsRight, IfFormula, IfHedge, AreShallowSteps, IsShallowFormula}
 use Rattle.id_recursion.specs.Hedged.{IsHedgeOf}
 use Rattle.identify_text.specs.Below.{IsHedgeBelow, ArePairBelow}
 use Rattle.identify_text.proofs.Belows.{hedge_below}
 use Rattle.certificate.specs.Plain.{hedge_view}
 use Rattle.certificate_writing.specs.Writable.{IsBareTarget, IsDerivationWithin, IsHedgeWithin}
+use Rattle.identify_command.proofs.Shallow.{formula_shallow}
 use Rattle.identify_command.proofs.Within.{derivation_within}
 use Rattle.identify_command.proofs.Writing.{bare_target, hedge_within, pair_below}
 use Rattle.identify_command.proofs.reply.decide.Goals as goal
@@ -28,6 +29,12 @@ formula_text-requires-clause-derivation c =
     (derivation_within g c.args.seen.now.graph.valid [] (effect_on c.args.sets.x.bits c.args.sets.y.bits) (formula_view c.in-Formula.formula) (derivation_view c.in-Formula.derivation)
     (bare_target c.args.seen.now.graph.n c.args.sets.x.bits c.args.sets.y.bits c.requires.x c.requires.y c.requires.apart c.requires.some).sets
     (subst (λ a. IfFormula a (Accepts g [] (effect_on c.args.sets.x.bits c.args.sets.y.bits))) c.in-Formula.is c.in_ok-formula.ensures.accepted))
+
+pub formula_text-requires-clause-shallow : goal.formula_text-requires-clause-shallow
+formula_text-requires-clause-shallow c = formula_shallow (formula_view c.in-Formula.formula) (derivation_view c.in-Formula.derivation)
+    (subst (λ a. IfFormula a (λ f d. length f.defs ≤ 4096)) c.in-Formula.is c.in_ok-formula.ensures.few)
+    (subst (λ a. IfFormula a (λ f d. IsShallowFormula f)) c.in-Formula.is c.in_ok-formula.ensures.shallow_formula)
+    (subst (λ a. IfFormula a (λ f d. AreShallowSteps d)) c.in-Formula.is c.in_ok-formula.ensures.shallow_steps)
 
 pub hedge_text-requires-clause-target : goal.hedge_text-requires-clause-target
 hedge_text-requires-clause-target c = subst (λ n. IsBareTarget n (effect_on c.args.sets.x.bits c.args.sets.y.bits)) (sym c.requires.named)
@@ -65,5 +72,6 @@ returns-in_ok-hedge_text-in-Hedge c =
       stop = subst (λ a. IfHedge a (λ h pair. IsUnidentified g c.args.sets.x.bits c.args.sets.y.bits h.small.bits h.big.bits)) c.in-Hedge.is c.in_ok-formula.ensures.stop;
       built = subst (λ a. IfHedge a (λ h pair. IsHedgeOf g h)) c.in-Hedge.is c.in_ok-formula.ensures.data;
       models = subst (λ a. IfHedge a (IsPairOf g c.args.sets.x.bits c.args.sets.y.bits)) c.in-Hedge.is c.in_ok-formula.ensures.pair;
-      prints = c.in_ok-hedge_text-in-Hedge.ensures;
+      prints = c.in_ok-hedge_text-in-Hedge.ensures.text;
+      reads_back = c.in_ok-hedge_text-in-Hedge.ensures.reads_back;
     }
