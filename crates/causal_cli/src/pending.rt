@@ -2,8 +2,8 @@ ghost use Rattle.std.specs.Prelude.{◌≡◌, ◌≤◌, ◌<◌, ℕ, List, If
 ghost use Rattle.causal_cli.specs.Pendings.{limit_of, second_in, IsAccepted, GivesSecond};
 
 use check_command::{check_reply, long_certificate};
-use equivalent_command::{equivalent_reply, long_second_graph};
 use dag_reader::ReadGraph;
+use equivalent_command::{equivalent_reply, long_second_graph};
 use replies::Reply;
 use std::alloc::{AllocError, Global};
 
