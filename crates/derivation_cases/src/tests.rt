@@ -123,7 +123,7 @@ fn front_doors(rt: &impl Abort, alloc: Global, g: &Graph) -> Result<(), AllocErr
     for (see, z, exchanged, want) in [
         (false, 1u64, false, "accepted"),
         (false, 1, true, "another end"),
-        (false, 3, false, "step 12: Y <-> X"),
+        (false, 3, false, "step 12: Y <- M"),
         (true, 1, false, "step 12: Y <-> X"),
     ] {
         let twelfth = if see {
