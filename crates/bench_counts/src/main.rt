@@ -4,7 +4,7 @@
 
 ghost use Rattle.std.specs.Prelude.{◌≡◌, ◌<◌, ◌^◌, IfOk, length, sum};
 
-use count_rows::{CountFault, Tally, read_rows};
+use count_table::{CountFault, Counts, marginal, read_counts};
 use lane_sums::masked_sum;
 use mixed_graph::{Names, VSet};
 use std::alloc::{AllocError, Global};
@@ -17,20 +17,20 @@ const VERTICES: [&str; 4] = ["stone", "treatment", "sex", "year"];
 /// The number of cells that are summed.
 const CELLS: usize = 1048576;
 
-/// Prints the number of levels of each vertex, the number of rows and the sum of their counts.
-fn print_tally(rt: &impl Print, tally: &Tally) -> io::Result<()> {
-    for levels in tally.levels.as_slice() {
-        let count = levels.count();
-        rt.println(format_args!("levels {count}"))?;
+/// Prints the number of levels of each vertex, the number of cells and the sum of the counts.
+fn print_table(rt: &impl Print, counts: &Counts) -> io::Result<()> {
+    for v in 0..4 {
+        let levels = counts.levels(v);
+        rt.println(format_args!("levels {levels}"))?;
     }
-    let rows = tally.counts.len();
-    let sum = tally.sum;
-    rt.println(format_args!("rows {rows}"))?;
+    let cells = counts.cells().len();
+    let sum = marginal(counts, VSet::empty(), &[]);
+    rt.println(format_args!("cells {cells}"))?;
     rt.println(format_args!("sum {sum}"))
 }
 
-/// What a reading of the text gives.
-fn tally_of(alloc: Global, text: &[u8]) -> Result<Tally, CountFault> {
+/// The table that a text is.
+fn table_of(alloc: Global, text: &[u8]) -> Result<Counts, CountFault> {
     let mut names = Names::empty(alloc);
     for name in VERTICES {
         if names.add(name.as_bytes()).is_err() {
@@ -41,7 +41,7 @@ fn tally_of(alloc: Global, text: &[u8]) -> Result<Tally, CountFault> {
     if used.is_empty() {
         return Err(CountFault::NoRows);
     }
-    read_rows(alloc, text, &names, used, Some(b"count"))
+    read_counts(alloc, text, &names, used, Some(b"count"))
 }
 
 /// The counts 1, .., 1, and the codes 0, 1, .., of n cells.
@@ -76,8 +76,8 @@ fn main(rt: HostRuntime) -> io::Result<()> {
     }
     let mut text = Vec::new(alloc);
     rt.reader().read_to_end(&mut text)?;
-    match tally_of(alloc, text.as_slice()) {
-        Ok(tally) => print_tally(&rt, &tally),
+    match table_of(alloc, text.as_slice()) {
+        Ok(counts) => print_table(&rt, &counts),
         Err(_) => rt.println("fault"),
     }
 }
