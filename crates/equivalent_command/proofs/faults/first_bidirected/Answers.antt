@@ -1,4 +1,4 @@
-use Rattle.std.proofs.Common.{◌≡◌, false, get_or, inl, inr, ap, ◌∙◌, arith}
+use Rattle.std.proofs.Common.{◌≡◌, false, get_or, inl, inr, arith}
 use Rattle.std.proofs.lemmas.Bool.{cases_eq}
 use Rattle.mixed_graph.specs.Bits.{has}
 use Rattle.mixed_graph.proofs.Masks.{has-zero}

@@ -1,4 +1,4 @@
-use Rattle.std.proofs.Common.{◌≡◌, ℕ, ap, ◌∙◌, arith, sym, refl, subst, length, get_or}
+use Rattle.std.proofs.Common.{◌≡◌, ap, ◌∙◌, arith, sym, refl, subst, length, get_or}
 use Rattle.std.proofs.lemmas.List.{length-map}
 use Rattle.mixed_graph.specs.Graphs.{IsMixedGraph, graph_from}
 use Rattle.mixed_graph.specs.Shown.{graph_of}

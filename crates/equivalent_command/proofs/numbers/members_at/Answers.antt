@@ -1,4 +1,4 @@
-use Rattle.std.proofs.Common.{◌≡◌, ℕ, ◌&&◌, ◌||◌, nat_lt, get_or, ap, ◌∙◌, arith}
+use Rattle.std.proofs.Common.{◌≡◌, ◌&&◌, ◌||◌, nat_lt, get_or, ap, ◌∙◌, arith}
 use Rattle.mixed_graph.specs.Bits.{has}
 use Rattle.equivalent_command.proofs.Placing.{no_member, member_more}
 use Rattle.equivalent_command.proofs.numbers.members_at.Goals as goal
