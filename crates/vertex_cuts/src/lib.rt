@@ -7,8 +7,6 @@ mod graphs;
 mod listing;
 mod places;
 mod steps;
-#[cfg(test)]
-mod tests;
 
 pub use floods::{beside, flood};
 pub use graphs::CutGraph;
