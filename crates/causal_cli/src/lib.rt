@@ -1,7 +1,7 @@
 //! The top call: a command line is run over named inputs and two outputs.
 #![tactic(auto)]
 
-mod adjustment;
+mod adjusting;
 mod answer;
 mod ending;
 mod graph;

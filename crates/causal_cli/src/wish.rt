@@ -13,7 +13,7 @@ ghost use Rattle.causal_cli.specs.Wishes as spec;
 ghost use Rattle.causal_cli.specs.declared.rule.Rule.{Rule};
 ghost use Rattle.causal_cli.specs.WishViews.{wish_of, IsSeparation, IsRuleWish, IsIdentification, IsCheckWish, IsAdjustment, IsEquivalenceWish};
 
-use crate::adjustment::Adjustment;
+use crate::adjusting::Adjustment;
 use crate::rule::Rule;
 use adjust_command::Query;
 use identify_command::Form;
