@@ -1,5 +1,5 @@
 -- From a reply that was delivered to the end of the run.
-use Rattle.std.proofs.Common.{◌≡◌, ℕ, ◌<◌, ◌≤◌, arith, Bool, true, false, List, Option, Some, None, IfSome, Result, Err, length, inl, ◌∙◌, refl, sym, subst}
+use Rattle.std.proofs.Common.{◌≡◌, ℕ, ◌<◌, ◌≤◌, arith, Bool, true, false, List, Option, Some, None, IfSome, Result, Ok, Err, length, inl, ◌∙◌, refl, sym, subst}
 use Rattle.std.specs.Global.{Vec}
 use Rattle.word_forms.specs.Form.{Text}
 use Rattle.causal_io.specs.Causes.{Rose}
@@ -138,3 +138,15 @@ long_second held lacks faults faults_after out p e name limit f most reply en el
     let read = subst (λ n. AnswersAll (held n) (limit_of p) (Err (TooLong most))) en (subst (λ k. AnswersAll (held name) k (Err (TooLong most))) el (subst (λ k. AnswersAll (held name) limit (Err k)) ef answer)) in
     replied reply (subst (λ n. lacks n ≡ false) en (not_true (lacks name) (λ t. no_fault f most ef (lacked t))))
     (mapped (held (second_in p)) (λ other. (limit_of p) < length other) (λ other. GivesSecond p other reply) gives read.1) o
+
+not_fault : (v : Vec ℕ) → (let r : Result (Vec ℕ) ReadError = Ok v in r ≡ Err Fault) → ⊥
+not_fault v h = absurd (cc h)
+
+-- the second input was read, and the reply on its bytes delivered
+pub read_second : (held : Text → Option (List ℕ)) (lacks : Text → Bool) (faults faults_after : Text → ℕ) (out : Stream) (p : Pending) (e : Ending) (name : Text) (limit : ℕ)
+    (v : Vec ℕ) (reply : Reply) → name ≡ second_in p → AnswersAll (held name) limit (Ok v) →
+    (lacks name ≡ true → (let read : Result (Vec ℕ) ReadError = Ok v in read ≡ Err Fault)) →
+    GivesSecond p v.items reply → Delivers out reply e → Proceeds held lacks faults faults_after out p e
+read_second held lacks faults faults_after out p e name limit v reply en answer lacked gives o =
+    replied reply (subst (λ n. lacks n ≡ false) en (not_true (lacks name) (λ t. not_fault v (lacked t))))
+    (told (held (second_in p)) v.items (λ other. GivesSecond p other reply) (subst (λ n. IfSome (held n) (λ all. v.items ≡ all)) en answer.1) gives) o
