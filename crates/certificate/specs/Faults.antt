@@ -13,8 +13,8 @@ fault_at key value.TooDeep = TooDeep
 fault_at key (value.Name t) = Name t
 fault_at key value.NoMemory = NoMemory
 
--- the next part is read where the first has no fault
 infixl 10 ◌>>=◌
+-- the next part is read where the first has no fault
 abbrev pub ◌>>=◌ : {A B : Type 0} → Result A CertFault → (A → Result B CertFault) → Result B CertFault
 (Ok x) >>= f = f x
 (Err e) >>= f = Err e

@@ -135,6 +135,7 @@ pub fn formula_in(alloc: Global, names: &Names, d: &Value) -> Result<Formula, Ce
     whole(names, Formula { defs, main })
 }
 
+/// A derivation: its lemmas, then main.
 #[tactic(auto, unfolding(crate::specs::Reading::derivation_in))]
 pub fn derivation_in(alloc: Global, names: &Names, d: &Value) -> Result<Derivation, CertFault>
     ensures { Gives (λ p. derivation_view p) result (derivation_in names.now (data_view d.now)) }

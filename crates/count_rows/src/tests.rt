@@ -87,18 +87,8 @@ fn reading(
 const STONES: &[u8] =
     b"T,S,R,count\nA,small,success,81\nA,small,failure,6\nB,small,success,234\nB,small,failure,36\nA,large,success,192\nA,large,failure,71\nB,large,success,55\nB,large,failure,25\n";
 
-/// The text with this as the first count.
-fn with_first_count(alloc: Global, count: &[u8]) -> Result<Vec<u8>, Fail> {
-    let mut text = Vec::from_slice(alloc, b"T,S,R,count\nA,small,success,")?;
-    text.extend_from_slice(count)?;
-    text.extend_from_slice(b"\nA,small,failure,6\n")?;
-    Ok(text)
-}
-
-#[test]
-fn texts_are_read(rt: HostRuntime) -> Result<(), Fail> {
-    let alloc = rt.alloc();
-    let tsr = ["T", "S", "R"];
+/// Texts over T, S and R, with the column of counts and what they give.
+fn check_texts(rt: &impl Abort, alloc: Global) -> Result<(), Fail> {
     let cases: [(&[u8], Option<&str>, &[u8]); 13] = [
         (
             STONES,
@@ -131,11 +121,38 @@ fn texts_are_read(rt: HostRuntime) -> Result<(), Fail> {
         ),
     ];
     for (text, count, expected) in cases {
-        let line = reading(&rt, alloc, text, &tsr, count)?;
+        let line = reading(rt, alloc, text, &["T", "S", "R"], count)?;
         assert!(rt; line.as_bytes() == expected, "{line:?}");
     }
+    Ok(())
+}
 
-    let counts: [(&[u8], &[u8]); 7] = [
+/// Texts of one column: empty lines are no records, an empty quoted field is one.
+fn check_one_column(rt: &impl Abort, alloc: Global) -> Result<(), Fail> {
+    let cases: [(&[u8], &[u8]); 4] = [
+        (b"T\na\n\nb\na\n", b"a|b; 0 1 0 ; 1 1 1; 3"),
+        (b"\xef\xbb\xbf\"T\"\r\n\"\"\r\na", b"|a; 0 1 ; 1 1; 2"),
+        (b"T\n\n\n", b"7"),
+        (b"T\na\nb,c\n", b"1: 2"),
+    ];
+    for (text, expected) in cases {
+        let line = reading(rt, alloc, text, &["T"], None)?;
+        assert!(rt; line.as_bytes() == expected, "{line:?}");
+    }
+    Ok(())
+}
+
+/// The text with this as the first count.
+fn with_first_count(alloc: Global, count: &[u8]) -> Result<Vec<u8>, Fail> {
+    let mut text = Vec::from_slice(alloc, b"T,S,R,count\nA,small,success,")?;
+    text.extend_from_slice(count)?;
+    text.extend_from_slice(b"\nA,small,failure,6\n")?;
+    Ok(text)
+}
+
+/// Counts in and out of form, and sums of 10^15 and over.
+fn check_counts(rt: &impl Abort, alloc: Global) -> Result<(), Fail> {
+    let cases: [(&[u8], &[u8]); 7] = [
         (b"x", b"4: 1"),
         (b"1000000000000001", b"4: 1"),
         (b"1000000000000000", b"6"),
@@ -147,21 +164,33 @@ fn texts_are_read(rt: HostRuntime) -> Result<(), Fail> {
             b"A; small; success|failure; 0 0 0 0 0 1 ; 999999999999994 6; 1000000000000000",
         ),
     ];
-    for (count, expected) in counts {
+    for (count, expected) in cases {
         let text = with_first_count(alloc, count)?;
-        let line = reading(&rt, alloc, text.as_slice(), &tsr, Some("count"))?;
+        let line = reading(rt, alloc, text.as_slice(), &["T", "S", "R"], Some("count"))?;
         assert!(rt; line.as_bytes() == expected, "{line:?}");
     }
+    Ok(())
+}
 
-    // Two columns of 1024 levels each are 2^20 cells; one level more is too many.
+/// Two columns of 1024 levels each are 2^20 cells; one level more is too many.
+fn check_sizes(rt: &impl Abort, alloc: Global) -> Result<(), Fail> {
     let mut text = String::from_str(alloc, "X,Y\n")?;
     for k in 0..1024u32 {
         text.push_str(format!(in alloc; "a{k},b{k}\n")?.as_str())?;
     }
-    let line = reading(&rt, alloc, text.as_bytes(), &["X", "Y"], None)?;
+    let line = reading(rt, alloc, text.as_bytes(), &["X", "Y"], None)?;
     assert!(rt; line.as_bytes().ends_with(b"; 1024"));
     text.push_str("more,b7\n")?;
-    let line = reading(&rt, alloc, text.as_bytes(), &["X", "Y"], None)?;
+    let line = reading(rt, alloc, text.as_bytes(), &["X", "Y"], None)?;
     assert!(rt; line.as_bytes() == b"5".as_slice());
     Ok(())
+}
+
+#[test]
+fn texts_are_read(rt: HostRuntime) -> Result<(), Fail> {
+    let alloc = rt.alloc();
+    check_texts(&rt, alloc)?;
+    check_one_column(&rt, alloc)?;
+    check_counts(&rt, alloc)?;
+    check_sizes(&rt, alloc)
 }

@@ -5,8 +5,8 @@ use Rattle.prob_expr.specs.Masks.{is_empty, is_below, are_term_sets}
 use Rattle.prob_expr.specs.declared.checking.ExprFault.{ExprFault}
 use Rattle.prob_expr.specs.declared.checking.ExprFault.TheVariants.{Sets, Empty, Forward}
 
--- the next part is checked where the first has no fault
 infixl 10 ◌>>=◌
+-- the next part is checked where the first has no fault
 abbrev pub ◌>>=◌ : {A B : Type 0} → Result A ExprFault → (A → Result B ExprFault) → Result B ExprFault
 (Ok x) >>= f = f x
 (Err e) >>= f = Err e

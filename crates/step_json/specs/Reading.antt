@@ -12,8 +12,8 @@ use Rattle.step_json.specs.declared.words.Word.TheVariants as words
 use Rattle.step_json.specs.declared.fault.ValueFault.{ValueFault}
 use Rattle.step_json.specs.declared.fault.ValueFault.TheVariants.{Form, TooDeep, Name, NoMemory}
 
--- the next part is read where the first has no fault
 infixl 10 ◌>>=◌
+-- the next part is read where the first has no fault
 abbrev pub ◌>>=◌ : {A B : Type 0} → Result A ValueFault → (A → Result B ValueFault) → Result B ValueFault
 (Ok x) >>= f = f x
 (Err e) >>= f = Err e
