@@ -1,5 +1,5 @@
 -- Steps of the evaluator, over plain variables.
-use Rattle.std.proofs.Common.{ℕ, zero, suc, ◌+◌, ◌≡◌, ◌<◌, ◌≤◌, Bool, true, false, cond, eqb, eq-eqb, refl, sym, ap, ap₂, ◌∙◌, subst, arith, Option, None, Result, Ok, Err, List, length, get_or, set, get_or-set_same, get_or-set_other, eqb-true}
+use Rattle.std.proofs.Common.{ℕ, zero, suc, ◌+◌, ◌≡◌, ◌<◌, ◌≤◌, Bool, true, false, cond, eqb, eq-eqb, refl, sym, ap, ap₂, ◌∙◌, subst, arith, Option, None, Result, Ok, Err, List, length, get_or, set, replicate, get_or-set_same, get_or-set_other, eqb-true}
 use mathlib.Core.Path.{fun_ext}
 use Rattle.finite_models.specs.Sums.{set_at}
 use Rattle.mixed_graph.specs.Bits.{has}
@@ -76,3 +76,13 @@ module _ (U : ℕ → Bool) (size : ℕ → ℕ) (f : (ℕ → ℕ) → Option P
 
   pub loop_done : (p : Option Pair) → each_level (size v) (level_at U size f m v s) o ≡ Ok p → Ok p ≡ each_cell U size n v f s o
   loop_done p e = sym e ∙ spread U size f n m v s o en free
+
+-- a cell of zeros
+pub zeros : (n u : ℕ) → get_or {A = ℕ} (replicate {A = ℕ} n 0) u 0 ≡ 0
+zeros zero u = refl
+zeros (suc n) zero = refl
+zeros (suc n) (suc u) = zeros n u
+
+pub length-zeros : (n : ℕ) → length {A = ℕ} (replicate {A = ℕ} n 0) ≡ n
+length-zeros zero = refl
+length-zeros (suc n) = let r = length-zeros n in omega (arith, r)

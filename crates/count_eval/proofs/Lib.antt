@@ -5,3 +5,8 @@ pub mod CellSteps
 pub mod Measures
 pub mod Variants
 pub mod CountedLaws
+pub mod Accepted
+pub mod Used
+pub mod WholeValues
+pub mod Within
+pub mod Uses

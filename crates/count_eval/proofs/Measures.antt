@@ -1,5 +1,5 @@
 -- What the definitions below a limit weigh, and what they are.
-use Rattle.std.proofs.Common.{ℕ, zero, suc, ◌+◌, ◌*◌, ◌≡◌, ◌<◌, Bool, true, cond, eqb, ne_eqb, refl, sym, ap, ap₂, ◌∙◌, subst, arith, List, [], ◌∷◌, map, take, length, get_or, Some, Result, Ok}
+use Rattle.std.proofs.Common.{ℕ, zero, suc, ◌+◌, ◌*◌, ◌≡◌, ◌<◌, ◌≤◌, Bool, true, cond, eqb, ne_eqb, refl, sym, ap, ap₂, ◌∙◌, subst, arith, List, [], ◌∷◌, map, take, length, get_or, Some, Result, Ok}
 use Rattle.prob_expr.specs.Tree.{Tree, prob, sum, product, quotient, named, Trees, no_trees, tree}
 use Rattle.prob_expr.specs.Values.{Weights}
 use Rattle.quantity.specs.Kinds.{Pair, Kind}
@@ -79,3 +79,16 @@ get_or-map f (x ∷ xs) (suc i) d = get_or-map f xs i d
 pub length_map : {A B : Type 0} (f : A → B) (xs : List A) → length (map f xs) ≡ length xs
 length_map f [] = refl
 length_map f (x ∷ xs) = let r = length_map f xs in omega (arith, r)
+
+-- an element that is there is found whatever stands for those that aren't
+pub get_or-any : {A : Type 0} (xs : List A) (i : ℕ) (d e : A) → i < length xs → get_or xs i d ≡ get_or xs i e
+get_or-any [] i d e lt = absurd (omega arith)
+get_or-any (x ∷ xs) zero d e lt = refl
+get_or-any (x ∷ xs) (suc i) d e lt = get_or-any xs i d e (omega arith)
+
+-- a definition has the same value among those below any limit above it
+pub known_below : (k : Kind) (w : Weights) (ds : List Tree) (j limit : ℕ) (s : ℕ → ℕ) → j < limit → limit ≤ length ds → known k w ds limit j s ≡ known k w ds (length ds) j s
+known_below k w ds j limit s lt le =
+    let e = get_or ds j (named 0) in
+    let at = get_or-any ds j (named 0) e (omega arith) in
+    known_at k w ds j limit e s lt (omega arith) at ∙ sym (known_at k w ds j (length ds) e s (omega arith) (omega arith) at)

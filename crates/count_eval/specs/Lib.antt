@@ -4,3 +4,5 @@ pub mod Evaluated
 pub mod Supported
 pub mod Laws
 pub mod Programs
+pub mod Answers
+pub mod Uses

@@ -1,3 +1,4 @@
+use prob_expr::Place;
 use quantity::QuantityFault;
 
 /// The first node without a value: its definition or none for main, its number in preorder, and the cell there.
@@ -7,4 +8,15 @@ pub struct Failure {
     pub def: Option<u32>,
     pub node: u32,
     pub cell: [u32; 64],
+}
+
+/// Why a formula has no value at a cell: the first node, in the order of evaluation, at which there is none.
+#[derive(Clone, Copy, Debug)]
+pub enum EvalFault {
+    /// A denominator is 0 there: the cell at the node, with 0 for the vertices that aren't used.
+    NoSupport { cell: [u32; 64], place: Place },
+    /// The result of the node's operation has a number over 2^127 - 1.
+    TooWide { place: Place },
+    /// The divisor's lower bound is 0, and its upper bound isn't.
+    TooFine { place: Place },
 }

@@ -4,11 +4,18 @@
 ghost use Rattle.count_eval.specs.Laws.{EachIsCovered, MatchedHasValue, MatchedIsCovered, MatchedCoversEffect};
 
 mod eval;
+mod evaluable;
 mod failure;
+mod lookup;
 mod nodes;
+mod values;
 
 pub use eval::value_at;
+pub use evaluable::{is_cell, is_evaluable};
+pub use failure::{EvalFault, Failure};
+pub use lookup::Lookup;
 use quantity::Quantity;
+pub use values::{value, value_by};
 
 /// What the values have to do with fractions, and with models.
 pub fn laws<Q: Quantity>()

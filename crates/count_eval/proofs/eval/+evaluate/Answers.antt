@@ -16,7 +16,7 @@ use Rattle.count_eval.proofs.eval.+evaluate.Goals as goal
 pub value_at-returns-in-Sum : goal.value_at-returns-in-Sum
 value_at-returns-in-Sum g t c =
     let e = ap view c.in-Sum.is ∙ Variants.view-Sum c.in-Sum.over c.in-Sum.body in
-    let w = weights_in c.args.n c.args.c.now in let k = g.Q.Quantity.kind in let numbers = g.Q.Quantity.numbers in
+    let w = weights_in c.args.n (g.L.Lookup.counts c.args.lookup.now) in let k = g.Q.Quantity.kind in let numbers = g.Q.Quantity.numbers in
     let q = known k w (map view c.args.defs.now) c.args.limit in let s = cell_of c.args.cell in
     let r = seen_more numbers c.cells_from.result in
     c.whole.ensures ∙ ap (λ x. after r (whole x)) c.from_ratio.ensures
@@ -27,7 +27,7 @@ value_at-returns-in-Sum g t c =
 pub value_at-returns-in-Prob : goal.value_at-returns-in-Prob
 value_at-returns-in-Prob g t c =
     let e = ap view c.in-Prob.is ∙ Variants.view-Prob c.in-Prob.of c.in-Prob.doing c.in-Prob.given in
-    let w = weights_in c.args.n c.args.c.now in let k = g.Q.Quantity.kind in
+    let w = weights_in c.args.n (g.L.Lookup.counts c.args.lookup.now) in let k = g.Q.Quantity.kind in
     let q = known k w (map view c.args.defs.now) c.args.limit in
     c.term.ensures ∙ ap (λ x. evaluated k w q c.args.def c.args.node x (cell_of c.args.cell)) (sym e)
 
@@ -35,7 +35,7 @@ pub value_at-returns-in_ok-b-in-Quotient : goal.value_at-returns-in_ok-b-in-Quot
 value_at-returns-in_ok-b-in-Quotient g t c =
     let x = c.in-Quotient.top in let y = c.in-Quotient.bottom in
     let e = ap view c.in-Quotient.is ∙ Variants.view-Quotient x y in
-    let w = weights_in c.args.n c.args.c.now in let k = g.Q.Quantity.kind in let numbers = g.Q.Quantity.numbers in
+    let w = weights_in c.args.n (g.L.Lookup.counts c.args.lookup.now) in let k = g.Q.Quantity.kind in let numbers = g.Q.Quantity.numbers in
     let q = known k w (map view c.args.defs.now) c.args.limit in let s = cell_of c.args.cell in
     c.outcome.ensures ∙ ap (placed c.args.def c.args.node s) c.div.ensures
     ∙ CellSteps.quotient_gives k w q c.args.def c.args.node s (view x.value) (view y.value) (numbers c.in_ok-a-in-Quotient.a) (numbers c.in_ok-b-in-Quotient.b) c.node_behind-second.result
@@ -54,15 +54,15 @@ value_at-value_at-requires-in-Named g t c =
     let long : length ds ≡ length c.args.defs.now = Measures.length_map view c.args.defs.now in
     let within : c.in-Named.k < length ds = omega arith in
     let own : IsBelow c.in-Named.k (view r) = subst (λ n. IsBelow n (view r)) (omega arith) (Measures.ordered_at 0 c.in-Named.k ds (view r) c.requires.ordered within at) in
-    let asked : IsUsed (is_used c.args.c.now) (view r) = Measures.used_at (is_used c.args.c.now) c.in-Named.k ds (view r) c.requires.all_used within at in
+    let asked : IsUsed (is_used (g.L.Lookup.counts c.args.lookup.now)) (view r) = Measures.used_at (is_used (g.L.Lookup.counts c.args.lookup.now)) c.in-Named.k ds (view r) c.requires.all_used within at in
     let less = Measures.before_at c.in-Named.k c.args.limit ds (view r) below within at in
     search (rules, own, asked, less, below)
 
-pub value_at-returns-in-Named : goal.value_at-returns-in-Named
-value_at-returns-in-Named g t c =
+pub value_at-returns-in_default : goal.value_at-returns-in_default
+value_at-returns-in_default g t c =
     let ds = map view c.args.defs.now in
     let r = c.index-defs-place.result in let j = c.in-Named.k in
-    let w = weights_in c.args.n c.args.c.now in let k = g.Q.Quantity.kind in
+    let w = weights_in c.args.n (g.L.Lookup.counts c.args.lookup.now) in let k = g.Q.Quantity.kind in
     let s = cell_of c.args.cell in
     let e = ap view c.in-Named.is ∙ Variants.view-Named j in
     let below : j < c.args.limit = subst (IsBelow c.args.limit) e c.requires.below in
@@ -72,9 +72,21 @@ value_at-returns-in-Named g t c =
     c.value_at-in-Named.ensures ∙ ap (λ m. evaluated k w (known k w ds j) (Some m) 0 (view r) s) (let same : j ≡ cap j = omega arith in same) ∙ sym (Measures.known_at k w ds j c.args.limit (view r) s below within at)
     ∙ ap (λ x. evaluated k w (known k w ds c.args.limit) c.args.def c.args.node x s) (sym e)
 
+pub value_at-returns-in-Some : goal.value_at-returns-in-Some
+value_at-returns-in-Some g t c =
+    let ds = map view c.args.defs.now in let j = c.in-Named.k in
+    let w = weights_in c.args.n (g.L.Lookup.counts c.args.lookup.now) in let k = g.Q.Quantity.kind in
+    let s = cell_of c.args.cell in
+    let e = ap view c.in-Named.is ∙ Variants.view-Named j in
+    let below : j < c.args.limit = subst (IsBelow c.args.limit) e c.requires.below in
+    let long : length ds ≡ length c.args.defs.now = Measures.length_map view c.args.defs.now in
+    sym (ap (λ x. evaluated k w (known k w ds c.args.limit) c.args.def c.args.node x s) e
+    ∙ Measures.known_below k w ds j c.args.limit s below (omega (arith, c.requires.limit, long))
+    ∙ c.requires.held j s (g.Q.Quantity.numbers c.in-Some.q) c.in-Some.ensures)
+
 pub cells_from-returns-then-not-has : goal.cells_from-returns-then-not-has
 cells_from-returns-then-not-has g t c =
-    let w = weights_in c.args.n c.args.c.now in let k = g.Q.Quantity.kind in let numbers = g.Q.Quantity.numbers in
+    let w = weights_in c.args.n (g.L.Lookup.counts c.args.lookup.now) in let k = g.Q.Quantity.kind in let numbers = g.Q.Quantity.numbers in
     let q = known k w (map view c.args.defs.now) c.args.limit in
     let f = CellSteps.body_at k w q c.args.def c.args.node (cell_of c.args.at) (view c.args.body.now) in
     let U = has c.args.over.bits in let v = c.args.v in let s = cell_of c.args.cell in let o = seen_so_far numbers c.args.so_far in
@@ -85,7 +97,7 @@ cells_from-returns-then-not-has g t c =
 
 pub cells_from-returns-in-Err : goal.cells_from-returns-in-Err
 cells_from-returns-in-Err g t c =
-    let w = weights_in c.args.n c.args.c.now in let k = g.Q.Quantity.kind in let numbers = g.Q.Quantity.numbers in
+    let w = weights_in c.args.n (g.L.Lookup.counts c.args.lookup.now) in let k = g.Q.Quantity.kind in let numbers = g.Q.Quantity.numbers in
     let q = known k w (map view c.args.defs.now) c.args.limit in
     let f = CellSteps.body_at k w q c.args.def c.args.node (cell_of c.args.at) (view c.args.body.now) in
     let U = has c.args.over.bits in let v = c.args.v in let s = cell_of c.args.cell in let o = seen_so_far numbers c.args.so_far in
@@ -99,7 +111,7 @@ cells_from-returns-in-Err g t c =
 
 pub cells_from-loop-x-preserved : goal.cells_from-loop-x-preserved
 cells_from-loop-x-preserved g t c =
-    let w = weights_in c.args.n c.args.c.now in let k = g.Q.Quantity.kind in let numbers = g.Q.Quantity.numbers in
+    let w = weights_in c.args.n (g.L.Lookup.counts c.args.lookup.now) in let k = g.Q.Quantity.kind in let numbers = g.Q.Quantity.numbers in
     let q = known k w (map view c.args.defs.now) c.args.limit in
     let f = CellSteps.body_at k w q c.args.def c.args.node (cell_of c.args.at) (view c.args.body.now) in
     let U = has c.args.over.bits in let v = c.args.v in let s = cell_of c.args.cell in let o = seen_so_far numbers c.args.so_far in
@@ -113,7 +125,7 @@ cells_from-loop-x-preserved g t c =
 
 pub cells_from-returns : goal.cells_from-returns
 cells_from-returns g t c =
-    let w = weights_in c.args.n c.args.c.now in let k = g.Q.Quantity.kind in let numbers = g.Q.Quantity.numbers in
+    let w = weights_in c.args.n (g.L.Lookup.counts c.args.lookup.now) in let k = g.Q.Quantity.kind in let numbers = g.Q.Quantity.numbers in
     let q = known k w (map view c.args.defs.now) c.args.limit in
     let f = CellSteps.body_at k w q c.args.def c.args.node (cell_of c.args.at) (view c.args.body.now) in
     let U = has c.args.over.bits in let v = c.args.v in let s = cell_of c.args.cell in let o = seen_so_far numbers c.args.so_far in
@@ -131,7 +143,7 @@ factors_from-value_at-requires g t c κs within =
     let e = c.factor-item.result in
     let split = views_more items i e c.loop-factor-test.true c.factor-item.is in
     let below : IsBelow c.args.limit (view e) = (subst (AreBelow c.args.limit) split c.loop-factor.invariant.below).0 in
-    let asked : IsUsed (is_used c.args.c.now) (view e) = (subst (AreUsed (is_used c.args.c.now)) split c.loop-factor.invariant.asked).0 in
+    let asked : IsUsed (is_used (g.L.Lookup.counts c.args.lookup.now)) (view e) = (subst (AreUsed (is_used (g.L.Lookup.counts c.args.lookup.now))) split c.loop-factor.invariant.asked).0 in
     let parts : Measures.nodes_count (views (drop i items)) ≡ Measures.node_count (view e) + Measures.nodes_count (views (drop (i + 1) items)) = ap Measures.nodes_count split in
     let same : Measures.nodes_count (views items) ≡ Measures.nodes_count (views c.args.factors.now.items) = ap (λ es. Measures.nodes_count (views es)) c.deref-factor-items.ensures.value in
     let fewer : Measures.node_count (view e) ≤ Measures.nodes_count (views c.args.factors.now.items) = omega (arith, parts, same, c.loop-factor.invariant.fewer) in

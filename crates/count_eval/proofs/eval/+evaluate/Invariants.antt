@@ -24,7 +24,7 @@ decreases-value_at g l = before l.limit (map view l.defs.now) + 66 * node_count 
 
 abbrev pub invariant-cells_from-loop-x : goal.invariant-cells_from-loop-x
 invariant-cells_from-loop-x g l =
-    let w = weights_in l.n l.c in let k = g.Q.Quantity.kind in let numbers = g.Q.Quantity.numbers in
+    let w = weights_in l.n (g.L.Lookup.counts l.lookup) in let k = g.Q.Quantity.kind in let numbers = g.Q.Quantity.numbers in
     each_level l.x
     (λ x. each_cell (has l.over.bits) w.size (w.vertices - (l.v + 1)) (l.v + 1)
     (λ t. one_more k.add l.def l.node (cell_of l.at) (evaluated k w (known k w (map view l.defs) l.limit) l.def (next_node l.node) (view l.body) t)) (set_at (cell_of l.cell) l.v x))
@@ -38,5 +38,5 @@ pub record IsSoFar (k : Kind) (w : Weights) (numbers : Option Pair) (rest all : 
 
 abbrev pub invariant-factors_from-loop-factor : goal.invariant-factors_from-loop-factor
 invariant-factors_from-loop-factor g l =
-    let w = weights_in l.n l.c in let k = g.Q.Quantity.kind in let numbers = g.Q.Quantity.numbers in
-    IsSoFar k w (seen_so_far numbers l.so_far) (views (drop l.factor-index l.factor-items)) (views l.factor-items) l.limit (map view l.defs) l.def l.node l.next (cell_of l.cell) (is_used l.c)
+    let w = weights_in l.n (g.L.Lookup.counts l.lookup) in let k = g.Q.Quantity.kind in let numbers = g.Q.Quantity.numbers in
+    IsSoFar k w (seen_so_far numbers l.so_far) (views (drop l.factor-index l.factor-items)) (views l.factor-items) l.limit (map view l.defs) l.def l.node l.next (cell_of l.cell) (is_used (g.L.Lookup.counts l.lookup))

@@ -1,0 +1,55 @@
+-- What the evaluator gives for main is the formula's value, and what it covers.
+use Rattle.std.proofs.Common.{ℕ, ◌≡◌, ◌≤◌, Bool, cond, ◌∙◌, ap, sym, arith, List, length, take, get_or, None, Result, Ok}
+use Rattle.std.proofs.Math.Seq.{take-length}
+use mathlib.Core.Path.{fun_ext}
+use Rattle.fractions.specs.Fractions.{Fraction}
+use Rattle.mixed_graph.specs.Bits.{has, members_below}
+use Rattle.prob_expr.specs.Tree.{PlainFormula, Tree}
+use Rattle.prob_expr.specs.Values.{Weights, weights_of, value_of}
+use Rattle.quantity.specs.Kinds.{Pair, Kind}
+use Rattle.quantity.specs.Lawful.{IsLawful}
+use Rattle.count_rows.specs.Rows.{Table}
+use Rattle.count_table.specs.Cells.{total}
+use Rattle.count_table.specs.Tables.{AreCounts, HasLevels}
+use Rattle.count_eval.specs.declared.failure.EvalFault.{EvalFault}
+use Rattle.count_eval.specs.declared.failure.EvalFault.TheVariants.{NoSupport, TooWide, TooFine}
+use Rattle.count_eval.specs.Stops.{Stop}
+use Rattle.count_eval.specs.Evaluated.{evaluated, evaluated_from, formula_value}
+use Rattle.count_eval.specs.Programs.{weights_in, is_used, known}
+use Rattle.count_eval.specs.Answers.{IsEvaluable, IsFaultOf, CoversCounts, CoversMatches}
+use Rattle.count_eval.proofs.Covered.{formula_good}
+use Rattle.count_eval.proofs.Matched.{matched_has_value}
+use Rattle.count_eval.proofs.Used.{used_is}
+
+-- main's value over all definitions is the formula's
+pub whole_value : (k : Kind) (w : Weights) (f : PlainFormula) (limit : ℕ) (s t : ℕ → ℕ) (o : Result Pair Stop) → limit ≡ length f.defs → ((v : ℕ) → s v ≡ t v)
+    → o ≡ evaluated k w (known k w f.defs limit) None 0 f.main s → formula_value k w f t ≡ o
+whole_value k w f limit s t o e same h =
+    sym (h ∙ ap (λ (ds : List Tree). evaluated k w (evaluated_from k w (λ j t. Ok (k.from_ratio 1 1)) 0 ds) None 0 f.main s) (ap (λ m. take m f.defs) e ∙ take-length f.defs)
+    ∙ ap (formula_value k w f) (fun_ext same))
+
+-- the cell as an array has the levels that the cell has
+pub levels_kept : (t : Table) (of : ℕ → Bool) (at cell : List ℕ) → length at ≤ length cell → ((v : ℕ) → get_or cell v 0 ≡ get_or at v 0) → HasLevels t of at → HasLevels t of cell
+levels_kept t of at cell le same h v member =
+    let (within, below) = h v member in
+    let e = same v in
+    (omega (arith, within, le), omega (arith, below, e))
+
+-- a fault over the set of a table's vertices is one over the table
+pub fault_over : (t : Table) (u : ℕ) (e : EvalFault) (s : Stop) → AreCounts t → members_below (has u) 64 ≡ t.vertices → IsFaultOf (has u) e s → IsFaultOf (is_used t) e s
+fault_over t u (NoSupport cell place) s are e h = (h.0, h.1, λ v lt. h.2 v lt ∙ ap (λ (b : Bool). cond b (s.cell v) 0) (used_is t u v are e lt))
+fault_over t u (TooWide place) s are e h = h
+fault_over t u (TooFine place) s are e h = h
+
+-- a value covers the true one over the counts
+pub covers_counts : (k : Kind) (covers : Pair → Fraction → Type 0) → IsLawful k covers → (n : ℕ) (t : Table) (f : PlainFormula) (s : ℕ → ℕ) (c : Pair) → formula_value k (weights_in n t) f s ≡ Ok c → CoversCounts covers n t f s c
+covers_counts k covers law n t f s c e =
+    let h = (formula_good k covers law (weights_in n t) f s).found c e in
+    record { supported = h.0; covered = h.1 }
+
+-- and in each model that the counts match
+pub covers_matches : (k : Kind) (covers : Pair → Fraction → Type 0) → IsLawful k covers → (n : ℕ) (t : Table) (f : PlainFormula) (s : ℕ → ℕ) (c : Pair) → IsEvaluable n t f → formula_value k (weights_in n t) f s ≡ Ok c → CoversMatches covers n t f s c
+covers_matches k covers law n t f s c ok e = λ g mixed m fit positive matched within.
+    law.keeps.equal c (value_of (weights_in n t) f s) (value_of (weights_of m) f s)
+    ((formula_good k covers law (weights_in n t) f s).found c e).1
+    (matched_has_value g mixed m fit positive (is_used t) (weights_in n t) (total t.rows) matched f ok.do_free ok.defs ok.main s within).1

@@ -1,0 +1,34 @@
+-- Whether a formula has vertices of a set alone, in its terms and its sums, and a cell a level of a vertex.
+use Rattle.std.specs.Prelude.{ℕ, ◌<◌, Bool, true, ◌&&◌, IsTrue, List, [], ◌∷◌, length, slice_index}
+use Rattle.prob_expr.specs.Masks.{is_inside}
+use Rattle.prob_expr.specs.Tree.{Tree, prob, sum, product, quotient, named, Trees, no_trees, tree, PlainFormula}
+use Rattle.count_rows.specs.Rows.{Table}
+use Rattle.count_table.specs.Tables.{levels_in}
+use Rattle.count_eval.specs.Programs.{is_used}
+
+abbrev mutual
+  -- each term and each sum of the tree has vertices of the set alone
+  pub uses_only : ℕ → Tree → Bool
+  uses_only set (prob a b c) = is_inside a set && is_inside c set
+  uses_only set (sum u e) = is_inside u set && uses_only set e
+  uses_only set (product ts) = use_only set ts
+  uses_only set (quotient p q) = uses_only set p && uses_only set q
+  uses_only set (named k) = true
+
+  -- and so do all trees of the list
+  pub use_only : ℕ → Trees → Bool
+  use_only set no_trees = true
+  use_only set (tree t ts) = uses_only set t && use_only set ts
+
+-- each definition has vertices of the set alone
+abbrev pub defs_use_only : ℕ → List Tree → Bool
+defs_use_only set [] = true
+defs_use_only set (d ∷ ds) = uses_only set d && defs_use_only set ds
+
+-- the definitions and main have vertices of the set alone
+abbrev pub formula_uses_only : ℕ → PlainFormula → Bool
+formula_uses_only set f = defs_use_only set f.defs && uses_only set f.main
+
+-- where the vertex is used, the cell has one of its levels
+abbrev pub HasLevel : Table → List ℕ → ℕ → Type 0
+HasLevel t at v = IsTrue (is_used t v) → (v < length at) × (slice_index at v < length (levels_in t.vertices t.levels v))

@@ -1,0 +1,111 @@
+ghost use Rattle.std.specs.Prelude.{◌≡◌, ◌<◌, ◌^◌, map};
+ghost use Rattle.std.specs.Bool.{OnTrue, OnFalse};
+ghost use Rattle.prob_expr.specs.View.{view, views, formula_view};
+ghost use Rattle.count_table.specs.Tables.{HasLevels};
+ghost use Rattle.count_eval.specs.Answers.{IsEvaluable};
+ghost use Rattle.count_eval.specs.Programs.{is_used};
+ghost use Rattle.count_eval.specs.Uses.{HasLevel, uses_only, use_only, defs_use_only, formula_uses_only};
+
+use count_table::Counts;
+use mixed_graph::VSet;
+use prob_expr::masks::{is_below, is_inside};
+use prob_expr::{Expr, Formula, check, is_do_free};
+
+#[cycle(using)]
+fn uses_only(e: &Expr, set: VSet) -> bool
+    ensures { result ≡ uses_only set.bits (view e.now) }
+{
+    match e {
+        Expr::Prob { of, given, .. } => is_inside(*of, set) && is_inside(*given, set),
+        Expr::Sum { over, body } => is_inside(*over, set) && uses_only(body, set),
+        Expr::Product(factors) => use_only(factors, set),
+        Expr::Quotient { top, bottom } => uses_only(top, set) && uses_only(bottom, set),
+        Expr::Named(_) => true,
+    }
+}
+
+#[cycle(using)]
+fn use_only(factors: &Vec<Expr>, set: VSet) -> bool
+    ensures { result ≡ use_only set.bits (views factors.now.items) }
+{
+    for factor in factors {
+        if !uses_only(factor, set) {
+            return false;
+        }
+    }
+    true
+}
+
+fn defs_use_only(defs: &Vec<Expr>, set: VSet) -> bool
+    ensures { result ≡ defs_use_only set.bits (map view defs.now.items) }
+{
+    for def in defs {
+        if !uses_only(def, set) {
+            return false;
+        }
+    }
+    true
+}
+
+/// Whether the terms and the sums of a formula have vertices of the set alone.
+fn formula_uses_only(f: &Formula, set: VSet) -> bool
+    ensures { result ≡ formula_uses_only set.bits (formula_view f.now) }
+{
+    defs_use_only(&f.defs, set) && uses_only(&f.main, set)
+}
+
+/// A set is a mask of 64 bits.
+fn sized(set: VSet)
+    ensures { set.bits < 2 ^ 64 }
+{}
+
+/// Whether `value` may be asked for a formula of a graph on n vertices over a table: there are at most 64
+/// vertices, the used ones among them, `check` finds no fault in the formula, and it has used vertices alone and no
+/// intervention.
+pub fn is_evaluable(n: u32, f: &Formula, c: &Counts) -> bool
+    ensures yes { OnTrue result (IsEvaluable n c.now (formula_view f.now)) }
+    ensures no { OnFalse result (IsEvaluable n c.now (formula_view f.now) → ⊥) }
+{
+    let used = c.used();
+    sized(used);
+    if n > 64 {
+        return false;
+    }
+    if !is_below(n, used) {
+        return false;
+    }
+    if check(f, n).is_err() {
+        return false;
+    }
+    if !is_do_free(f) {
+        return false;
+    }
+    formula_uses_only(f, used)
+}
+
+/// Whether a cell has a level of a vertex, where that is used.
+fn has_level(c: &Counts, at: &[u32], v: u8) -> bool
+    ensures yes { OnTrue result (HasLevel c.now at.now v) }
+    ensures no { OnFalse result (HasLevel c.now at.now v → ⊥) }
+{
+    let place = v as usize;
+    let levels = c.levels(v);
+    if levels == 0 {
+        return true;
+    }
+    place < at.len() && at[place] < levels
+}
+
+/// Whether a cell has a level of each used vertex.
+pub fn is_cell(c: &Counts, at: &[u32]) -> bool
+    ensures yes { OnTrue result (HasLevels c.now (is_used c.now) at.now) }
+    ensures no { OnFalse result (HasLevels c.now (is_used c.now) at.now → ⊥) }
+{
+    let _used = c.used();
+    for v in 0..64u8 {
+        if !has_level(c, at, v) {
+            return false;
+        }
+    }
+    true
+}

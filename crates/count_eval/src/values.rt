@@ -1,0 +1,100 @@
+ghost use Rattle.std.specs.Prelude.{ℕ, ◌≡◌, ◌<◌, ◌≤◌, length, IfOk, slice_index, if◌then◌else◌};
+ghost use Rattle.mixed_graph.specs.Bits.{has, members_below};
+ghost use Rattle.prob_expr.specs.View.{formula_view};
+ghost use Rattle.count_table.specs.Tables.{AreCounts, HasLevels};
+ghost use Rattle.count_eval.specs.Evaluated.{formula_value};
+ghost use Rattle.count_eval.specs.Programs.{weights_in, is_used, cell_of, stop_of, AreValues};
+ghost use Rattle.count_eval.specs.Answers.{IsEvaluable, IsFaultOf, Answers, CoversCounts, CoversMatches};
+
+use crate::eval::value_at;
+use crate::failure::{EvalFault, Failure};
+use crate::lookup::Lookup;
+use count_table::Counts;
+use mixed_graph::VSet;
+use prob_expr::{Formula, Place};
+use quantity::{Quantity, QuantityFault};
+
+/// The numbers of a cell as an array, with 0 for the vertices behind them.
+fn array_of(at: &[u32]) -> [u32; 64]
+    requires { length at.now ≤ 64 }
+    ensures { (v : ℕ) → slice_index result v ≡ slice_index at.now v }
+{
+    let mut cell = [0; 64];
+    for v in 0..at.len() {
+        cell[v] = at[v];
+    }
+    cell
+}
+
+/// The cell, with 0 for each vertex outside the set.
+fn cell_within(used: VSet, cell: [u32; 64]) -> [u32; 64]
+    ensures { (v : ℕ) → v < 64 → slice_index result v ≡ (if has used.bits v then slice_index cell v else 0) }
+{
+    let mut within = [0; 64];
+    for v in 0..64u8 {
+        if used.has(v) {
+            within[v as usize] = cell[v as usize];
+        }
+    }
+    within
+}
+
+/// The fault that a failure is, over a table whose used vertices these are.
+fn fault_of(used: VSet, failure: Failure) -> EvalFault
+    ensures { IsFaultOf (has used.bits) result (stop_of failure) }
+{
+    let place = Place {
+        def: failure.def,
+        node: failure.node,
+    };
+    match failure.why {
+        QuantityFault::ZeroBelow => EvalFault::NoSupport {
+            cell: cell_within(used, failure.cell),
+            place,
+        },
+        QuantityFault::TooWide => EvalFault::TooWide { place },
+        QuantityFault::TooFine => EvalFault::TooFine { place },
+    }
+}
+
+/// The value of a formula at a cell, as `value` gives it, by what a lookup has at hand. For crates that prepare lookups.
+pub fn value_by<Q: Quantity, L: Lookup<Q>>(
+    lookup: &L,
+    n: u32,
+    f: &Formula,
+    used: VSet,
+    at: &[u32],
+) -> Result<Q, EvalFault>
+    requires formula { IsEvaluable n (L.counts lookup.now) (formula_view f.now) }
+    requires table { AreCounts (L.counts lookup.now) }
+    requires used { members_below (has used.bits) 64 ≡ (L.counts lookup.now).vertices }
+    requires held { AreValues Q.kind (weights_in n (L.counts lookup.now)) (formula_view f.now).defs (L.holds lookup.now) }
+    requires entries { length at.now ≡ n }
+    requires levels { HasLevels (L.counts lookup.now) (is_used (L.counts lookup.now)) at.now }
+    ensures value { Answers Q.numbers (L.counts lookup.now) (formula_value Q.kind (weights_in n (L.counts lookup.now)) (formula_view f.now) (cell_of at.now)) result }
+    ensures counts { IfOk result (λ q. CoversCounts Q.covers n (L.counts lookup.now) (formula_view f.now) (cell_of at.now) (Q.numbers q)) }
+    ensures matches { IfOk result (λ q. CoversMatches Q.covers n (L.counts lookup.now) (formula_view f.now) (cell_of at.now) (Q.numbers q)) }
+{
+    let cell = array_of(at);
+    match value_at(lookup, n, &f.defs, f.defs.len(), &f.main, None, 0, cell) {
+        Ok(q) => Ok(q),
+        Err(failure) => Err(fault_of(used, failure)),
+    }
+}
+
+/// The value of a formula on n vertices at a cell, over a table of counts: what it gives covers the true value.
+///
+/// The entries of the cell are the numbers of levels, one for each vertex; those of vertices that aren't used
+/// don't count. Each definition is evaluated at each of its uses. The fault is that of the first node, in the
+/// order of evaluation, that has no value: `NoSupport` where a denominator is 0, `TooWide` where a number of the
+/// result would be over 2^127 - 1, `TooFine` where only a divisor's lower bound is 0.
+pub fn value<Q: Quantity>(n: u32, f: &Formula, c: &Counts, at: &[u32]) -> Result<Q, EvalFault>
+    requires formula { IsEvaluable n c.now (formula_view f.now) }
+    requires entries { length at.now ≡ n }
+    requires levels { HasLevels c.now (is_used c.now) at.now }
+    ensures value { Answers Q.numbers c.now (formula_value Q.kind (weights_in n c.now) (formula_view f.now) (cell_of at.now)) result }
+    ensures counts { IfOk result (λ q. CoversCounts Q.covers n c.now (formula_view f.now) (cell_of at.now) (Q.numbers q)) }
+    ensures matches { IfOk result (λ q. CoversMatches Q.covers n c.now (formula_view f.now) (cell_of at.now) (Q.numbers q)) }
+{
+    value_by(c, n, f, c.used(), at)
+}
