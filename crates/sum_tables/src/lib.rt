@@ -1,0 +1,13 @@
+//! Sums of a table's counts, kept in dense tables: one for a set of vertices, with a sum for each cell of the set.
+#![tactic(auto)]
+
+mod places;
+mod sum_table;
+mod sum_tables;
+mod summing;
+#[cfg(test)]
+mod tests;
+
+pub use places::Places;
+pub use sum_table::SumTable;
+pub use sum_tables::SumTables;
