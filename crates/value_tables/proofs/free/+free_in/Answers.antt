@@ -1,0 +1,16 @@
+use Rattle.std.proofs.Common.{ap, ◌∙◌, arith, length, ◌≤◌}
+use Rattle.prob_expr.specs.Listed.{masks_of}
+use Rattle.prob_expr.specs.Masks.{join}
+use Rattle.value_tables.proofs.FreeSteps.{free_step, free_end}
+use Rattle.value_tables.proofs.free.+free_in.Goals as goal
+
+pub free_in_factors-loop-factor-preserved : goal.free_in_factors-loop-factor-preserved
+free_in_factors-loop-factor-preserved t c =
+    free_step (masks_of c.args.sets.now) c.loop-factor.free.bits c.join-free.result.bits c.deref-factor-items.result.now c.loop-factor.factor-index c.factor-item.result (omega arith) c.factor-item.is
+    (c.join-free.ensures ∙ ap (λ x. join c.loop-factor.free.bits x) c.free_in.ensures)
+    ∙ c.loop-factor.invariant
+
+pub free_in_factors-returns : goal.free_in_factors-returns
+free_in_factors-returns t c =
+    let le : length c.deref-factor-items.result.now ≤ c.loop-factor.factor-index = omega arith in
+    rw (← c.deref-factor-items.ensures.value) (free_end (masks_of c.args.sets.now) c.loop-factor.free.bits c.deref-factor-items.result.now c.loop-factor.factor-index le ∙ c.loop-factor.invariant)

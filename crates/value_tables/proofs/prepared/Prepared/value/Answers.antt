@@ -1,0 +1,11 @@
+use Rattle.std.proofs.Common.{subst}
+use Rattle.std.specs.Prelude.{IfOk}
+use Rattle.count_eval.specs.Answers.{CoversMatches}
+use Rattle.count_eval.specs.Programs.{cell_of}
+use Rattle.value_tables.specs.Preparations.{Preparation}
+use Rattle.value_tables.proofs.prepared.Prepared.value.Goals as goal
+
+pub returns-clause-matches : goal.returns-clause-matches
+returns-clause-matches g c =
+    subst (λ (p : Preparation). IfOk c.value_by.result (λ q. CoversMatches g.Q.Quantity.covers p.vertices p.counts p.formula (cell_of c.args.at.now) (g.Q.Quantity.numbers q)))
+    c.self.view_is c.value_by.ensures.matches

@@ -1,0 +1,3 @@
+pub mod TreeCodes
+pub mod Preparations
+pub mod Tables

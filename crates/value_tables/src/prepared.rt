@@ -1,0 +1,90 @@
+ghost use Rattle.std.specs.Prelude.{◌≡◌, length, IfOk};
+ghost use Rattle.prob_expr.specs.View.{formula_view};
+ghost use Rattle.count_table.specs.Tables.{HasLevels};
+ghost use Rattle.count_eval.specs.Evaluated.{formula_value};
+ghost use Rattle.count_eval.specs.Programs.{weights_in, is_used, cell_of};
+ghost use Rattle.count_eval.specs.Answers.{IsEvaluable, Answers, CoversCounts, CoversMatches};
+
+use crate::table::DefinitionTable;
+use crate::tables::{Tables, tables_of};
+use crate::terms::sums_of;
+use count_eval::{EvalFault, value_by};
+use count_table::Counts;
+use mixed_graph::VSet;
+use prob_expr::Formula;
+use quantity::Quantity;
+use std::alloc::{AllocError, Global};
+use std::marker::Model;
+use sum_tables::SumTables;
+
+/// A formula over a table of counts, prepared to be evaluated at many cells.
+///
+/// Contracts see the number of vertices, the table and the plain formula.
+#[derive(Drop)]
+pub struct Prepared<'a, Q: Quantity> {
+    vertices: u32,
+    formula: &'a Formula,
+    counts: &'a Counts,
+    used: VSet,
+    sums: SumTables<'a>,
+    definitions: Vec<DefinitionTable<Q>>,
+}
+
+impl<'a, Q: Quantity> Model for Prepared<'a, Q> {
+    ghost use Rattle.prob_expr.specs.View.{formula_view};
+    ghost use Rattle.value_tables.specs.Preparations.{Preparation, coded_preparation};
+    ghost use Rattle.value_tables.specs.Tables.{IsPrepared};
+
+    ghost Value = { Preparation };
+
+    ghost coded = { coded_preparation };
+
+    ghost view = { λ s. record { vertices = s.vertices; counts = s.counts.now; formula = formula_view s.formula.now } };
+
+    ghost invariant = { λ s. IsPrepared Q.numbers Q.kind s.vertices s.counts.now (formula_view s.formula.now) s.used.bits s.sums.table s.definitions.items };
+}
+
+/// Prepares a formula on n vertices over a table of counts. Its only error is want of memory.
+pub fn prepare<'a, Q: Quantity>(
+    alloc: Global,
+    n: u32,
+    f: &'a Formula,
+    c: &'a Counts,
+) -> Result<Prepared<'a, Q>, AllocError>
+    requires { IsEvaluable n c.now (formula_view f.now) }
+    ensures vertices { IfOk result (λ p. p.vertices ≡ n) }
+    ensures counts { IfOk result (λ p. p.counts ≡ c.now) }
+    ensures formula { IfOk result (λ p. p.formula ≡ formula_view f.now) }
+{
+    let used = c.used();
+    let sums = sums_of(alloc, f, c)?;
+    let definitions = tables_of(alloc, n, f, c, &sums)?;
+    Ok(Prepared {
+        vertices: n,
+        formula: f,
+        counts: c,
+        used,
+        sums,
+        definitions,
+    })
+}
+
+impl<'a, Q: Quantity> Prepared<'a, Q> {
+    /// The value at a cell, as `count_eval::value` gives it: the same value, or the same fault.
+    pub fn value(&self, at: &[u32]) -> Result<Q, EvalFault>
+        requires entries { length at.now ≡ self.now.vertices }
+        requires levels { HasLevels self.now.counts (is_used self.now.counts) at.now }
+        ensures value { Answers Q.numbers self.now.counts (formula_value Q.kind (weights_in self.now.vertices self.now.counts) self.now.formula (cell_of at.now)) result }
+        ensures counts { IfOk result (λ q. CoversCounts Q.covers self.now.vertices self.now.counts self.now.formula (cell_of at.now) (Q.numbers q)) }
+        ensures matches { IfOk result (λ q. CoversMatches Q.covers self.now.vertices self.now.counts self.now.formula (cell_of at.now) (Q.numbers q)) }
+    {
+        let tables = Tables {
+            vertices: self.vertices,
+            formula: self.formula,
+            counts: self.counts,
+            sums: &self.sums,
+            definitions: self.definitions.as_slice(),
+        };
+        value_by(&tables, self.vertices, self.formula, self.used, at)
+    }
+}

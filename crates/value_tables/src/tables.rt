@@ -1,0 +1,152 @@
+ghost use Rattle.std.specs.Prelude.{ℕ, ◌≡◌, ◌<◌, ◌≤◌, [], length, map, Ok, IfOk, IfSome, get_or};
+ghost use Rattle.mixed_graph.specs.Bits.{has};
+ghost use Rattle.prob_expr.specs.View.{view, formula_view};
+ghost use Rattle.prob_expr.specs.Free.{free_in_defs};
+ghost use Rattle.count_table.specs.Tables.{AreCounts, HasLevels};
+ghost use Rattle.count_eval.specs.Answers.{IsEvaluable};
+ghost use Rattle.count_eval.specs.Programs.{weights_in, is_used, cell_of, known};
+ghost use Rattle.sum_tables.specs.Axes.{axes_of, cells_over};
+ghost use Rattle.value_tables.specs.Tables.{IsTableOf, AreKept};
+
+use crate::free::free_sets;
+use crate::table::DefinitionTable;
+use count_eval::{Lookup, value_at};
+use count_table::Counts;
+use mixed_graph::VSet;
+use prob_expr::Formula;
+use quantity::Quantity;
+use std::alloc::{AllocError, Global};
+use std::marker::Model;
+use sum_tables::{Places, SumTables};
+
+/// The greatest number of cells of all tables together.
+const MOST_CELLS: usize = 4194304;
+
+/// A formula over a table of counts, with tables of sums and of the values of its first definitions. Contracts see the
+/// formula and the counts alone.
+#[derive(Drop)]
+pub(crate) struct Tables<'a, 'b, Q: Quantity> {
+    pub(crate) vertices: u32,
+    pub(crate) formula: &'a Formula,
+    pub(crate) counts: &'a Counts,
+    pub(crate) sums: &'a SumTables<'a>,
+    pub(crate) definitions: &'b [DefinitionTable<Q>],
+}
+
+impl<'a, 'b, Q: Quantity> Model for Tables<'a, 'b, Q> {
+    ghost use Rattle.prob_expr.specs.View.{formula_view};
+    ghost use Rattle.value_tables.specs.Preparations.{Preparation, coded_preparation};
+    ghost use Rattle.value_tables.specs.Tables.{AreKept};
+
+    ghost Value = { Preparation };
+
+    ghost coded = { coded_preparation };
+
+    ghost view = { λ s. record { vertices = s.vertices; counts = s.counts.now; formula = formula_view s.formula.now } };
+
+    ghost invariant = { λ s. AreKept Q.numbers Q.kind s.vertices s.counts.now (formula_view s.formula.now) s.sums.now.table s.definitions.now };
+}
+
+impl<'a, 'b, Q: Quantity> Lookup<Q> for Tables<'a, 'b, Q> {
+    ghost counts = { λ p. p.counts };
+
+    ghost holds = { λ p k at x. known Q.kind (weights_in p.vertices p.counts) p.formula.defs (length p.formula.defs) k at ≡ Ok x };
+
+    fn levels(&self, v: u8) -> u32 {
+        self.counts.levels(v)
+    }
+
+    fn sum(&self, of: VSet, cell: &[u32; 64]) -> u64 {
+        self.sums.sum(of, cell)
+    }
+
+    fn definition(&self, k: u32, cell: &[u32; 64]) -> Option<Q> {
+        match self.definitions.get(k as usize) {
+            Some(table) => table.value(cell),
+            None => None,
+        }
+    }
+}
+
+impl<'a, 'b, Q: Quantity> Tables<'a, 'b, Q> {
+    /// The value of a definition at a cell, if it has one there.
+    fn value_of(&self, k: u32, cell: [u32; 64]) -> Option<Q>
+        requires definition { k < length self.now.formula.defs }
+        requires levels { HasLevels self.now.counts (is_used self.now.counts) cell }
+        ensures { IfSome result (λ q. known Q.kind (weights_in self.now.vertices self.now.counts) self.now.formula.defs (length self.now.formula.defs) k (cell_of cell) ≡ Ok (Q.numbers q)) }
+    {
+        let defs = self.formula.defs.as_slice();
+        let limit = k as usize;
+        match value_at(
+            self,
+            self.vertices,
+            defs,
+            limit,
+            &defs[limit],
+            Some(k),
+            0,
+            cell,
+        ) {
+            Ok(q) => Some(q),
+            Err(_) => None,
+        }
+    }
+
+    /// The table of a definition with these free variables, if it has no more cells than there is room for.
+    fn table_of(
+        &self,
+        alloc: Global,
+        k: u32,
+        free: VSet,
+        room: usize,
+    ) -> Result<Option<DefinitionTable<Q>>, AllocError>
+        requires definition { k < length self.now.formula.defs }
+        requires free { free.bits ≡ get_or (free_in_defs [] self.now.formula.defs) k 0 }
+        ensures small { IfOk result (λ o. IfSome o (λ x. cells_over x.places ≤ room)) }
+        ensures table { IfOk result (λ o. IfSome o (λ x. IsTableOf Q.numbers Q.kind self.now.vertices self.now.counts self.now.formula.defs k x.places x.values.items)) }
+    {
+        let places = Places::of(alloc, self.counts, free)?;
+        if places.count() > room {
+            return Ok(None);
+        }
+        let mut values = Vec::with_capacity(alloc, places.count())?;
+        for place in 0..places.count() {
+            let value = self.value_of(k, places.cell(place));
+            values.push(value)?;
+        }
+        Ok(Some(DefinitionTable { places, values }))
+    }
+}
+
+/// Tables of the values of a formula's first definitions, as many as have no more cells together than `MOST_CELLS`.
+pub(crate) fn tables_of<'a, Q: Quantity>(
+    alloc: Global,
+    n: u32,
+    f: &'a Formula,
+    c: &'a Counts,
+    sums: &'a SumTables<'a>,
+) -> Result<Vec<DefinitionTable<Q>>, AllocError>
+    requires formula { IsEvaluable n c.now (formula_view f.now) }
+    requires table { AreCounts c.now }
+    requires sums { sums.now.table ≡ c.now }
+    ensures { IfOk result (λ tables. AreKept Q.numbers Q.kind n c.now (formula_view f.now) sums.now.table tables.items) }
+{
+    let free = free_sets(alloc, &f.defs)?;
+    let mut made = Vec::new(alloc);
+    let mut room = MOST_CELLS;
+    for k in 0..free.len().min(MOST_CELLS) {
+        let so_far = Tables {
+            vertices: n,
+            formula: f,
+            counts: c,
+            sums,
+            definitions: made.as_slice(),
+        };
+        let Some(table) = so_far.table_of(alloc, k as u32, free[k], room)? else {
+            return Ok(made);
+        };
+        room -= table.places.count();
+        made.push(table)?;
+    }
+    Ok(made)
+}
