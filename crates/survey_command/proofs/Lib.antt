@@ -1,0 +1,4 @@
+mod Answering
+mod OneSets
+mod Surveying
+mod Tallying
