@@ -1,0 +1,52 @@
+-- The text of a stop, from the fault that says it.
+use Rattle.std.proofs.Common.{◌≡◌, ℕ, ◌<◌, ◌^◌, Bool, cond, List, ◌++◌, codes, sym, ap, subst, ◌∙◌, append-nil, All, IsTrue}
+use Rattle.mixed_graph.specs.Names.{name_of}
+use Rattle.name_text.specs.Printing.{printed}
+use Rattle.mixed_graph.specs.Bits.{has, members_below}
+use Rattle.finite_models.proofs.Members.{member_below}
+use Rattle.prob_expr.specs.declared.expr.Place.{Place}
+use Rattle.quantity.specs.declared.fault.QuantityFault.TheVariants.{ZeroBelow, TooWide, TooFine}
+use Rattle.count_rows.specs.Rows.{Table}
+use Rattle.count_table.specs.Tables.{AreCounts}
+use Rattle.count_eval.specs.Answers.{IsPlaceOf, IsCellOf}
+use Rattle.count_eval.specs.Programs.{is_used, cell_of}
+use Rattle.count_eval.specs.Stops.{Stop}
+use Rattle.evaluate_command.specs.Lines.{with_commas, assignment, assignments, level_text, place_text, why_digit, support_text, stop_text}
+use Rattle.evaluate_command.proofs.Tables.{member_used, member_of_all}
+use Rattle.evaluate_command.proofs.Texts.{same_texts}
+
+-- the place in a fault is that of the stop
+same_place : (place : Place) (s : Stop) → IsPlaceOf place s → place_text place.def place.node ≡ place_text s.def s.node
+same_place place s is = ap (λ d. place_text d place.node) is.def ∙ ap (place_text s.def) is.node
+
+pub wide_text : (names : List (List ℕ)) (t : Table) (s : Stop) (place : Place) → s.why ≡ TooWide → IsPlaceOf place s
+    → codes "evaluation fault 2: " ++ place_text place.def place.node ≡ stop_text names t s
+wide_text names t s place why is =
+    ap (λ p. codes "evaluation fault 2: " ++ p) (same_place place s is ∙ sym (append-nil (place_text s.def s.node)))
+    ∙ ap (λ w. codes "evaluation fault " ++ (why_digit w ++ (codes ": " ++ (place_text s.def s.node ++ support_text w names t s.cell)))) (sym why)
+
+pub fine_text : (names : List (List ℕ)) (t : Table) (s : Stop) (place : Place) → s.why ≡ TooFine → IsPlaceOf place s
+    → codes "evaluation fault 3: " ++ place_text place.def place.node ≡ stop_text names t s
+fine_text names t s place why is =
+    ap (λ p. codes "evaluation fault 3: " ++ p) (same_place place s is ∙ sym (append-nil (place_text s.def s.node)))
+    ∙ ap (λ w. codes "evaluation fault " ++ (why_digit w ++ (codes ": " ++ (place_text s.def s.node ++ support_text w names t s.cell)))) (sym why)
+
+-- the levels in a fault's cell are those of the stop's cell
+same_levels : (names : List (List ℕ)) (t : Table) (s : Stop) (cell : List ℕ) (used : ℕ → Bool) → AreCounts t → t.vertices ≡ members_below used 64 → IsCellOf (is_used t) cell s
+    → assignments names t (cell_of cell) (members_below used 64) ≡ assignments names t s.cell t.vertices
+same_levels names t s cell used table is at =
+    ap with_commas (same_texts (assignment names t (cell_of cell)) (assignment names t s.cell) used 64 (λ v lt h.
+    ap (λ k. printed (name_of names v) ++ (codes "=" ++ level_text t v k)) (at v lt ∙ ap (λ (b : Bool). cond b (s.cell v) 0) (member_used t used is table v lt h))))
+    ∙ ap (λ (vs : List ℕ). assignments names t s.cell vs) (sym is)
+
+pub support_text_is : (names : List (List ℕ)) (t : Table) (s : Stop) (place : Place) (cell : List ℕ) (used : ℕ → Bool) → s.why ≡ ZeroBelow → IsPlaceOf place s → IsCellOf (is_used t) cell s
+    → AreCounts t → t.vertices ≡ members_below used 64
+    → codes "evaluation fault 1: " ++ (place_text place.def place.node ++ (codes " at " ++ assignments names t (cell_of cell) (members_below used 64))) ≡ stop_text names t s
+support_text_is names t s place cell used why is at table vertices =
+    ap (λ p. codes "evaluation fault 1: " ++ (p ++ (codes " at " ++ assignments names t (cell_of cell) (members_below used 64)))) (same_place place s is)
+    ∙ ap (λ a. codes "evaluation fault 1: " ++ (place_text s.def s.node ++ (codes " at " ++ a))) (same_levels names t s cell used table vertices at)
+    ∙ ap (λ w. codes "evaluation fault " ++ (why_digit w ++ (codes ": " ++ (place_text s.def s.node ++ support_text w names t s.cell)))) (sym why)
+
+-- the members of a set that are all low
+pub members_low : (n m : ℕ) (vs : List ℕ) → m < 2 ^ 64 → members_below (has m) 64 ≡ vs → All (λ v. v < n) vs → (v : ℕ) → IsTrue (has m v) → v < n
+members_low n m vs fits is low v h = member_of_all (λ u. u < n) (has m) 64 (subst (λ (us : List ℕ). All (λ u. u < n) us) (sym is) low) v (member_below m v fits h) h

@@ -1,0 +1,15 @@
+use Rattle.std.proofs.Common.{ap, ◌∙◌, arith, length, ◌≤◌}
+use Rattle.prob_expr.specs.Masks.{join}
+use Rattle.evaluate_command.proofs.Mentions.{defs_step, defs_end}
+use Rattle.evaluate_command.proofs.mentioned.mentioned_in_defs.Goals as goal
+
+pub loop-def-preserved : goal.loop-def-preserved
+loop-def-preserved c =
+    defs_step c.loop-def.all.bits c.join-all.result.bits c.deref-def-items.result.now c.loop-def.def-index c.def-item.result (omega arith) c.def-item.is
+    (c.join-all.ensures ∙ ap (λ x. join c.loop-def.all.bits x) c.mentioned_in.ensures)
+    ∙ c.loop-def.invariant
+
+pub returns : goal.returns
+returns c =
+    let le : length c.deref-def-items.result.now ≤ c.loop-def.def-index = omega arith in
+    rw (← c.deref-def-items.ensures.value) (defs_end c.loop-def.all.bits c.deref-def-items.result.now c.loop-def.def-index le ∙ c.loop-def.invariant)

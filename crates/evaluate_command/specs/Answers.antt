@@ -1,0 +1,109 @@
+-- The answer of `evaluate`: the effect of x on y at each level of x and y, from counts of observations.
+use Rattle.std.specs.Prelude.{ℕ, ◌≡◌, ◌<◌, ◌≤◌, ◌≢◌, List, ◌++◌, length, All, Bool, true, false, Option, Some, None, Ok, Err}
+use Rattle.std.specs.List.{flat_map}
+use Rattle.fractions.specs.Fractions.{Fraction}
+use Rattle.finite_models.specs.Models.{FiniteModel, Fits, IsPositiveModel}
+use Rattle.dag_reader.specs.declared.graph.ReadGraph.{ReadGraph}
+use Rattle.prob_expr.specs.Values.{effect}
+use Rattle.id_recursion.specs.Answers.{effect_on}
+use Rattle.fault_text.specs.Lines.{line_of}
+use Rattle.input_fault_text.specs.Lines.{count_fault_text, count_size_text}
+use Rattle.replies.specs.declared.outcome.Outcome.{Outcome}
+use Rattle.replies.specs.declared.outcome.Outcome.TheVariants.{Yes, No, Graph, Second, Evaluation}
+use Rattle.replies.specs.Observed.{Names}
+use Rattle.identify_command.specs.declared.form.Form.TheVariants.{Plain}
+use Rattle.identify_command.specs.Answers.{IdentifyAnswer}
+use Rattle.quantity.specs.Kinds.{Pair, Kind}
+use Rattle.quantity.specs.Exacts.{exact, Equals}
+use Rattle.quantity.specs.Intervals.{bounds, Covers}
+use Rattle.count_rows.specs.declared.fault.CountFault.{CountFault}
+use Rattle.count_rows.specs.declared.fault.CountFault.TheVariants.{NoMemory}
+use Rattle.count_rows.specs.Records.{Field}
+use Rattle.count_rows.specs.Rows.{Table}
+use Rattle.count_table.specs.Cells.{total}
+use Rattle.count_table.specs.Reading.{IsTableOf, text_fault}
+use Rattle.count_eval.specs.Answers.{CoversCounts}
+use Rattle.count_eval.specs.Laws.{IsMatched}
+use Rattle.count_eval.specs.Programs.{weights_in, is_used, cell_of}
+use Rattle.count_eval.specs.Stops.{Stop}
+use Rattle.evaluate_command.specs.Effects.{PlainEffect, Identifies, used_in}
+use Rattle.evaluate_command.specs.Cells.{CellValue, value_in, values_at, printed_cells}
+use Rattle.evaluate_command.specs.Lines.{sign_of, value_line, pinned_lines, stop_text}
+
+-- ---- before the counts
+
+-- the answer for which the counts aren't read: a hedge, as `identify` shows it, or the line of a listed name that is at fault
+abbrev pub EvaluateFirst : ReadGraph → Names → Names → Outcome → List ℕ → Type 0
+EvaluateFirst g x y No text = IdentifyAnswer Plain g x y No text
+EvaluateFirst g x y Graph line = IdentifyAnswer Plain g x y Graph line
+EvaluateFirst g x y o text = ⊥
+
+-- ---- over a table of counts
+
+-- The quantity covers P(y | do(x)) at the cell in each positive model that fits the graph and whose observed weights are those of the counts, up to one factor.
+abbrev pub CoversEffect : (Pair → Fraction → Type 0) → PlainEffect → Table → CellValue → Type 0
+CoversEffect covers e t v = (m : FiniteModel) → Fits e.graph m → IsPositiveModel m → IsMatched (is_used t) (weights_in e.graph.vertices t) (total t.rows) m
+    → covers v.quantity (effect m (effect_on e.x e.y) (cell_of v.cell))
+
+-- The cells have these values, and `added` is their lines. Each quantity covers the formula's value over the counts and, where a model of the graph has
+-- these counts, the effect in it.
+pub record AreValues (kind : Kind) (covers : Pair → Fraction → Type 0) (sign : List ℕ) (e : PlainEffect) (t : Table) (cells : List (List ℕ)) (added : List ℕ) : Type 0 where
+  pub values : List CellValue
+  pub evaluated : values_at (value_in kind e t) cells ≡ Ok values
+  pub prints : added ≡ flat_map (value_line kind sign e t) values
+  pub counts : All (λ v. CoversCounts covers e.graph.vertices t e.formula (cell_of v.cell) v.quantity) values
+  pub effects : All (CoversEffect covers e t) values
+
+-- yes: the lines of what is pinned, and the lines of the printed cells
+pub record ShowsValues (kind : Kind) (covers : Pair → Fraction → Type 0) (sign : List ℕ) (e : PlainEffect) (t : Table) (text : List ℕ) : Type 0 where
+  pub lines : List ℕ
+  pub values : AreValues kind covers sign e t (printed_cells e t) lines
+  pub prints : text ≡ pinned_lines e t ++ lines
+
+-- no value: the line of the stop at the first printed cell that has none
+pub record ShowsStop (kind : Kind) (e : PlainEffect) (t : Table) (line : List ℕ) : Type 0 where
+  pub stop : Stop
+  pub stops : values_at (value_in kind e t) (printed_cells e t) ≡ Err stop
+  pub prints : line ≡ line_of (stop_text e.names t stop)
+
+-- the answer in a kind of quantity
+abbrev pub TableAnswer : Kind → (Pair → Fraction → Type 0) → List ℕ → PlainEffect → Table → Outcome → List ℕ → Type 0
+TableAnswer kind covers sign e t Yes text = ShowsValues kind covers sign e t text
+TableAnswer kind covers sign e t Evaluation line = ShowsStop kind e t line
+TableAnswer kind covers sign e t o text = ⊥
+
+-- the answer in exact fractions, or else in bounds
+abbrev pub QuantityAnswer : Bool → PlainEffect → Table → Outcome → List ℕ → Type 0
+QuantityAnswer true = TableAnswer exact Equals (sign_of true)
+QuantityAnswer false = TableAnswer bounds Covers (sign_of false)
+
+-- ---- over the bytes of counts
+
+-- the bytes are the text of this table of the effect's vertices, and at most 67,108,864
+pub record IsRead (e : PlainEffect) (count : Option Field) (bytes : List ℕ) (t : Table) : Type 0 where
+  pub small : length bytes ≤ 67108864
+  pub fits : text_fault bytes e.names (used_in e) count ≡ None
+  pub reads : IsTableOf bytes e.names (used_in e) count t
+
+-- the bytes are no counts of these vertices: they are too many, or their text has a fault
+pub data IsCountsRefusal (e : PlainEffect) (count : Option Field) (bytes line : List ℕ) : Type 0 where
+  too_long : 67108864 < length bytes → line ≡ line_of count_size_text → IsCountsRefusal e count bytes line
+  faulty : (fault : CountFault) → length bytes ≤ 67108864 → fault ≢ NoMemory → text_fault bytes e.names (used_in e) count ≡ Some fault → line ≡ line_of (count_fault_text fault)
+      → IsCountsRefusal e count bytes line
+
+-- the table of the bytes, and the answer over it
+abbrev pub AnswersTable : Bool → PlainEffect → Option Field → List ℕ → Outcome → List ℕ → Type 0
+AnswersTable is_exact e count bytes o text = (t : Table) × IsRead e count bytes t × QuantityAnswer is_exact e t o text
+
+-- the answer for an effect that has a formula: its values, the line of refused counts, or the line of the first printed cell without a value
+abbrev pub CountsAnswer : Bool → PlainEffect → Option Field → List ℕ → Outcome → List ℕ → Type 0
+CountsAnswer is_exact e count bytes Yes text = AnswersTable is_exact e count bytes Yes text
+CountsAnswer is_exact e count bytes Second line = IsCountsRefusal e count bytes line
+CountsAnswer is_exact e count bytes Evaluation line = AnswersTable is_exact e count bytes Evaluation line
+CountsAnswer is_exact e count bytes o text = ⊥
+
+-- ---- on a graph that was read
+
+-- the answer where the counts are read: the lists name an effect that has a formula
+abbrev pub EvaluateAnswer : Bool → ReadGraph → Names → Names → Option Field → List ℕ → Outcome → List ℕ → Type 0
+EvaluateAnswer is_exact g x y count bytes o text = (e : PlainEffect) × Identifies g x y e × CountsAnswer is_exact e count bytes o text

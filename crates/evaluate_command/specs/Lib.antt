@@ -1,0 +1,7 @@
+pub mod Effects
+pub mod Mentioned
+pub mod Cells
+pub mod Lines
+pub mod Answers
+pub mod Firsts
+pub mod Printing

@@ -1,0 +1,82 @@
+-- The lines that `evaluate` prints.
+use Rattle.std.specs.Prelude.{ℕ, List, [], ◌∷◌, ◌++◌, map, codes, slice_index_or, Option, Some, None, Bool, true, false, if◌then◌else◌}
+use Rattle.std.specs.Fmt.{decimal}
+use Rattle.std.specs.List.{flat_map}
+use Rattle.mixed_graph.specs.Bits.{has, members_below}
+use Rattle.mixed_graph.specs.Names.{name_of}
+use Rattle.name_text.specs.Printing.{printed}
+use Rattle.prob_expr.specs.Masks.{is_empty}
+use Rattle.identify_text.specs.Answers.{free_outside}
+use Rattle.quantity.specs.declared.fault.QuantityFault.{QuantityFault}
+use Rattle.quantity.specs.declared.fault.QuantityFault.TheVariants.{ZeroBelow, TooWide, TooFine}
+use Rattle.quantity.specs.Kinds.{Kind}
+use Rattle.count_rows.specs.Rows.{Table}
+use Rattle.count_table.specs.Tables.{levels_in}
+use Rattle.count_eval.specs.Programs.{cell_of}
+use Rattle.count_eval.specs.Stops.{Stop}
+use Rattle.evaluate_command.specs.Effects.{PlainEffect}
+use Rattle.evaluate_command.specs.Cells.{CellValue}
+
+-- the bytes of a vertex's level with that number; none where it has no such level
+abbrev pub level_text : Table → ℕ → ℕ → List ℕ
+level_text t v k = slice_index_or (levels_in t.vertices t.levels v) k []
+
+-- `Z=level`
+abbrev pub assignment : List (List ℕ) → Table → (ℕ → ℕ) → ℕ → List ℕ
+assignment names t cell v = printed (name_of names v) ++ (codes "=" ++ level_text t v (cell v))
+
+-- texts with commas between them
+abbrev pub with_commas : List (List ℕ) → List ℕ
+with_commas [] = []
+with_commas (a ∷ []) = a
+with_commas (a ∷ b ∷ rest) = a ++ (codes "," ++ with_commas (b ∷ rest))
+
+-- `Z=level,W=level`: the levels of these vertices in a cell
+abbrev pub assignments : List (List ℕ) → Table → (ℕ → ℕ) → List ℕ → List ℕ
+assignments names t cell vs = with_commas (map (assignment names t cell) vs)
+
+-- what is done: nothing where x is empty
+abbrev pub doing_text : PlainEffect → Table → (ℕ → ℕ) → List ℕ
+doing_text e t cell = if is_empty e.x then [] else codes "|do(" ++ (assignments e.names t cell (members_below (has e.x) 64) ++ codes ")")
+
+-- the effect at a cell: `P(Y=level|do(X=level))`, or `P(Y=level)` for an empty x
+abbrev pub effect_text : PlainEffect → Table → (ℕ → ℕ) → List ℕ
+effect_text e t cell = codes "P(" ++ (assignments e.names t cell (members_below (has e.y) 64) ++ (doing_text e t cell ++ codes ")"))
+
+-- what stands between an effect and its value: ` = ` before a fraction, a space before bounds
+abbrev pub sign_of : Bool → List ℕ
+sign_of true = codes " = "
+sign_of false = codes " "
+
+-- the line of a cell
+abbrev pub value_line : Kind → List ℕ → PlainEffect → Table → CellValue → List ℕ
+value_line kind sign e t v = effect_text e t (cell_of v.cell) ++ (sign ++ (kind.text v.quantity ++ codes "\n"))
+
+-- `pinned Z=level`: a vertex at its first level
+abbrev pub pinned_line : List (List ℕ) → Table → ℕ → List ℕ
+pinned_line names t v = codes "pinned " ++ (assignment names t (λ u. 0) v ++ codes "\n")
+
+-- the lines of the free variables outside x and y, in index order
+abbrev pub pinned_lines : PlainEffect → Table → List ℕ
+pinned_lines e t = flat_map (pinned_line e.names t) (members_below (has (free_outside e.x e.y e.formula)) 64)
+
+-- the digit of why there is no value
+abbrev pub why_digit : QuantityFault → List ℕ
+why_digit ZeroBelow = codes "1"
+why_digit TooWide = codes "2"
+why_digit TooFine = codes "3"
+
+-- the place of a node
+abbrev pub place_text : Option ℕ → ℕ → List ℕ
+place_text None node = codes "main node " ++ decimal node
+place_text (Some k) node = codes "q" ++ (decimal k ++ (codes " node " ++ decimal node))
+
+-- the levels of all used vertices at a node where a denominator is 0
+abbrev pub support_text : QuantityFault → List (List ℕ) → Table → (ℕ → ℕ) → List ℕ
+support_text ZeroBelow names t cell = codes " at " ++ assignments names t cell t.vertices
+support_text TooWide names t cell = []
+support_text TooFine names t cell = []
+
+-- why there is no value, and at which node
+abbrev pub stop_text : List (List ℕ) → Table → Stop → List ℕ
+stop_text names t s = codes "evaluation fault " ++ (why_digit s.why ++ (codes ": " ++ (place_text s.def s.node ++ support_text s.why names t s.cell)))

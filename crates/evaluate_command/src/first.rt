@@ -1,0 +1,85 @@
+ghost use Rattle.std.specs.Prelude.{◌≡◌, ◌<◌, IfOk, length, option_map};
+ghost use Rattle.mixed_graph.specs.Bits.{has};
+ghost use Rattle.mixed_graph.specs.Sets.{Within, Apart};
+ghost use Rattle.mixed_graph.specs.Shown.{graph_of};
+ghost use Rattle.word_lists.specs.Views.{names_in};
+ghost use Rattle.evaluate_command.specs.Firsts.{IsFirst, IsFound};
+
+use crate::identified::Identified;
+use dag_reader::ReadGraph;
+use id_recursion::{Answer, identify};
+use identify_text::hedge_answer;
+use latent_projection::{Observed, observed};
+use prob_expr::Formula;
+use replies::{Outcome, Reply, list_or, refuse};
+use std::alloc::{AllocError, Global};
+use targets::{EffectSets, find_effect_sets};
+
+/// What is known before counts are read.
+#[derive(Drop)]
+pub enum First {
+    /// The answer: there is a hedge, or a listed name is at fault.
+    Replied(Reply),
+    /// The effect has a formula.
+    Identified(Identified),
+}
+
+/// Identifies the effect of x on y in the observed graph: a formula for it, or else the answer.
+///
+/// A list that is missing is that of the exposures or of the outcomes. The only error is want of memory.
+pub fn identify_first(
+    alloc: Global,
+    graph: &ReadGraph,
+    x: Option<Vec<Vec<u8>>>,
+    y: Option<Vec<Vec<u8>>>,
+) -> Result<First, AllocError>
+    ensures { IfOk result (IsFirst graph.now (option_map names_in x) (option_map names_in y)) }
+{
+    let seen = observed(alloc, &graph.names, &graph.graph, graph.latent)?;
+    let x = list_or(alloc, &graph.names, graph.exposures, x)?;
+    let y = list_or(alloc, &graph.names, graph.outcomes, y)?;
+    let sets = match find_effect_sets(alloc, &graph.names, &seen.names, &x, &y) {
+        Ok(sets) => sets,
+        Err(fault) => return Ok(First::Replied(refuse(alloc, &fault)?)),
+    };
+    match find_formula(alloc, &seen, sets)? {
+        Found::Formula(formula) => Ok(First::Identified(Identified {
+            seen,
+            sets,
+            formula,
+        })),
+        Found::Hedge(text) => Ok(First::Replied(Reply {
+            outcome: Outcome::No,
+            text,
+        })),
+    }
+}
+
+/// A formula, or the text of a hedge with its two models.
+#[derive(Drop)]
+enum Found {
+    Formula(Formula),
+    Hedge(Vec<u8>),
+}
+
+/// A formula for the effect of sets of the observed graph, or the text of a hedge.
+fn find_formula(alloc: Global, seen: &Observed, sets: EffectSets) -> Result<Found, AllocError>
+    requires named { length seen.now.names ≡ seen.now.graph.n }
+    requires x { Within seen.now.graph.n (has sets.x.bits) }
+    requires y { Within seen.now.graph.n (has sets.y.bits) }
+    requires apart { Apart (has sets.x.bits) (has sets.y.bits) }
+    requires some { 0 < sets.y.bits }
+    ensures { IfOk result (IsFound (graph_of seen.now.graph) seen.now.names sets.x.bits sets.y.bits) }
+{
+    match identify(alloc, &seen.graph, sets.x, sets.y)? {
+        Answer::Formula(formula, _) => Ok(Found::Formula(formula)),
+        Answer::Hedge(hedge, pair) => Ok(Found::Hedge(hedge_answer(
+            alloc,
+            sets.x,
+            sets.y,
+            &hedge,
+            &pair,
+            &seen.names,
+        )?)),
+    }
+}

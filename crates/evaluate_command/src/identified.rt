@@ -1,0 +1,11 @@
+use latent_projection::Observed;
+use prob_expr::Formula;
+use targets::EffectSets;
+
+/// An effect that has a formula: the observed graph with its names, the sets x and y, and a formula for P(y | do(x)).
+#[derive(Drop)]
+pub struct Identified {
+    pub seen: Observed,
+    pub sets: EffectSets,
+    pub formula: Formula,
+}

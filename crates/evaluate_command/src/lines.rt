@@ -1,0 +1,174 @@
+//! The lines of an answer.
+
+ghost use Rattle.std.specs.Prelude.{◌≡◌, ◌++◌, ◌<◌, ◌≤◌, ◌∷◌, [], length, codes, map, if◌then◌else◌, OnOk, IfOk};
+ghost use Rattle.mixed_graph.specs.Bits.{has, members_below};
+ghost use Rattle.mixed_graph.specs.Sets.{Within};
+ghost use Rattle.count_eval.specs.Programs.{cell_of};
+ghost use Rattle.evaluate_command.specs.Effects.{effect_view};
+ghost use Rattle.answer_text.specs.Texts.{comma_before};
+ghost use Rattle.identify_text.specs.Answers.{free_outside};
+ghost use Rattle.evaluate_command.specs.Lines.{level_text, assignment, assignments, doing_text, effect_text, value_line, pinned_line, pinned_lines};
+
+use crate::identified::Identified;
+use answer_text::push_vertex;
+use count_table::Counts;
+use mixed_graph::{Names, VSet};
+use prob_expr::free;
+use prob_expr::masks::{is_empty, join, minus};
+use quantity::Quantity;
+use std::alloc::{AllocError, Global};
+
+/// The level of vertex v with the number k; empty where it has no such level.
+fn level_text(counts: &Counts, v: u8, k: u32) -> &[u8]
+    ensures { result.now ≡ level_text counts.now v k }
+{
+    if k >= counts.levels(v) {
+        return b"";
+    }
+    counts.level(v, k)
+}
+
+/// Appends a vertex with its level of that number, as `Z=level`.
+fn push_assignment(
+    out: &mut Vec<u8>,
+    names: &Names,
+    counts: &Counts,
+    v: u8,
+    k: u32,
+) -> Result<(), AllocError>
+    requires { v < length names.now }
+    ensures { OnOk result (out.new.items ≡ out.old.items ++ assignment names.now counts.now (λ u. k) v) }
+{
+    push_vertex(out, names, v)?;
+    out.push(b'=')?;
+    out.extend_from_slice(level_text(counts, v, k))
+}
+
+/// A comma where a member is still to come.
+fn separator(rest: VSet) -> &'static [u8]
+    ensures { result.now ≡ comma_before (members_below (has rest.bits) 64) }
+{
+    if rest.is_empty() { b"" } else { b"," }
+}
+
+/// Appends the levels of a set's members in a cell, in index order with commas between them.
+pub fn push_assignments(
+    out: &mut Vec<u8>,
+    names: &Names,
+    counts: &Counts,
+    set: VSet,
+    cell: &[u32],
+) -> Result<(), AllocError>
+    requires named { Within (length names.now) (has set.bits) }
+    requires entries { Within (length cell.now) (has set.bits) }
+    ensures { OnOk result (out.new.items ≡ out.old.items ++ assignments names.now counts.now (cell_of cell.now) (members_below (has set.bits) 64)) }
+{
+    let mut rest = set;
+    'members: while !rest.is_empty() {
+        let v = rest.lowest();
+        push_assignment(out, names, counts, v, cell[v as usize])?;
+        rest = rest.difference(VSet::one(v));
+        out.extend_from_slice(separator(rest))?;
+    }
+    Ok(())
+}
+
+/// Appends what is done: nothing where x is empty.
+fn push_doing(
+    out: &mut Vec<u8>,
+    found: &Identified,
+    counts: &Counts,
+    cell: &[u32],
+) -> Result<(), AllocError>
+    requires named { Within (length found.now.seen.names) (has found.now.sets.x.bits) }
+    requires entries { Within (length cell.now) (has found.now.sets.x.bits) }
+    ensures { OnOk result (out.new.items ≡ out.old.items ++ doing_text (effect_view found.now) counts.now (cell_of cell.now)) }
+{
+    if is_empty(found.sets.x) {
+        return Ok(());
+    }
+    out.extend_from_slice(b"|do(")?;
+    push_assignments(out, &found.seen.names, counts, found.sets.x, cell)?;
+    out.push(b')')?;
+    Ok(())
+}
+
+/// Appends the effect at a cell, as `P(Y=level|do(X=level))`.
+fn push_effect(
+    out: &mut Vec<u8>,
+    found: &Identified,
+    counts: &Counts,
+    cell: &[u32],
+) -> Result<(), AllocError>
+    requires x { Within (length found.now.seen.names) (has found.now.sets.x.bits) }
+    requires y { Within (length found.now.seen.names) (has found.now.sets.y.bits) }
+    requires entries { length found.now.seen.names ≡ length cell.now }
+    ensures { OnOk result (out.new.items ≡ out.old.items ++ effect_text (effect_view found.now) counts.now (cell_of cell.now)) }
+{
+    out.extend_from_slice(b"P(")?;
+    push_assignments(out, &found.seen.names, counts, found.sets.y, cell)?;
+    push_doing(out, found, counts, cell)?;
+    out.push(b')')?;
+    Ok(())
+}
+
+/// Appends the line of a cell with its quantity.
+pub fn push_value<Q: Quantity>(
+    alloc: Global,
+    out: &mut Vec<u8>,
+    found: &Identified,
+    counts: &Counts,
+    sign: &[u8],
+    cell: &[u32],
+    quantity: &Q,
+) -> Result<(), AllocError>
+    requires x { Within (length found.now.seen.names) (has found.now.sets.x.bits) }
+    requires y { Within (length found.now.seen.names) (has found.now.sets.y.bits) }
+    requires entries { length found.now.seen.names ≡ length cell.now }
+    ensures { OnOk result (out.new.items ≡ out.old.items ++ value_line Q.kind sign.now (effect_view found.now) counts.now (record { cell = cell.now; quantity = Q.numbers quantity.now })) }
+{
+    push_effect(out, found, counts, cell)?;
+    out.extend_from_slice(sign)?;
+    quantity.print(alloc, out)?;
+    out.push(b'\n')?;
+    Ok(())
+}
+
+/// Appends the line of v at its first level, where v is a member.
+fn push_pinned(
+    out: &mut Vec<u8>,
+    names: &Names,
+    counts: &Counts,
+    set: VSet,
+    v: u8,
+) -> Result<(), AllocError>
+    requires vertex { v < 64 }
+    requires named { Within (length names.now) (has set.bits) }
+    ensures { OnOk result (out.new.items ≡ out.old.items ++ (if has set.bits v then pinned_line names.now counts.now v else [])) }
+{
+    if !set.has(v) {
+        return Ok(());
+    }
+    out.extend_from_slice(b"pinned ")?;
+    push_assignment(out, names, counts, v, 0)?;
+    out.push(b'\n')?;
+    Ok(())
+}
+
+/// The lines of the free variables outside x and y, at their first levels.
+pub fn pinned_lines(
+    alloc: Global,
+    found: &Identified,
+    counts: &Counts,
+) -> Result<Vec<u8>, AllocError>
+    requires { Within (length found.now.seen.names) (has (free_outside (effect_view found.now).x (effect_view found.now).y (effect_view found.now).formula)) }
+    ensures { IfOk result (λ v. v.items ≡ pinned_lines (effect_view found.now) counts.now) }
+{
+    let all = free(alloc, &found.formula)?;
+    let pinned = minus(all, join(found.sets.x, found.sets.y));
+    let mut text = Vec::new(alloc);
+    for v in 0..64u8 {
+        push_pinned(&mut text, &found.seen.names, counts, pinned, v)?;
+    }
+    Ok(text)
+}

@@ -1,0 +1,101 @@
+ghost use Rattle.std.specs.Prelude.{ℕ, ◌≡◌, ◌<◌, ◌≤◌, List, Bool, Option, IfOk, length, option_map};
+ghost use Rattle.mixed_graph.specs.Bits.{has, members_below};
+ghost use Rattle.count_rows.specs.Records.{Field};
+ghost use Rattle.evaluate_command.specs.Answers.{TableAnswer, QuantityAnswer, CountsAnswer};
+ghost use Rattle.evaluate_command.specs.Effects.{PlainEffect, effect_view, used_in, IsIdentified};
+
+use crate::fault_lines::fault_line;
+use crate::identified::Identified;
+use crate::lines::pinned_lines;
+use crate::mentioned::used_in;
+use crate::values::{Failure, push_cells, varied};
+use count_table::{Counts, read_counts};
+use input_fault_text::{counts_line, counts_size_line};
+use quantity::{Bounds, Exact, Quantity};
+use replies::{Outcome, Reply};
+use std::alloc::{AllocError, Global};
+use value_tables::{Prepared, prepare};
+
+/// The effect at each level of x and y, from counts in CSV: in exact fractions, or in bounds.
+///
+/// Refused counts are answered with their line, and so is the first printed cell at which the formula has no value. The only error is
+/// want of memory.
+pub fn evaluate_reply(
+    alloc: Global,
+    found: &Identified,
+    count: Option<&[u8]>,
+    exact: bool,
+    bytes: &[u8],
+) -> Result<Reply, AllocError>
+    requires identified { IsIdentified (effect_view found.now) }
+    requires small { length bytes.now ≤ 67108864 }
+    ensures { IfOk result (λ r. CountsAnswer exact (effect_view found.now) (option_map (λ s. s.now) count.entry) bytes.now r.outcome r.text.items) }
+{
+    match read_counts(alloc, bytes, &found.seen.names, used_in(found), count) {
+        Ok(counts) => table_reply(alloc, found, exact, &counts),
+        Err(fault) => Ok(Reply {
+            outcome: Outcome::Second,
+            text: counts_line(alloc, &fault)?,
+        }),
+    }
+}
+
+/// The answer where there are more than 67,108,864 bytes of counts. The only error is want of memory.
+pub fn long_counts(alloc: Global) -> Result<Reply, AllocError>
+    ensures { IfOk result (λ r. (exact : Bool) (e : PlainEffect) (count : Option Field) (bytes : List ℕ) → 67108864 < length bytes → CountsAnswer exact e count bytes r.outcome r.text.items) }
+{
+    Ok(Reply {
+        outcome: Outcome::Second,
+        text: counts_size_line(alloc)?,
+    })
+}
+
+/// The answer over a table of counts.
+fn table_reply(
+    alloc: Global,
+    found: &Identified,
+    exact: bool,
+    counts: &Counts,
+) -> Result<Reply, AllocError>
+    requires identified { IsIdentified (effect_view found.now) }
+    requires used { counts.now.vertices ≡ members_below (has (used_in (effect_view found.now))) 64 }
+    ensures { IfOk result (λ r. QuantityAnswer exact (effect_view found.now) counts.now r.outcome r.text.items) }
+{
+    if exact {
+        values_reply::<Exact>(alloc, found, counts, b" = ")
+    } else {
+        values_reply::<Bounds>(alloc, found, counts, b" ")
+    }
+}
+
+/// The answer in a kind of quantity.
+fn values_reply<Q: Quantity>(
+    alloc: Global,
+    found: &Identified,
+    counts: &Counts,
+    sign: &[u8],
+) -> Result<Reply, AllocError>
+    requires identified { IsIdentified (effect_view found.now) }
+    requires used { counts.now.vertices ≡ members_below (has (used_in (effect_view found.now))) 64 }
+    ensures { IfOk result (λ r. TableAnswer Q.kind Q.covers sign.now (effect_view found.now) counts.now r.outcome r.text.items) }
+{
+    let _used = counts.used();
+    let n = found.seen.graph.n;
+    let prepared: Prepared<Q> = prepare(alloc, n, &found.formula, counts)?;
+    let vertices = varied(alloc, found.sets.x, found.sets.y)?;
+    let mut cell = vec![in alloc; 0; n as usize]?;
+    let mut text = pinned_lines(alloc, found, counts)?;
+    match push_cells(
+        alloc, &mut text, found, counts, &prepared, sign, &vertices, &mut cell,
+    ) {
+        Ok(()) => Ok(Reply {
+            outcome: Outcome::Yes,
+            text,
+        }),
+        Err(Failure::Evaluation(fault)) => Ok(Reply {
+            outcome: Outcome::Evaluation,
+            text: fault_line(alloc, &found.seen.names, counts, &fault)?,
+        }),
+        Err(Failure::NoMemory) => Err(AllocError),
+    }
+}

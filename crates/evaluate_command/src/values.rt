@@ -1,0 +1,109 @@
+//! The lines of the cells.
+
+ghost use Rattle.std.specs.Prelude.{ℕ, ◌≡◌, ◌++◌, ◌<◌, ◌∷◌, [], List, All, true, length, OnOk, IfOk, IfErr};
+ghost use Rattle.mixed_graph.specs.Bits.{has, members_below};
+ghost use Rattle.count_eval.specs.Programs.{is_used};
+ghost use Rattle.evaluate_command.specs.Cells.{varied, cells_along, IsCell};
+ghost use Rattle.evaluate_command.specs.Effects.{effect_view, IsIdentified};
+ghost use Rattle.evaluate_command.specs.Printing.{Appends, IsFailureOf, IsPreparedFor};
+
+use crate::identified::Identified;
+use crate::lines::push_value;
+use count_eval::EvalFault;
+use count_table::Counts;
+use mixed_graph::VSet;
+use quantity::Quantity;
+use std::alloc::{AllocError, Global};
+use value_tables::Prepared;
+
+/// Why there are no lines.
+#[derive(Drop)]
+pub enum Failure {
+    /// The formula has no value at some cell.
+    Evaluation(EvalFault),
+    /// Want of memory.
+    NoMemory,
+}
+
+/// Appends the line of a cell.
+fn push_cell<Q: Quantity>(
+    alloc: Global,
+    out: &mut Vec<u8>,
+    found: &Identified,
+    counts: &Counts,
+    prepared: &Prepared<Q>,
+    sign: &[u8],
+    cell: &[u32],
+) -> Result<(), Failure>
+    requires identified { IsIdentified (effect_view found.now) }
+    requires prepared { IsPreparedFor (effect_view found.now) counts.now prepared.now }
+    requires cell { IsCell (length found.now.seen.names) counts.now cell.now }
+    ensures lines { OnOk result (Appends Q.kind Q.covers sign.now (effect_view found.now) counts.now (cell.now ∷ []) out.old.items out.new.items) }
+    ensures failure { IfErr result (IsFailureOf Q.kind (effect_view found.now) counts.now (cell.now ∷ [])) }
+{
+    let quantity: Q = match prepared.value(cell) {
+        Ok(quantity) => quantity,
+        Err(fault) => return Err(Failure::Evaluation(fault)),
+    };
+    match push_value(alloc, out, found, counts, sign, cell, &quantity) {
+        Ok(()) => Ok(()),
+        Err(_) => Err(Failure::NoMemory),
+    }
+}
+
+/// Appends the lines of all cells that differ from `cell` at most in these vertices, those of the first vertex slowest.
+pub fn push_cells<Q: Quantity>(
+    alloc: Global,
+    out: &mut Vec<u8>,
+    found: &Identified,
+    counts: &Counts,
+    prepared: &Prepared<Q>,
+    sign: &[u8],
+    vertices: &[u8],
+    cell: &mut [u32],
+) -> Result<(), Failure>
+    requires identified { IsIdentified (effect_view found.now) }
+    requires prepared { IsPreparedFor (effect_view found.now) counts.now prepared.now }
+    requires vertices { All (λ v. is_used counts.now v ≡ true) vertices.now }
+    requires cell { IsCell (length found.now.seen.names) counts.now cell.old }
+    ensures lines { OnOk result (Appends Q.kind Q.covers sign.now (effect_view found.now) counts.now (cells_along counts.now cell.old vertices.now) out.old.items out.new.items) }
+    ensures cell { OnOk result (cell.new ≡ cell.old) }
+    ensures failure { IfErr result (IsFailureOf Q.kind (effect_view found.now) counts.now (cells_along counts.now cell.old vertices.now)) }
+{
+    let [v, rest @ ..] = vertices else {
+        return push_cell(alloc, out, found, counts, prepared, sign, cell);
+    };
+    let place = *v as usize;
+    let before = cell[place];
+    for k in 0..counts.levels(*v) {
+        cell[place] = k;
+        match push_cells(alloc, out, found, counts, prepared, sign, rest, cell) {
+            Ok(()) => {}
+            Err(failure) => return Err(failure),
+        }
+    }
+    cell[place] = before;
+    Ok(())
+}
+
+/// The members of x and then those of y, each in index order.
+pub fn varied(alloc: Global, x: VSet, y: VSet) -> Result<Vec<u8>, AllocError>
+    ensures { IfOk result (λ v. v.items ≡ varied x.bits y.bits) }
+{
+    let mut vertices = Vec::new(alloc);
+    push_members(&mut vertices, x)?;
+    push_members(&mut vertices, y)?;
+    Ok(vertices)
+}
+
+/// Appends the members of a set, in index order.
+fn push_members(out: &mut Vec<u8>, set: VSet) -> Result<(), AllocError>
+    ensures { OnOk result (out.new.items ≡ out.old.items ++ members_below (has set.bits) 64) }
+{
+    for v in 0..64 {
+        if set.has(v) {
+            out.push(v)?;
+        }
+    }
+    Ok(())
+}
