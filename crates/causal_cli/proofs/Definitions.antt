@@ -1,5 +1,5 @@
 -- From the answer on a graph that was read, or from its fault, to the defined answer.
-use Rattle.std.proofs.Common.{◌≡◌, ℕ, ◌≤◌, List, Result, Ok, Err, Option, Some, IfOk, OnOk, length, inl, inr, ap, sym, subst}
+use Rattle.std.proofs.Common.{◌≡◌, ℕ, ◌≤◌, List, Result, Ok, Err, Some, IfOk, length, inl, inr, ap, sym, subst}
 use Rattle.dag_reader.specs.declared.graph.ReadGraph.{ReadGraph}
 use Rattle.dag_reader.specs.declared.faults.GraphFault.{GraphFault}
 use Rattle.dag_reader.specs.declared.faults.GraphFault.TheVariants.{NoMemory}
@@ -9,10 +9,12 @@ use Rattle.replies.specs.declared.outcome.Reply.{Reply}
 use Rattle.replies.specs.declared.outcome.Outcome.{Outcome}
 use Rattle.replies.specs.declared.outcome.Outcome.TheVariants.{Yes, No, Graph, Second, Evaluation}
 use Rattle.replies.specs.Observed.{Holds}
-use Rattle.causal_cli.specs.Wishes.{Wish, graph, separate, rule, identify, check, adjust, equivalent, second_of}
+use Rattle.evaluate_command.specs.Answers.{CountsAnswer}
+use Rattle.evaluate_command.specs.Effects.{effect_view}
+use Rattle.causal_cli.specs.Wishes.{Wish, check, evaluate, equivalent, second_of}
 use Rattle.causal_cli.specs.Answers.{HoldsAnswer, faulty, Defined, NeedsSecond, SecondAnswer, Continues, DefinedWith}
 use Rattle.equivalent_command.specs.Answers.{IsDirected}
-use Rattle.causal_cli.specs.Pendings.{second_in, GivesSecond, GivesComparison, IsAccepted, IsPendingOn, GivesOn, IsPending, GivesFirst}
+use Rattle.causal_cli.specs.Pendings.{second_in, GivesSecond, IsAccepted, IsPendingOn, GivesOn, IsPending, GivesFirst}
 use Rattle.causal_cli.specs.declared.pending.Pending.{Pending}
 use Rattle.causal_cli.specs.declared.pending.Pending.TheVariants as pending
 use Rattle.causal_cli.specs.declared.answer.First.{First}
@@ -43,14 +45,9 @@ defined_fault w bytes f reply small reads v l n = subst (λ u. Defined w bytes u
 -- what is left names the second input of the wish
 named_on : (w : Wish) (g : ReadGraph) (p : Pending) → IsPendingOn w g p → second_of w ≡ Some (second_in p)
 named_on (check f c) g (pending.Check kept certificate) is = ap (λ t. Some t) (sym is.0)
-named_on (graph f p) g q is = absurd is
-named_on (separate f x y h) g q is = absurd is
-named_on (rule f r a b c d) g q is = absurd is
-named_on (identify f x y form) g q is = absurd is
-named_on (adjust f x y a) g q is = absurd is
+named_on (evaluate f c x y n e) g (pending.Evaluate found counts count exact) is = ap (λ t. Some t) (sym is.0)
 named_on (equivalent f h) g (pending.Equivalent kept second) is = ap (λ t. Some t) (sym is.0)
-named_on (check f c) g (pending.Equivalent kept second) is = absurd is
-named_on (equivalent f h) g (pending.Check kept certificate) is = absurd is
+named_on w g p is = absurd is
 
 pub named : (w : Wish) (bytes : List ℕ) (p : Pending) → IsPending w bytes p → second_of w ≡ Some (second_in p)
 named w bytes p is = named_on w is.0 p is.2
@@ -58,14 +55,9 @@ named w bytes p is = named_on w is.0 p is.2
 -- the graph is accepted, where something is left
 needed : (w : Wish) (g : ReadGraph) (p : Pending) → IsPendingOn w g p → NeedsSecond w g
 needed (check f c) g (pending.Check kept certificate) is = tt
-needed (graph f p) g q is = absurd is
-needed (separate f x y h) g q is = absurd is
-needed (rule f r a b c d) g q is = absurd is
-needed (identify f x y form) g q is = absurd is
-needed (adjust f x y a) g q is = absurd is
+needed (evaluate f c x y n e) g (pending.Evaluate found counts count exact) is = (effect_view found, is.3)
 needed (equivalent f h) g (pending.Equivalent kept second) is = is.2
-needed (check f c) g (pending.Equivalent kept second) is = absurd is
-needed (equivalent f h) g (pending.Check kept certificate) is = absurd is
+needed w g p is = absurd is
 
 pub continues : (w : Wish) (bytes : List ℕ) (p : Pending) → IsPending w bytes p → Continues w bytes
 continues w bytes p is = (is.0, is.1, needed w is.0 p is.2)
@@ -74,37 +66,22 @@ continues w bytes p is = (is.0, is.1, needed w is.0 p is.2)
 answered : (w : Wish) (g : ReadGraph) (p : Pending) (other : List ℕ) (reply : Reply) → IsPendingOn w g p → GivesSecond p other reply →
     SecondAnswer w g other reply.outcome reply.text.items
 answered (check f c) g (pending.Check kept certificate) other reply is gives = subst (λ k. SecondAnswer (check f c) k other reply.outcome reply.text.items) is.1 gives
-answered (graph f p) g q other reply is gives = absurd is
-answered (separate f x y h) g q other reply is gives = absurd is
-answered (rule f r a b c d) g q other reply is gives = absurd is
-answered (identify f x y form) g q other reply is gives = absurd is
-answered (adjust f x y a) g q other reply is gives = absurd is
+answered (evaluate f c x y n e) g (pending.Evaluate found counts count exact) other reply is gives =
+    let named_count = subst (λ m. CountsAnswer exact (effect_view found) m other reply.outcome reply.text.items) is.1 gives in
+    (effect_view found, is.3, subst (λ b. CountsAnswer b (effect_view found) n other reply.outcome reply.text.items) is.2 named_count)
 answered (equivalent f h) g (pending.Equivalent kept second) other reply is gives = subst (λ k. SecondAnswer (equivalent f h) k other reply.outcome reply.text.items) is.1 gives
-answered (check f c) g (pending.Equivalent kept second) other reply is gives = absurd is
-answered (equivalent f h) g (pending.Check kept certificate) other reply is gives = absurd is
+answered w g p other reply is gives = absurd is
 
 pub defined_with : (w : Wish) (bytes : List ℕ) (p : Pending) (other : List ℕ) (reply : Reply) → IsPending w bytes p → GivesSecond p other reply →
     DefinedWith w bytes other reply.outcome reply.text.items
 defined_with w bytes p other reply is gives = (is.0, is.1, needed w is.0 p is.2, answered w is.0 p other reply is.2 gives)
 
--- the graph that is kept is accepted, where something is left
+-- what is kept is accepted, where something is left
 pub accepted : (w : Wish) (bytes : List ℕ) (p : Pending) → IsPending w bytes p → IsAccepted p
 accepted w bytes p is = accepted_on w is.0 p is.2
   where
     accepted_on : (w : Wish) (g : ReadGraph) (p : Pending) → IsPendingOn w g p → IsAccepted p
     accepted_on (check f c) g (pending.Check kept certificate) is = tt
+    accepted_on (evaluate f c x y n e) g (pending.Evaluate found counts count exact) is = is.3.identified
     accepted_on (equivalent f h) g (pending.Equivalent kept second) is = subst IsDirected (sym is.1) is.2
-    accepted_on (check f c) g (pending.Equivalent kept second) is = absurd is
-    accepted_on (equivalent f h) g (pending.Check kept certificate) is = absurd is
-    accepted_on (graph f p) g q is = absurd is
-    accepted_on (separate f x y h) g q is = absurd is
-    accepted_on (rule f r a b c d) g q is = absurd is
-    accepted_on (identify f x y form) g q is = absurd is
-    accepted_on (adjust f x y a) g q is = absurd is
-
--- what a comparison gives is what the wish gives
-pub compared : {E : Type 0} (f h : List ℕ) (g : ReadGraph) (r : Result First E) → IfOk r (GivesComparison g h) → IfOk r (GivesOn (equivalent f h) g)
-compared f h g (Err e) gives = tt
-compared f h g (Ok (first.Replied reply)) gives = gives
-compared f h g (Ok (first.Continues (pending.Equivalent kept second))) gives = gives
-compared f h g (Ok (first.Continues (pending.Check kept certificate))) gives = absurd gives
+    accepted_on w g p is = absurd is

@@ -6,12 +6,12 @@ use Rattle.causal_io.specs.Causes.{Rose}
 use Rattle.causal_io.specs.Reading.{AnswersAll}
 use Rattle.causal_io.specs.declared.ReadError.{ReadError}
 use Rattle.causal_io.specs.declared.ReadError.TheVariants.{Fault, TooLong}
-use Rattle.replies.specs.declared.outcome.Outcome.{Outcome}
 use Rattle.replies.specs.declared.outcome.Outcome.TheVariants as outcome
 use Rattle.replies.specs.declared.outcome.Reply.{Reply}
-use Rattle.causal_cli.specs.Wishes.{Wish, Wants, file_of, second_of}
+use Rattle.survey_command.specs.Answers.{SurveyAnswer}
+use Rattle.causal_cli.specs.Wishes.{Wish, Wants, WantsSurvey, file_of}
 use Rattle.causal_cli.specs.Answers.{Defined, too_long, Continues, DefinedWith}
-use Rattle.causal_cli.specs.Run.{Stream, Run, Answers, AnswersFile, by_file, by_both, second}
+use Rattle.causal_cli.specs.Run.{Stream, Run, Answers, by_words, by_file, by_both, second}
 use Rattle.causal_cli.specs.Endings.{EndsAs, Delivers, IsTooLong, Proceeds, replied, unread, no_memory}
 use Rattle.causal_cli.specs.Pendings.{second_in, limit_of, GivesSecond, IsPending}
 use Rattle.causal_cli.specs.declared.pending.Pending.{Pending}
@@ -51,6 +51,10 @@ delivered r reply ending.Unwritten a o = record {
 delivered r reply ending.NotUnderstood a o = absurd o
 delivered r reply ending.Unread a o = absurd o
 delivered r reply ending.NoMemory a o = absurd o
+
+-- the reply of a survey was delivered
+pub delivered_survey : (r : Run) (seed : ℕ) (reply : Reply) (e : Ending) → WantsSurvey r.words seed → SurveyAnswer seed reply.outcome reply.text.items → Delivers r.out reply e → EndsAs r e
+delivered_survey r seed reply e wants a o = delivered r reply e (by_words (record { seed = seed; wants = wants; answer = a })) o
 
 -- the reply on the file alone was delivered
 pub delivered_file : (r : Run) (w : Wish) (bytes : List ℕ) (reply : Reply) (e : Ending) → Wants r.words w → r.lacks (file_of w) ≡ false →

@@ -1,5 +1,5 @@
 -- How many sets a listing may ask for.
-use Rattle.std.proofs.Common.{◌≡◌, ℕ, ◌≤◌, List, refl, ap, subst}
+use Rattle.std.proofs.Common.{ℕ, ◌≤◌, List, refl, ap, subst}
 use Rattle.adjust_command.specs.Queries.{Query, by_set, by_back_door, listing, IsInRange}
 use Rattle.causal_cli.specs.Ranges.{HasRange}
 

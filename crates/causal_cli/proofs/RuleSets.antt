@@ -1,16 +1,14 @@
--- The sets of a separation and of a rule are those that independence and the rules ask for, and a rule's open paths lie in the graph.
-use Rattle.std.proofs.Common.{◌≡◌, ℕ, ◌<◌, ◌||◌, Bool, false, List, [], length, refl, sym, subst, ◌∙◌}
-use Rattle.std.specs.Prelude.{slice_index, nat_lt}
-use Rattle.std.proofs.lemmas.Bool.{and_right}
+-- The sets of a rule are those that it asks for, and its open paths lie in the graph.
+use Rattle.std.proofs.Common.{◌≡◌, ℕ, ◌<◌, ◌||◌, Bool, List, length, subst}
+use Rattle.std.specs.Prelude.{slice_index}
 use Rattle.mixed_graph.specs.Bits.{has}
 use Rattle.mixed_graph.specs.Graphs.{MixedGraph, IsMixedGraph}
 use Rattle.mixed_graph.specs.Sets.{Within}
-use Rattle.mixed_graph.proofs.Masks.{has-zero}
 use Rattle.m_separation.specs.declared.paths.OpenPath.{OpenPath}
-use Rattle.targets.specs.Targets.{Lists, AreSets, RuleLists, AreRuleSets, IsSetOf}
+use Rattle.targets.specs.Targets.{RuleLists, AreRuleSets, IsSetOf}
 use Rattle.targets.proofs.Queries.{set_within}
 use Rattle.targets.proofs.RuleWalks.{pairwise_apart}
-use Rattle.do_rules.specs.Rules.{AreThreeSets, AreFourSets}
+use Rattle.do_rules.specs.Rules.{AreFourSets}
 use Rattle.surgery.specs.Cuts.{cut_into, cut_out}
 use Rattle.surgery.proofs.Fewer.{graph_into, graph_out}
 use Rattle.causal_cli.specs.Answers.{IsOpenFor}
@@ -32,24 +30,6 @@ four_sets l n y done z given e s =
       y_z = a.y_z;
       y_w = a.y_given;
       z_w = a.z_given;
-    }
-
--- nothing is in the set of no name
-set_of_none : (observed : List (List ℕ)) → IsSetOf observed [] 0
-set_of_none observed v = has-zero v ∙ sym (and_right (nat_lt v (length observed)) false refl)
-
--- the sets of a separation are those of a rule that does nothing
-pub three_sets : (l : Lists) (n x y given : ℕ) → length l.observed ≡ n → AreSets l x y given → AreThreeSets n (has x) (has y) (has given)
-three_sets l n x y given e s =
-    let a = pairwise_apart (record { all = l.all; observed = l.observed; y = l.x; done = []; z = l.y; given = l.given }) x 0 y given
-    (record { no_fault = s.no_fault; some_y = s.some_x; some_z = s.some_y; set_y = s.set_x; set_done = set_of_none l.observed; set_z = s.set_y; set_given = s.set_given }) in
-    let inside : (list : List (List ℕ)) (mask : ℕ) → IsSetOf l.observed list mask → Within n (has mask) = λ list mask h. subst (λ k. Within k (has mask)) e (set_within l.observed list mask h) in record {
-      x_within = inside l.x x s.set_x;
-      y_within = inside l.y y s.set_y;
-      w_within = inside l.given given s.set_given;
-      x_y = a.y_z;
-      x_w = a.y_given;
-      y_w = a.z_given;
     }
 
 -- the vertices of a path that is open for a rule are vertices of the graph

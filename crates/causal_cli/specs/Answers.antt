@@ -1,5 +1,5 @@
 -- The defined answer of a command on the bytes of its inputs.
-use Rattle.std.specs.Prelude.{ℕ, ◌≡◌, ◌<◌, ◌≤◌, ◌⊎◌, Bool, true, false, List, length, Ok, Err}
+use Rattle.std.specs.Prelude.{ℕ, ◌≡◌, ◌<◌, ◌≤◌, ◌⊎◌, Bool, true, false, List, length, Err}
 use Rattle.mixed_graph.specs.Bits.{has}
 use Rattle.mixed_graph.specs.Graphs.{MixedGraph}
 use Rattle.mixed_graph.specs.Shown.{graph_of}
@@ -18,14 +18,16 @@ use Rattle.targets.specs.declared.fault.TargetFault.{TargetFault}
 use Rattle.targets.specs.Targets.{Lists, listed, AreSets, RuleLists, AreRuleSets, IsRuleFault}
 use Rattle.fault_text.specs.Lines.{line_of, graph_fault_text, target_fault_text}
 use Rattle.replies.specs.declared.outcome.Outcome.{Outcome}
-use Rattle.replies.specs.declared.outcome.Outcome.TheVariants.{Yes, No, Graph, Second, Evaluation}
+use Rattle.replies.specs.declared.outcome.Outcome.TheVariants.{Yes, No, Graph}
 use Rattle.replies.specs.Lines.{open_text}
 use Rattle.replies.specs.Observed.{Names, observed_names, IsObservedGraph, Holds, IsTargetRefusal}
 use Rattle.identify_command.specs.Answers.{IdentifyAnswer}
 use Rattle.check_command.specs.Answers.{CheckAnswer}
 use Rattle.adjust_command.specs.Answers.{AdjustAnswer}
 use Rattle.equivalent_command.specs.Answers.{IsDirected, IsFirstRefusal, EquivalentAnswer}
-use Rattle.causal_cli.specs.Wishes.{Wish, graph, separate, rule, identify, check, adjust, equivalent}
+use Rattle.evaluate_command.specs.Answers.{EvaluateFirst, EvaluateAnswer}
+use Rattle.evaluate_command.specs.Effects.{PlainEffect, Identifies}
+use Rattle.causal_cli.specs.Wishes.{Wish, graph, separate, rule, identify, check, adjust, evaluate, equivalent}
 use Rattle.causal_cli.specs.Lines.{separated_text, not_separated_text, rule_holds_text, rule_fails_text, size_line}
 use Rattle.causal_cli.specs.declared.rule.Rule.{Rule}
 use Rattle.causal_cli.specs.declared.rule.Rule.TheVariants.{One, Two, Three}
@@ -163,17 +165,20 @@ GraphAnswer (rule file r y done z given) g o text = (q : MixedGraph) × IsObserv
 GraphAnswer (identify file x y form) g o text = IdentifyAnswer form g x y o text
 GraphAnswer (check file certificate) g o text = ⊥
 GraphAnswer (adjust file x y q) g o text = AdjustAnswer g x y q o text
+GraphAnswer (evaluate file counts x y count exact) g o text = EvaluateFirst g x y o text
 GraphAnswer (equivalent file second) g o text = IsFirstRefusal g o text
 
--- the graph is accepted, and the second input is read
+-- the graph is accepted, and the second input is read: counts where the lists name an effect that has a formula
 abbrev pub NeedsSecond : Wish → ReadGraph → Type 0
 NeedsSecond (check file certificate) g = Unit {0}
+NeedsSecond (evaluate file counts x y count exact) g = (e : PlainEffect) × Identifies g x y e
 NeedsSecond (equivalent file second) g = IsDirected g
 NeedsSecond w g = ⊥
 
 -- the answer of a command on a graph that was read and the bytes of its second input
 abbrev pub SecondAnswer : Wish → ReadGraph → List ℕ → Outcome → List ℕ → Type 0
 SecondAnswer (check file certificate) g other o text = CheckAnswer g other o text
+SecondAnswer (evaluate file counts x y count exact) g other o text = EvaluateAnswer exact g x y count other o text
 SecondAnswer (equivalent file second) g other o text = EquivalentAnswer g other o text
 SecondAnswer w g other o text = ⊥
 

@@ -37,9 +37,9 @@ rule_holds_text r names x y z w = codes "rule " ++ (digit_text r ++ (codes " hol
 abbrev pub rule_fails_text : Rule → List (List ℕ) → (x y z w : ℕ → Bool) → List ℕ → List ℕ
 rule_fails_text r names x y z w open_line = codes "rule " ++ (digit_text r ++ (codes " does not hold: " ++ (equation_text r names x y z w ++ (10 ∷ open_line))))
 
--- words that have no form, with the commands that are built
+-- words that set no task, with the commands
 abbrev pub words_line : List ℕ
-words_line = line_of (codes "words not understood; commands are graph separate rule identify check adjust equivalent")
+words_line = line_of (codes "words not understood; commands are graph separate rule identify check adjust evaluate equivalent survey")
 
 -- a graph text of more than 1,048,576 bytes
 abbrev pub size_line : List ℕ

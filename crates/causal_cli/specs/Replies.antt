@@ -2,7 +2,6 @@
 use Rattle.std.specs.Prelude.{ℕ, ◌≡◌, Bool, List}
 use Rattle.mixed_graph.specs.Bits.{has}
 use Rattle.mixed_graph.specs.Graphs.{MixedGraph}
-use Rattle.mixed_graph.specs.Shown.{graph_of}
 use Rattle.m_separation.specs.declared.marks.Mark.{Mark}
 use Rattle.m_separation.specs.Walks.{IsSeparated}
 use Rattle.m_separation.specs.Paths.{IsOpenPath}
@@ -13,7 +12,7 @@ use Rattle.causal_cli.specs.Lines.{separated_text, not_separated_text, rule_hold
 use Rattle.causal_cli.specs.Answers.{separation_lists, SeparationAnswer, TextAnswer, rule_lists, IsBlockedFor, IsRuleFor, IsOpenFor, RuleAnswer}
 use Rattle.replies.specs.declared.outcome.Reply.{Reply}
 use Rattle.replies.specs.declared.outcome.Outcome.{Outcome}
-use Rattle.replies.specs.declared.outcome.Outcome.TheVariants.{Yes, No, Graph, Second, Evaluation}
+use Rattle.replies.specs.declared.outcome.Outcome.TheVariants.{Yes, No}
 use Rattle.replies.specs.Lines.{open_text}
 use Rattle.replies.specs.Observed.{Names, IsObservedGraph}
 use Rattle.causal_cli.specs.declared.rule.Rule.{Rule}

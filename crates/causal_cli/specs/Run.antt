@@ -6,7 +6,8 @@ use Rattle.word_forms.specs.Form.{Text}
 use Rattle.replies.specs.declared.outcome.Outcome.{Outcome}
 use Rattle.replies.specs.declared.outcome.Outcome.TheVariants as outcome
 use Rattle.replies.specs.Outcomes as outcomes
-use Rattle.causal_cli.specs.Wishes.{Wish, Wants, file_of, second_of}
+use Rattle.survey_command.specs.Answers.{SurveyAnswer}
+use Rattle.causal_cli.specs.Wishes.{Wish, Wants, WantsSurvey, Task, SetsTask, file_of, second_of}
 use Rattle.causal_cli.specs.Lines.{words_line, read_line, write_line, memory_line}
 use Rattle.causal_cli.specs.Answers.{Defined, Continues, DefinedWith}
 use Rattle.causal_cli.specs.declared.verdict.Verdict.{Verdict}
@@ -58,8 +59,15 @@ pub record AnswersBoth (r : Run) (o : Outcome) (text : List ℕ) : Type 0 where
   pub accepted : IfSome (r.held (file_of wish)) (λ bytes. Continues wish bytes)
   pub defined : IfSome (r.held (file_of wish)) (λ bytes. IfSome (r.held second) (λ other. DefinedWith wish bytes other o text))
 
--- the defined answer: by the file alone, or by both inputs
+-- the words ask for a survey, and this is its answer; no input is read
+pub record AnswersSurvey (r : Run) (o : Outcome) (text : List ℕ) : Type 0 where
+  pub seed : ℕ
+  pub wants : WantsSurvey r.words seed
+  pub answer : SurveyAnswer seed o text
+
+-- the defined answer: by the words alone, by the file alone, or by both inputs
 pub data Answers (r : Run) (o : Outcome) (text : List ℕ) : Type 0 where
+  by_words : AnswersSurvey r o text → Answers r o text
   by_file : AnswersFile r o text → Answers r o text
   by_both : AnswersBoth r o text → Answers r o text
 
@@ -73,9 +81,9 @@ pub record Refused (r : Run) (o : Outcome) (line : List ℕ) : Type 0 where
   pub answers : Answers r o line
   pub nothing : r.out.after ≡ r.out.before
 
--- the words have no wish
+-- the words set no task: they have no wish, and ask for no survey
 pub record NotUnderstood (r : Run) : Type 0 where
-  pub no_wish : (w : Wish) → Wants r.words w → ⊥
+  pub no_task : (t : Task) → SetsTask r.words t → ⊥
   pub nothing : r.out.after ≡ r.out.before
 
 -- the wish reads this name: it is that of its file, or that of its second input, where the file is accepted

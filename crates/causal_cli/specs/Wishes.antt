@@ -1,5 +1,5 @@
 -- What the words ask for, with the lists in them read.
-use Rattle.std.specs.Prelude.{ℕ, ◌≡◌, Bool, true, false, List, [], Option, Some, None, codes}
+use Rattle.std.specs.Prelude.{ℕ, ◌≡◌, ◌-◌, ◌^◌, Bool, true, false, List, [], Option, Some, None, codes}
 use Rattle.word_forms.specs.Form.{Text}
 use Rattle.word_lists.specs.Lists.{IsList}
 use Rattle.word_lists.specs.Numbers.{IsNumber}
@@ -15,7 +15,8 @@ use Rattle.causal_cli.specs.declared.rule.Rule.TheVariants.{One, Two, Three}
 -- a wish: `graph` of a file, projected or not; `separate` of a file, with the names of x, y and given where they are listed;
 -- `rule` of a file, with one of the three rules and the names of y, of what is done, of z, and of what is given;
 -- `identify` of a file, with the names of x and y where they are listed, and the form of the answer; `check` of a file and a certificate;
--- `adjust` of a file, with the names of x and y where they are listed, and what is asked; `equivalent` of two files
+-- `adjust` of a file, with the names of x and y where they are listed, and what is asked; `evaluate` of a file and counts, with the names of x and y where they are
+-- listed, the name of the column of counts where it is given, and whether exact fractions are asked for; `equivalent` of two files
 pub data Wish : Type 0 where
   graph : Text → Bool → Wish
   separate : Text → Names → Names → Names → Wish
@@ -23,6 +24,7 @@ pub data Wish : Type 0 where
   identify : Text → Names → Names → Form → Wish
   check : Text → Text → Wish
   adjust : Text → Names → Names → Query → Wish
+  evaluate : (file counts : Text) → (x y : Names) → (count : Option Text) → (exact : Bool) → Wish
   equivalent : Text → Text → Wish
 
 -- the file that a wish names
@@ -33,11 +35,13 @@ file_of (rule file r y done z given) = file
 file_of (identify file x y form) = file
 file_of (check file certificate) = file
 file_of (adjust file x y q) = file
+file_of (evaluate file counts x y count exact) = file
 file_of (equivalent file second) = file
 
 -- the second input that a wish names
 abbrev pub second_of : Wish → Option Text
 second_of (check file certificate) = Some certificate
+second_of (evaluate file counts x y count exact) = Some counts
 second_of (equivalent file second) = Some second
 second_of w = None
 
@@ -137,6 +141,15 @@ pub record WantsAdjust (words : List Text) (file : Text) (x y : Names) (q : Quer
   pub is_most : IsMost text_most most
   pub is_query : IsQuery text_set back_door most q
 
+-- the words ask for this: they have the form, each value of a list is one, and the two inputs aren't both standard input
+pub record WantsEvaluate (words : List Text) (file counts : Text) (x y : Names) (count : Option Text) (exact : Bool) : Type 0 where
+  pub text_x : Option Text
+  pub text_y : Option Text
+  pub asks : Asks words (asked.evaluate file counts text_x text_y count exact)
+  pub list_x : IsListed text_x x
+  pub list_y : IsListed text_y y
+  pub one_standard : file ≡ codes "-" → counts ≡ codes "-" → ⊥
+
 -- what the words want
 abbrev pub Wants : List Text → Wish → Type 0
 Wants words (graph file project) = Asks words (asked.graph file project)
@@ -145,4 +158,21 @@ Wants words (rule file r y done z given) = WantsRule words file r y done z given
 Wants words (identify file x y form) = WantsIdentify words file x y form
 Wants words (check file certificate) = WantsCheck words file certificate
 Wants words (adjust file x y q) = WantsAdjust words file x y q
+Wants words (evaluate file counts x y count exact) = WantsEvaluate words file counts x y count exact
 Wants words (equivalent file second) = WantsEquivalent words file second
+
+-- what words may set as a task: a wish on a file, or the survey of a number
+pub data Task : Type 0 where
+  on_file : Wish → Task
+  survey : ℕ → Task
+
+-- the words ask for this survey: they have the form, and its number is from 0 to 2^64 - 1
+pub record WantsSurvey (words : List Text) (seed : ℕ) : Type 0 where
+  pub text_number : Text
+  pub asks : Asks words (asked.survey text_number)
+  pub is_number : IsNumber text_number 0 (2 ^ 64 - 1) seed
+
+-- what task the words set
+abbrev pub SetsTask : List Text → Task → Type 0
+SetsTask words (on_file w) = Wants words w
+SetsTask words (survey seed) = WantsSurvey words seed

@@ -1,6 +1,7 @@
 ghost use Rattle.std.specs.Prelude.{◌≡◌, ◌≤◌, IfOk, OnOk, length, option_map};
 ghost use Rattle.fault_text.specs.Lines.{line_of, graph_fault_text};
-ghost use Rattle.causal_cli.specs.Pendings.{GivesOn, GivesFirst, GivesComparison};
+ghost use Rattle.word_lists.specs.Views.{names_in};
+ghost use Rattle.causal_cli.specs.Pendings.{GivesOn, GivesFirst, GivesEvaluation, GivesComparison};
 ghost use Rattle.causal_cli.specs.WishViews.{wish_of};
 
 use crate::graph::graph_text;
@@ -11,6 +12,7 @@ use crate::wish::Wish;
 use adjust_command::adjust_reply;
 use dag_reader::{GraphFault, ReadGraph, read_graph};
 use equivalent_command::refuse_bidirected;
+use evaluate_command::identify_first;
 use fault_text::graph_line;
 use identify_command::identify_reply;
 use replies::{Outcome, Reply};
@@ -74,7 +76,38 @@ fn answer_on<'a>(alloc: Global, wish: Wish<'a>, graph: ReadGraph) -> Result<Firs
             y,
             asked,
         } => Ok(First::Replied(adjust_reply(alloc, &graph, x, y, asked.query)?)),
+        Wish::Evaluate {
+            file: _,
+            counts,
+            x,
+            y,
+            count,
+            exact,
+        } => evaluate_over(alloc, &graph, counts, x, y, count, exact),
         Wish::Equivalent { file: _, second } => compare_with(alloc, graph, second),
+    }
+}
+
+/// What an evaluation gives on its graph.
+fn evaluate_over<'a>(
+    alloc: Global,
+    graph: &ReadGraph,
+    counts: &'a str,
+    x: Option<Vec<Vec<u8>>>,
+    y: Option<Vec<Vec<u8>>>,
+    count: Option<&'a [u8]>,
+    exact: bool,
+) -> Result<First<'a>, AllocError>
+    ensures { IfOk result (GivesEvaluation graph.now counts.entry.now (option_map names_in x) (option_map names_in y) (option_map (λ s. s.now) count.entry) exact) }
+{
+    match identify_first(alloc, graph, x, y)? {
+        evaluate_command::First::Replied(reply) => Ok(First::Replied(reply)),
+        evaluate_command::First::Identified(found) => Ok(First::Continues(Pending::Evaluate {
+            found,
+            counts,
+            count,
+            exact,
+        })),
     }
 }
 

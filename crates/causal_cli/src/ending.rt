@@ -52,7 +52,7 @@ impl Ending {
         match self {
             Ending::Affirmed | Ending::Denied => b"",
             Ending::NotUnderstood => {
-                b"causal: words not understood; commands are graph separate rule identify check adjust equivalent\n"
+                b"causal: words not understood; commands are graph separate rule identify check adjust evaluate equivalent survey\n"
             }
             Ending::Refused(line) => line.as_slice(),
             Ending::SecondRefused(line) => line.as_slice(),

@@ -4,6 +4,7 @@ ghost use Rattle.causal_cli.specs.Pendings.{limit_of, second_in, IsAccepted, Giv
 use check_command::{check_reply, long_certificate};
 use dag_reader::ReadGraph;
 use equivalent_command::{equivalent_reply, long_second_graph};
+use evaluate_command::{Identified, evaluate_reply, long_counts};
 use replies::Reply;
 use std::alloc::{AllocError, Global};
 
@@ -14,6 +15,13 @@ pub enum Pending<'a> {
     Check {
         graph: ReadGraph,
         certificate: &'a str,
+    },
+    /// The values of an effect over counts, whose column may have a name, in exact fractions or in bounds.
+    Evaluate {
+        found: Identified,
+        counts: &'a str,
+        count: Option<&'a [u8]>,
+        exact: bool,
     },
     /// Whether a second graph is equivalent.
     Equivalent {
@@ -29,6 +37,7 @@ impl<'a> Pending<'a> {
     {
         match self {
             Pending::Check { certificate, .. } => certificate,
+            Pending::Evaluate { counts, .. } => counts,
             Pending::Equivalent { second, .. } => second,
         }
     }
@@ -40,6 +49,7 @@ impl<'a> Pending<'a> {
     {
         match self {
             Pending::Check { .. } => 67_108_864,
+            Pending::Evaluate { .. } => 67_108_864,
             Pending::Equivalent { .. } => 1_048_576,
         }
     }
@@ -53,6 +63,12 @@ pub fn second_reply(alloc: Global, pending: &Pending<'_>, other: &[u8]) -> Resul
 {
     match pending {
         Pending::Check { graph, .. } => check_reply(alloc, graph, other),
+        Pending::Evaluate {
+            found,
+            count,
+            exact,
+            ..
+        } => evaluate_reply(alloc, found, *count, *exact, other),
         Pending::Equivalent { graph, .. } => equivalent_reply(alloc, graph, other),
     }
 }
@@ -63,6 +79,7 @@ pub fn long_reply(alloc: Global, pending: &Pending<'_>) -> Result<Reply, AllocEr
 {
     match pending {
         Pending::Check { graph, .. } => long_certificate(alloc, graph),
+        Pending::Evaluate { .. } => long_counts(alloc),
         Pending::Equivalent { graph, .. } => long_second_graph(alloc, graph),
     }
 }

@@ -136,37 +136,34 @@ fn push_equation(
     requires given { Within (length names.now) (has sets.given.bits) }
     ensures { OnOk result (out.new.items ≡ out.old.items ++ equation_text rule names.now (has sets.done.bits) (has sets.y.bits) (has sets.z.bits) (has sets.given.bits)) }
 {
-    let y = sets.y;
-    let x = sets.done;
-    let w = sets.given;
-    let x_z = x.union(sets.z);
-    let z_w = sets.z.union(w);
+    let x_z = sets.done.union(sets.z);
+    let z_w = sets.z.union(sets.given);
     match rule {
         Rule::One => push_sides(
             out,
             names,
             Term {
-                of: y,
-                doing: x,
+                of: sets.y,
+                doing: sets.done,
                 given: z_w,
             },
             Term {
-                of: y,
-                doing: x,
-                given: w,
+                of: sets.y,
+                doing: sets.done,
+                given: sets.given,
             },
         ),
         Rule::Two => push_sides(
             out,
             names,
             Term {
-                of: y,
+                of: sets.y,
                 doing: x_z,
-                given: w,
+                given: sets.given,
             },
             Term {
-                of: y,
-                doing: x,
+                of: sets.y,
+                doing: sets.done,
                 given: z_w,
             },
         ),
@@ -174,14 +171,14 @@ fn push_equation(
             out,
             names,
             Term {
-                of: y,
+                of: sets.y,
                 doing: x_z,
-                given: w,
+                given: sets.given,
             },
             Term {
-                of: y,
-                doing: x,
-                given: w,
+                of: sets.y,
+                doing: sets.done,
+                given: sets.given,
             },
         ),
     }

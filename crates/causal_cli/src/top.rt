@@ -1,18 +1,22 @@
 ghost use Rattle.std.specs.Prelude.{◌≡◌, ◌≤◌, List, ℕ, true, false, length, IfSome, IsErrOf};
 ghost use Rattle.causal_io.specs.Causes.{Rose};
 ghost use Rattle.causal_io.specs.Reading.{AnswersAll};
+ghost use Rattle.word_forms.specs.Form.{Text};
 ghost use Rattle.word_forms.specs.Views.{texts_of};
 ghost use Rattle.causal_cli.specs.Run.{Ended, Received};
+ghost use Rattle.causal_cli.specs.Wishes.{Wants};
+ghost use Rattle.causal_cli.specs.WishViews.{wish_of};
 ghost use Rattle.causal_cli.specs.Pendings.{IsAccepted};
 ghost use Rattle.causal_cli.specs.Endings.{EndsAs, IsTooLong, Delivers, Proceeds, verdict_of, line_in};
 
 use crate::answer::{First, answer};
 use crate::ending::Ending;
 use crate::pending::{Pending, long_reply, second_reply};
-use crate::wish::{WordsFault, read_wish};
+use crate::wish::{Task, Wish, WordsFault, read_task};
 use causal_io::{ReadError, Shelf, Sink, read_all, write_all};
 use replies::{Outcome, Reply};
 use std::alloc::Global;
+use survey_command::survey_reply;
 
 /// The most bytes of a graph text.
 const MAX_GRAPH_BYTES: u64 = 1_048_576;
@@ -24,8 +28,8 @@ pub struct Status {
     pub ghost known: { code ≤ 8 },
 }
 
-/// Runs the command that the words name: reads its file from the shelf and writes its answer to `out`,
-/// or a line to `err` where the words, the graph or the target are refused or a device fails.
+/// Runs the command that the words name: reads its inputs from the shelf and writes its answer to `out`,
+/// or a line to `err` where the words, the graph, the target or the second input are refused or a device fails.
 pub fn run<S: Shelf, O: Sink, E: Sink>(
     alloc: Global,
     words: &[String],
@@ -77,11 +81,30 @@ fn respond<S: Shelf, O: Sink>(alloc: Global, words: &[String], shelf: &mut S, ou
     ensures holds { S.held shelf.new ≡ S.held shelf.old }
     ensures lack { S.lacks shelf.new ≡ S.lacks shelf.old }
 {
-    let wish = match read_wish(alloc, words) {
-        Ok(wish) => wish,
-        Err(WordsFault::NotUnderstood) => return Ending::NotUnderstood,
-        Err(WordsFault::NoMemory) => return Ending::NoMemory,
-    };
+    match read_task(alloc, words) {
+        Ok(Task::OnFile(wish)) => grant(alloc, wish, shelf, out),
+        Ok(Task::Survey(seed)) => match survey_reply(alloc, seed) {
+            Ok(reply) => deliver(out, reply),
+            Err(_) => Ending::NoMemory,
+        },
+        Err(WordsFault::NotUnderstood) => Ending::NotUnderstood,
+        Err(WordsFault::NoMemory) => Ending::NoMemory,
+    }
+}
+
+/// Reads the file of a wish and answers on it.
+fn grant<S: Shelf, O: Sink>(alloc: Global, wish: Wish<'_>, shelf: &mut S, out: &mut O) -> Ending
+    ensures ends { (words : List Text) → Wants words (wish_of wish.entry) → EndsAs (record {
+      words = words;
+      held = S.held shelf.old;
+      lacks = S.lacks shelf.old;
+      read_faults = S.faults shelf.old;
+      read_faults_after = S.faults shelf.new;
+      out = record { before = O.written out.old; after = O.written out.new; faults = O.faults out.old; faults_after = O.faults out.new };
+    }) result }
+    ensures holds { S.held shelf.new ≡ S.held shelf.old }
+    ensures lack { S.lacks shelf.new ≡ S.lacks shelf.old }
+{
     let file = wish.file();
     let bytes = match read_all(alloc, shelf, file, MAX_GRAPH_BYTES) {
         Ok(bytes) => bytes,

@@ -1,4 +1,4 @@
-ghost use Rattle.std.specs.Prelude.{ℕ, List, ◌≡◌, ◌≤◌, IfSome, IfNone, IfOk, IfErr, OnOk, IsErrOf, option_map, codes};
+ghost use Rattle.std.specs.Prelude.{ℕ, List, ◌≡◌, ◌≤◌, ◌-◌, ◌^◌, IfSome, IfNone, IfOk, IfErr, OnOk, IsErrOf, option_map, codes};
 ghost use Rattle.word_forms.specs.Views.{texts_of};
 ghost use Rattle.word_lists.specs.Lists.{IsList};
 ghost use Rattle.word_lists.specs.Numbers.{IsNumber};
@@ -8,10 +8,10 @@ ghost use Rattle.adjust_command.specs.Queries.{query_of};
 ghost use Rattle.causal_cli.specs.Ranges.{HasRange};
 ghost use Rattle.adjust_command.specs.Queries as queries;
 ghost use Rattle.identify_command.specs.declared.form.Form.{Form};
-ghost use Rattle.causal_cli.specs.Wishes.{Wants, IsListed, IsListedOrEmpty, IsForm, IsMost, IsQuery, number_of};
+ghost use Rattle.causal_cli.specs.Wishes.{SetsTask, IsListed, IsListedOrEmpty, IsForm, IsMost, IsQuery, number_of};
 ghost use Rattle.causal_cli.specs.Wishes as spec;
 ghost use Rattle.causal_cli.specs.declared.rule.Rule.{Rule};
-ghost use Rattle.causal_cli.specs.WishViews.{wish_of, IsSeparation, IsRuleWish, IsIdentification, IsCheckWish, IsAdjustment, IsEquivalenceWish};
+ghost use Rattle.causal_cli.specs.WishViews.{task_of, IsGraphTask, IsSeparation, IsRuleWish, IsIdentification, IsCheckWish, IsAdjustment, IsEvaluationWish, IsEquivalenceWish, IsSurveyTask};
 
 use crate::adjusting::Adjustment;
 use crate::rule::Rule;
@@ -21,7 +21,7 @@ use std::alloc::{AllocError, Global};
 use word_lists::{read_list, read_number};
 use word_values::{Request, read_words};
 
-/// What the words ask for, with the lists in them read.
+/// What the words ask of a file, with the lists in them read.
 #[derive(Drop)]
 pub enum Wish<'a> {
     /// The text of the graph of the file, or of its observed graph.
@@ -64,6 +64,15 @@ pub enum Wish<'a> {
         y: Option<Vec<Vec<u8>>>,
         asked: Adjustment,
     },
+    /// The values of the effect of x on y, in the graph of the file, over counts, whose column may have a name.
+    Evaluate {
+        file: &'a str,
+        counts: &'a str,
+        x: Option<Vec<Vec<u8>>>,
+        y: Option<Vec<Vec<u8>>>,
+        count: Option<&'a [u8]>,
+        exact: bool,
+    },
     /// Whether a second graph is equivalent to that of the file.
     Equivalent {
         file: &'a str,
@@ -86,28 +95,38 @@ impl<'a> Wish<'a> {
             Wish::Identify { file, .. } => file,
             Wish::Check { file, .. } => file,
             Wish::Adjust { file, .. } => file,
+            Wish::Evaluate { file, .. } => file,
             Wish::Equivalent { file, .. } => file,
         }
     }
 }
 
-/// Why words have no wish.
+/// What words set as a task.
+#[derive(Drop)]
+pub enum Task<'a> {
+    /// A command on a file.
+    OnFile(Wish<'a>),
+    /// The survey of a number.
+    Survey(u64),
+}
+
+/// Why words set no task.
 #[derive(Clone, Copy, Debug, PartialEq, Eq)]
 pub enum WordsFault {
-    /// The words don't have the form, or the value of a list is no list.
+    /// The words don't have the form, or a value isn't what it has to be.
     NotUnderstood,
     /// Memory was refused.
     NoMemory,
 }
 
-/// What the words ask for.
-pub fn read_wish<'a>(alloc: Global, words: &'a [String]) -> Result<Wish<'a>, WordsFault>
-    ensures wants { IfOk result (λ w. Wants (texts_of words.now) (wish_of w)) }
-    ensures none { IsErrOf result WordsFault.NotUnderstood → (w : spec.Wish) → Wants (texts_of words.now) w → ⊥ }
+/// What task the words set.
+pub fn read_task<'a>(alloc: Global, words: &'a [String]) -> Result<Task<'a>, WordsFault>
+    ensures sets { IfOk result (λ t. SetsTask (texts_of words.now) (task_of t)) }
+    ensures none { IsErrOf result WordsFault.NotUnderstood → (t : spec.Task) → SetsTask (texts_of words.now) t → ⊥ }
 {
     match read_words(alloc, words) {
         Ok(Some(Request::Separate { file, x, y, given })) => separation(alloc, file, x, y, given),
-        Ok(Some(Request::Graph { file, project })) => Ok(Wish::Graph { file, project }),
+        Ok(Some(Request::Graph { file, project })) => Ok(graph_task(file, project)),
         Ok(
             Some(
                 Request::Rule {
@@ -145,11 +164,29 @@ pub fn read_wish<'a>(alloc: Global, words: &'a [String]) -> Result<Wish<'a>, Wor
             ),
         ) => adjustment_wish(alloc, file, x, y, set, back_door, most),
         Ok(Some(Request::Equivalent { file, second })) => equivalence(file, second),
-        Ok(Some(Request::Evaluate { .. })) => Err(WordsFault::NotUnderstood),
-        Ok(Some(Request::Survey { .. })) => Err(WordsFault::NotUnderstood),
+        Ok(
+            Some(
+                Request::Evaluate {
+                    file,
+                    counts,
+                    x,
+                    y,
+                    count,
+                    exact,
+                },
+            ),
+        ) => evaluation(alloc, file, counts, x, y, count, exact),
+        Ok(Some(Request::Survey { number })) => survey_task(number),
         Ok(None) => Err(WordsFault::NotUnderstood),
         Err(_) => Err(WordsFault::NoMemory),
     }
+}
+
+/// The text of a graph.
+fn graph_task<'a>(file: &'a str, project: bool) -> Task<'a>
+    ensures { IsGraphTask file.entry.now project result }
+{
+    Task::OnFile(Wish::Graph { file, project })
 }
 
 /// A separation, where each value of a list is one.
@@ -159,7 +196,7 @@ fn separation<'a>(
     x: Option<&str>,
     y: Option<&str>,
     given: Option<&str>,
-) -> Result<Wish<'a>, WordsFault>
+) -> Result<Task<'a>, WordsFault>
     ensures ok { IfOk result (IsSeparation file.entry.now (option_map (λ s. s.now) x.entry) (option_map (λ s. s.now) y.entry) (option_map (λ s. s.now) given.entry)) }
     ensures none { IsErrOf result WordsFault.NotUnderstood → (a b c : Names) → IsListed (option_map (λ s. s.now) x.entry) a
         → IsListed (option_map (λ s. s.now) y.entry) b → IsListed (option_map (λ s. s.now) given.entry) c → ⊥ }
@@ -176,7 +213,7 @@ fn separation<'a>(
         Ok(names) => names,
         Err(fault) => return Err(fault),
     };
-    Ok(Wish::Separate { file, x, y, given })
+    Ok(Task::OnFile(Wish::Separate { file, x, y, given }))
 }
 
 /// An identification, where each value of a list is one and at most one form of the answer is asked for.
@@ -187,7 +224,7 @@ fn identification<'a>(
     y: Option<&str>,
     certificate: bool,
     latex: bool,
-) -> Result<Wish<'a>, WordsFault>
+) -> Result<Task<'a>, WordsFault>
     ensures ok { IfOk result (IsIdentification file.entry.now (option_map (λ s. s.now) x.entry) (option_map (λ s. s.now) y.entry) certificate latex) }
     ensures none { IsErrOf result WordsFault.NotUnderstood → (a b : Names) → (f : Form) → IsListed (option_map (λ s. s.now) x.entry) a
         → IsListed (option_map (λ s. s.now) y.entry) b → IsForm certificate latex f → ⊥ }
@@ -203,7 +240,7 @@ fn identification<'a>(
         Ok(names) => names,
         Err(fault) => return Err(fault),
     };
-    Ok(Wish::Identify { file, x, y, form })
+    Ok(Task::OnFile(Wish::Identify { file, x, y, form }))
 }
 
 /// The form of an answer, where at most one is asked for.
@@ -220,7 +257,7 @@ fn read_form(certificate: bool, latex: bool) -> Option<Form>
 }
 
 /// A check of a certificate, where the two inputs aren't both standard input.
-fn certificate_wish<'a>(file: &'a str, certificate: &'a str) -> Result<Wish<'a>, WordsFault>
+fn certificate_wish<'a>(file: &'a str, certificate: &'a str) -> Result<Task<'a>, WordsFault>
     ensures ok { IfOk result (IsCheckWish file.entry.now certificate.entry.now) }
     ensures one { OnOk result (file.entry.now ≡ codes "-" → certificate.entry.now ≡ codes "-" → ⊥) }
     ensures both { IsErrOf result WordsFault.NotUnderstood → (file.entry.now ≡ codes "-") × (certificate.entry.now ≡ codes "-") }
@@ -229,11 +266,11 @@ fn certificate_wish<'a>(file: &'a str, certificate: &'a str) -> Result<Wish<'a>,
     if file == "-" && certificate == "-" {
         return Err(WordsFault::NotUnderstood);
     }
-    Ok(Wish::Check { file, certificate })
+    Ok(Task::OnFile(Wish::Check { file, certificate }))
 }
 
 /// A comparison of two graphs, where they aren't both standard input.
-fn equivalence<'a>(file: &'a str, second: &'a str) -> Result<Wish<'a>, WordsFault>
+fn equivalence<'a>(file: &'a str, second: &'a str) -> Result<Task<'a>, WordsFault>
     ensures ok { IfOk result (IsEquivalenceWish file.entry.now second.entry.now) }
     ensures one { OnOk result (file.entry.now ≡ codes "-" → second.entry.now ≡ codes "-" → ⊥) }
     ensures both { IsErrOf result WordsFault.NotUnderstood → (file.entry.now ≡ codes "-") × (second.entry.now ≡ codes "-") }
@@ -242,7 +279,55 @@ fn equivalence<'a>(file: &'a str, second: &'a str) -> Result<Wish<'a>, WordsFaul
     if file == "-" && second == "-" {
         return Err(WordsFault::NotUnderstood);
     }
-    Ok(Wish::Equivalent { file, second })
+    Ok(Task::OnFile(Wish::Equivalent { file, second }))
+}
+
+/// An evaluation, where each value of a list is one and the two inputs aren't both standard input.
+fn evaluation<'a>(
+    alloc: Global,
+    file: &'a str,
+    counts: &'a str,
+    x: Option<&str>,
+    y: Option<&str>,
+    count: Option<&'a str>,
+    exact: bool,
+) -> Result<Task<'a>, WordsFault>
+    ensures ok { IfOk result (IsEvaluationWish file.entry.now counts.entry.now (option_map (λ s. s.now) x.entry) (option_map (λ s. s.now) y.entry)
+        (option_map (λ s. s.now) count.entry) exact) }
+    ensures one { OnOk result (file.entry.now ≡ codes "-" → counts.entry.now ≡ codes "-" → ⊥) }
+    ensures none { IsErrOf result WordsFault.NotUnderstood → (a b : Names) → (file.entry.now ≡ codes "-" → counts.entry.now ≡ codes "-" → ⊥)
+        → IsListed (option_map (λ s. s.now) x.entry) a → IsListed (option_map (λ s. s.now) y.entry) b → ⊥ }
+{
+    if file == "-" && counts == "-" {
+        return Err(WordsFault::NotUnderstood);
+    }
+    let x = match read_option(alloc, x) {
+        Ok(names) => names,
+        Err(fault) => return Err(fault),
+    };
+    let y = match read_option(alloc, y) {
+        Ok(names) => names,
+        Err(fault) => return Err(fault),
+    };
+    let count = bytes_of(count);
+    Ok(Task::OnFile(Wish::Evaluate {
+        file,
+        counts,
+        x,
+        y,
+        count,
+        exact,
+    }))
+}
+
+/// The bytes of a text, where it is given.
+fn bytes_of<'a>(text: Option<&'a str>) -> Option<&'a [u8]>
+    ensures { option_map (λ s. s.now) result ≡ option_map (λ s. s.now) text.entry }
+{
+    match text {
+        Some(text) => Some(text.as_bytes()),
+        None => None,
+    }
 }
 
 /// An adjustment, where each value of a list is one, the number is in its range and the back-door criterion has a set.
@@ -254,7 +339,7 @@ fn adjustment_wish<'a>(
     set: Option<&str>,
     back_door: bool,
     most: Option<&str>,
-) -> Result<Wish<'a>, WordsFault>
+) -> Result<Task<'a>, WordsFault>
     ensures ok { IfOk result (IsAdjustment file.entry.now (option_map (λ s. s.now) x.entry) (option_map (λ s. s.now) y.entry) (option_map (λ s. s.now) set.entry) back_door
         (option_map (λ s. s.now) most.entry)) }
     ensures none { IsErrOf result WordsFault.NotUnderstood → (a b : Names) → (number : ℕ) → (q : queries.Query) → IsListed (option_map (λ s. s.now) x.entry) a
@@ -277,7 +362,7 @@ fn adjustment_wish<'a>(
         Err(fault) => return Err(fault),
     };
     let asked = Adjustment { query };
-    Ok(Wish::Adjust { file, x, y, asked })
+    Ok(Task::OnFile(Wish::Adjust { file, x, y, asked }))
 }
 
 /// The most sets of a listing, where the number is in its range; 100 where none is given.
@@ -324,6 +409,17 @@ fn read_query(
     Ok(Query::Set(names))
 }
 
+/// A survey, where its number is from 0 to 2^64 - 1.
+fn survey_task<'a>(number: &str) -> Result<Task<'a>, WordsFault>
+    ensures ok { IfOk result (IsSurveyTask number.now) }
+    ensures none { IsErrOf result WordsFault.NotUnderstood → (seed : ℕ) → IsNumber number.now 0 (2 ^ 64 - 1) seed → ⊥ }
+{
+    match read_number(number, 0, u64::MAX) {
+        Some(seed) => Ok(Task::Survey(seed)),
+        None => Err(WordsFault::NotUnderstood),
+    }
+}
+
 /// The names that the value of an option lists, where it is given.
 fn read_option(alloc: Global, text: Option<&str>) -> Result<Option<Vec<Vec<u8>>>, WordsFault>
     ensures ok { IfOk result (λ names. IsListed (option_map (λ s. s.now) text.entry) (option_map names_in names)) }
@@ -361,7 +457,7 @@ fn rule_wish<'a>(
     z: &str,
     done: Option<&str>,
     given: Option<&str>,
-) -> Result<Wish<'a>, WordsFault>
+) -> Result<Task<'a>, WordsFault>
     ensures ok { IfOk result (IsRuleWish file.entry.now number.now y.now z.now (option_map (λ s. s.now) done.entry) (option_map (λ s. s.now) given.entry)) }
     ensures none { IsErrOf result WordsFault.NotUnderstood → (r : Rule) → (a b c d : List (List ℕ)) → IsNumber number.now 1 3 (number_of r) → IsList y.now a
         → IsListedOrEmpty (option_map (λ s. s.now) done.entry) b → IsList z.now c → IsListedOrEmpty (option_map (λ s. s.now) given.entry) d → ⊥ }
@@ -385,14 +481,14 @@ fn rule_wish<'a>(
         Ok(names) => names,
         Err(fault) => return Err(fault),
     };
-    Ok(Wish::Rule {
+    Ok(Task::OnFile(Wish::Rule {
         file,
         rule,
         y,
         done,
         z,
         given,
-    })
+    }))
 }
 
 /// The names that a value lists.

@@ -1,8 +1,4 @@
-use Rattle.std.proofs.Common.{◌≡◌, length, subst}
-use Rattle.mixed_graph.specs.Bits.{has}
-use Rattle.mixed_graph.specs.Sets.{Within}
 use Rattle.mixed_graph.specs.Names.{texts}
-use Rattle.targets.specs.Targets.{RuleLists}
 use Rattle.causal_cli.proofs.RuleSets.{four_sets}
 use Rattle.targets.proofs.RuleWalks.{some_outcome}
 use Rattle.causal_cli.proofs.rule.apply_rule.Goals as goal

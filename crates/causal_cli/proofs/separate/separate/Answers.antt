@@ -1,5 +1,5 @@
 use Rattle.mixed_graph.specs.Names.{texts}
-use Rattle.causal_cli.proofs.RuleSets.{three_sets}
+use Rattle.adjust_command.proofs.Lists.{three_sets}
 use Rattle.causal_cli.proofs.separate.separate.Goals as goal
 
 pub decide-requires-clause-sets : goal.decide-requires-clause-sets

@@ -1,4 +1,4 @@
-use Rattle.std.proofs.Common.{◌≡◌, refl}
+use Rattle.std.proofs.Common.{refl}
 use Rattle.causal_cli.proofs.Endings.{sure_end}
 use Rattle.causal_cli.proofs.sure.run_surely.Goals as goal
 

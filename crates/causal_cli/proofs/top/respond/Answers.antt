@@ -1,69 +1,13 @@
-use Rattle.std.proofs.Common.{refl}
-use Rattle.causal_cli.specs.Wishes.{file_of}
-use Rattle.causal_cli.specs.WishViews.{wish_of}
-use Rattle.causal_cli.specs.Run.{Run}
 use Rattle.word_forms.specs.Views.{texts_of}
-use Rattle.causal_cli.proofs.Deliveries.{delivered_file, proceeded, ended_too_long, not_true}
+use Rattle.causal_cli.proofs.Deliveries.{delivered_survey}
 use Rattle.causal_cli.proofs.top.respond.Goals as goal
 
-pub returns-in-Err-TooLong-clause-ends : goal.returns-in-Err-TooLong-clause-ends
-returns-in-Err-TooLong-clause-ends g c =
-    let run : Run = record {
-      words = texts_of c.args.words.now;
-      held = g.S.Shelf.held c.args.shelf.now;
-      lacks = g.S.Shelf.lacks c.args.shelf.now;
-      read_faults = g.S.Shelf.faults c.args.shelf.now;
-      read_faults_after = g.S.Shelf.faults c.read_all.new.shelf;
-      out = record {
-        before = g.O.Sink.written c.args.out.now;
-        after = g.O.Sink.written c.args.out.now;
-        faults = g.O.Sink.faults c.args.out.now;
-        faults_after = g.O.Sink.faults c.args.out.now;
-      };
-    } in
-    ended_too_long run (wish_of c.in-Ok.wish) c.file-file.result.now c.in-Err-TooLong.field-0 c.in-Err-TooLong.field-0-0 c.too_long.result c.file-file.ensures
-    c.in-Err-TooLong.field-0-is c.in-Ok.ensures.wants c.in-Err-TooLong.ensures.answer c.in-Err-TooLong.ensures.lacked refl c.too_long.ensures
+pub returns-in-Ok-OnFile-clause-ends : goal.returns-in-Ok-OnFile-clause-ends
+returns-in-Ok-OnFile-clause-ends g c =
+    let sets = rw c.in-Ok-OnFile.field-0-is at c.in-Ok-OnFile.ensures.sets in
+    c.grant.ensures.ends (texts_of c.args.words.now) sets
 
-pub returns-in-Ok-Replied-clause-ends : goal.returns-in-Ok-Replied-clause-ends
-returns-in-Ok-Replied-clause-ends g c =
-    let run : Run = record {
-      words = texts_of c.args.words.now;
-      held = g.S.Shelf.held c.args.shelf.now;
-      lacks = g.S.Shelf.lacks c.args.shelf.now;
-      read_faults = g.S.Shelf.faults c.args.shelf.now;
-      read_faults_after = g.S.Shelf.faults c.read_all.new.shelf;
-      out = record {
-        before = g.O.Sink.written c.args.out.now;
-        after = g.O.Sink.written c.deliver.new.out;
-        faults = g.O.Sink.faults c.args.out.now;
-        faults_after = g.O.Sink.faults c.deliver.new.out;
-      };
-    } in
-    let gives = rw (c.deref.ensures.value, c.in-Ok-Replied.field-0-is) at c.in-Ok-Replied.ensures in
-    let lacked = rw c.file-file.ensures at c.in-Ok-read_all.ensures.lacked in
-    let held = rw c.file-file.ensures at c.in-Ok-read_all.ensures.answer.1 in
-    delivered_file run (wish_of c.in-Ok.wish) c.in-Ok-read_all.bytes.items c.in-Ok-Replied.reply c.deliver.result c.in-Ok.ensures.wants
-    (not_true (g.S.Shelf.lacks c.args.shelf.now (file_of (wish_of c.in-Ok.wish))) (λ t. cc (lacked t))) held gives c.deliver.ensures
-
-pub returns-clause-ends : goal.returns-clause-ends
-returns-clause-ends g c =
-    let run : Run = record {
-      words = texts_of c.args.words.now;
-      held = g.S.Shelf.held c.args.shelf.now;
-      lacks = g.S.Shelf.lacks c.args.shelf.now;
-      read_faults = g.S.Shelf.faults c.args.shelf.now;
-      read_faults_after = g.S.Shelf.faults c.proceed.new.shelf;
-      out = record {
-        before = g.O.Sink.written c.args.out.now;
-        after = g.O.Sink.written c.proceed.new.out;
-        faults = g.O.Sink.faults c.args.out.now;
-        faults_after = g.O.Sink.faults c.proceed.new.out;
-      };
-    } in
-    let gives = rw (c.deref.ensures.value, c.in-Ok-Continues.field-0-is) at c.in-Ok-Continues.ensures in
-    let lacked = rw c.file-file.ensures at c.in-Ok-read_all.ensures.lacked in
-    let held = rw c.file-file.ensures at c.in-Ok-read_all.ensures.answer.1 in
-    proceeded run (wish_of c.in-Ok.wish) c.in-Ok-read_all.bytes.items c.in-Ok-Continues.pending c.proceed.result (g.S.Shelf.held c.read_all.new.shelf)
-    (g.S.Shelf.lacks c.read_all.new.shelf) (g.S.Shelf.faults c.read_all.new.shelf) c.in-Ok.ensures.wants
-    (not_true (g.S.Shelf.lacks c.args.shelf.now (file_of (wish_of c.in-Ok.wish))) (λ t. cc (lacked t))) held gives
-    c.in-Ok-read_all.ensures.holds c.in-Ok-read_all.ensures.lack c.in-Ok-read_all.ensures.never_falls c.proceed.ensures.proceeds
+pub returns-in-Ok-clause-ends : goal.returns-in-Ok-clause-ends
+returns-in-Ok-clause-ends g c =
+    let sets = rw c.in-Ok-Survey.field-0-is at c.in-Ok-Survey.ensures.sets in
+    delivered_survey _ c.in-Ok-Survey.seed c.in-Ok.reply c.deliver.result sets c.in-Ok.ensures c.deliver.ensures

@@ -1,7 +1,6 @@
-use Rattle.std.proofs.Common.{refl}
 use Rattle.word_forms.specs.Views.{texts_of}
-use Rattle.causal_cli.proofs.WishLemmas.{no_separation, no_rule, no_identification, no_check, no_adjustment, no_equivalence, no_form, not_built}
-use Rattle.causal_cli.proofs.wish.read_wish.Goals as goal
+use Rattle.causal_cli.proofs.WishLemmas.{no_separation, no_rule, no_identification, no_check, no_adjustment, no_evaluation, no_equivalence, no_survey, no_form}
+use Rattle.causal_cli.proofs.wish.read_task.Goals as goal
 
 pub returns-in-Ok-Some-Separate-clause-none : goal.returns-in-Ok-Some-Separate-clause-none
 returns-in-Ok-Some-Separate-clause-none c = λ e.
@@ -30,12 +29,12 @@ returns-in-Ok-Some-Check-clause-none c = λ e.
 pub returns-in-Ok-Some-Evaluate-clause-none : goal.returns-in-Ok-Some-Evaluate-clause-none
 returns-in-Ok-Some-Evaluate-clause-none c = λ e.
     let only = rw (c.in-Ok-Some-Evaluate.field-0-is, c.in-Ok-Some-Evaluate.field-0-0-is) at c.in-Ok-Some-Evaluate.ensures.only in
-    not_built (texts_of c.args.words.now) _ only refl
+    no_evaluation (texts_of c.args.words.now) c.in-Ok-Some-Evaluate.file.now c.in-Ok-Some-Evaluate.counts.now _ _ _ _ only (c.evaluation.ensures.none e)
 
 pub returns-in-Ok-Some-Survey-clause-none : goal.returns-in-Ok-Some-Survey-clause-none
 returns-in-Ok-Some-Survey-clause-none c = λ e.
     let only = rw (c.in-Ok-Some-Survey.field-0-is, c.in-Ok-Some-Survey.field-0-0-is) at c.in-Ok-Some-Survey.ensures.only in
-    not_built (texts_of c.args.words.now) _ only refl
+    no_survey (texts_of c.args.words.now) c.in-Ok-Some-Survey.number.now only (c.survey_task.ensures.none e)
 
 pub returns-in-Ok-Some-Adjust-clause-none : goal.returns-in-Ok-Some-Adjust-clause-none
 returns-in-Ok-Some-Adjust-clause-none c = λ e.
