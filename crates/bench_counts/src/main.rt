@@ -1,15 +1,20 @@
 //! What the bench times: a table of counts from standard input is read, and its sums are printed.
-//! With the word `lanes` counts are summed under a mask instead.
+//! With the word `lanes` counts are summed under a mask instead. With the words `plain` or `prepared` a front-door formula
+//! is evaluated over the table of standard input, by the plain evaluator at the first cells, or by the prepared form at more.
 #![tactic(auto)]
 
 ghost use Rattle.std.specs.Prelude.{◌≡◌, ◌<◌, ◌^◌, IfOk, length, sum};
 
+use count_eval::{is_cell, is_evaluable, value};
 use count_table::{CountFault, Counts, marginal, read_counts};
 use lane_sums::masked_sum;
 use mixed_graph::{Names, VSet};
+use prob_expr::{Expr, Formula};
+use quantity::Bounds;
 use std::alloc::{AllocError, Global};
 use std::io::Read;
 use std::{env, io};
+use value_tables::prepare;
 
 /// The used vertices of the bench's table.
 const VERTICES: [&str; 4] = ["stone", "treatment", "sex", "year"];
@@ -29,10 +34,10 @@ fn print_table(rt: &impl Print, counts: &Counts) -> io::Result<()> {
     rt.println(format_args!("sum {sum}"))
 }
 
-/// The table that a text is.
-fn table_of(alloc: Global, text: &[u8]) -> Result<Counts, CountFault> {
+/// The table of these vertices that a text is.
+fn table_of(alloc: Global, text: &[u8], vertices: &[&str]) -> Result<Counts, CountFault> {
     let mut names = Names::empty(alloc);
-    for name in VERTICES {
+    for name in vertices {
         if names.add(name.as_bytes()).is_err() {
             return Err(CountFault::NoMemory);
         }
@@ -69,15 +74,127 @@ fn print_sums(rt: &impl Print, alloc: Global, rounds: u64) -> io::Result<()> {
     rt.println(format_args!("total {total}"))
 }
 
+/// The term P(of | given).
+fn term(of: u64, given: u64) -> Expr {
+    Expr::Prob {
+        of: VSet { bits: of },
+        doing: VSet { bits: 0 },
+        given: VSet { bits: given },
+    }
+}
+
+/// The front-door formula of X, M and Y: sum{M} P(M|X) * (sum{X} P(X) * P(Y|X,M)).
+fn front_door(alloc: Global) -> Result<Formula, AllocError> {
+    let inner = Expr::Sum {
+        over: VSet { bits: 1 },
+        body: Box::new(
+            alloc,
+            Expr::Product(vec![in alloc; term(1, 0), term(4, 3)]?),
+        )?,
+    };
+    let main = Expr::Sum {
+        over: VSet { bits: 2 },
+        body: Box::new(alloc, Expr::Product(vec![in alloc; term(2, 1), inner]?))?,
+    };
+    Ok(Formula {
+        defs: Vec::new(alloc),
+        main,
+    })
+}
+
+/// How many of the first cells of Y, at the first levels of X and M, have a value by the plain evaluator.
+fn count_plain(f: &Formula, c: &Counts, cells: u32) -> u32 {
+    let mut found: u32 = 0;
+    if !is_evaluable(3, f, c) {
+        return found;
+    }
+    for y in 0..cells {
+        let at = [0, 0, y];
+        if is_cell(c, &at) && value::<Bounds>(3, f, c, &at).is_ok() {
+            found = found.saturating_add(1);
+        }
+    }
+    found
+}
+
+/// How many of them have a value by the prepared form.
+fn count_prepared(alloc: Global, f: &Formula, c: &Counts, cells: u32) -> Result<u32, AllocError> {
+    let mut found: u32 = 0;
+    if !is_evaluable(3, f, c) {
+        return Ok(found);
+    }
+    let prepared = prepare::<Bounds>(alloc, 3, f, c)?;
+    for y in 0..cells {
+        let at = [0, 0, y];
+        if is_cell(c, &at) && prepared.value(&at).is_ok() {
+            found = found.saturating_add(1);
+        }
+    }
+    Ok(found)
+}
+
+/// What a word asks for.
+#[derive(Clone, Copy)]
+enum Asked {
+    /// The table of standard input, and its sums.
+    Table,
+    /// Sums under masks.
+    Lanes,
+    /// A front door over the table of standard input, by the plain evaluator.
+    Plain,
+    /// The same by the prepared form.
+    Prepared,
+}
+
+/// What the word asks for, if there is one.
+fn asked_by(word: Option<&str>) -> Asked {
+    match word {
+        Some("plain") => Asked::Plain,
+        Some("prepared") => Asked::Prepared,
+        Some(_) => Asked::Lanes,
+        None => Asked::Table,
+    }
+}
+
+/// How many cells of a front door have a value.
+fn count_values(alloc: Global, c: &Counts, asked: Asked) -> Result<u32, AllocError> {
+    let f = front_door(alloc)?;
+    match asked {
+        Asked::Plain => Ok(count_plain(&f, c, 20)),
+        _ => count_prepared(alloc, &f, c, 60_000),
+    }
+}
+
+/// Prints how many cells of a front door have a value over the table that a text is.
+fn print_values(rt: &impl Print, alloc: Global, text: &[u8], asked: Asked) -> io::Result<()> {
+    match table_of(alloc, text, &["X", "M", "Y"]) {
+        Ok(counts) => match count_values(alloc, &counts, asked) {
+            Ok(values) => rt.println(format_args!("values {values}")),
+            Err(_) => rt.println("memory"),
+        },
+        Err(_) => rt.println("fault"),
+    }
+}
+
+/// Prints the table that a text is, or that it is none.
+fn print_text(rt: &impl Print, alloc: Global, text: &[u8]) -> io::Result<()> {
+    match table_of(alloc, text, &VERTICES) {
+        Ok(counts) => print_table(rt, &counts),
+        Err(_) => rt.println("fault"),
+    }
+}
+
 fn main(rt: HostRuntime) -> io::Result<()> {
     let alloc = rt.alloc();
-    if env::args(&rt)?.skip(1).next().is_some() {
+    let word = env::args(&rt)?.skip(1).next();
+    let asked = asked_by(word.as_deref());
+    if let Asked::Lanes = asked {
         return print_sums(&rt, alloc, 2000);
     }
     let mut text = Vec::new(alloc);
     rt.reader().read_to_end(&mut text)?;
-    match table_of(alloc, text.as_slice()) {
-        Ok(counts) => print_table(&rt, &counts),
-        Err(_) => rt.println("fault"),
+    match asked {
+        Asked::Table => print_text(&rt, alloc, text.as_slice()),
+        _ => print_values(&rt, alloc, text.as_slice(), asked),
     }
 }
