@@ -4,8 +4,6 @@
 mod criteria;
 mod formulas;
 mod parts;
-#[cfg(test)]
-mod tests;
 mod theory;
 
 pub use criteria::{AdjFault, adjusts, back_door};

@@ -12,8 +12,6 @@ mod faults;
 mod memory;
 mod outside;
 mod sure;
-#[cfg(test)]
-mod tests;
 
 pub use memory::{MemoryShelf, MemorySink};
 pub use outside::{CountedWriter, ErrSink, FileShelf, OutSink};

@@ -31,8 +31,6 @@ mod hedges;
 mod keys;
 mod reading;
 mod sizes;
-#[cfg(test)]
-mod tests;
 mod values;
 
 pub use fault::{CertFault, Key};

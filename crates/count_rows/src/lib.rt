@@ -8,8 +8,6 @@ mod levels;
 mod reader;
 mod rows;
 mod tally;
-#[cfg(test)]
-mod tests;
 
 pub use fault::CountFault;
 pub use levels::Levels;

@@ -5,8 +5,6 @@ mod cells;
 mod codes;
 mod counts;
 mod reading;
-#[cfg(test)]
-mod tests;
 
 pub use count_rows::CountFault;
 pub use counts::{Counts, marginal};

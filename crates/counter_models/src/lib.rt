@@ -7,8 +7,6 @@ mod kinds;
 mod mechanisms;
 mod pairs;
 mod parts;
-#[cfg(test)]
-mod tests;
 mod theory;
 
 pub use kinds::CounterPair;

@@ -13,8 +13,6 @@ mod roles;
 mod round;
 mod said;
 mod statements;
-#[cfg(test)]
-mod tests;
 mod tokens;
 mod words;
 mod writing;

@@ -10,8 +10,6 @@ mod place;
 mod rounds;
 mod sets;
 mod terms;
-#[cfg(test)]
-mod tests;
 
 pub use kinds::{Factor, FactorFault};
 pub use rounds::factor;

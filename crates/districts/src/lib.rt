@@ -5,8 +5,6 @@ mod linked;
 mod lists;
 mod nearest;
 mod spanning;
-#[cfg(test)]
-mod tests;
 
 pub use linked::{district_of, districts};
 pub use lists::{Choice, Districts, Links};

@@ -2,7 +2,5 @@
 #![tactic(auto)]
 
 mod rules;
-#[cfg(test)]
-mod tests;
 
 pub use rules::{are_four_sets, are_three_sets, independence, rule1, rule2, rule3};

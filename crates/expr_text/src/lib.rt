@@ -25,5 +25,3 @@ pub use reading::{TextFault, read_expr, read_formula};
 pub use target::{target_latex, target_text};
 pub use writing::{formula_text, write_expr};
 
-#[cfg(test)]
-mod tests;

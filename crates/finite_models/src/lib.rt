@@ -10,8 +10,6 @@ mod outputs;
 mod parities;
 mod solving;
 mod tables;
-#[cfg(test)]
-mod tests;
 mod theory;
 mod weighing;
 mod worlds;

@@ -5,8 +5,6 @@ mod choices;
 mod entries;
 mod holding;
 mod kinds;
-#[cfg(test)]
-mod tests;
 mod theory;
 
 pub use districts::{Choice, Districts, Links, child_choice, district_of, districts, links};

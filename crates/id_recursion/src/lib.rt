@@ -11,8 +11,6 @@ mod kinds;
 mod mains;
 mod pushing;
 mod stops;
-#[cfg(test)]
-mod tests;
 
 pub use identifying::identify;
 pub use kinds::Answer;

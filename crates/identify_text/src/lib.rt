@@ -7,8 +7,6 @@ mod hedges;
 mod models;
 mod pairs;
 mod parts;
-#[cfg(test)]
-mod tests;
 mod theory;
 
 pub use formulas::{formula_answer, latex_answer};

@@ -5,8 +5,6 @@ mod dropping;
 mod latents;
 mod numbers;
 mod parts;
-#[cfg(test)]
-mod tests;
 
 pub use dropping::observed;
 pub use latents::project;

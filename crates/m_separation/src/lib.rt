@@ -5,8 +5,6 @@ mod marks;
 mod paths;
 mod search;
 mod states;
-#[cfg(test)]
-mod tests;
 
 pub use marks::Mark;
 pub use paths::{OpenPath, open_path};

@@ -4,7 +4,5 @@
 mod comparison;
 mod firsts;
 mod skeleton;
-#[cfg(test)]
-mod tests;
 
 pub use comparison::{Compared, Difference, compare};

@@ -3,8 +3,6 @@
 
 mod moral;
 mod sets;
-#[cfg(test)]
-mod tests;
 
 pub use sets::list;
 pub use vertex_cuts::{Listing, Steps};

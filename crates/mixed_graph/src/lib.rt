@@ -7,8 +7,6 @@ mod mixed;
 mod names;
 mod pairs;
 mod sets;
-#[cfg(test)]
-mod tests;
 mod text;
 
 pub use lists::{Cycle, Order};

@@ -7,5 +7,6 @@ pub mod Masks
 pub mod Same
 pub mod Terms
 pub mod Tree
+pub mod TreeCodes
 pub mod Values
 pub mod View

@@ -1,7 +1,7 @@
-ghost use Rattle.std.specs.Prelude.{◌≡◌, IfOk, get_or};
+ghost use Rattle.std.specs.Prelude.{◌≡◌, [], IfOk, get_or, map};
 ghost use Rattle.prob_expr.specs.Listed.{masks_of};
 ghost use Rattle.prob_expr.specs.View.{view, views, formula_view};
-ghost use Rattle.prob_expr.specs.Free.{free_in, free_in_any, free_of};
+ghost use Rattle.prob_expr.specs.Free.{free_in, free_in_any, free_in_defs, free_of};
 
 use crate::expr::{Expr, Formula};
 use crate::masks::{join, minus};
@@ -42,17 +42,26 @@ fn free_factors(factors: &Vec<Expr>, sets: &[VSet]) -> VSet
     free
 }
 
-/// The free variables of a formula: those whose values its value may depend on.
+/// The free variables of each definition, in order. The set of each is kept, so each node is visited once.
 ///
-/// A sum binds its own. The set of each definition is kept, so each node is visited once. A number
-/// without a definition, which `check` refuses, has none.
-pub fn free(alloc: Global, f: &Formula) -> Result<VSet, AllocError>
-    ensures { IfOk result (λ s. s.bits ≡ free_of (formula_view f.now)) }
+/// A number without an earlier definition, which `check` refuses, has none.
+pub fn free_sets(alloc: Global, defs: &[Expr]) -> Result<Vec<VSet>, AllocError>
+    ensures { IfOk result (λ sets. masks_of sets.items ≡ free_in_defs [] (map view defs.now)) }
 {
     let mut sets = Vec::new(alloc);
-    for def in &f.defs {
+    for def in defs {
         let set = free_expr(def, &sets);
         sets.push(set)?;
     }
+    Ok(sets)
+}
+
+/// The free variables of a formula: those whose values its value may depend on.
+///
+/// A sum binds its own.
+pub fn free(alloc: Global, f: &Formula) -> Result<VSet, AllocError>
+    ensures { IfOk result (λ s. s.bits ≡ free_of (formula_view f.now)) }
+{
+    let sets = free_sets(alloc, &f.defs)?;
     Ok(free_expr(&f.main, &sets))
 }

@@ -13,8 +13,6 @@ mod expr;
 pub mod folding;
 mod freeing;
 pub mod masks;
-#[cfg(test)]
-mod tests;
 mod theory;
 mod visiting;
 
@@ -23,6 +21,6 @@ pub use checking::{ExprFault, check, check_expr};
 pub use comparing::is_same;
 pub use copying::copy_expr;
 pub use expr::{Expr, Formula, Place, Target};
-pub use freeing::free;
+pub use freeing::{free, free_sets};
 pub use theory::laws;
 pub use visiting::Fold;

@@ -2,7 +2,5 @@
 #![tactic(auto)]
 
 mod proper;
-#[cfg(test)]
-mod tests;
 
 pub use proper::{back_door_graph, proper_causal};

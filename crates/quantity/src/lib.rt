@@ -11,8 +11,6 @@ mod exact;
 mod fault;
 mod kind;
 mod limit;
-#[cfg(test)]
-mod tests;
 
 pub use bounds::Bounds;
 pub use exact::Exact;

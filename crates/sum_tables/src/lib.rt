@@ -5,8 +5,6 @@ mod places;
 mod sum_table;
 mod sum_tables;
 mod summing;
-#[cfg(test)]
-mod tests;
 
 pub use places::Places;
 pub use sum_table::SumTable;

@@ -3,7 +3,5 @@
 
 mod cuts;
 mod rows;
-#[cfg(test)]
-mod tests;
 
 pub use cuts::{EdgeSet, cut_edges, cut_into, cut_out};

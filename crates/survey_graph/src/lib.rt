@@ -5,8 +5,6 @@ mod count;
 mod draws;
 mod edges;
 mod survey;
-#[cfg(test)]
-mod tests;
 
 pub use count::{bidirected_count, directed_count};
 pub use survey::survey_graph;

@@ -8,8 +8,6 @@ ghost use Rattle.targets.specs.Targets.{first_fault, name_fault, IsSetOf, IsName
 
 mod fault;
 mod query;
-#[cfg(test)]
-mod tests;
 
 pub use fault::TargetFault;
 use fault::{latent, twice, unknown};

@@ -1,3 +1,2 @@
-pub mod TreeCodes
 pub mod Preparations
 pub mod Tables

@@ -4,7 +4,7 @@ use Rattle.std.specs.Coded.{Coded, code_by, coded×, coded_ℕ, coded_list}
 use Rattle.prob_expr.specs.Tree.{Tree, PlainFormula}
 use Rattle.count_rows.specs.Records.{Field}
 use Rattle.count_rows.specs.Rows.{Row, Table}
-use Rattle.value_tables.specs.TreeCodes.{coded_tree}
+use Rattle.prob_expr.specs.TreeCodes.{coded_tree}
 
 -- a formula on so many vertices, over a table of counts
 pub record Preparation : Type 0 where
@@ -20,14 +20,12 @@ coded_formula = code_by (List Tree × Tree) (coded× (coded_list coded_tree) cod
 abbrev pub coded_row : Coded Row
 coded_row = code_by (List ℕ × ℕ) (coded× (coded_list coded_ℕ) coded_ℕ) (λ r. (r.cell, r.count)) (λ p. record { cell = p.0; count = p.1 }) (λ _. refl)
 
--- a table is stored as its three parts
 -- a table is stored as its vertices, their levels and its rows
 abbrev pub coded_table : Coded Table
 coded_table =
     code_by (List ℕ × (List (List Field) × List Row)) (coded× (coded_list coded_ℕ) (coded× (coded_list (coded_list (coded_list coded_ℕ))) (coded_list coded_row)))
     (λ t. (t.vertices, (t.levels, t.rows))) (λ p. record { vertices = p.0; levels = p.1.0; rows = p.1.1 }) (λ _. refl)
 
--- and so is a prepared formula
 -- and the whole as the number, the table and the formula
 abbrev pub coded_preparation : Coded Preparation
 coded_preparation =

@@ -8,12 +8,11 @@ ghost use Rattle.count_eval.specs.Programs.{weights_in, is_used, cell_of, known}
 ghost use Rattle.sum_tables.specs.Axes.{axes_of, cells_over};
 ghost use Rattle.value_tables.specs.Tables.{IsTableOf, AreKept};
 
-use crate::free::free_sets;
 use crate::table::DefinitionTable;
 use count_eval::{Lookup, value_at};
 use count_table::Counts;
 use mixed_graph::VSet;
-use prob_expr::Formula;
+use prob_expr::{Formula, free_sets};
 use quantity::Quantity;
 use std::alloc::{AllocError, Global};
 use std::marker::Model;

@@ -13,8 +13,6 @@ ghost use Rattle.word_values.specs.Views.{asked_of};
 mod program;
 mod requests;
 mod table;
-#[cfg(test)]
-mod tests;
 
 use clap::Error;
 use clap::error::ErrorKind;

@@ -1,9 +1,0 @@
-use Rattle.std.proofs.Common.{◌≡◌, drop}
-use Rattle.prob_expr.specs.Listed.{masks_of}
-use Rattle.prob_expr.specs.View.{views}
-use Rattle.prob_expr.specs.Masks.{join}
-use Rattle.prob_expr.specs.Free.{free_in_any}
-use Rattle.value_tables.proofs.free.+free_in.Given as goal
-
-abbrev pub invariant-free_in_factors-loop-factor : goal.invariant-free_in_factors-loop-factor
-invariant-free_in_factors-loop-factor l = join l.free.bits (free_in_any (masks_of l.sets) (views (drop l.factor-index l.factor-items))) ≡ free_in_any (masks_of l.sets) (views l.factor-items)
