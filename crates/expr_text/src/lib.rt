@@ -24,4 +24,3 @@ pub use laws::{the_grammar, written_is_read};
 pub use reading::{TextFault, read_expr, read_formula};
 pub use target::{target_latex, target_text};
 pub use writing::{formula_text, write_expr};
-

@@ -5,7 +5,6 @@ ghost use Rattle.std.specs.Prelude.{◌≡◌, ◌++◌, OnOk, IfOk};
 ghost use Rattle.fault_text.specs.Lines.{line_of, with_name};
 ghost use Rattle.input_fault_text.specs.Lines.{key_text, with_key, with_number, at_row, cert_fault_text, cert_size_text, count_fault_text, count_size_text};
 
-
 use certificate::{CertFault, Key};
 use count_rows::CountFault;
 use mixed_graph::Text;
