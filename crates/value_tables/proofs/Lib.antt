@@ -1,2 +1,3 @@
 pub mod Agreeing
+pub mod Room
 pub mod TableLaws

@@ -1,5 +1,5 @@
 -- Tables of the values of definitions.
-use Rattle.std.specs.Prelude.{ℕ, ◌≡◌, ◌<◌, List, [], length, get_or, Option, Some, None, Ok}
+use Rattle.std.specs.Prelude.{ℕ, ◌≡◌, ◌<◌, ◌≤◌, ◌+◌, ◌^◌, List, [], length, get_or, sum_by, Option, Some, None, Ok}
 use Rattle.mixed_graph.specs.Bits.{has, members_below}
 use Rattle.prob_expr.specs.Tree.{Tree, PlainFormula}
 use Rattle.prob_expr.specs.Free.{free_in_defs}
@@ -9,7 +9,8 @@ use Rattle.count_table.specs.Cells.{IsCell}
 use Rattle.count_table.specs.Tables.{AreCounts}
 use Rattle.count_eval.specs.Answers.{IsEvaluable}
 use Rattle.count_eval.specs.Programs.{weights_in, known}
-use Rattle.sum_tables.specs.Axes.{Axes, axes_of, cell_at, place_at}
+use Rattle.sum_tables.specs.Axes.{Axes, axes_of, cell_at, place_at, cells_over}
+use Rattle.sum_tables.specs.Sums.{Margins, cells_in}
 use Rattle.value_tables.specs.declared.table.DefinitionTable.{DefinitionTable}
 
 -- The table of definition k is over its free variables, and an entry at a cell of these is the definition's value at each assignment
@@ -29,7 +30,12 @@ pub record AreKept {Q : Type 0} (numbers : Q → Pair) (kind : Kind) (n : ℕ) (
   pub sums : summed ≡ t
   pub right : AreTables numbers kind n t f.defs tables
 
--- and beside that the set of the used vertices
-pub record IsPrepared {Q : Type 0} (numbers : Q → Pair) (kind : Kind) (n : ℕ) (t : Table) (f : PlainFormula) (used : ℕ) (summed : Table) (tables : List (DefinitionTable Q)) : Type 0 where
+-- how many cells tables of definitions have together
+abbrev pub cells_of : {Q : Type 0} → List (DefinitionTable Q) → ℕ
+cells_of tables = sum_by (λ x. cells_over x.places) tables
+
+-- Tables of sums and of definitions, and the set of the used vertices. All tables together have at most 2^22 cells.
+pub record IsPrepared {Q : Type 0} (numbers : Q → Pair) (kind : Kind) (n : ℕ) (t : Table) (f : PlainFormula) (used : ℕ) (sums : Margins) (tables : List (DefinitionTable Q)) : Type 0 where
   pub members : members_below (has used) 64 ≡ t.vertices
-  pub kept : AreKept numbers kind n t f summed tables
+  pub kept : AreKept numbers kind n t f sums.table tables
+  pub few : cells_in sums + cells_of tables ≤ 2 ^ 22

@@ -6,8 +6,8 @@ ghost use Rattle.count_eval.specs.Programs.{weights_in, is_used, cell_of};
 ghost use Rattle.count_eval.specs.Answers.{IsEvaluable, Answers, CoversCounts, CoversMatches};
 
 use crate::table::DefinitionTable;
-use crate::tables::{Tables, tables_of};
-use crate::terms::sums_of;
+use crate::tables::{MOST_CELLS, Tables, tables_of};
+use crate::terms::add_formula;
 use count_eval::{EvalFault, value_by};
 use count_table::Counts;
 use mixed_graph::VSet;
@@ -41,10 +41,13 @@ impl<'a, Q: Quantity> Model for Prepared<'a, Q> {
 
     ghost view = { λ s. record { vertices = s.vertices; counts = s.counts.now; formula = formula_view s.formula.now } };
 
-    ghost invariant = { λ s. IsPrepared Q.numbers Q.kind s.vertices s.counts.now (formula_view s.formula.now) s.used.bits s.sums.table s.definitions.items };
+    ghost invariant = { λ s. IsPrepared Q.numbers Q.kind s.vertices s.counts.now (formula_view s.formula.now) s.used.bits s.sums s.definitions.items };
 }
 
 /// Prepares a formula on n vertices over a table of counts. Its only error is want of memory.
+///
+/// Tables are made in the order of the definitions, each after the sums of its terms, and last the sums of the main
+/// expression's, as long as all have at most 2^22 cells together. What has no table is evaluated as `count_eval::value` does.
 pub fn prepare<'a, Q: Quantity>(
     alloc: Global,
     n: u32,
@@ -57,15 +60,16 @@ pub fn prepare<'a, Q: Quantity>(
     ensures formula { IfOk result (λ p. p.formula ≡ formula_view f.now) }
 {
     let used = c.used();
-    let sums = sums_of(alloc, f, c)?;
-    let definitions = tables_of(alloc, n, f, c, &sums)?;
+    let mut sums = SumTables::new(alloc, c);
+    let definitions = tables_of(alloc, n, f, c, &mut sums)?;
+    add_formula(&mut sums, alloc, f, MOST_CELLS - definitions.cells)?;
     Ok(Prepared {
         vertices: n,
         formula: f,
         counts: c,
         used,
         sums,
-        definitions,
+        definitions: definitions.tables,
     })
 }
 

@@ -1,4 +1,4 @@
-ghost use Rattle.std.specs.Prelude.{ℕ, ◌≡◌, ◌<◌, ◌≤◌, [], length, map, Ok, IfOk, IfSome, get_or};
+ghost use Rattle.std.specs.Prelude.{ℕ, ◌≡◌, ◌<◌, ◌≤◌, ◌+◌, ◌^◌, [], length, map, Ok, IfOk, IfSome, get_or};
 ghost use Rattle.mixed_graph.specs.Bits.{has};
 ghost use Rattle.prob_expr.specs.View.{view, formula_view};
 ghost use Rattle.prob_expr.specs.Free.{free_in_defs};
@@ -6,9 +6,11 @@ ghost use Rattle.count_table.specs.Tables.{AreCounts, HasLevels};
 ghost use Rattle.count_eval.specs.Answers.{IsEvaluable};
 ghost use Rattle.count_eval.specs.Programs.{weights_in, is_used, cell_of, known};
 ghost use Rattle.sum_tables.specs.Axes.{axes_of, cells_over};
-ghost use Rattle.value_tables.specs.Tables.{IsTableOf, AreKept};
+ghost use Rattle.sum_tables.specs.Sums.{cells_in};
+ghost use Rattle.value_tables.specs.Tables.{IsTableOf, AreKept, cells_of};
 
 use crate::table::DefinitionTable;
+use crate::terms::add_terms;
 use count_eval::{Lookup, value_at};
 use count_table::Counts;
 use mixed_graph::VSet;
@@ -19,7 +21,7 @@ use std::marker::Model;
 use sum_tables::{Places, SumTables};
 
 /// The greatest number of cells of all tables together.
-const MOST_CELLS: usize = 4194304;
+pub(crate) const MOST_CELLS: usize = 4194304;
 
 /// A formula over a table of counts, with tables of sums and of the values of its first definitions. Contracts see the
 /// formula and the counts alone.
@@ -28,7 +30,7 @@ pub(crate) struct Tables<'a, 'b, Q: Quantity> {
     pub(crate) vertices: u32,
     pub(crate) formula: &'a Formula,
     pub(crate) counts: &'a Counts,
-    pub(crate) sums: &'a SumTables<'a>,
+    pub(crate) sums: &'b SumTables<'a>,
     pub(crate) definitions: &'b [DefinitionTable<Q>],
 }
 
@@ -117,35 +119,49 @@ impl<'a, 'b, Q: Quantity> Tables<'a, 'b, Q> {
     }
 }
 
-/// Tables of the values of a formula's first definitions, as many as have no more cells together than `MOST_CELLS`.
+/// Tables of the values of a formula's first definitions, and how many cells they have together.
+#[derive(Drop)]
+pub(crate) struct DefinitionTables<Q: Quantity> {
+    pub(crate) tables: Vec<DefinitionTable<Q>>,
+    pub(crate) cells: usize,
+}
+
+/// Makes tables of a formula's first definitions, each after the sums of its terms, as long as all tables have at most
+/// `MOST_CELLS` cells together.
 pub(crate) fn tables_of<'a, Q: Quantity>(
     alloc: Global,
     n: u32,
     f: &'a Formula,
     c: &'a Counts,
-    sums: &'a SumTables<'a>,
-) -> Result<Vec<DefinitionTable<Q>>, AllocError>
+    sums: &mut SumTables<'a>,
+) -> Result<DefinitionTables<Q>, AllocError>
     requires formula { IsEvaluable n c.now (formula_view f.now) }
     requires table { AreCounts c.now }
-    requires sums { sums.now.table ≡ c.now }
-    ensures { IfOk result (λ tables. AreKept Q.numbers Q.kind n c.now (formula_view f.now) sums.now.table tables.items) }
+    requires sums { sums.old.table ≡ c.now }
+    requires few { cells_in sums.old ≤ 2 ^ 22 }
+    ensures table { sums.new.table ≡ c.now }
+    ensures kept { IfOk result (λ made. AreKept Q.numbers Q.kind n c.now (formula_view f.now) c.now made.tables.items) }
+    ensures cells { IfOk result (λ made. made.cells ≡ cells_of made.tables.items) }
+    ensures few { IfOk result (λ made. cells_in sums.new + made.cells ≤ 2 ^ 22) }
 {
     let free = free_sets(alloc, &f.defs)?;
-    let mut made = Vec::new(alloc);
-    let mut room = MOST_CELLS;
+    let mut tables = Vec::new(alloc);
+    let mut cells = 0;
     for k in 0..free.len().min(MOST_CELLS) {
+        add_terms(sums, alloc, &f.defs[k], MOST_CELLS - cells)?;
         let so_far = Tables {
             vertices: n,
             formula: f,
             counts: c,
-            sums,
-            definitions: made.as_slice(),
+            sums: &*sums,
+            definitions: tables.as_slice(),
         };
+        let room = MOST_CELLS - cells - sums.cells();
         let Some(table) = so_far.table_of(alloc, k as u32, free[k], room)? else {
-            return Ok(made);
+            return Ok(DefinitionTables { tables, cells });
         };
-        room -= table.places.count();
-        made.push(table)?;
+        cells += table.places.count();
+        tables.push(table)?;
     }
-    Ok(made)
+    Ok(DefinitionTables { tables, cells })
 }

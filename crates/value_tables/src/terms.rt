@@ -1,56 +1,87 @@
-ghost use Rattle.std.specs.Prelude.{◌≡◌, IfOk};
+ghost use Rattle.std.specs.Prelude.{◌≡◌, ◌≤◌};
+ghost use Rattle.sum_tables.specs.Sums.{cells_in};
 
-use count_table::Counts;
+use mixed_graph::VSet;
 use prob_expr::masks::join;
 use prob_expr::{Expr, Formula};
 use std::alloc::{AllocError, Global};
 use sum_tables::SumTables;
 
-/// The greatest number of cells of all tables of sums together.
-const MOST_SUMS: usize = 4194304;
-
-/// Makes tables of the sums that the terms of an expression are made of, as long as there is room.
+/// Makes tables of the sums that the terms of an expression are made of, as long as there is room: as many as have at most
+/// `most` cells together.
 #[cycle(add_terms)]
-fn add_terms(sums: &mut SumTables, alloc: Global, e: &Expr) -> Result<(), AllocError>
-    ensures { sums.new.table ≡ sums.old.table }
+pub(crate) fn add_terms(
+    sums: &mut SumTables,
+    alloc: Global,
+    e: &Expr,
+    most: usize,
+) -> Result<(), AllocError>
+    ensures table { sums.new.table ≡ sums.old.table }
+    ensures most { cells_in sums.old ≤ most → cells_in sums.new ≤ most }
 {
     match e {
-        Expr::Prob { of, given, .. } => {
-            sums.add(alloc, *given, MOST_SUMS)?;
-            sums.add(alloc, join(*of, *given), MOST_SUMS)
-        }
-        Expr::Sum { body, .. } => add_terms(sums, alloc, body),
-        Expr::Product(factors) => add_factors(sums, alloc, factors),
+        Expr::Prob { of, given, .. } => add_both(sums, alloc, join(*of, *given), *given, most),
+        Expr::Sum { body, .. } => add_terms(sums, alloc, body, most),
+        Expr::Product(factors) => add_factors(sums, alloc, factors, most),
         Expr::Quotient { top, bottom } => {
-            add_terms(sums, alloc, top)?;
-            add_terms(sums, alloc, bottom)
+            add_terms(sums, alloc, top, most)?;
+            add_terms(sums, alloc, bottom, most)
         }
         Expr::Named(_) => Ok(()),
     }
 }
 
 #[cycle(add_terms)]
-fn add_factors(sums: &mut SumTables, alloc: Global, factors: &Vec<Expr>) -> Result<(), AllocError>
-    ensures { sums.new.table ≡ sums.old.table }
+fn add_factors(
+    sums: &mut SumTables,
+    alloc: Global,
+    factors: &Vec<Expr>,
+    most: usize,
+) -> Result<(), AllocError>
+    ensures table { sums.new.table ≡ sums.old.table }
+    ensures most { cells_in sums.old ≤ most → cells_in sums.new ≤ most }
 {
     for factor in factors {
-        add_terms(sums, alloc, factor)?;
+        add_terms(sums, alloc, factor, most)?;
     }
     Ok(())
 }
 
-/// Tables of the sums that the terms of a formula are made of, as many as have no more cells together than `MOST_SUMS`.
-pub(crate) fn sums_of<'a>(
+/// The sums over the two sets of a term.
+fn add_both(
+    sums: &mut SumTables,
+    alloc: Global,
+    all: VSet,
+    given: VSet,
+    most: usize,
+) -> Result<(), AllocError>
+    ensures table { sums.new.table ≡ sums.old.table }
+    ensures most { cells_in sums.old ≤ most → cells_in sums.new ≤ most }
+{
+    add_one(sums, alloc, given, most)?;
+    add_one(sums, alloc, all, most)
+}
+
+/// The sums over a set, if there is room.
+fn add_one(sums: &mut SumTables, alloc: Global, of: VSet, most: usize) -> Result<(), AllocError>
+    ensures table { sums.new.table ≡ sums.old.table }
+    ensures most { cells_in sums.old ≤ most → cells_in sums.new ≤ most }
+{
+    sums.add(alloc, of, most)
+}
+
+/// Makes tables of the sums that the terms of a formula are made of, as long as there is room.
+pub(crate) fn add_formula(
+    sums: &mut SumTables,
     alloc: Global,
     f: &Formula,
-    c: &'a Counts,
-) -> Result<SumTables<'a>, AllocError>
-    ensures { IfOk result (λ sums. sums.table ≡ c.now) }
+    most: usize,
+) -> Result<(), AllocError>
+    ensures table { sums.new.table ≡ sums.old.table }
+    ensures most { cells_in sums.old ≤ most → cells_in sums.new ≤ most }
 {
-    let mut sums = SumTables::new(alloc, c);
     for def in &f.defs {
-        add_terms(&mut sums, alloc, def)?;
+        add_terms(sums, alloc, def, most)?;
     }
-    add_terms(&mut sums, alloc, &f.main)?;
-    Ok(sums)
+    add_terms(sums, alloc, &f.main, most)
 }
