@@ -6,6 +6,8 @@ mod building;
 #[cfg(test)]
 mod derivations;
 #[cfg(test)]
+mod factors;
+#[cfg(test)]
 mod formulas;
 #[cfg(test)]
 mod model_pairs;
