@@ -2,6 +2,8 @@
 #![tactic(auto)]
 
 #[cfg(test)]
+mod adjustments;
+#[cfg(test)]
 mod building;
 #[cfg(test)]
 mod derivations;
