@@ -8,9 +8,13 @@ mod building;
 #[cfg(test)]
 mod derivations;
 #[cfg(test)]
+mod effects;
+#[cfg(test)]
 mod factors;
 #[cfg(test)]
 mod formulas;
+#[cfg(test)]
+mod minimal;
 #[cfg(test)]
 mod model_pairs;
 #[cfg(test)]
