@@ -1,6 +1,6 @@
 use Rattle.std.proofs.Common.{◌≢◌, ◌∙◌, replicate, set, get_or-set_other, arith}
 use Rattle.mixed_graph.proofs.PairMasks.{blank}
-use Rattle.derivation_cases.proofs.tests.order.Goals as goal
+use Rattle.model_cases.proofs.derivations.order.Goals as goal
 
 pub invariant_of-result : goal.invariant_of-result
 invariant_of-result c = record {

@@ -1,3 +1,4 @@
+use crate::building::{do_term, product, set, sum, term};
 use do_derivation::{CheckFault, Derivation, Step, StepFault, apply, check, check_with};
 use m_separation::Mark;
 use mixed_graph::{Graph, Order, VSet};
@@ -6,28 +7,6 @@ use prob_expr::{Expr, Formula, Target, is_same};
 use std::alloc::{AllocError, Global};
 use std::process::Abort;
 use std::test::Fail;
-
-fn set(bits: u64) -> VSet {
-    VSet { bits }
-}
-
-/// P(of | given).
-fn term(of: u64, given: u64) -> Expr {
-    Expr::Prob {
-        of: set(of),
-        doing: set(0),
-        given: set(given),
-    }
-}
-
-/// The sum of the product of two factors.
-fn sum(alloc: Global, over: u64, first: Expr, second: Expr) -> Result<Expr, AllocError> {
-    let factors = vec![in alloc; first, second]?;
-    Ok(Expr::Sum {
-        over: set(over),
-        body: Box::new(alloc, Expr::Product(factors))?,
-    })
-}
 
 /// The two vertices in that order.
 fn order(first: u8, second: u8) -> Order {
@@ -132,11 +111,13 @@ fn front_doors(rt: &impl Abort, alloc: Global, g: &Graph) -> Result<(), AllocErr
             Step::Rule3Out(set(z))
         };
         let inner = if exchanged {
-            sum(alloc, 1, term(4, 3), term(1, 0))?
+            product(alloc, term(4, 3), term(1, 0))?
         } else {
-            sum(alloc, 1, term(1, 0), term(4, 3))?
+            product(alloc, term(1, 0), term(4, 3))?
         };
-        let main = sum(alloc, 2, term(2, 1), inner)?;
+        let inner = sum(alloc, 1, inner)?;
+        let outer = product(alloc, term(2, 1), inner)?;
+        let main = sum(alloc, 2, outer)?;
         let step = front_door(alloc, twelfth)?;
         let answer = checked(rt, alloc, g, 4, main, step, &[]);
         assert_eq!(rt; told(&answer), want);
@@ -146,11 +127,7 @@ fn front_doors(rt: &impl Abort, alloc: Global, g: &Graph) -> Result<(), AllocErr
 
 /// P(M | do(X)) as it stands, where X is allowed or not.
 fn effect(rt: &impl Abort, alloc: Global, g: &Graph, allowed: &[VSet], want: &str) {
-    let main = Expr::Prob {
-        of: set(2),
-        doing: set(1),
-        given: set(0),
-    };
+    let main = do_term(2, 1, 0);
     let step = Step::Then(Vec::new(alloc));
     let answer = checked(rt, alloc, g, 2, main, step, allowed);
     assert_eq!(rt; told(&answer), want);
@@ -165,9 +142,9 @@ fn chain(rt: &impl Abort, alloc: Global, g: &Graph) -> Result<(), AllocError> {
         doing: none,
         given: none,
     };
-    let product = Expr::Product(vec![in alloc; term(1, 0), term(2, 1)]?);
+    let split = product(alloc, term(1, 0), term(2, 1))?;
     match apply(alloc, g, &[], &Step::Chain(order(0, 1)), start) {
-        Ok(made) => assert!(rt; is_same(&made, &product)),
+        Ok(made) => assert!(rt; is_same(&made, &split)),
         Err(_) => assert!(rt; false),
     }
     Ok(())

@@ -1,0 +1,29 @@
+use Rattle.std.proofs.Common.{◌≡◌, ℕ, ◌≤◌, replicate, set, get_or, inl, inr, ◌∙◌, arith}
+use Rattle.std.proofs.lemmas.Bool.{cases_eq, cases_lt}
+use Rattle.std.proofs.lemmas.List.{length-replicate, get_or-replicate, get_or_past, get_or-set_same, get_or-set_other}
+use Rattle.mixed_graph.proofs.PairMasks.{blank}
+use Rattle.model_cases.proofs.model_pairs.hedge.Goals as goal
+
+most_none : (v : ℕ) → get_or (replicate 64 64) v 0 ≤ 64
+most_none v = elim (cases_lt v 64) [
+  | inl l ↦ let e : ◌≡◌ {A = ℕ} (get_or (replicate 64 64) v 0) 64 = get_or-replicate 64 v 64 0 l in omega arith
+  | inr ge ↦ let e : ◌≡◌ {A = ℕ} (get_or (replicate 64 64) v 0) 0 = get_or_past (replicate 64 64) v 0 (simp length-replicate ge) in omega arith
+]
+
+-- entries of at most 64 stay so where a 1 is written at place 0
+one_set : (v : ℕ) → get_or (set (replicate 64 64) 0 1) v 0 ≤ 64
+one_set v = elim (cases_eq v 0) [
+  | inl e ↦ rw (e, get_or-set_same {A = ℕ} (replicate 64 64) 0 1 0 (simp (length-replicate {A = ℕ}) (omega arith))) (omega arith)
+  | inr d ↦ rw (get_or-set_other {A = ℕ} (replicate 64 64) 0 v 1 0 d) (most_none v)
+]
+
+pub invariant_of-result : goal.invariant_of-result
+invariant_of-result c = record { in_range = one_set }
+
+pub invariant_of-result-2 : goal.invariant_of-result-2
+invariant_of-result-2 c = record {
+  in_range = omega arith;
+  blank_found = λ i l. get_or-set_other (replicate 64 0) 0 i 1 0 (omega arith) ∙ blank 64 i;
+  blank_partner = λ i l. get_or-set_other (replicate 64 0) 1 i 1 0 (omega arith) ∙ blank 64 i;
+  start = get_or-set_other (replicate 64 0) 1 0 1 0 (omega arith) ∙ blank 64 0;
+}
