@@ -1,0 +1,19 @@
+//! Worked cases of graphs, their readers and what is asked of them, as proved tests.
+#![tactic(auto)]
+
+#[cfg(test)]
+mod common;
+#[cfg(test)]
+mod cuts;
+#[cfg(test)]
+mod district_sets;
+#[cfg(test)]
+mod effect_sets;
+#[cfg(test)]
+mod graph_texts;
+#[cfg(test)]
+mod graphs;
+#[cfg(test)]
+mod hedges;
+#[cfg(test)]
+mod separations;
