@@ -10,10 +10,16 @@ mod district_sets;
 #[cfg(test)]
 mod effect_sets;
 #[cfg(test)]
+mod equivalences;
+#[cfg(test)]
+mod first_edges;
+#[cfg(test)]
 mod graph_texts;
 #[cfg(test)]
 mod graphs;
 #[cfg(test)]
 mod hedges;
+#[cfg(test)]
+mod projections;
 #[cfg(test)]
 mod separations;
