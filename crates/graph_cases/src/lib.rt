@@ -12,6 +12,8 @@ mod effect_sets;
 #[cfg(test)]
 mod equivalences;
 #[cfg(test)]
+mod fault_lines;
+#[cfg(test)]
 mod first_edges;
 #[cfg(test)]
 mod graph_texts;
@@ -23,3 +25,5 @@ mod hedges;
 mod projections;
 #[cfg(test)]
 mod separations;
+#[cfg(test)]
+mod surveys;
