@@ -1,0 +1,13 @@
+//! Worked cases of reading and of writing texts, as proved tests.
+#![tactic(auto)]
+
+#[cfg(test)]
+mod command_forms;
+#[cfg(test)]
+mod common;
+#[cfg(test)]
+mod devices;
+#[cfg(test)]
+mod requests;
+#[cfg(test)]
+mod value_lists;
