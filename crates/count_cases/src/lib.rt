@@ -1,0 +1,13 @@
+//! Worked cases of counts, of their sums and of quantities, as proved tests.
+#![tactic(auto)]
+
+#[cfg(test)]
+mod common;
+#[cfg(test)]
+mod lanes;
+#[cfg(test)]
+mod quantities;
+#[cfg(test)]
+mod readings;
+#[cfg(test)]
+mod tables;
