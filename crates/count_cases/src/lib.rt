@@ -10,4 +10,6 @@ mod quantities;
 #[cfg(test)]
 mod readings;
 #[cfg(test)]
+mod sums;
+#[cfg(test)]
 mod tables;
