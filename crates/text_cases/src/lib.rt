@@ -8,6 +8,8 @@ mod common;
 #[cfg(test)]
 mod devices;
 #[cfg(test)]
+mod formulas;
+#[cfg(test)]
 mod requests;
 #[cfg(test)]
 mod value_lists;
