@@ -2,6 +2,10 @@
 #![tactic(auto)]
 
 #[cfg(test)]
+mod answers;
+#[cfg(test)]
+mod certificates;
+#[cfg(test)]
 mod command_forms;
 #[cfg(test)]
 mod common;
