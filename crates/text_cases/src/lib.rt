@@ -12,6 +12,8 @@ mod common;
 #[cfg(test)]
 mod devices;
 #[cfg(test)]
+mod fault_lines;
+#[cfg(test)]
 mod formulas;
 #[cfg(test)]
 mod requests;
