@@ -6,6 +6,8 @@ mod common;
 #[cfg(test)]
 mod lanes;
 #[cfg(test)]
+mod prepared_values;
+#[cfg(test)]
 mod quantities;
 #[cfg(test)]
 mod readings;
