@@ -8,3 +8,4 @@ mod RuleSets
 mod WishLemmas
 mod Separations
 mod RangeLemmas
+mod Headlines

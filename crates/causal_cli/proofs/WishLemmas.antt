@@ -1,5 +1,6 @@
--- Words without a task.
-use Rattle.std.proofs.Common.{◌≡◌, ℕ, ◌-◌, ◌^◌, arith, Bool, true, false, List, Option, Some, None, codes, ap, ◌∙◌, subst}
+-- What words ask for, and words without a task.
+use Rattle.std.proofs.Common.{◌≡◌, ℕ, ◌-◌, ◌^◌, arith, Bool, true, false, List, Option, Some, None, codes, ap, sym, ◌∙◌, subst, Result, Ok, Err}
+use Rattle.std.specs.Prelude.{IfOk}
 use Rattle.word_forms.specs.Form.{Text, HasForm}
 use Rattle.word_lists.specs.Lists.{IsList}
 use Rattle.word_lists.specs.Numbers.{IsNumber}
@@ -9,7 +10,7 @@ use Rattle.replies.specs.Observed.{Names}
 use Rattle.adjust_command.specs.Queries.{Query, by_set, by_back_door, listing}
 use Rattle.identify_command.specs.declared.form.Form.{Form}
 use Rattle.causal_cli.specs.declared.rule.Rule.{Rule}
-use Rattle.causal_cli.specs.Wishes.{graph, separate, rule, identify, check, adjust, evaluate, equivalent, Task, on_file, survey, number_of, IsListed, IsListedOrEmpty, IsForm, IsMost, IsQuery, SetsTask}
+use Rattle.causal_cli.specs.Wishes.{graph, separate, rule, identify, check, adjust, evaluate, equivalent, Task, on_file, survey, number_of, IsListed, IsListedOrEmpty, IsForm, IsMost, IsQuery, SetsTask, AskOnce}
 
 -- a value that is no list gives no names
 pub not_listed : (text : Text) → ((names : List (List ℕ)) → IsList text names → ⊥) → (names : Names) → IsListed (Some text) names → ⊥
@@ -26,7 +27,7 @@ no_query set false most none (listing k) h = h
 no_query set true most none (listing k) h = h
 
 -- what the words ask for, where they set this task
-abbrev asked_by : (words : List Text) (t : Task) → SetsTask words t → Asked
+abbrev pub asked_by : (words : List Text) (t : Task) → SetsTask words t → Asked
 asked_by words (on_file (graph f p)) h = asked.graph f p
 asked_by words (on_file (separate f a b c)) h = asked.separate f h.text_x h.text_y h.text_given
 asked_by words (on_file (rule f r a b c d)) h = asked.rule f h.text_number h.text_y h.text_z h.text_done h.text_given
@@ -37,7 +38,8 @@ asked_by words (on_file (evaluate f c x y n e)) h = asked.evaluate f c h.text_x 
 asked_by words (on_file (equivalent f g)) h = asked.equivalent f g
 asked_by words (survey seed) h = asked.survey h.text_number
 
-asks_it : (words : List Text) (t : Task) (h : SetsTask words t) → Asks words (asked_by words t h)
+-- and so they ask for it
+pub asks_it : (words : List Text) (t : Task) (h : SetsTask words t) → Asks words (asked_by words t h)
 asks_it words (on_file (graph f p)) h = h
 asks_it words (on_file (separate f a b c)) h = h.asks
 asks_it words (on_file (rule f r a b c d)) h = h.asks
@@ -172,3 +174,8 @@ no_survey words text only none (survey seed) h =
     none seed (subst (λ t. IsNumber t 0 (2 ^ 64 - 1) seed) en h.is_number)
 no_survey words text only none (on_file (graph f p)) h = let e = same_number words (asked.survey text) only (on_file (graph f p)) h in absurd (omega (arith, e))
 no_survey words text only none t h = let e = same_number words (asked.survey text) only t h in absurd (omega (arith, e))
+
+-- what the words ask for is one thing, whatever is made of it
+pub asked_once : {A E : Type 0} (r : Result A E) (words : List Text) (a : Asked) → ((other : Asked) → Asks words other → other ≡ a) → IfOk r (λ _. AskOnce words)
+asked_once (Ok x) words a only = λ b c asks_b asks_c. only b asks_b ∙ sym (only c asks_c)
+asked_once (Err e) words a only = tt

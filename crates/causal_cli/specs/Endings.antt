@@ -75,3 +75,9 @@ pub data Proceeds (held : Text → Option (List ℕ)) (lacks : Text → Bool) (f
       → Proceeds held lacks faults faults_after out p e
   unread : e ≡ ending.Unread → Rose (faults (second_in p)) (faults_after (second_in p)) → out.after ≡ out.before → Proceeds held lacks faults faults_after out p e
   no_memory : e ≡ ending.NoMemory → out.after ≡ out.before → Proceeds held lacks faults faults_after out p e
+
+-- the fact, where an answer was written whole
+abbrev pub IfAnswered : Ending → Type 0 → Type 0
+IfAnswered ending.Affirmed P = P
+IfAnswered ending.Denied P = P
+IfAnswered e P = Unit {0}

@@ -7,3 +7,4 @@ pub mod Replies
 pub mod Endings
 pub mod Pendings
 pub mod Ranges
+pub mod Headline

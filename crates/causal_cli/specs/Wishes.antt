@@ -3,7 +3,7 @@ use Rattle.std.specs.Prelude.{ℕ, ◌≡◌, ◌-◌, ◌^◌, Bool, true, fals
 use Rattle.word_forms.specs.Form.{Text}
 use Rattle.word_lists.specs.Lists.{IsList}
 use Rattle.word_lists.specs.Numbers.{IsNumber}
-use Rattle.word_values.specs.Commands.{Asks}
+use Rattle.word_values.specs.Commands.{Asked, Asks}
 use Rattle.word_values.specs.Commands as asked
 use Rattle.replies.specs.Observed.{Names}
 use Rattle.adjust_command.specs.Queries.{Query, by_set, by_back_door, listing}
@@ -176,3 +176,7 @@ pub record WantsSurvey (words : List Text) (seed : ℕ) : Type 0 where
 abbrev pub SetsTask : List Text → Task → Type 0
 SetsTask words (on_file w) = Wants words w
 SetsTask words (survey seed) = WantsSurvey words seed
+
+-- words ask for one thing at most
+abbrev pub AskOnce : List Text → Type 0
+AskOnce words = (a b : Asked) → Asks words a → Asks words b → a ≡ b

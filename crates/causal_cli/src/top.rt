@@ -4,10 +4,11 @@ ghost use Rattle.causal_io.specs.Reading.{AnswersAll};
 ghost use Rattle.word_forms.specs.Form.{Text};
 ghost use Rattle.word_forms.specs.Views.{texts_of};
 ghost use Rattle.causal_cli.specs.Run.{Ended, Received};
-ghost use Rattle.causal_cli.specs.Wishes.{Wants};
+ghost use Rattle.causal_cli.specs.Wishes.{Wants, AskOnce};
 ghost use Rattle.causal_cli.specs.WishViews.{wish_of};
 ghost use Rattle.causal_cli.specs.Pendings.{IsAccepted};
-ghost use Rattle.causal_cli.specs.Endings.{EndsAs, IsTooLong, Delivers, Proceeds, verdict_of, line_in};
+ghost use Rattle.causal_cli.specs.Headline.{Headline};
+ghost use Rattle.causal_cli.specs.Endings.{IfAnswered, EndsAs, IsTooLong, Delivers, Proceeds, verdict_of, line_in};
 
 use crate::answer::{First, answer};
 use crate::ending::Ending;
@@ -45,6 +46,14 @@ pub fn run<S: Shelf, O: Sink, E: Sink>(
       read_faults_after = S.faults shelf.new;
       out = record { before = O.written out.old; after = O.written out.new; faults = O.faults out.old; faults_after = O.faults out.new };
     }) (record { before = E.written err.old; after = E.written err.new; faults = E.faults err.old; faults_after = E.faults err.new }) result.code }
+    ensures headline { Headline (record {
+      words = texts_of words.now;
+      held = S.held shelf.old;
+      lacks = S.lacks shelf.old;
+      read_faults = S.faults shelf.old;
+      read_faults_after = S.faults shelf.new;
+      out = record { before = O.written out.old; after = O.written out.new; faults = O.faults out.old; faults_after = O.faults out.new };
+    }) result.code }
     ensures holds { S.held shelf.new ≡ S.held shelf.old }
     ensures lack { S.lacks shelf.new ≡ S.lacks shelf.old }
 {
@@ -78,6 +87,7 @@ fn respond<S: Shelf, O: Sink>(alloc: Global, words: &[String], shelf: &mut S, ou
       read_faults_after = S.faults shelf.new;
       out = record { before = O.written out.old; after = O.written out.new; faults = O.faults out.old; faults_after = O.faults out.new };
     }) result }
+    ensures once { IfAnswered result (AskOnce (texts_of words.now)) }
     ensures holds { S.held shelf.new ≡ S.held shelf.old }
     ensures lack { S.lacks shelf.new ≡ S.lacks shelf.old }
 {

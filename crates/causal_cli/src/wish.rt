@@ -8,7 +8,7 @@ ghost use Rattle.adjust_command.specs.Queries.{query_of};
 ghost use Rattle.causal_cli.specs.Ranges.{HasRange};
 ghost use Rattle.adjust_command.specs.Queries as queries;
 ghost use Rattle.identify_command.specs.declared.form.Form.{Form};
-ghost use Rattle.causal_cli.specs.Wishes.{SetsTask, IsListed, IsListedOrEmpty, IsForm, IsMost, IsQuery, number_of};
+ghost use Rattle.causal_cli.specs.Wishes.{SetsTask, AskOnce, IsListed, IsListedOrEmpty, IsForm, IsMost, IsQuery, number_of};
 ghost use Rattle.causal_cli.specs.Wishes as spec;
 ghost use Rattle.causal_cli.specs.declared.rule.Rule.{Rule};
 ghost use Rattle.causal_cli.specs.WishViews.{task_of, IsGraphTask, IsSeparation, IsRuleWish, IsIdentification, IsCheckWish, IsAdjustment, IsEvaluationWish, IsEquivalenceWish, IsSurveyTask};
@@ -119,9 +119,10 @@ pub enum WordsFault {
     NoMemory,
 }
 
-/// What task the words set.
+/// What task the words set. They ask for one thing at most.
 pub fn read_task<'a>(alloc: Global, words: &'a [String]) -> Result<Task<'a>, WordsFault>
     ensures sets { IfOk result (λ t. SetsTask (texts_of words.now) (task_of t)) }
+    ensures once { IfOk result (λ _. AskOnce (texts_of words.now)) }
     ensures none { IsErrOf result WordsFault.NotUnderstood → (t : spec.Task) → SetsTask (texts_of words.now) t → ⊥ }
 {
     match read_words(alloc, words) {
