@@ -21,15 +21,15 @@ pub data Way (g : MixedGraph) (w : ℕ → Bool) (e : ℕ) : Bool → ℕ → Ty
   into : (h : Bool) {u v : ℕ} → g.arrow v u ≡ true → Met g w h u → Way g w e false v → Way g w e h u
 
 module _ (g : MixedGraph) (w : ℕ → Bool) where
-  passed_first : (v : ℕ) (r : List Step) → w v ≡ false → ArePassed g w r → ArePassedFrom g w false v r
+  pub passed_first : (v : ℕ) (r : List Step) → w v ≡ false → ArePassed g w r → ArePassedFrom g w false v r
   passed_first v [] o p = tt
   passed_first v (s ∷ r) o p = (o, p)
 
-  passed_rest : (v : ℕ) (r : List Step) → ArePassedFrom g w false v r → ArePassed g w r
+  pub passed_rest : (v : ℕ) (r : List Step) → ArePassedFrom g w false v r → ArePassed g w r
   passed_rest v [] p = tt
   passed_rest v (s ∷ r) p = p.1
 
-  to_way : HasArrowsAlone g → (h : Bool) (u : ℕ) (r : List Step) → IsWalk g u r → ArePassedFrom g w h u r → w (last u r) ≡ false → Way g w (last u r) h u
+  pub to_way : HasArrowsAlone g → (h : Bool) (u : ℕ) (r : List Step) → IsWalk g u r → ArePassedFrom g w h u r → w (last u r) ≡ false → Way g w (last u r) h u
   to_way none h u [] k p o = stop refl o
   to_way none h u (s ∷ r) k p o = go s.mark h k.0 p.0 (to_way none (heads_second s.mark) s.to r k.1 p.1 o)
     where
@@ -40,14 +40,14 @@ module _ (g : MixedGraph) (w : ℕ → Bool) where
       go Into false j q x = into false j q x
       go Both h j q x = clash (g.both u s.to) j (none u s.to)
 
-  record Walked (e : ℕ) (h : Bool) (u : ℕ) : Type 0 where
+  pub record Walked (e : ℕ) (h : Bool) (u : ℕ) : Type 0 where
     pub steps : List Step
     pub walk : IsWalk g u steps
     pub passed : ArePassedFrom g w h u steps
     pub ends : last u steps ≡ e
     pub outside : w e ≡ false
 
-  from_way : (e : ℕ) (h : Bool) (u : ℕ) → Way g w e h u → Walked e h u
+  pub from_way : (e : ℕ) (h : Bool) (u : ℕ) → Way g w e h u → Walked e h u
   from_way e h u (stop s o) = record { steps = []; walk = tt; passed = tt; ends = s; outside = rw (sym s) o }
   from_way e h u (out {v = v} a o x) = go h (from_way e true v x)
     where

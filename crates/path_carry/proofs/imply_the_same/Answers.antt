@@ -1,0 +1,23 @@
+use Rattle.std.proofs.Common.{refl, arith}
+use Rattle.mixed_graph.specs.Bits.{has}
+use Rattle.mixed_graph.specs.Shown.{graph_of}
+use Rattle.path_carry.proofs.Separations.{same_separations, differs}
+use Rattle.path_carry.proofs.imply_the_same.Goals as goal
+
+pub returns-in-Same-clause-separations : goal.returns-in-Same-clause-separations
+returns-in-Same-clause-separations c = (
+  λ _. same_separations (graph_of c.args.g.now) (graph_of c.args.h.now) c.args.g.now.valid c.args.h.now.valid c.requires.size c.requires.first c.requires.second (c.in-Same.ensures).compared,
+  λ _. refl,
+)
+
+pub returns-in-Edge-clause-separations : goal.returns-in-Edge-clause-separations
+returns-in-Edge-clause-separations c = (
+  λ no. absurd (grind (arith, no)),
+  λ same. let d = c.in-Edge.field-0 in absurd (differs (graph_of c.args.g.now) (graph_of c.args.h.now) d.first d.a d.b (has d.given.bits) (c.in-Edge.ensures).shown same),
+)
+
+pub returns-in-Collider-clause-separations : goal.returns-in-Collider-clause-separations
+returns-in-Collider-clause-separations c = (
+  λ no. absurd (grind (arith, no)),
+  λ same. let d = c.in-Collider.field-0 in absurd (differs (graph_of c.args.g.now) (graph_of c.args.h.now) d.first d.a d.b (has d.given.bits) (c.in-Collider.ensures).shown same),
+)
