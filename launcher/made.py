@@ -1,0 +1,99 @@
+"""Whether the program that stands in .build is up to date.
+
+What decides is the toolchain's own stamp of the crate `causal`: a sum of all that the program is made from. A record
+beside the program holds the stamp at which it was proved, and the program's own sum. So that a start needn't load the
+toolchain's code, the record also holds a sum of the bytes that the stamp is computed from: the same bytes have the same
+stamp. The times of files decide nothing.
+"""
+import hashlib
+import os
+
+TOP = os.path.dirname(os.path.dirname(os.path.realpath(__file__)))
+ROOM = f"{TOP}/.build"
+PROGRAM = f"{ROOM}/causal"
+RECORD = f"{ROOM}/causal.made"
+# The folders of a crate that its proof reads.
+PARTS = ("src", "specs", "proofs", "c")
+
+
+def kit_of(rt):
+    """The folder of the kit whose rt this is."""
+    library = os.path.realpath(f"{os.path.dirname(os.path.realpath(rt))}/rtlib.py")
+    return os.path.dirname(os.path.dirname(library))
+
+
+def is_current(kit):
+    """Whether the program that stands there is the one proved from the sources as they are now."""
+    try:
+        with open(RECORD, encoding="utf-8") as record:
+            stamp, read, program = record.read().split()
+        if program != sum_of(PROGRAM):
+            return False
+    except (OSError, ValueError):
+        return False
+    now = sum_of_sources(TOP, kit)
+    if now == read:
+        return True
+    import build
+
+    if stamp != build.stamp_of(TOP, kit):
+        return False
+    if now == sum_of_sources(TOP, kit):
+        write_record(stamp, now, program)
+    return True
+
+
+def write_record(stamp, read, program):
+    with open(f"{RECORD}.new", "w", encoding="utf-8") as record:
+        record.write(f"{stamp}\n{read}\n{program}\n")
+    os.replace(f"{RECORD}.new", RECORD)
+
+
+def lines_below(top):
+    """The lines of crates.txt of the program's crate and of those below it, by name."""
+    with open(f"{top}/crates.txt", encoding="utf-8") as file:
+        lines = [line for line in file.read().splitlines() if line.partition("#")[0].strip()]
+    every = {line.partition(":")[0].split()[0]: line for line in lines}
+    wanted, found = ["causal"], {}
+    while wanted:
+        name = wanted.pop()
+        if name in every and name not in found:
+            found[name] = every[name]
+            wanted += every[name].partition("#")[0].partition(":")[2].replace(",", " ").split()
+    return {name: every[name] for name in every if name in found}
+
+
+def sum_of_sources(top, kit):
+    """A sum of all bytes that the stamp is computed from: of the kit's name, the lines of crates.txt, and the crates' files."""
+    lines = lines_below(top)
+    total = hashlib.sha256(read_whole(f"{kit}/WHAT"))
+    total.update("\n".join(lines.values()).encode())
+    for name in lines:
+        for part in PARTS:
+            for path in files_in(f"{top}/crates/{name}/{part}"):
+                text = read_whole(path)
+                total.update(os.fsencode(f"\n{path[len(top):]} {len(text)}\n"))
+                total.update(text)
+    return total.hexdigest()
+
+
+def files_in(folder):
+    """The files at and below the folder, in the order of their names."""
+    try:
+        entries = sorted(os.scandir(folder), key=lambda entry: entry.name)
+    except (FileNotFoundError, NotADirectoryError):
+        return
+    for entry in entries:
+        if entry.is_dir():
+            yield from files_in(entry.path)
+        else:
+            yield entry.path
+
+
+def read_whole(path):
+    with open(path, "rb", buffering=0) as file:
+        return file.read()
+
+
+def sum_of(path):
+    return hashlib.sha256(read_whole(path)).hexdigest()

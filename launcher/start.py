@@ -1,0 +1,34 @@
+"""Runs the program with the words as given, built first where it isn't up to date: start.py RT WORD.., RT being rt's path."""
+import os
+import signal
+import sys
+
+HERE = os.path.dirname(os.path.realpath(__file__))
+sys.path.insert(0, HERE)
+sys.pycache_prefix = f"{os.path.dirname(HERE)}/.build/pycache"
+
+import made  # noqa: E402
+
+
+def main(rt, words):
+    kit = made.kit_of(rt)
+    if not made.is_current(kit):
+        import build
+
+        status = build.build(rt, kit)
+        if status:
+            return status
+    # Python ignores these two, and the program would inherit that.
+    for it in (signal.SIGPIPE, signal.SIGXFSZ):
+        signal.signal(it, signal.SIG_DFL)
+    os.execv(made.PROGRAM, ["causal", *words])
+
+
+if __name__ == "__main__":
+    if signal.getsignal(signal.SIGINT) is signal.default_int_handler:
+        signal.signal(signal.SIGINT, signal.SIG_DFL)
+    try:
+        sys.exit(main(sys.argv[1], sys.argv[2:]))
+    except OSError as error:
+        print(f"causal: {error}", file=sys.stderr)
+        sys.exit(70)
