@@ -4,12 +4,16 @@
 use causal_cli::run;
 use causal_io::{CountedWriter, FileShelf};
 use std::env;
+use std::io::ErrorKind;
 use std::process::ExitCode;
 
 fn main(rt: HostRuntime) -> ExitCode {
     let alloc = rt.alloc();
-    let Ok(args) = env::args(&rt) else {
-        return ExitCode::from(2);
+    let args = match env::args(&rt) {
+        Ok(args) => args,
+        Err(error) if error.kind() == ErrorKind::OutOfMemory => return ExitCode::from(8),
+        // (a word that isn't UTF-8)
+        Err(_) => return ExitCode::from(2),
     };
     let Ok(words) = args.skip(1).collect::<Vec<String>>(alloc) else {
         return ExitCode::from(8);
