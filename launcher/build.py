@@ -86,7 +86,13 @@ def build_anew(rt, kit):
         os.replace(f"{made.PROGRAM}.new", made.PROGRAM)
         made.write_record(stamp, read, made.sum_of(made.PROGRAM))
     finally:
-        shutil.rmtree(scratch, ignore_errors=True)
+        remove(scratch)
+
+
+def remove(folder):
+    """Has the folder removed, which can take some seconds: nothing waits for it."""
+    quiet = {"stdin": subprocess.DEVNULL, "stdout": subprocess.DEVNULL, "stderr": subprocess.DEVNULL}
+    subprocess.Popen(["rm", "-rf", folder], start_new_session=True, **quiet)
 
 
 def sweep():
@@ -95,7 +101,7 @@ def sweep():
     for name in os.listdir(at):
         of = re.match(r"causal-build-(\d+)-", name)
         if of and not os.path.exists(f"/proc/{of[1]}"):
-            shutil.rmtree(f"{at}/{name}", ignore_errors=True)
+            remove(f"{at}/{name}")
 
 
 def copy_sources(scratch):
