@@ -33,7 +33,7 @@ class Interrupted(BaseException):
 
 
 def build(rt, kit):
-    """Builds the program where it isn't up to date, and returns 0, or 70 where it can't be built."""
+    """Builds the program where it isn't up to date."""
     was = {it: signal.getsignal(it) for it in ENDS}
     for it in ENDS:
         if was[it] is not signal.SIG_IGN:
@@ -44,13 +44,6 @@ def build(rt, kit):
             hold(lock)
             if not made.is_current(kit):
                 build_anew(rt, kit)
-        return 0
-    except (Failed, OSError, shutil.Error) as error:
-        print(f"causal: {error}", file=sys.stderr)
-        return 70
-    except SystemExit:
-        # (the toolchain has said why)
-        return 70
     except Interrupted as ended:
         print("causal: interrupted; the next start goes on with what was proved", file=sys.stderr)
         signal.signal(ended.args[0], signal.SIG_DFL)
@@ -86,7 +79,13 @@ def build_anew(rt, kit):
         os.replace(f"{made.PROGRAM}.new", made.PROGRAM)
         made.write_record(stamp, read, made.sum_of(made.PROGRAM))
     finally:
-        shutil.rmtree(scratch, ignore_errors=True)
+        remove(scratch)
+
+
+def remove(folder):
+    """Has the folder removed, which can take some seconds: nothing waits for it."""
+    quiet = {"stdin": subprocess.DEVNULL, "stdout": subprocess.DEVNULL, "stderr": subprocess.DEVNULL}
+    subprocess.Popen(["rm", "-rf", folder], start_new_session=True, **quiet)
 
 
 def sweep():
@@ -95,7 +94,7 @@ def sweep():
     for name in os.listdir(at):
         of = re.match(r"causal-build-(\d+)-", name)
         if of and not os.path.exists(f"/proc/{of[1]}"):
-            shutil.rmtree(f"{at}/{name}", ignore_errors=True)
+            remove(f"{at}/{name}")
 
 
 def copy_sources(scratch):
@@ -135,7 +134,11 @@ def stamp_of(top, kit):
         return known[crate.folder]
 
     rtlib.Crate.stamp = stamp_once
-    return rtlib.Crate(f"{top}/crates/causal", top, {}).stamp()
+    try:
+        return rtlib.Crate(f"{top}/crates/causal", top, {}).stamp()
+    except SystemExit:
+        # (it has said why)
+        raise Failed("the toolchain refuses the sources") from None
 
 
 def prove(rt, scratch, progress):

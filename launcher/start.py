@@ -15,9 +15,7 @@ def main(rt, words):
     if not made.is_current(kit):
         import build
 
-        status = build.build(rt, kit)
-        if status:
-            return status
+        build.build(rt, kit)
     # Python ignores these two, and the program would inherit that.
     for it in (signal.SIGPIPE, signal.SIGXFSZ):
         signal.signal(it, signal.SIG_DFL)
@@ -28,7 +26,8 @@ if __name__ == "__main__":
     if signal.getsignal(signal.SIGINT) is signal.default_int_handler:
         signal.signal(signal.SIGINT, signal.SIG_DFL)
     try:
-        sys.exit(main(sys.argv[1], sys.argv[2:]))
-    except OSError as error:
+        main(sys.argv[1], sys.argv[2:])
+    except Exception as error:
+        # (Python's own status 1 would be an answer)
         print(f"causal: {error}", file=sys.stderr)
         sys.exit(70)
