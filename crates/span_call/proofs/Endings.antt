@@ -1,5 +1,5 @@
 -- What statuses 6 and 7 say of a run over spans.
-use Rattle.std.proofs.Common.{◌≡◌, ℕ, ◌≤◌, Bool, true, false, List, is_none, refl, sym, ◌∙◌, arith}
+use Rattle.std.proofs.Common.{◌≡◌, ℕ, Bool, true, false, List, is_none, refl, sym, ◌∙◌, arith}
 use Rattle.word_forms.specs.Form.{Text}
 use Rattle.causal_io.specs.Causes.{Rose}
 use Rattle.spans.specs.declared.Span.{Span}
@@ -8,8 +8,8 @@ use Rattle.spans.specs.Parts.{place_named}
 use Rattle.span_call.specs.declared.Sizes.{Sizes}
 use Rattle.causal_cli.specs.declared.verdict.Verdict.{Verdict}
 use Rattle.causal_cli.specs.declared.verdict.Verdict.TheVariants.{Yes, No, Words, Graph, Second, Evaluation, Read, Write, Memory}
-use Rattle.causal_cli.specs.Run.{Stream, Run, code_of, Ended, Ends, Unread, Unwritten}
-use Rattle.span_call.specs.Called.{IsRunOf, Shows, Called, LacksInput, IsCutShort}
+use Rattle.causal_cli.specs.Run.{Run, code_of, Ends, Unread, Unwritten}
+use Rattle.span_call.specs.Called.{IsRunOf, Called, LacksInput, IsCutShort}
 
 -- where a read failed, no input has the name
 lacked_of : (bytes : List ℕ) (words : List Span) (inputs : List Input) (r : Run) → IsRunOf r bytes words inputs → (name : Text)
