@@ -1,0 +1,114 @@
+# The questions about a diagram alone. Each is a command of the library; its answer is read and kept beside its printed text.
+
+# An answer of a class: what was read, the printed text, and the diagram asked about.
+new_answer <- function(class, read, told, diagram) {
+  structure(c(read, list(text = sub("\n$", "", told$out), diagram = diagram)), class = c(class, "causal_answer"))
+}
+
+print.causal_answer <- function(x, ...) {
+  cat(x$text, "\n", sep = "")
+  invisible(x)
+}
+
+format.causal_answer <- function(x, ...) x$text
+
+as.character.causal_answer <- function(x, ...) x$text
+
+# Yes or no, of an answer that is one.
+as.logical.causal_answer <- function(x, ...) {
+  if (is.null(x$holds)) stop("this answer isn't yes or no")
+  x$holds
+}
+
+summary.causal_answer <- function(object, ...) object
+
+print.causal_path <- function(x, ...) {
+  cat(x$text, "\n", sep = "")
+  invisible(x)
+}
+
+as.character.causal_path <- function(x, ...) x$text
+
+separated <- function(diagram, x = NULL, y = NULL, given = NULL) {
+  diagram <- as_causal_diagram(diagram)
+  told <- ask("separate", diagram, c(option("x", x), option("y", y), option("given", given)))
+  new_answer("causal_separation", read_separation(told$lines), told, diagram)
+}
+
+rule_holds <- function(diagram, rule, y, z, do = NULL, given = NULL) {
+  diagram <- as_causal_diagram(diagram)
+  if (length(rule) != 1 || !rule %in% 1:3) stop("`rule` is 1, 2 or 3")
+  words <- c("--rule", as.character(as.integer(rule)), option("y", y), option("z", z), option("do", do), option("given", given))
+  told <- ask("rule", diagram, words)
+  new_answer("causal_rule", read_rule(told$lines), told, diagram)
+}
+
+# The name is that of an interactive call of the package graphics, to which everything but a diagram is handed on. It is called
+# from that package, so that its own methods are found.
+identify <- function(diagram, ...) UseMethod("identify")
+
+identify.default <- function(diagram, ...) do.call(graphics::identify, list(diagram, ...), envir = asNamespace("graphics"))
+
+identify.character <- function(diagram, ...) identify.causal_diagram(as_causal_diagram(diagram), ...)
+
+identify.dagitty <- identify.character
+
+identify.causal_diagram <- function(diagram, x = NULL, y = NULL, ...) {
+  if (...length()) stop("an argument that `identify` doesn't know")
+  words <- c(option("x", x), option("y", y))
+  told <- ask("identify", diagram, words)
+  certificate <- sub("\n$", "", ask("identify", diagram, c(words, "--certificate"))$out)
+  if (!told$yes) return(new_hedge(told, certificate, diagram))
+  latex <- ask("identify", diagram, c(words, "--latex"))$lines
+  read <- c(list(identifiable = TRUE), read_formula(told$lines))
+  read$latex <- if (length(read$free)) latex[-length(latex)] else latex
+  read$certificate <- certificate
+  new_answer("causal_formula", read, told, diagram)
+}
+
+new_hedge <- function(told, certificate, diagram) {
+  read <- c(list(identifiable = FALSE), read_hedge(told$lines), list(certificate = certificate))
+  new_answer("causal_hedge", read, told, diagram)
+}
+
+toLatex.causal_formula <- function(object, ...) structure(object$latex, class = "Latex")
+
+summary.causal_hedge <- function(object, ...) structure(object, class = c("summary.causal_hedge", class(object)))
+
+# The hedge without the two models.
+print.summary.causal_hedge <- function(x, ...) {
+  lines <- strsplit(x$text, "\n", fixed = TRUE)[[1]]
+  writeLines(lines[grepl("^(P|hedge|choice|link|event)", lines)])
+  invisible(x)
+}
+
+check_certificate <- function(diagram, certificate) {
+  diagram <- as_causal_diagram(diagram)
+  if (inherits(certificate, c("causal_formula", "causal_hedge"))) certificate <- certificate$certificate
+  told <- ask("check", diagram, "certificate", list(certificate = as_bytes(certificate)))
+  read <- read_judgement(told$lines)
+  new_answer("causal_judgement", c(list(holds = told$yes), read), told, diagram)
+}
+
+adjustment_sets <- function(diagram, x = NULL, y = NULL, most = 100) {
+  diagram <- as_causal_diagram(diagram)
+  if (length(most) != 1 || !is.numeric(most) || !most %in% 1:10000) stop("`most` is a whole number from 1 to 10000")
+  told <- ask("adjust", diagram, c(option("x", x), option("y", y), "--most", format(most, scientific = FALSE)))
+  new_answer("causal_sets", read_sets(told$lines), told, diagram)
+}
+
+as.list.causal_sets <- function(x, ...) x$sets
+
+adjusts <- function(diagram, set, x = NULL, y = NULL, back_door = FALSE) {
+  diagram <- as_causal_diagram(diagram)
+  words <- c(option("x", x), option("y", y), option("set", as.character(set)), flag("back-door", back_door))
+  told <- ask("adjust", diagram, words)
+  new_answer("causal_adjustment", read_adjustment(told$lines), told, diagram)
+}
+
+equivalent <- function(diagram, other) {
+  diagram <- as_causal_diagram(diagram)
+  other <- as_causal_diagram(other)
+  told <- ask("equivalent", diagram, "other", list(other = other$text))
+  new_answer("causal_equivalence", read_equivalence(told$lines), told, diagram)
+}

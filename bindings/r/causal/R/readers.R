@@ -1,0 +1,196 @@
+# The readers of the printed answers: one for each form. They split text, and decide nothing.
+
+# A name is printed bare, or between quotes where it has other characters. A set is {A,B}; a term of an effect P(..).
+name_form <- '(?:"[^"]*"|[^ \\t\\r\\n{}\\[\\]";=,<>@()|*/-]+)'
+set_form <- paste0("\\{(?:", name_form, "(?:,", name_form, ")*)?\\}")
+target_form <- paste0("P\\((?:", name_form, "|[,|]|do\\((?:", name_form, "|,)*\\))*\\)")
+
+# The parts of a line that has the form, without the whole; NULL where it hasn't.
+parts <- function(form, line) {
+  found <- regmatches(line, regexec(paste0("(?s)^", form, "$"), line, perl = TRUE))[[1]]
+  if (length(found)) found[-1] else NULL
+}
+
+# The same, for a line that has to have the form.
+parts_of <- function(form, line) {
+  found <- if (length(line) == 1 && !is.na(line)) parts(form, line)
+  if (is.null(found)) stop("the answer of the library isn't understood: ", line)
+  found
+}
+
+all_of <- function(form, text) regmatches(text, gregexpr(form, text, perl = TRUE))[[1]]
+
+unquote <- function(name) sub('(?s)^"(.*)"$', "\\1", name, perl = TRUE)
+
+read_names <- function(text) unquote(all_of(name_form, text))
+
+# An open path: its vertices and the marks between them.
+read_path <- function(line) {
+  steps <- all_of('"[^"]*"|[^ ]+', parts_of("open: (.*)", line))
+  odd <- seq_along(steps) %% 2 == 1
+  structure(list(vertices = unquote(steps[odd]), marks = steps[!odd], text = sub("^open: ", "", line)), class = "causal_path")
+}
+
+read_graph <- function(lines) {
+  inner <- lines[-c(1, length(lines))]
+  vertex <- paste0("(", name_form, ")(?: \\[(exposure|outcome|adjusted|latent)\\])?")
+  edge <- paste0("(", name_form, ") (->|<->) (", name_form, ")")
+  is_vertex <- !vapply(lapply(inner, parts, form = vertex), is.null, NA)
+  vertices <- table_of(lapply(inner[is_vertex], parts_of, form = vertex), c("name", "role"))
+  edges <- table_of(lapply(inner[!is_vertex], parts_of, form = edge), c("from", "edge", "to"))
+  vertices$name <- unquote(vertices$name)
+  edges$from <- unquote(edges$from)
+  edges$to <- unquote(edges$to)
+  list(vertices = vertices, edges = edges)
+}
+
+# Rows of text as a data frame.
+table_of <- function(rows, columns) {
+  table <- lapply(seq_along(columns), function(k) vapply(rows, `[`, "", k))
+  frame_of(stats::setNames(table, columns))
+}
+
+# Columns as a data frame, with any names.
+frame_of <- function(columns) {
+  names(columns) <- make.unique(names(columns))
+  structure(columns, class = "data.frame", row.names = .set_row_names(length(columns[[1]])))
+}
+
+read_separation <- function(lines) {
+  form <- paste0("(separated|not separated): (", set_form, ") from (", set_form, ") given (", set_form, ")")
+  found <- parts_of(form, lines[1])
+  list(holds = found[1] == "separated", x = read_names(found[2]), y = read_names(found[3]), given = read_names(found[4]),
+       path = if (found[1] != "separated") read_path(lines[2]))
+}
+
+read_rule <- function(lines) {
+  found <- parts_of("rule ([123]) (holds|does not hold): (.*)", lines[1])
+  list(rule = as.integer(found[1]), holds = found[2] == "holds", equation = found[3],
+       path = if (found[2] != "holds") read_path(lines[2]))
+}
+
+# A formula: the effect, the main expression, the definitions, and the free variables.
+read_formula <- function(lines) {
+  free <- if (length(lines) > 1) parts(paste0("free (", set_form, ")"), lines[length(lines)])
+  if (!is.null(free)) lines <- lines[-length(lines)]
+  found <- parts_of(paste0("(", target_form, ") = (.*)"), lines[1])
+  definitions <- vapply(lines[-1], function(line) parts_of("q[0-9]+ = (.*)", line), "", USE.NAMES = FALSE)
+  list(target = found[1], expression = found[2], definitions = definitions,
+       free = if (is.null(free)) character() else read_names(free))
+}
+
+is_hedge <- function(lines) length(lines) > 0 && !is.null(parts(paste0(target_form, " is not identifiable"), lines[1]))
+
+# A hedge. Where a certificate was accepted, its sets alone are printed.
+read_hedge <- function(lines) {
+  form <- paste0("hedge (", set_form, ") over (", set_form, ") with roots (", set_form, ")")
+  sets <- lapply(parts_of(form, lines[2]), read_names)
+  hedge <- list(target = parts_of(paste0("(", target_form, ") is not identifiable"), lines[1]),
+                big = sets[[1]], small = sets[[2]], roots = sets[[3]])
+  if (length(lines) == 2) return(hedge)
+  rest <- lines[-(1:2)]
+  hedge$choice <- read_pairs(rest, "choice", "->")
+  hedge$links <- read_pairs(rest, "link", "<->")
+  hedge$causes <- read_causes(rest)
+  hedge$first <- read_model(rest, "first")
+  hedge$second <- read_model(rest, "second")
+  c(hedge, read_event(rest[length(rest)]))
+}
+
+read_pairs <- function(lines, word, mark) {
+  lines <- lines[startsWith(lines, paste0(word, " "))]
+  form <- paste0(word, " (", name_form, ") ", mark, " (", name_form, ")")
+  pairs <- table_of(lapply(lines, parts_of, form = form), c("from", "to"))
+  pairs[] <- lapply(pairs, unquote)
+  pairs
+}
+
+# The hidden causes: their number, the vertices that they serve, and the weights of their two values.
+read_causes <- function(lines) {
+  lines <- lines[startsWith(lines, "cause ")]
+  form <- paste0("cause ([0-9]+) on (", set_form, ") with weights ([0-9]+) ([0-9]+)")
+  rows <- table_of(lapply(lines, parts_of, form = form), c("cause", "on", "weight_0", "weight_1"))
+  rows$on <- I(lapply(rows$on, read_names))
+  rows[c("cause", "weight_0", "weight_1")] <- lapply(rows[c("cause", "weight_0", "weight_1")], as.integer)
+  rows
+}
+
+# The bits of a model: each is the sum, modulo 2, of its terms.
+read_model <- function(lines, model) {
+  lines <- lines[startsWith(lines, paste0(model, " "))]
+  form <- paste0(model, " ([hk]\\(", name_form, "\\)) = (.*)")
+  rows <- table_of(lapply(lines, parts_of, form = form), c("bit", "terms"))
+  rows$terms <- I(lapply(rows$terms, all_of, form = paste0("[hk]\\(", name_form, "\\)|c[0-9]+")))
+  rows
+}
+
+read_event <- function(line) {
+  found <- parts_of("event (.*)even: (1/2) in the first, (1/2 \\+ 1/2\\^([0-9]+)) in the second", line)
+  bits <- all_of(paste0("k\\(", name_form, "\\)"), found[1])
+  list(event = unquote(substr(bits, 3, nchar(bits) - 1)), in_first = found[2], in_second = found[3],
+       difference = 2^-as.integer(found[4]))
+}
+
+# The judgement of a certificate: accepted with what it shows, or the first fault.
+read_judgement <- function(lines) {
+  if (lines[1] == "accepted") {
+    shown <- lines[-1]
+    if (is_hedge(shown)) return(list(accepted = TRUE, hedge = read_hedge(shown)))
+    return(list(accepted = TRUE, formula = read_formula(shown)))
+  }
+  refused <- parts_of("refused: (.*)", lines[1])
+  step <- parts("(main|lemma [0-9]+) step ([0-9]+) fault ([1-8])", refused)
+  if (!is.null(step)) {
+    return(list(accepted = FALSE, fault = as.integer(step[3]), at = step[1], step = as.integer(step[2]),
+                path = if (length(lines) > 1) read_path(lines[2])))
+  }
+  end <- parts("fault ([0-9]+)(?: at (main|lemma [0-9]+))?", refused)
+  if (!is.null(end)) return(list(accepted = FALSE, fault = as.integer(end[1]), at = if (nzchar(end[2])) end[2]))
+  hedge <- parts_of(paste0("hedge fault ([1-6])(?: at (", name_form, "|-))?"), refused)
+  list(accepted = FALSE, hedge_fault = as.integer(hedge[1]), at = if (!hedge[2] %in% c("", "-")) unquote(hedge[2]))
+}
+
+read_sets <- function(lines) {
+  if (identical(lines, "none")) return(list(sets = list(), more = FALSE))
+  more <- lines[length(lines)] == "more"
+  list(sets = lapply(lines[seq_len(length(lines) - more)], function(line) read_names(parts_of(paste0("(", set_form, ")"), line))),
+       more = more)
+}
+
+read_adjustment <- function(lines) {
+  found <- parts_of(paste0("(admissible|not admissible): (", set_form, ")"), lines[1])
+  answer <- list(holds = found[1] == "admissible", set = read_names(found[2]))
+  if (answer$holds) return(c(answer, read_formula(lines[-1])))
+  forbidden <- parts(paste0("forbidden: (", name_form, ")"), lines[2])
+  if (is.null(forbidden)) answer$path <- read_path(lines[2]) else answer$forbidden <- unquote(forbidden)
+  answer
+}
+
+# Whether two graphs are equivalent, or the first difference with its separation.
+read_equivalence <- function(lines) {
+  if (identical(lines, "equivalent")) return(list(holds = TRUE))
+  difference <- parts_of("not equivalent: (edge|collider) (.*) in the (first|second)", lines[1])
+  form <- paste0("separated in the (first|second) alone: (", set_form, ") from (", set_form, ") given (", set_form, ")")
+  separation <- parts_of(form, lines[2])
+  list(holds = FALSE, difference = difference[1], vertices = read_names(difference[2]), difference_in = difference[3],
+       separated_in = separation[1], x = read_names(separation[2]), y = read_names(separation[3]), given = read_names(separation[4]))
+}
+
+# The effects over a table of counts: the pinned levels, the cells, and the value of each as a fraction or as bounds.
+read_effects <- function(lines) {
+  is_pinned <- startsWith(lines, "pinned ")
+  level <- paste0(name_form, "=[^,|()]*")
+  levels <- paste0(level, "(?:,", level, ")*")
+  form <- paste0("P\\((", levels, ")(?:\\|do\\((", levels, ")\\))?\\) (?:= ([0-9]+/[0-9]+)|from ([0-9.]+) to ([0-9.]+))")
+  cells <- lapply(lines[!is_pinned], parts_of, form = form)
+  list(pinned = unlist(lapply(sub("^pinned ", "", lines[is_pinned]), read_levels)),
+       y = lapply(cells, function(cell) read_levels(cell[1])), x = lapply(cells, function(cell) read_levels(cell[2])),
+       fraction = vapply(cells, `[`, "", 3), from = vapply(cells, `[`, "", 4), to = vapply(cells, `[`, "", 5))
+}
+
+# A=1,B=2 as a named vector of text.
+read_levels <- function(text) {
+  pairs <- all_of(paste0(name_form, "=[^,|()]*"), text)
+  names <- vapply(pairs, function(pair) all_of(paste0("^", name_form), pair), "", USE.NAMES = FALSE)
+  stats::setNames(substring(pairs, nchar(names) + 2), unquote(names))
+}

@@ -1,0 +1,55 @@
+# The call into the library. Everything that the package tells comes from here.
+
+causal_run <- function(words, inputs = list()) {
+  if (!is.character(words) || anyNA(words)) stop("`words` has to be a character vector without missing values")
+  inputs <- as.list(inputs)
+  names <- names(inputs)
+  if (length(inputs) && (is.null(names) || anyNA(names))) stop("each input needs a name")
+  answer <- .Call(call_causal, enc2utf8(words), enc2utf8(as.character(names)), lapply(unname(inputs), as_bytes))
+  list(status = answer[[1]], out = as_text(answer[[2]]), err = as_text(answer[[3]]))
+}
+
+# The bytes of a text; several lines are joined by line feeds.
+as_bytes <- function(text) {
+  if (is.raw(text)) return(text)
+  if (!is.character(text) || anyNA(text)) stop("an input has to be text, or a raw vector")
+  charToRaw(enc2utf8(paste(text, collapse = "\n")))
+}
+
+# The text of bytes. A byte that isn't UTF-8 is shown as <xx>, and a null byte as <00>.
+as_text <- function(bytes) {
+  if (any(bytes == 0)) {
+    bytes <- unlist(lapply(bytes, function(b) if (b == 0) charToRaw("<00>") else b))
+  }
+  text <- rawToChar(bytes)
+  Encoding(text) <- "UTF-8"
+  if (validUTF8(text)) text else iconv(text, "UTF-8", "UTF-8", sub = "byte")
+}
+
+# Asks a question about a diagram. `yes` tells whether the status is 0; the status 1 is the answer no. Any other status is an
+# error of the class `causal_fault`. A fault of a value over counts (5) is handed back where the caller wants it.
+ask <- function(command, diagram, words = character(), inputs = list(), hand_back = integer()) {
+  answer <- causal_run(c(command, "diagram", words), c(list(diagram = diagram$text), inputs))
+  if (answer$status > 1 && !answer$status %in% hand_back) stop(causal_fault(answer, c(list(diagram = diagram$text), inputs)))
+  answer$yes <- answer$status == 0
+  answer$lines <- strsplit(answer$out, "\n", fixed = TRUE)[[1]]
+  answer
+}
+
+# An option with a list of names: no word for NULL, so that the marks of the diagram count.
+option <- function(name, names) {
+  if (is.null(names)) character() else c(paste0("--", name), list_word(names))
+}
+
+flag <- function(name, wanted) if (isTRUE(wanted)) paste0("--", name) else character()
+
+list_word <- function(names) {
+  names <- enc2utf8(as.character(names))
+  check_names(names)
+  if (length(names)) paste0('"', names, '"', collapse = ",") else "{}"
+}
+
+check_names <- function(names) {
+  bad <- is.na(names) | names == "" | grepl('"', names, fixed = TRUE)
+  if (any(bad)) stop("no name of a vertex is missing, empty or has a double quote in it: ", encodeString(names[bad][1]))
+}

@@ -1,0 +1,30 @@
+\name{causal-package}
+\alias{causal-package}
+\alias{causal}
+\docType{package}
+\title{Proved Answers on Causal Diagrams}
+\description{
+  The package asks the program \command{causal}, which runs inside the R process, what a causal diagram with hidden confounders
+  implies. The program was proved to meet its contract, so each answer is the right one for the diagram that was given.
+}
+\details{
+  A diagram (\code{\link{causal_diagram}}) is asked whether sets of vertices are separated (\code{\link{separated}}), whether a rule
+  of do-calculus applies (\code{\link{rule_holds}}), whether an effect can be computed from observations
+  (\code{\link{identify}}), whether somebody's derivation is right (\code{\link{check_certificate}}), what may be adjusted for
+  (\code{\link{adjustment_sets}}, \code{\link{adjusts}}), and whether it implies the same as another
+  (\code{\link{equivalent}}). Over a data frame \code{\link{evaluate}} gives the value of an effect, and \code{\link{contrast}}
+  differences and ratios of effects with intervals.
+
+  \strong{What is proved, and what isn't.} The status, the answer and the line that the library gives for its words and inputs
+  are proved. This package hands it text and reads its printed answers; that, the drawings, and all arithmetic with R's
+  numbers (\code{value} columns, contrasts and intervals) are only tested. An answer holds for the diagram: nothing can say
+  whether the diagram is right.
+
+  Sets are character vectors. Where \code{x}, \code{y} or \code{given} is \code{NULL} the marks of the diagram count:
+  \code{exposure}, \code{outcome} and \code{adjusted}. \code{character()} is the empty set. Vertices marked \code{latent} are
+  projected away before each question.
+
+  A refusal is a condition of the class \code{causal_fault}; see \code{\link{causal_fault}}.
+}
+\seealso{\code{vignette("causal")} goes from a diagram to an interval.}
+\keyword{package}

@@ -1,0 +1,73 @@
+\name{causal_diagram}
+\alias{causal_diagram}
+\alias{read_diagram}
+\alias{as_causal_diagram}
+\alias{as_causal_diagram.causal_diagram}
+\alias{as_causal_diagram.character}
+\alias{as_causal_diagram.dagitty}
+\alias{as_causal_diagram.data.frame}
+\alias{as_causal_diagram.default}
+\alias{as_causal_diagram.matrix}
+\alias{as.character.causal_diagram}
+\alias{format.causal_diagram}
+\alias{print.causal_diagram}
+\alias{summary.causal_diagram}
+\alias{print.summary.causal_diagram}
+\title{Causal Diagrams}
+\description{
+  Makes a diagram from the text of a graph, from a file, or from another object. The library reads the text, or refuses it with
+  the place of its first fault.
+}
+\usage{
+causal_diagram(text)
+read_diagram(file)
+as_causal_diagram(x, ...)
+\method{as_causal_diagram}{matrix}(x, bidirected = NULL, ...)
+\method{as_causal_diagram}{data.frame}(x, vertices = character(), ...)
+\method{print}{causal_diagram}(x, ...)
+\method{summary}{causal_diagram}(object, ...)
+}
+\arguments{
+  \item{text}{the text of a graph, as the \code{dag} text of DAGitty: a character vector, whose elements are lines.}
+  \item{file}{the name of a file with such a text in UTF-8, or a connection.}
+  \item{x}{an object to make a diagram of: text; an object of the package \pkg{dagitty}; an adjacency matrix, in which an entry
+    other than 0 in row \code{a} and column \code{b} is the edge from \code{a} to \code{b}; or a data frame of edges with the
+    columns \code{from} and \code{to}, and \code{edge} (\code{"->"}, \code{"<-"} or \code{"<->"}) where some are
+    bidirected. For the method \code{print} a diagram.}
+  \item{object}{a diagram.}
+  \item{bidirected}{a matrix of the same size, in which an entry other than 0 is a bidirected edge; one entry of the two for a
+    pair is enough.}
+  \item{vertices}{names of further vertices, in front of those of the edges.}
+  \item{...}{for matrices and data frames: \code{exposure}, \code{outcome}, \code{adjusted} and \code{latent}, the names of the
+    vertices with these roles.}
+}
+\details{
+  A text is \code{dag \{ .. \}} with statements such as \code{A}, \code{A [exposure]}, \code{A -> B <- C} and
+  \code{A <-> B}. A bidirected edge stands for hidden common causes; a hidden vertex may also be drawn and marked
+  \code{latent}. Names with spaces, commas or other marks stand between double quotes. Attributes such as \code{pos="1,2"}
+  are read and dropped. A graph has at most 64 names and a text at most 1048576 bytes.
+
+  Names are Unicode; text in another encoding that R knows is converted. No name has a double quote or a line feed in it.
+}
+\value{
+  A list of the class \code{causal_diagram}: \code{text} as it was given, \code{vertices} (a data frame with \code{name} and
+  \code{role}) and \code{edges} (a data frame with \code{from}, \code{edge} and \code{to}, each edge once). \code{format} and
+  \code{print} give the graph as the library writes it, \code{as.character} the text as it was given, and \code{summary} the
+  numbers of edges and the roles.
+}
+\seealso{\code{\link{plot.causal_diagram}}, \code{\link{project}}}
+\examples{
+front_door <- causal_diagram("dag { X [exposure] Y [outcome] X -> M -> Y X <-> Y }")
+front_door
+summary(front_door)
+
+edges <- data.frame(from = c("stone size", "stone size", "treatment"),
+                    to = c("treatment", "recovery", "recovery"))
+as_causal_diagram(edges, exposure = "treatment", outcome = "recovery")
+
+adjacency <- matrix(c(0, 1, 0, 0), 2, byrow = TRUE, dimnames = list(c("X", "Y"), c("X", "Y")))
+as_causal_diagram(adjacency, bidirected = adjacency)
+
+# A fault has a place
+tryCatch(causal_diagram("dag {\n  A -> B\n  B -- C\n}"), causal_fault = conditionMessage)
+}

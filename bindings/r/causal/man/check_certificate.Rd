@@ -1,0 +1,29 @@
+\name{check_certificate}
+\alias{check_certificate}
+\title{Is a Derivation Right?}
+\description{Judges a certificate of a formula or of a hedge, whoever wrote it.}
+\usage{check_certificate(diagram, certificate)}
+\arguments{
+  \item{diagram}{a diagram, or what \code{\link{as_causal_diagram}} takes.}
+  \item{certificate}{the text of a certificate, or an answer of \code{\link{identify}}.}
+}
+\details{
+  Proved: where a formula is accepted, it has no intervention and equals the effect in every positive finite model that fits the
+  diagram; where a hedge is accepted, it is one, and two positive models that fit the diagram agree on all observations and
+  differ on the effect. Otherwise the first refused step, or the first fault of the hedge, is given. A text that is no certificate is an error of the class \code{causal_certificate_fault}.
+
+  The faults of a step are: 1 it needs a term, 2 its sets, 3 the rule's separation doesn't hold (with an open path), 4 its order,
+  5 its grouping, 6 no such lemma, 7 no such place, 8 the form of what it is applied to. Fault 9 is that the steps end at
+  another formula, 10 that an intervention is left.
+}
+\value{
+  A list of the class \code{causal_judgement}: \code{accepted} (and \code{holds}, the same), with the \code{formula} or the
+  \code{hedge}; or, where it is refused, \code{fault}, \code{at} (\code{"main"} or a lemma, or a vertex), \code{step} and
+  \code{path}, or \code{hedge_fault}; and the printed \code{text}.
+}
+\examples{
+diagram <- causal_diagram("dag { X -> M -> Y X <-> Y }")
+formula <- identify(diagram, "X", "Y")
+check_certificate(diagram, formula)
+check_certificate("dag { X -> M -> Y X <-> Y X -> Y }", formula)
+}

@@ -1,0 +1,50 @@
+\name{evaluate}
+\alias{evaluate}
+\alias{print.causal_effects}
+\title{How Large Is an Effect?}
+\description{Computes the effect of \code{x} on \code{y} over a data frame, in bounds that hold or in exact fractions.}
+\usage{
+evaluate(diagram, data, x = NULL, y = NULL, count = NULL, exact = FALSE,
+         missing = c("error", "drop"))
+}
+\arguments{
+  \item{diagram}{a diagram, or what \code{\link{as_causal_diagram}} takes.}
+  \item{data}{a data frame with a column for each vertex that the formula, \code{x} or \code{y} names; other columns don't
+    matter. Or a contingency table (class \code{table}).}
+  \item{x, y}{names of the exposures and of the outcomes; \code{NULL} for the vertices with these marks.}
+  \item{count}{the name of the column of counts; \code{NULL} where each row is one record.}
+  \item{exact}{whether exact fractions are given, as text.}
+  \item{missing}{what is done where a column that the effect needs has a missing value: \code{"error"} is an error of the class
+    \code{causal_missing_values} with the \code{rows}; \code{"drop"} leaves the row out, and the answer says how many. Leaving rows
+    out is right only where what is missing is missing completely at random. To keep them, make missing a level of its own
+    (\code{\link{addNA}}).}
+}
+\details{
+  Each distinct value of a column is a level, so columns with many numbers have to be cut to a few classes first
+  (\code{\link{cut}}). Factors have the order of their levels, without those that don't occur; text is taken in order of first
+  appearance; numbers, truth values and dates are sorted. The answer has the values of the data, with their type.
+
+  Where the formula has a free variable it is pinned at its first level, which is named. For another level reorder the factor. Over
+  a model's own probabilities every level gives the same; over data they differ by chance.
+
+  \strong{What is proved}, of each value: it is the value of the formula of \code{\link{identify}} over the counts that the
+  library was given (the fraction exactly; the bounds enclose it), and it equals the effect, or its bounds enclose it, in each
+  positive model that fits the diagram and that the counts match. \strong{What is only computed} or tested: that the data frame
+  became these counts, and \code{value}, the nearest number of R.
+
+  A value is a plug-in value: it says nothing about its sampling error. See \code{\link{contrast}} for intervals.
+
+  A cell that no record supports is an error of the class \code{causal_evaluation_fault} with its \code{cell}; an effect that
+  isn't identifiable one of the class \code{causal_not_identifiable} with its \code{hedge}.
+}
+\value{
+  A data frame of the class \code{causal_effects}: a column for each vertex of \code{x} and of \code{y}, then \code{value}, and
+  \code{fraction} or the bounds \code{from} and \code{to} of 18 digits as text. A vertex with one of these names keeps it, and
+  the computed column gets a number. The attribute \code{pinned} is a list of the pinned levels, and \code{dropped} the number
+  of rows left out.
+}
+\examples{
+diagram <- causal_diagram("dag { T [exposure] R [outcome] S -> T S -> R T -> R }")
+evaluate(diagram, kidney_stones, count = "count")
+evaluate(diagram, kidney_stones, count = "count", exact = TRUE)
+}

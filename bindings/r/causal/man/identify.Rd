@@ -1,0 +1,57 @@
+\name{identify}
+\alias{identify}
+\alias{identify.causal_diagram}
+\alias{identify.character}
+\alias{identify.dagitty}
+\alias{identify.default}
+\alias{toLatex.causal_formula}
+\alias{summary.causal_hedge}
+\alias{print.summary.causal_hedge}
+\title{Can an Effect Be Computed from Observations?}
+\description{
+  Gives a formula for the effect of \code{x} on \code{y}, with a certificate; or a hedge, with two models that agree on all
+  that is observed and differ on the effect.
+}
+\usage{
+identify(diagram, ...)
+\method{identify}{causal_diagram}(diagram, x = NULL, y = NULL, ...)
+
+\method{toLatex}{causal_formula}(object, ...)
+\method{summary}{causal_hedge}(object, ...)
+}
+\arguments{
+  \item{diagram}{a diagram, its text, or an object of the package \pkg{dagitty}. Everything else is handed on to \code{\link[graphics]{identify}} of the package
+    \pkg{graphics}, which has the same name.}
+  \item{x, y}{names of the exposures and of the outcomes; \code{NULL} for the vertices with these marks.}
+  \item{object}{an answer.}
+  \item{...}{not used.}
+}
+\details{
+  Proved: a formula has no intervention in it and equals \eqn{P(y | do(x))} at every assignment, in every positive finite model
+  that fits the diagram. The two printed models of a hedge fit the diagram, are positive, agree on all observations, and differ on
+  the effect.
+
+  In a formula \code{sum\{M\}} reaches as far right as it can, and \code{q0}, \code{q1} and so on are the definitions. A free
+  variable, as the \code{Z} of the napkin, may be set to any value: the formula gives the same.
+}
+\value{
+  For a formula a list of the class \code{causal_formula}: \code{identifiable} (\code{TRUE}), \code{target},
+  \code{expression}, \code{definitions}, \code{free}, \code{latex} (lines; \code{toLatex} gives them too), \code{certificate}
+  and the printed \code{text}.
+
+  For a hedge a list of the class \code{causal_hedge}: \code{identifiable} (\code{FALSE}), \code{target}, the sets \code{big},
+  \code{small} and \code{roots}, the data frames \code{choice} and \code{links}, the hidden \code{causes} of both models, the
+  bits of the \code{first} and the \code{second} model, each the sum of its terms modulo 2, the vertices of the \code{event}
+  that the sum of their bits is even, its probabilities under the intervention, \code{in_first} and \code{in_second}, and
+  their \code{difference}, the \code{certificate} and the printed \code{text}. \code{summary} leaves the models out.
+}
+\seealso{\code{\link{check_certificate}}, \code{\link{evaluate}}}
+\examples{
+formula <- identify("dag { X [exposure] Y [outcome] X -> M -> Y X <-> Y }")
+formula
+toLatex(formula)
+
+hedge <- identify("dag { X -> Y X <-> Y }", x = "X", y = "Y")
+summary(hedge)
+hedge$difference
+}

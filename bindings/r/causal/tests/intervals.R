@@ -1,0 +1,56 @@
+# Contrasts and their intervals.
+library(causal)
+same <- function(a, b) stopifnot(identical(a, b))
+diagram <- causal_diagram("dag { T [exposure] R [outcome] S -> T S -> R T -> R }")
+near <- function(a, b) stopifnot(isTRUE(all.equal(a, b)))
+
+answer <- contrast(diagram, kidney_stones, count = "count", treated = "A", control = "B", resamples = 200, seed = 1)
+near(answer$difference, c(634983 / 762700 - 6231 / 8000, 127717 / 762700 - 1769 / 8000))
+near(answer$ratio[1], (634983 / 762700) / (6231 / 8000))
+stopifnot(answer$difference_lower < answer$difference, answer$difference < answer$difference_upper)
+stopifnot(answer$ratio_lower < answer$ratio, answer$ratio < answer$ratio_upper)
+same(attr(answer, "without_value"), 0L)
+print(answer)
+
+# A seed gives the same again, and leaves the session's random numbers alone
+set.seed(7)
+before <- .Random.seed
+again <- contrast(diagram, kidney_stones, count = "count", treated = "A", control = "B", resamples = 200, seed = 1)
+same(.Random.seed, before)
+same(as.list(again), as.list(answer))
+
+# The default arms are the two levels; other sets need them named
+default <- contrast(diagram, kidney_stones, count = "count", resamples = 0)
+same(attr(default, "treated"), list(T = "B"))
+same(default$treated, answer$control)
+stopifnot(is.na(default$difference_lower))
+stopifnot(inherits(try(contrast(diagram, kidney_stones, count = "count", treated = "C", control = "A"), silent = TRUE), "try-error"))
+two <- contrast("dag { A -> Y B -> Y }", data.frame(A = rep(0:1, 8), B = rep(0:1, each = 8), Y = rep(c(0, 1, 1), length.out = 16)),
+                c("A", "B"), "Y", treated = c(B = 1, A = 1), control = list(A = 0, B = 0), resamples = 20, seed = 3)
+same(attr(two, "treated"), list(A = 1L, B = 1L))
+same(nrow(two), 2L)
+
+# Few records: resamples without a value are counted, and left out
+few <- data.frame(S = c(0, 0, 1, 1, 0, 1), T = c(0, 1, 0, 1, 1, 0), R = c(0, 1, 1, 1, 0, 0))
+answer <- contrast(diagram, few, resamples = 100, seed = 2)
+stopifnot(attr(answer, "without_value") > 0, attr(answer, "without_value") < 100)
+
+# Data drawn from a model of the napkin: the interval covers the truth
+set.seed(20)
+n <- 20000
+flip <- function(chance) as.integer(stats::runif(n) < chance)
+first <- flip(0.5)
+second <- flip(0.4)
+W <- flip(0.2 + 0.3 * first + 0.3 * second)
+Z <- flip(0.3 + 0.4 * W)
+X <- flip(0.2 + 0.3 * Z + 0.3 * first)
+Y <- flip(0.1 + 0.3 * X + 0.4 * second)
+truth <- c(control = 0.1 + 0.4 * 0.4, treated = 0.4 + 0.4 * 0.4)
+napkin <- "dag { X [exposure] Y [outcome] W -> Z -> X -> Y W <-> X W <-> Y }"
+answer <- contrast(napkin, data.frame(W, Z, X, Y), resamples = 300, seed = 4)
+one <- answer[answer$Y == 1, ]
+stopifnot(one$difference_lower < 0.3, 0.3 < one$difference_upper)
+ratio <- truth[["treated"]] / truth[["control"]]
+stopifnot(one$ratio_lower < ratio, ratio < one$ratio_upper)
+same(names(attr(answer, "pinned")), "Z")
+stopifnot(inherits(try(contrast("dag { X -> Y X <-> Y }", data.frame(X, Y), "X", "Y"), silent = TRUE), "try-error"))

@@ -1,0 +1,60 @@
+-- What statuses 6 and 7 say of a run over spans.
+use Rattle.std.proofs.Common.{◌≡◌, ℕ, Bool, true, false, List, is_none, refl, sym, ◌∙◌, arith}
+use Rattle.word_forms.specs.Form.{Text}
+use Rattle.causal_io.specs.Causes.{Rose}
+use Rattle.spans.specs.declared.Span.{Span}
+use Rattle.spans.specs.declared.Input.{Input}
+use Rattle.spans.specs.Parts.{place_named}
+use Rattle.span_call.specs.declared.Sizes.{Sizes}
+use Rattle.causal_cli.specs.declared.verdict.Verdict.{Verdict}
+use Rattle.causal_cli.specs.declared.verdict.Verdict.TheVariants.{Yes, No, Words, Graph, Second, Evaluation, Read, Write, Memory}
+use Rattle.causal_cli.specs.Run.{Run, code_of, Ends, Unread, Unwritten}
+use Rattle.span_call.specs.Called.{IsRunOf, Called, LacksInput, IsCutShort}
+
+-- where a read failed, no input has the name
+lacked_of : (bytes : List ℕ) (words : List Span) (inputs : List Input) (r : Run) → IsRunOf r bytes words inputs → (name : Text)
+    → Rose (r.read_faults name) (r.read_faults_after name) → (b : Bool) → r.lacks name ≡ b → is_none (place_named bytes inputs name) ≡ true
+lacked_of bytes words inputs r is name rose true p = sym (is.lacks_is name) ∙ p
+lacked_of bytes words inputs r is name rose false p = absurd (omega (arith, rose, is.none_failed name, is.fails_lacked name p))
+
+unread_at : (r : Run) (text : List ℕ) (v : Verdict) → 6 ≡ code_of v → Ends r v text → Unread r
+unread_at r text Yes c h = absurd (omega (arith, c))
+unread_at r text No c h = absurd (omega (arith, c))
+unread_at r text Words c h = absurd (omega (arith, c))
+unread_at r text Graph c h = absurd (omega (arith, c))
+unread_at r text Second c h = absurd (omega (arith, c))
+unread_at r text Evaluation c h = absurd (omega (arith, c))
+unread_at r text Read c h = h.0
+unread_at r text Write c h = absurd (omega (arith, c))
+unread_at r text Memory c h = absurd (omega (arith, c))
+
+unwritten_at : (r : Run) (text : List ℕ) (v : Verdict) → 7 ≡ code_of v → Ends r v text → Unwritten r
+unwritten_at r text Yes c h = absurd (omega (arith, c))
+unwritten_at r text No c h = absurd (omega (arith, c))
+unwritten_at r text Words c h = absurd (omega (arith, c))
+unwritten_at r text Graph c h = absurd (omega (arith, c))
+unwritten_at r text Second c h = absurd (omega (arith, c))
+unwritten_at r text Evaluation c h = absurd (omega (arith, c))
+unwritten_at r text Read c h = absurd (omega (arith, c))
+unwritten_at r text Write c h = h.0
+unwritten_at r text Memory c h = absurd (omega (arith, c))
+
+pub lacks_input : (bytes : List ℕ) (words : List Span) (inputs : List Input) (out0 out err0 err : List ℕ) (sizes : Sizes) (code : ℕ)
+    → Called bytes words inputs out0 out err0 err sizes code → code ≡ 6 → LacksInput bytes words inputs
+lacks_input bytes words inputs out0 out err0 err sizes code called six =
+    let unread = unread_at called.run called.ended.text called.ended.verdict (sym six ∙ called.ended.status) called.ended.ends in
+    record {
+      run = called.run;
+      is_run = called.is_run;
+      unread = unread;
+      lacked = lacked_of bytes words inputs called.run called.is_run unread.name unread.rose (called.run.lacks unread.name) refl;
+    }
+
+pub cut_short : (bytes : List ℕ) (words : List Span) (inputs : List Input) (out0 out err0 err : List ℕ) (sizes : Sizes) (code : ℕ)
+    → Called bytes words inputs out0 out err0 err sizes code → code ≡ 7 → IsCutShort bytes words inputs out0 out sizes
+cut_short bytes words inputs out0 out err0 err sizes code called seven = record {
+  run = called.run;
+  is_run = called.is_run;
+  unwritten = unwritten_at called.run called.ended.text called.ended.verdict (sym seven ∙ called.ended.status) called.ended.ends;
+  shows_out = called.shows_out;
+}

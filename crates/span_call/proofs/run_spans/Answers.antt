@@ -1,0 +1,46 @@
+use Rattle.std.proofs.Common.{ap, ap₂, map, is_none, ◌∙◌, arith}
+use Rattle.std.specs.Prelude.{string_bytes}
+use Rattle.spans.specs.Parts.{place_named, content_named}
+use Rattle.spans.specs.Held.{lacks_in}
+use Rattle.span_call.proofs.Counts.{zero_or, unless}
+use Rattle.span_call.proofs.Endings.{lacks_input, cut_short}
+use Rattle.span_call.proofs.run_spans.Goals as goal
+
+pub returns-clause-called : goal.returns-clause-called
+returns-clause-called c = λ small. record {
+  run = _;
+  line = _;
+  is_run = record {
+    words_are = ap (map string_bytes) c.deref.ensures.value ∙ c.in-Ok.ensures.words;
+    held_is = λ name. ap₂ (λ b i. content_named b i name) c.of-shelf.ensures.bytes c.of-shelf.ensures.inputs;
+    lacks_is = λ name. ap₂ (λ b i. is_none (place_named b i name)) c.of-shelf.ensures.bytes c.of-shelf.ensures.inputs;
+    none_failed = λ name. zero_or (lacks_in c.of-shelf.result name) c.of-shelf.result.lacked c.of-shelf.ensures.faults;
+    fails_lacked = λ name there. unless (lacks_in c.run-status.new.shelf name) c.run-status.new.shelf.lacked (ap (λ f. f name) c.run-status.ensures.lack ∙ there);
+  };
+  ended = c.run-status.ensures.ended;
+  headline = c.run-status.ensures.headline;
+  shows_out = record {
+    text = c.bytes.result.now;
+    empty = c.new-text.ensures.written;
+    none_failed = c.new-text.ensures.faults;
+    wrote = c.bytes.ensures;
+    whole = c.show-sizes.ensures.whole;
+    front = c.show-sizes.ensures.front;
+    rest = c.show-sizes.ensures.rest;
+  };
+  shows_err = record {
+    text = c.bytes-2.result.now;
+    empty = c.new-line.ensures.written;
+    none_failed = c.new-line.ensures.faults;
+    wrote = c.bytes-2.ensures;
+    whole = c.show-sizes-2.ensures.whole;
+    front = c.show-sizes-2.ensures.front;
+    rest = c.show-sizes-2.ensures.rest;
+  };
+}
+
+pub returns-clause-lacked : goal.returns-clause-lacked
+returns-clause-lacked c = λ six. lacks_input _ _ _ _ _ _ _ _ _ (returns-clause-called c (omega (arith, six))) six
+
+pub returns-clause-cut_short : goal.returns-clause-cut_short
+returns-clause-cut_short c = λ seven. cut_short _ _ _ _ _ _ _ _ _ (returns-clause-called c (omega (arith, seven))) seven

@@ -1,0 +1,53 @@
+-- What a call over spans of bytes gives.
+use Rattle.std.specs.Prelude.{ℕ, ◌≡◌, [], List, Some, true, false, length, take, drop, min, is_none}
+use Rattle.word_forms.specs.Form.{Text}
+use Rattle.spans.specs.declared.Span.{Span}
+use Rattle.spans.specs.declared.Input.{Input}
+use Rattle.spans.specs.Parts.{place_named, content_named}
+use Rattle.spans.specs.Words.{texts}
+use Rattle.span_call.specs.declared.Sizes.{Sizes}
+use Rattle.causal_cli.specs.Run.{Stream, Run, Ended, Unread, Unwritten}
+use Rattle.causal_cli.specs.Headline.{Headline}
+
+-- the run is one over these words and inputs: its words are the spans' texts, what it holds under a name is the first input of that name,
+-- and a read fails only where no input has the name
+pub record IsRunOf (r : Run) (bytes : List ℕ) (words : List Span) (inputs : List Input) : Type 0 where
+  pub words_are : r.words ≡ texts bytes words
+  pub held_is : (name : Text) → r.held name ≡ content_named bytes inputs name
+  pub lacks_is : (name : Text) → r.lacks name ≡ is_none (place_named bytes inputs name)
+  pub none_failed : (name : Text) → r.read_faults name ≡ 0
+  pub fails_lacked : (name : Text) → r.lacks name ≡ false → r.read_faults_after name ≡ 0
+
+-- an output was empty, and has a text now; the room shows its front, or all of it, and stays as it was behind that
+pub record Shows (s : Stream) (before room : List ℕ) (size : ℕ) : Type 0 where
+  pub text : List ℕ
+  pub empty : s.before ≡ Some []
+  pub none_failed : s.faults ≡ 0
+  pub wrote : s.after ≡ Some text
+  pub whole : size ≡ length text
+  pub front : take (min size (length room)) room ≡ take (min size (length room)) text
+  pub rest : drop (min size (length room)) room ≡ drop (min size (length room)) before
+
+-- a run over the words and the inputs ended with this status, and the two rooms show what it wrote
+pub record Called (bytes : List ℕ) (words : List Span) (inputs : List Input) (out_before out err_before err : List ℕ) (sizes : Sizes) (code : ℕ) : Type 0 where
+  pub run : Run
+  pub line : Stream
+  pub is_run : IsRunOf run bytes words inputs
+  pub ended : Ended run line code
+  pub headline : Headline run code
+  pub shows_out : Shows run.out out_before out sizes.out
+  pub shows_err : Shows line err_before err sizes.err
+
+-- the words name an input that was to be read, and no input has that name
+pub record LacksInput (bytes : List ℕ) (words : List Span) (inputs : List Input) : Type 0 where
+  pub run : Run
+  pub is_run : IsRunOf run bytes words inputs
+  pub unread : Unread run
+  pub lacked : is_none (place_named bytes inputs unread.name) ≡ true
+
+-- the output's growth was refused, which it counts: it has a front of an answer, and the room shows that
+pub record IsCutShort (bytes : List ℕ) (words : List Span) (inputs : List Input) (before out : List ℕ) (sizes : Sizes) : Type 0 where
+  pub run : Run
+  pub is_run : IsRunOf run bytes words inputs
+  pub unwritten : Unwritten run
+  pub shows_out : Shows run.out before out sizes.out

@@ -1,0 +1,88 @@
+/* Answers about causal diagrams, over inputs in memory: the proved call of `causal`.
+ *
+ *     const char bytes[] = "separateg--xA--yCdag{A<-B->C}";
+ *     const causal_span words[] = {{0, 8}, {8, 9}, {9, 12}, {12, 13}, {13, 16}, {16, 17}};
+ *     const causal_input inputs[] = {{{8, 9}, {17, 29}}};
+ *     uint8_t out[256], err[256];
+ *     causal_sizes sizes;
+ *     uint8_t status = causal_run((const uint8_t *)bytes, 29, words, 6, inputs, 1,
+ *                                 out, sizeof out, err, sizeof err, &sizes);
+ *     // status is CAUSAL_NO, and out has sizes.out bytes: not separated: {A} from {C} given {} ..
+ *
+ * `bindings/build` makes the two libraries, libcausal.a and libcausal.so.
+ */
+#ifndef CAUSAL_H
+#define CAUSAL_H
+
+#include <stddef.h>
+#include <stdint.h>
+
+#ifdef __cplusplus
+extern "C" {
+#endif
+
+/* A part of `bytes`: from `start` up to `end`. One that goes past the end has the bytes that are there, and one whose
+ * `end` isn't behind its `start` is empty. */
+typedef struct causal_span {
+    size_t start, end;
+} causal_span;
+
+/* An input: where its name and its content stand. The first input of a name counts; later ones of that name are never
+ * read. The name `-` is a name as any other. */
+typedef struct causal_input {
+    causal_span name, content;
+} causal_input;
+
+/* How many bytes a call wrote, as an answer and as a line. */
+typedef struct causal_sizes {
+    size_t out, err;
+} causal_sizes;
+
+/* What a call gives. 0 to 5 and 8 are those of the program `causal`, as its README says, and so are the texts. */
+enum causal_status {
+    CAUSAL_YES = 0,        /* the answer is yes; it is in `out` */
+    CAUSAL_NO = 1,         /* the answer is no; it is in `out` */
+    CAUSAL_WORDS = 2,      /* the words aren't understood; `err` has a line */
+    CAUSAL_GRAPH = 3,      /* the graph or the target is refused; the line in `err` has the fault, and its place or name */
+    CAUSAL_SECOND = 4,     /* the second input is refused, likewise */
+    CAUSAL_NO_VALUE = 5,   /* the formula has no value over the counts; the line in `err` has the cell */
+    CAUSAL_NO_INPUT = 6,   /* the words name an input that isn't there; `err` has a line */
+    CAUSAL_CUT_SHORT = 7,  /* memory was refused while the answer was stored: `out` has a front of it, `err` a line */
+    CAUSAL_NO_MEMORY = 8,  /* memory was refused before; `err` has a line */
+    CAUSAL_NOT_TEXT = 9,   /* a word isn't UTF-8; nothing is written */
+    CAUSAL_NO_WORDS = 10   /* there is no memory for the words; nothing is written */
+};
+
+/* Runs the command that the words name over the inputs, and gives its status.
+ *
+ * bytes, length        what the spans are parts of
+ * words, word_count    the words of the command, as the program `causal` takes them, without its own name
+ * inputs, input_count  the inputs that the words may name
+ * out, out_room        room for the answer
+ * err, err_room        room for the line
+ * sizes                receives how many bytes the answer and the line have, whole
+ *
+ * Where the answer or the line has more bytes than its room, the room has the first of them: a call with more room gives
+ * the rest. What stands behind the answer or the line in a room stays as it was; no zero byte is added. At CAUSAL_NOT_TEXT
+ * and CAUSAL_NO_WORDS both sizes are 0.
+ *
+ * What the caller owes is what C asks of any call: each pointer leads to that many elements, aligned as their type is,
+ * and may be null only where the count is 0; `sizes` isn't null; and `out`, `err` and `sizes` overlap neither each other
+ * nor what is read, while `bytes`, `words` and `inputs` stay unchanged during the call. Spans may be any numbers, and may
+ * overlap. Nothing else is asked.
+ *
+ * The call keeps nothing and shares nothing: threads may call it at once, each with rooms of its own. It allocates with
+ * `malloc` and `realloc`, and frees all that it took before it returns. It reads no file and no environment, and writes to
+ * no stream. */
+uint8_t causal_run(const uint8_t *bytes, size_t length,
+                   const causal_span *words, size_t word_count,
+                   const causal_input *inputs, size_t input_count,
+                   uint8_t *out, size_t out_room,
+                   uint8_t *err, size_t err_room,
+                   causal_sizes *sizes);
+
+#ifdef __cplusplus
+}
+#endif
+
+#endif
