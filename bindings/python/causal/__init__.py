@@ -1,0 +1,69 @@
+"""Answers about causal diagrams with hidden confounders, from the proved library of `causal`.
+
+A `Diagram` is asked: whether sets are separated, whether a rule of do-calculus applies, for a formula of an effect or a hedge, for
+adjustment sets, and for effects in data. What each answer is proved to say stands in its class and method. Nothing about
+causality is computed in Python: each question is a call of the library, and its printed answer is read.
+
+>>> import causal
+>>> diagram = causal.Diagram("dag { X -> M -> Y X <-> Y }")
+>>> print(diagram.identify("X", "Y"))
+P(Y|do(X)) = sum{M} P(M|X) * (sum{X} P(X) * P(Y|X,M))
+"""
+from causal._library import Reply, run
+from causal.answers import Adjustment, AdjustmentSets, Check, Equivalence, Path, Refusal, RuleAnswer, Separation
+from causal.bootstrap import Bootstrap, ContrastInterval, Interval
+from causal.diagram import Diagram
+from causal.effects import Contrast, Effect, Effects, Value
+from causal.errors import (
+    CausalError,
+    CertificateError,
+    CountsError,
+    DiagramError,
+    EvaluationError,
+    LibraryMissing,
+    MissingValues,
+    NotIdentifiable,
+    RequestError,
+    TargetError,
+    UnreadableAnswer,
+)
+from causal.formula import Formula, Hedge, HedgeSets, Term
+from causal.version import VERSION
+
+__version__ = VERSION
+
+__all__ = [
+    "Adjustment",
+    "AdjustmentSets",
+    "Bootstrap",
+    "CausalError",
+    "CertificateError",
+    "Check",
+    "Contrast",
+    "ContrastInterval",
+    "CountsError",
+    "Diagram",
+    "DiagramError",
+    "Effect",
+    "Effects",
+    "Equivalence",
+    "EvaluationError",
+    "Formula",
+    "Hedge",
+    "HedgeSets",
+    "Interval",
+    "LibraryMissing",
+    "MissingValues",
+    "NotIdentifiable",
+    "Path",
+    "Refusal",
+    "Reply",
+    "RequestError",
+    "RuleAnswer",
+    "Separation",
+    "TargetError",
+    "Term",
+    "UnreadableAnswer",
+    "Value",
+    "run",
+]

@@ -1,0 +1,90 @@
+"""Diagrams from edges, from graphs of networkx and from matrices, and back."""
+from __future__ import annotations
+
+from typing import Any, Dict, Iterable, List, Mapping, Tuple
+
+from causal.answers import GraphText
+from causal.errors import RequestError
+from causal.names import Names, names_of, quoted
+
+ROLES = ("exposure", "outcome", "adjusted", "latent")
+Pair = Tuple[str, str]
+
+
+def text_of_edges(edges: Iterable[Pair], bidirected: Iterable[Pair], vertices: Iterable[str], roles: Mapping[str, Names]) -> str:
+    """The text of a diagram. Each name stands in quotes, and a vertex with two marks is written so, for the library to refuse.
+
+    >>> from causal.conversion import text_of_edges
+    >>> text_of_edges([("A", "B")], [], ["C"], {"exposure": "A"})
+    'dag {\\n"A" [exposure]\\n"B"\\n"C"\\n"A" -> "B"\\n}\\n'
+    """
+    directed, both = [tuple(edge) for edge in edges], [tuple(edge) for edge in bidirected]
+    marks: Dict[str, List[str]] = {name: [] for edge in (*directed, *both) for name in edge}
+    marks.update((name, []) for name in names_of(vertices) if name not in marks)
+    for role, names in roles.items():
+        if role not in ROLES:
+            raise RequestError(f"a vertex can be {', '.join(ROLES)}, and not {role}")
+        for name in names_of(names):
+            marks.setdefault(name, []).append(role)
+    lines = [quoted(name) + (f" [{','.join(dict.fromkeys(own))}]" if own else "") for name, own in marks.items()]
+    lines += [f"{quoted(a)} -> {quoted(b)}" for a, b in directed]
+    lines += [f"{quoted(a)} <-> {quoted(b)}" for a, b in both]
+    return "\n".join(["dag {", *lines, "}", ""])
+
+
+def _texts_of(labels: Iterable[Any]) -> Dict[Any, str]:
+    """The name of each label. Two labels may not have one name."""
+    names = {label: str(label) for label in labels}
+    if len(set(names.values())) < len(names):
+        raise RequestError("two vertices have the same name as text")
+    return names
+
+
+def text_of_networkx(graph: Any, roles: Mapping[str, Names]) -> str:
+    """The text of the diagram of a directed graph of networkx."""
+    if not graph.is_directed():
+        raise RequestError("the graph isn't directed")
+    names = _texts_of(graph.nodes)
+    marks = {role: list(names_of(members)) for role, members in roles.items()}
+    for label, attributes in graph.nodes(data=True):
+        own = [attributes.get("role"), "latent" if attributes.get("latent") else None]
+        for role in dict.fromkeys(role for role in own if role):
+            marks.setdefault(role, []).append(names[label])
+    directed, both = [], []
+    for a, b, attributes in graph.edges(data=True):
+        (both if attributes.get("bidirected") else directed).append((names[a], names[b]))
+    return text_of_edges(directed, both, names.values(), marks)
+
+
+def text_of_pandas(adjacency: Any, bidirected: Iterable[Pair], roles: Mapping[str, Names]) -> str:
+    """The text of the diagram of an adjacency matrix."""
+    names = list(_texts_of(adjacency.columns).values())
+    if names != list(_texts_of(adjacency.index).values()):
+        raise RequestError("the rows and columns of an adjacency matrix have the same names in the same order")
+    if adjacency.isna().to_numpy().any():
+        raise RequestError("an adjacency matrix has no missing values")
+    entries = adjacency.to_numpy().tolist()
+    edges = [(a, b) for a, row in zip(names, entries) for b, entry in zip(names, row) if entry]
+    return text_of_edges(edges, bidirected, names, roles)
+
+
+def to_networkx(content: GraphText, mixed: bool) -> Any:
+    """The graph of networkx: a `DiGraph` with a latent vertex for each bidirected edge, or a `MultiDiGraph`."""
+    try:
+        import networkx
+    except ImportError as cause:
+        raise ImportError("a graph of networkx needs networkx") from cause
+    graph = networkx.MultiDiGraph() if mixed else networkx.DiGraph()
+    for vertex in content.vertices:
+        graph.add_node(vertex, **({"role": content.roles[vertex]} if vertex in content.roles else {}))
+    graph.add_edges_from(content.edges)
+    for a, b in content.bidirected:
+        if mixed:
+            graph.add_edge(a, b, bidirected=True)
+            continue
+        hidden = f"{a}<->{b}"
+        while hidden in graph:
+            hidden += "'"
+        graph.add_node(hidden, role="latent")
+        graph.add_edges_from([(hidden, a), (hidden, b)])
+    return graph

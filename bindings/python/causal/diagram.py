@@ -1,0 +1,523 @@
+"""Diagrams, and the questions about them."""
+from __future__ import annotations
+
+import os
+import random
+from typing import TYPE_CHECKING, Any, Dict, Iterable, List, Mapping, Optional, Sequence, Tuple, Union
+
+from causal import answers, effects, faults, formula
+from causal._library import Text, as_bytes, run
+from causal.bootstrap import Bootstrap, ContrastInterval, drawn
+from causal.effects import Contrast, Effects, Level
+from causal.errors import CausalError, EvaluationError, NotIdentifiable, RequestError
+from causal.formula import Formula, Hedge, HedgeSets
+from causal.names import Names, list_word, names_of
+from causal.tables import Data, Table, is_path, read_bytes, table_of
+
+if TYPE_CHECKING:
+    import matplotlib.axes
+    import networkx
+    import pandas
+
+FILE = "diagram"
+SECOND = "second"
+
+
+def _options(**lists: Optional[Names]) -> List[Text]:
+    """The words of the options that are given: lists of names."""
+    return [word for name, names in lists.items() if names is not None for word in (f"--{name}", list_word(names))]
+
+
+class Diagram:
+    """A causal diagram: vertices, directed edges, and bidirected edges for hidden common causes.
+
+    The text is the `dag` text of DAGitty. A vertex may be marked `exposure`, `outcome`, `adjusted` or `latent`. Where a question
+    takes exposures x and outcomes y, those that are marked are meant unless others are given; latent vertices are projected away.
+
+    >>> from causal import Diagram
+    >>> diagram = Diagram("dag { T [exposure] R [outcome] S -> T -> R <- S }")
+    >>> print(diagram.identify())
+    P(R|do(T)) = sum{S} P(S) * P(R|T,S)
+    >>> diagram.vertices, diagram.roles
+    (('T', 'R', 'S'), {'T': 'exposure', 'R': 'outcome'})
+    """
+
+    def __init__(self, text: Text) -> None:
+        self._source = as_bytes(text)
+        self._text = self._ask("graph")[1]
+        self._content = answers.read_graph(self._text)
+
+    # Where diagrams come from.
+
+    @classmethod
+    def from_file(cls, path: Union[str, "os.PathLike[str]"]) -> "Diagram":
+        """The diagram that a file holds.
+
+        >>> from causal import Diagram
+        >>> Diagram.from_file("no/such/file.dag")
+        Traceback (most recent call last):
+            ...
+        FileNotFoundError: [Errno 2] No such file or directory: 'no/such/file.dag'
+        """
+        return cls(read_bytes(path))
+
+    @classmethod
+    def from_edges(
+        cls,
+        edges: Iterable[Tuple[str, str]],
+        *,
+        bidirected: Iterable[Tuple[str, str]] = (),
+        vertices: Iterable[str] = (),
+        exposure: Names = (),
+        outcome: Names = (),
+        adjusted: Names = (),
+        latent: Names = (),
+    ) -> "Diagram":
+        """The diagram of pairs of names. Vertices without an edge are listed.
+
+        >>> from causal import Diagram
+        >>> print(Diagram.from_edges([("X", "M"), ("M", "Y")], bidirected=[("X", "Y")], exposure="X", outcome="Y"))
+        dag {
+        X [exposure]
+        M
+        Y [outcome]
+        X -> M
+        M -> Y
+        X <-> Y
+        }
+        """
+        from causal.conversion import text_of_edges
+
+        roles = {"exposure": exposure, "outcome": outcome, "adjusted": adjusted, "latent": latent}
+        return cls(text_of_edges(edges, bidirected, vertices, roles))
+
+    @classmethod
+    def from_networkx(cls, graph: "networkx.Graph", **roles: Names) -> "Diagram":
+        """The diagram of a directed graph of networkx.
+
+        A vertex has the name `str(vertex)`. Its attribute `role` may be a mark, and a true attribute `latent` marks it so; marks
+        can be given as in `from_edges`. An edge with a true attribute `bidirected` is one.
+
+        >>> import networkx
+        >>> from causal import Diagram
+        >>> print(Diagram.from_networkx(networkx.DiGraph([("X", "Y")]), exposure="X").text)
+        dag {
+        X [exposure]
+        Y
+        X -> Y
+        }
+        """
+        from causal.conversion import text_of_networkx
+
+        return cls(text_of_networkx(graph, roles))
+
+    @classmethod
+    def from_pandas(
+        cls, adjacency: "pandas.DataFrame", *, bidirected: Iterable[Tuple[str, str]] = (), **roles: Names
+    ) -> "Diagram":
+        """The diagram of an adjacency matrix: the row is joined to the column where the entry isn't 0.
+
+        Rows and columns have the same names. Marks are given as in `from_edges`.
+
+        >>> import pandas
+        >>> from causal import Diagram
+        >>> Diagram.from_pandas(pandas.DataFrame([[0, 1], [0, 0]], index=["X", "Y"], columns=["X", "Y"])).edges
+        (('X', 'Y'),)
+        """
+        from causal.conversion import text_of_pandas
+
+        return cls(text_of_pandas(adjacency, bidirected, roles))
+
+    # What a diagram is.
+
+    @property
+    def text(self) -> str:
+        """The diagram's text as the program prints it.
+
+        >>> from causal import Diagram
+        >>> Diagram("dag { A -> B; B <-> C }").text
+        'dag {\\nA\\nB\\nC\\nA -> B\\nB <-> C\\n}\\n'
+        """
+        return self._text
+
+    @property
+    def vertices(self) -> Tuple[str, ...]:
+        """The vertices in order."""
+        return self._content.vertices
+
+    @property
+    def roles(self) -> Dict[str, str]:
+        """The mark of each vertex that has one: `exposure`, `outcome`, `adjusted` or `latent`."""
+        return dict(self._content.roles)
+
+    @property
+    def edges(self) -> Tuple[Tuple[str, str], ...]:
+        """The directed edges."""
+        return self._content.edges
+
+    @property
+    def bidirected(self) -> Tuple[Tuple[str, str], ...]:
+        """The bidirected edges."""
+        return self._content.bidirected
+
+    def __str__(self) -> str:
+        return self._text.rstrip("\n")
+
+    def __repr__(self) -> str:
+        return f"Diagram({self._text!r})"
+
+    def __eq__(self, other: object) -> bool:
+        return isinstance(other, Diagram) and self._text == other._text
+
+    def __hash__(self) -> int:
+        return hash(self._text)
+
+    def project(self) -> "Diagram":
+        """The diagram of the observed vertices: a hidden common cause becomes a bidirected edge (the latent projection).
+
+        >>> from causal import Diagram
+        >>> Diagram("dag { U [latent] U -> X U -> Y X -> Y }").project().bidirected
+        (('X', 'Y'),)
+        """
+        return Diagram(self._ask("graph", "--project")[1])
+
+    def to_networkx(self, mixed: bool = False) -> "networkx.DiGraph":
+        """The diagram as a graph of networkx; marks are the attribute `role`.
+
+        A bidirected edge becomes a vertex with the role `latent` and two edges, so that what networkx says of separation is about
+        this diagram too. With `mixed=True` the graph is a `MultiDiGraph`, in which it is an edge with the attribute `bidirected`.
+
+        >>> from causal import Diagram
+        >>> diagram = Diagram("dag { X -> Y X <-> Y }")
+        >>> sorted(diagram.to_networkx().edges)
+        [('X', 'Y'), ('X<->Y', 'X'), ('X<->Y', 'Y')]
+        >>> Diagram.from_networkx(diagram.to_networkx()).project() == diagram
+        True
+        """
+        from causal.conversion import to_networkx
+
+        return to_networkx(self._content, mixed)
+
+    def plot(
+        self,
+        *,
+        path: Optional[answers.Path] = None,
+        hedge: Optional[HedgeSets] = None,
+        positions: Optional[Mapping[str, Tuple[float, float]]] = None,
+        ax: Optional["matplotlib.axes.Axes"] = None,
+    ) -> "matplotlib.axes.Axes":
+        """Draws the diagram with matplotlib: marks by colour, bidirected edges dashed, a path or a hedge drawn out.
+
+        Positions are found by layers unless they are given.
+
+        >>> import matplotlib
+        >>> matplotlib.use("Agg")
+        >>> from causal import Diagram
+        >>> diagram = Diagram("dag { A -> B <- C }")
+        >>> axes = diagram.plot(path=diagram.separated("A", "C", given="B").path)
+        """
+        from causal.plotting import plot
+
+        return plot(self._content, path, hedge, positions, ax)
+
+    # Questions about a diagram.
+
+    def separated(self, x: Optional[Names] = None, y: Optional[Names] = None, given: Optional[Names] = None) -> answers.Separation:
+        """Whether x and y are separated given a set: the answer counts as true where they are, and else has an open path.
+
+        A missing set is that of the vertices marked `exposure`, `outcome` or `adjusted`.
+
+        >>> from causal import Diagram
+        >>> print(Diagram("dag { A -> B <- C }").separated("A", "C", given="B"))
+        not separated: {A} from {C} given {B}
+        open: A -> B <- C
+        """
+        return answers.read_separation(self._ask("separate", *_options(x=x, y=y, given=given))[1])
+
+    def rule(self, number: int, y: Names, z: Names, do: Names = (), given: Names = ()) -> answers.RuleAnswer:
+        """Whether a rule of do-calculus applies: the answer counts as true where it does, and else has an open path.
+
+        Rule 1 leaves z out of what is observed, rule 2 observes z in place of doing it, rule 3 leaves z out of what is done.
+
+        >>> from causal import Diagram
+        >>> print(Diagram("dag { X -> M -> Y X <-> Y }").rule(2, y="M", z="X"))
+        rule 2 holds: P(M|do(X)) = P(M|X)
+        """
+        words = ["--rule", str(number), *_options(y=y, z=z, do=do, given=given)]
+        return answers.read_rule(self._ask("rule", *words)[1])
+
+    def identify(self, x: Optional[Names] = None, y: Optional[Names] = None) -> Union[Formula, Hedge]:
+        """A formula for the effect of x on y, or a hedge, which counts as false.
+
+        It is proved that the formula is the effect in every positive finite model that fits the diagram, or that the hedge's two
+        models agree on all observations and differ on the effect.
+
+        >>> from causal import Diagram
+        >>> napkin = Diagram("dag { W -> Z -> X -> Y W <-> X W <-> Y }").identify("X", "Y")
+        >>> print(napkin.expression, napkin.definitions, napkin.free)
+        q0 / (sum{Y} q0) ('sum{W} P(W) * P(X|W,Z) * P(Y|W,Z,X)',) ('Z',)
+        >>> bool(Diagram("dag { X -> Y X <-> Y }").identify("X", "Y"))
+        False
+        """
+        options = _options(x=x, y=y)
+        status, text = self._ask("identify", *options)
+
+        def ask(form: str) -> str:
+            return self._ask("identify", *options, form)[1].rstrip("\n")
+
+        return formula.read_hedge(text, ask) if status == 1 else formula.read_formula(text, ask)
+
+    def check(self, certificate: Union[Text, Formula, Hedge]) -> answers.Check:
+        """Whether a certificate is accepted, whoever wrote it: the answer counts as true where it is.
+
+        >>> from causal import Diagram
+        >>> diagram = Diagram("dag { X -> Y X <-> Y }")
+        >>> print(diagram.check(diagram.identify("X", "Y")))
+        accepted
+        P(Y|do(X)) is not identifiable
+        hedge {X,Y} over {Y} with roots {Y}
+        """
+        text = certificate.certificate if isinstance(certificate, (Formula, Hedge)) else certificate
+        if text is None:
+            raise RequestError("this answer has no certificate: only those of identify have one")
+        return answers.read_check(self._ask("check", second=as_bytes(text))[1])
+
+    def adjustment_sets(
+        self, x: Optional[Names] = None, y: Optional[Names] = None, most: Optional[int] = None
+    ) -> answers.AdjustmentSets:
+        """The minimal sets that may be adjusted for: all, or as many as `most` says (100 unless given).
+
+        >>> from causal import Diagram
+        >>> list(Diagram("dag { Z -> X Z -> Y X -> Y }").adjustment_sets("X", "Y"))
+        [('Z',)]
+        """
+        limit = [] if most is None else ["--most", str(most)]
+        return answers.read_sets(self._ask("adjust", *_options(x=x, y=y), *limit)[1])
+
+    def adjusts(
+        self, members: Names, x: Optional[Names] = None, y: Optional[Names] = None, back_door: bool = False
+    ) -> answers.Adjustment:
+        """Whether a set may be adjusted for, by the adjustment criterion or by the back-door criterion.
+
+        >>> from causal import Diagram
+        >>> print(Diagram("dag { Z -> X Z -> Y X -> Y }").adjusts("Z", "X", "Y"))
+        admissible: {Z}
+        P(Y|do(X)) = sum{Z} P(Z) * P(Y|Z,X)
+        """
+        words = [*_options(x=x, y=y, set=members), *(["--back-door"] if back_door else [])]
+        return answers.read_adjustment(self._ask("adjust", *words)[1])
+
+    def equivalent(self, other: "Diagram") -> answers.Equivalence:
+        """Whether two diagrams without hidden common causes imply the same: the answer counts as true where they do.
+
+        >>> from causal import Diagram
+        >>> bool(Diagram("dag { A -> B -> C }").equivalent(Diagram("dag { A <- B -> C }")))
+        True
+        """
+        return answers.read_equivalence(self._ask("equivalent", second=other._source)[1])
+
+    # Effects in data.
+
+    def evaluate(
+        self,
+        data: Data,
+        x: Optional[Names] = None,
+        y: Optional[Names] = None,
+        *,
+        count: Optional[str] = None,
+        exact: bool = False,
+        missing: str = "error",
+    ) -> "pandas.DataFrame":
+        """The effects of x on y in the data, as a DataFrame (it needs pandas): see `effects`, which says what is proved.
+
+        >>> import pandas
+        >>> from causal import Diagram
+        >>> data = pandas.DataFrame({"T": ["A", "A", "B", "B"], "R": ["good", "bad", "good", "good"]})
+        >>> print(Diagram("dag { T -> R }").evaluate(data, "T", "R", exact=True))
+           T     R  estimate exact
+        0  A  good       0.5   1/2
+        1  A   bad       0.5   1/2
+        2  B  good       1.0     1
+        3  B   bad       0.0     0
+        """
+        return self.effects(data, x, y, count=count, exact=exact, missing=missing).frame()
+
+    def effects(
+        self,
+        data: Data,
+        x: Optional[Names] = None,
+        y: Optional[Names] = None,
+        *,
+        count: Optional[str] = None,
+        exact: bool = False,
+        missing: str = "error",
+    ) -> Effects:
+        """The effects of x on y in the data: the values of the formula of `identify` over the counts.
+
+        The data is a DataFrame, a mapping of columns, or the path of a CSV file, with a column for each variable of the formula;
+        `count` names a column of counts, and without it each record counts 1. Values are bounds of 18 digits, or with `exact`
+        fractions. Each value is proved to be the formula's value over the counts, and so to cover the effect in each positive
+        model that fits the diagram and that the counts match. Nothing is said of sampling error: see `bootstrap`.
+
+        Levels are the values of a column, whatever they are, in order of first appearance; those of a `Categorical` in the order
+        of its categories, of which those without a record are left out. A variable that the formula reads beside x and y is
+        pinned at its first level. A missing value in a used column is refused as `MissingValues`; with `missing="drop"` its
+        record is left out, and the answer's `dropped` counts these (which estimates the effect among complete records: whether
+        that is the effect wanted isn't decided here). A file is read by the library itself; an empty field in it is a level.
+
+        `NotIdentifiable` is raised with a hedge where there is no formula, `EvaluationError` with a cell where a term has no
+        records.
+
+        >>> from causal import Diagram
+        >>> data = {"S": ["small", "small", "large", "large"] * 2, "T": ["A", "B"] * 4, "R": ["good"] * 5 + ["bad"] * 3}
+        >>> print(Diagram("dag { S -> T -> R <- S }").effects(data, "T", "R", exact=True))
+        P(R=good|do(T=A)) = 3/4
+        P(R=bad|do(T=A)) = 1/4
+        P(R=good|do(T=B)) = 1/2
+        P(R=bad|do(T=B)) = 1/2
+        """
+        found = self._formula(x, y)
+        if not is_path(data):
+            return self._over_table(found, table_of(data, self._used(found), count, missing), exact)
+        words = [] if count is None else [f"--count={count}"]
+        return self._over_text(found, read_bytes(data), [*words, *(["--exact"] if exact else [])])
+
+    def contrast(
+        self,
+        data: Data,
+        x: Optional[Names] = None,
+        y: Optional[Names] = None,
+        *,
+        treated: Any,
+        control: Any,
+        outcome: Any,
+        count: Optional[str] = None,
+        exact: bool = True,
+        missing: str = "error",
+    ) -> Contrast:
+        """The risk difference and the risk ratio of two levels of x, for a level of y.
+
+        The levels are given as they stand in the data; where x or y has several variables, as a mapping or in the order of the
+        target. Both effects are proved, as `effects` says; the difference and the ratio are computed from their fractions. For
+        intervals see `bootstrap(..).contrast(..)`.
+
+        >>> from causal import Diagram
+        >>> data = {"T": ["A", "A", "B", "B"], "R": [1, 0, 1, 1]}
+        >>> contrast = Diagram("dag { T -> R }").contrast(data, "T", "R", treated="A", control="B", outcome=1)
+        >>> contrast.difference.exact, contrast.ratio.exact
+        (Fraction(-1, 2), Fraction(1, 2))
+        """
+        found = self.effects(data, x, y, count=count, exact=exact, missing=missing)
+        target = found.formula.target
+        return found.contrast(levels_at(target.y, outcome), levels_at(target.x, treated), levels_at(target.x, control))
+
+    def bootstrap(
+        self,
+        data: Data,
+        x: Optional[Names] = None,
+        y: Optional[Names] = None,
+        *,
+        count: Optional[str] = None,
+        missing: str = "error",
+        resamples: int = 1000,
+        level: float = 0.95,
+        seed: int = 0,
+    ) -> Bootstrap:
+        """The effects with intervals by the bootstrap (percentiles of resampled tables of counts).
+
+        As many records as there are are drawn with replacement, `resamples` times, and the effects asked for again. What is
+        proved is each value over its counts; the interval is only computed. A draw has the levels of x, of y and of pinned
+        variables that the data has; a level of another variable that isn't drawn is left out of that draw. A draw with a cell
+        that has no value is left out and counted (`without_value`): where these are many, the interval says little.
+
+        The same data, seed and number of resamples give the same interval.
+
+        >>> from causal import Diagram
+        >>> data = {"T": ["A", "B"] * 40, "R": [1, 0, 1, 1] * 20}
+        >>> answer = Diagram("dag { T -> R }").bootstrap(data, "T", "R", resamples=200, seed=3)
+        >>> contrast = answer.contrast({"R": 1}, {"T": "A"}, {"T": "B"})
+        >>> contrast.contrast.difference.is_exact, contrast.difference.lower > 0, answer.without_value
+        (False, True, 0)
+        """
+        if resamples < 1 or not 0 < level < 1:
+            raise RequestError("resamples is at least 1, and level lies between 0 and 1")
+        found = self._formula(x, y)
+        table = table_of(data, self._used(found), count, missing)
+        estimate = self._over_table(found, table, exact=False)
+        if is_path(data):
+            self._same_as_file(found, estimate, data, count)
+        source = random.Random(seed)
+        draws = [self._draw(found, table, source) for _ in range(resamples)]
+        return Bootstrap(estimate, tuple(draws), level, seed)
+
+    # Calls of the library.
+
+    def _ask(self, command: str, *options: Text, second: Optional[bytes] = None, levels: Any = None) -> Tuple[int, str]:
+        """The status and the answer. A refusal is raised."""
+        inputs: Dict[Text, Text] = {FILE: self._source}
+        words: List[Text] = [command, FILE]
+        if second is not None:
+            inputs[SECOND] = second
+            words.append(SECOND)
+        status, out, err = run([*words, *options], inputs)
+        if status > 1:
+            faults.raise_refusal(status, err, [*words, *options], faults.Sources(self._source, second or b"", levels))
+        return status, out.decode("utf-8", "surrogateescape")
+
+    def _formula(self, x: Optional[Names], y: Optional[Names]) -> Formula:
+        answer = self.identify(x, y)
+        if isinstance(answer, Hedge):
+            raise NotIdentifiable(f"{answer.target} is not identifiable", place=answer)
+        return answer
+
+    def _used(self, found: Formula) -> Tuple[str, ...]:
+        """The variables that the formula reads, in the order of the observed vertices."""
+        used = found.variables
+        return tuple(name for name in self.vertices if name in used)
+
+    def _evaluated(self, found: Formula, text: bytes, options: Sequence[Text], level_of: effects.LevelOf, dropped: int) -> Effects:
+        used = self._used(found)
+
+        def cell(told: str) -> Optional[Dict[str, object]]:
+            split = effects.split_levels(told, "", "", [used], "")
+            return {name: level_of(name, level) for name, level in zip(used, split[0])} if split else None
+
+        words = [*_options(x=found.target.x, y=found.target.y), *options]
+        return effects.read_effects(self._ask("evaluate", *words, second=text, levels=cell)[1], found, level_of, dropped)
+
+    def _over_text(self, found: Formula, text: bytes, options: Sequence[Text]) -> Effects:
+        return self._evaluated(found, text, options, lambda name, level: level, 0)
+
+    def _over_table(self, found: Formula, table: Table, exact: bool, text: Optional[bytes] = None) -> Effects:
+        options = [f"--count={table.count_column}", *(["--exact"] if exact else [])]
+        return self._evaluated(found, table.text() if text is None else text, options, table.level, table.dropped)
+
+    def _same_as_file(self, found: Formula, estimate: Effects, data: Data, count: Optional[str]) -> None:
+        """The library reads the file itself too: both readings have to give the same."""
+        direct = self._over_text(found, read_bytes(data), [] if count is None else [f"--count={count}"])
+        if direct.effects != estimate.effects or direct.pinned != estimate.pinned:
+            raise CausalError("the file isn't plain CSV: Python reads it otherwise than the library does; give a DataFrame instead")
+
+    def _draw(self, found: Formula, table: Table, source: random.Random) -> Optional[Tuple[float, ...]]:
+        kept = {*found.target.x, *found.target.y, *found.free}
+        text = table.text(drawn(source, table.counts), kept)
+        try:
+            return tuple(float(effect.value) for effect in self._over_table(found, table, exact=False, text=text))
+        except EvaluationError:
+            return None
+
+
+def levels_at(names: Sequence[str], levels: Any) -> Dict[str, Level]:
+    """Levels by name, from a mapping, from a list in the order of the names, or from a single level.
+
+    >>> from causal.diagram import levels_at
+    >>> levels_at(["T"], "A"), levels_at(["S", "T"], ["small", "A"])
+    ({'T': 'A'}, {'S': 'small', 'T': 'A'})
+    """
+    if isinstance(levels, Mapping):
+        return {name: levels[name] for name in names}
+    if len(names) == 1:
+        return {names[0]: levels}
+    if isinstance(levels, str) or len(names_of(levels)) != len(names):
+        raise RequestError(f"a level is needed for each of {', '.join(names)}")
+    return dict(zip(names, levels))

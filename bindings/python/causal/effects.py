@@ -1,0 +1,311 @@
+"""Effects computed from data: the values of a formula over counts, and contrasts of them."""
+from __future__ import annotations
+
+import math
+import re
+from dataclasses import dataclass
+from fractions import Fraction
+from typing import TYPE_CHECKING, Any, Callable, Dict, Hashable, Iterator, List, Mapping, Optional, Sequence, Tuple, Union
+
+from causal.errors import RequestError, UnreadableAnswer
+from causal.formula import Formula, Term
+from causal.names import printed_name
+
+if TYPE_CHECKING:
+    import pandas
+
+Level = Hashable
+# Finds the level of a variable for what is printed for it.
+LevelOf = Callable[[str, str], Level]
+
+
+@dataclass(frozen=True)
+class Value:
+    """A value between two fractions, which are equal where it is exact. The true value is proved to lie between them.
+
+    >>> from fractions import Fraction
+    >>> from causal.effects import Value
+    >>> value = Value(Fraction(1, 3), Fraction(1, 3))
+    >>> value.exact, value.is_exact
+    (Fraction(1, 3), True)
+    >>> Value(Fraction(0), Fraction(1, 2)).floats()
+    (0.0, 0.5)
+    """
+
+    lower: Fraction
+    upper: Fraction
+
+    @property
+    def is_exact(self) -> bool:
+        """Whether the value is known exactly."""
+        return self.lower == self.upper
+
+    @property
+    def exact(self) -> Fraction:
+        """The value, where it is exact."""
+        if not self.is_exact:
+            raise RequestError("the value is known within bounds alone; ask for exact=True")
+        return self.lower
+
+    def __float__(self) -> float:
+        return float((self.lower + self.upper) / 2)
+
+    def __str__(self) -> str:
+        if self.is_exact:
+            return f"= {self.lower.numerator}/{self.lower.denominator}"
+        return f"from {_digits(self.lower)} to {_digits(self.upper)}"
+
+    def floats(self) -> Tuple[float, float]:
+        """The bounds as floats, rounded outward, so that they still hold."""
+        lower, upper = float(self.lower), float(self.upper)
+        if Fraction(lower) > self.lower:
+            lower = math.nextafter(lower, -math.inf)
+        if Fraction(upper) < self.upper:
+            upper = math.nextafter(upper, math.inf)
+        return lower, upper
+
+    def minus(self, other: "Value") -> "Value":
+        """The difference.
+
+        >>> from fractions import Fraction
+        >>> from causal.effects import Value
+        >>> Value(Fraction(1, 2), Fraction(3, 4)).minus(Value(Fraction(1, 8), Fraction(1, 4)))
+        Value(lower=Fraction(1, 4), upper=Fraction(5, 8))
+        """
+        return Value(self.lower - other.upper, self.upper - other.lower)
+
+    def over(self, other: "Value") -> Optional["Value"]:
+        """The ratio, or None where the divisor may be 0.
+
+        >>> from fractions import Fraction
+        >>> from causal.effects import Value
+        >>> Value(Fraction(1, 2), Fraction(3, 4)).over(Value(Fraction(1, 4), Fraction(1, 2)))
+        Value(lower=Fraction(1, 1), upper=Fraction(3, 1))
+        """
+        return Value(self.lower / other.upper, self.upper / other.lower) if other.lower > 0 else None
+
+
+def _digits(value: Fraction) -> str:
+    """The value with 18 digits behind the point."""
+    units = value * 10**18
+    return f"{units // 10**18}.{int(units % 10**18):018d}"
+
+
+@dataclass(frozen=True)
+class Effect:
+    """One probability `P(y | do(x))`: the levels of y and of x, and its value."""
+
+    y: Dict[str, Level]
+    x: Dict[str, Level]
+    value: Value
+
+    def __str__(self) -> str:
+        return f"{_cell_text(self.y, self.x)} {self.value}"
+
+
+def _cell_text(y: Mapping[str, Level], x: Mapping[str, Level]) -> str:
+    outcomes, exposures = [",".join(f"{printed_name(name)}={level}" for name, level in cell.items()) for cell in (y, x)]
+    return f"P({outcomes}|do({exposures}))" if x else f"P({outcomes})"
+
+
+@dataclass(frozen=True)
+class Effects(Sequence[Effect]):
+    """The effects of a formula over counts, at each level of the exposures and the outcomes.
+
+    Each value is proved: it is the formula's value over the counts, exactly or within the bounds, and so covers the effect in
+    each positive model that fits the diagram and that the counts match. How far the counts of a sample are from those of the
+    population isn't in it: see `Diagram.bootstrap`.
+
+    `formula` is the formula; `pinned` has the level at which each variable stands that the formula reads beside the target's
+    sets; `exact` says whether exact fractions were asked for; `dropped` says how many records were left out since they lacked a
+    value.
+
+    >>> from causal import Diagram
+    >>> effects = Diagram("dag{ X -> Y }").effects({"X": ["a", "a", "b"], "Y": [0, 1, 1]}, "X", "Y", exact=True)
+    >>> print(effects)
+    P(Y=0|do(X=a)) = 1/2
+    P(Y=1|do(X=a)) = 1/2
+    P(Y=0|do(X=b)) = 0/1
+    P(Y=1|do(X=b)) = 1/1
+    >>> effects.at({"Y": 1}, {"X": "a"}).exact
+    Fraction(1, 2)
+    """
+
+    formula: Formula
+    effects: Tuple[Effect, ...]
+    pinned: Dict[str, Level]
+    exact: bool = False
+    dropped: int = 0
+
+    def __len__(self) -> int:
+        return len(self.effects)
+
+    def __getitem__(self, index: Any) -> Any:
+        return self.effects[index]
+
+    def __iter__(self) -> Iterator[Effect]:
+        return iter(self.effects)
+
+    def __str__(self) -> str:
+        pins = [f"pinned {printed_name(name)}={level}" for name, level in self.pinned.items()]
+        return "\n".join([*pins, *map(str, self.effects)])
+
+    def place(self, y: Mapping[str, Level], x: Mapping[str, Level]) -> int:
+        """The number of the effect at these levels."""
+        for k, effect in enumerate(self.effects):
+            if effect.y == dict(y) and effect.x == dict(x):
+                return k
+        raise RequestError(f"there is no effect {_cell_text(y, x)} in the data")
+
+    def at(self, y: Mapping[str, Level], x: Mapping[str, Level]) -> Value:
+        """The value at these levels."""
+        return self.effects[self.place(y, x)].value
+
+    def contrast(self, outcome: Mapping[str, Level], treated: Mapping[str, Level], control: Mapping[str, Level]) -> "Contrast":
+        """The contrast of two levels of the exposures.
+
+        >>> from causal import Diagram
+        >>> effects = Diagram("dag{ X -> Y }").effects({"X": ["a", "a", "b"], "Y": [0, 1, 1]}, "X", "Y", exact=True)
+        >>> effects.contrast({"Y": 1}, {"X": "a"}, {"X": "b"}).difference.exact
+        Fraction(-1, 2)
+        """
+        return Contrast(self.at(outcome, treated), self.at(outcome, control))
+
+    def frame(self) -> "pandas.DataFrame":
+        """A DataFrame with a row for each effect (it needs pandas).
+
+        Its columns are the pinned variables, the exposures and the outcomes, then `estimate`, a float, and either `exact`, a
+        `Fraction`, or `lower` and `upper`, floats that are rounded outward. A value's column whose name a variable has is followed
+        by `_`.
+
+        >>> import pandas
+        >>> from causal import Diagram
+        >>> data = pandas.DataFrame({"X": ["a", "a", "b"], "Y": [0, 1, 1]})
+        >>> print(Diagram("dag{ X -> Y }").effects(data, "X", "Y", exact=True).frame())
+           X  Y  estimate exact
+        0  a  0       0.5   1/2
+        1  a  1       0.5   1/2
+        2  b  0       0.0     0
+        3  b  1       1.0     1
+        """
+        heads = ("estimate", "exact") if self.exact else ("estimate", "lower", "upper")
+        values = [(float(e.value), *((e.value.exact,) if self.exact else e.value.floats())) for e in self.effects]
+        return self.frame_with(heads, values)
+
+    def frame_with(self, heads: Sequence[str], values: Sequence[Sequence[Any]]) -> "pandas.DataFrame":
+        """A DataFrame of the levels with further columns."""
+        pandas = _pandas()
+        names = [*self.pinned, *self.formula.target.x, *self.formula.target.y]
+        rows = [[*self.pinned.values(), *e.x.values(), *e.y.values(), *value] for e, value in zip(self.effects, values)]
+        return pandas.DataFrame(rows, columns=[*names, *(_apart(head, names) for head in heads)])
+
+    def _repr_html_(self) -> Optional[str]:
+        try:
+            return self.frame().to_html()
+        except ImportError:
+            return None
+
+
+def _apart(head: str, names: Sequence[str]) -> str:
+    while head in names:
+        head += "_"
+    return head
+
+
+def _pandas() -> Any:
+    try:
+        import pandas
+    except ImportError as cause:
+        raise ImportError("a DataFrame needs pandas; `effects` gives the same values without it") from cause
+    return pandas
+
+
+@dataclass(frozen=True)
+class Contrast:
+    """Two effects compared: the risk difference and the ratio of `treated` and `control`.
+
+    Both effects are proved; the difference and the ratio are computed here from their fractions, exactly or outward.
+
+    >>> from fractions import Fraction
+    >>> from causal.effects import Contrast, Value
+    >>> contrast = Contrast(Value(Fraction(1, 2), Fraction(1, 2)), Value(Fraction(1, 4), Fraction(1, 4)))
+    >>> contrast.difference.exact, contrast.ratio.exact
+    (Fraction(1, 4), Fraction(2, 1))
+    """
+
+    treated: Value
+    control: Value
+
+    @property
+    def difference(self) -> Value:
+        """The risk difference: treated less control."""
+        return self.treated.minus(self.control)
+
+    @property
+    def ratio(self) -> Optional[Value]:
+        """The risk ratio: treated over control, or None where control may be 0."""
+        return self.treated.over(self.control)
+
+
+_EXACT = r" = ([0-9]+)/([0-9]+)"
+_BOUNDS = r" from ([0-9]+\.[0-9]+) to ([0-9]+\.[0-9]+)"
+
+
+def _levels_pattern(names: Sequence[str], level: str) -> str:
+    return ",".join(f"{re.escape(printed_name(name))}={level}" for name in names)
+
+
+def split_levels(text: str, before: str, after: str, groups: Sequence[Sequence[str]], between: str) -> Optional[List[Tuple[str, ...]]]:
+    """The levels that stand in a printed text for groups of names, or None where it can be split in several ways or in none.
+
+    >>> from causal.effects import split_levels
+    >>> split_levels("S=large,T=B", "", "", [["S", "T"]], "")
+    [('large', 'B')]
+    >>> split_levels("S=a,T=b,T=c", "", "", [["S", "T"]], "") is None
+    True
+    """
+    found = []
+    for level in ("(.*?)", "(.*)"):
+        middle = between.join(_levels_pattern(names, level) for names in groups)
+        found.append(re.fullmatch(before + middle + after, text))
+    if not found[0] or not found[1] or found[0].groups() != found[1].groups():
+        return None
+    levels = list(found[0].groups())
+    return [tuple(levels.pop(0) for _ in names) for names in groups] + ([tuple(levels)] if levels else [])
+
+
+def _read_effect(line: str, target: Term, level_of: LevelOf) -> Effect:
+    is_exact = re.search(r" = [0-9]+/[0-9]+\Z", line) is not None
+    groups = [target.y, target.x] if target.x else [target.y]
+    after = (r"\)\)" if target.x else r"\)") + (_EXACT if is_exact else _BOUNDS)
+    split = split_levels(line, r"P\(", after, groups, r"\|do\(")
+    if split is None:
+        raise UnreadableAnswer(f"a level holds marks of the answer, which can't be told apart: {line!r}; give a DataFrame instead of a path")
+    parts = split.pop()
+    lower, upper = (Fraction(int(parts[0]), int(parts[1])),) * 2 if is_exact else map(Fraction, parts)
+    cells = [{name: level_of(name, level) for name, level in zip(names, levels)} for names, levels in zip(groups, split)]
+    return Effect(cells[0], cells[1] if target.x else {}, Value(lower, upper))
+
+
+def read_effects(text: str, formula: Formula, level_of: LevelOf = lambda name, level: level, dropped: int = 0) -> Effects:
+    """Reads the answer of `evaluate` for a formula.
+
+    >>> from causal.effects import read_effects
+    >>> from causal.formula import read_formula
+    >>> effects = read_effects("P(Y=b|do(X=a)) = 1/3\\n", read_formula("P(Y|do(X)) = P(Y|X)"))
+    >>> effects[0].y, effects[0].x, effects[0].value.exact
+    ({'Y': 'b'}, {'X': 'a'}, Fraction(1, 3))
+    """
+    lines = text[:-1].split("\n")
+    pinned: Dict[str, Level] = {}
+    for name in formula.free:
+        head = f"pinned {printed_name(name)}="
+        if not lines[0].startswith(head):
+            raise UnreadableAnswer(f"the library answered what this package doesn't read: {lines[0]!r}")
+        pinned[name] = level_of(name, lines.pop(0)[len(head) :])
+    effects = tuple(_read_effect(line, formula.target, level_of) for line in lines)
+    cells = [len({effect.y[name] for effect in effects}) for name in formula.target.y]
+    cells += [len({effect.x[name] for effect in effects}) for name in formula.target.x]
+    if math.prod(cells) != len(effects):
+        raise UnreadableAnswer("a level holds a line feed, so the answer can't be told apart; give a DataFrame instead of a path")
+    return Effects(formula, effects, pinned, all(re.search(r" = [0-9]+/[0-9]+\Z", line) for line in lines), dropped)

@@ -1,0 +1,177 @@
+"""What the package raises: each refusal with its number, a sentence in plain words, its place, and the line of the text."""
+from __future__ import annotations
+
+from typing import Any, Dict, NamedTuple, Optional, Tuple
+
+
+class CausalError(Exception):
+    """A refusal.
+
+    `number` is the fault's number, or None; `sentence` says it in plain words; `place` is where it is, of a kind that each
+    subclass tells; `excerpt` is the line of the text with a caret, or empty; `printed` is the line that the library wrote.
+
+    >>> from causal import CausalError, Diagram
+    >>> try:
+    ...     Diagram("dag { a ->")
+    ... except CausalError as error:
+    ...     print(error)
+    graph fault 3 at line 1, column 11: something else is expected here
+    dag { a ->
+              ^
+    """
+
+    stage = ""
+
+    def __init__(self, sentence: str, number: Optional[int] = None, place: Any = None, excerpt: str = "", printed: str = "") -> None:
+        super().__init__(sentence, number, place, excerpt, printed)
+        self.sentence = sentence
+        self.number = number
+        self.place = place
+        self.excerpt = excerpt
+        self.printed = printed
+
+    def __str__(self) -> str:
+        head = f"{self.stage} fault {self.number}" if self.number is not None else ""
+        if isinstance(self.place, TextPlace):
+            head += f" at line {self.place.line}, column {self.place.column}"
+        text = f"{head}: {self.sentence}" if head else self.sentence
+        return f"{text}\n{self.excerpt}" if self.excerpt else text
+
+
+class TextPlace(NamedTuple):
+    """A place in a text: the number of bytes before it, and its line and column, counted in characters from 1."""
+
+    byte: int
+    line: int
+    column: int
+
+
+class DiagramError(CausalError):
+    """A text that is no diagram. The place is a `TextPlace`, a tuple of names (the vertex, or the cycle), or None.
+
+    >>> from causal import Diagram, DiagramError
+    >>> try:
+    ...     Diagram("dag { a -> b b -> a }")
+    ... except DiagramError as error:
+    ...     print(error.number, error.place)
+    11 ('a', 'b')
+    """
+
+    stage = "graph"
+
+
+class TargetError(CausalError):
+    """Sets of vertices that can't be asked about. The place is a tuple of the names that are at fault.
+
+    >>> from causal import Diagram, TargetError
+    >>> try:
+    ...     Diagram("dag { X -> Y }").identify("X", "Q")
+    ... except TargetError as error:
+    ...     print(error)
+    target fault 1: no vertex is named Q
+    """
+
+    stage = "target"
+
+
+class CertificateError(CausalError):
+    """A certificate that can't be read. The place is the key, the number of the version or the name at fault, or None.
+
+    >>> from causal import CertificateError, Diagram
+    >>> try:
+    ...     Diagram("dag { X -> Y }").check("{}")
+    ... except CertificateError as error:
+    ...     print(error)
+    certificate fault 2: the value at the key version is missing, or hasn't its form
+    """
+
+    stage = "certificate"
+
+
+class CountsError(CausalError):
+    """Data that can't be read as counts. The place is the number of a record (from 1), the name of a column, or None.
+
+    >>> from causal import CountsError, Diagram
+    >>> try:
+    ...     Diagram("dag { X -> Y }").effects({"X": ["a"], "Z": ["b"]}, "X", "Y")
+    ... except CountsError as error:
+    ...     print(error)
+    counts fault 2: there is no column Y
+    """
+
+    stage = "counts"
+
+
+class MissingValues(CountsError):
+    """A used column has missing values. The place is a tuple of its name and of how many records lack a value.
+
+    >>> from causal import Diagram, MissingValues
+    >>> try:
+    ...     Diagram("dag { X -> Y }").effects({"X": ["a", None], "Y": ["b", "b"]}, "X", "Y")
+    ... except MissingValues as error:
+    ...     print(error)
+    the column X has no value in 1 of 2 records; give missing="drop" to leave such records out
+    """
+
+
+class EvaluationError(CausalError):
+    """The formula has no value over the counts. The place is an `EvaluationPlace`.
+
+    >>> from causal import Diagram, EvaluationError
+    >>> data = {"S": ["s", "s", "t"], "T": ["a", "b", "a"], "R": ["r", "r", "r"]}
+    >>> try:
+    ...     Diagram("dag { S -> T S -> R T -> R }").effects(data, "T", "R")
+    ... except EvaluationError as error:
+    ...     print(error)
+    evaluation fault 1: no record has what is given in a term of the formula (node 3 of the formula), at S=t, T=b, R=r
+    """
+
+    stage = "evaluation"
+
+
+class EvaluationPlace(NamedTuple):
+    """Where a formula has no value: the number of the definition (None for the formula itself), the number of the node in it,
+    and the level of each used vertex there (None where it isn't told, or can't be told)."""
+
+    definition: Optional[int]
+    node: int
+    cell: Optional[Dict[str, Any]]
+
+
+class NotIdentifiable(CausalError):
+    """The effect can't be computed from observations. The place is the `Hedge` that shows it.
+
+    >>> from causal import Diagram, NotIdentifiable
+    >>> try:
+    ...     Diagram("dag { X -> Y X <-> Y }").effects({"X": ["a"], "Y": ["b"]}, "X", "Y")
+    ... except NotIdentifiable as error:
+    ...     print(error, error.place.big)
+    P(Y|do(X)) is not identifiable ('X', 'Y')
+    """
+
+
+class RequestError(CausalError, ValueError):
+    """What was asked isn't understood."""
+
+
+class UnreadableAnswer(CausalError):
+    """An answer that this package doesn't read: a library of another version, or levels that hold the answer's own marks."""
+
+
+class LibraryMissing(CausalError, ImportError):
+    """The shared library isn't there, or can't be used."""
+
+
+def caret_under(text: bytes, at: int) -> Tuple[TextPlace, str]:
+    """The place of a byte of the text, and its line with a caret below.
+
+    >>> from causal.errors import caret_under
+    >>> caret_under("dag {\\n\\tå -- b }".encode(), 10)
+    (TextPlace(byte=10, line=2, column=4), '\\tå -- b }\\n\\t  ^')
+    """
+    start = text.rfind(b"\n", 0, at) + 1
+    end = text.find(b"\n", at)
+    line = text[start : end if end >= 0 else len(text)].rstrip(b"\r").decode("utf-8", "replace")
+    before = text[start:at].decode("utf-8", "replace")
+    under = "".join(c if c == "\t" else " " for c in before)
+    return TextPlace(at, text.count(b"\n", 0, start) + 1, len(before) + 1), f"{line}\n{under}^"
