@@ -19,7 +19,7 @@ class BuildWithLibrary(build_py):
 
     def run(self):
         super().run()
-        if self.editable_mode:
+        if getattr(self, "editable_mode", False):
             return
         if not os.path.isfile(LIBRARY):
             raise SystemExit(

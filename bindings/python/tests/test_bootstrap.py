@@ -1,0 +1,126 @@
+"""The bootstrap: its draws, and that its interval covers the truth on data drawn from a model of the napkin."""
+import random
+import unittest
+from collections import Counter
+
+from worked import read_example
+
+import causal
+from causal import Diagram
+from causal.bootstrap import binomial, drawn, interval_of
+
+NAPKIN = Diagram(read_example("napkin.dag"))
+
+
+class Draws(unittest.TestCase):
+    """Draws of counts."""
+
+    def test_binomial(self):
+        source = random.Random(5)
+        for n, p in ((1, 0.5), (12, 0.1), (13, 0.9), (100, 0.3), (10**6, 0.001), (10**12, 0.5)):
+            with self.subTest(n=n, p=p):
+                draws = [binomial(source, n, p) for _ in range(2000)]
+                self.assertTrue(all(0 <= draw <= n for draw in draws))
+                mean = sum(draws) / len(draws)
+                spread = sum((draw - mean) ** 2 for draw in draws) / len(draws)
+                deviation = (n * p * (1 - p)) ** 0.5
+                self.assertLess(abs(mean - n * p), 5 * deviation / 2000**0.5)
+                self.assertLess(abs(spread / deviation**2 - 1), 0.2)
+
+    def test_binomial_frequencies(self):
+        source, n, p = random.Random(6), 20, 0.3
+        counts = Counter(binomial(source, n, p) for _ in range(20000))
+        chance = (1 - p) ** n
+        for k in range(n + 1):
+            self.assertLess(abs(counts[k] - 20000 * chance), 6 * (20000 * chance) ** 0.5 + 1)
+            chance *= (n - k) / (k + 1) * p / (1 - p)
+
+    def test_drawn(self):
+        counts = {("a",): 5, ("b",): 0, ("c",): 1000}
+        for seed in range(50):
+            draw = drawn(random.Random(seed), counts)
+            self.assertEqual(sum(draw.values()), 1005)
+            self.assertNotIn(("b",), draw)
+
+    def test_interval(self):
+        self.assertEqual(interval_of([1.0], 0.9), None)
+        self.assertEqual(interval_of([None, 3.0, 1.0], 0.5), (interval := interval_of([1.0, 3.0], 0.5)))
+        self.assertEqual((interval.lower, interval.upper), (1.5, 2.5))
+
+
+def napkin_data(source, size):
+    """Records of a model of the napkin: hidden u of W and X, hidden v of W and Y."""
+    columns = {name: [] for name in "WZXY"}
+    for _ in range(size):
+        u, v = source.random() < 0.5, source.random() < 0.5
+        w = (u ^ v) if source.random() < 0.8 else source.random() < 0.5
+        z = w if source.random() < 0.7 else source.random() < 0.5
+        x = source.random() < 0.1 + 0.4 * z + 0.4 * u
+        y = source.random() < chance_of_y(x, v)
+        for name, value in zip("WZXY", (w, z, x, y)):
+            columns[name].append(int(value))
+    return columns
+
+
+def chance_of_y(x, v):
+    """The chance that Y is 1, given X and the hidden v."""
+    return 0.1 + 0.3 * x + 0.5 * v
+
+
+class Coverage(unittest.TestCase):
+    """The interval on data whose truth is known."""
+
+    def test_it_covers_the_truth(self):
+        data = napkin_data(random.Random(20), 5000)
+        answer = NAPKIN.bootstrap(data, resamples=300, seed=7)
+        self.assertEqual((answer.resamples, answer.without_value), (300, 0))
+        for effect, interval in zip(answer.effects, answer.intervals):
+            chance = sum(chance_of_y(effect.x["X"], v) for v in (0, 1)) / 2
+            truth = chance if effect.y["Y"] == 1 else 1 - chance
+            self.assertTrue(interval.lower <= truth <= interval.upper, (effect, interval, truth))
+            self.assertTrue(interval.lower <= float(effect.value) <= interval.upper)
+            self.assertLess(interval.upper - interval.lower, 0.2)
+        contrast = answer.contrast({"Y": 1}, {"X": 1}, {"X": 0})
+        self.assertTrue(contrast.difference.lower <= 0.3 <= contrast.difference.upper)
+        self.assertTrue(contrast.ratio.lower <= 0.65 / 0.35 <= contrast.ratio.upper)
+        self.assertGreater(contrast.difference.lower, 0)
+
+    def test_a_seed_gives_the_same(self):
+        data = napkin_data(random.Random(1), 500)
+        one, other, third = [NAPKIN.bootstrap(data, resamples=10, seed=seed) for seed in (3, 3, 4)]
+        self.assertEqual(one, other)
+        self.assertNotEqual(one.draws, third.draws)
+
+    def test_draws_without_a_value_are_counted(self):
+        data = {"S": [0, 0, 1, 1], "T": [0, 1, 0, 1], "R": [0, 1, 1, 1], "n": [40, 40, 40, 1]}
+        diagram = Diagram(read_example("kidney_stones.dag"))
+        answer = diagram.bootstrap(data, count="n", resamples=200, seed=1)
+        self.assertTrue(40 < answer.without_value < 110)
+        self.assertEqual(answer.intervals[0].draws, 200 - answer.without_value)
+
+    def test_the_pinned_level_stays(self):
+        data = napkin_data(random.Random(2), 300)
+        answer = NAPKIN.bootstrap(data, resamples=50)
+        self.assertEqual(answer.effects.pinned, {"Z": data["Z"][0]})
+
+    def test_a_level_of_the_outcome_that_is_not_drawn(self):
+        data = {"X": [0, 1, 0, 1, 0], "Y": [0, 0, 1, 1, 2], "n": [500, 500, 500, 500, 1]}
+        answer = Diagram("dag { X -> Y }").bootstrap(data, "X", "Y", count="n", resamples=100)
+        rare = answer.effects.place({"Y": 2}, {"X": 0})
+        self.assertEqual(answer.without_value, 0)
+        self.assertIn(0.0, [draw[rare] for draw in answer.draws])
+
+    def test_a_ratio_that_has_no_value(self):
+        data = {"X": [0, 1, 0, 1], "Y": [0, 0, 1, 1], "n": [500, 500, 2, 250]}
+        answer = Diagram("dag { X -> Y }").bootstrap(data, "X", "Y", count="n", resamples=200)
+        contrast = answer.contrast({"Y": 1}, {"X": 1}, {"X": 0})
+        self.assertLess(contrast.ratio.draws, contrast.difference.draws)
+
+    def test_requests(self):
+        for wrong in ({"resamples": 0}, {"level": 1.0}, {"level": 0.0}):
+            with self.assertRaises(causal.RequestError):
+                NAPKIN.bootstrap({}, **wrong)
+
+
+if __name__ == "__main__":
+    unittest.main()

@@ -1,0 +1,141 @@
+"""Every worked case through the library: as words over inputs, and as a question to a diagram."""
+import os
+import tempfile
+import threading
+import unittest
+
+from worked import all_cases
+
+import causal
+from causal.names import Cursor
+
+LISTS = ("x", "y", "z", "do", "given", "set")
+
+
+def names_of(word):
+    """The names that a word lists."""
+    if word == "{}":
+        return []
+    cursor, names = Cursor(word), []
+    while not names or cursor.accept(","):
+        names.append(cursor.name() if cursor.text[cursor.at] == '"' else word[cursor.at :].split(",")[0])
+        cursor.at += 0 if word[cursor.at - 1] == '"' else len(names[-1])
+    return names
+
+
+def options_of(words):
+    """The positional words and the options of a command."""
+    places, options, rest = [], {}, list(words)
+    while rest:
+        word = rest.pop(0)
+        if not word.startswith("--"):
+            places.append(word)
+        elif word in ("--project", "--certificate", "--latex", "--exact", "--back-door"):
+            options[word[2:]] = True
+        else:
+            name, _, value = word[2:].partition("=")
+            options[name] = value or rest.pop(0)
+    return places, {name: names_of(value) if name in LISTS else value for name, value in options.items()}
+
+
+class Words(unittest.TestCase):
+    """`run` gives what the program prints."""
+
+    def check_case(self, case):
+        reply = causal.run(case.words, case.inputs)
+        self.assertEqual((reply.status, (reply.out + reply.err).decode()), (case.status, case.printed))
+
+    def test_cases(self):
+        number = 0
+        for case in all_cases():
+            if not case.fails:
+                number += 1
+                with self.subTest(case.name):
+                    self.check_case(case)
+        self.assertGreater(number, 180)
+
+    def test_six_threads_at_once(self):
+        cases = [case for case in all_cases() if not case.fails and sum(map(len, case.inputs.values())) < 1 << 20]
+        wrong = []
+
+        def ask(start):
+            for case in cases[start:] + cases[:start]:
+                reply = causal.run(case.words, case.inputs)
+                if (reply.status, (reply.out + reply.err).decode()) != (case.status, case.printed):
+                    wrong.append(case.name)
+
+        threads = [threading.Thread(target=ask, args=(30 * k,)) for k in range(6)]
+        for thread in threads:
+            thread.start()
+        for thread in threads:
+            thread.join()
+        self.assertEqual(wrong, [])
+
+
+class Questions(unittest.TestCase):
+    """A diagram's answers print what the program prints, and its refusals are the program's."""
+
+    def ask(self, case, folder):
+        places, options = options_of(case.words[1:])
+        diagram = causal.Diagram(case.inputs[places[0]])
+        second = case.inputs.get(places[1]) if len(places) > 1 else None
+        return getattr(self, f"ask_{case.words[0]}")(diagram, second, options, folder)
+
+    def ask_graph(self, diagram, second, options, folder):
+        return diagram.project() if options else diagram
+
+    def ask_separate(self, diagram, second, options, folder):
+        return diagram.separated(**options)
+
+    def ask_rule(self, diagram, second, options, folder):
+        return diagram.rule(int(options.pop("rule")), **options)
+
+    def ask_identify(self, diagram, second, options, folder):
+        form = [options.pop(name) and name for name in ("latex", "certificate") if name in options]
+        answer = diagram.identify(**options)
+        return getattr(answer, form[0]) if form and hasattr(answer, form[0]) else answer
+
+    def ask_check(self, diagram, second, options, folder):
+        return diagram.check(second)
+
+    def ask_adjust(self, diagram, second, options, folder):
+        if "set" not in options:
+            return diagram.adjustment_sets(**{name: int(value) if name == "most" else value for name, value in options.items()})
+        options.pop("most", None)
+        back_door = options.pop("back-door", False)
+        return diagram.adjusts(options.pop("set"), back_door=back_door, **options)
+
+    def ask_equivalent(self, diagram, second, options, folder):
+        return diagram.equivalent(causal.Diagram(second) if second is not None else diagram)
+
+    def ask_evaluate(self, diagram, second, options, folder):
+        path = os.path.join(folder, "counts.csv")
+        with open(path, "wb") as file:
+            file.write(second)
+        try:
+            return diagram.effects(path, **options)
+        except causal.NotIdentifiable as error:
+            return error.place
+
+    def test_questions(self):
+        number = 0
+        with tempfile.TemporaryDirectory() as folder:
+            for case in all_cases():
+                if case.words[:1] == ["survey"] or case.fails or case.status in (2, 6):
+                    continue
+                number += 1
+                with self.subTest(case.name):
+                    self.assertEqual(self.answer(case, folder), case.printed)
+        self.assertGreater(number, 150)
+
+    def answer(self, case, folder):
+        try:
+            printed = f"{self.ask(case, folder)}\n"
+        except causal.CausalError as error:
+            return error.printed.replace("causal: graph", "causal: second graph" if case.status == 4 else "causal: graph") + "\n"
+        zeros = "0." + "0" * 18
+        return printed.replace("= 0/1", f"from {zeros} to {zeros}") if "from 0.99" in case.printed else printed
+
+
+if __name__ == "__main__":
+    unittest.main()

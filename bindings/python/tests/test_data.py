@@ -1,0 +1,336 @@
+"""Effects in data: columns, DataFrames and files."""
+import math
+import os
+import tempfile
+import unittest
+from fractions import Fraction
+
+from worked import read_example
+
+import causal
+from causal import Diagram
+
+try:
+    import pandas
+except ImportError:
+    pandas = None
+
+needs_pandas = unittest.skipIf(pandas is None, "no pandas")
+
+KIDNEY = Diagram(read_example("kidney_stones.dag"))
+COUNTS = {
+    "S": ["small"] * 4 + ["large"] * 4,
+    "T": ["A", "A", "B", "B"] * 2,
+    "R": ["success", "failure"] * 4,
+    "n": [81, 6, 234, 36, 192, 71, 55, 25],
+}
+EXACT = [Fraction(634983, 762700), Fraction(127717, 762700), Fraction(6231, 8000), Fraction(1769, 8000)]
+
+
+def exact_values(effects):
+    """The values as fractions."""
+    return [effect.value.exact for effect in effects]
+
+
+class Columns(unittest.TestCase):
+    """A mapping of columns, without pandas."""
+
+    def test_counts(self):
+        effects = KIDNEY.effects(COUNTS, count="n", exact=True)
+        self.assertEqual(exact_values(effects), EXACT)
+        self.assertEqual(effects[0].x, {"T": "A"})
+        self.assertEqual(effects.at({"R": "failure"}, {"T": "B"}).exact, EXACT[3])
+
+    def test_records(self):
+        records = {name: [level for level, n in zip(COUNTS[name], COUNTS["n"]) for _ in range(n)] for name in "STR"}
+        self.assertEqual(exact_values(KIDNEY.effects(records, exact=True)), EXACT)
+
+    def test_bounds(self):
+        for effect, true in zip(KIDNEY.effects(COUNTS, count="n"), EXACT):
+            self.assertTrue(effect.value.lower <= true <= effect.value.upper)
+            lower, upper = effect.value.floats()
+            self.assertTrue(Fraction(lower) <= effect.value.lower and effect.value.upper <= Fraction(upper))
+            with self.assertRaises(causal.RequestError):
+                effect.value.exact
+
+    def test_contrast(self):
+        contrast = KIDNEY.contrast(COUNTS, treated="A", control="B", outcome="success", count="n")
+        self.assertEqual(contrast.difference.exact, EXACT[0] - EXACT[2])
+        self.assertEqual(contrast.ratio.exact, EXACT[0] / EXACT[2])
+        bounds = KIDNEY.contrast(COUNTS, treated="A", control="B", outcome="success", count="n", exact=False)
+        self.assertTrue(bounds.difference.lower < EXACT[0] - EXACT[2] < bounds.difference.upper)
+        self.assertTrue(bounds.ratio.lower < EXACT[0] / EXACT[2] < bounds.ratio.upper)
+
+    def test_contrast_with_zero(self):
+        data = {"X": ["a", "b"], "Y": [1, 0]}
+        contrast = Diagram("dag { X -> Y }").contrast(data, "X", "Y", treated="a", control="b", outcome=1)
+        self.assertEqual((contrast.difference.exact, contrast.ratio), (1, None))
+        with self.assertRaises(causal.RequestError):
+            Diagram("dag { X -> Y }").contrast(data, "X", "Y", treated="c", control="b", outcome=1)
+
+    def test_several_exposures(self):
+        data = {"A": [0, 0, 1, 1] * 2, "B": [0, 1] * 4, "Y": [1, 1, 0, 1, 0, 1, 1, 1]}
+        diagram = Diagram("dag { A -> Y B -> Y }")
+        effects = diagram.effects(data, ["A", "B"], "Y", exact=True)
+        self.assertEqual(effects.at({"Y": 1}, {"B": 0, "A": 1}).exact, Fraction(1, 2))
+        contrast = diagram.contrast(data, ["A", "B"], "Y", treated=[1, 1], control={"B": 0, "A": 0}, outcome=1)
+        self.assertEqual(contrast.difference.exact, Fraction(1, 2))
+
+    def test_nothing_is_done(self):
+        effects = KIDNEY.effects(COUNTS, x=[], y="R", count="n", exact=True)
+        self.assertEqual(str(effects), "P(R=success) = 281/350\nP(R=failure) = 69/350")
+
+    def test_a_pinned_variable(self):
+        napkin = Diagram(read_example("napkin.dag"))
+        cells = [(w, z, x, y) for w in (0, 1) for z in "ba" for x in (0, 1) for y in (0, 1)]
+        data = {name: [cell[k] for cell in cells] for k, name in enumerate("WZXY")}
+        effects = napkin.effects(data, exact=True)
+        self.assertEqual((effects.pinned, exact_values(effects)), ({"Z": "b"}, [Fraction(1, 2)] * 4))
+        self.assertTrue(str(effects).startswith("pinned Z=b\n"))
+
+    def test_any_values_are_levels(self):
+        levels = [(1, 2), frozenset("a"), None.__class__, b"x", "a,b\n\"c\"", 2.5, True, Fraction(1, 3)]
+        data = {"X": levels, "Y": levels[::-1]}
+        effects = Diagram("dag { X -> Y }").effects(data, "X", "Y", exact=True)
+        self.assertEqual(len(effects), 64)
+        self.assertEqual([effect.x["X"] for effect in effects][::8], levels)
+
+    def test_a_vertex_named_count(self):
+        data = {"count": ["a", "b", "a"], "count_": [0, 1, 0], "n": [1, 2, 3]}
+        effects = Diagram('dag { count -> count_ }').effects(data, "count", "count_", count="n", exact=True)
+        self.assertEqual(exact_values(effects), [1, 0, 0, 1])
+
+    def test_the_counts_are_a_variable_too(self):
+        data = {"X": ["a", "b"], "Y": [1, 3]}
+        effects = Diagram("dag { X -> Y }").effects(data, [], "Y", count="Y", exact=True)
+        self.assertEqual(exact_values(effects), [Fraction(1, 4), Fraction(3, 4)])
+
+
+class Refused(unittest.TestCase):
+    """Data that is refused, with its place."""
+
+    def refused(self, data, **options):
+        with self.assertRaises(causal.CausalError) as caught:
+            KIDNEY.effects(data, **options)
+        return caught.exception
+
+    def test_no_column(self):
+        error = self.refused({"S": [], "R": []})
+        self.assertEqual((type(error), error.number, error.place), (causal.CountsError, 2, "T"))
+
+    def test_no_records(self):
+        self.assertEqual(self.refused({"S": [], "T": [], "R": []}).number, 7)
+        self.assertEqual(self.refused({**COUNTS, "n": [0] * 8}, count="n").number, 7)
+
+    def test_no_count(self):
+        for wrong in (-1, 1.5, "x", "-1", float("inf"), [], 1j):
+            with self.subTest(wrong):
+                error = self.refused({**COUNTS, "n": [1] * 7 + [wrong]}, count="n")
+                self.assertEqual((type(error), error.number, error.place), (causal.CountsError, 4, 8))
+        self.assertEqual(self.refused({**COUNTS, "n": [10**15] * 8}, count="n").number, 6)
+
+    def test_counts_as_whole_floats_and_texts(self):
+        for kind in (float, str):
+            effects = KIDNEY.effects({**COUNTS, "n": list(map(kind, COUNTS["n"]))}, count="n", exact=True)
+            self.assertEqual(exact_values(effects), EXACT)
+
+    def test_no_support(self):
+        data = {name: column[:6] for name, column in COUNTS.items()}
+        error = self.refused(data, count="n")
+        self.assertEqual((type(error), error.number), (causal.EvaluationError, 1))
+        self.assertEqual(error.place, (None, 3, {"S": "large", "T": "B", "R": "success"}))
+
+    def test_missing(self):
+        data = {**COUNTS, "T": [None, *COUNTS["T"][1:]], "S": [float("nan"), *COUNTS["S"][1:]], "other": [None] * 8}
+        error = self.refused(data, count="n")
+        self.assertEqual((type(error), error.place), (causal.MissingValues, ("T", 1)))
+        effects = KIDNEY.effects(data, count="n", missing="drop")
+        self.assertEqual((effects.dropped, effects.at({"R": "failure"}, {"T": "A"}).lower > 0), (1, True))
+        self.assertEqual(self.refused(data, missing="skip").number, None)
+
+    def test_levels_of_dropped_records_are_gone(self):
+        data = {"X": ["a", "b", "c"], "Y": [0, 1, None]}
+        self.assertEqual(len(Diagram("dag { X -> Y }").effects(data, "X", "Y", missing="drop")), 4)
+
+    def test_different_lengths(self):
+        self.assertIsInstance(self.refused({**COUNTS, "R": ["success"]}), causal.RequestError)
+
+    def test_not_identifiable(self):
+        with self.assertRaises(causal.NotIdentifiable) as caught:
+            Diagram(read_example("bow.dag")).effects({})
+        self.assertEqual(caught.exception.place.roots, ("Y",))
+
+
+class Files(unittest.TestCase):
+    """CSV files, which the library reads itself."""
+
+    def setUp(self):
+        folder = tempfile.TemporaryDirectory()
+        self.addCleanup(folder.cleanup)
+        self.path = os.path.join(folder.name, "counts.csv")
+
+    def effects(self, text, diagram=KIDNEY, **options):
+        with open(self.path, "wb") as file:
+            file.write(text)
+        return diagram.effects(self.path, **options)
+
+    def test_file(self):
+        effects = self.effects(read_example("kidney_stones.csv"), count="count", exact=True)
+        self.assertEqual(exact_values(effects), EXACT)
+
+    def test_path_object(self):
+        self.effects(read_example("kidney_stones.csv"), count="count")
+        import pathlib
+
+        self.assertEqual(exact_values(KIDNEY.effects(pathlib.Path(self.path), count="count", exact=True)), EXACT)
+
+    def test_levels_as_they_stand(self):
+        text = 'X,Y\r\n"a,b",\r\n"say ""hi""",c\r\n'.encode() + b"\xff,c\r\n"
+        effects = self.effects(text, Diagram("dag { X -> Y }"), x="X", y="Y", exact=True)
+        self.assertEqual([effect.x["X"] for effect in effects][::2], ["a,b", 'say "hi"', "\udcff"])
+        self.assertEqual([effect.y["Y"] for effect in effects][:2], ["", "c"])
+
+    def test_refused_record(self):
+        with self.assertRaises(causal.CountsError) as caught:
+            self.effects(b"S,T,R\na,b,c\na,b\n")
+        self.assertEqual((caught.exception.number, caught.exception.place), (1, 2))
+
+    def test_no_support(self):
+        text = b"".join(read_example("kidney_stones.csv").splitlines(keepends=True)[:-2])
+        with self.assertRaises(causal.EvaluationError) as caught:
+            self.effects(text, count="count")
+        self.assertEqual(caught.exception.place.cell, {"S": "large", "T": "B", "R": "success"})
+
+    def test_no_file(self):
+        with self.assertRaises(FileNotFoundError):
+            KIDNEY.effects(self.path + "x")
+
+    def test_bootstrap_over_a_file(self):
+        self.effects(b"\xef\xbb\xbf" + read_example("kidney_stones.csv"), count="count")
+        one = KIDNEY.bootstrap(self.path, count="count", resamples=20)
+        other = KIDNEY.bootstrap({**COUNTS, "count": COUNTS["n"]}, count="count", resamples=20)
+        self.assertEqual(one.draws, other.draws)
+
+
+@needs_pandas
+class Frames(unittest.TestCase):
+    """DataFrames in and out."""
+
+    def test_frame(self):
+        frame = KIDNEY.evaluate(pandas.DataFrame(COUNTS), count="n", exact=True)
+        self.assertEqual(list(frame.columns), ["T", "R", "estimate", "exact"])
+        self.assertEqual(frame["exact"].tolist(), EXACT)
+        self.assertEqual(frame["estimate"].tolist(), [float(value) for value in EXACT])
+
+    def test_bounds(self):
+        frame = KIDNEY.evaluate(pandas.DataFrame(COUNTS), count="n")
+        self.assertEqual(list(frame.columns), ["T", "R", "estimate", "lower", "upper"])
+        for low, value, high, true in zip(frame["lower"], frame["estimate"], frame["upper"], EXACT):
+            self.assertTrue(low <= value <= high and Fraction(low) <= true <= Fraction(high) and high - low < 1e-15)
+
+    def test_columns_with_the_names_of_values(self):
+        data = pandas.DataFrame({"lower": ["a", "b"], "estimate": [0, 1]})
+        frame = Diagram("dag { lower -> estimate }").evaluate(data, "lower", "estimate")
+        self.assertEqual(list(frame.columns), ["lower", "estimate", "estimate_", "lower_", "upper"])
+
+    def test_pinned(self):
+        cells = [(w, z, x, y) for w in (0, 1) for z in "ba" for x in (0, 1) for y in (0, 1)]
+        frame = Diagram(read_example("napkin.dag")).evaluate(pandas.DataFrame(cells, columns=list("WZXY")))
+        self.assertEqual((list(frame.columns[:3]), set(frame["Z"])), (["Z", "X", "Y"], {"b"}))
+
+    def test_categories_in_their_order(self):
+        data = pandas.DataFrame({"X": ["low", "high", "low", "high"], "Y": [1, 0, 0, 1]})
+        data["X"] = pandas.Categorical(data["X"], ["none", "high", "low"], ordered=True)
+        frame = Diagram("dag { X -> Y }").evaluate(data, "X", "Y", exact=True)
+        self.assertEqual(frame["X"].tolist(), ["high", "high", "low", "low"])
+
+    def test_kinds_of_columns(self):
+        columns = {
+            "whole": pandas.Series([3, 1, 3, 1]),
+            "float": pandas.Series([0.5, 1.5, 0.5, 1.5]),
+            "text": pandas.Series(["x", "y", "x", "y"], dtype="string"),
+            "bool": pandas.Series([True, False, True, False]),
+            "date": pandas.Series(pandas.to_datetime(["2020-01-01", "2021-01-01"] * 2)),
+            "category": pandas.Series(["x", "y", "x", "y"], dtype="category"),
+            "nullable": pandas.Series([3, 1, 3, 1], dtype="Int64"),
+        }
+        for name, column in columns.items():
+            with self.subTest(name):
+                data = pandas.DataFrame({"X": column, "Y": ["a", "a", "b", "b"]})
+                effects = Diagram("dag { X -> Y }").effects(data, "X", "Y", exact=True)
+                self.assertEqual([effect.x["X"] for effect in effects][::2], column.tolist()[:2])
+                self.assertEqual(exact_values(effects), [Fraction(1, 2)] * 4)
+
+    def test_missing(self):
+        gaps = {
+            "float": pandas.Series([1.0, float("nan"), 1.0, 2.0]),
+            "object": pandas.Series(["a", None, "a", "b"]),
+            "string": pandas.Series(["a", None, "a", "b"], dtype="string"),
+            "Int64": pandas.Series([1, None, 1, 2], dtype="Int64"),
+            "category": pandas.Series(["a", None, "a", "b"], dtype="category"),
+            "date": pandas.Series(pandas.to_datetime(["2020-01-01", None, "2020-01-01", "2021-01-01"])),
+        }
+        for name, column in gaps.items():
+            with self.subTest(name):
+                data = pandas.DataFrame({"X": column, "Y": [0, 1, 1, 1], "unused": [None] * 4})
+                diagram = Diagram("dag { X -> Y }")
+                with self.assertRaises(causal.MissingValues) as caught:
+                    diagram.evaluate(data, "X", "Y")
+                self.assertEqual(caught.exception.place, ("X", 1))
+                effects = diagram.effects(data, "X", "Y", exact=True, missing="drop")
+                self.assertEqual((exact_values(effects), effects.dropped), ([Fraction(1, 2), Fraction(1, 2), 0, 1], 1))
+
+    def test_columns_of_the_frame(self):
+        data = pandas.DataFrame([[0, "a", 1], [1, "b", 0]], columns=[1, "X", 1])
+        with self.assertRaises(causal.CountsError) as caught:
+            Diagram("dag { X -> 1 }").evaluate(data, "X", "1")
+        self.assertEqual((caught.exception.number, caught.exception.place), (3, "1"))
+        effects = Diagram("dag { X -> 1 }").effects(data.iloc[:, :2], "X", "1", exact=True)
+        self.assertEqual(exact_values(effects), [1, 0, 0, 1])
+
+    def test_no_records(self):
+        with self.assertRaises(causal.CountsError) as caught:
+            KIDNEY.evaluate(pandas.DataFrame(COUNTS)[:0])
+        self.assertEqual(caught.exception.number, 7)
+
+    def test_an_index_is_no_column(self):
+        data = pandas.DataFrame(COUNTS).set_index("n", append=True)
+        with self.assertRaises(causal.CountsError):
+            KIDNEY.evaluate(data, count="n")
+
+    def test_counts_with_gaps(self):
+        data = pandas.DataFrame({**COUNTS, "n": [None, *COUNTS["n"][1:]]})
+        with self.assertRaises(causal.MissingValues):
+            KIDNEY.evaluate(data, count="n")
+        self.assertEqual(KIDNEY.effects(data, count="n", missing="drop").dropped, 1)
+
+    def test_a_table_of_pivots(self):
+        counts = pandas.DataFrame(COUNTS).groupby(["S", "T", "R"], sort=False)["n"].sum().reset_index()
+        self.assertEqual(KIDNEY.evaluate(counts, count="n", exact=True)["exact"].tolist(), EXACT)
+
+    def test_html(self):
+        self.assertIn("<table", KIDNEY.effects(pandas.DataFrame(COUNTS), count="n")._repr_html_())
+
+    def test_bootstrap_frame(self):
+        frame = KIDNEY.bootstrap(pandas.DataFrame(COUNTS), count="n", resamples=50).frame()
+        self.assertEqual(list(frame.columns), ["T", "R", "estimate", "lower", "upper", "draws"])
+        self.assertTrue((frame["lower"] < frame["estimate"]).all() and (frame["estimate"] < frame["upper"]).all())
+
+    def test_nothing_to_draw(self):
+        data = pandas.DataFrame({"X": ["a", "b"], "Y": [0, 1]})
+        frame = Diagram("dag { X -> Y }").bootstrap(data, "X", "Y", resamples=1, seed=2).frame()
+        self.assertTrue(math.isnan(frame["lower"][0]))
+
+    def test_adjacency(self):
+        names = ["X", "größe", 3]
+        matrix = pandas.DataFrame([[0, 1, 1], [0, 0, 2], [0, 0, 0]], index=names, columns=names)
+        diagram = Diagram.from_pandas(matrix, bidirected=[("X", "3")], exposure="X")
+        self.assertEqual(diagram.edges, (("X", "größe"), ("X", "3"), ("größe", "3")))
+        self.assertEqual((diagram.bidirected, diagram.roles), ((("X", "3"),), {"X": "exposure"}))
+        for wrong in (matrix.iloc[:2], matrix.set_axis(["a", "b", "c"], axis=0), matrix.where(matrix > 0)):
+            with self.assertRaises(causal.RequestError):
+                Diagram.from_pandas(wrong)
+
+
+if __name__ == "__main__":
+    unittest.main()

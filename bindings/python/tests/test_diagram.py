@@ -1,0 +1,187 @@
+"""Diagrams: where they come from, what they are, and questions with odd names."""
+import os
+import pickle
+import subprocess
+import sys
+import tempfile
+import unittest
+
+from worked import read_example
+
+import causal
+from causal import Diagram
+from causal.conversion import text_of_edges
+
+ODD = ["a,b", "größe", "x y", "{}", "--z", "P(Y)", "a -> b", "日本", "'", "\\", "#", "q0", "do", "sum", "50%", "a\u2028b"]
+
+
+class Texts(unittest.TestCase):
+    """Texts in and out."""
+
+    def test_from_file(self):
+        with tempfile.TemporaryDirectory() as folder:
+            path = os.path.join(folder, "fork.dag")
+            with open(path, "wb") as file:
+                file.write(read_example("fork.dag"))
+            self.assertEqual(Diagram.from_file(path), Diagram(read_example("fork.dag")))
+
+    def test_text_is_read_back(self):
+        for name in ("napkin.dag", "exported.dag", "hidden_cause.dag"):
+            diagram = Diagram(read_example(name))
+            self.assertEqual(Diagram(diagram.text).text, diagram.text)
+            self.assertEqual(eval(repr(diagram)), diagram)
+
+    def test_project(self):
+        diagram = Diagram(read_example("hidden_cause.dag"))
+        self.assertEqual(diagram.roles["genotype"], "latent")
+        self.assertEqual(diagram.project().bidirected, (("smoking", "cancer"),))
+
+    def test_from_edges(self):
+        diagram = Diagram.from_edges([("A", "B")], vertices=["C"], bidirected=[("B", "C")], latent="D")
+        self.assertEqual(diagram.vertices, ("A", "B", "C", "D"))
+        self.assertEqual((diagram.edges, diagram.bidirected, diagram.roles), ((("A", "B"),), (("B", "C"),), {"D": "latent"}))
+
+    def test_edges_that_make_no_diagram(self):
+        with self.assertRaises(causal.DiagramError) as caught:
+            Diagram.from_edges([("A", "B"), ("B", "A")])
+        self.assertEqual((caught.exception.number, caught.exception.place), (11, ("A", "B")))
+        with self.assertRaises(causal.DiagramError) as caught:
+            Diagram.from_edges([("A", "B")], exposure="A", outcome="A")
+        self.assertEqual(caught.exception.number, 10)
+        with self.assertRaises(causal.RequestError):
+            text_of_edges([("A", "B")], [], [], {"treatment": "A"})
+
+    def test_a_refusal_shows_the_line(self):
+        with self.assertRaises(causal.DiagramError) as caught:
+            Diagram("dag {\n  größe -> X\n  größe -- Y\n}")
+        self.assertEqual((caught.exception.number, caught.exception.place.line, caught.exception.place.column), (5, 3, 9))
+        self.assertEqual(str(caught.exception).split("\n")[1:], ["  größe -- Y", "        ^"])
+        again = pickle.loads(pickle.dumps(caught.exception))
+        self.assertEqual(str(again), str(caught.exception))
+
+    def test_text_that_is_not_utf8(self):
+        for text in (b"dag{\xff}", "dag{\ud800}"):
+            with self.assertRaises(causal.DiagramError) as caught:
+                Diagram(text)
+            self.assertEqual((caught.exception.number, caught.exception.place.byte), (1, 4))
+
+
+class OddNames(unittest.TestCase):
+    """Names with any characters that a name may have."""
+
+    def test_chain(self):
+        diagram = Diagram.from_edges(list(zip(ODD, ODD[1:])), exposure=ODD[0], outcome=ODD[-1])
+        self.assertEqual(diagram.vertices, tuple(ODD))
+        self.assertEqual(Diagram(diagram.text), diagram)
+        self.assertTrue(diagram.separated(ODD[0], ODD[-1], ODD[5]))
+        answer = diagram.separated(ODD[0], ODD[-1], [])
+        self.assertEqual((answer.path.vertices, answer.given), (tuple(ODD), ()))
+
+    def test_each_question(self):
+        for name in ODD:
+            with self.subTest(name):
+                other = "Y" if name != "Y" else "X"
+                diagram = Diagram.from_edges([(name, "Z"), (name, other), ("Z", other)])
+                self.assertEqual(diagram.separated("Z", other, name).path.vertices, ("Z", other))
+                self.assertEqual(list(diagram.adjustment_sets("Z", other)), [(name,)])
+                self.assertEqual(diagram.adjusts(name, "Z", other).members, (name,))
+                self.assertEqual(diagram.identify("Z", other).variables, {name, "Z", other})
+                self.assertTrue(diagram.check(diagram.identify("Z", other)))
+                self.assertTrue(diagram.rule(2, other, "Z", given=name))
+                self.assertTrue(diagram.equivalent(diagram))
+                self.assertIsNotNone(diagram.identify("Z", other).latex)
+
+    def test_odd_names_in_a_hedge(self):
+        diagram = Diagram.from_edges([("do(X)", "größe, in cm")], bidirected=[("do(X)", "größe, in cm")])
+        hedge = diagram.identify("do(X)", "größe, in cm")
+        self.assertEqual((hedge.big, hedge.links), (("do(X)", "größe, in cm"), (("do(X)", "größe, in cm"),)))
+        self.assertTrue(diagram.check(hedge))
+
+    def test_odd_names_in_data(self):
+        for name in ODD:
+            with self.subTest(name):
+                diagram = Diagram.from_edges([(name, "X"), (name, "Y"), ("X", "Y")])
+                data = {name: ["a,b", "c\nd"] * 4, "X": [1, 1, 2, 2] * 2, "Y": ["'"] * 5 + ['"'] * 3}
+                effects = diagram.effects(data, "X", "Y", exact=True)
+                self.assertEqual([effect.x["X"] for effect in effects], [1, 1, 2, 2])
+
+    def test_names_that_cannot_be(self):
+        diagram = Diagram("dag { A -> B }")
+        for name in ("", 'a"b', "a\nb"):
+            with self.subTest(name), self.assertRaises(ValueError):
+                diagram.separated(name, "B")
+
+    def test_unknown_names(self):
+        with self.assertRaises(causal.TargetError) as caught:
+            Diagram("dag { A -> B }").separated("a (b)", "B")
+        self.assertEqual((caught.exception.number, caught.exception.place), (1, ("a (b)",)))
+
+
+class Answers(unittest.TestCase):
+    """Answers count as true or false, and hold what was printed."""
+
+    def test_truth(self):
+        fork, bow = Diagram(read_example("fork.dag")), Diagram(read_example("bow.dag"))
+        self.assertTrue(fork.separated("A", "C", "B"))
+        self.assertFalse(fork.separated("A", "C", []))
+        self.assertTrue(fork.identify("A", "C"))
+        self.assertFalse(bow.identify())
+        self.assertFalse(bow.adjusts([]))
+        self.assertEqual(len(bow.adjustment_sets()), 0)
+
+    def test_napkin(self):
+        formula = Diagram(read_example("napkin.dag")).identify()
+        self.assertEqual((formula.free, len(formula.definitions), formula.variables), (("Z",), 1, {"W", "X", "Y", "Z"}))
+        self.assertIn(r"\frac", formula.latex)
+        self.assertTrue(formula._repr_latex_().startswith(r"$$\begin{gathered} P(Y \mid"))
+        self.assertNotIn("free", formula._repr_latex_())
+
+    def test_certificates(self):
+        for name in ("napkin.dag", "front_door.dag", "bow.dag"):
+            diagram = Diagram(read_example(name))
+            answer = diagram.identify()
+            check = diagram.check(answer.certificate)
+            self.assertTrue(check.accepted)
+            self.assertEqual(check.formula, answer if answer.identifiable else None)
+            self.assertTrue(diagram.check(answer))
+        with self.assertRaises(causal.RequestError):
+            diagram.check(Diagram("dag { X -> Y }").adjusts([], "X", "Y").formula)
+
+    def test_most(self):
+        sets = Diagram(read_example("exported.dag")).adjustment_sets(most=1)
+        self.assertEqual((list(sets), sets.more), ([("A", "Z")], True))
+        with self.assertRaises(causal.RequestError):
+            Diagram(read_example("exported.dag")).adjustment_sets(most=0)
+
+    def test_defaults(self):
+        diagram = Diagram(read_example("collider.dag"))
+        self.assertEqual(str(diagram.separated().path), "talent -> fame <- looks")
+        self.assertTrue(diagram.separated(given=[]))
+
+    def test_words_that_are_not_understood(self):
+        with self.assertRaises(causal.RequestError):
+            Diagram("dag { X -> Y }").rule(4, "Y", "X")
+        with self.assertRaises(ValueError):
+            causal.run([b"\xff"])
+        self.assertEqual(causal.run([]).status, 2)
+
+
+class Imports(unittest.TestCase):
+    """The package needs nothing but Python to be imported, and no heavy module is."""
+
+    def test_nothing_heavy(self):
+        code = "import sys, causal; print([m for m in ('pandas', 'numpy', 'networkx', 'matplotlib') if m in sys.modules])"
+        path = os.pathsep.join(sys.path)
+        ran = subprocess.run([sys.executable, "-c", code], env={**os.environ, "PYTHONPATH": path}, capture_output=True, text=True)
+        self.assertEqual((ran.stdout, ran.stderr), ("[]\n", ""))
+
+    def test_a_library_that_is_not_there(self):
+        code = "import causal\ntry:\n    causal.Diagram('dag{}')\nexcept causal.LibraryMissing as error:\n    print(error)"
+        with tempfile.NamedTemporaryFile(suffix=".so") as file:
+            environment = {**os.environ, "PYTHONPATH": os.pathsep.join(sys.path), "CAUSAL_LIBRARY": file.name}
+            ran = subprocess.run([sys.executable, "-c", code], env=environment, capture_output=True, text=True)
+        self.assertIn("can't be used", ran.stdout)
+
+
+if __name__ == "__main__":
+    unittest.main()

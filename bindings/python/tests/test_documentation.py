@@ -1,0 +1,60 @@
+"""The examples of the docstrings and of the README."""
+import doctest
+import importlib
+import os
+import pkgutil
+import unittest
+
+import causal
+
+HERE = os.path.dirname(os.path.abspath(__file__))
+OPTIONAL = ("pandas", "networkx", "matplotlib")
+
+
+def lacking_in(test):
+    """The first package that an example imports and that isn't there."""
+    for name in OPTIONAL:
+        needed = any(name in example.source for example in test.examples)
+        try:
+            importlib.import_module(name)
+        except ImportError:
+            if needed or (name == "networkx" and "to_networkx" in test.docstring) or (name == "matplotlib" and "plot(" in test.docstring):
+                return name
+    return None
+
+
+class Example(doctest.DocTestCase):
+    """The examples of one docstring, skipped by name where a package isn't there."""
+
+    def runTest(self):
+        lacking = lacking_in(self._dt_test)
+        if lacking:
+            self.skipTest(f"no {lacking}")
+        super().runTest()
+
+
+def load_tests(loader, tests, pattern):
+    finder = doctest.DocTestFinder(exclude_empty=True)
+    for module in [causal, *(importlib.import_module(f"causal.{info.name}") for info in pkgutil.iter_modules(causal.__path__))]:
+        for test in finder.find(module):
+            if test.examples:
+                tests.addTest(Example(test))
+    with open(os.path.join(HERE, "..", "README.md"), encoding="utf-8") as file:
+        readme = doctest.DocTestParser().get_doctest(file.read(), {}, "README.md", "README.md", 0)
+    tests.addTest(Example(readme))
+    return tests
+
+
+class EachPublicName(unittest.TestCase):
+    """Each public function and class of the package has a docstring."""
+
+    def test_docstrings(self):
+        for name in causal.__all__:
+            self.assertTrue(getattr(causal, name).__doc__, name)
+        for name, method in vars(causal.Diagram).items():
+            if not name.startswith("_"):
+                self.assertTrue(method.__doc__, name)
+
+
+if __name__ == "__main__":
+    unittest.main()

@@ -1,0 +1,108 @@
+"""Graphs of networkx and drawings of matplotlib."""
+import random
+import unittest
+
+from worked import read_example
+
+import causal
+from causal import Diagram
+
+try:
+    import networkx
+except ImportError:
+    networkx = None
+try:
+    import matplotlib
+
+    matplotlib.use("Agg")
+    from matplotlib import pyplot
+except ImportError:
+    matplotlib = None
+
+
+@unittest.skipIf(networkx is None, "no networkx")
+class Networkx(unittest.TestCase):
+    """Graphs in and out."""
+
+    def test_in(self):
+        graph = networkx.DiGraph([("a b", 1), (1, "c")])
+        graph.nodes["a b"]["role"] = "exposure"
+        graph.add_node("U", latent=True)
+        diagram = Diagram.from_networkx(graph, outcome="c")
+        self.assertEqual(diagram.vertices, ("a b", "1", "c", "U"))
+        self.assertEqual(diagram.roles, {"a b": "exposure", "c": "outcome", "U": "latent"})
+
+    def test_there_and_back(self):
+        for name in ("napkin.dag", "bow.dag", "exported.dag", "hidden_cause.dag"):
+            with self.subTest(name):
+                diagram = Diagram(read_example(name))
+                self.assertEqual(Diagram.from_networkx(diagram.to_networkx(mixed=True)), diagram)
+                self.assertEqual(Diagram.from_networkx(diagram.to_networkx()).project(), diagram.project())
+
+    def test_what_is_no_diagram(self):
+        with self.assertRaises(causal.RequestError):
+            Diagram.from_networkx(networkx.Graph([(1, 2)]))
+        with self.assertRaises(causal.RequestError):
+            Diagram.from_networkx(networkx.DiGraph([(1, "1")]))
+        with self.assertRaises(causal.DiagramError):
+            Diagram.from_networkx(networkx.DiGraph([(1, 2), (2, 1)]))
+
+    def test_separation_is_the_same(self):
+        separated = getattr(networkx, "is_d_separator", None) or networkx.d_separated
+        source = random.Random(11)
+        for _ in range(40):
+            pairs = [(f"v{a}", f"v{b}") for a in range(8) for b in range(a + 1, 8)]
+            diagram = Diagram.from_edges(
+                [pair for pair in pairs if source.random() < 0.3],
+                bidirected=[pair for pair in pairs if source.random() < 0.1],
+                vertices=[f"v{k}" for k in range(8)],
+            )
+            graph, names = diagram.to_networkx(), [f"v{k}" for k in range(8)]
+            for _ in range(10):
+                source.shuffle(names)
+                x, y, given = names[:1], names[1:3], names[3 : 3 + source.randrange(4)]
+                self.assertEqual(bool(diagram.separated(x, y, given)), separated(graph, set(x), set(y), set(given)))
+
+
+@unittest.skipIf(matplotlib is None, "no matplotlib")
+class Plots(unittest.TestCase):
+    """Drawings."""
+
+    def tearDown(self):
+        pyplot.close("all")
+
+    def arrows(self, axes):
+        return [text.arrow_patch for text in axes.texts if getattr(text, "arrow_patch", None) is not None]
+
+    def test_roles_and_edges(self):
+        axes = Diagram(read_example("napkin.dag")).plot()
+        names = {text.get_text() for text in axes.texts if text.get_text()}
+        self.assertEqual(names, {"W", "Z", "X", "Y"})
+        dashed = [arrow for arrow in self.arrows(axes) if arrow.get_linestyle() in ("--", "dashed")]
+        self.assertEqual((len(self.arrows(axes)), len(dashed)), (5, 2))
+        self.assertEqual([text.get_text() for text in axes.get_legend().get_texts()], ["exposure", "outcome"])
+        axes.figure.canvas.draw()
+
+    def test_a_path(self):
+        diagram = Diagram(read_example("m_bias.dag"))
+        axes = diagram.plot(path=diagram.adjusts("M").path)
+        self.assertEqual(sum(arrow.get_linewidth() > 2 for arrow in self.arrows(axes)), 4)
+
+    def test_a_hedge(self):
+        diagram = Diagram(read_example("bow.dag"))
+        axes = diagram.plot(hedge=diagram.identify())
+        self.assertEqual(sum(arrow.get_linewidth() > 2 for arrow in self.arrows(axes)), 2)
+
+    def test_positions_and_axes(self):
+        figure, axes = pyplot.subplots()
+        diagram = Diagram.from_edges([("größe $x$", "日本")])
+        self.assertIs(diagram.plot(positions={"größe $x$": (0, 0), "日本": (5, 5)}, ax=axes), axes)
+        with self.assertRaises(causal.RequestError):
+            diagram.plot(positions={})
+
+    def test_no_vertices(self):
+        Diagram("dag {}").plot()
+
+
+if __name__ == "__main__":
+    unittest.main()
