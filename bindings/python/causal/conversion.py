@@ -12,15 +12,16 @@ Pair = Tuple[str, str]
 
 
 def text_of_edges(edges: Iterable[Pair], bidirected: Iterable[Pair], vertices: Iterable[str], roles: Mapping[str, Names]) -> str:
-    """The text of a diagram. Each name stands in quotes, and a vertex with two marks is written so, for the library to refuse.
+    """The text of a diagram: first the vertices in their order, then those that edges name. Each name stands in quotes, and a
+    vertex with two marks is written so, for the library to refuse.
 
     >>> from causal.conversion import text_of_edges
     >>> text_of_edges([("A", "B")], [], ["C"], {"exposure": "A"})
-    'dag {\\n"A" [exposure]\\n"B"\\n"C"\\n"A" -> "B"\\n}\\n'
+    'dag {\\n"C"\\n"A" [exposure]\\n"B"\\n"A" -> "B"\\n}\\n'
     """
     directed, both = [tuple(edge) for edge in edges], [tuple(edge) for edge in bidirected]
-    marks: Dict[str, List[str]] = {name: [] for edge in (*directed, *both) for name in edge}
-    marks.update((name, []) for name in names_of(vertices) if name not in marks)
+    marks: Dict[str, List[str]] = {name: [] for name in names_of(vertices)}
+    marks.update((name, []) for edge in (*directed, *both) for name in edge if name not in marks)
     for role, names in roles.items():
         if role not in ROLES:
             raise RequestError(f"a vertex can be {', '.join(ROLES)}, and not {role}")

@@ -111,7 +111,7 @@ class Questions(unittest.TestCase):
     def ask_evaluate(self, diagram, second, options, folder):
         path = os.path.join(folder, "counts.csv")
         with open(path, "wb") as file:
-            file.write(second)
+            file.write(second or b"")
         try:
             return diagram.effects(path, **options)
         except causal.NotIdentifiable as error:

@@ -38,8 +38,8 @@ class Texts(unittest.TestCase):
 
     def test_from_edges(self):
         diagram = Diagram.from_edges([("A", "B")], vertices=["C"], bidirected=[("B", "C")], latent="D")
-        self.assertEqual(diagram.vertices, ("A", "B", "C", "D"))
-        self.assertEqual((diagram.edges, diagram.bidirected, diagram.roles), ((("A", "B"),), (("B", "C"),), {"D": "latent"}))
+        self.assertEqual(diagram.vertices, ("C", "A", "B", "D"))
+        self.assertEqual((diagram.edges, diagram.bidirected, diagram.roles), ((("A", "B"),), (("C", "B"),), {"D": "latent"}))
 
     def test_edges_that_make_no_diagram(self):
         with self.assertRaises(causal.DiagramError) as caught:

@@ -23,14 +23,19 @@ def lacking_in(test):
     return None
 
 
-class Example(doctest.DocTestCase):
-    """The examples of one docstring, skipped by name where a package isn't there."""
+def skip(name):
+    """Ends a test as skipped."""
 
-    def runTest(self):
-        lacking = lacking_in(self._dt_test)
-        if lacking:
-            self.skipTest(f"no {lacking}")
-        super().runTest()
+    def set_up(test):
+        raise unittest.SkipTest(f"no {name}")
+
+    return set_up
+
+
+def example(test):
+    """The examples of one docstring as a test, skipped by name where a package isn't there."""
+    lacking = lacking_in(test)
+    return doctest.DocTestCase(test, setUp=skip(lacking) if lacking else None)
 
 
 def load_tests(loader, tests, pattern):
@@ -38,10 +43,10 @@ def load_tests(loader, tests, pattern):
     for module in [causal, *(importlib.import_module(f"causal.{info.name}") for info in pkgutil.iter_modules(causal.__path__))]:
         for test in finder.find(module):
             if test.examples:
-                tests.addTest(Example(test))
+                tests.addTest(example(test))
     with open(os.path.join(HERE, "..", "README.md"), encoding="utf-8") as file:
         readme = doctest.DocTestParser().get_doctest(file.read(), {}, "README.md", "README.md", 0)
-    tests.addTest(Example(readme))
+    tests.addTest(example(readme))
     return tests
 
 
