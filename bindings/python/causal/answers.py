@@ -2,7 +2,7 @@
 from __future__ import annotations
 
 from dataclasses import dataclass
-from typing import Dict, Iterator, Optional, Sequence, Tuple
+from typing import Dict, Iterator, List, Optional, Sequence, Tuple
 
 from causal.formula import Formula, HedgeSets, Term, read_formula, read_hedge_sets, read_term
 from causal.names import Cursor, printed_name, printed_set
@@ -61,7 +61,10 @@ def read_graph(text: str) -> GraphText:
     lines = _lines(text)
     Cursor(lines[0]).take("dag {")
     Cursor(lines[-1]).take("}")
-    vertices, roles, edges, bidirected = [], {}, [], []
+    vertices: List[str] = []
+    roles: Dict[str, str] = {}
+    edges: List[Tuple[str, str]] = []
+    bidirected: List[Tuple[str, str]] = []
     for line in lines[1:-1]:
         cursor = Cursor(line)
         name = cursor.name()

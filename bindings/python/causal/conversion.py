@@ -51,7 +51,8 @@ def text_of_networkx(graph: Any, roles: Mapping[str, Names]) -> str:
         own = [attributes.get("role"), "latent" if attributes.get("latent") else None]
         for role in dict.fromkeys(role for role in own if role):
             marks.setdefault(role, []).append(names[label])
-    directed, both = [], []
+    directed: List[Pair] = []
+    both: List[Pair] = []
     for a, b, attributes in graph.edges(data=True):
         (both if attributes.get("bidirected") else directed).append((names[a], names[b]))
     return text_of_edges(directed, both, names.values(), marks)

@@ -5,14 +5,14 @@ import os
 import random
 from typing import TYPE_CHECKING, Any, Dict, Iterable, List, Mapping, Optional, Sequence, Tuple, Union
 
-from causal import answers, effects, faults, formula
+from causal import answers, faults, formula
 from causal._library import Text, as_bytes, run
-from causal.bootstrap import Bootstrap, ContrastInterval, drawn
-from causal.effects import Contrast, Effects, Level
+from causal.bootstrap import Bootstrap, drawn
+from causal.effects import Contrast, Effects, Level, LevelOf, read_effects, split_levels
 from causal.errors import CausalError, EvaluationError, NotIdentifiable, RequestError
 from causal.formula import Formula, Hedge, HedgeSets
 from causal.names import Names, list_word, names_of
-from causal.tables import Data, Table, is_path, read_bytes, table_of
+from causal.tables import Data, Table, path_of, read_bytes, table_of
 
 if TYPE_CHECKING:
     import matplotlib.axes
@@ -377,10 +377,10 @@ class Diagram:
         P(R=bad|do(T=B)) = 1/2
         """
         found = self._formula(x, y)
-        if not is_path(data):
+        path = path_of(data)
+        if path is None:
             return self._over_table(found, table_of(data, self._used(found), count, missing), exact)
-        words = [] if count is None else [f"--count={count}"]
-        return self._over_text(found, read_bytes(data), [*words, *(["--exact"] if exact else [])])
+        return self._over_file(found, path, count, exact)
 
     def contrast(
         self,
@@ -444,8 +444,9 @@ class Diagram:
         found = self._formula(x, y)
         table = table_of(data, self._used(found), count, missing)
         estimate = self._over_table(found, table, exact=False)
-        if is_path(data):
-            self._same_as_file(found, estimate, data, count)
+        path = path_of(data)
+        if path is not None:
+            self._same_as_file(found, estimate, path, count)
         source = random.Random(seed)
         draws = [self._draw(found, table, source) for _ in range(resamples)]
         return Bootstrap(estimate, tuple(draws), level, seed)
@@ -475,26 +476,27 @@ class Diagram:
         used = found.variables
         return tuple(name for name in self.vertices if name in used)
 
-    def _evaluated(self, found: Formula, text: bytes, options: Sequence[Text], level_of: effects.LevelOf, dropped: int) -> Effects:
+    def _evaluated(self, found: Formula, text: bytes, options: Sequence[Text], level_of: LevelOf, dropped: int) -> Effects:
         used = self._used(found)
 
         def cell(told: str) -> Optional[Dict[str, object]]:
-            split = effects.split_levels(told, "", "", [used], "")
+            split = split_levels(told, "", "", [used], "")
             return {name: level_of(name, level) for name, level in zip(used, split[0])} if split else None
 
         words = [*_options(x=found.target.x, y=found.target.y), *options]
-        return effects.read_effects(self._ask("evaluate", *words, second=text, levels=cell)[1], found, level_of, dropped)
+        return read_effects(self._ask("evaluate", *words, second=text, levels=cell)[1], found, level_of, dropped)
 
-    def _over_text(self, found: Formula, text: bytes, options: Sequence[Text]) -> Effects:
-        return self._evaluated(found, text, options, lambda name, level: level, 0)
+    def _over_file(self, found: Formula, path: str, count: Optional[str], exact: bool) -> Effects:
+        words = [*([] if count is None else [f"--count={count}"]), *(["--exact"] if exact else [])]
+        return self._evaluated(found, read_bytes(path), words, lambda name, level: level, 0)
 
     def _over_table(self, found: Formula, table: Table, exact: bool, text: Optional[bytes] = None) -> Effects:
         options = [f"--count={table.count_column}", *(["--exact"] if exact else [])]
         return self._evaluated(found, table.text() if text is None else text, options, table.level, table.dropped)
 
-    def _same_as_file(self, found: Formula, estimate: Effects, data: Data, count: Optional[str]) -> None:
+    def _same_as_file(self, found: Formula, estimate: Effects, path: str, count: Optional[str]) -> None:
         """The library reads the file itself too: both readings have to give the same."""
-        direct = self._over_text(found, read_bytes(data), [] if count is None else [f"--count={count}"])
+        direct = self._over_file(found, path, count, exact=False)
         if direct.effects != estimate.effects or direct.pinned != estimate.pinned:
             raise CausalError("the file isn't plain CSV: Python reads it otherwise than the library does; give a DataFrame instead")
 

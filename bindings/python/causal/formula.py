@@ -39,7 +39,9 @@ def read_term(cursor: Cursor) -> Term:
     Term(y=('M',), x=('X',), given=('W',))
     """
     cursor.take("P(")
-    y, x, given = cursor.names(), (), ()
+    y = cursor.names()
+    x: Tuple[str, ...] = ()
+    given: Tuple[str, ...] = ()
     if cursor.accept("|"):
         if cursor.accept("do("):
             x = cursor.names()
@@ -58,7 +60,8 @@ def variables_of(text: str) -> Set[str]:
     >>> sorted(variables_of('sum{"a b"} P("a b") * P(Y|X,"a b") / q0'))
     ['X', 'Y', 'a b']
     """
-    cursor, names = Cursor(text), set()
+    cursor = Cursor(text)
+    names: Set[str] = set()
     while not cursor.is_done():
         if text.startswith("P(", cursor.at):
             term = read_term(cursor)
@@ -339,12 +342,16 @@ def _read_bit(line: str, head: str) -> Bit:
     while not cursor.is_done():
         if terms:
             cursor.take(" + ")
-        terms.append(("c", cursor.number()) if cursor.accept("c") else _read_named_bit(cursor))
+        if cursor.accept("c"):
+            terms.append(("c", cursor.number()))
+        else:
+            terms.append(_read_named_bit(cursor))
     return Bit(kind, vertex, tuple(terms))
 
 
 def _read_event(line: str) -> Tuple[Tuple[str, ...], int]:
-    cursor, event = Cursor(line), []
+    cursor = Cursor(line)
+    event: List[str] = []
     cursor.take("event ")
     while not cursor.accept(" even: 1/2 in the first, 1/2 + 1/2^"):
         if event:

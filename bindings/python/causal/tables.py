@@ -74,14 +74,14 @@ class Table:
         return [(tuple(min(k, n - 1) if n else b for n, b in zip(sizes, base)), 0) for k in range(max(sizes, default=0))]
 
 
-def is_path(data: Data) -> bool:
-    """Whether the data is the path of a file.
+def path_of(data: Data) -> Optional[str]:
+    """The path, where the data is one.
 
-    >>> from causal.tables import is_path
-    >>> is_path("counts.csv"), is_path({"X": []})
-    (True, False)
+    >>> from causal.tables import path_of
+    >>> path_of("counts.csv"), path_of({"X": []})
+    ('counts.csv', None)
     """
-    return isinstance(data, (str, os.PathLike))
+    return os.fspath(data) if isinstance(data, (str, os.PathLike)) else None
 
 
 def read_bytes(path: Union[str, "os.PathLike[str]"]) -> bytes:
@@ -100,16 +100,11 @@ def table_of(data: Data, names: Sequence[str], count: Optional[str] = None, miss
     if missing not in ("error", "drop"):
         raise RequestError(f"missing is 'error' or 'drop', and not {missing!r}")
     used = list(dict.fromkeys([*names, *([count] if count is not None else [])]))
-    if is_path(data):
-        columns = _csv_columns(read_bytes(data), used)
-    elif hasattr(data, "columns"):
-        columns = _frame_columns(data, used)
-    else:
-        columns = _mapping_columns(data, used)
+    columns = _columns_of(data, used)
     kept, dropped = _kept_records(columns, missing)
     counts = _record_counts(columns[count].values, kept) if count is not None else [1] * len(kept)
     factors = [columns[name].factor(kept) for name in names]
-    summed: Counter = Counter()
+    summed: Counter[Cell] = Counter()
     for cell, number in zip(zip(*(codes for codes, _ in factors)), counts):
         summed[cell] += number
     return Table(tuple(names), tuple(levels for _, levels in factors), dict(summed), dropped)
@@ -136,6 +131,13 @@ class _Column:
         except TypeError as cause:
             raise RequestError(f"the column {self.name} has a value that can't be a level: {cause}") from cause
         return codes, list(numbers)
+
+
+def _columns_of(data: Any, used: Sequence[str]) -> Dict[str, _Column]:
+    path = path_of(data)
+    if path is not None:
+        return _csv_columns(read_bytes(path), used)
+    return _frame_columns(data, used) if hasattr(data, "columns") else _mapping_columns(data, used)
 
 
 def _frame_columns(frame: Any, used: Sequence[str]) -> Dict[str, _Column]:
