@@ -98,4 +98,5 @@ def main():
     imports()
 
 
-main()
+if __name__ == "__main__":
+    main()

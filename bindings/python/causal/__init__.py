@@ -9,11 +9,12 @@ causality is computed in Python: each question is a call of the library, and its
 >>> print(diagram.identify("X", "Y"))
 P(Y|do(X)) = sum{M} P(M|X) * (sum{X} P(X) * P(Y|X,M))
 """
+from importlib import import_module as _import_module
+from typing import TYPE_CHECKING, Any
+
 from causal._library import Reply, run
 from causal.answers import Adjustment, AdjustmentSets, Check, Equivalence, Path, Refusal, RuleAnswer, Separation
-from causal.bootstrap import Bootstrap, ContrastInterval, Interval
 from causal.diagram import Diagram
-from causal.effects import Contrast, Effect, Effects, Value
 from causal.errors import (
     CausalError,
     CertificateError,
@@ -29,6 +30,10 @@ from causal.errors import (
 )
 from causal.formula import Formula, Hedge, HedgeSets, Term
 from causal.version import VERSION
+
+if TYPE_CHECKING:
+    from causal.bootstrap import Bootstrap, ContrastInterval, Interval
+    from causal.effects import Contrast, Effect, Effects, Value
 
 __version__ = VERSION
 
@@ -67,3 +72,20 @@ __all__ = [
     "Value",
     "run",
 ]
+
+# What questions about data need is imported when it is asked for first.
+_LATER = {
+    "Bootstrap": "causal.bootstrap",
+    "ContrastInterval": "causal.bootstrap",
+    "Interval": "causal.bootstrap",
+    "Contrast": "causal.effects",
+    "Effect": "causal.effects",
+    "Effects": "causal.effects",
+    "Value": "causal.effects",
+}
+
+
+def __getattr__(name: str) -> Any:
+    if name not in _LATER:
+        raise AttributeError(f"module 'causal' has no attribute {name!r}")
+    return getattr(_import_module(_LATER[name]), name)

@@ -3,7 +3,9 @@ from __future__ import annotations
 
 import functools
 import os
-from typing import Any, Iterable, List, Mapping, NamedTuple, Optional, Tuple, Union
+from array import array
+from itertools import accumulate
+from typing import Any, Dict, Iterable, List, Mapping, NamedTuple, Optional, Tuple, Union
 
 from causal.errors import LibraryMissing
 
@@ -12,7 +14,7 @@ Text = Union[str, bytes]
 OUT_ROOM = 1 << 14
 ERR_ROOM = 1 << 10
 NOT_TEXT = 9
-NO_MEMORY = (8, 10)
+NO_MEMORY = (7, 8, 10)
 
 
 class Reply(NamedTuple):
@@ -56,31 +58,15 @@ def _load() -> Tuple[Any, Any]:
         call = ctypes.CDLL(library_path()).causal_run
     except (OSError, AttributeError) as cause:
         raise LibraryMissing(f"the library at {library_path()} can't be used: {cause}") from cause
-    size = ctypes.c_size_t
-    sizes = ctypes.POINTER(size)
+    size, spans, room = ctypes.c_size_t, ctypes.c_void_p, ctypes.c_char_p
     call.restype = ctypes.c_uint8
-    call.argtypes = [ctypes.c_char_p, size, sizes, size, sizes, size, ctypes.c_char_p, size, ctypes.c_char_p, size, sizes]
+    call.argtypes = [ctypes.c_char_p, size, spans, size, spans, size, room, size, room, size, ctypes.c_void_p]
     return ctypes, call
 
 
 def as_bytes(text: Text) -> bytes:
     """The bytes of a text in UTF-8. A half of a surrogate pair gives bytes that aren't UTF-8, which the library refuses."""
     return text.encode("utf-8", "surrogatepass") if isinstance(text, str) else bytes(text)
-
-
-class _Packed:
-    """Texts in one run of bytes, with the place of each as a start and an end."""
-
-    def __init__(self) -> None:
-        self.parts: List[bytes] = []
-        self.end = 0
-
-    def put(self, text: Text) -> Tuple[int, int]:
-        part = as_bytes(text)
-        start = self.end
-        self.parts.append(part)
-        self.end += len(part)
-        return start, self.end
 
 
 def run(words: Iterable[Text], inputs: Optional[Mapping[Text, Text]] = None) -> Reply:
@@ -93,19 +79,21 @@ def run(words: Iterable[Text], inputs: Optional[Mapping[Text, Text]] = None) -> 
     Reply(status=0, out=b'P(Y|do(X)) = sum{Z} P(Z) * P(Y|Z,X)\\n', err=b'')
     """
     ctypes, call = _load()
-    packed = _Packed()
-    word_spans = [bound for word in words for bound in packed.put(word)]
-    input_spans = [bound for pair in (inputs or {}).items() for text in pair for bound in packed.put(text)]
-    data = b"".join(packed.parts)
-    size = ctypes.c_size_t
-    word_array = (size * len(word_spans))(*word_spans)
-    input_array = (size * len(input_spans))(*input_spans)
-    sizes = (size * 2)()
+    named = inputs or {}
+    words = list(words)
+    parts = [as_bytes(text) for text in words] + [as_bytes(text) for pair in named.items() for text in pair]
+    bounds = list(accumulate(map(len, parts), initial=0))
+    # The start and the end of each part; "L" is as wide as a size is.
+    spans = array("L", [bound for pair in zip(bounds, bounds[1:]) for bound in pair])
+    first_span = spans.buffer_info()[0]
+    first_input = first_span + 2 * len(words) * spans.itemsize
+    data = b"".join(parts)
+    sizes = array("L", (0, 0))
     out_room, err_room = OUT_ROOM, ERR_ROOM
     while True:
         out, err = ctypes.create_string_buffer(out_room), ctypes.create_string_buffer(err_room)
         status = call(
-            data, len(data), word_array, len(word_spans) // 2, input_array, len(input_spans) // 4, out, out_room, err, err_room, sizes
+            data, len(data), first_span, len(words), first_input, len(named), out, out_room, err, err_room, sizes.buffer_info()[0]
         )
         if status == NOT_TEXT:
             raise ValueError("a word isn't UTF-8")
@@ -114,3 +102,26 @@ def run(words: Iterable[Text], inputs: Optional[Mapping[Text, Text]] = None) -> 
         if sizes[0] <= out_room and sizes[1] <= err_room:
             return Reply(status, ctypes.string_at(out, sizes[0]), ctypes.string_at(err, sizes[1]))
         out_room, err_room = max(sizes[0], out_room), max(sizes[1], err_room)
+
+
+def ask(command: str, text: bytes, *options: Text, second: Optional[bytes] = None, levels: Any = None) -> Tuple[int, str]:
+    """Asks a diagram's text, and gives the status (0 or 1) and the answer. A refusal is raised.
+
+    A cell that the line of a refusal names is read by `levels`, where it is given.
+
+    >>> from causal._library import ask
+    >>> ask("equivalent", b"dag{A->B}", second=b"dag{A<-B}")
+    (0, 'equivalent\\n')
+    """
+    inputs: Dict[Text, Text] = {"diagram": text}
+    words: List[Text] = [command, "diagram"]
+    if second is not None:
+        inputs["second"] = second
+        words.append("second")
+    words.extend(options)
+    status, out, err = run(words, inputs)
+    if status > 1:
+        from causal.faults import Sources, raise_refusal
+
+        raise_refusal(status, err, words, Sources(text, second or b"", levels))
+    return status, out.decode("utf-8", "surrogateescape")

@@ -1,30 +1,33 @@
 """Diagrams, and the questions about them."""
 from __future__ import annotations
 
-import os
-import random
-from typing import TYPE_CHECKING, Any, Dict, Iterable, List, Mapping, Optional, Sequence, Tuple, Union
+from typing import TYPE_CHECKING, Any, Dict, Iterable, List, Mapping, Optional, Tuple, Union
 
-from causal import answers, faults, formula
-from causal._library import Text, as_bytes, run
-from causal.bootstrap import Bootstrap, drawn
-from causal.effects import Contrast, Effects, Level, LevelOf, read_effects, split_levels
-from causal.errors import CausalError, EvaluationError, NotIdentifiable, RequestError
+from causal import answers, formula
+from causal._library import Text, as_bytes, ask
+from causal.errors import RequestError
 from causal.formula import Formula, Hedge, HedgeSets
-from causal.names import Names, list_word, names_of
-from causal.tables import Data, Table, path_of, read_bytes, table_of
+from causal.names import Names, list_word
 
 if TYPE_CHECKING:
+    import os
+
     import matplotlib.axes
     import networkx
     import pandas
 
-FILE = "diagram"
-SECOND = "second"
+    from causal.bootstrap import Bootstrap
+    from causal.effects import Contrast, Effects
+    from causal.tables import Data
 
 
-def _options(**lists: Optional[Names]) -> List[Text]:
-    """The words of the options that are given: lists of names."""
+def options(**lists: Optional[Names]) -> List[Text]:
+    """The words of the options that are given: lists of names.
+
+    >>> from causal.diagram import options
+    >>> options(x="A", given=[], y=None)
+    ['--x', '"A"', '--given', '{}']
+    """
     return [word for name, names in lists.items() if names is not None for word in (f"--{name}", list_word(names))]
 
 
@@ -33,6 +36,7 @@ class Diagram:
 
     The text is the `dag` text of DAGitty. A vertex may be marked `exposure`, `outcome`, `adjusted` or `latent`. Where a question
     takes exposures x and outcomes y, those that are marked are meant unless others are given; latent vertices are projected away.
+    `source` is the text as it was given, in bytes; it is what each question is asked of.
 
     >>> from causal import Diagram
     >>> diagram = Diagram("dag { T [exposure] R [outcome] S -> T -> R <- S }")
@@ -43,8 +47,8 @@ class Diagram:
     """
 
     def __init__(self, text: Text) -> None:
-        self._source = as_bytes(text)
-        self._text = self._ask("graph")[1]
+        self.source = as_bytes(text)
+        self._text = ask("graph", self.source)[1]
         self._content = answers.read_graph(self._text)
 
     # Where diagrams come from.
@@ -59,7 +63,8 @@ class Diagram:
             ...
         FileNotFoundError: [Errno 2] No such file or directory: 'no/such/file.dag'
         """
-        return cls(read_bytes(path))
+        with open(path, "rb") as file:
+            return cls(file.read())
 
     @classmethod
     def from_edges(
@@ -179,7 +184,7 @@ class Diagram:
         >>> Diagram("dag { U [latent] U -> X U -> Y X -> Y }").project().bidirected
         (('X', 'Y'),)
         """
-        return Diagram(self._ask("graph", "--project")[1])
+        return Diagram(ask("graph", self.source, "--project")[1])
 
     def to_networkx(self, mixed: bool = False) -> "networkx.DiGraph":
         """The diagram as a graph of networkx; marks are the attribute `role`.
@@ -232,7 +237,7 @@ class Diagram:
         not separated: {A} from {C} given {B}
         open: A -> B <- C
         """
-        return answers.read_separation(self._ask("separate", *_options(x=x, y=y, given=given))[1])
+        return answers.read_separation(ask("separate", self.source, *options(x=x, y=y, given=given))[1])
 
     def rule(self, number: int, y: Names, z: Names, do: Names = (), given: Names = ()) -> answers.RuleAnswer:
         """Whether a rule of do-calculus applies: the answer counts as true where it does, and else has an open path.
@@ -243,8 +248,8 @@ class Diagram:
         >>> print(Diagram("dag { X -> M -> Y X <-> Y }").rule(2, y="M", z="X"))
         rule 2 holds: P(M|do(X)) = P(M|X)
         """
-        words = ["--rule", str(number), *_options(y=y, z=z, do=do, given=given)]
-        return answers.read_rule(self._ask("rule", *words)[1])
+        words = ["--rule", str(number), *options(y=y, z=z, do=do, given=given)]
+        return answers.read_rule(ask("rule", self.source, *words)[1])
 
     def identify(self, x: Optional[Names] = None, y: Optional[Names] = None) -> Union[Formula, Hedge]:
         """A formula for the effect of x on y, or a hedge, which counts as false.
@@ -259,13 +264,13 @@ class Diagram:
         >>> bool(Diagram("dag { X -> Y X <-> Y }").identify("X", "Y"))
         False
         """
-        options = _options(x=x, y=y)
-        status, text = self._ask("identify", *options)
+        words = options(x=x, y=y)
+        status, text = ask("identify", self.source, *words)
 
-        def ask(form: str) -> str:
-            return self._ask("identify", *options, form)[1].rstrip("\n")
+        def ask_form(form: str) -> str:
+            return ask("identify", self.source, *words, form)[1].rstrip("\n")
 
-        return formula.read_hedge(text, ask) if status == 1 else formula.read_formula(text, ask)
+        return formula.read_hedge(text, ask_form) if status == 1 else formula.read_formula(text, ask_form)
 
     def check(self, certificate: Union[Text, Formula, Hedge]) -> answers.Check:
         """Whether a certificate is accepted, whoever wrote it: the answer counts as true where it is.
@@ -280,7 +285,7 @@ class Diagram:
         text = certificate.certificate if isinstance(certificate, (Formula, Hedge)) else certificate
         if text is None:
             raise RequestError("this answer has no certificate: only those of identify have one")
-        return answers.read_check(self._ask("check", second=as_bytes(text))[1])
+        return answers.read_check(ask("check", self.source, second=as_bytes(text))[1])
 
     def adjustment_sets(
         self, x: Optional[Names] = None, y: Optional[Names] = None, most: Optional[int] = None
@@ -292,7 +297,7 @@ class Diagram:
         [('Z',)]
         """
         limit = [] if most is None else ["--most", str(most)]
-        return answers.read_sets(self._ask("adjust", *_options(x=x, y=y), *limit)[1])
+        return answers.read_sets(ask("adjust", self.source, *options(x=x, y=y), *limit)[1])
 
     def adjusts(
         self, members: Names, x: Optional[Names] = None, y: Optional[Names] = None, back_door: bool = False
@@ -304,8 +309,8 @@ class Diagram:
         admissible: {Z}
         P(Y|do(X)) = sum{Z} P(Z) * P(Y|Z,X)
         """
-        words = [*_options(x=x, y=y, set=members), *(["--back-door"] if back_door else [])]
-        return answers.read_adjustment(self._ask("adjust", *words)[1])
+        words = [*options(x=x, y=y, set=members), *(["--back-door"] if back_door else [])]
+        return answers.read_adjustment(ask("adjust", self.source, *words)[1])
 
     def equivalent(self, other: "Diagram") -> answers.Equivalence:
         """Whether two diagrams without hidden common causes imply the same: the answer counts as true where they do.
@@ -314,7 +319,7 @@ class Diagram:
         >>> bool(Diagram("dag { A -> B -> C }").equivalent(Diagram("dag { A <- B -> C }")))
         True
         """
-        return answers.read_equivalence(self._ask("equivalent", second=other._source)[1])
+        return answers.read_equivalence(ask("equivalent", self.source, second=other.source)[1])
 
     # Effects in data.
 
@@ -376,11 +381,9 @@ class Diagram:
         P(R=good|do(T=B)) = 1/2
         P(R=bad|do(T=B)) = 1/2
         """
-        found = self._formula(x, y)
-        path = path_of(data)
-        if path is None:
-            return self._over_table(found, table_of(data, self._used(found), count, missing), exact)
-        return self._over_file(found, path, count, exact)
+        from causal.evaluation import Evaluation
+
+        return Evaluation(self, x, y).effects(data, count, exact, missing)
 
     def contrast(
         self,
@@ -407,6 +410,8 @@ class Diagram:
         >>> contrast.difference.exact, contrast.ratio.exact
         (Fraction(-1, 2), Fraction(1, 2))
         """
+        from causal.evaluation import levels_at
+
         found = self.effects(data, x, y, count=count, exact=exact, missing=missing)
         target = found.formula.target
         return found.contrast(levels_at(target.y, outcome), levels_at(target.x, treated), levels_at(target.x, control))
@@ -439,87 +444,8 @@ class Diagram:
         >>> float(contrast.contrast.difference), contrast.difference.lower > 0, answer.without_value
         (0.5, True, 0)
         """
+        from causal.evaluation import Evaluation
+
         if resamples < 1 or not 0 < level < 1:
             raise RequestError("resamples is at least 1, and level lies between 0 and 1")
-        found = self._formula(x, y)
-        table = table_of(data, self._used(found), count, missing)
-        estimate = self._over_table(found, table, exact=False)
-        path = path_of(data)
-        if path is not None:
-            self._same_as_file(found, estimate, path, count)
-        source = random.Random(seed)
-        draws = [self._draw(found, table, source) for _ in range(resamples)]
-        return Bootstrap(estimate, tuple(draws), level, seed)
-
-    # Calls of the library.
-
-    def _ask(self, command: str, *options: Text, second: Optional[bytes] = None, levels: Any = None) -> Tuple[int, str]:
-        """The status and the answer. A refusal is raised."""
-        inputs: Dict[Text, Text] = {FILE: self._source}
-        words: List[Text] = [command, FILE]
-        if second is not None:
-            inputs[SECOND] = second
-            words.append(SECOND)
-        status, out, err = run([*words, *options], inputs)
-        if status > 1:
-            faults.raise_refusal(status, err, [*words, *options], faults.Sources(self._source, second or b"", levels))
-        return status, out.decode("utf-8", "surrogateescape")
-
-    def _formula(self, x: Optional[Names], y: Optional[Names]) -> Formula:
-        answer = self.identify(x, y)
-        if isinstance(answer, Hedge):
-            raise NotIdentifiable(f"{answer.target} is not identifiable", place=answer)
-        return answer
-
-    def _used(self, found: Formula) -> Tuple[str, ...]:
-        """The variables that the formula reads, in the order of the observed vertices."""
-        used = found.variables
-        return tuple(name for name in self.vertices if name in used)
-
-    def _evaluated(self, found: Formula, text: bytes, options: Sequence[Text], level_of: LevelOf, dropped: int) -> Effects:
-        used = self._used(found)
-
-        def cell(told: str) -> Optional[Dict[str, object]]:
-            split = split_levels(told, "", "", [used], "")
-            return {name: level_of(name, level) for name, level in zip(used, split[0])} if split else None
-
-        words = [*_options(x=found.target.x, y=found.target.y), *options]
-        return read_effects(self._ask("evaluate", *words, second=text, levels=cell)[1], found, level_of, dropped)
-
-    def _over_file(self, found: Formula, path: str, count: Optional[str], exact: bool) -> Effects:
-        words = [*([] if count is None else [f"--count={count}"]), *(["--exact"] if exact else [])]
-        return self._evaluated(found, read_bytes(path), words, lambda name, level: level, 0)
-
-    def _over_table(self, found: Formula, table: Table, exact: bool, text: Optional[bytes] = None) -> Effects:
-        options = [f"--count={table.count_column}", *(["--exact"] if exact else [])]
-        return self._evaluated(found, table.text() if text is None else text, options, table.level, table.dropped)
-
-    def _same_as_file(self, found: Formula, estimate: Effects, path: str, count: Optional[str]) -> None:
-        """The library reads the file itself too: both readings have to give the same."""
-        direct = self._over_file(found, path, count, exact=False)
-        if direct.effects != estimate.effects or direct.pinned != estimate.pinned:
-            raise CausalError("the file isn't plain CSV: Python reads it otherwise than the library does; give a DataFrame instead")
-
-    def _draw(self, found: Formula, table: Table, source: random.Random) -> Optional[Tuple[float, ...]]:
-        kept = {*found.target.x, *found.target.y, *found.free}
-        text = table.text(drawn(source, table.counts), kept)
-        try:
-            return tuple(float(effect.value) for effect in self._over_table(found, table, exact=False, text=text))
-        except EvaluationError:
-            return None
-
-
-def levels_at(names: Sequence[str], levels: Any) -> Dict[str, Level]:
-    """Levels by name, from a mapping, from a list in the order of the names, or from a single level.
-
-    >>> from causal.diagram import levels_at
-    >>> levels_at(["T"], "A"), levels_at(["S", "T"], ["small", "A"])
-    ({'T': 'A'}, {'S': 'small', 'T': 'A'})
-    """
-    if isinstance(levels, Mapping):
-        return {name: levels[name] for name in names}
-    if len(names) == 1:
-        return {names[0]: levels}
-    if isinstance(levels, str) or len(names_of(levels)) != len(names):
-        raise RequestError(f"a level is needed for each of {', '.join(names)}")
-    return dict(zip(names, levels))
+        return Evaluation(self, x, y).bootstrap(data, count, missing, resamples, level, seed)

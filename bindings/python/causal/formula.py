@@ -2,10 +2,12 @@
 from __future__ import annotations
 
 from dataclasses import dataclass, field
-from fractions import Fraction
-from typing import Callable, List, Optional, Set, Tuple, Union
+from typing import TYPE_CHECKING, Callable, List, Optional, Set, Tuple, Union
 
 from causal.names import Cursor, printed_name, printed_set
+
+if TYPE_CHECKING:
+    from fractions import Fraction
 
 # Asks the program for another form of the same answer: "--latex" or "--certificate".
 AskForm = Callable[[str], str]
@@ -253,6 +255,8 @@ class Hedge(HedgeSets):
     @property
     def probabilities(self) -> Tuple[Fraction, Fraction]:
         """The event's probability under do(x) in the first and in the second model."""
+        from fractions import Fraction
+
         return Fraction(1, 2), Fraction(1, 2) + Fraction(1, 2**self.noise)
 
     @property

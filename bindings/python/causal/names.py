@@ -9,7 +9,8 @@ from causal.errors import UnreadableAnswer
 Names = Union[str, Iterable[str]]
 
 _BARE = re.compile(r'[^ \t\r\n{}\[\]";=,<>\-@()|*/]+')
-_QUOTED = re.compile(r'"([^"\r\n]+)"')
+_NAME = re.compile(r'"([^"\r\n]+)"|' + _BARE.pattern)
+_QUOTABLE = re.compile(r'[^"\r\n]+')
 _NUMBER = re.compile(r"[0-9]+")
 _MARK = re.compile(r" (<->|->|<-) ")
 
@@ -52,7 +53,7 @@ def quoted(name: str) -> str:
     >>> quoted("a,b")
     '"a,b"'
     """
-    if not name or any(mark in name for mark in '"\r\n'):
+    if not _QUOTABLE.fullmatch(name):
         raise ValueError(f"no vertex can be named {name!r}: a name isn't empty, and holds no double quote and no line break")
     return f'"{name}"'
 
@@ -103,13 +104,11 @@ class Cursor:
 
     def name(self) -> str:
         """The name that stands next."""
-        found = self.match(_QUOTED)
-        if found:
-            return found.group(1)
-        found = self.match(_BARE)
+        found = _NAME.match(self.text, self.at)
         if not found:
             raise self.fail()
-        return found.group()
+        self.at = found.end()
+        return found.group(1) or found.group()
 
     def names(self) -> Tuple[str, ...]:
         """One name or more, joined by commas."""
