@@ -2,19 +2,21 @@
 """Times calls of the library from Python: `python_calls.py`, with bindings/python on the path of modules.
 
 It prints the time of one `separate` in process beside that of networkx on the same graphs and questions (where networkx is there),
-of one `identify`, and of importing the package. Of five rounds, in which both take turns, the best of each is printed.
+of one `identify`, and of importing the package. A call of the library reads the diagram's text each time; networkx is timed with
+its graph at hand, and with making it of the edges first. Times are those of the processor, the least of nine rounds in which all
+take turns, so that other work on the machine counts for little.
 """
 import os
 import random
+import resource
 import subprocess
 import sys
-import time
 
 import causal
 
 HERE = os.path.dirname(os.path.abspath(__file__))
 EXAMPLES = os.path.join(HERE, "..", "examples")
-ROUNDS = 5
+ROUNDS = 9
 
 
 def edges_of(vertices, chance, source):
@@ -31,14 +33,19 @@ def questions_of(vertices, number, source):
         yield chosen[0], chosen[1], chosen[2:]
 
 
+def own_time():
+    """The processor's time of this process and of those that it waited for."""
+    return sum(sum(resource.getrusage(who)[:2]) for who in (resource.RUSAGE_SELF, resource.RUSAGE_CHILDREN))
+
+
 def best(*calls):
     """The least time of each call in microseconds, by rounds in which they take turns."""
     times = [[] for _ in calls]
     for _ in range(ROUNDS):
         for call, own in zip(calls, times):
-            start = time.perf_counter()
+            start = own_time()
             call()
-            own.append(time.perf_counter() - start)
+            own.append(own_time() - start)
     return [min(own) * 1e6 for own in times]
 
 
@@ -48,25 +55,37 @@ def separations(vertices, chance):
     edges = edges_of(vertices, chance, source)
     diagram = causal.Diagram.from_edges(edges, vertices=[f"v{k}" for k in range(vertices)])
     questions = list(questions_of(vertices, 200, source))
+    head = f"separate, {vertices} vertices, {len(edges)} edges"
+
+    def ask():
+        return [bool(diagram.separated(x, y, given)) for x, y, given in questions]
+
     try:
         import networkx
     except ImportError:
         print("skipped: networkx: no networkx")
-        [own] = best(lambda: [diagram.separated(x, y, given) for x, y, given in questions])
-        print(f"separate, {vertices} vertices, {len(edges)} edges: {own / len(questions):.1f} us")
+        print(f"{head}: {best(ask)[0] / len(questions):.0f} us")
         return
     name = "is_d_separator" if hasattr(networkx, "is_d_separator") else "d_separated"
     separated, graph = getattr(networkx, name), diagram.to_networkx()
-    answers = [bool(diagram.separated(x, y, given)) for x, y, given in questions]
-    if answers != [separated(graph, {x}, {y}, set(given)) for x, y, given in questions]:
+
+    def ask_networkx():
+        return [separated(graph, {x}, {y}, set(given)) for x, y, given in questions]
+
+    def make_and_ask():
+        for x, y, given in questions:
+            made = networkx.DiGraph()
+            made.add_nodes_from(diagram.vertices)
+            made.add_edges_from(edges)
+            separated(made, {x}, {y}, set(given))
+
+    answers = ask()
+    if answers != ask_networkx():
         sys.exit("the answers differ")
-    own, other = best(
-        lambda: [diagram.separated(x, y, given) for x, y, given in questions],
-        lambda: [separated(graph, {x}, {y}, set(given)) for x, y, given in questions],
-    )
+    own, other, made = [time / len(questions) for time in best(ask, ask_networkx, make_and_ask)]
     print(
-        f"separate, {vertices} vertices, {len(edges)} edges, {sum(answers)} of {len(questions)} separated: "
-        f"{own / len(questions):.1f} us; networkx {networkx.__version__} {name}: {other / len(questions):.1f} us; {other / own:.1f} times"
+        f"{head}, {sum(answers)} of {len(questions)} separated: {own:.0f} us; networkx {networkx.__version__} {name}: "
+        f"{other:.0f} us ({other / own:.1f} times), with making its graph {made:.0f} us ({made / own:.1f} times)"
     )
 
 

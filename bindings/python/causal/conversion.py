@@ -5,19 +5,19 @@ from typing import Any, Dict, Iterable, List, Mapping, Tuple
 
 from causal.answers import GraphText
 from causal.errors import RequestError
-from causal.names import Names, names_of, quoted
+from causal.names import Names, names_of, written_name
 
 ROLES = ("exposure", "outcome", "adjusted", "latent")
 Pair = Tuple[str, str]
 
 
 def text_of_edges(edges: Iterable[Pair], bidirected: Iterable[Pair], vertices: Iterable[str], roles: Mapping[str, Names]) -> str:
-    """The text of a diagram: first the vertices in their order, then those that edges name. Each name stands in quotes, and a
-    vertex with two marks is written so, for the library to refuse.
+    """The text of a diagram: first the vertices in their order, then those that edges name. A vertex with
+    two marks is written so, for the library to refuse.
 
     >>> from causal.conversion import text_of_edges
     >>> text_of_edges([("A", "B")], [], ["C"], {"exposure": "A"})
-    'dag {\\n"C"\\n"A" [exposure]\\n"B"\\n"A" -> "B"\\n}\\n'
+    'dag {\\nC\\nA [exposure]\\nB\\nA -> B\\n}\\n'
     """
     directed, both = [tuple(edge) for edge in edges], [tuple(edge) for edge in bidirected]
     marks: Dict[str, List[str]] = {name: [] for name in names_of(vertices)}
@@ -27,9 +27,9 @@ def text_of_edges(edges: Iterable[Pair], bidirected: Iterable[Pair], vertices: I
             raise RequestError(f"a vertex can be {', '.join(ROLES)}, and not {role}")
         for name in names_of(names):
             marks.setdefault(name, []).append(role)
-    lines = [quoted(name) + (f" [{','.join(dict.fromkeys(own))}]" if own else "") for name, own in marks.items()]
-    lines += [f"{quoted(a)} -> {quoted(b)}" for a, b in directed]
-    lines += [f"{quoted(a)} <-> {quoted(b)}" for a, b in both]
+    lines = [written_name(name) + (f" [{','.join(dict.fromkeys(own))}]" if own else "") for name, own in marks.items()]
+    lines += [f"{written_name(a)} -> {written_name(b)}" for a, b in directed]
+    lines += [f"{written_name(a)} <-> {written_name(b)}" for a, b in both]
     return "\n".join(["dag {", *lines, "}", ""])
 
 

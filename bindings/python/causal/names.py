@@ -8,8 +8,11 @@ from causal.errors import UnreadableAnswer
 
 Names = Union[str, Iterable[str]]
 
-_BARE = re.compile(r'[^ \t\r\n{}\[\]";=,<>\-@()|*/]+')
-_NAME = re.compile(r'"([^"\r\n]+)"|' + _BARE.pattern)
+_BARE_TEXT = r'[^ \t\r\n{}\[\]";=,<>\-@()|*/]+'
+_QUOTED_TEXT = r'"[^"\r\n]+"'
+_BARE = re.compile(_BARE_TEXT)
+_NAME = re.compile(rf'"([^"\r\n]+)"|({_BARE_TEXT})')
+_NAMES = re.compile(f"(?:{_QUOTED_TEXT}|{_BARE_TEXT})(?:,(?:{_QUOTED_TEXT}|{_BARE_TEXT}))*")
 _QUOTABLE = re.compile(r'[^"\r\n]+')
 _NUMBER = re.compile(r"[0-9]+")
 _MARK = re.compile(r" (<->|->|<-) ")
@@ -56,6 +59,16 @@ def quoted(name: str) -> str:
     if not _QUOTABLE.fullmatch(name):
         raise ValueError(f"no vertex can be named {name!r}: a name isn't empty, and holds no double quote and no line break")
     return f'"{name}"'
+
+
+def written_name(name: str) -> str:
+    """The name as a diagram's text may have it: in quotes where it needs them.
+
+    >>> from causal.names import written_name
+    >>> written_name("age"), written_name("blood pressure")
+    ('age', '"blood pressure"')
+    """
+    return printed_name(name) if _BARE.fullmatch(name) else quoted(name)
 
 
 def list_word(names: Names) -> str:
@@ -108,14 +121,14 @@ class Cursor:
         if not found:
             raise self.fail()
         self.at = found.end()
-        return found.group(1) or found.group()
+        return found.group(1) or found.group(2)
 
     def names(self) -> Tuple[str, ...]:
         """One name or more, joined by commas."""
-        names = [self.name()]
-        while self.accept(","):
-            names.append(self.name())
-        return tuple(names)
+        start = self.at
+        if not self.match(_NAMES):
+            raise self.fail()
+        return tuple([quoted or bare for quoted, bare in _NAME.findall(self.text, start, self.at)])
 
     def set(self) -> Tuple[str, ...]:
         """The set that stands next, in its printed order."""
