@@ -155,7 +155,9 @@ class Bootstrap:
         values = [draw for draw in self.draws if draw is not None]
         return [interval_of([draw[k] for draw in values], self.level) for k in range(len(self.effects))]
 
-    def contrast(self, outcome: Mapping[str, Level], treated: Mapping[str, Level], control: Mapping[str, Level]) -> ContrastInterval:
+    def contrast(
+        self, outcome: Mapping[str, Level], treated: Mapping[str, Level], control: Mapping[str, Level]
+    ) -> ContrastInterval:
         """The contrast of two levels of the exposures, with intervals from the same draws.
 
         >>> from causal import Diagram

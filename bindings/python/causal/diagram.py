@@ -36,6 +36,8 @@ class Diagram:
 
     The text is the `dag` text of DAGitty. A vertex may be marked `exposure`, `outcome`, `adjusted` or `latent`. Where a question
     takes exposures x and outcomes y, those that are marked are meant unless others are given; latent vertices are projected away.
+    Sets are given as one name or as several; `()` is the empty set.
+
     `source` is the text as it was given, in bytes; it is what each question is asked of.
 
     >>> from causal import Diagram
@@ -362,7 +364,8 @@ class Diagram:
         The data is a DataFrame, a mapping of columns, or the path of a CSV file, with a column for each variable of the formula;
         `count` names a column of counts, and without it each record counts 1. Values are bounds of 18 digits, or with `exact`
         fractions. Each value is proved to be the formula's value over the counts, and so to cover the effect in each positive
-        model that fits the diagram and that the counts match. Nothing is said of sampling error: see `bootstrap`.
+        model that fits the diagram and that the counts match. That the counts are those of the data is tested: Python counts the
+        records of a DataFrame. Nothing is said of sampling error: see `bootstrap`.
 
         Levels are the values of a column, whatever they are, in order of first appearance; those of a `Categorical` in the order
         of its categories, of which those without a record are left out. A variable that the formula reads beside x and y is

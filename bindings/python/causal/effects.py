@@ -113,8 +113,8 @@ class Effects(Sequence[Effect]):
     """The effects of a formula over counts, at each level of the exposures and the outcomes.
 
     Each value is proved: it is the formula's value over the counts, exactly or within the bounds, and so covers the effect in
-    each positive model that fits the diagram and that the counts match. How far the counts of a sample are from those of the
-    population isn't in it: see `Diagram.bootstrap`.
+    each positive model that fits the diagram and that the counts match. That the counts are those of the data is tested. How far
+    the counts of a sample are from those of the population isn't in it: see `Diagram.bootstrap`.
 
     `formula` is the formula; `pinned` has the level at which each variable stands that the formula reads beside the target's
     sets; `exact` says whether exact fractions were asked for; `dropped` says how many records were left out since they lacked a
@@ -255,7 +255,9 @@ def _levels_pattern(names: Sequence[str], level: str) -> str:
     return ",".join(f"{re.escape(printed_name(name))}={level}" for name in names)
 
 
-def split_levels(text: str, before: str, after: str, groups: Sequence[Sequence[str]], between: str) -> Optional[List[Tuple[str, ...]]]:
+def split_levels(
+    text: str, before: str, after: str, groups: Sequence[Sequence[str]], between: str
+) -> Optional[List[Tuple[str, ...]]]:
     """The levels that stand in a printed text for groups of names, or None where it can be split in several ways or in none.
 
     >>> from causal.effects import split_levels
@@ -280,7 +282,7 @@ def _read_effect(line: str, target: Term, level_of: LevelOf) -> Effect:
     after = (r"\)\)" if target.x else r"\)") + (_EXACT if is_exact else _BOUNDS)
     split = split_levels(line, r"P\(", after, groups, r"\|do\(")
     if split is None:
-        raise UnreadableAnswer(f"a level holds marks of the answer, which can't be told apart: {line!r}; give a DataFrame instead of a path")
+        raise UnreadableAnswer(f"a level holds marks of the answer: {line!r}; give a DataFrame instead of a path")
     parts = split.pop()
     lower, upper = (Fraction(int(parts[0]), int(parts[1])),) * 2 if is_exact else map(Fraction, parts)
     cells = [{name: level_of(name, level) for name, level in zip(names, levels)} for names, levels in zip(groups, split)]

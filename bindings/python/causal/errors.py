@@ -22,7 +22,9 @@ class CausalError(Exception):
 
     stage = ""
 
-    def __init__(self, sentence: str, number: Optional[int] = None, place: Any = None, excerpt: str = "", printed: str = "") -> None:
+    def __init__(
+        self, sentence: str, number: Optional[int] = None, place: Any = None, excerpt: str = "", printed: str = ""
+    ) -> None:
         super().__init__(sentence, number, place, excerpt, printed)
         self.sentence = sentence
         self.number = number

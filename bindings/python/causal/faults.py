@@ -18,7 +18,8 @@ from causal.errors import (
 )
 from causal.names import Cursor
 
-_LINE = re.compile(rb"causal: (second graph|second target|graph|target|certificate|counts|evaluation) fault ([0-9]+)(?:: ?(.*))?\n", re.DOTALL)
+_STAGES = rb"second graph|second target|graph|target|certificate|counts|evaluation"
+_LINE = re.compile(rb"causal: (" + _STAGES + rb") fault ([0-9]+)(?:: (.*))?\n", re.DOTALL)
 
 GRAPH = {
     1: "the text isn't UTF-8",

@@ -152,4 +152,5 @@ def _frame(axes: Any, content: GraphText, places: Positions) -> None:
     axes.set_axis_off()
     roles = [role for role in COLOURS if role in content.roles.values()]
     if roles:
-        axes.legend(handles=[Patch(facecolor=COLOURS[role], edgecolor="#333333", label=role) for role in roles], loc="best", fontsize="small")
+        patches = [Patch(facecolor=COLOURS[role], edgecolor="#333333", label=role) for role in roles]
+        axes.legend(handles=patches, loc="best", fontsize="small")

@@ -155,7 +155,8 @@ def _frame_columns(frame: Any, used: Sequence[str]) -> Dict[str, _Column]:
 
 def _only(places: Sequence[int], name: str) -> int:
     if len(places) != 1:
-        raise CountsError(f"there is no column {name}" if not places else f"the column {name} is there twice", 3 if places else 2, name)
+        sentence = f"the column {name} is there twice" if places else f"there is no column {name}"
+        raise CountsError(sentence, 3 if places else 2, name)
     return places[0]
 
 

@@ -207,7 +207,8 @@ class Lines(unittest.TestCase):
         self.assertIn("graph fault 5 at line 2, column 4: only", str(error))
 
     def test_caret_at_the_end(self):
-        self.assertEqual(self.error(b"causal: graph fault 3: byte 10\n", text=b"dag { a ->").excerpt, "dag { a ->\n" + " " * 10 + "^")
+        error = self.error(b"causal: graph fault 3: byte 10\n", text=b"dag { a ->")
+        self.assertEqual(error.excerpt, "dag { a ->\n" + " " * 10 + "^")
 
     def test_caret_in_bytes_that_are_no_text(self):
         self.assertEqual(self.error(b"causal: graph fault 1: byte 4\n", text=b"dag{\xff}").excerpt, "dag{\ufffd}\n    ^")

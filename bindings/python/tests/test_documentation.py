@@ -9,6 +9,8 @@ import causal
 
 HERE = os.path.dirname(os.path.abspath(__file__))
 OPTIONAL = ("pandas", "networkx", "matplotlib")
+# Calls that need a package which their example doesn't name.
+CALLS = {"networkx": "to_networkx(", "matplotlib": ".plot("}
 
 
 def lacking_in(test):
@@ -18,7 +20,7 @@ def lacking_in(test):
         try:
             importlib.import_module(name)
         except ImportError:
-            if needed or (name == "networkx" and "to_networkx" in test.docstring) or (name == "matplotlib" and "plot(" in test.docstring):
+            if needed or name in CALLS and CALLS[name] in test.docstring:
                 return name
     return None
 
