@@ -2,6 +2,7 @@
 import os
 import shutil
 
+import setuptools
 from setuptools import setup
 from setuptools.command.build_py import build_py
 
@@ -9,6 +10,9 @@ try:
     from setuptools.command.bdist_wheel import bdist_wheel
 except ImportError:
     from wheel.bdist_wheel import bdist_wheel
+
+if int(setuptools.__version__.split(".")[0]) < 61:
+    raise SystemExit(f"causal: setuptools 61 or later is needed to build the package, and this is {setuptools.__version__}")
 
 HERE = os.path.dirname(os.path.abspath(__file__))
 LIBRARY = os.environ.get("CAUSAL_LIBRARY") or os.path.join(HERE, "..", "out", "libcausal.so")

@@ -215,7 +215,8 @@ class Diagram:
     ) -> "matplotlib.axes.Axes":
         """Draws the diagram with matplotlib: marks by colour, bidirected edges dashed, a path or a hedge drawn out.
 
-        Positions are found by layers unless they are given.
+        Positions are found by layers unless they are given. Paths and hedges are about observed vertices: where some are latent,
+        draw them in `project()`.
 
         >>> import matplotlib
         >>> matplotlib.use("Agg")
