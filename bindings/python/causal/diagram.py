@@ -336,7 +336,8 @@ class Diagram:
         exact: bool = False,
         missing: str = "error",
     ) -> "pandas.DataFrame":
-        """The effects of x on y in the data, as a DataFrame (it needs pandas): see `effects`, which says what is proved.
+        """The effects of x on y in the data, as a DataFrame (it needs pandas): see `effects`, which says what is proved, and
+        `Effects.frame` for the columns.
 
         >>> import pandas
         >>> from causal import Diagram

@@ -175,8 +175,8 @@ class Effects(Sequence[Effect]):
         """A DataFrame with a row for each effect (it needs pandas).
 
         Its columns are the pinned variables, the exposures and the outcomes, then `estimate`, a float, and either `exact`, a
-        `Fraction`, or `lower` and `upper`, floats that are rounded outward. A value's column whose name a variable has is followed
-        by `_`.
+        `Fraction`, or `from` and `to`, the bounds as floats that are rounded outward. These are bounds for rounding, and no
+        confidence interval. A value's column whose name a variable has is followed by `_`.
 
         >>> import pandas
         >>> from causal import Diagram
@@ -188,7 +188,7 @@ class Effects(Sequence[Effect]):
         2  b  0       0.0     0
         3  b  1       1.0     1
         """
-        heads = ("estimate", "exact") if self.exact else ("estimate", "lower", "upper")
+        heads = ("estimate", "exact") if self.exact else ("estimate", "from", "to")
         values = [(float(e.value), *((e.value.exact,) if self.exact else e.value.floats())) for e in self.effects]
         return self.frame_with(heads, values)
 

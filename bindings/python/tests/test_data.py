@@ -224,14 +224,14 @@ class Frames(unittest.TestCase):
 
     def test_bounds(self):
         frame = KIDNEY.evaluate(pandas.DataFrame(COUNTS), count="n")
-        self.assertEqual(list(frame.columns), ["T", "R", "estimate", "lower", "upper"])
-        for low, value, high, true in zip(frame["lower"], frame["estimate"], frame["upper"], EXACT):
+        self.assertEqual(list(frame.columns), ["T", "R", "estimate", "from", "to"])
+        for low, value, high, true in zip(frame["from"], frame["estimate"], frame["to"], EXACT):
             self.assertTrue(low <= value <= high and Fraction(low) <= true <= Fraction(high) and high - low < 1e-15)
 
     def test_columns_with_the_names_of_values(self):
-        data = pandas.DataFrame({"lower": ["a", "b"], "estimate": [0, 1]})
-        frame = Diagram("dag { lower -> estimate }").evaluate(data, "lower", "estimate")
-        self.assertEqual(list(frame.columns), ["lower", "estimate", "estimate_", "lower_", "upper"])
+        data = pandas.DataFrame({"from": ["a", "b"], "estimate": [0, 1]})
+        frame = Diagram("dag { from -> estimate }").evaluate(data, "from", "estimate")
+        self.assertEqual(list(frame.columns), ["from", "estimate", "estimate_", "from_", "to"])
 
     def test_pinned(self):
         cells = [(w, z, x, y) for w in (0, 1) for z in "ba" for x in (0, 1) for y in (0, 1)]
