@@ -1,0 +1,153 @@
+import { CARDS } from "./cards/index.js";
+import { tableName } from "./cards/data.js";
+import { byId, h, speak } from "./dom.js";
+import { forgetGone } from "./seen.js";
+
+/** @typedef {import("./cards/parts.js").Card} Card  @typedef {import("./cards/parts.js").Context} Context */
+
+/** The cards with their tabs. */
+export class Answers {
+  #tabs = byId("tabs");
+  #panel = byId("panel");
+  #graph = null;
+  #text = "";
+  #turn = 0;
+  #shown = ""; // the card and the answers that the panel was made from
+  #memory = { open: new Set(), sets: {}, armed: null };
+  #marks = {};
+
+  /**
+   * @param {import("./program.js").Program} program
+   * @param {Pick<Context, "drawing" | "acts" | "places" | "samples">} around
+   */
+  constructor(program, around) {
+    this.program = program;
+    this.around = around;
+    this.active = CARDS[0];
+    this.#tabs.append(...CARDS.map((card) => this.#tab(card)));
+    this.#tabs.addEventListener("keydown", (e) => this.#key(e));
+    this.show(this.active.id);
+  }
+
+  #tab({ id, title, hasDot }) {
+    return h("button", {
+      type: "button", role: "tab", id: `tab-${id}`, "aria-controls": "panel", onclick: () => this.show(id),
+    }, hasDot ? h("span", { class: "dot", "aria-hidden": "true" }) : null, title,
+    hasDot ? h("span", { class: "unseen dot-words" }) : null);
+  }
+
+  #key(e) {
+    const i = CARDS.indexOf(this.active), n = CARDS.length;
+    const to = { ArrowRight: i + 1, ArrowLeft: i - 1 + n, Home: 0, End: n - 1 }[e.key];
+    if (to === undefined) return;
+    e.preventDefault();
+    this.show(CARDS[to % n].id, true);
+  }
+
+  /** Shows a card. */
+  show(id, focus = false) {
+    this.active = CARDS.find((card) => card.id === id) ?? this.active;
+    this.#memory.armed = null;
+    for (const tab of this.#tabs.children) {
+      const isOn = tab.id === `tab-${this.active.id}`;
+      tab.setAttribute("aria-selected", String(isOn));
+      tab.tabIndex = isOn ? 0 : -1;
+      if (isOn && focus) tab.focus();
+    }
+    this.#panel.setAttribute("aria-labelledby", `tab-${this.active.id}`);
+    this.#panel.scrollTop = 0;
+    return this.refresh();
+  }
+
+  /** Asks with a text's graph what the card that is seen will ask. @param {import("./program.js").Reading} reading */
+  askAhead(reading) {
+    for (const words of this.active.ahead ?? []) reading.ask(words);
+  }
+
+  /** Shows the answers about a graph that was accepted. */
+  update(graph, text) {
+    const isNew = JSON.stringify(graph) !== JSON.stringify(this.#graph);
+    this.#graph = graph;
+    this.#text = text;
+    if (isNew) this.#memory.shows = null;
+    return this.refresh({ isAnew: false });
+  }
+
+  /** Asks again: the card that is seen first, then the others that have a dot. */
+  async refresh({ isAnew = true } = {}) {
+    if (!this.#graph) return;
+    const turn = ++this.#turn, { active } = this;
+    if (isAnew) this.#shown = "";
+    this.around.drawing.pick = null;
+    const { ctx, asked } = this.#context(), shown = await active.answer(ctx);
+    if (turn !== this.#turn) return;
+    this.#setDot(active, shown.dot);
+    this.#marks = shown.marks ?? {};
+    const key = JSON.stringify([active.id, this.#graph, asked]);
+    if (key !== this.#shown) this.#fill(shown.view());
+    this.#shown = key;
+    this.around.drawing.diagram.mark(this.#marks);
+    this.around.drawing.sayWaiting();
+    for (const card of CARDS) {
+      if (card === active || !card.hasDot) continue;
+      const { dot } = await card.answer(this.#context().ctx);
+      if (turn !== this.#turn) return;
+      this.#setDot(card, dot);
+    }
+  }
+
+  #setDot({ id, hasDot }, dot) {
+    if (!hasDot) return;
+    const tab = byId(`tab-${id}`);
+    tab.querySelector(".dot").className = `dot ${dot}`;
+    tab.querySelector(".dot-words").textContent = dot ? `: ${dot}` : "";
+  }
+
+  /** Puts a card's view into the panel; what had the focus keeps it. */
+  #fill(view) {
+    const panel = this.#panel, had = document.activeElement;
+    const key = panel.contains(had) && had.dataset.key, caret = had.selectionStart;
+    panel.replaceChildren(view);
+    forgetGone();
+    const again = key && [...panel.querySelectorAll("[data-key]")].find((el) => el.dataset.key === key);
+    again?.focus({ preventScroll: true });
+    if (again?.tagName === "TEXTAREA") again.setSelectionRange(caret, caret);
+    speak(panel.querySelector(".verdict")?.textContent ?? "");
+  }
+
+  /** Takes a table of counts, and shows what it gives. @param {File} file */
+  async take(file) {
+    const csv = { name: file.name, text: await file.text() };
+    Object.assign(this.#memory, { csv, count: undefined });
+    this.program.put(tableName(csv.name), csv.text);
+    this.show("data");
+  }
+
+  /** Ends the choosing of a set by clicks. @returns {boolean} whether there was one */
+  disarm() {
+    if (!this.#memory.armed) return false;
+    this.#memory.armed = null;
+    this.refresh();
+    return true;
+  }
+
+  /** What a card sees, with a record of the answers that it got. */
+  #context() {
+    const graph = this.#graph, text = this.#text, reading = this.program.of(text), asked = [];
+    const { diagram } = this.around.drawing;
+    const ask = async (words) => {
+      const answer = await reading.ask(words);
+      asked.push([words, answer.status, answer.out, answer.err]);
+      return answer;
+    };
+    const ctx = {
+      ...this.around, graph, text, ask, memory: this.#memory,
+      observed: graph.vertices.filter((v) => v.role !== "latent").map((v) => v.name),
+      put: (name, content) => this.program.put(name, content),
+      refresh: () => this.refresh(),
+      mark: (marks) => diagram.mark(marks ?? this.#marks),
+      take: (file) => this.take(file),
+    };
+    return { ctx, asked };
+  }
+}

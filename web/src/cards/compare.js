@@ -1,0 +1,100 @@
+import { button, h, svg } from "../dom.js";
+import { Diagram } from "../diagram/diagram.js";
+import { summary } from "../diagram/describe.js";
+import { readFault } from "../faults.js";
+import { DIAGRAM, SECOND } from "../names.js";
+import { readDifference, readGraph } from "../text/printed.js";
+import { listed, source, verdict } from "./parts.js";
+
+const WORDS = ["equivalent", DIAGRAM, SECOND];
+const PAUSE_MS = 150;
+const FIRST_OF_TEXT = 7; // graph faults below this number stand at a byte
+
+/** @param {import("./parts.js").Context} ctx */
+async function answer(ctx) {
+  const { memory } = ctx;
+  memory.second ??= ctx.text;
+  if (memory.secondGiven !== memory.second) ctx.put(SECOND, (memory.secondGiven = memory.second));
+  const [said, read] = await Promise.all([ctx.ask(WORDS), ctx.ask(["graph", SECOND])]);
+  const second = read.status === 0 ? readGraph(read.out) : null, difference = readDifference(said.out);
+  const [own, other] = difference && second ? differenceMarks(difference, ctx.graph, second) : [{}, {}];
+  const places = second && (await placesFor(ctx, second));
+  return {
+    dot: "", marks: own,
+    view: () => h("div", {}, judged(said, difference), secondHead(ctx), secondText(ctx),
+      second && picture(second, places, other), source(WORDS, said.out + said.err)),
+  };
+}
+
+/** The places of the first diagram where it has all the vertices, else a layout. */
+async function placesFor(ctx, second) {
+  const first = ctx.drawing.diagram.target, names = second.vertices.map((v) => v.name);
+  if (names.every((name) => first.has(name))) return new Map(names.map((name) => [name, { ...first.get(name) }]));
+  return ctx.places.arrange(second);
+}
+
+/** The first difference in each of the two drawings. */
+function differenceMarks({ kind, names, graph }, first, second) {
+  const vertices = new Map(names.map((name) => [name, "difference"]));
+  const pairs = kind === "edge" ? [[names[0], names[1]]] : [[names[0], names[1]], [names[2], names[1]]];
+  const shown = graph === "first" ? first : second;
+  const joins = ([a, b]) => shown.edges.find((e) => (e.a === a && e.b === b) || (e.a === b && e.b === a));
+  const edges = pairs.map(joins).filter(Boolean).map((e) => ({ ...e, cls: "difference" }));
+  return [first, second].map((side) => ({ vertices, edges: side === shown ? edges : [] }));
+}
+
+function judged(said, difference) {
+  if (said.status === 0) {
+    return verdict("yes", "Equivalent", "Both join the same pairs and have the same unshielded colliders: the "
+      + "criterion of Verma and Pearl for implying the same separations.");
+  }
+  if (difference) {
+    const { kind, names, graph, separatedIn, x, y, given } = difference;
+    return verdict("no", "Not equivalent",
+      kind === "edge" ? [`Only the ${graph} joins `, listed(names), ". "]
+        : [`Only in the ${graph} do arrows meet at `, h("b", {}, names[1]), " from ",
+          listed([names[0], names[2]]), ". "],
+      listed(x), " and ", listed(y), given.length ? [" given ", listed(given)] : "",
+      ` are separated in the ${separatedIn} alone.`);
+  }
+  const fault = readFault(said.err), hasPlace = fault.graph && fault.detail && fault.number < FIRST_OF_TEXT;
+  return verdict("ask", `${fault.second ? "Second diagram: " : ""}${fault.sentence}`,
+    ...(hasPlace ? [`At byte ${fault.detail} (fault ${fault.number}).`] : []));
+}
+
+function secondHead(ctx) {
+  const take = () => {
+    ctx.memory.second = ctx.text;
+    ctx.refresh();
+  };
+  return h("div", { class: "row" }, h("b", {}, "The second diagram"),
+    button("Copy from the first", take, { data: { key: "copy first" } }));
+}
+
+/** Made after the answers came, with what was typed meanwhile. */
+function secondText(ctx) {
+  let timer;
+  const typed = (e) => {
+    ctx.memory.second = e.target.value;
+    clearTimeout(timer);
+    timer = setTimeout(ctx.refresh, PAUSE_MS);
+  };
+  const area = h("textarea", {
+    class: "second", rows: 7, spellcheck: "false", "aria-label": "Text of the second diagram", data: { key: "second" },
+    oninput: typed,
+  });
+  area.value = ctx.memory.second;
+  return area;
+}
+
+function picture(graph, places, marks) {
+  const drawing = svg("svg", { id: "second", role: "img", "aria-label": `The second diagram: ${summary(graph)}` });
+  const diagram = new Diagram(drawing);
+  diagram.draw(graph, places);
+  diagram.mark(marks);
+  requestAnimationFrame(() => diagram.fit());
+  return h("div", { class: "second-drawing" }, drawing);
+}
+
+/** @type {import("./parts.js").Card} */
+export const compare = { id: "compare", title: "Compare", answer };

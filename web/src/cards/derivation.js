@@ -1,0 +1,99 @@
+import { h } from "../dom.js";
+import { cutOf, derivationOf } from "../explain.js";
+import { typeset, typesetWhenSeen } from "../formula.js";
+import { DIAGRAM } from "../names.js";
+import { whenSeen } from "../seen.js";
+import { listWord } from "../text/printed.js";
+import { commandOf, fold, listed } from "./parts.js";
+
+/** @typedef {import("../rebuilt.js").Step} Step  @typedef {import("../rebuilt.js").Rule} Rule */
+
+/** The steps of the certificate, each with its terms; each rule is asked of the program again. */
+export function derivation(ctx) {
+  const box = h("div", {}, "…");
+  ctx.ask(["identify", DIAGRAM, "--certificate"]).then(({ out }) => {
+    const parts = derivationOf(out, ctx.observed), isOne = parts.length === 1;
+    box.replaceChildren(...parts.flatMap((part) => [
+      ...(isOne ? [] : [h("h4", {}, part.lemma === null ? "The effect" : ["Part ", typeset(`q_{${part.lemma}}`)])]),
+      h("ol", { class: "steps" }, h("li", { class: "start" }, shown(part.start)),
+        part.steps.map((step) => stepItem(ctx, step, part.lemma))),
+    ]));
+  });
+  return box;
+}
+
+const shown = (tex, display) => typesetWhenSeen(tex, plain(tex), display);
+
+/** LaTeX in letters alone, for a screen reader and until it is typeset. */
+function plain(tex) {
+  return tex.replace(/\\mathrm\{do\}/g, "do").replace(/ \\mid /g, " | ")
+    .replace(/\\sum_\{([^}]*)\} /g, "sum over $1 of ")
+    .replace(/\\(?:left|right)([()])/g, "$1").replace(/q_\{(\d+)\}/g, "q$1")
+    .replace(/\\frac\{/g, "(").replace(/\}\{/g, ") / (").replace(/\}/g, ")").replace(/\\/g, "");
+}
+
+function stepItem(ctx, step, lemma) {
+  const { number, before, after, rule, whole } = step;
+  const item = h("li", {}, h("span", { class: "words" }, inWords(step)),
+    h("div", { class: "equation" }, shown(`${before} = ${after}`)));
+  if (whole) item.append(fold(ctx, `whole ${lemma} ${number}`, "whole expression", () => shown(whole, true)));
+  if (!rule) return item;
+  const asked = h("div", { class: "asked" });
+  item.append(asked);
+  item.tabIndex = 0;
+  for (const on of ["pointerenter", "focus"]) item.addEventListener(on, () => ctx.mark(ruleMarks(rule)));
+  for (const off of ["pointerleave", "blur"]) item.addEventListener(off, () => ctx.mark());
+  whenSeen(asked, () => askRule(ctx, rule, asked));
+  return item;
+}
+
+async function askRule(ctx, rule, box) {
+  const words = ruleWords(rule), answer = await ctx.ask(words), holds = answer.status === 0;
+  const seen = [...rule.doing, ...rule.given];
+  box.replaceChildren(
+    h("span", { class: holds ? "tick" : "cross" }, holds ? "✓ " : "✗ "),
+    h("code", { title: commandOf(words) }, (answer.out + answer.err).trim()),
+    ...(holds ? [h("span", {}, ": no open path from ", listed(rule.y), " to ", listed(rule.z),
+      seen.length ? ` given ${seen.join(", ")} ` : " ", cutOf(rule).words, ".")] : []),
+  );
+}
+
+/** The command line that asks for a rule. */
+export const ruleWords = ({ n, y, z, doing, given }) => [
+  "rule", DIAGRAM, "--rule", String(n), "--y", listWord(y), "--z", listWord(z), "--do", listWord(doing),
+  "--given", listWord(given),
+];
+
+/** The sets of a rule in the drawing, without the edges that the rule takes away. @param {Rule} rule */
+export function ruleMarks(rule) {
+  const { y, z, doing, given } = rule;
+  const classes = [[y, "from"], [z, "to"], [[...doing, ...given], "chosen"]];
+  return {
+    cut: cutOf(rule).cut,
+    vertices: new Map(classes.flatMap(([names, cls]) => names.map((name) => [name, cls]))),
+  };
+}
+
+const sentence = (names) =>
+  names.length > 1 ? `${names.slice(0, -1).join(", ")} and ${names[names.length - 1]}` : names[0];
+
+/** One step in plain words. @param {Step} step */
+function inWords({ word, set, part }) {
+  const z = sentence(set);
+  return {
+    rule1in: `Rule 1: having seen ${z} changes nothing here, so it may be observed too.`,
+    rule1out: `Rule 1: having seen ${z} changes nothing here, so it may be left out.`,
+    rule2see: `Rule 2: seeing ${z} says the same as setting it.`,
+    rule2do: `Rule 2: setting ${z} says the same as seeing it.`,
+    rule3in: `Rule 3: setting ${z} doesn't act on this, so it may be set too.`,
+    rule3out: `Rule 3: setting ${z} doesn't act on this, so it may be left out.`,
+    chain: "Chain rule: one factor per vertex, in the diagram's order.",
+    unchain: "Chain rule backwards: the factors are one joint probability.",
+    group: "The factors are put together by districts.",
+    widen: `Total probability: sum over all values of ${z}.`,
+    narrow: "The sum leaves a marginal probability.",
+    split: "A conditional probability is a quotient.",
+    cite: `This is the named part q${part}.`,
+    unwrap: "Brackets of products are dropped.",
+  }[word];
+}

@@ -1,0 +1,61 @@
+import { h } from "../dom.js";
+import { DIAGRAM } from "../names.js";
+import { readNotes } from "../text/printed.js";
+import { derivation } from "./derivation.js";
+import { hedge } from "./hedge.js";
+import { certificateRow, fold, formulaBox, isRefused, listed, refused, source, verdict, withRole } from "./parts.js";
+
+const IDENTIFY = ["identify", DIAGRAM];
+const IN_LATEX = [...IDENTIFY, "--latex"];
+
+/** @param {import("./parts.js").Context} ctx */
+async function answer(ctx) {
+  const [said, latex] = await Promise.all([ctx.ask(IDENTIFY), ctx.ask(IN_LATEX)]);
+  if (isRefused(said)) return refused(IDENTIFY, said);
+  if (said.status === 1) return hedge(ctx, IDENTIFY, said);
+  const tex = latex.out.trimEnd().split("\n").filter((line) => !line.startsWith("free "));
+  return { dot: "yes", view: () => view(ctx, said.out, tex) };
+}
+
+function view(ctx, printed, tex) {
+  const xs = withRole(ctx, "exposure"), ys = withRole(ctx, "outcome"), notes = notesOn(printed, xs, ys);
+  const [effect] = printed.split(" = ");
+  const claim = xs.length
+    ? ["The effect of ", listed(xs), " on ", listed(ys), ": ", h("code", {}, effect), " equals this formula at every "
+      + "assignment in every positive finite model that fits the diagram."]
+    : ["No exposure is marked, so this is the plain distribution of ", listed(ys), "."];
+  return h("div", {},
+    verdict("yes", "Identifiable", claim),
+    formulaBox(tex, printed),
+    notes.length ? h("ul", { class: "notes" }, notes) : null,
+    source(IDENTIFY, printed),
+    fold(ctx, "derivation", "Derivation in the do-calculus", () => derivation(ctx)),
+    certificateRow(ctx));
+}
+
+/** What there is to say of a formula's signs. */
+function notesOn(printed, xs, ys) {
+  const { bound, parts, free } = readNotes(printed), notes = [];
+  const note = (...text) => notes.push(h("li", {}, ...text));
+  if (xs.length) {
+    note("P(… | do(…)) is the distribution when the exposure is ", h("i", {}, "set"),
+      " from outside, not merely seen.");
+  }
+  if (bound.length) {
+    const isOutside = bound.some((n) => xs.includes(n) || ys.includes(n));
+    note(h("span", { class: "key bound" }, "Σ"), " runs over all values of ", listed(bound), ". Where such a "
+      + `name stands under its sum (coloured), it is a bound name${isOutside ? ", not the value on the left." : "."}`);
+  }
+  if (parts) {
+    note(h("span", { class: "key part" }, parts > 1 ? `q0 … q${parts - 1}` : "q0"),
+      parts > 1 ? " are named parts, each given on its own line." : " is a named part, given on its own line.");
+  }
+  if (free.length) {
+    note(h("span", { class: "key" }, `free ${free.join(", ")}`), " The formula reads ", listed(free),
+      ", yet its value doesn't depend on it: take any one level.");
+  }
+  return notes;
+}
+
+/** @type {import("./parts.js").Card} */
+export const effect = { id: "effect", title: "Effect", hasDot: true, ahead: [IDENTIFY, IN_LATEX], answer };

@@ -1,0 +1,56 @@
+import { h } from "../dom.js";
+import { readHedge, readSet } from "../text/printed.js";
+import { certificateRow, listed, source, verdict, withRole } from "./parts.js";
+
+const MOST_DIGITS = 12;
+
+/** A hedge in the drawing, with both models as tables and the two effects. */
+export function hedge(ctx, words, answer) {
+  const found = readHedge(answer.out), hedgeEdge = (e) => ({ ...e, cls: "hedge" });
+  const classes = [[found.big, "hedge-big"], [found.small, "hedge-small"]];
+  const vertices = new Map(classes.flatMap(([names, cls]) => names.map((n) => [n, cls])));
+  return {
+    dot: "no", view: () => view(ctx, words, answer.out, found),
+    marks: { vertices, edges: [...found.choices, ...found.links].map(hedgeEdge) },
+  };
+}
+
+function view(ctx, words, printed, found) {
+  const [effect] = printed.split(" is not identifiable"), { big, small, roots } = found;
+  return h("div", {},
+    verdict("no", "Not identifiable", "Below are two positive finite models that fit the diagram. They agree on all "
+      + "observations and differ on ", h("code", {}, effect),
+    ", so no formula over what is observed equals it in both."),
+    eventTable(found, withRole(ctx, "exposure")),
+    h("p", { class: "legendline" }, h("span", { class: "swatch hedge-big" }), "hedge ", listed(big),
+      h("span", { class: "swatch hedge-small" }), "over ", listed(small), "; roots ", listed(roots)),
+    h("div", { class: "scroll" }, modelsTable(found)),
+    h("p", { class: "small-print" }, "h and k are bits that a vertex carries; + is addition without carry (1 + 1 = 0). "
+      + "Hidden causes, each 0 or 1: ", found.causes.map(causeText), "."),
+    source(words, printed),
+    certificateRow(ctx));
+}
+
+const causeText = ([number, on, zero, one], i) => [
+  i ? "; " : "", h("code", {}, `c${number}`), ` acts on ${readSet(on).join(" and ")}, weights ${zero} to ${one}`,
+];
+
+function eventTable({ event, power }, xs) {
+  const second = 0.5 + 0.5 ** power;
+  const row = (label, text, value) => h("tr", {}, h("th", { scope: "row" }, label), h("td", {}, text),
+    h("td", {}, h("span", { class: "meter", "aria-hidden": "true" }, h("span", { style: `width:${100 * value}%` }))));
+  return h("table", { class: "event" },
+    h("caption", {}, "Probability that ", h("code", {}, event), " is even, when ", listed(xs),
+      xs.length > 1 ? " are set" : " is set"),
+    h("tbody", {}, row("first model", "1/2", 0.5),
+      row("second model", ["1/2 + 1/2", h("sup", {}, power), power < MOST_DIGITS ? ` = ${second}` : ""], second)));
+}
+
+function modelsTable({ bits }) {
+  const head = ["bit", "first model", "second model"].map((text) => h("th", { scope: "col" }, text));
+  const rows = [...bits].map(([bit, { first, second }]) =>
+    h("tr", { class: first === second ? null : "differs" }, h("th", { scope: "row" }, bit), h("td", {}, first),
+      h("td", {}, second)));
+  return h("table", { class: "models" }, h("caption", {}, "The two models, bit by bit"),
+    h("thead", {}, h("tr", {}, head)), h("tbody", {}, rows));
+}

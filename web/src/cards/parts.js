@@ -1,0 +1,115 @@
+// What the cards have in common.
+
+import { button, copyButton, h, save } from "../dom.js";
+import { readFault } from "../faults.js";
+import { formula } from "../formula.js";
+import { CERTIFICATE, DIAGRAM } from "../names.js";
+import { readPath } from "../text/printed.js";
+
+/** @typedef {import("../diagram/diagram.js").Marks} Marks */
+/**
+ * What a card answers with: whether its tab says yes or no, its view, and what it shows in the drawing.
+ * @typedef {{dot: "yes" | "no" | "", view: () => Node, marks?: Marks}} Shown
+ */
+/**
+ * A card asks the program and shows what it printed. `ahead` are the questions that it will ask by the text alone.
+ * @typedef {{id: string, title: string, hasDot?: boolean, ahead?: string[][],
+ *   answer: (ctx: Context) => Promise<Shown>}} Card
+ */
+/**
+ * @typedef {object} Context
+ * @property {import("../text/printed.js").Graph} graph the accepted one
+ * @property {string} text its text
+ * @property {string[]} observed the names of vertices that aren't hidden, in their order
+ * @property {any} memory what the cards keep between answers
+ * @property {(words: string[]) => Promise<import("../runner.js").Answer>} ask
+ * @property {(name: string, text: string) => void} put gives the program a second input
+ * @property {() => void} refresh shows the card anew, after a choice in it
+ * @property {(marks?: Marks) => void} mark shows something else in the drawing; nothing gives the card's own again
+ * @property {(file: File) => void} take takes a table of counts
+ * @property {import("../page/drawing.js").Drawing} drawing
+ * @property {import("../page/acts.js").Acts} acts
+ * @property {import("../places.js").Places} places
+ * @property {{name: string, text: string, columns: string[]}[]} samples tables of counts among the examples
+ */
+
+const shellWord = (word) => (/^[\w./,=-]+$/.test(word) ? word : `'${word.replaceAll("'", `'\\''`)}'`);
+
+/** The words as a command line. */
+export const commandOf = (words) => ["causal", ...words].map(shellWord).join(" ");
+
+/** The command line that gives an answer, and the text as the program printed it. */
+export function source(words, printed) {
+  const line = commandOf(words);
+  const shown = line.split(" ").map((word) => [h("span", { class: "word" }, word), " "]);
+  return h("div", { class: "source" },
+    h("div", { class: "command" },
+      h("code", {}, h("span", { class: "prompt", "aria-hidden": "true" }, "$ "), shown), copyButton(line, "command")),
+    h("div", { class: "printed" },
+      h("pre", { tabindex: 0, role: "region", "aria-label": "Printed by the program" }, printed.trimEnd()),
+      copyButton(printed, "answer")));
+}
+
+/** @param {"yes" | "no" | "ask" | "warn"} kind */
+export const verdict = (kind, title, ...text) =>
+  h("div", { class: `verdict ${kind}` }, h("strong", {}, title), text.length ? h("p", {}, ...text) : null);
+
+/** A part that opens; it stays open over later answers, and is filled only when open. */
+export function fold({ memory }, key, title, fill) {
+  const body = h("div", { class: "body" });
+  const details = h("details", { open: memory.open.has(key), ontoggle: () => {
+    memory.open[details.open ? "add" : "delete"](key);
+    if (details.open && !body.childNodes.length) body.append(fill());
+  } }, h("summary", { data: { key } }, title), body);
+  if (details.open) body.append(fill());
+  return details;
+}
+
+export const withRole = ({ graph }, role) => graph.vertices.filter((v) => v.role === role).map((v) => v.name);
+
+/** Names in bold, as a list in a sentence. */
+export const listed = (names) =>
+  names.map((name, i) => [i ? (i === names.length - 1 ? " and " : ", ") : "", h("b", {}, name)]);
+
+/** What is shown where the program refuses the question. */
+export function refused(words, answer) {
+  const fault = readFault(answer.err), mustMark = fault.number === 4 || fault.number === 5;
+  const help = "Click a vertex (or focus it and press e or o) to mark it as the exposure or the outcome.";
+  return {
+    dot: "",
+    view: () => h("div", {}, verdict("ask", fault.sentence, ...(mustMark ? [help] : [])), source(words, answer.err)),
+  };
+}
+
+/** Whether the program gave neither of its two answers. */
+export const isRefused = (answer) => answer.status > 1 || answer.status < 0;
+
+export const pathMarks = (printed) => readPath(printed).map((e) => ({ ...e, cls: "open" }));
+
+/** A formula with its ways out: its LaTeX, and a larger view. */
+export function formulaBox(tex, printed) {
+  const enlarge = () => {
+    const close = h("form", { method: "dialog" }, h("button", { class: "small" }, "Close"));
+    const box = h("dialog", { class: "large", "aria-label": "Formula", onclose: () => box.remove() }, close,
+      h("div", { class: "formula", tabindex: 0 }, formula(tex, printed)));
+    document.body.append(box);
+    box.showModal();
+  };
+  return h("div", {}, h("div", { class: "formula" }, formula(tex, printed)),
+    h("div", { class: "row end" }, copyButton(tex.join("\n"), "LaTeX", "Copy LaTeX"), button("Enlarge", enlarge)));
+}
+
+/** Saving the certificate of an answer, and having it checked. */
+export function certificateRow(ctx) {
+  const result = h("div", { class: "checked", role: "status" });
+  const certificate = async () => (await ctx.ask(["identify", DIAGRAM, "--certificate"])).out;
+  const check = async () => {
+    ctx.put(CERTIFICATE, await certificate());
+    const words = ["check", DIAGRAM, CERTIFICATE], answer = await ctx.ask(words);
+    result.replaceChildren(source(words, answer.out + answer.err));
+  };
+  const keep = async () => save(CERTIFICATE, await certificate(), "application/json");
+  return h("div", { class: "certificate" },
+    h("button", { type: "button", class: "primary", id: "save", onclick: keep }, "Save certificate"),
+    h("button", { type: "button", id: "check", onclick: check }, "Check it"), result);
+}

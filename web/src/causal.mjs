@@ -1,0 +1,80 @@
+// Runs the proved program `causal`, compiled to WebAssembly, over inputs in memory:
+//
+//   const causal = await load(bytes);
+//   causal.run(["separate", "g.dag"], { "g.dag": "dag { A -> B }" }); // {status, out, err}
+
+const encoder = new TextEncoder();
+const decoder = new TextDecoder();
+const bytesOf = (text) => (typeof text === "string" ? encoder.encode(text) : text);
+
+/** @typedef {{status: number, out: string, err: string}} Answer */
+
+/** Makes the program ready. @param {BufferSource} bytes the module */
+export async function load(bytes) {
+  const module = new WebAssembly.Module(bytes);
+  const names = WebAssembly.Module.exports(module).map((e) => e.name);
+  let exports;
+  return {
+    /** Whether the module gives a function of this name. */
+    has: (name) => names.includes(name),
+
+    /**
+     * Runs the words over the inputs.
+     * @param {string[]} words @param {Record<string, string | Uint8Array>} inputs by name
+     * @param {number} room the bytes that an answer may have before it is asked for again with more
+     * @returns {Answer}
+     */
+    run(words, inputs = {}, room = 1 << 16) {
+      exports ??= new WebAssembly.Instance(module, {}).exports;
+      try {
+        return call(exports, words, inputs, room);
+      } catch (e) {
+        exports = undefined; // an instance in which a call was cut off isn't used again
+        throw e;
+      }
+    },
+  };
+}
+
+function call(exports, words, inputs, room) {
+  const { memory, page_alloc, page_free, causal_run } = exports;
+  const texts = [...words, ...Object.entries(inputs).flat()].map(bytesOf);
+  const length = texts.reduce((sum, text) => sum + text.length, 0);
+  const places = [];
+  const place = (size) => {
+    const at = page_alloc(BigInt(size + 16));
+    if (at === 0n) throw new Error("no memory");
+    places.push(at);
+    return Number(at);
+  };
+  try {
+    const bytes = place(length), spans = place(16 * texts.length), sizes = place(16);
+    for (;;) {
+      const out = place(room), err = place(room);
+      lay(memory, texts, bytes, spans);
+      const inputsAt = spans + 16 * words.length, inputCount = (texts.length - words.length) / 2;
+      const status = causal_run(
+        ...[bytes, length, spans, words.length, inputsAt, inputCount, out, room, err, room, sizes].map(BigInt),
+      );
+      if (status === 9) throw new Error("a word is not UTF-8");
+      if (status === 10) throw new Error("no memory for the words");
+      const [wrote, said] = [...new BigUint64Array(memory.buffer, sizes, 2)].map(Number);
+      const text = (at, size) => decoder.decode(new Uint8Array(memory.buffer, at, size));
+      if (Math.max(wrote, said) <= room) return { status, out: text(out, wrote), err: text(err, said) };
+      room = Math.max(wrote, said);
+    }
+  } finally {
+    places.forEach((at) => page_free(at));
+  }
+}
+
+/** Lays the texts behind one another, and where each begins and ends. */
+function lay(memory, texts, bytes, spans) {
+  const all = new Uint8Array(memory.buffer), ends = new BigUint64Array(memory.buffer, spans, 2 * texts.length);
+  let at = 0;
+  texts.forEach((text, i) => {
+    all.set(text, bytes + at);
+    ends[2 * i] = BigInt(at);
+    ends[2 * i + 1] = BigInt((at += text.length));
+  });
+}

@@ -1,0 +1,343 @@
+import { drag } from "d3-drag";
+import { event as d3event, select } from "d3-selection";
+import { zoom, zoomIdentity } from "d3-zoom";
+import { svg } from "../dom.js";
+import { bend, curve, halfWidth, HEIGHT, keyOf, rim } from "./geometry.js";
+import { describe } from "./describe.js";
+import { routed } from "./route.js";
+
+/** @typedef {import("../text/printed.js").Graph} Graph  @typedef {import("../text/printed.js").Edge} Edge */
+/** @typedef {{x: number, y: number}} Point */
+/**
+ * What an answer shows in the drawing: classes of vertices, edges drawn over, and edges that are taken away.
+ * @typedef {{vertices?: Map<string, string>, edges?: (Edge & {cls: string})[], cut?: (e: Edge) => boolean}} Marks
+ */
+/**
+ * @typedef {object} Listeners
+ * @property {() => void} [moved] a vertex was dragged to its new place
+ * @property {(name: string, el: Element) => void} [vertex] one was clicked, or chosen by Enter
+ * @property {(edge: Edge, at: Point) => void} [edge]
+ * @property {(at: Point) => void} [empty] the ground was clicked twice
+ * @property {(name: string, e: KeyboardEvent) => void} [key]
+ */
+
+const HEADS = ["edge", "open", "hedge", "chosen", "difference"];
+const MOST_ANIMATED = 30;
+const FRAMES_MS = 260;
+
+/** The drawing of one diagram in an SVG element. Only what changed is drawn anew. */
+export class Diagram {
+  /** @type {Graph} */ graph = { vertices: [], edges: [] };
+  /** @type {Map<string, Point>} */ places = new Map();
+  /** @type {Map<string, Point>} where a movement ends */ target = this.places;
+  /** @type {Marks} */ marks = {};
+  #halves = new Map();
+  #bends = new Map(); // by an edge's key, the control point of its curve
+  #arranged = ""; // the places and widths for which the bends were chosen
+  #shown = { vertices: new Map(), edges: new Map(), over: [] };
+  #attributes = new WeakMap();
+  #zoom;
+  #frame;
+  #ghost = null; // the edge being drawn: {from, both}
+
+  /** @param {SVGSVGElement} element @param {Listeners} on */
+  constructor(element, on = {}) {
+    this.element = element;
+    this.on = on;
+    this.id = element.id;
+    element.replaceChildren(svg("defs", {}, HEADS.map((name) => head(this.id, name))));
+    this.layers = Object.fromEntries(["edges", "over", "vertices"].map((name) => [name, svg("g", { class: name })]));
+    this.ghostLine = svg("path", { class: "ghost" });
+    this.view = svg("g", { class: "view" }, this.layers.edges, this.layers.over, this.ghostLine, this.layers.vertices);
+    element.append(this.view);
+    this.#listen();
+  }
+
+  #listen() {
+    const { element, view, on } = this;
+    this.#zoom = zoom().scaleExtent([0.15, 4]).on("zoom", () => view.setAttribute("transform", d3event.transform));
+    select(element).call(this.#zoom).on("dblclick.zoom", null);
+    element.addEventListener("dblclick", (e) => e.target === element && on.empty?.(this.#at(e)));
+    element.addEventListener("pointermove", (e) => this.#ghost && this.#drawGhost(this.#at(e)));
+  }
+
+  #drag() {
+    let far;
+    return drag().clickDistance(4)
+      .subject((name) => ({ ...this.places.get(name) }))
+      .on("start", () => (far = false))
+      .on("drag", (name) => {
+        far ||= Math.hypot(d3event.x - d3event.subject.x, d3event.y - d3event.subject.y) > 4;
+        if (far) this.#moveTo(name, { x: d3event.x, y: d3event.y });
+      })
+      .on("end", () => {
+        if (!far) return;
+        this.target = this.places;
+        this.on.moved();
+      });
+  }
+
+  #moveTo(name, point) {
+    this.places.set(name, point);
+    const at = (e) => e.a === name || e.b === name;
+    for (const e of this.graph.edges) if (at(e)) this.#bends.delete(keyOf(e));
+    this.#bendMissing();
+    this.#render();
+  }
+
+  /** A point of the window in the drawing's coordinates. */
+  #at({ clientX, clientY }) {
+    const m = this.view.getScreenCTM().inverse();
+    return { x: m.a * clientX + m.e, y: m.d * clientY + m.f };
+  }
+
+  /** Shows a graph, moving vertices that were there before to their new places. */
+  draw(/** @type {Graph} */ graph, /** @type {Map<string, Point>} */ places) {
+    const from = this.places;
+    this.graph = graph;
+    this.target = places;
+    this.#halves = new Map(graph.vertices.map((v) => [v.name, halfWidth(v)]));
+    cancelAnimationFrame(this.#frame);
+    const isFar = ([name, p]) => from.has(name) && Math.hypot(from.get(name).x - p.x, from.get(name).y - p.y) > 1;
+    if (isStill() || graph.vertices.length > MOST_ANIMATED || ![...places].some(isFar)) return this.#place(places);
+    const start = performance.now();
+    const step = (now) => {
+      const t = Math.min(1, Math.max(0, (now - start) / FRAMES_MS));
+      this.#place(t < 1 ? between(from, places, t * (2 - t)) : places);
+      if (t < 1) this.#frame = requestAnimationFrame(step);
+    };
+    step(start);
+  }
+
+  #place(places) {
+    this.places = places;
+    const arranged = JSON.stringify([...places].map(([name, p]) => [name, p.x, p.y, this.#halves.get(name)]));
+    if (arranged !== this.#arranged) this.#bends = new Map();
+    this.#arranged = arranged;
+    this.#bendMissing();
+    this.#render();
+  }
+
+  mark(/** @type {Marks} */ marks) {
+    this.marks = marks;
+    this.#render();
+  }
+
+  /** Fits the view to the drawing. */
+  fit() {
+    const box = this.element.getBoundingClientRect();
+    if (!this.target.size || !box.width) return;
+    const { left, right, top, bottom } = this.bounds(this.target);
+    const k = Math.min(1.3, (box.width - 60) / (right - left), (box.height - 90) / (bottom - top));
+    const x = box.width / 2 - (k * (left + right)) / 2, y = box.height / 2 - (k * (top + bottom)) / 2;
+    select(this.element).call(this.#zoom.transform, zoomIdentity.translate(x, y).scale(k));
+  }
+
+  /** The rectangle that all vertices and arcs lie in. */
+  bounds(places = this.places) {
+    const xs = [], ys = [];
+    for (const [name, p] of places) {
+      const half = this.#halves.get(name) ?? 0;
+      xs.push(p.x - half, p.x + half);
+      ys.push(p.y - 36, p.y + 36);
+    }
+    for (const e of this.graph.edges) {
+      const c = this.#bends.get(keyOf(e));
+      if (!c || !places.has(e.a) || !places.has(e.b) || places !== this.places) continue;
+      const top = curve(places.get(e.a), c, places.get(e.b), 0.5);
+      xs.push(top.x);
+      ys.push(top.y - 8, top.y + 8);
+    }
+    return { left: Math.min(...xs), right: Math.max(...xs), top: Math.min(...ys), bottom: Math.max(...ys) };
+  }
+
+  zoomBy(factor) {
+    select(this.element).call(this.#zoom.scaleBy, factor);
+  }
+
+  panBy(x, y) {
+    select(this.element).call(this.#zoom.translateBy, x, y);
+  }
+
+  /** The middle of what is seen, in the drawing's coordinates. */
+  middle() {
+    const box = this.element.getBoundingClientRect();
+    return this.#at({ clientX: box.left + box.width / 2, clientY: box.top + box.height / 2 });
+  }
+
+  focus(name) {
+    this.#shown.vertices.get(name)?.group.focus();
+  }
+
+  /** Draws a line from a vertex to the pointer until the next choice of a vertex; null ends it. */
+  ghost(from, both) {
+    this.#ghost = from && { from, both };
+    this.element.classList.toggle("connecting", Boolean(from));
+    this.ghostLine.removeAttribute("d");
+  }
+
+  #drawGhost(at) {
+    const { from, both } = this.#ghost, p = this.places.get(from), q = rim(p, this.#halves.get(from), at, 2);
+    const end = `url(#${this.id}-edge)`;
+    this.#set(this.ghostLine, {
+      class: both ? "ghost both" : "ghost", "marker-end": end, "marker-start": both ? end : null,
+    });
+    this.ghostLine.setAttribute("d", `M${q.x},${q.y}L${at.x},${at.y}`);
+  }
+
+  /** Chooses the bends of the edges that have none. */
+  #bendMissing() {
+    const { graph, places } = this, arcs = [];
+    const round = [...places].map(([name, p]) => ({ name, ...p, half: this.#halves.get(name) ?? 0 }));
+    for (const e of graph.edges) {
+      const key = keyOf(e), p = places.get(e.a), q = places.get(e.b);
+      if (!p || !q) continue;
+      if (!this.#bends.has(key)) {
+        const others = round.filter((o) => o.name !== e.a && o.name !== e.b);
+        this.#bends.set(key, bend(p, q, e.both, others, arcs));
+      }
+      if (e.both) arcs.push(curve(p, this.#bends.get(key), q, 0.5));
+    }
+  }
+
+  /** The path of an edge, between the rims of its ends. */
+  #path(e) {
+    const p = this.places.get(e.a), q = this.places.get(e.b), halo = (n) => (this.marks.vertices?.has(n) ? 6 : 0);
+    const c = this.#bends.get(keyOf(e)) ?? bend(p, q, e.both, [], []);
+    const s = rim(p, this.#halves.get(e.a), c, halo(e.a) + (e.both ? 3 : 1));
+    const t = rim(q, this.#halves.get(e.b), c, halo(e.b) + 3);
+    const at = ({ x, y }) => `${x.toFixed(1)},${y.toFixed(1)}`;
+    return `M${at(s)}Q${at(c)} ${at(t)}`;
+  }
+
+  #render() {
+    const marked = (this.marks.edges ?? []).filter((e) => this.places.has(e.a) && this.places.has(e.b));
+    const over = routed(this.graph, marked);
+    this.#renderEdges(new Set(over.map(keyOf)));
+    this.#renderOver(over);
+    this.#renderVertices();
+  }
+
+  #renderEdges(over) {
+    const { graph, marks, layers } = this, end = `url(#${this.id}-edge)`, seen = new Set();
+    for (const edge of graph.edges) {
+      const key = keyOf(edge), path = this.#path(edge);
+      seen.add(key);
+      const item = getOrMake(this.#shown.edges, key, () => this.#newEdge());
+      item.edge = edge;
+      const classes = ["edge", edge.both && "both", over.has(key) && "under", marks.cut?.(edge) && "cut"];
+      this.#set(item.group, { class: classes.filter(Boolean).join(" ") });
+      this.#set(item.grip, { d: path });
+      this.#set(item.line, { d: path, "marker-end": end, "marker-start": edge.both ? end : null });
+      if (!item.group.parentNode) layers.edges.append(item.group);
+    }
+    dropOthers(this.#shown.edges, seen);
+  }
+
+  #newEdge() {
+    const item = { edge: null, line: svg("path", { class: "line" }), grip: svg("path", { class: "grip" }) };
+    item.grip.addEventListener("click", (e) => this.on.edge?.(item.edge, { x: e.clientX, y: e.clientY }));
+    item.group = svg("g", { "aria-hidden": "true" }, item.line, item.grip);
+    return item;
+  }
+
+  #renderOver(over) {
+    const lines = this.#shown.over;
+    while (lines.length > over.length) lines.pop().remove();
+    while (lines.length < over.length) lines.push(this.layers.over.appendChild(svg("path")));
+    over.forEach((e, i) => {
+      const end = `url(#${this.id}-${e.cls})`;
+      this.#set(lines[i], {
+        class: `${e.cls}${e.both ? " both" : ""}`, d: this.#path(e), "marker-end": end,
+        "marker-start": e.both ? end : null,
+      });
+    });
+  }
+
+  #renderVertices() {
+    const { graph, marks, places, layers } = this, seen = new Set(graph.vertices.map((v) => v.name));
+    for (const vertex of graph.vertices) {
+      const { name, role } = vertex, p = places.get(name), half = this.#halves.get(name);
+      if (!p) continue;
+      const item = getOrMake(this.#shown.vertices, name, () => this.#newVertex(name));
+      const lead = role === "exposure" || role === "outcome";
+      this.#set(item.group, {
+        class: ["vertex", role, marks.vertices?.get(name)].filter(Boolean).join(" "),
+        transform: `translate(${p.x.toFixed(1)},${p.y.toFixed(1)})`,
+        "aria-label": describe(vertex, graph, marks.vertices?.get(name)),
+      });
+      this.#set(item.halo, box(half, 5));
+      this.#set(item.shape, box(half, 0));
+      this.#set(item.text, { x: lead ? 9 : 0 });
+      this.#set(item.mark, { transform: `translate(${13 - half},0)`, d: MARKS[role] ?? "" });
+      if (!item.group.parentNode) layers.vertices.append(item.group);
+    }
+    dropOthers(this.#shown.vertices, seen);
+  }
+
+  #newVertex(name) {
+    const acts = Boolean(this.on.vertex);
+    const item = {
+      halo: svg("rect", { class: "halo" }), shape: svg("rect", { class: "shape" }),
+      mark: svg("path", { class: "mark" }), text: svg("text", { dy: "0.35em" }, name),
+    };
+    item.group = svg("g", acts ? { tabindex: 0, role: "button", "aria-haspopup": "menu" } : {},
+      item.halo, item.shape, item.mark, item.text);
+    const selection = select(item.group).datum(name);
+    if (this.on.moved) selection.call(this.#drag());
+    selection.on("click", () => d3event.defaultPrevented || this.on.vertex?.(name, item.group));
+    item.group.addEventListener("keydown", (e) => {
+      if (e.key !== "Enter" && e.key !== " ") return this.on.key?.(name, e);
+      e.preventDefault();
+      this.on.vertex?.(name, item.group);
+    });
+    return item;
+  }
+
+  /** Sets attributes where they changed. */
+  #set(el, attributes) {
+    const had = this.#attributes.get(el) ?? {};
+    for (const [name, value] of Object.entries(attributes)) {
+      if (had[name] === value) continue;
+      if (value === null) el.removeAttribute(name);
+      else el.setAttribute(name, value);
+    }
+    this.#attributes.set(el, { ...had, ...attributes });
+  }
+}
+
+const MARKS = { exposure: "M0,-5.5L9,0L0,5.5z", outcome: "M1,-5.5h2.6v11h-2.6z" };
+
+const box = (half, grow) => ({
+  x: -half - grow, y: -HEIGHT / 2 - grow, width: 2 * (half + grow), height: HEIGHT + 2 * grow, rx: HEIGHT / 2 + grow,
+});
+
+function head(id, name) {
+  const size = name === "edge" ? 8 : 5;
+  return svg("marker", {
+    id: `${id}-${name}`, class: `head ${name}`, viewBox: "0 0 10 10", refX: 8.5, refY: 5,
+    markerWidth: size, markerHeight: size, orient: "auto-start-reverse",
+  }, svg("path", { d: "M0,1L9,5L0,9z" }));
+}
+
+const isStill = () => matchMedia("(prefers-reduced-motion: reduce)").matches || document.hidden;
+
+function between(from, to, s) {
+  return new Map([...to].map(([name, p]) => {
+    const f = from.get(name) ?? p;
+    return [name, { x: f.x + (p.x - f.x) * s, y: f.y + (p.y - f.y) * s }];
+  }));
+}
+
+function getOrMake(map, key, make) {
+  if (!map.has(key)) map.set(key, make());
+  return map.get(key);
+}
+
+function dropOthers(map, kept) {
+  for (const [key, item] of map) {
+    if (kept.has(key)) continue;
+    item.group.remove();
+    map.delete(key);
+  }
+}

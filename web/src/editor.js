@@ -1,0 +1,98 @@
+import { button, byId, h } from "./dom.js";
+import { placesOf } from "./faults.js";
+import { ROLES } from "./text/printed.js";
+import { isEdgeMark, isMark, tokens } from "./text/tokens.js";
+
+const LINE_HEIGHT = 21.6;
+const PATIENCE_MS = 400; // a fault of a text that is being typed is said after this
+
+/** The text with its colours, and the line that says its fault. */
+export class Editor {
+  #area = byId("text");
+  #paint = byId("paint");
+  #saying;
+
+  /** @param {{typed: (text: string) => void, opened: () => void}} on */
+  constructor(on) {
+    this.on = on;
+    this.#area.addEventListener("input", () => {
+      this.paint();
+      on.typed(this.text);
+    });
+    this.#area.addEventListener("scroll", () => this.#scroll());
+    byId("text-pane").addEventListener("click", (e) => e.target === e.currentTarget && this.#area.focus());
+  }
+
+  get text() {
+    return this.#area.value;
+  }
+
+  /** Shows a text that wasn't typed here. */
+  set(text) {
+    if (this.#area.value !== text) this.#area.value = text;
+    this.paint();
+  }
+
+  /** Says a fault under the text, with its place and its number; null where there's none. */
+  judge(fault, text, typed) {
+    clearTimeout(this.#saying);
+    if (fault && typed) this.#saying = setTimeout(() => this.#say(fault, text), PATIENCE_MS);
+    else this.#say(fault, text);
+  }
+
+  #say(fault, text) {
+    const line = byId("fault");
+    line.hidden = !fault;
+    this.#area.setAttribute("aria-invalid", String(Boolean(fault)));
+    document.body.classList.toggle("faulty", Boolean(fault));
+    if (!fault) return this.paint();
+    if (!fault.number) return line.replaceChildren(fault.sentence);
+    const marks = placesOf(fault, text);
+    line.replaceChildren(this.#placeButton(marks[0], text), ` ${fault.sentence} `,
+      h("span", { class: "number" }, `fault ${fault.number}`));
+    this.paint(marks);
+  }
+
+  /** A button that tells a place of the text, and goes there. */
+  #placeButton(mark, text) {
+    const before = text.slice(0, mark.start).split("\n");
+    const go = () => {
+      this.on.opened();
+      this.#area.focus();
+      this.#area.setSelectionRange(mark.start, mark.end);
+    };
+    return button(`line ${before.length}, column ${before.at(-1).length + 1}`, go, { title: "Go to the place" });
+  }
+
+  /** The text behind the text area, in colours and with the fault's places marked. */
+  paint(marks = []) {
+    const text = this.text, parts = [];
+    let at = 0;
+    const put = (end, cls) => {
+      if (end > at) parts.push(cls ? h("span", { class: cls }, text.slice(at, end)) : text.slice(at, end));
+      at = Math.max(at, end);
+    };
+    for (const t of tokens(text)) {
+      const isFaulty = marks.some((mark) => t.start < mark.end && t.end > mark.start);
+      put(t.start, marks.some((mark) => mark.start <= at && t.start < mark.end) ? "fault" : "");
+      put(t.end, `${colour(t)}${isFaulty ? " fault" : ""}`);
+    }
+    put(text.length);
+    if (marks.some((mark) => mark.start >= text.trimEnd().length)) parts.push(h("span", { class: "fault end" }, " "));
+    byId("editor").style.flexBasis = `${text.split("\n").length * LINE_HEIGHT + 50}px`;
+    this.#paint.replaceChildren(...parts, "\n");
+    this.#scroll();
+  }
+
+  #scroll() {
+    this.#paint.scrollTop = this.#area.scrollTop;
+    this.#paint.scrollLeft = this.#area.scrollLeft;
+  }
+}
+
+function colour(token) {
+  if (isEdgeMark(token) || token.text.includes("@")) return "t-edge";
+  if (isMark(token)) return "t-mark";
+  if (token.text === "dag" || ROLES.includes(token.text)) return `t-word ${token.text}`;
+  return token.text.startsWith('"') ? "t-text" : "";
+}

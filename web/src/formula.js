@@ -1,0 +1,161 @@
+import katex from "katex";
+import { h } from "./dom.js";
+import { whenSeen } from "./seen.js";
+
+// Typesetting the program's LaTeX.
+
+/** A name's LaTeX for the eye: set as a word, without quotes where it can't be mistaken. */
+function nice(tex) {
+  if ([...tex].length === 1) return tex;
+  return `\\textit{${/[,()|]/.test(tex) ? tex.replace(/^"(.*)"$/, "“$1”") : tex.replace(/^"|"$/g, "")}}`;
+}
+
+/** The parts of a list of names or conditions. */
+const PIECES = /"[^"]*"|, | \\mid |\\mathrm\{do\}\(|\)|[^\s",()]+/g;
+const isName = (piece) => !/^(, | \\mid |\\mathrm\{do\}\(|\))$/.test(piece);
+
+const PARTS = /\\left\( |\\right\)|\\sum_\{((?:\\.|[^\\}])*)\} |q_\{\d+\}|P\(|\\frac\{|\}\{|\}|[^]/g;
+
+/**
+ * The program's LaTeX with long names set as words, and with marks on named parts and on names that a sum binds.
+ * A sum reaches as far right as its parenthesis or its part of a quotient.
+ * @returns {string[]} pieces between which a line may break, where they are typeset with parentheses of one size
+ */
+function pieces(tex, parentheses) {
+  const scopes = [new Set()], out = [""], pattern = new RegExp(PARTS);
+  const top = () => scopes[scopes.length - 1];
+  const name = (n) => (top().has(n) ? `\\htmlClass{bound}{${nice(n)}}` : nice(n));
+  let fractions = 0, ended = false; // whether an operand just ended
+  const put = (text, { begins = false, ends = false } = {}) => {
+    if (begins && ended && !fractions) out.push("");
+    out[out.length - 1] += text;
+    if (text.trim()) ended = ends;
+  };
+  for (let m; (m = pattern.exec(tex)); ) {
+    const [part, bound] = m;
+    if (bound !== undefined) {
+      const names = bound.match(PIECES).filter(isName);
+      names.forEach((n) => top().add(n));
+      put(`\\sum_{${names.map(name).join(", ")}} `, { begins: true });
+    } else if (part === "P(") {
+      const end = closing(tex, pattern.lastIndex), inside = tex.slice(pattern.lastIndex, end).match(PIECES);
+      put(`P(${inside.map((p) => (isName(p) ? name(p) : p)).join("")})`, { begins: true, ends: true });
+      pattern.lastIndex = end + 1;
+    } else if (/^q_/.test(part)) put(`\\htmlClass{part}{${part}}`, { begins: true, ends: true });
+    else if (part === "\\left( ") {
+      scopes.push(new Set(top()));
+      put(parentheses[0], { begins: true });
+    } else if (part === "\\right)") {
+      scopes.pop();
+      put(parentheses[1], { ends: true });
+    } else if (part === "\\frac{") {
+      scopes.push(new Set(top()));
+      put(part, { begins: true });
+      fractions++;
+    } else if (part === "}{" && fractions) {
+      scopes.pop();
+      scopes.push(new Set(top()));
+      put(part);
+    } else if (part === "}" && fractions) {
+      scopes.pop();
+      fractions--;
+      put(part, { ends: true });
+    } else put(part, { ends: ended });
+  }
+  return out;
+}
+
+/** The annotated LaTeX as one. */
+export const annotate = (tex) => pieces(tex, ["\\left( ", "\\right)"]).join("");
+
+/** Where the parenthesis that is open at this place closes. */
+function closing(tex, at) {
+  for (let depth = 1; at < tex.length; at++) {
+    if (tex[at] === '"') at = tex.indexOf('"', at + 1);
+    if (tex[at] === "(") depth++;
+    if (tex[at] === ")" && --depth === 0) return at;
+  }
+  return at;
+}
+
+function render(tex, plain, display) {
+  const el = h(display ? "div" : "span");
+  const options = {
+    displayMode: display, trust: ({ command }) => command === "\\htmlClass", strict: "ignore", throwOnError: true,
+  };
+  try {
+    katex.render(tex, el, options);
+  } catch {
+    katex.render(plain, el, { ...options, throwOnError: false });
+  }
+  return el;
+}
+
+/** Typesets LaTeX of the program. @returns {HTMLElement} */
+export const typeset = (tex, display = false) => render(annotate(tex), tex, display);
+
+/** Pieces of a formula that is too wide for one line. */
+const typesetBroken = (tex) =>
+  h("div", { class: "pieces" },
+    pieces(tex, ["\\Bigl( ", "\\Bigr)"]).map((piece) => render(`\\displaystyle ${piece}`, piece)));
+
+const LONG = 500; // characters of LaTeX that fit in no line
+
+/** Typesets an equation: it breaks after its sign and between factors, then gets smaller, and last scrolls. */
+function typesetLine(line, tex, printed) {
+  const sign = tex.indexOf(" = ") + 2, left = typeset(tex.slice(0, sign), true);
+  const right = tex.slice(sign + 1);
+  line.replaceChildren(left, right.length > LONG ? typesetBroken(right) : typeset(right, true));
+  explainParts(line, printed);
+  new ResizeObserver(() => fit(line, right, printed)).observe(line);
+}
+
+function fit(line, right, printed) {
+  if (!line.clientWidth) return;
+  const old = line.lastChild;
+  if (old.className !== "pieces" && old.scrollWidth > line.clientWidth) {
+    old.replaceWith(typesetBroken(right));
+    explainParts(line, printed);
+  }
+  const last = line.lastChild;
+  for (const el of [line.firstChild, ...(last.className === "pieces" ? last.children : [last])]) {
+    el.style.fontSize = "";
+    if (el.scrollWidth > line.clientWidth) {
+      el.style.fontSize = `${Math.max(0.68, (0.98 * line.clientWidth) / el.scrollWidth)}em`;
+    }
+  }
+}
+
+/** What a formula's coloured parts mean, at the pointer. */
+function explainParts(line, printed) {
+  for (const el of line.querySelectorAll(".bound")) {
+    el.title = "a bound name: it runs over all its values, by the sum to its left";
+  }
+  for (const el of line.querySelectorAll(".part")) {
+    el.title = printed.find((row) => row.startsWith(`${el.textContent.replace(/\W/g, "")} = `)) ?? "";
+  }
+}
+
+/**
+ * The lines of a formula. The first is typeset at once, the others when they are seen.
+ * @param {string[]} tex lines of LaTeX @param {string} printed the program's text of the same lines
+ */
+export function formula(tex, printed) {
+  const rows = printed.split("\n");
+  return tex.map((line, i) => {
+    const text = rows.find((row) => isAbout(row, i)) ?? "";
+    const el = h("div", { class: "line", role: "math", "aria-label": text });
+    if (i === 0) typesetLine(el, line, rows);
+    else whenSeen(el, () => typesetLine(el, line, rows), text);
+    return el;
+  });
+}
+
+const isAbout = (row, i) => (i === 0 ? row.startsWith("P(") : row.startsWith(`q${i - 1} = `));
+
+/** A part that is typeset when it is seen. */
+export function typesetWhenSeen(tex, text, display = false) {
+  const el = h(display ? "div" : "span", { role: "math", "aria-label": text });
+  whenSeen(el, () => el.replaceChildren(typeset(tex, display)), text);
+  return el;
+}

@@ -1,0 +1,126 @@
+import { Answers } from "./answers.js";
+import { byId, copy, h, save } from "./dom.js";
+import { summary } from "./diagram/describe.js";
+import { saveDrawing } from "./diagram/export.js";
+import { Draft } from "./draft.js";
+import { Editor } from "./editor.js";
+import { Acts } from "./page/acts.js";
+import { Drawing } from "./page/drawing.js";
+import { toast } from "./page/notices.js";
+import { readLink, writeLink } from "./page/link.js";
+import { Places } from "./places.js";
+import { Program } from "./program.js";
+import { Runner } from "./runner.js";
+
+const inlined = (id) => byId(id).textContent.trim();
+const examples = JSON.parse(inlined("examples"));
+
+const program = new Program(new Runner(inlined("worker-source"), inlined("module")));
+const drawing = new Drawing(), { diagram } = drawing;
+const places = new Places(new Runner(inlined("worker-source")), diagram);
+
+const draft = new Draft(program, {
+  text: (text, { typed }) => typed || editor.set(text),
+  asking: (reading) => answers.askAhead(reading),
+  judged: (fault, text, { typed }) => {
+    editor.judge(fault, text, typed);
+    byId("undo").disabled = !draft.canUndo;
+    byId("redo").disabled = !draft.canRedo;
+    drawing.sayWaiting();
+  },
+  accepted: async (graph, text, { fit }) => {
+    byId("drawing").setAttribute("aria-label",
+      `Diagram of ${summary(graph)}. Tab goes through the vertices, Enter opens a vertex's menu`);
+    await Promise.all([places.draw(graph, text, fit), answers.update(graph, text)]);
+  },
+});
+const editor = new Editor({ typed: (text) => draft.follow(text), opened: () => toggleText(true) });
+const acts = new Acts(draft, places, diagram);
+drawing.use(acts);
+const answers = new Answers(program, { drawing, acts, places, samples: examples.data });
+
+// ---- The head
+
+const menu = byId("examples-menu");
+menu.append(h("option", { value: "" }, "Examples"));
+menu.append(...examples.graphs.map((e) => h("option", { value: e.name }, e.title)));
+menu.addEventListener("change", () => {
+  const found = examples.graphs.find((e) => e.name === menu.value);
+  if (found) open(found.text, found.source);
+  menu.value = "";
+});
+byId("undo").onclick = () => draft.undo();
+byId("redo").onclick = () => draft.redo();
+byId("share").onclick = async () => {
+  const link = writeLink(draft.text, answers.active.id);
+  history.replaceState(null, "", link);
+  await copy(link);
+  toast("The link with this diagram in it is copied.");
+};
+byId("about").onclick = () => byId("about-box").showModal();
+byId("licences-text").textContent = inlined("licences");
+
+// ---- The text
+
+/** Shows another diagram. */
+function open(text, source = "") {
+  places.reset();
+  byId("source").textContent = source;
+  return draft.show(text, { fit: true });
+}
+
+function toggleText(isOn = document.body.classList.contains("no-text")) {
+  document.body.classList.toggle("no-text", !isOn);
+  byId("fold").setAttribute("aria-expanded", String(isOn));
+  requestAnimationFrame(() => diagram.fit());
+}
+
+byId("fold").onclick = () => toggleText();
+byId("open-text").onchange = async (e) => {
+  const [file] = e.target.files;
+  if (file) open(await file.text());
+  e.target.value = "";
+};
+byId("save-text").onclick = () => save("diagram.dag", draft.text, "text/plain");
+document.addEventListener("dragover", (e) => e.preventDefault());
+document.addEventListener("drop", async (e) => {
+  e.preventDefault();
+  const [file] = e.dataTransfer.files;
+  if (/\.csv$/i.test(file?.name ?? "")) answers.take(file);
+  else if (file) open(await file.text());
+});
+
+// ---- The drawing
+
+byId("add").onclick = () => drawing.add();
+byId("arrange").onclick = () => acts.arrange();
+byId("fit").onclick = () => diagram.fit();
+byId("in").onclick = () => diagram.zoomBy(1.3);
+byId("out").onclick = () => diagram.zoomBy(1 / 1.3);
+byId("export").onclick = () => saveDrawing(diagram);
+addEventListener("resize", () => diagram.fit());
+addEventListener("beforeprint", () => diagram.fit());
+addEventListener("afterprint", () => diagram.fit());
+
+// ---- Keys and links
+
+document.addEventListener("keydown", (e) => {
+  if (e.key === "Escape") drawing.endEdge() || answers.disarm();
+  const key = e.key.toLowerCase();
+  if (!(e.ctrlKey || e.metaKey) || (key !== "z" && key !== "y") || e.target.closest("#panel textarea")) return;
+  e.preventDefault();
+  if (key === "y" || e.shiftKey) draft.redo();
+  else draft.undo();
+});
+
+async function start() {
+  const { text, card } = readLink();
+  if (card) answers.show(card);
+  const [first] = examples.graphs;
+  await (text === null ? open(first.text, first.source) : open(text));
+}
+
+addEventListener("hashchange", () => readLink().text !== null && start());
+
+await start();
+document.body.dataset.ready = String(Math.round(performance.now()));

@@ -1,0 +1,98 @@
+import { placeNear } from "../diagram/geometry.js";
+import { addEdge, addVertex, change, isName, removeVertex, rename, replaceEdge } from "../text/edit.js";
+import { toast } from "./notices.js";
+
+/** @typedef {import("../text/printed.js").Edge} Edge */
+
+const LETTERS = [..."ABCDEFGHIJKLMNOPQRSTUVWXYZ", ...Array.from({ length: 64 }, (_, i) => `V${i + 1}`)];
+
+/** What can be done to the diagram. Each makes a new text, which the program may refuse. */
+export class Acts {
+  /**
+   * @param {import("../draft.js").Draft} draft @param {import("../places.js").Places} places
+   * @param {import("../diagram/diagram.js").Diagram} diagram
+   */
+  constructor(draft, places, diagram) {
+    Object.assign(this, { draft, places, diagram });
+  }
+
+  get graph() {
+    return this.draft.accepted.graph;
+  }
+
+  get #text() {
+    return this.draft.accepted.text;
+  }
+
+  role(name) {
+    return this.graph.vertices.find((v) => v.name === name)?.role ?? null;
+  }
+
+  edgesOf(name) {
+    return this.graph.edges.filter((e) => e.a === name || e.b === name);
+  }
+
+  /** Says why a text is refused, where it is; else focuses a vertex. */
+  async #propose(text, focus) {
+    const refused = await this.draft.propose(text);
+    if (refused) toast(refused);
+    else if (focus) this.diagram.focus(focus);
+    return !refused;
+  }
+
+  setRole(name, role) {
+    return this.#propose(change(this.#text, new Map([[name, { role }]])), name);
+  }
+
+  /** Marks exactly these vertices as adjusted; those with other marks get this one. */
+  setAdjusted(names) {
+    const wish = (v) => (names.includes(v.name) ? "adjusted" : v.role === "adjusted" ? null : v.role);
+    const changed = this.graph.vertices.filter((v) => wish(v) !== v.role);
+    return this.#propose(change(this.#text, new Map(changed.map((v) => [v.name, { role: wish(v) }]))));
+  }
+
+  /** Adds a vertex with a fresh name. @returns {Promise<string | null>} its name */
+  async addVertex(at) {
+    const taken = new Set(this.graph.vertices.map((v) => v.name)), name = LETTERS.find((n) => !taken.has(n));
+    const place = at ?? (taken.size ? placeNear("", [], this.diagram.target) : this.diagram.middle());
+    const added = await this.#propose(addVertex(this.places.write(this.#text), name, this.places.unit(place)), name);
+    return added ? name : null;
+  }
+
+  /** Gives a vertex another name. */
+  rename(name, fresh) {
+    if (!isName(fresh) || fresh === name) return this.diagram.focus(name);
+    if (this.graph.vertices.some((v) => v.name === fresh)) return toast(`There is a vertex named ${fresh} already.`);
+    this.diagram.target.set(fresh, this.diagram.target.get(name));
+    return this.#propose(rename(this.#text, name, fresh), fresh);
+  }
+
+  removeVertex(name) {
+    return this.#propose(removeVertex(this.#text, this.graph, name));
+  }
+
+  addEdge(/** @type {Edge} */ edge) {
+    return this.#propose(addEdge(this.#text, edge), edge.b);
+  }
+
+  /** Puts edges in the place of one; none deletes it. */
+  replaceEdge(/** @type {Edge} */ edge, ...by) {
+    return this.#propose(replaceEdge(this.#text, this.graph, edge, by));
+  }
+
+  /** Writes the places of the drawing into the text. */
+  keepPlaces(focus) {
+    return this.#propose(this.places.write(this.#text), focus);
+  }
+
+  moveBy(name, dx, dy) {
+    const p = this.diagram.target.get(name);
+    this.diagram.target.set(name, { x: p.x + dx, y: p.y + dy });
+    return this.keepPlaces(name);
+  }
+
+  /** Drops the places of the text, so that a layout is computed. */
+  arrange() {
+    return this.#propose(change(this.#text, new Map(this.graph.vertices.map((v) => [v.name, { pos: null }]))));
+  }
+}

@@ -1,0 +1,71 @@
+import { byId, h } from "../dom.js";
+
+/** @typedef {{text: string, act: () => void, key?: string, checked?: boolean, cls?: string}} Item */
+
+/** Opens a menu at a place. @param {{x: number, y: number}} at @param {Item[]} items @param {Element} [back] */
+export function openMenu(at, label, items, back) {
+  closeMenu();
+  const box = h("div", { class: "menu", role: "menu", "aria-label": label, id: "menu" },
+    h("div", { class: "menu-title", "aria-hidden": "true" }, label), items.map(itemButton));
+  box.addEventListener("keydown", (e) => moveInMenu(e, box, back));
+  show(box, at);
+  box.querySelector("button")?.focus();
+}
+
+function itemButton({ text, act, key, checked, cls }) {
+  const isRadio = checked !== undefined;
+  return h("button", {
+    type: "button", role: isRadio ? "menuitemradio" : "menuitem", "aria-checked": isRadio ? String(checked) : null,
+    "aria-keyshortcuts": key ?? null, class: cls ?? null, tabindex: -1,
+    onclick: () => {
+      closeMenu();
+      act();
+    },
+  }, text, key && h("kbd", { "aria-hidden": "true" }, key));
+}
+
+function moveInMenu(e, box, back) {
+  const all = [...box.querySelectorAll("button")], i = all.indexOf(document.activeElement);
+  const to = { ArrowDown: i + 1, ArrowUp: i - 1 + all.length, Home: 0, End: all.length - 1 }[e.key];
+  if (to !== undefined && all.length) {
+    e.preventDefault();
+    all[to % all.length].focus();
+  }
+  if (e.key !== "Escape" && e.key !== "Tab") return;
+  e.preventDefault();
+  e.stopPropagation();
+  closeMenu();
+  back?.focus();
+}
+
+/** Asks for a name at a place. @param {(name: string) => void} take */
+export function askText(at, label, value, take, back) {
+  closeMenu();
+  const input = h("input", { "aria-label": label, autocomplete: "off", onkeydown: (e) => {
+    if (e.key === "Enter") {
+      const text = input.value.trim();
+      closeMenu();
+      take(text);
+    } else if (e.key === "Escape" || e.key === "Tab") {
+      e.preventDefault();
+      e.stopPropagation();
+      closeMenu();
+      back?.focus();
+    }
+  } });
+  input.value = value;
+  show(h("div", { class: "menu", role: "dialog", "aria-label": label, id: "menu" },
+    h("div", { class: "menu-title", "aria-hidden": "true" }, label), input), at);
+  input.focus();
+  input.select();
+}
+
+function show(box, at) {
+  document.body.append(box);
+  box.style.left = `${Math.max(8, Math.min(at.x, innerWidth - box.offsetWidth - 8))}px`;
+  box.style.top = `${Math.max(8, Math.min(at.y, innerHeight - box.offsetHeight - 8))}px`;
+}
+
+export const closeMenu = () => byId("menu")?.remove();
+
+document.addEventListener("pointerdown", (e) => !e.target.closest("#menu") && closeMenu(), true);

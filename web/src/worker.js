@@ -1,0 +1,39 @@
+// Holds the proved program, away from the page. Messages to it:
+//   {packed}                 the module, gzip in base64; comes first
+//   {name, text}             a file that later questions may name; text is null where it goes
+//   {id, text, questions}    lists of words about diagram.dag with this text; answered by {id, answers}
+// Another such worker computes layouts: {id, outline} is answered by {id, places}.
+import { load } from "./causal.mjs";
+import { arrange } from "./layout.js";
+import { DIAGRAM } from "./names.js";
+
+const files = new Map();
+let causal;
+
+/** The module's bytes from gzip in base64. */
+async function unpack(packed) {
+  const bytes = Uint8Array.from(atob(packed), (c) => c.charCodeAt(0));
+  const stream = new Blob([bytes]).stream().pipeThrough(new DecompressionStream("gzip"));
+  return new Uint8Array(await new Response(stream).arrayBuffer());
+}
+
+function answer(program, words, text) {
+  const named = words.filter((word) => files.has(word));
+  const inputs = { ...Object.fromEntries(named.map((name) => [name, files.get(name)])), [DIAGRAM]: text };
+  const start = performance.now();
+  try {
+    return { ...program.run(words, inputs), ms: performance.now() - start };
+  } catch (e) {
+    return { status: -1, out: "", err: `causal: the module stopped: ${e.message}`, ms: 0 };
+  }
+}
+
+onmessage = async ({ data }) => {
+  if (data.packed) causal = unpack(data.packed).then(load);
+  else if (data.outline) postMessage({ id: data.id, places: arrange(data.outline) });
+  else if (data.questions) {
+    const program = await causal;
+    postMessage({ id: data.id, answers: data.questions.map((words) => answer(program, words, data.text)) });
+  } else if (data.text === null) files.delete(data.name);
+  else files.set(data.name, data.text);
+};

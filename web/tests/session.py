@@ -1,0 +1,402 @@
+"""A user's afternoon with the page, in headless Chromium."""
+import functools
+import http.server
+import json
+import pathlib
+import subprocess
+import sys
+import tempfile
+import threading
+import time
+
+from selenium.webdriver import ActionChains
+from selenium.webdriver.common.by import By
+from selenium.webdriver.common.keys import Keys
+
+import browser
+from browser import wait
+
+TOP = browser.WEB.parent
+EXAMPLES = TOP / "examples"
+NAPKIN_CSV = browser.WEB / "tests/napkin.csv"
+
+
+class Session:
+    """A page with a count of what went well in it."""
+
+    def __init__(self, driver, downloads):
+        self.driver = driver
+        self.downloads = downloads
+        self.done = self.failed = 0
+
+    def check(self, what, good, saw=""):
+        self.done += 1
+        if not good:
+            self.failed += 1
+            print(f"wrong: {what}: saw {saw!r}")
+
+    def soon(self, what, test, saw=lambda: ""):
+        self.check(what, wait(test), saw())
+
+    # What is seen
+
+    def one(self, css):
+        return self.driver.find_element(By.CSS_SELECTOR, css)
+
+    def all(self, css):
+        return self.driver.find_elements(By.CSS_SELECTOR, css)
+
+    def run(self, script, *words):
+        return self.driver.execute_script(script, *words)
+
+    def text(self):
+        return self.run("return document.getElementById('text').value")
+
+    def printed(self, number=0):
+        return self.all("#panel .printed pre")[number].text
+
+    def command(self, number=0):
+        return self.all("#panel .command code")[number].text
+
+    def panel(self):
+        return self.one("#panel").text
+
+    def vertex(self, name):
+        return self.run("""return [...document.querySelectorAll('#drawing .vertex')]
+            .find((v) => v.querySelector('text').textContent === arguments[0])""", name)
+
+    def names(self):
+        return [el.text for el in self.all("#drawing .vertex text")]
+
+    # What is done
+
+    def example(self, name):
+        browser.example(self.driver, name)
+
+    def tab(self, name):
+        self.driver.find_element(By.ID, f"tab-{name}").click()
+        time.sleep(0.4)
+
+    def item(self, head):
+        """Presses the item of the open menu that begins with these words."""
+        next(b for b in self.all("#menu button") if b.text.startswith(head)).click()
+
+    def keys(self, *keys):
+        ActionChains(self.driver).send_keys(*keys).perform()
+
+    def undo(self):
+        ActionChains(self.driver).key_down(Keys.CONTROL).send_keys("z").key_up(Keys.CONTROL).perform()
+
+    def redo(self):
+        ActionChains(self.driver).key_down(Keys.CONTROL).key_down(Keys.SHIFT).send_keys("z").key_up(
+            Keys.SHIFT).key_up(Keys.CONTROL).perform()
+
+    def saved(self, name):
+        """A file that the page saved."""
+        path = self.downloads / name
+        return path if wait(lambda: path.exists() and path.stat().st_size) else None
+
+
+def reads_a_formula(s):
+    s.example("napkin")
+    s.check("the answer", s.printed() == "P(Y|do(X)) = q0 / (sum{Y} q0)\nq0 = sum{W} P(W) * P(X|W,Z) * P(Y|X,W,Z)\n"
+            "free {Z}", s.printed())
+    s.check("its command line", s.command() == "$ causal identify diagram.dag", s.command())
+    tex = s.run("return [...document.querySelectorAll('.formula annotation')].map((a) => a.textContent).join(' ')")
+    s.check("typeset", "\\frac" in tex and "\\sum" in tex, tex)
+    s.check("a part is explained", s.one(".formula .part").get_attribute("title").startswith("q0 = sum{W}"))
+    s.check("a bound name is explained", "bound name" in s.one(".formula .bound").get_attribute("title"))
+    s.check("the claim", "in every positive finite model that fits the diagram" in s.panel(), s.panel())
+    s.check("the source", "Book of Why" in s.one("#source").text)
+
+
+def drags_and_takes_back(s):
+    before = s.text()
+    s.check("the example has places", before.count("pos=") == 4, before)
+    ActionChains(s.driver).drag_and_drop_by_offset(s.vertex("Z"), 30, 120).perform()
+    s.soon("dragging writes a place", lambda: s.text() != before and s.text().count("pos=") == 4, s.text)
+    s.check("chains are kept", "W -> Z -> X -> Y" in s.text(), s.text())
+    after = s.text()
+    s.undo()
+    s.soon("undo", lambda: s.text() == before, s.text)
+    s.redo()
+    s.soon("redo", lambda: s.text() == after, s.text)
+
+
+def breaks_the_text(s):
+    area = s.one("#text")
+    area.click()
+    area.send_keys(Keys.CONTROL, Keys.END)
+    area.send_keys(Keys.ARROW_UP, Keys.END)
+    area.send_keys(" --")
+    s.soon("a fault is said with its number", lambda: "fault 5" in s.one("#fault").text, lambda: s.one("#fault").text)
+    s.check("at its place", s.one("#paint .fault").text == "--", s.one("#paint").get_attribute("innerHTML"))
+    s.check("the answers are said to be older", "last text without a fault" in s.one("#hint").text)
+    area.send_keys(Keys.BACKSPACE * 3)
+    s.soon("and goes", lambda: not s.one("#fault").is_displayed())
+    area.send_keys("\nY -> W")
+    s.soon("a circle is said", lambda: "fault 11" in s.one("#fault").text, lambda: s.one("#fault").text)
+    marked = s.run("return [...document.querySelectorAll('#paint .fault')].map((m) => m.textContent.trim()).join('')")
+    s.check("all its names are marked", all(name in marked for name in "WZXY"), marked)
+    s.undo()
+    s.soon("and taken back", lambda: not s.one("#fault").is_displayed())
+
+
+def chooses_sets(s):
+    s.tab("separation")
+    s.check("separation", "not separated: {X} from {Y} given {}" in s.printed(), s.printed())
+    s.one("button[data-key='arm given']").click()
+    time.sleep(0.3)
+    s.vertex("W").click()
+    s.soon("choosing by a click", lambda: "given {W}" in s.printed(), s.printed)
+    s.check("the path is drawn", len(s.all("#drawing .over path.open")) > 0)
+    s.keys(Keys.ESCAPE)
+    s.soon("escape ends it", lambda: s.one("#hint").text == "", lambda: s.one("#hint").text)
+    s.tab("rules")
+    s.check("a rule", s.printed().startswith("rule 2"), s.printed())
+    s.example("hidden_cause")
+    s.tab("separation")
+    s.check("a path through a hidden vertex", "smoking -> tar -> cancer" in s.panel() or "<->" in s.panel(), s.panel())
+    s.tab("effect")
+
+
+def draws(s):
+    s.example("front_door")
+    s.vertex("M").click()
+    s.check("a menu", s.one("#menu").is_displayed())
+    s.item("Adjusted")
+    s.soon("a role into the text", lambda: "M [adjusted" in s.text(), s.text)
+    s.vertex("M").click()
+    s.item("Rename")
+    field = s.one("#menu input")
+    field.send_keys(Keys.CONTROL, "a")
+    field.send_keys("tar in lungs", Keys.ENTER)
+    s.soon("renaming quotes", lambda: 'X -> "tar in lungs" -> Y' in s.text(), s.text)
+    s.vertex("Y").click()
+    s.item("Arrow")
+    s.vertex("X").click()
+    s.soon("a circle is refused", lambda: "circle" in s.one("#toast").text, lambda: s.one("#toast").text)
+    s.check("and changes nothing", "Y -> X" not in s.text(), s.text())
+    box = s.one("#drawing").size
+    ActionChains(s.driver).move_to_element_with_offset(
+        s.one("#drawing"), -box["width"] // 4, box["height"] // 4).double_click().perform()
+    s.soon("a double click adds", lambda: "A [pos=" in s.text(), s.text)
+    s.keys(Keys.ESCAPE)
+    s.vertex("A").click()
+    s.item("Common")
+    s.vertex("Y").click()
+    s.soon("an edge is drawn", lambda: "A <-> Y" in s.text(), s.text)
+    s.vertex("A").click()
+    s.item("Its edges")
+    s.item("A ↔ Y")
+    s.item("Make it an arrow")
+    s.soon("an edge changes in its place", lambda: "A -> Y" in s.text() and "<-> Y" in s.text(), s.text)
+    s.check("chains stay", 'X -> "tar in lungs" -> Y' in s.text(), s.text())
+    s.vertex("A").click()
+    s.item("Delete")
+    s.soon("a vertex goes", lambda: "A" not in s.names(), s.text)
+
+
+def uses_keys_alone(s):
+    s.example("front_door")
+    s.run("arguments[0].focus()", s.vertex("Y"))
+    s.keys("0")
+    s.soon("a mark goes", lambda: "No outcome" in s.panel(), s.panel)
+    s.keys("o")
+    s.soon("and comes", lambda: "Identifiable" in s.panel(), s.panel)
+    before = s.text()
+    s.keys(Keys.ARROW_DOWN)
+    s.soon("arrows move", lambda: s.text() != before and "M" in s.names(), s.text)
+    s.keys("n")
+    s.soon("a new vertex asks for its name", lambda: s.one("#menu input").is_displayed())
+    s.keys("B", Keys.ENTER)
+    s.soon("and gets it", lambda: "B [pos=" in s.text(), s.text)
+    s.keys("c")
+    s.run("arguments[0].focus()", s.vertex("X"))
+    s.keys(Keys.ENTER)
+    s.soon("an arrow by keys", lambda: "B -> X" in s.text(), s.text)
+    s.keys("x")
+    s.soon("a vertex's edges", lambda: any("B → X" in b.text for b in s.all("#menu button")))
+    s.keys(Keys.ESCAPE)
+    s.check("the focus comes back", s.run("return document.activeElement.classList.contains('vertex')"))
+    s.run("document.getElementById('tab-effect').focus()")
+    s.keys(Keys.ARROW_RIGHT)
+    s.soon("tabs by arrows", lambda: s.one("#tab-adjustment").get_attribute("aria-selected") == "true")
+    s.tab("effect")
+
+
+def saves_a_certificate(s):
+    s.example("napkin")
+    s.one("#panel details summary").click()
+    asked = """return ['.tick', '.cross', '.asked'].map((css) => document.querySelectorAll(css).length)"""
+    s.run("document.querySelector('#panel .steps').scrollIntoView()") if wait(lambda: s.all("#panel .steps")) else None
+    for item in s.all("#panel .steps > li"):
+        s.run("arguments[0].scrollIntoView()", item)
+        time.sleep(0.05)
+    s.soon("each rule holds", lambda: s.run(asked) == [6, 0, 6], lambda: s.run(asked))
+    s.run("document.getElementById('check').scrollIntoView()")
+    s.one("#check").click()
+    s.soon("check accepts", lambda: "accepted" in s.one(".checked").text, lambda: s.one(".checked").text)
+    s.one("#save").click()
+    path = s.saved("certificate.json")
+    s.check("the certificate is saved", path)
+    script = """import { readFileSync } from "node:fs";
+        const [loader, module, ...files] = process.argv.slice(1);
+        const { load } = await import(loader);
+        const causal = await load(readFileSync(module)), [g, c] = files.map((file) => readFileSync(file, "utf8"));
+        console.log(causal.run(["check", "g", "c"], { g, c }).out);"""
+    words = ["node", "--input-type=module", "-e", script, browser.WEB / "src/causal.mjs",
+             browser.WEB / "dist/causal.wasm", EXAMPLES / "napkin.dag", path]
+    checked = subprocess.run(words, capture_output=True, text=True, check=False)
+    s.check("and accepted elsewhere", checked.stdout.startswith("accepted"), checked.stdout + checked.stderr)
+
+
+def drops_a_table(s):
+    s.tab("data")
+    s.one("#csv").send_keys(str(NAPKIN_CSV))
+    s.soon("what is free is pinned", lambda: "Z=0" in s.panel(), s.panel)
+    s.example("kidney_stones")
+    drop = """const data = new DataTransfer();
+        data.items.add(new File([arguments[0]], "kidney_stones.csv", { type: "text/csv" }));
+        document.body.dispatchEvent(new DragEvent("drop", { dataTransfer: data, bubbles: true, cancelable: true }));"""
+    s.run(drop, (EXAMPLES / "kidney_stones.csv").read_text())
+    s.soon("counts", lambda: "634983/762700" in s.one(".values").text, s.panel)
+    s.check("warned", "without sampling error" in s.panel(), s.panel())
+    s.check("with its command line", s.command() == "$ causal evaluate diagram.dag kidney_stones.csv --count=count "
+            "--exact", s.command())
+    s.one("summary[data-key='levels']").click()
+    s.soon("levels", lambda: "small (357)" in s.panel(), s.panel)
+    s.one("summary[data-key='bounds']").click()
+    s.soon("bounds", lambda: "0.832546217385603774" in s.panel(), s.panel)
+
+
+def adjusts_and_compares(s):
+    s.tab("adjustment")
+    s.check("the sets", [c.text for c in s.all("#panel .chip")] == ["S"], [c.text for c in s.all("#panel .chip")])
+    s.check("the formula", "sum{S} P(S) * P(R|" in s.printed(), s.printed())
+    s.one("button[data-key='take']").click()
+    s.soon("the set is marked", lambda: "S [adjusted" in s.text(), s.text)
+    s.soon("and admissible", lambda: "Admissible" in s.panel(), s.panel)
+    s.example("m_bias")
+    s.tab("adjustment")
+    s.run("arguments[0].focus()", s.vertex("M"))
+    s.keys("a")
+    s.soon("the path that breaks it", lambda: len(s.all("#drawing .over path.open")) == 5, s.panel)
+    s.example("kidney_stones")
+    s.tab("compare")
+    s.check("equivalent", s.printed() == "equivalent", s.printed())
+    second = s.one("textarea.second")
+    second.send_keys(Keys.CONTROL, "a")
+    wanted = "dag { S -> T -> R S -> R U -> V }"
+    for letter in wanted:
+        s.keys(letter)
+        time.sleep(0.03)
+    time.sleep(0.6)
+    value = s.one("textarea.second").get_attribute("value")
+    s.check("typing the second text loses nothing", value == wanted, value)
+    s.check("a name in one alone", "U stands in one diagram alone" in s.panel(), s.panel())
+    s.one("textarea.second").send_keys(Keys.CONTROL, "a")
+    s.keys("dag { T S R S -> T S -> R }")
+    s.soon("the difference is drawn", lambda: len(s.all("#drawing .over path.difference")) == 1, s.panel)
+
+
+def shows_a_hedge(s):
+    s.example("bow")
+    s.tab("effect")
+    s.check("a hedge is drawn", len(s.all("#drawing .over path.hedge")) == 2)
+    s.check("its sets", len(s.all("#drawing .hedge-small")) == 1)
+    s.check("its models", len(s.all(".models tbody tr")) == 3, len(s.all(".models tbody tr")))
+    s.one("#check").click()
+    s.soon("check accepts it", lambda: "accepted" in s.one(".checked").text, lambda: s.one(".checked").text)
+
+
+def saves_the_drawing_and_a_link(s):
+    s.one("#export").click()
+    path = s.saved("diagram.svg")
+    s.check("the drawing is saved", path and "<svg" in path.read_text() and ">X</text>" in path.read_text())
+    s.one("#share").click()
+    time.sleep(0.3)
+    link = s.run("return location.href")
+    browser.open_page(s.driver, fragment="#" + link.split("#")[1])
+    s.check("the link carries the diagram", "X <-> Y" in s.text(), s.text())
+
+
+def is_accessible(s):
+    """Whatever can be focused has a name, ids are unique, and one heading stands at the top."""
+    s.example("napkin")
+    s.driver.execute_cdp_cmd("Accessibility.enable", {})
+    for tab in ("effect", "adjustment", "separation", "rules", "data", "compare"):
+        s.tab(tab)
+        nodes = s.driver.execute_cdp_cmd("Accessibility.getFullAXTree", {})["nodes"]
+        nameless = [n["role"]["value"] for n in nodes if not n.get("ignored") and not n.get("name", {}).get("value")
+                    and any(p["name"] == "focusable" and p["value"]["value"] for p in n.get("properties", []))
+                    and n["role"]["value"] not in ("RootWebArea", "MathMLMath")]
+        s.check(f"everything that can be focused has a name: {tab}", not nameless, nameless)
+    ids = s.run("return [...document.querySelectorAll('[id]')].map((el) => el.id)")
+    s.check("ids are unique", len(ids) == len(set(ids)), sorted(i for i in ids if ids.count(i) > 1))
+    label = s.vertex("X").get_attribute("aria-label")
+    s.check("a vertex tells its edges", label == "X, exposure; arrow to Y; arrow from Z; common hidden cause with W",
+            label)
+    s.check("answers are announced", s.run("return document.getElementById('spoken').getAttribute('role')") == "status")
+
+
+def sends_nothing(s):
+    """No request was made but for the page itself, and one that is made is refused."""
+    log = [json.loads(entry["message"])["message"] for entry in s.driver.get_log("performance")]
+    asked = {e["params"]["request"]["url"] for e in log if e["method"] == "Network.requestWillBeSent"}
+    outside = [url[:80] for url in asked if not url.startswith(("blob:", "data:", "about:"))
+               and url.split("#")[0] != browser.PAGE.as_uri()]
+    s.check("nothing was asked of a network", asked and not outside, outside)
+    complaints = [entry for entry in s.driver.get_log("browser") if entry["level"] != "INFO"]
+    s.check("no complaint in the console", not complaints, complaints)
+    refused = s.driver.execute_async_script("""const done = arguments[0];
+        document.addEventListener("securitypolicyviolation", (e) => done(e.effectiveDirective));
+        fetch("http://127.0.0.1:9/").catch(() => setTimeout(() => done("none"), 500));""")
+    s.check("the page's policy refuses a request", refused == "connect-src", refused)
+    s.driver.get_log("browser")
+
+
+def is_served(s):
+    """The page also works where it's served, and asks the server for nothing more."""
+    paths = []
+
+    class Handler(http.server.SimpleHTTPRequestHandler):
+        def log_message(self, *words):
+            paths.append(self.path)
+
+    handler = functools.partial(Handler, directory=browser.PAGE.parent)
+    with http.server.ThreadingHTTPServer(("127.0.0.1", 0), handler) as server:
+        threading.Thread(target=server.serve_forever, daemon=True).start()
+        browser.open_page(s.driver, f"http://127.0.0.1:{server.server_port}/causal.html")
+        s.check("the page is served", "Identifiable" in s.panel(), s.panel())
+        server.shutdown()
+    s.check("and asks for nothing more", paths == ["/causal.html"], paths)
+
+
+PARTS = [
+    reads_a_formula, drags_and_takes_back, breaks_the_text, chooses_sets, draws, uses_keys_alone, saves_a_certificate,
+    drops_a_table, adjusts_and_compares, shows_a_hedge, saves_the_drawing_and_a_link, is_accessible, sends_nothing,
+    is_served,
+]
+
+
+def main():
+    with tempfile.TemporaryDirectory() as folder:
+        driver = browser.start(downloads=pathlib.Path(folder))
+        try:
+            browser.open_page(driver)
+            session = Session(driver, pathlib.Path(folder))
+            for part in PARTS:
+                if sys.argv[1:] and part.__name__ not in sys.argv[1:]:
+                    continue
+                try:
+                    part(session)
+                except Exception as error:  # the other parts are still tried
+                    session.check(part.__name__, False, f"{type(error).__name__}: {error}")
+        finally:
+            driver.quit()
+    print(f"{session.done} steps of a session, {session.failed} wrong")
+    sys.exit(bool(session.failed))
+
+
+main()

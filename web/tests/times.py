@@ -1,0 +1,82 @@
+"""The page's figures: size, time to the first answer, and an edit to its answers on a diagram of 40 vertices."""
+import time
+
+import browser
+
+EDIT = """
+const [text, done] = arguments;
+const area = document.getElementById("text"), panel = document.getElementById("panel"), start = performance.now();
+const layer = document.querySelector("#drawing .edges");
+let drawn;
+new MutationObserver(() => (drawn ??= performance.now() - start))
+  .observe(layer, { childList: true, subtree: true, attributes: true });
+new MutationObserver((_, observer) => {
+  observer.disconnect();
+  const answered = performance.now() - start;
+  requestAnimationFrame(() => setTimeout(() => done([answered, performance.now() - start, drawn])));
+}).observe(panel, { childList: true });
+area.value = text;
+area.dispatchEvent(new Event("input"));
+"""
+REPEATS = 5
+PAUSE = 1.2
+
+
+def opened():
+    """Milliseconds from the beginning of opening to the first answer: in a fresh browser, and again."""
+    fresh, again = [], []
+    for _ in range(REPEATS):
+        driver = browser.start()
+        try:
+            fresh.append(browser.open_page(driver))
+            again.append(browser.open_page(driver))
+        finally:
+            driver.quit()
+    return fresh, again
+
+
+def edits(texts):
+    """For each text: milliseconds until its answer stands in the page, until it's painted, and until it's drawn."""
+    driver = browser.start()
+    try:
+        browser.open_page(driver)
+        figures = []
+        for text in texts:
+            figures.append(driver.execute_async_script(EDIT, text))
+            time.sleep(PAUSE)
+        return figures
+    finally:
+        driver.quit()
+
+
+def spread(name, numbers):
+    numbers = [round(n) for n in numbers if n is not None]
+    print(f"{name}: {min(numbers)} to {max(numbers)} ms ({', '.join(map(str, numbers))})")
+
+
+def with_places(text):
+    """The same text with a place for each vertex, in rows of eight."""
+    lines = text.split("\n")
+    for i in range(40):
+        at = lines.index(next(line for line in lines if line in (f"v{i}", f"v{i} [exposure]", f"v{i} [outcome]")))
+        place = f'pos="{1.5 * (i % 8)},{1.2 * (i // 8)}"'
+        lines[at] = lines[at].replace("]", f",{place}]") if "[" in lines[at] else f"{lines[at]} [{place}]"
+    return "\n".join(lines)
+
+
+def main():
+    print(f"web/dist/causal.html: {browser.PAGE.stat().st_size} bytes")
+    fresh, again = opened()
+    spread("opening to the first answer, in a fresh browser", fresh)
+    spread("the same, opened again", again)
+    for answer, ends in {"a hedge": (0, 39), "a formula": (36, 38)}.items():
+        # a further edge, so that the answer and the layout change
+        more = [[f"v{k} -> v{k + 20}", f"v{k} -> v{k + 19}"] for k in range(REPEATS)]
+        for how, written in {"places in the text": with_places, "a computed layout": lambda text: text}.items():
+            texts = [written(browser.survey(*ends, more=edges)) for edges in [[], *more]]
+            figures = edits(texts)[1:]
+            spread(f"an edit to its answer, 40 vertices, {answer}, {how}", [f[0] for f in figures])
+            spread("  until it is painted", [f[1] for f in figures])
+
+
+main()

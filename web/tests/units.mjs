@@ -1,0 +1,174 @@
+// Random diagrams with odd names: the page's reading and changing of texts against the program, and its derivations.
+//   node units.mjs MODULE.wasm [GRAPHS]
+import "./stub.mjs";
+import katex from "katex";
+import { readFileSync } from "node:fs";
+import { load } from "../src/causal.mjs";
+import { routed } from "../src/diagram/route.js";
+import { placesOf, readFault } from "../src/faults.js";
+import { annotate } from "../src/formula.js";
+import { adjustmentLatex, derivationOf, follow, latex, parse } from "../src/rebuilt.js";
+import { levelsOf, readRows } from "../src/text/csv.js";
+import * as edit from "../src/text/edit.js";
+import { listWord, openPath, readGraph, readPath, readSet } from "../src/text/printed.js";
+
+const causal = await load(readFileSync(process.argv[2]));
+const GRAPHS = Number(process.argv[3] ?? 1500);
+const run = (words, text, more = {}) => causal.run(words, { g: text, ...more });
+
+let seed = 7;
+const random = (n) => (seed = (seed * 1103515245 + 12345) % 2147483648) % n;
+const shuffled = (list) => [...list].sort(() => random(3) - 1);
+
+let compared = 0, wrong = 0;
+function same(what, got, wanted, about) {
+  compared++;
+  if (JSON.stringify(got) === JSON.stringify(wanted)) return;
+  wrong++;
+  if (wrong < 10) console.log(`differs: ${what}: ${JSON.stringify(got)}, wanted ${JSON.stringify(wanted)}\n${about}`);
+}
+
+const POOL = [
+  "A", "B", "C1", "time of day", "x,y", "Übergewicht", "a_b", "50%", "p(x)", "日本", "D", "E", "-q", "#h", "sum", "q0", "dag",
+];
+const MARKS = ["exposure", "outcome", "adjusted", "latent"];
+const quoted = (name) =>
+  /^[^\s{}[\]";=,<>\-@]+$/.test(name) && !/^(\/\/|\/\*|#)/.test(name) && random(4) ? name : `"${name}"`;
+
+function randomText() {
+  const names = shuffled(POOL).slice(0, 3 + random(5)), at = (n) => names.indexOf(n);
+  let text = `dag ${random(3) ? "" : "G "}{${random(2) ? "\n" : " "}`;
+  if (!random(4)) text += 'bb="0,0,1,1"\n';
+  for (const name of names) if (random(2)) text += quoted(name) + randomAttributes() + (random(2) ? "\n" : "; ");
+  for (let e = 0; e < 5; e++) {
+    const [a, b, c] = shuffled(names).slice(0, 3).sort((p, q) => at(p) - at(q)).map(quoted);
+    text += [`${a} -> ${b} -> ${c}`, `${b}<-${a}`, `${a}<->${b} [pos="1,2"]`, `{${a} ${b}} -> {${c}}`][random(4)];
+    text += random(2) ? "\n" : " ; ";
+  }
+  return `${text}}${random(2) ? "\n" : ""}`;
+}
+
+function randomAttributes() {
+  if (random(2)) return ` [${MARKS[random(4)]}${random(2) ? `,pos="${random(9)},-${random(9)}.5"` : ""}]`;
+  return random(3) ? "" : ' [pos=-1 , foo="b]r"]';
+}
+
+/** The graph of a changed text, by the program; its line where it's refused. */
+function graphOf(text) {
+  const answer = run(["graph", "g"], text);
+  return answer.status ? answer.err : readGraph(answer.out);
+}
+
+/** A graph's edges as a set, since a changed text may say them in another order. */
+const unordered = (graph) =>
+  typeof graph === "string" ? graph : { vertices: graph.vertices, edges: graph.edges.map((e) => JSON.stringify(e)).sort() };
+
+function testEdits(text, graph) {
+  const { vertices, edges } = graph, v = vertices[random(vertices.length)].name, w = vertices[random(vertices.length)].name;
+  const withRole = (role) => ({ ...graph, vertices: vertices.map((x) => (x.name === v ? { ...x, role } : x)) });
+  same("writing", graphOf(edit.write(graph, new Map())), graph, text);
+  const moved = edit.change(text, new Map(vertices.map((x, i) => [x.name, { pos: `${i},-${i}.5` }])));
+  same("pos keeps the graph", graphOf(moved), graph, text);
+  same("pos is read", [...edit.positions(moved)].length, vertices.length, moved);
+  same("a role", graphOf(edit.change(text, new Map([[v, { role: "adjusted" }]]))), withRole("adjusted"), text);
+  same("no role", graphOf(edit.change(moved, new Map([[v, { role: null }]]))), withRole(null), text);
+  const renamed = (n) => (n === v ? "new name" : n);
+  same("renaming", graphOf(edit.rename(text, v, "new name")), {
+    vertices: vertices.map((x) => ({ ...x, name: renamed(x.name) })),
+    edges: edges.map((e) => ({ ...e, a: renamed(e.a), b: renamed(e.b) })),
+  }, text);
+  same("a vertex", graphOf(edit.addVertex(text, "fresh", "1,2")),
+    { ...graph, vertices: [...vertices, { name: "fresh", role: null }] }, text);
+  if (v !== w) same("an edge", typeof graphOf(edit.addEdge(text, { a: v, b: w, both: true })), "object", text);
+  const left = { vertices: vertices.filter((x) => x.name !== v), edges: edges.filter((e) => e.a !== v && e.b !== v) };
+  same("a vertex goes", unordered(graphOf(edit.removeVertex(text, graph, v))), unordered(left), text);
+  const edge = edges[random(edges.length)], other = { ...edge, both: !edge.both };
+  const without = edges.filter((e) => e !== edge);
+  same("an edge goes", unordered(graphOf(edit.replaceEdge(text, graph, edge, []))),
+    unordered({ ...graph, edges: without }), text);
+  const isThere = edges.some((e) => edit.isSame(e, other));
+  same("an edge changes", unordered(graphOf(edit.replaceEdge(text, graph, edge, [other]))),
+    unordered({ ...graph, edges: isThere ? without : [...without, turned(other, graph)] }), text);
+}
+
+/** A bidirected edge as the program prints it, its lower end first. */
+function turned(edge, { vertices }) {
+  const at = (name) => vertices.findIndex((v) => v.name === name);
+  return edge.both && at(edge.b) < at(edge.a) ? { ...edge, a: edge.b, b: edge.a } : edge;
+}
+
+const plain = (e) => JSON.parse(JSON.stringify(e));
+
+function testDerivation(text, words, order) {
+  const { x, y, main, lemmas, formula, defs } = JSON.parse(run([...words, "--certificate"], text).out);
+  const term = (of, doing) => ({ k: "P", of, doing, given: [] });
+  const { end } = follow(term(y, x), main, order), out = run([...words, "--certificate"], text).out;
+  same("the last expression", plain(end), plain(parse(formula)), text);
+  lemmas.forEach(([set, step], i) => {
+    const lemma = follow(term(set, order.filter((o) => !set.includes(o))), step, order);
+    same("a part", plain(lemma.end), plain(parse(defs[i])), text);
+  });
+  for (const { rule } of derivationOf(out, order).flatMap((part) => part.steps)) {
+    if (!rule) continue;
+    const answer = run(["rule", "g", "--rule", String(rule.n), "--y", listWord(rule.y), "--z", listWord(rule.z),
+      "--do", listWord(rule.doing), "--given", listWord(rule.given)], text);
+    same("a rule holds", answer.status, 0, answer.out + answer.err + text);
+  }
+  const lines = run([...words, "--latex"], text).out.trim().split("\n").filter((line) => !line.startsWith("free"));
+  for (const line of lines) {
+    let error = "";
+    try {
+      katex.renderToString(annotate(line), { trust: true, strict: "ignore" });
+    } catch (e) {
+      error = e.message;
+    }
+    same("typesetting", error, "", line);
+  }
+  same("LaTeX", lines[0].slice(lines[0].indexOf(" = ") + 3), latex(end), text);
+}
+
+function testAnswers(text, graph) {
+  const order = graph.vertices.filter((x) => x.role !== "latent").map((x) => x.name);
+  if (order.length < 2) return;
+  const [x, y] = shuffled(order), sets = ["--x", listWord([x]), "--y", listWord([y])];
+  const identified = run(["identify", "g", ...sets], text);
+  same("identify", identified.status < 2, true, identified.err);
+  if (identified.status === 0) testDerivation(text, ["identify", "g", ...sets], order);
+  const separated = run(["separate", "g", ...sets, "--given", "{}"], text);
+  if (separated.status === 1) testPath(openPath(separated.out), x, y, graph, text);
+  const adjusted = run(["adjust", "g", ...sets], text).out.split("\n").filter((line) => line.startsWith("{"));
+  for (const set of adjusted) {
+    const answer = run(["adjust", "g", ...sets, "--set", listWord(readSet(set))], text);
+    same("a minimal set", answer.status, 0, text + set);
+    katex.renderToString(annotate(adjustmentLatex(answer.out.split("\n")[1])), { trust: true, strict: "ignore" });
+  }
+}
+
+function testPath(printed, x, y, graph, text) {
+  const path = readPath(printed), ends = (e) => [e.a, e.b];
+  same("a path's ends", [ends(path[0]).includes(x), ends(path.at(-1)).includes(y)], [true, true], text);
+  const drawn = (e) => graph.edges.some((f) => edit.isSame(e, f));
+  same("a path is drawn", routed(graph, path).every(drawn), true, text + printed);
+}
+
+let accepted = 0;
+for (let k = 0; k < GRAPHS; k++) {
+  const text = randomText(), before = run(["graph", "g"], text);
+  if (before.status) {
+    const places = placesOf(readFault(before.err), text);
+    same("a fault's places", places.every((p) => p.start <= p.end && p.start <= text.length), true, text);
+    continue;
+  }
+  accepted++;
+  testEdits(text, readGraph(before.out));
+  testAnswers(text, readGraph(before.out));
+}
+
+const circle = "dag { A -> B -> C\nC -> A\nD }", marks = placesOf(readFault(run(["graph", "g"], circle).err), circle);
+same("a circle's places", marks.map((m) => circle.slice(m.start, m.end)), ["A -> B", "B -> C", "C -> A"], circle);
+const rows = readRows('a,"b ""x""",n\r\n1,"p,q",2\n1,r,3\n');
+same("a CSV", rows, [["a", 'b "x"', "n"], ["1", "p,q", "2"], ["1", "r", "3"]], "");
+same("levels", [...levelsOf(rows, ["a"], "n").get("a")], [["1", 5]], "");
+
+console.log(`${compared} comparisons on ${accepted} random diagrams, ${wrong} wrong`);
+process.exit(wrong ? 1 : 0);

@@ -1,0 +1,86 @@
+"""Pictures of the main views, in web/out: light, dark, and as wide as a phone."""
+import base64
+import sys
+import time
+
+from selenium.webdriver.common.by import By
+
+import browser
+
+TOP = browser.WEB.parent
+
+# What to do before the picture: an example, a card, and a script.
+VIEWS = {
+    "effect": ("napkin", "effect", ""),
+    "derivation": ("front_door", "effect", "document.querySelector('summary[data-key=derivation]').click()"),
+    "rule": ("front_door", "effect", """const steps = document.querySelectorAll('.steps > li[tabindex]');
+        steps[1].scrollIntoView({block: 'center'}); steps[1].focus()"""),
+    "hedge": ("bow", "effect", ""),
+    "adjust": ("exported", "adjustment", ""),
+    "biased": ("m_bias", "adjustment", "setTimeout(() => 0)"),
+    "separate": ("collider", "separation", ""),
+    "hidden": ("hidden_cause", "separation", ""),
+    "rules": ("front_door", "rules", ""),
+    "data": ("kidney_stones", "data", "document.getElementById('sample')?.click()"),
+    "compare": ("chain", "compare", """const t = document.querySelector('textarea.second');
+        t.value = 'dag { A -> B <- C }'; t.dispatchEvent(new Event('input'))"""),
+    "fault": ("napkin", "effect", """const t = document.getElementById('text');
+        t.value = t.value.replace('}', 'Y -> W\\n}'); t.dispatchEvent(new Event('input'))"""),
+    "menu": ("front_door", "effect", """const v = document.querySelectorAll('#drawing .vertex')[0];
+        v.dispatchEvent(new KeyboardEvent('keydown', {key: 'Enter', bubbles: true}))"""),
+    "about": ("front_door", "effect", "document.getElementById('about').click()"),
+}
+SHAPES = {
+    "light": ({}, list(VIEWS)),
+    "dark": ({"dark": True}, list(VIEWS)),
+    "phone": ({"width": 400, "height": 860}, ["effect", "hedge", "adjust", "data", "fault", "menu"]),
+    "tablet": ({"width": 900, "height": 1100}, ["effect", "data"]),
+}
+
+
+def main():
+    browser.OUT.mkdir(exist_ok=True)
+    for shape, (window, names) in SHAPES.items():
+        driver = browser.start(**window)
+        try:
+            for name in names:
+                if len(sys.argv) > 1 and f"{shape}-{name}" not in sys.argv[1:] and shape not in sys.argv[1:]:
+                    continue
+                picture(driver, shape, name)
+            if shape == "light" and len(sys.argv) == 1:
+                on_paper(driver)
+        finally:
+            driver.quit()
+    print(f"pictures in {browser.OUT.relative_to(TOP)}")
+
+
+def picture(driver, shape, name):
+    graph, card, script = VIEWS[name]
+    browser.open_page(driver)
+    browser.example(driver, graph)
+    driver.execute_script("document.getElementById('tab-' + arguments[0]).click()", card)
+    time.sleep(0.4)
+    if name == "rule":
+        driver.execute_script(VIEWS["derivation"][2])
+        time.sleep(0.6)
+    driver.execute_script(script)
+    time.sleep(0.9)
+    path = browser.OUT / f"{shape}-{name}.png"
+    if shape == "phone" and name not in ("menu",):
+        whole = driver.execute_cdp_cmd("Page.captureScreenshot", {"captureBeyondViewport": True})
+        path.write_bytes(base64.b64decode(whole["data"]))
+    else:
+        driver.save_screenshot(str(path))
+
+
+def on_paper(driver):
+    """The page as it's printed."""
+    browser.open_page(driver)
+    browser.example(driver, "napkin")
+    driver.find_element(By.CSS_SELECTOR, "#panel details summary").click()
+    time.sleep(0.5)
+    printed = driver.execute_cdp_cmd("Page.printToPDF", {"printBackground": False})
+    (browser.OUT / "printed.pdf").write_bytes(base64.b64decode(printed["data"]))
+
+
+main()
