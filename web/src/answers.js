@@ -52,6 +52,7 @@ export class Answers {
       const isOn = tab.id === `tab-${this.active.id}`;
       tab.setAttribute("aria-selected", String(isOn));
       tab.tabIndex = isOn ? 0 : -1;
+      if (isOn) this.#tabs.scrollLeft = tab.offsetLeft - this.#tabs.offsetLeft - 40;
       if (isOn && focus) tab.focus();
     }
     this.#panel.setAttribute("aria-labelledby", `tab-${this.active.id}`);
@@ -109,7 +110,7 @@ export class Answers {
     const key = panel.contains(had) && had.dataset.key, caret = had.selectionStart;
     panel.replaceChildren(view);
     forgetGone();
-    const again = key && [...panel.querySelectorAll("[data-key]")].find((el) => el.dataset.key === key);
+    const again = key ? [...panel.querySelectorAll("[data-key]")].find((el) => el.dataset.key === key) : null;
     again?.focus({ preventScroll: true });
     if (again?.tagName === "TEXTAREA") again.setSelectionRange(caret, caret);
     speak(panel.querySelector(".verdict")?.textContent ?? "");

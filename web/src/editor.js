@@ -12,7 +12,7 @@ export class Editor {
   #paint = byId("paint");
   #saying;
 
-  /** @param {{typed: (text: string) => void, opened: () => void}} on */
+  /** @param {{typed: (text: string) => void, opened: () => void, judged: () => void}} on */
   constructor(on) {
     this.on = on;
     this.#area.addEventListener("input", () => {
@@ -45,6 +45,7 @@ export class Editor {
     line.hidden = !fault;
     this.#area.setAttribute("aria-invalid", String(Boolean(fault)));
     document.body.classList.toggle("faulty", Boolean(fault));
+    this.on.judged();
     if (!fault) return this.paint();
     if (!fault.number) return line.replaceChildren(fault.sentence);
     const marks = placesOf(fault, text);

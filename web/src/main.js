@@ -26,7 +26,6 @@ const draft = new Draft(program, {
     editor.judge(fault, text, typed);
     byId("undo").disabled = !draft.canUndo;
     byId("redo").disabled = !draft.canRedo;
-    drawing.sayWaiting();
   },
   accepted: async (graph, text, { fit }) => {
     byId("drawing").setAttribute("aria-label",
@@ -34,7 +33,9 @@ const draft = new Draft(program, {
     await Promise.all([places.draw(graph, text, fit), answers.update(graph, text)]);
   },
 });
-const editor = new Editor({ typed: (text) => draft.follow(text), opened: () => toggleText(true) });
+const editor = new Editor({
+  typed: (text) => draft.follow(text), opened: () => toggleText(true), judged: () => drawing.sayWaiting(),
+});
 const acts = new Acts(draft, places, diagram);
 drawing.use(acts);
 const answers = new Answers(program, { drawing, acts, places, samples: examples.data });

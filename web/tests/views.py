@@ -13,11 +13,12 @@ TOP = browser.WEB.parent
 VIEWS = {
     "effect": ("napkin", "effect", ""),
     "derivation": ("front_door", "effect", "document.querySelector('summary[data-key=derivation]').click()"),
-    "rule": ("front_door", "effect", """const steps = document.querySelectorAll('.steps > li[tabindex]');
+    "rule": ("front_door", "effect", """const steps = document.querySelectorAll('.steps .asks');
         steps[1].scrollIntoView({block: 'center'}); steps[1].focus()"""),
     "hedge": ("bow", "effect", ""),
     "adjust": ("exported", "adjustment", ""),
-    "biased": ("m_bias", "adjustment", "setTimeout(() => 0)"),
+    "biased": ("m_bias", "adjustment", """const v = document.querySelector('#drawing [aria-label^="M"]');
+        v.dispatchEvent(new KeyboardEvent('keydown', {key: 'a', bubbles: true}))"""),
     "separate": ("collider", "separation", ""),
     "hidden": ("hidden_cause", "separation", ""),
     "rules": ("front_door", "rules", ""),

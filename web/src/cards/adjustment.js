@@ -41,9 +41,9 @@ function view(found, isOnTest) {
   const { said, chosen, formula } = found;
   return h("div", {},
     setsVerdict(found), chips(found),
+    source(LIST, said.out),
     formula && formulaBox([adjustmentLatex(formula.out.split("\n")[1])], formula.out),
     formula && source(chosen, formula.out),
-    source(LIST, said.out),
     h("h3", {}, "The set that is marked adjusted"),
     tested(found, isOnTest));
 }

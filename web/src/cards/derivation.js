@@ -34,17 +34,21 @@ function plain(tex) {
 
 function stepItem(ctx, step, lemma) {
   const { number, before, after, rule, whole } = step;
-  const item = h("li", {}, h("span", { class: "words" }, inWords(step)),
-    h("div", { class: "equation" }, shown(`${before} = ${after}`)));
-  if (whole) item.append(fold(ctx, `whole ${lemma} ${number}`, "whole expression", () => shown(whole, true)));
-  if (!rule) return item;
-  const asked = h("div", { class: "asked" });
-  item.append(asked);
-  item.tabIndex = 0;
-  for (const on of ["pointerenter", "focus"]) item.addEventListener(on, () => ctx.mark(ruleMarks(rule)));
-  for (const off of ["pointerleave", "blur"]) item.addEventListener(off, () => ctx.mark());
+  const parts = [h("span", { class: "words" }, inWords(step)),
+    h("div", { class: "equation" }, shown(`${before} = ${after}`)),
+    whole && fold(ctx, `whole ${lemma} ${number}`, "whole expression", () => shown(whole, true))];
+  return h("li", {}, rule ? asksRule(ctx, step, parts) : parts);
+}
+
+/** A step by a rule: the rule's graph is drawn while it has the pointer or the focus. */
+function asksRule(ctx, step, parts) {
+  const { number, rule } = step, asked = h("div", { class: "asked" });
+  const show = () => ctx.mark(ruleMarks(rule)), hide = () => ctx.mark();
   whenSeen(asked, () => askRule(ctx, rule, asked));
-  return item;
+  return h("div", {
+    class: "asks", tabindex: 0, role: "group", "aria-label": `Step ${number}: ${inWords(step)}`,
+    onpointerenter: show, onfocus: show, onpointerleave: hide, onblur: hide,
+  }, parts, asked);
 }
 
 async function askRule(ctx, rule, box) {

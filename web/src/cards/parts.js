@@ -41,7 +41,7 @@ export const commandOf = (words) => ["causal", ...words].map(shellWord).join(" "
 /** The command line that gives an answer, and the text as the program printed it. */
 export function source(words, printed) {
   const line = commandOf(words);
-  const shown = line.split(" ").map((word) => [h("span", { class: "word" }, word), " "]);
+  const shown = line.split(" ").map((word, i) => [i ? " " : "", h("span", { class: "word" }, word)]);
   return h("div", { class: "source" },
     h("div", { class: "command" },
       h("code", {}, h("span", { class: "prompt", "aria-hidden": "true" }, "$ "), shown), copyButton(line, "command")),

@@ -270,9 +270,9 @@ export class Diagram {
       this.#set(item.shape, box(half, 0));
       this.#set(item.text, { x: lead ? 9 : 0 });
       this.#set(item.mark, { transform: `translate(${13 - half},0)`, d: MARKS[role] ?? "" });
-      if (!item.group.parentNode) layers.vertices.append(item.group);
     }
     dropOthers(this.#shown.vertices, seen);
+    putInOrder(layers.vertices, graph.vertices.map((v) => this.#shown.vertices.get(v.name)?.group).filter(Boolean));
   }
 
   #newVertex(name) {
@@ -332,6 +332,17 @@ function between(from, to, s) {
 function getOrMake(map, key, make) {
   if (!map.has(key)) map.set(key, make());
   return map.get(key);
+}
+
+/** Puts the children of a layer in this order, which is that of the Tab key; what has the focus keeps it. */
+function putInOrder(layer, children) {
+  const focused = document.activeElement;
+  let next = null;
+  for (const child of children.reverse()) {
+    if (child.parentNode !== layer || child.nextSibling !== next) layer.insertBefore(child, next);
+    next = child;
+  }
+  if (document.activeElement !== focused && layer.contains(focused)) focused.focus();
 }
 
 function dropOthers(map, kept) {

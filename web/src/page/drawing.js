@@ -93,8 +93,9 @@ export class Drawing {
 
   #edgesMenu(name, el) {
     const at = below(el, 90), edges = this.acts.edgesOf(name);
+    const fromHere = (e) => (e.both && e.b === name ? { ...e, a: e.b, b: e.a } : e);
     const item = (edge) => ({ text: edgeText(edge), act: () => this.#edgeMenu(edge, at, el) });
-    if (edges.length) openMenu(at, `Edges of ${name}`, edges.map(item), el);
+    if (edges.length) openMenu(at, `Edges of ${name}`, edges.map(fromHere).map(item), el);
   }
 
   #edgeMenu(edge, at, back) {
@@ -135,5 +136,7 @@ export class Drawing {
 
 function below(el, left) {
   const box = el.getBoundingClientRect();
-  return { x: box.left + (left ? box.width / 2 - left : 0), y: box.bottom + 8 };
+  return {
+    x: box.left + (left ? box.width / 2 - left : 0), y: box.bottom + 8, beside: { x: box.right + 8, y: box.top - 150 },
+  };
 }

@@ -1,8 +1,9 @@
 import { byId, h } from "../dom.js";
 
 /** @typedef {{text: string, act: () => void, key?: string, checked?: boolean, cls?: string}} Item */
+/** @typedef {{x: number, y: number, beside?: {x: number, y: number}}} Place `beside` is for what is too high for it */
 
-/** Opens a menu at a place. @param {{x: number, y: number}} at @param {Item[]} items @param {Element} [back] */
+/** Opens a menu at a place. @param {Place} at @param {Item[]} items @param {Element} [back] */
 export function openMenu(at, label, items, back) {
   closeMenu();
   const box = h("div", { class: "menu", role: "menu", "aria-label": label, id: "menu" },
@@ -21,7 +22,7 @@ function itemButton({ text, act, key, checked, cls }) {
       closeMenu();
       act();
     },
-  }, text, key && h("kbd", { "aria-hidden": "true" }, key));
+  }, text, key && h("kbd", { "aria-hidden": "true" }, key === "Delete" ? "Del" : key));
 }
 
 function moveInMenu(e, box, back) {
@@ -60,8 +61,9 @@ export function askText(at, label, value, take, back) {
   input.select();
 }
 
-function show(box, at) {
+function show(box, place) {
   document.body.append(box);
+  const at = place.beside && place.y + box.offsetHeight > innerHeight ? place.beside : place;
   box.style.left = `${Math.max(8, Math.min(at.x, innerWidth - box.offsetWidth - 8))}px`;
   box.style.top = `${Math.max(8, Math.min(at.y, innerHeight - box.offsetHeight - 8))}px`;
 }
