@@ -9,7 +9,8 @@ const PATIENCE_MS = 400; // a fault of a text that is being typed is said after 
 /** The text with its colours, and the line that says its fault. */
 export class Editor {
   #area = byId("text");
-  #paint = byId("paint");
+  #inner = byId("paint").appendChild(h("div"));
+  #lines = []; // as they are painted
   #saying;
 
   /** @param {{typed: (text: string) => void, opened: () => void, judged: () => void}} on */
@@ -65,30 +66,52 @@ export class Editor {
     return button(`line ${before.length}, column ${before.at(-1).length + 1}`, go, { title: "Go to the place" });
   }
 
-  /** The text behind the text area, in colours and with the fault's places marked. */
+  /** The text behind the text area, in colours and with the fault's places marked. Only lines that changed are made. */
   paint(marks = []) {
-    const text = this.text, parts = [];
-    let at = 0;
-    const put = (end, cls) => {
-      if (end > at) parts.push(cls ? h("span", { class: cls }, text.slice(at, end)) : text.slice(at, end));
-      at = Math.max(at, end);
-    };
-    for (const t of tokens(text)) {
-      const isFaulty = marks.some((mark) => t.start < mark.end && t.end > mark.start);
-      put(t.start, marks.some((mark) => mark.start <= at && t.start < mark.end) ? "fault" : "");
-      put(t.end, `${colour(t)}${isFaulty ? " fault" : ""}`);
+    const lines = paintedLines(this.text, marks), shown = this.#lines;
+    let first = 0, last = 0;
+    while (first < Math.min(lines.length, shown.length) && lines[first].key === shown[first].key) first++;
+    const most = Math.min(lines.length, shown.length) - first;
+    while (last < most && lines.at(-1 - last).key === shown.at(-1 - last).key) last++;
+    const behind = last ? shown.at(-last).el : null, fresh = lines.slice(first, lines.length - last);
+    for (const { el } of shown.slice(first, shown.length - last)) el.remove();
+    for (const line of fresh) {
+      line.el = h("div", {}, line.parts.map(([cls, text]) => (cls ? h("span", { class: cls }, text) : text)), "\n");
+      this.#inner.insertBefore(line.el, behind);
     }
-    put(text.length);
-    if (marks.some((mark) => mark.start >= text.trimEnd().length)) parts.push(h("span", { class: "fault end" }, " "));
-    byId("editor").style.flexBasis = `${text.split("\n").length * LINE_HEIGHT + 50}px`;
-    this.#paint.replaceChildren(...parts, "\n");
-    this.#scroll();
+    this.#lines = [...shown.slice(0, first), ...fresh, ...(last ? shown.slice(-last) : [])];
+    if (lines.length !== shown.length) byId("editor").style.flexBasis = `${lines.length * LINE_HEIGHT + 50}px`;
   }
 
+  /** Follows the text area. */
   #scroll() {
-    this.#paint.scrollTop = this.#area.scrollTop;
-    this.#paint.scrollLeft = this.#area.scrollLeft;
+    this.#inner.style.transform = `translate(${-this.#area.scrollLeft}px, ${-this.#area.scrollTop}px)`;
   }
+}
+
+/**
+ * The lines of a text with the class of each part.
+ * @param {import("./faults.js").Mark[]} marks
+ * @returns {{key: string, parts: [string, string][], el?: HTMLElement}[]}
+ */
+function paintedLines(text, marks) {
+  const lines = [[]];
+  let at = 0;
+  const put = (end, cls) => {
+    text.slice(at, end).split("\n").forEach((part, i) => {
+      if (i) lines.push([]);
+      if (part) lines.at(-1).push([cls, part]);
+    });
+    at = Math.max(at, end);
+  };
+  for (const t of tokens(text)) {
+    put(t.start, marks.some((mark) => mark.start <= at && t.start < mark.end) ? "fault" : "");
+    const isFaulty = marks.some((mark) => t.start < mark.end && t.end > mark.start);
+    put(t.end, `${colour(t)}${isFaulty ? " fault" : ""}`);
+  }
+  put(text.length, "");
+  if (marks.some((mark) => mark.start >= text.trimEnd().length)) lines.at(-1).push(["fault end", " "]);
+  return lines.map((parts) => ({ key: JSON.stringify(parts), parts }));
 }
 
 function colour(token) {

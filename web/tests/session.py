@@ -102,8 +102,8 @@ def reads_a_formula(s):
     s.check("the answer", s.printed() == "P(Y|do(X)) = q0 / (sum{Y} q0)\nq0 = sum{W} P(W) * P(X|W,Z) * P(Y|X,W,Z)\n"
             "free {Z}", s.printed())
     s.check("its command line", s.command() == "$ causal identify diagram.dag", s.command())
-    tex = s.run("return [...document.querySelectorAll('.formula annotation')].map((a) => a.textContent).join(' ')")
-    s.check("typeset", "\\frac" in tex and "\\sum" in tex, tex)
+    labels = [el.get_attribute("aria-label") for el in s.all(".formula [role=math]")]
+    s.check("typeset, with its text as a label", s.all(".formula .mfrac") and labels == s.printed().split("\n")[:2], labels)
     s.check("a part is explained", s.one(".formula .part").get_attribute("title").startswith("q0 = sum{W}"))
     s.check("a bound name is explained", "bound name" in s.one(".formula .bound").get_attribute("title"))
     s.check("the claim", "in every positive finite model that fits the diagram" in s.panel(), s.panel())
@@ -404,4 +404,5 @@ def main():
     sys.exit(bool(session.failed))
 
 
-main()
+if __name__ == "__main__":
+    main()

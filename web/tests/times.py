@@ -79,4 +79,5 @@ def main():
             spread("  until it is painted", [f[1] for f in figures])
 
 
-main()
+if __name__ == "__main__":
+    main()

@@ -84,4 +84,5 @@ def on_paper(driver):
     (browser.OUT / "printed.pdf").write_bytes(base64.b64decode(printed["data"]))
 
 
-main()
+if __name__ == "__main__":
+    main()

@@ -1,6 +1,6 @@
 import { h } from "../dom.js";
 import { cutOf, derivationOf } from "../explain.js";
-import { typeset, typesetWhenSeen } from "../formula.js";
+import { typesetWhenSeen } from "../formula.js";
 import { DIAGRAM } from "../names.js";
 import { whenSeen } from "../seen.js";
 import { listWord } from "../text/printed.js";
@@ -14,7 +14,7 @@ export function derivation(ctx) {
   ctx.ask(["identify", DIAGRAM, "--certificate"]).then(({ out }) => {
     const parts = derivationOf(out, ctx.observed), isOne = parts.length === 1;
     box.replaceChildren(...parts.flatMap((part) => [
-      ...(isOne ? [] : [h("h4", {}, part.lemma === null ? "The effect" : ["Part ", typeset(`q_{${part.lemma}}`)])]),
+      ...(isOne ? [] : [h("h4", {}, part.lemma === null ? "The effect" : ["Part ", shown(`q_{${part.lemma}}`)])]),
       h("ol", { class: "steps" }, h("li", { class: "start" }, shown(part.start)),
         part.steps.map((step) => stepItem(ctx, step, part.lemma))),
     ]));

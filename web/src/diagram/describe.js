@@ -8,11 +8,24 @@ const MARK_WORDS = {
 
 const list = (names) => names.join(", ");
 
+/** @type {WeakMap<object, Map<string, {to: string[], from: string[], both: string[]}>>} */
+const known = new WeakMap();
+
+/** What each vertex of a graph is joined to. */
+function neighbours(graph) {
+  if (known.has(graph)) return known.get(graph);
+  const all = new Map(graph.vertices.map((v) => [v.name, { to: [], from: [], both: [] }]));
+  for (const { a, b, both } of graph.edges) {
+    all.get(a)[both ? "both" : "to"].push(b);
+    all.get(b)[both ? "both" : "from"].push(a);
+  }
+  known.set(graph, all);
+  return all;
+}
+
 /** One vertex with its mark and its edges. */
-export function describe({ name, role }, { edges }, mark) {
-  const to = edges.filter((e) => !e.both && e.a === name).map((e) => e.b);
-  const from = edges.filter((e) => !e.both && e.b === name).map((e) => e.a);
-  const both = edges.filter((e) => e.both && (e.a === name || e.b === name)).map((e) => (e.a === name ? e.b : e.a));
+export function describe({ name, role }, graph, mark) {
+  const { to, from, both } = neighbours(graph).get(name);
   const head = [name, ROLE_WORDS[role], MARK_WORDS[mark]].filter(Boolean).join(", ");
   const rest = [
     to.length && `arrow to ${list(to)}`, from.length && `arrow from ${list(from)}`,

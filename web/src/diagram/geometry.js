@@ -47,7 +47,8 @@ export const curve = (p, c, q, t) => ({
 
 /** Where the ray from a vertex's middle toward a point leaves its shape (a box with round ends), with a gap. */
 export function rim(p, half, toward, gap) {
-  const dx = toward.x - p.x, dy = toward.y - p.y, d = Math.hypot(dx, dy) || 1;
+  const dx = toward.x - p.x, dy = toward.y - p.y, d = Math.hypot(dx, dy);
+  if (d < 1e-6) return p;
   const r = HEIGHT / 2 + gap, flat = half - HEIGHT / 2;
   let t = Math.abs(dy) < 1e-9 ? Infinity : r / Math.abs(dy);
   if (t * Math.abs(dx) > flat) { // it leaves by a round end: |t(dx,dy) - (flat,0)| = r
