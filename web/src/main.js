@@ -17,7 +17,7 @@ const examples = JSON.parse(inlined("examples"));
 
 const program = new Program(new Runner(inlined("worker-source"), inlined("module")));
 const drawing = new Drawing(), { diagram } = drawing;
-const places = new Places(new Runner(inlined("worker-source")), diagram);
+const places = new Places(new Runner(inlined("arranger-source")), diagram);
 
 const draft = new Draft(program, {
   text: (text, { typed }) => typed || editor.set(text),
@@ -59,7 +59,7 @@ byId("share").onclick = async () => {
   toast("The link with this diagram in it is copied.");
 };
 byId("about").onclick = () => byId("about-box").showModal();
-byId("licences-text").textContent = inlined("licences");
+byId("licences-box").ontoggle = () => (byId("licences-text").textContent = inlined("licences"));
 
 // ---- The text
 
@@ -100,7 +100,7 @@ byId("in").onclick = () => diagram.zoomBy(1.3);
 byId("out").onclick = () => diagram.zoomBy(1 / 1.3);
 byId("export").onclick = () => saveDrawing(diagram);
 addEventListener("resize", () => diagram.fit());
-addEventListener("beforeprint", () => diagram.fit());
+addEventListener("beforeprint", () => diagram.fitToPaper());
 addEventListener("afterprint", () => diagram.fit());
 
 // ---- Keys and links

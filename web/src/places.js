@@ -5,10 +5,12 @@ import { change, positions } from "./text/edit.js";
 
 const WAIT_MS = 25; // how long the drawing waits for a layout before it shows the new graph at its old places
 const TYPICAL = 140; // pixels between neighbours
+const USUAL_SCALE = 100; // pixels to a unit of `pos`
 
 /** Where vertices stand: at the `pos` of the text, or else by a computed layout. */
 export class Places {
-  #scale = 100; // pixels to a unit of `pos`
+  #scale = USUAL_SCALE;
+  #isSettled = false; // whether the scale was chosen for the diagram that is shown
   #arranged = { key: "", places: new Map() };
   #turn = 0;
 
@@ -18,9 +20,10 @@ export class Places {
     this.diagram = diagram;
   }
 
-  /** Begins anew with the scale of `pos`, for another diagram. */
+  /** Lets the scale of `pos` be chosen anew, for another diagram. */
   reset() {
-    this.#scale = 100;
+    this.#scale = USUAL_SCALE;
+    this.#isSettled = false;
   }
 
   /** Places for a graph that has none in its text. @returns {Promise<Map<string, Point>>} */
@@ -48,7 +51,7 @@ export class Places {
 
   /** The places of a text; a vertex that has none there stays where it is, or is put near its neighbours. */
   #written(graph, given) {
-    this.#adapt([...given.values()]);
+    if (!this.#isSettled && given.size > 1) this.#adapt([...given.values()]);
     const places = new Map();
     for (const { name } of graph.vertices) {
       const p = given.get(name);
@@ -62,6 +65,7 @@ export class Places {
 
   /** Takes another scale where vertices would lie on one another, or far apart. */
   #adapt(points) {
+    this.#isSettled = true;
     const nearest = points.map((p) =>
       Math.min(...points.filter((q) => q !== p).map((q) => Math.hypot(p.x - q.x, p.y - q.y))),
     );

@@ -2,7 +2,7 @@
 
 const GIVEN_UP = { status: -1, out: "", err: "causal: given up, a newer question came", ms: 0 };
 
-/** The proved program in a worker, so that the page never stands still. */
+/** The proved program in a worker, so that the page never stands still; or another worker, which starts when asked. */
 export class Runner {
   #worker;
   #source;
@@ -14,12 +14,12 @@ export class Runner {
 
   /**
    * @param {string} source the worker's script
-   * @param {string} [packed] the module, gzip in base64; a worker for layouts needs none
+   * @param {string} [packed] the module, gzip in base64
    */
   constructor(source, packed) {
     this.#source = URL.createObjectURL(new Blob([source], { type: "text/javascript" }));
     this.#packed = packed;
-    this.#start();
+    if (packed) this.#start();
   }
 
   #start() {
@@ -34,6 +34,7 @@ export class Runner {
 
   #send(message) {
     const id = this.#next++;
+    if (!this.#worker) this.#start();
     return new Promise((resolve) => {
       this.#waiting.set(id, { resolve, since: performance.now() });
       this.#worker.postMessage({ id, ...message });

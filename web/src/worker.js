@@ -2,9 +2,7 @@
 //   {packed}                 the module, gzip in base64; comes first
 //   {name, text}             a file that later questions may name; text is null where it goes
 //   {id, text, questions}    lists of words about diagram.dag with this text; answered by {id, answers}
-// Another such worker computes layouts: {id, outline} is answered by {id, places}.
 import { load } from "./causal.mjs";
-import { arrange } from "./layout.js";
 import { DIAGRAM } from "./names.js";
 
 const files = new Map();
@@ -30,7 +28,6 @@ function answer(program, words, text) {
 
 onmessage = async ({ data }) => {
   if (data.packed) causal = unpack(data.packed).then(load);
-  else if (data.outline) postMessage({ id: data.id, places: arrange(data.outline) });
   else if (data.questions) {
     const program = await causal;
     postMessage({ id: data.id, answers: data.questions.map((words) => answer(program, words, data.text)) });

@@ -378,6 +378,44 @@ def is_served(s):
     s.check("and asks for nothing more", paths == ["/causal.html"], paths)
 
 
+def works_by_touch():
+    """On a phone: a vertex is dragged and opened by a finger, and nothing is wider than the window."""
+    driver = browser.start(width=400, height=860)
+    driver.execute_cdp_cmd("Emulation.setTouchEmulationEnabled", {"enabled": True})
+    s = Session(driver, None)
+
+    def touch(kind, *at):
+        points = [{"x": at[0], "y": at[1]}] if at else []
+        driver.execute_cdp_cmd("Input.dispatchTouchEvent", {"type": kind, "touchPoints": points})
+
+    def middle(name):
+        return s.run("""const box = arguments[0].getBoundingClientRect();
+            return [box.x + box.width / 2, box.y + box.height / 2]""", s.vertex(name))
+
+    try:
+        browser.open_page(driver)
+        s.example("napkin")
+        before = s.text()
+        x, y = middle("Z")
+        touch("touchStart", x, y)
+        for i in range(8):
+            touch("touchMove", x + 2 * i, y + 8 * i)
+        touch("touchEnd")
+        s.soon("a finger drags", lambda: s.text() != before, s.text)
+        time.sleep(0.6)
+        touch("touchStart", *middle("W"))
+        touch("touchEnd")
+        s.soon("a finger opens the menu", lambda: s.one("#menu").is_displayed())
+        for tab in ("effect", "adjustment", "separation", "rules", "data", "compare"):
+            s.run("document.getElementById('tab-' + arguments[0]).click()", tab)
+            time.sleep(0.3)
+            wide = s.run("return document.documentElement.scrollWidth - innerWidth")
+            s.check(f"nothing is wider than a phone: {tab}", wide <= 0, wide)
+    finally:
+        driver.quit()
+    return s
+
+
 PARTS = [
     reads_a_formula, drags_and_takes_back, breaks_the_text, chooses_sets, draws, uses_keys_alone, saves_a_certificate,
     drops_a_table, adjusts_and_compares, shows_a_hedge, saves_the_drawing_and_a_link, is_accessible, sends_nothing,
@@ -400,8 +438,10 @@ def main():
                     session.check(part.__name__, False, f"{type(error).__name__}: {error}")
         finally:
             driver.quit()
-    print(f"{session.done} steps of a session, {session.failed} wrong")
-    sys.exit(bool(session.failed))
+    phone = works_by_touch()
+    done, failed = session.done + phone.done, session.failed + phone.failed
+    print(f"{done} steps of a session, {failed} wrong")
+    sys.exit(bool(failed))
 
 
 if __name__ == "__main__":

@@ -18,8 +18,8 @@ new MutationObserver((_, observer) => {
 area.value = text;
 area.dispatchEvent(new Event("input"));
 """
-REPEATS = 5
-PAUSE = 1.2
+REPEATS = 4
+PAUSE = 1
 
 
 def opened():

@@ -33,7 +33,7 @@ VIEWS = {
 }
 SHAPES = {
     "light": ({}, list(VIEWS)),
-    "dark": ({"dark": True}, list(VIEWS)),
+    "dark": ({"dark": True}, ["effect", "rule", "hedge", "biased", "data", "compare", "fault", "menu"]),
     "phone": ({"width": 400, "height": 860}, ["effect", "hedge", "adjust", "data", "fault", "menu"]),
     "tablet": ({"width": 900, "height": 1100}, ["effect", "data"]),
 }

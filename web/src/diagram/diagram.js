@@ -125,12 +125,21 @@ export class Diagram {
 
   /** Fits the view to the drawing. */
   fit() {
+    this.element.removeAttribute("viewBox");
     const box = this.element.getBoundingClientRect();
     if (!this.target.size || !box.width) return;
     const { left, right, top, bottom } = this.bounds(this.target);
     const k = Math.min(1.3, (box.width - 60) / (right - left), (box.height - 90) / (bottom - top));
     const x = box.width / 2 - (k * (left + right)) / 2, y = box.height / 2 - (k * (top + bottom)) / 2;
     select(this.element).call(this.#zoom.transform, zoomIdentity.translate(x, y).scale(k));
+  }
+
+  /** Fits the view to whatever size the paper gives; `fit` is for the screen again. */
+  fitToPaper() {
+    const { left, right, top, bottom } = this.bounds();
+    if (!this.places.size) return;
+    this.view.removeAttribute("transform");
+    this.element.setAttribute("viewBox", [left - 10, top - 10, right - left + 20, bottom - top + 20].join(" "));
   }
 
   /** The rectangle that all vertices and arcs lie in. */
