@@ -1,82 +1,9 @@
 import katex from "katex";
 import { h } from "./dom.js";
+import { annotate, annotatePieces } from "./latex.js";
 import { whenSeen } from "./seen.js";
 
 // Typesetting the program's LaTeX.
-
-/** A name's LaTeX for the eye: set as a word, without quotes where it can't be mistaken. */
-function nice(tex) {
-  if ([...tex].length === 1) return tex;
-  return `\\textit{${/[,()|]/.test(tex) ? tex.replace(/^"(.*)"$/, "“$1”") : tex.replace(/^"|"$/g, "")}}`;
-}
-
-/** The parts of a list of names or conditions. */
-const PIECES = /"[^"]*"|, | \\mid |\\mathrm\{do\}\(|\)|[^\s",()]+/g;
-const isName = (piece) => !/^(, | \\mid |\\mathrm\{do\}\(|\))$/.test(piece);
-
-const PARTS = /\\left\( |\\right\)|\\sum_\{((?:\\.|[^\\}])*)\} |q_\{\d+\}|P\(|\\frac\{|\}\{|\}|[^]/g;
-
-/**
- * The program's LaTeX with long names set as words, and with marks on named parts and on names that a sum binds.
- * A sum reaches as far right as its parenthesis or its part of a quotient.
- * @returns {string[]} pieces between which a line may break, where they are typeset with parentheses of one size
- */
-function pieces(tex, parentheses) {
-  const scopes = [new Set()], out = [""], pattern = new RegExp(PARTS);
-  const top = () => scopes[scopes.length - 1];
-  const name = (n) => (top().has(n) ? `\\htmlClass{bound}{${nice(n)}}` : nice(n));
-  let fractions = 0, ended = false; // whether an operand just ended
-  const put = (text, { begins = false, ends = false } = {}) => {
-    if (begins && ended && !fractions) out.push("");
-    out[out.length - 1] += text;
-    if (text.trim()) ended = ends;
-  };
-  for (let m; (m = pattern.exec(tex)); ) {
-    const [part, bound] = m;
-    if (bound !== undefined) {
-      const names = bound.match(PIECES).filter(isName);
-      names.forEach((n) => top().add(n));
-      put(`\\sum_{${names.map(name).join(", ")}} `, { begins: true });
-    } else if (part === "P(") {
-      const end = closing(tex, pattern.lastIndex), inside = tex.slice(pattern.lastIndex, end).match(PIECES);
-      put(`P(${inside.map((p) => (isName(p) ? name(p) : p)).join("")})`, { begins: true, ends: true });
-      pattern.lastIndex = end + 1;
-    } else if (/^q_/.test(part)) put(`\\htmlClass{part}{${part}}`, { begins: true, ends: true });
-    else if (part === "\\left( ") {
-      scopes.push(new Set(top()));
-      put(parentheses[0], { begins: true });
-    } else if (part === "\\right)") {
-      scopes.pop();
-      put(parentheses[1], { ends: true });
-    } else if (part === "\\frac{") {
-      scopes.push(new Set(top()));
-      put(part, { begins: true });
-      fractions++;
-    } else if (part === "}{" && fractions) {
-      scopes.pop();
-      scopes.push(new Set(top()));
-      put(part);
-    } else if (part === "}" && fractions) {
-      scopes.pop();
-      fractions--;
-      put(part, { ends: true });
-    } else put(part, { ends: ended });
-  }
-  return out;
-}
-
-/** The annotated LaTeX as one. */
-export const annotate = (tex) => pieces(tex, ["\\left( ", "\\right)"]).join("");
-
-/** Where the parenthesis that is open at this place closes. */
-function closing(tex, at) {
-  for (let depth = 1; at < tex.length; at++) {
-    if (tex[at] === '"') at = tex.indexOf('"', at + 1);
-    if (tex[at] === "(") depth++;
-    if (tex[at] === ")" && --depth === 0) return at;
-  }
-  return at;
-}
 
 function render(tex, plain, display) {
   const el = h(display ? "div" : "span");
@@ -100,14 +27,14 @@ function typesetBroken(tex, printed) {
   const piece = (part, i) => {
     const el = h("span", { class: "piece" });
     const fill = () => {
-      el.replaceChildren(render(`\\displaystyle ${part}`, part));
+      el.replaceChildren(render(part, part));
       explainParts(el, printed);
     };
     if (i < AT_ONCE) fill();
     else whenSeen(el, fill, "…");
     return el;
   };
-  return h("div", { class: "pieces" }, pieces(tex, ["\\Bigl( ", "\\Bigr)"]).map(piece));
+  return h("div", { class: "pieces" }, annotatePieces(tex).map(piece));
 }
 
 const AT_ONCE = 12; // pieces

@@ -30,6 +30,7 @@ const draft = new Draft(program, {
   accepted: async (graph, text, { fit }) => {
     byId("drawing").setAttribute("aria-label",
       `Diagram of ${summary(graph)}. Tab goes through the vertices, Enter opens a vertex's menu`);
+    sayOrigin(graph);
     await Promise.all([places.draw(graph, text, fit), answers.update(graph, text)]);
   },
 });
@@ -63,11 +64,20 @@ byId("licences-box").ontoggle = () => (byId("licences-text").textContent = inlin
 
 // ---- The text
 
+let origin = { source: "", graph: "" };
+
 /** Shows another diagram. */
 function open(text, source = "") {
   places.reset();
-  byId("source").textContent = source;
+  origin = { source, graph: "" };
   return draft.show(text, { fit: true });
+}
+
+/** Says where an example comes from, while it has the vertices and edges that it had when it was opened. */
+function sayOrigin({ vertices, edges }) {
+  const graph = JSON.stringify([vertices.map((v) => v.name), edges]);
+  origin.graph ||= graph;
+  byId("source").textContent = graph === origin.graph ? origin.source : "";
 }
 
 function toggleText(isOn = document.body.classList.contains("no-text")) {

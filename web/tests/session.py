@@ -103,7 +103,8 @@ def reads_a_formula(s):
             "free {Z}", s.printed())
     s.check("its command line", s.command() == "$ causal identify diagram.dag", s.command())
     labels = [el.get_attribute("aria-label") for el in s.all(".formula [role=math]")]
-    s.check("typeset, with its text as a label", s.all(".formula .mfrac") and labels == s.printed().split("\n")[:2], labels)
+    lines = s.printed().split("\n")[:2]
+    s.check("typeset, with its text as a label", s.all(".formula .mfrac") and labels == lines, labels)
     s.check("a part is explained", s.one(".formula .part").get_attribute("title").startswith("q0 = sum{W}"))
     s.check("a bound name is explained", "bound name" in s.one(".formula .bound").get_attribute("title"))
     s.check("the claim", "in every positive finite model that fits the diagram" in s.panel(), s.panel())

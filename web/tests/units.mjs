@@ -1,12 +1,11 @@
 // Random diagrams with odd names: the page's reading and changing of texts against the program, and its derivations.
 //   node units.mjs MODULE.wasm [GRAPHS]
-import "./stub.mjs";
 import katex from "katex";
 import { readFileSync } from "node:fs";
 import { load } from "../src/causal.mjs";
 import { routed } from "../src/diagram/route.js";
 import { placesOf, readFault } from "../src/faults.js";
-import { annotate } from "../src/formula.js";
+import { annotate, annotatePieces } from "../src/latex.js";
 import { adjustmentLatex, derivationOf, follow, latex, parse } from "../src/rebuilt.js";
 import { levelsOf, readRows } from "../src/text/csv.js";
 import * as edit from "../src/text/edit.js";
@@ -29,7 +28,8 @@ function same(what, got, wanted, about) {
 }
 
 const POOL = [
-  "A", "B", "C1", "time of day", "x,y", "Übergewicht", "a_b", "50%", "p(x)", "日本", "D", "E", "-q", "#h", "sum", "q0", "dag",
+  "A", "B", "C1", "time of day", "x,y", "Übergewicht", "a_b", "50%", "p(x)", "日本", "D", "E", "-q", "#h", "sum",
+  "q0", "dag",
 ];
 const MARKS = ["exposure", "outcome", "adjusted", "latent"];
 const quoted = (name) =>
@@ -60,11 +60,13 @@ function graphOf(text) {
 }
 
 /** A graph's edges as a set, since a changed text may say them in another order. */
-const unordered = (graph) =>
-  typeof graph === "string" ? graph : { vertices: graph.vertices, edges: graph.edges.map((e) => JSON.stringify(e)).sort() };
+function unordered(graph) {
+  if (typeof graph === "string") return graph;
+  return { vertices: graph.vertices, edges: graph.edges.map((e) => JSON.stringify(e)).sort() };
+}
 
 function testEdits(text, graph) {
-  const { vertices, edges } = graph, v = vertices[random(vertices.length)].name, w = vertices[random(vertices.length)].name;
+  const { vertices, edges } = graph, [v, w] = [0, 0].map(() => vertices[random(vertices.length)].name);
   const withRole = (role) => ({ ...graph, vertices: vertices.map((x) => (x.name === v ? { ...x, role } : x)) });
   same("writing", graphOf(edit.write(graph, new Map())), graph, text);
   const moved = edit.change(text, new Map(vertices.map((x, i) => [x.name, { pos: `${i},-${i}.5` }])));
@@ -118,7 +120,10 @@ function testDerivation(text, words, order) {
   for (const line of lines) {
     let error = "";
     try {
-      katex.renderToString(annotate(line), { trust: true, strict: "ignore" });
+      const right = line.slice(line.indexOf(" = ") + 3);
+      for (const tex of [annotate(line), ...annotatePieces(right)]) {
+        katex.renderToString(tex, { trust: true, strict: "ignore" });
+      }
     } catch (e) {
       error = e.message;
     }

@@ -1,4 +1,4 @@
-"""Pictures of the main views, in web/out: light, dark, and as wide as a phone."""
+"""Pictures of the main views, in web/out: light, dark, and as wide as a phone. With the word `tour`: docs/page.png."""
 import base64
 import sys
 import time
@@ -40,6 +40,8 @@ SHAPES = {
 
 
 def main():
+    if sys.argv[1:] == ["tour"]:
+        return tour()
     browser.OUT.mkdir(exist_ok=True)
     for shape, (window, names) in SHAPES.items():
         driver = browser.start(**window)
@@ -72,6 +74,17 @@ def picture(driver, shape, name):
         path.write_bytes(base64.b64decode(whole["data"]))
     else:
         driver.save_screenshot(str(path))
+
+
+def tour():
+    """The picture of the README's tour."""
+    driver = browser.start(width=1280, height=780)
+    try:
+        browser.open_page(driver)
+        browser.example(driver, "napkin")
+        driver.save_screenshot(str(TOP / "docs/page.png"))
+    finally:
+        driver.quit()
 
 
 def on_paper(driver):
