@@ -118,9 +118,9 @@ export class Answers {
 
   /** Takes a table of counts, and shows what it gives. @param {File} file */
   async take(file) {
-    const csv = { name: file.name, text: await file.text() };
-    Object.assign(this.#memory, { csv, count: undefined });
-    this.program.put(tableName(csv.name), csv.text);
+    const bytes = new Uint8Array(await file.arrayBuffer()), text = new TextDecoder().decode(bytes);
+    Object.assign(this.#memory, { csv: { name: file.name, text }, count: undefined });
+    this.program.put(tableName(file.name), bytes);
     this.show("data");
   }
 

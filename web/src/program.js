@@ -44,7 +44,7 @@ export class Program {
     return reading;
   }
 
-  /** Gives the program a second input; what was said of an earlier one is forgotten. */
+  /** Gives the program a second input, as text or bytes; what was said of an earlier one is forgotten. */
   put(name, text) {
     this.#runner.put(name, text);
     for (const reading of this.#readings.values()) reading.forget(name);
