@@ -12,32 +12,37 @@ const bytesOf = (text) => (typeof text === "string" ? encoder.encode(text) : tex
 /** Makes the program ready. @param {BufferSource} bytes the module */
 export async function load(bytes) {
   const module = new WebAssembly.Module(bytes);
-  const names = WebAssembly.Module.exports(module).map((e) => e.name);
   let exports;
-  return {
-    /** Whether the module gives a function of this name. */
-    has: (name) => names.includes(name),
 
-    /**
-     * Runs the words over the inputs.
-     * @param {string[]} words @param {Record<string, string | Uint8Array>} inputs by name
-     * @param {number} room the bytes that an answer may have before it is asked for again with more
-     * @returns {Answer}
-     */
-    run(words, inputs = {}, room = 1 << 16) {
-      exports ??= new WebAssembly.Instance(module, {}).exports;
-      try {
-        return call(exports, words, inputs, room);
-      } catch (e) {
-        exports = undefined; // an instance in which a call was cut off isn't used again
-        throw e;
-      }
-    },
+  /**
+   * Calls a function of the module, which a module may lack.
+   * @param {string} name
+   * @param {string[]} words @param {Record<string, string | Uint8Array>} inputs by name
+   * @param {number} room the bytes that an answer may have before it is asked for again with more
+   * @returns {Answer}
+   */
+  function ask(name, words, inputs = {}, room = 1 << 16) {
+    exports ??= new WebAssembly.Instance(module, {}).exports;
+    if (!exports[name]) return { status: 2, out: "", err: `causal: this module has no ${name}\n` };
+    try {
+      return call(exports, name, words, inputs, room);
+    } catch (e) {
+      exports = undefined; // an instance in which a call was cut off isn't used again
+      throw e;
+    }
+  }
+
+  return {
+    /** Runs a command line of the program `causal`. */
+    run: (words, inputs, room) => ask("causal_run", words, inputs, room),
+
+    /** Tells what a certificate's steps make: the words are `steps`, a file and a certificate. */
+    explain: (words, inputs, room) => ask("causal_explain", words, inputs, room),
   };
 }
 
-function call(exports, words, inputs, room) {
-  const { memory, page_alloc, page_free, causal_run } = exports;
+function call(exports, name, words, inputs, room) {
+  const { memory, page_alloc, page_free } = exports;
   const texts = [...words, ...Object.entries(inputs).flat()].map(bytesOf);
   const length = texts.reduce((sum, text) => sum + text.length, 0);
   const places = [];
@@ -53,7 +58,7 @@ function call(exports, words, inputs, room) {
       const out = place(room), err = place(room);
       lay(memory, texts, bytes, spans);
       const inputsAt = spans + 16 * words.length, inputCount = (texts.length - words.length) / 2;
-      const status = causal_run(
+      const status = exports[name](
         ...[bytes, length, spans, words.length, inputsAt, inputCount, out, room, err, room, sizes].map(BigInt),
       );
       if (status === 9) throw new Error("a word is not UTF-8");

@@ -18,9 +18,9 @@ async function unpack(packed) {
 function answer(program, words, text) {
   const named = words.filter((word) => files.has(word));
   const inputs = { ...Object.fromEntries(named.map((name) => [name, files.get(name)])), [DIAGRAM]: text };
-  const start = performance.now();
+  const start = performance.now(), call = words[0] === "steps" ? program.explain : program.run;
   try {
-    return { ...program.run(words, inputs), ms: performance.now() - start };
+    return { ...call(words, inputs), ms: performance.now() - start };
   } catch (e) {
     return { status: -1, out: "", err: `causal: the module stopped: ${e.message}`, ms: 0 };
   }

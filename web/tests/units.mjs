@@ -6,7 +6,9 @@ import { load } from "../src/causal.mjs";
 import { routed } from "../src/diagram/route.js";
 import { placesOf, readFault } from "../src/faults.js";
 import { annotate, annotatePieces } from "../src/latex.js";
-import { adjustmentLatex, derivationOf, follow, latex, parse } from "../src/rebuilt.js";
+import { equationLatex, latex, parse } from "../src/expression.js";
+import { derivationOf, follow } from "../src/rebuilt.js";
+import { readSteps } from "../src/steps.js";
 import { levelsOf, readRows } from "../src/text/csv.js";
 import * as edit from "../src/text/edit.js";
 import { listWord, openPath, readGraph, readPath, readSet } from "../src/text/printed.js";
@@ -101,20 +103,41 @@ function turned(edge, { vertices }) {
 
 const plain = (e) => JSON.parse(JSON.stringify(e));
 
+/** An expression as the program prints it. */
+function printed(e) {
+  const names = (list) => list.map((n) => (/[\s{}[\]";=,<>\-@()|*/]|^#/.test(n) ? `"${n}"` : n)).join(",");
+  const wrap = (x) => (x.k === "P" || x.k === "q" ? printed(x) : `(${printed(x)})`);
+  if (e.k === "q") return `q${e.n}`;
+  if (e.k === "sum") return `sum{${names(e.over)}} ${printed(e.body)}`;
+  if (e.k !== "P") return e.list.map(wrap).join(e.k === "mul" ? " * " : " / ");
+  const given = [...(e.doing.length ? [`do(${names(e.doing)})`] : []), ...(e.given.length ? [names(e.given)] : [])];
+  return `P(${names(e.of)}${given.length ? `|${given.join(",")}` : ""})`;
+}
+
+/** What the module tells of a part of a derivation, rebuilt. */
+const told = (heading, { wholes, derived }) =>
+  [heading, ...wholes.map((e, i) => (i ? `${derived.steps[i - 1].word}: ` : "") + printed(e))].join("\n");
+
 function testDerivation(text, words, order) {
-  const { x, y, main, lemmas, formula, defs } = JSON.parse(run([...words, "--certificate"], text).out);
+  const certificate = run([...words, "--certificate"], text).out;
+  const { x, y, main, lemmas, formula, defs } = JSON.parse(certificate);
   const term = (of, doing) => ({ k: "P", of, doing, given: [] });
-  const { end } = follow(term(y, x), main, order), out = run([...words, "--certificate"], text).out;
-  same("the last expression", plain(end), plain(parse(formula)), text);
-  lemmas.forEach(([set, step], i) => {
-    const lemma = follow(term(set, order.filter((o) => !set.includes(o))), step, order);
-    same("a part", plain(lemma.end), plain(parse(defs[i])), text);
+  const parts = lemmas.map(([set, step], i) => {
+    const part = follow(term(set, order.filter((o) => !set.includes(o))), step, order, i);
+    same("a part", plain(part.wholes.at(-1)), plain(parse(defs[i])), text);
+    return told(`lemma ${i}`, part);
   });
-  for (const { rule } of derivationOf(out, order).flatMap((part) => part.steps)) {
+  const last = follow(term(y, x), main, order), end = last.wholes.at(-1);
+  same("the last expression", plain(end), plain(parse(formula)), text);
+  const all = `${[...parts, told("main", last)].join("\n")}\n`, derived = derivationOf(certificate, order);
+  same("what is told is read", readSteps(all, certificate), derived, all);
+  const answer = causal.explain(["steps", "g", "c"], { g: text, c: certificate });
+  if (answer.status !== 2) same("what is told is what was rebuilt", answer.out, all, text);
+  for (const { rule } of derived.flatMap((part) => part.steps)) {
     if (!rule) continue;
-    const answer = run(["rule", "g", "--rule", String(rule.n), "--y", listWord(rule.y), "--z", listWord(rule.z),
+    const holds = run(["rule", "g", "--rule", String(rule.n), "--y", listWord(rule.y), "--z", listWord(rule.z),
       "--do", listWord(rule.doing), "--given", listWord(rule.given)], text);
-    same("a rule holds", answer.status, 0, answer.out + answer.err + text);
+    same("a rule holds", holds.status, 0, holds.out + holds.err + text);
   }
   const lines = run([...words, "--latex"], text).out.trim().split("\n").filter((line) => !line.startsWith("free"));
   for (const line of lines) {
@@ -145,7 +168,7 @@ function testAnswers(text, graph) {
   for (const set of adjusted) {
     const answer = run(["adjust", "g", ...sets, "--set", listWord(readSet(set))], text);
     same("a minimal set", answer.status, 0, text + set);
-    katex.renderToString(annotate(adjustmentLatex(answer.out.split("\n")[1])), { trust: true, strict: "ignore" });
+    katex.renderToString(annotate(equationLatex(answer.out.split("\n")[1])), { trust: true, strict: "ignore" });
   }
 }
 

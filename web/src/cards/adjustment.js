@@ -1,5 +1,5 @@
 import { button, h } from "../dom.js";
-import { adjustmentLatex } from "../explain.js";
+import { equationLatex } from "../expression.js";
 import { readFault } from "../faults.js";
 import { DIAGRAM } from "../names.js";
 import { listWord, openPath, readSet } from "../text/printed.js";
@@ -42,7 +42,7 @@ function view(found, isOnTest) {
   return h("div", {},
     setsVerdict(found), chips(found),
     source(LIST, said.out),
-    formula && formulaBox([adjustmentLatex(formula.out.split("\n")[1])], formula.out),
+    formula && formulaBox([equationLatex(formula.out.split("\n")[1])], formula.out),
     formula && source(chosen, formula.out),
     h("h3", {}, "The set that is marked adjusted"),
     tested(found, isOnTest));

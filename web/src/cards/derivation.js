@@ -1,18 +1,18 @@
 import { h } from "../dom.js";
-import { cutOf, derivationOf } from "../explain.js";
+import { cutOf, explained } from "../explain.js";
 import { typesetWhenSeen } from "../formula.js";
 import { DIAGRAM } from "../names.js";
 import { whenSeen } from "../seen.js";
 import { listWord } from "../text/printed.js";
 import { commandOf, fold, listed } from "./parts.js";
 
-/** @typedef {import("../rebuilt.js").Step} Step  @typedef {import("../rebuilt.js").Rule} Rule */
+/** @typedef {import("../steps.js").Step} Step  @typedef {import("../steps.js").Rule} Rule */
 
 /** The steps of the certificate, each with its terms; each rule is asked of the program again. */
 export function derivation(ctx) {
   const box = h("div", {}, "…");
-  ctx.ask(["identify", DIAGRAM, "--certificate"]).then(({ out }) => {
-    const parts = derivationOf(out, ctx.observed), isOne = parts.length === 1;
+  ctx.ask(["identify", DIAGRAM, "--certificate"]).then(async ({ out }) => {
+    const parts = await explained(ctx, out), isOne = parts.length === 1;
     box.replaceChildren(...parts.flatMap((part) => [
       ...(isOne ? [] : [h("h4", {}, part.lemma === null ? "The effect" : ["Part ", shown(`q_{${part.lemma}}`)])]),
       h("ol", { class: "steps" }, h("li", { class: "start" }, shown(part.start)),
