@@ -86,7 +86,7 @@ function levels({ memory, observed }) {
 }
 
 const notIdentifiable = ({ ctx, words, bounds }) => h("div", {}, tableRow(ctx),
-  verdict("no", "Not identifiable", "The table isn't read: no formula gives this effect. See Effect."),
+  verdict("no", "Not identifiable", "The table isn't read. See Effect for the two models that differ."),
   source(words, bounds.out));
 
 const noValue = ({ ctx, words, bounds }) => h("div", {}, tableRow(ctx),
@@ -101,8 +101,8 @@ function values({ ctx, words, exactWords, bounds, exact }) {
     verdict("warn", "Plug-in values", "The formula's value with the table's proportions in it, without sampling error. "
       + "A small table can be far from the truth."),
     dotPlot(cells),
-    pinned.length ? h("p", {}, "Pinned at its first level (the value doesn't depend on it in the population; in a "
-      + "sample it may): ", h("code", {}, pinned.join(", "))) : null,
+    pinned.length ? h("p", {}, "Pinned at its first level (in a population that fits the diagram the value doesn't "
+      + "depend on it; in a sample it may): ", h("code", {}, pinned.join(", "))) : null,
     h("div", { class: "scroll" }, valuesTable(cells, isExact)),
     source(isExact ? exactWords : words, best.out),
     isExact && bounds.status === 0 ? fold(ctx, "bounds", "Bounds of 18 digits", () => source(words, bounds.out)) : null,

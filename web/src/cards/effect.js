@@ -52,7 +52,7 @@ function notesOn(printed, xs, ys) {
   }
   if (free.length) {
     note(h("span", { class: "key" }, `free ${free.join(", ")}`), " The formula reads ", listed(free),
-      ", yet its value doesn't depend on it: take any one level.");
+      ", yet in every positive model that fits its value doesn't depend on it: take any one level.");
   }
   return notes;
 }
