@@ -1,52 +1,71 @@
+//! Sums of counts under a mask, and over the middle axis of a table.
+
+ghost use Rattle.std.specs.Prelude.{◌<◌, ◌^◌, IsTrue, sum};
+
+use crate::fields::{add_number, add_numbers, list_in, number_in, numbers_of};
+use anyhow::{Context, Result, bail};
 use lane_sums::{axis_sum, masked_sum};
+use serde_json::Value;
+use std::alloc::Global;
 
-#[test]
-fn sums_are_the_plain_ones(rt: HostRuntime) {
-    assert_eq!(rt; masked_sum(&[], &[], 1, 1), 0);
-    assert_eq!(rt; masked_sum(&[5], &[1], 1, 1), 5);
-    assert_eq!(rt;
-        masked_sum(&[1, 2, 3, 4, 5, 6, 7], &[0, 1, 2, 3, 4, 5, 6], 1, 1),
-        12
-    );
-    assert_eq!(rt;
-        masked_sum(&[1, 2, 3, 4, 5, 6, 7, 8], &[0, 1, 2, 3, 4, 5, 6, 7], 1, 1),
-        20
-    );
-    assert_eq!(rt;
-        masked_sum(
-            &[1, 2, 3, 4, 5, 6, 7, 8, 9],
-            &[0, 1, 2, 3, 4, 5, 6, 7, 8],
-            1,
-            0
-        ),
-        25
-    );
-    let counts = [1, 2, 3, 4, 5, 6, 7, 8, 9, 10, 11];
-    let codes = [0, 1, 2, 3, 4, 5, 6, 7, 8, 9, 10];
-    assert_eq!(rt; masked_sum(&counts, &codes, 1, 1), 30);
-    assert_eq!(rt; masked_sum(&counts, &codes, 0, 0), 66);
-    assert_eq!(rt; masked_sum(&counts, &codes, 1, 2), 0);
-    let seventeen = [1, 2, 3, 4, 5, 6, 7, 8, 9, 10, 11, 12, 13, 14, 15, 16, 17];
-    assert_eq!(rt; masked_sum(&seventeen, &seventeen, 3, 1), 45);
+/// Whether the sum of the numbers has 64 bits.
+fn is_summable(numbers: &[u64]) -> bool
+    ensures { IsTrue result → sum numbers.now < 2 ^ 64 }
+{
+    let mut total: u64 = 0;
+    for number in numbers {
+        let Some(more) = total.checked_add(*number) else {
+            return false;
+        };
+        total = more;
+    }
+    true
+}
 
-    let mut into = [7, 7, 7, 7];
-    axis_sum(&[1, 2, 3, 4, 5, 6, 7, 8, 9, 10, 11, 12], 2, 3, 2, &mut into);
-    assert_eq!(rt; into, [9, 12, 27, 30]);
-    axis_sum(&[], 2, 0, 2, &mut into);
-    assert_eq!(rt; into, [0, 0, 0, 0]);
-    axis_sum(&[], 2, 3, 0, &mut []);
-    let mut nine = [7, 7, 7, 7, 7, 7, 7, 7, 7];
-    axis_sum(
-        &[
-            1, 2, 3, 4, 5, 6, 7, 8, 9, 10, 20, 30, 40, 50, 60, 70, 80, 90,
-        ],
-        1,
-        2,
-        9,
-        &mut nine,
-    );
-    assert_eq!(rt; nine, [11, 22, 33, 44, 55, 66, 77, 88, 99]);
-    let mut one = [7];
-    axis_sum(&seventeen, 1, 17, 1, &mut one);
-    assert_eq!(rt; one, [153]);
+/// Adds the sum of the `counts` whose `codes` are, under the `mask`, the one to `want`.
+pub(crate) fn add_masked_sum(alloc: Global, line: &mut Vec<u8>, case: &Value) -> Result<()> {
+    let counts = numbers_of(alloc, list_in(case, "counts")?)?;
+    let codes = numbers_of(alloc, list_in(case, "codes")?)?;
+    let mask = number_in(case, "mask")?;
+    let want = number_in(case, "want")?;
+    if counts.len() != codes.len() || !is_summable(&counts) {
+        bail!("no counts with codes");
+    }
+    add_number(alloc, line, masked_sum(&counts, &codes, mask, want))
+}
+
+/// The sums over the middle one of three axes of these sizes, where 7 stood before in each place.
+fn sums_over_axis(
+    alloc: Global,
+    cells: &[u64],
+    outer: usize,
+    axis: usize,
+    inner: usize,
+) -> Result<Vec<u64>> {
+    let size = outer.checked_mul(inner).context("too many sums")?;
+    let rows = outer.checked_mul(axis).context("too many rows")?;
+    let count = rows.checked_mul(inner).context("too many cells")?;
+    if cells.len() != count || !is_summable(cells) {
+        bail!("no table of these sizes");
+    }
+    let mut into = vec![in alloc; 7u64; size]?;
+    axis_sum(cells, outer, axis, inner, &mut into);
+    Ok(into)
+}
+
+/// Adds the sums of the `cells` over the middle one of the axes with these `sizes`.
+pub(crate) fn add_axis_sum(alloc: Global, line: &mut Vec<u8>, case: &Value) -> Result<()> {
+    let cells = numbers_of(alloc, list_in(case, "cells")?)?;
+    let sizes = numbers_of(alloc, list_in(case, "sizes")?)?;
+    let [outer, axis, inner] = sizes.as_slice() else {
+        bail!("no three sizes");
+    };
+    let sums = sums_over_axis(
+        alloc,
+        &cells,
+        *outer as usize,
+        *axis as usize,
+        *inner as usize,
+    )?;
+    add_numbers(alloc, line, &sums)
 }

@@ -1,96 +1,130 @@
+//! Sums of counts by tables of sums, and the places of cells.
+
 ghost use Rattle.std.specs.Prelude.{◌≡◌, IfOk};
 
-use crate::common::{has_levels, table};
+use crate::fields::{add_number, add_text, levels_of, list_in, number_in};
+use crate::sources::{has_levels, set_of, source_of, table_of};
+use anyhow::{Context, Result};
 use count_table::{Counts, marginal};
-use mixed_graph::VSet;
-use std::alloc::{AllocError, Global};
-use std::test::Fail;
+use mixed_graph::{Names, VSet};
+use serde_json::Value;
+use std::alloc::Global;
 use sum_tables::{Places, SumTable, SumTables};
 
-/// The counts 1 to 12, of all combinations of two, three and two levels. The column U is not used.
-const TWELVE: &[u8] =
-    b"A,U,B,C,n\nx,-,r,k,1\nx,-,r,l,2\nx,-,s,k,3\nx,-,s,l,4\nx,-,t,k,5\nx,-,t,l,6\ny,-,r,k,7\ny,-,r,l,8\ny,-,s,k,9\ny,-,s,l,10\ny,-,t,k,11\ny,-,t,l,12\n";
-
-/// The table of the text, of the used vertices A, B and C among A, U, B and C.
-fn read(alloc: Global) -> Result<Counts, Fail> {
-    match table(alloc, TWELVE, &["A", "U", "B", "C"], VSet::one(1), b"n")? {
-        Ok(counts) => Ok(counts),
-        Err(_) => Err(Fail::from("the text isn't read")),
-    }
-}
-
-/// Tables of sums over all sets of A, B and C, as long as they have at most 20 cells.
-fn tables<'a>(alloc: Global, counts: &'a Counts) -> Result<SumTables<'a>, AllocError>
+/// Tables of sums over the `sets` of a table's case, as long as all have at most so many cells.
+fn tables_of<'a>(
+    alloc: Global,
+    counts: &'a Counts,
+    names: &Names,
+    source: &Value,
+) -> Result<SumTables<'a>>
     ensures { IfOk result (λ tables. tables.table ≡ counts.now) }
 {
+    let most = number_in(source, "most")? as usize;
     let mut tables = SumTables::new(alloc, counts);
-    for bits in 0..16 {
-        tables.add(alloc, VSet { bits }.difference(VSet::one(1)), 20)?;
+    for set in list_in(source, "sets")? {
+        let list = set.as_array().context("no set")?;
+        let of = set_of(names, list.as_slice())?;
+        tables.add(alloc, of, most)?;
     }
     Ok(tables)
 }
 
-/// The sum over a set by a table of its own and by several tables, where both are that of all rows.
-fn sum_of(
+/// Adds the number of cells that all tables of sums have together.
+pub(crate) fn add_cells(
     alloc: Global,
+    line: &mut Vec<u8>,
+    root: &Value,
+    case: &Value,
+) -> Result<()> {
+    let table = table_of(alloc, root, case)?;
+    let source = source_of(root, case)?;
+    let tables = tables_of(alloc, &table.counts, &table.names, source)?;
+    add_number(alloc, line, tables.cells())
+}
+
+/// Adds the sum of the rows that agree with an assignment on a set, where a table of its own and several tables give the same.
+fn add_sum(
+    alloc: Global,
+    line: &mut Vec<u8>,
     counts: &Counts,
     tables: &SumTables,
     of: VSet,
     at: &[u32],
-) -> Result<Option<u64>, AllocError>
+) -> Result<()>
     requires { tables.now.table ≡ counts.now }
 {
     if !has_levels(counts, of, at) {
-        return Ok(None);
+        return add_text(line, "no level");
     }
     let sum = marginal(counts, of, at);
     let table = SumTable::make(alloc, counts, of)?;
-    if table.sum(at) == sum && tables.sum(of, at) == sum {
-        Ok(Some(sum))
-    } else {
-        Ok(None)
+    if table.sum(at) != sum || tables.sum(of, at) != sum {
+        return add_text(line, "another sum");
     }
+    add_number(alloc, line, sum)
 }
 
-/// The levels of A and C in the cell at a place, and the place of this cell.
-fn at_place(places: &Places, place: usize) -> Option<(u32, u32, usize)> {
-    if place < places.count() {
-        let cell = places.cell(place);
-        Some((cell[0], cell[3], places.place(&cell)))
-    } else {
-        None
+/// Adds the sums over a set at each of these cells.
+fn add_sums_at(
+    alloc: Global,
+    line: &mut Vec<u8>,
+    counts: &Counts,
+    tables: &SumTables,
+    of: VSet,
+    cells: &[Value],
+) -> Result<()>
+    requires { tables.now.table ≡ counts.now }
+{
+    let mut between = "";
+    for cell in cells {
+        let at = levels_of(alloc, cell)?;
+        add_text(line, between)?;
+        add_sum(alloc, line, counts, tables, of, &at)?;
+        between = " ";
     }
-}
-
-#[test]
-fn sums_are_those_of_the_rows(rt: HostRuntime) -> Result<(), Fail> {
-    let alloc = rt.alloc();
-    let counts = read(alloc)?;
-    let tables = tables(alloc, &counts)?;
-    assert_eq!(rt; tables.cells(), 18);
-    for bits in 0..16 {
-        let of = VSet { bits }.difference(VSet::one(1));
-        for k in 0..12 {
-            let at = [k / 6, 9, k / 2 % 3, k % 2];
-            assert!(rt; sum_of(alloc, &counts, &tables, of, &at)?.is_some());
-        }
-    }
-    let cases = [
-        (0, [9, 9, 9, 9], Some(78)),
-        (1, [1, 9, 9, 9], Some(57)),
-        (4, [9, 9, 2, 9], Some(34)),
-        (9, [0, 9, 9, 1], Some(12)),
-        (13, [1, 9, 0, 1], Some(8)),
-        (4, [0, 0, 3, 0], None),
-    ];
-    for (bits, at, expected) in cases {
-        assert_eq!(rt;
-            sum_of(alloc, &counts, &tables, VSet { bits }, &at)?,
-            expected
-        );
-    }
-    let places = Places::of(alloc, &counts, VSet { bits: 9 })?;
-    assert_eq!(rt; at_place(&places, 2), Some((1, 0, 2)));
-    assert_eq!(rt; at_place(&places, 4), None);
     Ok(())
+}
+
+/// Adds the sum of the rows that agree with the levels of each cell of `at` on the vertices `of`.
+pub(crate) fn add_sums(
+    alloc: Global,
+    line: &mut Vec<u8>,
+    root: &Value,
+    case: &Value,
+) -> Result<()> {
+    let table = table_of(alloc, root, case)?;
+    let source = source_of(root, case)?;
+    let tables = tables_of(alloc, &table.counts, &table.names, source)?;
+    let of = set_of(&table.names, list_in(case, "of")?)?;
+    let cells = list_in(case, "at")?;
+    add_sums_at(alloc, line, &table.counts, &tables, of, cells)
+}
+
+/// Adds the levels of the cell at a place, and the place of this cell.
+fn add_cell(alloc: Global, line: &mut Vec<u8>, places: &Places, place: usize) -> Result<()> {
+    if place >= places.count() {
+        return add_text(line, "no place");
+    }
+    let cell = places.cell(place);
+    let back = places.place(&cell);
+    for v in places.vertices() {
+        add_number(alloc, line, cell[*v as usize % 64])?;
+        add_text(line, " ")?;
+    }
+    add_text(line, "at ")?;
+    add_number(alloc, line, back)
+}
+
+/// Adds the cell of the vertices `of` at a `place`.
+pub(crate) fn add_place(
+    alloc: Global,
+    line: &mut Vec<u8>,
+    root: &Value,
+    case: &Value,
+) -> Result<()> {
+    let table = table_of(alloc, root, case)?;
+    let of = set_of(&table.names, list_in(case, "of")?)?;
+    let places = Places::of(alloc, &table.counts, of)?;
+    add_cell(alloc, line, &places, number_in(case, "place")? as usize)
 }

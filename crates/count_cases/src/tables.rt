@@ -1,72 +1,81 @@
-use crate::common::{has_levels, table};
-use count_table::{CountFault, Counts, marginal};
+//! Tables of counts, their sums and their masks.
+
+use crate::fields::{add_number, add_numbers, add_text, levels_of, list_in};
+use crate::readings::add_fault;
+use crate::sources::{has_levels, names_of, read, set_of, source_of, table_of};
+use anyhow::{Context, Result};
+use count_table::{Counts, marginal};
 use mixed_graph::VSet;
-use std::alloc::Global;
-use std::test::Fail;
+use serde_json::Value;
+use std::alloc::{AllocError, Global};
 
-/// Recoveries by treatment and size of stone. Two records are of one combination; the last column is not used.
-const STONES: &[u8] =
-    b"T,S,R,count,C\nA,small,success,80,x\nA,small,failure,6,x\nB,small,success,234,x\nB,small,failure,36,x\nA,large,success,192,x\nA,large,failure,71,x\nB,large,success,55,x\nB,large,failure,25,x\nA,small,success,1,y\n";
-
-/// The table of the text, of the used vertices T, S and R among T, C, S and R.
-fn read(alloc: Global, text: &[u8]) -> Result<Result<Counts, CountFault>, Fail> {
-    table(alloc, text, &["T", "C", "S", "R"], VSet::one(1), b"count")
-}
-
-/// Adds the levels of a vertex to a line, joined by bars.
-fn add_levels(line: &mut String, counts: &Counts, v: u8) -> Result<(), Fail> {
+/// Adds the levels of a vertex, each with a bar behind it.
+fn add_levels(line: &mut Vec<u8>, counts: &Counts, v: u8) -> Result<(), AllocError> {
     for k in 0..counts.levels(v) {
-        line.push_str(str::from_utf8(counts.level(v, k)).unwrap_or("?"))?;
-        line.push_str("|")?;
+        line.extend_from_slice(counts.level(v, k))?;
+        line.push(b'|')?;
     }
+    line.push(b';')?;
     Ok(())
 }
 
-/// The sum of the rows that agree on a set, where the assignment has levels.
-fn sum_of(counts: &Counts, of: VSet, at: &[u32]) -> Option<u64> {
+/// Adds the levels of the first n vertices, the counts, the codes and the used vertices.
+fn add_counts(alloc: Global, line: &mut Vec<u8>, counts: &Counts, n: u32) -> Result<()> {
+    for v in 0..n.min(64) as u8 {
+        add_levels(line, counts, v)?;
+    }
+    line.push(b' ')?;
+    add_numbers(alloc, line, counts.cells())?;
+    line.extend_from_slice(b"; ")?;
+    add_numbers(alloc, line, counts.codes())?;
+    line.extend_from_slice(b"; ")?;
+    add_number(alloc, line, counts.used().bits)
+}
+
+/// Adds a table of counts, or the fault of its text.
+pub(crate) fn add_table(
+    alloc: Global,
+    line: &mut Vec<u8>,
+    root: &Value,
+    case: &Value,
+) -> Result<()> {
+    let source = source_of(root, case)?;
+    let names = names_of(alloc, source)?;
+    match read(alloc, &names, source)? {
+        Ok(counts) => add_counts(alloc, line, &counts, names.count()),
+        Err(fault) => add_fault(alloc, line, &fault),
+    }
+}
+
+/// Adds the mask of the vertices `of`.
+pub(crate) fn add_mask(
+    alloc: Global,
+    line: &mut Vec<u8>,
+    root: &Value,
+    case: &Value,
+) -> Result<()> {
+    let table = table_of(alloc, root, case)?;
+    let of = set_of(&table.names, list_in(case, "of")?)?;
+    add_number(alloc, line, table.counts.mask_of(of))
+}
+
+/// Adds the sum of the rows that agree with an assignment on a set, where it has levels.
+fn add_sum(alloc: Global, line: &mut Vec<u8>, counts: &Counts, of: VSet, at: &[u32]) -> Result<()> {
     if !has_levels(counts, of, at) {
-        return None;
+        return add_text(line, "no level");
     }
-    Some(marginal(counts, of, at))
+    add_number(alloc, line, marginal(counts, of, at))
 }
 
-#[test]
-fn tables_of_counts(rt: HostRuntime) -> Result<(), Fail> {
-    let alloc = rt.alloc();
-    let Ok(counts) = read(alloc, STONES)? else {
-        return Err(Fail::from("the text isn't read"));
-    };
-    let mut line = String::new(alloc);
-    for v in 0..4 {
-        add_levels(&mut line, &counts, v)?;
-        line.push_str(";")?;
-    }
-    assert_eq!(rt; line.as_str(), "A|B|;;small|large|;success|failure|;");
-    assert_eq!(rt;
-        counts.cells(),
-        [81, 6, 192, 71, 234, 36, 55, 25].as_slice()
-    );
-    assert_eq!(rt; counts.codes(), [0, 4, 2, 6, 1, 5, 3, 7].as_slice());
-    assert_eq!(rt; counts.used().bits, 13);
-
-    let size = VSet::one(2);
-    let treated = VSet::one(0).union(size);
-    assert_eq!(rt; counts.mask_of(treated), 3);
-    let cases = [
-        (VSet::empty(), [9, 9, 9, 9], Some(700)),
-        (size, [9, 9, 0, 9], Some(357)),
-        (size, [9, 9, 1, 9], Some(343)),
-        (treated, [1, 9, 0, 9], Some(270)),
-        (counts.used(), [1, 9, 0, 0], Some(234)),
-        (VSet::one(1), [0, 0, 0, 0], None),
-    ];
-    for (of, at, expected) in cases {
-        assert_eq!(rt; sum_of(&counts, of, &at), expected);
-    }
-
-    let Err(CountFault::Count(row)) = read(alloc, b"T,S,R,count\na,b,c,1\na,b,c,x\n")? else {
-        return Err(Fail::from("a count of letters is read"));
-    };
-    assert_eq!(rt; row, 2);
-    Ok(())
+/// Adds the sum of the rows that agree with the levels `at` on the vertices `of`.
+pub(crate) fn add_marginal(
+    alloc: Global,
+    line: &mut Vec<u8>,
+    root: &Value,
+    case: &Value,
+) -> Result<()> {
+    let table = table_of(alloc, root, case)?;
+    let of = set_of(&table.names, list_in(case, "of")?)?;
+    let at = levels_of(alloc, case.get("at").context("no cell")?)?;
+    add_sum(alloc, line, &table.counts, of, &at)
 }

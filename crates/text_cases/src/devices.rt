@@ -1,117 +1,114 @@
+//! Bytes that are read and written.
+
+use crate::fields::{add_text, list_in, number_in, text_in};
+use anyhow::{Context, Result, bail};
 use causal_io::{
-    ErrSink, FileShelf, MemoryShelf, MemorySink, OutSink, ReadError, Shelf, SureShelf, SureSink,
-    WriteError, read_all, write_all,
+    MemoryShelf, MemorySink, Shelf, SureShelf, SureSink, WriteError, read_all, write_all,
 };
+use serde_json::Value;
 use std::alloc::Global;
-use std::fs;
-use std::process::Abort;
-use std::test::Fail;
 
-// Reads all under each name, up to a limit, and compares.
-fn expect_reads<S: Shelf>(
-    rt: &impl Abort,
+/// Takes a step with a shelf: puts a text under a name, or has a read of that name fail.
+fn prepare(shelf: &mut MemoryShelf, step: &Value) -> Result<()> {
+    if let Some(name) = step.get("put").and_then(Value::as_str) {
+        shelf.put(name, text_in(step, "text")?.as_bytes())?;
+        return Ok(());
+    }
+    shelf.fail(text_in(step, "fail")?, number_in(step, "read")?)?;
+    Ok(())
+}
+
+/// Adds what reading all under a name gives, if it has at most so many bytes.
+fn add_read<S: Shelf>(
     alloc: Global,
+    line: &mut Vec<u8>,
     shelf: &mut S,
-    rows: &[(&str, u64, Result<&[u8], ReadError>)],
-) {
-    for (name, limit, want) in rows {
-        match (read_all(alloc, shelf, name, *limit), want) {
-            (Ok(bytes), Ok(want)) => assert_eq!(rt; bytes.as_slice(), *want, "{name}"),
-            (Err(error), Err(want)) => assert_eq!(rt; error, *want, "{name}"),
-            _ => panic!(rt; "{name}: another answer"),
+    name: &str,
+    most: u64,
+) -> Result<()> {
+    match read_all(alloc, shelf, name, most) {
+        Ok(bytes) => {
+            add_text(line, "Ok ")?;
+            line.extend_from_slice(&bytes)?;
         }
+        Err(error) => add_text(line, format!(in alloc; "{error:?}")?.as_str())?,
     }
+    Ok(())
 }
 
-// Writes each piece, and compares what the sink has then.
-fn expect_writes(
-    rt: &impl Abort,
-    mut sink: MemorySink,
-    rows: &[(&[u8], Result<(), WriteError>, &[u8])],
-) {
-    for (piece, want, bytes) in rows {
-        assert_eq!(rt; write_all(&mut sink, piece), *want);
-        assert_eq!(rt; sink.bytes(), *bytes);
+/// Adds a line for each of these reads.
+pub(crate) fn add_reads<S: Shelf>(
+    alloc: Global,
+    line: &mut Vec<u8>,
+    shelf: &mut S,
+    reads: &[Value],
+) -> Result<()> {
+    for read in reads {
+        let name = text_in(read, "name")?;
+        let most = number_in(read, "most")?;
+        add_text(
+            line,
+            format!(in alloc; "\n{name}, at most {most}: ")?.as_str(),
+        )?;
+        add_read(alloc, line, shelf, name, most)?;
     }
+    Ok(())
 }
 
-#[test]
-fn devices_in_memory(rt: HostRuntime) -> Result<(), Fail> {
-    let alloc = rt.alloc();
-    let long = vec![in alloc; b'x'; 5000]?;
-    let fault = ReadError::Fault;
+/// Adds what reads from a shelf in memory give, and then from one that never fails.
+fn add_shelf(alloc: Global, line: &mut Vec<u8>, case: &Value) -> Result<()> {
     let mut shelf = MemoryShelf::empty(alloc);
-    shelf.put("graph", b"old")?;
-    shelf.put("graph", b"dag{A->B}")?;
-    shelf.put("long", &long)?;
-    shelf.fail("long", 1)?;
-    shelf.fail("counts", 0)?;
-    shelf.put("counts", b"A,B")?;
-    let rows = [
-        ("graph", 9, Ok(b"dag{A->B}".as_slice())),
-        ("graph", 8, Err(ReadError::TooLong { limit: 8 })),
-        ("graph", 0, Err(ReadError::TooLong { limit: 0 })),
-        ("long", 5000, Err(fault)),
-        ("long", 5000, Ok(long.as_slice())),
-        ("counts", 3, Err(fault)),
-        ("counts", 3, Ok(b"A,B".as_slice())),
-        ("missing", 9, Err(fault)),
-        ("missing", 9, Err(fault)),
-    ];
-    expect_reads(&rt, alloc, &mut shelf, &rows);
-
-    let ten = MemorySink::with_room(alloc, 4, 10)?;
-    expect_writes(
-        &rt,
-        ten,
-        &[
-            (b"separated: A", Err(WriteError::Fault), b"separated:"),
-            (b"", Ok(()), b"separated:"),
-            (b"x", Err(WriteError::Fault), b"separated:"),
-        ],
-    );
-    let mut second = MemorySink::with_room(alloc, 3, 100)?;
-    second.fail(1)?;
-    expect_writes(
-        &rt,
-        second,
-        &[
-            (b"abcdef", Err(WriteError::Fault), b"abc"),
-            (b"defghij", Ok(()), b"abcdefghij"),
-        ],
-    );
-
+    for step in list_in(case, "steps")? {
+        prepare(&mut shelf, step)?;
+    }
+    add_reads(alloc, line, &mut shelf, list_in(case, "reads")?)?;
     let mut sure = SureShelf::of(shelf);
-    let rows = [
-        ("graph", 9, Ok(b"dag{A->B}".as_slice())),
-        ("missing", 9, Ok(b"".as_slice())),
-    ];
-    expect_reads(&rt, alloc, &mut sure, &rows);
-    assert_eq!(rt; write_all(&mut SureSink::new(), b"taken"), Ok(()));
+    add_text(line, "\nnever failing")?;
+    add_reads(alloc, line, &mut sure, list_in(case, "sure")?)
+}
+
+/// The sink of a case: the most bytes of one write, the bytes for which it has room, and the write that fails.
+fn sink_of(alloc: Global, case: &Value) -> Result<MemorySink> {
+    let most = number_in(case, "most")? as usize;
+    let room = number_in(case, "room")? as usize;
+    let mut sink = MemorySink::with_room(alloc, most.max(1), room)?;
+    if let Some(call) = case.get("fail").and_then(Value::as_u64) {
+        sink.fail(call)?;
+    }
+    Ok(sink)
+}
+
+/// Adds whether a piece was written whole.
+fn add_written(line: &mut Vec<u8>, written: Result<(), WriteError>) -> Result<()> {
+    match written {
+        Ok(()) => add_text(line, "Ok"),
+        Err(WriteError::Fault) => add_text(line, "Fault"),
+    }
+}
+
+/// Adds a line for each piece that is written: whether it was, and what the sink has then.
+fn add_sink(alloc: Global, line: &mut Vec<u8>, case: &Value) -> Result<()> {
+    let mut sink = sink_of(alloc, case)?;
+    for value in list_in(case, "pieces")? {
+        let piece = value.as_str().context("no piece")?;
+        let written = write_all(&mut sink, piece.as_bytes());
+        add_text(line, "\n")?;
+        add_written(line, written)?;
+        add_text(line, " ")?;
+        line.extend_from_slice(sink.bytes())?;
+    }
     Ok(())
 }
 
-#[test]
-fn files_and_streams(rt: HostRuntime) -> Result<(), Fail> {
-    let alloc = rt.alloc();
-    let file = "causal_io_test.txt";
-    fs::write(&rt, file, "dag{A->B}")?;
-    let words = vec![in alloc;
-        String::from_str(alloc, file)?,
-        String::from_str(alloc, "no such file")?,
-    ]?;
-    let mut shelf = FileShelf::of(&rt, alloc, &words)?;
-    let rows = [
-        (file, 9, Ok(b"dag{A->B}".as_slice())),
-        (file, 8, Err(ReadError::TooLong { limit: 8 })),
-        ("no such file", 9, Err(ReadError::Fault)),
-        ("no word", 9, Ok(b"".as_slice())),
-    ];
-    expect_reads(&rt, alloc, &mut shelf, &rows);
-    fs::remove_file(&rt, file)?;
-    let mut out = OutSink::of(rt.stdout());
-    assert_eq!(rt; write_all(&mut out, b"to standard output\n"), Ok(()));
-    let mut err = ErrSink::of(rt.stderr());
-    assert_eq!(rt; write_all(&mut err, b"to the error stream\n"), Ok(()));
-    Ok(())
+/// Adds what a case's call gives.
+pub(crate) fn add_answer(alloc: Global, line: &mut Vec<u8>, case: &Value) -> Result<()> {
+    match text_in(case, "call")? {
+        "MemoryShelf" => add_shelf(alloc, line, case),
+        "MemorySink" => add_sink(alloc, line, case),
+        "SureSink" => {
+            let piece = text_in(case, "piece")?;
+            add_written(line, write_all(&mut SureSink::new(), piece.as_bytes()))
+        }
+        other => bail!("no call {other}"),
+    }
 }

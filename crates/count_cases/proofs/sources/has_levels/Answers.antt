@@ -2,7 +2,7 @@ use Rattle.std.proofs.Common.{ℕ, ◌≡◌, ◌<◌, ◌^◌, ◌∙◌, sym, 
 use Rattle.std.proofs.lemmas.Bool.{cases_lt}
 use Rattle.mixed_graph.specs.Bits.{has}
 use Rattle.mixed_graph.proofs.Masks.{has-above}
-use Rattle.count_cases.proofs.common.has_levels.Goals as goal
+use Rattle.count_cases.proofs.sources.has_levels.Goals as goal
 
 differ : true ≡ false → (A : Type 0) → A
 differ e A = absurd (cc e)
