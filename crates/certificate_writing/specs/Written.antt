@@ -1,12 +1,12 @@
 -- The text of a certificate: one JSON object in compact form, its members sorted by key.
 use Rattle.std.specs.Prelude.{ℕ, ◌+◌, ◌==◌, List, [], ◌∷◌, if◌then◌else◌, codes}
-use Rattle.prob_expr.specs.Tree.{Tree}
-use Rattle.do_derivation.specs.Plans.{PlainLemma}
+use Rattle.prob_expr.specs.Tree.{Tree, PlainTarget}
+use Rattle.do_derivation.specs.Plans.{PlainLemma, PlainDerivation}
 use Rattle.expr_text.specs.Write.{text_of}
-use Rattle.serde_json.specs.Data.{Data, string, number, unsigned, array, object, Items, no_items, item, no_members, member}
+use Rattle.serde_json.specs.Data.{Data, string, number, unsigned, array, object, Items, no_items, item, Members, no_members, member}
 use Rattle.serde_json.specs.Written.{compact_text}
 use Rattle.step_json.specs.Values.{names_value, set_value, step_value}
-use Rattle.certificate.specs.Plain.{PlainCertificate, formula, hedge}
+use Rattle.certificate.specs.Plain.{PlainCertificate, PlainHedge, formula, hedge}
 
 -- the texts of expressions
 abbrev pub expr_items : List (List ℕ) → List Tree → Items
@@ -37,27 +37,36 @@ abbrev pub link_items : List (List ℕ) → List (ℕ × ℕ) → Items
 link_items names [] = no_items
 link_items names (l ∷ ls) = item (names_value names (l.0 ∷ [])) (pair_items names ls)
 
+-- the members of every certificate from `version` on
+abbrev pub target_members : List (List ℕ) → PlainTarget → Members
+target_members names t =
+    member (codes "version") (number (unsigned 1)) (
+    member (codes "x") (set_value names t.x) (
+    member (codes "y") (set_value names t.y) no_members))
+
+-- the members of a formula's certificate from `lemmas` on
+abbrev pub derivation_members : List (List ℕ) → PlainTarget → PlainDerivation → Members
+derivation_members names t d =
+    member (codes "lemmas") (array (lemma_items names d.lemmas)) (
+    member (codes "main") (step_value names d.main) (target_members names t))
+
+-- the members of a hedge's certificate from `links` on
+abbrev pub root_members : List (List ℕ) → PlainTarget → PlainHedge → Members
+root_members names t h =
+    member (codes "links") (array (link_items names h.links)) (
+    member (codes "roots") (set_value names h.roots) (
+    member (codes "small") (set_value names h.small) (target_members names t)))
+
 -- the object of a certificate
 abbrev pub certificate_value : List (List ℕ) → PlainCertificate → Data
 certificate_value names (formula t f d) = object (
     member (codes "answer") (string (codes "formula")) (
     member (codes "defs") (array (expr_items names f.defs)) (
-    member (codes "formula") (string (text_of names f.main)) (
-    member (codes "lemmas") (array (lemma_items names d.lemmas)) (
-    member (codes "main") (step_value names d.main) (
-    member (codes "version") (number (unsigned 1)) (
-    member (codes "x") (set_value names t.x) (
-    member (codes "y") (set_value names t.y) no_members))))))))
+    member (codes "formula") (string (text_of names f.main)) (derivation_members names t d))))
 certificate_value names (hedge t h) = object (
     member (codes "answer") (string (codes "hedge")) (
     member (codes "big") (set_value names h.big) (
-    member (codes "choice") (array (pair_items names (choices_from 0 h.choice))) (
-    member (codes "links") (array (link_items names h.links)) (
-    member (codes "roots") (set_value names h.roots) (
-    member (codes "small") (set_value names h.small) (
-    member (codes "version") (number (unsigned 1)) (
-    member (codes "x") (set_value names t.x) (
-    member (codes "y") (set_value names t.y) no_members)))))))))
+    member (codes "choice") (array (pair_items names (choices_from 0 h.choice))) (root_members names t h))))
 
 -- the text of a certificate
 abbrev pub certificate_text : List (List ℕ) → PlainCertificate → List ℕ

@@ -1,26 +1,72 @@
 ghost use Rattle.std.specs.Prelude.{◌≡◌, length, IfOk, Ok, None};
 ghost use Rattle.mixed_graph.specs.Names.{AreNames};
-ghost use Rattle.serde_json.specs.View.{view as data_view};
+ghost use Rattle.serde_json.specs.View.{view as data_view, members_view};
 ghost use Rattle.prob_expr.specs.Check.{fault_in};
 ghost use Rattle.prob_expr.specs.View.{formula_view, target_view};
 ghost use Rattle.do_derivation.specs.View.{derivation_view};
 ghost use Rattle.certificate.specs.Plain.{certificate_view, hedge_view, formula as formula_case, hedge as hedge_case};
 ghost use Rattle.certificate.specs.Reading.{certificate_in};
 ghost use Rattle.certificate_writing.specs.Writable.{IsBareTarget, IsDerivationWithin, IsHedgeWithin, IsWritable, IsShallow};
-ghost use Rattle.certificate_writing.specs.Written.{certificate_value, certificate_text};
+ghost use Rattle.certificate_writing.specs.Written.{target_members, derivation_members, root_members, certificate_value, certificate_text};
 
 use crate::formulas::{expr_value, exprs_value, lemmas_value};
 use crate::hedges::{choices_value, links_value};
 use crate::kept::certificate_kept;
-use crate::objects::{formula_object, hedge_object};
+use crate::objects::{text_value, with};
 use certificate::Certificate;
 use do_derivation::Derivation;
 use hedge::Hedge;
 use mixed_graph::Names;
 use prob_expr::{Formula, Target};
-use serde_json::Value;
+use serde_json::{Map, Value};
 use std::alloc::{AllocError, Global};
 use step_json::{set_value, step_value};
+
+// The members of a target's object from `version` on.
+fn target_members(
+    alloc: Global,
+    names: &Names,
+    target: &Target,
+) -> Result<Map<String, Value>, AllocError>
+    requires target { IsBareTarget (length names.now) (target_view target.now) }
+    ensures { IfOk result (λ m. members_view m.entries ≡ target_members names.now (target_view target.now)) }
+{
+    let members = with(
+        alloc,
+        Map::new(alloc),
+        "y",
+        set_value(alloc, names, target.y)?,
+    )?;
+    let members = with(alloc, members, "x", set_value(alloc, names, target.x)?)?;
+    with(alloc, members, "version", Value::from(1u64))
+}
+
+// The members of a formula's object from `lemmas` on.
+fn derivation_members(
+    alloc: Global,
+    names: &Names,
+    target: &Target,
+    derivation: &Derivation,
+) -> Result<Map<String, Value>, AllocError>
+    requires names { AreNames names.now }
+    requires target { IsBareTarget (length names.now) (target_view target.now) }
+    requires derivation { IsDerivationWithin (length names.now) (derivation_view derivation.now) }
+    ensures { IfOk result (λ m. members_view m.entries ≡ derivation_members names.now (target_view target.now) (derivation_view derivation.now)) }
+{
+    let members = target_members(alloc, names, target)?;
+    let members = with(
+        alloc,
+        members,
+        "main",
+        step_value(alloc, names, &derivation.main)?,
+    )?;
+    with(
+        alloc,
+        members,
+        "lemmas",
+        lemmas_value(alloc, names, &derivation.lemmas)?,
+    )
+}
 
 fn formula_value(
     alloc: Global,
@@ -35,13 +81,53 @@ fn formula_value(
     requires derivation { IsDerivationWithin (length names.now) (derivation_view derivation.now) }
     ensures { IfOk result (λ d. data_view d ≡ certificate_value names.now (formula_case (target_view target.now) (formula_view formula.now) (derivation_view derivation.now))) }
 {
-    let defs = exprs_value(alloc, names, &formula.defs)?;
-    let text = expr_value(alloc, names, &formula.main)?;
-    let lemmas = lemmas_value(alloc, names, &derivation.lemmas)?;
-    let main = step_value(alloc, names, &derivation.main)?;
-    let x = set_value(alloc, names, target.x)?;
-    let y = set_value(alloc, names, target.y)?;
-    formula_object(alloc, defs, text, lemmas, main, x, y)
+    let members = derivation_members(alloc, names, target, derivation)?;
+    let members = with(
+        alloc,
+        members,
+        "formula",
+        expr_value(alloc, names, &formula.main)?,
+    )?;
+    let members = with(
+        alloc,
+        members,
+        "defs",
+        exprs_value(alloc, names, &formula.defs)?,
+    )?;
+    let members = with(alloc, members, "answer", text_value(alloc, "formula")?)?;
+    Ok(Value::Object(members))
+}
+
+// The members of a hedge's object from `links` on.
+fn root_members(
+    alloc: Global,
+    names: &Names,
+    target: &Target,
+    hedge: &Hedge,
+) -> Result<Map<String, Value>, AllocError>
+    requires target { IsBareTarget (length names.now) (target_view target.now) }
+    requires hedge { IsHedgeWithin (length names.now) (hedge_view hedge.now) }
+    ensures { IfOk result (λ m. members_view m.entries ≡ root_members names.now (target_view target.now) (hedge_view hedge.now)) }
+{
+    let members = target_members(alloc, names, target)?;
+    let members = with(
+        alloc,
+        members,
+        "small",
+        set_value(alloc, names, hedge.small)?,
+    )?;
+    let members = with(
+        alloc,
+        members,
+        "roots",
+        set_value(alloc, names, hedge.roots)?,
+    )?;
+    with(
+        alloc,
+        members,
+        "links",
+        links_value(alloc, names, &hedge.links)?,
+    )
 }
 
 fn hedge_value(
@@ -54,14 +140,16 @@ fn hedge_value(
     requires hedge { IsHedgeWithin (length names.now) (hedge_view hedge.now) }
     ensures { IfOk result (λ d. data_view d ≡ certificate_value names.now (hedge_case (target_view target.now) (hedge_view hedge.now))) }
 {
-    let big = set_value(alloc, names, hedge.big)?;
-    let choice = choices_value(alloc, names, &hedge.choice)?;
-    let links = links_value(alloc, names, &hedge.links)?;
-    let roots = set_value(alloc, names, hedge.roots)?;
-    let small = set_value(alloc, names, hedge.small)?;
-    let x = set_value(alloc, names, target.x)?;
-    let y = set_value(alloc, names, target.y)?;
-    hedge_object(alloc, big, choice, links, roots, small, x, y)
+    let members = root_members(alloc, names, target, hedge)?;
+    let members = with(
+        alloc,
+        members,
+        "choice",
+        choices_value(alloc, names, &hedge.choice)?,
+    )?;
+    let members = with(alloc, members, "big", set_value(alloc, names, hedge.big)?)?;
+    let members = with(alloc, members, "answer", text_value(alloc, "hedge")?)?;
+    Ok(Value::Object(members))
 }
 
 // The object of a certificate.
