@@ -1,0 +1,4 @@
+pub mod Moves
+pub mod Full
+pub mod Laws
+pub mod Trace

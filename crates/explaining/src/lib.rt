@@ -1,0 +1,10 @@
+//! What the steps of a derivation make, one after another.
+#![tactic(auto)]
+
+mod moves;
+mod sound;
+mod tracing;
+
+pub use moves::moves_of;
+pub use sound::laws;
+pub use tracing::trace;
