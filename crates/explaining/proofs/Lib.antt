@@ -1,3 +1,4 @@
 pub mod Fullness
 pub mod Soundness
 pub mod Turns
+pub mod LemmaTurns

@@ -2,9 +2,11 @@
 #![tactic(auto)]
 
 mod moves;
+mod parts;
 mod sound;
 mod tracing;
 
 pub use moves::moves_of;
+pub use parts::explain;
 pub use sound::laws;
 pub use tracing::trace;
