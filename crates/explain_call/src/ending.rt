@@ -1,4 +1,4 @@
-ghost use Rattle.std.specs.Prelude.{◌≡◌, ◌∷◌, [], None, codes, string_bytes, IsNone, IfSome, map};
+ghost use Rattle.std.specs.Prelude.{◌≡◌, ◌≤◌, ◌∷◌, [], None, codes, string_bytes, IsNone, IfSome, map};
 ghost use Rattle.word_forms.specs.Form.{Text};
 ghost use Rattle.word_forms.specs.Views.{texts_of};
 ghost use Rattle.explain_call.specs.Ends.{AskSteps, Ends};
@@ -19,6 +19,57 @@ pub enum Ending {
     NoInput,
     /// Memory was refused.
     NoMemory,
+}
+
+impl Ending {
+    ghost use Rattle.explain_call.specs.Calls.{code_of, answer_of, line_of};
+
+    /// The status.
+    pub fn code(&self) -> u8
+        ensures status { result ≡ code_of self.now }
+        ensures known { result ≤ 8 }
+    {
+        match self {
+            Ending::Replied(reply) => reply.outcome.code(),
+            Ending::NotUnderstood => 2,
+            Ending::NoInput => 6,
+            Ending::NoMemory => 8,
+        }
+    }
+
+    /// What is written as an answer.
+    pub fn answer(&self) -> &[u8]
+        ensures { result.now ≡ answer_of self.now }
+    {
+        match self {
+            Ending::Replied(reply) => {
+                if reply.outcome.code() <= 1 {
+                    reply.text.as_slice()
+                } else {
+                    b""
+                }
+            }
+            Ending::NotUnderstood | Ending::NoInput | Ending::NoMemory => b"",
+        }
+    }
+
+    /// What is written as a line.
+    pub fn line(&self) -> &[u8]
+        ensures { result.now ≡ line_of self.now }
+    {
+        match self {
+            Ending::Replied(reply) => {
+                if reply.outcome.code() <= 1 {
+                    b""
+                } else {
+                    reply.text.as_slice()
+                }
+            }
+            Ending::NotUnderstood => b"causal: words: steps FILE CERTIFICATE\n",
+            Ending::NoInput => b"causal: read failed\n",
+            Ending::NoMemory => b"causal: no memory\n",
+        }
+    }
 }
 
 /// The names of a file and of a certificate.
