@@ -4,7 +4,6 @@ ghost use Rattle.mixed_graph.specs.Shown.{graph_of};
 ghost use Rattle.prob_expr.specs.View.{formula_view, target_view};
 ghost use Rattle.do_derivation.specs.View.{derivation_view};
 ghost use Rattle.check_command.specs.Replies.{IsSoundTarget, IsSoundDerivation};
-
 ghost use Rattle.explain_call.specs.Answers.{StepsAnswer, FileAnswer};
 ghost use Rattle.explain_call.specs.Told.{TellsSteps};
 
@@ -21,6 +20,7 @@ use std::alloc::{AllocError, Global};
 
 /// The most bytes of a graph text, and of a certificate.
 const MAX_GRAPH_BYTES: usize = 1_048_576;
+
 const MAX_CERTIFICATE_BYTES: usize = 67_108_864;
 
 /// The answer for a derivation.
@@ -40,10 +40,12 @@ fn tell(
             outcome: Outcome::Yes,
             text,
         }),
-        Err(ApplyFault::Step {
-            number: _,
-            fault: _,
-        }) => Ok(Reply {
+        Err(
+            ApplyFault::Step {
+                number: _,
+                fault: _,
+            },
+        ) => Ok(Reply {
             outcome: Outcome::No,
             text: Vec::from_slice(alloc, b"refused\n")?,
         }),
