@@ -81,6 +81,25 @@ uint8_t causal_run(const uint8_t *bytes, size_t length,
                    uint8_t *err, size_t err_room,
                    causal_sizes *sizes);
 
+/* The steps of a derivation. The words are `steps FILE CERTIFICATE`, and the arguments those of causal_run.
+ *
+ * At CAUSAL_YES, for each lemma of the certificate's derivation and then for its main step, `out` has
+ *
+ *     lemma 0                      or main
+ *     P(W,Y|do(X,Z))               the expression from which the steps start
+ *     rule2see: P(W,Y|X,do(Z))     each move in turn: its word, as the certificate has it, and the whole expression after it
+ *
+ * in the observed graph of FILE. Each expression is what that step of the do-calculus makes of the one before, and each rule
+ * holds there. It isn't compared with the certificate's formula: that is what `check` does. CAUSAL_NO comes with `refused`
+ * where a move is refused, and with `hedge` for the certificate of a hedge, which has no steps. CAUSAL_WORDS, CAUSAL_GRAPH,
+ * CAUSAL_SECOND, CAUSAL_NO_INPUT, CAUSAL_NO_MEMORY, CAUSAL_NOT_TEXT and CAUSAL_NO_WORDS are as above; the others don't come. */
+uint8_t causal_explain(const uint8_t *bytes, size_t length,
+                       const causal_span *words, size_t word_count,
+                       const causal_input *inputs, size_t input_count,
+                       uint8_t *out, size_t out_room,
+                       uint8_t *err, size_t err_room,
+                       causal_sizes *sizes);
+
 #ifdef __cplusplus
 }
 #endif

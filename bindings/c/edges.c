@@ -85,6 +85,24 @@ static void statuses(void) {
     HOLDS(r.status == CAUSAL_NOT_TEXT && is_text(r.out, r.sizes.out, "") && is_text(r.err, r.sizes.err, ""));
 }
 
+static const char steps[] =
+    "stepsgcdag{X->M->Y X<->Y}"
+    "{\"answer\":\"formula\",\"defs\":[],\"formula\":\"P(M|X)\",\"lemmas\":[],\"main\":[\"rule2see\",[\"X\"]],"
+    "\"version\":1,\"x\":[\"X\"],\"y\":[\"M\"]}";
+
+static void explained(void) {
+    causal_span words[] = {{0, 5}, {5, 6}, {6, 7}};
+    causal_input inputs[] = {{{5, 6}, {7, 25}}, {{6, 7}, {25, sizeof steps - 1}}};
+    uint8_t out[256], err[256];
+    causal_sizes sizes;
+    memset(out, '#', sizeof out);
+    memset(err, '#', sizeof err);
+    HOLDS(causal_explain((const uint8_t *)steps, sizeof steps - 1, words, 3, inputs, 2, out, 256, err, 256, &sizes) == CAUSAL_YES);
+    HOLDS(is_text(out, sizes.out, "main\nP(M|do(X))\nrule2see: P(M|X)\n") && sizes.err == 0);
+    HOLDS(causal_explain((const uint8_t *)steps, sizeof steps - 1, words, 3, inputs, 1, out, 256, err, 256, &sizes) == CAUSAL_NO_INPUT);
+    HOLDS(causal_explain((const uint8_t *)steps, sizeof steps - 1, words, 2, inputs, 2, out, 256, err, 256, &sizes) == CAUSAL_WORDS);
+}
+
 static void *many(void *unused) {
     causal_input inputs[] = {{name, graph}};
     for (int i = 0; i < 200; i++) {
@@ -105,6 +123,7 @@ int main(void) {
     spans();
     names();
     statuses();
+    explained();
     threads();
     puts("edges: all hold");
     return 0;

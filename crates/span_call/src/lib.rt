@@ -24,7 +24,7 @@ pub struct Sizes {
 }
 
 /// Shows a text in some room, and gives its size. What stands behind it stays.
-fn show(text: &[u8], room: &mut [u8]) -> usize
+pub fn show(text: &[u8], room: &mut [u8]) -> usize
     ensures whole { result ≡ length text.now }
     ensures front { take (min result (length room.new)) room.new ≡ take (min result (length room.new)) text.now }
     ensures rest { drop (min result (length room.new)) room.new ≡ drop (min result (length room.new)) room.old }

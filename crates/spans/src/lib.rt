@@ -10,7 +10,7 @@ mod sink;
 mod words;
 
 pub use fronts::copy_front;
-pub use shelf::SpanShelf;
+pub use shelf::{SpanShelf, content_named};
 pub use sink::GrowingSink;
 pub use words::{WordsFault, words_in};
 

@@ -41,8 +41,8 @@ fn place(bytes: &[u8], inputs: &[Input], name: &str) -> Option<usize>
         .position(|input| part_of(bytes, input.name) == name.as_bytes())
 }
 
-// The content of the first input of a name.
-fn content<'a>(bytes: &'a [u8], inputs: &[Input], name: &str) -> Option<&'a [u8]>
+/// The content of the first input of a name.
+pub fn content_named<'a>(bytes: &'a [u8], inputs: &[Input], name: &str) -> Option<&'a [u8]>
     ensures content { option_copied result ≡ content_named bytes.now inputs.now name.now }
     ensures lacked { is_none result ≡ is_none (place_named bytes.now inputs.now name.now) }
 {
@@ -92,7 +92,7 @@ impl<'a> Shelf for SpanShelf<'a> {
         ensures holds { held_in self.new ≡ held_in self.old }
         ensures lack { lacks_in self.new ≡ lacks_in self.old }
     {
-        match content(self.bytes, self.inputs, name) {
+        match content_named(self.bytes, self.inputs, name) {
             Some(all) => Ok(read_part(all, from, into)),
             None => {
                 self.lacked = self.lacked.saturating_add(1);

@@ -1,0 +1,4 @@
+pub mod Fullness
+pub mod Soundness
+pub mod Turns
+pub mod LemmaTurns

@@ -1,0 +1,28 @@
+use Rattle.std.proofs.Common.{◌≡◌, true, length, map, drop, sym, ap, subst, arith, rules}
+use Rattle.mixed_graph.specs.Shown.{graph_of}
+use Rattle.prob_expr.specs.Listed.{masks_of}
+use Rattle.prob_expr.specs.View.{view}
+use Rattle.expr_text.specs.Sound.{is_sound}
+use Rattle.do_derivation.specs.View.{step_view}
+use Rattle.std.proofs.Math.ListN.{drop_of_length-le}
+use Rattle.explaining.proofs.Soundness.{sound_terms, step_keeps_sound}
+use Rattle.explaining.proofs.Turns.{left_more, left_none}
+use Rattle.explaining.proofs.tracing.trace.Goals as goal
+
+pub apply-requires : goal.apply-requires
+apply-requires c = record { terms = sound_terms c.args.g.now.n (view c.loop-i.made) c.loop-i.invariant.sound }
+
+pub push_line-requires : goal.push_line-requires
+push_line-requires c =
+    subst (λ n. is_sound n (view c.in-Ok.next) ≡ true) (sym c.requires.named)
+    (step_keeps_sound (graph_of c.args.g.now) c.args.g.now.valid (masks_of c.args.lemmas.now) (step_view c.index-moves-i.result) (view c.loop-i.made) (view c.in-Ok.next) c.loop-i.invariant.sound c.in-Ok.ensures.made)
+
+pub loop-i-preserved : goal.loop-i-preserved
+loop-i-preserved c =
+    left_more (graph_of c.args.g.now) c.args.g.now.valid c.args.names.now (masks_of c.args.lemmas.now) c.args.moves.now c.loop-i.i c.index-moves-i.result (view c.loop-i.made) (view c.in-Ok.next) c.loop-i.text.items c.push_line.new.out.items (view c.args.start)
+    (omega arith) c.index-moves-i.is c.loop-i.invariant c.in-Ok.ensures.made c.in-Ok-push_line.ensures
+
+pub returns-clause-traces : goal.returns-clause-traces
+returns-clause-traces c =
+    left_none (graph_of c.args.g.now) c.args.names.now (masks_of c.args.lemmas.now) (map step_view (drop c.loop-i.i c.args.moves.now)) (view c.loop-i.made) c.loop-i.text.items (map step_view c.args.moves.now) (view c.args.start)
+    (ap (map step_view) (drop_of_length-le c.args.moves.now {i = c.loop-i.i} (omega arith))) c.loop-i.invariant

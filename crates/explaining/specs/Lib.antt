@@ -1,0 +1,5 @@
+pub mod Moves
+pub mod Full
+pub mod Laws
+pub mod Trace
+pub mod Parts
