@@ -118,14 +118,14 @@ pub(crate) fn print_writes<W: Write>(
         let before = write.saturating_mul(most).min(whole.len());
         if !tells_failure(&ending, &whole[..before]) {
             let line = format!(in alloc;
-                "-- write {write} fails, and isn't told as the others before it\n"
+                "-- write {write} fails, and it isn't told by 7 with the bytes before it on out\n"
             )?;
             print.write_all(line.as_bytes())?;
             return Ok(());
         }
     }
     let line = format!(in alloc;
-        "-- each of {writes} writes failing: 7, what was written before on out, a failed write on err\n"
+        "-- each of {writes} writes fails in turn: 7, the bytes before it on out\n"
     )?;
     print.write_all(line.as_bytes())?;
     Ok(())
