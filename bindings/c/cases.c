@@ -63,6 +63,7 @@ static int run(causal_span name, const causal_span *words, size_t word_count, co
         print_span(name);
         printf(": %d\n", status);
         fwrite(out, 1, sizes.out, stdout);
+        if (sizes.err > 0) fputs("-- err\n", stdout);
         fwrite(err, 1, sizes.err, stdout);
     }
     free(out);

@@ -2,11 +2,14 @@
 """flatten.py CASES STDOUT FLAT EXPECTED: the worked cases in a form that a C program reads, and what it should print.
 
 FLAT has pieces, each its length, a colon and its bytes. A case is its name, how many words it has, these, how many inputs,
-and the name and the content of each. Cases whose reads or writes are to fail have no counterpart over inputs in memory:
-they are left out, and counted.
+and the name and the content of each. Cases with a further member (reads or writes that fail, a file that is cut) have no
+counterpart over inputs in memory: they are left out, and counted.
 """
 import json
 import sys
+
+
+MEMBERS = {"case", "words", "files", "pad", "bytes", "most"}
 
 
 def piece(content):
@@ -14,8 +17,8 @@ def piece(content):
     return b"%d:%s" % (len(content), content)
 
 
-def needs_failures(case):
-    return bool(case.get("fails")) or "room" in case
+def needs_devices(case):
+    return bool(set(case) - MEMBERS)
 
 
 def inputs_of(case):
@@ -48,12 +51,12 @@ def main(cases_file, stdout_file, flat_file, expected_file):
         cases = json.load(file)
     with open(stdout_file, "rb") as file:
         answered = list(zip(cases, answers(cases, file.read())))
-    kept = [(case, answer) for case, answer in answered if not needs_failures(case)]
+    kept = [(case, answer) for case, answer in answered if not needs_devices(case)]
     with open(flat_file, "wb") as file:
         file.write(piece(str(len(kept))) + b"".join(flat(case) for case, _ in kept))
     with open(expected_file, "wb") as file:
         file.write(b"".join(answer for _, answer in kept))
-    print(f"{len(kept)} cases; {len(cases) - len(kept)} whose reads or writes fail are left out")
+    print(f"{len(kept)} cases; {len(cases) - len(kept)} that a caller has no inputs or outputs for are left out")
 
 
 main(*sys.argv[1:])

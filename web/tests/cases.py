@@ -17,7 +17,7 @@ const ask = (message) => new Promise((resolve) => {
 });
 (async () => {
   const wrong = [];
-  for (const { case: name, words, inputs, status, text } of cases) {
+  for (const { case: name, words, inputs, status, out, err } of cases) {
     for (const [file, { base64, pad }] of Object.entries(inputs)) {
       const content = Uint8Array.from(atob(base64), (c) => c.charCodeAt(0));
       const bytes = new Uint8Array(Math.max(pad, content.length)).fill(32);
@@ -25,7 +25,7 @@ const ask = (message) => new Promise((resolve) => {
       worker.postMessage({ name: file, text: bytes });
     }
     const answer = await ask({ questions: [words] });
-    if (answer.status !== status || answer.out + answer.err !== text) wrong.push({ name, status, text, answer });
+    if (answer.status !== status || answer.out !== out || answer.err !== err) wrong.push({ name, status, out, err, answer });
     for (const file of Object.keys(inputs)) worker.postMessage({ name: file, text: null });
   }
   worker.terminate();
@@ -47,7 +47,7 @@ def main():
     if sys.argv[1:2] == ["--write"]:
         with open(sys.argv[2], "w", encoding="utf-8") as file:
             json.dump(cases, file)
-        print(f"{left} worked cases need reads or writes that fail, and are left out")
+        print(f"{left} worked cases need inputs or outputs that a page has none of, and are left out")
         return
     import browser  # wants selenium
 

@@ -5,7 +5,9 @@ import re
 
 TOP = pathlib.Path(__file__).resolve().parents[2]
 CRATE = TOP / "crates/worked_cases"
-DEVICES = ("fails", "most", "room")  # reads that fail and outputs that refuse: a page has none of these
+# Reads that fail, outputs that refuse, cases that are run again and again or over inputs that are made: a page has none of these.
+DEVICES = ("cuts", "each_write", "fails", "fails_err", "fails_out", "most", "repeats", "room")
+MARK = "-- err\n"
 
 
 def contents(case):
@@ -16,7 +18,7 @@ def contents(case):
 
 
 def outcomes(cases):
-    """The status and the text of each case, from the expected output."""
+    """The status and both outputs of each case, from the expected output."""
     rest = (CRATE / "stdout").read_text()
     found = []
     for i, case in enumerate(cases):
@@ -26,7 +28,8 @@ def outcomes(cases):
         end = len(behind)
         if i + 1 < len(cases):
             end = re.search(rf"^== {re.escape(cases[i + 1]['case'])}: \d+$", behind, re.M).start()
-        found.append((int(head[1]), behind[:end]))
+        out, _, err = behind[:end].partition(MARK)
+        found.append((int(head[1]), out, err))
         rest = behind[end:]
     assert not rest
     return found
@@ -36,12 +39,12 @@ def load():
     """The cases that can be run over inputs in memory, and the number of those that can't."""
     cases = json.loads((CRATE / "data/cases.json").read_text())
     kept, left = [], 0
-    for case, (status, text) in zip(cases, outcomes(cases)):
+    for case, (status, out, err) in zip(cases, outcomes(cases)):
         if any(name in case for name in DEVICES):
             left += 1
         else:
             kept.append({"case": case["case"], "words": case["words"], "inputs": contents(case),
-                         "status": status, "text": text})
+                         "status": status, "out": out, "err": err})
     return kept, left
 
 

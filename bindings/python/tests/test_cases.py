@@ -43,7 +43,7 @@ class Words(unittest.TestCase):
 
     def check_case(self, case):
         reply = causal.run(case.words, case.inputs)
-        self.assertEqual((reply.status, (reply.out + reply.err).decode()), (case.status, case.printed))
+        self.assertEqual((reply.status, reply.out.decode(), reply.err.decode()), (case.status, case.out, case.err))
 
     def test_cases(self):
         number = 0
@@ -61,7 +61,7 @@ class Words(unittest.TestCase):
         def ask(start):
             for case in cases[start:] + cases[:start]:
                 reply = causal.run(case.words, case.inputs)
-                if (reply.status, (reply.out + reply.err).decode()) != (case.status, case.printed):
+                if (reply.status, reply.out.decode(), reply.err.decode()) != (case.status, case.out, case.err):
                     wrong.append(case.name)
 
         threads = [threading.Thread(target=ask, args=(30 * k,)) for k in range(6)]

@@ -32,5 +32,6 @@ for (k in seq_len(number())) {
     inputs[[input]] <- piece()
   }
   answer <- causal_run(words, inputs)
-  cat("== ", name, ": ", answer$status, "\n", answer$out, answer$err, sep = "")
+  mark <- if (nzchar(answer$err)) "-- err\n" else ""
+  cat("== ", name, ": ", answer$status, "\n", answer$out, mark, answer$err, sep = "")
 }
