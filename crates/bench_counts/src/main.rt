@@ -5,7 +5,7 @@
 
 ghost use Rattle.std.specs.Prelude.{◌≡◌, ◌<◌, ◌^◌, IfOk, length, sum};
 
-use count_eval::{is_cell, is_evaluable, value};
+use count_eval::{is_cell, is_evaluable, value_by_nodes};
 use count_table::{CountFault, Counts, marginal, read_counts};
 use lane_sums::masked_sum;
 use mixed_graph::{Names, VSet};
@@ -110,7 +110,7 @@ fn count_plain(f: &Formula, c: &Counts, cells: u32) -> u32 {
     }
     for y in 0..cells {
         let at = [0, 0, y];
-        if is_cell(c, &at) && value::<Bounds>(3, f, c, &at).is_ok() {
+        if is_cell(c, &at) && value_by_nodes::<Bounds>(3, f, c, &at).is_ok() {
             found = found.saturating_add(1);
         }
     }

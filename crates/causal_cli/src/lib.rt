@@ -15,4 +15,5 @@ mod verdict;
 mod wish;
 
 pub use sure::run_surely;
+pub use survey_graph::survey_graph;
 pub use top::{Status, run};

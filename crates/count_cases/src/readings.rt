@@ -20,7 +20,7 @@ fn add_levels(line: &mut Vec<u8>, levels: &Levels) -> Result<(), AllocError> {
 }
 
 /// Adds the number of a fault and its row.
-fn add_row(alloc: Global, line: &mut Vec<u8>, fault: &[u8], row: u64) -> Result<()> {
+fn add_row(alloc: Global, line: &mut Vec<u8>, fault: &[u8], row: usize) -> Result<()> {
     line.extend_from_slice(fault)?;
     add_number(alloc, line, row)
 }

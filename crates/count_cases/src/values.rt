@@ -1,15 +1,15 @@
-//! Values of formulas over counts, prepared and plain.
+//! Values of formulas over counts: by the call, prepared, and plain.
 
 use crate::fields::{add_number, add_text, levels_of, list_in, text_in};
 use crate::sources::{Table, table_of};
 use anyhow::{Result, bail};
-use count_eval::{EvalFault, is_cell, is_evaluable, value};
+use count_eval::value_by_nodes;
 use expr_text::read_formula;
 use prob_expr::{Formula, Place};
 use quantity::{Bounds, Exact, Quantity};
 use serde_json::Value;
 use std::alloc::Global;
-use value_tables::prepare;
+use value_tables::{EvalFault, is_cell, is_evaluable, prepare, value};
 
 /// Adds the place of a node: its definition, if it is in one, and its number.
 fn add_node(alloc: Global, line: &mut Vec<u8>, place: Place) -> Result<()> {
@@ -38,6 +38,7 @@ fn add_fault(alloc: Global, line: &mut Vec<u8>, fault: &EvalFault, n: usize) -> 
             add_text(line, "too fine,")?;
             add_node(alloc, line, *place)
         }
+        EvalFault::NoMemory => add_text(line, "no memory"),
     }
 }
 
@@ -82,7 +83,7 @@ fn add_plain<Q: Quantity>(
         if at.len() != n as usize || !is_cell(&table.counts, &at) {
             bail!("a cell isn't one");
         }
-        let outcome = value::<Q>(n, f, &table.counts, &at);
+        let outcome = value_by_nodes::<Q>(n, f, &table.counts, &at);
         add_outcome(alloc, line, outcome, at.len())?;
     }
     Ok(())
@@ -112,6 +113,42 @@ fn add_prepared<Q: Quantity>(
     Ok(())
 }
 
+/// Adds a formula's value at a cell, or its fault, by the call that prepares the formula and evaluates it.
+fn add_called<Q: Quantity>(
+    alloc: Global,
+    line: &mut Vec<u8>,
+    f: &Formula,
+    table: &Table,
+    at: &[u32],
+) -> Result<()> {
+    if at.len() > 64 {
+        bail!("a cell is too long");
+    }
+    if !is_evaluable(at.len() as u32, f, &table.counts) {
+        bail!("the formula can't be evaluated");
+    }
+    if !is_cell(&table.counts, at) {
+        bail!("a cell isn't one");
+    }
+    let outcome = value::<Q>(alloc, f, &table.counts, at);
+    add_outcome(alloc, line, outcome, at.len())
+}
+
+/// The same at each of these cells.
+fn add_each_called<Q: Quantity>(
+    alloc: Global,
+    line: &mut Vec<u8>,
+    f: &Formula,
+    table: &Table,
+    cells: &[Value],
+) -> Result<()> {
+    for cell in cells {
+        let at = levels_of(alloc, cell)?;
+        add_called::<Q>(alloc, line, f, table, &at)?;
+    }
+    Ok(())
+}
+
 /// Adds the values of the `formula` at the cells `at`, as the case says.
 pub(crate) fn add_values(
     alloc: Global,
@@ -126,6 +163,8 @@ pub(crate) fn add_values(
     };
     let cells = list_in(case, "at")?;
     match text_in(case, "by")? {
+        "fractions" => add_each_called::<Exact>(alloc, line, &f, &table, cells),
+        "bounds" => add_each_called::<Bounds>(alloc, line, &f, &table, cells),
         "plain fractions" => add_plain::<Exact>(alloc, line, &f, &table, cells),
         "plain bounds" => add_plain::<Bounds>(alloc, line, &f, &table, cells),
         "prepared fractions" => add_prepared::<Exact>(alloc, line, &f, &table, cells),

@@ -1,6 +1,7 @@
 -- What the evaluator gives for main is the formula's value, and what it covers.
-use Rattle.std.proofs.Common.{ℕ, ◌≡◌, ◌≤◌, Bool, cond, ◌∙◌, ap, sym, arith, List, length, take, get_or, None, Result, Ok}
+use Rattle.std.proofs.Common.{ℕ, ◌≡◌, ◌≢◌, ◌≤◌, Bool, cond, ◌∙◌, ap, sym, arith, List, length, take, get_or, None, Result, Ok, Err}
 use Rattle.std.proofs.Math.Seq.{take-length}
+use Rattle.std.proofs.lemmas.Bool.{false≢true}
 use mathlib.Core.Path.{fun_ext}
 use Rattle.fractions.specs.Fractions.{Fraction}
 use Rattle.mixed_graph.specs.Bits.{has, members_below}
@@ -12,11 +13,11 @@ use Rattle.count_rows.specs.Rows.{Table}
 use Rattle.count_table.specs.Cells.{total}
 use Rattle.count_table.specs.Tables.{AreCounts, HasLevels}
 use Rattle.count_eval.specs.declared.failure.EvalFault.{EvalFault}
-use Rattle.count_eval.specs.declared.failure.EvalFault.TheVariants.{NoSupport, TooWide, TooFine}
+use Rattle.count_eval.specs.declared.failure.EvalFault.TheVariants.{NoSupport, TooWide, TooFine, NoMemory}
 use Rattle.count_eval.specs.Stops.{Stop}
 use Rattle.count_eval.specs.Evaluated.{evaluated, evaluated_from, formula_value}
 use Rattle.count_eval.specs.Programs.{weights_in, is_used, known}
-use Rattle.count_eval.specs.Answers.{IsEvaluable, IsFaultOf, CoversCounts, CoversMatches}
+use Rattle.count_eval.specs.Answers.{IsEvaluable, IsFaultOf, CoversCounts, CoversMatches, DeniesMatches}
 use Rattle.count_eval.proofs.Covered.{formula_good}
 use Rattle.count_eval.proofs.Matched.{matched_has_value}
 use Rattle.count_eval.proofs.Used.{used_is}
@@ -40,6 +41,7 @@ pub fault_over : (t : Table) (u : ℕ) (e : EvalFault) (s : Stop) → AreCounts 
 fault_over t u (NoSupport cell place) s are e h = (h.0, h.1, λ v lt. h.2 v lt ∙ ap (λ (b : Bool). cond b (s.cell v) 0) (used_is t u v are e lt))
 fault_over t u (TooWide place) s are e h = h
 fault_over t u (TooFine place) s are e h = h
+fault_over t u NoMemory s are e h = h
 
 -- a value covers the true one over the counts
 pub covers_counts : (k : Kind) (covers : Pair → Fraction → Type 0) → IsLawful k covers → (n : ℕ) (t : Table) (f : PlainFormula) (s : ℕ → ℕ) (c : Pair) → formula_value k (weights_in n t) f s ≡ Ok c → CoversCounts covers n t f s c
@@ -53,3 +55,20 @@ covers_matches k covers law n t f s c ok e = λ g mixed m fit positive matched w
     law.keeps.equal c (value_of (weights_in n t) f s) (value_of (weights_of m) f s)
     ((formula_good k covers law (weights_in n t) f s).found c e).1
     (matched_has_value g mixed m fit positive (is_used t) (weights_in n t) (total t.rows) matched f ok.do_free ok.defs ok.main s within).1
+
+-- a fault is no missing support where the counts match a positive model
+pub denies_matches : (k : Kind) (covers : Pair → Fraction → Type 0) → IsLawful k covers → (n : ℕ) (t : Table) (f : PlainFormula) (s : ℕ → ℕ) (e : EvalFault) (stop : Stop) → IsEvaluable n t f
+    → formula_value k (weights_in n t) f s ≡ Err stop → IsFaultOf (is_used t) e stop → DeniesMatches n t s e
+denies_matches k covers law n t f s (NoSupport cell place) stop ok e h = λ g mixed m fit positive matched within.
+    false≢true (sym ((formula_good k covers law (weights_in n t) f s).none stop e h.0)
+    ∙ (matched_has_value g mixed m fit positive (is_used t) (weights_in n t) (total t.rows) matched f ok.do_free ok.defs ok.main s within).0)
+denies_matches k covers law n t f s (TooWide place) stop ok e h = tt
+denies_matches k covers law n t f s (TooFine place) stop ok e h = tt
+denies_matches k covers law n t f s NoMemory stop ok e h = tt
+
+-- and no want of memory
+pub needs_no_memory : (used : ℕ → Bool) (e : EvalFault) (stop : Stop) → IsFaultOf used e stop → e ≢ NoMemory
+needs_no_memory used (NoSupport cell place) stop h = λ x. cc
+needs_no_memory used (TooWide place) stop h = λ x. cc
+needs_no_memory used (TooFine place) stop h = λ x. cc
+needs_no_memory used NoMemory stop h = absurd h

@@ -13,7 +13,7 @@ use Rattle.quantity.specs.Kinds.{Pair}
 use Rattle.count_rows.specs.Rows.{Table}
 use Rattle.count_table.specs.Cells.{total}
 use Rattle.count_eval.specs.declared.failure.EvalFault.{EvalFault}
-use Rattle.count_eval.specs.declared.failure.EvalFault.TheVariants.{NoSupport, TooWide, TooFine}
+use Rattle.count_eval.specs.declared.failure.EvalFault.TheVariants.{NoSupport, TooWide, TooFine, NoMemory}
 use Rattle.count_eval.specs.Laws.{IsUsed, AllUsed, IsMatched, is_supported}
 use Rattle.count_eval.specs.Programs.{weights_in, is_used}
 use Rattle.count_eval.specs.Stops.{Stop}
@@ -41,6 +41,7 @@ abbrev pub IsFaultOf : (ℕ → Bool) → EvalFault → Stop → Type 0
 IsFaultOf used (NoSupport cell place) s = (s.why ≡ quantity.ZeroBelow) × IsPlaceOf place s × IsCellOf used cell s
 IsFaultOf used (TooWide place) s = (s.why ≡ quantity.TooWide) × IsPlaceOf place s
 IsFaultOf used (TooFine place) s = (s.why ≡ quantity.TooFine) × IsPlaceOf place s
+IsFaultOf used NoMemory s = ⊥
 
 -- the answer is the value, or the fault of the stop
 abbrev pub Answers : {Q : Type 0} → (Q → Pair) → Table → Result Pair Stop → Result Q EvalFault → Type 0
@@ -56,3 +57,11 @@ pub record CoversCounts (covers : Pair → Fraction → Type 0) (n : ℕ) (t : T
 abbrev pub CoversMatches : (Pair → Fraction → Type 0) → ℕ → Table → PlainFormula → (ℕ → ℕ) → Pair → Type 0
 CoversMatches covers n t f s c = (g : MixedGraph) → IsMixedGraph g → (m : FiniteModel) → Fits g m → IsPositiveModel m → IsMatched (is_used t) (weights_in n t) (total t.rows) m
     → IsAssignment m.vertices m.size s → covers c (value_of (weights_of m) f s)
+
+-- a denominator is 0 only where no positive model of a graph, of which the cell is an assignment, has the counts' weights up to one factor
+abbrev pub DeniesMatches : ℕ → Table → (ℕ → ℕ) → EvalFault → Type 0
+DeniesMatches n t s (NoSupport cell place) = (g : MixedGraph) → IsMixedGraph g → (m : FiniteModel) → Fits g m → IsPositiveModel m → IsMatched (is_used t) (weights_in n t) (total t.rows) m
+    → IsAssignment m.vertices m.size s → ⊥
+DeniesMatches n t s (TooWide place) = Unit {0}
+DeniesMatches n t s (TooFine place) = Unit {0}
+DeniesMatches n t s NoMemory = Unit {0}

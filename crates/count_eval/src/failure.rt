@@ -19,4 +19,6 @@ pub enum EvalFault {
     TooWide { place: Place },
     /// The divisor's lower bound is 0, and its upper bound isn't.
     TooFine { place: Place },
+    /// Want of memory: where a formula is prepared, and nowhere else.
+    NoMemory,
 }

@@ -15,7 +15,7 @@ pub use evaluable::{is_cell, is_evaluable};
 pub use failure::{EvalFault, Failure};
 pub use lookup::Lookup;
 use quantity::Quantity;
-pub use values::{value, value_by};
+pub use values::{value_by, value_by_nodes};
 
 /// What the values have to do with fractions, and with models.
 pub fn laws<Q: Quantity>()

@@ -1,10 +1,10 @@
-ghost use Rattle.std.specs.Prelude.{ℕ, ◌≡◌, ◌<◌, ◌≤◌, length, IfOk, slice_index, if◌then◌else◌};
+ghost use Rattle.std.specs.Prelude.{ℕ, ◌≡◌, ◌≢◌, ◌<◌, ◌≤◌, length, IfOk, IfErr, slice_index, if◌then◌else◌};
 ghost use Rattle.mixed_graph.specs.Bits.{has, members_below};
 ghost use Rattle.prob_expr.specs.View.{formula_view};
 ghost use Rattle.count_table.specs.Tables.{AreCounts, HasLevels};
 ghost use Rattle.count_eval.specs.Evaluated.{formula_value};
 ghost use Rattle.count_eval.specs.Programs.{weights_in, is_used, cell_of, stop_of, AreValues};
-ghost use Rattle.count_eval.specs.Answers.{IsEvaluable, IsFaultOf, Answers, CoversCounts, CoversMatches};
+ghost use Rattle.count_eval.specs.Answers.{IsEvaluable, IsFaultOf, Answers, CoversCounts, CoversMatches, DeniesMatches};
 
 use crate::eval::value_at;
 use crate::failure::{EvalFault, Failure};
@@ -57,7 +57,7 @@ fn fault_of(used: VSet, failure: Failure) -> EvalFault
     }
 }
 
-/// The value of a formula at a cell, as `value` gives it, by what a lookup has at hand. For crates that prepare lookups.
+/// The value of a formula at a cell, as `value_by_nodes` gives it, by what a lookup has at hand. For crates that prepare lookups.
 pub fn value_by<Q: Quantity, L: Lookup<Q>>(
     lookup: &L,
     n: u32,
@@ -74,6 +74,8 @@ pub fn value_by<Q: Quantity, L: Lookup<Q>>(
     ensures value { Answers Q.numbers (L.counts lookup.now) (formula_value Q.kind (weights_in n (L.counts lookup.now)) (formula_view f.now) (cell_of at.now)) result }
     ensures counts { IfOk result (λ q. CoversCounts Q.covers n (L.counts lookup.now) (formula_view f.now) (cell_of at.now) (Q.numbers q)) }
     ensures matches { IfOk result (λ q. CoversMatches Q.covers n (L.counts lookup.now) (formula_view f.now) (cell_of at.now) (Q.numbers q)) }
+    ensures support { IfErr result (DeniesMatches n (L.counts lookup.now) (cell_of at.now)) }
+    ensures memory { IfErr result (λ e. e ≢ EvalFault.NoMemory) }
 {
     let cell = array_of(at);
     match value_at(lookup, n, &f.defs, f.defs.len(), &f.main, None, 0, cell) {
@@ -82,19 +84,28 @@ pub fn value_by<Q: Quantity, L: Lookup<Q>>(
     }
 }
 
-/// The value of a formula on n vertices at a cell, over a table of counts: what it gives covers the true value.
+/// The value of a formula on n vertices at a cell, over a table of counts, node by node and without tables: what it gives
+/// covers the true value. It takes no memory.
 ///
 /// The entries of the cell are the numbers of levels, one for each vertex; those of vertices that aren't used
 /// don't count. Each definition is evaluated at each of its uses. The fault is that of the first node, in the
 /// order of evaluation, that has no value: `NoSupport` where a denominator is 0, `TooWide` where a number of the
-/// result would be over 2^127 - 1, `TooFine` where only a divisor's lower bound is 0.
-pub fn value<Q: Quantity>(n: u32, f: &Formula, c: &Counts, at: &[u32]) -> Result<Q, EvalFault>
+/// result would be over 2^127 - 1, `TooFine` where only a divisor's lower bound is 0. Where a
+/// positive model matches the counts, it isn't `NoSupport`.
+pub fn value_by_nodes<Q: Quantity>(
+    n: u32,
+    f: &Formula,
+    c: &Counts,
+    at: &[u32],
+) -> Result<Q, EvalFault>
     requires formula { IsEvaluable n c.now (formula_view f.now) }
     requires entries { length at.now ≡ n }
     requires levels { HasLevels c.now (is_used c.now) at.now }
     ensures value { Answers Q.numbers c.now (formula_value Q.kind (weights_in n c.now) (formula_view f.now) (cell_of at.now)) result }
     ensures counts { IfOk result (λ q. CoversCounts Q.covers n c.now (formula_view f.now) (cell_of at.now) (Q.numbers q)) }
     ensures matches { IfOk result (λ q. CoversMatches Q.covers n c.now (formula_view f.now) (cell_of at.now) (Q.numbers q)) }
+    ensures support { IfErr result (DeniesMatches n c.now (cell_of at.now)) }
+    ensures memory { IfErr result (λ e. e ≢ EvalFault.NoMemory) }
 {
     value_by(c, n, f, c.used(), at)
 }

@@ -77,7 +77,7 @@ fn read_rows_under(
         return Err(CountFault::NoMemory);
     };
     let mut row = ByteRecord::new(alloc);
-    for number in 1..u64::MAX {
+    for number in 1..usize::MAX {
         match read(reader, &mut row) {
             Step::Record => {}
             Step::End => return finished(tally),

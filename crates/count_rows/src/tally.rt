@@ -111,7 +111,7 @@ impl Tally {
         &mut self,
         alloc: Global,
         row: &ByteRecord,
-        number: u64,
+        number: usize,
         columns: &Columns,
     ) -> Result<(), CountFault>
         requires { length self.old.levels.items ≡ length columns.now.places.items }

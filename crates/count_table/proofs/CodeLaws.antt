@@ -5,13 +5,14 @@ use Rattle.std.proofs.lemmas.List.{map-append}
 use Rattle.std.proofs.lemmas.List.Elements.{All-head, All-tail}
 use Rattle.std.proofs.lemmas.Bool.{cases_eq, cases_lt, eq-eqb, ne_eqb}
 use Rattle.std.proofs.lemmas.Bool.Decides.{eqb_tells}
-use Rattle.std.proofs.lemmas.Nat.{and_block, and_mask, and_le_l, pow_pos, mul-le}
+use Rattle.std.proofs.lemmas.Nat.{and_block, and_mask, and_le_l, pow_pos, pow-add, mul-le}
+use Rattle.std.proofs.lemmas.List.Sums.{sum_by-cons}
 use Rattle.std.specs.Int.Bits.{and_zero_r}
 use Rattle.std.proofs.Math.Nat.{mul-le-mul_right, pow-le-pow_right}
 use Rattle.count_rows.specs.Records.{product}
 use Rattle.count_rows.specs.Rows.{agrees}
 use Rattle.count_table.specs.Cells.{cells_of, IsCell}
-use Rattle.count_table.specs.Codes.{bits_for, room, code_of_cell, mask_under, code_under}
+use Rattle.count_table.specs.Codes.{bits_for, room, code_bits, code_of_cell, mask_under, code_under}
 use Rattle.count_table.proofs.CellLists.{below_product, fronted}
 
 -- ---- the room of a field
@@ -162,6 +163,22 @@ rooms-small ns h few =
     let a = rooms-square ns h in
     let b : product ns * product ns ≤ 2 ^ 20 * 2 ^ 20 = mul-le (product ns) (product ns) (2 ^ 20) (2 ^ 20) few few in
     omega (arith, a, b)
+
+rooms-bits : (ns : List ℕ) → rooms ns ≡ 2 ^ code_bits ns
+unfolding room
+rooms-bits [] = refl
+rooms-bits (n ∷ ns) = ap (λ k. 2 ^ bits_for 20 n * k) (rooms-bits ns) ∙ sym (pow-add 2 (bits_for 20 n) (code_bits ns)) ∙ ap (λ k. 2 ^ k) (sym (sum_by-cons (bits_for 20) n ns))
+
+pub bits-few : (ns : List ℕ) → Sized ns → product ns ≤ 2 ^ 20 → code_bits ns ≤ 40
+bits-few ns h few = elim (cases_lt 40 (code_bits ns)) [
+  | inl lt ↦ absurd (
+      let up = below_power 41 (code_bits ns) (omega (arith, lt)) in
+      let e = rooms-bits ns in
+      let small = rooms-small ns h few in
+      omega (arith, up, e, small)
+      )
+  | inr le ↦ omega (arith, le)
+]
 
 pub code_of_cell-lt : (ns xs : List ℕ) → Sized ns → IsCell ns xs → code_of_cell ns xs < rooms ns
 unfolding code_of_cell

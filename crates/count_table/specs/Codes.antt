@@ -1,5 +1,5 @@
 -- Cells packed into numbers: each vertex has a field of bits of its own.
-use Rattle.std.specs.Prelude.{ℕ, zero, suc, ◌+◌, ◌*◌, ◌-◌, ◌^◌, nat_le, List, [], ◌∷◌, Bool, if◌then◌else◌}
+use Rattle.std.specs.Prelude.{ℕ, zero, suc, ◌+◌, ◌*◌, ◌-◌, ◌^◌, nat_le, sum_by, List, [], ◌∷◌, Bool, if◌then◌else◌}
 
 -- the least w up to k with n at most 2 ^ w: as many bits as the numbers below n need
 unfoldable pub bits_for : ℕ → ℕ → ℕ
@@ -9,6 +9,10 @@ bits_for (suc k) n = if nat_le n (2 ^ k) then bits_for k n else suc k
 -- one more than the highest number in the field of a vertex with n levels, of which there are at most 2 ^ 20
 unfoldable pub room : ℕ → ℕ
 room n = 2 ^ bits_for 20 n
+
+-- the bits of the fields of all vertices together, which have these numbers of levels
+abbrev pub code_bits : List ℕ → ℕ
+code_bits sizes = sum_by (bits_for 20) sizes
 
 -- a cell as one number: the field of the first vertex is the lowest
 unfoldable pub code_of_cell : List ℕ → List ℕ → ℕ

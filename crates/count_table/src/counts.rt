@@ -1,8 +1,8 @@
-ghost use Rattle.std.specs.Prelude.{ℕ, ◌≡◌, ◌<◌, ◌==◌, Bool, [], Some, All, IsTrue, IfOk, MatchOption, bit_and, length, map, slice_get, slice_index};
+ghost use Rattle.std.specs.Prelude.{ℕ, ◌≡◌, ◌<◌, ◌≤◌, ◌==◌, Bool, [], Some, All, IsTrue, IfOk, MatchOption, bit_and, length, map, slice_get, slice_index};
 ghost use Rattle.mixed_graph.specs.Bits.{has, members_below};
 ghost use Rattle.count_rows.specs.Rows.{agrees, counted};
 ghost use Rattle.count_table.specs.Cells.{sizes_of, rows_from};
-ghost use Rattle.count_table.specs.Codes.{code_of_cell, mask_under, code_under};
+ghost use Rattle.count_table.specs.Codes.{code_bits, code_of_cell, mask_under, code_under};
 ghost use Rattle.count_table.specs.Tables.{levels_in, AreCounts, AreRows, HasLevels};
 
 use crate::cells::counts_of;
@@ -123,9 +123,11 @@ impl Counts {
         self.cells.as_slice()
     }
 
-    /// The code of each combination: the levels packed into fields of bits, that of the lowest index the lowest.
+    /// The code of each combination: the levels packed into fields of bits, that of the lowest index the lowest. All fields
+    /// together have at most 40 bits.
     pub fn codes(&self) -> &[u64]
-        ensures { result.now ≡ map (λ r. code_of_cell (sizes_of self.now.levels) r.cell) self.now.rows }
+        ensures few { code_bits (sizes_of self.now.levels) ≤ 40 }
+        ensures codes { result.now ≡ map (λ r. code_of_cell (sizes_of self.now.levels) r.cell) self.now.rows }
     {
         self.codes.as_slice()
     }

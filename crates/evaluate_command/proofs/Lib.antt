@@ -1,4 +1,5 @@
 pub mod Mentions
+pub mod Columns
 pub mod Tables
 pub mod CellLists
 pub mod Printed

@@ -1,5 +1,5 @@
 -- An effect that has a formula.
-use Rattle.std.specs.Prelude.{ℕ, ◌≡◌, ◌≤◌, ◌<◌, List, length, None}
+use Rattle.std.specs.Prelude.{ℕ, ◌≡◌, ◌⊎◌, ◌≤◌, ◌<◌, IsTrue, List, length, None}
 use Rattle.mixed_graph.specs.Bits.{has}
 use Rattle.mixed_graph.specs.Graphs.{MixedGraph, IsMixedGraph, IsAncestor}
 use Rattle.mixed_graph.specs.Sets.{Within, Apart}
@@ -31,8 +31,17 @@ pub record PlainEffect : Type 0 where
 abbrev pub effect_view : Identified → PlainEffect
 effect_view i = record { names = i.seen.names; graph = graph_of i.seen.graph; x = i.sets.x.bits; y = i.sets.y.bits; formula = formula_view i.formula }
 
+-- the vertices whose levels are read: those that the formula names, with x and y
+abbrev pub used_in : PlainEffect → ℕ
+used_in e = join (mentioned e.formula) (join e.x e.y)
+
+-- the vertex is in x, or it is an ancestor of y
+abbrev pub IsColumn : PlainEffect → ℕ → Type 0
+IsColumn e v = IsTrue (has e.x v) ⊎ IsAncestor e.graph (has e.y) v
+
 -- x and y lie apart in the graph, and y has a member. The formula is that of the identification procedure: it has no intervention, it equals P(y | do(x)) in each
 -- positive model that fits the graph, some derivation turns P(y | do(x)) into it, and it names ancestors of y alone.
+-- No column is read but those of x and of ancestors of y.
 pub record IsIdentified (e : PlainEffect) : Type 0 where
   pub named : length e.names ≡ e.graph.vertices
   pub few : e.graph.vertices ≤ 64
@@ -43,6 +52,7 @@ pub record IsIdentified (e : PlainEffect) : Type 0 where
   pub some : 0 < e.y
   pub formed : fault_in e.graph.vertices e.formula ≡ None
   pub ancestors : FormulaNamesOnly (IsAncestor e.graph (has e.y)) e.formula
+  pub columns : (v : ℕ) → IsTrue (has (used_in e) v) → IsColumn e v
   pub derivation : PlainDerivation
   pub right : IsRightFormula e.graph e.x e.y e.formula derivation
   pub derived : IsDerived e.graph e.x e.y e.formula derivation
@@ -53,7 +63,3 @@ pub record Identifies (g : ReadGraph) (x y : Names) (e : PlainEffect) : Type 0 w
   pub graph : IsObservedGraph g e.graph
   pub sets : AreEffectSets (effect_lists g x y) e.x e.y
   pub identified : IsIdentified e
-
--- the vertices whose levels are read: those that the formula names, with x and y
-abbrev pub used_in : PlainEffect → ℕ
-used_in e = join (mentioned e.formula) (join e.x e.y)

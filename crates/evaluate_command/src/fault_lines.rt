@@ -68,6 +68,7 @@ fn push_fault(
             out.extend_from_slice(b"evaluation fault 3: ")?;
             push_place(alloc, out, *place)
         }
+        EvalFault::NoMemory => Err(AllocError),
     }
 }
 

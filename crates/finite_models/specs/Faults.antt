@@ -1,5 +1,5 @@
 -- What keeps data from meaning a model that fits the graph, the first in order.
-use Rattle.std.specs.Prelude.{length}
+use Rattle.std.specs.Prelude.{ℕ, ◌≡◌, ◌-◌, ◌^◌, min, length}
 use Rattle.mixed_graph.specs.Graphs.{MixedGraph}
 use Rattle.finite_models.specs.Sound.{IsSoundAt, IsFirstWrong, AllRight}
 use Rattle.finite_models.specs.Inputs.{HasInputsAt, HasValuesAt, HasPartSizeAt}
@@ -18,8 +18,12 @@ pub record HasForm (g : MixedGraph) (m : Model) : Type 0 where
   pub inputs : AllRight g.vertices (HasInputsAt g m)
   pub part_sizes : AllRight g.vertices (HasPartSizeAt m)
 
+-- a number that would pass the last of 32 bits is given as that
+abbrev pub cap : ℕ → ℕ
+cap j = min j (2 ^ 32 - 1)
+
 -- the fault is there, at its lowest number, and no fault of a kind before it
 abbrev pub IsFirstFault : MixedGraph → Model → ModelFault → Type 0
-IsFirstFault g m (Cause j) = IsFirstWrong (length m.causes.items) (IsSoundAt g m) j
+IsFirstFault g m (Cause c) = (j : ℕ) × IsFirstWrong (length m.causes.items) (IsSoundAt g m) j × (c ≡ cap j)
 IsFirstFault g m (Input v) = AllRight (length m.causes.items) (IsSoundAt g m) × IsFirstWrong g.vertices (HasInputsAt g m) v
 IsFirstFault g m (Value v) = AllRight (length m.causes.items) (IsSoundAt g m) × AllRight g.vertices (HasInputsAt g m) × IsFirstWrong g.vertices (HasValuesAt m) v

@@ -2,12 +2,23 @@ ghost use Rattle.std.specs.Prelude.{◌≡◌, ℕ, ◌≤◌, ◌↔◌, IsOk, 
 ghost use Rattle.mixed_graph.specs.Shown.{graph_of};
 ghost use Rattle.finite_models.specs.Models.{Fits};
 ghost use Rattle.finite_models.specs.Data.{meaning};
-ghost use Rattle.finite_models.specs.Faults.{HasForm, IsFirstFault};
+ghost use Rattle.finite_models.specs.Faults.{cap, HasForm, IsFirstFault};
 
 use crate::causes::wrong_cause;
 use crate::kinds::{Model, ModelFault};
 use crate::mechanisms::{wrong_input, wrong_value};
 use mixed_graph::Graph;
+
+/// The number, or the last one of 32 bits where it would pass that.
+fn cap(j: usize) -> u32
+    ensures { result ≡ cap j }
+{
+    if j < u32::MAX as usize {
+        j as u32
+    } else {
+        u32::MAX
+    }
+}
 
 /// Whether the model fits the graph; else the first fault: causes, then inputs, then values.
 pub fn check_model(g: &Graph, m: &Model) -> Result<(), ModelFault>
@@ -18,7 +29,7 @@ pub fn check_model(g: &Graph, m: &Model) -> Result<(), ModelFault>
     ensures fault { IfErr result (IsFirstFault (graph_of g.now) m.now) }
 {
     if let Some(j) = wrong_cause(g, m) {
-        return Err(ModelFault::Cause(j));
+        return Err(ModelFault::Cause(cap(j)));
     }
     if let Some(v) = wrong_input(g, m) {
         return Err(ModelFault::Input(v));

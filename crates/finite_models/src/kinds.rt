@@ -42,7 +42,8 @@ pub struct Part {
 #[derive(Clone, Copy, Debug, PartialEq, Eq)]
 pub enum ModelFault {
     /// The lowest cause without a positive weight or a child, or with a child that is no vertex, or with two that no bidirected edge joins.
-    Cause(usize),
+    /// Its number is given as 2^32 - 1 where it would pass that.
+    Cause(u32),
     /// The lowest vertex that reads what it may not, or whose table has another length than its index range.
     Input(u8),
     /// The lowest vertex with an output that is no value of it, or with bits of another number than its size.

@@ -130,7 +130,7 @@ fn push_numbered(
 }
 
 /// Appends a fault with its row.
-fn push_at_row(alloc: Global, out: &mut Vec<u8>, fault: &[u8], row: u64) -> Result<(), AllocError>
+fn push_at_row(alloc: Global, out: &mut Vec<u8>, fault: &[u8], row: usize) -> Result<(), AllocError>
     ensures { OnOk result (out.new.items ≡ out.old.items ++ (fault.now ++ at_row row)) }
 {
     let text = format!(in alloc; ": row {row}")?;

@@ -1,2 +1,3 @@
 pub mod Preparations
 pub mod Tables
+pub mod Values

@@ -1,9 +1,9 @@
-ghost use Rattle.std.specs.Prelude.{◌≡◌, length, IfOk};
+ghost use Rattle.std.specs.Prelude.{◌≡◌, ◌≢◌, length, IfOk, IfErr};
 ghost use Rattle.prob_expr.specs.View.{formula_view};
 ghost use Rattle.count_table.specs.Tables.{HasLevels};
 ghost use Rattle.count_eval.specs.Evaluated.{formula_value};
 ghost use Rattle.count_eval.specs.Programs.{weights_in, is_used, cell_of};
-ghost use Rattle.count_eval.specs.Answers.{IsEvaluable, Answers, CoversCounts, CoversMatches};
+ghost use Rattle.count_eval.specs.Answers.{IsEvaluable, Answers, CoversCounts, CoversMatches, DeniesMatches};
 
 use crate::table::DefinitionTable;
 use crate::tables::{MOST_CELLS, Tables, tables_of};
@@ -47,7 +47,7 @@ impl<'a, Q: Quantity> Model for Prepared<'a, Q> {
 /// Prepares a formula on n vertices over a table of counts. Its only error is want of memory.
 ///
 /// Tables are made in the order of the definitions, each after the sums of its terms, and last the sums of the main
-/// expression's, as long as all have at most 2^22 cells together. What has no table is evaluated as `count_eval::value` does.
+/// expression's, as long as all have at most 2^22 cells together. What has no table is evaluated as `value_by_nodes` does.
 pub fn prepare<'a, Q: Quantity>(
     alloc: Global,
     n: u32,
@@ -74,13 +74,15 @@ pub fn prepare<'a, Q: Quantity>(
 }
 
 impl<'a, Q: Quantity> Prepared<'a, Q> {
-    /// The value at a cell, as `count_eval::value` gives it: the same value, or the same fault.
+    /// The value at a cell, as `value_by_nodes` gives it: the same value, or the same fault. It takes no memory.
     pub fn value(&self, at: &[u32]) -> Result<Q, EvalFault>
         requires entries { length at.now ≡ self.now.vertices }
         requires levels { HasLevels self.now.counts (is_used self.now.counts) at.now }
         ensures value { Answers Q.numbers self.now.counts (formula_value Q.kind (weights_in self.now.vertices self.now.counts) self.now.formula (cell_of at.now)) result }
         ensures counts { IfOk result (λ q. CoversCounts Q.covers self.now.vertices self.now.counts self.now.formula (cell_of at.now) (Q.numbers q)) }
         ensures matches { IfOk result (λ q. CoversMatches Q.covers self.now.vertices self.now.counts self.now.formula (cell_of at.now) (Q.numbers q)) }
+        ensures support { IfErr result (DeniesMatches self.now.vertices self.now.counts (cell_of at.now)) }
+        ensures memory { IfErr result (λ e. e ≢ EvalFault.NoMemory) }
     {
         let tables = Tables {
             vertices: self.vertices,

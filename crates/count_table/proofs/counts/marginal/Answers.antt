@@ -17,7 +17,7 @@ masked_sum-requires c =
     record {
       lengths =
           ap (λ (l : List ℕ). length l) c.cells.ensures.counts ∙ length-map rows (λ (r : Row). r.count)
-          ∙ sym (ap (λ (l : List ℕ). length l) c.codes.ensures ∙ length-map rows (λ (r : Row). code_of_cell (sizes_of c.args.c.now.levels) r.cell));
+          ∙ sym (ap (λ (l : List ℕ). length l) c.codes.ensures.codes ∙ length-map rows (λ (r : Row). code_of_cell (sizes_of c.args.c.now.levels) r.cell));
       room = omega (arith, all, most);
     }
 
@@ -30,6 +30,6 @@ returns c =
     c.masked_sum.ensures
     ∙ ap (λ m. matched_sum m want (length c.cells.result.now) c.cells.result.now c.codes.result.now) c.mask_of-mask.ensures
     ∙ ap (λ (l : List ℕ). matched_sum mask want (length l) l c.codes.result.now) c.cells.ensures.counts
-    ∙ ap (λ (l : List ℕ). matched_sum mask want (length (map (λ (r : Row). r.count) t.rows)) (map (λ (r : Row). r.count) t.rows) l) c.codes.ensures
+    ∙ ap (λ (l : List ℕ). matched_sum mask want (length (map (λ (r : Row). r.count) t.rows)) (map (λ (r : Row). r.count) t.rows) l) c.codes.ensures.codes
     ∙ ap (λ n. matched_sum mask want n (map (λ (r : Row). r.count) t.rows) (map (λ (r : Row). code r.cell) t.rows)) (length-map t.rows (λ (r : Row). r.count))
     ∙ masked_is_counted t.vertices code mask want t.rows (has c.args.of.bits) _ c.code_of-want.ensures.agrees

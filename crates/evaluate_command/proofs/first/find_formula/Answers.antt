@@ -15,6 +15,8 @@ use Rattle.id_recursion.specs.Hedged.{IsHedgeOf}
 use Rattle.identify_text.specs.Below.{IsHedgeBelow, ArePairBelow}
 use Rattle.identify_text.proofs.Belows.{hedge_below}
 use Rattle.identify_command.proofs.Writing.{pair_below}
+use Rattle.prob_expr.specs.View.{formula_view}
+use Rattle.evaluate_command.proofs.Columns.{used_columns}
 use Rattle.evaluate_command.proofs.first.find_formula.Goals as goal
 
 pub hedge_answer-requires-clause-hedge : goal.hedge_answer-requires-clause-hedge
@@ -35,6 +37,7 @@ hedge_answer-requires-clause-models c =
 pub returns-in-Formula : goal.returns-in-Formula
 returns-in-Formula c =
     let g = graph_of c.args.seen.now.graph in let x = c.args.sets.x.bits in let y = c.args.sets.y.bits in
+    let names = subst (λ a. IfFormula a (λ f d. FormulaNamesOnly (IsAncestor g (has y)) f)) c.in-Formula.is c.in_ok-formula.ensures.names in
     record {
       named = c.requires.named;
       few = c.args.seen.now.graph.small;
@@ -44,7 +47,8 @@ returns-in-Formula c =
       apart = c.requires.apart;
       some = c.requires.some;
       formed = subst (λ a. IfFormula a (λ f d. fault_in c.args.seen.now.graph.n f ≡ None)) c.in-Formula.is c.in_ok-formula.ensures.formed;
-      ancestors = subst (λ a. IfFormula a (λ f d. FormulaNamesOnly (IsAncestor g (has y)) f)) c.in-Formula.is c.in_ok-formula.ensures.names;
+      ancestors = names;
+      columns = used_columns (record { names = c.args.seen.now.names; graph = g; x = x; y = y; formula = formula_view c.in-Formula.formula }) names c.requires.y;
       derivation = derivation_view c.in-Formula.field-1;
       right = subst (IsRight g x y) c.in-Formula.is c.in_ok-formula.ensures.right;
       derived = subst (λ a. IfFormula a (IsDerived g x y)) c.in-Formula.is c.in_ok-formula.ensures.derived;
