@@ -1,4 +1,6 @@
 //! How sets of vertices and paths are printed.
+//!
+//! `push_set(&mut text, &names, set)` writes `{A,B}`.
 #![tactic(auto)]
 
 ghost use Rattle.std.specs.Prelude.{◌≡◌, ◌++◌, ◌<◌, ◌≤◌, ◌+◌, ◌∷◌, [], ℕ, length, map, OnOk, slice_index, slice_index_or};

@@ -1,4 +1,6 @@
 //! Where a program's bytes come from and where they go, with failures that are counted.
+//!
+//! `read_all(alloc, &mut shelf, name, limit)` gives all bytes that are held under a name.
 #![tactic(auto)]
 
 ghost use Rattle.std.specs.Prelude.{◌≡◌, ◌≢◌, ◌+◌, ◌-◌, ◌^◌, ◌<◌, ◌≤◌, List, ℕ, Bool, Option, true, false, length, take, IfOk, OnOk, OnErr, IfSome, IsErr, IsErrOf};

@@ -23,6 +23,8 @@
 //! | `big`, `small`, `roots` | lists of names in index order |
 //! | `choice` | a list of `[vertex, child]` in index order |
 //! | `links` | a list of `[start]` and then `[found, partner]` |
+//!
+//! `read_answer(alloc, text, &names)` gives the certificate that a text holds.
 #![tactic(auto)]
 
 mod fault;

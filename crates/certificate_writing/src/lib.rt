@@ -1,4 +1,6 @@
 //! Certificates of answers, written as JSON texts that are read again.
+//!
+//! `write_answer(alloc, &certificate, &names)` gives its text.
 #![tactic(auto)]
 
 mod formulas;

@@ -1,4 +1,6 @@
 //! The rows that are counted in a text of CSV: the levels of each used vertex, and each record as a row with its count.
+//!
+//! `read_rows(alloc, text, &names, used, count_column)` gives the levels and the rows of a table.
 #![tactic(auto)]
 
 mod digits;

@@ -1,4 +1,6 @@
 //! The two models of a hedge, as data: they agree on all observations, and differ on the effect.
+//!
+//! `build(alloc, &graph, x, y, &hedge)` gives the two models.
 #![tactic(auto)]
 
 mod carrying;

@@ -1,4 +1,6 @@
-// Graph text: the `dag` texts of DAGitty in one profile, read and written.
+//! Graph text: the `dag` texts of DAGitty in one profile, read and written.
+//!
+//! `read_graph(alloc, text)` gives the graph, the names and the roles that a text says, or its first fault.
 #![tactic(auto)]
 
 mod building;

@@ -1,4 +1,6 @@
-// Districts of a mixed graph, trees of links over joined sets, and children on shortest paths.
+//! Districts of a mixed graph, trees of links over joined sets, and children on shortest paths.
+//!
+//! `districts(&graph, within)` gives the districts in the order of the graph.
 #![tactic(auto)]
 
 mod linked;

@@ -1,4 +1,6 @@
 //! Derivations in the do-calculus, and the checker that accepts them.
+//!
+//! `check(alloc, &graph, &target, &formula, &derivation)` says whether the derivation shows that the formula is the effect.
 #![tactic(auto)]
 
 mod applying;

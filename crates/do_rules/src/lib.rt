@@ -1,4 +1,6 @@
 //! Separation as independence, and the three rules of the do-calculus.
+//!
+//! `rule2(&graph, x, y, z, w)` says whether z may be observed in place of being done.
 #![tactic(auto)]
 
 mod rules;

@@ -8,6 +8,8 @@
 //! ```
 //!
 //! A formula's text is its main expression and then `qk = expr` for each definition, in order from `q0`.
+//!
+//! `read_formula(alloc, text, &names)` gives the formula that a text says, and `formula_text(alloc, &formula, &names)` its text.
 #![tactic(auto)]
 
 mod bytes;

@@ -1,4 +1,6 @@
 //! Finite causal models with hidden causes: worlds, solutions, weights.
+//!
+//! `weight(&model, &graph, done, event, at)` is the weight of an event under an intervention.
 #![tactic(auto)]
 
 mod causes;

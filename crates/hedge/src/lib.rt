@@ -1,4 +1,6 @@
-// Hedges as data, and whether they hold.
+//! Hedges as data, and whether they hold.
+//!
+//! `holds(&graph, x, y, &hedge)` says whether it is a hedge for the effect of x on y.
 #![tactic(auto)]
 
 mod choices;

@@ -1,6 +1,8 @@
 //! Sums of counts under a mask and along one axis of a table, eight lanes at a time.
 //!
 //! Each call gives the plain sum at every length. Nothing is allocated.
+//!
+//! `masked_sum(cells, codes, mask, value)` is the sum of the cells that agree under a mask.
 #![tactic(auto)]
 
 ghost use Rattle.std.specs.Prelude.{ℕ, ◌≡◌, ◌<◌, ◌≤◌, ◌+◌, ◌*◌, ◌-◌, ◌^◌, length, sum, slice_range, slice_index};

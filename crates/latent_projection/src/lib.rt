@@ -1,4 +1,6 @@
-// The latent projection: a graph with hidden vertices as a graph on the observed ones.
+//! The latent projection: a graph with hidden vertices as a graph on the observed ones.
+//!
+//! `project(&graph, latent)` is the graph on the vertices that are left.
 #![tactic(auto)]
 
 mod dropping;

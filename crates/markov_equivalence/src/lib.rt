@@ -1,4 +1,6 @@
 //! Whether two graphs without bidirected edges have the same skeleton and the same unshielded colliders.
+//!
+//! `compare(&g, &h)` gives the first difference, if there is one.
 #![tactic(auto)]
 
 mod comparison;

@@ -1,4 +1,6 @@
-// Acyclic mixed graphs on at most 64 named vertices, and sets of vertices.
+//! Acyclic mixed graphs on at most 64 named vertices, and sets of vertices.
+//!
+//! `Graph::build(n, &directed, &both)` gives the graph of some edges, and `graph.ancestors(set)` the ancestors of a set.
 #![tactic(auto)]
 
 mod cycles;

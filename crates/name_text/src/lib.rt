@@ -1,4 +1,6 @@
 //! How names are printed: bare where they can be read back so, else between quotation marks.
+//!
+//! `push_name(&mut text, name)` writes one.
 #![tactic(auto)]
 
 ghost use Rattle.std.specs.Prelude.{◌≡◌, ◌++◌, OnOk};

@@ -1,5 +1,7 @@
 //! Open paths of one graph carried to an equivalent one, and equivalence as equality of all separations
 //! (Verma and Pearl, Equivalence and synthesis of causal models, 1990).
+//!
+//! `carry_path(&g, &h, w, &path)` gives the open path in h, and `imply_the_same(&g, &h)` says whether all separations are equal.
 #![tactic(auto)]
 
 ghost use Rattle.std.specs.Prelude.{◌≡◌, ◌==◌, ◌-◌, ◌↔◌, IsTrue, slice_index};

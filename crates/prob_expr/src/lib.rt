@@ -3,6 +3,8 @@
 //! A formula is a list of definitions and a main expression. Contracts speak of the plain trees of
 //! `specs/Tree.antt`, which `specs/View.antt` reads off the code's; `specs/Values.antt` says what
 //! the value of a formula in a model is.
+//!
+//! `check(&formula, n)` says whether a formula is in form, and `free(&formula)` which variables it reads.
 #![tactic(auto)]
 
 mod allowing;

@@ -1,4 +1,6 @@
 //! Proper causal paths, and the graph without their first edges.
+//!
+//! `proper_causal(&graph, x, y)` is that graph.
 #![tactic(auto)]
 
 mod proper;

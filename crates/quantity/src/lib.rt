@@ -1,6 +1,8 @@
 //! Quantities that cover fractions: exact fractions in lowest terms, and bounds in units of 10^-18.
 //!
 //! The result of each operation covers the true sum, product or quotient of what its operands cover.
+//!
+//! `Exact::from_ratio(1, 3)` is a third, and `Bounds::from_ratio(1, 3)` encloses it.
 #![tactic(auto)]
 
 ghost use Rattle.quantity.specs.Theorems.{EuclidIsGreatest, MultipleIsLeast, ZeroIsOverOne, BoundsEnclose, FractionsHaveEighteenDigits};

@@ -1,4 +1,6 @@
 //! Graphs with edges cut out, as the rules of the do-calculus need them.
+//!
+//! `cut_into(&graph, set)` is the graph without the arrowheads into a set.
 #![tactic(auto)]
 
 mod cuts;

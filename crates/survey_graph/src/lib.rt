@@ -1,4 +1,6 @@
 //! A large graph made from a number, for surveys, and counts of edges.
+//!
+//! `survey_graph(seed)` is that graph.
 #![tactic(auto)]
 
 mod count;

@@ -1,4 +1,6 @@
 //! What the names that a command lists stand for: sets of observed vertices, or the first name at fault.
+//!
+//! `find_sets(alloc, &all, &observed, x, y, given)` gives the sets of three lists.
 #![tactic(auto)]
 
 ghost use Rattle.std.specs.Prelude.{◌≡◌, ◌<◌, ℕ, IsTrue, false, true, length, IfOk, IfErr, OnOk, None, Some, ◌||◌};

@@ -1,4 +1,6 @@
 //! Formulas over counts, prepared to be evaluated at many cells.
+//!
+//! `prepare(alloc, n, &formula, &counts)` makes the tables, and `prepared.value(at)` gives the value at a cell.
 #![tactic(auto)]
 
 mod evaluating;
