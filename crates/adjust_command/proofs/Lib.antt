@@ -3,3 +3,4 @@ pub mod Paths
 pub mod Exposures
 pub mod Minimal
 pub mod Lists
+pub mod Outcomes

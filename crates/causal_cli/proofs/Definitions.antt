@@ -7,7 +7,7 @@ use Rattle.dag_reader.specs.Reads.{Reads}
 use Rattle.fault_text.specs.Lines.{line_of, graph_fault_text}
 use Rattle.replies.specs.declared.outcome.Reply.{Reply}
 use Rattle.replies.specs.declared.outcome.Outcome.{Outcome}
-use Rattle.replies.specs.declared.outcome.Outcome.TheVariants.{Yes, No, Graph, Second, Evaluation}
+use Rattle.replies.specs.declared.outcome.Outcome.TheVariants.{Graph}
 use Rattle.replies.specs.Observed.{Holds}
 use Rattle.evaluate_command.specs.Answers.{CountsAnswer}
 use Rattle.evaluate_command.specs.Effects.{effect_view}
@@ -21,11 +21,8 @@ use Rattle.causal_cli.specs.declared.answer.First.{First}
 use Rattle.causal_cli.specs.declared.answer.First.TheVariants as first
 
 held : (w : Wish) (bytes : List ℕ) (o : Outcome) (text : List ℕ) → HoldsAnswer w bytes o text → Defined w bytes o text
-held w bytes Yes text h = h
-held w bytes No text h = h
 held w bytes Graph text h = inr h
-held w bytes Second text h = h
-held w bytes Evaluation text h = h
+held w bytes o text h = h
 
 -- what a wish gives on the graph that the bytes hold
 given_on : (w : Wish) (bytes : List ℕ) (g : ReadGraph) (f : First) → Holds bytes g → GivesOn w g f → GivesFirst w bytes f

@@ -6,13 +6,12 @@ use Rattle.word_forms.specs.Form.{Text}
 use Rattle.word_values.specs.Commands.{Asked, Asks}
 use Rattle.word_values.specs.Commands as asked
 use Rattle.replies.specs.declared.outcome.Outcome.{Outcome}
-use Rattle.replies.specs.declared.outcome.Outcome.TheVariants as outcome
+use Rattle.replies.specs.declared.outcome.Outcome.TheVariants.{Yes, No, Words, Graph, Second, Evaluation, Read, Write, Memory}
+use Rattle.replies.specs.Outcomes.{code_of}
 use Rattle.causal_cli.specs.Answers.{HoldsAnswer}
 use Rattle.causal_cli.specs.Wishes.{Wish, graph, separate, rule, identify, check, adjust, evaluate, equivalent, Wants, file_of, second_of, Task, on_file, survey, SetsTask, AskOnce}
-use Rattle.causal_cli.specs.Run.{Run, Answers, by_words, by_file, by_both, code_of}
-use Rattle.causal_cli.specs.Endings.{EndsAs, verdict_of, IfAnswered}
-use Rattle.causal_cli.specs.declared.ending.Ending.{Ending}
-use Rattle.causal_cli.specs.declared.ending.Ending.TheVariants as ending
+use Rattle.causal_cli.specs.Run.{Run, Answers, by_words, by_file, by_both, Ends}
+use Rattle.causal_cli.specs.Ends.{IfAnswered}
 use Rattle.causal_cli.specs.Headline.{IsRightText, Identified, Headline}
 use Rattle.causal_cli.proofs.WishLemmas.{asked_by, asks_it, number}
 
@@ -68,14 +67,14 @@ module _ (r : Run) (once : AskOnce r.words) (file : Text) (x y : Option Text) (c
   by_wish : (o : Outcome) (text : List ℕ) (w : Wish) → Wants r.words w → IsAnsweredOn r w o text → Appends r.out.before r.out.after text → Identified r file x y certificate latex o
   by_wish o text w h defined whole = subst (λ (a : Asked). IsWrittenFor r a o) (is_it (on_file w) h) (answered_for r o text w h defined whole)
 
-  on_yes : (text : List ℕ) → Answers r outcome.Yes text → Appends r.out.before r.out.after text → Identified r file x y certificate latex outcome.Yes
+  on_yes : (text : List ℕ) → Answers r Yes text → Appends r.out.before r.out.after text → Identified r file x y certificate latex Yes
   on_yes text (by_words a) whole = let e : 8 ≡ 3 = ap number (is_it (survey a.seed) a.wants) in absurd (omega (arith, e))
-  on_yes text (by_file a) whole = by_wish outcome.Yes text a.wish a.wants a.defined whole
+  on_yes text (by_file a) whole = by_wish Yes text a.wish a.wants a.defined whole
   on_yes text (by_both a) whole = absurd (no_second r.words a.wish a.wants a.second a.names_it (ap number (is_it (on_file a.wish) a.wants)))
 
-  on_no : (text : List ℕ) → Answers r outcome.No text → Appends r.out.before r.out.after text → Identified r file x y certificate latex outcome.No
+  on_no : (text : List ℕ) → Answers r No text → Appends r.out.before r.out.after text → Identified r file x y certificate latex No
   on_no text (by_words a) whole = let e : 8 ≡ 3 = ap number (is_it (survey a.seed) a.wants) in absurd (omega (arith, e))
-  on_no text (by_file a) whole = by_wish outcome.No text a.wish a.wants a.defined whole
+  on_no text (by_file a) whole = by_wish No text a.wish a.wants a.defined whole
   on_no text (by_both a) whole = absurd (no_second r.words a.wish a.wants a.second a.names_it (ap number (is_it (on_file a.wish) a.wants)))
 
 -- a status that is none of an answer says nothing
@@ -85,31 +84,19 @@ other_status r code high = record {
   hedge = λ file x y certificate latex asks e. absurd (omega (arith, high, e));
 }
 
-pub headline : (r : Run) (code : ℕ) (e : Ending) → code ≡ code_of (verdict_of e) → EndsAs r e → IfAnswered e (AskOnce r.words) → Headline r code
-headline r code ending.Affirmed c (text, h) once = record {
+pub headline : (r : Run) (code : ℕ) (o : Outcome) (text : List ℕ) → code ≡ code_of o → Ends r o text → IfAnswered o (AskOnce r.words) → Headline r code
+headline r code Yes text c h once = record {
   formula = λ file x y certificate latex asks zero. on_yes r once file x y certificate latex asks text h.answers h.whole;
   hedge = λ file x y certificate latex asks one. absurd (omega (arith, c, one));
 }
-headline r code ending.Denied c (text, h) once = record {
+headline r code No text c h once = record {
   formula = λ file x y certificate latex asks zero. absurd (omega (arith, c, zero));
   hedge = λ file x y certificate latex asks one. on_no r once file x y certificate latex asks text h.answers h.whole;
 }
-headline r code ending.NotUnderstood c h once = other_status r code (omega (arith, c))
-headline r code (ending.Refused line) c h once = other_status r code (omega (arith, c))
-headline r code (ending.SecondRefused line) c h once = other_status r code (omega (arith, c))
-headline r code (ending.NoValue line) c h once = other_status r code (omega (arith, c))
-headline r code ending.Unread c h once = other_status r code (omega (arith, c))
-headline r code ending.Unwritten c h once = other_status r code (omega (arith, c))
-headline r code ending.NoMemory c h once = other_status r code (omega (arith, c))
+headline r code o text c h once = other_status r code (omega (arith, c))
 
 -- a fact holds where an answer was written, if it holds anyway
-pub held_anyway : (e : Ending) (P : Type 0) → P → IfAnswered e P
-held_anyway ending.Affirmed P p = p
-held_anyway ending.Denied P p = p
-held_anyway ending.NotUnderstood P p = tt
-held_anyway (ending.Refused line) P p = tt
-held_anyway (ending.SecondRefused line) P p = tt
-held_anyway (ending.NoValue line) P p = tt
-held_anyway ending.Unread P p = tt
-held_anyway ending.Unwritten P p = tt
-held_anyway ending.NoMemory P p = tt
+pub held_anyway : (o : Outcome) (P : Type 0) → P → IfAnswered o P
+held_anyway Yes P p = p
+held_anyway No P p = p
+held_anyway o P p = tt

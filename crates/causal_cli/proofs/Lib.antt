@@ -1,11 +1,7 @@
 mod Definitions
 mod Deliveries
-mod Endings
-mod GraphTexts
-mod Equations
-mod PathLemmas
-mod RuleSets
+mod NeverFails
+mod Answered
 mod WishLemmas
-mod Separations
 mod RangeLemmas
 mod Headlines

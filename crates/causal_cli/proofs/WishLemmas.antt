@@ -9,8 +9,9 @@ use Rattle.word_values.specs.Commands as asked
 use Rattle.replies.specs.Observed.{Names}
 use Rattle.adjust_command.specs.Queries.{Query, by_set, by_back_door, listing}
 use Rattle.identify_command.specs.declared.form.Form.{Form}
-use Rattle.causal_cli.specs.declared.rule.Rule.{Rule}
-use Rattle.causal_cli.specs.Wishes.{graph, separate, rule, identify, check, adjust, evaluate, equivalent, Task, on_file, survey, number_of, IsListed, IsListedOrEmpty, IsForm, IsMost, IsQuery, SetsTask, AskOnce}
+use Rattle.rule_command.specs.declared.rule.Rule.{Rule}
+use Rattle.rule_command.specs.Calculus.{number_of}
+use Rattle.causal_cli.specs.Wishes.{graph, separate, rule, identify, check, adjust, evaluate, equivalent, Task, on_file, survey, IsListed, IsListedOrEmpty, IsForm, IsMost, IsQuery, SetsTask, AskOnce}
 
 -- a value that is no list gives no names
 pub not_listed : (text : Text) → ((names : List (List ℕ)) → IsList text names → ⊥) → (names : Names) → IsListed (Some text) names → ⊥

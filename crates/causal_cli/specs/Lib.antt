@@ -3,8 +3,7 @@ pub mod WishViews
 pub mod Lines
 pub mod Answers
 pub mod Run
-pub mod Replies
-pub mod Endings
+pub mod Ends
 pub mod Pendings
 pub mod Ranges
 pub mod Headline

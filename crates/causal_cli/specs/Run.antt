@@ -4,26 +4,12 @@ use Rattle.std.specs.Io.KnownBytes.{Appends}
 use Rattle.causal_io.specs.Causes.{Rose}
 use Rattle.word_forms.specs.Form.{Text}
 use Rattle.replies.specs.declared.outcome.Outcome.{Outcome}
-use Rattle.replies.specs.declared.outcome.Outcome.TheVariants as outcome
-use Rattle.replies.specs.Outcomes as outcomes
+use Rattle.replies.specs.declared.outcome.Outcome.TheVariants.{Yes, No, Words, Graph, Second, Evaluation, Read, Write, Memory}
+use Rattle.replies.specs.Outcomes.{code_of}
 use Rattle.survey_command.specs.Answers.{SurveyAnswer}
 use Rattle.causal_cli.specs.Wishes.{Wish, Wants, WantsSurvey, Task, SetsTask, file_of, second_of}
 use Rattle.causal_cli.specs.Lines.{words_line, read_line, write_line, memory_line}
 use Rattle.causal_cli.specs.Answers.{Defined, Continues, DefinedWith}
-use Rattle.causal_cli.specs.declared.verdict.Verdict.{Verdict}
-use Rattle.causal_cli.specs.declared.verdict.Verdict.TheVariants.{Yes, No, Words, Graph, Second, Evaluation, Read, Write, Memory}
-
--- the status of a verdict
-abbrev pub code_of : Verdict → ℕ
-code_of Yes = 0
-code_of No = 1
-code_of Words = 2
-code_of Graph = 3
-code_of Second = 4
-code_of Evaluation = 5
-code_of Read = 6
-code_of Write = 7
-code_of Memory = 8
 
 -- an output before and after a run: what was written, where it tells, and its count of faults
 pub record Stream : Type 0 where
@@ -31,6 +17,10 @@ pub record Stream : Type 0 where
   pub after : Option (List ℕ)
   pub faults : ℕ
   pub faults_after : ℕ
+
+-- an output with what was written and its faults, before and after
+abbrev pub stream_of : (before after : Option (List ℕ)) (faults faults_after : ℕ) → Stream
+stream_of before after faults faults_after = record { before = before; after = after; faults = faults; faults_after = faults_after }
 
 -- what a run was given: the words; what is held and lacked under each name, with the counts of faults before and after; and `out`
 pub record Run : Type 0 where
@@ -40,6 +30,10 @@ pub record Run : Type 0 where
   pub read_faults : Text → ℕ
   pub read_faults_after : Text → ℕ
   pub out : Stream
+
+-- the run on these words, over an input with what it holds and lacks and its counts of faults before and after, and an output
+abbrev pub run_on : (words : List Text) (held : Text → Option (List ℕ)) (lacks : Text → Bool) (faults faults_after : Text → ℕ) (out : Stream) → Run
+run_on words held lacks faults faults_after out = record { words = words; held = held; lacks = lacks; read_faults = faults; read_faults_after = faults_after; out = out }
 
 -- the words have a wish whose file was read, and on the bytes that it holds this is the defined answer
 pub record AnswersFile (r : Run) (o : Outcome) (text : List ℕ) : Type 0 where
@@ -105,20 +99,20 @@ pub record Unwritten (r : Run) : Type 0 where
   pub outcome : Outcome
   pub text : List ℕ
   pub count : ℕ
-  pub is_answer : outcomes.code_of outcome ≤ 1
+  pub is_answer : code_of outcome ≤ 1
   pub answers : Answers r outcome text
   pub within : count ≤ length text
   pub front : Appends r.out.before r.out.after (take count text)
   pub rose : Rose r.out.faults r.out.faults_after
 
--- what a verdict says of the run, with the text on `out` or the line on `err`
-abbrev pub Ends : Run → Verdict → List ℕ → Type 0
-Ends r Yes text = Written r outcome.Yes text
-Ends r No text = Written r outcome.No text
+-- what an outcome says of the run, with the text on `out` or the line on `err`
+abbrev pub Ends : Run → Outcome → List ℕ → Type 0
+Ends r Yes text = Written r Yes text
+Ends r No text = Written r No text
 Ends r Words line = NotUnderstood r × (line ≡ words_line)
-Ends r Graph line = Refused r outcome.Graph line
-Ends r Second line = Refused r outcome.Second line
-Ends r Evaluation line = Refused r outcome.Evaluation line
+Ends r Graph line = Refused r Graph line
+Ends r Second line = Refused r Second line
+Ends r Evaluation line = Refused r Evaluation line
 Ends r Read line = Unread r × (line ≡ read_line)
 Ends r Write line = Unwritten r × (line ≡ write_line)
 Ends r Memory line = (r.out.after ≡ r.out.before) × (line ≡ memory_line)
@@ -131,15 +125,15 @@ pub record ReceivedLine (err : Stream) (line : List ℕ) : Type 0 where
   pub whole : (Rose err.faults err.faults_after → ⊥) → Appends err.before err.after line
 
 -- what `err` received: nothing on an answer, else the line
-abbrev pub Received : Stream → Verdict → List ℕ → Type 0
+abbrev pub Received : Stream → Outcome → List ℕ → Type 0
 Received err Yes text = err.after ≡ err.before
 Received err No text = err.after ≡ err.before
-Received err v line = ReceivedLine err line
+Received err o line = ReceivedLine err line
 
 -- the run ended with this status
 pub record Ended (r : Run) (err : Stream) (code : ℕ) : Type 0 where
-  pub verdict : Verdict
+  pub outcome : Outcome
   pub text : List ℕ
-  pub status : code ≡ code_of verdict
-  pub ends : Ends r verdict text
-  pub received : Received err verdict text
+  pub status : code ≡ code_of outcome
+  pub ends : Ends r outcome text
+  pub received : Received err outcome text

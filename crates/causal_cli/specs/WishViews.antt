@@ -5,7 +5,8 @@ use Rattle.word_lists.specs.Lists.{IsList}
 use Rattle.word_lists.specs.Numbers.{IsNumber}
 use Rattle.word_lists.specs.Views.{names_in}
 use Rattle.adjust_command.specs.Queries.{query_of}
-use Rattle.causal_cli.specs.Wishes.{Wish, graph, separate, rule, identify, check, adjust, evaluate, equivalent, Task, on_file, survey, number_of, IsListed, IsListedOrEmpty, IsForm, IsMost, IsQuery}
+use Rattle.rule_command.specs.Calculus.{number_of}
+use Rattle.causal_cli.specs.Wishes.{Wish, graph, separate, rule, identify, check, adjust, evaluate, equivalent, Task, on_file, survey, IsListed, IsListedOrEmpty, IsForm, IsMost, IsQuery}
 use Rattle.causal_cli.specs.declared.wish.Wish.{Wish as CodeWish}
 use Rattle.causal_cli.specs.declared.wish.Wish.TheVariants as wish
 use Rattle.causal_cli.specs.declared.wish.Task.{Task as CodeTask}

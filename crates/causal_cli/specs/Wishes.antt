@@ -9,8 +9,8 @@ use Rattle.replies.specs.Observed.{Names}
 use Rattle.adjust_command.specs.Queries.{Query, by_set, by_back_door, listing}
 use Rattle.identify_command.specs.declared.form.Form.{Form}
 use Rattle.identify_command.specs.declared.form.Form.TheVariants as form
-use Rattle.causal_cli.specs.declared.rule.Rule.{Rule}
-use Rattle.causal_cli.specs.declared.rule.Rule.TheVariants.{One, Two, Three}
+use Rattle.rule_command.specs.declared.rule.Rule.{Rule}
+use Rattle.rule_command.specs.Calculus.{number_of}
 
 -- a wish: `graph` of a file, projected or not; `separate` of a file, with the names of x, y and given where they are listed;
 -- `rule` of a file, with one of the three rules and the names of y, of what is done, of z, and of what is given;
@@ -44,12 +44,6 @@ second_of (check file certificate) = Some certificate
 second_of (evaluate file counts x y count exact) = Some counts
 second_of (equivalent file second) = Some second
 second_of w = None
-
--- the number of a rule
-abbrev pub number_of : Rule → ℕ
-number_of One = 1
-number_of Two = 2
-number_of Three = 3
 
 -- the value of an option is the list of these names; neither is there, or both are
 abbrev pub IsListed : Option Text → Names → Type 0

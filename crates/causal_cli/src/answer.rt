@@ -4,18 +4,18 @@ ghost use Rattle.word_lists.specs.Views.{names_in};
 ghost use Rattle.causal_cli.specs.Pendings.{GivesOn, GivesFirst, GivesEvaluation, GivesComparison};
 ghost use Rattle.causal_cli.specs.WishViews.{wish_of};
 
-use crate::graph::graph_text;
 use crate::pending::Pending;
-use crate::rule::apply_rule;
-use crate::separate::separate;
 use crate::wish::Wish;
 use adjust_command::adjust_reply;
 use dag_reader::{GraphFault, ReadGraph, read_graph};
 use equivalent_command::refuse_bidirected;
 use evaluate_command::identify_first;
 use fault_text::graph_line;
+use graph_command::graph_reply;
 use identify_command::identify_reply;
 use replies::{Outcome, Reply};
+use rule_command::rule_reply;
+use separate_command::separate_reply;
 use std::alloc::{AllocError, Global};
 
 /// What the file alone gives.
@@ -44,14 +44,14 @@ fn answer_on<'a>(alloc: Global, wish: Wish<'a>, graph: ReadGraph) -> Result<Firs
 {
     match wish {
         Wish::Graph { file: _, project } => {
-            Ok(First::Replied(graph_text(alloc, &graph, project)?))
+            Ok(First::Replied(graph_reply(alloc, &graph, project)?))
         }
         Wish::Separate {
             file: _,
             x,
             y,
             given,
-        } => Ok(First::Replied(separate(alloc, &graph, x, y, given)?)),
+        } => Ok(First::Replied(separate_reply(alloc, &graph, x, y, given)?)),
         Wish::Rule {
             file: _,
             rule,
@@ -59,7 +59,7 @@ fn answer_on<'a>(alloc: Global, wish: Wish<'a>, graph: ReadGraph) -> Result<Firs
             done,
             z,
             given,
-        } => Ok(First::Replied(apply_rule(alloc, &graph, rule, &y, &done, &z, &given)?)),
+        } => Ok(First::Replied(rule_reply(alloc, &graph, rule, &y, &done, &z, &given)?)),
         Wish::Identify {
             file: _,
             x,

@@ -3,15 +3,10 @@
 
 mod adjusting;
 mod answer;
-mod ending;
-mod graph;
+mod lines;
 mod pending;
-mod printing;
-mod rule;
-mod separate;
 mod sure;
 mod top;
-mod verdict;
 mod wish;
 
 pub use sure::run_surely;

@@ -6,3 +6,4 @@ pub mod Texts
 pub mod Stops
 pub mod Evaluable
 pub mod Effects
+pub mod Outcomes

@@ -15,7 +15,7 @@ returns-in-Ok-clause-ends g c =
     delivered_survey _ c.in-Ok-Survey.seed c.in-Ok.reply c.deliver.result sets c.in-Ok.ensures c.deliver.ensures
 
 pub returns-in-Ok-OnFile-clause-once : goal.returns-in-Ok-OnFile-clause-once
-returns-in-Ok-OnFile-clause-once g c = held_anyway c.grant.result (AskOnce (texts_of c.args.words.now)) c.in-Ok-OnFile.ensures.once
+returns-in-Ok-OnFile-clause-once g c = held_anyway c.grant.result.outcome (AskOnce (texts_of c.args.words.now)) c.in-Ok-OnFile.ensures.once
 
 pub returns-in-Ok-clause-once : goal.returns-in-Ok-clause-once
-returns-in-Ok-clause-once g c = held_anyway c.deliver.result (AskOnce (texts_of c.args.words.now)) c.in-Ok-Survey.ensures.once
+returns-in-Ok-clause-once g c = held_anyway c.deliver.result.outcome (AskOnce (texts_of c.args.words.now)) c.in-Ok-Survey.ensures.once
