@@ -4,3 +4,5 @@ pub mod Exposures
 pub mod Minimal
 pub mod Lists
 pub mod Outcomes
+pub mod Ranges
+mod NoQueries

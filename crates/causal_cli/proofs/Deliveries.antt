@@ -13,12 +13,13 @@ use Rattle.replies.specs.declared.outcome.Outcome.TheVariants.{Yes, No, Words, G
 use Rattle.replies.specs.Outcomes.{code_of, IsAnswered}
 use Rattle.replies.specs.declared.outcome.Reply.{Reply}
 use Rattle.survey_command.specs.Answers.{SurveyAnswer}
-use Rattle.causal_cli.specs.Wishes.{Wish, Wants, WantsSurvey, file_of}
+use Rattle.survey_command.specs.Requests.{Request as SurveyRequest}
+use Rattle.causal_cli.specs.Requests.{GraphRequest, Request, on_graph, survey, Asks, file_of}
 use Rattle.causal_cli.specs.Answers.{Defined, too_long, Continues, DefinedWith}
-use Rattle.causal_cli.specs.Run.{Stream, Run, Answers, by_words, by_file, by_both, second, Ends, Unwritten}
+use Rattle.causal_cli.specs.Run.{Stream, Run, Answers, by_words, by_file, by_both, second, Ends, Unwritten, NotUnderstood}
 use Rattle.causal_cli.specs.Ends.{told_of, EndsWith, Delivers, written, unwritten, refused, IsTooLongLine, IsTooLong, Proceeds, replied, unread, no_memory}
-use Rattle.causal_cli.specs.Pendings.{second_in, limit_of, GivesSecond, IsPending}
-use Rattle.causal_cli.specs.declared.pending.Pending.{Pending}
+use Rattle.causal_cli.specs.SecondInputs.{second_in, limit_of, GivesSecond, IsSecondInput}
+use Rattle.causal_cli.specs.declared.input.SecondInput.{SecondInput}
 use Rattle.survey_command.proofs.Outcomes.{survey_answered}
 use Rattle.causal_cli.proofs.Answered.{defined_answered, gives_answered, long_answered}
 use Rattle.causal_cli.proofs.Definitions.{named, continues, defined_with}
@@ -58,16 +59,21 @@ delivered r reply e only a (unwritten is low count within front rose) =
     let failed : Unwritten r = record { outcome = reply.outcome; text = reply.text.items; count = count; is_answer = low; answers = a; within = within; front = front; rose = rose } in
     subst (λ o. Ends r o (told_of o e.text.items)) (sym is) (failed, refl)
 
+-- the words ask for nothing
+pub not_understood : (r : Run) (e : Reply) → e.outcome ≡ Words → ((q : Request) → Asks r.words q → ⊥) → r.out.after ≡ r.out.before → EndsWith r e
+not_understood r e is none same =
+    let nothing : NotUnderstood r = record { no_request = none; nothing = same } in subst (λ o. Ends r o (told_of o e.text.items)) (sym is) (nothing, refl)
+
 -- the reply of a survey was delivered
-pub delivered_survey : (r : Run) (seed : ℕ) (reply : Reply) (e : Reply) → WantsSurvey r.words seed → SurveyAnswer seed reply.outcome reply.text.items → Delivers r.out reply e → EndsWith r e
-delivered_survey r seed reply e wants a o = delivered r reply e (survey_answered seed reply.outcome reply.text.items a) (by_words (record { seed = seed; wants = wants; answer = a })) o
+pub delivered_survey : (r : Run) (q : SurveyRequest) (reply : Reply) (e : Reply) → Asks r.words (survey q) → SurveyAnswer q.seed reply.outcome reply.text.items → Delivers r.out reply e → EndsWith r e
+delivered_survey r q reply e asks a o = delivered r reply e (survey_answered q.seed reply.outcome reply.text.items a) (by_words (record { request = q; asks = asks; answer = a })) o
 
 -- the reply on the file alone was delivered
-pub delivered_file : (r : Run) (w : Wish) (bytes : List ℕ) (reply : Reply) (e : Reply) → Wants r.words w → r.lacks (file_of w) ≡ false →
+pub delivered_file : (r : Run) (w : GraphRequest) (bytes : List ℕ) (reply : Reply) (e : Reply) → Asks r.words (on_graph w) → r.lacks (file_of w) ≡ false →
     IfSome (r.held (file_of w)) (λ all. bytes ≡ all) → Defined w bytes reply.outcome reply.text.items → Delivers r.out reply e → EndsWith r e
-delivered_file r w bytes reply e wants there held d o = delivered r reply e (defined_answered w bytes reply.outcome reply.text.items d) (by_file (record {
-  wish = w;
-  wants = wants;
+delivered_file r w bytes reply e asks there held d o = delivered r reply e (defined_answered w bytes reply.outcome reply.text.items d) (by_file (record {
+  request = w;
+  asks = asks;
   there = there;
   defined = told (r.held (file_of w)) bytes (λ all. Defined w all reply.outcome reply.text.items) held d;
 })) o
@@ -77,12 +83,12 @@ rose_since : (before middle after : ℕ) → before ≤ middle → Rose middle a
 rose_since before middle after h r = omega (arith, h, r)
 
 -- the second input was read, over the shelf as the first read left it, and the run ended by it
-pub proceeded : (r : Run) (w : Wish) (bytes : List ℕ) (p : Pending) (e : Reply) (held : Text → Option (List ℕ)) (lacks : Text → Bool) (faults : Text → ℕ) → Wants r.words w →
-    r.lacks (file_of w) ≡ false → IfSome (r.held (file_of w)) (λ all. bytes ≡ all) → IsPending w bytes p → held ≡ r.held → lacks ≡ r.lacks →
+pub proceeded : (r : Run) (w : GraphRequest) (bytes : List ℕ) (p : SecondInput) (e : Reply) (held : Text → Option (List ℕ)) (lacks : Text → Bool) (faults : Text → ℕ) → Asks r.words (on_graph w) →
+    r.lacks (file_of w) ≡ false → IfSome (r.held (file_of w)) (λ all. bytes ≡ all) → IsSecondInput w bytes p → held ≡ r.held → lacks ≡ r.lacks →
     ((name : Text) → r.read_faults name ≤ faults name) → Proceeds held lacks faults r.read_faults_after r.out p e → EndsWith r e
-proceeded r w bytes p e held lacks faults wants there told_it is same_held same_lacks grown (replied reply only second_there gives o) = delivered r reply e only (by_both (record {
-  wish = w;
-  wants = wants;
+proceeded r w bytes p e held lacks faults asks there told_it is same_held same_lacks grown (replied reply only second_there gives o) = delivered r reply e only (by_both (record {
+  request = w;
+  asks = asks;
   second = second_in p;
   names_it = named w bytes p is;
   there = there;
@@ -92,10 +98,10 @@ proceeded r w bytes p e held lacks faults wants there told_it is same_held same_
       (mapped (r.held (second_in p)) (λ other. GivesSecond p other reply) (λ other. DefinedWith w bytes other reply.outcome reply.text.items)
       (λ other g. defined_with w bytes p other reply is g) (subst (λ h. IfSome (h (second_in p)) (λ other. GivesSecond p other reply)) same_held gives));
 })) o
-proceeded r w bytes p e held lacks faults wants there told_it is same_held same_lacks grown (unread same rose nothing) = subst (λ o. Ends r o (told_of o e.text.items)) (sym same) (
+proceeded r w bytes p e held lacks faults asks there told_it is same_held same_lacks grown (unread same rose nothing) = subst (λ o. Ends r o (told_of o e.text.items)) (sym same) (
   record {
-    wish = w;
-    wants = wants;
+    request = w;
+    asks = asks;
     name = second_in p;
     is_read = second (named w bytes p is) there (told (r.held (file_of w)) bytes (λ all. Continues w all) told_it (continues w bytes p is));
     rose = rose_since (r.read_faults (second_in p)) (faults (second_in p)) (r.read_faults_after (second_in p)) (grown (second_in p)) rose;
@@ -103,7 +109,7 @@ proceeded r w bytes p e held lacks faults wants there told_it is same_held same_
   },
   refl,
 )
-proceeded r w bytes p e held lacks faults wants there told_it is same_held same_lacks grown (no_memory same nothing) = subst (λ o. Ends r o (told_of o e.text.items)) (sym same) (nothing, refl)
+proceeded r w bytes p e held lacks faults asks there told_it is same_held same_lacks grown (no_memory same nothing) = subst (λ o. Ends r o (told_of o e.text.items)) (sym same) (nothing, refl)
 
 -- a test that can't be true is false
 pub not_true : (b : Bool) → (b ≡ true → ⊥) → b ≡ false
@@ -111,33 +117,33 @@ not_true true n = absurd (n refl)
 not_true false n = refl
 
 -- the run ends with a refusal of a text that is too long
-long_end : (r : Run) (w : Wish) → Wants r.words w → r.lacks (file_of w) ≡ false → IfSome (r.held (file_of w)) (λ all. 1048576 < length all) → r.out.after ≡ r.out.before →
+long_end : (r : Run) (w : GraphRequest) → Asks r.words (on_graph w) → r.lacks (file_of w) ≡ false → IfSome (r.held (file_of w)) (λ all. 1048576 < length all) → r.out.after ≡ r.out.before →
     (o : Outcome) (text : List ℕ) → IsTooLongLine o text → Ends r o (told_of o text)
-long_end r w wants there held same Graph line long = record {
+long_end r w asks there held same Graph line long = record {
   answers = by_file (record {
-    wish = w;
-    wants = wants;
+    request = w;
+    asks = asks;
     there = there;
     defined = mapped (r.held (file_of w)) (λ all. 1048576 < length all) (λ all. Defined w all Graph line) (λ all h. inl (too_long h long)) held;
   });
   nothing = same;
 }
-long_end r w wants there held same Memory line long = (same, refl)
-long_end r w wants there held same o line long = absurd long
+long_end r w asks there held same Memory line long = (same, refl)
+long_end r w asks there held same o line long = absurd long
 
 pub no_fault : (f : ReadError) (most : ℕ) → f ≡ TooLong most → (let r : Result (Vec ℕ) ReadError = Err f in r ≡ Err Fault) → ⊥
 no_fault f most e h = let g : f ≡ Fault = cc h in let t : TooLong most ≡ Fault = sym e ∙ g in cc t
 
--- the file that the wish names holds more than is read
-pub ended_too_long : (r : Run) (w : Wish) (name : Text) (f : ReadError) (most : ℕ) (e : Reply) → name ≡ file_of w → f ≡ TooLong most → Wants r.words w →
+-- the file that the request names holds more than is read
+pub ended_too_long : (r : Run) (w : GraphRequest) (name : Text) (f : ReadError) (most : ℕ) (e : Reply) → name ≡ file_of w → f ≡ TooLong most → Asks r.words (on_graph w) →
     AnswersAll (r.held name) 1048576 (Err f) → (r.lacks name ≡ true → (let read : Result (Vec ℕ) ReadError = Err f in read ≡ Err Fault)) → r.out.after ≡ r.out.before →
     IsTooLong e → EndsWith r e
-ended_too_long r w name f most e en ef wants answer lacked same long =
+ended_too_long r w name f most e en ef asks answer lacked same long =
     let held = subst (λ n. AnswersAll (r.held n) 1048576 (Err (TooLong most))) en (subst (λ k. AnswersAll (r.held name) 1048576 (Err k)) ef answer) in
-    long_end r w wants (subst (λ n. r.lacks n ≡ false) en (not_true (r.lacks name) (λ t. no_fault f most ef (lacked t)))) held.1 same e.outcome e.text.items long
+    long_end r w asks (subst (λ n. r.lacks n ≡ false) en (not_true (r.lacks name) (λ t. no_fault f most ef (lacked t)))) held.1 same e.outcome e.text.items long
 
 -- the second input holds more than is read
-pub long_second : (held : Text → Option (List ℕ)) (lacks : Text → Bool) (faults faults_after : Text → ℕ) (out : Stream) (p : Pending) (e : Reply) (name : Text) (limit : ℕ)
+pub long_second : (held : Text → Option (List ℕ)) (lacks : Text → Bool) (faults faults_after : Text → ℕ) (out : Stream) (p : SecondInput) (e : Reply) (name : Text) (limit : ℕ)
     (f : ReadError) (most : ℕ) (reply : Reply) → name ≡ second_in p → limit ≡ limit_of p → f ≡ TooLong most → AnswersAll (held name) limit (Err f) →
     (lacks name ≡ true → (let read : Result (Vec ℕ) ReadError = Err f in read ≡ Err Fault)) →
     ((other : List ℕ) → limit_of p < length other → GivesSecond p other reply) → Delivers out reply e → Proceeds held lacks faults faults_after out p e
@@ -150,7 +156,7 @@ not_fault : (v : Vec ℕ) → (let r : Result (Vec ℕ) ReadError = Ok v in r �
 not_fault v h = absurd (cc h)
 
 -- the second input was read, and the reply on its bytes delivered
-pub read_second : (held : Text → Option (List ℕ)) (lacks : Text → Bool) (faults faults_after : Text → ℕ) (out : Stream) (p : Pending) (e : Reply) (name : Text) (limit : ℕ)
+pub read_second : (held : Text → Option (List ℕ)) (lacks : Text → Bool) (faults faults_after : Text → ℕ) (out : Stream) (p : SecondInput) (e : Reply) (name : Text) (limit : ℕ)
     (v : Vec ℕ) (reply : Reply) → name ≡ second_in p → AnswersAll (held name) limit (Ok v) →
     (lacks name ≡ true → (let read : Result (Vec ℕ) ReadError = Ok v in read ≡ Err Fault)) →
     GivesSecond p v.items reply → Delivers out reply e → Proceeds held lacks faults faults_after out p e

@@ -2,6 +2,7 @@ mod Definitions
 mod Deliveries
 mod NeverFails
 mod Answered
-mod WishLemmas
-mod RangeLemmas
+mod Readable
+mod Asking
+mod Spoken
 mod Headlines

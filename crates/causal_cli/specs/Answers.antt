@@ -17,32 +17,32 @@ use Rattle.adjust_command.specs.Answers.{AdjustAnswer}
 use Rattle.equivalent_command.specs.Answers.{IsDirected, IsFirstRefusal, EquivalentAnswer}
 use Rattle.evaluate_command.specs.Answers.{EvaluateFirst, EvaluateAnswer}
 use Rattle.evaluate_command.specs.Effects.{PlainEffect, Identifies}
-use Rattle.causal_cli.specs.Wishes.{Wish, graph, separate, rule, identify, check, adjust, evaluate, equivalent}
+use Rattle.causal_cli.specs.Requests.{GraphRequest, graph, separate, rule, identify, check, adjust, evaluate, equivalent}
 use Rattle.causal_cli.specs.Lines.{size_line}
 
 -- the answer of a command on a graph that was read, where its file alone decides
-abbrev pub GraphAnswer : Wish → ReadGraph → Outcome → List ℕ → Type 0
-GraphAnswer (graph file project) g o text = TextAnswer project g o text
-GraphAnswer (separate file x y given) g o text = SeparateAnswer g x y given o text
-GraphAnswer (rule file r y done z given) g o text = RuleAnswer r g y done z given o text
-GraphAnswer (identify file x y form) g o text = IdentifyAnswer form g x y o text
-GraphAnswer (check file certificate) g o text = ⊥
-GraphAnswer (adjust file x y q) g o text = AdjustAnswer g x y q o text
-GraphAnswer (evaluate file counts x y count exact) g o text = EvaluateFirst g x y o text
-GraphAnswer (equivalent file second) g o text = IsFirstRefusal g o text
+abbrev pub GraphAnswer : GraphRequest → ReadGraph → Outcome → List ℕ → Type 0
+GraphAnswer (graph q) g o text = TextAnswer q.project g o text
+GraphAnswer (separate q) g o text = SeparateAnswer g q.x q.y q.given o text
+GraphAnswer (rule q) g o text = RuleAnswer q.rule g q.y q.done q.z q.given o text
+GraphAnswer (identify q) g o text = IdentifyAnswer q.form g q.x q.y o text
+GraphAnswer (check q) g o text = ⊥
+GraphAnswer (adjust q) g o text = AdjustAnswer g q.x q.y q.query o text
+GraphAnswer (evaluate q) g o text = EvaluateFirst g q.x q.y o text
+GraphAnswer (equivalent q) g o text = IsFirstRefusal g o text
 
 -- the graph is accepted, and the second input is read: counts where the lists name an effect that has a formula
-abbrev pub NeedsSecond : Wish → ReadGraph → Type 0
-NeedsSecond (check file certificate) g = Unit {0}
-NeedsSecond (evaluate file counts x y count exact) g = (e : PlainEffect) × Identifies g x y e
-NeedsSecond (equivalent file second) g = IsDirected g
+abbrev pub NeedsSecond : GraphRequest → ReadGraph → Type 0
+NeedsSecond (check q) g = Unit {0}
+NeedsSecond (evaluate q) g = (e : PlainEffect) × Identifies g q.x q.y e
+NeedsSecond (equivalent q) g = IsDirected g
 NeedsSecond w g = ⊥
 
 -- the answer of a command on a graph that was read and the bytes of its second input
-abbrev pub SecondAnswer : Wish → ReadGraph → List ℕ → Outcome → List ℕ → Type 0
-SecondAnswer (check file certificate) g other o text = CheckAnswer g other o text
-SecondAnswer (evaluate file counts x y count exact) g other o text = EvaluateAnswer exact g x y count other o text
-SecondAnswer (equivalent file second) g other o text = EquivalentAnswer g other o text
+abbrev pub SecondAnswer : GraphRequest → ReadGraph → List ℕ → Outcome → List ℕ → Type 0
+SecondAnswer (check q) g other o text = CheckAnswer g other o text
+SecondAnswer (evaluate q) g other o text = EvaluateAnswer q.exact g q.x q.y q.count other o text
+SecondAnswer (equivalent q) g other o text = EquivalentAnswer g other o text
 SecondAnswer w g other o text = ⊥
 
 -- the bytes are no graph: they are too many, or their text has a fault
@@ -52,20 +52,20 @@ pub data IsGraphRefusal (bytes line : List ℕ) : Type 0 where
       → IsGraphRefusal bytes line
 
 -- the answer of a command on a graph that the bytes hold
-pub record HoldsAnswer (w : Wish) (bytes : List ℕ) (o : Outcome) (text : List ℕ) : Type 0 where
+pub record HoldsAnswer (w : GraphRequest) (bytes : List ℕ) (o : Outcome) (text : List ℕ) : Type 0 where
   pub graph : ReadGraph
   pub holds : Holds bytes graph
   pub answer : GraphAnswer w graph o text
 
 -- the defined answer on the bytes of the file alone: yes or no with its text, or the line of a refused graph or target
-abbrev pub Defined : Wish → List ℕ → Outcome → List ℕ → Type 0
+abbrev pub Defined : GraphRequest → List ℕ → Outcome → List ℕ → Type 0
 Defined w bytes Graph line = IsGraphRefusal bytes line ⊎ HoldsAnswer w bytes Graph line
 Defined w bytes o text = HoldsAnswer w bytes o text
 
 -- the bytes hold a graph that is accepted, and the second input is read
-abbrev pub Continues : Wish → List ℕ → Type 0
+abbrev pub Continues : GraphRequest → List ℕ → Type 0
 Continues w bytes = (g : ReadGraph) × Holds bytes g × NeedsSecond w g
 
 -- the defined answer on the bytes of both inputs
-abbrev pub DefinedWith : Wish → (bytes other : List ℕ) → Outcome → List ℕ → Type 0
+abbrev pub DefinedWith : GraphRequest → (bytes other : List ℕ) → Outcome → List ℕ → Type 0
 DefinedWith w bytes other o text = (g : ReadGraph) × Holds bytes g × NeedsSecond w g × SecondAnswer w g other o text

@@ -9,8 +9,8 @@ use Rattle.replies.specs.declared.outcome.Reply.{Reply}
 use Rattle.replies.specs.Outcomes.{code_of, IsAnswered}
 use Rattle.causal_cli.specs.Lines.{words_line, size_line, read_line, write_line, memory_line}
 use Rattle.causal_cli.specs.Run.{Stream, Run, Ends}
-use Rattle.causal_cli.specs.Pendings.{second_in, GivesSecond}
-use Rattle.causal_cli.specs.declared.pending.Pending.{Pending}
+use Rattle.causal_cli.specs.SecondInputs.{second_in, GivesSecond}
+use Rattle.causal_cli.specs.declared.input.SecondInput.{SecondInput}
 
 -- what is told of an outcome: the text or the line of a command's answer, or the line of an outcome of the run alone
 abbrev pub told_of : Outcome → List ℕ → List ℕ
@@ -34,6 +34,7 @@ IsTooLongLine Graph line = line ≡ size_line
 IsTooLongLine Memory line = Unit {0}
 IsTooLongLine o line = ⊥
 
+-- the same of a reply
 abbrev pub IsTooLong : Reply → Type 0
 IsTooLong reply = IsTooLongLine reply.outcome reply.text.items
 
@@ -45,7 +46,7 @@ pub data Delivers (out : Stream) (reply last : Reply) : Type 0 where
   refused : last ≡ reply → 2 ≤ code_of reply.outcome → out.after ≡ out.before → Delivers out reply last
 
 -- how a run ends that reads its second input: by the reply on the bytes that it holds; or a read failed; or memory was refused
-pub data Proceeds (held : Text → Option (List ℕ)) (lacks : Text → Bool) (faults faults_after : Text → ℕ) (out : Stream) (p : Pending) (last : Reply) : Type 0 where
+pub data Proceeds (held : Text → Option (List ℕ)) (lacks : Text → Bool) (faults faults_after : Text → ℕ) (out : Stream) (p : SecondInput) (last : Reply) : Type 0 where
   replied : (reply : Reply) → IsAnswered reply.outcome → lacks (second_in p) ≡ false → IfSome (held (second_in p)) (λ other. GivesSecond p other reply) → Delivers out reply last
       → Proceeds held lacks faults faults_after out p last
   unread : last.outcome ≡ Read → Rose (faults (second_in p)) (faults_after (second_in p)) → out.after ≡ out.before → Proceeds held lacks faults faults_after out p last

@@ -7,7 +7,8 @@ use Rattle.replies.specs.declared.outcome.Outcome.{Outcome}
 use Rattle.replies.specs.declared.outcome.Outcome.TheVariants.{Yes, No, Words, Graph, Second, Evaluation, Read, Write, Memory}
 use Rattle.replies.specs.Outcomes.{code_of}
 use Rattle.survey_command.specs.Answers.{SurveyAnswer}
-use Rattle.causal_cli.specs.Wishes.{Wish, Wants, WantsSurvey, Task, SetsTask, file_of, second_of}
+use Rattle.survey_command.specs.Requests.{Request as SurveyRequest}
+use Rattle.causal_cli.specs.Requests.{GraphRequest, Request, on_graph, survey, Asks, file_of, second_of}
 use Rattle.causal_cli.specs.Lines.{words_line, read_line, write_line, memory_line}
 use Rattle.causal_cli.specs.Answers.{Defined, Continues, DefinedWith}
 
@@ -35,29 +36,29 @@ pub record Run : Type 0 where
 abbrev pub run_on : (words : List Text) (held : Text → Option (List ℕ)) (lacks : Text → Bool) (faults faults_after : Text → ℕ) (out : Stream) → Run
 run_on words held lacks faults faults_after out = record { words = words; held = held; lacks = lacks; read_faults = faults; read_faults_after = faults_after; out = out }
 
--- the words have a wish whose file was read, and on the bytes that it holds this is the defined answer
+-- the words ask for a request whose file was read, and on the bytes that it holds this is the defined answer
 pub record AnswersFile (r : Run) (o : Outcome) (text : List ℕ) : Type 0 where
-  pub wish : Wish
-  pub wants : Wants r.words wish
-  pub there : r.lacks (file_of wish) ≡ false
-  pub defined : IfSome (r.held (file_of wish)) (λ bytes. Defined wish bytes o text)
+  pub request : GraphRequest
+  pub asks : Asks r.words (on_graph request)
+  pub there : r.lacks (file_of request) ≡ false
+  pub defined : IfSome (r.held (file_of request)) (λ bytes. Defined request bytes o text)
 
--- the words have a wish whose file was read and accepted, and whose second input was read, and on the bytes of both this is the defined answer
+-- the words ask for a request whose file was read and accepted, and whose second input was read, and on the bytes of both this is the defined answer
 pub record AnswersBoth (r : Run) (o : Outcome) (text : List ℕ) : Type 0 where
-  pub wish : Wish
-  pub wants : Wants r.words wish
+  pub request : GraphRequest
+  pub asks : Asks r.words (on_graph request)
   pub second : Text
-  pub names_it : second_of wish ≡ Some second
-  pub there : r.lacks (file_of wish) ≡ false
+  pub names_it : second_of request ≡ Some second
+  pub there : r.lacks (file_of request) ≡ false
   pub second_there : r.lacks second ≡ false
-  pub accepted : IfSome (r.held (file_of wish)) (λ bytes. Continues wish bytes)
-  pub defined : IfSome (r.held (file_of wish)) (λ bytes. IfSome (r.held second) (λ other. DefinedWith wish bytes other o text))
+  pub accepted : IfSome (r.held (file_of request)) (λ bytes. Continues request bytes)
+  pub defined : IfSome (r.held (file_of request)) (λ bytes. IfSome (r.held second) (λ other. DefinedWith request bytes other o text))
 
 -- the words ask for a survey, and this is its answer; no input is read
 pub record AnswersSurvey (r : Run) (o : Outcome) (text : List ℕ) : Type 0 where
-  pub seed : ℕ
-  pub wants : WantsSurvey r.words seed
-  pub answer : SurveyAnswer seed o text
+  pub request : SurveyRequest
+  pub asks : Asks r.words (survey request)
+  pub answer : SurveyAnswer request.seed o text
 
 -- the defined answer: by the words alone, by the file alone, or by both inputs
 pub data Answers (r : Run) (o : Outcome) (text : List ℕ) : Type 0 where
@@ -75,22 +76,22 @@ pub record Refused (r : Run) (o : Outcome) (line : List ℕ) : Type 0 where
   pub answers : Answers r o line
   pub nothing : r.out.after ≡ r.out.before
 
--- the words set no task: they have no wish, and ask for no survey
+-- the words ask for nothing
 pub record NotUnderstood (r : Run) : Type 0 where
-  pub no_task : (t : Task) → SetsTask r.words t → ⊥
+  pub no_request : (q : Request) → Asks r.words q → ⊥
   pub nothing : r.out.after ≡ r.out.before
 
--- the wish reads this name: it is that of its file, or that of its second input, where the file is accepted
-pub data IsRead (r : Run) (w : Wish) (name : Text) : Type 0 where
+-- the request reads this name: it is that of its file, or that of its second input, where the file is accepted
+pub data IsRead (r : Run) (w : GraphRequest) (name : Text) : Type 0 where
   file : name ≡ file_of w → IsRead r w name
   second : second_of w ≡ Some name → r.lacks (file_of w) ≡ false → IfSome (r.held (file_of w)) (λ bytes. Continues w bytes) → IsRead r w name
 
 -- a read of an input failed
 pub record Unread (r : Run) : Type 0 where
-  pub wish : Wish
-  pub wants : Wants r.words wish
+  pub request : GraphRequest
+  pub asks : Asks r.words (on_graph request)
   pub name : Text
-  pub is_read : IsRead r wish name
+  pub is_read : IsRead r request name
   pub rose : Rose (r.read_faults name) (r.read_faults_after name)
   pub nothing : r.out.after ≡ r.out.before
 

@@ -1,13 +1,13 @@
 //! The top call: a command line is run over named inputs and two outputs.
 #![tactic(auto)]
 
-mod adjusting;
 mod answer;
+mod input;
 mod lines;
-mod pending;
+mod request;
 mod sure;
+mod table;
 mod top;
-mod wish;
 
 pub use sure::run_surely;
 pub use top::{Status, run};

@@ -5,18 +5,19 @@ ghost use Rattle.word_forms.specs.Form.{Text};
 ghost use Rattle.word_forms.specs.Views.{texts_of};
 ghost use Rattle.replies.specs.Outcomes.{code_of};
 ghost use Rattle.causal_cli.specs.Run.{Ended, Received, run_on, stream_of};
-ghost use Rattle.causal_cli.specs.Wishes.{Wants, AskOnce};
-ghost use Rattle.causal_cli.specs.WishViews.{wish_of};
-ghost use Rattle.causal_cli.specs.Pendings.{IsAccepted};
+ghost use Rattle.causal_cli.specs.Requests.{Asks, AskOnce, on_graph};
+ghost use Rattle.causal_cli.specs.RequestViews.{graph_request_of};
+ghost use Rattle.causal_cli.specs.SecondInputs.{IsAccepted};
 ghost use Rattle.causal_cli.specs.Headline.{Headline};
 ghost use Rattle.causal_cli.specs.Ends.{IfAnswered, EndsWith, IsTooLong, Delivers, Proceeds, text_of};
 
 use crate::answer::{First, answer};
+use crate::input::{SecondInput, long_reply, second_reply};
 use crate::lines::line_of;
-use crate::pending::{Pending, long_reply, second_reply};
-use crate::wish::{Task, Wish, WordsFault, read_task};
+use crate::request::{GraphRequest, Request, read_request};
 use causal_io::{ReadError, Shelf, Sink, read_all, write_all};
 use replies::{Outcome, Reply};
+use request_values::RequestFault;
 use std::alloc::Global;
 use survey_command::survey_reply;
 
@@ -73,35 +74,40 @@ fn respond<S: Shelf, O: Sink>(alloc: Global, words: &[String], shelf: &mut S, ou
     ensures holds { S.held shelf.new ≡ S.held shelf.old }
     ensures lack { S.lacks shelf.new ≡ S.lacks shelf.old }
 {
-    match read_task(alloc, words) {
-        Ok(Task::OnFile(wish)) => grant(alloc, wish, shelf, out),
-        Ok(Task::Survey(seed)) => match survey_reply(alloc, seed) {
+    match read_request(alloc, words) {
+        Ok(Request::OnGraph(request)) => answer_graph(alloc, request, shelf, out),
+        Ok(Request::Survey(request)) => match survey_reply(alloc, request.seed) {
             Ok(reply) => deliver(alloc, out, reply),
             Err(_) => Reply::bare(alloc, Outcome::Memory),
         },
-        Err(WordsFault::NotUnderstood) => Reply::bare(alloc, Outcome::Words),
-        Err(WordsFault::NoMemory) => Reply::bare(alloc, Outcome::Memory),
+        Err(RequestFault::NotUnderstood) => Reply::bare(alloc, Outcome::Words),
+        Err(RequestFault::NoMemory) => Reply::bare(alloc, Outcome::Memory),
     }
 }
 
-/// Reads the file of a wish and answers on it.
-fn grant<S: Shelf, O: Sink>(alloc: Global, wish: Wish<'_>, shelf: &mut S, out: &mut O) -> Reply
-    ensures ends { (words : List Text) → Wants words (wish_of wish.entry) → EndsWith (run_on words (S.held shelf.old) (S.lacks shelf.old) (S.faults shelf.old) (S.faults shelf.new)
+/// Reads the file of a request and answers on it.
+fn answer_graph<S: Shelf, O: Sink>(
+    alloc: Global,
+    request: GraphRequest<'_>,
+    shelf: &mut S,
+    out: &mut O,
+) -> Reply
+    ensures ends { (words : List Text) → Asks words (on_graph (graph_request_of request.entry)) → EndsWith (run_on words (S.held shelf.old) (S.lacks shelf.old) (S.faults shelf.old) (S.faults shelf.new)
         (stream_of (O.written out.old) (O.written out.new) (O.faults out.old) (O.faults out.new))) result }
     ensures holds { S.held shelf.new ≡ S.held shelf.old }
     ensures lack { S.lacks shelf.new ≡ S.lacks shelf.old }
 {
-    let file = wish.file();
+    let file = request.file();
     let bytes = match read_all(alloc, shelf, file, MAX_GRAPH_BYTES) {
         Ok(bytes) => bytes,
         Err(ReadError::Fault) => return Reply::bare(alloc, Outcome::Read),
         Err(ReadError::TooLong { limit: _ }) => return too_long(alloc),
         Err(ReadError::NoMemory) => return Reply::bare(alloc, Outcome::Memory),
     };
-    match answer(alloc, wish, &bytes) {
+    match answer(alloc, request, &bytes) {
         Err(_) => Reply::bare(alloc, Outcome::Memory),
         Ok(First::Replied(reply)) => deliver(alloc, out, reply),
-        Ok(First::Continues(pending)) => proceed(alloc, file, &bytes, &pending, shelf, out),
+        Ok(First::Continues(input)) => proceed(alloc, file, &bytes, &input, shelf, out),
     }
 }
 
@@ -110,25 +116,25 @@ fn proceed<S: Shelf, O: Sink>(
     alloc: Global,
     file: &str,
     bytes: &[u8],
-    pending: &Pending<'_>,
+    input: &SecondInput<'_>,
     shelf: &mut S,
     out: &mut O,
 ) -> Reply
     requires held { IfSome (S.held shelf.now file.now) (λ all. bytes.now ≡ all) }
     requires there { S.lacks shelf.now file.now ≡ false }
     requires small { length bytes.now ≤ 1048576 }
-    requires accepted { IsAccepted pending.now }
+    requires accepted { IsAccepted input.now }
     ensures proceeds { Proceeds (S.held shelf.old) (S.lacks shelf.old) (S.faults shelf.old) (S.faults shelf.new)
-        (stream_of (O.written out.old) (O.written out.new) (O.faults out.old) (O.faults out.new)) pending.now result }
+        (stream_of (O.written out.old) (O.written out.new) (O.faults out.old) (O.faults out.new)) input.now result }
     ensures holds { S.held shelf.new ≡ S.held shelf.old }
     ensures lack { S.lacks shelf.new ≡ S.lacks shelf.old }
 {
-    match read_second(alloc, file, bytes, pending.second(), pending.limit(), shelf) {
-        Ok(other) => match second_reply(alloc, pending, &other) {
+    match read_second(alloc, file, bytes, input.second(), input.limit(), shelf) {
+        Ok(other) => match second_reply(alloc, input, &other) {
             Ok(reply) => deliver(alloc, out, reply),
             Err(_) => Reply::bare(alloc, Outcome::Memory),
         },
-        Err(ReadError::TooLong { limit: _ }) => match long_reply(alloc, pending) {
+        Err(ReadError::TooLong { limit: _ }) => match long_reply(alloc, input) {
             Ok(reply) => deliver(alloc, out, reply),
             Err(_) => Reply::bare(alloc, Outcome::Memory),
         },

@@ -2,5 +2,7 @@
 #![tactic(auto)]
 
 mod reply;
+mod request;
 
 pub use reply::graph_reply;
+pub use request::{ROW, Request};

@@ -2,8 +2,10 @@
 #![tactic(auto)]
 
 mod reply;
+mod request;
 mod rule;
 mod texts;
 
 pub use reply::rule_reply;
+pub use request::{ROW, Request};
 pub use rule::{Rule, ask};

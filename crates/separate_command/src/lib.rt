@@ -2,6 +2,8 @@
 #![tactic(auto)]
 
 mod reply;
+mod request;
 mod texts;
 
 pub use reply::separate_reply;
+pub use request::{ROW, Request};
