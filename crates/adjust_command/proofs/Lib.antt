@@ -3,3 +3,6 @@ pub mod Paths
 pub mod Exposures
 pub mod Minimal
 pub mod Lists
+pub mod Outcomes
+pub mod Ranges
+mod NoQueries

@@ -2,3 +2,4 @@ pub mod Queries
 pub mod Lines
 pub mod Faults
 pub mod Answers
+pub mod Requests

@@ -1,5 +1,5 @@
 -- What `adjust` is asked.
-use Rattle.std.specs.Prelude.{ℕ, ◌≤◌, List}
+use Rattle.std.specs.Prelude.{ℕ, ◌≡◌, ◌≤◌, Bool, true, false, List, Option, Some, None}
 use Rattle.word_lists.specs.Views.{names_in}
 use Rattle.adjust_command.specs.declared.query.Query.{Query as CodeQuery}
 use Rattle.adjust_command.specs.declared.query.Query.TheVariants as query
@@ -20,3 +20,14 @@ query_of (query.List most) = listing most
 abbrev pub IsInRange : Query → Type 0
 IsInRange (listing most) = (1 ≤ most) × (most ≤ 10000)
 IsInRange q = Unit {0}
+
+-- the same of any query
+abbrev pub HasRange : Query → Type 0
+HasRange q = (k : ℕ) → q ≡ listing k → (1 ≤ k) × (k ≤ 10000)
+
+-- what is asked for a set, by one of the two criteria, or without one; the back-door criterion needs a set
+abbrev pub query_for : Option (List (List ℕ)) → (back_door : Bool) → (most : ℕ) → Option Query
+query_for (Some names) false most = Some (by_set names)
+query_for (Some names) true most = Some (by_back_door names)
+query_for None false most = Some (listing most)
+query_for None true most = None

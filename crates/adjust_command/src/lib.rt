@@ -5,7 +5,9 @@ mod criteria;
 mod listing;
 mod query;
 mod reply;
+mod request;
 mod texts;
 
 pub use query::Query;
 pub use reply::adjust_reply;
+pub use request::{ROW, Request};

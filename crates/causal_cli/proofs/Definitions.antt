@@ -7,81 +7,78 @@ use Rattle.dag_reader.specs.Reads.{Reads}
 use Rattle.fault_text.specs.Lines.{line_of, graph_fault_text}
 use Rattle.replies.specs.declared.outcome.Reply.{Reply}
 use Rattle.replies.specs.declared.outcome.Outcome.{Outcome}
-use Rattle.replies.specs.declared.outcome.Outcome.TheVariants.{Yes, No, Graph, Second, Evaluation}
+use Rattle.replies.specs.declared.outcome.Outcome.TheVariants.{Graph}
 use Rattle.replies.specs.Observed.{Holds}
 use Rattle.evaluate_command.specs.Answers.{CountsAnswer}
 use Rattle.evaluate_command.specs.Effects.{effect_view}
-use Rattle.causal_cli.specs.Wishes.{Wish, check, evaluate, equivalent, second_of}
+use Rattle.causal_cli.specs.Requests.{GraphRequest, check, evaluate, equivalent, second_of}
 use Rattle.causal_cli.specs.Answers.{HoldsAnswer, faulty, Defined, NeedsSecond, SecondAnswer, Continues, DefinedWith}
 use Rattle.equivalent_command.specs.Answers.{IsDirected}
-use Rattle.causal_cli.specs.Pendings.{second_in, GivesSecond, IsAccepted, IsPendingOn, GivesOn, IsPending, GivesFirst}
-use Rattle.causal_cli.specs.declared.pending.Pending.{Pending}
-use Rattle.causal_cli.specs.declared.pending.Pending.TheVariants as pending
+use Rattle.causal_cli.specs.SecondInputs.{second_in, GivesSecond, IsAccepted, IsSecondInputOn, GivesOn, IsSecondInput, GivesFirst}
+use Rattle.causal_cli.specs.declared.input.SecondInput.{SecondInput}
+use Rattle.causal_cli.specs.declared.input.SecondInput.TheVariants as input
 use Rattle.causal_cli.specs.declared.answer.First.{First}
 use Rattle.causal_cli.specs.declared.answer.First.TheVariants as first
 
-held : (w : Wish) (bytes : List ℕ) (o : Outcome) (text : List ℕ) → HoldsAnswer w bytes o text → Defined w bytes o text
-held w bytes Yes text h = h
-held w bytes No text h = h
+held : (w : GraphRequest) (bytes : List ℕ) (o : Outcome) (text : List ℕ) → HoldsAnswer w bytes o text → Defined w bytes o text
 held w bytes Graph text h = inr h
-held w bytes Second text h = h
-held w bytes Evaluation text h = h
+held w bytes o text h = h
 
--- what a wish gives on the graph that the bytes hold
-given_on : (w : Wish) (bytes : List ℕ) (g : ReadGraph) (f : First) → Holds bytes g → GivesOn w g f → GivesFirst w bytes f
+-- what a request gives on the graph that the bytes hold
+given_on : (w : GraphRequest) (bytes : List ℕ) (g : ReadGraph) (f : First) → Holds bytes g → GivesOn w g f → GivesFirst w bytes f
 given_on w bytes g (first.Replied reply) h a = held w bytes reply.outcome reply.text.items (record { graph = g; holds = h; answer = a })
 given_on w bytes g (first.Continues p) h a = (g, h, a)
 
-pub defined_on : {E : Type 0} (w : Wish) (bytes : List ℕ) (g : ReadGraph) (r : Result First E) → length bytes ≤ 1048576 → Reads bytes (Ok g) →
+pub defined_on : {E : Type 0} (w : GraphRequest) (bytes : List ℕ) (g : ReadGraph) (r : Result First E) → length bytes ≤ 1048576 → Reads bytes (Ok g) →
     IfOk r (GivesOn w g) → IfOk r (GivesFirst w bytes)
 defined_on w bytes g (Err e) small reads a = tt
 defined_on w bytes g (Ok f) small reads a = given_on w bytes g f (record { small = small; reads = reads }) a
 
 -- a reply to bytes with a fault
-pub defined_fault : (w : Wish) (bytes : List ℕ) (f : GraphFault) (reply : Reply) → length bytes ≤ 1048576 → Reads bytes (Err f) →
+pub defined_fault : (w : GraphRequest) (bytes : List ℕ) (f : GraphFault) (reply : Reply) → length bytes ≤ 1048576 → Reads bytes (Err f) →
     reply.outcome ≡ Graph → reply.text.items ≡ line_of (graph_fault_text f) → (f ≡ NoMemory → ⊥) → Defined w bytes reply.outcome reply.text.items
 defined_fault w bytes f reply small reads v l n = subst (λ u. Defined w bytes u reply.text.items) (sym v) (inl (faulty f small n reads l))
 
--- what is left names the second input of the wish
-named_on : (w : Wish) (g : ReadGraph) (p : Pending) → IsPendingOn w g p → second_of w ≡ Some (second_in p)
-named_on (check f c) g (pending.Check kept certificate) is = ap (λ t. Some t) (sym is.0)
-named_on (evaluate f c x y n e) g (pending.Evaluate found counts count exact) is = ap (λ t. Some t) (sym is.0)
-named_on (equivalent f h) g (pending.Equivalent kept second) is = ap (λ t. Some t) (sym is.0)
+-- what is left names the second input of the request
+named_on : (w : GraphRequest) (g : ReadGraph) (p : SecondInput) → IsSecondInputOn w g p → second_of w ≡ Some (second_in p)
+named_on (check q) g (input.Check kept certificate) is = ap (λ t. Some t) (sym is.0)
+named_on (evaluate q) g (input.Evaluate found counts count exact) is = ap (λ t. Some t) (sym is.0)
+named_on (equivalent q) g (input.Equivalent kept second) is = ap (λ t. Some t) (sym is.0)
 named_on w g p is = absurd is
 
-pub named : (w : Wish) (bytes : List ℕ) (p : Pending) → IsPending w bytes p → second_of w ≡ Some (second_in p)
+pub named : (w : GraphRequest) (bytes : List ℕ) (p : SecondInput) → IsSecondInput w bytes p → second_of w ≡ Some (second_in p)
 named w bytes p is = named_on w is.0 p is.2
 
 -- the graph is accepted, where something is left
-needed : (w : Wish) (g : ReadGraph) (p : Pending) → IsPendingOn w g p → NeedsSecond w g
-needed (check f c) g (pending.Check kept certificate) is = tt
-needed (evaluate f c x y n e) g (pending.Evaluate found counts count exact) is = (effect_view found, is.3)
-needed (equivalent f h) g (pending.Equivalent kept second) is = is.2
+needed : (w : GraphRequest) (g : ReadGraph) (p : SecondInput) → IsSecondInputOn w g p → NeedsSecond w g
+needed (check q) g (input.Check kept certificate) is = tt
+needed (evaluate q) g (input.Evaluate found counts count exact) is = (effect_view found, is.3)
+needed (equivalent q) g (input.Equivalent kept second) is = is.2
 needed w g p is = absurd is
 
-pub continues : (w : Wish) (bytes : List ℕ) (p : Pending) → IsPending w bytes p → Continues w bytes
+pub continues : (w : GraphRequest) (bytes : List ℕ) (p : SecondInput) → IsSecondInput w bytes p → Continues w bytes
 continues w bytes p is = (is.0, is.1, needed w is.0 p is.2)
 
 -- the answer on the bytes of the second input
-answered : (w : Wish) (g : ReadGraph) (p : Pending) (other : List ℕ) (reply : Reply) → IsPendingOn w g p → GivesSecond p other reply →
+answered : (w : GraphRequest) (g : ReadGraph) (p : SecondInput) (other : List ℕ) (reply : Reply) → IsSecondInputOn w g p → GivesSecond p other reply →
     SecondAnswer w g other reply.outcome reply.text.items
-answered (check f c) g (pending.Check kept certificate) other reply is gives = subst (λ k. SecondAnswer (check f c) k other reply.outcome reply.text.items) is.1 gives
-answered (evaluate f c x y n e) g (pending.Evaluate found counts count exact) other reply is gives =
+answered (check q) g (input.Check kept certificate) other reply is gives = subst (λ k. SecondAnswer (check q) k other reply.outcome reply.text.items) is.1 gives
+answered (evaluate q) g (input.Evaluate found counts count exact) other reply is gives =
     let named_count = subst (λ m. CountsAnswer exact (effect_view found) m other reply.outcome reply.text.items) is.1 gives in
-    (effect_view found, is.3, subst (λ b. CountsAnswer b (effect_view found) n other reply.outcome reply.text.items) is.2 named_count)
-answered (equivalent f h) g (pending.Equivalent kept second) other reply is gives = subst (λ k. SecondAnswer (equivalent f h) k other reply.outcome reply.text.items) is.1 gives
+    (effect_view found, is.3, subst (λ b. CountsAnswer b (effect_view found) q.count other reply.outcome reply.text.items) is.2 named_count)
+answered (equivalent q) g (input.Equivalent kept second) other reply is gives = subst (λ k. SecondAnswer (equivalent q) k other reply.outcome reply.text.items) is.1 gives
 answered w g p other reply is gives = absurd is
 
-pub defined_with : (w : Wish) (bytes : List ℕ) (p : Pending) (other : List ℕ) (reply : Reply) → IsPending w bytes p → GivesSecond p other reply →
+pub defined_with : (w : GraphRequest) (bytes : List ℕ) (p : SecondInput) (other : List ℕ) (reply : Reply) → IsSecondInput w bytes p → GivesSecond p other reply →
     DefinedWith w bytes other reply.outcome reply.text.items
 defined_with w bytes p other reply is gives = (is.0, is.1, needed w is.0 p is.2, answered w is.0 p other reply is.2 gives)
 
 -- what is kept is accepted, where something is left
-pub accepted : (w : Wish) (bytes : List ℕ) (p : Pending) → IsPending w bytes p → IsAccepted p
+pub accepted : (w : GraphRequest) (bytes : List ℕ) (p : SecondInput) → IsSecondInput w bytes p → IsAccepted p
 accepted w bytes p is = accepted_on w is.0 p is.2
   where
-    accepted_on : (w : Wish) (g : ReadGraph) (p : Pending) → IsPendingOn w g p → IsAccepted p
-    accepted_on (check f c) g (pending.Check kept certificate) is = tt
-    accepted_on (evaluate f c x y n e) g (pending.Evaluate found counts count exact) is = is.3.identified
-    accepted_on (equivalent f h) g (pending.Equivalent kept second) is = subst IsDirected (sym is.1) is.2
+    accepted_on : (w : GraphRequest) (g : ReadGraph) (p : SecondInput) → IsSecondInputOn w g p → IsAccepted p
+    accepted_on (check q) g (input.Check kept certificate) is = tt
+    accepted_on (evaluate q) g (input.Evaluate found counts count exact) is = is.3.identified
+    accepted_on (equivalent q) g (input.Equivalent kept second) is = subst IsDirected (sym is.1) is.2
     accepted_on w g p is = absurd is

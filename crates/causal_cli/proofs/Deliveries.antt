@@ -6,17 +6,22 @@ use Rattle.causal_io.specs.Causes.{Rose}
 use Rattle.causal_io.specs.Reading.{AnswersAll}
 use Rattle.causal_io.specs.declared.ReadError.{ReadError}
 use Rattle.causal_io.specs.declared.ReadError.TheVariants.{Fault, TooLong}
-use Rattle.replies.specs.declared.outcome.Outcome.TheVariants as outcome
+use Rattle.std.specs.Prelude.{take}
+use Rattle.std.specs.Io.KnownBytes.{Appends}
+use Rattle.replies.specs.declared.outcome.Outcome.{Outcome}
+use Rattle.replies.specs.declared.outcome.Outcome.TheVariants.{Yes, No, Words, Graph, Second, Evaluation, Read, Write, Memory}
+use Rattle.replies.specs.Outcomes.{code_of, IsAnswered}
 use Rattle.replies.specs.declared.outcome.Reply.{Reply}
 use Rattle.survey_command.specs.Answers.{SurveyAnswer}
-use Rattle.causal_cli.specs.Wishes.{Wish, Wants, WantsSurvey, file_of}
+use Rattle.survey_command.specs.Requests.{Request as SurveyRequest}
+use Rattle.causal_cli.specs.Requests.{GraphRequest, Request, on_graph, survey, Asks, file_of}
 use Rattle.causal_cli.specs.Answers.{Defined, too_long, Continues, DefinedWith}
-use Rattle.causal_cli.specs.Run.{Stream, Run, Answers, by_words, by_file, by_both, second}
-use Rattle.causal_cli.specs.Endings.{EndsAs, Delivers, IsTooLong, Proceeds, replied, unread, no_memory}
-use Rattle.causal_cli.specs.Pendings.{second_in, limit_of, GivesSecond, IsPending}
-use Rattle.causal_cli.specs.declared.pending.Pending.{Pending}
-use Rattle.causal_cli.specs.declared.ending.Ending.{Ending}
-use Rattle.causal_cli.specs.declared.ending.Ending.TheVariants as ending
+use Rattle.causal_cli.specs.Run.{Stream, Run, Answers, by_words, by_file, by_both, second, Ends, Unwritten, NotUnderstood}
+use Rattle.causal_cli.specs.Ends.{told_of, EndsWith, Delivers, written, unwritten, refused, IsTooLongLine, IsTooLong, Proceeds, replied, unread, no_memory}
+use Rattle.causal_cli.specs.SecondInputs.{second_in, limit_of, GivesSecond, IsSecondInput}
+use Rattle.causal_cli.specs.declared.input.SecondInput.{SecondInput}
+use Rattle.survey_command.proofs.Outcomes.{survey_answered}
+use Rattle.causal_cli.proofs.Answered.{defined_answered, gives_answered, long_answered}
 use Rattle.causal_cli.proofs.Definitions.{named, continues, defined_with}
 
 -- what holds of the bytes that were read holds of those that are held, where they are told
@@ -28,40 +33,47 @@ mapped : (held : Option (List ℕ)) (P Q : List ℕ → Type 0) → ((all : List
 mapped None P Q f h = tt
 mapped (Some all) P Q f h = f all h
 
+-- an answer that was written whole
+whole_end : (r : Run) (o : Outcome) (text : List ℕ) → code_of o ≤ 1 → Answers r o text → Appends r.out.before r.out.after text → Ends r o (told_of o text)
+whole_end r Yes text low a whole = record { answers = a; whole = whole }
+whole_end r No text low a whole = record { answers = a; whole = whole }
+whole_end r o text low a whole = absurd (omega (arith, low))
+
+-- a refusal
+refused_end : (r : Run) (o : Outcome) (text : List ℕ) → IsAnswered o → 2 ≤ code_of o → Answers r o text → r.out.after ≡ r.out.before → Ends r o (told_of o text)
+refused_end r Graph text only high a nothing = record { answers = a; nothing = nothing }
+refused_end r Second text only high a nothing = record { answers = a; nothing = nothing }
+refused_end r Evaluation text only high a nothing = record { answers = a; nothing = nothing }
+refused_end r Yes text only high a nothing = absurd (omega (arith, high))
+refused_end r No text only high a nothing = absurd (omega (arith, high))
+refused_end r Words text only high a nothing = absurd only
+refused_end r Read text only high a nothing = absurd only
+refused_end r Write text only high a nothing = absurd only
+refused_end r Memory text only high a nothing = absurd only
+
 -- the reply is the defined answer, and was delivered
-delivered : (r : Run) (reply : Reply) (e : Ending) → Answers r reply.outcome reply.text.items → Delivers r.out reply e → EndsAs r e
-delivered r reply ending.Affirmed a o = (reply.text.items, record { answers = subst (λ v. Answers r v reply.text.items) o.0 a; whole = o.1 })
-delivered r reply ending.Denied a o = (reply.text.items, record { answers = subst (λ v. Answers r v reply.text.items) o.0 a; whole = o.1 })
-delivered r reply (ending.Refused line) a o =
-    record { answers = subst (λ t. Answers r outcome.Graph t) (sym o.1) (subst (λ v. Answers r v reply.text.items) o.0 a); nothing = o.2 }
-delivered r reply (ending.SecondRefused line) a o =
-    record { answers = subst (λ t. Answers r outcome.Second t) (sym o.1) (subst (λ v. Answers r v reply.text.items) o.0 a); nothing = o.2 }
-delivered r reply (ending.NoValue line) a o =
-    record { answers = subst (λ t. Answers r outcome.Evaluation t) (sym o.1) (subst (λ v. Answers r v reply.text.items) o.0 a); nothing = o.2 }
-delivered r reply ending.Unwritten a o = record {
-  outcome = reply.outcome;
-  text = reply.text.items;
-  count = o.1;
-  is_answer = o.0;
-  answers = a;
-  within = o.2;
-  front = o.3;
-  rose = o.4;
-}
-delivered r reply ending.NotUnderstood a o = absurd o
-delivered r reply ending.Unread a o = absurd o
-delivered r reply ending.NoMemory a o = absurd o
+delivered : (r : Run) (reply e : Reply) → IsAnswered reply.outcome → Answers r reply.outcome reply.text.items → Delivers r.out reply e → EndsWith r e
+delivered r reply e only a (written same low whole) = subst (EndsWith r) (sym same) (whole_end r reply.outcome reply.text.items low a whole)
+delivered r reply e only a (refused same high nothing) = subst (EndsWith r) (sym same) (refused_end r reply.outcome reply.text.items only high a nothing)
+delivered r reply e only a (unwritten is low count within front rose) =
+    let failed : Unwritten r = record { outcome = reply.outcome; text = reply.text.items; count = count; is_answer = low; answers = a; within = within; front = front; rose = rose } in
+    subst (λ o. Ends r o (told_of o e.text.items)) (sym is) (failed, refl)
+
+-- the words ask for nothing
+pub not_understood : (r : Run) (e : Reply) → e.outcome ≡ Words → ((q : Request) → Asks r.words q → ⊥) → r.out.after ≡ r.out.before → EndsWith r e
+not_understood r e is none same =
+    let nothing : NotUnderstood r = record { no_request = none; nothing = same } in subst (λ o. Ends r o (told_of o e.text.items)) (sym is) (nothing, refl)
 
 -- the reply of a survey was delivered
-pub delivered_survey : (r : Run) (seed : ℕ) (reply : Reply) (e : Ending) → WantsSurvey r.words seed → SurveyAnswer seed reply.outcome reply.text.items → Delivers r.out reply e → EndsAs r e
-delivered_survey r seed reply e wants a o = delivered r reply e (by_words (record { seed = seed; wants = wants; answer = a })) o
+pub delivered_survey : (r : Run) (q : SurveyRequest) (reply : Reply) (e : Reply) → Asks r.words (survey q) → SurveyAnswer q.seed reply.outcome reply.text.items → Delivers r.out reply e → EndsWith r e
+delivered_survey r q reply e asks a o = delivered r reply e (survey_answered q.seed reply.outcome reply.text.items a) (by_words (record { request = q; asks = asks; answer = a })) o
 
 -- the reply on the file alone was delivered
-pub delivered_file : (r : Run) (w : Wish) (bytes : List ℕ) (reply : Reply) (e : Ending) → Wants r.words w → r.lacks (file_of w) ≡ false →
-    IfSome (r.held (file_of w)) (λ all. bytes ≡ all) → Defined w bytes reply.outcome reply.text.items → Delivers r.out reply e → EndsAs r e
-delivered_file r w bytes reply e wants there held d o = delivered r reply e (by_file (record {
-  wish = w;
-  wants = wants;
+pub delivered_file : (r : Run) (w : GraphRequest) (bytes : List ℕ) (reply : Reply) (e : Reply) → Asks r.words (on_graph w) → r.lacks (file_of w) ≡ false →
+    IfSome (r.held (file_of w)) (λ all. bytes ≡ all) → Defined w bytes reply.outcome reply.text.items → Delivers r.out reply e → EndsWith r e
+delivered_file r w bytes reply e asks there held d o = delivered r reply e (defined_answered w bytes reply.outcome reply.text.items d) (by_file (record {
+  request = w;
+  asks = asks;
   there = there;
   defined = told (r.held (file_of w)) bytes (λ all. Defined w all reply.outcome reply.text.items) held d;
 })) o
@@ -71,12 +83,12 @@ rose_since : (before middle after : ℕ) → before ≤ middle → Rose middle a
 rose_since before middle after h r = omega (arith, h, r)
 
 -- the second input was read, over the shelf as the first read left it, and the run ended by it
-pub proceeded : (r : Run) (w : Wish) (bytes : List ℕ) (p : Pending) (e : Ending) (held : Text → Option (List ℕ)) (lacks : Text → Bool) (faults : Text → ℕ) → Wants r.words w →
-    r.lacks (file_of w) ≡ false → IfSome (r.held (file_of w)) (λ all. bytes ≡ all) → IsPending w bytes p → held ≡ r.held → lacks ≡ r.lacks →
-    ((name : Text) → r.read_faults name ≤ faults name) → Proceeds held lacks faults r.read_faults_after r.out p e → EndsAs r e
-proceeded r w bytes p e held lacks faults wants there told_it is same_held same_lacks grown (replied reply second_there gives o) = delivered r reply e (by_both (record {
-  wish = w;
-  wants = wants;
+pub proceeded : (r : Run) (w : GraphRequest) (bytes : List ℕ) (p : SecondInput) (e : Reply) (held : Text → Option (List ℕ)) (lacks : Text → Bool) (faults : Text → ℕ) → Asks r.words (on_graph w) →
+    r.lacks (file_of w) ≡ false → IfSome (r.held (file_of w)) (λ all. bytes ≡ all) → IsSecondInput w bytes p → held ≡ r.held → lacks ≡ r.lacks →
+    ((name : Text) → r.read_faults name ≤ faults name) → Proceeds held lacks faults r.read_faults_after r.out p e → EndsWith r e
+proceeded r w bytes p e held lacks faults asks there told_it is same_held same_lacks grown (replied reply only second_there gives o) = delivered r reply e only (by_both (record {
+  request = w;
+  asks = asks;
   second = second_in p;
   names_it = named w bytes p is;
   there = there;
@@ -86,15 +98,18 @@ proceeded r w bytes p e held lacks faults wants there told_it is same_held same_
       (mapped (r.held (second_in p)) (λ other. GivesSecond p other reply) (λ other. DefinedWith w bytes other reply.outcome reply.text.items)
       (λ other g. defined_with w bytes p other reply is g) (subst (λ h. IfSome (h (second_in p)) (λ other. GivesSecond p other reply)) same_held gives));
 })) o
-proceeded r w bytes p e held lacks faults wants there told_it is same_held same_lacks grown (unread same rose nothing) = subst (EndsAs r) (sym same) (record {
-  wish = w;
-  wants = wants;
-  name = second_in p;
-  is_read = second (named w bytes p is) there (told (r.held (file_of w)) bytes (λ all. Continues w all) told_it (continues w bytes p is));
-  rose = rose_since (r.read_faults (second_in p)) (faults (second_in p)) (r.read_faults_after (second_in p)) (grown (second_in p)) rose;
-  nothing = nothing;
-})
-proceeded r w bytes p e held lacks faults wants there told_it is same_held same_lacks grown (no_memory same nothing) = subst (EndsAs r) (sym same) nothing
+proceeded r w bytes p e held lacks faults asks there told_it is same_held same_lacks grown (unread same rose nothing) = subst (λ o. Ends r o (told_of o e.text.items)) (sym same) (
+  record {
+    request = w;
+    asks = asks;
+    name = second_in p;
+    is_read = second (named w bytes p is) there (told (r.held (file_of w)) bytes (λ all. Continues w all) told_it (continues w bytes p is));
+    rose = rose_since (r.read_faults (second_in p)) (faults (second_in p)) (r.read_faults_after (second_in p)) (grown (second_in p)) rose;
+    nothing = nothing;
+  },
+  refl,
+)
+proceeded r w bytes p e held lacks faults asks there told_it is same_held same_lacks grown (no_memory same nothing) = subst (λ o. Ends r o (told_of o e.text.items)) (sym same) (nothing, refl)
 
 -- a test that can't be true is false
 pub not_true : (b : Bool) → (b ≡ true → ⊥) → b ≡ false
@@ -102,55 +117,49 @@ not_true true n = absurd (n refl)
 not_true false n = refl
 
 -- the run ends with a refusal of a text that is too long
-refused : (r : Run) (w : Wish) → Wants r.words w → r.lacks (file_of w) ≡ false → IfSome (r.held (file_of w)) (λ all. 1048576 < length all) → r.out.after ≡ r.out.before →
-    (e : Ending) → IsTooLong e → EndsAs r e
-refused r w wants there held same (ending.Refused line) long = record {
+long_end : (r : Run) (w : GraphRequest) → Asks r.words (on_graph w) → r.lacks (file_of w) ≡ false → IfSome (r.held (file_of w)) (λ all. 1048576 < length all) → r.out.after ≡ r.out.before →
+    (o : Outcome) (text : List ℕ) → IsTooLongLine o text → Ends r o (told_of o text)
+long_end r w asks there held same Graph line long = record {
   answers = by_file (record {
-    wish = w;
-    wants = wants;
+    request = w;
+    asks = asks;
     there = there;
-    defined = mapped (r.held (file_of w)) (λ all. 1048576 < length all) (λ all. Defined w all outcome.Graph line.items) (λ all h. inl (too_long h long)) held;
+    defined = mapped (r.held (file_of w)) (λ all. 1048576 < length all) (λ all. Defined w all Graph line) (λ all h. inl (too_long h long)) held;
   });
   nothing = same;
 }
-refused r w wants there held same ending.NoMemory long = same
-refused r w wants there held same ending.Affirmed long = absurd long
-refused r w wants there held same ending.Denied long = absurd long
-refused r w wants there held same ending.NotUnderstood long = absurd long
-refused r w wants there held same (ending.SecondRefused line) long = absurd long
-refused r w wants there held same (ending.NoValue line) long = absurd long
-refused r w wants there held same ending.Unread long = absurd long
-refused r w wants there held same ending.Unwritten long = absurd long
+long_end r w asks there held same Memory line long = (same, refl)
+long_end r w asks there held same o line long = absurd long
 
 pub no_fault : (f : ReadError) (most : ℕ) → f ≡ TooLong most → (let r : Result (Vec ℕ) ReadError = Err f in r ≡ Err Fault) → ⊥
 no_fault f most e h = let g : f ≡ Fault = cc h in let t : TooLong most ≡ Fault = sym e ∙ g in cc t
 
--- the file that the wish names holds more than is read
-pub ended_too_long : (r : Run) (w : Wish) (name : Text) (f : ReadError) (most : ℕ) (e : Ending) → name ≡ file_of w → f ≡ TooLong most → Wants r.words w →
+-- the file that the request names holds more than is read
+pub ended_too_long : (r : Run) (w : GraphRequest) (name : Text) (f : ReadError) (most : ℕ) (e : Reply) → name ≡ file_of w → f ≡ TooLong most → Asks r.words (on_graph w) →
     AnswersAll (r.held name) 1048576 (Err f) → (r.lacks name ≡ true → (let read : Result (Vec ℕ) ReadError = Err f in read ≡ Err Fault)) → r.out.after ≡ r.out.before →
-    IsTooLong e → EndsAs r e
-ended_too_long r w name f most e en ef wants answer lacked same long =
+    IsTooLong e → EndsWith r e
+ended_too_long r w name f most e en ef asks answer lacked same long =
     let held = subst (λ n. AnswersAll (r.held n) 1048576 (Err (TooLong most))) en (subst (λ k. AnswersAll (r.held name) 1048576 (Err k)) ef answer) in
-    refused r w wants (subst (λ n. r.lacks n ≡ false) en (not_true (r.lacks name) (λ t. no_fault f most ef (lacked t)))) held.1 same e long
+    long_end r w asks (subst (λ n. r.lacks n ≡ false) en (not_true (r.lacks name) (λ t. no_fault f most ef (lacked t)))) held.1 same e.outcome e.text.items long
 
 -- the second input holds more than is read
-pub long_second : (held : Text → Option (List ℕ)) (lacks : Text → Bool) (faults faults_after : Text → ℕ) (out : Stream) (p : Pending) (e : Ending) (name : Text) (limit : ℕ)
+pub long_second : (held : Text → Option (List ℕ)) (lacks : Text → Bool) (faults faults_after : Text → ℕ) (out : Stream) (p : SecondInput) (e : Reply) (name : Text) (limit : ℕ)
     (f : ReadError) (most : ℕ) (reply : Reply) → name ≡ second_in p → limit ≡ limit_of p → f ≡ TooLong most → AnswersAll (held name) limit (Err f) →
     (lacks name ≡ true → (let read : Result (Vec ℕ) ReadError = Err f in read ≡ Err Fault)) →
     ((other : List ℕ) → limit_of p < length other → GivesSecond p other reply) → Delivers out reply e → Proceeds held lacks faults faults_after out p e
 long_second held lacks faults faults_after out p e name limit f most reply en el ef answer lacked gives o =
     let read = subst (λ n. AnswersAll (held n) (limit_of p) (Err (TooLong most))) en (subst (λ k. AnswersAll (held name) k (Err (TooLong most))) el (subst (λ k. AnswersAll (held name) limit (Err k)) ef answer)) in
-    replied reply (subst (λ n. lacks n ≡ false) en (not_true (lacks name) (λ t. no_fault f most ef (lacked t))))
+    replied reply (long_answered p reply gives) (subst (λ n. lacks n ≡ false) en (not_true (lacks name) (λ t. no_fault f most ef (lacked t))))
     (mapped (held (second_in p)) (λ other. (limit_of p) < length other) (λ other. GivesSecond p other reply) gives read.1) o
 
 not_fault : (v : Vec ℕ) → (let r : Result (Vec ℕ) ReadError = Ok v in r ≡ Err Fault) → ⊥
 not_fault v h = absurd (cc h)
 
 -- the second input was read, and the reply on its bytes delivered
-pub read_second : (held : Text → Option (List ℕ)) (lacks : Text → Bool) (faults faults_after : Text → ℕ) (out : Stream) (p : Pending) (e : Ending) (name : Text) (limit : ℕ)
+pub read_second : (held : Text → Option (List ℕ)) (lacks : Text → Bool) (faults faults_after : Text → ℕ) (out : Stream) (p : SecondInput) (e : Reply) (name : Text) (limit : ℕ)
     (v : Vec ℕ) (reply : Reply) → name ≡ second_in p → AnswersAll (held name) limit (Ok v) →
     (lacks name ≡ true → (let read : Result (Vec ℕ) ReadError = Ok v in read ≡ Err Fault)) →
     GivesSecond p v.items reply → Delivers out reply e → Proceeds held lacks faults faults_after out p e
 read_second held lacks faults faults_after out p e name limit v reply en answer lacked gives o =
-    replied reply (subst (λ n. lacks n ≡ false) en (not_true (lacks name) (λ t. not_fault v (lacked t))))
+    replied reply (gives_answered p v.items reply gives) (subst (λ n. lacks n ≡ false) en (not_true (lacks name) (λ t. not_fault v (lacked t))))
     (told (held (second_in p)) v.items (λ other. GivesSecond p other reply) (subst (λ n. IfSome (held n) (λ all. v.items ≡ all)) en answer.1) gives) o

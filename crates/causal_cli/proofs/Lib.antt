@@ -1,11 +1,8 @@
 mod Definitions
 mod Deliveries
-mod Endings
-mod GraphTexts
-mod Equations
-mod PathLemmas
-mod RuleSets
-mod WishLemmas
-mod Separations
-mod RangeLemmas
+mod NeverFails
+mod Answered
+mod Readable
+mod Asking
+mod Spoken
 mod Headlines

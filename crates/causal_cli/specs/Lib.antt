@@ -1,10 +1,10 @@
-pub mod Wishes
-pub mod WishViews
+pub mod Table
+pub mod Commands
+pub mod Requests
+pub mod RequestViews
 pub mod Lines
 pub mod Answers
 pub mod Run
-pub mod Replies
-pub mod Endings
-pub mod Pendings
-pub mod Ranges
+pub mod Ends
+pub mod SecondInputs
 pub mod Headline

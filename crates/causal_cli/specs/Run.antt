@@ -4,26 +4,13 @@ use Rattle.std.specs.Io.KnownBytes.{Appends}
 use Rattle.causal_io.specs.Causes.{Rose}
 use Rattle.word_forms.specs.Form.{Text}
 use Rattle.replies.specs.declared.outcome.Outcome.{Outcome}
-use Rattle.replies.specs.declared.outcome.Outcome.TheVariants as outcome
-use Rattle.replies.specs.Outcomes as outcomes
+use Rattle.replies.specs.declared.outcome.Outcome.TheVariants.{Yes, No, Words, Graph, Second, Evaluation, Read, Write, Memory}
+use Rattle.replies.specs.Outcomes.{code_of}
 use Rattle.survey_command.specs.Answers.{SurveyAnswer}
-use Rattle.causal_cli.specs.Wishes.{Wish, Wants, WantsSurvey, Task, SetsTask, file_of, second_of}
+use Rattle.survey_command.specs.Requests.{Request as SurveyRequest}
+use Rattle.causal_cli.specs.Requests.{GraphRequest, Request, on_graph, survey, Asks, file_of, second_of}
 use Rattle.causal_cli.specs.Lines.{words_line, read_line, write_line, memory_line}
 use Rattle.causal_cli.specs.Answers.{Defined, Continues, DefinedWith}
-use Rattle.causal_cli.specs.declared.verdict.Verdict.{Verdict}
-use Rattle.causal_cli.specs.declared.verdict.Verdict.TheVariants.{Yes, No, Words, Graph, Second, Evaluation, Read, Write, Memory}
-
--- the status of a verdict
-abbrev pub code_of : Verdict → ℕ
-code_of Yes = 0
-code_of No = 1
-code_of Words = 2
-code_of Graph = 3
-code_of Second = 4
-code_of Evaluation = 5
-code_of Read = 6
-code_of Write = 7
-code_of Memory = 8
 
 -- an output before and after a run: what was written, where it tells, and its count of faults
 pub record Stream : Type 0 where
@@ -31,6 +18,10 @@ pub record Stream : Type 0 where
   pub after : Option (List ℕ)
   pub faults : ℕ
   pub faults_after : ℕ
+
+-- an output with what was written and its faults, before and after
+abbrev pub stream_of : (before after : Option (List ℕ)) (faults faults_after : ℕ) → Stream
+stream_of before after faults faults_after = record { before = before; after = after; faults = faults; faults_after = faults_after }
 
 -- what a run was given: the words; what is held and lacked under each name, with the counts of faults before and after; and `out`
 pub record Run : Type 0 where
@@ -41,29 +32,33 @@ pub record Run : Type 0 where
   pub read_faults_after : Text → ℕ
   pub out : Stream
 
--- the words have a wish whose file was read, and on the bytes that it holds this is the defined answer
-pub record AnswersFile (r : Run) (o : Outcome) (text : List ℕ) : Type 0 where
-  pub wish : Wish
-  pub wants : Wants r.words wish
-  pub there : r.lacks (file_of wish) ≡ false
-  pub defined : IfSome (r.held (file_of wish)) (λ bytes. Defined wish bytes o text)
+-- the run on these words, over an input with what it holds and lacks and its counts of faults before and after, and an output
+abbrev pub run_on : (words : List Text) (held : Text → Option (List ℕ)) (lacks : Text → Bool) (faults faults_after : Text → ℕ) (out : Stream) → Run
+run_on words held lacks faults faults_after out = record { words = words; held = held; lacks = lacks; read_faults = faults; read_faults_after = faults_after; out = out }
 
--- the words have a wish whose file was read and accepted, and whose second input was read, and on the bytes of both this is the defined answer
+-- the words ask for a request whose file was read, and on the bytes that it holds this is the defined answer
+pub record AnswersFile (r : Run) (o : Outcome) (text : List ℕ) : Type 0 where
+  pub request : GraphRequest
+  pub asks : Asks r.words (on_graph request)
+  pub there : r.lacks (file_of request) ≡ false
+  pub defined : IfSome (r.held (file_of request)) (λ bytes. Defined request bytes o text)
+
+-- the words ask for a request whose file was read and accepted, and whose second input was read, and on the bytes of both this is the defined answer
 pub record AnswersBoth (r : Run) (o : Outcome) (text : List ℕ) : Type 0 where
-  pub wish : Wish
-  pub wants : Wants r.words wish
+  pub request : GraphRequest
+  pub asks : Asks r.words (on_graph request)
   pub second : Text
-  pub names_it : second_of wish ≡ Some second
-  pub there : r.lacks (file_of wish) ≡ false
+  pub names_it : second_of request ≡ Some second
+  pub there : r.lacks (file_of request) ≡ false
   pub second_there : r.lacks second ≡ false
-  pub accepted : IfSome (r.held (file_of wish)) (λ bytes. Continues wish bytes)
-  pub defined : IfSome (r.held (file_of wish)) (λ bytes. IfSome (r.held second) (λ other. DefinedWith wish bytes other o text))
+  pub accepted : IfSome (r.held (file_of request)) (λ bytes. Continues request bytes)
+  pub defined : IfSome (r.held (file_of request)) (λ bytes. IfSome (r.held second) (λ other. DefinedWith request bytes other o text))
 
 -- the words ask for a survey, and this is its answer; no input is read
 pub record AnswersSurvey (r : Run) (o : Outcome) (text : List ℕ) : Type 0 where
-  pub seed : ℕ
-  pub wants : WantsSurvey r.words seed
-  pub answer : SurveyAnswer seed o text
+  pub request : SurveyRequest
+  pub asks : Asks r.words (survey request)
+  pub answer : SurveyAnswer request.seed o text
 
 -- the defined answer: by the words alone, by the file alone, or by both inputs
 pub data Answers (r : Run) (o : Outcome) (text : List ℕ) : Type 0 where
@@ -81,22 +76,22 @@ pub record Refused (r : Run) (o : Outcome) (line : List ℕ) : Type 0 where
   pub answers : Answers r o line
   pub nothing : r.out.after ≡ r.out.before
 
--- the words set no task: they have no wish, and ask for no survey
+-- the words ask for nothing
 pub record NotUnderstood (r : Run) : Type 0 where
-  pub no_task : (t : Task) → SetsTask r.words t → ⊥
+  pub no_request : (q : Request) → Asks r.words q → ⊥
   pub nothing : r.out.after ≡ r.out.before
 
--- the wish reads this name: it is that of its file, or that of its second input, where the file is accepted
-pub data IsRead (r : Run) (w : Wish) (name : Text) : Type 0 where
+-- the request reads this name: it is that of its file, or that of its second input, where the file is accepted
+pub data IsRead (r : Run) (w : GraphRequest) (name : Text) : Type 0 where
   file : name ≡ file_of w → IsRead r w name
   second : second_of w ≡ Some name → r.lacks (file_of w) ≡ false → IfSome (r.held (file_of w)) (λ bytes. Continues w bytes) → IsRead r w name
 
 -- a read of an input failed
 pub record Unread (r : Run) : Type 0 where
-  pub wish : Wish
-  pub wants : Wants r.words wish
+  pub request : GraphRequest
+  pub asks : Asks r.words (on_graph request)
   pub name : Text
-  pub is_read : IsRead r wish name
+  pub is_read : IsRead r request name
   pub rose : Rose (r.read_faults name) (r.read_faults_after name)
   pub nothing : r.out.after ≡ r.out.before
 
@@ -105,20 +100,20 @@ pub record Unwritten (r : Run) : Type 0 where
   pub outcome : Outcome
   pub text : List ℕ
   pub count : ℕ
-  pub is_answer : outcomes.code_of outcome ≤ 1
+  pub is_answer : code_of outcome ≤ 1
   pub answers : Answers r outcome text
   pub within : count ≤ length text
   pub front : Appends r.out.before r.out.after (take count text)
   pub rose : Rose r.out.faults r.out.faults_after
 
--- what a verdict says of the run, with the text on `out` or the line on `err`
-abbrev pub Ends : Run → Verdict → List ℕ → Type 0
-Ends r Yes text = Written r outcome.Yes text
-Ends r No text = Written r outcome.No text
+-- what an outcome says of the run, with the text on `out` or the line on `err`
+abbrev pub Ends : Run → Outcome → List ℕ → Type 0
+Ends r Yes text = Written r Yes text
+Ends r No text = Written r No text
 Ends r Words line = NotUnderstood r × (line ≡ words_line)
-Ends r Graph line = Refused r outcome.Graph line
-Ends r Second line = Refused r outcome.Second line
-Ends r Evaluation line = Refused r outcome.Evaluation line
+Ends r Graph line = Refused r Graph line
+Ends r Second line = Refused r Second line
+Ends r Evaluation line = Refused r Evaluation line
 Ends r Read line = Unread r × (line ≡ read_line)
 Ends r Write line = Unwritten r × (line ≡ write_line)
 Ends r Memory line = (r.out.after ≡ r.out.before) × (line ≡ memory_line)
@@ -131,15 +126,15 @@ pub record ReceivedLine (err : Stream) (line : List ℕ) : Type 0 where
   pub whole : (Rose err.faults err.faults_after → ⊥) → Appends err.before err.after line
 
 -- what `err` received: nothing on an answer, else the line
-abbrev pub Received : Stream → Verdict → List ℕ → Type 0
+abbrev pub Received : Stream → Outcome → List ℕ → Type 0
 Received err Yes text = err.after ≡ err.before
 Received err No text = err.after ≡ err.before
-Received err v line = ReceivedLine err line
+Received err o line = ReceivedLine err line
 
 -- the run ended with this status
 pub record Ended (r : Run) (err : Stream) (code : ℕ) : Type 0 where
-  pub verdict : Verdict
+  pub outcome : Outcome
   pub text : List ℕ
-  pub status : code ≡ code_of verdict
-  pub ends : Ends r verdict text
-  pub received : Received err verdict text
+  pub status : code ≡ code_of outcome
+  pub ends : Ends r outcome text
+  pub received : Received err outcome text

@@ -1,21 +1,21 @@
 ghost use Rattle.std.specs.Prelude.{◌≡◌, ◌≤◌, IfOk, OnOk, length, option_map};
 ghost use Rattle.fault_text.specs.Lines.{line_of, graph_fault_text};
 ghost use Rattle.word_lists.specs.Views.{names_in};
-ghost use Rattle.causal_cli.specs.Pendings.{GivesOn, GivesFirst, GivesEvaluation, GivesComparison};
-ghost use Rattle.causal_cli.specs.WishViews.{wish_of};
+ghost use Rattle.causal_cli.specs.SecondInputs.{GivesOn, GivesFirst, GivesEvaluation, GivesComparison};
+ghost use Rattle.causal_cli.specs.RequestViews.{graph_request_of};
 
-use crate::graph::graph_text;
-use crate::pending::Pending;
-use crate::rule::apply_rule;
-use crate::separate::separate;
-use crate::wish::Wish;
+use crate::input::SecondInput;
+use crate::request::GraphRequest;
 use adjust_command::adjust_reply;
 use dag_reader::{GraphFault, ReadGraph, read_graph};
 use equivalent_command::refuse_bidirected;
 use evaluate_command::identify_first;
 use fault_text::graph_line;
+use graph_command::graph_reply;
 use identify_command::identify_reply;
 use replies::{Outcome, Reply};
+use rule_command::rule_reply;
+use separate_command::separate_reply;
 use std::alloc::{AllocError, Global};
 
 /// What the file alone gives.
@@ -24,67 +24,78 @@ pub enum First<'a> {
     /// The defined answer.
     Replied(Reply),
     /// The second input is read.
-    Continues(Pending<'a>),
+    Continues(SecondInput<'a>),
 }
 
-/// What a wish's file alone gives, on its bytes, of which there are at most 1,048,576.
-pub fn answer<'a>(alloc: Global, wish: Wish<'a>, bytes: &[u8]) -> Result<First<'a>, AllocError>
+/// What the file of a request alone gives, on its bytes, of which there are at most 1,048,576.
+pub fn answer<'a>(
+    alloc: Global,
+    request: GraphRequest<'a>,
+    bytes: &[u8],
+) -> Result<First<'a>, AllocError>
     requires { length bytes.now ≤ 1048576 }
-    ensures { IfOk result (GivesFirst (wish_of wish.entry) bytes.now) }
+    ensures { IfOk result (GivesFirst (graph_request_of request.entry) bytes.now) }
 {
     match read_graph(alloc, bytes) {
-        Ok(graph) => answer_on(alloc, wish, graph),
+        Ok(graph) => answer_on(alloc, request, graph),
         Err(fault) => Ok(First::Replied(refuse_graph(alloc, &fault)?)),
     }
 }
 
-/// What a wish gives on a graph that was read.
-fn answer_on<'a>(alloc: Global, wish: Wish<'a>, graph: ReadGraph) -> Result<First<'a>, AllocError>
-    ensures { IfOk result (GivesOn (wish_of wish.entry) graph) }
+/// What a request gives on a graph that was read.
+fn answer_on<'a>(
+    alloc: Global,
+    request: GraphRequest<'a>,
+    graph: ReadGraph,
+) -> Result<First<'a>, AllocError>
+    ensures { IfOk result (GivesOn (graph_request_of request.entry) graph) }
 {
-    match wish {
-        Wish::Graph { file: _, project } => {
-            Ok(First::Replied(graph_text(alloc, &graph, project)?))
-        }
-        Wish::Separate {
-            file: _,
-            x,
-            y,
-            given,
-        } => Ok(First::Replied(separate(alloc, &graph, x, y, given)?)),
-        Wish::Rule {
-            file: _,
-            rule,
-            y,
-            done,
-            z,
-            given,
-        } => Ok(First::Replied(apply_rule(alloc, &graph, rule, &y, &done, &z, &given)?)),
-        Wish::Identify {
-            file: _,
-            x,
-            y,
-            form,
-        } => Ok(First::Replied(identify_reply(alloc, &graph, x, y, form)?)),
-        Wish::Check {
-            file: _,
-            certificate,
-        } => Ok(First::Continues(Pending::Check { graph, certificate })),
-        Wish::Adjust {
-            file: _,
-            x,
-            y,
-            asked,
-        } => Ok(First::Replied(adjust_reply(alloc, &graph, x, y, asked.query)?)),
-        Wish::Evaluate {
-            file: _,
-            counts,
-            x,
-            y,
-            count,
-            exact,
-        } => evaluate_over(alloc, &graph, counts, x, y, count, exact),
-        Wish::Equivalent { file: _, second } => compare_with(alloc, graph, second),
+    match request {
+        GraphRequest::Graph(asked) => Ok(First::Replied(graph_reply(
+            alloc,
+            &graph,
+            asked.project,
+        )?)),
+        GraphRequest::Separate(asked) => Ok(First::Replied(separate_reply(
+            alloc,
+            &graph,
+            asked.x,
+            asked.y,
+            asked.given,
+        )?)),
+        GraphRequest::Rule(asked) => Ok(First::Replied(rule_reply(
+            alloc,
+            &graph,
+            asked.rule,
+            &asked.y,
+            &asked.done,
+            &asked.z,
+            &asked.given,
+        )?)),
+        GraphRequest::Identify(asked) => Ok(First::Replied(identify_reply(
+            alloc, &graph, asked.x, asked.y, asked.form,
+        )?)),
+        GraphRequest::Check(asked) => Ok(First::Continues(SecondInput::Check {
+            graph,
+            certificate: asked.certificate,
+        })),
+        GraphRequest::Adjust(asked) => Ok(First::Replied(adjust_reply(
+            alloc,
+            &graph,
+            asked.x,
+            asked.y,
+            asked.query,
+        )?)),
+        GraphRequest::Evaluate(asked) => evaluate_over(
+            alloc,
+            &graph,
+            asked.counts,
+            asked.x,
+            asked.y,
+            asked.count,
+            asked.exact,
+        ),
+        GraphRequest::Equivalent(asked) => compare_with(alloc, graph, asked.second),
     }
 }
 
@@ -102,7 +113,7 @@ fn evaluate_over<'a>(
 {
     match identify_first(alloc, graph, x, y)? {
         evaluate_command::First::Replied(reply) => Ok(First::Replied(reply)),
-        evaluate_command::First::Identified(found) => Ok(First::Continues(Pending::Evaluate {
+        evaluate_command::First::Identified(found) => Ok(First::Continues(SecondInput::Evaluate {
             found,
             counts,
             count,
@@ -121,7 +132,7 @@ fn compare_with<'a>(
 {
     match refuse_bidirected(alloc, &graph)? {
         Some(reply) => Ok(First::Replied(reply)),
-        None => Ok(First::Continues(Pending::Equivalent { graph, second })),
+        None => Ok(First::Continues(SecondInput::Equivalent { graph, second })),
     }
 }
 

@@ -1,18 +1,13 @@
 //! The top call: a command line is run over named inputs and two outputs.
 #![tactic(auto)]
 
-mod adjusting;
 mod answer;
-mod ending;
-mod graph;
-mod pending;
-mod printing;
-mod rule;
-mod separate;
+mod input;
+mod lines;
+mod request;
 mod sure;
+mod table;
 mod top;
-mod verdict;
-mod wish;
 
 pub use sure::run_surely;
 pub use survey_graph::survey_graph;

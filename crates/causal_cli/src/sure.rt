@@ -1,7 +1,7 @@
 ghost use Rattle.std.specs.Prelude.{◌≡◌, ◌≢◌, false, None};
 ghost use Rattle.word_forms.specs.Views.{texts_of};
 ghost use Rattle.causal_io.specs.SureShelf.{held_surely};
-ghost use Rattle.causal_cli.specs.Run.{Ended};
+ghost use Rattle.causal_cli.specs.Run.{Ended, run_on, stream_of};
 
 use crate::top::{Status, run};
 use causal_io::{Sink, SureShelf, SureSink};
@@ -15,14 +15,8 @@ pub fn run_surely<E: Sink>(
     out: &mut SureSink,
     err: &mut E,
 ) -> Status
-    ensures ended { Ended (record {
-      words = texts_of words.now;
-      held = held_surely shelf.old;
-      lacks = λ _. false;
-      read_faults = λ _. 0;
-      read_faults_after = λ _. 0;
-      out = record { before = None; after = None; faults = 0; faults_after = 0 };
-    }) (record { before = E.written err.old; after = E.written err.new; faults = E.faults err.old; faults_after = E.faults err.new }) result.code }
+    ensures ended { Ended (run_on (texts_of words.now) (held_surely shelf.old) (λ _. false) (λ _. 0) (λ _. 0) (stream_of None None 0 0))
+        (stream_of (E.written err.old) (E.written err.new) (E.faults err.old) (E.faults err.new)) result.code }
     ensures read { result.code ≢ 6 }
     ensures write { result.code ≢ 7 }
 {

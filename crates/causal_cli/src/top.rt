@@ -3,19 +3,21 @@ ghost use Rattle.causal_io.specs.Causes.{Rose};
 ghost use Rattle.causal_io.specs.Reading.{AnswersAll};
 ghost use Rattle.word_forms.specs.Form.{Text};
 ghost use Rattle.word_forms.specs.Views.{texts_of};
-ghost use Rattle.causal_cli.specs.Run.{Ended, Received};
-ghost use Rattle.causal_cli.specs.Wishes.{Wants, AskOnce};
-ghost use Rattle.causal_cli.specs.WishViews.{wish_of};
-ghost use Rattle.causal_cli.specs.Pendings.{IsAccepted};
+ghost use Rattle.replies.specs.Outcomes.{code_of};
+ghost use Rattle.causal_cli.specs.Run.{Ended, Received, run_on, stream_of};
+ghost use Rattle.causal_cli.specs.Requests.{Asks, AskOnce, on_graph};
+ghost use Rattle.causal_cli.specs.RequestViews.{graph_request_of};
+ghost use Rattle.causal_cli.specs.SecondInputs.{IsAccepted};
 ghost use Rattle.causal_cli.specs.Headline.{Headline};
-ghost use Rattle.causal_cli.specs.Endings.{IfAnswered, EndsAs, IsTooLong, Delivers, Proceeds, verdict_of, line_in};
+ghost use Rattle.causal_cli.specs.Ends.{IfAnswered, EndsWith, IsTooLong, Delivers, Proceeds, text_of};
 
 use crate::answer::{First, answer};
-use crate::ending::Ending;
-use crate::pending::{Pending, long_reply, second_reply};
-use crate::wish::{Task, Wish, WordsFault, read_task};
+use crate::input::{SecondInput, long_reply, second_reply};
+use crate::lines::line_of;
+use crate::request::{GraphRequest, Request, read_request};
 use causal_io::{ReadError, Shelf, Sink, read_all, write_all};
 use replies::{Outcome, Reply};
+use request_values::RequestFault;
 use std::alloc::Global;
 use survey_command::survey_reply;
 
@@ -38,94 +40,74 @@ pub fn run<S: Shelf, O: Sink, E: Sink>(
     out: &mut O,
     err: &mut E,
 ) -> Status
-    ensures ended { Ended (record {
-      words = texts_of words.now;
-      held = S.held shelf.old;
-      lacks = S.lacks shelf.old;
-      read_faults = S.faults shelf.old;
-      read_faults_after = S.faults shelf.new;
-      out = record { before = O.written out.old; after = O.written out.new; faults = O.faults out.old; faults_after = O.faults out.new };
-    }) (record { before = E.written err.old; after = E.written err.new; faults = E.faults err.old; faults_after = E.faults err.new }) result.code }
-    ensures headline { Headline (record {
-      words = texts_of words.now;
-      held = S.held shelf.old;
-      lacks = S.lacks shelf.old;
-      read_faults = S.faults shelf.old;
-      read_faults_after = S.faults shelf.new;
-      out = record { before = O.written out.old; after = O.written out.new; faults = O.faults out.old; faults_after = O.faults out.new };
-    }) result.code }
+    ensures ended { Ended (run_on (texts_of words.now) (S.held shelf.old) (S.lacks shelf.old) (S.faults shelf.old) (S.faults shelf.new)
+        (stream_of (O.written out.old) (O.written out.new) (O.faults out.old) (O.faults out.new))) (stream_of (E.written err.old) (E.written err.new) (E.faults err.old) (E.faults err.new)) result.code }
+    ensures headline { Headline (run_on (texts_of words.now) (S.held shelf.old) (S.lacks shelf.old) (S.faults shelf.old) (S.faults shelf.new)
+        (stream_of (O.written out.old) (O.written out.new) (O.faults out.old) (O.faults out.new))) result.code }
     ensures holds { S.held shelf.new ≡ S.held shelf.old }
     ensures lack { S.lacks shelf.new ≡ S.lacks shelf.old }
 {
-    let ending = respond(alloc, words, shelf, out);
-    report(err, &ending);
+    let last = respond(alloc, words, shelf, out);
+    report(err, &last);
     Status {
-        code: ending.verdict().code(),
+        code: last.outcome.code(),
     }
 }
 
-/// Writes the line of an ending to `err`; nothing on an answer.
-fn report<E: Sink>(err: &mut E, ending: &Ending)
-    ensures { Received (record { before = E.written err.old; after = E.written err.new; faults = E.faults err.old; faults_after = E.faults err.new })
-        (verdict_of ending.now) (line_in ending.now) }
+/// Writes the line of the last reply to `err`; nothing on an answer.
+fn report<E: Sink>(err: &mut E, last: &Reply)
+    ensures { Received (stream_of (E.written err.old) (E.written err.new) (E.faults err.old) (E.faults err.new)) last.now.outcome (text_of last.now) }
 {
-    match ending {
-        Ending::Affirmed | Ending::Denied => {}
+    match last.outcome {
+        Outcome::Yes | Outcome::No => {}
         _ => {
-            let _ = write_all(err, ending.line());
+            let _ = write_all(err, line_of(last));
         }
     }
 }
 
 /// Does all of a run but the line on `err`.
-fn respond<S: Shelf, O: Sink>(alloc: Global, words: &[String], shelf: &mut S, out: &mut O) -> Ending
-    ensures ends { EndsAs (record {
-      words = texts_of words.now;
-      held = S.held shelf.old;
-      lacks = S.lacks shelf.old;
-      read_faults = S.faults shelf.old;
-      read_faults_after = S.faults shelf.new;
-      out = record { before = O.written out.old; after = O.written out.new; faults = O.faults out.old; faults_after = O.faults out.new };
-    }) result }
-    ensures once { IfAnswered result (AskOnce (texts_of words.now)) }
+fn respond<S: Shelf, O: Sink>(alloc: Global, words: &[String], shelf: &mut S, out: &mut O) -> Reply
+    ensures ends { EndsWith (run_on (texts_of words.now) (S.held shelf.old) (S.lacks shelf.old) (S.faults shelf.old) (S.faults shelf.new)
+        (stream_of (O.written out.old) (O.written out.new) (O.faults out.old) (O.faults out.new))) result }
+    ensures once { IfAnswered result.outcome (AskOnce (texts_of words.now)) }
     ensures holds { S.held shelf.new ≡ S.held shelf.old }
     ensures lack { S.lacks shelf.new ≡ S.lacks shelf.old }
 {
-    match read_task(alloc, words) {
-        Ok(Task::OnFile(wish)) => grant(alloc, wish, shelf, out),
-        Ok(Task::Survey(seed)) => match survey_reply(alloc, seed) {
-            Ok(reply) => deliver(out, reply),
-            Err(_) => Ending::NoMemory,
+    match read_request(alloc, words) {
+        Ok(Request::OnGraph(request)) => answer_graph(alloc, request, shelf, out),
+        Ok(Request::Survey(request)) => match survey_reply(alloc, request.seed) {
+            Ok(reply) => deliver(alloc, out, reply),
+            Err(_) => Reply::bare(alloc, Outcome::Memory),
         },
-        Err(WordsFault::NotUnderstood) => Ending::NotUnderstood,
-        Err(WordsFault::NoMemory) => Ending::NoMemory,
+        Err(RequestFault::NotUnderstood) => Reply::bare(alloc, Outcome::Words),
+        Err(RequestFault::NoMemory) => Reply::bare(alloc, Outcome::Memory),
     }
 }
 
-/// Reads the file of a wish and answers on it.
-fn grant<S: Shelf, O: Sink>(alloc: Global, wish: Wish<'_>, shelf: &mut S, out: &mut O) -> Ending
-    ensures ends { (words : List Text) → Wants words (wish_of wish.entry) → EndsAs (record {
-      words = words;
-      held = S.held shelf.old;
-      lacks = S.lacks shelf.old;
-      read_faults = S.faults shelf.old;
-      read_faults_after = S.faults shelf.new;
-      out = record { before = O.written out.old; after = O.written out.new; faults = O.faults out.old; faults_after = O.faults out.new };
-    }) result }
+/// Reads the file of a request and answers on it.
+fn answer_graph<S: Shelf, O: Sink>(
+    alloc: Global,
+    request: GraphRequest<'_>,
+    shelf: &mut S,
+    out: &mut O,
+) -> Reply
+    ensures ends { (words : List Text) → Asks words (on_graph (graph_request_of request.entry)) → EndsWith (run_on words (S.held shelf.old) (S.lacks shelf.old) (S.faults shelf.old) (S.faults shelf.new)
+        (stream_of (O.written out.old) (O.written out.new) (O.faults out.old) (O.faults out.new))) result }
     ensures holds { S.held shelf.new ≡ S.held shelf.old }
     ensures lack { S.lacks shelf.new ≡ S.lacks shelf.old }
 {
-    let file = wish.file();
+    let file = request.file();
     let bytes = match read_all(alloc, shelf, file, MAX_GRAPH_BYTES) {
         Ok(bytes) => bytes,
-        Err(ReadError::Fault) => return Ending::Unread,
+        Err(ReadError::Fault) => return Reply::bare(alloc, Outcome::Read),
         Err(ReadError::TooLong { limit: _ }) => return too_long(alloc),
-        Err(ReadError::NoMemory) => return Ending::NoMemory,
+        Err(ReadError::NoMemory) => return Reply::bare(alloc, Outcome::Memory),
     };
-    match answer(alloc, wish, &bytes) {
-        Err(_) => Ending::NoMemory,
-        Ok(First::Replied(reply)) => deliver(out, reply),
-        Ok(First::Continues(pending)) => proceed(alloc, file, &bytes, &pending, shelf, out),
+    match answer(alloc, request, &bytes) {
+        Err(_) => Reply::bare(alloc, Outcome::Memory),
+        Ok(First::Replied(reply)) => deliver(alloc, out, reply),
+        Ok(First::Continues(input)) => proceed(alloc, file, &bytes, &input, shelf, out),
     }
 }
 
@@ -134,30 +116,30 @@ fn proceed<S: Shelf, O: Sink>(
     alloc: Global,
     file: &str,
     bytes: &[u8],
-    pending: &Pending<'_>,
+    input: &SecondInput<'_>,
     shelf: &mut S,
     out: &mut O,
-) -> Ending
+) -> Reply
     requires held { IfSome (S.held shelf.now file.now) (λ all. bytes.now ≡ all) }
     requires there { S.lacks shelf.now file.now ≡ false }
     requires small { length bytes.now ≤ 1048576 }
-    requires accepted { IsAccepted pending.now }
+    requires accepted { IsAccepted input.now }
     ensures proceeds { Proceeds (S.held shelf.old) (S.lacks shelf.old) (S.faults shelf.old) (S.faults shelf.new)
-        (record { before = O.written out.old; after = O.written out.new; faults = O.faults out.old; faults_after = O.faults out.new }) pending.now result }
+        (stream_of (O.written out.old) (O.written out.new) (O.faults out.old) (O.faults out.new)) input.now result }
     ensures holds { S.held shelf.new ≡ S.held shelf.old }
     ensures lack { S.lacks shelf.new ≡ S.lacks shelf.old }
 {
-    match read_second(alloc, file, bytes, pending.second(), pending.limit(), shelf) {
-        Ok(other) => match second_reply(alloc, pending, &other) {
-            Ok(reply) => deliver(out, reply),
-            Err(_) => Ending::NoMemory,
+    match read_second(alloc, file, bytes, input.second(), input.limit(), shelf) {
+        Ok(other) => match second_reply(alloc, input, &other) {
+            Ok(reply) => deliver(alloc, out, reply),
+            Err(_) => Reply::bare(alloc, Outcome::Memory),
         },
-        Err(ReadError::TooLong { limit: _ }) => match long_reply(alloc, pending) {
-            Ok(reply) => deliver(out, reply),
-            Err(_) => Ending::NoMemory,
+        Err(ReadError::TooLong { limit: _ }) => match long_reply(alloc, input) {
+            Ok(reply) => deliver(alloc, out, reply),
+            Err(_) => Reply::bare(alloc, Outcome::Memory),
         },
-        Err(ReadError::Fault) => Ending::Unread,
-        Err(ReadError::NoMemory) => Ending::NoMemory,
+        Err(ReadError::Fault) => Reply::bare(alloc, Outcome::Read),
+        Err(ReadError::NoMemory) => Reply::bare(alloc, Outcome::Memory),
     }
 }
 
@@ -188,31 +170,36 @@ fn read_second<S: Shelf>(
     read_all(alloc, shelf, second, limit)
 }
 
-/// The ending of a graph text that is too long.
-fn too_long(alloc: Global) -> Ending
+/// The reply to a graph text that is too long.
+fn too_long(alloc: Global) -> Reply
     ensures { IsTooLong result }
 {
     match Vec::from_slice(alloc, b"causal: graph fault 12: over 1048576 bytes\n") {
-        Ok(line) => Ending::Refused(line),
-        Err(_) => Ending::NoMemory,
+        Ok(text) => Reply {
+            outcome: Outcome::Graph,
+            text,
+        },
+        Err(_) => Reply::bare(alloc, Outcome::Memory),
     }
 }
 
 /// Writes an answer to `out`; a refusal keeps its line for `err`.
-fn deliver<O: Sink>(out: &mut O, reply: Reply) -> Ending
-    ensures { Delivers (record { before = O.written out.old; after = O.written out.new; faults = O.faults out.old; faults_after = O.faults out.new }) reply result }
+fn deliver<O: Sink>(alloc: Global, out: &mut O, reply: Reply) -> Reply
+    ensures { Delivers (stream_of (O.written out.old) (O.written out.new) (O.faults out.old) (O.faults out.new)) reply result }
 {
     match reply.outcome {
-        Outcome::Yes => match write_all(out, &reply.text) {
-            Ok(()) => Ending::Affirmed,
-            Err(_) => Ending::Unwritten,
-        },
-        Outcome::No => match write_all(out, &reply.text) {
-            Ok(()) => Ending::Denied,
-            Err(_) => Ending::Unwritten,
-        },
-        Outcome::Graph => Ending::Refused(reply.text),
-        Outcome::Second => Ending::SecondRefused(reply.text),
-        Outcome::Evaluation => Ending::NoValue(reply.text),
+        Outcome::Yes | Outcome::No => write_reply(alloc, out, reply),
+        _ => reply,
+    }
+}
+
+/// Writes the text of an answer.
+fn write_reply<O: Sink>(alloc: Global, out: &mut O, reply: Reply) -> Reply
+    requires { code_of reply.outcome ≤ 1 }
+    ensures { Delivers (stream_of (O.written out.old) (O.written out.new) (O.faults out.old) (O.faults out.new)) reply result }
+{
+    match write_all(out, &reply.text) {
+        Ok(()) => reply,
+        Err(_) => Reply::bare(alloc, Outcome::Write),
     }
 }

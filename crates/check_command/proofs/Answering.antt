@@ -9,7 +9,7 @@ use Rattle.certificate.specs.Plain.{formula, hedge, hedge_view}
 use Rattle.certificate.specs.Reading.{certificate_in}
 use Rattle.dag_reader.specs.declared.graph.ReadGraph.{ReadGraph}
 use Rattle.replies.specs.declared.outcome.Outcome.{Outcome}
-use Rattle.replies.specs.declared.outcome.Outcome.TheVariants.{Yes, No, Graph, Second, Evaluation}
+use Rattle.replies.specs.declared.outcome.Outcome.TheVariants.{Yes, No}
 use Rattle.replies.specs.declared.outcome.Reply.{Reply}
 use Rattle.replies.specs.Observed.{observed_names, IsObservedGraph}
 use Rattle.check_command.specs.Answers.{IsRead, FormulaAnswer, HedgeAnswer, CertificateAnswer, of_formula, of_hedge, ObservedAnswer, CheckAnswer}
@@ -28,16 +28,12 @@ module _ (g : ReadGraph) (q : MixedGraph) (names : List (List ℕ)) (bytes : Lis
       → CheckAnswer g bytes o text
   formula_case t f d r Yes text a = in_graph Yes text (of_formula t f d r a)
   formula_case t f d r No text a = in_graph No text (of_formula t f d r a)
-  formula_case t f d r Graph text a = absurd a
-  formula_case t f d r Second text a = absurd a
-  formula_case t f d r Evaluation text a = absurd a
+  formula_case t f d r o text a = absurd a
 
   hedge_case : (t : PlainTarget) (h : Hedge) → IsRead names bytes (hedge t (hedge_view h)) → (o : Outcome) (text : List ℕ) → HedgeAnswer q names t h o text → CheckAnswer g bytes o text
   hedge_case t h r Yes text a = in_graph Yes text (of_hedge t h r a)
   hedge_case t h r No text a = in_graph No text (of_hedge t h r a)
-  hedge_case t h r Graph text a = absurd a
-  hedge_case t h r Second text a = absurd a
-  hedge_case t h r Evaluation text a = absurd a
+  hedge_case t h r o text a = absurd a
 
   -- the answer for a formula is that of the check
   pub formula_answers : (t : PlainTarget) (f : PlainFormula) (d : PlainDerivation) → certificate_in names bytes ≡ Ok (formula t f d)

@@ -3,3 +3,4 @@ pub mod LowPaths
 pub mod ReadFormulas
 pub mod ReadTargets
 pub mod Using
+pub mod Outcomes

@@ -1,13 +1,11 @@
 -- The open path of a refused step lies in the graph.
 use Rattle.std.proofs.Common.{◌≡◌, ℕ, ◌+◌, ◌<◌, Bool, true, false, List, [], ◌∷◌, ◌++◌, length, Option, Some, None, MatchOption, inl, inr, sym, subst, arith}
-use Rattle.std.specs.Prelude.{zero, suc, not, eqb, ltb, leb, get_or, ◌||◌, ◌&&◌, ◌≤◌, ◌-◌, slice_index}
+use Rattle.std.specs.Prelude.{not, eqb, ltb, leb, get_or, ◌||◌, ◌&&◌, ◌≤◌, ◌-◌}
 use Rattle.mixed_graph.specs.Bits.{has}
 use Rattle.mixed_graph.specs.Graphs.{MixedGraph, IsMixedGraph}
-use Rattle.m_separation.specs.declared.marks.Mark.{Mark}
 use Rattle.m_separation.specs.declared.paths.OpenPath.{OpenPath}
-use Rattle.m_separation.specs.Walks.{IsWalk}
-use Rattle.m_separation.specs.Paths.{steps_from, IsOpenPath}
-use Rattle.m_separation.proofs.Going.{joined_below}
+use Rattle.m_separation.specs.Paths.{IsOpenPath}
+use Rattle.replies.proofs.PathsBelow.{path_below}
 use Rattle.surgery.specs.Cuts.{cut_into, cut_out}
 use Rattle.surgery.proofs.Fewer.{graph_into, graph_out}
 use Rattle.prob_expr.specs.Check.{cap}
@@ -22,23 +20,6 @@ use Rattle.do_derivation.specs.declared.faults.StepFault.{StepFault}
 use Rattle.do_derivation.specs.declared.faults.StepFault.TheVariants.{Sets, BadOrder, Grouping, NoLemma, NoPlace, Shape}
 use Rattle.do_derivation.specs.declared.faults.CheckFault.{CheckFault}
 use Rattle.check_command.specs.Replies.{IsLowPath, HasLowPath, IsLowFault}
-
-steps_below : (g : MixedGraph) → IsMixedGraph g → (vertices : List ℕ) (marks : List Mark) (i k : ℕ) →
-    slice_index vertices i < g.vertices → IsWalk g (slice_index vertices i) (steps_from vertices marks i k) →
-    (j : ℕ) → j ≤ k → slice_index vertices (i + j) < g.vertices
-steps_below g valid vertices marks i k below walk zero h = let e : i + 0 ≡ i = omega arith in rw e below
-steps_below g valid vertices marks i zero below walk (suc j) h = absurd (omega arith)
-steps_below g valid vertices marks i (suc k) below walk (suc j) h =
-    let next = joined_below g valid (slice_index vertices i) _ (slice_index vertices (i + 1)) walk.0 in
-    let e : i + suc j ≡ i + 1 + j = omega arith in
-    rw e (steps_below g valid vertices marks (i + 1) k next walk.1 j (omega arith))
-
-path_below : (g : MixedGraph) → IsMixedGraph g → (x y w : ℕ → Bool) (vertices : List ℕ) (marks : List Mark) (count : ℕ) →
-    IsOpenPath g x y w vertices marks count → (i : ℕ) → i < count → slice_index vertices i < g.vertices
-path_below g valid x y w vertices marks count p i h =
-    let e : 0 + i ≡ i = omega arith in
-    let r = steps_below g valid vertices marks 0 (count - 1) p.walk.vertex p.walk.walk i (omega (arith, p.some)) in
-    rw e at r
 
 low : (g : MixedGraph) → IsMixedGraph g → (x y w : ℕ → Bool) (p : OpenPath) → IsOpenPath g x y w p.vertices p.marks p.count → IsLowPath g.vertices p
 low g valid x y w p h = record { some = h.some; few = h.few; low = λ i lt. path_below g valid x y w p.vertices p.marks p.count h i lt }

@@ -5,5 +5,7 @@ mod formula;
 mod hedge_data;
 mod lines;
 mod reply;
+mod request;
 
 pub use reply::{check_reply, long_certificate};
+pub use request::{ROW, Request};

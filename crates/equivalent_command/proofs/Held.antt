@@ -4,7 +4,7 @@ use Rattle.std.specs.Prelude.{Result, Ok, Err, IfOk}
 use Rattle.mixed_graph.specs.Graphs.{MixedGraph}
 use Rattle.dag_reader.specs.declared.graph.ReadGraph.{ReadGraph}
 use Rattle.replies.specs.declared.outcome.Outcome.{Outcome}
-use Rattle.replies.specs.declared.outcome.Outcome.TheVariants.{Yes, No, Graph, Second, Evaluation}
+use Rattle.replies.specs.declared.outcome.Outcome.TheVariants.{Yes, No, Second}
 use Rattle.replies.specs.declared.outcome.Reply.{Reply}
 use Rattle.replies.specs.Observed.{observed_names, IsObservedGraph, Holds}
 use Rattle.markov_equivalence.specs.Skeletons.{HasArrowsAlone}
@@ -12,11 +12,8 @@ use Rattle.equivalent_command.specs.Numbers.{HaveSameNames, on_names}
 use Rattle.equivalent_command.specs.Answers.{AreComparable, ComparisonAnswer, GraphsAnswer, EquivalentAnswer}
 
 held : (g h : ReadGraph) (second : List ℕ) (o : Outcome) (text : List ℕ) → Holds second h → GraphsAnswer g h o text → EquivalentAnswer g second o text
-held g h second Yes text a b = (h, a, b)
-held g h second No text a b = (h, a, b)
-held g h second Graph text a b = (h, a, b)
 held g h second Second text a b = inr (h, a, b)
-held g h second Evaluation text a b = (h, a, b)
+held g h second o text a b = (h, a, b)
 
 pub held_reply : {E : Type 0} (g h : ReadGraph) (second : List ℕ) (r : Result Reply E) → Holds second h → IfOk r (λ p. GraphsAnswer g h p.outcome p.text.items)
     → IfOk r (λ p. EquivalentAnswer g second p.outcome p.text.items)
@@ -26,9 +23,7 @@ held_reply g h second (Err e) a b = b
 compared : (g h : ReadGraph) (p q : MixedGraph) (o : Outcome) (text : List ℕ) → AreComparable g h p q → ComparisonAnswer (observed_names g) p q o text → GraphsAnswer g h o text
 compared g h p q Yes text a b = record { p = p; q = q; comparable = a; answer = b }
 compared g h p q No text a b = record { p = p; q = q; comparable = a; answer = b }
-compared g h p q Graph text a b = b
-compared g h p q Second text a b = absurd b
-compared g h p q Evaluation text a b = b
+compared g h p q o text a b = absurd b
 
 compared_result : {E : Type 0} (g h : ReadGraph) (p q : MixedGraph) (r : Result Reply E) → AreComparable g h p q
     → IfOk r (λ x. ComparisonAnswer (observed_names g) p q x.outcome x.text.items) → IfOk r (λ x. GraphsAnswer g h x.outcome x.text.items)

@@ -1,3 +1,4 @@
 pub mod Directed
 pub mod Held
 pub mod Placing
+pub mod Outcomes

@@ -5,5 +5,7 @@ mod faults;
 mod numbers;
 mod printing;
 mod reply;
+mod request;
 
 pub use reply::{equivalent_reply, long_second_graph, refuse_bidirected};
+pub use request::{ROW, Request};

@@ -7,3 +7,4 @@ pub mod Texts
 pub mod Stops
 pub mod Evaluable
 pub mod Effects
+pub mod Outcomes

@@ -5,3 +5,4 @@ pub mod Lines
 pub mod Answers
 pub mod Firsts
 pub mod Printing
+pub mod Requests

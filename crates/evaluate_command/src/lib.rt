@@ -7,8 +7,10 @@ mod identified;
 mod lines;
 mod mentioned;
 mod reply;
+mod request;
 mod values;
 
 pub use first::{First, identify_first};
 pub use identified::Identified;
 pub use reply::{evaluate_reply, long_counts};
+pub use request::{ROW, Request};

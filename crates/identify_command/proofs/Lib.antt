@@ -1,3 +1,4 @@
 pub mod Shallow
 pub mod Within
 pub mod Writing
+pub mod Outcomes

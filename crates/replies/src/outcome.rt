@@ -1,18 +1,28 @@
 ghost use Rattle.std.specs.Prelude.{◌≡◌};
 
-/// What a command answers.
+use std::alloc::Global;
+
+/// How a run ends. A command answers one of five: yes or no, or that the graph, the second input or the evaluation is refused.
 #[derive(Clone, Copy, Debug, PartialEq, Eq)]
 pub enum Outcome {
     /// The answer is given and isn't no.
     Yes,
     /// The answer is no.
     No,
+    /// The words aren't understood.
+    Words,
     /// The graph or the target is refused.
     Graph,
     /// The second input is refused.
     Second,
     /// The formula has no value at some cell.
     Evaluation,
+    /// A read failed.
+    Read,
+    /// A write failed.
+    Write,
+    /// Memory was refused.
+    Memory,
 }
 
 impl Outcome {
@@ -25,16 +35,32 @@ impl Outcome {
         match self {
             Outcome::Yes => 0,
             Outcome::No => 1,
+            Outcome::Words => 2,
             Outcome::Graph => 3,
             Outcome::Second => 4,
             Outcome::Evaluation => 5,
+            Outcome::Read => 6,
+            Outcome::Write => 7,
+            Outcome::Memory => 8,
         }
     }
 }
 
-/// An outcome with its text for `out`, or its line for `err`.
+/// An outcome with its text for `out`, or its line for `err`. The outcomes that no command answers have a fixed line, and no text here.
 #[derive(Drop)]
 pub struct Reply {
     pub outcome: Outcome,
     pub text: Vec<u8>,
+}
+
+impl Reply {
+    /// A reply without a text.
+    pub fn bare(alloc: Global, outcome: Outcome) -> Self
+        ensures { result.outcome ≡ outcome }
+    {
+        Reply {
+            outcome,
+            text: Vec::new(alloc),
+        }
+    }
 }

@@ -6,9 +6,10 @@ use Rattle.spans.specs.declared.Span.{Span}
 use Rattle.spans.specs.declared.Input.{Input}
 use Rattle.spans.specs.Parts.{place_named}
 use Rattle.span_call.specs.declared.Sizes.{Sizes}
-use Rattle.causal_cli.specs.declared.verdict.Verdict.{Verdict}
-use Rattle.causal_cli.specs.declared.verdict.Verdict.TheVariants.{Yes, No, Words, Graph, Second, Evaluation, Read, Write, Memory}
-use Rattle.causal_cli.specs.Run.{Run, code_of, Ends, Unread, Unwritten}
+use Rattle.replies.specs.declared.outcome.Outcome.{Outcome}
+use Rattle.replies.specs.declared.outcome.Outcome.TheVariants.{Yes, No, Words, Graph, Second, Evaluation, Read, Write, Memory}
+use Rattle.replies.specs.Outcomes.{code_of}
+use Rattle.causal_cli.specs.Run.{Run, Ends, Unread, Unwritten}
 use Rattle.span_call.specs.Called.{IsRunOf, Called, LacksInput, IsCutShort}
 
 -- where a read failed, no input has the name
@@ -17,7 +18,7 @@ lacked_of : (bytes : List ℕ) (words : List Span) (inputs : List Input) (r : Ru
 lacked_of bytes words inputs r is name rose true p = sym (is.lacks_is name) ∙ p
 lacked_of bytes words inputs r is name rose false p = absurd (omega (arith, rose, is.none_failed name, is.fails_lacked name p))
 
-unread_at : (r : Run) (text : List ℕ) (v : Verdict) → 6 ≡ code_of v → Ends r v text → Unread r
+unread_at : (r : Run) (text : List ℕ) (v : Outcome) → 6 ≡ code_of v → Ends r v text → Unread r
 unread_at r text Yes c h = absurd (omega (arith, c))
 unread_at r text No c h = absurd (omega (arith, c))
 unread_at r text Words c h = absurd (omega (arith, c))
@@ -28,7 +29,7 @@ unread_at r text Read c h = h.0
 unread_at r text Write c h = absurd (omega (arith, c))
 unread_at r text Memory c h = absurd (omega (arith, c))
 
-unwritten_at : (r : Run) (text : List ℕ) (v : Verdict) → 7 ≡ code_of v → Ends r v text → Unwritten r
+unwritten_at : (r : Run) (text : List ℕ) (v : Outcome) → 7 ≡ code_of v → Ends r v text → Unwritten r
 unwritten_at r text Yes c h = absurd (omega (arith, c))
 unwritten_at r text No c h = absurd (omega (arith, c))
 unwritten_at r text Words c h = absurd (omega (arith, c))
@@ -42,7 +43,7 @@ unwritten_at r text Memory c h = absurd (omega (arith, c))
 pub lacks_input : (bytes : List ℕ) (words : List Span) (inputs : List Input) (out0 out err0 err : List ℕ) (sizes : Sizes) (code : ℕ)
     → Called bytes words inputs out0 out err0 err sizes code → code ≡ 6 → LacksInput bytes words inputs
 lacks_input bytes words inputs out0 out err0 err sizes code called six =
-    let unread = unread_at called.run called.ended.text called.ended.verdict (sym six ∙ called.ended.status) called.ended.ends in
+    let unread = unread_at called.run called.ended.text called.ended.outcome (sym six ∙ called.ended.status) called.ended.ends in
     record {
       run = called.run;
       is_run = called.is_run;
@@ -55,6 +56,6 @@ pub cut_short : (bytes : List ℕ) (words : List Span) (inputs : List Input) (ou
 cut_short bytes words inputs out0 out err0 err sizes code called seven = record {
   run = called.run;
   is_run = called.is_run;
-  unwritten = unwritten_at called.run called.ended.text called.ended.verdict (sym seven ∙ called.ended.status) called.ended.ends;
+  unwritten = unwritten_at called.run called.ended.text called.ended.outcome (sym seven ∙ called.ended.status) called.ended.ends;
   shows_out = called.shows_out;
 }

@@ -2,3 +2,4 @@ mod Answering
 mod OneSets
 mod Surveying
 mod Tallying
+pub mod Outcomes

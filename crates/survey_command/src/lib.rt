@@ -2,6 +2,8 @@
 #![tactic(auto)]
 
 mod reply;
+mod request;
 mod tally;
 
 pub use reply::survey_reply;
+pub use request::{ROW, Request};

@@ -2,3 +2,4 @@ pub mod Queries
 pub mod RuleWalks
 pub mod Walking
 pub mod Effects
+pub mod Disjoint

@@ -6,7 +6,6 @@ use serde_json::Value;
 use std::alloc::Global;
 use word_forms::{Entry, read_call};
 use word_lists::{read_list, read_number};
-use word_values::read_words;
 
 // `list`, and `weigh FILE [COUNTS] --rule N [--do L] [--exact]`
 static TABLE: [Entry; 2] = [
@@ -69,22 +68,12 @@ fn add_call(alloc: Global, line: &mut Vec<u8>, case: &Value) -> Result<()> {
     }
 }
 
-/// Adds what the `words` ask for.
-fn add_request(alloc: Global, line: &mut Vec<u8>, case: &Value) -> Result<()> {
-    let words = words_in(alloc, case)?;
-    match read_words(alloc, &words)? {
-        Some(request) => add_text(line, format!(in alloc; "{request:?}")?.as_str()),
-        None => add_text(line, "none"),
-    }
-}
-
 /// Adds what a case's call gives.
 pub(crate) fn add_answer(alloc: Global, line: &mut Vec<u8>, case: &Value) -> Result<()> {
     match text_in(case, "call")? {
         "read_list" => add_list(alloc, line, case),
         "read_number" => add_number(alloc, line, case),
         "read_call" => add_call(alloc, line, case),
-        "read_words" => add_request(alloc, line, case),
         other => bail!("no call {other}"),
     }
 }

@@ -12,29 +12,29 @@ use Rattle.clap.specs.declared.error.Error.{Error}
 use Rattle.clap.specs.declared.error.kind.ErrorKind.TheVariants.{OutOfMemory}
 use Rattle.clap.specs.declared.parser.matches.ArgMatches.{ArgMatches}
 use Rattle.word_forms.specs.Form.{Text, Row, Use, IsCall}
-use Rattle.word_values.specs.Commands.{table}
 use Rattle.word_values.specs.App.{app_of_table}
 use Rattle.word_values.specs.Gives.{GivesCall}
-use Rattle.word_values.proofs.Computed.{call_is_taken, rows_below, call_found, call_gives, table_simple}
+use Rattle.word_values.specs.Readable.{IsReadable}
 use Rattle.word_values.proofs.Counts.{allowed}
 use Rattle.word_values.proofs.Level.{positional_given, option_given}
 use Rattle.word_forms.proofs.Names.{all_at}
 use Rattle.word_forms.specs.Form.{times}
 use Rattle.std.proofs.lemmas.Bool.Decides.{nat_tests}
 
-module _ (ws : List Text) (row : Row) (uses : List Use) (call : IsCall table ws row uses) (a : App) (e : a ≡ app_of_table table) where
+module _ (table : List Row) (readable : IsReadable table) (ws : List Text) (row : Row) (uses : List Use) (call : IsCall table ws row uses) (a : App) (e : a ≡ app_of_table table) where
   pub ok_gives : {F : Type 0} (r : Result ArgMatches F) → IfOk r (HasMatchesOf a ws) → IfOk r (λ m. GivesCall row uses m)
-  ok_gives (Ok m) h = record {
-    rows = rows_below ws row uses call;
-    found = (h (ap is_simple e ∙ table_simple)).1 ∙ (ap (λ (b : App). subcommand_of b ws) e ∙ call_found ws row uses call);
-    gives = call_gives ws row uses call;
-    allowed = call.allowed;
-  }
+  ok_gives (Ok m) h =
+      let finds = readable.finds ws row uses call in record {
+        rows = finds.rows;
+        found = (h (ap is_simple e ∙ readable.simple)).1 ∙ (ap (λ (b : App). subcommand_of b ws) e ∙ finds.found);
+        gives = finds.gives;
+        allowed = call.allowed;
+      }
   ok_gives (Err x) h = tt
 
   pub err_memory : {M : Type 0} (r : Result M Error) → IfErr r (λ x. takes a ws ≡ true → kind_of x ≡ OutOfMemory) → IfErr r (λ x. kind_of x ≡ OutOfMemory)
   err_memory (Ok m) h = tt
-  err_memory (Err x) h = h (ap (λ (b : App). takes b ws) e ∙ call_is_taken ws row uses call)
+  err_memory (Err x) h = h (ap (λ (b : App). takes b ws) e ∙ readable.taken ws row uses call)
 
 -- what is read of the rows below
 pub inner_text : (f : List Entry → Option Text) (o : Option (Text × List Entry)) (rows : List Entry) → Some rows ≡ option_map (λ (p : Text × List Entry). p.1) o → f rows ≡ option_and_then (λ (p : Text × List Entry). f p.1) o
@@ -57,9 +57,6 @@ module _ (row : Row) (uses : List Use) (m : ArgMatches) (g : GivesCall row uses 
   pub flag_text : (x : Text) → is_among row.flags x ≡ true → below (one_of x) ≡ Some (if has_flag uses x then codes "true" else codes "false")
   flag_text x has = found_in (one_of x) ∙ g.gives.flags x has
 
-  pub needed_text : (n : Text) → is_among row.positionals n ≡ true → is_some (word_of row uses n) ≡ true
-  needed_text n has = positional_given row.positionals row.extra (words_in uses) n has (allowed row uses g.allowed).least
-
   -- a test that is true at `true` and false at `false` tells whether the flag is there
   pub flag_is : (result : Bool) (x : Text) → is_among row.flags x ≡ true → (below (one_of x) ≡ Some (codes "true") → result ≡ true) → (below (one_of x) ≡ Some (codes "false") → result ≡ false)
       → result ≡ has_flag uses x
@@ -68,16 +65,3 @@ module _ (row : Row) (uses : List Use) (m : ArgMatches) (g : GivesCall row uses 
       go : (t : Bool) → has_flag uses x ≡ t → result ≡ has_flag uses x
       go true e = let k : below (one_of x) ≡ Some (codes "true") = rw e at (flag_text x has) in there k ∙ sym e
       go false e = let k : below (one_of x) ≡ Some (codes "false") = rw e at (flag_text x has) in gone k ∙ sym e
-
--- a value is there where the text that it stands for is
-pub value_is_there : {A : Type 0} (f : A → Text) (o : Option A) (p : Option Text) → option_map f o ≡ p → is_some p ≡ true → is_some o ≡ true
-value_is_there f None p e h = let gone : is_some p ≡ false = ap is_some (sym e) in cc (gone, h)
-value_is_there f (Some x) p e h = refl
-
--- an option without brackets is given
-pub needed_option_text : (row : Row) (uses : List Use) (m : ArgMatches) → GivesCall row uses m → (x : Text) → is_among row.needed x ≡ true → is_among row.flags x ≡ false → is_some (value_of uses x) ≡ true
-needed_option_text row uses m g x has apart =
-    let a = allowed row uses g.allowed in
-    let k = all_at (λ y. times uses y == 1) row.needed x a.needed has in
-    let one : 1 ≤ times uses x = grind (arith, nat_tests) in
-    option_given row x uses a.fit apart one

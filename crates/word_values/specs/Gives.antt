@@ -3,6 +3,7 @@ use Rattle.std.specs.Prelude.{◌≡◌, true, List, Some, codes, if◌then◌el
 use Rattle.clap.specs.Walk.{Row as Entry, first_of, one_of}
 use Rattle.clap.specs.Simple.{subcommand_rows_of}
 use Rattle.clap.specs.declared.parser.matches.ArgMatches.{ArgMatches}
+use Rattle.word_values.specs.declared.values.Values.{Values}
 use Rattle.word_forms.specs.Form.{Text, Row, Use, is_among, is_allowed, value_names, positional_names, value_of, has_flag, word_of}
 
 -- what is found below the command are the values of the uses
@@ -17,3 +18,7 @@ pub record GivesCall (row : Row) (uses : List Use) (matches : ArgMatches) : Type
   pub found : subcommand_rows_of matches ≡ Some (row.name, rows)
   pub gives : Gives row uses rows
   pub allowed : is_allowed row uses ≡ true
+
+-- what the values of words hold
+abbrev pub HoldsCall : Row → List Use → Values → Type 0
+HoldsCall row uses values = GivesCall row uses values.matches

@@ -7,11 +7,10 @@ ghost use Rattle.clap.specs.Walk.{rule_of};
 ghost use Rattle.clap.specs.declared.builder.command.Command.TheViews.{out-Command};
 ghost use Rattle.word_forms.specs.Form.{IsCall};
 ghost use Rattle.word_forms.specs.Views.{row_of, texts, texts_of, uses_in};
-ghost use Rattle.word_values.specs.Commands.{table};
 ghost use Rattle.word_values.specs.App.{app_of_table, app_of_row, start, kind_rule};
 ghost use Rattle.word_values.specs.Gives.{GivesCall};
+ghost use Rattle.word_values.specs.Readable.{IsReadable};
 
-use crate::table::rows;
 use clap::error::ErrorKind;
 use clap::{Arg, ArgAction, ArgMatches, Command as Program, Error};
 use std::alloc::{AllocError, Global};
@@ -115,14 +114,16 @@ fn program_of<'a>(alloc: Global, table: &'a [Entry]) -> Result<Program<'a>, Allo
 /// The matches of words of the form: only want of memory is refused.
 pub fn read_matches<'a>(
     alloc: Global,
+    table: &'a [Entry],
     words: &'a [String],
     call: &Call<'_>,
 ) -> Result<ArgMatches<'a>, Error>
-    requires { IsCall table (texts_of words.now) (row_of call.now.row.now)
+    requires readable { IsReadable (map row_of table.now) }
+    requires call { IsCall (map row_of table.now) (texts_of words.now) (row_of call.now.row.now)
         (uses_in call.now.uses) }
     ensures ok { IfOk result (λ m. GivesCall (row_of call.now.row.now) (uses_in call.now.uses) m) }
     ensures err { IfErr result (λ e. kind_of e ≡ ErrorKind.OutOfMemory) }
 {
-    let program = program_of(alloc, rows())?;
+    let program = program_of(alloc, table)?;
     program.try_get_matches_from(words)
 }

@@ -1,5 +1,5 @@
 use Rattle.adjust_command.specs.Queries.{query_of}
-use Rattle.causal_cli.proofs.RangeLemmas.{in_range}
+use Rattle.adjust_command.proofs.Ranges.{in_range}
 use Rattle.causal_cli.proofs.answer.answer_on.Goals as goal
 
 pub adjust_reply-requires : goal.adjust_reply-requires

@@ -1,5 +1,5 @@
 use Rattle.std.proofs.Common.{refl}
-use Rattle.causal_cli.proofs.Endings.{sure_end}
+use Rattle.causal_cli.proofs.NeverFails.{sure_end}
 use Rattle.causal_cli.proofs.sure.run_surely.Goals as goal
 
 pub returns-clause-read : goal.returns-clause-read

@@ -1,11 +1,16 @@
-use Rattle.std.proofs.Common.{◌∙◌, ap}
-use Rattle.causal_cli.specs.Run.{code_of}
-use Rattle.causal_cli.proofs.Endings.{ended}
+use Rattle.causal_cli.specs.Ends.{text_of}
 use Rattle.causal_cli.proofs.Headlines.{headline}
 use Rattle.causal_cli.proofs.top.run.Goals as goal
 
 pub returns-clause-ended : goal.returns-clause-ended
-returns-clause-ended g c = ended _ _ _ c.respond-ending.result (c.code.ensures ∙ ap code_of c.verdict.ensures) c.respond-ending.ensures.ends c.report.ensures
+returns-clause-ended g c = record {
+  outcome = c.respond-last.result.outcome;
+  text = text_of c.respond-last.result;
+  status = c.code.ensures;
+  ends = c.respond-last.ensures.ends;
+  received = c.report.ensures;
+}
 
 pub returns-clause-headline : goal.returns-clause-headline
-returns-clause-headline g c = headline _ _ c.respond-ending.result (c.code.ensures ∙ ap code_of c.verdict.ensures) c.respond-ending.ensures.ends c.respond-ending.ensures.once
+returns-clause-headline g c =
+    headline _ _ c.respond-last.result.outcome (text_of c.respond-last.result) c.code.ensures c.respond-last.ensures.ends c.respond-last.ensures.once

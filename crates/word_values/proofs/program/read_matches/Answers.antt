@@ -1,15 +1,14 @@
-use Rattle.std.proofs.Common.{◌∙◌, ap}
+use Rattle.std.proofs.Common.{map}
 use Rattle.word_forms.specs.Views.{row_of, texts_of, uses_in}
-use Rattle.word_values.specs.App.{app_of_table}
 use Rattle.word_values.proofs.Reading.{ok_gives, err_memory}
 use Rattle.word_values.proofs.program.read_matches.Goals as goal
 
 pub returns-clause-ok : goal.returns-clause-ok
 returns-clause-ok c =
-    ok_gives (texts_of c.args.words.now) (row_of c.args.call.now.row.now) (uses_in c.args.call.now.uses) c.requires _ (c.in_ok-program.ensures ∙ ap app_of_table c.rows.ensures.rows)
+    ok_gives (map row_of c.args.table.now) c.requires.readable (texts_of c.args.words.now) (row_of c.args.call.now.row.now) (uses_in c.args.call.now.uses) c.requires.call _ c.in_ok-program.ensures
     c.try_get_matches_from.result c.try_get_matches_from.ensures.matches
 
 pub returns-clause-err : goal.returns-clause-err
 returns-clause-err c =
-    err_memory (texts_of c.args.words.now) (row_of c.args.call.now.row.now) (uses_in c.args.call.now.uses) c.requires _ (c.in_ok-program.ensures ∙ ap app_of_table c.rows.ensures.rows)
+    err_memory (map row_of c.args.table.now) c.requires.readable (texts_of c.args.words.now) (row_of c.args.call.now.row.now) (uses_in c.args.call.now.uses) c.requires.call _ c.in_ok-program.ensures
     c.try_get_matches_from.result c.try_get_matches_from.ensures.passes

@@ -1,0 +1,23 @@
+-- Over an input and an output whose counts of failures are 0, no failed read and no failed write is answered.
+use Rattle.std.proofs.Common.{◌≡◌, ℕ, sym, ◌∙◌, arith, List}
+use Rattle.word_forms.specs.Form.{Text}
+use Rattle.causal_io.specs.Causes.{Rose}
+use Rattle.replies.specs.declared.outcome.Outcome.{Outcome}
+use Rattle.replies.specs.declared.outcome.Outcome.TheVariants.{Yes, No, Words, Graph, Second, Evaluation, Read, Write, Memory}
+use Rattle.replies.specs.Outcomes.{code_of}
+use Rattle.causal_cli.specs.Run.{Stream, Run, Ended, Ends}
+
+-- a count that is 0 hasn't risen
+not_risen : (before after : ℕ) → after ≡ 0 → Rose before after → ⊥
+not_risen before after none rose = absurd (omega (arith, none, rose))
+
+unread : (r : Run) → ((name : Text) → r.read_faults_after name ≡ 0) → (o : Outcome) (text : List ℕ) → 6 ≡ code_of o → Ends r o text → ⊥
+unread r read Read text c h = not_risen (r.read_faults h.0.name) (r.read_faults_after h.0.name) (read h.0.name) h.0.rose
+unread r read o text c h = absurd (omega (arith, c))
+
+unwritten : (r : Run) → r.out.faults_after ≡ 0 → (o : Outcome) (text : List ℕ) → 7 ≡ code_of o → Ends r o text → ⊥
+unwritten r write Write text c h = not_risen r.out.faults r.out.faults_after write h.0.rose
+unwritten r write o text c h = absurd (omega (arith, c))
+
+pub sure_end : (r : Run) (err : Stream) (code : ℕ) → ((name : Text) → r.read_faults_after name ≡ 0) → r.out.faults_after ≡ 0 → Ended r err code → (code ≡ 6 → ⊥) × (code ≡ 7 → ⊥)
+sure_end r err code read write e = (λ c. unread r read e.outcome e.text (sym c ∙ e.status) e.ends, λ c. unwritten r write e.outcome e.text (sym c ∙ e.status) e.ends)

@@ -1,0 +1,68 @@
+use Rattle.std.proofs.Common.{refl}
+use Rattle.causal_cli.specs.Requests.{file_of}
+use Rattle.causal_cli.specs.RequestViews.{graph_request_of}
+use Rattle.causal_cli.specs.Run.{Run}
+use Rattle.causal_cli.proofs.Deliveries.{delivered_file, proceeded, ended_too_long, not_true}
+use Rattle.causal_cli.proofs.top.answer_graph.Goals as goal
+
+pub returns-in-Err-TooLong-clause-ends : goal.returns-in-Err-TooLong-clause-ends
+returns-in-Err-TooLong-clause-ends g c = λ words asks.
+    let run : Run = record {
+      words = words;
+      held = g.S.Shelf.held c.args.shelf.now;
+      lacks = g.S.Shelf.lacks c.args.shelf.now;
+      read_faults = g.S.Shelf.faults c.args.shelf.now;
+      read_faults_after = g.S.Shelf.faults c.read_all.new.shelf;
+      out = record {
+        before = g.O.Sink.written c.args.out.now;
+        after = g.O.Sink.written c.args.out.now;
+        faults = g.O.Sink.faults c.args.out.now;
+        faults_after = g.O.Sink.faults c.args.out.now;
+      };
+    } in
+    ended_too_long run (graph_request_of c.args.request) c.file-file.result.now c.in-Err-TooLong.field-0 c.in-Err-TooLong.field-0-0 c.too_long.result c.file-file.ensures
+    c.in-Err-TooLong.field-0-is asks c.in-Err-TooLong.ensures.answer c.in-Err-TooLong.ensures.lacked refl c.too_long.ensures
+
+pub returns-in-Ok-Replied-clause-ends : goal.returns-in-Ok-Replied-clause-ends
+returns-in-Ok-Replied-clause-ends g c = λ words asks.
+    let run : Run = record {
+      words = words;
+      held = g.S.Shelf.held c.args.shelf.now;
+      lacks = g.S.Shelf.lacks c.args.shelf.now;
+      read_faults = g.S.Shelf.faults c.args.shelf.now;
+      read_faults_after = g.S.Shelf.faults c.read_all.new.shelf;
+      out = record {
+        before = g.O.Sink.written c.args.out.now;
+        after = g.O.Sink.written c.deliver.new.out;
+        faults = g.O.Sink.faults c.args.out.now;
+        faults_after = g.O.Sink.faults c.deliver.new.out;
+      };
+    } in
+    let gives = rw (c.deref.ensures.value, c.in-Ok-Replied.field-0-is) at c.in-Ok-Replied.ensures in
+    let lacked = rw c.file-file.ensures at c.in-Ok.ensures.lacked in
+    let held = rw c.file-file.ensures at c.in-Ok.ensures.answer.1 in
+    delivered_file run (graph_request_of c.args.request) c.in-Ok.bytes.items c.in-Ok-Replied.reply c.deliver.result asks
+    (not_true (g.S.Shelf.lacks c.args.shelf.now (file_of (graph_request_of c.args.request))) (λ t. cc (lacked t))) held gives c.deliver.ensures
+
+pub returns-clause-ends : goal.returns-clause-ends
+returns-clause-ends g c = λ words asks.
+    let run : Run = record {
+      words = words;
+      held = g.S.Shelf.held c.args.shelf.now;
+      lacks = g.S.Shelf.lacks c.args.shelf.now;
+      read_faults = g.S.Shelf.faults c.args.shelf.now;
+      read_faults_after = g.S.Shelf.faults c.proceed.new.shelf;
+      out = record {
+        before = g.O.Sink.written c.args.out.now;
+        after = g.O.Sink.written c.proceed.new.out;
+        faults = g.O.Sink.faults c.args.out.now;
+        faults_after = g.O.Sink.faults c.proceed.new.out;
+      };
+    } in
+    let gives = rw (c.deref.ensures.value, c.in-Ok-Continues.field-0-is) at c.in-Ok-Continues.ensures in
+    let lacked = rw c.file-file.ensures at c.in-Ok.ensures.lacked in
+    let held = rw c.file-file.ensures at c.in-Ok.ensures.answer.1 in
+    proceeded run (graph_request_of c.args.request) c.in-Ok.bytes.items c.in-Ok-Continues.input c.proceed.result (g.S.Shelf.held c.read_all.new.shelf)
+    (g.S.Shelf.lacks c.read_all.new.shelf) (g.S.Shelf.faults c.read_all.new.shelf) asks
+    (not_true (g.S.Shelf.lacks c.args.shelf.now (file_of (graph_request_of c.args.request))) (λ t. cc (lacked t))) held gives
+    c.in-Ok.ensures.holds c.in-Ok.ensures.lack c.in-Ok.ensures.never_falls c.proceed.ensures.proceeds

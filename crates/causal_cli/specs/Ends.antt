@@ -1,0 +1,59 @@
+-- How the reply with which a run ends ends it.
+use Rattle.std.specs.Prelude.{ℕ, ◌≡◌, ◌≤◌, Bool, false, List, length, take, Option, IfSome}
+use Rattle.std.specs.Io.KnownBytes.{Appends}
+use Rattle.causal_io.specs.Causes.{Rose}
+use Rattle.word_forms.specs.Form.{Text}
+use Rattle.replies.specs.declared.outcome.Outcome.{Outcome}
+use Rattle.replies.specs.declared.outcome.Outcome.TheVariants.{Yes, No, Words, Graph, Read, Write, Memory}
+use Rattle.replies.specs.declared.outcome.Reply.{Reply}
+use Rattle.replies.specs.Outcomes.{code_of, IsAnswered}
+use Rattle.causal_cli.specs.Lines.{words_line, size_line, read_line, write_line, memory_line}
+use Rattle.causal_cli.specs.Run.{Stream, Run, Ends}
+use Rattle.causal_cli.specs.SecondInputs.{second_in, GivesSecond}
+use Rattle.causal_cli.specs.declared.input.SecondInput.{SecondInput}
+
+-- what is told of an outcome: the text or the line of a command's answer, or the line of an outcome of the run alone
+abbrev pub told_of : Outcome → List ℕ → List ℕ
+told_of Words text = words_line
+told_of Read text = read_line
+told_of Write text = write_line
+told_of Memory text = memory_line
+told_of o text = text
+
+-- what is told of a reply
+abbrev pub text_of : Reply → List ℕ
+text_of reply = told_of reply.outcome reply.text.items
+
+-- the run ends with this reply
+abbrev pub EndsWith : Run → Reply → Type 0
+EndsWith r reply = Ends r reply.outcome (text_of reply)
+
+-- the line says that the graph's text is too long; want of memory may stand in its place
+abbrev pub IsTooLongLine : Outcome → List ℕ → Type 0
+IsTooLongLine Graph line = line ≡ size_line
+IsTooLongLine Memory line = Unit {0}
+IsTooLongLine o line = ⊥
+
+-- the same of a reply
+abbrev pub IsTooLong : Reply → Type 0
+IsTooLong reply = IsTooLongLine reply.outcome reply.text.items
+
+-- a command's reply was written, or a front of it where the count of faults rose; nothing is written of a refusal
+pub data Delivers (out : Stream) (reply last : Reply) : Type 0 where
+  written : last ≡ reply → code_of reply.outcome ≤ 1 → Appends out.before out.after reply.text.items → Delivers out reply last
+  unwritten : last.outcome ≡ Write → code_of reply.outcome ≤ 1 → (count : ℕ) → count ≤ length reply.text.items → Appends out.before out.after (take count reply.text.items)
+      → Rose out.faults out.faults_after → Delivers out reply last
+  refused : last ≡ reply → 2 ≤ code_of reply.outcome → out.after ≡ out.before → Delivers out reply last
+
+-- how a run ends that reads its second input: by the reply on the bytes that it holds; or a read failed; or memory was refused
+pub data Proceeds (held : Text → Option (List ℕ)) (lacks : Text → Bool) (faults faults_after : Text → ℕ) (out : Stream) (p : SecondInput) (last : Reply) : Type 0 where
+  replied : (reply : Reply) → IsAnswered reply.outcome → lacks (second_in p) ≡ false → IfSome (held (second_in p)) (λ other. GivesSecond p other reply) → Delivers out reply last
+      → Proceeds held lacks faults faults_after out p last
+  unread : last.outcome ≡ Read → Rose (faults (second_in p)) (faults_after (second_in p)) → out.after ≡ out.before → Proceeds held lacks faults faults_after out p last
+  no_memory : last.outcome ≡ Memory → out.after ≡ out.before → Proceeds held lacks faults faults_after out p last
+
+-- the fact, where an answer was written whole
+abbrev pub IfAnswered : Outcome → Type 0 → Type 0
+IfAnswered Yes P = P
+IfAnswered No P = P
+IfAnswered o P = Unit {0}

@@ -1,0 +1,24 @@
+-- What `check` is asked for.
+use Rattle.std.specs.Prelude.{◌≡◌, List, Some, [], ◌∷◌, codes}
+use Rattle.word_forms.specs.Form.{Text, Row, Use, word_of}
+use Rattle.request_values.specs.Values as values
+use Rattle.check_command.specs.declared.request.Request.{Request as CodeRequest}
+
+-- `check FILE CERTIFICATE`
+abbrev pub check_row : Row
+check_row = record { name = codes "check"; positionals = codes "file" ∷ codes "certificate" ∷ []; extra = []; needed = []; options = []; flags = [] }
+
+-- a request
+pub record Request : Type 0 where
+  pub file : Text
+  pub certificate : Text
+
+-- the request
+abbrev pub request_of : CodeRequest → Request
+request_of r = record { file = r.file.now; certificate = r.certificate.now }
+
+-- the uses ask for this
+pub record IsRequest (uses : List Use) (r : Request) : Type 0 where
+  pub file : word_of check_row uses (codes "file") ≡ Some r.file
+  pub certificate : word_of check_row uses (codes "certificate") ≡ Some r.certificate
+  pub inputs : values.AreTwoInputs r.file r.certificate

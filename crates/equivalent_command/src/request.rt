@@ -1,0 +1,47 @@
+ghost use Rattle.std.specs.Prelude.{◌≡◌, List, IfOk, IsErrOf};
+ghost use Rattle.word_forms.specs.Form.{Use};
+ghost use Rattle.word_values.specs.Gives.{HoldsCall};
+
+use request_values::{RequestFault, are_both_standard, needed_word};
+use word_forms::Entry;
+use word_values::Values;
+
+/// `equivalent FILE FILE2`
+pub const ROW: Entry = Entry {
+    name: "equivalent",
+    positionals: &["file", "second"],
+    extra: &[],
+    needed: &[],
+    options: &[],
+    flags: &[],
+};
+
+/// What is asked for.
+#[derive(Clone, Copy, Debug, PartialEq, Eq)]
+pub struct Request<'a> {
+    pub file: &'a str,
+    pub second: &'a str,
+}
+
+impl<'a> Request<'a> {
+    ghost use Rattle.equivalent_command.specs.Requests.{Request as Asked, equivalent_row, request_of, IsRequest};
+
+    /// What the words ask for, exactly where their values are what they have to be.
+    pub fn read(values: &Values<'a>) -> Result<Self, RequestFault>
+        ensures ok { (uses : List Use) → HoldsCall equivalent_row uses values.now → IfOk result (λ r. IsRequest uses (request_of r)) }
+        ensures none { (uses : List Use) → HoldsCall equivalent_row uses values.now → IsErrOf result RequestFault.NotUnderstood → (r : Asked) → IsRequest uses r → ⊥ }
+    {
+        let file = match needed_word(values, "file") {
+            Ok(file) => file,
+            Err(fault) => return Err(fault),
+        };
+        let second = match needed_word(values, "second") {
+            Ok(second) => second,
+            Err(fault) => return Err(fault),
+        };
+        if are_both_standard(file, second) {
+            return Err(RequestFault::NotUnderstood);
+        }
+        Ok(Request { file, second })
+    }
+}

@@ -1,0 +1,31 @@
+-- What `identify` is asked for.
+use Rattle.std.specs.Prelude.{◌≡◌, List, Option, Some, [], ◌∷◌, codes, option_map}
+use Rattle.word_forms.specs.Form.{Text, Row, Use, word_of, value_of, has_flag}
+use Rattle.request_values.specs.Values as values
+use Rattle.replies.specs.Observed.{Names}
+use Rattle.word_lists.specs.Views.{names_in}
+use Rattle.identify_command.specs.declared.form.Form.{Form}
+use Rattle.identify_command.specs.Forms.{IsForm}
+use Rattle.identify_command.specs.declared.request.Request.{Request as CodeRequest}
+
+-- `identify FILE [--x L] [--y L] [--certificate] [--latex]`
+abbrev pub identify_row : Row
+identify_row = record { name = codes "identify"; positionals = codes "file" ∷ []; extra = []; needed = []; options = codes "x" ∷ codes "y" ∷ []; flags = codes "certificate" ∷ codes "latex" ∷ [] }
+
+-- a request
+pub record Request : Type 0 where
+  pub file : Text
+  pub x : Names
+  pub y : Names
+  pub form : Form
+
+-- the request
+abbrev pub request_of : CodeRequest → Request
+request_of r = record { file = r.file.now; x = option_map names_in r.x; y = option_map names_in r.y; form = r.form }
+
+-- the uses ask for this
+pub record IsRequest (uses : List Use) (r : Request) : Type 0 where
+  pub file : word_of identify_row uses (codes "file") ≡ Some r.file
+  pub x : values.IsListed (value_of uses (codes "x")) r.x
+  pub y : values.IsListed (value_of uses (codes "y")) r.y
+  pub form : IsForm (has_flag uses (codes "certificate")) (has_flag uses (codes "latex")) r.form

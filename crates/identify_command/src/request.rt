@@ -1,0 +1,73 @@
+ghost use Rattle.std.specs.Prelude.{◌≡◌, List, IfOk, IsErrOf};
+ghost use Rattle.word_forms.specs.Form.{Use};
+ghost use Rattle.word_values.specs.Gives.{HoldsCall};
+ghost use Rattle.std.specs.Prelude.{IfSome, IfNone};
+ghost use Rattle.identify_command.specs.Forms.{IsForm};
+ghost use Rattle.identify_command.specs.declared.form.Form as asked;
+
+use crate::form::Form;
+use request_values::{RequestFault, listed_names, needed_word};
+use std::alloc::Global;
+use word_forms::Entry;
+use word_values::Values;
+
+/// `identify FILE [--x L] [--y L] [--certificate] [--latex]`
+pub const ROW: Entry = Entry {
+    name: "identify",
+    positionals: &["file"],
+    extra: &[],
+    needed: &[],
+    options: &["x", "y"],
+    flags: &["certificate", "latex"],
+};
+
+/// What is asked for.
+#[derive(Drop)]
+pub struct Request<'a> {
+    pub file: &'a str,
+    pub x: Option<Vec<Vec<u8>>>,
+    pub y: Option<Vec<Vec<u8>>>,
+    pub form: Form,
+}
+
+impl<'a> Request<'a> {
+    ghost use Rattle.identify_command.specs.Requests.{Request as Asked, identify_row, request_of, IsRequest};
+
+    /// What the words ask for, exactly where their values are what they have to be.
+    pub fn read(alloc: Global, values: &Values<'a>) -> Result<Self, RequestFault>
+        ensures ok { (uses : List Use) → HoldsCall identify_row uses values.now → IfOk result (λ r. IsRequest uses (request_of r)) }
+        ensures none { (uses : List Use) → HoldsCall identify_row uses values.now → IsErrOf result RequestFault.NotUnderstood → (r : Asked) → IsRequest uses r → ⊥ }
+    {
+        let certificate = values.flag("certificate");
+        let latex = values.flag("latex");
+        let Some(form) = read_form(certificate, latex) else {
+            return Err(RequestFault::NotUnderstood);
+        };
+        let file = match needed_word(values, "file") {
+            Ok(file) => file,
+            Err(fault) => return Err(fault),
+        };
+        let x = match listed_names(alloc, values, "x") {
+            Ok(x) => x,
+            Err(fault) => return Err(fault),
+        };
+        let y = match listed_names(alloc, values, "y") {
+            Ok(y) => y,
+            Err(fault) => return Err(fault),
+        };
+        Ok(Request { file, x, y, form })
+    }
+}
+
+/// The form of an answer, where at most one is asked for.
+fn read_form(certificate: bool, latex: bool) -> Option<Form>
+    ensures some { IfSome result (λ f. IsForm certificate latex f) }
+    ensures none { IfNone result ((f : asked.Form) → IsForm certificate latex f → ⊥) }
+{
+    match (certificate, latex) {
+        (false, false) => Some(Form::Plain),
+        (true, false) => Some(Form::Certificate),
+        (false, true) => Some(Form::Latex),
+        (true, true) => None,
+    }
+}

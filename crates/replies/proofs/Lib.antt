@@ -1,0 +1,2 @@
+pub mod PathsBelow
+pub mod Outcomes

@@ -1,0 +1,170 @@
+//! The values of requests: words, lists of names and numbers, each exactly where the words have it.
+#![tactic(auto)]
+
+ghost use Rattle.std.specs.Prelude.{◌≡◌, ◌≤◌, ℕ, List, Option, Some, true, false, IfOk, IsErrOf, IsTrue, option_map};
+ghost use Rattle.word_forms.specs.Form.{Text, Row, Use, is_among, value_names, positional_names, value_of, word_of};
+ghost use Rattle.word_values.specs.Gives.{HoldsCall};
+ghost use Rattle.word_lists.specs.Views.{names_in};
+ghost use Rattle.request_values.specs.Values.{IsListed, IsListedOrEmpty, IsNeededList, IsNeededNumber, IsNumberOr, AreTwoInputs};
+
+use std::alloc::Global;
+use word_lists::{read_list, read_number};
+use word_values::Values;
+
+/// Why words of the form ask for nothing.
+#[derive(Clone, Copy, Debug, PartialEq, Eq)]
+pub enum RequestFault {
+    /// A value isn't what it has to be.
+    NotUnderstood,
+    /// Memory was refused.
+    NoMemory,
+}
+
+/// The word of a positional.
+pub fn needed_word<'a>(values: &Values<'a>, name: &str) -> Result<&'a str, RequestFault>
+    ensures ok { (row : Row) (uses : List Use) → HoldsCall row uses values.now → is_among (positional_names row) name.now ≡ true → IfOk result (λ s. word_of row uses name.now ≡ Some s.now) }
+    ensures none { (row : Row) (uses : List Use) → HoldsCall row uses values.now → is_among (positional_names row) name.now ≡ true → IsErrOf result RequestFault.NotUnderstood
+        → (text : Text) → word_of row uses name.now ≡ Some text → ⊥ }
+    ensures memory { IsErrOf result RequestFault.NoMemory → ⊥ }
+{
+    match values.word(name) {
+        Some(word) => Ok(word),
+        None => Err(RequestFault::NotUnderstood),
+    }
+}
+
+/// The names that the value of an option lists, where it is given.
+pub fn listed_names(
+    alloc: Global,
+    values: &Values<'_>,
+    name: &str,
+) -> Result<Option<Vec<Vec<u8>>>, RequestFault>
+    ensures ok { (row : Row) (uses : List Use) → HoldsCall row uses values.now → is_among (value_names row) name.now ≡ true → IfOk result (λ names. IsListed (value_of uses name.now) (option_map names_in names)) }
+    ensures none { (row : Row) (uses : List Use) → HoldsCall row uses values.now → is_among (value_names row) name.now ≡ true → IsErrOf result RequestFault.NotUnderstood
+        → (names : Option (List (List ℕ))) → IsListed (value_of uses name.now) names → ⊥ }
+{
+    match values.option(name) {
+        None => Ok(None),
+        Some(text) => match read_list(alloc, text) {
+            Ok(Some(names)) => Ok(Some(names)),
+            Ok(None) => Err(RequestFault::NotUnderstood),
+            Err(_) => Err(RequestFault::NoMemory),
+        },
+    }
+}
+
+/// The names that the value of an option lists; none where it isn't given.
+pub fn names_or_empty(
+    alloc: Global,
+    values: &Values<'_>,
+    name: &str,
+) -> Result<Vec<Vec<u8>>, RequestFault>
+    ensures ok { (row : Row) (uses : List Use) → HoldsCall row uses values.now → is_among (value_names row) name.now ≡ true → IfOk result (λ names. IsListedOrEmpty (value_of uses name.now) (names_in names)) }
+    ensures none { (row : Row) (uses : List Use) → HoldsCall row uses values.now → is_among (value_names row) name.now ≡ true → IsErrOf result RequestFault.NotUnderstood
+        → (names : List (List ℕ)) → IsListedOrEmpty (value_of uses name.now) names → ⊥ }
+{
+    match values.option(name) {
+        None => Ok(Vec::new(alloc)),
+        Some(text) => match read_list(alloc, text) {
+            Ok(Some(names)) => Ok(names),
+            Ok(None) => Err(RequestFault::NotUnderstood),
+            Err(_) => Err(RequestFault::NoMemory),
+        },
+    }
+}
+
+/// The names that the value of an option lists.
+pub fn needed_names(
+    alloc: Global,
+    values: &Values<'_>,
+    name: &str,
+) -> Result<Vec<Vec<u8>>, RequestFault>
+    ensures ok { (row : Row) (uses : List Use) → HoldsCall row uses values.now → is_among (value_names row) name.now ≡ true → IfOk result (λ names. IsNeededList (value_of uses name.now) (names_in names)) }
+    ensures none { (row : Row) (uses : List Use) → HoldsCall row uses values.now → is_among (value_names row) name.now ≡ true → IsErrOf result RequestFault.NotUnderstood
+        → (names : List (List ℕ)) → IsNeededList (value_of uses name.now) names → ⊥ }
+{
+    match values.option(name) {
+        None => Err(RequestFault::NotUnderstood),
+        Some(text) => match read_list(alloc, text) {
+            Ok(Some(names)) => Ok(names),
+            Ok(None) => Err(RequestFault::NotUnderstood),
+            Err(_) => Err(RequestFault::NoMemory),
+        },
+    }
+}
+
+/// The number that the value of an option is, in its range.
+pub fn needed_number(
+    values: &Values<'_>,
+    name: &str,
+    low: u64,
+    high: u64,
+) -> Result<u64, RequestFault>
+    ensures ok { (row : Row) (uses : List Use) → HoldsCall row uses values.now → is_among (value_names row) name.now ≡ true → IfOk result (λ n. IsNeededNumber (value_of uses name.now) low high n) }
+    ensures none { (row : Row) (uses : List Use) → HoldsCall row uses values.now → is_among (value_names row) name.now ≡ true → IsErrOf result RequestFault.NotUnderstood
+        → (n : ℕ) → IsNeededNumber (value_of uses name.now) low high n → ⊥ }
+    ensures low { IfOk result (λ n. low ≤ n) }
+    ensures high { IfOk result (λ n. n ≤ high) }
+{
+    match values.option(name) {
+        None => Err(RequestFault::NotUnderstood),
+        Some(text) => match read_number(text, low, high) {
+            Some(number) => Ok(number),
+            None => Err(RequestFault::NotUnderstood),
+        },
+    }
+}
+
+/// The number that the word of a positional is, in its range.
+pub fn number_word(
+    values: &Values<'_>,
+    name: &str,
+    low: u64,
+    high: u64,
+) -> Result<u64, RequestFault>
+    ensures ok { (row : Row) (uses : List Use) → HoldsCall row uses values.now → is_among (positional_names row) name.now ≡ true → IfOk result (λ n. IsNeededNumber (word_of row uses name.now) low high n) }
+    ensures none { (row : Row) (uses : List Use) → HoldsCall row uses values.now → is_among (positional_names row) name.now ≡ true → IsErrOf result RequestFault.NotUnderstood
+        → (n : ℕ) → IsNeededNumber (word_of row uses name.now) low high n → ⊥ }
+    ensures memory { IsErrOf result RequestFault.NoMemory → ⊥ }
+{
+    match values.word(name) {
+        None => Err(RequestFault::NotUnderstood),
+        Some(text) => match read_number(text, low, high) {
+            Some(number) => Ok(number),
+            None => Err(RequestFault::NotUnderstood),
+        },
+    }
+}
+
+/// The number that the value of an option is, in its range; the default where it isn't given.
+pub fn number_or(
+    values: &Values<'_>,
+    name: &str,
+    default: u64,
+    low: u64,
+    high: u64,
+) -> Result<u64, RequestFault>
+    requires low { low ≤ default }
+    requires high { default ≤ high }
+    ensures ok { (row : Row) (uses : List Use) → HoldsCall row uses values.now → is_among (value_names row) name.now ≡ true → IfOk result (λ n. IsNumberOr default (value_of uses name.now) low high n) }
+    ensures none { (row : Row) (uses : List Use) → HoldsCall row uses values.now → is_among (value_names row) name.now ≡ true → IsErrOf result RequestFault.NotUnderstood
+        → (n : ℕ) → IsNumberOr default (value_of uses name.now) low high n → ⊥ }
+    ensures low { IfOk result (λ n. low ≤ n) }
+    ensures high { IfOk result (λ n. n ≤ high) }
+{
+    match values.option(name) {
+        None => Ok(default),
+        Some(text) => match read_number(text, low, high) {
+            Some(number) => Ok(number),
+            None => Err(RequestFault::NotUnderstood),
+        },
+    }
+}
+
+/// Whether both inputs are standard input.
+pub fn are_both_standard(file: &str, second: &str) -> bool
+    ensures yes { IsTrue result → AreTwoInputs file.now second.now → ⊥ }
+    ensures no { result ≡ false → AreTwoInputs file.now second.now }
+{
+    file == "-" && second == "-"
+}

@@ -1,0 +1,3 @@
+mod Sets
+mod Equations
+pub mod Outcomes

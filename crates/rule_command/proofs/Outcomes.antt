@@ -1,0 +1,11 @@
+-- Which outcomes the command answers.
+use Rattle.std.proofs.Common.{ℕ, List}
+use Rattle.dag_reader.specs.declared.graph.ReadGraph.{ReadGraph}
+use Rattle.rule_command.specs.declared.rule.Rule.{Rule}
+use Rattle.replies.specs.declared.outcome.Outcome.{Outcome}
+use Rattle.replies.specs.Outcomes.{IsAnswered}
+use Rattle.replies.proofs.Outcomes.{answered}
+use Rattle.rule_command.specs.Answers.{RuleAnswer}
+
+pub rule_answered : (r : Rule) (g : ReadGraph) (y done z given : List (List ℕ)) (o : Outcome) (text : List ℕ) → RuleAnswer r g y done z given o text → IsAnswered o
+rule_answered r g y done z given o text = answered (λ k. RuleAnswer r g y done z given k text) (λ h. h.2) (λ h. h.2) (λ h. h.2) (λ h. h.2) o

@@ -1,0 +1,4 @@
+pub mod Answers
+pub mod Calculus
+pub mod Lines
+pub mod Requests

@@ -1,0 +1,11 @@
+//! The command `rule`: whether a rule of the do-calculus holds, in the observed graph.
+#![tactic(auto)]
+
+mod reply;
+mod request;
+mod rule;
+mod texts;
+
+pub use reply::rule_reply;
+pub use request::{ROW, Request};
+pub use rule::{Rule, ask};

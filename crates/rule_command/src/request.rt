@@ -1,0 +1,73 @@
+ghost use Rattle.std.specs.Prelude.{◌≡◌, List, IfOk, IsErrOf};
+ghost use Rattle.word_forms.specs.Form.{Use};
+ghost use Rattle.word_values.specs.Gives.{HoldsCall};
+
+use crate::rule::Rule;
+use request_values::{RequestFault, names_or_empty, needed_names, needed_number, needed_word};
+use std::alloc::Global;
+use word_forms::Entry;
+use word_values::Values;
+
+/// `rule FILE --rule N --y L --z L [--do L] [--given L]`
+pub const ROW: Entry = Entry {
+    name: "rule",
+    positionals: &["file"],
+    extra: &[],
+    needed: &["rule", "y", "z"],
+    options: &["do", "given"],
+    flags: &[],
+};
+
+/// What is asked for.
+#[derive(Drop)]
+pub struct Request<'a> {
+    pub file: &'a str,
+    pub rule: Rule,
+    pub y: Vec<Vec<u8>>,
+    pub done: Vec<Vec<u8>>,
+    pub z: Vec<Vec<u8>>,
+    pub given: Vec<Vec<u8>>,
+}
+
+impl<'a> Request<'a> {
+    ghost use Rattle.rule_command.specs.Requests.{Request as Asked, rule_row, request_of, IsRequest};
+
+    /// What the words ask for, exactly where their values are what they have to be.
+    pub fn read(alloc: Global, values: &Values<'a>) -> Result<Self, RequestFault>
+        ensures ok { (uses : List Use) → HoldsCall rule_row uses values.now → IfOk result (λ r. IsRequest uses (request_of r)) }
+        ensures none { (uses : List Use) → HoldsCall rule_row uses values.now → IsErrOf result RequestFault.NotUnderstood → (r : Asked) → IsRequest uses r → ⊥ }
+    {
+        let file = match needed_word(values, "file") {
+            Ok(file) => file,
+            Err(fault) => return Err(fault),
+        };
+        let number = match needed_number(values, "rule", 1, 3) {
+            Ok(number) => number,
+            Err(fault) => return Err(fault),
+        };
+        let y = match needed_names(alloc, values, "y") {
+            Ok(y) => y,
+            Err(fault) => return Err(fault),
+        };
+        let done = match names_or_empty(alloc, values, "do") {
+            Ok(done) => done,
+            Err(fault) => return Err(fault),
+        };
+        let z = match needed_names(alloc, values, "z") {
+            Ok(z) => z,
+            Err(fault) => return Err(fault),
+        };
+        let given = match names_or_empty(alloc, values, "given") {
+            Ok(given) => given,
+            Err(fault) => return Err(fault),
+        };
+        Ok(Request {
+            file,
+            rule: Rule::of(number),
+            y,
+            done,
+            z,
+            given,
+        })
+    }
+}

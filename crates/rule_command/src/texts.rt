@@ -1,0 +1,151 @@
+ghost use Rattle.std.specs.Prelude.{◌≡◌, ◌++◌, ◌<◌, ◌≤◌, ℕ, OnOk, IfOk, length, codes, slice_index};
+ghost use Rattle.mixed_graph.specs.Bits.{has};
+ghost use Rattle.mixed_graph.specs.Sets.{Within};
+ghost use Rattle.answer_text.specs.Texts.{term_text};
+ghost use Rattle.replies.specs.Lines.{open_text};
+ghost use Rattle.rule_command.specs.Lines.{digit_text, equation_text, rule_holds_text, rule_fails_text};
+
+use crate::rule::Rule;
+use answer_text::{Term, push_term};
+use m_separation::OpenPath;
+use mixed_graph::Names;
+use replies::push_open;
+use std::alloc::{AllocError, Global};
+use targets::RuleSets;
+
+/// The text of a rule that holds.
+pub fn rule_holds_text(
+    alloc: Global,
+    names: &Names,
+    rule: Rule,
+    sets: RuleSets,
+) -> Result<Vec<u8>, AllocError>
+    requires y { Within (length names.now) (has sets.y.bits) }
+    requires done { Within (length names.now) (has sets.done.bits) }
+    requires z { Within (length names.now) (has sets.z.bits) }
+    requires given { Within (length names.now) (has sets.given.bits) }
+    ensures { IfOk result (λ v. v.items ≡ rule_holds_text rule names.now (has sets.done.bits) (has sets.y.bits) (has sets.z.bits) (has sets.given.bits)) }
+{
+    let mut text = Vec::from_slice(alloc, b"rule ")?;
+    text.extend_from_slice(digit(rule))?;
+    text.extend_from_slice(b" holds: ")?;
+    push_equation(&mut text, names, rule, sets)?;
+    text.push(b'\n')?;
+    Ok(text)
+}
+
+/// The text of a rule that doesn't hold, with an open path.
+pub fn rule_fails_text(
+    alloc: Global,
+    names: &Names,
+    rule: Rule,
+    sets: RuleSets,
+    path: &OpenPath,
+) -> Result<Vec<u8>, AllocError>
+    requires y { Within (length names.now) (has sets.y.bits) }
+    requires done { Within (length names.now) (has sets.done.bits) }
+    requires z { Within (length names.now) (has sets.z.bits) }
+    requires given { Within (length names.now) (has sets.given.bits) }
+    requires some { 0 < path.now.count }
+    requires few { path.now.count ≤ 64 }
+    requires named { (i : ℕ) → i < path.now.count → slice_index path.now.vertices i < length names.now }
+    ensures { IfOk result (λ v. v.items ≡ rule_fails_text rule names.now (has sets.done.bits) (has sets.y.bits) (has sets.z.bits) (has sets.given.bits)
+        (open_text names.now path.now.vertices path.now.marks path.now.count)) }
+{
+    let mut text = Vec::from_slice(alloc, b"rule ")?;
+    text.extend_from_slice(digit(rule))?;
+    text.extend_from_slice(b" does not hold: ")?;
+    push_equation(&mut text, names, rule, sets)?;
+    text.push(b'\n')?;
+    push_open(&mut text, names, path)?;
+    Ok(text)
+}
+
+/// The digit of a rule.
+fn digit(rule: Rule) -> &'static [u8]
+    ensures { result.now ≡ digit_text rule }
+{
+    match rule {
+        Rule::One => b"1",
+        Rule::Two => b"2",
+        Rule::Three => b"3",
+    }
+}
+
+/// Appends both sides of a rule.
+fn push_equation(
+    out: &mut Vec<u8>,
+    names: &Names,
+    rule: Rule,
+    sets: RuleSets,
+) -> Result<(), AllocError>
+    requires y { Within (length names.now) (has sets.y.bits) }
+    requires done { Within (length names.now) (has sets.done.bits) }
+    requires z { Within (length names.now) (has sets.z.bits) }
+    requires given { Within (length names.now) (has sets.given.bits) }
+    ensures { OnOk result (out.new.items ≡ out.old.items ++ equation_text rule names.now (has sets.done.bits) (has sets.y.bits) (has sets.z.bits) (has sets.given.bits)) }
+{
+    let x_z = sets.done.union(sets.z);
+    let z_w = sets.z.union(sets.given);
+    match rule {
+        Rule::One => push_sides(
+            out,
+            names,
+            Term {
+                of: sets.y,
+                doing: sets.done,
+                given: z_w,
+            },
+            Term {
+                of: sets.y,
+                doing: sets.done,
+                given: sets.given,
+            },
+        ),
+        Rule::Two => push_sides(
+            out,
+            names,
+            Term {
+                of: sets.y,
+                doing: x_z,
+                given: sets.given,
+            },
+            Term {
+                of: sets.y,
+                doing: sets.done,
+                given: z_w,
+            },
+        ),
+        Rule::Three => push_sides(
+            out,
+            names,
+            Term {
+                of: sets.y,
+                doing: x_z,
+                given: sets.given,
+            },
+            Term {
+                of: sets.y,
+                doing: sets.done,
+                given: sets.given,
+            },
+        ),
+    }
+}
+
+/// Appends two probabilities, with an equals sign between them.
+fn push_sides(out: &mut Vec<u8>, names: &Names, left: Term, right: Term) -> Result<(), AllocError>
+    requires left_of { Within (length names.now) (has left.of.bits) }
+    requires left_doing { Within (length names.now) (has left.doing.bits) }
+    requires left_given { Within (length names.now) (has left.given.bits) }
+    requires right_of { Within (length names.now) (has right.of.bits) }
+    requires right_doing { Within (length names.now) (has right.doing.bits) }
+    requires right_given { Within (length names.now) (has right.given.bits) }
+    ensures { OnOk result (out.new.items ≡ out.old.items ++ (term_text names.now (has left.of.bits) (has left.doing.bits) (has left.given.bits)
+        ++ (codes " = " ++ term_text names.now (has right.of.bits) (has right.doing.bits) (has right.given.bits)))) }
+{
+    push_term(out, names, left)?;
+    out.extend_from_slice(b" = ")?;
+    push_term(out, names, right)?;
+    Ok(())
+}

@@ -1,0 +1,55 @@
+ghost use Rattle.std.specs.Prelude.{◌≡◌, List, IfOk, IsErrOf};
+ghost use Rattle.word_forms.specs.Form.{Use};
+ghost use Rattle.word_values.specs.Gives.{HoldsCall};
+
+use request_values::{RequestFault, listed_names, needed_word};
+use std::alloc::Global;
+use word_forms::Entry;
+use word_values::Values;
+
+/// `separate FILE [--x L] [--y L] [--given L]`
+pub const ROW: Entry = Entry {
+    name: "separate",
+    positionals: &["file"],
+    extra: &[],
+    needed: &[],
+    options: &["x", "y", "given"],
+    flags: &[],
+};
+
+/// What is asked for.
+#[derive(Drop)]
+pub struct Request<'a> {
+    pub file: &'a str,
+    pub x: Option<Vec<Vec<u8>>>,
+    pub y: Option<Vec<Vec<u8>>>,
+    pub given: Option<Vec<Vec<u8>>>,
+}
+
+impl<'a> Request<'a> {
+    ghost use Rattle.separate_command.specs.Requests.{Request as Asked, separate_row, request_of, IsRequest};
+
+    /// What the words ask for, exactly where their values are what they have to be.
+    pub fn read(alloc: Global, values: &Values<'a>) -> Result<Self, RequestFault>
+        ensures ok { (uses : List Use) → HoldsCall separate_row uses values.now → IfOk result (λ r. IsRequest uses (request_of r)) }
+        ensures none { (uses : List Use) → HoldsCall separate_row uses values.now → IsErrOf result RequestFault.NotUnderstood → (r : Asked) → IsRequest uses r → ⊥ }
+    {
+        let file = match needed_word(values, "file") {
+            Ok(file) => file,
+            Err(fault) => return Err(fault),
+        };
+        let x = match listed_names(alloc, values, "x") {
+            Ok(x) => x,
+            Err(fault) => return Err(fault),
+        };
+        let y = match listed_names(alloc, values, "y") {
+            Ok(y) => y,
+            Err(fault) => return Err(fault),
+        };
+        let given = match listed_names(alloc, values, "given") {
+            Ok(given) => given,
+            Err(fault) => return Err(fault),
+        };
+        Ok(Request { file, x, y, given })
+    }
+}

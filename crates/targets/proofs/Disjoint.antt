@@ -1,0 +1,65 @@
+-- The sets of a query, and those of a rule, are disjoint sets of vertices.
+use Rattle.std.proofs.Common.{◌≡◌, ℕ, false, List, [], length, refl, sym, subst, ◌∙◌}
+use Rattle.std.specs.Prelude.{nat_lt}
+use Rattle.std.proofs.lemmas.Bool.{and_right}
+use Rattle.mixed_graph.specs.Bits.{has}
+use Rattle.mixed_graph.specs.Sets.{Within, Apart}
+use Rattle.mixed_graph.proofs.Masks.{has-zero}
+use Rattle.targets.specs.Targets.{Lists, AreSets, RuleLists, AreRuleSets, IsSetOf}
+use Rattle.targets.proofs.Queries.{set_within}
+use Rattle.targets.proofs.RuleWalks.{pairwise_apart}
+
+-- three sets below n that are pairwise disjoint
+pub record DisjointSets (n x y w : ℕ) : Type 0 where
+  pub x_within : Within n (has x)
+  pub y_within : Within n (has y)
+  pub w_within : Within n (has w)
+  pub x_y : Apart (has x) (has y)
+  pub x_w : Apart (has x) (has w)
+  pub y_w : Apart (has y) (has w)
+
+-- a fourth one beside them
+pub record DisjointRuleSets (n x y z w : ℕ) : Type 0 where
+  pub three : DisjointSets n x y w
+  pub z_within : Within n (has z)
+  pub x_z : Apart (has x) (has z)
+  pub y_z : Apart (has y) (has z)
+  pub z_w : Apart (has z) (has w)
+
+-- a set of a list, among n vertices
+within : (observed list : List (List ℕ)) (n mask : ℕ) → length observed ≡ n → IsSetOf observed list mask → Within n (has mask)
+within observed list n mask e h = subst (λ k. Within k (has mask)) e (set_within observed list mask h)
+
+-- nothing is in the set of no name
+set_of_none : (observed : List (List ℕ)) → IsSetOf observed [] 0
+set_of_none observed v = has-zero v ∙ sym (and_right (nat_lt v (length observed)) false refl)
+
+pub disjoint_rule_sets : (l : RuleLists) (n y done z given : ℕ) → length l.observed ≡ n → AreRuleSets l y done z given → DisjointRuleSets n done y z given
+disjoint_rule_sets l n y done z given e s =
+    let a = pairwise_apart l y done z given s in record {
+      three = record {
+        x_within = within l.observed l.done n done e s.set_done;
+        y_within = within l.observed l.y n y e s.set_y;
+        w_within = within l.observed l.given n given e s.set_given;
+        x_y = a.done_y;
+        x_w = a.done_given;
+        y_w = a.y_given;
+      };
+      z_within = within l.observed l.z n z e s.set_z;
+      x_z = a.done_z;
+      y_z = a.y_z;
+      z_w = a.z_given;
+    }
+
+-- the lists of a query as those of a rule that does nothing
+pub disjoint_sets : (l : Lists) (n x y given : ℕ) → length l.observed ≡ n → AreSets l x y given → DisjointSets n x y given
+disjoint_sets l n x y given e s =
+    let a = pairwise_apart (record { all = l.all; observed = l.observed; y = l.x; done = []; z = l.y; given = l.given }) x 0 y given
+    (record { no_fault = s.no_fault; some_y = s.some_x; some_z = s.some_y; set_y = s.set_x; set_done = set_of_none l.observed; set_z = s.set_y; set_given = s.set_given }) in record {
+      x_within = within l.observed l.x n x e s.set_x;
+      y_within = within l.observed l.y n y e s.set_y;
+      w_within = within l.observed l.given n given e s.set_given;
+      x_y = a.y_z;
+      x_w = a.y_given;
+      y_w = a.z_given;
+    }
