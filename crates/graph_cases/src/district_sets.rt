@@ -1,80 +1,85 @@
-use crate::common::all_below;
-use districts::{child_choice, district_of, districts, links};
+ghost use Rattle.std.specs.Prelude.{◌<◌};
+
+use case_rows::{Entries, Members, graph, hedge, set, vertex};
+use districts::{Links, child_choice, district_of, districts, links};
+use hedge::holds;
 use mixed_graph::{Graph, VSet};
-use std::process::Abort;
+use serde_json::Value;
+use std::alloc::Global;
 
-/// The districts of all vertices, and the choices of all vertices toward the last one.
-fn check_graph(rt: &impl Abort, g: &Graph, sets: &[u64], next: &[u8]) {
-    let all = VSet::below(g.n);
-    assert!(rt; g.covers(all));
-    let found = districts(g, all);
-    assert_eq!(rt; found.count as usize, sets.len());
-    for (i, bits) in sets.iter().enumerate() {
-        if i < 64 {
-            let set = found.sets[i];
-            assert_eq!(rt; set.bits, *bits, "district {i}");
-        }
+/// The districts of all vertices.
+fn parts_text(alloc: Global, graph: &Graph, all: VSet) -> Option<String> {
+    if !graph.covers(all) {
+        return None;
     }
-    if g.n > 0 {
-        let choice = child_choice(g, all, VSet::one((g.n - 1) as u8));
-        for (v, child) in next.iter().enumerate() {
-            if v < 64 {
-                let chosen = choice.next[v];
-                assert_eq!(rt; chosen, *child, "choice of {v}");
-            }
-        }
+    let found = districts(graph, all);
+    let mut text = String::new(alloc);
+    for part in found.sets.iter().take(found.count as usize) {
+        let part = Members(*part);
+        text.push_str(format!(in alloc; "{part} ").ok()?.as_str())
+            .ok()?;
     }
+    Some(text)
 }
 
-/// 64 vertices in one district: each is joined to the next.
-fn check_long_district(rt: &impl Abort) {
-    let mut chain = [(0u8, 1u8); 63];
-    for (i, pair) in chain.iter_mut().enumerate() {
-        *pair = (i as u8, i as u8 + 1);
+/// The districts of all vertices, and each vertex's choice of a child toward a set.
+pub fn districts_row(alloc: Global, row: &Value) -> Option<String> {
+    let graph = graph(alloc, row)?;
+    let all = VSet::below(graph.n);
+    let parts = parts_text(alloc, &graph, all)?;
+    if !graph.covers(all) {
+        return None;
     }
-    assert!(rt; all_below(64, &chain));
-    match Graph::build(64, &[], &chain) {
-        Ok(g) => {
-            check_graph(rt, &g, &[u64::MAX], &[64; 64]);
-            let all = VSet::below(64);
-            assert!(rt; g.covers(all));
-            assert!(rt; all.has(7));
-            let whole = district_of(&g, all, 7);
-            assert_eq!(rt; whole.bits, u64::MAX);
-        }
-        Err(_) => assert!(rt; false),
-    }
+    let choice = child_choice(&graph, all, set(row, "toward"));
+    let next = choice.next;
+    let choice = Entries(&next, graph.n);
+    format!(in alloc; "districts {parts}choice {choice}\n").ok()
 }
 
-#[test]
-fn districts_links_and_choices(rt: HostRuntime) {
-    check_long_district(&rt);
-    // 0 -> 1, 0 <-> 1
-    if let Ok(g) = Graph::build(2, &[(0, 1)], &[(0, 1)]) {
-        check_graph(&rt, &g, &[3], &[1, 64, 64]);
-        let all = VSet::below(2);
-        let last = VSet::one(1);
-        assert!(rt; g.covers(all) && g.covers(last));
-        let big = district_of(&g, all, 1);
-        let small = district_of(&g, last, 1);
-        assert_eq!(rt; small.bits, 2);
-        let tree = links(&g, small, big);
-        assert_eq!(rt; tree.count, 2);
-        assert!(rt; tree.found[..3] == [1u8, 0, 0]);
-        assert!(rt; tree.partner[..3] == [0u8, 1, 0]);
-    } else {
-        assert!(rt; false);
+/// The district of a vertex within a set.
+pub fn district_row(alloc: Global, row: &Value) -> Option<String> {
+    let graph = graph(alloc, row)?;
+    let (v, within) = (vertex(row, "of"), set(row, "within"));
+    if !graph.covers(within) || !within.has(v) {
+        return None;
     }
-    // 0 -> 1 -> 2, 0 <-> 1
-    if let Ok(g) = Graph::build(3, &[(0, 1), (1, 2)], &[(0, 1)]) {
-        check_graph(&rt, &g, &[3, 4], &[1, 2, 64]);
-    } else {
-        assert!(rt; false);
+    let found = Members(district_of(&graph, within, v));
+    format!(in alloc; "{found}\n").ok()
+}
+
+/// The links of a vertex's district that begin with its district alone.
+fn links_at(graph: &Graph, v: u8) -> Option<Links>
+    requires { v < 64 }
+{
+    let all = VSet::below(graph.n);
+    let alone = VSet::one(v);
+    if !graph.covers(all) || !graph.covers(alone) || !all.has(v) {
+        return None;
     }
-    // the order is 2, 0, 1, 3; 0 and 2 have two children as near, 1 is nearer by its last
-    if let Ok(g) = Graph::build(4, &[(2, 0), (2, 1), (0, 1), (0, 3), (1, 3)], &[(0, 3)]) {
-        check_graph(&rt, &g, &[4, 9, 2], &[3, 3, 0, 64]);
-    } else {
-        assert!(rt; false);
+    let big = district_of(graph, all, v);
+    let small = district_of(graph, alone, v);
+    if small.is_empty() {
+        return None;
     }
+    Some(links(graph, small, big))
+}
+
+/// These links.
+pub fn links_row(alloc: Global, row: &Value) -> Option<String> {
+    let tree = links_at(&graph(alloc, row)?, vertex(row, "of"))?;
+    let (found, partner) = (tree.found, tree.partner);
+    let (found, partner) = (Entries(&found, tree.count), Entries(&partner, tree.count));
+    format!(in alloc; "found {found}, partner {partner}\n").ok()
+}
+
+/// Whether a hedge is one for the effect of x on y.
+pub fn hedge_row(alloc: Global, row: &Value) -> Option<String> {
+    let graph = graph(alloc, row)?;
+    let h = hedge(alloc, row)?;
+    let (x, y) = (set(row, "x"), set(row, "y"));
+    if !graph.covers(y) {
+        return None;
+    }
+    let answer = holds(&graph, x, y, &h);
+    format!(in alloc; "{answer:?}\n").ok()
 }

@@ -2,7 +2,7 @@ use Rattle.std.proofs.Common.{◌≡◌, ℕ, ◌<◌, ◌≤◌, List, length, 
 use Rattle.std.proofs.lemmas.Bool.{cases_eq, cases_lt}
 use Rattle.std.proofs.lemmas.List.{length-replicate, get_or-replicate, get_or_past, get_or-set_same, get_or-set_other}
 use Rattle.mixed_graph.proofs.PairMasks.{blank}
-use Rattle.graph_cases.proofs.hedges.hedge.Goals as goal
+use Rattle.case_rows.proofs.hedges.with_entries.Goals as goal
 
 -- entries of at most 64 stay so where one of at most 64 is written
 most_set : (xs : List ℕ) (i x : ℕ) → i < length xs → x ≤ 64 → ((v : ℕ) → get_or xs v 0 ≤ 64) → (v : ℕ) → get_or (set xs i x) v 0 ≤ 64

@@ -1,0 +1,16 @@
+//! Reads rows of cases from JSON and shows what is found, for the programs that run such rows.
+//!
+//! A vertex is a number below 64, a set a list of vertices, an edge a pair of them. A graph is said by the number of its vertices, `n`,
+//! and its edges, `directed` and `both`. A member that a row lacks is 0, false or empty.
+#![tactic(auto)]
+
+mod hedges;
+mod reading;
+mod showing;
+
+pub use hedges::hedge;
+pub use reading::{
+    all_below, built, bytes, flag, graph, list, names, number, numbers, pairs, set, text, texts,
+    vertex,
+};
+pub use showing::{Entries, Members, Path, Rows};

@@ -1,0 +1,72 @@
+//! Worked cases of graphs, their readers and what is asked of them: each prints its name and its answer.
+//!
+//! The file `cases.json` is a list of rows, each with the members `case` (its name) and `kind`, and what its kind asks for. No answer
+//! means that the row asks for what can't be asked, or that memory was refused.
+#![tactic(auto)]
+
+mod comparisons;
+mod district_sets;
+mod graph_texts;
+mod graphs;
+mod projections;
+mod separations;
+mod target_sets;
+
+use anyhow::{Context, Result};
+use case_rows::text;
+use serde_json::Value;
+use std::alloc::Global;
+use std::fs;
+use std::io::Write;
+
+/// What the library answers in this row.
+fn answer(alloc: Global, row: &Value) -> Option<String> {
+    match text(row, "kind") {
+        "graph" => graphs::graph_row(alloc, row),
+        "kept text" => graphs::kept_row(alloc, row),
+        "names" => graphs::names_row(alloc, row),
+        "cut" => graphs::cut_row(alloc, row),
+        "first edges" => graphs::first_edges_row(alloc, row),
+        "survey" => graphs::survey_row(alloc, row),
+        "separation" => separations::separation_row(alloc, row),
+        "districts" => district_sets::districts_row(alloc, row),
+        "district" => district_sets::district_row(alloc, row),
+        "links" => district_sets::links_row(alloc, row),
+        "hedge" => district_sets::hedge_row(alloc, row),
+        "equivalence" => comparisons::equivalence_row(alloc, row),
+        "observed" => projections::observed_row(alloc, row),
+        "projection" => projections::projection_row(alloc, row),
+        "renumbering" => projections::renumbering_row(alloc, row),
+        "text" => graph_texts::text_row(alloc, row),
+        "bytes" => graph_texts::bytes_row(alloc, row),
+        "prefixes" => graph_texts::prefixes_row(alloc, row),
+        "graph line" => graph_texts::graph_line_row(alloc, row),
+        "effect" => target_sets::effect_row(alloc, row),
+        "target line" => target_sets::target_line_row(alloc, row),
+        _ => None,
+    }
+}
+
+/// Prints the row's name and its answer.
+fn show<W: Write>(alloc: Global, row: &Value, print: &mut W) -> Result<()> {
+    print.write_all(b"== ")?;
+    print.write_all(text(row, "case").as_bytes())?;
+    print.write_all(b"\n")?;
+    match answer(alloc, row) {
+        Some(answer) => print.write_all(answer.as_bytes())?,
+        None => print.write_all(b"no answer\n")?,
+    }
+    Ok(())
+}
+
+fn main(rt: HostRuntime) -> Result<()> {
+    let alloc = rt.alloc();
+    let text = fs::read_to_string(&rt, "cases.json")?;
+    let rows = Value::from_str(alloc, text.as_str())?;
+    let mut print = rt.stdout();
+    for row in rows.as_array().context("a list of rows")? {
+        show(alloc, row, &mut print)?;
+    }
+    print.flush()?;
+    Ok(())
+}
