@@ -1,166 +1,93 @@
-use crate::building::{do_term, product, set, sum, term};
-use do_derivation::{CheckFault, Derivation, Step, StepFault, apply, check, check_with};
-use m_separation::Mark;
-use mixed_graph::{Graph, Order, VSet};
+use crate::formulas::{formula, is_formula, shown};
+use case_rows::{Path, graph, names, set};
+use do_derivation::{CheckFault, Derivation, Step, StepFault, StepPlace, apply, check, check_with};
+use mixed_graph::{Graph, Names, VSet};
 use prob_expr::masks::{are_term_sets, is_empty};
-use prob_expr::{Expr, Formula, Target, is_same};
-use std::alloc::{AllocError, Global};
-use std::process::Abort;
-use std::test::Fail;
+use prob_expr::{Expr, Formula, Target};
+use serde_json::Value;
+use std::alloc::Global;
+use step_json::read_step;
 
-/// The two vertices in that order.
-fn order(first: u8, second: u8) -> Order {
-    let mut list = [0u8; 64];
-    list[0] = first;
-    list[1] = second;
-    Order { list, count: 2 }
+/// The row's step.
+fn step(alloc: Global, row: &Value, names: &Names) -> Option<Step> {
+    read_step(alloc, names, row.get("step")?).ok()
 }
 
-/// The step on a child.
-fn at(alloc: Global, child: u32, step: Step) -> Result<Step, AllocError> {
-    Ok(Step::At(child, Box::new(alloc, step)?))
+/// What a step makes of a formula's main expression.
+fn made(alloc: Global, graph: &Graph, step: &Step, start: Formula) -> Option<Expr> {
+    if !is_formula(&start, graph.n) {
+        return None;
+    }
+    apply(alloc, graph, &[], step, start.main).ok()
 }
 
-/// The steps from P(Y | do(X)) to the front-door formula, where the twelfth makes P(Y | do(M)) of P(Y | do(X, M)).
-fn front_door(alloc: Global, twelfth: Step) -> Result<Step, AllocError> {
-    let below = vec![in alloc;
-        Step::Chain(order(0, 2)),
-        at(alloc, 0, Step::Rule3Out(set(2)))?,
-        at(alloc, 1, Step::Rule2See(set(2)))?,
-    ]?;
-    let inner = at(alloc, 0, Step::Then(below))?;
-    let outcome = vec![in alloc; twelfth, Step::Widen(set(1)), inner]?;
-    let mediator = vec![in alloc; Step::Rule3Out(set(4)), Step::Rule2See(set(1))]?;
-    let factors = vec![in alloc;
-        Step::Chain(order(1, 2)),
-        at(alloc, 0, Step::Rule3In(set(4)))?,
-        at(alloc, 1, Step::Rule2Do(set(2)))?,
-        at(alloc, 0, Step::Then(mediator))?,
-        at(alloc, 1, Step::Then(outcome))?,
-    ]?;
-    let all = vec![in alloc; Step::Widen(set(2)), at(alloc, 0, Step::Then(factors))?]?;
-    Ok(Step::Then(all))
+/// What the row's step makes.
+pub fn step_row(alloc: Global, row: &Value) -> Option<String> {
+    let graph = graph(alloc, row)?;
+    let names = names(alloc, row, "names")?;
+    let step = step(alloc, row, &names)?;
+    let main = made(alloc, &graph, &step, formula(alloc, row, "from", &names)?)?;
+    let defs = Vec::new(alloc);
+    shown(alloc, &Formula { defs, main }, &names)
 }
 
-/// What is answered for P(y | do(X)), a formula and its derivation, without definitions.
+/// What is answered for P(y | do(x)), a formula and a step, without lemmas, where a set, if it isn't empty, may be intervened on.
 fn checked(
-    rt: &impl Abort,
     alloc: Global,
-    g: &Graph,
-    y: u64,
-    main: Expr,
-    step: Step,
-    allowed: &[VSet],
-) -> Result<(), CheckFault> {
-    let (x, y, given) = (set(1), set(y), set(0));
-    assert!(rt; are_term_sets(g.n, y, x, given) && !is_empty(y));
+    graph: &Graph,
+    x: VSet,
+    y: VSet,
+    allowed: VSet,
+    f: &Formula,
+    main: Step,
+) -> Option<Result<(), CheckFault>> {
+    let given = VSet::empty();
+    if !are_term_sets(graph.n, y, x, given) || is_empty(y) {
+        return None;
+    }
     let target = Target { x, y, given };
-    let f = Formula {
-        defs: Vec::new(alloc),
-        main,
-    };
-    let d = Derivation {
-        lemmas: Vec::new(alloc),
-        main: step,
-    };
-    if allowed.is_empty() {
-        check(alloc, g, &target, &f, &d)
-    } else {
-        check_with(alloc, g, &target, allowed, &f, &d)
+    let lemmas = Vec::new(alloc);
+    let d = Derivation { lemmas, main };
+    if is_empty(allowed) {
+        return Some(check(alloc, graph, &target, f, &d));
     }
+    Some(check_with(alloc, graph, &target, &[allowed], f, &d))
 }
 
-/// An answer in words; a refusal of the twelfth step of main by the edge from Y that is its open path.
-fn told(answer: &Result<(), CheckFault>) -> &'static str {
-    match answer {
-        Ok(()) => "accepted",
-        Err(CheckFault::EndDiffers(0)) => "another end",
-        Err(CheckFault::DoLeft) => "intervention left",
-        Err(
-            CheckFault::Step {
-                place,
-                fault: StepFault::Unblocked(path),
-            },
-        ) => {
-            let (from, mark, to) = (path.vertices[0], path.marks[0], path.vertices[1]);
-            if place.lemma != None || place.number != 12 || path.count != 2 || from != 2 {
-                "another step or path"
-            } else if mark == Mark::Into && to == 1 {
-                "step 12: Y <- M"
-            } else if mark == Mark::Both && to == 0 {
-                "step 12: Y <-> X"
-            } else {
-                "another edge"
-            }
+/// Where a step stands and why it is refused.
+fn refusal_text(alloc: Global, place: StepPlace, fault: &StepFault) -> Option<String> {
+    let (lemma, number) = (place.lemma, place.number);
+    match fault {
+        StepFault::Unblocked(path) => {
+            let path = Path(path);
+            format!(in alloc; "lemma {lemma:?}, step {number}: open path {path}\n").ok()
         }
-        Err(_) => "another fault",
+        _ => format!(in alloc; "lemma {lemma:?}, step {number}\n").ok(),
     }
 }
 
-/// The front door with its twelfth step and the order of the factors of its inner sum.
-fn front_doors(rt: &impl Abort, alloc: Global, g: &Graph) -> Result<(), AllocError> {
-    for (see, z, exchanged, want) in [
-        (false, 1u64, false, "accepted"),
-        (false, 1, true, "another end"),
-        (false, 3, false, "step 12: Y <- M"),
-        (true, 1, false, "step 12: Y <-> X"),
-    ] {
-        let twelfth = if see {
-            Step::Rule2See(set(z))
-        } else {
-            Step::Rule3Out(set(z))
-        };
-        let inner = if exchanged {
-            product(alloc, term(4, 3), term(1, 0))?
-        } else {
-            product(alloc, term(1, 0), term(4, 3))?
-        };
-        let inner = sum(alloc, 1, inner)?;
-        let outer = product(alloc, term(2, 1), inner)?;
-        let main = sum(alloc, 2, outer)?;
-        let step = front_door(alloc, twelfth)?;
-        let answer = checked(rt, alloc, g, 4, main, step, &[]);
-        assert_eq!(rt; told(&answer), want);
+/// A checker's answer.
+fn answer_text(alloc: Global, answer: &Result<(), CheckFault>) -> Option<String> {
+    match answer {
+        Ok(()) => String::from_str(alloc, "accepted\n").ok(),
+        Err(CheckFault::EndDiffers(k)) => format!(in alloc; "another end than {k}\n").ok(),
+        Err(CheckFault::DoLeft) => String::from_str(alloc, "an intervention is left\n").ok(),
+        Err(CheckFault::Step { place, fault }) => refusal_text(alloc, *place, fault),
+        Err(CheckFault::NoMemory) => None,
     }
-    Ok(())
 }
 
-/// P(M | do(X)) as it stands, where X is allowed or not.
-fn effect(rt: &impl Abort, alloc: Global, g: &Graph, allowed: &[VSet], want: &str) {
-    let main = do_term(2, 1, 0);
-    let step = Step::Then(Vec::new(alloc));
-    let answer = checked(rt, alloc, g, 2, main, step, allowed);
-    assert_eq!(rt; told(&answer), want);
+/// The checker's answer to a formula and a step for the row's effect.
+fn judged(alloc: Global, row: &Value, f: &Formula, main: Step) -> Option<String> {
+    let graph = graph(alloc, row)?;
+    let (x, y) = (set(row, "x"), set(row, "y"));
+    let answer = checked(alloc, &graph, x, y, set(row, "allowed"), f, main)?;
+    answer_text(alloc, &answer)
 }
 
-/// P(X, M) by the chain rule is P(X) P(M | X).
-fn chain(rt: &impl Abort, alloc: Global, g: &Graph) -> Result<(), AllocError> {
-    let (of, none) = (set(3), set(0));
-    assert!(rt; are_term_sets(g.n, of, none, none) && !is_empty(of));
-    let start = Expr::Prob {
-        of,
-        doing: none,
-        given: none,
-    };
-    let split = product(alloc, term(1, 0), term(2, 1))?;
-    match apply(alloc, g, &[], &Step::Chain(order(0, 1)), start) {
-        Ok(made) => assert!(rt; is_same(&made, &split)),
-        Err(_) => assert!(rt; false),
-    }
-    Ok(())
-}
-
-// X -> M -> Y with X <-> Y, as 0, 1 and 2.
-#[test]
-fn derivations(rt: HostRuntime) -> Result<(), Fail> {
-    let alloc = rt.alloc();
-    if let Ok(g) = Graph::build(3, &[(0, 1), (1, 2)], &[(0, 2)]) {
-        front_doors(&rt, alloc, &g)?;
-        effect(&rt, alloc, &g, &[], "intervention left");
-        effect(&rt, alloc, &g, &[set(1)], "accepted");
-        chain(&rt, alloc, &g)?;
-    } else {
-        assert!(rt; false);
-    }
-    Ok(())
+/// Whether the row's derivation, a step without lemmas, is accepted.
+pub fn derivation_row(alloc: Global, row: &Value) -> Option<String> {
+    let names = names(alloc, row, "names")?;
+    let formula = formula(alloc, row, "formula", &names)?;
+    judged(alloc, row, &formula, step(alloc, row, &names)?)
 }

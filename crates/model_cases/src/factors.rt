@@ -1,114 +1,121 @@
 ghost use Rattle.std.specs.Prelude.{◌<◌};
 
-use crate::building::{set, sum, term};
+use crate::formulas::shown;
+use case_rows::{Members, graph, names, vertex};
 use district_factors::{Factor, FactorFault, factor};
 use districts::district_of;
-use do_derivation::{Step, apply};
-use mixed_graph::{Graph, VSet};
+use do_derivation::{Lemma, Step, apply};
+use mixed_graph::{Graph, Names, VSet};
 use prob_expr::masks::{all, are_term_sets, is_empty, minus};
-use prob_expr::{Expr, is_same};
-use std::alloc::{AllocError, Global};
-use std::process::Abort;
+use prob_expr::{Expr, Formula, is_same};
+use serde_json::Value;
+use std::alloc::Global;
 
-/// Definition k by its sum over a set.
-fn share(alloc: Global, k: u32, over: u64) -> Result<Expr, AllocError> {
-    let bottom = sum(alloc, over, Expr::Named(k))?;
-    Ok(Expr::Quotient {
-        top: Box::new(alloc, Expr::Named(k))?,
-        bottom: Box::new(alloc, bottom)?,
-    })
-}
-
-/// The factor of {v}.
-fn factor_of(rt: &impl Abort, alloc: Global, g: &Graph, v: u8) -> Result<Factor, FactorFault>
-    requires { v < 64 }
-{
-    let alone = VSet::one(v);
-    assert!(rt; g.covers(alone));
-    let c = district_of(g, alone, v);
-    let order = g.order();
-    factor(alloc, g, &order, c, 0)
-}
-
-/// That the steps make the expression of P(of | do(all others)).
-fn check_steps(
-    rt: &impl Abort,
+/// Whether the step makes the expression of P(of | do(all others)).
+fn derives(
     alloc: Global,
-    g: &Graph,
+    graph: &Graph,
     lemmas: &[VSet],
     of: VSet,
     step: &Step,
     end: &Expr,
-) {
-    let doing = minus(all(g.n), of);
-    let given = set(0);
-    assert!(rt; are_term_sets(g.n, of, doing, given) && !is_empty(of));
-    let start = Expr::Prob { of, doing, given };
-    match apply(alloc, g, lemmas, step, start) {
-        Ok(made) => assert!(rt; is_same(&made, end)),
-        Err(_) => assert!(rt; false),
+) -> bool {
+    let doing = minus(all(graph.n), of);
+    let given = VSet::empty();
+    if !are_term_sets(graph.n, of, doing, given) || is_empty(of) {
+        return false;
+    }
+    match apply(alloc, graph, lemmas, step, Expr::Prob { of, doing, given }) {
+        Ok(made) => is_same(&made, end),
+        Err(_) => false,
     }
 }
 
-/// That {v} has this factor, whose definitions are distributions of these sets, and that its steps make all of it.
-fn check_factor(rt: &impl Abort, alloc: Global, g: &Graph, v: u8, sets: &[u64], value: &Expr)
+/// A lemma's set, and whether its step makes its definition.
+fn lemma_text(
+    alloc: Global,
+    graph: &Graph,
+    cited: &[VSet],
+    lemma: &Lemma,
+    def: &Expr,
+) -> Option<String> {
+    let derived = derives(alloc, graph, cited, lemma.set, &lemma.step, def);
+    let set = Members(lemma.set);
+    format!(in alloc; "lemma {set}, derived {derived}\n").ok()
+}
+
+/// The lemmas, each of which may cite the earlier ones.
+fn lemmas_text(
+    alloc: Global,
+    graph: &Graph,
+    lemmas: &[Lemma],
+    defs: &[Expr],
+    cited: &mut Vec<VSet>,
+) -> Option<String> {
+    let mut text = String::new(alloc);
+    for (lemma, def) in lemmas.iter().zip(defs) {
+        let line = lemma_text(alloc, graph, cited, lemma, def)?;
+        text.push_str(line.as_str()).ok()?;
+        cited.push(lemma.set).ok()?;
+    }
+    Some(text)
+}
+
+/// The factor of a vertex's district alone.
+fn factor_of(alloc: Global, graph: &Graph, v: u8) -> Option<Result<Factor, FactorFault>>
     requires { v < 64 }
 {
-    let found = match factor_of(rt, alloc, g, v) {
-        Ok(found) => found,
-        Err(_) => {
-            assert!(rt; false);
-            return;
-        }
-    };
-    assert!(rt; is_same(&found.value, value));
-    assert_eq!(rt; found.defs.len(), sets.len());
-    assert_eq!(rt; found.lemmas.len(), sets.len());
-    let mut cited = Vec::new(alloc);
-    for (k, lemma) in found.lemmas.iter().enumerate() {
-        if k < sets.len() && k < found.defs.len() {
-            assert_eq!(rt; lemma.set.bits, sets[k]);
-            check_steps(rt, alloc, g, &cited, lemma.set, &lemma.step, &found.defs[k]);
-            assert!(rt; cited.push(lemma.set).is_ok());
-        }
+    let alone = VSet::one(v);
+    if !graph.covers(alone) {
+        return None;
     }
-    let step = Step::Then(found.steps);
-    check_steps(rt, alloc, g, &cited, VSet::one(v), &step, &found.value);
+    let district = district_of(graph, alone, v);
+    let order = graph.order();
+    Some(factor(alloc, graph, &order, district, 0))
 }
 
-#[test]
-fn factors(rt: HostRuntime) -> Result<(), AllocError> {
-    let alloc = rt.alloc();
-    // the napkin, W -> Z -> X -> Y with W <-> X and W <-> Y: the sum over W of the factor of W, X and Y
-    if let Ok(g) = Graph::build(4, &[(0, 1), (1, 2), (2, 3)], &[(0, 2), (0, 3)]) {
-        check_factor(&rt, alloc, &g, 3, &[12], &share(alloc, 0, 8)?);
-    } else {
-        assert!(rt; false);
+/// Whether a factor's steps make its value, and this with its definitions.
+fn value_text(alloc: Global, derived: bool, formula: &Formula, names: &Names) -> Option<String> {
+    let formula = shown(alloc, formula, names)?;
+    format!(in alloc; "factor, derived {derived}\n{formula}").ok()
+}
+
+/// A factor: its lemmas and its value.
+fn factor_text(
+    alloc: Global,
+    graph: &Graph,
+    of: VSet,
+    found: Factor,
+    names: &Names,
+) -> Option<String> {
+    if found.lemmas.len() != found.defs.len() {
+        return None;
     }
-    // two definitions, the second over the first
-    let arrows = [(0, 5), (1, 2), (2, 5), (3, 4), (4, 5)];
-    if let Ok(g) = Graph::build(6, &arrows, &[(5, 1), (1, 0), (2, 3), (3, 5)]) {
-        check_factor(&rt, alloc, &g, 5, &[39, 33], &share(alloc, 1, 32)?);
-    } else {
-        assert!(rt; false);
-    }
-    // X -> M -> Y with X <-> Y: a sum, and no definition
-    if let Ok(g) = Graph::build(3, &[(0, 1), (1, 2)], &[(0, 2)]) {
-        let factors = vec![in alloc; term(1, 0), term(4, 3)]?;
-        let value = sum(alloc, 1, Expr::Product(factors))?;
-        check_factor(&rt, alloc, &g, 2, &[], &value);
-        check_factor(&rt, alloc, &g, 1, &[], &term(2, 1));
-    } else {
-        assert!(rt; false);
-    }
-    // the bow, X -> Y with X <-> Y, stops
-    if let Ok(g) = Graph::build(2, &[(0, 1)], &[(0, 1)]) {
-        match factor_of(&rt, alloc, &g, 1) {
-            Err(FactorFault::Stopped(t)) => assert_eq!(rt; t.bits, 3),
-            _ => assert!(rt; false),
+    let mut cited = Vec::new(alloc);
+    let lemmas = lemmas_text(alloc, graph, &found.lemmas, &found.defs, &mut cited)?;
+    let step = Step::Then(found.steps);
+    let derived = derives(alloc, graph, &cited, of, &step, &found.value);
+    let formula = Formula {
+        defs: found.defs,
+        main: found.value,
+    };
+    let value = value_text(alloc, derived, &formula, names)?;
+    format!(in alloc; "{lemmas}{value}").ok()
+}
+
+/// The factor of the district of a vertex alone, or where the procedure stops.
+pub fn factor_row(alloc: Global, row: &Value) -> Option<String> {
+    let graph = graph(alloc, row)?;
+    let v = vertex(row, "of");
+    match factor_of(alloc, &graph, v)? {
+        Ok(found) => {
+            let names = names(alloc, row, "names")?;
+            factor_text(alloc, &graph, VSet::one(v), found, &names)
         }
-    } else {
-        assert!(rt; false);
+        Err(FactorFault::Stopped(whole)) => {
+            let whole = Members(whole);
+            format!(in alloc; "stopped at {whole}\n").ok()
+        }
+        Err(FactorFault::NoMemory) => None,
     }
-    Ok(())
 }

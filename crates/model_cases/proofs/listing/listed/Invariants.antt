@@ -1,4 +1,4 @@
-use Rattle.model_cases.proofs.minimal.listed.Given as goal
+use Rattle.model_cases.proofs.listing.listed.Given as goal
 
 abbrev pub ghosts-ask : goal.ghosts-ask
 ghosts-ask a = record { name = a.blank.name; parts = a.blank.parts }

@@ -1,0 +1,68 @@
+//! Worked cases of finite models, the rules, formulas, derivations and identification: each prints its name and its answer.
+//!
+//! The file `cases.json` is a list of rows, each with the members `case` (its name) and `kind`, and what its kind asks for. No answer
+//! means that the row asks for what can't be asked, or that memory was refused.
+#![tactic(auto)]
+
+mod adjusting;
+mod derivations;
+mod factors;
+mod formulas;
+mod identifying;
+mod listing;
+mod model_texts;
+mod models;
+mod ruling;
+
+use anyhow::{Context, Result};
+use case_rows::text;
+use serde_json::Value;
+use std::alloc::Global;
+use std::fs;
+use std::io::Write;
+
+/// What the library answers in this row.
+fn answer(alloc: Global, row: &Value) -> Option<String> {
+    match text(row, "kind") {
+        "model" => models::model_row(alloc, row),
+        "weight" => models::weight_row(alloc, row),
+        "rule" => ruling::rule_row(alloc, row),
+        "formula" => formulas::formula_row(alloc, row),
+        "same formulas" => formulas::same_row(alloc, row),
+        "step" => derivations::step_row(alloc, row),
+        "derivation" => derivations::derivation_row(alloc, row),
+        "factor" => factors::factor_row(alloc, row),
+        "effect" => identifying::effect_row(alloc, row),
+        "two models" => identifying::two_models_row(alloc, row),
+        "adjustment" => adjusting::adjustment_row(alloc, row),
+        "back door" => adjusting::back_door_row(alloc, row),
+        "adjustment formula" => adjusting::formula_row(alloc, row),
+        "minimal sets" => listing::minimal_sets_row(alloc, row),
+        "many minimal sets" => listing::many_row(alloc, row),
+        _ => None,
+    }
+}
+
+/// Prints the row's name and its answer.
+fn show<W: Write>(alloc: Global, row: &Value, print: &mut W) -> Result<()> {
+    print.write_all(b"== ")?;
+    print.write_all(text(row, "case").as_bytes())?;
+    print.write_all(b"\n")?;
+    match answer(alloc, row) {
+        Some(answer) => print.write_all(answer.as_bytes())?,
+        None => print.write_all(b"no answer\n")?,
+    }
+    Ok(())
+}
+
+fn main(rt: HostRuntime) -> Result<()> {
+    let alloc = rt.alloc();
+    let text = fs::read_to_string(&rt, "cases.json")?;
+    let rows = Value::from_str(alloc, text.as_str())?;
+    let mut print = rt.stdout();
+    for row in rows.as_array().context("a list of rows")? {
+        show(alloc, row, &mut print)?;
+    }
+    print.flush()?;
+    Ok(())
+}
