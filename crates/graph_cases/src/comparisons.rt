@@ -42,7 +42,7 @@ fn compared(n: u64, first: &[(u8, u8)], second: &[(u8, u8)]) -> Option<Compared>
 }
 
 /// The comparison of two graphs of arrows.
-pub fn equivalence_row(alloc: Global, row: &Value) -> Option<String> {
+pub(crate) fn equivalence_row(alloc: Global, row: &Value) -> Option<String> {
     let first = pairs(alloc, row, "first")?;
     let second = pairs(alloc, row, "second")?;
     match compared(number(row, "n"), &first, &second)? {

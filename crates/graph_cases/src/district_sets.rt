@@ -23,7 +23,7 @@ fn parts_text(alloc: Global, graph: &Graph, all: VSet) -> Option<String> {
 }
 
 /// The districts of all vertices, and each vertex's choice of a child toward a set.
-pub fn districts_row(alloc: Global, row: &Value) -> Option<String> {
+pub(crate) fn districts_row(alloc: Global, row: &Value) -> Option<String> {
     let graph = graph(alloc, row)?;
     let all = VSet::below(graph.n);
     let parts = parts_text(alloc, &graph, all)?;
@@ -37,7 +37,7 @@ pub fn districts_row(alloc: Global, row: &Value) -> Option<String> {
 }
 
 /// The district of a vertex within a set.
-pub fn district_row(alloc: Global, row: &Value) -> Option<String> {
+pub(crate) fn district_row(alloc: Global, row: &Value) -> Option<String> {
     let graph = graph(alloc, row)?;
     let (v, within) = (vertex(row, "of"), set(row, "within"));
     if !graph.covers(within) || !within.has(v) {
@@ -65,7 +65,7 @@ fn links_at(graph: &Graph, v: u8) -> Option<Links>
 }
 
 /// These links.
-pub fn links_row(alloc: Global, row: &Value) -> Option<String> {
+pub(crate) fn links_row(alloc: Global, row: &Value) -> Option<String> {
     let tree = links_at(&graph(alloc, row)?, vertex(row, "of"))?;
     let (found, partner) = (tree.found, tree.partner);
     let (found, partner) = (Entries(&found, tree.count), Entries(&partner, tree.count));
@@ -73,7 +73,7 @@ pub fn links_row(alloc: Global, row: &Value) -> Option<String> {
 }
 
 /// Whether a hedge is one for the effect of x on y.
-pub fn hedge_row(alloc: Global, row: &Value) -> Option<String> {
+pub(crate) fn hedge_row(alloc: Global, row: &Value) -> Option<String> {
     let graph = graph(alloc, row)?;
     let h = hedge(alloc, row)?;
     let (x, y) = (set(row, "x"), set(row, "y"));

@@ -5,7 +5,7 @@ use serde_json::Value;
 use std::alloc::{AllocError, Global};
 
 /// Bytes as text.
-pub fn told(alloc: Global, bytes: &[u8]) -> Option<String> {
+pub(crate) fn told(alloc: Global, bytes: &[u8]) -> Option<String> {
     String::from_str(alloc, str::from_utf8(bytes).ok()?).ok()
 }
 
@@ -18,20 +18,20 @@ fn read_and_written(alloc: Global, text: &[u8]) -> Result<Vec<u8>, AllocError> {
 }
 
 /// A graph's text, read and written.
-pub fn text_row(alloc: Global, row: &Value) -> Option<String> {
+pub(crate) fn text_row(alloc: Global, row: &Value) -> Option<String> {
     let found = read_and_written(alloc, text(row, "text").as_bytes()).ok()?;
     told(alloc, &found)
 }
 
 /// The same for bytes that are no text.
-pub fn bytes_row(alloc: Global, row: &Value) -> Option<String> {
+pub(crate) fn bytes_row(alloc: Global, row: &Value) -> Option<String> {
     let bytes = bytes(alloc, row, "bytes")?;
     let found = read_and_written(alloc, &bytes).ok()?;
     told(alloc, &found)
 }
 
 /// How many of the beginnings of a text are refused, and how many there are.
-pub fn prefixes_row(alloc: Global, row: &Value) -> Option<String> {
+pub(crate) fn prefixes_row(alloc: Global, row: &Value) -> Option<String> {
     let bytes = text(row, "text").as_bytes();
     let mut refused = 0usize;
     for end in 0..bytes.len() {
@@ -53,7 +53,7 @@ fn token_line(alloc: Global, at: usize, second: bool) -> Result<Vec<u8>, AllocEr
 }
 
 /// The line of a fault of a graph's text.
-pub fn graph_line_row(alloc: Global, row: &Value) -> Option<String> {
+pub(crate) fn graph_line_row(alloc: Global, row: &Value) -> Option<String> {
     let second = flag(row, "second");
     let line = match text(row, "fault") {
         "token" => {

@@ -35,7 +35,7 @@ fn asked(alloc: Global, graph: &Graph, of: VSet, within: VSet) -> Option<String>
 }
 
 /// What is asked of a graph, or why the edges aren't one.
-pub fn graph_row(alloc: Global, row: &Value) -> Option<String> {
+pub(crate) fn graph_row(alloc: Global, row: &Value) -> Option<String> {
     match built(alloc, row)? {
         Ok(graph) => asked(alloc, &graph, set(row, "of"), set(row, "within")),
         Err(BuildFault::SelfLoop(v)) => format!(in alloc; "self-loop {v}\n").ok(),
@@ -47,7 +47,7 @@ pub fn graph_row(alloc: Global, row: &Value) -> Option<String> {
 }
 
 /// A text that is kept.
-pub fn kept_row(alloc: Global, row: &Value) -> Option<String> {
+pub(crate) fn kept_row(alloc: Global, row: &Value) -> Option<String> {
     let kept = Text::of(alloc, text(row, "text").as_bytes()).ok()?;
     let text = str::from_utf8(kept.bytes()).ok()?;
     format!(in alloc; "{text}\n").ok()
@@ -77,7 +77,7 @@ fn found(alloc: Global, row: &Value, names: &Names) -> Option<Vec<Option<u8>>> {
 }
 
 /// The answers to names that are added and sought, and the number of names.
-pub fn names_row(alloc: Global, row: &Value) -> Option<String> {
+pub(crate) fn names_row(alloc: Global, row: &Value) -> Option<String> {
     let mut names = Names::empty(alloc);
     let added = added(alloc, row, &mut names)?;
     let found = found(alloc, row, &names)?;
@@ -117,14 +117,14 @@ fn cut(row: &Value, graph: &Graph) -> Option<Graph> {
 }
 
 /// What is left of a graph where edges are cut.
-pub fn cut_row(alloc: Global, row: &Value) -> Option<String> {
+pub(crate) fn cut_row(alloc: Global, row: &Value) -> Option<String> {
     let left = cut(row, &graph(alloc, row)?)?;
     let left = Rows(&left);
     format!(in alloc; "{left}\n").ok()
 }
 
 /// The vertices on proper causal paths from x to y, and the graph without their first edges.
-pub fn first_edges_row(alloc: Global, row: &Value) -> Option<String> {
+pub(crate) fn first_edges_row(alloc: Global, row: &Value) -> Option<String> {
     let graph = graph(alloc, row)?;
     let (x, y) = (set(row, "x"), set(row, "y"));
     if !graph.covers(x) || !graph.covers(y) {
@@ -137,7 +137,7 @@ pub fn first_edges_row(alloc: Global, row: &Value) -> Option<String> {
 }
 
 /// The sizes of a survey's graph.
-pub fn survey_row(alloc: Global, row: &Value) -> Option<String> {
+pub(crate) fn survey_row(alloc: Global, row: &Value) -> Option<String> {
     let graph = survey_graph(number(row, "seed"));
     let (n, directed) = (graph.n, directed_count(&graph));
     let bidirected = bidirected_count(&graph);

@@ -32,21 +32,21 @@ fn observed_text(alloc: Global, part: &Observed) -> Option<String> {
 }
 
 /// The observed part of a graph.
-pub fn observed_row(alloc: Global, row: &Value) -> Option<String> {
+pub(crate) fn observed_row(alloc: Global, row: &Value) -> Option<String> {
     let graph = graph(alloc, row)?;
     let names = names(alloc, row, "names")?;
     observed_text(alloc, &seen(alloc, &names, &graph, set(row, "latent"))?)
 }
 
 /// The projection, in which the latent vertices stay without edges.
-pub fn projection_row(alloc: Global, row: &Value) -> Option<String> {
+pub(crate) fn projection_row(alloc: Global, row: &Value) -> Option<String> {
     let projection = project(&graph(alloc, row)?, set(row, "latent"));
     let rows = Rows(&projection);
     format!(in alloc; "{rows}\n").ok()
 }
 
 /// The new numbers of a set, among the observed vertices below n.
-pub fn renumbering_row(alloc: Global, row: &Value) -> Option<String> {
+pub(crate) fn renumbering_row(alloc: Global, row: &Value) -> Option<String> {
     let n = number(row, "n");
     if n > 64 {
         return None;

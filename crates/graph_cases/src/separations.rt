@@ -21,7 +21,7 @@ fn asked(alloc: Global, graph: &Graph, x: VSet, y: VSet, given: VSet) -> Option<
 }
 
 /// The answers of a question of separation.
-pub fn separation_row(alloc: Global, row: &Value) -> Option<String> {
+pub(crate) fn separation_row(alloc: Global, row: &Value) -> Option<String> {
     let graph = graph(alloc, row)?;
     let (x, y, given) = (set(row, "x"), set(row, "y"), set(row, "given"));
     asked(alloc, &graph, x, y, given)

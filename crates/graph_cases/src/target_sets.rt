@@ -50,7 +50,7 @@ fn effect_among(alloc: Global, row: &Value, all: &Names) -> Option<String> {
 }
 
 /// The sets of an effect.
-pub fn effect_row(alloc: Global, row: &Value) -> Option<String> {
+pub(crate) fn effect_row(alloc: Global, row: &Value) -> Option<String> {
     effect_among(alloc, row, &names(alloc, row, "all")?)
 }
 
@@ -77,7 +77,7 @@ fn fault(alloc: Global, row: &Value) -> Option<TargetFault> {
 }
 
 /// The line of a fault of listed names.
-pub fn target_line_row(alloc: Global, row: &Value) -> Option<String> {
+pub(crate) fn target_line_row(alloc: Global, row: &Value) -> Option<String> {
     let fault = fault(alloc, row)?;
     line_text(alloc, &fault, flag(row, "second"))
 }

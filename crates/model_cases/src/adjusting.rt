@@ -29,7 +29,7 @@ fn admissible(graph: &Graph, x: VSet, y: VSet, z: VSet) -> Option<Result<(), Adj
 }
 
 /// Whether a set is admissible.
-pub fn adjustment_row(alloc: Global, row: &Value) -> Option<String> {
+pub(crate) fn adjustment_row(alloc: Global, row: &Value) -> Option<String> {
     let graph = graph(alloc, row)?;
     let answer = admissible(&graph, set(row, "x"), set(row, "y"), set(row, "z"))?;
     answer_text(alloc, &answer)
@@ -46,14 +46,14 @@ fn closes_back_doors(graph: &Graph, x: u8, y: VSet, z: VSet) -> Option<Result<()
 }
 
 /// Whether a set meets the back-door criterion for one exposure.
-pub fn back_door_row(alloc: Global, row: &Value) -> Option<String> {
+pub(crate) fn back_door_row(alloc: Global, row: &Value) -> Option<String> {
     let graph = graph(alloc, row)?;
     let answer = closes_back_doors(&graph, vertex(row, "x"), set(row, "y"), set(row, "z"))?;
     answer_text(alloc, &answer)
 }
 
 /// The formula that sums over a set.
-pub fn formula_row(alloc: Global, row: &Value) -> Option<String> {
+pub(crate) fn formula_row(alloc: Global, row: &Value) -> Option<String> {
     let names = names(alloc, row, "names")?;
     let formula = formula_for(alloc, set(row, "x"), set(row, "y"), set(row, "z")).ok()?;
     shown(alloc, &formula, &names)

@@ -22,7 +22,7 @@ fn made(alloc: Global, graph: &Graph, step: &Step, start: Formula) -> Option<Exp
 }
 
 /// What the row's step makes.
-pub fn step_row(alloc: Global, row: &Value) -> Option<String> {
+pub(crate) fn step_row(alloc: Global, row: &Value) -> Option<String> {
     let graph = graph(alloc, row)?;
     let names = names(alloc, row, "names")?;
     let step = step(alloc, row, &names)?;
@@ -86,7 +86,7 @@ fn judged(alloc: Global, row: &Value, f: &Formula, main: Step) -> Option<String>
 }
 
 /// Whether the row's derivation, a step without lemmas, is accepted.
-pub fn derivation_row(alloc: Global, row: &Value) -> Option<String> {
+pub(crate) fn derivation_row(alloc: Global, row: &Value) -> Option<String> {
     let names = names(alloc, row, "names")?;
     let formula = formula(alloc, row, "formula", &names)?;
     judged(alloc, row, &formula, step(alloc, row, &names)?)

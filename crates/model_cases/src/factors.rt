@@ -104,7 +104,7 @@ fn factor_text(
 }
 
 /// The factor of the district of a vertex alone, or where the procedure stops.
-pub fn factor_row(alloc: Global, row: &Value) -> Option<String> {
+pub(crate) fn factor_row(alloc: Global, row: &Value) -> Option<String> {
     let graph = graph(alloc, row)?;
     let v = vertex(row, "of");
     match factor_of(alloc, &graph, v)? {

@@ -15,7 +15,7 @@ use serde_json::Value;
 use std::alloc::{AllocError, Global};
 
 /// The formula of this name.
-pub fn formula(alloc: Global, row: &Value, name: &str, names: &Names) -> Option<Formula> {
+pub(crate) fn formula(alloc: Global, row: &Value, name: &str, names: &Names) -> Option<Formula> {
     read_formula(alloc, text(row, name).as_bytes(), names).ok()
 }
 
@@ -26,7 +26,7 @@ fn line(alloc: Global, bytes: &[u8]) -> Option<String> {
 }
 
 /// The text of a formula.
-pub fn shown(alloc: Global, formula: &Formula, names: &Names) -> Option<String> {
+pub(crate) fn shown(alloc: Global, formula: &Formula, names: &Names) -> Option<String> {
     let n = names.count();
     if n > 64 {
         return None;
@@ -38,7 +38,7 @@ pub fn shown(alloc: Global, formula: &Formula, names: &Names) -> Option<String> 
 }
 
 /// Whether a formula is one on n vertices. Then it can be walked, and its terms are terms of these.
-pub fn is_formula(f: &Formula, n: u32) -> bool
+pub(crate) fn is_formula(f: &Formula, n: u32) -> bool
     requires { n ≤ 64 }
     ensures factors { OnTrue result (has_factors (view f.now.main) ≡ true) }
     ensures terms { OnTrue result (are_terms n (view f.now.main) ≡ true) }
@@ -131,7 +131,7 @@ fn asked(alloc: Global, f: &Formula, n: u32, allowed: VSet) -> Option<String>
 }
 
 /// What is asked of the row's formula.
-pub fn formula_row(alloc: Global, row: &Value) -> Option<String> {
+pub(crate) fn formula_row(alloc: Global, row: &Value) -> Option<String> {
     let names = names(alloc, row, "names")?;
     let formula = formula(alloc, row, "formula", &names)?;
     let n = number(row, "n");
@@ -149,7 +149,7 @@ fn compared(alloc: Global, first: &Expr, second: &Expr) -> Option<String> {
 }
 
 /// The comparison of two formulas' main expressions.
-pub fn same_row(alloc: Global, row: &Value) -> Option<String> {
+pub(crate) fn same_row(alloc: Global, row: &Value) -> Option<String> {
     let names = names(alloc, row, "names")?;
     let first = formula(alloc, row, "first", &names)?;
     let second = formula(alloc, row, "second", &names)?;

@@ -35,7 +35,7 @@ fn asked(alloc: Global, graph: &Graph, x: VSet, y: VSet) -> Option<Answer> {
 }
 
 /// The formula of an effect, or its hedge and the event of its models.
-pub fn effect_row(alloc: Global, row: &Value) -> Option<String> {
+pub(crate) fn effect_row(alloc: Global, row: &Value) -> Option<String> {
     let graph = graph(alloc, row)?;
     match asked(alloc, &graph, set(row, "x"), set(row, "y"))? {
         Answer::Formula(formula, _) => shown(alloc, &formula, &names(alloc, row, "names")?),
@@ -71,7 +71,7 @@ fn pair_text(alloc: Global, n: u32, pair: &CounterPair) -> Option<String> {
 }
 
 /// The two models of the row's hedge.
-pub fn two_models_row(alloc: Global, row: &Value) -> Option<String> {
+pub(crate) fn two_models_row(alloc: Global, row: &Value) -> Option<String> {
     let graph = graph(alloc, row)?;
     let h = hedge(alloc, row)?;
     let pair = built(alloc, &graph, set(row, "x"), set(row, "y"), &h)?;

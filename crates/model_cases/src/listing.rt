@@ -50,7 +50,7 @@ fn sets_text(alloc: Global, sets: &[VSet]) -> Option<String> {
 }
 
 /// The minimal sets, and whether there are more.
-pub fn minimal_sets_row(alloc: Global, row: &Value) -> Option<String> {
+pub(crate) fn minimal_sets_row(alloc: Global, row: &Value) -> Option<String> {
     let found = listed(alloc, row)?;
     let sets = sets_text(alloc, &found.sets)?;
     let more = found.more;
@@ -80,7 +80,7 @@ fn many_text(alloc: Global, sets: &[VSet], each: &[(u8, u8)]) -> Option<String> 
 }
 
 /// How many minimal sets are listed, and what holds of them.
-pub fn many_row(alloc: Global, row: &Value) -> Option<String> {
+pub(crate) fn many_row(alloc: Global, row: &Value) -> Option<String> {
     let found = listed(alloc, row)?;
     let each = pairs(alloc, row, "one of each")?;
     let sets = many_text(alloc, &found.sets, &each)?;

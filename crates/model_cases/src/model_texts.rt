@@ -53,7 +53,7 @@ fn mechanisms_text(alloc: Global, mechanisms: &[Mechanism]) -> Option<String> {
 }
 
 /// A model: its sizes, its causes and its mechanisms.
-pub fn model_text(alloc: Global, m: &Model) -> Option<String> {
+pub(crate) fn model_text(alloc: Global, m: &Model) -> Option<String> {
     let sizes = &m.sizes;
     let causes = causes_text(alloc, &m.causes)?;
     let mechanisms = mechanisms_text(alloc, &m.mechanisms)?;

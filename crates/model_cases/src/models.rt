@@ -81,7 +81,7 @@ fn said(g: &Graph, m: &Model) -> Option<Result<(), ModelFault>> {
 }
 
 /// Whether the model fits the graph, or its first fault.
-pub fn model_row(alloc: Global, row: &Value) -> Option<String> {
+pub(crate) fn model_row(alloc: Global, row: &Value) -> Option<String> {
     let graph = graph(alloc, row)?;
     let model = model(alloc, row)?;
     let answer = said(&graph, &model)?;
@@ -128,7 +128,7 @@ fn weighed(
 }
 
 /// The weight of an event at these values, where a set is intervened on.
-pub fn weight_row(alloc: Global, row: &Value) -> Option<String> {
+pub(crate) fn weight_row(alloc: Global, row: &Value) -> Option<String> {
     let graph = graph(alloc, row)?;
     let model = model(alloc, row)?;
     let at = numbers(alloc, row, "at")?;

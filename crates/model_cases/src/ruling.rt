@@ -29,7 +29,7 @@ fn asked(graph: &Graph, row: &Value) -> Option<Result<(), OpenPath>> {
 }
 
 /// Whether a rule holds, or its open path.
-pub fn rule_row(alloc: Global, row: &Value) -> Option<String> {
+pub(crate) fn rule_row(alloc: Global, row: &Value) -> Option<String> {
     match asked(&graph(alloc, row)?, row)? {
         Ok(()) => String::from_str(alloc, "holds\n").ok(),
         Err(path) => {
