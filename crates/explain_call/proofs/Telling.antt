@@ -12,7 +12,7 @@ use Rattle.dag_reader.specs.declared.faults.GraphFault.{GraphFault}
 use Rattle.dag_reader.specs.declared.faults.GraphFault.TheVariants.{NoMemory}
 use Rattle.fault_text.specs.Lines.{line_of, graph_fault_text}
 use Rattle.replies.specs.declared.outcome.Outcome.{Outcome}
-use Rattle.replies.specs.declared.outcome.Outcome.TheVariants.{Yes, No, Graph, Second, Evaluation}
+use Rattle.replies.specs.declared.outcome.Outcome.TheVariants.{Yes, No, Words, Graph, Second, Evaluation, Read, Write, Memory}
 use Rattle.replies.specs.declared.outcome.Reply.{Reply}
 use Rattle.replies.specs.Observed.{observed_names, IsObservedGraph, Holds}
 use Rattle.explain_call.specs.Answers.{StepsIn, StepsAnswer, IsGraphRefusal, faulty, FileAnswer}
@@ -34,6 +34,10 @@ module _ (g : ReadGraph) (q : MixedGraph) (names : List (List ℕ)) (bytes : Lis
   told small t f d reads Graph text a = absurd a
   told small t f d reads Second text a = absurd a
   told small t f d reads Evaluation text a = absurd a
+  told small t f d reads Words text a = absurd a
+  told small t f d reads Read text a = absurd a
+  told small t f d reads Write text a = absurd a
+  told small t f d reads Memory text a = absurd a
 
   pub tells : length bytes ≤ 67108864 → (t : PlainTarget) (f : PlainFormula) (d : PlainDerivation) → certificate_in names bytes ≡ Ok (formula t f d)
       → {E : Type 0} (r : Result Reply E) → IfOk r (λ x. TellsSteps q names t d x.outcome x.text.items) → IfOk r (λ x. StepsAnswer g bytes x.outcome x.text.items)
@@ -49,6 +53,10 @@ on_graph bytes certificate g holds No text a = record { read = g; holds = holds;
 on_graph bytes certificate g holds Graph text a = absurd a.steps
 on_graph bytes certificate g holds Second text a = record { read = g; holds = holds; answer = a }
 on_graph bytes certificate g holds Evaluation text a = record { read = g; holds = holds; answer = a }
+on_graph bytes certificate g holds Words text a = record { read = g; holds = holds; answer = a }
+on_graph bytes certificate g holds Read text a = record { read = g; holds = holds; answer = a }
+on_graph bytes certificate g holds Write text a = record { read = g; holds = holds; answer = a }
+on_graph bytes certificate g holds Memory text a = record { read = g; holds = holds; answer = a }
 
 pub on_file : (bytes certificate : List ℕ) (g : ReadGraph) → length bytes ≤ 1048576 → Reads bytes (Ok g) → {E : Type 0} (r : Result Reply E)
     → IfOk r (λ x. StepsAnswer g certificate x.outcome x.text.items) → IfOk r (λ x. FileAnswer bytes certificate x.outcome x.text.items)
