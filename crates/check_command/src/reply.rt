@@ -5,7 +5,7 @@ use crate::formula::check_formula;
 use crate::hedge_data::check_hedge;
 use certificate::{Certificate, read_answer};
 use dag_reader::ReadGraph;
-use input_fault_text::{certificate_line, certificate_size_line};
+use certificate_fault_text::{certificate_line, certificate_size_line};
 use latent_projection::observed;
 use replies::{Outcome, Reply};
 use std::alloc::{AllocError, Global};

@@ -6,5 +6,4 @@ pub mod Printed
 pub mod Texts
 pub mod Stops
 pub mod Evaluable
-pub mod Effects
 pub mod Outcomes

@@ -2,17 +2,17 @@
 use Rattle.std.specs.Prelude.{ℕ, ◌≡◌, ◌<◌, ◌≤◌, ◌≢◌, List, ◌++◌, length, All, Bool, true, false, Option, Some, None, Ok, Err}
 use Rattle.std.specs.List.{flat_map}
 use Rattle.fractions.specs.Fractions.{Fraction}
+use Rattle.mixed_graph.specs.Graphs.{MixedGraph}
 use Rattle.finite_models.specs.Models.{FiniteModel, Fits, IsPositiveModel}
 use Rattle.dag_reader.specs.declared.graph.ReadGraph.{ReadGraph}
 use Rattle.prob_expr.specs.Values.{effect}
 use Rattle.id_recursion.specs.Answers.{effect_on}
-use Rattle.fault_text.specs.Lines.{line_of}
-use Rattle.input_fault_text.specs.Lines.{count_fault_text, count_size_text}
+use Rattle.fault_text.specs.Lines.{line_of, count_fault_text, count_size_text}
 use Rattle.replies.specs.declared.outcome.Outcome.{Outcome}
 use Rattle.replies.specs.declared.outcome.Outcome.TheVariants.{Yes, No, Graph, Second, Evaluation}
-use Rattle.replies.specs.Observed.{Names}
-use Rattle.identify_command.specs.declared.form.Form.TheVariants.{Plain}
-use Rattle.identify_command.specs.Answers.{IdentifyAnswer}
+use Rattle.replies.specs.Observed.{Names, observed_names, IsObservedGraph}
+use Rattle.effect_answers.specs.Effects.{effect_lists, IsOfSets, IsEffectRefusal}
+use Rattle.effect_answers.specs.Hedges.{ShowsHedge}
 use Rattle.quantity.specs.Kinds.{Pair, Kind}
 use Rattle.quantity.specs.Exacts.{exact, Equals}
 use Rattle.quantity.specs.Intervals.{bounds, Covers}
@@ -32,10 +32,10 @@ use Rattle.evaluate_command.specs.Lines.{sign_of, value_line, pinned_lines, stop
 
 -- ---- before the counts
 
--- the answer for which the counts aren't read: a hedge, as `identify` shows it, or the line of a listed name that is at fault
+-- the answer for which the counts aren't read, in the observed graph: a hedge with its two models, as `identify` shows it, or the line of a listed name that is at fault
 abbrev pub EvaluateFirst : ReadGraph → Names → Names → Outcome → List ℕ → Type 0
-EvaluateFirst g x y No text = IdentifyAnswer Plain g x y No text
-EvaluateFirst g x y Graph line = IdentifyAnswer Plain g x y Graph line
+EvaluateFirst g x y No text = (q : MixedGraph) × IsObservedGraph g q × IsOfSets (effect_lists g x y) (λ xs ys. ShowsHedge q (observed_names g) xs ys text)
+EvaluateFirst g x y Graph line = (q : MixedGraph) × IsObservedGraph g q × IsEffectRefusal (effect_lists g x y) line
 EvaluateFirst g x y o text = ⊥
 
 -- ---- over a table of counts

@@ -15,7 +15,7 @@ use Rattle.do_derivation.specs.Plans.{PlainDerivation}
 use Rattle.identification.specs.Derivations.{IsDerived}
 use Rattle.identification_answers.specs.Names.{FormulaNamesOnly}
 use Rattle.id_recursion.specs.Answers.{IsRightFormula}
-use Rattle.identify_command.specs.Answers.{effect_lists}
+use Rattle.effect_answers.specs.Effects.{effect_lists}
 use Rattle.evaluate_command.specs.Mentioned.{mentioned}
 use Rattle.evaluate_command.specs.declared.identified.Identified.{Identified}
 

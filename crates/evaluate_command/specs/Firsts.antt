@@ -4,8 +4,7 @@ use Rattle.mixed_graph.specs.Graphs.{MixedGraph}
 use Rattle.dag_reader.specs.declared.graph.ReadGraph.{ReadGraph}
 use Rattle.replies.specs.Observed.{Names}
 use Rattle.prob_expr.specs.View.{formula_view}
-use Rattle.identify_command.specs.declared.form.Form.TheVariants.{Plain}
-use Rattle.identify_command.specs.Answers.{ShowsHedge}
+use Rattle.effect_answers.specs.Hedges.{ShowsHedge}
 use Rattle.evaluate_command.specs.Answers.{EvaluateFirst}
 use Rattle.evaluate_command.specs.Effects.{effect_view, IsIdentified, Identifies}
 use Rattle.evaluate_command.specs.declared.first.First.{First}
@@ -21,4 +20,4 @@ IsFirst g x y (first.Identified i) = Identifies g x y (effect_view i)
 -- for sets of the observed graph q: a formula for their effect, or the text of a hedge
 abbrev pub IsFound : MixedGraph → List (List ℕ) → (x y : ℕ) → Found → Type 0
 IsFound q names x y (found.Formula f) = IsIdentified (record { names = names; graph = q; x = x; y = y; formula = formula_view f })
-IsFound q names x y (found.Hedge text) = ShowsHedge Plain q names x y text.items
+IsFound q names x y (found.Hedge text) = ShowsHedge q names x y text.items

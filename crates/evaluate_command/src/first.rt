@@ -7,13 +7,14 @@ ghost use Rattle.evaluate_command.specs.Firsts.{IsFirst, IsFound};
 
 use crate::identified::Identified;
 use dag_reader::ReadGraph;
+use effect_answers::{Asked, Effect, asked_effect};
 use id_recursion::{Answer, identify};
 use identify_text::hedge_answer;
-use latent_projection::{Observed, observed};
+use latent_projection::Observed;
 use prob_expr::Formula;
-use replies::{Outcome, Reply, list_or, refuse};
+use replies::{Outcome, Reply};
 use std::alloc::{AllocError, Global};
-use targets::{EffectSets, find_effect_sets};
+use targets::EffectSets;
 
 /// What is known before counts are read.
 #[derive(Drop)]
@@ -35,12 +36,9 @@ pub fn identify_first(
 ) -> Result<First, AllocError>
     ensures { IfOk result (IsFirst graph.now (option_map names_in x) (option_map names_in y)) }
 {
-    let seen = observed(alloc, &graph.names, &graph.graph, graph.latent)?;
-    let x = list_or(alloc, &graph.names, graph.exposures, x)?;
-    let y = list_or(alloc, &graph.names, graph.outcomes, y)?;
-    let sets = match find_effect_sets(alloc, &graph.names, &seen.names, &x, &y) {
-        Ok(sets) => sets,
-        Err(fault) => return Ok(First::Replied(refuse(alloc, &fault)?)),
+    let Effect { seen, sets } = match asked_effect(alloc, graph, x, y)? {
+        Asked::Effect(effect) => effect,
+        Asked::Refused(reply) => return Ok(First::Replied(reply)),
     };
     match find_formula(alloc, &seen, sets)? {
         Found::Formula(formula) => Ok(First::Identified(Identified {

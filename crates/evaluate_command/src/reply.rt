@@ -10,7 +10,7 @@ use crate::lines::pinned_lines;
 use crate::mentioned::used_in;
 use crate::values::{Failure, push_cells, varied};
 use count_table::{Counts, read_counts};
-use input_fault_text::{counts_line, counts_size_line};
+use fault_text::{counts_line, counts_size_line};
 use quantity::{Bounds, Exact, Quantity};
 use replies::{Outcome, Reply};
 use std::alloc::{AllocError, Global};

@@ -4,6 +4,8 @@ use Rattle.std.specs.Fmt.{decimal}
 use Rattle.name_text.specs.Printing.{printed}
 use Rattle.dag_reader.specs.declared.faults.GraphFault.{GraphFault}
 use Rattle.dag_reader.specs.declared.faults.GraphFault.TheVariants as graph
+use Rattle.count_rows.specs.declared.fault.CountFault.{CountFault}
+use Rattle.count_rows.specs.declared.fault.CountFault.TheVariants as counts
 use Rattle.targets.specs.declared.fault.TargetFault.{TargetFault}
 use Rattle.targets.specs.declared.fault.TargetFault.TheVariants as target
 
@@ -18,6 +20,10 @@ with_name name = codes ": " ++ printed name
 -- the two names at fault
 abbrev pub with_names : List ℕ → List ℕ → List ℕ
 with_names a b = codes ": " ++ (printed a ++ 32 ∷ printed b)
+
+-- the row at fault
+abbrev pub at_row : ℕ → List ℕ
+at_row r = codes ": row " ++ decimal r
 
 -- names, each behind a space
 abbrev pub spaced : List (List ℕ) → List ℕ
@@ -62,3 +68,18 @@ second text = codes "second " ++ text
 -- what is wrong with a graph text of more than 1,048,576 bytes
 abbrev pub size_text : List ℕ
 size_text = codes "graph fault 12: over 1048576 bytes"
+
+-- what is wrong with counts; want of memory has no line
+abbrev pub count_fault_text : CountFault → List ℕ
+count_fault_text (counts.NotCsv r) = codes "counts fault 1" ++ at_row r
+count_fault_text (counts.NoColumn name) = codes "counts fault 2" ++ with_name name
+count_fault_text (counts.TwoColumns name) = codes "counts fault 3" ++ with_name name
+count_fault_text (counts.Count r) = codes "counts fault 4" ++ at_row r
+count_fault_text counts.TooLarge = codes "counts fault 5"
+count_fault_text counts.SumTooLarge = codes "counts fault 6"
+count_fault_text counts.NoRows = codes "counts fault 7"
+count_fault_text counts.NoMemory = []
+
+-- what is wrong with counts of more than 67,108,864 bytes
+abbrev pub count_size_text : List ℕ
+count_size_text = codes "counts fault 8: over 67108864 bytes"

@@ -1,5 +1,9 @@
-//! The lines that say why an input was refused.
+//! The lines that say why a graph, listed names or counts were refused.
 #![tactic(auto)]
+
+mod counts;
+
+pub use counts::{counts_line, counts_size_line};
 
 ghost use Rattle.std.specs.Prelude.{◌≡◌, ◌++◌, OnOk, IfOk, codes};
 ghost use Rattle.fault_text.specs.Lines.{at_byte, with_name, with_names, spaced, graph_fault_text, target_fault_text, line_of, second, size_text};

@@ -12,12 +12,7 @@ use Rattle.prob_expr.proofs.MaskLaws.{below_from, has_none}
 use Rattle.do_derivation.proofs.TermSets.{term_test}
 use Rattle.hedge.specs.Hedges.{IsHedge}
 use Rattle.hedge.specs.declared.kinds.Hedge.{Hedge}
-use Rattle.counter_models.specs.Events.{AreCounterModels}
-use Rattle.counter_models.specs.Pairs.{IsPairOf}
-use Rattle.counter_models.specs.declared.kinds.CounterPair.{CounterPair}
 use Rattle.id_recursion.specs.Answers.{effect_on}
-use Rattle.identify_text.specs.Below.{ArePairBelow}
-use Rattle.identify_text.proofs.Belows.{model_below}
 use Rattle.certificate.specs.Plain.{hedge_view}
 use Rattle.certificate_writing.specs.Writable.{IsBareTarget, IsHedgeWithin}
 
@@ -85,11 +80,3 @@ hedge_within g x y h sized_found sized_partner hedge = record {
         let p = hedge.links.partners (suc i) (omega arith) lt in
         let before = p.earlier in
         subst (λ k. k < g.vertices) p.is (low (get_or h.links.found p.place 0) (hedge.links.inside p.place (omega (arith, before, lt))))
-
--- the two models of a hedge are on the graph's vertices
-pub pair_below : (g : MixedGraph) → IsMixedGraph g → (x y : ℕ) (h : Hedge) (pair : CounterPair) → Within g.vertices (has y) → IsPairOf g x y h pair → AreCounterModels g x y pair → ArePairBelow g.vertices pair
-pair_below g graph x y h pair in_y is two = record {
-  first = model_below g graph pair.first two.first.sound is.first.all_mechanisms;
-  second = model_below g graph pair.second two.second.sound is.second.all_mechanisms;
-  event = λ v i. in_y v (and_parts (has is.kept v) (has y v) (sym (is.event v) ∙ i)).1;
-}

@@ -3,24 +3,21 @@ use Rattle.std.specs.Prelude.{ℕ, ◌≡◌, List, ◌++◌, codes, Ok}
 use Rattle.mixed_graph.specs.Bits.{has}
 use Rattle.mixed_graph.specs.Graphs.{MixedGraph, IsAncestor}
 use Rattle.dag_reader.specs.declared.graph.ReadGraph.{ReadGraph}
-use Rattle.targets.specs.declared.fault.TargetFault.{TargetFault}
-use Rattle.targets.specs.Targets.{listed, EffectLists, AreEffectSets, IsEffectFault}
-use Rattle.fault_text.specs.Lines.{line_of, target_fault_text}
+use Rattle.targets.specs.Targets.{EffectLists}
 use Rattle.replies.specs.declared.outcome.Outcome.{Outcome}
 use Rattle.replies.specs.declared.outcome.Outcome.TheVariants.{Yes, No, Graph}
-use Rattle.replies.specs.Observed.{Names, observed_names, IsObservedGraph}
+use Rattle.replies.specs.Observed.{Names, IsObservedGraph}
 use Rattle.prob_expr.specs.Tree.{PlainFormula}
 use Rattle.do_derivation.specs.Plans.{PlainDerivation}
 use Rattle.hedge.specs.declared.kinds.Hedge.{Hedge}
-use Rattle.counter_models.specs.Pairs.{IsPairOf}
 use Rattle.counter_models.specs.declared.kinds.CounterPair.{CounterPair}
 use Rattle.identification.specs.Derivations.{IsDerived}
-use Rattle.identification.specs.Procedure.{IsUnidentified}
 use Rattle.identification_answers.specs.Names.{FormulaNamesOnly}
-use Rattle.id_recursion.specs.Answers.{effect_on, IsRightFormula, IsRightHedge}
-use Rattle.id_recursion.specs.Hedged.{IsHedgeOf}
+use Rattle.id_recursion.specs.Answers.{effect_on, IsRightFormula}
 use Rattle.identify_text.specs.Answers.{formula_answer, latex_answer}
 use Rattle.identify_text.specs.PairLines.{hedge_answer}
+use Rattle.effect_answers.specs.Effects.{effect_lists, IsOfSets, IsEffectRefusal}
+use Rattle.effect_answers.specs.Hedges.{IsFoundHedge}
 use Rattle.certificate.specs.Plain.{PlainCertificate, hedge_view}
 use Rattle.certificate.specs.Plain as plain
 use Rattle.certificate.specs.Reading.{certificate_in}
@@ -63,15 +60,11 @@ pub record ShowsFormula (form : Form) (q : MixedGraph) (names : List (List ℕ))
   pub prints : text ≡ formula_text form names x y formula derivation
   pub reads_back : ReadsBack form names (plain.formula (effect_on x y) formula derivation)
 
--- No: it is a hedge for the effect of x on y, and its two models, which are positive and fit q, agree on all observations and differ on the effect.
--- It is the hedge at which the identification procedure stops, with its data and its models, and the text shows it.
+-- No: it is a hedge for the effect of x on y with two models that show that there is no formula, and the text shows it.
 pub record ShowsHedge (form : Form) (q : MixedGraph) (names : List (List ℕ)) (x y : ℕ) (text : List ℕ) : Type 0 where
   pub hedge : Hedge
   pub pair : CounterPair
-  pub right : IsRightHedge q x y hedge pair
-  pub stop : IsUnidentified q x y hedge.small.bits hedge.big.bits
-  pub built : IsHedgeOf q hedge
-  pub models : IsPairOf q x y hedge pair
+  pub found : IsFoundHedge q x y hedge pair
   pub prints : text ≡ hedge_text form names x y hedge pair
   pub reads_back : ReadsBack form names (plain.hedge (effect_on x y) (hedge_view hedge))
 
@@ -83,27 +76,9 @@ SetsAnswer form q names x y o text = ⊥
 
 -- ---- answers on a graph that was read
 
--- the lists of an effect: those that are given, or else the exposures and the outcomes
-abbrev pub effect_lists : ReadGraph → Names → Names → EffectLists
-effect_lists g x y = record {
-  all = g.names;
-  observed = observed_names g;
-  x = listed g.names g.exposures.bits x;
-  y = listed g.names g.outcomes.bits y;
-}
-
--- the lists name these sets, for which the answer is given
-pub record IsAnswerOfSets (form : Form) (q : MixedGraph) (l : EffectLists) (o : Outcome) (text : List ℕ) : Type 0 where
-  pub x : ℕ
-  pub y : ℕ
-  pub sets : AreEffectSets l x y
-  pub answer : SetsAnswer form q l.observed x y o text
-
--- a listed name is at fault, or y is empty: the line says so
-pub record IsEffectRefusal (l : EffectLists) (line : List ℕ) : Type 0 where
-  pub fault : TargetFault
-  pub is_fault : IsEffectFault l fault
-  pub prints : line ≡ line_of (target_fault_text fault)
+-- the lists name two sets, for which the answer is given
+abbrev pub IsAnswerOfSets : Form → MixedGraph → EffectLists → Outcome → List ℕ → Type 0
+IsAnswerOfSets form q l o text = IsOfSets l (λ x y. SetsAnswer form q l.observed x y o text)
 
 -- the answer for lists of names
 abbrev pub EffectAnswer : Form → MixedGraph → EffectLists → Outcome → List ℕ → Type 0

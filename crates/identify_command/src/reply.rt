@@ -8,12 +8,13 @@ ghost use Rattle.identify_command.specs.Answers.{IdentifyAnswer, SetsAnswer};
 use crate::form::Form;
 use crate::texts::{formula_text, hedge_text};
 use dag_reader::ReadGraph;
+use effect_answers::{Asked, asked_effect};
 use hedge::Hedge;
 use id_recursion::{Answer, identify};
-use latent_projection::{Observed, observed};
-use replies::{Outcome, Reply, list_or, refuse};
+use latent_projection::Observed;
+use replies::{Outcome, Reply};
 use std::alloc::{AllocError, Global};
-use targets::{EffectSets, find_effect_sets};
+use targets::EffectSets;
 
 /// Whether the effect of x on y can be computed from observations, in the observed graph: a formula for
 /// P(y | do(x)), or a hedge, which shows that there is none (Shpitser and Pearl 2006).
@@ -28,12 +29,9 @@ pub fn identify_reply(
 ) -> Result<Reply, AllocError>
     ensures { IfOk result (λ r. IdentifyAnswer form graph.now (option_map names_in x) (option_map names_in y) r.outcome r.text.items) }
 {
-    let seen = observed(alloc, &graph.names, &graph.graph, graph.latent)?;
-    let x = list_or(alloc, &graph.names, graph.exposures, x)?;
-    let y = list_or(alloc, &graph.names, graph.outcomes, y)?;
-    match find_effect_sets(alloc, &graph.names, &seen.names, &x, &y) {
-        Ok(sets) => decide(alloc, &seen, sets, form),
-        Err(fault) => refuse(alloc, &fault),
+    match asked_effect(alloc, graph, x, y)? {
+        Asked::Effect(effect) => decide(alloc, &effect.seen, effect.sets, form),
+        Asked::Refused(reply) => Ok(reply),
     }
 }
 

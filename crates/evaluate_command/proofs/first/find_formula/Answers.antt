@@ -14,7 +14,7 @@ use Rattle.id_recursion.specs.Answers.{IsRight, IfFormula, IfHedge}
 use Rattle.id_recursion.specs.Hedged.{IsHedgeOf}
 use Rattle.identify_text.specs.Below.{IsHedgeBelow, ArePairBelow}
 use Rattle.identify_text.proofs.Belows.{hedge_below}
-use Rattle.identify_command.proofs.Writing.{pair_below}
+use Rattle.effect_answers.proofs.Belows.{pair_below}
 use Rattle.prob_expr.specs.View.{formula_view}
 use Rattle.evaluate_command.proofs.Columns.{used_columns}
 use Rattle.evaluate_command.proofs.first.find_formula.Goals as goal
@@ -60,10 +60,11 @@ returns c =
     record {
       hedge = c.in-Hedge.hedge;
       pair = c.in-Hedge.pair;
-      right = subst (IsRight g x y) c.in-Hedge.is c.in_ok-formula.ensures.right;
-      stop = subst (λ a. IfHedge a (λ h pair. IsUnidentified g x y h.small.bits h.big.bits)) c.in-Hedge.is c.in_ok-formula.ensures.stop;
-      built = subst (λ a. IfHedge a (λ h pair. IsHedgeOf g h)) c.in-Hedge.is c.in_ok-formula.ensures.data;
-      models = subst (λ a. IfHedge a (IsPairOf g x y)) c.in-Hedge.is c.in_ok-formula.ensures.pair;
+      found = record {
+        right = subst (IsRight g x y) c.in-Hedge.is c.in_ok-formula.ensures.right;
+        stop = subst (λ a. IfHedge a (λ h pair. IsUnidentified g x y h.small.bits h.big.bits)) c.in-Hedge.is c.in_ok-formula.ensures.stop;
+        built = subst (λ a. IfHedge a (λ h pair. IsHedgeOf g h)) c.in-Hedge.is c.in_ok-formula.ensures.data;
+        models = subst (λ a. IfHedge a (IsPairOf g x y)) c.in-Hedge.is c.in_ok-formula.ensures.pair;
+      };
       prints = c.in_ok-hedge_answer-in-Hedge.ensures;
-      reads_back = λ e. cc e;
     }

@@ -15,7 +15,8 @@ use Rattle.certificate.specs.Plain.{hedge_view}
 use Rattle.certificate_writing.specs.Writable.{IsBareTarget, IsDerivationWithin, IsHedgeWithin}
 use Rattle.identify_command.proofs.Shallow.{formula_shallow}
 use Rattle.identify_command.proofs.Within.{derivation_within}
-use Rattle.identify_command.proofs.Writing.{bare_target, hedge_within, pair_below}
+use Rattle.effect_answers.proofs.Belows.{pair_below}
+use Rattle.identify_command.proofs.Writing.{bare_target, hedge_within}
 use Rattle.identify_command.proofs.reply.decide.Goals as goal
 
 pub formula_text-requires-clause-target : goal.formula_text-requires-clause-target
@@ -68,10 +69,12 @@ returns-in_ok-hedge_text-in-Hedge c =
     record {
       hedge = c.in-Hedge.hedge;
       pair = c.in-Hedge.pair;
-      right = subst (IsRight g c.args.sets.x.bits c.args.sets.y.bits) c.in-Hedge.is c.in_ok-formula.ensures.right;
-      stop = subst (λ a. IfHedge a (λ h pair. IsUnidentified g c.args.sets.x.bits c.args.sets.y.bits h.small.bits h.big.bits)) c.in-Hedge.is c.in_ok-formula.ensures.stop;
-      built = subst (λ a. IfHedge a (λ h pair. IsHedgeOf g h)) c.in-Hedge.is c.in_ok-formula.ensures.data;
-      models = subst (λ a. IfHedge a (IsPairOf g c.args.sets.x.bits c.args.sets.y.bits)) c.in-Hedge.is c.in_ok-formula.ensures.pair;
+      found = record {
+        right = subst (IsRight g c.args.sets.x.bits c.args.sets.y.bits) c.in-Hedge.is c.in_ok-formula.ensures.right;
+        stop = subst (λ a. IfHedge a (λ h pair. IsUnidentified g c.args.sets.x.bits c.args.sets.y.bits h.small.bits h.big.bits)) c.in-Hedge.is c.in_ok-formula.ensures.stop;
+        built = subst (λ a. IfHedge a (λ h pair. IsHedgeOf g h)) c.in-Hedge.is c.in_ok-formula.ensures.data;
+        models = subst (λ a. IfHedge a (IsPairOf g c.args.sets.x.bits c.args.sets.y.bits)) c.in-Hedge.is c.in_ok-formula.ensures.pair;
+      };
       prints = c.in_ok-hedge_text-in-Hedge.ensures.text;
       reads_back = c.in_ok-hedge_text-in-Hedge.ensures.reads_back;
     }

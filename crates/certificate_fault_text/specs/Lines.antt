@@ -1,4 +1,4 @@
--- What is wrong with a certificate or with counts, as a line says it.
+-- What is wrong with a certificate, as a line says it.
 use Rattle.std.specs.Prelude.{ℕ, List, [], ◌++◌, codes}
 use Rattle.std.specs.Fmt.{decimal}
 use Rattle.fault_text.specs.Lines.{with_name}
@@ -6,8 +6,6 @@ use Rattle.certificate.specs.declared.fault.Key.{Key}
 use Rattle.certificate.specs.declared.fault.Key.TheVariants as key
 use Rattle.certificate.specs.declared.fault.CertFault.{CertFault}
 use Rattle.certificate.specs.declared.fault.CertFault.TheVariants as certificate
-use Rattle.count_rows.specs.declared.fault.CountFault.{CountFault}
-use Rattle.count_rows.specs.declared.fault.CountFault.TheVariants as counts
 
 -- a key of certificates
 abbrev pub key_text : Key → List ℕ
@@ -34,10 +32,6 @@ with_key k = codes ": " ++ key_text k
 abbrev pub with_number : ℕ → List ℕ
 with_number n = codes ": " ++ decimal n
 
--- the row at fault
-abbrev pub at_row : ℕ → List ℕ
-at_row r = codes ": row " ++ decimal r
-
 -- what is wrong with a certificate; want of memory has no line
 abbrev pub cert_fault_text : CertFault → List ℕ
 cert_fault_text certificate.NotJson = codes "certificate fault 1"
@@ -50,18 +44,3 @@ cert_fault_text certificate.NoMemory = []
 -- what is wrong with a certificate of more than 67,108,864 bytes
 abbrev pub cert_size_text : List ℕ
 cert_size_text = codes "certificate fault 6: over 67108864 bytes"
-
--- what is wrong with counts; want of memory has no line
-abbrev pub count_fault_text : CountFault → List ℕ
-count_fault_text (counts.NotCsv r) = codes "counts fault 1" ++ at_row r
-count_fault_text (counts.NoColumn name) = codes "counts fault 2" ++ with_name name
-count_fault_text (counts.TwoColumns name) = codes "counts fault 3" ++ with_name name
-count_fault_text (counts.Count r) = codes "counts fault 4" ++ at_row r
-count_fault_text counts.TooLarge = codes "counts fault 5"
-count_fault_text counts.SumTooLarge = codes "counts fault 6"
-count_fault_text counts.NoRows = codes "counts fault 7"
-count_fault_text counts.NoMemory = []
-
--- what is wrong with counts of more than 67,108,864 bytes
-abbrev pub count_size_text : List ℕ
-count_size_text = codes "counts fault 8: over 67108864 bytes"

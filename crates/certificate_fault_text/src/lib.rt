@@ -1,12 +1,11 @@
-//! The lines that say why a certificate or counts were refused. Want of memory has no line.
+//! The lines that say why a certificate was refused. Want of memory has no line.
 #![tactic(auto)]
 
 ghost use Rattle.std.specs.Prelude.{◌≡◌, ◌++◌, OnOk, IfOk};
 ghost use Rattle.fault_text.specs.Lines.{line_of, with_name};
-ghost use Rattle.input_fault_text.specs.Lines.{key_text, with_key, with_number, at_row, cert_fault_text, cert_size_text, count_fault_text, count_size_text};
+ghost use Rattle.certificate_fault_text.specs.Lines.{key_text, with_key, with_number, cert_fault_text, cert_size_text};
 
 use certificate::{CertFault, Key};
-use count_rows::CountFault;
 use mixed_graph::Text;
 use name_text::push_name;
 use std::alloc::{AllocError, Global};
@@ -22,29 +21,11 @@ pub fn certificate_line(alloc: Global, fault: &CertFault) -> Result<Vec<u8>, All
     Ok(line)
 }
 
-/// The line of the fault of counts. Want of memory has no line.
-pub fn counts_line(alloc: Global, fault: &CountFault) -> Result<Vec<u8>, AllocError>
-    ensures line { IfOk result (λ v. v.items ≡ line_of (count_fault_text fault.now)) }
-    ensures memory { OnOk result (fault.now ≡ CountFault.NoMemory → ⊥) }
-{
-    let mut line = Vec::from_slice(alloc, b"causal: ")?;
-    push_counts_fault(alloc, &mut line, fault)?;
-    line.push(b'\n')?;
-    Ok(line)
-}
-
 /// The line of a certificate of more than 67,108,864 bytes.
 pub fn certificate_size_line(alloc: Global) -> Result<Vec<u8>, AllocError>
     ensures { IfOk result (λ v. v.items ≡ line_of cert_size_text) }
 {
     Vec::from_slice(alloc, b"causal: certificate fault 6: over 67108864 bytes\n")
-}
-
-/// The line of counts of more than 67,108,864 bytes.
-pub fn counts_size_line(alloc: Global) -> Result<Vec<u8>, AllocError>
-    ensures { IfOk result (λ v. v.items ≡ line_of count_size_text) }
-{
-    Vec::from_slice(alloc, b"causal: counts fault 8: over 67108864 bytes\n")
 }
 
 /// Appends what is wrong with a certificate.
@@ -63,23 +44,6 @@ fn push_certificate_fault(
         CertFault::TooDeep => out.extend_from_slice(b"certificate fault 4"),
         CertFault::Name(name) => push_named(out, b"certificate fault 5", name),
         CertFault::NoMemory => Err(AllocError),
-    }
-}
-
-/// Appends what is wrong with counts.
-fn push_counts_fault(alloc: Global, out: &mut Vec<u8>, fault: &CountFault) -> Result<(), AllocError>
-    ensures text { OnOk result (out.new.items ≡ out.old.items ++ count_fault_text fault.now) }
-    ensures memory { OnOk result (fault.now ≡ CountFault.NoMemory → ⊥) }
-{
-    match fault {
-        CountFault::NotCsv(row) => push_at_row(alloc, out, b"counts fault 1", *row),
-        CountFault::NoColumn(name) => push_named(out, b"counts fault 2", name),
-        CountFault::TwoColumns(name) => push_named(out, b"counts fault 3", name),
-        CountFault::Count(row) => push_at_row(alloc, out, b"counts fault 4", *row),
-        CountFault::TooLarge => out.extend_from_slice(b"counts fault 5"),
-        CountFault::SumTooLarge => out.extend_from_slice(b"counts fault 6"),
-        CountFault::NoRows => out.extend_from_slice(b"counts fault 7"),
-        CountFault::NoMemory => Err(AllocError),
     }
 }
 
@@ -124,16 +88,6 @@ fn push_numbered(
     ensures { OnOk result (out.new.items ≡ out.old.items ++ (fault.now ++ with_number number)) }
 {
     let text = format!(in alloc; ": {number}")?;
-    out.extend_from_slice(fault)?;
-    out.extend_from_slice(text.as_bytes())?;
-    Ok(())
-}
-
-/// Appends a fault with its row.
-fn push_at_row(alloc: Global, out: &mut Vec<u8>, fault: &[u8], row: usize) -> Result<(), AllocError>
-    ensures { OnOk result (out.new.items ≡ out.old.items ++ (fault.now ++ at_row row)) }
-{
-    let text = format!(in alloc; ": row {row}")?;
     out.extend_from_slice(fault)?;
     out.extend_from_slice(text.as_bytes())?;
     Ok(())
