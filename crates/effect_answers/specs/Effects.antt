@@ -42,8 +42,8 @@ pub record IsEffectOf (g : ReadGraph) (x y : Names) (e : Effect) : Type 0 where
   pub names : e.seen.names ≡ observed_names g
   pub named : length e.seen.names ≡ e.seen.graph.n
   pub sets : AreEffectSets (effect_lists g x y) e.sets.x.bits e.sets.y.bits
-  pub x : Within e.seen.graph.n (has e.sets.x.bits)
-  pub y : Within e.seen.graph.n (has e.sets.y.bits)
+  pub in_x : Within e.seen.graph.n (has e.sets.x.bits)
+  pub in_y : Within e.seen.graph.n (has e.sets.y.bits)
   pub apart : Apart (has e.sets.x.bits) (has e.sets.y.bits)
   pub some : 0 < e.sets.y.bits
 

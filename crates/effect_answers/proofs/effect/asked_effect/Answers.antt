@@ -1,4 +1,4 @@
-use Rattle.std.proofs.Common.{ap, refl, subst, ◌∙◌, length, option_map}
+use Rattle.std.proofs.Common.{ap, subst, ◌∙◌, option_map}
 use Rattle.mixed_graph.specs.Bits.{has}
 use Rattle.mixed_graph.specs.Names.{texts}
 use Rattle.mixed_graph.specs.Sets.{Within}
@@ -21,14 +21,14 @@ returns-in-Ok c =
       names = c.in_ok-seen.ensures.names;
       named = c.in_ok-seen.ensures.named;
       sets = subst (λ l. AreEffectSets l x y) same c.in-Ok.ensures.sets;
-      x = subst (λ n. Within n (has x)) c.in_ok-seen.ensures.named (effect_within_x lists x y c.in-Ok.ensures.sets);
-      y = subst (λ n. Within n (has y)) c.in_ok-seen.ensures.named (effect_within_y lists x y c.in-Ok.ensures.sets);
+      in_x = subst (λ n. Within n (has x)) c.in_ok-seen.ensures.named (effect_within_x lists x y c.in-Ok.ensures.sets);
+      in_y = subst (λ n. Within n (has y)) c.in_ok-seen.ensures.named (effect_within_y lists x y c.in-Ok.ensures.sets);
       apart = effect_apart lists x y c.in-Ok.ensures.sets;
       some = effect_outcome lists x y c.in-Ok.ensures.sets;
     }
 
-pub returns : goal.returns
-returns c =
+pub returns-in_ok-refuse-in-Err : goal.returns-in_ok-refuse-in-Err
+returns-in_ok-refuse-in-Err c =
     let g = c.args.graph.now in let x = option_map names_in c.args.x in let y = option_map names_in c.args.y in
     let same = same_lists g.names _ _ _ _ _ _ c.in_ok-seen.ensures.names (ap texts c.deref.ensures.value ∙ c.in_ok-x.ensures) (ap texts c.deref-2.ensures.value ∙ c.in_ok-y.ensures) in (
       c.in_ok-refuse-in-Err.ensures.outcome,
