@@ -8,11 +8,11 @@ ghost use Rattle.explain_call.specs.Answers.{StepsAnswer, FileAnswer};
 ghost use Rattle.explain_call.specs.Told.{TellsSteps};
 
 use certificate::{Certificate, read_answer};
+use certificate_fault_text::{certificate_line, certificate_size_line};
 use dag_reader::{GraphFault, ReadGraph, read_graph};
 use do_derivation::{ApplyFault, Derivation};
 use explaining::explain;
 use fault_text::{graph_line, size_line};
-use certificate_fault_text::{certificate_line, certificate_size_line};
 use latent_projection::{Observed, observed};
 use prob_expr::Target;
 use replies::{Outcome, Reply};

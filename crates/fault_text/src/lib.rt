@@ -3,11 +3,10 @@
 
 mod counts;
 
-pub use counts::{counts_line, counts_size_line};
-
 ghost use Rattle.std.specs.Prelude.{◌≡◌, ◌++◌, OnOk, IfOk, codes};
 ghost use Rattle.fault_text.specs.Lines.{at_byte, with_name, with_names, spaced, graph_fault_text, target_fault_text, line_of, second, size_text};
 
+pub use counts::{counts_line, counts_size_line};
 use dag_reader::GraphFault;
 use mixed_graph::Text;
 use name_text::push_name;

@@ -3,8 +3,8 @@
 use crate::fields::{add_text, names_in, text_in};
 use anyhow::{Context, Result, bail};
 use certificate::{CertFault, read_answer};
-use count_rows::read_rows;
 use certificate_fault_text::{certificate_line, certificate_size_line};
+use count_rows::read_rows;
 use fault_text::{counts_line, counts_size_line};
 use mixed_graph::{Names, VSet};
 use serde_json::Value;
