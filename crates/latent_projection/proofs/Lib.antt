@@ -4,5 +4,6 @@ pub mod Removing
 pub mod Removals
 pub mod LatentPaths
 pub mod Projecting
+pub mod Projected
 pub mod Numbering
 pub mod KeptNames

@@ -1,3 +1,4 @@
+pub mod Laws
 pub mod Projection
 pub mod Removal
 pub mod Renumbering

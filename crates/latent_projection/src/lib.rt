@@ -7,8 +7,10 @@ mod dropping;
 mod latents;
 mod numbers;
 mod parts;
+mod theory;
 
 pub use dropping::observed;
 pub use latents::project;
 pub use numbers::renumber;
 pub use parts::Observed;
+pub use theory::laws;
