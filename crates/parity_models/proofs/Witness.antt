@@ -6,12 +6,13 @@ use Rattle.mixed_graph.specs.Graphs.{MixedGraph, IsMixedGraph}
 use Rattle.finite_models.specs.Sums.{sum_over}
 use Rattle.finite_models.specs.Models.{FiniteModel, IsAssignment, IsPositiveModel, event_weight, weight_of, total, Fits}
 use Rattle.finite_models.proofs.Following.{Follows}
+use Rattle.finite_models.proofs.Bools.{not_both}
 use Rattle.finite_models.proofs.Indicators.{number}
 use Rattle.finite_models.proofs.Ranks.{with_rank}
 use Rattle.parity_models.specs.Hedges.{ParityHedge, IsWholeHedge, links_of, noise_of}
 use Rattle.parity_models.specs.Pairs.{first_model, second_model, first_mechanism, second_mechanism, serves_of, size_of, event_even}
 use Rattle.finite_models.specs.Agreement.{AgreeObserved}
-use Rattle.parity_models.specs.Laws.{DifferAt}
+use Rattle.parity_models.specs.Laws.{DifferAt, DifferAtEach}
 use Rattle.parity_models.proofs.Agreement.{observations_agree}
 use Rattle.parity_models.proofs.Counting.{over-base, over-term}
 use Rattle.parity_models.proofs.CounterFits.{first_fits, second_fits}
@@ -128,6 +129,11 @@ module _ (g : MixedGraph) (is_graph : IsMixedGraph g) (x : ℕ → Bool) (d : Pa
 
         apart : (p q t : ℕ) → 1 ≤ t → 1 ≤ number (not (eqb p q)) → p * t ≡ q * t → ⊥
         apart p q t pos some e = unequal p q some (sym (mul-div_cancel p pos) ∙ ap (λ r. r / t) e ∙ mul-div_cancel q pos)
+
+  -- the assignment that is found agrees with a outside the target, and so on x
+  pub effects_each : DifferAtEach One Two x d.target
+  unfolding differ_at
+  effects_each a within = (differ_at a within, λ v e. (found a within).same v (λ l t. not_both (x v) e (ok.target_outside v t)))
 
   pub effects : DifferAt One Two x d.target
   effects = differ_at (λ v. 0) (λ v lt. positive (d.big v) (d.kept v))

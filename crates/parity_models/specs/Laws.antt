@@ -1,5 +1,5 @@
 -- What the two models of a hedge's data have in common, and in what they differ.
-use Rattle.std.specs.Prelude.{ℕ, ◌+◌, ◌*◌, ◌^◌, ◌≡◌, ◌≢◌, Bool}
+use Rattle.std.specs.Prelude.{ℕ, ◌+◌, ◌*◌, ◌^◌, ◌≡◌, ◌≢◌, Bool, IsTrue}
 use Rattle.mixed_graph.specs.Graphs.{MixedGraph, IsMixedGraph}
 use Rattle.finite_models.specs.Agreement.{AgreeObserved}
 use Rattle.finite_models.specs.Models.{FiniteModel, Fits, IsAssignment, IsPositiveModel, weight_of, total}
@@ -36,7 +36,16 @@ pub record DifferAt (m₁ m₂ : FiniteModel) (x y : ℕ → Bool) : Type 0 wher
   pub within : IsAssignment m₁.vertices m₁.size at
   pub unequal : weight_of m₁ x y at * total m₂ ≢ weight_of m₂ x y at * total m₁
 
+-- under every value of x: for each assignment there is one that agrees with it on x, at which P(y | do(x)) has two values
+abbrev pub DifferAtEach : (m₁ m₂ : FiniteModel) (x y : ℕ → Bool) → Type 0
+DifferAtEach m₁ m₂ x y = (a : ℕ → ℕ) → IsAssignment m₁.vertices m₁.size a → (d : DifferAt m₁ m₂ x y) × ((v : ℕ) → IsTrue (x v) → d.at v ≡ a v)
+
 -- the effects of x on the target differ at some assignment
 abbrev pub EffectsDiffer : Type 0
 EffectsDiffer = (g : MixedGraph) → IsMixedGraph g → (x : ℕ → Bool) (d : ParityHedge) → IsWholeHedge g x d
     → DifferAt (first_model g.vertices d) (second_model g.vertices d) x d.target
+
+-- and they differ under every value of x
+abbrev pub EffectsDifferAtEach : Type 0
+EffectsDifferAtEach = (g : MixedGraph) → IsMixedGraph g → (x : ℕ → Bool) (d : ParityHedge) → IsWholeHedge g x d
+    → DifferAtEach (first_model g.vertices d) (second_model g.vertices d) x d.target

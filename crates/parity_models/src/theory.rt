@@ -1,4 +1,4 @@
-ghost use Rattle.parity_models.specs.Laws.{BothFit, BothPositive, ObservationsAgree, EventIsHalf, EventIsMore, EffectsDiffer};
+ghost use Rattle.parity_models.specs.Laws.{BothFit, BothPositive, ObservationsAgree, EventIsHalf, EventIsMore, EffectsDiffer, EffectsDifferAtEach};
 
 /// The laws of the two models that the data of a hedge gives (Shpitser and Pearl: a hedge shows that the effect isn't identifiable).
 pub fn laws()
@@ -13,6 +13,7 @@ pub fn laws()
     ensures half { EventIsHalf }
     ensures more { EventIsMore }
 
-    // So the effects differ.
+    // So the effects differ, under every value of x.
     ensures effects { EffectsDiffer }
+    ensures each { EffectsDifferAtEach }
 {}

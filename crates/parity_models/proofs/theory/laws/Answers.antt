@@ -1,5 +1,5 @@
 use Rattle.parity_models.proofs.theory.laws.Goals as goal
-use Rattle.parity_models.proofs.Witness.{fit_one, fit_two, positive_one, positive_two, agree_observed, half, more, effects}
+use Rattle.parity_models.proofs.Witness.{fit_one, fit_two, positive_one, positive_two, agree_observed, half, more, effects, effects_each}
 
 pub returns-clause-fit : goal.returns-clause-fit
 returns-clause-fit c = λ g graph x d ok. (fit_one g graph x d ok, fit_two g graph x d ok)
@@ -18,3 +18,6 @@ returns-clause-more c = more
 
 pub returns-clause-effects : goal.returns-clause-effects
 returns-clause-effects c = effects
+
+pub returns-clause-each : goal.returns-clause-each
+returns-clause-each c = effects_each
