@@ -1,6 +1,6 @@
 -- The choices of a hedge lead to its roots, and its links join its sets.
-use Rattle.std.proofs.Common.{◌≡◌, ℕ, zero, suc, ◌+◌, ◌<◌, ◌≤◌, Bool, true, false, ◌||◌, ◌==◌, List, [], ◌∷◌, ◌++◌, length, get_or, IsTrue, inl, inr, refl, sym, subst, arith}
-use Rattle.std.proofs.lemmas.Bool.{cases_Bool, and_from, or_cases, eqb-true, eq-eqb}
+use Rattle.std.proofs.Common.{◌≡◌, ℕ, zero, suc, ◌+◌, ◌<◌, ◌≤◌, Bool, true, false, ◌&&◌, ◌||◌, ◌==◌, List, [], ◌∷◌, ◌++◌, length, get_or, IsTrue, inl, inr, refl, sym, subst, arith}
+use Rattle.std.proofs.lemmas.Bool.{cases_Bool, and_from, and_parts, or_cases, eqb-true, eq-eqb}
 use Rattle.mixed_graph.specs.Bits.{has, members_below}
 use Rattle.mixed_graph.specs.Graphs.{MixedGraph, IsMixedGraph, IsDirectedPath, IsAncestor, induced}
 use Rattle.mixed_graph.proofs.Paths.{path_push}
@@ -10,7 +10,7 @@ use Rattle.districts.specs.Linked.IsLinked.{at, by}
 use Rattle.districts.proofs.Parts.{joined_by}
 use Rattle.hedge.specs.declared.kinds.Hedge.{Hedge}
 use Rattle.hedge.specs.Hedges.{IsHedge, IsPlaced}
-use Rattle.hedge.specs.Shapes.{AreSetsOfHedge, HedgeHasSets}
+use Rattle.hedge.specs.Shapes.{AreSetsOfHedge, FormHedge, HedgeHasSets, SetsFormHedge}
 
 -- a set from each of whose members a path of two or more vertices leads to v
 abbrev Behind : MixedGraph → (ℕ → Bool) → ℕ → Type 0
@@ -118,3 +118,44 @@ module _ (g : MixedGraph) (valid : IsMixedGraph g) (x y : ℕ) (h : Hedge) (smal
 
 pub hedge_has_sets : HedgeHasSets
 hedge_has_sets g x y h valid small hedge = shape g valid x y h small hedge
+
+-- ---- as the textbook has it
+-- a directed path inside a set lies inside a larger one
+path_within : (g : MixedGraph) (s t : ℕ → Bool) → ((v : ℕ) → IsTrue (s v) → IsTrue (t v)) → (v : ℕ) (path : List ℕ) (u : ℕ) → IsDirectedPath (induced g s) v path u → IsDirectedPath (induced g t) v path u
+path_within g s t sub v [] u p = p
+path_within g s t sub v (x ∷ xs) u p =
+    let a = and_parts (g.arrow v x) (s v && s x) p.0 in
+    let b = and_parts (s v) (s x) a.1 in
+    (and_from _ _ a.0 (and_from _ _ (sub v b.0) (sub x b.1)), path_within g s t sub x xs u p.1)
+
+path_joined : (g : MixedGraph) (v : ℕ) (path : List ℕ) (u : ℕ) (rest : List ℕ) (w : ℕ) → IsDirectedPath g v path u → IsDirectedPath g u rest w → IsDirectedPath g v (path ++ rest) w
+path_joined g v [] u rest w p q = subst (λ z. IsDirectedPath g z rest w) (sym p) q
+path_joined g v (x ∷ xs) u rest w p q = (p.0, path_joined g x xs u rest w p.1 q)
+
+-- what leads to small inside big, and from there to the roots inside small, leads to the roots inside big
+leads_through : (g : MixedGraph) (big small : ℕ) (roots : ℕ → Bool) → ((v : ℕ) → IsTrue (has small v) → IsTrue (has big v)) → ((v : ℕ) → IsTrue (has small v) → IsAncestor (induced g (has small)) roots v)
+    → (v : ℕ) → IsAncestor (induced g (has big)) (has small) v → IsAncestor (induced g (has big)) roots v
+leads_through g big small roots sub on v a =
+    let b = on a.end a.inside in
+    record {
+      vertex = a.vertex;
+      path = a.path ++ b.path;
+      end = b.end;
+      leads = path_joined (induced g (has big)) v a.path a.end b.path b.end a.leads (path_within g (has small) (has big) sub a.end b.path b.end b.leads);
+      inside = b.inside;
+    }
+
+forms : (g : MixedGraph) (x y big small roots : ℕ) → AreSetsOfHedge g x y big small roots → FormHedge g x y big small roots
+forms g x y big small roots s = record {
+  low = s.low;
+  big_forest = record { roots_inside = λ v i. s.small_inside v (s.roots_inside v i); joined = s.big_joined; leads = λ v i. leads_through g big small (has roots) s.small_inside s.small_reaches v (s.big_reaches v i) };
+  small_forest = record { roots_inside = s.roots_inside; joined = s.small_joined; leads = s.small_reaches };
+  inside = s.small_inside;
+  rooted = (s.rooted.vertex, s.rooted.in_first);
+  meets = s.meets;
+  apart = s.apart;
+  reaches = s.reaches;
+}
+
+pub sets_form_hedge : SetsFormHedge
+sets_form_hedge g x y h valid small hedge = forms g x y h.big.bits h.small.bits h.roots.bits (hedge_has_sets g x y h valid small hedge)
