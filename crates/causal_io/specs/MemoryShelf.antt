@@ -32,6 +32,10 @@ faults_in shelf name = faults_or shelf.lacked (text_of shelf name)
 abbrev pub reads_in : MemoryShelf → List ℕ → ℕ
 reads_in shelf name = option_map_or (λ t. t.reads) (text_of shelf name) 0
 
+-- How many bytes of a name were given since it was put.
+abbrev pub given_in : MemoryShelf → List ℕ → ℕ
+given_in shelf name = option_map_or (λ t. t.given) (text_of shelf name) 0
+
 -- Whether the read of a name with a number is to fail.
 abbrev pub is_to_fail : MemoryShelf → List ℕ → ℕ → Bool
 is_to_fail shelf name call = list_any (λ f. bytes_eq (string_bytes f.name) name && (f.call == call)) shelf.failing.items

@@ -5,10 +5,11 @@
 
 ghost use Rattle.std.specs.Prelude.{◌≡◌, ◌≢◌, ◌+◌, ◌-◌, ◌^◌, ◌<◌, ◌≤◌, List, ℕ, Bool, Option, true, false, length, take, IfOk, OnOk, OnErr, IfSome, IsErr, IsErrOf};
 ghost use Rattle.std.specs.Io.KnownBytes.{Appends};
+ghost use Rattle.std.specs.Result.{result_unwrap_or};
 ghost use Rattle.causal_io.specs.Causes.{Rose};
 ghost use Rattle.causal_io.specs.Shelf.{GivesFrom};
 ghost use Rattle.causal_io.specs.Sink.{TakesFront};
-ghost use Rattle.causal_io.specs.Reading.{AnswersAll};
+ghost use Rattle.causal_io.specs.Reading.{AnswersAll, IsReadOnce};
 
 mod faults;
 mod memory;
@@ -54,6 +55,12 @@ pub trait Shelf {
     /// How often a read of a name has failed.
     ghost faults: { Self → List ℕ → ℕ };
 
+    /// How often a name was read, where it tells.
+    ghost reads: { Self → List ℕ → ℕ };
+
+    /// How many bytes of a name it gave, where it tells.
+    ghost given: { Self → List ℕ → ℕ };
+
     /// Reads the bytes from a place on into the front of `into`. `Ok(0)` is the end.
     /// After `Failed` what `into` holds is open.
     fn read(&mut self, name: &str, from: u64, into: &mut [u8]) -> Result<usize, Failed>
@@ -66,6 +73,12 @@ pub trait Shelf {
         ensures failed { OnErr result (Rose (faults self.old name.now) (faults self.new name.now)) }
         ensures never_falls { (other : List ℕ) → faults self.old other ≤ faults self.new other }
         ensures others { (other : List ℕ) → other ≢ name.now → (lacks self.old name.now ≡ true → lacks self.old other ≡ false) → faults self.new other ≡ faults self.old other }
+
+        // Reads are counted by name, and so are the bytes that they gave.
+        ensures one_read { reads self.new name.now ≤ reads self.old name.now + 1 }
+        ensures gives { given self.new name.now ≤ given self.old name.now + result_unwrap_or result 0 }
+        ensures other_reads { (other : List ℕ) → other ≢ name.now → reads self.new other ≡ reads self.old other }
+        ensures other_given { (other : List ℕ) → other ≢ name.now → given self.new other ≡ given self.old other }
 
         // What it holds and lacks stays.
         ensures holds { held self.new ≡ held self.old }
@@ -130,6 +143,12 @@ pub fn read_all<S: Shelf>(
     ensures failed { IsErrOf result ReadError.Fault → Rose (S.faults shelf.old name.now) (S.faults shelf.new name.now) }
     ensures never_falls { (other : List ℕ) → S.faults shelf.old other ≤ S.faults shelf.new other }
     ensures others { (other : List ℕ) → other ≢ name.now → (S.lacks shelf.old name.now ≡ true → S.lacks shelf.old other ≡ false) → S.faults shelf.new other ≡ S.faults shelf.old other }
+
+    // It is read once at most, and no other name is read.
+    ensures through { IfOk result (λ bytes. IsReadOnce (S.reads shelf.old name.now) (S.reads shelf.new name.now) (S.given shelf.old name.now) (S.given shelf.new name.now) (length bytes.items)) }
+    ensures once { IfSome (S.held shelf.old name.now) (λ all. IsReadOnce (S.reads shelf.old name.now) (S.reads shelf.new name.now) (S.given shelf.old name.now) (S.given shelf.new name.now) (length all)) }
+    ensures other_reads { (other : List ℕ) → other ≢ name.now → S.reads shelf.new other ≡ S.reads shelf.old other }
+    ensures other_given { (other : List ℕ) → other ≢ name.now → S.given shelf.new other ≡ S.given shelf.old other }
 
     // What the shelf holds and lacks stays.
     ensures holds { S.held shelf.new ≡ S.held shelf.old }

@@ -1,6 +1,7 @@
 // A shelf and a sink in memory, whose failures are listed beforehand.
-ghost use Rattle.std.specs.Prelude.{◌≡◌, ◌≢◌, ◌<◌, ◌≤◌, ◌-◌, ◌++◌, [], ◌∷◌, ◌&&◌, ◌||◌, ◌==◌, not, List, ℕ, Bool, Some, None, true, false, is_none, is_ok, is_err, nat_le, length, take, min, if◌then◌else◌, vec_capacity, string_bytes, IsOk, IsErr, IfOk, IfSome, OnOk, OnErr, option_copied};
+ghost use Rattle.std.specs.Prelude.{◌≡◌, ◌≢◌, ◌<◌, ◌≤◌, ◌-◌, ◌+◌, ◌++◌, [], ◌∷◌, ◌&&◌, ◌||◌, ◌==◌, not, List, ℕ, Bool, Some, None, true, false, is_none, is_ok, is_err, nat_le, length, take, min, if◌then◌else◌, vec_capacity, string_bytes, IsOk, IsErr, IfOk, IfSome, OnOk, OnErr, option_copied};
 ghost use Rattle.std.specs.Io.KnownBytes.{Appends};
+ghost use Rattle.std.specs.Result.{result_unwrap_or};
 ghost use Rattle.std.specs.List.{list_any};
 ghost use Rattle.std.specs.Str.{bytes_eq};
 ghost use Rattle.causal_io.specs.Causes.{risen, Rose};
@@ -12,11 +13,12 @@ use crate::{Failed, Shelf, Sink};
 use std::alloc::{AllocError, Global};
 use std::collections::BTreeMap;
 
-/// What stands under a name, and the reads of it so far.
+/// What stands under a name, the reads of it so far, and how many bytes they gave.
 #[derive(Drop)]
 struct Text {
     content: Vec<u8>,
     reads: u64,
+    given: u64,
     faults: FaultCount,
 }
 
@@ -71,6 +73,7 @@ impl MemoryShelf {
                 let text = Text {
                     content,
                     reads: 0,
+                    given: 0,
                     faults: self.lacked,
                 };
                 self.texts.insert(name, text)?;
@@ -135,7 +138,7 @@ fn copy_front(from: &[u8], into: &mut [u8]) -> usize
 }
 
 impl Shelf for MemoryShelf {
-    ghost use Rattle.causal_io.specs.MemoryShelf.{held_in, lacks_in, faults_in, reads_in, is_to_fail};
+    ghost use Rattle.causal_io.specs.MemoryShelf.{held_in, lacks_in, faults_in, reads_in, given_in, is_to_fail};
     ghost use Rattle.causal_io.specs.Laws.{faults_shared, faults_capped};
 
     ghost held = { held_in };
@@ -143,6 +146,10 @@ impl Shelf for MemoryShelf {
     ghost lacks = { lacks_in };
 
     ghost faults = { faults_in };
+
+    ghost reads = { reads_in };
+
+    ghost given = { given_in };
 
     ghost share = { faults_shared };
 
@@ -165,6 +172,10 @@ impl Shelf for MemoryShelf {
         ensures read { lacks_in self.old name.now ≡ false → reads_in self.new name.now ≡ risen (reads_in self.old name.now) }
         ensures other_reads { (other : List ℕ) → other ≢ name.now → reads_in self.new other ≡ reads_in self.old other }
 
+        // And the bytes that they gave.
+        ensures gives { given_in self.new name.now ≤ given_in self.old name.now + result_unwrap_or result 0 }
+        ensures other_given { (other : List ℕ) → other ≢ name.now → given_in self.new other ≡ given_in self.old other }
+
         // What it holds and lacks, and which reads are to fail, stays.
         ensures holds { (other : List ℕ) → held_in self.new other ≡ held_in self.old other }
         ensures failing { (other : List ℕ) (call : ℕ) → is_to_fail self.new other call ≡ is_to_fail self.old other call }
@@ -179,7 +190,9 @@ impl Shelf for MemoryShelf {
             text.faults.rise();
             return Err(Failed);
         }
-        Ok(read_part(text.content.as_slice(), from, into))
+        let count = read_part(text.content.as_slice(), from, into);
+        text.given = text.given.saturating_add(count as u64);
+        Ok(count)
     }
 }
 

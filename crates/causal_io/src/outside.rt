@@ -1,7 +1,7 @@
 // Files, and writers whose failures are counted. They don't tell what they hold or take.
 ghost use Rattle.std.proofs.lemmas.Bool.{false≢true};
-ghost use Rattle.std.specs.Prelude.{◌≡◌, ◌<◌, ◌≤◌, ◌^◌, ◌-◌, min, List, ℕ, None, Ok, false, refl, length, ◌≢◌, true, IsErr, IfOk, IfSome, OnOk, OnErr, string_bytes};
-ghost use Rattle.std.specs.Io.KnownBytes.{WriteAppends};
+ghost use Rattle.std.specs.Prelude.{◌≡◌, ◌<◌, ◌≤◌, ◌^◌, ◌-◌, ◌+◌, min, List, ℕ, None, Ok, false, refl, length, ◌≢◌, true, IsErr, IfOk, IfSome, OnOk, OnErr, string_bytes, codes};
+ghost use Rattle.std.specs.Io.KnownBytes.{WriteAppends, ReadConsumes, IsAtEnd};
 ghost use Rattle.causal_io.specs.Causes.{risen, Rose};
 ghost use Rattle.causal_io.specs.Words.{word_place};
 
@@ -125,6 +125,9 @@ fn read_file<R: Files>(
     into: &mut [u8],
 ) -> Result<usize, Failed>
     ensures bound { IfOk result (λ count. count ≤ length into.old) }
+    ensures word { OnOk result (IfSome «open».new (λ o. o.word ≡ word)) }
+    ensures place { IfOk result (λ count. IfSome «open».new (λ o. o.place ≡ min (from + count) (2 ^ 64 - 1))) }
+    ensures end { IfOk result (λ count. count ≡ 0 → 0 < length into.new → IfSome «open».new (λ o. IsAtEnd (⟦<R::File as Read>⟧.remaining o.file))) }
 {
     let mut opened = match open.take() {
         Some(opened) if opened.word == word && opened.place == from => opened,
@@ -134,7 +137,7 @@ fn read_file<R: Files>(
             file: open_at(rt, name, from)?,
         },
     };
-    let count = opened.file.read(into).map_err(|_| Failed)?;
+    let count = read_next(&mut opened.file, into)?;
     opened.place = from.saturating_add(count as u64);
     *open = Some(opened);
     Ok(count)
@@ -142,6 +145,7 @@ fn read_file<R: Files>(
 
 fn read_next<R: Read>(reader: &mut R, into: &mut [u8]) -> Result<usize, Failed>
     ensures bound { IfOk result (λ count. count ≤ length into.old) }
+    ensures bytes { ReadConsumes (R.remaining reader.old) (R.remaining reader.new) result into.new }
 {
     reader.read(into).map_err(|_| Failed)
 }
@@ -156,6 +160,10 @@ impl<'a, R: Files + Input> Shelf for FileShelf<'a, R> {
 
     ghost faults = { λ s name. faults_at s.words.now s.counts.items name };
 
+    ghost reads = { λ _ _. 0 };
+
+    ghost given = { λ _ _. 0 };
+
     ghost share = { λ s a b p q. absurd (false≢true p) };
 
     ghost capped = { λ s name. faults_at_capped s.words.now s.counts.items name };
@@ -165,6 +173,7 @@ impl<'a, R: Files + Input> Shelf for FileShelf<'a, R> {
         requires { 0 < length into.old }
         ensures absent { word_place self.old.words.now name.now ≡ None → result ≡ Ok 0 }
         ensures words { self.new.words ≡ self.old.words }
+        ensures stream { name.now ≡ codes "-" → word_place self.old.words.now name.now ≢ None → ReadConsumes (⟦<R::Reader as Read>⟧.remaining self.old.input) (⟦<R::Reader as Read>⟧.remaining self.new.input) result into.new }
         ensures bound { IfOk result (λ count. count ≤ length into.old) }
         ensures ok { OnOk result ((other : List ℕ) → ⟦<FileShelf<'a, R> as Shelf>⟧.faults self.new other ≡ ⟦<FileShelf<'a, R> as Shelf>⟧.faults self.old other) }
         ensures err { OnErr result (⟦<FileShelf<'a, R> as Shelf>⟧.faults self.new name.now ≡ risen (⟦<FileShelf<'a, R> as Shelf>⟧.faults self.old name.now)) }

@@ -33,6 +33,10 @@ impl Shelf for SureShelf {
 
     ghost faults = { λ _ _. 0 };
 
+    ghost reads = { λ _ _. 0 };
+
+    ghost given = { λ _ _. 0 };
+
     ghost share = { λ s a b p q. refl };
 
     ghost capped = { λ s name. zero_capped };

@@ -74,6 +74,10 @@ impl<'a> Shelf for SpanShelf<'a> {
 
     ghost faults = { faults_in };
 
+    ghost reads = { λ _ _. 0 };
+
+    ghost given = { λ _ _. 0 };
+
     ghost share = { faults_shared };
 
     ghost capped = { faults_capped };

@@ -1,4 +1,4 @@
-use Rattle.std.proofs.Common.{refl}
+use Rattle.std.proofs.Common.{refl, lit≤, arith}
 use Rattle.std.proofs.lemmas.Bool.{false≢true}
 use Rattle.causal_io.proofs.outside.FileShelfShelf.TheImpl.Goals as goal
 
@@ -11,6 +11,10 @@ read-tells g c = record {
   failed = c.ensures.failed;
   never_falls = c.ensures.never_falls;
   others = λ other apart _. c.ensures.others other apart;
+  one_read = lit≤ tt;
+  gives = omega arith;
+  other_reads = λ other apart. refl;
+  other_given = λ other apart. refl;
   holds = refl;
   lack = refl;
 }
