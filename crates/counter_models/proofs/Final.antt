@@ -16,7 +16,7 @@ use Rattle.parity_models.specs.Pairs.{first_model, second_model, event_odd, even
 use Rattle.finite_models.specs.Agreement.{AgreeObserved}
 use Rattle.parity_models.specs.Laws.{DifferAt}
 use Rattle.parity_models.proofs.ParityLaws.{odd-congr}
-use Rattle.parity_models.proofs.Witness.{fit_one, fit_two, positive_one, positive_two, agree_observed, half, more, effects}
+use Rattle.parity_models.proofs.Witness.{fit_one, fit_two, positive_one, positive_two, agree_observed, half, more, effects, effects_each}
 use Rattle.counter_models.specs.Events.{carried_sum, even_weight, IsProperModel, AreCounterModels}
 use Rattle.counter_models.specs.Pairs.{IsPairOf, in_first, in_second}
 use Rattle.counter_models.specs.Theory.{data_of, inner_entries}
@@ -141,7 +141,21 @@ module _ (g : MixedGraph) (graph : IsMixedGraph g) (few : g.vertices ≤ 64) (x 
   noise_is : pair.noise ≡ noise_of d
   noise_is = let a = is.noise in let l = links in omega arith
 
+  in_first_sizes : (s : ℕ → ℕ) → IsAssignment g.vertices (size_of d) s → IsAssignment g.vertices (λ v. slice_index pair.first.sizes.items v) s
+  in_first_sizes s a v lt = let z = is.first.sizes v lt in let q = a v lt in omega arith
+
+  -- where the models of the theory differ, these do
+  differ : DifferAt (first_model g.vertices d) (second_model g.vertices d) (has x) (has y) → DifferAt (meaning g pair.first) (meaning g pair.second) (has x) (has y)
+  differ e =
+      let back = in_first_sizes e.at e.within in
+      record {
+        at = e.at;
+        within = back;
+        unequal = λ q. e.unequal (sym (ap₂ (λ p r. p * r) (one_same (has x) (has y) e.at back) t_two) ∙ q ∙ ap₂ (λ p r. p * r) (two_same (has x) (has y) e.at (first_to_second e.at back)) t_one);
+      }
+
   pub counter : AreCounterModels g x y pair
+  unfolding differ
   counter = record {
     first = proper_one;
     second = proper_two;
@@ -149,15 +163,6 @@ module _ (g : MixedGraph) (graph : IsMixedGraph g) (few : g.vertices ≤ 64) (x 
     half = λ a inside. ap (λ r. 2 * r) (even_same g graph x pair.first fits_one (first_model g.vertices d) (fit_one g graph (has x) d w) al_one d pair.event.bits a inside parity_one) ∙ half g graph (has x) d w a (in_one a inside) ∙ sym t_one;
     more = λ a inside. ap₂ (λ k r. 2 ^ (k + 1) * r) noise_is (even_same g graph x pair.second fits_two (second_model g.vertices d) (fit_two g graph (has x) d w) al_two d pair.event.bits a inside parity_two)
         ∙ more g graph (has x) d w a (in_two a inside) ∙ sym (ap₂ (λ k r. (2 ^ k + 1) * r) noise_is t_two);
-    effects = record {
-      at = e.at;
-      within = back;
-      unequal = λ q. e.unequal (sym (ap₂ (λ p r. p * r) (one_same (has x) (has y) e.at back) t_two) ∙ q ∙ ap₂ (λ p r. p * r) (two_same (has x) (has y) e.at (first_to_second e.at back)) t_one);
-    };
+    effects = differ (effects g graph (has x) d w);
+    each = λ a inside. let e = effects_each g graph (has x) d w a (in_one a inside) in (differ e.0, e.1);
   }
-    where
-      e : DifferAt (first_model g.vertices d) (second_model g.vertices d) (has x) (has y)
-      e = effects g graph (has x) d w
-
-      back : IsAssignment g.vertices (λ v. slice_index pair.first.sizes.items v) e.at
-      back v lt = let z = is.first.sizes v lt in let q = e.within v lt in omega arith
