@@ -1,0 +1,4 @@
+pub mod Listing
+pub mod OtherAncestors
+pub mod Others
+pub mod Thinning

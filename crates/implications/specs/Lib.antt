@@ -1,0 +1,4 @@
+pub mod Implications
+pub mod Laws
+pub mod Separable
+pub mod Steps

@@ -1,0 +1,7 @@
+ghost use Rattle.implications.specs.Laws.{OtherAncestorsSeparate};
+
+/// The law of the pairs that some set separates.
+pub fn laws()
+    // Where any set separates two vertices, their other ancestors do, also in graphs with bidirected edges.
+    ensures ancestors { OtherAncestorsSeparate }
+{}
