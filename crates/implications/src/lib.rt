@@ -5,6 +5,8 @@
 
 mod pairs;
 mod sets;
+#[cfg(test)]
+mod tests;
 mod theory;
 
 pub use pairs::{Implication, implications};
