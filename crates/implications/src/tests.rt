@@ -25,7 +25,14 @@ fn a_chain_beside_a_bidirected_edge(rt: HostRuntime) -> Result<(), Fail> {
     let g = graph(4, &[(0, 1), (1, 2), (2, 3)], &[(1, 3)]).ok_or("no graph")?;
     let list = implications(rt.alloc(), &g)?;
     assert_eq!(rt; list.len(), 1);
-    assert_eq!(rt; list[0], Implication { a: 0, b: 2, given: VSet { bits: 2 } });
+    assert_eq!(rt;
+        list[0],
+        Implication {
+            a: 0,
+            b: 2,
+            given: VSet { bits: 2 }
+        }
+    );
     Ok(())
 }
 
@@ -35,7 +42,21 @@ fn one_of_two_other_ancestors_is_enough(rt: HostRuntime) -> Result<(), Fail> {
     let g = graph(4, &[(0, 1), (1, 2), (0, 3), (1, 3)], &[]).ok_or("no graph")?;
     let list = implications(rt.alloc(), &g)?;
     assert_eq!(rt; list.len(), 2);
-    assert_eq!(rt; list[0], Implication { a: 0, b: 2, given: VSet { bits: 2 } });
-    assert_eq!(rt; list[1], Implication { a: 2, b: 3, given: VSet { bits: 2 } });
+    assert_eq!(rt;
+        list[0],
+        Implication {
+            a: 0,
+            b: 2,
+            given: VSet { bits: 2 }
+        }
+    );
+    assert_eq!(rt;
+        list[1],
+        Implication {
+            a: 2,
+            b: 3,
+            given: VSet { bits: 2 }
+        }
+    );
     Ok(())
 }
