@@ -1,0 +1,5 @@
+pub mod Agreeing
+pub mod Vanishing
+pub mod Walking
+pub mod Writing
+pub mod Zero

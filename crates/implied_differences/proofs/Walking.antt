@@ -1,0 +1,254 @@
+-- The walk over the cells of an implication.
+use Rattle.std.proofs.Common.{ℕ, zero, suc, ◌+◌, ◌*◌, ◌/◌, ◌%◌, ◌≡◌, ◌≢◌, ◌<◌, ◌≤◌, true, cond, ◌||◌, List, [], ◌∷◌, length, get_or, All, refl, sym, ap, ap₂, subst, ◌∙◌, inl, inr, ◌⊎◌, arith}
+use Rattle.std.specs.Prelude.{pos, ◌-ℤ◌}
+use Rattle.std.specs.Int.{abs_diff}
+use Rattle.std.specs.List.{filter}
+use Rattle.std.proofs.lemmas.Bool.{cases_lt, or_cases, or_left, or_right, eqb-true, eq-eqb, ltb-true}
+use Rattle.std.proofs.lemmas.Bool.Decides.{eqb_tells}
+use Rattle.std.proofs.lemmas.List.Elements.{All-cons, All-head, All-tail}
+use Rattle.std.proofs.lemmas.Nat.{div_below}
+use Rattle.mixed_graph.specs.Bits.{has}
+use Rattle.count_rows.specs.Records.{Field}
+use Rattle.count_rows.specs.Rows.{Table}
+use Rattle.count_table.specs.Cells.{IsCell, place_of}
+use Rattle.count_table.specs.Tables.{levels_in, AreCounts, HasLevels}
+use Rattle.count_table.proofs.CellLists.{place_of-lt}
+use Rattle.count_eval.specs.Programs.{cell_of}
+use Rattle.sum_tables.specs.Axes.{Axes, axes_of, HasCell, cell_at, place_at, cells_over}
+use Rattle.sum_tables.proofs.CellLevels.{has_levels, outside_of}
+use Rattle.sum_tables.proofs.Choosing.{size_in}
+use Rattle.sum_tables.proofs.Lists.{same-map}
+use Rattle.sum_tables.proofs.Placing.{same_place}
+use Rattle.implications.specs.declared.pairs.Implication.{Implication}
+use Rattle.implications.specs.Separable.{only}
+use Rattle.implied_differences.specs.declared.largest.Candidate.{Candidate}
+use Rattle.implied_differences.specs.declared.largest.Difference.{Difference}
+use Rattle.implied_differences.specs.Differences.{whole_of, difference, distance, IsReadable, axes_in, IsLargest}
+use Rattle.implied_differences.specs.Candidates.{HasProducts, IsAt}
+use Rattle.implied_differences.proofs.Agreeing.{whole_holds, left_same, right_same}
+
+-- the absolute value of a candidate's difference
+abbrev pub gap : Candidate → ℕ
+gap c = abs_diff c.left c.right
+
+module _ (t : Table) (i : Implication) where
+  abbrev pub IsCellIn : (ℕ → ℕ) → Type 0
+  IsCellIn s = IsCell (axes_in t i).sizes (cell_at (axes_in t i) s)
+
+  -- the best of the first n cells
+  pub record IsBest (n : ℕ) (c : Candidate) : Type 0 where
+    pub number : ℕ
+    pub at : IsAt t i number c
+    pub greatest : (s : ℕ → ℕ) → IsCellIn s → place_at (axes_in t i) s < n → distance t i s ≤ gap c
+    pub first : (s : ℕ → ℕ) → IsCellIn s → place_at (axes_in t i) s < number → distance t i s < gap c
+
+  own_gap : (c : Candidate) → HasProducts t i c → gap c ≡ distance t i (cell_of c.cell)
+  own_gap c p = ap₂ abs_diff p.left_is p.right_is
+
+  -- an assignment with the place of a candidate has its difference
+  same_gap : (number : ℕ) (c : Candidate) → IsAt t i number c → (s : ℕ → ℕ) → IsCellIn s → place_at (axes_in t i) s ≡ number → distance t i s ≡ gap c
+  same_gap number c at s h e =
+      let agree = same-map s (cell_of c.cell) (axes_in t i).vertices (same_place (axes_in t i).sizes (cell_at (axes_in t i) s) (cell_at (axes_in t i) (cell_of c.cell)) h at.cell.cell (e ∙ sym at.place)) in
+      let whole = whole_holds i (λ v. s v ≡ cell_of c.cell v) t.vertices agree in
+      ap₂ abs_diff (left_same t i s (cell_of c.cell) whole) (right_same t i s (cell_of c.cell) whole) ∙ sym (own_gap c at.products)
+
+  at_most : (x y : ℕ) → x ≡ y → x ≤ y
+  at_most x y e = omega arith
+
+  through : (x y z : ℕ) → x ≤ y → y ≤ z → x ≤ z
+  through x y z p q = omega arith
+
+  below_through : (x y z : ℕ) → x ≤ y → y < z → x < z
+  below_through x y z p q = omega arith
+
+  pub best_first : (c : Candidate) → IsAt t i 0 c → IsBest 1 c
+  best_first c at = record {
+    number = 0;
+    at = at;
+    greatest = λ s h lt. at_most (distance t i s) (gap c) (same_gap 0 c at s h (zero_of (place_at (axes_in t i) s) lt));
+    first = λ s h lt. absurd (none (place_at (axes_in t i) s) lt);
+  }
+    where
+      zero_of : (n : ℕ) → n < 1 → n ≡ 0
+      zero_of n lt = omega arith
+
+      none : (n : ℕ) → n < 0 → ⊥
+      none n lt = omega arith
+
+  last_or_before : (p n : ℕ) → p < n + 1 → (p < n) ⊎ (p ≡ n)
+  last_or_before p n lt = elim (cases_lt p n) [
+    | inl l ↦ inl l
+    | inr m ↦ inr (omega arith)
+  ]
+
+  pub best_kept : (n : ℕ) (c e : Candidate) → IsBest n c → IsAt t i n e → gap e ≤ gap c → IsBest (n + 1) c
+  best_kept n c e b at le = record { number = b.number; at = b.at; greatest = λ s h lt. greatest s h (last_or_before (place_at (axes_in t i) s) n lt); first = b.first }
+    where
+      greatest : (s : ℕ → ℕ) → IsCellIn s → (place_at (axes_in t i) s < n) ⊎ (place_at (axes_in t i) s ≡ n) → distance t i s ≤ gap c
+      greatest s h (inl lt) = b.greatest s h lt
+      greatest s h (inr q) = through (distance t i s) (gap e) (gap c) (at_most (distance t i s) (gap e) (same_gap n e at s h q)) le
+
+  pub best_new : (n : ℕ) (c e : Candidate) → IsBest n c → IsAt t i n e → gap c < gap e → IsBest (n + 1) e
+  best_new n c e b at lt = record {
+    number = n;
+    at = at;
+    greatest = λ s h l. greatest s h (last_or_before (place_at (axes_in t i) s) n l);
+    first = λ s h l. below_through (distance t i s) (gap c) (gap e) (b.greatest s h l) lt;
+  }
+    where
+      less : (x y z : ℕ) → x ≤ y → y < z → x ≤ z
+      less x y z p q = omega arith
+
+      greatest : (s : ℕ → ℕ) → IsCellIn s → (place_at (axes_in t i) s < n) ⊎ (place_at (axes_in t i) s ≡ n) → distance t i s ≤ gap e
+      greatest s h (inl l) = less (distance t i s) (gap c) (gap e) (b.greatest s h l) lt
+      greatest s h (inr q) = at_most (distance t i s) (gap e) (same_gap n e at s h q)
+
+  -- the best of all cells is the largest difference
+  pub best_ends : (n : ℕ) (c : Candidate) (d : Difference) → cells_over (axes_in t i) ≤ n → IsBest n c → d.value ≡ pos c.left -ℤ pos c.right → d.cell ≡ c.cell → IsLargest t i d
+  best_ends n c d le b value cell = record {
+    cell = subst (λ (x : List ℕ). HasCell (axes_in t i) x) (sym cell) b.at.cell;
+    outside = λ v none. ap (λ (x : List ℕ). get_or x v 0) cell ∙ b.at.outside v none;
+    value = value ∙ ap₂ (λ x y. pos x -ℤ pos y) b.at.products.left_is b.at.products.right_is ∙ ap (λ (x : List ℕ). difference t i (cell_of x)) (sym cell);
+    greatest = λ s h. subst (λ m. distance t i s ≤ m) here (b.greatest s h (inside (place_at (axes_in t i) s) (place_of-lt (axes_in t i).sizes (cell_at (axes_in t i) s) h)));
+    first = λ s h lt. subst (λ m. distance t i s < m) here (b.first s h (subst (λ m. place_at (axes_in t i) s < m) (ap (λ (x : List ℕ). place_at (axes_in t i) (cell_of x)) cell ∙ b.at.place) lt));
+  }
+    where
+      here : gap c ≡ distance t i (cell_of d.cell)
+      here = own_gap c b.at.products ∙ ap (λ (x : List ℕ). distance t i (cell_of x)) (sym cell)
+
+      inside : (p : ℕ) → p < cells_over (axes_in t i) → p < n
+      inside p lt = omega arith
+
+-- ---- the cell of a number
+
+-- what holds of all used vertices holds of one that has a level
+pub levels_hold : (Q : ℕ → Type 0) (vs : List ℕ) (levels : List (List Field)) (v : ℕ) → All Q vs → 0 < length (levels_in vs levels v) → Q v
+levels_hold Q [] levels v h lt = absurd (omega arith)
+levels_hold Q (u ∷ us) [] v h lt = absurd (omega arith)
+levels_hold Q (u ∷ us) (ys ∷ levels) v h lt = elim (eqb_tells u v) [
+  | inl same ↦ subst Q same.1 (All-head Q u us h)
+  | inr other ↦
+      let e = ap (λ b. length (cond b ys (levels_in us levels v))) other.0 in
+      levels_hold Q us levels v (All-tail Q u us h) (omega (arith, lt, e))
+]
+
+module _ (t : Table) (are : AreCounts t) (i : Implication) (r : IsReadable t i) where
+  level_of : (v : ℕ) → whole_of i v ≡ true → 0 < size_in t v
+  level_of v e = ltb-true 0 (size_in t v) (r.used v e)
+
+  pub a_level : 0 < size_in t i.a
+  a_level = level_of i.a (or_left (only i.a i.a) (only i.b i.a || has i.given.bits i.a) (eq-eqb i.a i.a refl))
+
+  pub b_level : 0 < size_in t i.b
+  b_level = level_of i.b (or_right (only i.a i.b) (only i.b i.b || has i.given.bits i.b) (or_left (only i.b i.b) (has i.given.bits i.b) (eq-eqb i.b i.b refl)))
+
+  pub a_below : i.a < 64
+  a_below = levels_hold (λ v. v < 64) t.vertices t.levels i.a are.in_range a_level
+
+  pub b_below : i.b < 64
+  b_below = levels_hold (λ v. v < 64) t.vertices t.levels i.b are.in_range b_level
+
+  pub a_outside : All (λ u. u ≢ i.a) (filter (has i.given.bits) t.vertices)
+  a_outside = outside_of t (has i.given.bits) i.a r.a_apart
+
+  pub b_outside : All (λ u. u ≢ i.b) (filter (has i.given.bits) t.vertices)
+  b_outside = outside_of t (has i.given.bits) i.b r.b_apart
+
+  regroup : (a b p : ℕ) → a * (b * p) ≡ (a * b) * p
+  regroup a b p = grind arith
+
+  -- the number of cells
+  pub cells_are : (p : ℕ) → p ≡ cells_over (axes_of t (has i.given.bits)) → (size_in t i.a * size_in t i.b) * p ≡ cells_over (axes_in t i)
+  cells_are p e = sym (regroup (size_in t i.a) (size_in t i.b) p) ∙ ap (λ n. size_in t i.a * (size_in t i.b * n)) e
+
+  module _ (number : ℕ) (lt : number < cells_over (axes_in t i)) where
+    some_cells : (n a b p : ℕ) → n < a * (b * p) → 0 < p
+    some_cells n a b zero l = absurd (let e : a * (b * zero) ≡ 0 = omega arith in omega (arith, l, e))
+    some_cells n a b (suc p) l = omega arith
+
+    pub given_cells : 0 < cells_over (axes_of t (has i.given.bits))
+    given_cells = some_cells number (size_in t i.a) (size_in t i.b) (cells_over (axes_of t (has i.given.bits))) lt
+
+    pair_below : number / cells_over (axes_of t (has i.given.bits)) < size_in t i.a * size_in t i.b
+    pair_below = div_below number (cells_over (axes_of t (has i.given.bits))) (size_in t i.a * size_in t i.b) given_cells
+        (subst (λ n. number < n) (regroup (size_in t i.a) (size_in t i.b) (cells_over (axes_of t (has i.given.bits)))) lt)
+
+    pub first_below : number / cells_over (axes_of t (has i.given.bits)) / size_in t i.b < size_in t i.a
+    first_below = div_below (number / cells_over (axes_of t (has i.given.bits))) (size_in t i.b) (size_in t i.a) b_level pair_below
+
+    -- what the cell of the number has
+    pub record HasDigits (cell : List ℕ) : Type 0 where
+      pub long : length cell ≡ 64
+      pub first : get_or cell i.a 0 ≡ number / cells_over (axes_of t (has i.given.bits)) / size_in t i.b
+      pub second : get_or cell i.b 0 ≡ number / cells_over (axes_of t (has i.given.bits)) % size_in t i.b
+      pub rest : HasCell (axes_of t (has i.given.bits)) cell
+      pub place : place_at (axes_of t (has i.given.bits)) (cell_of cell) ≡ number % cells_over (axes_of t (has i.given.bits))
+      pub outside : (v : ℕ) → v ≢ i.a → v ≢ i.b → All (λ u. u ≢ v) (filter (has i.given.bits) t.vertices) → get_or cell v 0 ≡ 0
+
+    -- the same, where the axes and the number of b's levels have names
+    pub digits_from : (x : Axes) (k : ℕ) (cell : List ℕ) → x ≡ axes_of t (has i.given.bits) → k ≡ size_in t i.b → length cell ≡ 64 → get_or cell i.a 0 ≡ number / cells_over x / k → get_or cell i.b 0 ≡ number / cells_over x % k
+        → HasCell x cell → place_at x (cell_of cell) ≡ number % cells_over x → ((v : ℕ) → v ≢ i.a → v ≢ i.b → All (λ u. u ≢ v) x.vertices → get_or cell v 0 ≡ 0) → HasDigits cell
+    digits_from x k cell e f l p q r s o = record {
+      long = l;
+      first = p ∙ ap₂ (λ (y : Axes) m. number / cells_over y / m) e f;
+      second = q ∙ ap₂ (λ (y : Axes) m. number / cells_over y % m) e f;
+      rest = subst (λ (y : Axes). HasCell y cell) e r;
+      place = ap (λ (y : Axes). place_at y (cell_of cell)) (sym e) ∙ s ∙ ap (λ (y : Axes). number % cells_over y) e;
+      outside = λ v na nb none. o v na nb (subst (λ (y : Axes). All (λ u. u ≢ v) y.vertices) (sym e) none);
+    }
+
+    module _ (cell : List ℕ) (d : HasDigits cell) where
+      first_less : get_or cell i.a 0 < size_in t i.a
+      first_less = subst (λ n. n < size_in t i.a) (sym d.first) first_below
+
+      second_less : get_or cell i.b 0 < size_in t i.b
+      second_less = subst (λ n. n < size_in t i.b) (sym d.second) (remainder (number / cells_over (axes_of t (has i.given.bits))) (size_in t i.b) b_level)
+        where
+          remainder : (n k : ℕ) → 0 < k → n % k < k
+          remainder n k h = omega arith
+
+      pub digits_cell : HasCell (axes_in t i) cell
+      digits_cell = record {
+        there = All-cons (λ v. v < length cell) i.a (i.b ∷ filter (has i.given.bits) t.vertices) (subst (λ n. i.a < n) (sym d.long) a_below)
+            (All-cons (λ v. v < length cell) i.b (filter (has i.given.bits) t.vertices) (subst (λ n. i.b < n) (sym d.long) b_below) d.rest.there);
+        cell = (first_less, (second_less, d.rest.cell));
+      }
+
+      whole : (n p b x y q : ℕ) → 0 < b → 0 < p → x ≡ n / p / b → y ≡ n / p % b → q ≡ n % p → x * (b * p) + (y * p + q) ≡ n
+      whole n p b x y q bp pp ex ey eq' = ap₂ (λ u v. u * (b * p) + (v * p + q)) ex ey ∙ horner (n / p / b) b (n / p % b) p q ∙ ap (λ k. k * p + q) (back (n / p) b bp) ∙ ap (λ k. n / p * p + k) eq' ∙ back n p pp
+        where
+          horner : (u b v p q : ℕ) → u * (b * p) + (v * p + q) ≡ (u * b + v) * p + q
+          horner u b v p q = grind arith
+
+          back : (n k : ℕ) → 0 < k → n / k * k + n % k ≡ n
+          back n k h = omega arith
+
+      pub digits_place : place_at (axes_in t i) (cell_of cell) ≡ number
+      unfolding place_of
+      digits_place = whole number (cells_over (axes_of t (has i.given.bits))) (size_in t i.b) (get_or cell i.a 0) (get_or cell i.b 0) (place_at (axes_of t (has i.given.bits)) (cell_of cell))
+          b_level given_cells d.first d.second d.place
+
+      pub digits_outside : (v : ℕ) → All (λ u. u ≢ v) (axes_in t i).vertices → get_or cell v 0 ≡ 0
+      digits_outside v none =
+          let rest = All-tail (λ u. u ≢ v) i.a (i.b ∷ filter (has i.given.bits) t.vertices) none in
+          d.outside v (λ e. All-head (λ u. u ≢ v) i.a (i.b ∷ filter (has i.given.bits) t.vertices) none (sym e)) (λ e. All-head (λ u. u ≢ v) i.b (filter (has i.given.bits) t.vertices) rest (sym e))
+          (All-tail (λ u. u ≢ v) i.b (filter (has i.given.bits) t.vertices) rest)
+
+      pub digits_levels : HasLevels t (whole_of i) cell
+      digits_levels v e = go (or_cases (only i.a v) (only i.b v || has i.given.bits v) e)
+        where
+          later : (only i.b v ≡ true) ⊎ (has i.given.bits v ≡ true) → (v < length cell) × (get_or cell v 0 < size_in t v)
+          later (inl f) = rw (eqb-true v i.b f) (subst (λ n. i.b < n) (sym d.long) b_below, second_less)
+          later (inr f) = has_levels t (has i.given.bits) cell (λ u h. level_of u (or_right (only i.a u) (only i.b u || has i.given.bits u) (or_right (only i.b u) (has i.given.bits u) h))) d.rest v f
+
+          go : (only i.a v ≡ true) ⊎ ((only i.b v || has i.given.bits v) ≡ true) → (v < length cell) × (get_or cell v 0 < size_in t v)
+          go (inl f) = rw (eqb-true v i.a f) (subst (λ n. i.a < n) (sym d.long) a_below, first_less)
+          go (inr f) = later (or_cases (only i.b v) (has i.given.bits v) f)
+
+      pub digits_at : (c : Candidate) → c.cell ≡ cell → HasProducts t i c → IsAt t i number c
+      digits_at c e p = record {
+        cell = subst (λ (x : List ℕ). HasCell (axes_in t i) x) (sym e) digits_cell;
+        outside = λ v none. ap (λ (x : List ℕ). get_or x v 0) e ∙ digits_outside v none;
+        place = ap (λ (x : List ℕ). place_at (axes_in t i) (cell_of x)) e ∙ digits_place;
+        products = p;
+      }

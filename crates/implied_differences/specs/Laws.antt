@@ -1,0 +1,26 @@
+-- What the differences have to do with models.
+use Rattle.std.specs.Prelude.{ℕ, ◌≡◌, IsTrue, pos}
+use Rattle.mixed_graph.specs.Graphs.{MixedGraph, IsMixedGraph}
+use Rattle.finite_models.specs.Models.{FiniteModel, Fits, IsAssignment}
+use Rattle.count_rows.specs.Rows.{Table}
+use Rattle.count_table.specs.Cells.{total}
+use Rattle.count_eval.specs.Laws.{IsMatched}
+use Rattle.count_eval.specs.Programs.{weights_in, is_used}
+use Rattle.implications.specs.declared.pairs.Implication.{Implication}
+use Rattle.implications.specs.Implications.{IsImplication}
+use Rattle.implied_differences.specs.Differences.{whole_of, difference}
+use Rattle.implied_differences.specs.declared.largest.Difference.{Difference}
+
+-- the model fits the graph, positive or not, and its observed weights are those of the counts, up to one factor
+pub record IsMatchedBy (g : MixedGraph) (t : Table) (m : FiniteModel) : Type 0 where
+  pub fits : Fits g m
+  pub matched : IsMatched (is_used t) (weights_in g.vertices t) (total t.rows) m
+
+-- in such a model each difference of each implication is 0
+abbrev pub MatchedDifferencesVanish : Type 0
+MatchedDifferencesVanish = (g : MixedGraph) → IsMixedGraph g → (i : Implication) → IsImplication g i → (t : Table) → ((v : ℕ) → IsTrue (whole_of i v) → IsTrue (is_used t v))
+    → (m : FiniteModel) → IsMatchedBy g t m → (s : ℕ → ℕ) → IsAssignment m.vertices m.size s → difference t i s ≡ pos 0
+
+-- so the difference is 0 wherever there is such a model of a graph with the implication
+abbrev pub IsZeroWhereMatched : Table → Implication → Difference → Type 0
+IsZeroWhereMatched t i d = (g : MixedGraph) → IsMixedGraph g → IsImplication g i → (m : FiniteModel) → IsMatchedBy g t m → d.value ≡ pos 0

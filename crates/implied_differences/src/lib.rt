@@ -1,0 +1,12 @@
+//! How far a table of counts is from a testable implication: the cross differences of its counts, which are 0 where it holds exactly.
+//!
+//! `largest_difference(alloc, &counts, &implication)` gives the largest one, and where it is.
+#![tactic(auto)]
+
+mod cells;
+mod largest;
+mod sets;
+mod theory;
+
+pub use largest::{Difference, largest_difference};
+pub use theory::laws;
