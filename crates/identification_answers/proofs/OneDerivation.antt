@@ -23,11 +23,11 @@ module _ (g : MixedGraph) (o : List ℕ) where
   body_one : (from : Source) (a t : ℕ) (l m : Plans) → AreBodySteps g o from a t l → AreBodySteps g o from a t m → l ≡ m
   body_one from a t l m b c = b.is ∙ (ap (body_steps (in_order t o)) (places_one from a t 0 o b.lists c.lists b.are c.are) ∙ sym c.is)
 
-  record Same (ls : List PlainLemma) (l : Plans) (ms : List PlainLemma) (m : Plans) : Type 0 where
-    lemmas : ls ≡ ms
-    steps : l ≡ m
+  pub record Same (ls : List PlainLemma) (l : Plans) (ms : List PlainLemma) (m : Plans) : Type 0 where
+    pub lemmas : ls ≡ ms
+    pub steps : l ≡ m
 
-  factor_one : (c a : ℕ) (from : Source) (k : ℕ) (ls : List PlainLemma) (l : Plans) (ms : List PlainLemma) (m : Plans) → AreFactorSteps g o c a from k ls l → AreFactorSteps g o c a from k ms m → Same ls l ms m
+  pub factor_one : (c a : ℕ) (from : Source) (k : ℕ) (ls : List PlainLemma) (l : Plans) (ms : List PlainLemma) (m : Plans) → AreFactorSteps g o c a from k ls l → AreFactorSteps g o c a from k ms m → Same ls l ms m
   factor_one c a from k _ l _ m (whole d b) (whole d2 b2) = record { lemmas = refl; steps = body_one from a c l m b b2 }
   factor_one c a from k _ l _ _ (whole d b) (summed {t = t} d2 ne n b2) = absurd (ne (one_set t c _ d2 d))
   factor_one c a from k _ l _ m (whole d b) (further {t = t} d2 ne n p q b2 r) = absurd (ne (one_set t c _ d2 d))

@@ -1,0 +1,15 @@
+use Rattle.surrogate_theory.proofs.Answered.{derived_is_surrogate, surrogate_is_accepted, surrogate_is_formed, stop_has_hedge, stop_is_first_blocked, blocked_excludes_formula, one_surrogate, one_stop_with, plain_comes_first}
+use Rattle.surrogate_theory.proofs.theory.laws.Goals as goal
+
+pub returns : goal.returns
+returns c = record {
+  derived = derived_is_surrogate;
+  accepted = surrogate_is_accepted;
+  formed = surrogate_is_formed;
+  hedge = stop_has_hedge;
+  first_blocked = stop_is_first_blocked;
+  excludes = blocked_excludes_formula;
+  one_formula = one_surrogate;
+  one_stop = one_stop_with;
+  plain_first = plain_comes_first;
+}

@@ -1,0 +1,15 @@
+ghost use Rattle.surrogate_theory.specs.Laws.{DerivedIsSurrogate, SurrogateIsAccepted, SurrogateIsFormed, StopHasHedge, StopIsFirstBlocked, BlockedExcludesFormula, OneSurrogate, OneStopWith, PlainComesFirst};
+
+/// What follows from the definition of the procedure over experiments, about each formula that it
+/// answers and each place where it stops.
+pub fn laws()
+    ensures derived { DerivedIsSurrogate }
+    ensures accepted { SurrogateIsAccepted }
+    ensures formed { SurrogateIsFormed }
+    ensures hedge { StopHasHedge }
+    ensures first_blocked { StopIsFirstBlocked }
+    ensures excludes { BlockedExcludesFormula }
+    ensures one_formula { OneSurrogate }
+    ensures one_stop { OneStopWith }
+    ensures plain_first { PlainComesFirst }
+{}
