@@ -6,15 +6,17 @@ use Rattle.mixed_graph.specs.Graphs.{MixedGraph, IsMixedGraph}
 use Rattle.m_separation.specs.declared.paths.OpenPath.{OpenPath}
 use Rattle.m_separation.specs.Paths.{IsOpenPath}
 use Rattle.replies.proofs.PathsBelow.{path_below}
-use Rattle.surgery.specs.Cuts.{cut_into, cut_out}
-use Rattle.surgery.proofs.Fewer.{graph_into, graph_out}
+use Rattle.do_rules.specs.Rules.{IsOpenFor}
+use Rattle.do_rules.specs.declared.rules.Rule.{Rule}
+use Rattle.do_rules.specs.declared.rules.Rule.TheVariants.{One, Two, Three}
+use Rattle.do_rules.proofs.RuleGraphs.{cut_graph}
 use Rattle.prob_expr.specs.Check.{cap}
 use Rattle.prob_expr.specs.Masks.{join, minus, all, is_empty}
 use Rattle.prob_expr.specs.Tree.{Tree, prob, sum, product, quotient, named, PlainFormula, PlainTarget, term_of}
 use Rattle.do_derivation.specs.Plans.{Move, Plan, Plans, no_plans, plan, numbered, PlainLemma, PlainDerivation}
 use Rattle.do_derivation.specs.Shapes.{child, is_list_of, chained, unchained, grouped, narrowed, unwrapped}
-use Rattle.do_derivation.specs.Table.{Rule, Row, row, on_term, if_so, if_made, is_new, is_part}
-use Rattle.do_derivation.specs.Steps.{Fails, IsRefused, Refuses, RefusesAny}
+use Rattle.do_derivation.specs.Table.{Row, row, on_term, if_so, if_made, is_new, is_part}
+use Rattle.do_derivation.specs.Steps.{IsRefused, Refuses, RefusesAny}
 use Rattle.do_derivation.specs.Accepts.{AcceptsNot, DefinesNot, EndsNot, start_of, sets_of}
 use Rattle.do_derivation.specs.declared.faults.StepFault.{StepFault}
 use Rattle.do_derivation.specs.declared.faults.StepFault.TheVariants.{Sets, BadOrder, Grouping, NoLemma, NoPlace, Shape}
@@ -24,12 +26,10 @@ use Rattle.check_command.specs.Replies.{IsLowPath, HasLowPath, IsLowFault}
 low : (g : MixedGraph) → IsMixedGraph g → (x y w : ℕ → Bool) (p : OpenPath) → IsOpenPath g x y w p.vertices p.marks p.count → IsLowPath g.vertices p
 low g valid x y w p h = record { some = h.some; few = h.few; low = λ i lt. path_below g valid x y w p.vertices p.marks p.count h i lt }
 
-open_low : (g : MixedGraph) → IsMixedGraph g → (r : Rule) (x y z w : ℕ) (p : OpenPath) → Fails g r x y z w p → IsLowPath g.vertices p
-open_low g valid Rule.One x y z w p h = low (cut_into g (has x)) (graph_into g (has x) valid) (has y) (has z) (λ v. has x v || has w v) p h
-open_low g valid Rule.Two x y z w p h =
-    low (cut_out (cut_into g (has x)) (has z)) (graph_out (cut_into g (has x)) (has z) (graph_into g (has x) valid)) (has y) (has z) (λ v. has x v || has w v) p h
-open_low g valid Rule.Three x y z w p h =
-    low (cut_into (cut_into g (has x)) h.part) (graph_into (cut_into g (has x)) h.part (graph_into g (has x) valid)) (has y) (has z) (λ v. has x v || has w v) p h.path
+open_low : (g : MixedGraph) → IsMixedGraph g → (r : Rule) (x y z w : ℕ → Bool) (p : OpenPath) → IsOpenFor r g x y z w p → IsLowPath g.vertices p
+open_low g valid r x y z w p h =
+    let cut = cut_graph r g valid x z w h.graph h.is_graph in
+    subst (λ n. IsLowPath n p) cut.1 (low h.graph cut.0 y z (λ v. x v || w v) p h.path)
 
 -- a row that refuses at once has no path, or one below n
 abbrev IsLowRow : ℕ → Row → Type 0
@@ -53,12 +53,12 @@ low_term n f (quotient p q) h = tt
 low_term n f (named k) h = tt
 
 low_row : (n : ℕ) (lemmas : List ℕ) (m : Move) (e : Tree) → IsLowRow n (row n lemmas m e)
-low_row n lemmas (Move.Rule1In z) e = low_term n (λ a b c. if_so (is_new n z a b c) (Row.Ask Rule.One b a z c (prob a b (join c z))) Sets) e (λ a b c. low_if n (is_new n z a b c) (Row.Ask Rule.One b a z c (prob a b (join c z))) Sets tt tt)
-low_row n lemmas (Move.Rule1Out z) e = low_term n (λ a b c. if_so (is_part z c) (Row.Ask Rule.One b a z (minus c z) (prob a b (minus c z))) Sets) e (λ a b c. low_if n (is_part z c) (Row.Ask Rule.One b a z (minus c z) (prob a b (minus c z))) Sets tt tt)
-low_row n lemmas (Move.Rule2See z) e = low_term n (λ a b c. if_so (is_part z b) (Row.Ask Rule.Two (minus b z) a z c (prob a (minus b z) (join c z))) Sets) e (λ a b c. low_if n (is_part z b) (Row.Ask Rule.Two (minus b z) a z c (prob a (minus b z) (join c z))) Sets tt tt)
-low_row n lemmas (Move.Rule2Do z) e = low_term n (λ a b c. if_so (is_part z c) (Row.Ask Rule.Two b a z (minus c z) (prob a (join b z) (minus c z))) Sets) e (λ a b c. low_if n (is_part z c) (Row.Ask Rule.Two b a z (minus c z) (prob a (join b z) (minus c z))) Sets tt tt)
-low_row n lemmas (Move.Rule3In z) e = low_term n (λ a b c. if_so (is_new n z a b c) (Row.Ask Rule.Three b a z c (prob a (join b z) c)) Sets) e (λ a b c. low_if n (is_new n z a b c) (Row.Ask Rule.Three b a z c (prob a (join b z) c)) Sets tt tt)
-low_row n lemmas (Move.Rule3Out z) e = low_term n (λ a b c. if_so (is_part z b) (Row.Ask Rule.Three (minus b z) a z c (prob a (minus b z) c)) Sets) e (λ a b c. low_if n (is_part z b) (Row.Ask Rule.Three (minus b z) a z c (prob a (minus b z) c)) Sets tt tt)
+low_row n lemmas (Move.Rule1In z) e = low_term n (λ a b c. if_so (is_new n z a b c) (Row.Ask One b a z c (prob a b (join c z))) Sets) e (λ a b c. low_if n (is_new n z a b c) (Row.Ask One b a z c (prob a b (join c z))) Sets tt tt)
+low_row n lemmas (Move.Rule1Out z) e = low_term n (λ a b c. if_so (is_part z c) (Row.Ask One b a z (minus c z) (prob a b (minus c z))) Sets) e (λ a b c. low_if n (is_part z c) (Row.Ask One b a z (minus c z) (prob a b (minus c z))) Sets tt tt)
+low_row n lemmas (Move.Rule2See z) e = low_term n (λ a b c. if_so (is_part z b) (Row.Ask Two (minus b z) a z c (prob a (minus b z) (join c z))) Sets) e (λ a b c. low_if n (is_part z b) (Row.Ask Two (minus b z) a z c (prob a (minus b z) (join c z))) Sets tt tt)
+low_row n lemmas (Move.Rule2Do z) e = low_term n (λ a b c. if_so (is_part z c) (Row.Ask Two b a z (minus c z) (prob a (join b z) (minus c z))) Sets) e (λ a b c. low_if n (is_part z c) (Row.Ask Two b a z (minus c z) (prob a (join b z) (minus c z))) Sets tt tt)
+low_row n lemmas (Move.Rule3In z) e = low_term n (λ a b c. if_so (is_new n z a b c) (Row.Ask Three b a z c (prob a (join b z) c)) Sets) e (λ a b c. low_if n (is_new n z a b c) (Row.Ask Three b a z c (prob a (join b z) c)) Sets tt tt)
+low_row n lemmas (Move.Rule3Out z) e = low_term n (λ a b c. if_so (is_part z b) (Row.Ask Three (minus b z) a z c (prob a (minus b z) c)) Sets) e (λ a b c. low_if n (is_part z b) (Row.Ask Three (minus b z) a z c (prob a (minus b z) c)) Sets tt tt)
 low_row n lemmas (Move.Chain o) e = low_term n (λ a b c. if_so (leb 2 (length o) && is_list_of o a) (Row.Make (product (chained b c o))) BadOrder) e (λ a b c. low_if n (leb 2 (length o) && is_list_of o a) (Row.Make (product (chained b c o))) BadOrder tt tt)
 low_row n lemmas Move.Unchain e = low_made n (unchained e) Shape tt
 low_row n lemmas (Move.Group l) e = low_made n (grouped l e) Grouping tt
@@ -75,7 +75,7 @@ module _ (g : MixedGraph) (valid : IsMixedGraph g) where
   row_low : (r : Row) (f : StepFault) → IsLowRow g.vertices r → IsRefused g r f → HasLowPath g.vertices f
   row_low (Row.Refuse x) f h e = subst (HasLowPath g.vertices) (sym e) h
   row_low (Row.Make x) f h e = absurd e
-  row_low (Row.Ask r x y z w made) f h e = subst (HasLowPath g.vertices) (sym e.2) (open_low g valid r x y z w e.0 e.1)
+  row_low (Row.Ask r x y z w made) f h e = subst (HasLowPath g.vertices) (sym e.2) (open_low g valid r (has x) (has y) (has z) (has w) e.0 e.1)
 
   at_low : (lemmas : List ℕ) (i k number : ℕ) (f : StepFault) (o : Option Tree) (Q : Tree → Type 0) → ((c : Tree) → Q c → HasLowPath g.vertices f)
       → MatchOption o ((number ≡ k) × (f ≡ NoPlace i)) (λ c. Q c) → HasLowPath g.vertices f

@@ -1,22 +1,20 @@
 -- A step makes at most one expression, and is refused in at most one way; never both.
 use Rattle.std.proofs.Common.{ℕ, ◌+◌, ◌-◌, ◌≡◌, Bool, true, sym, ap, ◌∙◌, ◌||◌, inl, inr, subst, List, [], ◌∷◌, ◌++◌, Some, None, Option, MatchOption, arith}
-use mathlib.Core.Path.{fun_ext}
-use Rattle.std.proofs.lemmas.Bool.{true_from_ne_false}
 use Rattle.mixed_graph.specs.Bits.{has}
 use Rattle.mixed_graph.specs.Graphs.{MixedGraph}
-use Rattle.finite_models.proofs.Bools.{same_truth}
-use Rattle.surgery.specs.Cuts.{cut_into, cut_out}
 use Rattle.m_separation.specs.Walks.{IsSeparated}
 use Rattle.m_separation.specs.Paths.{IsOpenPath, steps_from}
 use Rattle.std.specs.Prelude.{slice_index}
 use Rattle.m_separation.specs.declared.paths.OpenPath.{OpenPath}
-use Rattle.do_rules.specs.Rules.{IsFarPart}
+use Rattle.do_rules.specs.Rules.{IsBlockedFor, IsOpenFor}
+use Rattle.do_rules.specs.declared.rules.Rule.{Rule}
+use Rattle.do_rules.proofs.RuleGraphs.{one_graph}
 use Rattle.prob_expr.specs.Check.{cap}
 use Rattle.prob_expr.specs.Tree.{Tree, PlainFormula, PlainTarget, term_of}
 use Rattle.do_derivation.specs.Plans.{Plan, Plans, no_plans, plan, numbered, PlainLemma, PlainDerivation}
 use Rattle.do_derivation.specs.Shapes.{child, with_child}
-use Rattle.do_derivation.specs.Table.{Rule, Row, row}
-use Rattle.do_derivation.specs.Steps.{Holds, Fails, IsMade, IsRefused, Makes, MakesAll, Refuses, RefusesAny}
+use Rattle.do_derivation.specs.Table.{Row, row}
+use Rattle.do_derivation.specs.Steps.{IsMade, IsRefused, Makes, MakesAll, Refuses, RefusesAny}
 use Rattle.do_derivation.specs.Accepts.{Accepts, AcceptsNot, Define, DefinesNot, EndsNot, start_of, sets_of}
 use Rattle.do_derivation.specs.Sound.{StepsAreExact, AcceptsOrNot, kind_of}
 use Rattle.do_derivation.specs.declared.faults.StepFault.{StepFault}
@@ -27,18 +25,10 @@ use Rattle.do_derivation.specs.declared.faults.CheckFault.{CheckFault}
 not_open : (g : MixedGraph) (x y w : ℕ → Bool) (p : OpenPath) → IsSeparated g x y w → IsOpenPath g x y w p.vertices p.marks p.count → ⊥
 not_open g x y w p h o = h (slice_index p.vertices 0) (steps_from p.vertices p.marks 0 (p.count - 1)) o.walk
 
-far_same : (g : MixedGraph) (x z w p q : ℕ → Bool) → IsFarPart g x z w p → IsFarPart g x z w q → p ≡ q
-far_same g x z w p q a b = fun_ext (λ v. same_truth (p v) (q v) (λ e. kept p q a b v e) (λ e. kept q p b a v e))
-  where
-    kept : (p q : ℕ → Bool) → IsFarPart g x z w p → IsFarPart g x z w q → (v : ℕ) → p v ≡ true → q v ≡ true
-    kept p q a b v e = true_from_ne_false (q v) (λ f. a.no_ancestor v e (b.complete v (a.inside v e) f))
-
-pub holds_or_fails : (g : MixedGraph) (rule : Rule) (x y z w : ℕ) (p : OpenPath) → Holds g rule x y z w → Fails g rule x y z w p → ⊥
-holds_or_fails g Rule.One x y z w p h f = not_open (cut_into g (has x)) (has y) (has z) (λ v. has x v || has w v) p h f
-holds_or_fails g Rule.Two x y z w p h f = not_open (cut_out (cut_into g (has x)) (has z)) (has y) (has z) (λ v. has x v || has w v) p h f
-holds_or_fails g Rule.Three x y z w p h f =
-    not_open (cut_into (cut_into g (has x)) h.part) (has y) (has z) (λ v. has x v || has w v) p h.separated
-    (subst (λ part. IsOpenPath (cut_into (cut_into g (has x)) part) (has y) (has z) (λ v. has x v || has w v) p.vertices p.marks p.count) (far_same g (has x) (has z) (has w) f.part h.part f.far h.far) f.path)
+pub holds_or_fails : (g : MixedGraph) (rule : Rule) (x y z w : ℕ → Bool) (p : OpenPath) → IsBlockedFor rule g x y z w → IsOpenFor rule g x y z w p → ⊥
+holds_or_fails g rule x y z w p h f =
+    not_open h.graph y z (λ v. x v || w v) p h.separated
+    (subst (λ k. IsOpenPath k y z (λ v. x v || w v) p.vertices p.marks p.count) (one_graph rule g x z w f.graph h.graph f.is_graph h.is_graph) f.path)
 
 row_once : (g : MixedGraph) (r : Row) (x y : Tree) → IsMade g r x → IsMade g r y → x ≡ y
 row_once g (Row.Refuse f) x y a b = absurd a
@@ -48,7 +38,7 @@ row_once g (Row.Ask rule x' y' z w e) x y a b = a.1 ∙ sym b.1
 row_either : (g : MixedGraph) (r : Row) (x : Tree) (f : StepFault) → IsMade g r x → IsRefused g r f → ⊥
 row_either g (Row.Refuse h) x f a b = a
 row_either g (Row.Make e) x f a b = b
-row_either g (Row.Ask rule x' y z w e) x f a b = holds_or_fails g rule x' y z w b.0 a.0 b.1
+row_either g (Row.Ask rule x' y z w e) x f a b = holds_or_fails g rule (has x') (has y) (has z) (has w) b.0 a.0 b.1
 
 row_fault : (g : MixedGraph) (r : Row) (f h : StepFault) → IsRefused g r f → IsRefused g r h → kind_of f ≡ kind_of h
 row_fault g (Row.Refuse x) f h a b = ap kind_of (a ∙ sym b)

@@ -8,6 +8,7 @@ use Rattle.fractions.specs.Fractions.{Fraction, over, IsEqual, IsPositive, mul}
 use Rattle.fractions.proofs.FractionLaws.{equal_refl, equal_sym, equal_trans, mul-one, mul_assoc, mul_equal}
 use Rattle.finite_models.specs.Models.{FiniteModel, Fits, IsAssignment, IsPositiveModel}
 use Rattle.finite_models.proofs.Bools.{and_first, and_second}
+use Rattle.do_rules.specs.declared.rules.Rule.TheVariants.{One, Two, Three}
 use Rattle.prob_expr.specs.Masks.{join, minus, all, is_empty, is_apart, is_inside}
 use Rattle.prob_expr.specs.Tree.{Tree, prob, sum, product, quotient, named, Trees, no_trees, tree}
 use Rattle.prob_expr.specs.Values.{weights_of, term_value, value, product_value}
@@ -16,7 +17,7 @@ use Rattle.prob_expr.proofs.MaskLaws.{has_join, has_one, put_back}
 use Rattle.do_derivation.specs.Plans.{Move, Plan, Plans, no_plans, plan}
 use Rattle.do_derivation.specs.Shapes.{is_list_of, chained, gathered, term_with, unchained, grouped, is_grouping, groups_of, count_factors, narrowed, unwrapped, has_product, flat, child, with_child}
 use Rattle.do_derivation.specs.Steps.{IsMade, Makes, MakesAll}
-use Rattle.do_derivation.specs.Table.{Rule, Row, row, on_term, if_so, if_made, is_new, is_part}
+use Rattle.do_derivation.specs.Table.{Row, row, on_term, if_so, if_made, is_new, is_part}
 use Rattle.do_derivation.specs.declared.faults.StepFault.{StepFault}
 use Rattle.do_derivation.specs.declared.faults.StepFault.TheVariants.{Sets, BadOrder, Grouping, NoLemma, Shape}
 use Rattle.do_derivation.proofs.TreeTerms.{AreTerms, AreTermsEach, groups_terms, flat_terms, chained_terms, child_terms, with_child_terms}
@@ -174,26 +175,26 @@ module _ (g : MixedGraph) (ok : IsMixedGraph g) (m : FiniteModel) (fit : Fits g 
   -- ---- all rows
   row_kept : (move : Move) (e e' : Tree) → AreTerms g.vertices e → IsMade g (row g.vertices lemmas move e) e' → Kept e e'
   row_kept (Move.Rule1In z) e e' t h =
-      on_term_kept (λ a b c. if_so (is_new g.vertices z a b c) (Row.Ask Rule.One b a z c (prob a b (join c z))) Sets)
+      on_term_kept (λ a b c. if_so (is_new g.vertices z a b c) (Row.Ask One b a z c (prob a b (join c z))) Sets)
       (λ a b c e' t full h.
-      let r = if_so_made (is_new g.vertices z a b c) (Row.Ask Rule.One b a z c (prob a b (join c z))) Sets e' h in
+      let r = if_so_made (is_new g.vertices z a b c) (Row.Ask One b a z c (prob a b (join c z))) Sets e' h in
       let k = TermSets.new_from g.vertices z a b c r.0 in
       kept_of (prob a b c) (prob a b (join c z)) e' r.1.1 (TermSets.given_more g.vertices a b c z t k, full)
       (λ s w. equal_sym (term_value (weights_of m) a b (join c z) s) (term_value (weights_of m) a b c s) (TermLaws.law_1 g ok m fit positive s w a b z c t k r.1.0)))
       e e' t h
   row_kept (Move.Rule1Out z) e e' t h =
-      on_term_kept (λ a b c. if_so (is_part z c) (Row.Ask Rule.One b a z (minus c z) (prob a b (minus c z))) Sets)
+      on_term_kept (λ a b c. if_so (is_part z c) (Row.Ask One b a z (minus c z) (prob a b (minus c z))) Sets)
       (λ a b c e' t full h.
-      let r = if_so_made (is_part z c) (Row.Ask Rule.One b a z (minus c z) (prob a b (minus c z))) Sets e' h in
+      let r = if_so_made (is_part z c) (Row.Ask One b a z (minus c z) (prob a b (minus c z))) Sets e' h in
       let i = inside_of z c r.0 in
       kept_of (prob a b c) (prob a b (minus c z)) e' r.1.1 (TermSets.given_less g.vertices a b c z t, full)
       (λ s w. subst (λ x. IsEqual (term_value (weights_of m) a b x s) (term_value (weights_of m) a b (minus c z) s)) (put_back c z i)
       (TermLaws.law_1 g ok m fit positive s w a b z (minus c z) (TermSets.given_less g.vertices a b c z t) (TermSets.taken_given g.vertices a b c z t i) r.1.0)))
       e e' t h
   row_kept (Move.Rule2See z) e e' t h =
-      on_term_kept (λ a b c. if_so (is_part z b) (Row.Ask Rule.Two (minus b z) a z c (prob a (minus b z) (join c z))) Sets)
+      on_term_kept (λ a b c. if_so (is_part z b) (Row.Ask Two (minus b z) a z c (prob a (minus b z) (join c z))) Sets)
       (λ a b c e' t full h.
-      let r = if_so_made (is_part z b) (Row.Ask Rule.Two (minus b z) a z c (prob a (minus b z) (join c z))) Sets e' h in
+      let r = if_so_made (is_part z b) (Row.Ask Two (minus b z) a z c (prob a (minus b z) (join c z))) Sets e' h in
       let i = inside_of z b r.0 in
       let t' = TermSets.doing_less g.vertices a b c z t in
       let k = TermSets.taken_doing g.vertices a b c z t i in
@@ -202,9 +203,9 @@ module _ (g : MixedGraph) (ok : IsMixedGraph g) (m : FiniteModel) (fit : Fits g 
       (TermLaws.law_2 g ok m fit positive s w a (minus b z) z c t' k r.1.0)))
       e e' t h
   row_kept (Move.Rule2Do z) e e' t h =
-      on_term_kept (λ a b c. if_so (is_part z c) (Row.Ask Rule.Two b a z (minus c z) (prob a (join b z) (minus c z))) Sets)
+      on_term_kept (λ a b c. if_so (is_part z c) (Row.Ask Two b a z (minus c z) (prob a (join b z) (minus c z))) Sets)
       (λ a b c e' t full h.
-      let r = if_so_made (is_part z c) (Row.Ask Rule.Two b a z (minus c z) (prob a (join b z) (minus c z))) Sets e' h in
+      let r = if_so_made (is_part z c) (Row.Ask Two b a z (minus c z) (prob a (join b z) (minus c z))) Sets e' h in
       let i = inside_of z c r.0 in
       let t' = TermSets.given_less g.vertices a b c z t in
       let k = TermSets.taken_given g.vertices a b c z t i in
@@ -213,17 +214,17 @@ module _ (g : MixedGraph) (ok : IsMixedGraph g) (m : FiniteModel) (fit : Fits g 
       (equal_sym (term_value (weights_of m) a (join b z) (minus c z) s) (term_value (weights_of m) a b (join (minus c z) z) s) (TermLaws.law_2 g ok m fit positive s w a b z (minus c z) t' k r.1.0))))
       e e' t h
   row_kept (Move.Rule3In z) e e' t h =
-      on_term_kept (λ a b c. if_so (is_new g.vertices z a b c) (Row.Ask Rule.Three b a z c (prob a (join b z) c)) Sets)
+      on_term_kept (λ a b c. if_so (is_new g.vertices z a b c) (Row.Ask Three b a z c (prob a (join b z) c)) Sets)
       (λ a b c e' t full h.
-      let r = if_so_made (is_new g.vertices z a b c) (Row.Ask Rule.Three b a z c (prob a (join b z) c)) Sets e' h in
+      let r = if_so_made (is_new g.vertices z a b c) (Row.Ask Three b a z c (prob a (join b z) c)) Sets e' h in
       let k = TermSets.new_from g.vertices z a b c r.0 in
       kept_of (prob a b c) (prob a (join b z) c) e' r.1.1 (TermSets.doing_more g.vertices a b c z t k, full)
       (λ s w. equal_sym (term_value (weights_of m) a (join b z) c s) (term_value (weights_of m) a b c s) (TermLaws.law_3 g ok m fit positive s w a b z c t k r.1.0)))
       e e' t h
   row_kept (Move.Rule3Out z) e e' t h =
-      on_term_kept (λ a b c. if_so (is_part z b) (Row.Ask Rule.Three (minus b z) a z c (prob a (minus b z) c)) Sets)
+      on_term_kept (λ a b c. if_so (is_part z b) (Row.Ask Three (minus b z) a z c (prob a (minus b z) c)) Sets)
       (λ a b c e' t full h.
-      let r = if_so_made (is_part z b) (Row.Ask Rule.Three (minus b z) a z c (prob a (minus b z) c)) Sets e' h in
+      let r = if_so_made (is_part z b) (Row.Ask Three (minus b z) a z c (prob a (minus b z) c)) Sets e' h in
       let i = inside_of z b r.0 in
       let t' = TermSets.doing_less g.vertices a b c z t in
       kept_of (prob a b c) (prob a (minus b z) c) e' r.1.1 (t', full)

@@ -15,14 +15,14 @@ use Rattle.finite_models.proofs.Following.{follows_of, follows_intervene}
 use Rattle.finite_models.proofs.Ranks.{with_rank}
 use Rattle.finite_models.proofs.Factors.{marginal}
 use Rattle.finite_models.proofs.Positive.{positive_weight}
-use Rattle.do_rules.proofs.Holds.{rule_1_holds, rule_2_holds, rule_3_holds}
+use Rattle.do_rules.specs.Rules.{IsBlockedFor}
+use Rattle.do_rules.specs.declared.rules.Rule.TheVariants.{One, Two, Three}
+use Rattle.do_rules.proofs.Holds.{rule_holds}
 use Rattle.prob_expr.specs.Masks.{join, minus, one}
 use Rattle.prob_expr.specs.Tree.{prob, sum}
 use Rattle.prob_expr.specs.Values.{weights_of, term_value, value, product_value, add_over}
 use Rattle.prob_expr.proofs.MaskLaws.{has_join, has_minus, has_none, has_one, empty_has}
 use Rattle.do_derivation.specs.Shapes.{is_list_of, chained}
-use Rattle.do_derivation.specs.Steps.{Holds}
-use Rattle.do_derivation.specs.Table.{Rule}
 use Rattle.prob_expr.proofs.Boxes.{add_over_whole}
 use Rattle.do_derivation.proofs.TermSets.{IsTerm, IsNew, apart_back, four_sets}
 
@@ -74,21 +74,21 @@ module _ (g : MixedGraph) (ok : IsMixedGraph g) (m : FiniteModel) (fit : Fits g 
   joined_sets : (b z : ℕ) → (λ v. has b v || has z v) ≡ has (join b z)
   joined_sets b z = fun_ext (λ v. sym (has_join b z v))
 
-  pub law_1 : (a b z c : ℕ) → IsTerm g.vertices a b c → IsNew g.vertices z a b c → Holds g Rule.One b a z c → IsEqual (term_value (weights_of m) a b (join c z) s) (term_value (weights_of m) a b c s)
+  pub law_1 : (a b z c : ℕ) → IsTerm g.vertices a b c → IsNew g.vertices z a b c → IsBlockedFor One g (has b) (has a) (has z) (has c) → IsEqual (term_value (weights_of m) a b (join c z) s) (term_value (weights_of m) a b c s)
   law_1 a b z c t k h =
       subst (λ C. IsEqual (probability m (has b) (has a) C s) (probability m (has b) (has a) (has c) s)) (turned c z)
-      (rule_1_holds g ok (has b) (has a) (has z) (has c) (four_sets g.vertices a b z c t k) h m fit positive s within)
+      (rule_holds g ok (has b) (has a) (has z) (has c) (four_sets g.vertices a b z c t k) One h m fit positive s within)
 
-  pub law_2 : (a b z c : ℕ) → IsTerm g.vertices a b c → IsNew g.vertices z a b c → Holds g Rule.Two b a z c → IsEqual (term_value (weights_of m) a (join b z) c s) (term_value (weights_of m) a b (join c z) s)
+  pub law_2 : (a b z c : ℕ) → IsTerm g.vertices a b c → IsNew g.vertices z a b c → IsBlockedFor Two g (has b) (has a) (has z) (has c) → IsEqual (term_value (weights_of m) a (join b z) c s) (term_value (weights_of m) a b (join c z) s)
   law_2 a b z c t k h =
       subst (λ C. IsEqual (probability m (has (join b z)) (has a) (has c) s) (probability m (has b) (has a) C s)) (turned c z)
       (subst (λ B. IsEqual (probability m B (has a) (has c) s) (probability m (has b) (has a) (λ v. has z v || has c v) s)) (joined_sets b z)
-      (rule_2_holds g ok (has b) (has a) (has z) (has c) (four_sets g.vertices a b z c t k) h m fit positive s within))
+      (rule_holds g ok (has b) (has a) (has z) (has c) (four_sets g.vertices a b z c t k) Two h m fit positive s within))
 
-  pub law_3 : (a b z c : ℕ) → IsTerm g.vertices a b c → IsNew g.vertices z a b c → Holds g Rule.Three b a z c → IsEqual (term_value (weights_of m) a (join b z) c s) (term_value (weights_of m) a b c s)
+  pub law_3 : (a b z c : ℕ) → IsTerm g.vertices a b c → IsNew g.vertices z a b c → IsBlockedFor Three g (has b) (has a) (has z) (has c) → IsEqual (term_value (weights_of m) a (join b z) c s) (term_value (weights_of m) a b c s)
   law_3 a b z c t k h =
       subst (λ B. IsEqual (probability m B (has a) (has c) s) (probability m (has b) (has a) (has c) s)) (joined_sets b z)
-      (rule_3_holds g ok (has b) (has a) (has z) (has c) (four_sets g.vertices a b z c t k) h m fit positive s within)
+      (rule_holds g ok (has b) (has a) (has z) (has c) (four_sets g.vertices a b z c t k) Three h m fit positive s within)
 
   -- ---- products of conditionals
   pub product_rule : (a a₁ a₂ b c c' : ℕ) → ((v : ℕ) → (has a₂ v || has c' v) ≡ (has a v || has c v)) → ((v : ℕ) → has c' v ≡ (has a₁ v || has c v))

@@ -3,38 +3,26 @@ use Rattle.std.specs.Prelude.{ℕ, ◌+◌, ◌≡◌, ◌⊎◌, List, MatchOpt
 use Rattle.mixed_graph.specs.Bits.{has}
 use Rattle.mixed_graph.specs.Graphs.{MixedGraph}
 use Rattle.m_separation.specs.declared.paths.OpenPath.{OpenPath}
-use Rattle.do_rules.specs.Rules.{IsBlockedForRule1, IsBlockedForRule2, IsBlockedForRule3, IsOpenForRule1, IsOpenForRule2, IsOpenForRule3}
+use Rattle.do_rules.specs.Rules.{IsBlockedFor, IsOpenFor}
 use Rattle.prob_expr.specs.Check.{cap}
 use Rattle.prob_expr.specs.Tree.{Tree}
 use Rattle.do_derivation.specs.Plans.{Plan, Plans, no_plans, plan, numbered}
 use Rattle.do_derivation.specs.Shapes.{child, with_child}
-use Rattle.do_derivation.specs.Table.{Rule, Row, row}
+use Rattle.do_derivation.specs.Table.{Row, row}
 use Rattle.do_derivation.specs.declared.faults.StepFault.{StepFault}
 use Rattle.do_derivation.specs.declared.faults.StepFault.TheVariants.{Unblocked, NoPlace}
-
--- the separation that the rule asks holds in its cut graph
-abbrev pub Holds : MixedGraph → Rule → (x y z w : ℕ) → Type 0
-Holds g Rule.One x y z w = IsBlockedForRule1 g (has x) (has y) (has z) (has w)
-Holds g Rule.Two x y z w = IsBlockedForRule2 g (has x) (has y) (has z) (has w)
-Holds g Rule.Three x y z w = IsBlockedForRule3 g (has x) (has y) (has z) (has w)
-
--- the path is open there
-abbrev pub Fails : MixedGraph → Rule → (x y z w : ℕ) → OpenPath → Type 0
-Fails g Rule.One x y z w p = IsOpenForRule1 g (has x) (has y) (has z) (has w) p
-Fails g Rule.Two x y z w p = IsOpenForRule2 g (has x) (has y) (has z) (has w) p
-Fails g Rule.Three x y z w p = IsOpenForRule3 g (has x) (has y) (has z) (has w) p
 
 -- a row of the table has this result
 abbrev pub IsMade : MixedGraph → Row → Tree → Type 0
 IsMade g (Row.Refuse f) e = ⊥
 IsMade g (Row.Make x) e = e ≡ x
-IsMade g (Row.Ask rule x y z w made) e = Holds g rule x y z w × (e ≡ made)
+IsMade g (Row.Ask rule x y z w made) e = IsBlockedFor rule g (has x) (has y) (has z) (has w) × (e ≡ made)
 
 -- a row of the table has this fault
 abbrev pub IsRefused : MixedGraph → Row → StepFault → Type 0
 IsRefused g (Row.Refuse f) fault = fault ≡ f
 IsRefused g (Row.Make x) fault = ⊥
-IsRefused g (Row.Ask rule x y z w made) fault = (p : OpenPath) × Fails g rule x y z w p × (fault ≡ Unblocked p)
+IsRefused g (Row.Ask rule x y z w made) fault = (p : OpenPath) × IsOpenFor rule g (has x) (has y) (has z) (has w) p × (fault ≡ Unblocked p)
 
 -- the step makes e' of e, where the lemmas with these sets may be cited
 abbrev mutual

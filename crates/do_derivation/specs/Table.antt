@@ -1,15 +1,13 @@
 -- The table of the moves: under which conditions each makes which expression, and the fault that refuses it otherwise.
 use Rattle.std.specs.Prelude.{ℕ, Bool, not, ◌&&◌, cond, eqb, ltb, leb, List, length, get_or, Option, Some, None}
+use Rattle.do_rules.specs.declared.rules.Rule.{Rule}
+use Rattle.do_rules.specs.declared.rules.Rule.TheVariants.{One, Two, Three}
 use Rattle.prob_expr.specs.Masks.{join, minus, all, is_empty, is_apart, is_inside, is_below}
 use Rattle.prob_expr.specs.Tree.{Tree, prob, sum, product, quotient, named}
 use Rattle.do_derivation.specs.Plans.{Move}
 use Rattle.do_derivation.specs.Shapes.{is_list_of, chained, unchained, grouped, narrowed, unwrapped}
 use Rattle.do_derivation.specs.declared.faults.StepFault.{StepFault}
 use Rattle.do_derivation.specs.declared.faults.StepFault.TheVariants.{NotATerm, Sets, BadOrder, Grouping, NoLemma, Shape}
-
--- a rule of the do-calculus
-pub data Rule : Type 0 where
-  One Two Three : Rule
 
 -- a row's outcome: refused; made; or made exactly where that rule holds with these x, y, z and w
 pub data Row : Type 0 where
@@ -44,12 +42,12 @@ is_part z b = not (is_empty z) && is_inside z b
 
 -- The table. n is the number of vertices; `lemmas` has the sets of the lemmas that may be cited.
 abbrev pub row : ℕ → List ℕ → Move → Tree → Row
-row n lemmas (Move.Rule1In z) e = on_term (λ a b c. if_so (is_new n z a b c) (Row.Ask Rule.One b a z c (prob a b (join c z))) Sets) e
-row n lemmas (Move.Rule1Out z) e = on_term (λ a b c. if_so (is_part z c) (Row.Ask Rule.One b a z (minus c z) (prob a b (minus c z))) Sets) e
-row n lemmas (Move.Rule2See z) e = on_term (λ a b c. if_so (is_part z b) (Row.Ask Rule.Two (minus b z) a z c (prob a (minus b z) (join c z))) Sets) e
-row n lemmas (Move.Rule2Do z) e = on_term (λ a b c. if_so (is_part z c) (Row.Ask Rule.Two b a z (minus c z) (prob a (join b z) (minus c z))) Sets) e
-row n lemmas (Move.Rule3In z) e = on_term (λ a b c. if_so (is_new n z a b c) (Row.Ask Rule.Three b a z c (prob a (join b z) c)) Sets) e
-row n lemmas (Move.Rule3Out z) e = on_term (λ a b c. if_so (is_part z b) (Row.Ask Rule.Three (minus b z) a z c (prob a (minus b z) c)) Sets) e
+row n lemmas (Move.Rule1In z) e = on_term (λ a b c. if_so (is_new n z a b c) (Row.Ask One b a z c (prob a b (join c z))) Sets) e
+row n lemmas (Move.Rule1Out z) e = on_term (λ a b c. if_so (is_part z c) (Row.Ask One b a z (minus c z) (prob a b (minus c z))) Sets) e
+row n lemmas (Move.Rule2See z) e = on_term (λ a b c. if_so (is_part z b) (Row.Ask Two (minus b z) a z c (prob a (minus b z) (join c z))) Sets) e
+row n lemmas (Move.Rule2Do z) e = on_term (λ a b c. if_so (is_part z c) (Row.Ask Two b a z (minus c z) (prob a (join b z) (minus c z))) Sets) e
+row n lemmas (Move.Rule3In z) e = on_term (λ a b c. if_so (is_new n z a b c) (Row.Ask Three b a z c (prob a (join b z) c)) Sets) e
+row n lemmas (Move.Rule3Out z) e = on_term (λ a b c. if_so (is_part z b) (Row.Ask Three (minus b z) a z c (prob a (minus b z) c)) Sets) e
 row n lemmas (Move.Chain o) e = on_term (λ a b c. if_so (leb 2 (length o) && is_list_of o a) (Row.Make (product (chained b c o))) BadOrder) e
 row n lemmas Move.Unchain e = if_made (unchained e) Shape
 row n lemmas (Move.Group l) e = if_made (grouped l e) Grouping

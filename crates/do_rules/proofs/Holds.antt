@@ -1,5 +1,5 @@
 -- Separation makes independence and the equations of the rules.
-use Rattle.std.proofs.Common.{ℕ, ◌*◌, ◌≡◌, ◌≤◌, Bool, true, false, ◌||◌}
+use Rattle.std.proofs.Common.{ℕ, ◌*◌, ◌≡◌, ◌≤◌, Bool, true, false, ◌||◌, subst}
 use Rattle.std.proofs.lemmas.Bool.{false_from_ne_true, or_from}
 use Rattle.mixed_graph.specs.Graphs.{MixedGraph, IsMixedGraph}
 use Rattle.mixed_graph.specs.Sets.{Apart}
@@ -9,7 +9,9 @@ use Rattle.finite_models.proofs.Bools.{not_both}
 use Rattle.finite_models.proofs.Following.{follows_of}
 use Rattle.finite_models.proofs.Positive.{positive_weight}
 use Rattle.finite_models.proofs.Ranks.{with_rank}
-use Rattle.do_rules.specs.Rules.{AreThreeSets, AreFourSets, AreIndependent, IsBlockedForRule1, IsBlockedForRule2, IsBlockedForRule3, Rule1, Rule2, Rule3}
+use Rattle.do_rules.specs.Rules.{AreThreeSets, AreFourSets, AreIndependent, IsRuleGraph, IsBlockedFor, IsRuleFor}
+use Rattle.do_rules.specs.declared.rules.Rule.{Rule}
+use Rattle.do_rules.specs.declared.rules.Rule.TheVariants.{One, Two, Three}
 use Rattle.do_rules.proofs.Separation.{separated_independent}
 use Rattle.do_rules.proofs.TwoRules.{rule_1, rule_2}
 use Rattle.do_rules.proofs.RuleThree.{rule_3}
@@ -37,27 +39,30 @@ module _ (g : MixedGraph) (ok : IsMixedGraph g) where
     z_given : (v : ℕ) → z v ≡ true → (x v || w v) ≡ false
     z_given = apart_from_both z x w sets.x_z sets.z_w
 
-    pub rule_1_holds : IsBlockedForRule1 g x y z w → Rule1 g x y z w
-    rule_1_holds sep m fit pos s within = record {
+    graph_holds : (r : Rule) (h : MixedGraph) → IsRuleGraph r g x z w h → IsSeparated h y z (λ v. x v || w v) → IsRuleFor r g x y z w
+    graph_holds One h is sep m fit pos s within = record {
       left_bottom = positive m fit pos s within x (λ v. z v || w v);
       right_bottom = positive m fit pos s within x w;
       products = with_rank g ok (weight_of m x (λ v. y v || (z v || w v)) s * weight_of m x w s) (weight_of m x (λ v. y v || w v) s * weight_of m x (λ v. z v || w v) s)
-          (λ rank ranked. rule_1 g m rank ok ranked (follows_of g m fit) s within x y z w sets.x_within sets.y_within sets.z_within sets.w_within y_given z_given sep);
+          (λ rank ranked. rule_1 g m rank ok ranked (follows_of g m fit) s within x y z w sets.x_within sets.y_within sets.z_within sets.w_within y_given z_given
+          (subst (λ k. IsSeparated k y z (λ v. x v || w v)) is sep));
     }
-
-    pub rule_2_holds : IsBlockedForRule2 g x y z w → Rule2 g x y z w
-    rule_2_holds sep m fit pos s within = record {
+    graph_holds Two h is sep m fit pos s within = record {
       left_bottom = positive m fit pos s within (λ v. x v || z v) w;
       right_bottom = positive m fit pos s within x (λ v. z v || w v);
       products = with_rank g ok (weight_of m (λ v. x v || z v) (λ v. y v || w v) s * weight_of m x (λ v. z v || w v) s) (weight_of m x (λ v. y v || (z v || w v)) s * weight_of m (λ v. x v || z v) w s)
-          (λ rank ranked. rule_2 g m rank ok ranked (follows_of g m fit) s within x z (flipped x z sets.x_z) y w sets.x_within sets.y_within sets.z_within sets.w_within y_given z_given sets.y_z sep);
+          (λ rank ranked. rule_2 g m rank ok ranked (follows_of g m fit) s within x z (flipped x z sets.x_z) y w sets.x_within sets.y_within sets.z_within sets.w_within y_given z_given sets.y_z
+          (subst (λ k. IsSeparated k y z (λ v. x v || w v)) is sep));
     }
-
-    pub rule_3_holds : IsBlockedForRule3 g x y z w → Rule3 g x y z w
-    rule_3_holds b m fit pos s within = record {
+    graph_holds Three h is sep m fit pos s within = record {
       left_bottom = positive m fit pos s within (λ v. x v || z v) w;
       right_bottom = positive m fit pos s within x w;
       products = with_rank g ok (weight_of m (λ v. x v || z v) (λ v. y v || w v) s * weight_of m x w s) (weight_of m x (λ v. y v || w v) s * weight_of m (λ v. x v || z v) w s)
-          (λ rank ranked. rule_3 g m rank ok ranked (follows_of g m fit) s within pos x y z w b.part sets.x_within sets.y_within sets.z_within sets.w_within
-          (flipped x y sets.x_y) sets.y_w sets.y_z (flipped x z sets.x_z) sets.z_w (flipped x w sets.x_w) b.far.inside b.far.no_ancestor b.separated);
+          (λ rank ranked. rule_3 g m rank ok ranked (follows_of g m fit) s within pos x y z w is.0 sets.x_within sets.y_within sets.z_within sets.w_within
+          (flipped x y sets.x_y) sets.y_w sets.y_z (flipped x z sets.x_z) sets.z_w (flipped x w sets.x_w) is.1.inside is.1.no_ancestor
+          (subst (λ k. IsSeparated k y z (λ v. x v || w v)) is.2 sep));
     }
+
+    -- what a rule asks makes its equation
+    pub rule_holds : (r : Rule) → IsBlockedFor r g x y z w → IsRuleFor r g x y z w
+    rule_holds r b = graph_holds r b.graph b.is_graph b.separated

@@ -4,6 +4,7 @@ pub mod Separation
 pub mod Moving
 pub mod Product
 pub mod Reach
+pub mod RuleGraphs
 pub mod RuleThree
 pub mod TwoRules
 pub mod Split

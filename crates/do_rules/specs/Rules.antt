@@ -2,12 +2,14 @@
 use Rattle.std.specs.Prelude.{ℕ, ◌*◌, ◌≡◌, Bool, false, ◌||◌, IsTrue}
 use Rattle.mixed_graph.specs.Graphs.{MixedGraph, IsAncestor}
 use Rattle.mixed_graph.specs.Sets.{Within, Apart}
-use Rattle.fractions.specs.Fractions.{IsEqual}
+use Rattle.fractions.specs.Fractions.{Fraction, IsEqual}
 use Rattle.finite_models.specs.Models.{FiniteModel, Fits, IsAssignment, IsPositiveModel, event_weight, probability}
 use Rattle.surgery.specs.Cuts.{cut_into, cut_out}
 use Rattle.m_separation.specs.Walks.{IsSeparated}
 use Rattle.m_separation.specs.Paths.{IsOpenPath}
 use Rattle.m_separation.specs.declared.paths.OpenPath.{OpenPath}
+use Rattle.do_rules.specs.declared.rules.Rule.{Rule}
+use Rattle.do_rules.specs.declared.rules.Rule.TheVariants.{One, Two, Three}
 
 -- x and y are independent given w: at each assignment the weights of x+y+w and of w have the product of those of x+w and of y+w
 abbrev pub IsIndependent : FiniteModel → (x y w : ℕ → Bool) → Type 0
@@ -45,46 +47,56 @@ pub record IsFarPart (g : MixedGraph) (x z w p : ℕ → Bool) : Type 0 where
   pub no_ancestor : (v : ℕ) → IsTrue (p v) → IsAncestor (cut_into g x) w v → ⊥
   pub complete : (v : ℕ) → IsTrue (z v) → p v ≡ false → IsAncestor (cut_into g x) w v
 
--- what rule 1 asks: y and z are separated by x and w together, once the edges into x are cut
-abbrev pub IsBlockedForRule1 : MixedGraph → (x y z w : ℕ → Bool) → Type 0
-IsBlockedForRule1 g x y z w = IsSeparated (cut_into g x) y z (λ v. x v || w v)
+-- the number of a rule
+abbrev pub number_of : Rule → ℕ
+number_of One = 1
+number_of Two = 2
+number_of Three = 3
 
--- what rule 2 asks: the same, once the edges into x and the arrows out of z are cut
-abbrev pub IsBlockedForRule2 : MixedGraph → (x y z w : ℕ → Bool) → Type 0
-IsBlockedForRule2 g x y z w = IsSeparated (cut_out (cut_into g x) z) y z (λ v. x v || w v)
+-- h is the graph of a rule: without the edges into x; for rule 2 also without the arrows out of z, and for rule 3 without the edges into the far part of z
+abbrev pub IsRuleGraph : Rule → MixedGraph → (x z w : ℕ → Bool) → (h : MixedGraph) → Type 0
+IsRuleGraph One g x z w h = h ≡ cut_into g x
+IsRuleGraph Two g x z w h = h ≡ cut_out (cut_into g x) z
+IsRuleGraph Three g x z w h = (p : ℕ → Bool) × IsFarPart g x z w p × (h ≡ cut_into (cut_into g x) p)
 
--- what rule 3 asks: the same, once the edges into x and those into the far part of z are cut
-pub record IsBlockedForRule3 (g : MixedGraph) (x y z w : ℕ → Bool) : Type 0 where
-  pub part : ℕ → Bool
-  pub far : IsFarPart g x z w part
-  pub separated : IsSeparated (cut_into (cut_into g x) part) y z (λ v. x v || w v)
+-- what a rule asks of x, y, z and w: in its graph y and z are separated by x and w together
+pub record IsBlockedFor (r : Rule) (g : MixedGraph) (x y z w : ℕ → Bool) : Type 0 where
+  pub graph : MixedGraph
+  pub is_graph : IsRuleGraph r g x z w graph
+  pub separated : IsSeparated graph y z (λ v. x v || w v)
 
--- an open path from y to z in the graph of rule 1
-abbrev pub IsOpenForRule1 : MixedGraph → (x y z w : ℕ → Bool) → OpenPath → Type 0
-IsOpenForRule1 g x y z w p = IsOpenPath (cut_into g x) y z (λ v. x v || w v) p.vertices p.marks p.count
+-- this path from y to z is open in the graph of the rule
+pub record IsOpenFor (r : Rule) (g : MixedGraph) (x y z w : ℕ → Bool) (p : OpenPath) : Type 0 where
+  pub graph : MixedGraph
+  pub is_graph : IsRuleGraph r g x z w graph
+  pub path : IsOpenPath graph y z (λ v. x v || w v) p.vertices p.marks p.count
 
--- an open path from y to z in the graph of rule 2
-abbrev pub IsOpenForRule2 : MixedGraph → (x y z w : ℕ → Bool) → OpenPath → Type 0
-IsOpenForRule2 g x y z w p = IsOpenPath (cut_out (cut_into g x) z) y z (λ v. x v || w v) p.vertices p.marks p.count
+-- the sets of a probability P(of | do(doing), given)
+pub record Side : Type 0 where
+  pub of : ℕ → Bool
+  pub doing : ℕ → Bool
+  pub given : ℕ → Bool
 
--- an open path from y to z in the graph of rule 3
-pub record IsOpenForRule3 (g : MixedGraph) (x y z w : ℕ → Bool) (p : OpenPath) : Type 0 where
-  pub part : ℕ → Bool
-  pub far : IsFarPart g x z w part
-  pub path : IsOpenPath (cut_into (cut_into g x) part) y z (λ v. x v || w v) p.vertices p.marks p.count
+-- the left side of a rule: P(y | do(x), z, w), P(y | do(x), do(z), w) and P(y | do(x), do(z), w)
+abbrev pub left_of : Rule → (x y z w : ℕ → Bool) → Side
+left_of One x y z w = record { of = y; doing = x; given = λ v. z v || w v }
+left_of Two x y z w = record { of = y; doing = λ v. x v || z v; given = w }
+left_of Three x y z w = record { of = y; doing = λ v. x v || z v; given = w }
 
--- what a rule says: two probabilities are equal, at each assignment, in each positive model that fits the graph
-abbrev pub IsRule : MixedGraph → (b a c b' a' c' : ℕ → Bool) → Type 0
-IsRule g b a c b' a' c' = (m : FiniteModel) → Fits g m → IsPositiveModel m → (s : ℕ → ℕ) → IsAssignment m.vertices m.size s → IsEqual (probability m b a c s) (probability m b' a' c' s)
+-- its right side: P(y | do(x), w), P(y | do(x), z, w) and P(y | do(x), w)
+abbrev pub right_of : Rule → (x y z w : ℕ → Bool) → Side
+right_of One x y z w = record { of = y; doing = x; given = w }
+right_of Two x y z w = record { of = y; doing = x; given = λ v. z v || w v }
+right_of Three x y z w = record { of = y; doing = x; given = w }
 
--- rule 1: P(y | do(x), z, w) = P(y | do(x), w)
-abbrev pub Rule1 : MixedGraph → (x y z w : ℕ → Bool) → Type 0
-Rule1 g x y z w = IsRule g x y (λ v. z v || w v) x y w
+-- the probability of a side at an assignment
+abbrev pub side_value : FiniteModel → Side → (ℕ → ℕ) → Fraction
+side_value m side s = probability m side.doing side.of side.given s
 
--- rule 2: P(y | do(x), do(z), w) = P(y | do(x), z, w)
-abbrev pub Rule2 : MixedGraph → (x y z w : ℕ → Bool) → Type 0
-Rule2 g x y z w = IsRule g (λ v. x v || z v) y w x y (λ v. z v || w v)
+-- two sides are equal, at each assignment, in each positive model that fits the graph
+abbrev pub AreEqualSides : MixedGraph → (left right : Side) → Type 0
+AreEqualSides g left right = (m : FiniteModel) → Fits g m → IsPositiveModel m → (s : ℕ → ℕ) → IsAssignment m.vertices m.size s → IsEqual (side_value m left s) (side_value m right s)
 
--- rule 3: P(y | do(x), do(z), w) = P(y | do(x), w)
-abbrev pub Rule3 : MixedGraph → (x y z w : ℕ → Bool) → Type 0
-Rule3 g x y z w = IsRule g (λ v. x v || z v) y w x y w
+-- the equation of a rule
+abbrev pub IsRuleFor : Rule → MixedGraph → (x y z w : ℕ → Bool) → Type 0
+IsRuleFor r g x y z w = AreEqualSides g (left_of r x y z w) (right_of r x y z w)

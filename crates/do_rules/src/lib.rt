@@ -5,4 +5,4 @@
 
 mod rules;
 
-pub use rules::{are_four_sets, are_three_sets, independence, rule1, rule2, rule3};
+pub use rules::{Rule, are_four_sets, are_three_sets, independence, rule1, rule2, rule3};

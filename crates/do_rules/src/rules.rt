@@ -1,11 +1,10 @@
-ghost use Rattle.std.specs.Prelude.{ℕ, ◌<◌, ◌↔◌, IfErr, OnOk, IsTrue};
+ghost use Rattle.std.specs.Prelude.{ℕ, ◌≡◌, ◌<◌, ◌≤◌, ◌↔◌, IfErr, OnOk, IsTrue};
 ghost use Rattle.mixed_graph.specs.Bits.{has};
 ghost use Rattle.mixed_graph.specs.Sets.{Within, Apart};
 ghost use Rattle.mixed_graph.specs.Shown.{graph_of};
 ghost use Rattle.m_separation.specs.Walks.{IsSeparated};
 ghost use Rattle.m_separation.specs.Paths.{IsOpenPath};
-ghost use Rattle.do_rules.specs.Rules.{AreThreeSets, AreFourSets, AreIndependent, Rule1, Rule2, Rule3};
-ghost use Rattle.do_rules.specs.Rules.{IsBlockedForRule1, IsBlockedForRule2, IsBlockedForRule3, IsOpenForRule1, IsOpenForRule2, IsOpenForRule3};
+ghost use Rattle.do_rules.specs.Rules.{AreThreeSets, AreFourSets, AreIndependent, IsBlockedFor, IsRuleFor, IsOpenFor};
 
 use m_separation::{OpenPath, open_path};
 use mixed_graph::{Graph, VSet};
@@ -57,39 +56,104 @@ pub fn independence(g: &Graph, x: VSet, y: VSet, w: VSet) -> Result<(), OpenPath
     blocked(g, x, y, w)
 }
 
+/// A rule of the do-calculus.
+#[derive(Clone, Copy, Debug, PartialEq, Eq)]
+pub enum Rule {
+    /// Observations may be inserted or deleted: P(y | do(x), z, w) = P(y | do(x), w).
+    One,
+    /// Actions and observations may be exchanged: P(y | do(x), do(z), w) = P(y | do(x), z, w).
+    Two,
+    /// Actions may be inserted or deleted: P(y | do(x), do(z), w) = P(y | do(x), w).
+    Three,
+}
+
+impl Rule {
+    ghost use Rattle.do_rules.specs.Rules.{number_of, IsRuleGraph};
+
+    /// The rule of a number.
+    pub fn of(number: u64) -> Self
+        requires least { 1 ≤ number }
+        requires most { number ≤ 3 }
+        ensures { number_of result ≡ number }
+    {
+        match number {
+            1 => Rule::One,
+            2 => Rule::Two,
+            _ => Rule::Three,
+        }
+    }
+
+    /// The rule's number.
+    pub fn number(self) -> u8
+        ensures { result ≡ number_of self }
+    {
+        match self {
+            Rule::One => 1,
+            Rule::Two => 2,
+            Rule::Three => 3,
+        }
+    }
+
+    /// The graph in which the rule asks that y and z are separated.
+    pub fn graph(self, g: &Graph, x: VSet, z: VSet, w: VSet) -> Graph
+        requires x { Within g.now.n (has x.bits) }
+        requires z { Within g.now.n (has z.bits) }
+        requires w { Within g.now.n (has w.bits) }
+        ensures cut { IsRuleGraph self (graph_of g.now) (has x.bits) (has z.bits) (has w.bits) (graph_of result) }
+        ensures size { result.n ≡ g.now.n }
+    {
+        let cut = cut_into(g, x);
+        match self {
+            Rule::One => cut,
+            Rule::Two => cut_out(&cut, z),
+            Rule::Three => {
+                let far = z.difference(cut.ancestors(w));
+                cut_into(&cut, far)
+            }
+        }
+    }
+
+    /// Whether what the rule asks of x, y, z and w is so; then its equation holds. Else a path from y to z that is open in its graph.
+    pub fn applies(self, g: &Graph, x: VSet, y: VSet, z: VSet, w: VSet) -> Result<(), OpenPath>
+        requires sets { AreFourSets g.now.n (has x.bits) (has y.bits) (has z.bits) (has w.bits) }
+        requires some { 0 < y.bits }
+        ensures apart { OnOk result (IsBlockedFor self (graph_of g.now) (has x.bits) (has y.bits) (has z.bits) (has w.bits)) }
+        ensures holds { OnOk result (IsRuleFor self (graph_of g.now) (has x.bits) (has y.bits) (has z.bits) (has w.bits)) }
+        ensures open { IfErr result (IsOpenFor self (graph_of g.now) (has x.bits) (has y.bits) (has z.bits) (has w.bits)) }
+    {
+        blocked(&self.graph(g, x, z, w), y, z, x.union(w))
+    }
+}
+
 /// Whether rule 1 lets z go from P(y | do(x), z, w); else an open path from y to z in its graph.
 pub fn rule1(g: &Graph, x: VSet, y: VSet, z: VSet, w: VSet) -> Result<(), OpenPath>
     requires sets { AreFourSets g.now.n (has x.bits) (has y.bits) (has z.bits) (has w.bits) }
     requires some { 0 < y.bits }
-    ensures apart { OnOk result (IsBlockedForRule1 (graph_of g.now) (has x.bits) (has y.bits) (has z.bits) (has w.bits)) }
-    ensures holds { OnOk result (Rule1 (graph_of g.now) (has x.bits) (has y.bits) (has z.bits) (has w.bits)) }
-    ensures open { IfErr result (λ p. IsOpenForRule1 (graph_of g.now) (has x.bits) (has y.bits) (has z.bits) (has w.bits) p) }
+    ensures apart { OnOk result (IsBlockedFor Rule.One (graph_of g.now) (has x.bits) (has y.bits) (has z.bits) (has w.bits)) }
+    ensures holds { OnOk result (IsRuleFor Rule.One (graph_of g.now) (has x.bits) (has y.bits) (has z.bits) (has w.bits)) }
+    ensures open { IfErr result (IsOpenFor Rule.One (graph_of g.now) (has x.bits) (has y.bits) (has z.bits) (has w.bits)) }
 {
-    blocked(&cut_into(g, x), y, z, x.union(w))
+    Rule::One.applies(g, x, y, z, w)
 }
 
 /// Whether rule 2 turns do(z) in P(y | do(x), do(z), w) into z; else an open path from y to z in its graph.
 pub fn rule2(g: &Graph, x: VSet, y: VSet, z: VSet, w: VSet) -> Result<(), OpenPath>
     requires sets { AreFourSets g.now.n (has x.bits) (has y.bits) (has z.bits) (has w.bits) }
     requires some { 0 < y.bits }
-    ensures apart { OnOk result (IsBlockedForRule2 (graph_of g.now) (has x.bits) (has y.bits) (has z.bits) (has w.bits)) }
-    ensures holds { OnOk result (Rule2 (graph_of g.now) (has x.bits) (has y.bits) (has z.bits) (has w.bits)) }
-    ensures open { IfErr result (λ p. IsOpenForRule2 (graph_of g.now) (has x.bits) (has y.bits) (has z.bits) (has w.bits) p) }
+    ensures apart { OnOk result (IsBlockedFor Rule.Two (graph_of g.now) (has x.bits) (has y.bits) (has z.bits) (has w.bits)) }
+    ensures holds { OnOk result (IsRuleFor Rule.Two (graph_of g.now) (has x.bits) (has y.bits) (has z.bits) (has w.bits)) }
+    ensures open { IfErr result (IsOpenFor Rule.Two (graph_of g.now) (has x.bits) (has y.bits) (has z.bits) (has w.bits)) }
 {
-    let cut = cut_out(&cut_into(g, x), z);
-    blocked(&cut, y, z, x.union(w))
+    Rule::Two.applies(g, x, y, z, w)
 }
 
 /// Whether rule 3 lets do(z) go from P(y | do(x), do(z), w); else an open path from y to z in its graph.
 pub fn rule3(g: &Graph, x: VSet, y: VSet, z: VSet, w: VSet) -> Result<(), OpenPath>
     requires sets { AreFourSets g.now.n (has x.bits) (has y.bits) (has z.bits) (has w.bits) }
     requires some { 0 < y.bits }
-    ensures apart { OnOk result (IsBlockedForRule3 (graph_of g.now) (has x.bits) (has y.bits) (has z.bits) (has w.bits)) }
-    ensures holds { OnOk result (Rule3 (graph_of g.now) (has x.bits) (has y.bits) (has z.bits) (has w.bits)) }
-    ensures open { IfErr result (λ p. IsOpenForRule3 (graph_of g.now) (has x.bits) (has y.bits) (has z.bits) (has w.bits) p) }
+    ensures apart { OnOk result (IsBlockedFor Rule.Three (graph_of g.now) (has x.bits) (has y.bits) (has z.bits) (has w.bits)) }
+    ensures holds { OnOk result (IsRuleFor Rule.Three (graph_of g.now) (has x.bits) (has y.bits) (has z.bits) (has w.bits)) }
+    ensures open { IfErr result (IsOpenFor Rule.Three (graph_of g.now) (has x.bits) (has y.bits) (has z.bits) (has w.bits)) }
 {
-    let cut = cut_into(g, x);
-    let far = z.difference(cut.ancestors(w));
-    let cut = cut_into(&cut, far);
-    blocked(&cut, y, z, x.union(w))
+    Rule::Three.applies(g, x, y, z, w)
 }

@@ -10,7 +10,9 @@ use Rattle.prob_expr.specs.Tree.{Tree, prob, sum, product, quotient, named, Tree
 use Rattle.do_derivation.specs.Plans.{Move, Plan, Plans, no_plans, plan}
 use Rattle.do_derivation.specs.Shapes.{chained, gathered, term_with, unchained, grouped, is_grouping, groups_of, as_one, picked, or_nothing, all_of, each_below, none_empty, factor_at, count_factors, narrowed, unwrapped, has_product, flat, joined, child, with_child, with_factor}
 use Rattle.do_derivation.specs.Steps.{IsMade, Makes, MakesAll}
-use Rattle.do_derivation.specs.Table.{Rule, Row, row, on_term, if_so, if_made, is_new, is_part}
+use Rattle.do_rules.specs.declared.rules.Rule.{Rule}
+use Rattle.do_rules.specs.declared.rules.Rule.TheVariants.{One, Two, Three}
+use Rattle.do_derivation.specs.Table.{Row, row, on_term, if_so, if_made, is_new, is_part}
 use Rattle.do_derivation.specs.declared.faults.StepFault.{StepFault}
 use Rattle.do_derivation.specs.declared.faults.StepFault.TheVariants.{Sets, BadOrder, NoLemma, Shape}
 use Rattle.do_derivation.proofs.Children.{some_is}
@@ -197,12 +199,12 @@ module _ (g : MixedGraph) where
       subst (λ t. is_full t ≡ true) (sym (so_made ok (Row.Ask rule x y z w (prob a b c)) fault e k).1.1) refl
 
   row_full : (lemmas : List ℕ) (m : Move) (e x : Tree) → is_full e ≡ true → IsMade g (row g.vertices lemmas m e) x → is_full x ≡ true
-  row_full lemmas (Move.Rule1In z) e x full k = term_row _ (λ a b c y h. asked_term (is_new g.vertices z a b c) Rule.One b a z c a b (join c z) Sets y h) e x k
-  row_full lemmas (Move.Rule1Out z) e x full k = term_row _ (λ a b c y h. asked_term (is_part z c) Rule.One b a z (minus c z) a b (minus c z) Sets y h) e x k
-  row_full lemmas (Move.Rule2See z) e x full k = term_row _ (λ a b c y h. asked_term (is_part z b) Rule.Two (minus b z) a z c a (minus b z) (join c z) Sets y h) e x k
-  row_full lemmas (Move.Rule2Do z) e x full k = term_row _ (λ a b c y h. asked_term (is_part z c) Rule.Two b a z (minus c z) a (join b z) (minus c z) Sets y h) e x k
-  row_full lemmas (Move.Rule3In z) e x full k = term_row _ (λ a b c y h. asked_term (is_new g.vertices z a b c) Rule.Three b a z c a (join b z) c Sets y h) e x k
-  row_full lemmas (Move.Rule3Out z) e x full k = term_row _ (λ a b c y h. asked_term (is_part z b) Rule.Three (minus b z) a z c a (minus b z) c Sets y h) e x k
+  row_full lemmas (Move.Rule1In z) e x full k = term_row _ (λ a b c y h. asked_term (is_new g.vertices z a b c) One b a z c a b (join c z) Sets y h) e x k
+  row_full lemmas (Move.Rule1Out z) e x full k = term_row _ (λ a b c y h. asked_term (is_part z c) One b a z (minus c z) a b (minus c z) Sets y h) e x k
+  row_full lemmas (Move.Rule2See z) e x full k = term_row _ (λ a b c y h. asked_term (is_part z b) Two (minus b z) a z c a (minus b z) (join c z) Sets y h) e x k
+  row_full lemmas (Move.Rule2Do z) e x full k = term_row _ (λ a b c y h. asked_term (is_part z c) Two b a z (minus c z) a (join b z) (minus c z) Sets y h) e x k
+  row_full lemmas (Move.Rule3In z) e x full k = term_row _ (λ a b c y h. asked_term (is_new g.vertices z a b c) Three b a z c a (join b z) c Sets y h) e x k
+  row_full lemmas (Move.Rule3Out z) e x full k = term_row _ (λ a b c y h. asked_term (is_part z b) Three (minus b z) a z c a (minus b z) c Sets y h) e x k
   row_full lemmas (Move.Chain o) e x full k =
       term_row _ (λ a b c y h.
       let r = so_made _ (Row.Make (product (chained b c o))) BadOrder y h in

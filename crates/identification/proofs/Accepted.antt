@@ -6,7 +6,9 @@ use Rattle.do_derivation.specs.Accepts.{Define, are_sets, sets_of}
 use Rattle.do_derivation.specs.Plans.{Move, PlainLemma, Plan, Plans, no_plans, plan}
 use Rattle.do_derivation.specs.Shapes.{chained, count_factors, flat, grouped, groups_of, has_product, is_grouping, is_list_of, unwrapped}
 use Rattle.do_derivation.specs.Steps.{IsMade, Makes, MakesAll}
-use Rattle.do_derivation.specs.Table.{Row, Rule, if_made, is_new}
+use Rattle.do_derivation.specs.Table.{Row, if_made, is_new}
+use Rattle.do_rules.specs.declared.rules.Rule.TheVariants.{Three}
+use Rattle.do_rules.proofs.RuleGraphs.{asked_of_three}
 use Rattle.do_derivation.specs.declared.faults.StepFault.TheVariants.{BadOrder, Grouping, Sets, Shape}
 use Rattle.do_derivation.specs.declared.faults.StepFault.{StepFault}
 use Rattle.identification.proofs.Assembly.{starts, listed, each_unchained, each_homed, cited_two, sets-append, length-sets, define-two}
@@ -295,13 +297,10 @@ module _ (g : MixedGraph) (is_graph : IsMixedGraph g) (o : List ℕ) (order : Is
   })
 
   act : (ls : List ℕ) → is_empty others ≡ false → Makes g ls (Plan.Make (Move.Rule3In others)) (prob y x 0) (prob y (minus (all g.vertices) d) 0)
-  act ls ne = made_if g (is_new g.vertices others y x 0) (Row.Ask Rule.Three x y others 0 (prob y (join x others) 0)) Sets (prob y (minus (all g.vertices) d) 0)
+  act ls ne = made_if g (is_new g.vertices others y x 0) (Row.Ask Three x y others 0 (prob y (join x others) 0)) Sets (prob y (minus (all g.vertices) d) 0)
       (new_set g.vertices others y x 0 ne (λ u e. (others_of u e).0) (λ u e i. clash (has d u) (y_in u i) (others_of u e).2) (λ u e i. clash (has x u) i (others_of u e).1) (λ u e i. clash (has 0 u) i (has-zero u))) (
-        record {
-          part = has others;
-          far = cut_three g x others 0 (λ u e r. clash (has 0 r.end) r.inside (has-zero r.end));
-          separated = actions_apart g (has x) (has others) (has y) (λ u. has x u || has 0 u) (λ u. has d u ≡ true) y_in d_closed (λ u e i. clash (has d u) i (others_of u e).2) (λ u. bare (has x u) (has 0 u) (has-zero u));
-        },
+        asked_of_three g (has x) (has y) (has others) (has 0) (has others) (cut_three g x others 0 (λ u e r. clash (has 0 r.end) r.inside (has-zero r.end)))
+            (actions_apart g (has x) (has others) (has y) (λ u. has x u || has 0 u) (λ u. has d u ≡ true) y_in d_closed (λ u e i. clash (has d u) i (others_of u e).2) (λ u. bare (has x u) (has 0 u) (has-zero u))),
         ap (λ z. prob y z 0) (sym held),
       )
     where

@@ -2,7 +2,9 @@
 use Rattle.std.proofs.Common.{ℕ, ◌≡◌, ◌<◌, Bool, true, false, not, refl, sym, ap, ap₂, ◌∙◌, ◌||◌, ◌&&◌, List, arith}
 use Rattle.do_derivation.specs.Plans.{Move, Plan, Plans, no_plans}
 use Rattle.do_derivation.specs.Steps.{Makes, MakesAll}
-use Rattle.do_derivation.specs.Table.{Row, Rule, is_new, is_part}
+use Rattle.do_derivation.specs.Table.{Row, is_new, is_part}
+use Rattle.do_rules.specs.declared.rules.Rule.TheVariants.{Two, Three}
+use Rattle.do_rules.proofs.RuleGraphs.{asked_of_two, asked_of_three}
 use Rattle.do_derivation.specs.declared.faults.StepFault.TheVariants.{Sets}
 use Rattle.identification.proofs.Bools.{and_l, and_r, both_true, clash, not_i, or_l, or_r}
 use Rattle.identification.proofs.Places.{made_with, made_if, part, cut_three}
@@ -65,11 +67,12 @@ module _ (g : MixedGraph) (is_graph : IsMixedGraph g) (d t P v : ℕ) (low : (u 
       bools x y z h = grind (arith, h)
 
   step_do : (ls : List ℕ) → is_empty others_before ≡ false → Makes g ls (Plan.Make (Move.Rule2Do others_before)) (prob (one v) outer (common d P)) (prob (one v) (join outer others_before) (common t P))
-  step_do ls ne = made_if g (is_part others_before (common d P)) (Row.Ask Rule.Two outer (one v) others_before (minus (common d P) others_before) (prob (one v) (join outer others_before) (minus (common d P) others_before))) Sets
+  step_do ls ne = made_if g (is_part others_before (common d P)) (Row.Ask Two outer (one v) others_before (minus (common d P) others_before) (prob (one v) (join outer others_before) (minus (common d P) others_before))) Sets
       (prob (one v) (join outer others_before) (common t P))
       (part others_before (common d P) ne (λ u e. has-and d P u ∙ both_true (has d u) (has P u) (ob_in u e).0 (ob_in u e).1)) (
-        earlier_exchanged g (has P) (has d) (has d) (has t) v k (has outer) (has others_before) (has (common t P)) (has (one v)) (λ u. has outer u || has (minus (common d P) others_before) u)
-            outer_rest ob_all ob_in w_is w_in (λ u. ap (λ z. has outer u || has z u) kept) (one-is v),
+        asked_of_two g (has outer) (has (one v)) (has others_before) (has (minus (common d P) others_before))
+            (earlier_exchanged g (has P) (has d) (has d) (has t) v k (has outer) (has others_before) (has (common t P)) (has (one v)) (λ u. has outer u || has (minus (common d P) others_before) u)
+            outer_rest ob_all ob_in w_is w_in (λ u. ap (λ z. has outer u || has z u) kept) (one-is v)),
         ap (prob (one v) (join outer others_before)) (sym kept),
       )
 
@@ -106,16 +109,14 @@ module _ (g : MixedGraph) (is_graph : IsMixedGraph g) (d t P v : ℕ) (low : (u 
 
   step_in : (ls : List ℕ) → is_empty others_after ≡ false → Makes g ls (Plan.Make (Move.Rule3In others_after)) (prob (one v) (join outer others_before) (common t P)) (prob (one v) (minus (all g.vertices) t) (common t P))
   step_in ls ne = made_if g (is_new g.vertices others_after (one v) (join outer others_before) (common t P))
-      (Row.Ask Rule.Three (join outer others_before) (one v) others_after (common t P) (prob (one v) (join (join outer others_before) others_after) (common t P))) Sets (prob (one v) (minus (all g.vertices) t) (common t P))
+      (Row.Ask Three (join outer others_before) (one v) others_after (common t P) (prob (one v) (join (join outer others_before) others_after) (common t P))) Sets (prob (one v) (minus (all g.vertices) t) (common t P))
       (new_set g.vertices others_after (one v) (join outer others_before) (common t P) ne (λ u e. low u (oa_d u e))
       (λ u e i. clash (has t u) (rw (one-is v u i) k.v_in) (oa_out u e).0) (λ u e i. clash (has (join outer others_before) u) i (oa_out u e).1) (λ u e i. clash (has t u) (w_in u i).0 (oa_out u e).0)) (
-        record {
-          part = has others_after;
-          far = cut_three g (join outer others_before) others_after (common t P) (later_not_above g (has P) (has d) (has d) (has t) v k (has (join outer others_before)) (has others_after) (has (common t P)) (has others_after) (has (one v))
-              (λ u. has (join outer others_before) u || has (common t P) u) first_rest first_before w_is w_in oa_out);
-          separated = later_removed g (has P) (has d) (has d) (has t) v k (has (join outer others_before)) (has others_after) (has (common t P)) (has others_after) (has (one v)) (λ u. has (join outer others_before) u || has (common t P) u)
-              first_rest first_before w_is w_in oa_out (λ u e. e) (one-is v) (λ u e. e) (λ u e. e);
-        },
+        asked_of_three g (has (join outer others_before)) (has (one v)) (has others_after) (has (common t P)) (has others_after)
+            (cut_three g (join outer others_before) others_after (common t P) (later_not_above g (has P) (has d) (has d) (has t) v k (has (join outer others_before)) (has others_after) (has (common t P)) (has others_after) (has (one v))
+            (λ u. has (join outer others_before) u || has (common t P) u) first_rest first_before w_is w_in oa_out))
+            (later_removed g (has P) (has d) (has d) (has t) v k (has (join outer others_before)) (has others_after) (has (common t P)) (has others_after) (has (one v)) (λ u. has (join outer others_before) u || has (common t P) u)
+            first_rest first_before w_is w_in oa_out (λ u e. e) (one-is v) (λ u e. e) (λ u e. e)),
         ap (λ z. prob (one v) z (common t P)) (sym all_set),
       )
 

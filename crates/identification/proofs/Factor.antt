@@ -4,8 +4,11 @@ use Rattle.districts.specs.Linked.IsLinked.{at, by}
 use Rattle.districts.specs.Linked.{IsDistrict, IsLinked}
 use Rattle.do_derivation.specs.Accepts.{Define, are_sets, sets_of}
 use Rattle.do_derivation.specs.Plans.{Move, PlainLemma, Plan, Plans, no_plans, plan}
-use Rattle.do_derivation.specs.Steps.{Holds, Makes, MakesAll}
-use Rattle.do_derivation.specs.Table.{Row, Rule, is_part}
+use Rattle.do_derivation.specs.Steps.{Makes, MakesAll}
+use Rattle.do_derivation.specs.Table.{Row, is_part}
+use Rattle.do_rules.specs.Rules.{IsBlockedFor}
+use Rattle.do_rules.specs.declared.rules.Rule.TheVariants.{Three}
+use Rattle.do_rules.proofs.RuleGraphs.{asked_of_three}
 use Rattle.do_derivation.specs.declared.faults.StepFault.TheVariants.{Sets}
 use Rattle.identification.proofs.Bodies.{IsCited, widen_made}
 use Rattle.identification.proofs.Body.{IsSite, IsHeld, universe_in, body_made}
@@ -129,16 +132,13 @@ module _ (g : MixedGraph) (is_graph : IsMixedGraph g) (o : List ℕ) (order : Is
 
       first : Makes g ls (Plan.Make (Move.Rule3Out (minus t a2))) (prob a2 (minus (all g.vertices) a2) 0) (prob a2 (minus (all g.vertices) t) 0)
       first = subst (λ x. Makes g ls (Plan.Make (Move.Rule3Out (minus t a2))) (prob a2 (minus (all g.vertices) a2) 0) (prob a2 x 0)) left
-          (made_if g (is_part (minus t a2) (minus (all g.vertices) a2)) (Row.Ask Rule.Three (minus (minus (all g.vertices) a2) (minus t a2)) a2 (minus t a2) 0 (prob a2 (minus (minus (all g.vertices) a2) (minus t a2)) 0)) Sets
+          (made_if g (is_part (minus t a2) (minus (all g.vertices) a2)) (Row.Ask Three (minus (minus (all g.vertices) a2) (minus t a2)) a2 (minus t a2) 0 (prob a2 (minus (minus (all g.vertices) a2) (minus t a2)) 0)) Sets
           (prob a2 (minus (minus (all g.vertices) a2) (minus t a2)) 0)
           (part (minus t a2) (minus (all g.vertices) a2) (not_all t a2 a_in ne) (λ u e. has-minus (all g.vertices) a2 u ∙ both_true (has (all g.vertices) u) (not (has a2 u)) (all-is g.vertices u (low u (z_of u e).0)) (not_i (has a2 u) (z_of u e).1))) (
-            subst (λ x. Holds g Rule.Three x a2 (minus t a2) 0) (sym left)
-                (record {
-                  part = has (minus t a2);
-                  far = cut_three g (minus (all g.vertices) t) (minus t a2) 0 none;
-                  separated = actions_apart g (has (minus (all g.vertices) t)) (has (minus t a2)) (has a2) (λ u. has (minus (all g.vertices) t) u || has 0 u) (λ u. has a2 u ≡ true)
-                      (λ u e. e) above (λ u e i. clash (has a2 u) i (z_of u e).1) (λ u. bare (has (minus (all g.vertices) t) u) (has 0 u) (has-zero u));
-                }),
+            subst (λ x. IsBlockedFor Three g (has x) (has a2) (has (minus t a2)) (has 0)) (sym left)
+                (asked_of_three g (has (minus (all g.vertices) t)) (has a2) (has (minus t a2)) (has 0) (has (minus t a2)) (cut_three g (minus (all g.vertices) t) (minus t a2) 0 none)
+                (actions_apart g (has (minus (all g.vertices) t)) (has (minus t a2)) (has a2) (λ u. has (minus (all g.vertices) t) u || has 0 u) (λ u. has a2 u ≡ true)
+                (λ u e. e) above (λ u e i. clash (has a2 u) i (z_of u e).1) (λ u. bare (has (minus (all g.vertices) t) u) (has 0 u) (has-zero u)))),
             refl,
           ))
         where

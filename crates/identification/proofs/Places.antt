@@ -3,10 +3,12 @@ use Rattle.std.proofs.Common.{ℕ, ◌≡◌, ◌<◌, Bool, true, false, cond, 
 use mathlib.Core.Path.{ap₂}
 use Rattle.do_derivation.specs.Plans.{Move, Plan, Plans, plan}
 use Rattle.do_derivation.specs.Steps.{IsMade, Makes, MakesAll}
-use Rattle.do_derivation.specs.Table.{Row, Rule, if_so, is_part}
+use Rattle.do_derivation.specs.Table.{Row, if_so, is_part}
 use Rattle.do_derivation.specs.declared.faults.StepFault.TheVariants.{Sets}
 use Rattle.do_derivation.specs.declared.faults.StepFault.{StepFault}
 use Rattle.do_rules.specs.Rules.{IsFarPart}
+use Rattle.do_rules.specs.declared.rules.Rule.TheVariants.{One, Two, Three}
+use Rattle.do_rules.proofs.RuleGraphs.{asked_of_one, asked_of_two, asked_of_three}
 use Rattle.identification.proofs.Bools.{and_l, and_r, both_true, not_e, not_i, clash}
 use Rattle.identification.proofs.Separations.{IsPlace, later_not_above, later_removed, earlier_exchanged, rest_apart}
 use Rattle.identification.proofs.Sets.{all-is, empty-has, has-minus, inside, one-is}
@@ -115,14 +117,12 @@ module _ (g : MixedGraph) (is_graph : IsMixedGraph g) (P U A T v M : ℕ) (k : I
         go V U T A P h1 h2 = grind (arith, h1, h2)
 
     step_one : (ls : List ℕ) → is_empty later ≡ false → Makes g ls (Plan.Make (Move.Rule3Out later)) (prob (one v) rest_set W) (prob (one v) set_one W)
-    step_one ls ne = made_if g (is_part later rest_set) (Row.Ask Rule.Three (minus rest_set later) (one v) later W (prob (one v) (minus rest_set later) W)) Sets (prob (one v) set_one W)
+    step_one ls ne = made_if g (is_part later rest_set) (Row.Ask Three (minus rest_set later) (one v) later W (prob (one v) (minus rest_set later) W)) Sets (prob (one v) set_one W)
         (part later rest_set ne later_in) (
-          record {
-            part = has later;
-            far = cut_three g set_one later W (later_not_above g (has P) (has U) (has A) (has T) v k (has set_one) (has later) (has W) (has later) (has (one v)) (λ u. has set_one u || has W u) one_rest one_before w_is w_in later_out);
-            separated = later_removed g (has P) (has U) (has A) (has T) v k (has set_one) (has later) (has W) (has later) (has (one v)) (λ u. has set_one u || has W u) one_rest one_before w_is w_in later_out
-                (λ u e. e) (one-is v) (λ u e. e) (λ u e. e);
-          },
+          asked_of_three g (has set_one) (has (one v)) (has later) (has W) (has later)
+              (cut_three g set_one later W (later_not_above g (has P) (has U) (has A) (has T) v k (has set_one) (has later) (has W) (has later) (has (one v)) (λ u. has set_one u || has W u) one_rest one_before w_is w_in later_out))
+              (later_removed g (has P) (has U) (has A) (has T) v k (has set_one) (has later) (has W) (has later) (has (one v)) (λ u. has set_one u || has W u) one_rest one_before w_is w_in later_out
+              (λ u e. e) (one-is v) (λ u e. e) (λ u e. e)),
           refl,
         )
 
@@ -141,9 +141,13 @@ module _ (g : MixedGraph) (is_graph : IsMixedGraph g) (P U A T v M : ℕ) (k : I
         one_before u (before_in u e).0 (not_e (has T u) (and_r (has A u && has P u) (not (has T u)) h)) (before_in u e).1
 
     step_two : (ls : List ℕ) → is_empty before_outside ≡ false → Makes g ls (Plan.Make (Move.Rule2See before_outside)) (prob (one v) set_one W) (prob (one v) set_two (join W before_outside))
-    step_two ls ne = made_if g (is_part before_outside set_one) (Row.Ask Rule.Two (minus set_one before_outside) (one v) before_outside W (prob (one v) (minus set_one before_outside) (join W before_outside))) Sets (prob (one v) set_two (join W before_outside))
+    step_two ls ne = made_if g (is_part before_outside set_one) (Row.Ask Two (minus set_one before_outside) (one v) before_outside W (prob (one v) (minus set_one before_outside) (join W before_outside))) Sets (prob (one v) set_two (join W before_outside))
         (part before_outside set_one ne before_free)
-        (earlier_exchanged g (has P) (has U) (has A) (has T) v k (has set_two) (has before_outside) (has W) (has (one v)) (λ u. has set_two u || has W u) two_rest before_all before_in w_is w_in (λ u. refl) (one-is v), refl)
+        (
+          asked_of_two g (has set_two) (has (one v)) (has before_outside) (has W)
+              (earlier_exchanged g (has P) (has U) (has A) (has T) v k (has set_two) (has before_outside) (has W) (has (one v)) (λ u. has set_two u || has W u) two_rest before_all before_in w_is w_in (λ u. refl) (one-is v)),
+          refl,
+        )
 
     unneeded_in : (u : ℕ) → has unneeded u ≡ true → (has A u ≡ true) × (has P u ≡ true)
     unneeded_in u e = let h : (has (common A P) u && not (has M u)) ≡ true = rw (has-minus (common A P) M u) at e in
@@ -164,10 +168,11 @@ module _ (g : MixedGraph) (is_graph : IsMixedGraph g) (P U A T v M : ℕ) (k : I
         go A P M h1 h2 = grind (arith, h1, h2)
 
     step_three : (ls : List ℕ) → is_empty unneeded ≡ false → Makes g ls (Plan.Make (Move.Rule1Out unneeded)) (prob (one v) set_two (join W before_outside)) (prob (one v) set_two M)
-    step_three ls ne = made_if g (is_part unneeded (join W before_outside)) (Row.Ask Rule.One set_two (one v) unneeded (minus (join W before_outside) unneeded) (prob (one v) set_two (minus (join W before_outside) unneeded))) Sets (prob (one v) set_two M)
+    step_three ls ne = made_if g (is_part unneeded (join W before_outside)) (Row.Ask One set_two (one v) unneeded (minus (join W before_outside) unneeded) (prob (one v) set_two (minus (join W before_outside) unneeded))) Sets (prob (one v) set_two M)
         (part unneeded (join W before_outside) ne (λ u e. given_is u ∙ both_true (has A u) (has P u) (unneeded_in u e).0 (unneeded_in u e).1)) (
-          rest_apart g (has P) (has U) (has A) (has T) v k (has set_two) (has M) (has unneeded) (has (one v)) (λ u. has set_two u || has (minus (join W before_outside) unneeded) u) D
-              two_rest d_in d_v d_closed m_in m_d m_parent unneeded_in (λ u. ap (λ z. has set_two u || has z u) pillow_is) (one-is v),
+          asked_of_one g (has set_two) (has (one v)) (has unneeded) (has (minus (join W before_outside) unneeded))
+              (rest_apart g (has P) (has U) (has A) (has T) v k (has set_two) (has M) (has unneeded) (has (one v)) (λ u. has set_two u || has (minus (join W before_outside) unneeded) u) D
+              two_rest d_in d_v d_closed m_in m_d m_parent unneeded_in (λ u. ap (λ z. has set_two u || has z u) pillow_is) (one-is v)),
           ap (λ z. prob (one v) set_two z) (sym pillow_is),
         )
 

@@ -4,8 +4,8 @@ use Rattle.std.proofs.lemmas.List.{append_assoc}
 use Rattle.mixed_graph.specs.Bits.{has}
 use Rattle.answer_text.specs.Texts.{term_text}
 use Rattle.rule_command.specs.Lines.{equation_text}
-use Rattle.rule_command.specs.declared.rule.Rule.{Rule}
-use Rattle.rule_command.specs.declared.rule.Rule.TheVariants.{One, Two, Three}
+use Rattle.do_rules.specs.declared.rules.Rule.{Rule}
+use Rattle.do_rules.specs.declared.rules.Rule.TheVariants.{One, Two, Three}
 
 same_set : (s t : ℕ → Bool) → ((v : ℕ) → s v ≡ t v) → s ≡ t
 same_set s t h = λ i v. h v i

@@ -1,7 +1,7 @@
 -- Which outcomes the command answers.
 use Rattle.std.proofs.Common.{ℕ, List}
 use Rattle.dag_reader.specs.declared.graph.ReadGraph.{ReadGraph}
-use Rattle.rule_command.specs.declared.rule.Rule.{Rule}
+use Rattle.do_rules.specs.declared.rules.Rule.{Rule}
 use Rattle.replies.specs.declared.outcome.Outcome.{Outcome}
 use Rattle.replies.specs.Outcomes.{IsAnswered}
 use Rattle.replies.proofs.Outcomes.{answered}

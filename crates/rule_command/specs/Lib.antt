@@ -1,4 +1,3 @@
 pub mod Answers
-pub mod Calculus
 pub mod Lines
 pub mod Requests

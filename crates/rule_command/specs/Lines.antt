@@ -1,8 +1,9 @@
 -- What is printed for an answer of `rule`.
-use Rattle.std.specs.Prelude.{ℕ, Bool, ◌||◌, List, [], ◌∷◌, ◌++◌, codes}
+use Rattle.std.specs.Prelude.{ℕ, Bool, List, [], ◌∷◌, ◌++◌, codes}
 use Rattle.answer_text.specs.Texts.{term_text}
-use Rattle.rule_command.specs.declared.rule.Rule.{Rule}
-use Rattle.rule_command.specs.declared.rule.Rule.TheVariants.{One, Two, Three}
+use Rattle.do_rules.specs.Rules.{Side, left_of, right_of}
+use Rattle.do_rules.specs.declared.rules.Rule.{Rule}
+use Rattle.do_rules.specs.declared.rules.Rule.TheVariants.{One, Two, Three}
 
 -- the digit of a rule
 abbrev pub digit_text : Rule → List ℕ
@@ -10,11 +11,13 @@ digit_text One = codes "1"
 digit_text Two = codes "2"
 digit_text Three = codes "3"
 
--- both sides of a rule: P(y|do(x),z,w) = P(y|do(x),w), or P(y|do(x,z),w) = P(y|do(x),z,w), or P(y|do(x,z),w) = P(y|do(x),w)
+-- a side of a rule, as P(y|do(x),z,w)
+abbrev pub side_text : List (List ℕ) → Side → List ℕ
+side_text names s = term_text names s.of s.doing s.given
+
+-- the equation of a rule
 abbrev pub equation_text : Rule → List (List ℕ) → (x y z w : ℕ → Bool) → List ℕ
-equation_text One names x y z w = term_text names y x (λ v. z v || w v) ++ (codes " = " ++ term_text names y x w)
-equation_text Two names x y z w = term_text names y (λ v. x v || z v) w ++ (codes " = " ++ term_text names y x (λ v. z v || w v))
-equation_text Three names x y z w = term_text names y (λ v. x v || z v) w ++ (codes " = " ++ term_text names y x w)
+equation_text r names x y z w = side_text names (left_of r x y z w) ++ (codes " = " ++ side_text names (right_of r x y z w))
 
 -- the answer where a rule holds
 abbrev pub rule_holds_text : Rule → List (List ℕ) → (x y z w : ℕ → Bool) → List ℕ

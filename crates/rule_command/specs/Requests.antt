@@ -3,8 +3,8 @@ use Rattle.std.specs.Prelude.{◌≡◌, List, Some, [], ◌∷◌, codes}
 use Rattle.word_forms.specs.Form.{Text, Row, Use, word_of, value_of}
 use Rattle.request_values.specs.Values as values
 use Rattle.word_lists.specs.Views.{names_in}
-use Rattle.rule_command.specs.declared.rule.Rule.{Rule}
-use Rattle.rule_command.specs.Calculus.{number_of}
+use Rattle.do_rules.specs.declared.rules.Rule.{Rule}
+use Rattle.do_rules.specs.Rules.{number_of}
 use Rattle.rule_command.specs.declared.request.Request.{Request as CodeRequest}
 
 -- `rule FILE --rule N --y L --z L [--do L] [--given L]`

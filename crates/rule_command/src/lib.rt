@@ -3,9 +3,7 @@
 
 mod reply;
 mod request;
-mod rule;
 mod texts;
 
 pub use reply::rule_reply;
 pub use request::{ROW, Request};
-pub use rule::{Rule, ask};

@@ -5,9 +5,9 @@ ghost use Rattle.mixed_graph.specs.Shown.{graph_of};
 ghost use Rattle.do_rules.specs.Rules.{AreFourSets};
 ghost use Rattle.rule_command.specs.Answers.{RuleAnswer, SetsAnswer};
 
-use crate::rule::{Rule, ask};
 use crate::texts::{rule_fails_text, rule_holds_text};
 use dag_reader::ReadGraph;
+use do_rules::Rule;
 use latent_projection::{Observed, observed};
 use replies::{Outcome, Reply, refuse};
 use std::alloc::{AllocError, Global};
@@ -39,7 +39,7 @@ fn decide(alloc: Global, seen: &Observed, rule: Rule, sets: RuleSets) -> Result<
     requires some { 0 < sets.y.bits }
     ensures { IfOk result (λ r. SetsAnswer rule (graph_of seen.now.graph) seen.now.names sets.y.bits sets.done.bits sets.z.bits sets.given.bits r.outcome r.text.items) }
 {
-    match ask(&seen.graph, rule, sets.done, sets.y, sets.z, sets.given) {
+    match rule.applies(&seen.graph, sets.done, sets.y, sets.z, sets.given) {
         Ok(()) => Ok(Reply {
             outcome: Outcome::Yes,
             text: rule_holds_text(alloc, &seen.names, rule, sets)?,

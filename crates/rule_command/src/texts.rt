@@ -5,8 +5,8 @@ ghost use Rattle.answer_text.specs.Texts.{term_text};
 ghost use Rattle.replies.specs.Lines.{open_text};
 ghost use Rattle.rule_command.specs.Lines.{digit_text, equation_text, rule_holds_text, rule_fails_text};
 
-use crate::rule::Rule;
 use answer_text::{Term, push_term};
+use do_rules::Rule;
 use m_separation::OpenPath;
 use mixed_graph::Names;
 use replies::push_open;

@@ -2,7 +2,8 @@ use Rattle.std.proofs.Common.{◌≡◌, true, ap, ◌∙◌, subst, rules}
 use Rattle.std.proofs.Common.{[], sym, ap₂}
 use Rattle.mixed_graph.specs.Bits.{has}
 use Rattle.mixed_graph.specs.Shown.{graph_of}
-use Rattle.do_rules.specs.Rules.{IsBlockedForRule2, IsOpenForRule2}
+use Rattle.do_rules.specs.Rules.{IsBlockedFor, IsOpenFor}
+use Rattle.do_rules.specs.declared.rules.Rule.TheVariants.{Two}
 use Rattle.prob_expr.specs.Masks.{join, minus}
 use Rattle.prob_expr.specs.Tree.{prob}
 use Rattle.prob_expr.specs.declared.expr.Expr.{Prob}
@@ -10,7 +11,7 @@ use Rattle.prob_expr.specs.Terms.{are_terms}
 use Rattle.prob_expr.specs.View.{view}
 use Rattle.do_derivation.specs.Plans.{Move}
 use Rattle.do_derivation.specs.Steps.{IsMade, IsRefused}
-use Rattle.do_derivation.specs.Table.{Rule, row, is_part}
+use Rattle.do_derivation.specs.Table.{row, is_part}
 use Rattle.do_derivation.specs.declared.faults.StepFault.TheVariants.{Sets, Unblocked}
 use Rattle.do_derivation.proofs.Asked.{asked_made, asked_refused}
 use Rattle.do_derivation.proofs.Views.{view-Prob, given_four_sets}
@@ -29,9 +30,9 @@ returns-in-Ok c =
     let asked : is_part c.args.z.bits c.in-Prob.given.bits ≡ true = search rules in
     record {
       row = subst (λ e. IsMade (graph_of c.args.g.now) (row c.args.g.now.n [] (Move.Rule2Do c.args.z.bits) e) (view (Prob c.in-Prob.of c.join.result c.minus-rest.result))) (sym seen)
-          (asked_made (graph_of c.args.g.now) Rule.Two (c.in-Prob.doing.bits) c.in-Prob.of.bits c.args.z.bits (minus c.in-Prob.given.bits c.args.z.bits) (prob c.in-Prob.of.bits (join c.in-Prob.doing.bits c.args.z.bits) (minus c.in-Prob.given.bits c.args.z.bits)) Sets
+          (asked_made (graph_of c.args.g.now) Two (c.in-Prob.doing.bits) c.in-Prob.of.bits c.args.z.bits (minus c.in-Prob.given.bits c.args.z.bits) (prob c.in-Prob.of.bits (join c.in-Prob.doing.bits c.args.z.bits) (minus c.in-Prob.given.bits c.args.z.bits)) Sets
           (is_part c.args.z.bits c.in-Prob.given.bits) (view (Prob c.in-Prob.of c.join.result c.minus-rest.result)) asked
-          (subst (λ r. IsBlockedForRule2 (graph_of c.args.g.now) (has c.in-Prob.doing.bits) (has c.in-Prob.of.bits) (has c.args.z.bits) (has r)) c.minus-rest.ensures c.in-Ok.ensures.apart)
+          (subst (λ r. IsBlockedFor Two (graph_of c.args.g.now) (has c.in-Prob.doing.bits) (has c.in-Prob.of.bits) (has c.args.z.bits) (has r)) c.minus-rest.ensures c.in-Ok.ensures.apart)
           (view-Prob c.in-Prob.of c.join.result c.minus-rest.result ∙ ap₂ (λ r j. prob c.in-Prob.of.bits j r) c.minus-rest.ensures c.join.ensures));
     }
 
@@ -41,7 +42,7 @@ returns-in-Err c =
     let asked : is_part c.args.z.bits c.in-Prob.given.bits ≡ true = search rules in
     record {
       row = subst (λ e. IsRefused (graph_of c.args.g.now) (row c.args.g.now.n [] (Move.Rule2Do c.args.z.bits) e) (Unblocked c.in-Err.path)) (sym seen)
-          (asked_refused (graph_of c.args.g.now) Rule.Two (c.in-Prob.doing.bits) c.in-Prob.of.bits c.args.z.bits (minus c.in-Prob.given.bits c.args.z.bits) (prob c.in-Prob.of.bits (join c.in-Prob.doing.bits c.args.z.bits) (minus c.in-Prob.given.bits c.args.z.bits)) Sets
+          (asked_refused (graph_of c.args.g.now) Two (c.in-Prob.doing.bits) c.in-Prob.of.bits c.args.z.bits (minus c.in-Prob.given.bits c.args.z.bits) (prob c.in-Prob.of.bits (join c.in-Prob.doing.bits c.args.z.bits) (minus c.in-Prob.given.bits c.args.z.bits)) Sets
           (is_part c.args.z.bits c.in-Prob.given.bits) c.in-Err.path asked
-          (subst (λ r. IsOpenForRule2 (graph_of c.args.g.now) (has c.in-Prob.doing.bits) (has c.in-Prob.of.bits) (has c.args.z.bits) (has r) c.in-Err.path) c.minus-rest.ensures c.in-Err.ensures.open));
+          (subst (λ r. IsOpenFor Two (graph_of c.args.g.now) (has c.in-Prob.doing.bits) (has c.in-Prob.of.bits) (has c.args.z.bits) (has r) c.in-Err.path) c.minus-rest.ensures c.in-Err.ensures.open));
     }

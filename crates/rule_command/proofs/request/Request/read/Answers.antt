@@ -4,7 +4,7 @@ use Rattle.rule_command.specs.Requests.{rule_row}
 use Rattle.std.proofs.Common.{codes}
 use Rattle.word_forms.specs.Form.{value_of}
 use Rattle.request_values.specs.Values.{IsNeededNumber}
-use Rattle.rule_command.specs.Calculus.{number_of}
+use Rattle.do_rules.specs.Rules.{number_of}
 use Rattle.rule_command.proofs.request.Request.read.Goals as goal
 
 pub returns-in-Err-clause-none : goal.returns-in-Err-clause-none

@@ -1,0 +1,36 @@
+use Rattle.std.proofs.Common.{◌||◌, refl}
+use Rattle.std.proofs.lemmas.Result.{on_ok_weaker, IfErr-weaker}
+use Rattle.mixed_graph.specs.Bits.{has}
+use Rattle.mixed_graph.specs.Shown.{graph_of}
+use Rattle.m_separation.specs.Paths.{IsOpenPath}
+use Rattle.m_separation.specs.Walks.{IsSeparated}
+use Rattle.do_rules.specs.Rules.{IsBlockedFor, IsOpenFor}
+use Rattle.do_rules.proofs.Holds.{rule_holds}
+use Rattle.do_rules.proofs.Moving.{separated_moved, open_moved}
+use Rattle.do_rules.proofs.rules.Rule.applies.Goals as goal
+use Rattle.do_rules.proofs.rules.Rule.applies.Goals.{After-blocked}
+
+blocks : (c : After-blocked) → IsSeparated (graph_of c.graph.result) (has c.args.y.bits) (has c.args.z.bits) (has c.union.result.bits) → IsBlockedFor c.args.self (graph_of c.args.g.now) (has c.args.x.bits) (has c.args.y.bits) (has c.args.z.bits) (has c.args.w.bits)
+blocks c sep = record {
+  graph = graph_of c.graph.result;
+  is_graph = c.graph.ensures.cut;
+  separated = separated_moved (graph_of c.graph.result) (graph_of c.graph.result) (has c.args.y.bits) (has c.args.z.bits) (has c.union.result.bits) (λ v. has c.args.x.bits v || has c.args.w.bits v) refl c.union.ensures sep;
+}
+
+pub returns-clause-apart : goal.returns-clause-apart
+returns-clause-apart c = on_ok_weaker c.blocked.result (blocks (goal.at.returns-clause-apart c).After-blocked) c.blocked.ensures.apart
+
+pub returns-clause-holds : goal.returns-clause-holds
+returns-clause-holds c = on_ok_weaker c.blocked.result
+    (λ sep. rule_holds (graph_of c.args.g.now) c.args.g.now.valid (has c.args.x.bits) (has c.args.y.bits) (has c.args.z.bits) (has c.args.w.bits) c.requires.sets c.args.self (blocks (goal.at.returns-clause-holds c).After-blocked sep))
+    c.blocked.ensures.apart
+
+pub returns-clause-open : goal.returns-clause-open
+returns-clause-open c = IfErr-weaker c.blocked.result
+    (λ p. IsOpenPath (graph_of c.graph.result) (has c.args.y.bits) (has c.args.z.bits) (has c.union.result.bits) p.vertices p.marks p.count) (IsOpenFor c.args.self (graph_of c.args.g.now) (has c.args.x.bits) (has c.args.y.bits) (has c.args.z.bits) (has c.args.w.bits))
+    (λ p o. record {
+      graph = graph_of c.graph.result;
+      is_graph = c.graph.ensures.cut;
+      path = open_moved (graph_of c.graph.result) (graph_of c.graph.result) (has c.args.y.bits) (has c.args.z.bits) (has c.union.result.bits) (λ v. has c.args.x.bits v || has c.args.w.bits v) p.vertices p.marks p.count refl c.union.ensures o;
+    })
+    c.blocked.ensures.open
