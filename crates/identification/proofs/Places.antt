@@ -142,8 +142,7 @@ module _ (g : MixedGraph) (is_graph : IsMixedGraph g) (P U A T v M : ℕ) (k : I
 
     step_two : (ls : List ℕ) → is_empty before_outside ≡ false → Makes g ls (Plan.Make (Move.Rule2See before_outside)) (prob (one v) set_one W) (prob (one v) set_two (join W before_outside))
     step_two ls ne = made_if g (is_part before_outside set_one) (Row.Ask Two (minus set_one before_outside) (one v) before_outside W (prob (one v) (minus set_one before_outside) (join W before_outside))) Sets (prob (one v) set_two (join W before_outside))
-        (part before_outside set_one ne before_free)
-        (
+        (part before_outside set_one ne before_free) (
           asked_of_two g (has set_two) (has (one v)) (has before_outside) (has W)
               (earlier_exchanged g (has P) (has U) (has A) (has T) v k (has set_two) (has before_outside) (has W) (has (one v)) (λ u. has set_two u || has W u) two_rest before_all before_in w_is w_in (λ u. refl) (one-is v)),
           refl,
