@@ -1,4 +1,5 @@
 pub mod Agreeing
+pub mod UsedVertices
 pub mod Vanishing
 pub mod Walking
 pub mod Writing

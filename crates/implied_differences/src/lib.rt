@@ -5,8 +5,10 @@
 
 mod cells;
 mod largest;
+mod readable;
 mod sets;
 mod theory;
 
 pub use largest::{Difference, largest_difference};
+pub use readable::is_readable;
 pub use theory::laws;

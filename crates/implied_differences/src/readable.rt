@@ -1,0 +1,42 @@
+ghost use Rattle.std.specs.Prelude.{ℕ, ◌<◌, ◌^◌};
+ghost use Rattle.std.specs.Bool.{OnTrue, OnFalse};
+ghost use Rattle.implied_differences.specs.Differences.{IsReadable};
+
+use crate::sets::sets_of;
+use count_table::Counts;
+use implications::Implication;
+use mixed_graph::VSet;
+
+/// A set is a mask of 64 bits.
+fn sized(set: VSet)
+    ensures { set.bits < 2 ^ 64 }
+{}
+
+/// Whether `largest_difference` may be asked for an implication over a table: a is below b, neither is given, and the
+/// table has levels of each vertex of the implication.
+pub fn is_readable(c: &Counts, i: &Implication) -> bool
+    ensures yes { OnTrue result (IsReadable c.now i.now) }
+    ensures no { OnFalse result (IsReadable c.now i.now → ⊥) }
+{
+    let used = c.used();
+    sized(used);
+    if i.a >= i.b {
+        return false;
+    }
+    if i.b >= 64 {
+        return false;
+    }
+    if i.given.has(i.a) {
+        return false;
+    }
+    if i.given.has(i.b) {
+        return false;
+    }
+    let sets = sets_of(i);
+    let unused = sets.whole.difference(used);
+    sized(unused);
+    if !unused.is_empty() {
+        return false;
+    }
+    true
+}
