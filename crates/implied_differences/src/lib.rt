@@ -7,6 +7,8 @@ mod cells;
 mod largest;
 mod readable;
 mod sets;
+#[cfg(test)]
+mod tests;
 mod theory;
 
 pub use largest::{Difference, largest_difference};
