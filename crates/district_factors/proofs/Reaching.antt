@@ -37,27 +37,27 @@ shrinks g valid order c a from a2 found k inside fits =
     fewer a2 k.t a fits (ancestors_inside g c k.t a2 k.leads (district_holds g valid c a inside k.t k.district)) (district_inside g valid c a inside k.t k.district) k.smaller
 
 -- whatever completes the factor from the set a and its source on completes the definitions made so far to the whole factor, and so for the steps and for a stop
-pub record Reaching (g : MixedGraph) (order : List ℕ) (c start first a : ℕ) (from : Source) (next : ℕ) (defs : List Expr) (lemmas : List Lemma) : Type 0 where
-  pub factored : (ds : List Tree) (e : Tree) → IsFactor g order c a from next ds e → IsFactor g order c start (Source.Under 0) first (map view defs ++ ds) e
-  pub stepped : (ls : List PlainLemma) (l : Plans) → AreFactorSteps g order c a from next ls l → AreFactorSteps g order c start (Source.Under 0) first (map lemma_view lemmas ++ ls) l
+pub record Reaching (g : MixedGraph) (order : List ℕ) (origin : Source) (c start first a : ℕ) (from : Source) (next : ℕ) (defs : List Expr) (lemmas : List Lemma) : Type 0 where
+  pub factored : (ds : List Tree) (e : Tree) → IsFactor g order c a from next ds e → IsFactor g order c start origin first (map view defs ++ ds) e
+  pub stepped : (ls : List PlainLemma) (l : Plans) → AreFactorSteps g order c a from next ls l → AreFactorSteps g order c start origin first (map lemma_view lemmas ++ ls) l
   pub stopped : (big : ℕ) → IsStopped g c a big → IsStopped g c start big
 
-module _ (g : MixedGraph) (order : List ℕ) (c start first : ℕ) where
-  pub reaching_none : (defs : List Expr) (lemmas : List Lemma) → defs ≡ [] → lemmas ≡ [] → Reaching g order c start first start (Source.Under 0) first defs lemmas
+module _ (g : MixedGraph) (order : List ℕ) (origin : Source) (c start first : ℕ) where
+  pub reaching_none : (defs : List Expr) (lemmas : List Lemma) → defs ≡ [] → lemmas ≡ [] → Reaching g order origin c start first start origin first defs lemmas
   reaching_none defs lemmas no_defs no_lemmas = record {
-    factored = λ ds e r. subst (λ x. IsFactor g order c start (Source.Under 0) first (map view x ++ ds) e) (sym no_defs) r;
-    stepped = λ ls l r. subst (λ x. AreFactorSteps g order c start (Source.Under 0) first (map lemma_view x ++ ls) l) (sym no_lemmas) r;
+    factored = λ ds e r. subst (λ x. IsFactor g order c start origin first (map view x ++ ds) e) (sym no_defs) r;
+    stepped = λ ls l r. subst (λ x. AreFactorSteps g order c start origin first (map lemma_view x ++ ls) l) (sym no_lemmas) r;
     stopped = λ big r. r;
   }
 
   pub reaching_further : (a : ℕ) (from : Source) (a2 : VSet) (next : ℕ) (defs defs' : List Expr) (lemmas lemmas' : List Lemma) (found : Body) (lemma : Lemma) → IsFurther g order c a from a2.bits found →
       defs' ≡ defs ++ found.value ∷ [] → lemmas' ≡ lemmas ++ lemma ∷ [] → lemma_view lemma ≡ record { set = a2.bits; plan = Plan.Then (steps_view found.steps.items) } →
-      Reaching g order c start first a from next defs lemmas → Reaching g order c start first a2.bits (Source.Defined next) (next + 1) defs' lemmas'
+      Reaching g order origin c start first a from next defs lemmas → Reaching g order origin c start first a2.bits (Source.Defined next) (next + 1) defs' lemmas'
   reaching_further a from a2 next defs defs' lemmas lemmas' found lemma k more_defs more_lemmas is so_far = record {
-    factored = λ ds e r. subst (λ x. IsFactor g order c start (Source.Under 0) first x e) (defs_are ds)
+    factored = λ ds e r. subst (λ x. IsFactor g order c start origin first x e) (defs_are ds)
         (so_far.factored (sum (minus k.t a2.bits) (view k.whole.value) ∷ ds) e
         (IsFactor.further k.district k.larger k.leads k.smaller k.more k.is_whole.value (subst (λ n. IsFactor g order c a2.bits (Source.Defined next) n ds e) (add-one next) r)));
-    stepped = λ ls l r. subst (λ x. AreFactorSteps g order c start (Source.Under 0) first x l) (lemmas_are ls)
+    stepped = λ ls l r. subst (λ x. AreFactorSteps g order c start origin first x l) (lemmas_are ls)
         (so_far.stepped (record { set = a2.bits; plan = Plan.Then (cut_steps (minus k.t a2.bits) (steps_view k.whole.steps.items)) } ∷ ls) l
         (AreFactorSteps.further k.district k.larger k.leads k.smaller k.more k.is_whole.steps (subst (λ n. AreFactorSteps g order c a2.bits (Source.Defined next) n ls l) (add-one next) r)));
     stopped = λ big r. so_far.stopped big (IsStopped.later k.district k.larger k.leads k.smaller k.more r);
@@ -72,9 +72,9 @@ module _ (g : MixedGraph) (order : List ℕ) (c start first : ℕ) where
           ∙ sym (append_assoc (map lemma_view lemmas) (lemma_view lemma ∷ []) ls) ∙ sym (ap (λ x. x ++ ls) (ap (map lemma_view) more_lemmas ∙ map-append lemma_view lemmas (lemma ∷ [])))
 
   -- the end: what is left is nothing
-  pub reached : (a : ℕ) (from : Source) (next : ℕ) (defs : List Expr) (lemmas : List Lemma) (found : Body) → IsDone g order c a from found → Reaching g order c start first a from next defs lemmas →
-      IsFactor g order c start (Source.Under 0) first (map view defs) (view found.value) × AreFactorSteps g order c start (Source.Under 0) first (map lemma_view lemmas) (steps_view found.steps.items)
+  pub reached : (a : ℕ) (from : Source) (next : ℕ) (defs : List Expr) (lemmas : List Lemma) (found : Body) → IsDone g order c a from found → Reaching g order origin c start first a from next defs lemmas →
+      IsFactor g order c start origin first (map view defs) (view found.value) × AreFactorSteps g order c start origin first (map lemma_view lemmas) (steps_view found.steps.items)
   reached a from next defs lemmas found d so_far = (
-    subst (λ x. IsFactor g order c start (Source.Under 0) first x (view found.value)) (append-nil (map view defs)) (so_far.factored [] (view found.value) (d.factor next)),
-    subst (λ x. AreFactorSteps g order c start (Source.Under 0) first x (steps_view found.steps.items)) (append-nil (map lemma_view lemmas)) (so_far.stepped [] (steps_view found.steps.items) (d.steps next)),
+    subst (λ x. IsFactor g order c start origin first x (view found.value)) (append-nil (map view defs)) (so_far.factored [] (view found.value) (d.factor next)),
+    subst (λ x. AreFactorSteps g order c start origin first x (steps_view found.steps.items)) (append-nil (map lemma_view lemmas)) (so_far.stepped [] (steps_view found.steps.items) (d.steps next)),
   )

@@ -10,12 +10,16 @@ use Rattle.district_factors.specs.declared.kinds.Factor.{Factor}
 use Rattle.district_factors.specs.declared.kinds.FactorFault.{FactorFault}
 use Rattle.district_factors.specs.declared.kinds.FactorFault.TheVariants.{Stopped, NoMemory}
 
--- f is the factor of c by this order, read from the observed distribution of the ancestors of c, with its definitions from number k on and with its derivation
-pub record IsFactorOf (g : MixedGraph) (order : List ℕ) (c k : ℕ) (f : Factor) : Type 0 where
+-- f is the factor of c by this order, read from the distribution of the ancestors of c under an intervention on z, with its definitions from number k on and with its derivation
+pub record IsFactorUnder (g : MixedGraph) (order : List ℕ) (z c k : ℕ) (f : Factor) : Type 0 where
   pub a : ℕ
   pub ancestors : AreAncestorsIn g (all g.vertices) c a
-  pub factor : IsFactor g order c a (Source.Under 0) k (map view f.defs.items) (view f.value)
-  pub steps : AreFactorSteps g order c a (Source.Under 0) k (map lemma_view f.lemmas.items) (steps_view f.steps.items)
+  pub factor : IsFactor g order c a (Source.Under z) k (map view f.defs.items) (view f.value)
+  pub steps : AreFactorSteps g order c a (Source.Under z) k (map lemma_view f.lemmas.items) (steps_view f.steps.items)
+
+-- the same read from the observed distribution
+abbrev pub IsFactorOf : MixedGraph → List ℕ → (c k : ℕ) → Factor → Type 0
+IsFactorOf g order c k f = IsFactorUnder g order 0 c k f
 
 -- the procedure for c, from the ancestors of c on, stops at t
 pub record StopsAtSet (g : MixedGraph) (c t : ℕ) : Type 0 where

@@ -12,4 +12,4 @@ mod sets;
 mod terms;
 
 pub use kinds::{Factor, FactorFault};
-pub use rounds::factor;
+pub use rounds::{factor, factor_under};

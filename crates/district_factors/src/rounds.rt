@@ -10,7 +10,7 @@ ghost use Rattle.prob_expr.specs.Tree.{sum};
 ghost use Rattle.prob_expr.specs.View.{view};
 ghost use Rattle.do_derivation.specs.View.{listed, steps_view};
 ghost use Rattle.identification.specs.Derivations.{cut_steps};
-ghost use Rattle.district_factors.specs.Factors.{IsFactorOf, IsFactorFault};
+ghost use Rattle.district_factors.specs.Factors.{IsFactorOf, IsFactorUnder, IsFactorFault};
 ghost use Rattle.district_factors.specs.Parts.{source_of};
 ghost use Rattle.district_factors.specs.Rounds.{IsSummed, IsRound, IsRoundFault};
 
@@ -83,7 +83,8 @@ fn next_round(
     Ok(Round::Further(leading, body))
 }
 
-/// The factor of a district of some set of vertices, its definitions from number `first` on.
+/// The factor of a district of some set of vertices, its definitions from number `first` on, read
+/// from the observed distribution.
 ///
 /// `Stopped` where the procedure stops inside the ancestors of the district. Memory may be refused
 /// at any time.
@@ -104,9 +105,35 @@ pub fn factor(
     ensures paired { IfOk result (λ f. length f.lemmas.items ≡ length f.defs.items) }
     ensures fault { IfErr result (IsFactorFault (graph_of g.now) c.bits) }
 {
+    factor_under(alloc, g, order, VSet { bits: 0 }, c, first)
+}
+
+/// The factor of a district of some set of vertices, its definitions from number `first` on, read
+/// from the distribution under an intervention on z.
+///
+/// `Stopped` where the procedure stops inside the ancestors of the district. Memory may be refused
+/// at any time.
+pub fn factor_under(
+    alloc: Global,
+    g: &Graph,
+    order: &Order,
+    z: VSet,
+    c: VSet,
+    first: u32,
+) -> Result<Factor, FactorFault>
+    requires order { IsOrder (graph_of g.now) order.now.list order.now.count }
+    requires within { Within g.now.n (has c.bits) }
+    requires some { (v : ℕ) × IsTrue (has c.bits v) }
+    requires joined { IsJoinedSet (graph_of g.now) c.bits }
+    requires room { first + 64 < 2 ^ 32 }
+    ensures factor { IfOk result (IsFactorUnder (graph_of g.now) (listed order.now) z.bits c.bits first) }
+    ensures few { IfOk result (λ f. length f.defs.items ≤ 64) }
+    ensures paired { IfOk result (λ f. length f.lemmas.items ≡ length f.defs.items) }
+    ensures fault { IfErr result (IsFactorFault (graph_of g.now) c.bits) }
+{
     let vertices = &order.list[..order.count as usize];
     let mut a = ancestors_in(g, all(g.n), c);
-    let mut from = Source::Under(VSet { bits: 0 });
+    let mut from = Source::Under(z);
     let mut defs = Vec::new(alloc);
     let mut lemmas = Vec::new(alloc);
     let mut next = first;

@@ -3,14 +3,14 @@ use Rattle.mixed_graph.specs.Bits.{has}
 use Rattle.mixed_graph.specs.Shown.{graph_of}
 use Rattle.mixed_graph.proofs.Members.{length-members-le}
 use Rattle.do_derivation.specs.View.{listed}
-use Rattle.identification.specs.Procedure.{AreAncestorsIn}
+use Rattle.identification.specs.Procedure.{AreAncestorsIn, Source}
 use Rattle.district_factors.specs.Parts.{source_of}
 use Rattle.district_factors.specs.Rounds.{IsRound}
 use Rattle.district_factors.proofs.Orders.{entry_below}
 use Rattle.district_factors.proofs.Steps.{lemma_of}
 use Rattle.district_factors.proofs.Shrinking.{some_size, fits_64, ancestors_hold, ancestors_below}
 use Rattle.district_factors.proofs.Reaching.{reaching_none, reaching_further, reached, shrinks}
-use Rattle.district_factors.proofs.rounds.factor.Goals as goal
+use Rattle.district_factors.proofs.rounds.factor_under.Goals as goal
 
 pub rounds-init : goal.rounds-init
 rounds-init c =
@@ -23,7 +23,7 @@ rounds-init c =
       number = omega (arith, ap length no_defs);
       few = omega (arith, ap length no_defs, few);
       paired = ap length no_lemmas ∙ sym (ap length no_defs);
-      reaching = reaching_none (graph_of c.args.g.now) (listed c.args.order.now) c.args.c.bits c.ancestors_in-a.result.bits c.args.first c.new-defs.result.items c.new-lemmas.result.items no_defs no_lemmas;
+      reaching = reaching_none (graph_of c.args.g.now) (listed c.args.order.now) (Source.Under c.args.z.bits) c.args.c.bits c.ancestors_in-a.result.bits c.args.first c.new-defs.result.items c.new-lemmas.result.items no_defs no_lemmas;
     }
 
 pub next_round-requires-clause-vertices : goal.next_round-requires-clause-vertices
@@ -32,7 +32,7 @@ next_round-requires-clause-vertices c = entry_below (graph_of c.args.g.now) c.ar
 pub returns-in-Done-clause-factor : goal.returns-in-Done-clause-factor
 returns-in-Done-clause-factor c =
     let d = subst (IsRound (graph_of c.args.g.now) (listed c.args.order.now) c.args.c.bits c.rounds.a.bits (source_of c.rounds.from)) c.in-Done.is c.in-Ok.ensures.round in
-    let r = reached (graph_of c.args.g.now) (listed c.args.order.now) c.args.c.bits c.ancestors_in-a.result.bits c.args.first c.rounds.a.bits (source_of c.rounds.from) c.rounds.next
+    let r = reached (graph_of c.args.g.now) (listed c.args.order.now) (Source.Under c.args.z.bits) c.args.c.bits c.ancestors_in-a.result.bits c.args.first c.rounds.a.bits (source_of c.rounds.from) c.rounds.next
     c.rounds.defs.items c.rounds.lemmas.items c.in-Done.field-0 d c.rounds.invariant.reaching in
     record {
       a = c.ancestors_in-a.result.bits;
@@ -64,7 +64,7 @@ rounds-preserved c =
       number = omega (arith, d, c.rounds.invariant.number);
       few = omega (arith, d, s, c.rounds.invariant.few);
       paired = omega (arith, d, l, c.rounds.invariant.paired);
-      reaching = reaching_further (graph_of c.args.g.now) (listed c.args.order.now) c.args.c.bits c.ancestors_in-a.result.bits c.args.first c.rounds.a.bits (source_of c.rounds.from) c.in-Further.set c.rounds.next
+      reaching = reaching_further (graph_of c.args.g.now) (listed c.args.order.now) (Source.Under c.args.z.bits) c.args.c.bits c.ancestors_in-a.result.bits c.args.first c.rounds.a.bits (source_of c.rounds.from) c.in-Further.set c.rounds.next
           c.rounds.defs.items c.push.new.self.items c.rounds.lemmas.items c.push-in-Further.new.self.items c.in-Further.field-1 _ k c.in_ok-push-in-Further.ensures.items c.in_ok-push-in-Further-2.ensures.items
           (lemma_of c.in-Further.set c.in-Further.field-1.steps) c.rounds.invariant.reaching;
     }

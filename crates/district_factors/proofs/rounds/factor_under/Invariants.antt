@@ -7,7 +7,7 @@ use Rattle.do_derivation.specs.View.{listed}
 use Rattle.district_factors.specs.Parts.{source_of}
 use Rattle.district_factors.proofs.Reaching.{Reaching}
 use Rattle.district_factors.proofs.Shrinking.{size}
-use Rattle.district_factors.proofs.rounds.factor.Given as goal
+use Rattle.district_factors.proofs.rounds.factor_under.Given as goal
 
 abbrev pub invariant-rounds : goal.invariant-rounds
 invariant-rounds l = record {
@@ -16,7 +16,7 @@ invariant-rounds l = record {
   number : l.next ≡ l.first + length l.defs.items;
   few : length l.defs.items + size l.a.bits ≤ 64;
   paired : length l.lemmas.items ≡ length l.defs.items;
-  reaching : Reaching (graph_of l.g) (listed l.order) l.c.bits l.initial.a.bits l.first l.a.bits (source_of l.from) l.next l.defs.items l.lemmas.items;
+  reaching : Reaching (graph_of l.g) (listed l.order) (source_of l.initial.from) l.c.bits l.initial.a.bits l.first l.a.bits (source_of l.from) l.next l.defs.items l.lemmas.items;
 }
 
 abbrev pub decreases-rounds : goal.decreases-rounds
