@@ -1,10 +1,13 @@
 -- What the factors of the districts have to be, and where one stops.
 use Rattle.std.specs.Prelude.{ℕ, ◌≡◌, ◌≤◌, ◌*◌, List, [], ◌∷◌, ◌++◌, length, map}
 use Rattle.mixed_graph.specs.Graphs.{MixedGraph}
+use Rattle.prob_expr.specs.Masks.{minus}
+use Rattle.prob_expr.specs.Tree.{PlainFormula}
 use Rattle.prob_expr.specs.View.{view, views}
+use Rattle.do_derivation.specs.Plans.{Plan, PlainDerivation}
 use Rattle.do_derivation.specs.View.{lemma_view}
-use Rattle.identification.specs.Procedure.{AreFactored, StopsAt}
-use Rattle.identification.specs.Derivations.{AreAllSteps}
+use Rattle.identification.specs.Procedure.{AreFactored, StopsAt, product_of, sum_if}
+use Rattle.identification.specs.Derivations.{AreAllSteps, district_steps, main_steps}
 use Rattle.mixed_graph.specs.declared.sets.VSet.{VSet}
 use Rattle.district_factors.specs.declared.kinds.Factor.{Factor}
 use Rattle.district_factors.specs.declared.kinds.FactorFault.{FactorFault}
@@ -37,3 +40,10 @@ pub record AreWithMore (old : Factors) (more : Factor) (new : Factors) : Type 0 
 abbrev pub stop_for : VSet → FactorFault → Stop
 stop_for c (faults.Stopped big) = At c big
 stop_for c faults.NoMemory = NoMemory
+
+-- The formula of these factors of the districts, with d the ancestors of y once x is left out: their product, summed down to y. Its derivation goes to each district, and then by the steps of each.
+pub record AreAssembled (n : ℕ) (order districts : List ℕ) (x y d : ℕ) (made : Factors) (f : PlainFormula) (t : PlainDerivation) : Type 0 where
+  pub defs : f.defs ≡ map view made.defs.items
+  pub main : f.main ≡ sum_if (minus d y) (product_of (views made.values.items))
+  pub lemmas : t.lemmas ≡ map lemma_view made.lemmas.items
+  pub steps : t.main ≡ Plan.Then (main_steps n x y d (district_steps order d districts (lists_view made.lists.items) (views made.values.items)))

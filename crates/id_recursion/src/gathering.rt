@@ -17,7 +17,7 @@ use mixed_graph::{Graph, Order, VSet};
 use std::alloc::{AllocError, Global};
 
 /// Adds the factor of one more district.
-fn add(made: &mut Factors, more: Factor) -> Result<(), AllocError>
+pub fn add_factor(made: &mut Factors, more: Factor) -> Result<(), AllocError>
     ensures { OnOk result (AreWithMore made.old more made.new) }
 {
     let Factor {
@@ -70,7 +70,7 @@ pub fn factors(
             Ok(more) => more,
             Err(fault) => return Err(stop_for(*c, fault)),
         };
-        match add(&mut made, more) {
+        match add_factor(&mut made, more) {
             Ok(()) => {}
             Err(_) => return Err(Stop::NoMemory),
         }

@@ -37,7 +37,7 @@ use prob_expr::{Expr, Formula};
 use std::alloc::{AllocError, Global};
 
 /// The formula P(y), which is the effect of no intervention without a step.
-fn observed(alloc: Global, y: VSet) -> (Formula, Derivation)
+pub fn observed(alloc: Global, y: VSet) -> (Formula, Derivation)
     ensures formula { formula_view result.0 ≡ record { defs = []; main = prob y.bits 0 0 } }
     ensures derivation { derivation_view result.1 ≡ record { lemmas = []; main = Plan.Then no_plans } }
 {
@@ -58,7 +58,7 @@ fn observed(alloc: Global, y: VSet) -> (Formula, Derivation)
 }
 
 /// The ancestors of y once x is left out.
-fn ancestors_outside(g: &Graph, x: VSet, y: VSet) -> VSet
+pub fn ancestors_outside(g: &Graph, x: VSet, y: VSet) -> VSet
     requires { Within g.now.n (has y.bits) }
     ensures { AreAncestorsIn (graph_of g.now) (minus (all g.now.n) x.bits) y.bits result.bits }
 {
@@ -67,7 +67,7 @@ fn ancestors_outside(g: &Graph, x: VSet, y: VSet) -> VSet
 }
 
 /// The order of the graph.
-fn order_of(g: &Graph) -> Order
+pub fn order_of(g: &Graph) -> Order
     ensures order { IsOrder (graph_of g.now) result.list result.count }
     ensures full { length result.list ≡ 64 }
 {

@@ -1,7 +1,8 @@
 //! Identification of effects: a formula for P(y | do(x)) from what is observed, or a hedge, which
 //! shows that there is none (Shpitser and Pearl 2006).
 //!
-//! `identify(alloc, &graph, x, y)` gives the one or the other.
+//! `identify(alloc, &graph, x, y)` gives the one or the other. The other public functions are its parts,
+//! for further procedures over the same districts.
 #![tactic(auto)]
 
 mod expressions;
@@ -14,5 +15,8 @@ mod mains;
 mod pushing;
 mod stops;
 
-pub use identifying::identify;
-pub use kinds::Answer;
+pub use gathering::add_factor;
+pub use identifying::{ancestors_outside, identify, observed, order_of};
+pub use kinds::{Answer, Factors, Stop};
+pub use mains::assembled;
+pub use stops::hedge_of;

@@ -14,7 +14,7 @@ ghost use Rattle.do_derivation.specs.View.{steps_view, listed, derivation_view};
 ghost use Rattle.identification.specs.Procedure.{AreAncestorsIn};
 ghost use Rattle.identification.specs.Derivations.{unwrap_steps, district_steps, main_steps, IsComposedWith};
 ghost use Rattle.id_recursion.specs.Lists.{onto, lists_view};
-ghost use Rattle.id_recursion.specs.Factored.{AreFactorsOf};
+ghost use Rattle.id_recursion.specs.Factored.{AreAssembled, AreFactorsOf};
 
 use crate::expressions::{has_product, product_of, sum_if};
 use crate::groups::{in_order, push_groups};
@@ -96,6 +96,37 @@ fn main_steps(
     Ok(out)
 }
 
+/// The formula and the derivation of these factors of the districts of d, the ancestors of y once x is left out.
+pub fn assembled(
+    alloc: Global,
+    g: &Graph,
+    x: VSet,
+    y: VSet,
+    d: VSet,
+    order: &Order,
+    parts: &Districts,
+    made: Factors,
+) -> Result<(Formula, Derivation), AllocError>
+    requires order { IsOrder (graph_of g.now) order.now.list order.now.count }
+    requires counted { length made.lists.items ≡ length (first_masks parts.now.sets parts.now.count) }
+    ensures { IfOk result (λ p. AreAssembled g.now.n (listed order.now) (first_masks parts.now.sets parts.now.count) x.bits y.bits d.bits made (formula_view p.0) (derivation_view p.1)) }
+{
+    let opens = has_product(&made.values);
+    let rest = district_steps(alloc, order, d, parts, made.lists, opens)?;
+    let steps = main_steps(alloc, g.n, x, y, d, rest)?;
+    let body = product_of(alloc, made.values)?;
+    let main = sum_if(alloc, minus(d, y), body)?;
+    let formula = Formula {
+        defs: made.defs,
+        main,
+    };
+    let derivation = Derivation {
+        lemmas: made.lemmas,
+        main: Step::Then(steps),
+    };
+    Ok((formula, derivation))
+}
+
 /// The formula with its derivation, where d are the ancestors of y once x is left out, and these the factors of its districts.
 pub fn composed(
     alloc: Global,
@@ -114,18 +145,5 @@ pub fn composed(
     ensures composed { IfOk result (λ p. IsComposedWith (graph_of g.now) (listed order.now) x.bits y.bits (formula_view p.0) (derivation_view p.1)) }
     ensures few { IfOk result (λ p. length (formula_view p.0).defs ≤ 64 * length (first_masks parts.now.sets parts.now.count)) }
 {
-    let opens = has_product(&made.values);
-    let rest = district_steps(alloc, order, d, parts, made.lists, opens)?;
-    let steps = main_steps(alloc, g.n, x, y, d, rest)?;
-    let body = product_of(alloc, made.values)?;
-    let main = sum_if(alloc, minus(d, y), body)?;
-    let formula = Formula {
-        defs: made.defs,
-        main,
-    };
-    let derivation = Derivation {
-        lemmas: made.lemmas,
-        main: Step::Then(steps),
-    };
-    Ok((formula, derivation))
+    assembled(alloc, g, x, y, d, order, parts, made)
 }

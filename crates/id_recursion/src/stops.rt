@@ -7,6 +7,7 @@ ghost use Rattle.mixed_graph.specs.Shown.{graph_of};
 ghost use Rattle.districts.specs.Linked.{IsInside, IsJoinedSet};
 ghost use Rattle.districts.specs.Nearest.{IsChoiceOf};
 ghost use Rattle.hedge.specs.Hedges.{IsHedge};
+ghost use Rattle.hedge.specs.Shapes.{AreSetsOfHedge};
 ghost use Rattle.identification.specs.Procedure.{IsUnidentified};
 ghost use Rattle.identification_answers.specs.Laws.{AreRoots};
 ghost use Rattle.counter_models.specs.Pairs.{IsPairOf};
@@ -82,6 +83,33 @@ fn hedge_at(g: &Graph, small: VSet, big: VSet, roots: VSet) -> Hedge
     }
 }
 
+/// The hedge of small and big for the effect of x on y, its roots those members of small that have no
+/// child in it, and its two models.
+pub fn hedge_of(
+    alloc: Global,
+    g: &Graph,
+    x: VSet,
+    y: VSet,
+    small: VSet,
+    big: VSet,
+) -> Result<(Hedge, CounterPair), AllocError>
+    requires x_within { Within g.now.n (has x.bits) }
+    requires y_within { Within g.now.n (has y.bits) }
+    requires apart { Apart (has x.bits) (has y.bits) }
+    requires some { 0 < y.bits }
+    requires hedge { (roots : ℕ) → AreRoots (graph_of g.now) small.bits roots → AreSetsOfHedge (graph_of g.now) x.bits y.bits big.bits small.bits roots }
+    ensures small { IfOk result (λ p. p.0.small ≡ small) }
+    ensures big { IfOk result (λ p. p.0.big ≡ big) }
+    ensures data { IfOk result (λ p. IsHedgeOf (graph_of g.now) p.0) }
+    ensures hedge { IfOk result (λ p. IsHedge (graph_of g.now) x.bits y.bits p.0) }
+    ensures pair { IfOk result (λ p. IsPairOf (graph_of g.now) x.bits y.bits p.0 p.1) }
+{
+    let roots = roots_of(g, small);
+    let hedge = hedge_at(g, small, big, roots);
+    let pair = build(alloc, g, x, y, &hedge)?;
+    Ok((hedge, pair))
+}
+
 /// The hedge for the effect of x on y at which the procedure stops, and its two models.
 pub fn stopped(
     alloc: Global,
@@ -101,8 +129,5 @@ pub fn stopped(
     ensures hedge { IfOk result (λ p. IsHedge (graph_of g.now) x.bits y.bits p.0) }
     ensures pair { IfOk result (λ p. IsPairOf (graph_of g.now) x.bits y.bits p.0 p.1) }
 {
-    let roots = roots_of(g, small);
-    let hedge = hedge_at(g, small, big, roots);
-    let pair = build(alloc, g, x, y, &hedge)?;
-    Ok((hedge, pair))
+    hedge_of(alloc, g, x, y, small, big)
 }

@@ -43,8 +43,8 @@ loop-c-preserved c =
     let sets = c.args.parts.now.sets in
     let n = c.args.parts.now.count in
     let lt : c.loop-c.c-index < length (take n sets) = c.loop-c-test.true in
-    gathered_next (graph_of c.args.g.now) (listed c.args.order.now) (map (λ (s : VSet). s.bits) (take c.loop-c.c-index (take n sets))) _ c.loop-c.made c.add.new.made _ c.len.result c.in-Ok.more
-    c.loop-c.invariant (sets_more sets n c.loop-c.c-index lt) (let e = c.len.ensures in let o = c.loop-c.made.defs.ok in omega (arith, e, o)) c.in-Ok.ensures.factor c.in-Ok.ensures.few c.in-Ok.ensures.paired c.in-Ok-add.ensures
+    gathered_next (graph_of c.args.g.now) (listed c.args.order.now) (map (λ (s : VSet). s.bits) (take c.loop-c.c-index (take n sets))) _ c.loop-c.made c.add_factor.new.made _ c.len.result c.in-Ok.more
+    c.loop-c.invariant (sets_more sets n c.loop-c.c-index lt) (let e = c.len.ensures in let o = c.loop-c.made.defs.ok in omega (arith, e, o)) c.in-Ok.ensures.factor c.in-Ok.ensures.few c.in-Ok.ensures.paired c.in-Ok-add_factor.ensures
 
 pub returns : goal.returns
 returns c =

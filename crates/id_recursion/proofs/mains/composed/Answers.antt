@@ -1,33 +1,50 @@
-use Rattle.std.proofs.Common.{sym, ap, ◌∙◌, arith}
+use Rattle.std.proofs.Common.{◌≡◌, ℕ, ◌≤◌, ◌*◌, List, length, map, Result, Ok, Err, sym, ap, subst, arith}
 use Rattle.std.proofs.lemmas.List.{length-map}
+use Rattle.std.specs.Prelude.{IfOk}
+use Rattle.mixed_graph.specs.Graphs.{MixedGraph}
+use Rattle.mixed_graph.specs.Shown.{graph_of}
+use Rattle.districts.specs.Linked.{AreDistricts}
 use Rattle.districts.specs.Listed.{first_masks}
-use Rattle.prob_expr.specs.Masks.{minus}
-use Rattle.prob_expr.specs.View.{view, views}
-use Rattle.do_derivation.specs.Plans.{Plan}
-use Rattle.identification.specs.Procedure.{sum_if}
-use Rattle.identification.specs.Derivations.{main_steps}
+use Rattle.prob_expr.specs.Masks.{minus, all}
+use Rattle.prob_expr.specs.Tree.{PlainFormula}
+use Rattle.prob_expr.specs.View.{view, views, formula_view}
+use Rattle.do_derivation.specs.Plans.{PlainDerivation}
+use Rattle.do_derivation.specs.View.{listed, lemma_view, derivation_view}
+use Rattle.identification.specs.Procedure.{AreAncestorsIn, AreFactored}
+use Rattle.identification.specs.Derivations.{AreAllSteps, IsComposedWith}
+use Rattle.id_recursion.specs.Factored.{AreFactorsOf, AreAssembled}
 use Rattle.id_recursion.specs.Lists.{lists_view}
-use Rattle.id_recursion.proofs.StepLists.{step-Then}
+use Rattle.id_recursion.specs.declared.kinds.Factors.{Factors}
+use Rattle.id_recursion.proofs.RightAnswers.{if_ok}
 use Rattle.id_recursion.proofs.mains.composed.Goals as goal
 
+-- what is assembled of the factors of the procedure is its formula with its derivation
+with_steps : (g : MixedGraph) (order ts : List ℕ) (x y d : ℕ) (made : Factors) → AreAncestorsIn g (minus (all g.vertices) x) y d → AreDistricts g d 0 order ts → AreFactorsOf g order ts made
+    → (f : PlainFormula) (t : PlainDerivation) → AreAssembled g.vertices order ts x y d made f t → IsComposedWith g order x y f t
+with_steps g order ts x y d made is_d districts of f t a = record {
+  composed = record {
+    d = d;
+    is_d = is_d;
+    districts = ts;
+    are_districts = districts;
+    factors = views made.values.items;
+    are_factored = subst (λ z. AreFactored g order 0 ts z (views made.values.items)) (sym a.defs) of.formulas;
+    main = a.main;
+  };
+  lists = lists_view made.lists.items;
+  are = subst (λ z. AreAllSteps g order 0 ts z (lists_view made.lists.items)) (sym a.lemmas) of.steps;
+  main = a.steps;
+}
+
+few_defs : (n : ℕ) (order ts : List ℕ) (x y d : ℕ) (made : Factors) → length made.defs.items ≤ 64 * length ts → (f : PlainFormula) (t : PlainDerivation) → AreAssembled n order ts x y d made f t → length f.defs ≤ 64 * length ts
+few_defs n order ts x y d made few f t a = (let e = ap length a.defs in let l = length-map made.defs.items view in omega (arith, few, e, l))
+
 pub returns-clause-composed : goal.returns-clause-composed
-returns-clause-composed c =
-    let fs = views c.args.made.values.items in
-    record {
-      composed = record {
-        d = c.args.d.bits;
-        is_d = c.requires.ancestors;
-        districts = first_masks c.args.parts.now.sets c.args.parts.now.count;
-        are_districts = c.requires.districts;
-        factors = fs;
-        are_factored = c.requires.factors.formulas;
-        main = c.in_ok-main.ensures ∙ ap (λ z. sum_if z (view c.in_ok-body.body)) c.minus.ensures ∙ ap (sum_if (minus c.args.d.bits c.args.y.bits)) c.in_ok-body.ensures;
-      };
-      lists = lists_view c.args.made.lists.items;
-      are = c.requires.factors.steps;
-      main = step-Then c.in_ok-steps.steps ∙ ap (λ p. Plan.Then p) (c.in_ok-steps.ensures
-          ∙ ap (main_steps c.args.g.now.n c.args.x.bits c.args.y.bits c.args.d.bits) (c.in_ok-rest.ensures fs (sym c.has_product-opens.ensures)));
-    }
+returns-clause-composed c = if_ok c.assembled.result _ _
+    (λ p a. with_steps (graph_of c.args.g.now) (listed c.args.order.now) (first_masks c.args.parts.now.sets c.args.parts.now.count) c.args.x.bits c.args.y.bits c.args.d.bits c.args.made
+    c.requires.ancestors c.requires.districts c.requires.factors (formula_view p.0) (derivation_view p.1) a) c.assembled.ensures
 
 pub returns-clause-few : goal.returns-clause-few
-returns-clause-few c = (let n = length-map c.args.made.defs.items view in let f = c.requires.factors.few in omega (arith, n, f))
+returns-clause-few c = if_ok c.assembled.result _ _
+    (λ p a. few_defs c.args.g.now.n (listed c.args.order.now) (first_masks c.args.parts.now.sets c.args.parts.now.count) c.args.x.bits c.args.y.bits c.args.d.bits c.args.made
+    c.requires.factors.few (formula_view p.0) (derivation_view p.1) a) c.assembled.ensures

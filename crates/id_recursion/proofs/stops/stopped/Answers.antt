@@ -1,39 +1,26 @@
-use Rattle.std.proofs.Common.{◌≡◌, ◌^◌, ◌<◌, arith}
-use Rattle.mixed_graph.proofs.Masks.{positive_from_has, some_member}
+use Rattle.std.proofs.Common.{ℕ, ◌≡◌, ◌^◌, ◌<◌, Result, Ok, Err, sym, subst, arith}
+use Rattle.std.specs.Prelude.{IfOk}
+use Rattle.mixed_graph.proofs.Masks.{some_member}
+use Rattle.mixed_graph.specs.Graphs.{MixedGraph}
 use Rattle.mixed_graph.specs.Shown.{graph_of}
-use Rattle.hedge.specs.Hedges.{IsHedge}
-use Rattle.hedge.specs.Shapes.{AreSetsOfHedge}
-use Rattle.id_recursion.proofs.HedgeData.{hedge_from}
-use Rattle.id_recursion.proofs.RightAnswers.{target_of}
+use Rattle.mixed_graph.specs.declared.sets.VSet.{VSet}
+use Rattle.counter_models.specs.declared.kinds.CounterPair.{CounterPair}
+use Rattle.hedge.specs.declared.kinds.Hedge.{Hedge}
+use Rattle.identification.specs.Procedure.{IsUnidentified}
 use Rattle.identification_answers.proofs.Answered.{stop_is_hedge}
+use Rattle.id_recursion.proofs.RightAnswers.{target_of}
 use Rattle.id_recursion.proofs.stops.stopped.Goals as goal
-use Rattle.id_recursion.proofs.stops.stopped.Goals.{After-roots_of-roots, After-hedge_at-hedge}
 
--- the sets of the hedge
-shape : (c : After-roots_of-roots) → AreSetsOfHedge (graph_of c.args.g.now) c.args.x.bits c.args.y.bits c.args.big.bits c.args.small.bits c.roots_of-roots.result.bits
-shape c = stop_is_hedge (graph_of c.args.g.now) c.args.g.now.valid c.args.x.bits c.args.y.bits c.args.small.bits c.args.big.bits c.roots_of-roots.result.bits
+pub hedge_of-requires-clause-hedge : goal.hedge_of-requires-clause-hedge
+hedge_of-requires-clause-hedge c = λ roots r. stop_is_hedge (graph_of c.args.g.now) c.args.g.now.valid c.args.x.bits c.args.y.bits c.args.small.bits c.args.big.bits roots
     (target_of (graph_of c.args.g.now) c.args.x.bits c.args.y.bits c.requires.x_within c.requires.y_within c.requires.apart (some_member c.args.y.bits (λ z. absurd (let p = c.requires.some in omega (arith, p, z))) (omega arith)))
-    c.requires.stop c.roots_of-roots.ensures
+    c.requires.stop r
 
-pub hedge_at-hedge-requires-clause-within : goal.hedge_at-hedge-requires-clause-within
-hedge_at-hedge-requires-clause-within c = (shape (goal.at.hedge_at-hedge-requires-clause-within c).After-roots_of-roots).low
+-- its sets are those at which the procedure stops
+stop_at : {E : Type 0} (g : MixedGraph) (x y : ℕ) (small big : VSet) (r : Result (Hedge × CounterPair) E) → IsUnidentified g x y small.bits big.bits → IfOk r (λ p. p.0.small ≡ small) → IfOk r (λ p. p.0.big ≡ big)
+    → IfOk r (λ p. IsUnidentified g x y p.0.small.bits p.0.big.bits)
+stop_at g x y small big (Ok p) u s b = subst (λ (z : VSet). IsUnidentified g x y z.bits p.0.big.bits) (sym s) (subst (λ (z : VSet). IsUnidentified g x y small.bits z.bits) (sym b) u)
+stop_at g x y small big (Err e) u s b = tt
 
-pub hedge_at-hedge-requires-clause-some : goal.hedge_at-hedge-requires-clause-some
-hedge_at-hedge-requires-clause-some c = let r = (shape (goal.at.hedge_at-hedge-requires-clause-some c).After-roots_of-roots).rooted in positive_from_has c.args.small.bits r.vertex r.in_second
-
-pub hedge_at-hedge-requires-clause-inside : goal.hedge_at-hedge-requires-clause-inside
-hedge_at-hedge-requires-clause-inside c = (shape (goal.at.hedge_at-hedge-requires-clause-inside c).After-roots_of-roots).small_inside
-
-pub hedge_at-hedge-requires-clause-small_joined : goal.hedge_at-hedge-requires-clause-small_joined
-hedge_at-hedge-requires-clause-small_joined c = (shape (goal.at.hedge_at-hedge-requires-clause-small_joined c).After-roots_of-roots).small_joined
-
-pub hedge_at-hedge-requires-clause-big_joined : goal.hedge_at-hedge-requires-clause-big_joined
-hedge_at-hedge-requires-clause-big_joined c = (shape (goal.at.hedge_at-hedge-requires-clause-big_joined c).After-roots_of-roots).big_joined
-
-pub build-requires-clause-holds : goal.build-requires-clause-holds
-build-requires-clause-holds c = hedge_from (graph_of c.args.g.now) c.args.g.now.valid c.args.g.now.small c.args.x.bits c.args.y.bits c.args.small c.args.big c.roots_of-roots.result
-    (shape (goal.at.build-requires-clause-holds c).After-roots_of-roots) c.hedge_at-hedge.result c.hedge_at-hedge.ensures.big c.hedge_at-hedge.ensures.small c.hedge_at-hedge.ensures.roots c.hedge_at-hedge.ensures.data
-
-pub returns-clause-hedge : goal.returns-clause-hedge
-returns-clause-hedge c = hedge_from (graph_of c.args.g.now) c.args.g.now.valid c.args.g.now.small c.args.x.bits c.args.y.bits c.args.small c.args.big c.roots_of-roots.result
-    (shape (goal.at.returns-clause-hedge c).After-roots_of-roots) c.hedge_at-hedge.result c.hedge_at-hedge.ensures.big c.hedge_at-hedge.ensures.small c.hedge_at-hedge.ensures.roots c.hedge_at-hedge.ensures.data
+pub returns-clause-stop : goal.returns-clause-stop
+returns-clause-stop c = stop_at (graph_of c.args.g.now) c.args.x.bits c.args.y.bits c.args.small c.args.big c.hedge_of.result c.requires.stop c.hedge_of.ensures.small c.hedge_of.ensures.big
