@@ -4,13 +4,12 @@
 //! `carry_path(&g, &h, w, &path)` gives the open path in h, and `imply_the_same(&g, &h)` says whether all separations are equal.
 #![tactic(auto)]
 
-ghost use Rattle.std.specs.Prelude.{◌≡◌, ◌==◌, ◌-◌, ◌↔◌, IsTrue, slice_index};
+ghost use Rattle.std.specs.Prelude.{◌≡◌, ◌↔◌, IsTrue};
 ghost use Rattle.mixed_graph.specs.Bits.{has};
 ghost use Rattle.mixed_graph.specs.Sets.{Within};
 ghost use Rattle.mixed_graph.specs.Shown.{graph_of};
-ghost use Rattle.m_separation.specs.Paths.{IsOpenPath};
 ghost use Rattle.markov_equivalence.specs.Skeletons.{HasArrowsAlone, AreEquivalent};
-ghost use Rattle.path_carry.specs.Separations.{HaveSameSeparations};
+ghost use Rattle.path_carry.specs.Separations.{HaveSameSeparations, IsOpenWithEndsOf};
 
 use m_separation::{OpenPath, open_path};
 use markov_equivalence::{Compared, compare};
@@ -23,8 +22,8 @@ pub fn carry_path(g: &Graph, h: &Graph, w: VSet, p: &OpenPath) -> OpenPath
     requires second { HasArrowsAlone (graph_of h.now) }
     requires equivalent { AreEquivalent (graph_of g.now) (graph_of h.now) }
     requires within { Within g.now.n (has w.bits) }
-    requires path { IsOpenPath (graph_of g.now) (λ v. v == slice_index p.now.vertices 0) (λ v. v == slice_index p.now.vertices (p.now.count - 1)) (has w.bits) p.now.vertices p.now.marks p.now.count }
-    ensures carried { IsOpenPath (graph_of h.now) (λ v. v == slice_index p.now.vertices 0) (λ v. v == slice_index p.now.vertices (p.now.count - 1)) (has w.bits) result.vertices result.marks result.count }
+    requires path { IsOpenWithEndsOf (graph_of g.now) (has w.bits) p.now p.now }
+    ensures carried { IsOpenWithEndsOf (graph_of h.now) (has w.bits) p.now result }
 {
     let first = p.vertices[0];
     let last = p.vertices[p.count as usize - 1];
