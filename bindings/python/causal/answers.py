@@ -98,15 +98,15 @@ class Path:
         return printed_name(self.vertices[0]) + rest
 
 
-def read_path(line: str) -> Path:
-    """Reads the line of an open path.
+def read_path(line: str, head: str = "open: ") -> Path:
+    """Reads the line of an open path, behind its head.
 
     >>> from causal.answers import read_path
     >>> read_path('open: A <-> "b c"')
     Path(vertices=('A', 'b c'), marks=('<->',))
     """
     cursor = Cursor(line)
-    cursor.take("open: ")
+    cursor.take(head)
     vertices, marks = [cursor.name()], []
     mark = cursor.mark()
     while mark:
@@ -428,8 +428,10 @@ class Equivalence:
     """Whether two diagrams imply the same: it counts as true where they do. Else the first difference.
 
     `kind` is "edge" or "collider", `vertices` its two or three vertices, and `first` whether the first diagram has it;
-    `separation` is one that holds in one diagram alone, and `separated_in_first` says in which. Equivalence is proved to be that
-    of skeletons and unshielded colliders; the difference and the separation are proved too.
+    `separation` is one that holds in one diagram alone, and `separated_in_first` says in which. Where sets were asked about and
+    the diagrams are equivalent, `separated_in_both` is their separation, or `paths` has an open path of each diagram, both with
+    the same ends. Proved: equivalence is that of skeletons and unshielded colliders, and any sets are separated in the one
+    diagram exactly where they are in the other; the difference, the separations and the paths are proved too.
 
     >>> from causal import Diagram
     >>> answer = Diagram("dag{ A -> B -> C }").equivalent(Diagram("dag{ A -> B <- C }"))
@@ -442,13 +444,17 @@ class Equivalence:
     first: bool = False
     separation: Optional[Separation] = None
     separated_in_first: bool = False
+    separated_in_both: Optional[Separation] = None
+    paths: Tuple[Path, ...] = ()
 
     def __bool__(self) -> bool:
         return self.kind is None
 
     def __str__(self) -> str:
         if self.kind is None or self.separation is None:
-            return "equivalent"
+            both = [f"separated in both: {str(self.separated_in_both)[len('separated: '):]}"] if self.separated_in_both else []
+            opened = [f"open in the {place}: {path}" for place, path in zip(("first", "second"), self.paths)]
+            return "\n".join(["equivalent", *both, *opened])
         place, other = ["first" if is_first else "second" for is_first in (self.first, self.separated_in_first)]
         return (
             f"not equivalent: {self.kind} {','.join(map(printed_name, self.vertices))} in the {place}\n"
@@ -463,6 +469,15 @@ def _read_which(cursor: Cursor) -> bool:
     return False
 
 
+def _read_agreement(lines: List[str]) -> Equivalence:
+    if len(lines) == 1:
+        cursor = Cursor(lines[0])
+        cursor.take("separated in both: ")
+        return Equivalence(separated_in_both=Separation(*_read_sets(cursor)))
+    heads = ("open in the first: ", "open in the second: ")
+    return Equivalence(paths=tuple(read_path(line, head) for line, head in zip(lines, heads)))
+
+
 def read_equivalence(text: str) -> Equivalence:
     """Reads the answer of `equivalent`.
 
@@ -471,8 +486,8 @@ def read_equivalence(text: str) -> Equivalence:
     True
     """
     lines = _lines(text)
-    if lines == ["equivalent"]:
-        return Equivalence()
+    if lines[0] == "equivalent":
+        return _read_agreement(lines[1:])
     cursor = Cursor(lines[0])
     cursor.take("not equivalent: ")
     kind = "edge" if cursor.accept("edge ") else "collider"

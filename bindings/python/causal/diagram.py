@@ -315,14 +315,24 @@ class Diagram:
         words = [*options(x=x, y=y, set=members), *(["--back-door"] if back_door else [])]
         return answers.read_adjustment(ask("adjust", self.source, *words)[1])
 
-    def equivalent(self, other: "Diagram") -> answers.Equivalence:
+    def equivalent(
+        self, other: "Diagram", x: Optional[Names] = None, y: Optional[Names] = None, given: Optional[Names] = None
+    ) -> answers.Equivalence:
         """Whether two diagrams without hidden common causes imply the same: the answer counts as true where they do.
 
+        With x and y, which are names of the first diagram, the answer for equivalent diagrams also says that they are separated in
+        both, or has an open path of each.
+
         >>> from causal import Diagram
-        >>> bool(Diagram("dag { A -> B -> C }").equivalent(Diagram("dag { A <- B -> C }")))
+        >>> chain, fork = Diagram("dag { A -> B -> C }"), Diagram("dag { A <- B -> C }")
+        >>> bool(chain.equivalent(fork))
         True
+        >>> print(chain.equivalent(fork, "A", "C"))
+        equivalent
+        open in the first: A -> B -> C
+        open in the second: A <- B -> C
         """
-        return answers.read_equivalence(ask("equivalent", self.source, second=other.source)[1])
+        return answers.read_equivalence(ask("equivalent", self.source, *options(x=x, y=y, given=given), second=other.source)[1])
 
     # Effects in data.
 

@@ -143,6 +143,9 @@ class OddNames(unittest.TestCase):
         for text in (
             'not equivalent: edge "a,b",c in the second\nseparated in the first alone: {"a,b"} from {c} given {d,e}\n',
             "not equivalent: collider a,m,b in the first\nseparated in the second alone: {a} from {b} given {}\n",
+            "equivalent\n",
+            'equivalent\nseparated in both: {"a,b"} from {c} given {d,e}\n',
+            'equivalent\nopen in the first: a -> "b c" <- d\nopen in the second: a <- "b c" -> d\n',
         ):
             with self.subTest(text):
                 self.assertEqual(str(answers.read_equivalence(text)) + "\n", text)

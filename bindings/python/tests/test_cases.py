@@ -106,7 +106,7 @@ class Questions(unittest.TestCase):
         return diagram.adjusts(options.pop("set"), back_door=back_door, **options)
 
     def ask_equivalent(self, diagram, second, options, folder):
-        return diagram.equivalent(causal.Diagram(second) if second is not None else diagram)
+        return diagram.equivalent(causal.Diagram(second) if second is not None else diagram, **options)
 
     def ask_evaluate(self, diagram, second, options, folder):
         path = os.path.join(folder, "counts.csv")

@@ -1,4 +1,6 @@
+pub mod Asked
 pub mod Directed
 pub mod Held
 pub mod Placing
+pub mod Queries
 pub mod Outcomes

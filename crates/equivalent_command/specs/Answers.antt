@@ -1,21 +1,31 @@
 -- The answer of the command `equivalent`.
-use Rattle.std.specs.Prelude.{ℕ, ◌≡◌, ◌<◌, ◌≤◌, ◌⊎◌, List, length, Err}
+use Rattle.std.specs.Prelude.{ℕ, ◌≡◌, ◌<◌, ◌≤◌, ◌⊎◌, List, length, Option, Some, None, Err}
+use Rattle.mixed_graph.specs.Bits.{has}
 use Rattle.mixed_graph.specs.Graphs.{MixedGraph}
+use Rattle.m_separation.specs.declared.paths.OpenPath.{OpenPath}
+use Rattle.m_separation.specs.Walks.{IsSeparated}
+use Rattle.m_separation.specs.Paths.{IsOpenPath}
 use Rattle.dag_reader.specs.declared.graph.ReadGraph.{ReadGraph}
 use Rattle.dag_reader.specs.declared.faults.GraphFault.{GraphFault}
 use Rattle.dag_reader.specs.declared.faults.GraphFault.TheVariants.{NoMemory}
 use Rattle.dag_reader.specs.Reads.{Reads}
 use Rattle.targets.specs.declared.fault.TargetFault.{TargetFault}
+use Rattle.targets.specs.declared.query.Sets.{Sets}
 use Rattle.fault_text.specs.Lines.{line_of, graph_fault_text, target_fault_text, size_text, second as of_second}
 use Rattle.markov_equivalence.specs.Skeletons.{HasArrowsAlone, AreEquivalent}
 use Rattle.markov_equivalence.specs.Comparisons.{IsEdgeDifference, IsColliderDifference, IsShown}
 use Rattle.markov_equivalence.specs.declared.comparison.Difference.{Difference}
+use Rattle.path_carry.specs.Separations.{HaveSameSeparations, IsOpenWithEndsOf}
 use Rattle.replies.specs.declared.outcome.Outcome.{Outcome}
 use Rattle.replies.specs.declared.outcome.Outcome.TheVariants.{Yes, No, Graph, Second}
 use Rattle.replies.specs.Observed.{observed_names, IsObservedGraph, Holds}
 use Rattle.equivalent_command.specs.Numbers.{HaveSameNames, on_names}
 use Rattle.equivalent_command.specs.Faults.{IsBidirectedFault, IsNamesFault}
-use Rattle.equivalent_command.specs.Lines.{edge_text, collider_text, equivalent_text}
+use Rattle.equivalent_command.specs.Lines.{edge_text, collider_text, equivalent_text, separated_text, connected_text}
+use Rattle.equivalent_command.specs.Requests.{Query}
+use Rattle.equivalent_command.specs.Queries.{AreAsked, IsListsFault}
+
+-- ---- on the first graph alone
 
 -- the observed graph has no bidirected edge
 abbrev pub IsDirected : ReadGraph → Type 0
@@ -25,12 +35,24 @@ IsDirected g = (q : MixedGraph) × IsObservedGraph g q × HasArrowsAlone q
 abbrev pub HasBidirected : ReadGraph → TargetFault → Type 0
 HasBidirected g f = (q : MixedGraph) × IsObservedGraph g q × IsBidirectedFault q (observed_names g) f
 
--- the line of a first graph with a bidirected edge
-pub record IsFirstRefusal (g : ReadGraph) (o : Outcome) (line : List ℕ) : Type 0 where
+-- the first graph is accepted: the lists name these sets, and its observed graph has no bidirected edge
+pub record IsAccepted (g : ReadGraph) (l : Option Query) (s : Option Sets) : Type 0 where
+  pub asked : AreAsked g l s
+  pub directed : IsDirected g
+
+-- what is wrong with the first graph: a listed name is at fault, or a set is empty; or else the observed graph has a bidirected edge
+pub data IsFirstFault (g : ReadGraph) (l : Option Query) (f : TargetFault) : Type 0 where
+  listed : IsListsFault g l f → IsFirstFault g l f
+  bidirected : (s : Option Sets) → AreAsked g l s → HasBidirected g f → IsFirstFault g l f
+
+-- the line of a first graph that is refused
+pub record IsFirstRefusal (g : ReadGraph) (l : Option Query) (o : Outcome) (line : List ℕ) : Type 0 where
   pub outcome : o ≡ Graph
   pub fault : TargetFault
-  pub is_fault : HasBidirected g fault
+  pub is_fault : IsFirstFault g l fault
   pub prints : line ≡ line_of (target_fault_text fault)
+
+-- ---- for two graphs that are compared
 
 -- the observed graphs of g and h have no bidirected edge and the same names: p is that of g, and q is that of h on the numbers of g's names
 pub record AreComparable (g h : ReadGraph) (p q : MixedGraph) : Type 0 where
@@ -42,10 +64,30 @@ pub record AreComparable (g h : ReadGraph) (p q : MixedGraph) : Type 0 where
   pub names : HaveSameNames (observed_names g) (observed_names h)
   pub numbers : q ≡ on_names (observed_names g) (observed_names h) other
 
--- the same skeleton and the same unshielded colliders
-pub record IsSame (p q : MixedGraph) (text : List ℕ) : Type 0 where
+-- in neither graph a walk from x to y is open given the third set
+pub record ShowsSeparation (names : List (List ℕ)) (p q : MixedGraph) (s : Sets) (text : List ℕ) : Type 0 where
+  pub first : IsSeparated p (has s.x.bits) (has s.y.bits) (has s.given.bits)
+  pub second : IsSeparated q (has s.x.bits) (has s.y.bits) (has s.given.bits)
+  pub prints : text ≡ separated_text names s
+
+-- a path from x to y is open in the first graph, and one with the same ends in the second
+pub record ShowsOpenPaths (names : List (List ℕ)) (p q : MixedGraph) (s : Sets) (text : List ℕ) : Type 0 where
+  pub first : OpenPath
+  pub second : OpenPath
+  pub open_first : IsOpenPath p (has s.x.bits) (has s.y.bits) (has s.given.bits) first.vertices first.marks first.count
+  pub open_second : IsOpenWithEndsOf q (has s.given.bits) first second
+  pub prints : text ≡ connected_text names first second
+
+-- what is said of the sets that are asked about
+abbrev pub SetsAnswer : List (List ℕ) → (p q : MixedGraph) → Option Sets → List ℕ → Type 0
+SetsAnswer names p q None text = text ≡ equivalent_text
+SetsAnswer names p q (Some s) text = ShowsSeparation names p q s text ⊎ ShowsOpenPaths names p q s text
+
+-- the same skeleton and the same unshielded colliders, hence the same separations: any sets are separated in the one graph exactly where they are in the other
+pub record IsSame (names : List (List ℕ)) (p q : MixedGraph) (s : Option Sets) (text : List ℕ) : Type 0 where
   pub equivalent : AreEquivalent p q
-  pub prints : text ≡ equivalent_text
+  pub separations : HaveSameSeparations p q
+  pub sets : SetsAnswer names p q s text
 
 -- the first edge, or else the first unshielded collider, that one of the graphs has alone, with a separation that holds in one of them alone
 pub data IsDifferent (names : List (List ℕ)) (p q : MixedGraph) (text : List ℕ) : Type 0 where
@@ -53,17 +95,19 @@ pub data IsDifferent (names : List (List ℕ)) (p q : MixedGraph) (text : List �
   collider : (d : Difference) (m : ℕ) → IsColliderDifference p q d m → IsShown p q d → text ≡ collider_text names d m → IsDifferent names p q text
 
 -- the answer of two graphs that are compared
-abbrev pub ComparisonAnswer : List (List ℕ) → MixedGraph → MixedGraph → Outcome → List ℕ → Type 0
-ComparisonAnswer names p q Yes text = IsSame p q text
-ComparisonAnswer names p q No text = IsDifferent names p q text
-ComparisonAnswer names p q o text = ⊥
+abbrev pub ComparisonAnswer : List (List ℕ) → (p q : MixedGraph) → Option Sets → Outcome → List ℕ → Type 0
+ComparisonAnswer names p q s Yes text = IsSame names p q s text
+ComparisonAnswer names p q s No text = IsDifferent names p q text
+ComparisonAnswer names p q s o text = ⊥
+
+-- ---- on the second graph
 
 -- the observed graphs of g and h are compared
-pub record ComparedAnswer (g h : ReadGraph) (o : Outcome) (text : List ℕ) : Type 0 where
+pub record ComparedAnswer (g : ReadGraph) (s : Option Sets) (h : ReadGraph) (o : Outcome) (text : List ℕ) : Type 0 where
   pub p : MixedGraph
   pub q : MixedGraph
   pub comparable : AreComparable g h p q
-  pub answer : ComparisonAnswer (observed_names g) p q o text
+  pub answer : ComparisonAnswer (observed_names g) p q s o text
 
 -- what is wrong with a second observed graph: a bidirected edge, or else a name that it or the first names have alone
 pub data ObservedFault (names : List (List ℕ)) (q : MixedGraph) (others : List (List ℕ)) (f : TargetFault) : Type 0 where
@@ -79,11 +123,11 @@ pub record IsUnlike (g h : ReadGraph) (line : List ℕ) : Type 0 where
   pub prints : line ≡ line_of (of_second (target_fault_text fault))
 
 -- the answer of two graphs that were read
-abbrev pub GraphsAnswer : ReadGraph → ReadGraph → Outcome → List ℕ → Type 0
-GraphsAnswer g h Yes text = ComparedAnswer g h Yes text
-GraphsAnswer g h No text = ComparedAnswer g h No text
-GraphsAnswer g h Second line = IsUnlike g h line
-GraphsAnswer g h o text = ⊥
+abbrev pub GraphsAnswer : ReadGraph → Option Sets → ReadGraph → Outcome → List ℕ → Type 0
+GraphsAnswer g s h Yes text = ComparedAnswer g s h Yes text
+GraphsAnswer g s h No text = ComparedAnswer g s h No text
+GraphsAnswer g s h Second line = IsUnlike g h line
+GraphsAnswer g s h o text = ⊥
 
 -- the bytes are no graph: they are too many, or their text has a fault
 pub data IsSecondRefusal (second line : List ℕ) : Type 0 where
@@ -92,10 +136,14 @@ pub data IsSecondRefusal (second line : List ℕ) : Type 0 where
       → line ≡ line_of (of_second (graph_fault_text fault)) → IsSecondRefusal second line
 
 -- the bytes hold a graph, and this is the answer of the two
-abbrev pub HoldsAnswer : ReadGraph → List ℕ → Outcome → List ℕ → Type 0
-HoldsAnswer g second o text = (h : ReadGraph) × Holds second h × GraphsAnswer g h o text
+abbrev pub HoldsAnswer : ReadGraph → Option Sets → List ℕ → Outcome → List ℕ → Type 0
+HoldsAnswer g s second o text = (h : ReadGraph) × Holds second h × GraphsAnswer g s h o text
 
--- the answer of `equivalent` on a graph that was read and the bytes of a second graph's text
-abbrev pub EquivalentAnswer : ReadGraph → List ℕ → Outcome → List ℕ → Type 0
-EquivalentAnswer g second Second line = IsSecondRefusal second line ⊎ HoldsAnswer g second Second line
-EquivalentAnswer g second o text = HoldsAnswer g second o text
+-- the answer for sets of a first graph that was accepted, and the bytes of a second graph's text
+abbrev pub SecondAnswer : ReadGraph → Option Sets → List ℕ → Outcome → List ℕ → Type 0
+SecondAnswer g s second Second line = IsSecondRefusal second line ⊎ HoldsAnswer g s second Second line
+SecondAnswer g s second o text = HoldsAnswer g s second o text
+
+-- the answer of `equivalent` on a graph that was read and accepted, and the bytes of a second graph's text
+abbrev pub EquivalentAnswer : ReadGraph → Option Query → List ℕ → Outcome → List ℕ → Type 0
+EquivalentAnswer g l second o text = (s : Option Sets) × IsAccepted g l s × SecondAnswer g s second o text

@@ -1,5 +1,7 @@
 pub mod Answers
 pub mod Faults
+pub mod Firsts
 pub mod Lines
 pub mod Numbers
+pub mod Queries
 pub mod Requests

@@ -1,11 +1,16 @@
-//! The command `equivalent`: whether the observed graphs of two graphs without bidirected edges have the same separations.
+//! The command `equivalent`: whether two graphs imply the same separations among their observed vertices, in which no edge is bidirected.
+//!
+//! `accept_first(alloc, &graph, query)` answers on the first graph alone, and `equivalent_reply(alloc, &graph, sets, second)` on both.
 #![tactic(auto)]
 
+mod accepting;
+mod agreement;
 mod faults;
 mod numbers;
 mod printing;
 mod reply;
 mod request;
 
-pub use reply::{equivalent_reply, long_second_graph, refuse_bidirected};
-pub use request::{ROW, Request};
+pub use accepting::{First, accept_first};
+pub use reply::{equivalent_reply, long_second_graph};
+pub use request::{Query, ROW, Request};

@@ -1,7 +1,7 @@
 ghost use Rattle.std.specs.Prelude.{◌≡◌, ◌++◌, ◌∷◌, [], ◌<◌, IfOk, OnOk, length};
 ghost use Rattle.mixed_graph.specs.Bits.{has};
 ghost use Rattle.markov_equivalence.specs.Comparisons.{IsBelow};
-ghost use Rattle.equivalent_command.specs.Lines.{which, braced, query_text, separation_text, place_text, edge_text, collider_text};
+ghost use Rattle.equivalent_command.specs.Lines.{which, braced, pair_text, separation_text, place_text, edge_text, collider_text};
 
 use answer_text::{push_set, push_vertex};
 use markov_equivalence::Difference;
@@ -45,7 +45,7 @@ pub fn collider_text(
 }
 
 /// The first of the two graphs, or the second.
-fn which(first: bool) -> &'static [u8]
+pub fn which(first: bool) -> &'static [u8]
     ensures { result.now ≡ which first }
 {
     if first { b"first" } else { b"second" }
@@ -73,9 +73,9 @@ fn push_braced(out: &mut Vec<u8>, names: &Names, v: u8) -> Result<(), AllocError
 }
 
 /// Appends `{A} from {B} given {C}`.
-fn push_query(out: &mut Vec<u8>, names: &Names, d: Difference) -> Result<(), AllocError>
+fn push_pair(out: &mut Vec<u8>, names: &Names, d: Difference) -> Result<(), AllocError>
     requires { IsBelow (length names.now) d }
-    ensures { OnOk result (out.new.items ≡ out.old.items ++ query_text names.now d) }
+    ensures { OnOk result (out.new.items ≡ out.old.items ++ pair_text names.now d) }
 {
     push_braced(out, names, d.a)?;
     out.extend_from_slice(b" from ")?;
@@ -93,7 +93,7 @@ fn push_separation(out: &mut Vec<u8>, names: &Names, d: Difference) -> Result<()
     out.extend_from_slice(b"separated in the ")?;
     out.extend_from_slice(which(d.first))?;
     out.extend_from_slice(b" alone: ")?;
-    push_query(out, names, d)?;
+    push_pair(out, names, d)?;
     out.push(b'\n')?;
     Ok(())
 }

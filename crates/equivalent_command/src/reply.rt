@@ -1,9 +1,15 @@
-ghost use Rattle.std.specs.Prelude.{◌≡◌, ◌≤◌, ◌<◌, ℕ, List, IfOk, IfSome, IfNone, length};
+ghost use Rattle.std.specs.Prelude.{◌≡◌, ◌≤◌, ◌<◌, ℕ, List, Option, IfOk, IfSome, IfNone, length};
+ghost use Rattle.dag_reader.specs.declared.graph.ReadGraph.{ReadGraph as FirstGraph};
+ghost use Rattle.replies.specs.Observed.{observed_names};
+ghost use Rattle.targets.specs.declared.query.Sets.{Sets as AskedSets};
+ghost use Rattle.equivalent_command.specs.Requests.{Query as AskedQuery};
+ghost use Rattle.equivalent_command.specs.Queries.{AreBelow};
 ghost use Rattle.mixed_graph.specs.Shown.{graph_of};
 ghost use Rattle.markov_equivalence.specs.Skeletons.{HasArrowsAlone};
 ghost use Rattle.equivalent_command.specs.Numbers.{HaveSameNames, on_names};
-ghost use Rattle.equivalent_command.specs.Answers.{IsDirected, IsFirstRefusal, EquivalentAnswer, ComparisonAnswer, GraphsAnswer, ObservedFault};
+ghost use Rattle.equivalent_command.specs.Answers.{IsDirected, IsAccepted, SecondAnswer, ComparisonAnswer, GraphsAnswer, ObservedFault};
 
+use crate::agreement::agreement_text;
 use crate::faults::{bidirected_fault, names_fault};
 use crate::numbers::graph_on;
 use crate::printing::{collider_text, edge_text};
@@ -12,34 +18,23 @@ use fault_text::{second_graph_line, second_size_line, second_target_line};
 use latent_projection::{Observed, observed};
 use markov_equivalence::{Compared, compare};
 use mixed_graph::{Graph, Names};
-use replies::{Outcome, Reply, refuse};
+use replies::{Outcome, Reply};
 use std::alloc::{AllocError, Global};
-use targets::TargetFault;
+use targets::{Sets, TargetFault};
 
-/// The refusal of a first graph whose observed graph has a bidirected edge; none where it has none.
-pub fn refuse_bidirected(alloc: Global, graph: &ReadGraph) -> Result<Option<Reply>, AllocError>
-    ensures refused { IfOk result (λ o. IfSome o (λ r. IsFirstRefusal graph.now r.outcome r.text.items)) }
-    ensures none { IfOk result (λ o. IfNone o (IsDirected graph.now)) }
-{
-    let seen = observed(alloc, &graph.names, &graph.graph, graph.latent)?;
-    match bidirected_fault(alloc, &seen)? {
-        Some(fault) => Ok(Some(refuse(alloc, &fault)?)),
-        None => Ok(None),
-    }
-}
-
-/// The answer of `equivalent` on a graph that was read and the bytes of a second one.
+/// The answer of `equivalent` on a first graph that was accepted with the sets that are asked about, and the bytes of a second graph.
 pub fn equivalent_reply(
     alloc: Global,
     graph: &ReadGraph,
+    sets: Option<Sets>,
     second: &[u8],
 ) -> Result<Reply, AllocError>
-    requires directed { IsDirected graph.now }
+    requires accepted { (query : Option AskedQuery) × IsAccepted graph.now query sets }
     requires small { length second.now ≤ 1048576 }
-    ensures { IfOk result (λ r. EquivalentAnswer graph.now second.now r.outcome r.text.items) }
+    ensures { IfOk result (λ r. SecondAnswer graph.now sets second.now r.outcome r.text.items) }
 {
     match read_graph(alloc, second) {
-        Ok(other) => reply_to(alloc, graph, &other),
+        Ok(other) => reply_to(alloc, graph, sets, &other),
         Err(fault) => Ok(Reply {
             outcome: Outcome::Second,
             text: second_graph_line(alloc, &fault)?,
@@ -48,8 +43,8 @@ pub fn equivalent_reply(
 }
 
 /// The answer of `equivalent` where the second graph's text has more than 1,048,576 bytes.
-pub fn long_second_graph(alloc: Global, graph: &ReadGraph) -> Result<Reply, AllocError>
-    ensures { IfOk result (λ r. (second : List ℕ) → 1048576 < length second → EquivalentAnswer graph.now second r.outcome r.text.items) }
+pub fn long_second_graph(alloc: Global) -> Result<Reply, AllocError>
+    ensures { IfOk result (λ r. (first : FirstGraph) (sets : Option AskedSets) (second : List ℕ) → 1048576 < length second → SecondAnswer first sets second r.outcome r.text.items) }
 {
     Ok(Reply {
         outcome: Outcome::Second,
@@ -58,9 +53,15 @@ pub fn long_second_graph(alloc: Global, graph: &ReadGraph) -> Result<Reply, Allo
 }
 
 /// The answer for two graphs that were read.
-fn reply_to(alloc: Global, graph: &ReadGraph, other: &ReadGraph) -> Result<Reply, AllocError>
-    requires { IsDirected graph.now }
-    ensures { IfOk result (λ r. GraphsAnswer graph.now other.now r.outcome r.text.items) }
+fn reply_to(
+    alloc: Global,
+    graph: &ReadGraph,
+    sets: Option<Sets>,
+    other: &ReadGraph,
+) -> Result<Reply, AllocError>
+    requires directed { IsDirected graph.now }
+    requires below { IfSome sets (AreBelow (length (observed_names graph.now))) }
+    ensures { IfOk result (λ r. GraphsAnswer graph.now sets other.now r.outcome r.text.items) }
 {
     let first = observed(alloc, &graph.names, &graph.graph, graph.latent)?;
     let second = observed(alloc, &other.names, &other.graph, other.latent)?;
@@ -69,7 +70,7 @@ fn reply_to(alloc: Global, graph: &ReadGraph, other: &ReadGraph) -> Result<Reply
             outcome: Outcome::Second,
             text: second_target_line(alloc, &fault)?,
         }),
-        None => compared_reply(alloc, &first, &second),
+        None => compared_reply(alloc, &first, &second, sets),
     }
 }
 
@@ -91,19 +92,25 @@ fn second_fault(
 }
 
 /// The answer of the comparison of two observed graphs with the same names.
-fn compared_reply(alloc: Global, first: &Observed, second: &Observed) -> Result<Reply, AllocError>
+fn compared_reply(
+    alloc: Global,
+    first: &Observed,
+    second: &Observed,
+    sets: Option<Sets>,
+) -> Result<Reply, AllocError>
     requires named { length first.now.names ≡ first.now.graph.n }
+    requires below { IfSome sets (AreBelow (length first.now.names)) }
     requires names { HaveSameNames first.now.names second.now.names }
     requires first_arrows { HasArrowsAlone (graph_of first.now.graph) }
     requires second_arrows { HasArrowsAlone (graph_of second.now.graph) }
     ensures { IfOk result (λ r. ComparisonAnswer first.now.names (graph_of first.now.graph)
-        (on_names first.now.names second.now.names (graph_of second.now.graph)) r.outcome r.text.items) }
+        (on_names first.now.names second.now.names (graph_of second.now.graph)) sets r.outcome r.text.items) }
 {
     let moved = graph_on(&first.names, second);
     match compare(&first.graph, &moved) {
         Compared::Same => Ok(Reply {
             outcome: Outcome::Yes,
-            text: Vec::from_slice(alloc, b"equivalent\n")?,
+            text: agreement_text(alloc, &first.names, &first.graph, &moved, sets)?,
         }),
         Compared::Edge(d) => Ok(Reply {
             outcome: Outcome::No,

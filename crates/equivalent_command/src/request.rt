@@ -1,33 +1,101 @@
-ghost use Rattle.std.specs.Prelude.{◌≡◌, List, IfOk, IsErrOf};
-ghost use Rattle.word_forms.specs.Form.{Use};
+ghost use Rattle.std.specs.Prelude.{◌≡◌, true, false, IsTrue, List, Option, None, IfOk, IsErrOf, codes, option_map};
+ghost use Rattle.word_forms.specs.Form.{Use, is_among, value_names, value_of};
 ghost use Rattle.word_values.specs.Gives.{HoldsCall};
+ghost use Rattle.equivalent_command.specs.Requests.{Query as AskedQuery, equivalent_row, query_of, IsQuery};
 
-use request_values::{RequestFault, are_both_standard, needed_word};
+use request_values::{
+    RequestFault, are_both_standard, names_or_empty, needed_names, needed_word,
+};
+use std::alloc::Global;
 use word_forms::Entry;
 use word_values::Values;
 
-/// `equivalent FILE FILE2`
+/// `equivalent FILE FILE2 [--x L] [--y L] [--given L]`
 pub const ROW: Entry = Entry {
     name: "equivalent",
     positionals: &["file", "second"],
     extra: &[],
     needed: &[],
-    options: &[],
+    options: &["x", "y", "given"],
     flags: &[],
 };
 
+/// The lists of a separation that is asked about, with names of the first graph.
+#[derive(Drop)]
+pub struct Query {
+    pub x: Vec<Vec<u8>>,
+    pub y: Vec<Vec<u8>>,
+    pub given: Vec<Vec<u8>>,
+}
+
 /// What is asked for.
-#[derive(Clone, Copy, Debug, PartialEq, Eq)]
+#[derive(Drop)]
 pub struct Request<'a> {
     pub file: &'a str,
     pub second: &'a str,
+    pub query: Option<Query>,
+}
+
+/// Whether the option is given.
+fn is_given(values: &Values<'_>, name: &str) -> bool
+    ensures yes { (uses : List Use) → HoldsCall equivalent_row uses values.now → is_among (value_names equivalent_row) name.now ≡ true → result ≡ true → value_of uses name.now ≡ None → ⊥ }
+    ensures no { (uses : List Use) → HoldsCall equivalent_row uses values.now → is_among (value_names equivalent_row) name.now ≡ true → result ≡ false → value_of uses name.now ≡ None }
+{
+    match values.option(name) {
+        Some(_) => true,
+        None => false,
+    }
+}
+
+/// Whether none of the three lists is given.
+fn has_no_list(values: &Values<'_>) -> bool
+    ensures yes { (uses : List Use) → HoldsCall equivalent_row uses values.now → IsTrue result
+        → IsQuery (value_of uses (codes "x")) (value_of uses (codes "y")) (value_of uses (codes "given")) None }
+    ensures no { (uses : List Use) → HoldsCall equivalent_row uses values.now → result ≡ false
+        → IsQuery (value_of uses (codes "x")) (value_of uses (codes "y")) (value_of uses (codes "given")) None → ⊥ }
+{
+    if is_given(values, "x") {
+        return false;
+    }
+    if is_given(values, "y") {
+        return false;
+    }
+    if is_given(values, "given") {
+        return false;
+    }
+    true
+}
+
+/// The lists, where x and y are both given; without any of the three options there are none.
+fn read_query(alloc: Global, values: &Values<'_>) -> Result<Option<Query>, RequestFault>
+    ensures ok { (uses : List Use) → HoldsCall equivalent_row uses values.now
+        → IfOk result (λ q. IsQuery (value_of uses (codes "x")) (value_of uses (codes "y")) (value_of uses (codes "given")) (option_map query_of q)) }
+    ensures none { (uses : List Use) → HoldsCall equivalent_row uses values.now → IsErrOf result RequestFault.NotUnderstood
+        → (q : Option AskedQuery) → IsQuery (value_of uses (codes "x")) (value_of uses (codes "y")) (value_of uses (codes "given")) q → ⊥ }
+{
+    if has_no_list(values) {
+        return Ok(None);
+    }
+    let x = match needed_names(alloc, values, "x") {
+        Ok(x) => x,
+        Err(fault) => return Err(fault),
+    };
+    let y = match needed_names(alloc, values, "y") {
+        Ok(y) => y,
+        Err(fault) => return Err(fault),
+    };
+    let given = match names_or_empty(alloc, values, "given") {
+        Ok(given) => given,
+        Err(fault) => return Err(fault),
+    };
+    Ok(Some(Query { x, y, given }))
 }
 
 impl<'a> Request<'a> {
-    ghost use Rattle.equivalent_command.specs.Requests.{Request as Asked, equivalent_row, request_of, IsRequest};
+    ghost use Rattle.equivalent_command.specs.Requests.{Request as Asked, request_of, IsRequest};
 
     /// What the words ask for, exactly where their values are what they have to be.
-    pub fn read(values: &Values<'a>) -> Result<Self, RequestFault>
+    pub fn read(alloc: Global, values: &Values<'a>) -> Result<Self, RequestFault>
         ensures ok { (uses : List Use) → HoldsCall equivalent_row uses values.now → IfOk result (λ r. IsRequest uses (request_of r)) }
         ensures none { (uses : List Use) → HoldsCall equivalent_row uses values.now → IsErrOf result RequestFault.NotUnderstood → (r : Asked) → IsRequest uses r → ⊥ }
     {
@@ -42,6 +110,14 @@ impl<'a> Request<'a> {
         if are_both_standard(file, second) {
             return Err(RequestFault::NotUnderstood);
         }
-        Ok(Request { file, second })
+        let query = match read_query(alloc, values) {
+            Ok(query) => query,
+            Err(fault) => return Err(fault),
+        };
+        Ok(Request {
+            file,
+            second,
+            query,
+        })
     }
 }

@@ -1,13 +1,12 @@
-ghost use Rattle.std.specs.Prelude.{◌≡◌, ◌++◌, ◌<◌, ◌≤◌, ℕ, OnOk, IfOk, length, slice_index};
+ghost use Rattle.std.specs.Prelude.{◌≡◌, ◌<◌, ◌≤◌, ℕ, IfOk, length, slice_index};
 ghost use Rattle.mixed_graph.specs.Bits.{has};
 ghost use Rattle.mixed_graph.specs.Sets.{Within};
 ghost use Rattle.replies.specs.Lines.{open_text};
-ghost use Rattle.separate_command.specs.Lines.{query_text, separated_text, not_separated_text};
+ghost use Rattle.separate_command.specs.Lines.{separated_text, not_separated_text};
 
-use answer_text::push_set;
 use m_separation::OpenPath;
 use mixed_graph::Names;
-use replies::push_open;
+use replies::{push_open, push_query};
 use std::alloc::{AllocError, Global};
 use targets::Sets;
 
@@ -45,19 +44,4 @@ pub fn not_separated_text(
     text.push(b'\n')?;
     push_open(&mut text, names, path)?;
     Ok(text)
-}
-
-/// Appends `X from Y given W`.
-fn push_query(out: &mut Vec<u8>, names: &Names, sets: Sets) -> Result<(), AllocError>
-    requires x { Within (length names.now) (has sets.x.bits) }
-    requires y { Within (length names.now) (has sets.y.bits) }
-    requires given { Within (length names.now) (has sets.given.bits) }
-    ensures { OnOk result (out.new.items ≡ out.old.items ++ query_text names.now sets.x.bits sets.y.bits sets.given.bits) }
-{
-    push_set(out, names, sets.x)?;
-    out.extend_from_slice(b" from ")?;
-    push_set(out, names, sets.y)?;
-    out.extend_from_slice(b" given ")?;
-    push_set(out, names, sets.given)?;
-    Ok(())
 }

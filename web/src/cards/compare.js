@@ -45,8 +45,8 @@ function differenceMarks({ kind, names, graph }, first, second) {
 
 function judged(said, difference) {
   if (said.status === 0) {
-    return verdict("yes", "Equivalent", "Both join the same pairs and have the same unshielded colliders: the "
-      + "criterion of Verma and Pearl for implying the same separations.");
+    return verdict("yes", "Equivalent", "Both join the same pairs and have the same unshielded colliders (Verma and "
+      + "Pearl), and so imply the same separations.");
   }
   if (difference) {
     const { kind, names, graph, separatedIn, x, y, given } = difference;

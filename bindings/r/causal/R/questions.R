@@ -106,9 +106,10 @@ adjusts <- function(diagram, set, x = NULL, y = NULL, back_door = FALSE) {
   new_answer("causal_adjustment", read_adjustment(told$lines), told, diagram)
 }
 
-equivalent <- function(diagram, other) {
+equivalent <- function(diagram, other, x = NULL, y = NULL, given = NULL) {
   diagram <- as_causal_diagram(diagram)
   other <- as_causal_diagram(other)
-  told <- ask("equivalent", diagram, "other", list(other = other$text))
+  words <- c("other", option("x", x), option("y", y), option("given", given))
+  told <- ask("equivalent", diagram, words, list(other = other$text))
   new_answer("causal_equivalence", read_equivalence(told$lines), told, diagram)
 }

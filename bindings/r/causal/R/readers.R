@@ -25,10 +25,10 @@ unquote <- function(name) sub('(?s)^"(.*)"$', "\\1", name, perl = TRUE)
 read_names <- function(text) unquote(all_of(name_form, text))
 
 # An open path: its vertices and the marks between them.
-read_path <- function(line) {
-  steps <- all_of('"[^"]*"|[^ ]+', parts_of("open: (.*)", line))
+read_path <- function(line, head = "open: ") {
+  steps <- all_of('"[^"]*"|[^ ]+', parts_of(paste0(head, "(.*)"), line))
   odd <- seq_along(steps) %% 2 == 1
-  structure(list(vertices = unquote(steps[odd]), marks = steps[!odd], text = sub("^open: ", "", line)), class = "causal_path")
+  structure(list(vertices = unquote(steps[odd]), marks = steps[!odd], text = substring(line, nchar(head) + 1)), class = "causal_path")
 }
 
 read_graph <- function(lines) {
@@ -166,14 +166,23 @@ read_adjustment <- function(lines) {
   answer
 }
 
-# Whether two graphs are equivalent, or the first difference with its separation.
+# Whether two graphs are equivalent, with what both say of the sets that were asked about; or the first difference with its separation.
 read_equivalence <- function(lines) {
-  if (identical(lines, "equivalent")) return(list(holds = TRUE))
+  if (lines[1] == "equivalent") return(c(list(holds = TRUE), read_agreement(lines[-1])))
   difference <- parts_of("not equivalent: (edge|collider) (.*) in the (first|second)", lines[1])
   form <- paste0("separated in the (first|second) alone: (", set_form, ") from (", set_form, ") given (", set_form, ")")
   separation <- parts_of(form, lines[2])
   list(holds = FALSE, difference = difference[1], vertices = read_names(difference[2]), difference_in = difference[3],
        separated_in = separation[1], x = read_names(separation[2]), y = read_names(separation[3]), given = read_names(separation[4]))
+}
+
+# What equivalent graphs say of sets: nothing was asked, they are separated in both, or a path of each is open.
+read_agreement <- function(lines) {
+  if (length(lines) == 0) return(NULL)
+  if (length(lines) == 2)
+    return(list(separated = FALSE, paths = list(read_path(lines[1], "open in the first: "), read_path(lines[2], "open in the second: "))))
+  sets <- parts_of(paste0("separated in both: (", set_form, ") from (", set_form, ") given (", set_form, ")"), lines)
+  list(separated = TRUE, x = read_names(sets[1]), y = read_names(sets[2]), given = read_names(sets[3]))
 }
 
 # The effects over a table of counts: the pinned levels, the cells, and the value of each as a fraction or as bounds.

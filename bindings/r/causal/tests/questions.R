@@ -111,6 +111,8 @@ stopifnot(equivalent("dag{A->B->C}", fork)$holds)
 answer <- equivalent("dag{A->B->C}", "dag{A->B<-C}")
 same(answer$vertices, c("A", "B", "C"))
 same(answer$separated_in, "first")
+stopifnot(equivalent("dag{A->B->C}", fork, "A", "C", "B")$separated)
+same(equivalent("dag{A->B->C}", fork, "A", "C")$paths[[2]]$vertices, c("A", "B", "C"))
 
 # Drawings
 pdf(NULL)

@@ -106,6 +106,11 @@ same(differ[c("difference", "vertices", "difference_in", "separated_in", "given"
 differ <- read("read_equivalence")(lines("not equivalent: edge A,\"b c\" in the first", "separated in the second alone: {A} from {\"b c\"} given {}"))
 same(differ$vertices, c("A", "b c"))
 
+agree <- read("read_equivalence")(lines("equivalent", "separated in both: {A} from {\"b c\"} given {}"))
+same(agree[c("holds", "separated", "x", "y")], list(holds = TRUE, separated = TRUE, x = "A", y = "b c"))
+agree <- read("read_equivalence")(lines("equivalent", "open in the first: A -> B", "open in the second: A <- B"))
+same(list(agree$separated, agree$paths[[1]]$marks, agree$paths[[2]]$marks, agree$paths[[2]]$text), list(FALSE, "->", "<-", "A <- B"))
+
 # evaluate
 exact <- read("read_effects")(lines("pinned Z=0", "pinned \"a b\"=2", "P(Y=0|do(X=0)) = 657/1471", "P(Y=1|do(X=0)) = 814/1471"))
 same(exact$pinned, c(Z = "0", "a b" = "2"))

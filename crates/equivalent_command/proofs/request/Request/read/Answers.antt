@@ -18,9 +18,14 @@ returns-then-are_both_standard-clause-none c = λ uses g e r is.
     not_two (word_of equivalent_row uses (codes "file")) (word_of equivalent_row uses (codes "second")) c.in-Ok.file.now c.in-Ok-needed_word.second.now r.file r.second
     (c.in-Ok.ensures.ok equivalent_row uses g refl) (c.in-Ok-needed_word.ensures.ok equivalent_row uses g refl) is.file is.second (c.are_both_standard.ensures.yes c.if-are_both_standard.true) is.inputs
 
+pub returns-in-Err-read_query-clause-none : goal.returns-in-Err-read_query-clause-none
+returns-in-Err-read_query-clause-none c = λ uses g e r is.
+    let same : c.in-Err-read_query.fault ≡ NotUnderstood = cc e in c.in-Err-read_query.ensures.none uses g (ap (λ f. Err f) same) r.query is.query
+
 pub returns-clause-ok : goal.returns-clause-ok
 returns-clause-ok c = λ uses g. record {
   file = c.in-Ok.ensures.ok equivalent_row uses g refl;
   second = c.in-Ok-needed_word.ensures.ok equivalent_row uses g refl;
   inputs = c.are_both_standard.ensures.no c.if-are_both_standard.false;
+  query = c.in-Ok-read_query.ensures.ok uses g;
 }
