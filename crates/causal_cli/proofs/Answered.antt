@@ -14,7 +14,7 @@ use Rattle.identify_command.proofs.Outcomes.{identify_answered}
 use Rattle.check_command.proofs.Outcomes.{check_answered}
 use Rattle.adjust_command.proofs.Outcomes.{adjust_answered}
 use Rattle.evaluate_command.proofs.Outcomes.{first_answered as evaluate_first, counts_answered}
-use Rattle.equivalent_command.proofs.Outcomes.{first_answered as equivalent_first, equivalent_answered}
+use Rattle.equivalent_command.proofs.Outcomes.{first_answered as equivalent_first, second_answered}
 use Rattle.causal_cli.specs.Requests.{GraphRequest, graph, separate, rule, identify, check, adjust, evaluate, equivalent}
 use Rattle.causal_cli.specs.Answers.{GraphAnswer, HoldsAnswer, Defined}
 use Rattle.evaluate_command.specs.Effects.{effect_view}
@@ -31,7 +31,7 @@ graph_answer (identify q) g o text h = identify_answered q.form g q.x q.y o text
 graph_answer (check q) g o text h = absurd h
 graph_answer (adjust q) g o text h = adjust_answered g q.x q.y q.query o text h
 graph_answer (evaluate q) g o text h = evaluate_first g q.x q.y o text h
-graph_answer (equivalent q) g o text h = equivalent_first g o text h
+graph_answer (equivalent q) g o text h = equivalent_first g q.query o text h
 
 -- the outcome of the answer on the file alone
 pub defined_answered : (w : GraphRequest) (bytes : List ℕ) (o : Outcome) (text : List ℕ) → Defined w bytes o text → IsAnswered o
@@ -43,7 +43,7 @@ pub gives_answered : (p : SecondInput) (other : List ℕ) (reply : Reply) → Gi
 gives_answered (input.Check g certificate) other reply = check_answered g other reply.outcome reply.text.items
 gives_answered (input.Evaluate found counts count exact) other reply =
     counts_answered exact (effect_view found) (option_map (λ s. s.now) count) other reply.outcome reply.text.items
-gives_answered (input.Equivalent g second) other reply = equivalent_answered g other reply.outcome reply.text.items
+gives_answered (input.Equivalent g s second) other reply = second_answered g s other reply.outcome reply.text.items
 
 -- and where it is that on all bytes that are more than a limit
 pub long_answered : (p : SecondInput) (reply : Reply) → ((other : List ℕ) → limit_of p < length other → GivesSecond p other reply) → IsAnswered reply.outcome

@@ -13,7 +13,7 @@ use Rattle.evaluate_command.specs.Answers.{CountsAnswer}
 use Rattle.evaluate_command.specs.Effects.{effect_view}
 use Rattle.causal_cli.specs.Requests.{GraphRequest, check, evaluate, equivalent, second_of}
 use Rattle.causal_cli.specs.Answers.{HoldsAnswer, faulty, Defined, NeedsSecond, SecondAnswer, Continues, DefinedWith}
-use Rattle.equivalent_command.specs.Answers.{IsDirected}
+use Rattle.equivalent_command.specs.Answers.{IsAccepted as IsFirstAccepted, SecondAnswer as SecondGraphAnswer}
 use Rattle.causal_cli.specs.SecondInputs.{second_in, GivesSecond, IsAccepted, IsSecondInputOn, GivesOn, IsSecondInput, GivesFirst}
 use Rattle.causal_cli.specs.declared.input.SecondInput.{SecondInput}
 use Rattle.causal_cli.specs.declared.input.SecondInput.TheVariants as input
@@ -43,7 +43,7 @@ defined_fault w bytes f reply small reads v l n = subst (λ u. Defined w bytes u
 named_on : (w : GraphRequest) (g : ReadGraph) (p : SecondInput) → IsSecondInputOn w g p → second_of w ≡ Some (second_in p)
 named_on (check q) g (input.Check kept certificate) is = ap (λ t. Some t) (sym is.0)
 named_on (evaluate q) g (input.Evaluate found counts count exact) is = ap (λ t. Some t) (sym is.0)
-named_on (equivalent q) g (input.Equivalent kept second) is = ap (λ t. Some t) (sym is.0)
+named_on (equivalent q) g (input.Equivalent kept s second) is = ap (λ t. Some t) (sym is.0)
 named_on w g p is = absurd is
 
 pub named : (w : GraphRequest) (bytes : List ℕ) (p : SecondInput) → IsSecondInput w bytes p → second_of w ≡ Some (second_in p)
@@ -53,7 +53,7 @@ named w bytes p is = named_on w is.0 p is.2
 needed : (w : GraphRequest) (g : ReadGraph) (p : SecondInput) → IsSecondInputOn w g p → NeedsSecond w g
 needed (check q) g (input.Check kept certificate) is = tt
 needed (evaluate q) g (input.Evaluate found counts count exact) is = (effect_view found, is.3)
-needed (equivalent q) g (input.Equivalent kept second) is = is.2
+needed (equivalent q) g (input.Equivalent kept s second) is = (s, is.2)
 needed w g p is = absurd is
 
 pub continues : (w : GraphRequest) (bytes : List ℕ) (p : SecondInput) → IsSecondInput w bytes p → Continues w bytes
@@ -66,7 +66,7 @@ answered (check q) g (input.Check kept certificate) other reply is gives = subst
 answered (evaluate q) g (input.Evaluate found counts count exact) other reply is gives =
     let named_count = subst (λ m. CountsAnswer exact (effect_view found) m other reply.outcome reply.text.items) is.1 gives in
     (effect_view found, is.3, subst (λ b. CountsAnswer b (effect_view found) q.count other reply.outcome reply.text.items) is.2 named_count)
-answered (equivalent q) g (input.Equivalent kept second) other reply is gives = subst (λ k. SecondAnswer (equivalent q) k other reply.outcome reply.text.items) is.1 gives
+answered (equivalent q) g (input.Equivalent kept s second) other reply is gives = (s, is.2, subst (λ k. SecondGraphAnswer k s other reply.outcome reply.text.items) is.1 gives)
 answered w g p other reply is gives = absurd is
 
 pub defined_with : (w : GraphRequest) (bytes : List ℕ) (p : SecondInput) (other : List ℕ) (reply : Reply) → IsSecondInput w bytes p → GivesSecond p other reply →
@@ -80,5 +80,5 @@ accepted w bytes p is = accepted_on w is.0 p is.2
     accepted_on : (w : GraphRequest) (g : ReadGraph) (p : SecondInput) → IsSecondInputOn w g p → IsAccepted p
     accepted_on (check q) g (input.Check kept certificate) is = tt
     accepted_on (evaluate q) g (input.Evaluate found counts count exact) is = is.3.identified
-    accepted_on (equivalent q) g (input.Equivalent kept second) is = subst IsDirected (sym is.1) is.2
+    accepted_on (equivalent q) g (input.Equivalent kept s second) is = (q.query, subst (λ k. IsFirstAccepted k q.query s) (sym is.1) is.2)
     accepted_on w g p is = absurd is

@@ -1,5 +1,5 @@
 -- The defined answer of a command on the bytes of its inputs.
-use Rattle.std.specs.Prelude.{ℕ, ◌≡◌, ◌<◌, ◌≤◌, ◌⊎◌, List, length, Err}
+use Rattle.std.specs.Prelude.{ℕ, ◌≡◌, ◌<◌, ◌≤◌, ◌⊎◌, List, length, Option, Err}
 use Rattle.dag_reader.specs.declared.graph.ReadGraph.{ReadGraph}
 use Rattle.dag_reader.specs.declared.faults.GraphFault.{GraphFault}
 use Rattle.dag_reader.specs.declared.faults.GraphFault.TheVariants.{NoMemory}
@@ -14,7 +14,8 @@ use Rattle.rule_command.specs.Answers.{RuleAnswer}
 use Rattle.identify_command.specs.Answers.{IdentifyAnswer}
 use Rattle.check_command.specs.Answers.{CheckAnswer}
 use Rattle.adjust_command.specs.Answers.{AdjustAnswer}
-use Rattle.equivalent_command.specs.Answers.{IsDirected, IsFirstRefusal, EquivalentAnswer}
+use Rattle.targets.specs.declared.query.Sets.{Sets}
+use Rattle.equivalent_command.specs.Answers.{IsAccepted as IsFirstAccepted, IsFirstRefusal, EquivalentAnswer}
 use Rattle.evaluate_command.specs.Answers.{EvaluateFirst, EvaluateAnswer}
 use Rattle.evaluate_command.specs.Effects.{PlainEffect, Identifies}
 use Rattle.causal_cli.specs.Requests.{GraphRequest, graph, separate, rule, identify, check, adjust, evaluate, equivalent}
@@ -29,20 +30,20 @@ GraphAnswer (identify q) g o text = IdentifyAnswer q.form g q.x q.y o text
 GraphAnswer (check q) g o text = ⊥
 GraphAnswer (adjust q) g o text = AdjustAnswer g q.x q.y q.query o text
 GraphAnswer (evaluate q) g o text = EvaluateFirst g q.x q.y o text
-GraphAnswer (equivalent q) g o text = IsFirstRefusal g o text
+GraphAnswer (equivalent q) g o text = IsFirstRefusal g q.query o text
 
 -- the graph is accepted, and the second input is read: counts where the lists name an effect that has a formula
 abbrev pub NeedsSecond : GraphRequest → ReadGraph → Type 0
 NeedsSecond (check q) g = Unit {0}
 NeedsSecond (evaluate q) g = (e : PlainEffect) × Identifies g q.x q.y e
-NeedsSecond (equivalent q) g = IsDirected g
+NeedsSecond (equivalent q) g = (s : Option Sets) × IsFirstAccepted g q.query s
 NeedsSecond w g = ⊥
 
 -- the answer of a command on a graph that was read and the bytes of its second input
 abbrev pub SecondAnswer : GraphRequest → ReadGraph → List ℕ → Outcome → List ℕ → Type 0
 SecondAnswer (check q) g other o text = CheckAnswer g other o text
 SecondAnswer (evaluate q) g other o text = EvaluateAnswer q.exact g q.x q.y q.count other o text
-SecondAnswer (equivalent q) g other o text = EquivalentAnswer g other o text
+SecondAnswer (equivalent q) g other o text = EquivalentAnswer g q.query other o text
 SecondAnswer w g other o text = ⊥
 
 -- the bytes are no graph: they are too many, or their text has a fault

@@ -1,6 +1,7 @@
 ghost use Rattle.std.specs.Prelude.{◌≡◌, ◌≤◌, IfOk, OnOk, length, option_map};
 ghost use Rattle.fault_text.specs.Lines.{line_of, graph_fault_text};
 ghost use Rattle.word_lists.specs.Views.{names_in};
+ghost use Rattle.equivalent_command.specs.Requests.{query_of};
 ghost use Rattle.causal_cli.specs.SecondInputs.{GivesOn, GivesFirst, GivesEvaluation, GivesComparison};
 ghost use Rattle.causal_cli.specs.RequestViews.{graph_request_of};
 
@@ -8,7 +9,7 @@ use crate::input::SecondInput;
 use crate::request::GraphRequest;
 use adjust_command::adjust_reply;
 use dag_reader::{GraphFault, ReadGraph, read_graph};
-use equivalent_command::refuse_bidirected;
+use equivalent_command::{Query, accept_first};
 use evaluate_command::identify_first;
 use fault_text::graph_line;
 use graph_command::graph_reply;
@@ -95,7 +96,7 @@ fn answer_on<'a>(
             asked.count,
             asked.exact,
         ),
-        GraphRequest::Equivalent(asked) => compare_with(alloc, graph, asked.second),
+        GraphRequest::Equivalent(asked) => compare_with(alloc, graph, asked.query, asked.second),
     }
 }
 
@@ -126,13 +127,18 @@ fn evaluate_over<'a>(
 fn compare_with<'a>(
     alloc: Global,
     graph: ReadGraph,
+    query: Option<Query>,
     second: &'a str,
 ) -> Result<First<'a>, AllocError>
-    ensures { IfOk result (GivesComparison graph second.entry.now) }
+    ensures { IfOk result (GivesComparison graph (option_map query_of query) second.entry.now) }
 {
-    match refuse_bidirected(alloc, &graph)? {
-        Some(reply) => Ok(First::Replied(reply)),
-        None => Ok(First::Continues(SecondInput::Equivalent { graph, second })),
+    match accept_first(alloc, &graph, query)? {
+        equivalent_command::First::Refused(reply) => Ok(First::Replied(reply)),
+        equivalent_command::First::Accepted(sets) => Ok(First::Continues(SecondInput::Equivalent {
+            graph,
+            sets,
+            second,
+        })),
     }
 }
 

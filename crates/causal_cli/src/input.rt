@@ -7,6 +7,7 @@ use equivalent_command::{equivalent_reply, long_second_graph};
 use evaluate_command::{Identified, evaluate_reply, long_counts};
 use replies::Reply;
 use std::alloc::{AllocError, Global};
+use targets::Sets;
 
 /// What is left to answer once the file was accepted, where a second input is read.
 #[derive(Drop)]
@@ -23,9 +24,10 @@ pub enum SecondInput<'a> {
         count: Option<&'a [u8]>,
         exact: bool,
     },
-    /// Whether a second graph is equivalent.
+    /// Whether a second graph is equivalent, and what both say of sets that are asked about.
     Equivalent {
         graph: ReadGraph,
+        sets: Option<Sets>,
         second: &'a str,
     },
 }
@@ -73,7 +75,7 @@ pub fn second_reply(
             exact,
             ..
         } => evaluate_reply(alloc, found, *count, *exact, other),
-        SecondInput::Equivalent { graph, .. } => equivalent_reply(alloc, graph, other),
+        SecondInput::Equivalent { graph, sets, .. } => equivalent_reply(alloc, graph, *sets, other),
     }
 }
 
@@ -84,6 +86,6 @@ pub fn long_reply(alloc: Global, input: &SecondInput<'_>) -> Result<Reply, Alloc
     match input {
         SecondInput::Check { graph, .. } => long_certificate(alloc, graph),
         SecondInput::Evaluate { .. } => long_counts(alloc),
-        SecondInput::Equivalent { graph, .. } => long_second_graph(alloc, graph),
+        SecondInput::Equivalent { .. } => long_second_graph(alloc),
     }
 }

@@ -124,7 +124,7 @@ fn request_in<'a>(
         Command::Check => check_request(values),
         Command::Adjust => adjust_request(alloc, values),
         Command::Evaluate => evaluate_request(alloc, values),
-        Command::Equivalent => equivalent_request(values),
+        Command::Equivalent => equivalent_request(alloc, values),
         Command::Survey => survey_request(values),
     }
 }
@@ -221,13 +221,13 @@ fn evaluate_request<'a>(alloc: Global, values: &Values<'a>) -> Result<Request<'a
 }
 
 /// What `equivalent` is asked for.
-fn equivalent_request<'a>(values: &Values<'a>) -> Result<Request<'a>, RequestFault>
+fn equivalent_request<'a>(alloc: Global, values: &Values<'a>) -> Result<Request<'a>, RequestFault>
     ensures row { IfOk result (λ r. row_asked (request_of r) ≡ equivalent_row) }
     ensures ok { (uses : List Use) → HoldsCall equivalent_row uses values.now → IfOk result (λ r. IsRequest uses (request_of r)) }
     ensures none { (uses : List Use) → HoldsCall equivalent_row uses values.now → IsErrOf result RequestFault.NotUnderstood
         → (r : asked.Request) → row_asked r ≡ equivalent_row → IsRequest uses r → ⊥ }
 {
-    match equivalent_command::Request::read(values) {
+    match equivalent_command::Request::read(alloc, values) {
         Ok(request) => Ok(Request::OnGraph(GraphRequest::Equivalent(request))),
         Err(fault) => Err(fault),
     }
