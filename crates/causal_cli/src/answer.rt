@@ -134,11 +134,13 @@ fn compare_with<'a>(
 {
     match accept_first(alloc, &graph, query)? {
         equivalent_command::First::Refused(reply) => Ok(First::Replied(reply)),
-        equivalent_command::First::Accepted(sets) => Ok(First::Continues(SecondInput::Equivalent {
-            graph,
-            sets,
-            second,
-        })),
+        equivalent_command::First::Accepted(sets) => Ok(First::Continues(
+            SecondInput::Equivalent {
+                graph,
+                sets,
+                second,
+            },
+        )),
     }
 }
 

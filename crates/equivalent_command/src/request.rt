@@ -3,9 +3,7 @@ ghost use Rattle.word_forms.specs.Form.{Use, is_among, value_names, value_of};
 ghost use Rattle.word_values.specs.Gives.{HoldsCall};
 ghost use Rattle.equivalent_command.specs.Requests.{Query as AskedQuery, equivalent_row, query_of, IsQuery};
 
-use request_values::{
-    RequestFault, are_both_standard, names_or_empty, needed_names, needed_word,
-};
+use request_values::{RequestFault, are_both_standard, names_or_empty, needed_names, needed_word};
 use std::alloc::Global;
 use word_forms::Entry;
 use word_values::Values;

@@ -29,7 +29,7 @@ pub returns-in_ok-agreement_text-in-Same : goal.returns-in_ok-agreement_text-in-
 returns-in_ok-agreement_text-in-Same c =
     let p = graph_of c.args.first.now.graph in
     let arrows = subst HasArrowsAlone (sym c.graph_on-moved.ensures)
-        (renumbered_arrows (graph_of c.args.second.now.graph) (places c.args.first.now.names c.args.second.now.names) c.requires.second_arrows) in
+    (renumbered_arrows (graph_of c.args.second.now.graph) (places c.args.first.now.names c.args.second.now.names) c.requires.second_arrows) in
     let len : length (places c.args.first.now.names c.args.second.now.names) ≡ length c.args.first.now.names = simp length-map refl in
     let size : c.args.first.now.graph.n ≡ c.graph_on-moved.result.n = sym c.requires.named ∙ sym len ∙ sym (ap (λ (m : MixedGraph). m.vertices) c.graph_on-moved.ensures) in
     subst (λ q. IsSame c.args.first.now.names p q c.args.sets c.in_ok-agreement_text-in-Same.field-0.items) c.graph_on-moved.ensures
