@@ -1,13 +1,13 @@
 -- What the texts of an answer need: its vertices have names.
-use Rattle.std.proofs.Common.{ℕ, zero, suc, ◌≡◌, ◌<◌, ◌⊎◌, inl, inr, true, false, List, length, get_or, take, slice_index, All, refl, sym, ◌∙◌, subst, arith, length-take}
+use Rattle.std.proofs.Common.{ℕ, zero, suc, ◌≡◌, ◌<◌, ◌⊎◌, inl, inr, true, false, List, length, get_or, take, slice_index, All, refl, sym, subst, arith, length-take}
 use Rattle.std.proofs.lemmas.List.{get_or-take}
 use Rattle.std.specs.List.{zip}
-use Rattle.std.proofs.lemmas.Bool.{cases_Bool, and_parts}
+use Rattle.std.proofs.lemmas.Bool.{cases_Bool}
 use Rattle.std.proofs.lemmas.List.Elements.{All-from_get_or}
 use Rattle.std.proofs.lemmas.Slice.Zip.{length-zip, get_or-zip}
 use Rattle.mixed_graph.specs.Bits.{has}
 use Rattle.mixed_graph.specs.Sets.{Within, Apart}
-use Rattle.mixed_graph.specs.Graphs.{MixedGraph, IsMixedGraph}
+use Rattle.mixed_graph.specs.Graphs.{MixedGraph}
 use Rattle.prob_expr.proofs.MaskLaws.{below_from, has_none}
 use Rattle.do_derivation.proofs.TermSets.{term_test}
 use Rattle.hedge.specs.Hedges.{IsHedge}
