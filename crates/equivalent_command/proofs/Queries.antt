@@ -1,5 +1,5 @@
 -- Sets and paths of vertices that have names.
-use Rattle.std.proofs.Common.{◌≡◌, ℕ, ◌+◌, ◌-◌, ◌<◌, ◌==◌, Bool, List, length, Option, Some, None, zero, suc, refl, sym, ap, ◌∙◌, arith, eq-eqb}
+use Rattle.std.proofs.Common.{◌≡◌, ℕ, ◌+◌, ◌-◌, Bool, List, length, Option, Some, None, zero, suc, refl, ap, ◌∙◌, arith, eq-eqb}
 use Rattle.std.specs.Prelude.{IfSome, slice_index}
 use Rattle.mixed_graph.specs.Graphs.{MixedGraph, IsMixedGraph}
 use Rattle.m_separation.specs.declared.marks.Mark.{Mark}

@@ -1,5 +1,5 @@
 -- What the lists of a query stand for: sets of the first graph. And what can be printed: sets and paths of vertices that have names.
-use Rattle.std.specs.Prelude.{ℕ, ◌<◌, ◌≤◌, List, Option, Some, None, slice_index}
+use Rattle.std.specs.Prelude.{ℕ, ◌<◌, ◌≤◌, Option, Some, None, slice_index}
 use Rattle.mixed_graph.specs.Bits.{has}
 use Rattle.mixed_graph.specs.Sets.{Within}
 use Rattle.m_separation.specs.declared.paths.OpenPath.{OpenPath}
