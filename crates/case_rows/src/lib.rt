@@ -5,12 +5,14 @@
 #![tactic(auto)]
 
 mod hedges;
+mod printed;
 mod reading;
 mod showing;
 
 pub use hedges::hedge;
+pub use printed::Printed;
 pub use reading::{
-    all_below, built, bytes, flag, graph, list, names, number, numbers, pairs, set, text, texts,
-    vertex,
+    Inputs, all_below, built, bytes, flag, graph, list, names, number, numbers, pairs, set, text,
+    texts, vertex, wide_numbers,
 };
 pub use showing::{Entries, Members, Path, Rows};

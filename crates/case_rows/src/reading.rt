@@ -62,6 +62,15 @@ pub fn numbers(alloc: Global, row: &Value, name: &str) -> Option<Vec<u32>> {
     Some(numbers)
 }
 
+/// The numbers of this name, each of 64 bits.
+pub fn wide_numbers(alloc: Global, row: &Value, name: &str) -> Option<Vec<u64>> {
+    let mut numbers = Vec::new(alloc);
+    for value in list(row, name) {
+        numbers.push(value.as_u64()?).ok()?;
+    }
+    Some(numbers)
+}
+
 /// The numbers of this name, none over 255.
 pub fn bytes(alloc: Global, row: &Value, name: &str) -> Option<Vec<u8>> {
     let mut bytes = Vec::new(alloc);
@@ -144,4 +153,32 @@ pub fn built(alloc: Global, row: &Value) -> Option<Result<Graph, BuildFault>> {
 /// The row's graph.
 pub fn graph(alloc: Global, row: &Value) -> Option<Graph> {
     built(alloc, row)?.ok()
+}
+
+/// What rows of several kinds are asked over. Who runs a row reads it once and lends it.
+#[derive(Drop)]
+pub struct Inputs {
+    graph: Option<Graph>,
+    names: Names,
+}
+
+impl Inputs {
+    /// The row's graph, if its edges are one, and its names.
+    pub fn of(alloc: Global, row: &Value) -> Option<Inputs> {
+        let graph = graph(alloc, row);
+        match names(alloc, row, "names") {
+            Some(names) => Some(Inputs { graph, names }),
+            None => None,
+        }
+    }
+
+    /// The graph.
+    pub fn graph(&self) -> Option<&Graph> {
+        self.graph.as_ref()
+    }
+
+    /// The names.
+    pub fn names(&self) -> &Names {
+        &self.names
+    }
 }

@@ -2,11 +2,21 @@
 
 ghost use Rattle.std.specs.Prelude.{◌<◌, ◌^◌, IsTrue, sum};
 
-use crate::fields::{add_number, add_numbers, list_in, number_in, numbers_of};
-use anyhow::{Context, Result, bail};
+use case_rows::{Printed, number, wide_numbers};
 use lane_sums::{axis_sum, masked_sum};
 use serde_json::Value;
 use std::alloc::Global;
+use std::fmt::{Display, Write};
+
+/// Prints numbers, joined by blanks.
+pub(crate) fn print_numbers<T: Display>(numbers: &[T], print: &mut Printed) -> Option<()> {
+    let mut between = "";
+    for number in numbers {
+        write!(print, "{between}{number}").ok()?;
+        between = " ";
+    }
+    Some(())
+}
 
 /// Whether the sum of the numbers has 64 bits.
 fn is_summable(numbers: &[u64]) -> bool
@@ -22,16 +32,20 @@ fn is_summable(numbers: &[u64]) -> bool
     true
 }
 
-/// Adds the sum of the `counts` whose `codes` are, under the `mask`, the one to `want`.
-pub(crate) fn add_masked_sum(alloc: Global, line: &mut Vec<u8>, case: &Value) -> Result<()> {
-    let counts = numbers_of(alloc, list_in(case, "counts")?)?;
-    let codes = numbers_of(alloc, list_in(case, "codes")?)?;
-    let mask = number_in(case, "mask")?;
-    let want = number_in(case, "want")?;
-    if counts.len() != codes.len() || !is_summable(&counts) {
-        bail!("no counts with codes");
+/// The sum of the counts whose codes are, under the mask, the one that is wanted.
+fn sum_under(counts: &[u64], codes: &[u64], mask: u64, want: u64) -> Option<u64> {
+    if counts.len() != codes.len() || !is_summable(counts) {
+        return None;
     }
-    add_number(alloc, line, masked_sum(&counts, &codes, mask, want))
+    Some(masked_sum(counts, codes, mask, want))
+}
+
+/// Prints the sum of the `counts` whose `codes` are, under the `mask`, the one to `want`.
+pub(crate) fn print_masked_sum(alloc: Global, case: &Value, print: &mut Printed) -> Option<()> {
+    let counts = wide_numbers(alloc, case, "counts")?;
+    let codes = wide_numbers(alloc, case, "codes")?;
+    let sum = sum_under(&counts, &codes, number(case, "mask"), number(case, "want"))?;
+    write!(print, "{sum}").ok()
 }
 
 /// The sums over the middle one of three axes of these sizes, where 7 stood before in each place.
@@ -41,31 +55,25 @@ fn sums_over_axis(
     outer: usize,
     axis: usize,
     inner: usize,
-) -> Result<Vec<u64>> {
-    let size = outer.checked_mul(inner).context("too many sums")?;
-    let rows = outer.checked_mul(axis).context("too many rows")?;
-    let count = rows.checked_mul(inner).context("too many cells")?;
+) -> Option<Vec<u64>> {
+    let size = outer.checked_mul(inner)?;
+    let rows = outer.checked_mul(axis)?;
+    let count = rows.checked_mul(inner)?;
     if cells.len() != count || !is_summable(cells) {
-        bail!("no table of these sizes");
+        return None;
     }
-    let mut into = vec![in alloc; 7u64; size]?;
+    let mut into = vec![in alloc; 7u64; size].ok()?;
     axis_sum(cells, outer, axis, inner, &mut into);
-    Ok(into)
+    Some(into)
 }
 
-/// Adds the sums of the `cells` over the middle one of the axes with these `sizes`.
-pub(crate) fn add_axis_sum(alloc: Global, line: &mut Vec<u8>, case: &Value) -> Result<()> {
-    let cells = numbers_of(alloc, list_in(case, "cells")?)?;
-    let sizes = numbers_of(alloc, list_in(case, "sizes")?)?;
+/// Prints the sums of the `cells` over the middle one of the axes with these `sizes`.
+pub(crate) fn print_axis_sum(alloc: Global, case: &Value, print: &mut Printed) -> Option<()> {
+    let cells = wide_numbers(alloc, case, "cells")?;
+    let sizes = wide_numbers(alloc, case, "sizes")?;
     let [outer, axis, inner] = sizes.as_slice() else {
-        bail!("no three sizes");
+        return None;
     };
-    let sums = sums_over_axis(
-        alloc,
-        &cells,
-        *outer as usize,
-        *axis as usize,
-        *inner as usize,
-    )?;
-    add_numbers(alloc, line, &sums)
+    let (outer, axis, inner) = (*outer as usize, *axis as usize, *inner as usize);
+    print_numbers(&sums_over_axis(alloc, &cells, outer, axis, inner)?, print)
 }

@@ -1,101 +1,100 @@
 //! Operations of exact fractions and of bounds, and the texts of their results.
 
-use crate::fields::{list_in, numbers_of};
-use anyhow::{Context, Result, bail};
+use case_rows::{Printed, list};
 use quantity::{Bounds, Exact, Quantity, QuantityFault, laws};
 use serde_json::Value;
 use std::alloc::Global;
+use std::fmt::Write;
 
 /// 2^127 - 1.
 const MOST: u128 = 170141183460469231731687303715884105727;
 
 /// The quantity of a fraction from 0 to 1.
-fn ratio<Q: Quantity>(p: u64, q: u64) -> Result<Q> {
+fn ratio<Q: Quantity>(p: u64, q: u64) -> Option<Q> {
     if q < 1 || p > q || q > 1_000_000_000_000_000 {
-        bail!("no fraction {p}/{q}");
+        return None;
     }
-    Ok(Q::from_ratio(p, q))
+    Some(Q::from_ratio(p, q))
 }
 
 /// The quantity that two numbers are.
-fn ratio_of<Q: Quantity>(alloc: Global, value: &Value) -> Result<Q> {
-    let numbers = numbers_of(alloc, value.as_array().context("no value")?)?;
-    match numbers.as_slice() {
-        [p, q] => ratio(*p, *q),
-        _ => bail!("no two numbers"),
-    }
+fn ratio_of<Q: Quantity>(value: &Value) -> Option<Q> {
+    ratio(value.get(0)?.as_u64()?, value.get(1)?.as_u64()?)
 }
 
 /// What lies between two numbers of units.
-fn between(lo: u128, hi: u128) -> Result<Bounds> {
+fn between(lo: u128, hi: u128) -> Option<Bounds> {
     if lo > hi || hi > MOST {
-        bail!("no bounds");
+        return None;
     }
-    Ok(Bounds { lo, hi })
+    Some(Bounds { lo, hi })
 }
 
 /// The bounds that two numbers are, or two texts of numbers of units.
-fn bounds_of(alloc: Global, value: &Value) -> Result<Bounds> {
-    let lo = value.get(0).and_then(Value::as_str);
-    let hi = value.get(1).and_then(Value::as_str);
-    match (lo, hi) {
-        (Some(lo), Some(hi)) => between(lo.parse()?, hi.parse()?),
-        _ => ratio_of(alloc, value),
+fn bounds_of(value: &Value) -> Option<Bounds> {
+    match value.get(0)?.as_str() {
+        Some(lo) => between(lo.parse().ok()?, value.get(1)?.as_str()?.parse().ok()?),
+        None => ratio_of(value),
     }
 }
 
 /// What an operation gives.
-fn result_of<Q: Quantity>(by: &Value, a: &Q, b: &Q) -> Result<Result<Q, QuantityFault>> {
-    match by.as_str() {
-        Some("add") => Ok(a.add(b)),
-        Some("mul") => Ok(a.mul(b)),
-        Some("div") => Ok(a.div(b)),
-        _ => bail!("no operation"),
+fn result_of<Q: Quantity>(by: &Value, a: &Q, b: &Q) -> Option<Result<Q, QuantityFault>> {
+    match by.as_str()? {
+        "add" => Some(a.add(b)),
+        "mul" => Some(a.mul(b)),
+        "div" => Some(a.div(b)),
+        _ => None,
     }
 }
 
-/// Adds the first value, and then what the operations give one after the other, up to a fault.
-fn add_results<Q: Quantity>(
+/// Prints a quantity.
+pub(crate) fn print_quantity<Q: Quantity>(
     alloc: Global,
-    line: &mut Vec<u8>,
+    quantity: &Q,
+    print: &mut Printed,
+) -> Option<()> {
+    let mut text = Vec::new(alloc);
+    quantity.print(alloc, &mut text).ok()?;
+    print.add(&text).ok()
+}
+
+/// Prints the first value, and then what the operations give one after the other, up to a fault.
+fn print_results<Q: Quantity>(
+    alloc: Global,
     values: &[Q],
     operations: &[Value],
-) -> Result<()> {
-    let (first, rest) = values.split_first().context("no value")?;
+    print: &mut Printed,
+) -> Option<()> {
+    let (first, rest) = values.split_first()?;
     let mut total = *first;
-    total.print(alloc, line)?;
+    print_quantity(alloc, &total, print)?;
     for (value, by) in rest.iter().zip(operations) {
-        line.extend_from_slice(b"; ")?;
+        print.add(b"; ").ok()?;
         match result_of(by, &total, value)? {
-            Ok(result) => {
-                total = result;
-                total.print(alloc, line)?;
-            }
-            Err(fault) => {
-                let text = format!(in alloc; "{fault:?}")?;
-                line.extend_from_slice(text.as_bytes())?;
-                return Ok(());
-            }
+            Ok(result) => total = result,
+            Err(fault) => return write!(print, "{fault:?}").ok(),
         }
+        print_quantity(alloc, &total, print)?;
     }
-    Ok(())
+    Some(())
 }
 
-/// Adds the results of the operations `by` on exact `values`.
-pub(crate) fn add_exact(alloc: Global, line: &mut Vec<u8>, case: &Value) -> Result<()> {
+/// Prints the results of the operations `by` on exact `values`.
+pub(crate) fn print_exact(alloc: Global, case: &Value, print: &mut Printed) -> Option<()> {
     laws();
     let mut values: Vec<Exact> = Vec::new(alloc);
-    for value in list_in(case, "values")? {
-        values.push(ratio_of(alloc, value)?)?;
+    for value in list(case, "values") {
+        values.push(ratio_of(value)?).ok()?;
     }
-    add_results(alloc, line, &values, list_in(case, "by")?)
+    print_results(alloc, &values, list(case, "by"), print)
 }
 
-/// Adds the results of the operations `by` on `values` that are bounds.
-pub(crate) fn add_bounds(alloc: Global, line: &mut Vec<u8>, case: &Value) -> Result<()> {
+/// Prints the results of the operations `by` on `values` that are bounds.
+pub(crate) fn print_bounds(alloc: Global, case: &Value, print: &mut Printed) -> Option<()> {
     let mut values: Vec<Bounds> = Vec::new(alloc);
-    for value in list_in(case, "values")? {
-        values.push(bounds_of(alloc, value)?)?;
+    for value in list(case, "values") {
+        values.push(bounds_of(value)?).ok()?;
     }
-    add_results(alloc, line, &values, list_in(case, "by")?)
+    print_results(alloc, &values, list(case, "by"), print)
 }

@@ -1,61 +1,55 @@
 //! Readings of texts of counts.
 
-use crate::fields::{add_number, add_numbers, number_in, text_in};
-use crate::sources::{column_of, names_of, source_of};
-use anyhow::{Result, bail};
+use crate::lanes::print_numbers;
+use crate::sources::column_of;
+use case_rows::{Printed, number, text};
 use count_rows::{CountFault, Levels, Tally, read_rows};
 use mixed_graph::{Names, VSet};
 use serde_json::Value;
 use std::alloc::{AllocError, Global};
+use std::fmt::Write;
 
-/// Adds the levels, joined by bars.
-fn add_levels(line: &mut Vec<u8>, levels: &Levels) -> Result<(), AllocError> {
+/// Prints the levels, joined by bars.
+fn print_levels(levels: &Levels, print: &mut Printed) -> Result<(), AllocError> {
     for k in 0..levels.count() {
         if k > 0 {
-            line.push(b'|')?;
+            print.add(b"|")?;
         }
-        line.extend_from_slice(levels.get(k))?;
+        print.add(levels.get(k))?;
     }
-    line.extend_from_slice(b"; ")
+    print.add(b"; ")
 }
 
-/// Adds the number of a fault and its row.
-fn add_row(alloc: Global, line: &mut Vec<u8>, fault: &[u8], row: usize) -> Result<()> {
-    line.extend_from_slice(fault)?;
-    add_number(alloc, line, row)
+/// Prints the number of a fault and its name.
+fn print_name(fault: &[u8], name: &[u8], print: &mut Printed) -> Option<()> {
+    print.add(fault).ok()?;
+    print.add(name).ok()
 }
 
-/// Adds the number of a fault and its name.
-fn add_name(line: &mut Vec<u8>, fault: &[u8], name: &[u8]) -> Result<()> {
-    line.extend_from_slice(fault)?;
-    line.extend_from_slice(name)?;
-    Ok(())
-}
-
-/// Adds a fault.
-pub(crate) fn add_fault(alloc: Global, line: &mut Vec<u8>, fault: &CountFault) -> Result<()> {
+/// Prints a fault.
+pub(crate) fn print_fault(fault: &CountFault, print: &mut Printed) -> Option<()> {
     match fault {
-        CountFault::NotCsv(row) => add_row(alloc, line, b"1: ", *row),
-        CountFault::NoColumn(name) => add_name(line, b"2: ", name.bytes()),
-        CountFault::TwoColumns(name) => add_name(line, b"3: ", name.bytes()),
-        CountFault::Count(row) => add_row(alloc, line, b"4: ", *row),
-        CountFault::TooLarge => add_name(line, b"5", b""),
-        CountFault::SumTooLarge => add_name(line, b"6", b""),
-        CountFault::NoRows => add_name(line, b"7", b""),
-        CountFault::NoMemory => bail!("memory"),
+        CountFault::NotCsv(row) => write!(print, "1: {row}").ok(),
+        CountFault::NoColumn(name) => print_name(b"2: ", name.bytes(), print),
+        CountFault::TwoColumns(name) => print_name(b"3: ", name.bytes(), print),
+        CountFault::Count(row) => write!(print, "4: {row}").ok(),
+        CountFault::TooLarge => print.add(b"5").ok(),
+        CountFault::SumTooLarge => print.add(b"6").ok(),
+        CountFault::NoRows => print.add(b"7").ok(),
+        CountFault::NoMemory => None,
     }
 }
 
-/// Adds the levels of each vertex, the numbers of the levels of each row, the counts and their sum.
-fn add_tally(alloc: Global, line: &mut Vec<u8>, tally: &Tally) -> Result<()> {
+/// Prints the levels of each vertex, the numbers of the levels of each row, the counts and their sum.
+fn print_tally(tally: &Tally, print: &mut Printed) -> Option<()> {
     for levels in tally.levels.as_slice() {
-        add_levels(line, levels)?;
+        print_levels(levels, print).ok()?;
     }
-    add_numbers(alloc, line, tally.cells.as_slice())?;
-    line.extend_from_slice(b"; ")?;
-    add_numbers(alloc, line, tally.counts.as_slice())?;
-    line.extend_from_slice(b"; ")?;
-    add_number(alloc, line, tally.sum)
+    print_numbers(tally.cells.as_slice(), print)?;
+    print.add(b"; ").ok()?;
+    print_numbers(tally.counts.as_slice(), print)?;
+    let sum = tally.sum;
+    write!(print, "; {sum}").ok()
 }
 
 /// What reading the rows of all vertices gives.
@@ -64,51 +58,57 @@ fn read(
     names: &Names,
     text: &[u8],
     column: Option<&[u8]>,
-) -> Result<Result<Tally, CountFault>> {
+) -> Option<Result<Tally, CountFault>> {
     let count = names.count();
     if count > 64 {
-        bail!("too many names");
+        return None;
     }
     let used = VSet::below(count);
     if used.is_empty() {
-        bail!("no vertex is used");
+        return None;
     }
-    Ok(read_rows(alloc, text, names, used, column))
+    Some(read_rows(alloc, text, names, used, column))
 }
 
-/// Adds what reading the rows of a text gives.
-pub(crate) fn add_rows(
+/// Prints what reading the rows of a text gives.
+pub(crate) fn print_rows(
     alloc: Global,
-    line: &mut Vec<u8>,
-    root: &Value,
+    names: &Names,
+    source: &Value,
+    print: &mut Printed,
+) -> Option<()> {
+    match read(alloc, names, text(source, "text").as_bytes(), column_of(source))? {
+        Ok(tally) => print_tally(&tally, print),
+        Err(fault) => print_fault(&fault, print),
+    }
+}
+
+/// Writes the case's text with so many records behind it, each with a level of its own in both columns, and the `end`.
+fn write_square(case: &Value, square: &mut String) -> Result<(), AllocError> {
+    square.push_str(text(case, "text"))?;
+    for k in 0..number(case, "records") {
+        write!(square, "a{k},b{k}\n")?;
+    }
+    square.push_str(text(case, "end"))
+}
+
+/// Prints the sum of the counts in a text with many records.
+pub(crate) fn print_square(
+    alloc: Global,
+    names: &Names,
     case: &Value,
-) -> Result<()> {
-    let source = source_of(root, case)?;
-    let names = names_of(alloc, source)?;
-    let text = text_in(source, "text")?;
-    match read(alloc, &names, text.as_bytes(), column_of(source))? {
-        Ok(tally) => add_tally(alloc, line, &tally),
-        Err(fault) => add_fault(alloc, line, &fault),
+    print: &mut Printed,
+) -> Option<()> {
+    let mut square = String::new(alloc);
+    write_square(case, &mut square).ok()?;
+    match read(alloc, names, square.as_str().as_bytes(), None)? {
+        Ok(tally) => print_sum(&tally, print),
+        Err(fault) => print_fault(&fault, print),
     }
 }
 
-/// The case's text with so many records behind it, each with a level of its own in both columns, and the `end`.
-fn square_of(alloc: Global, case: &Value) -> Result<String> {
-    let mut text = String::from_str(alloc, text_in(case, "text")?)?;
-    for k in 0..number_in(case, "records")? {
-        let record = format!(in alloc; "a{k},b{k}\n")?;
-        text.push_str(record.as_str())?;
-    }
-    text.push_str(text_in(case, "end")?)?;
-    Ok(text)
-}
-
-/// Adds the sum of the counts in a text with many records.
-pub(crate) fn add_square(alloc: Global, line: &mut Vec<u8>, case: &Value) -> Result<()> {
-    let names = names_of(alloc, case)?;
-    let text = square_of(alloc, case)?;
-    match read(alloc, &names, text.as_bytes(), None)? {
-        Ok(tally) => add_number(alloc, line, tally.sum),
-        Err(fault) => add_fault(alloc, line, &fault),
-    }
+/// Prints the sum of the counts.
+fn print_sum(tally: &Tally, print: &mut Printed) -> Option<()> {
+    let sum = tally.sum;
+    write!(print, "{sum}").ok()
 }

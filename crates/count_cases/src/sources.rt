@@ -4,46 +4,37 @@ ghost use Rattle.std.specs.Prelude.{◌≡◌, IsTrue};
 ghost use Rattle.mixed_graph.specs.Bits.{has};
 ghost use Rattle.count_table.specs.Tables.{HasLevels};
 
-use crate::fields::{list_in, text_in};
-use anyhow::{Context, Result, bail};
+use case_rows::{list, text};
 use count_table::{CountFault, Counts, read_counts};
 use mixed_graph::{Names, VSet};
 use serde_json::Value;
 use std::alloc::Global;
 
 /// The table of a case: the one that it names, or its own.
-pub(crate) fn source_of<'a>(root: &'a Value, case: &'a Value) -> Result<&'a Value> {
-    match case.get("table").and_then(Value::as_str) {
-        Some(name) => root
-            .get("tables")
-            .and_then(|tables| tables.get(name))
-            .context(format_args!("no table {name}")),
-        None => Ok(case),
+pub(crate) fn source_of<'a>(root: &'a Value, case: &'a Value) -> &'a Value {
+    match root.get("tables") {
+        Some(tables) => match tables.get(text(case, "table")) {
+            Some(table) => table,
+            None => case,
+        },
+        None => case,
     }
 }
 
-/// The names of a table's vertices.
-pub(crate) fn names_of(alloc: Global, source: &Value) -> Result<Names> {
-    let mut names = Names::empty(alloc);
-    for value in list_in(source, "names")? {
-        let name = value.as_str().context("no name")?;
-        if names.add(name.as_bytes()).is_err() {
-            bail!("no name {name}");
-        }
-    }
-    Ok(names)
+/// The vertex of the name that a value is.
+fn vertex_of(names: &Names, value: &Value) -> Option<u8> {
+    names.index(value.as_str()?.as_bytes())
 }
 
 /// The vertices of these names.
-pub(crate) fn set_of(names: &Names, list: &[Value]) -> Result<VSet> {
+pub(crate) fn set_of(names: &Names, list: &[Value]) -> Option<VSet> {
     let mut set = VSet::empty();
     for value in list {
-        let name = value.as_str().context("no name")?;
-        let vertex = names.index(name.as_bytes()).context("no vertex")?;
-        set = set.union(VSet::one(vertex));
+        set = set.union(VSet::one(vertex_of(names, value)?));
     }
-    Ok(set)
+    Some(set)
 }
+
 
 /// The column of counts, if there is one.
 pub(crate) fn column_of(source: &Value) -> Option<&[u8]> {
@@ -58,35 +49,18 @@ pub(crate) fn read(
     alloc: Global,
     names: &Names,
     source: &Value,
-) -> Result<Result<Counts, CountFault>> {
-    let unused = set_of(names, list_in(source, "unused")?)?;
-    let text = text_in(source, "text")?;
+) -> Option<Result<Counts, CountFault>> {
+    let unused = set_of(names, list(source, "unused"))?;
     let count = names.count();
     if count > 64 {
-        bail!("too many names");
+        return None;
     }
     let used = VSet::below(count).difference(unused);
     if used.is_empty() {
-        bail!("no vertex is used");
+        return None;
     }
-    Ok(read_counts(alloc, text.as_bytes(), names, used, column_of(source)))
-}
-
-/// A table that was read, with the names of its vertices.
-#[derive(Drop)]
-pub(crate) struct Table {
-    pub(crate) names: Names,
-    pub(crate) counts: Counts,
-}
-
-/// The table of a case, which has to be readable.
-pub(crate) fn table_of(alloc: Global, root: &Value, case: &Value) -> Result<Table> {
-    let source = source_of(root, case)?;
-    let names = names_of(alloc, source)?;
-    match read(alloc, &names, source)? {
-        Ok(counts) => Ok(Table { names, counts }),
-        Err(_) => bail!("the text isn't read"),
-    }
+    let text = text(source, "text").as_bytes();
+    Some(read_counts(alloc, text, names, used, column_of(source)))
 }
 
 /// Whether an assignment has levels of the vertices of a set.

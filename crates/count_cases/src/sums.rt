@@ -1,15 +1,47 @@
 //! Sums of counts by tables of sums, and the places of cells.
 
-ghost use Rattle.std.specs.Prelude.{◌≡◌, IfOk};
+ghost use Rattle.std.specs.Prelude.{◌≡◌, IfSome};
+ghost use Rattle.mixed_graph.specs.Bits.{has};
+ghost use Rattle.count_table.specs.Tables.{HasLevels};
 
-use crate::fields::{add_number, add_text, levels_of, list_in, number_in};
-use crate::sources::{has_levels, set_of, source_of, table_of};
-use anyhow::{Context, Result};
+use crate::sources::{has_levels, set_of};
+use case_rows::{Printed, list, number};
 use count_table::{Counts, marginal};
 use mixed_graph::{Names, VSet};
 use serde_json::Value;
 use std::alloc::Global;
+use std::fmt::Write;
 use sum_tables::{Places, SumTable, SumTables};
+
+/// The levels of a cell.
+pub(crate) fn levels_of(alloc: Global, cell: &Value) -> Option<Vec<u32>> {
+    let mut levels = Vec::new(alloc);
+    for value in cell.as_array()?.as_slice() {
+        levels.push(u32::try_from(value.as_u64()?).ok()?).ok()?;
+    }
+    Some(levels)
+}
+
+/// The set that a list of names is.
+fn set_in(names: &Names, value: &Value) -> Option<VSet> {
+    set_of(names, value.as_array()?.as_slice())
+}
+
+/// Adds tables of sums over these sets, as long as all have at most so many cells.
+fn add_tables(
+    alloc: Global,
+    names: &Names,
+    sets: &[Value],
+    most: usize,
+    tables: &mut SumTables,
+) -> Option<()>
+    ensures { tables.new.table ≡ tables.old.table }
+{
+    for set in sets {
+        tables.add(alloc, set_in(names, set)?, most).ok()?;
+    }
+    Some(())
+}
 
 /// Tables of sums over the `sets` of a table's case, as long as all have at most so many cells.
 fn tables_of<'a>(
@@ -17,114 +49,114 @@ fn tables_of<'a>(
     counts: &'a Counts,
     names: &Names,
     source: &Value,
-) -> Result<SumTables<'a>>
-    ensures { IfOk result (λ tables. tables.table ≡ counts.now) }
+) -> Option<SumTables<'a>>
+    ensures { IfSome result (λ tables. tables.table ≡ counts.now) }
 {
-    let most = number_in(source, "most")? as usize;
+    let most = number(source, "most") as usize;
     let mut tables = SumTables::new(alloc, counts);
-    for set in list_in(source, "sets")? {
-        let list = set.as_array().context("no set")?;
-        let of = set_of(names, list.as_slice())?;
-        tables.add(alloc, of, most)?;
-    }
-    Ok(tables)
+    add_tables(alloc, names, list(source, "sets"), most, &mut tables)?;
+    Some(tables)
 }
 
-/// Adds the number of cells that all tables of sums have together.
-pub(crate) fn add_cells(
+/// Prints the number of cells that all tables of sums have together.
+pub(crate) fn print_cells(
     alloc: Global,
-    line: &mut Vec<u8>,
-    root: &Value,
-    case: &Value,
-) -> Result<()> {
-    let table = table_of(alloc, root, case)?;
-    let source = source_of(root, case)?;
-    let tables = tables_of(alloc, &table.counts, &table.names, source)?;
-    add_number(alloc, line, tables.cells())
+    names: &Names,
+    counts: &Counts,
+    source: &Value,
+    print: &mut Printed,
+) -> Option<()> {
+    let tables = tables_of(alloc, counts, names, source)?;
+    let cells = tables.cells();
+    write!(print, "{cells}").ok()
 }
 
-/// Adds the sum of the rows that agree with an assignment on a set, where a table of its own and several tables give the same.
-fn add_sum(
+/// The sum of the rows that agree with an assignment on a set, from a table of sums over it.
+fn sum_by_table(alloc: Global, counts: &Counts, of: VSet, at: &[u32]) -> Option<u64>
+    requires { HasLevels counts.now (has of.bits) at.now }
+{
+    let table = SumTable::make(alloc, counts, of).ok()?;
+    Some(table.sum(at))
+}
+
+/// Prints the sum of the rows that agree with an assignment on a set, where a table of its own and several tables give the same.
+fn print_sum(
     alloc: Global,
-    line: &mut Vec<u8>,
     counts: &Counts,
     tables: &SumTables,
     of: VSet,
     at: &[u32],
-) -> Result<()>
+    print: &mut Printed,
+) -> Option<()>
     requires { tables.now.table ≡ counts.now }
 {
     if !has_levels(counts, of, at) {
-        return add_text(line, "no level");
+        return print.add(b"no level").ok();
     }
     let sum = marginal(counts, of, at);
-    let table = SumTable::make(alloc, counts, of)?;
-    if table.sum(at) != sum || tables.sum(of, at) != sum {
-        return add_text(line, "another sum");
+    if sum_by_table(alloc, counts, of, at)? != sum || tables.sum(of, at) != sum {
+        return print.add(b"another sum").ok();
     }
-    add_number(alloc, line, sum)
+    write!(print, "{sum}").ok()
 }
 
-/// Adds the sums over a set at each of these cells.
-fn add_sums_at(
+/// Prints the sums over a set at each of these cells.
+fn print_sums_at(
     alloc: Global,
-    line: &mut Vec<u8>,
     counts: &Counts,
     tables: &SumTables,
     of: VSet,
     cells: &[Value],
-) -> Result<()>
+    print: &mut Printed,
+) -> Option<()>
     requires { tables.now.table ≡ counts.now }
 {
     let mut between = "";
     for cell in cells {
-        let at = levels_of(alloc, cell)?;
-        add_text(line, between)?;
-        add_sum(alloc, line, counts, tables, of, &at)?;
+        print.add(between.as_bytes()).ok()?;
+        print_sum(alloc, counts, tables, of, &levels_of(alloc, cell)?, print)?;
         between = " ";
     }
-    Ok(())
+    Some(())
 }
 
-/// Adds the sum of the rows that agree with the levels of each cell of `at` on the vertices `of`.
-pub(crate) fn add_sums(
+/// Prints the sum of the rows that agree with the levels of each cell of `at` on the vertices `of`.
+pub(crate) fn print_sums(
     alloc: Global,
-    line: &mut Vec<u8>,
-    root: &Value,
+    names: &Names,
+    counts: &Counts,
+    source: &Value,
     case: &Value,
-) -> Result<()> {
-    let table = table_of(alloc, root, case)?;
-    let source = source_of(root, case)?;
-    let tables = tables_of(alloc, &table.counts, &table.names, source)?;
-    let of = set_of(&table.names, list_in(case, "of")?)?;
-    let cells = list_in(case, "at")?;
-    add_sums_at(alloc, line, &table.counts, &tables, of, cells)
+    print: &mut Printed,
+) -> Option<()> {
+    let of = set_of(names, list(case, "of"))?;
+    let tables = tables_of(alloc, counts, names, source)?;
+    print_sums_at(alloc, counts, &tables, of, list(case, "at"), print)
 }
 
-/// Adds the levels of the cell at a place, and the place of this cell.
-fn add_cell(alloc: Global, line: &mut Vec<u8>, places: &Places, place: usize) -> Result<()> {
+/// Prints the levels of the cell at a place, and the place of this cell.
+fn print_cell(places: &Places, place: usize, print: &mut Printed) -> Option<()> {
     if place >= places.count() {
-        return add_text(line, "no place");
+        return print.add(b"no place").ok();
     }
     let cell = places.cell(place);
     let back = places.place(&cell);
     for v in places.vertices() {
-        add_number(alloc, line, cell[*v as usize % 64])?;
-        add_text(line, " ")?;
+        let level = cell[*v as usize % 64];
+        write!(print, "{level} ").ok()?;
     }
-    add_text(line, "at ")?;
-    add_number(alloc, line, back)
+    write!(print, "at {back}").ok()
 }
 
-/// Adds the cell of the vertices `of` at a `place`.
-pub(crate) fn add_place(
+/// Prints the cell of the vertices `of` at a `place`.
+pub(crate) fn print_place(
     alloc: Global,
-    line: &mut Vec<u8>,
-    root: &Value,
+    names: &Names,
+    counts: &Counts,
     case: &Value,
-) -> Result<()> {
-    let table = table_of(alloc, root, case)?;
-    let of = set_of(&table.names, list_in(case, "of")?)?;
-    let places = Places::of(alloc, &table.counts, of)?;
-    add_cell(alloc, line, &places, number_in(case, "place")? as usize)
+    print: &mut Printed,
+) -> Option<()> {
+    let of = set_of(names, list(case, "of"))?;
+    let places = Places::of(alloc, counts, of).ok()?;
+    print_cell(&places, number(case, "place") as usize, print)
 }

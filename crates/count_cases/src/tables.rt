@@ -1,81 +1,86 @@
 //! Tables of counts, their sums and their masks.
 
-use crate::fields::{add_number, add_numbers, add_text, levels_of, list_in};
-use crate::readings::add_fault;
-use crate::sources::{has_levels, names_of, read, set_of, source_of, table_of};
-use anyhow::{Context, Result};
+use crate::lanes::print_numbers;
+use crate::readings::print_fault;
+use crate::sources::{has_levels, read, set_of};
+use case_rows::{Printed, list, numbers};
 use count_table::{Counts, marginal};
-use mixed_graph::VSet;
+use mixed_graph::{Names, VSet};
 use serde_json::Value;
 use std::alloc::{AllocError, Global};
+use std::fmt::Write;
 
-/// Adds the levels of a vertex, each with a bar behind it.
-fn add_levels(line: &mut Vec<u8>, counts: &Counts, v: u8) -> Result<(), AllocError> {
+/// Prints the levels of a vertex, each with a bar behind it.
+fn print_levels(counts: &Counts, v: u8, print: &mut Printed) -> Result<(), AllocError> {
     for k in 0..counts.levels(v) {
-        line.extend_from_slice(counts.level(v, k))?;
-        line.push(b'|')?;
+        print.add(counts.level(v, k))?;
+        print.add(b"|")?;
     }
-    line.push(b';')?;
-    Ok(())
+    print.add(b";")
 }
 
-/// Adds the levels of the first n vertices, the counts, the codes and the used vertices.
-fn add_counts(alloc: Global, line: &mut Vec<u8>, counts: &Counts, n: u32) -> Result<()> {
+/// Prints the levels of the first n vertices, the counts, the codes and the used vertices.
+fn print_counts(counts: &Counts, n: u32, print: &mut Printed) -> Option<()> {
     for v in 0..n.min(64) as u8 {
-        add_levels(line, counts, v)?;
+        print_levels(counts, v, print).ok()?;
     }
-    line.push(b' ')?;
-    add_numbers(alloc, line, counts.cells())?;
-    line.extend_from_slice(b"; ")?;
-    add_numbers(alloc, line, counts.codes())?;
-    line.extend_from_slice(b"; ")?;
-    add_number(alloc, line, counts.used().bits)
+    print.add(b" ").ok()?;
+    print_numbers(counts.cells(), print)?;
+    print.add(b"; ").ok()?;
+    print_numbers(counts.codes(), print)?;
+    let used = counts.used().bits;
+    write!(print, "; {used}").ok()
 }
 
-/// Adds a table of counts, or the fault of its text.
-pub(crate) fn add_table(
+/// Prints a table of counts, or the fault of its text.
+pub(crate) fn print_table(
     alloc: Global,
-    line: &mut Vec<u8>,
-    root: &Value,
-    case: &Value,
-) -> Result<()> {
-    let source = source_of(root, case)?;
-    let names = names_of(alloc, source)?;
-    match read(alloc, &names, source)? {
-        Ok(counts) => add_counts(alloc, line, &counts, names.count()),
-        Err(fault) => add_fault(alloc, line, &fault),
+    names: &Names,
+    source: &Value,
+    print: &mut Printed,
+) -> Option<()> {
+    match read(alloc, names, source)? {
+        Ok(counts) => print_counts(&counts, names.count(), print),
+        Err(fault) => print_fault(&fault, print),
     }
 }
 
-/// Adds the mask of the vertices `of`.
-pub(crate) fn add_mask(
-    alloc: Global,
-    line: &mut Vec<u8>,
-    root: &Value,
+/// Prints the mask of the vertices `of`.
+pub(crate) fn print_mask(
+    names: &Names,
+    counts: &Counts,
     case: &Value,
-) -> Result<()> {
-    let table = table_of(alloc, root, case)?;
-    let of = set_of(&table.names, list_in(case, "of")?)?;
-    add_number(alloc, line, table.counts.mask_of(of))
+    print: &mut Printed,
+) -> Option<()> {
+    let mask = counts.mask_of(set_of(names, list(case, "of"))?);
+    write!(print, "{mask}").ok()
 }
 
-/// Adds the sum of the rows that agree with an assignment on a set, where it has levels.
-fn add_sum(alloc: Global, line: &mut Vec<u8>, counts: &Counts, of: VSet, at: &[u32]) -> Result<()> {
+/// The sum of the rows that agree with an assignment on a set, where it has levels.
+fn sum_at(counts: &Counts, of: VSet, at: &[u32]) -> Option<u64> {
     if !has_levels(counts, of, at) {
-        return add_text(line, "no level");
+        return None;
     }
-    add_number(alloc, line, marginal(counts, of, at))
+    Some(marginal(counts, of, at))
 }
 
-/// Adds the sum of the rows that agree with the levels `at` on the vertices `of`.
-pub(crate) fn add_marginal(
+/// Prints a sum, or that a level is lacked.
+pub(crate) fn print_sum(sum: Option<u64>, print: &mut Printed) -> Option<()> {
+    match sum {
+        Some(sum) => write!(print, "{sum}").ok(),
+        None => print.add(b"no level").ok(),
+    }
+}
+
+/// Prints the sum of the rows that agree with the levels `at` on the vertices `of`.
+pub(crate) fn print_marginal(
     alloc: Global,
-    line: &mut Vec<u8>,
-    root: &Value,
+    names: &Names,
+    counts: &Counts,
     case: &Value,
-) -> Result<()> {
-    let table = table_of(alloc, root, case)?;
-    let of = set_of(&table.names, list_in(case, "of")?)?;
-    let at = levels_of(alloc, case.get("at").context("no cell")?)?;
-    add_sum(alloc, line, &table.counts, of, &at)
+    print: &mut Printed,
+) -> Option<()> {
+    let of = set_of(names, list(case, "of"))?;
+    let at = numbers(alloc, case, "at")?;
+    print_sum(sum_at(counts, of, &at), print)
 }

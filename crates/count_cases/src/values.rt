@@ -1,174 +1,155 @@
 //! Values of formulas over counts: by the call, prepared, and plain.
 
-use crate::fields::{add_number, add_text, levels_of, list_in, text_in};
-use crate::sources::{Table, table_of};
-use anyhow::{Result, bail};
+use crate::quantities::print_quantity;
+use crate::sums::levels_of;
+use case_rows::{Printed, list, text};
 use count_eval::value_by_nodes;
+use count_table::Counts;
 use expr_text::read_formula;
+use mixed_graph::Names;
 use prob_expr::{Formula, Place};
 use quantity::{Bounds, Exact, Quantity};
 use serde_json::Value;
 use std::alloc::Global;
+use std::fmt;
+use std::fmt::{Formatter, Write};
 use value_tables::{EvalFault, is_cell, is_evaluable, prepare, value};
 
-/// Adds the place of a node: its definition, if it is in one, and its number.
-fn add_node(alloc: Global, line: &mut Vec<u8>, place: Place) -> Result<()> {
-    if let Some(def) = place.def {
-        add_text(line, " q")?;
-        add_number(alloc, line, def)?;
-    }
-    add_text(line, " node ")?;
-    add_number(alloc, line, place.node)
-}
+/// The place of a node: its definition, if it is in one, and its number.
+#[derive(Clone, Copy)]
+struct Node(Place);
 
-/// Adds a fault: its node, and the first n levels of the cell where a denominator is 0.
-fn add_fault(alloc: Global, line: &mut Vec<u8>, fault: &EvalFault, n: usize) -> Result<()> {
-    match fault {
-        EvalFault::NoSupport { cell, place } => {
-            add_text(line, "no support,")?;
-            add_node(alloc, line, *place)?;
-            add_text(line, ", cell")?;
-            add_cell(alloc, line, cell, n)
+impl fmt::Display for Node {
+    fn fmt<W: Write>(&self, f: &mut Formatter<W>) -> fmt::Result {
+        let node = self.0.node;
+        match self.0.def {
+            Some(def) => write!(f, " q{def} node {node}"),
+            None => write!(f, " node {node}"),
         }
-        EvalFault::TooWide { place } => {
-            add_text(line, "too wide,")?;
-            add_node(alloc, line, *place)
-        }
-        EvalFault::TooFine { place } => {
-            add_text(line, "too fine,")?;
-            add_node(alloc, line, *place)
-        }
-        EvalFault::NoMemory => add_text(line, "no memory"),
     }
 }
 
-/// Adds the first n levels of a cell.
-fn add_cell(alloc: Global, line: &mut Vec<u8>, cell: &[u32; 64], n: usize) -> Result<()> {
+/// Prints the first n levels of a cell.
+fn print_cell(cell: &[u32; 64], n: usize, print: &mut Printed) -> Option<()> {
     for level in cell.iter().take(n) {
-        line.push(b' ')?;
-        add_number(alloc, line, *level)?;
+        write!(print, " {level}").ok()?;
     }
-    Ok(())
+    Some(())
 }
 
-/// Adds a value, or its fault at a cell of n vertices.
-fn add_outcome<Q: Quantity>(
+/// Prints where a denominator is 0: the node, and the first n levels of the cell.
+fn print_support(place: Place, cell: &[u32; 64], n: usize, print: &mut Printed) -> Option<()> {
+    let node = Node(place);
+    write!(print, "no support,{node}, cell").ok()?;
+    print_cell(cell, n, print)
+}
+
+/// Prints a fault at a cell of n levels.
+fn print_fault(fault: &EvalFault, n: usize, print: &mut Printed) -> Option<()> {
+    let (what, place) = match fault {
+        EvalFault::NoSupport { cell, place } => return print_support(*place, cell, n, print),
+        EvalFault::TooWide { place } => ("too wide", *place),
+        EvalFault::TooFine { place } => ("too fine", *place),
+        EvalFault::NoMemory => return None,
+    };
+    let node = Node(place);
+    write!(print, "{what},{node}").ok()
+}
+
+/// Prints a value, or its fault at a cell of n levels.
+fn print_outcome<Q: Quantity>(
     alloc: Global,
-    line: &mut Vec<u8>,
     outcome: Result<Q, EvalFault>,
     n: usize,
-) -> Result<()> {
+    print: &mut Printed,
+) -> Option<()> {
     match outcome {
-        Ok(quantity) => quantity.print(alloc, line)?,
-        Err(fault) => add_fault(alloc, line, &fault, n)?,
+        Ok(quantity) => print_quantity(alloc, &quantity, print)?,
+        Err(fault) => print_fault(&fault, n, print)?,
     }
-    line.push(b';')?;
-    Ok(())
+    print.add(b";").ok()
 }
 
-/// Adds a formula's values at these cells, or their faults, by the formula itself.
-fn add_plain<Q: Quantity>(
-    alloc: Global,
-    line: &mut Vec<u8>,
-    f: &Formula,
-    table: &Table,
-    cells: &[Value],
-) -> Result<()> {
-    let n = table.names.count();
-    if !is_evaluable(n, f, &table.counts) {
-        bail!("the formula can't be evaluated");
-    }
-    for cell in cells {
-        let at = levels_of(alloc, cell)?;
-        if at.len() != n as usize || !is_cell(&table.counts, &at) {
-            bail!("a cell isn't one");
-        }
-        let outcome = value_by_nodes::<Q>(n, f, &table.counts, &at);
-        add_outcome(alloc, line, outcome, at.len())?;
-    }
-    Ok(())
+/// How a value is found.
+#[derive(Clone, Copy)]
+enum Way {
+    /// By the call that prepares the formula and evaluates it.
+    Called,
+    /// By the formula itself.
+    Plain,
+    /// By the prepared formula.
+    Prepared,
 }
 
-/// Adds a formula's values at these cells, or their faults, by the prepared formula.
-fn add_prepared<Q: Quantity>(
+/// A formula's value at a cell, or its fault.
+fn valued<Q: Quantity>(
     alloc: Global,
-    line: &mut Vec<u8>,
+    way: Way,
     f: &Formula,
-    table: &Table,
-    cells: &[Value],
-) -> Result<()> {
-    let n = table.names.count();
-    if !is_evaluable(n, f, &table.counts) {
-        bail!("the formula can't be evaluated");
-    }
-    let prepared = prepare::<Q>(alloc, n, f, &table.counts)?;
-    for cell in cells {
-        let at = levels_of(alloc, cell)?;
-        if at.len() != n as usize || !is_cell(&table.counts, &at) {
-            bail!("a cell isn't one");
-        }
-        let outcome = prepared.value(&at);
-        add_outcome(alloc, line, outcome, at.len())?;
-    }
-    Ok(())
-}
-
-/// Adds a formula's value at a cell, or its fault, by the call that prepares the formula and evaluates it.
-fn add_called<Q: Quantity>(
-    alloc: Global,
-    line: &mut Vec<u8>,
-    f: &Formula,
-    table: &Table,
+    counts: &Counts,
     at: &[u32],
-) -> Result<()> {
+) -> Option<Result<Q, EvalFault>> {
     if at.len() > 64 {
-        bail!("a cell is too long");
+        return None;
     }
-    if !is_evaluable(at.len() as u32, f, &table.counts) {
-        bail!("the formula can't be evaluated");
+    let n = at.len() as u32;
+    if !is_evaluable(n, f, counts) || !is_cell(counts, at) {
+        return None;
     }
-    if !is_cell(&table.counts, at) {
-        bail!("a cell isn't one");
+    match way {
+        Way::Called => Some(value::<Q>(alloc, f, counts, at)),
+        Way::Plain => Some(value_by_nodes::<Q>(n, f, counts, at)),
+        Way::Prepared => Some(prepare::<Q>(alloc, n, f, counts).ok()?.value(at)),
     }
-    let outcome = value::<Q>(alloc, f, &table.counts, at);
-    add_outcome(alloc, line, outcome, at.len())
 }
 
-/// The same at each of these cells.
-fn add_each_called<Q: Quantity>(
+/// Prints a formula's values at these cells, or their faults.
+fn print_each<Q: Quantity>(
     alloc: Global,
-    line: &mut Vec<u8>,
+    way: Way,
     f: &Formula,
-    table: &Table,
+    counts: &Counts,
     cells: &[Value],
-) -> Result<()> {
+    print: &mut Printed,
+) -> Option<()> {
     for cell in cells {
         let at = levels_of(alloc, cell)?;
-        add_called::<Q>(alloc, line, f, table, &at)?;
+        let outcome = valued::<Q>(alloc, way, f, counts, &at)?;
+        print_outcome(alloc, outcome, at.len(), print)?;
     }
-    Ok(())
+    Some(())
 }
 
-/// Adds the values of the `formula` at the cells `at`, as the case says.
-pub(crate) fn add_values(
+/// Prints a formula's values in the kind of quantity that the case names.
+fn print_by(
     alloc: Global,
-    line: &mut Vec<u8>,
-    root: &Value,
+    f: &Formula,
+    counts: &Counts,
     case: &Value,
-) -> Result<()> {
-    let table = table_of(alloc, root, case)?;
-    let text = text_in(case, "formula")?;
-    let Ok(f) = read_formula(alloc, text.as_bytes(), &table.names) else {
-        bail!("the formula isn't read");
-    };
-    let cells = list_in(case, "at")?;
-    match text_in(case, "by")? {
-        "fractions" => add_each_called::<Exact>(alloc, line, &f, &table, cells),
-        "bounds" => add_each_called::<Bounds>(alloc, line, &f, &table, cells),
-        "plain fractions" => add_plain::<Exact>(alloc, line, &f, &table, cells),
-        "plain bounds" => add_plain::<Bounds>(alloc, line, &f, &table, cells),
-        "prepared fractions" => add_prepared::<Exact>(alloc, line, &f, &table, cells),
-        "prepared bounds" => add_prepared::<Bounds>(alloc, line, &f, &table, cells),
-        other => bail!("no way {other}"),
+    print: &mut Printed,
+) -> Option<()> {
+    let cells = list(case, "at");
+    match text(case, "by") {
+        "fractions" => print_each::<Exact>(alloc, Way::Called, f, counts, cells, print),
+        "bounds" => print_each::<Bounds>(alloc, Way::Called, f, counts, cells, print),
+        "plain fractions" => print_each::<Exact>(alloc, Way::Plain, f, counts, cells, print),
+        "plain bounds" => print_each::<Bounds>(alloc, Way::Plain, f, counts, cells, print),
+        "prepared fractions" => print_each::<Exact>(alloc, Way::Prepared, f, counts, cells, print),
+        "prepared bounds" => print_each::<Bounds>(alloc, Way::Prepared, f, counts, cells, print),
+        _ => None,
     }
+}
+
+/// Prints the values of the `formula` at the cells `at`, as the case says.
+pub(crate) fn print_values(
+    alloc: Global,
+    names: &Names,
+    counts: &Counts,
+    case: &Value,
+    print: &mut Printed,
+) -> Option<()> {
+    let Ok(f) = read_formula(alloc, text(case, "formula").as_bytes(), names) else {
+        return None;
+    };
+    print_by(alloc, &f, counts, case, print)
 }
