@@ -77,19 +77,24 @@ pub(crate) fn print_rows(
     source: &Value,
     print: &mut Printed,
 ) -> Option<()> {
-    match read(alloc, names, text(source, "text").as_bytes(), column_of(source))? {
+    match read(
+        alloc,
+        names,
+        text(source, "text").as_bytes(),
+        column_of(source),
+    )? {
         Ok(tally) => print_tally(&tally, print),
         Err(fault) => print_fault(&fault, print),
     }
 }
 
 /// Writes the case's text with so many records behind it, each with a level of its own in both columns, and the `end`.
-fn write_square(case: &Value, square: &mut String) -> Result<(), AllocError> {
-    square.push_str(text(case, "text"))?;
+fn write_square(case: &Value, square: &mut Printed) -> Option<()> {
+    square.add(text(case, "text").as_bytes()).ok()?;
     for k in 0..number(case, "records") {
-        write!(square, "a{k},b{k}\n")?;
+        write!(square, "a{k},b{k}\n").ok()?;
     }
-    square.push_str(text(case, "end"))
+    square.add(text(case, "end").as_bytes()).ok()
 }
 
 /// Prints the sum of the counts in a text with many records.
@@ -99,9 +104,9 @@ pub(crate) fn print_square(
     case: &Value,
     print: &mut Printed,
 ) -> Option<()> {
-    let mut square = String::new(alloc);
-    write_square(case, &mut square).ok()?;
-    match read(alloc, names, square.as_str().as_bytes(), None)? {
+    let mut square = Printed::new(alloc);
+    write_square(case, &mut square)?;
+    match read(alloc, names, square.bytes(), None)? {
         Ok(tally) => print_sum(&tally, print),
         Err(fault) => print_fault(&fault, print),
     }

@@ -22,26 +22,29 @@ pub(crate) fn source_of<'a>(root: &'a Value, case: &'a Value) -> &'a Value {
 }
 
 /// The vertex of the name that a value is.
-fn vertex_of(names: &Names, value: &Value) -> Option<u8> {
-    names.index(value.as_str()?.as_bytes())
+fn one_of(names: &Names, value: &Value) -> Option<VSet> {
+    match names.index(value.as_str()?.as_bytes()) {
+        Some(v) => Some(VSet::one(v)),
+        None => None,
+    }
 }
 
 /// The vertices of these names.
 pub(crate) fn set_of(names: &Names, list: &[Value]) -> Option<VSet> {
     let mut set = VSet::empty();
     for value in list {
-        set = set.union(VSet::one(vertex_of(names, value)?));
+        set = set.union(one_of(names, value)?);
     }
     Some(set)
 }
 
-
 /// The column of counts, if there is one.
 pub(crate) fn column_of(source: &Value) -> Option<&[u8]> {
-    match source.get("count").and_then(Value::as_str) {
-        Some(name) => Some(name.as_bytes()),
-        None => None,
+    let name = text(source, "count");
+    if name.is_empty() {
+        return None;
     }
+    Some(name.as_bytes())
 }
 
 /// What reading a table gives.
