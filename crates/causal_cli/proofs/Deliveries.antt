@@ -25,11 +25,11 @@ use Rattle.causal_cli.proofs.Answered.{defined_answered, gives_answered, long_an
 use Rattle.causal_cli.proofs.Definitions.{named, continues, defined_with}
 
 -- what holds of the bytes that were read holds of those that are held, where they are told
-told : (held : Option (List ℕ)) (items : List ℕ) (P : List ℕ → Type 0) → IfSome held (λ all. items ≡ all) → P items → IfSome held P
+pub told : (held : Option (List ℕ)) (items : List ℕ) (P : List ℕ → Type 0) → IfSome held (λ all. items ≡ all) → P items → IfSome held P
 told None items P h p = tt
 told (Some all) items P h p = subst P h p
 
-mapped : (held : Option (List ℕ)) (P Q : List ℕ → Type 0) → ((all : List ℕ) → P all → Q all) → IfSome held P → IfSome held Q
+pub mapped : (held : Option (List ℕ)) (P Q : List ℕ → Type 0) → ((all : List ℕ) → P all → Q all) → IfSome held P → IfSome held Q
 mapped None P Q f h = tt
 mapped (Some all) P Q f h = f all h
 

@@ -1,8 +1,11 @@
 mod Definitions
 mod Deliveries
+mod ReadCounts
 mod NeverFails
 mod Answered
 mod Readable
 mod Asking
 mod Spoken
 mod Headlines
+mod CheckedRuns
+mod CompleteRuns

@@ -1,4 +1,4 @@
--- The headline, on a run: what words that ask for `identify` are answered.
+-- The headline, on a run: what words that ask for `identify`, and for `check`, are answered.
 use Rattle.std.specs.Prelude.{ℕ, ◌≡◌, List, IfSome}
 use Rattle.std.specs.Io.KnownBytes.{Appends}
 use Rattle.word_forms.specs.Form.{Use, IsCall}
@@ -9,6 +9,9 @@ use Rattle.replies.specs.Observed.{Names, Holds}
 use Rattle.identify_command.specs.declared.form.Form.{Form}
 use Rattle.identify_command.specs.Answers.{IdentifyAnswer}
 use Rattle.identify_command.specs.Requests.{Request, IsRequest, identify_row}
+use Rattle.check_command.specs.Answers.{CheckAnswer}
+use Rattle.check_command.specs.Requests.{check_row}
+use Rattle.check_command.specs.Requests as check_requests
 use Rattle.causal_cli.specs.Table.{table}
 use Rattle.causal_cli.specs.Run.{Run}
 
@@ -32,3 +35,23 @@ pub record Identified (r : Run) (uses : List Use) (o : Outcome) : Type 0 where
 pub record Headline (r : Run) (code : ℕ) : Type 0 where
   pub formula : (uses : List Use) → IsCall table r.words identify_row uses → code ≡ 0 → Identified r uses Yes
   pub hedge : (uses : List Use) → IsCall table r.words identify_row uses → code ≡ 1 → Identified r uses No
+
+-- The bytes of the file hold a graph, and those of the certificate are accepted in its observed graph, as the text says:
+-- its formula has no intervention and equals its effect at each assignment in each positive finite model that fits,
+-- or its hedge has two positive finite models that fit, agree on all observations, and differ on the effect.
+pub record IsRightCertificate (bytes other : List ℕ) (text : List ℕ) : Type 0 where
+  pub graph : ReadGraph
+  pub holds : Holds bytes graph
+  pub accepted : CheckAnswer graph other Yes text
+
+-- a certificate that these uses ask about was accepted for the file that they ask for, and the text was written
+pub record Checked (r : Run) (uses : List Use) : Type 0 where
+  pub request : check_requests.Request
+  pub text : List ℕ
+  pub asks : check_requests.IsRequest uses request
+  pub right : IfSome (r.held request.file) (λ bytes. IfSome (r.held request.certificate) (λ other. IsRightCertificate bytes other text))
+  pub whole : Appends r.out.before r.out.after text
+
+-- where the words ask for `check`, status 0 says that the certificate is right
+abbrev pub HeadlineOfCheck : Run → ℕ → Type 0
+HeadlineOfCheck r code = (uses : List Use) → IsCall table r.words check_row uses → code ≡ 0 → Checked r uses

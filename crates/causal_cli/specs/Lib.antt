@@ -5,6 +5,7 @@ pub mod RequestViews
 pub mod Lines
 pub mod Answers
 pub mod Run
+pub mod Complete
 pub mod Ends
 pub mod SecondInputs
 pub mod Headline

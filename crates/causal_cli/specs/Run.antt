@@ -2,6 +2,7 @@
 use Rattle.std.specs.Prelude.{ℕ, ◌≡◌, ◌≤◌, Bool, false, List, length, take, Option, Some, IfSome}
 use Rattle.std.specs.Io.KnownBytes.{Appends}
 use Rattle.causal_io.specs.Causes.{Rose}
+use Rattle.causal_io.specs.Reading.{IsReadOnce}
 use Rattle.word_forms.specs.Form.{Text}
 use Rattle.replies.specs.declared.outcome.Outcome.{Outcome}
 use Rattle.replies.specs.declared.outcome.Outcome.TheVariants.{Yes, No, Words, Graph, Second, Evaluation, Read, Write, Memory}
@@ -85,6 +86,31 @@ pub record NotUnderstood (r : Run) : Type 0 where
 pub data IsRead (r : Run) (w : GraphRequest) (name : Text) : Type 0 where
   file : name ≡ file_of w → IsRead r w name
   second : second_of w ≡ Some name → r.lacks (file_of w) ≡ false → IfSome (r.held (file_of w)) (λ bytes. Continues w bytes) → IsRead r w name
+
+-- how often each name was read before and after a run, and how many bytes of it were given, where the input tells
+pub record Reads : Type 0 where
+  pub calls : Text → ℕ
+  pub calls_after : Text → ℕ
+  pub given : Text → ℕ
+  pub given_after : Text → ℕ
+
+-- the reads with these counts before and after
+abbrev pub reads_of : (calls calls_after given given_after : Text → ℕ) → Reads
+reads_of calls calls_after given given_after = record { calls = calls; calls_after = calls_after; given = given; given_after = given_after }
+
+-- the name wasn't read
+pub record IsNotRead (q : Reads) (name : Text) : Type 0 where
+  pub calls : q.calls_after name ≡ q.calls name
+  pub given : q.given_after name ≡ q.given name
+
+-- of a name that holds so many bytes each was given once at most, with one read more than bytes
+abbrev pub IsReadAtMostOnce : (Text → Option (List ℕ)) → Reads → Text → Type 0
+IsReadAtMostOnce held q name = IfSome (held name) (λ all. IsReadOnce (q.calls name) (q.calls_after name) (q.given name) (q.given_after name) (length all))
+
+-- what was read: no name but those that a request of the words reads, and none more than once, also where it is named twice
+pub record ReadsAsAsked (r : Run) (q : Reads) : Type 0 where
+  pub only : (name : Text) → ((w : GraphRequest) → Asks r.words (on_graph w) → IsRead r w name → ⊥) → IsNotRead q name
+  pub once : (name : Text) → IsReadAtMostOnce r.held q name
 
 -- a read of an input failed
 pub record Unread (r : Run) : Type 0 where

@@ -7,8 +7,10 @@ mod lines;
 mod request;
 mod sure;
 mod table;
+mod theory;
 mod top;
 
 pub use sure::run_surely;
 pub use survey_graph::survey_graph;
+pub use theory::laws;
 pub use top::{Status, run};

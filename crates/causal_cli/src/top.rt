@@ -1,14 +1,15 @@
-ghost use Rattle.std.specs.Prelude.{◌≡◌, ◌≤◌, List, ℕ, true, false, length, IfSome, IsErrOf};
+ghost use Rattle.std.specs.Prelude.{◌≡◌, ◌≢◌, ◌≤◌, List, ℕ, true, false, length, IfSome, IsErrOf};
 ghost use Rattle.causal_io.specs.Causes.{Rose};
 ghost use Rattle.causal_io.specs.Reading.{AnswersAll};
 ghost use Rattle.word_forms.specs.Form.{Text};
 ghost use Rattle.word_forms.specs.Views.{texts_of};
 ghost use Rattle.replies.specs.Outcomes.{code_of};
-ghost use Rattle.causal_cli.specs.Run.{Ended, Received, run_on, stream_of};
+ghost use Rattle.causal_cli.specs.Run.{Ended, Received, run_on, stream_of, reads_of, IsNotRead, IsReadAtMostOnce, ReadsAsAsked};
+ghost use Rattle.causal_cli.specs.Complete.{Complete};
 ghost use Rattle.causal_cli.specs.Requests.{Asks, AskOnce, on_graph};
 ghost use Rattle.causal_cli.specs.RequestViews.{graph_request_of};
-ghost use Rattle.causal_cli.specs.SecondInputs.{IsAccepted};
-ghost use Rattle.causal_cli.specs.Headline.{Headline};
+ghost use Rattle.causal_cli.specs.SecondInputs.{IsAccepted, second_in};
+ghost use Rattle.causal_cli.specs.Headline.{Headline, HeadlineOfCheck};
 ghost use Rattle.causal_cli.specs.Ends.{IfAnswered, EndsWith, IsTooLong, Delivers, Proceeds, text_of};
 
 use crate::answer::{First, answer};
@@ -42,8 +43,14 @@ pub fn run<S: Shelf, O: Sink, E: Sink>(
 ) -> Status
     ensures ended { Ended (run_on (texts_of words.now) (S.held shelf.old) (S.lacks shelf.old) (S.faults shelf.old) (S.faults shelf.new)
         (stream_of (O.written out.old) (O.written out.new) (O.faults out.old) (O.faults out.new))) (stream_of (E.written err.old) (E.written err.new) (E.faults err.old) (E.faults err.new)) result.code }
+    ensures complete { Complete (run_on (texts_of words.now) (S.held shelf.old) (S.lacks shelf.old) (S.faults shelf.old) (S.faults shelf.new)
+        (stream_of (O.written out.old) (O.written out.new) (O.faults out.old) (O.faults out.new))) result.code }
     ensures headline { Headline (run_on (texts_of words.now) (S.held shelf.old) (S.lacks shelf.old) (S.faults shelf.old) (S.faults shelf.new)
         (stream_of (O.written out.old) (O.written out.new) (O.faults out.old) (O.faults out.new))) result.code }
+    ensures checked { HeadlineOfCheck (run_on (texts_of words.now) (S.held shelf.old) (S.lacks shelf.old) (S.faults shelf.old) (S.faults shelf.new)
+        (stream_of (O.written out.old) (O.written out.new) (O.faults out.old) (O.faults out.new))) result.code }
+    ensures reads { ReadsAsAsked (run_on (texts_of words.now) (S.held shelf.old) (S.lacks shelf.old) (S.faults shelf.old) (S.faults shelf.new)
+        (stream_of (O.written out.old) (O.written out.new) (O.faults out.old) (O.faults out.new))) (reads_of (S.reads shelf.old) (S.reads shelf.new) (S.given shelf.old) (S.given shelf.new)) }
     ensures holds { S.held shelf.new ≡ S.held shelf.old }
     ensures lack { S.lacks shelf.new ≡ S.lacks shelf.old }
 {
@@ -71,6 +78,8 @@ fn respond<S: Shelf, O: Sink>(alloc: Global, words: &[String], shelf: &mut S, ou
     ensures ends { EndsWith (run_on (texts_of words.now) (S.held shelf.old) (S.lacks shelf.old) (S.faults shelf.old) (S.faults shelf.new)
         (stream_of (O.written out.old) (O.written out.new) (O.faults out.old) (O.faults out.new))) result }
     ensures once { IfAnswered result.outcome (AskOnce (texts_of words.now)) }
+    ensures reads { ReadsAsAsked (run_on (texts_of words.now) (S.held shelf.old) (S.lacks shelf.old) (S.faults shelf.old) (S.faults shelf.new)
+        (stream_of (O.written out.old) (O.written out.new) (O.faults out.old) (O.faults out.new))) (reads_of (S.reads shelf.old) (S.reads shelf.new) (S.given shelf.old) (S.given shelf.new)) }
     ensures holds { S.held shelf.new ≡ S.held shelf.old }
     ensures lack { S.lacks shelf.new ≡ S.lacks shelf.old }
 {
@@ -94,6 +103,8 @@ fn answer_graph<S: Shelf, O: Sink>(
 ) -> Reply
     ensures ends { (words : List Text) → Asks words (on_graph (graph_request_of request.entry)) → EndsWith (run_on words (S.held shelf.old) (S.lacks shelf.old) (S.faults shelf.old) (S.faults shelf.new)
         (stream_of (O.written out.old) (O.written out.new) (O.faults out.old) (O.faults out.new))) result }
+    ensures reads { (words : List Text) → Asks words (on_graph (graph_request_of request.entry)) → ReadsAsAsked (run_on words (S.held shelf.old) (S.lacks shelf.old) (S.faults shelf.old) (S.faults shelf.new)
+        (stream_of (O.written out.old) (O.written out.new) (O.faults out.old) (O.faults out.new))) (reads_of (S.reads shelf.old) (S.reads shelf.new) (S.given shelf.old) (S.given shelf.new)) }
     ensures holds { S.held shelf.new ≡ S.held shelf.old }
     ensures lack { S.lacks shelf.new ≡ S.lacks shelf.old }
 {
@@ -126,6 +137,9 @@ fn proceed<S: Shelf, O: Sink>(
     requires accepted { IsAccepted input.now }
     ensures proceeds { Proceeds (S.held shelf.old) (S.lacks shelf.old) (S.faults shelf.old) (S.faults shelf.new)
         (stream_of (O.written out.old) (O.written out.new) (O.faults out.old) (O.faults out.new)) input.now result }
+    ensures only { (name : List ℕ) → name ≢ second_in input.now → IsNotRead (reads_of (S.reads shelf.old) (S.reads shelf.new) (S.given shelf.old) (S.given shelf.new)) name }
+    ensures not_again { IsNotRead (reads_of (S.reads shelf.old) (S.reads shelf.new) (S.given shelf.old) (S.given shelf.new)) file.now }
+    ensures once { (name : List ℕ) → IsReadAtMostOnce (S.held shelf.old) (reads_of (S.reads shelf.old) (S.reads shelf.new) (S.given shelf.old) (S.given shelf.new)) name }
     ensures holds { S.held shelf.new ≡ S.held shelf.old }
     ensures lack { S.lacks shelf.new ≡ S.lacks shelf.old }
 {
@@ -158,6 +172,9 @@ fn read_second<S: Shelf>(
     ensures answer { AnswersAll (S.held shelf.old second.now) limit result }
     ensures lacked { S.lacks shelf.old second.now ≡ true → IsErrOf result ReadError.Fault }
     ensures fault { IsErrOf result ReadError.Fault → Rose (S.faults shelf.old second.now) (S.faults shelf.new second.now) }
+    ensures only { (name : List ℕ) → name ≢ second.now → IsNotRead (reads_of (S.reads shelf.old) (S.reads shelf.new) (S.given shelf.old) (S.given shelf.new)) name }
+    ensures not_again { IsNotRead (reads_of (S.reads shelf.old) (S.reads shelf.new) (S.given shelf.old) (S.given shelf.new)) file.now }
+    ensures once { (name : List ℕ) → IsReadAtMostOnce (S.held shelf.old) (reads_of (S.reads shelf.old) (S.reads shelf.new) (S.given shelf.old) (S.given shelf.new)) name }
     ensures holds { S.held shelf.new ≡ S.held shelf.old }
     ensures lack { S.lacks shelf.new ≡ S.lacks shelf.old }
 {

@@ -3,6 +3,7 @@ use Rattle.causal_cli.specs.Requests.{file_of}
 use Rattle.causal_cli.specs.RequestViews.{graph_request_of}
 use Rattle.causal_cli.specs.Run.{Run}
 use Rattle.causal_cli.proofs.Deliveries.{delivered_file, proceeded, ended_too_long, not_true}
+use Rattle.causal_cli.proofs.ReadCounts.{file_read, both_read}
 use Rattle.causal_cli.proofs.top.answer_graph.Goals as goal
 
 pub returns-in-Err-TooLong-clause-ends : goal.returns-in-Err-TooLong-clause-ends
@@ -66,3 +67,112 @@ returns-clause-ends g c = λ words asks.
     (g.S.Shelf.lacks c.read_all.new.shelf) (g.S.Shelf.faults c.read_all.new.shelf) asks
     (not_true (g.S.Shelf.lacks c.args.shelf.now (file_of (graph_request_of c.args.request))) (λ t. cc (lacked t))) held gives
     c.in-Ok.ensures.holds c.in-Ok.ensures.lack c.in-Ok.ensures.never_falls c.proceed.ensures.proceeds
+
+pub returns-in-Err-Fault-clause-reads : goal.returns-in-Err-Fault-clause-reads
+returns-in-Err-Fault-clause-reads g c = λ words asks.
+    let run : Run = record {
+      words = words;
+      held = g.S.Shelf.held c.args.shelf.now;
+      lacks = g.S.Shelf.lacks c.args.shelf.now;
+      read_faults = g.S.Shelf.faults c.args.shelf.now;
+      read_faults_after = g.S.Shelf.faults c.read_all.new.shelf;
+      out = record {
+        before = g.O.Sink.written c.args.out.now;
+        after = g.O.Sink.written c.args.out.now;
+        faults = g.O.Sink.faults c.args.out.now;
+        faults_after = g.O.Sink.faults c.args.out.now;
+      };
+    } in
+    file_read run _ (graph_request_of c.args.request) c.file-file.result.now c.file-file.ensures asks c.in-Err-Fault.ensures.once c.in-Err-Fault.ensures.other_reads c.in-Err-Fault.ensures.other_given
+
+pub returns-in-Err-TooLong-clause-reads : goal.returns-in-Err-TooLong-clause-reads
+returns-in-Err-TooLong-clause-reads g c = λ words asks.
+    let run : Run = record {
+      words = words;
+      held = g.S.Shelf.held c.args.shelf.now;
+      lacks = g.S.Shelf.lacks c.args.shelf.now;
+      read_faults = g.S.Shelf.faults c.args.shelf.now;
+      read_faults_after = g.S.Shelf.faults c.read_all.new.shelf;
+      out = record {
+        before = g.O.Sink.written c.args.out.now;
+        after = g.O.Sink.written c.args.out.now;
+        faults = g.O.Sink.faults c.args.out.now;
+        faults_after = g.O.Sink.faults c.args.out.now;
+      };
+    } in
+    file_read run _ (graph_request_of c.args.request) c.file-file.result.now c.file-file.ensures asks c.in-Err-TooLong.ensures.once c.in-Err-TooLong.ensures.other_reads c.in-Err-TooLong.ensures.other_given
+
+pub returns-in-Err-NoMemory-clause-reads : goal.returns-in-Err-NoMemory-clause-reads
+returns-in-Err-NoMemory-clause-reads g c = λ words asks.
+    let run : Run = record {
+      words = words;
+      held = g.S.Shelf.held c.args.shelf.now;
+      lacks = g.S.Shelf.lacks c.args.shelf.now;
+      read_faults = g.S.Shelf.faults c.args.shelf.now;
+      read_faults_after = g.S.Shelf.faults c.read_all.new.shelf;
+      out = record {
+        before = g.O.Sink.written c.args.out.now;
+        after = g.O.Sink.written c.args.out.now;
+        faults = g.O.Sink.faults c.args.out.now;
+        faults_after = g.O.Sink.faults c.args.out.now;
+      };
+    } in
+    file_read run _ (graph_request_of c.args.request) c.file-file.result.now c.file-file.ensures asks c.in-Err-NoMemory.ensures.once c.in-Err-NoMemory.ensures.other_reads c.in-Err-NoMemory.ensures.other_given
+
+pub returns-in-Err-clause-reads : goal.returns-in-Err-clause-reads
+returns-in-Err-clause-reads g c = λ words asks.
+    let run : Run = record {
+      words = words;
+      held = g.S.Shelf.held c.args.shelf.now;
+      lacks = g.S.Shelf.lacks c.args.shelf.now;
+      read_faults = g.S.Shelf.faults c.args.shelf.now;
+      read_faults_after = g.S.Shelf.faults c.read_all.new.shelf;
+      out = record {
+        before = g.O.Sink.written c.args.out.now;
+        after = g.O.Sink.written c.args.out.now;
+        faults = g.O.Sink.faults c.args.out.now;
+        faults_after = g.O.Sink.faults c.args.out.now;
+      };
+    } in
+    file_read run _ (graph_request_of c.args.request) c.file-file.result.now c.file-file.ensures asks c.in-Ok.ensures.once c.in-Ok.ensures.other_reads c.in-Ok.ensures.other_given
+
+pub returns-in-Ok-Replied-clause-reads : goal.returns-in-Ok-Replied-clause-reads
+returns-in-Ok-Replied-clause-reads g c = λ words asks.
+    let run : Run = record {
+      words = words;
+      held = g.S.Shelf.held c.args.shelf.now;
+      lacks = g.S.Shelf.lacks c.args.shelf.now;
+      read_faults = g.S.Shelf.faults c.args.shelf.now;
+      read_faults_after = g.S.Shelf.faults c.read_all.new.shelf;
+      out = record {
+        before = g.O.Sink.written c.args.out.now;
+        after = g.O.Sink.written c.deliver.new.out;
+        faults = g.O.Sink.faults c.args.out.now;
+        faults_after = g.O.Sink.faults c.deliver.new.out;
+      };
+    } in
+    file_read run _ (graph_request_of c.args.request) c.file-file.result.now c.file-file.ensures asks c.in-Ok.ensures.once c.in-Ok.ensures.other_reads c.in-Ok.ensures.other_given
+
+pub returns-clause-reads : goal.returns-clause-reads
+returns-clause-reads g c = λ words asks.
+    let run : Run = record {
+      words = words;
+      held = g.S.Shelf.held c.args.shelf.now;
+      lacks = g.S.Shelf.lacks c.args.shelf.now;
+      read_faults = g.S.Shelf.faults c.args.shelf.now;
+      read_faults_after = g.S.Shelf.faults c.proceed.new.shelf;
+      out = record {
+        before = g.O.Sink.written c.args.out.now;
+        after = g.O.Sink.written c.proceed.new.out;
+        faults = g.O.Sink.faults c.args.out.now;
+        faults_after = g.O.Sink.faults c.proceed.new.out;
+      };
+    } in
+    let gives = rw (c.deref.ensures.value, c.in-Ok-Continues.field-0-is) at c.in-Ok-Continues.ensures in
+    let lacked = rw c.file-file.ensures at c.in-Ok.ensures.lacked in
+    let held = rw c.file-file.ensures at c.in-Ok.ensures.answer.1 in
+    both_read (g.S.Shelf.reads c.args.shelf.now) (g.S.Shelf.reads c.read_all.new.shelf) (g.S.Shelf.reads c.proceed.new.shelf)
+    (g.S.Shelf.given c.args.shelf.now) (g.S.Shelf.given c.read_all.new.shelf) (g.S.Shelf.given c.proceed.new.shelf)
+    run (graph_request_of c.args.request) c.file-file.result.now c.in-Ok.bytes.items c.in-Ok-Continues.input (g.S.Shelf.held c.read_all.new.shelf) c.file-file.ensures asks
+    (not_true (g.S.Shelf.lacks c.args.shelf.now (file_of (graph_request_of c.args.request))) (λ t. cc (lacked t))) held gives c.in-Ok.ensures.holds
+    c.in-Ok.ensures.once c.in-Ok.ensures.other_reads c.in-Ok.ensures.other_given c.proceed.ensures.only c.proceed.ensures.not_again c.proceed.ensures.once

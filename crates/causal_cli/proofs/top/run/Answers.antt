@@ -1,5 +1,7 @@
 use Rattle.causal_cli.specs.Ends.{text_of}
 use Rattle.causal_cli.proofs.Headlines.{headline}
+use Rattle.causal_cli.proofs.CheckedRuns.{checked}
+use Rattle.causal_cli.proofs.CompleteRuns.{complete}
 use Rattle.causal_cli.proofs.top.run.Goals as goal
 
 pub returns-clause-ended : goal.returns-clause-ended
@@ -14,3 +16,10 @@ returns-clause-ended g c = record {
 pub returns-clause-headline : goal.returns-clause-headline
 returns-clause-headline g c =
     headline _ _ c.respond-last.result.outcome (text_of c.respond-last.result) c.code.ensures c.respond-last.ensures.ends c.respond-last.ensures.once
+
+pub returns-clause-checked : goal.returns-clause-checked
+returns-clause-checked g c =
+    checked _ _ c.respond-last.result.outcome (text_of c.respond-last.result) c.code.ensures c.respond-last.ensures.ends c.respond-last.ensures.once
+
+pub returns-clause-complete : goal.returns-clause-complete
+returns-clause-complete g c = complete _ _ c.respond-last.result.outcome (text_of c.respond-last.result) c.code.ensures c.respond-last.ensures.ends

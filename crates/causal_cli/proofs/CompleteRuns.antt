@@ -1,0 +1,45 @@
+-- From how a run ended to which status it has to have.
+use Rattle.std.proofs.Common.{◌≡◌, ℕ, List, ◌⊎◌, inl, inr, refl}
+use Rattle.replies.specs.declared.outcome.Outcome.{Outcome}
+use Rattle.replies.specs.declared.outcome.Outcome.TheVariants.{Yes, No, Words, Graph, Second, Evaluation, Read, Write, Memory}
+use Rattle.replies.specs.Outcomes.{code_of}
+use Rattle.word_forms.proofs.Exact.{one_call}
+use Rattle.causal_cli.specs.Table.{table}
+use Rattle.causal_cli.specs.Requests.{Request, on_graph, survey, Asks}
+use Rattle.causal_cli.specs.Run.{Run, Answers, by_words, by_file, by_both, Ends}
+use Rattle.causal_cli.specs.Complete.{NothingFailed, Answered, Complete, WordsAskOnce}
+
+pub words_ask_once : WordsAskOnce
+words_ask_once words row other uses others one two = one_call table refl words row other uses others one two
+
+module _ (r : Run) (code : ℕ) where
+  -- a defined answer is one to a request of the words
+  none_answered : (o : Outcome) (text : List ℕ) → ((q : Request) → Asks r.words q → ⊥) → Answers r o text → ⊥
+  none_answered o text none (by_words a) = none (survey a.request) a.asks
+  none_answered o text none (by_file a) = none (on_graph a.request) a.asks
+  none_answered o text none (by_both a) = none (on_graph a.request) a.asks
+
+  refused : (o : Outcome) (text : List ℕ) → code ≡ code_of o → Ends r o text → ((q : Request) → Asks r.words q → ⊥) → (code ≡ 2) ⊎ (code ≡ 8)
+  refused Yes text c h none = absurd (none_answered Yes text none h.answers)
+  refused No text c h none = absurd (none_answered No text none h.answers)
+  refused Words text c h none = inl c
+  refused Graph text c h none = absurd (none_answered Graph text none h.answers)
+  refused Second text c h none = absurd (none_answered Second text none h.answers)
+  refused Evaluation text c h none = absurd (none_answered Evaluation text none h.answers)
+  refused Read text c h none = absurd (none (on_graph h.0.request) h.0.asks)
+  refused Write text c h none = absurd (none_answered h.0.outcome h.0.text none h.0.answers)
+  refused Memory text c h none = inr c
+
+  given : (o : Outcome) (text : List ℕ) → code ≡ code_of o → Ends r o text → (q : Request) → Asks r.words q → NothingFailed r → Answered r code ⊎ (code ≡ 8)
+  given Yes text c h q a f = inl (record { outcome = Yes; text = text; status = c; answered = tt; answers = h.answers })
+  given No text c h q a f = inl (record { outcome = No; text = text; status = c; answered = tt; answers = h.answers })
+  given Words text c h q a f = absurd (h.0.no_request q a)
+  given Graph text c h q a f = inl (record { outcome = Graph; text = text; status = c; answered = tt; answers = h.answers })
+  given Second text c h q a f = inl (record { outcome = Second; text = text; status = c; answered = tt; answers = h.answers })
+  given Evaluation text c h q a f = inl (record { outcome = Evaluation; text = text; status = c; answered = tt; answers = h.answers })
+  given Read text c h q a f = absurd (f.reads h.0.name h.0.rose)
+  given Write text c h q a f = absurd (f.writes h.0.rose)
+  given Memory text c h q a f = inr c
+
+  pub complete : (o : Outcome) (text : List ℕ) → code ≡ code_of o → Ends r o text → Complete r code
+  complete o text c h = record { refused = refused o text c h; answered = given o text c h }

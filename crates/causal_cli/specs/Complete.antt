@@ -1,0 +1,30 @@
+-- The other way round: which status a run has to have.
+use Rattle.std.specs.Prelude.{ℕ, ◌≡◌, ◌⊎◌, List}
+use Rattle.causal_io.specs.Causes.{Rose}
+use Rattle.word_forms.specs.Form.{Text}
+use Rattle.replies.specs.declared.outcome.Outcome.{Outcome}
+use Rattle.replies.specs.Outcomes.{code_of, IsAnswered}
+use Rattle.causal_cli.specs.Requests.{Request, Asks, AskOnce}
+use Rattle.causal_cli.specs.Run.{Run, Answers}
+
+-- no count of failures rose: of the reads of a name, or of the writes
+pub record NothingFailed (r : Run) : Type 0 where
+  pub reads : (name : Text) → Rose (r.read_faults name) (r.read_faults_after name) → ⊥
+  pub writes : Rose r.out.faults r.out.faults_after → ⊥
+
+-- the status is that of the defined answer to what the words ask for
+pub record Answered (r : Run) (code : ℕ) : Type 0 where
+  pub outcome : Outcome
+  pub text : List ℕ
+  pub status : code ≡ code_of outcome
+  pub answered : IsAnswered outcome
+  pub answers : Answers r outcome text
+
+-- Where the words ask for nothing, the status is 2; where they ask for something and nothing failed, it is that of the defined answer. Or memory was refused.
+pub record Complete (r : Run) (code : ℕ) : Type 0 where
+  pub refused : ((q : Request) → Asks r.words q → ⊥) → (code ≡ 2) ⊎ (code ≡ 8)
+  pub answered : (q : Request) → Asks r.words q → NothingFailed r → Answered r code ⊎ (code ≡ 8)
+
+-- words ask for one call at most
+abbrev pub WordsAskOnce : Type 0
+WordsAskOnce = (words : List Text) → AskOnce words
