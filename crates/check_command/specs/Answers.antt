@@ -9,6 +9,7 @@ use Rattle.do_derivation.specs.Plans.{PlainDerivation}
 use Rattle.do_derivation.specs.declared.faults.CheckFault.{CheckFault}
 use Rattle.hedge.specs.Faults.{IsFirstFault}
 use Rattle.hedge.specs.Hedges.{IsHedge}
+use Rattle.hedge.specs.Shapes.{FormHedge}
 use Rattle.hedge.specs.declared.kinds.Hedge.{Hedge}
 use Rattle.hedge.specs.declared.kinds.HedgeFault.{HedgeFault}
 use Rattle.counter_models.specs.Events.{AreCounterModels}
@@ -45,9 +46,10 @@ pub record RefusesFormula (q : MixedGraph) (names : List (List ℕ)) (t : PlainT
   pub is_fault : AcceptsNot q [] t f d fault
   pub prints : text ≡ derivation_text names (length d.lemmas) fault
 
--- yes: it is a hedge for the effect; two positive models that fit the graph agree on all observations and differ on the effect (Shpitser and Pearl)
+-- yes: its sets form a hedge for the effect (Shpitser and Pearl), of which the choice of children and the links are the evidence; two positive models that fit the graph agree on all observations and differ on the effect under every value of x
 pub record AcceptsHedge (q : MixedGraph) (names : List (List ℕ)) (t : PlainTarget) (h : Hedge) (text : List ℕ) : Type 0 where
-  pub holds : IsHedge q t.x t.y h
+  pub forms : FormHedge q t.x t.y h.big.bits h.small.bits h.roots.bits
+  pub evidence : IsHedge q t.x t.y h
   pub pair : CounterPair
   pub models : AreCounterModels q t.x t.y pair
   pub prints : text ≡ accepted_text (heading_text names t.x t.y h)

@@ -1,6 +1,7 @@
 -- The hedge that answers no.
 use Rattle.std.specs.Prelude.{ℕ, ◌≡◌, List}
 use Rattle.mixed_graph.specs.Graphs.{MixedGraph}
+use Rattle.hedge.specs.Hedges.{IsHedge}
 use Rattle.hedge.specs.declared.kinds.Hedge.{Hedge}
 use Rattle.counter_models.specs.Pairs.{IsPairOf}
 use Rattle.counter_models.specs.declared.kinds.CounterPair.{CounterPair}
@@ -9,10 +10,11 @@ use Rattle.id_recursion.specs.Answers.{IsRightHedge}
 use Rattle.id_recursion.specs.Hedged.{IsHedgeOf}
 use Rattle.identify_text.specs.PairLines.{hedge_answer}
 
--- It is a hedge for the effect of x on y, and its two models, which are positive and fit q, agree on all observations and differ on the effect.
--- It is the hedge at which the identification procedure stops, with its data and its models.
+-- Its sets form a hedge for the effect of x on y, and its two models, which are positive and fit q, agree on all observations and differ on the effect under every value of x.
+-- Its choice of children and its links are the evidence. It is the hedge at which the identification procedure stops, with its data and its models.
 pub record IsFoundHedge (q : MixedGraph) (x y : ℕ) (hedge : Hedge) (pair : CounterPair) : Type 0 where
   pub right : IsRightHedge q x y hedge pair
+  pub evidence : IsHedge q x y hedge
   pub stop : IsUnidentified q x y hedge.small.bits hedge.big.bits
   pub built : IsHedgeOf q hedge
   pub models : IsPairOf q x y hedge pair

@@ -20,7 +20,7 @@ use Rattle.evaluate_command.proofs.Tables.{all_members, member_used, used_member
 pub used_below : (e : PlainEffect) → IsIdentified e → (v : ℕ) → has (used_in e) v ≡ true → v < e.graph.vertices
 used_below e id v h =
     in_either (v < e.graph.vertices) (mentioned e.formula) (join e.x e.y) v
-    (λ i. (mentioned_only (IsAncestor e.graph (has e.y)) e.formula id.ancestors v i).vertex)
+    (λ i. (mentioned_only (IsAncestor e.graph (has e.y)) e.formula id.right.names v i).vertex)
     (in_either (v < e.graph.vertices) e.x e.y v (id.x v) (id.y v)) h
 
 none_right : (a b : ℕ) → join a b ≡ 0 → b ≡ 0
@@ -44,7 +44,7 @@ module _ (e : PlainEffect) (id : IsIdentified e) (t : Table) (counts : AreCounts
   evaluable = record {
     few = id.few;
     below = table_below;
-    accepted = id.formed;
+    accepted = id.right.formed;
     do_free = id.right.do_free;
     defs = used_defs (is_used t) e.formula.defs (λ v h. used v (in_left (mentioned e.formula) (join e.x e.y) v (in_left (mentioned_in_defs e.formula.defs) (mentioned_in e.formula.main) v h)));
     main = used_tree (is_used t) e.formula.main (λ v h. used v (in_left (mentioned e.formula) (join e.x e.y) v (in_right (mentioned_in_defs e.formula.defs) (mentioned_in e.formula.main) v h)));

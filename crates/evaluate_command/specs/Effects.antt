@@ -1,5 +1,5 @@
 -- An effect that has a formula.
-use Rattle.std.specs.Prelude.{ℕ, ◌≡◌, ◌⊎◌, ◌≤◌, ◌<◌, IsTrue, List, length, None}
+use Rattle.std.specs.Prelude.{ℕ, ◌≡◌, ◌⊎◌, ◌≤◌, ◌<◌, IsTrue, List, length}
 use Rattle.mixed_graph.specs.Bits.{has}
 use Rattle.mixed_graph.specs.Graphs.{MixedGraph, IsMixedGraph, IsAncestor}
 use Rattle.mixed_graph.specs.Sets.{Within, Apart}
@@ -7,13 +7,11 @@ use Rattle.mixed_graph.specs.Shown.{graph_of}
 use Rattle.dag_reader.specs.declared.graph.ReadGraph.{ReadGraph}
 use Rattle.targets.specs.Targets.{AreEffectSets}
 use Rattle.replies.specs.Observed.{Names, observed_names, IsObservedGraph}
-use Rattle.prob_expr.specs.Check.{fault_in}
 use Rattle.prob_expr.specs.Masks.{join}
 use Rattle.prob_expr.specs.Tree.{PlainFormula}
 use Rattle.prob_expr.specs.View.{formula_view}
 use Rattle.do_derivation.specs.Plans.{PlainDerivation}
 use Rattle.identification.specs.Derivations.{IsDerived}
-use Rattle.identification_answers.specs.Names.{FormulaNamesOnly}
 use Rattle.id_recursion.specs.Answers.{IsRightFormula}
 use Rattle.effect_answers.specs.Effects.{effect_lists}
 use Rattle.evaluate_command.specs.Mentioned.{mentioned}
@@ -39,7 +37,7 @@ used_in e = join (mentioned e.formula) (join e.x e.y)
 abbrev pub IsColumn : PlainEffect → ℕ → Type 0
 IsColumn e v = IsTrue (has e.x v) ⊎ IsAncestor e.graph (has e.y) v
 
--- x and y lie apart in the graph, and y has a member. The formula is that of the identification procedure: it has no intervention, it equals P(y | do(x)) in each
+-- x and y lie apart in the graph, and y has a member. The formula is that of the identification procedure, and right: the check of formulas accepts it, it has no intervention, it equals P(y | do(x)) in each
 -- positive model that fits the graph, some derivation turns P(y | do(x)) into it, and it names ancestors of y alone.
 -- No column is read but those of x and of ancestors of y.
 pub record IsIdentified (e : PlainEffect) : Type 0 where
@@ -50,8 +48,6 @@ pub record IsIdentified (e : PlainEffect) : Type 0 where
   pub y : Within e.graph.vertices (has e.y)
   pub apart : Apart (has e.x) (has e.y)
   pub some : 0 < e.y
-  pub formed : fault_in e.graph.vertices e.formula ≡ None
-  pub ancestors : FormulaNamesOnly (IsAncestor e.graph (has e.y)) e.formula
   pub columns : (v : ℕ) → IsTrue (has (used_in e) v) → IsColumn e v
   pub derivation : PlainDerivation
   pub right : IsRightFormula e.graph e.x e.y e.formula derivation

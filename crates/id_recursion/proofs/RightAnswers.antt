@@ -31,6 +31,7 @@ use Rattle.identification.specs.Procedure.{IsTarget, IsIdentified}
 use Rattle.identification_answers.specs.Names.{FormulaNamesOnly}
 use Rattle.hedge.specs.Hedges.{IsHedge}
 use Rattle.hedge.specs.declared.kinds.Hedge.{Hedge as HedgeData}
+use Rattle.hedge.proofs.Shaping.{sets_form_hedge}
 use Rattle.counter_models.specs.Events.{AreCounterModels}
 use Rattle.counter_models.specs.Pairs.{IsPairOf}
 use Rattle.counter_models.specs.declared.kinds.CounterPair.{CounterPair}
@@ -72,8 +73,17 @@ module _ (g : MixedGraph) (valid : IsMixedGraph g) (few : g.vertices ≤ 64) (x 
   identified f d i = derived_is_identified g x y f d i
 
   pub right : (a : Answer) → IsAnswerOf g x y a → IsRight g x y a
-  right (Formula f d) i = record { do_free = (accepted_of (formula_view f) (derivation_view d) i).accepted.listed; accepted = (accepted_of (formula_view f) (derivation_view d) i).accepted; effect = effect_of (formula_view f) (derivation_view d) i }
-  right (Hedge h pair) i = record { hedge = i.2; counter = counter g valid few x y h i.2 off pair i.3 }
+  right (Formula f d) i =
+      let is = identified (formula_view f) (derivation_view d) i in
+      let a = accepted_of (formula_view f) (derivation_view d) i in
+      record {
+        formed = formula_is_formed g valid x y target (formula_view f) is;
+        do_free = a.accepted.listed;
+        names = formula_names_ancestors g valid x y target (formula_view f) is;
+        accepted = a.accepted;
+        effect = effect_of (formula_view f) (derivation_view d) i;
+      }
+  right (Hedge h pair) i = record { hedge = sets_form_hedge g x y h valid few i.2; counter = counter g valid few x y h i.2 off pair i.3 }
 
   pub derived : (a : Answer) → IsAnswerOf g x y a → IfFormula a (IsDerived g x y)
   derived (Formula f d) i = i

@@ -2,6 +2,7 @@
 use Rattle.std.specs.Prelude.{ℕ, ◌≡◌, Bool, true, false, [], IsTrue, None}
 use Rattle.mixed_graph.specs.Bits.{has}
 use Rattle.mixed_graph.specs.Graphs.{MixedGraph, IsAncestor}
+use Rattle.prob_expr.specs.Check.{fault_in}
 use Rattle.prob_expr.specs.Terms.{is_do_free}
 use Rattle.prob_expr.specs.Tree.{PlainFormula, PlainTarget}
 use Rattle.prob_expr.specs.Values.{EqualsEffect}
@@ -13,7 +14,9 @@ use Rattle.identification.specs.Depth.{is_plan_within, are_lemmas_within}
 use Rattle.identification.specs.Derivations.{IsDerived}
 use Rattle.identification.specs.Procedure.{IsUnidentified}
 use Rattle.identification_answers.specs.Depth.{is_tree_within, are_defs_within}
+use Rattle.identification_answers.specs.Names.{FormulaNamesOnly}
 use Rattle.hedge.specs.Hedges.{IsHedge}
+use Rattle.hedge.specs.Shapes.{FormHedge}
 use Rattle.hedge.specs.declared.kinds.Hedge.{Hedge}
 use Rattle.counter_models.specs.Events.{AreCounterModels}
 use Rattle.counter_models.specs.Pairs.{IsPairOf}
@@ -26,18 +29,20 @@ use Rattle.id_recursion.specs.declared.kinds.Answer.TheVariants as answers
 abbrev pub effect_on : (x y : ℕ) → PlainTarget
 effect_on x y = record { x = x; y = y; given = 0 }
 
--- the formula has no intervention left, the derivation turns P(y | do(x)) into it, and it equals the effect in each positive model of the graph, at each assignment
+-- the formula is accepted by the check of formulas, has no intervention left, and names ancestors of y alone; the derivation turns P(y | do(x)) into it; and it equals the effect in each positive model of the graph, at each assignment
 pub record IsRightFormula (g : MixedGraph) (x y : ℕ) (f : PlainFormula) (d : PlainDerivation) : Type 0 where
+  pub formed : fault_in g.vertices f ≡ None
   pub do_free : is_do_free f ≡ true
+  pub names : FormulaNamesOnly (IsAncestor g (has y)) f
   pub accepted : Accepts g [] (effect_on x y) f d
   pub effect : EqualsEffect g (effect_on x y) f
 
--- it is a hedge for the effect of x on y, and its two models, which are positive and of the graph, agree on all observations and differ on the effect
+-- big and small form a hedge for the effect of x on y, and its two models, which are positive and of the graph, agree on all observations and differ on the effect
 pub record IsRightHedge (g : MixedGraph) (x y : ℕ) (h : Hedge) (pair : CounterPair) : Type 0 where
-  pub hedge : IsHedge g x y h
+  pub hedge : FormHedge g x y h.big.bits h.small.bits h.roots.bits
   pub counter : AreCounterModels g x y pair
 
--- A right answer is either a formula without interventions, with an accepted derivation, that equals the effect of x on y in each positive model of the graph; or a hedge, with two positive models of the graph that agree on all observations and differ on the effect.
+-- A right answer is either a formula without interventions, with an accepted derivation, that equals the effect of x on y in each positive model of the graph; or a hedge, with two positive models of the graph that agree on all observations and differ on the effect, under every value of x.
 abbrev pub IsRight : MixedGraph → (x y : ℕ) → Answer → Type 0
 IsRight g x y (answers.Formula f d) = IsRightFormula g x y (formula_view f) (derivation_view d)
 IsRight g x y (answers.Hedge h pair) = IsRightHedge g x y h pair

@@ -1,7 +1,6 @@
 -- The answer of `identify`: whether the effect of x on y can be computed from observations, in the observed graph of the one that was read.
 use Rattle.std.specs.Prelude.{ℕ, ◌≡◌, List, ◌++◌, codes, Ok}
-use Rattle.mixed_graph.specs.Bits.{has}
-use Rattle.mixed_graph.specs.Graphs.{MixedGraph, IsAncestor}
+use Rattle.mixed_graph.specs.Graphs.{MixedGraph}
 use Rattle.dag_reader.specs.declared.graph.ReadGraph.{ReadGraph}
 use Rattle.targets.specs.Targets.{EffectLists}
 use Rattle.replies.specs.declared.outcome.Outcome.{Outcome}
@@ -12,7 +11,6 @@ use Rattle.do_derivation.specs.Plans.{PlainDerivation}
 use Rattle.hedge.specs.declared.kinds.Hedge.{Hedge}
 use Rattle.counter_models.specs.declared.kinds.CounterPair.{CounterPair}
 use Rattle.identification.specs.Derivations.{IsDerived}
-use Rattle.identification_answers.specs.Names.{FormulaNamesOnly}
 use Rattle.id_recursion.specs.Answers.{effect_on, IsRightFormula}
 use Rattle.identify_text.specs.Answers.{formula_answer, latex_answer}
 use Rattle.identify_text.specs.PairLines.{hedge_answer}
@@ -49,13 +47,12 @@ ReadsBack form names c = form ≡ Certificate → certificate_in names (certific
 
 -- ---- answers for sets of the observed graph q
 
--- Yes: the formula has no intervention, equals P(y | do(x)) in each positive model that fits q, and names ancestors of y alone; the derivation turns the effect into it.
+-- Yes: the formula is accepted by the check of formulas, has no intervention, equals P(y | do(x)) in each positive model that fits q, and names ancestors of y alone; the derivation turns the effect into it.
 -- Both are those of the identification procedure, and the text shows them.
 pub record ShowsFormula (form : Form) (q : MixedGraph) (names : List (List ℕ)) (x y : ℕ) (text : List ℕ) : Type 0 where
   pub formula : PlainFormula
   pub derivation : PlainDerivation
   pub right : IsRightFormula q x y formula derivation
-  pub ancestors : FormulaNamesOnly (IsAncestor q (has y)) formula
   pub derived : IsDerived q x y formula derivation
   pub prints : text ≡ formula_text form names x y formula derivation
   pub reads_back : ReadsBack form names (plain.formula (effect_on x y) formula derivation)

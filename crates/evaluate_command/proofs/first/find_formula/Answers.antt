@@ -1,9 +1,8 @@
-use Rattle.std.proofs.Common.{◌≡◌, None, sym, subst}
+use Rattle.std.proofs.Common.{sym, subst}
 use Rattle.mixed_graph.specs.Bits.{has}
 use Rattle.mixed_graph.specs.Graphs.{IsAncestor}
 use Rattle.mixed_graph.specs.Shown.{graph_of}
 use Rattle.hedge.specs.Hedges.{IsHedge}
-use Rattle.prob_expr.specs.Check.{fault_in}
 use Rattle.do_derivation.specs.View.{derivation_view}
 use Rattle.counter_models.specs.Events.{AreCounterModels}
 use Rattle.counter_models.specs.Pairs.{IsPairOf}
@@ -46,8 +45,6 @@ returns-in-Formula c =
       y = c.requires.y;
       apart = c.requires.apart;
       some = c.requires.some;
-      formed = subst (λ a. IfFormula a (λ f d. fault_in c.args.seen.now.graph.n f ≡ None)) c.in-Formula.is c.in_ok-formula.ensures.formed;
-      ancestors = names;
       columns = used_columns (record { names = c.args.seen.now.names; graph = g; x = x; y = y; formula = formula_view c.in-Formula.formula }) names c.requires.y;
       derivation = derivation_view c.in-Formula.field-1;
       right = subst (IsRight g x y) c.in-Formula.is c.in_ok-formula.ensures.right;
@@ -62,6 +59,7 @@ returns c =
       pair = c.in-Hedge.pair;
       found = record {
         right = subst (IsRight g x y) c.in-Hedge.is c.in_ok-formula.ensures.right;
+        evidence = subst (λ a. IfHedge a (λ h pair. IsHedge g x y h)) c.in-Hedge.is c.in_ok-formula.ensures.hedge;
         stop = subst (λ a. IfHedge a (λ h pair. IsUnidentified g x y h.small.bits h.big.bits)) c.in-Hedge.is c.in_ok-formula.ensures.stop;
         built = subst (λ a. IfHedge a (λ h pair. IsHedgeOf g h)) c.in-Hedge.is c.in_ok-formula.ensures.data;
         models = subst (λ a. IfHedge a (IsPairOf g x y)) c.in-Hedge.is c.in_ok-formula.ensures.pair;

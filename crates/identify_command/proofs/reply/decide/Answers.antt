@@ -71,6 +71,7 @@ returns-in_ok-hedge_text-in-Hedge c =
       pair = c.in-Hedge.pair;
       found = record {
         right = subst (IsRight g c.args.sets.x.bits c.args.sets.y.bits) c.in-Hedge.is c.in_ok-formula.ensures.right;
+        evidence = subst (λ a. IfHedge a (λ h pair. IsHedge g c.args.sets.x.bits c.args.sets.y.bits h)) c.in-Hedge.is c.in_ok-formula.ensures.hedge;
         stop = subst (λ a. IfHedge a (λ h pair. IsUnidentified g c.args.sets.x.bits c.args.sets.y.bits h.small.bits h.big.bits)) c.in-Hedge.is c.in_ok-formula.ensures.stop;
         built = subst (λ a. IfHedge a (λ h pair. IsHedgeOf g h)) c.in-Hedge.is c.in_ok-formula.ensures.data;
         models = subst (λ a. IfHedge a (IsPairOf g c.args.sets.x.bits c.args.sets.y.bits)) c.in-Hedge.is c.in_ok-formula.ensures.pair;
