@@ -1,0 +1,5 @@
+mod Assembled
+mod GatheredWith
+mod Passing
+mod RightAnswers
+mod Trying

@@ -1,0 +1,9 @@
+use Rattle.surrogate_theory.proofs.Rooms.{zero_apart}
+use Rattle.surrogate_theory.specs.Surrogates.{ComesFirst}
+use Rattle.surrogates.proofs.tries.first_factor.Goals as goal
+
+pub factor_without-requires-clause-apart : goal.factor_without-requires-clause-apart
+factor_without-requires-clause-apart c = zero_apart c.args.c.bits
+
+pub returns-in-Ok-clause-tried : goal.returns-in-Ok-clause-tried
+returns-in-Ok-clause-tried c = record { z = 0; first = ComesFirst.here (zero_apart c.args.c.bits); tried = c.in-Ok.ensures.tried }

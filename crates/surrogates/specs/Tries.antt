@@ -1,0 +1,55 @@
+-- The factor of a district under one experiment after the other, as the code gives it.
+use Rattle.std.specs.Prelude.{ℕ, ◌≡◌, ◌≤◌, ◌⊎◌, false, List, [], ◌∷◌, length, map, Option, Some, None, IsTrue}
+use Rattle.mixed_graph.specs.Graphs.{MixedGraph}
+use Rattle.prob_expr.specs.Masks.{is_apart}
+use Rattle.prob_expr.specs.View.{view}
+use Rattle.do_derivation.specs.View.{lemma_view, steps_view}
+use Rattle.district_factors.specs.declared.kinds.Factor.{Factor}
+use Rattle.district_factors.specs.declared.kinds.FactorFault.{FactorFault}
+use Rattle.district_factors.specs.declared.kinds.FactorFault.TheVariants.{Stopped, NoMemory}
+use Rattle.surrogate_theory.specs.Surrogates.{IsDerivedUnder, IsStoppedUnder, ComesFirst, AllStop}
+
+-- f is the factor of c under an intervention on z, with at most 64 definitions from number k on and with its derivation
+pub record IsTried (g : MixedGraph) (z c k : ℕ) (f : Factor) : Type 0 where
+  pub derived : IsDerivedUnder g z c k (map view f.defs.items) (view f.value) (map lemma_view f.lemmas.items) (steps_view f.steps.items)
+  pub few : length f.defs.items ≤ 64
+  pub paired : length f.lemmas.items ≡ length f.defs.items
+
+-- why c has no factor under z
+abbrev pub IsTryFault : MixedGraph → (z c : ℕ) → FactorFault → Type 0
+IsTryFault g z c (Stopped big) = IsStoppedUnder g z c big.bits
+IsTryFault g z c NoMemory = Unit {0}
+
+-- z meets c, or stops its factor
+abbrev pub IsPassed : MixedGraph → (c z : ℕ) → Type 0
+IsPassed g c z = (is_apart z c ≡ false) ⊎ (IsTrue (is_apart z c) × (big : ℕ) × IsStoppedUnder g z c big)
+
+-- each set of the list does
+abbrev pub AllPassed : MixedGraph → (c : ℕ) → List ℕ → Type 0
+AllPassed g c [] = Unit {0}
+AllPassed g c (z ∷ zs) = IsPassed g c z × AllPassed g c zs
+
+-- the factor of c under z, or none where z is passed
+abbrev pub IsAttempt : MixedGraph → (z c k : ℕ) → Option Factor → Type 0
+IsAttempt g z c k (Some f) = IsTrue (is_apart z c) × IsTried g z c k f
+IsAttempt g z c k None = IsPassed g c z
+
+-- the factor of c under the first of the list that isn't passed
+pub record IsFirstOf (g : MixedGraph) (zs : List ℕ) (c k : ℕ) (f : Factor) : Type 0 where
+  pub z : ℕ
+  pub first : ComesFirst g c z zs
+  pub tried : IsTried g z c k f
+
+-- that factor, or none where each is passed
+abbrev pub IsAttemptOf : MixedGraph → List ℕ → (c k : ℕ) → Option Factor → Type 0
+IsAttemptOf g zs c k (Some f) = IsFirstOf g zs c k f
+IsAttemptOf g zs c k None = AllPassed g c zs
+
+-- the factor of c under the first of no experiment and these in turn
+abbrev pub IsFirstTried : MixedGraph → List ℕ → (c k : ℕ) → Factor → Type 0
+IsFirstTried g zs c k f = IsFirstOf g (0 ∷ zs) c k f
+
+-- c has no factor under any of them; without experiment it stops at big
+abbrev pub IsFirstFault : MixedGraph → List ℕ → (c : ℕ) → FactorFault → Type 0
+IsFirstFault g zs c (Stopped big) = IsStoppedUnder g 0 c big.bits × AllStop g c zs
+IsFirstFault g zs c NoMemory = Unit {0}

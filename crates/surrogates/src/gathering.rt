@@ -1,0 +1,59 @@
+//! The factors of all districts over the experiments, one after the other, until one stops.
+
+ghost use Rattle.std.specs.Prelude.{◌≡◌, ◌+◌, ◌*◌, ◌<◌, ◌^◌, ℕ, IsTrue, MatchResult, length, All};
+ghost use Rattle.mixed_graph.specs.Bits.{has};
+ghost use Rattle.mixed_graph.specs.Sets.{Within};
+ghost use Rattle.mixed_graph.specs.Shown.{graph_of};
+ghost use Rattle.districts.specs.Linked.{IsMaximalJoined};
+ghost use Rattle.districts.specs.Listed.{first_masks};
+ghost use Rattle.prob_expr.specs.Listed.{masks_of};
+ghost use Rattle.surrogates.specs.Gathered.{AreFactorsWith, IsStopWith, stop_for};
+
+use crate::tries::first_factor;
+use district_factors::FactorFault;
+use districts::Districts;
+use id_recursion::{Factors, Stop, add_factor};
+use mixed_graph::{Graph, VSet};
+use std::alloc::Global;
+
+/// Why there are no factors where that of c has this fault.
+fn stop_for(c: VSet, fault: FactorFault) -> Stop
+    ensures { result ≡ stop_for c fault }
+{
+    match fault {
+        FactorFault::Stopped(big) => Stop::At { small: c, big },
+        FactorFault::NoMemory => Stop::NoMemory,
+    }
+}
+
+/// The factors of the districts of d in turn; or the first district all of whose tries stop.
+pub fn factors_with(
+    alloc: Global,
+    g: &Graph,
+    experiments: &[VSet],
+    d: VSet,
+    parts: &Districts,
+) -> Result<Factors, Stop>
+    requires within { Within g.now.n (has d.bits) }
+    requires districts { All (IsMaximalJoined (graph_of g.now) d.bits) (first_masks parts.now.sets parts.now.count) }
+    ensures { MatchResult result (AreFactorsWith (graph_of g.now) (masks_of experiments.now) (first_masks parts.now.sets parts.now.count))
+        (IsStopWith (graph_of g.now) (masks_of experiments.now) (first_masks parts.now.sets parts.now.count)) }
+{
+    let mut made = Factors {
+        defs: Vec::new(alloc),
+        lemmas: Vec::new(alloc),
+        values: Vec::new(alloc),
+        lists: Vec::new(alloc),
+    };
+    for c in &parts.sets[..parts.count as usize] {
+        let more = match first_factor(alloc, g, experiments, *c, made.defs.len() as u32) {
+            Ok(more) => more,
+            Err(fault) => return Err(stop_for(*c, fault)),
+        };
+        match add_factor(&mut made, more) {
+            Ok(()) => {}
+            Err(_) => return Err(Stop::NoMemory),
+        }
+    }
+    Ok(made)
+}

@@ -1,0 +1,123 @@
+//! Identification of an effect over experiments.
+
+ghost use Rattle.std.specs.Prelude.{◌≡◌, ℕ, ◌<◌, ◌≤◌, ◌↔◌, true, length, IsTrue, IfOk, None};
+ghost use Rattle.mixed_graph.specs.Bits.{has};
+ghost use Rattle.mixed_graph.specs.Sets.{Within, Apart};
+ghost use Rattle.mixed_graph.specs.Shown.{graph_of};
+ghost use Rattle.prob_expr.specs.Check.{fault_in};
+ghost use Rattle.prob_expr.specs.Listed.{masks_of};
+ghost use Rattle.prob_expr.specs.Tree.{PlainFormula};
+ghost use Rattle.do_derivation.specs.Accepts.{are_sets};
+ghost use Rattle.identification.specs.Procedure.{IsIdentified};
+ghost use Rattle.surrogate_theory.specs.Surrogates.{IsSurrogate, IsSurrogateBySteps, SomeBlocked};
+ghost use Rattle.surrogates.specs.Answers.{IsAnswerWith, IsRightWith, IfFormula, IfStopped, IsStopShown, is_stopped};
+
+use crate::gathering::factors_with;
+use crate::kinds::Surrogate;
+use districts::districts;
+use id_recursion::{Stop, ancestors_outside, assembled, hedge_of, observed, order_of};
+use mixed_graph::{Graph, VSet};
+use prob_expr::masks::{is_below, is_empty};
+use std::alloc::{AllocError, Global};
+
+/// Whether there are at most eight experiments, each on some vertices of the graph.
+pub fn are_experiments(g: &Graph, experiments: &[VSet]) -> bool
+    ensures { IsTrue result ↔ ((length experiments.now ≤ 8) × (are_sets g.now.n (masks_of experiments.now) ≡ true)) }
+{
+    if experiments.len() > 8 {
+        return false;
+    }
+    are_sets(g.n, experiments)
+}
+
+/// Whether each set is one of vertices below n, and not empty.
+fn are_sets(n: u32, sets: &[VSet]) -> bool
+    requires { n ≤ 64 }
+    ensures { result ≡ are_sets n (masks_of sets.now) }
+{
+    for set in sets {
+        if !is_below(n, *set) {
+            return false;
+        }
+        if is_empty(*set) {
+            return false;
+        }
+    }
+    true
+}
+
+/// What the procedure over experiments answers.
+fn answer(
+    alloc: Global,
+    g: &Graph,
+    x: VSet,
+    y: VSet,
+    experiments: &[VSet],
+) -> Result<Surrogate, AllocError>
+    requires x_within { Within g.now.n (has x.bits) }
+    requires y_within { Within g.now.n (has y.bits) }
+    requires apart { Apart (has x.bits) (has y.bits) }
+    requires some { 0 < y.bits }
+    ensures { IfOk result (IsAnswerWith (graph_of g.now) (masks_of experiments.now) x.bits y.bits) }
+{
+    let order = order_of(g);
+    if is_empty(x) {
+        let (formula, derivation) = observed(alloc, y);
+        return Ok(Surrogate::Formula(formula, derivation));
+    }
+    let d = ancestors_outside(g, x, y);
+    let parts = districts(g, d);
+    match factors_with(alloc, g, experiments, d, &parts) {
+        Ok(made) => {
+            let (formula, derivation) = assembled(alloc, g, x, y, d, &order, &parts, made)?;
+            Ok(Surrogate::Formula(formula, derivation))
+        }
+        Err(Stop::At { small, big }) => {
+            let (hedge, pair) = hedge_of(alloc, g, x, y, small, big)?;
+            Ok(Surrogate::Stopped {
+                district: small,
+                hedge,
+                pair,
+            })
+        }
+        Err(Stop::NoMemory) => Err(AllocError),
+    }
+}
+
+/// A formula for P(y | do(x)) from what is observed and from experiments on these sets, or the first
+/// district that no experiment frees (Bareinboim and Pearl 2012).
+///
+/// That a district stops doesn't say that the effect can't be computed from the experiments in
+/// another way. The only error is want of memory.
+pub fn identify_with(
+    alloc: Global,
+    g: &Graph,
+    x: VSet,
+    y: VSet,
+    experiments: &[VSet],
+) -> Result<Surrogate, AllocError>
+    requires x_within { Within g.now.n (has x.bits) }
+    requires y_within { Within g.now.n (has y.bits) }
+    requires apart { Apart (has x.bits) (has y.bits) }
+    requires some { 0 < y.bits }
+    requires few { length experiments.now ≤ 8 }
+    requires experiments { are_sets g.now.n (masks_of experiments.now) ≡ true }
+
+    // A formula has an accepted derivation, terms that are observed or under an experiment, and the value of the effect;
+    // where the procedure stops, there are two models that agree on all observations and differ on the effect.
+    ensures right { IfOk result (IsRightWith (graph_of g.now) (masks_of experiments.now) x.bits y.bits) }
+
+    // It stops exactly where some district is blocked: under no experiment and under each that leaves it alone there is a hedge for it.
+    ensures exact { IfOk result (λ a. IsTrue (is_stopped a) ↔ SomeBlocked (graph_of g.now) (masks_of experiments.now) x.bits y.bits) }
+
+    // The formula and its derivation are those of the procedure; where observations alone give a formula, it is that one.
+    ensures formula { IfOk result (λ a. IfFormula a (λ f t. IsSurrogate (graph_of g.now) (masks_of experiments.now) x.bits y.bits f)) }
+    ensures derived { IfOk result (λ a. IfFormula a (IsSurrogateBySteps (graph_of g.now) (masks_of experiments.now) x.bits y.bits)) }
+    ensures formed { IfOk result (λ a. IfFormula a (λ f t. fault_in g.now.n f ≡ None)) }
+    ensures plain { (f : PlainFormula) → IsIdentified (graph_of g.now) x.bits y.bits f → IfOk result (λ a. (is_stopped a ≡ true → ⊥) × IfFormula a (λ h t. h ≡ f)) }
+
+    // The district is the first that is blocked; the hedge is that for it without experiment, with its two models.
+    ensures stopped { IfOk result (λ a. IfStopped a (IsStopShown (graph_of g.now) (masks_of experiments.now) x.bits y.bits)) }
+{
+    answer(alloc, g, x, y, experiments)
+}

@@ -1,0 +1,13 @@
+//! Effects over surrogate experiments (Bareinboim and Pearl 2012): a formula for P(y | do(x)) from
+//! what is observed and from trials on other variables, or the district that no experiment frees.
+//!
+//! `identify_with(alloc, &graph, x, y, &experiments)` gives the one or the other.
+#![tactic(auto)]
+
+mod gathering;
+mod identifying;
+mod kinds;
+mod tries;
+
+pub use identifying::{are_experiments, identify_with};
+pub use kinds::Surrogate;
