@@ -13,6 +13,7 @@ mod listing;
 mod model_texts;
 mod models;
 mod ruling;
+mod surrogating;
 
 use anyhow::{Context, Result};
 use case_rows::text;
@@ -33,6 +34,7 @@ fn answer(alloc: Global, row: &Value) -> Option<String> {
         "derivation" => derivations::derivation_row(alloc, row),
         "factor" => factors::factor_row(alloc, row),
         "effect" => identifying::effect_row(alloc, row),
+        "surrogate" => surrogating::surrogate_row(alloc, row),
         "two models" => identifying::two_models_row(alloc, row),
         "adjustment" => adjusting::adjustment_row(alloc, row),
         "back door" => adjusting::back_door_row(alloc, row),
