@@ -21,6 +21,7 @@ use Rattle.identification.specs.Procedure.{IsTarget, IsIdentified}
 use Rattle.counter_models.proofs.Final.{counter}
 use Rattle.counter_models.specs.Pairs.{IsPairOf}
 use Rattle.counter_models.specs.declared.kinds.CounterPair.{CounterPair}
+use Rattle.hedge.proofs.Shaping.{sets_form_hedge}
 use Rattle.hedge.specs.Hedges.{IsHedge}
 use Rattle.hedge.specs.declared.kinds.Hedge.{Hedge}
 use Rattle.id_recursion.specs.Answers.{effect_on}
@@ -77,7 +78,7 @@ module _ (g : MixedGraph) (valid : IsMixedGraph g) (few : g.vertices ≤ 64) (x 
   pub right : (a : Surrogate) → IsAnswerWith g zs x y a → IsRightWith g zs x y a
   right (Formula f t) i = let a = (accepted_of (formula_view f) (derivation_view t) i).accepted in
       record { allowed = a.listed; accepted = a; effect = (accepted_is_effect g valid zs (effect_on x y) (formula_view f) (derivation_view t) term a).1 }
-  right (Stopped district h pair) i = record { hedge = i.hedge; counter = counter g valid few x y h i.hedge off pair i.models }
+  right (Stopped district h pair) i = record { hedge = sets_form_hedge g x y h valid few i.hedge; counter = counter g valid few x y h i.hedge off pair i.models }
 
   pub exact : (a : Surrogate) → IsAnswerWith g zs x y a → IsTrue (is_stopped a) ↔ SomeBlocked g zs x y
   exact (Formula f t) i = (λ e. absurd (clash false e refl), λ b. absurd (blocked_excludes_formula g valid zs x y target b (formula_view f) (derived_is_surrogate g zs x y (formula_view f) (derivation_view t) i)))
