@@ -1,6 +1,7 @@
 use crate::formulas::shown;
 use crate::model_texts::model_text;
-use case_rows::{Entries, Members, graph, hedge, names, set};
+use crate::models::weight_text;
+use case_rows::{Entries, Members, graph, hedge, names, set, text};
 use counter_models::{CounterPair, build};
 use do_rules::are_three_sets;
 use hedge::{Hedge, holds};
@@ -76,4 +77,15 @@ pub(crate) fn two_models_row(alloc: Global, row: &Value) -> Option<String> {
     let h = hedge(alloc, row)?;
     let pair = built(alloc, &graph, set(row, "x"), set(row, "y"), &h)?;
     pair_text(alloc, graph.n, &pair)
+}
+
+/// The weight of an event in the first or the second of the two models of the row's hedge.
+pub(crate) fn built_weight_row(alloc: Global, row: &Value) -> Option<String> {
+    let graph = graph(alloc, row)?;
+    let h = hedge(alloc, row)?;
+    let pair = built(alloc, &graph, set(row, "x"), set(row, "y"), &h)?;
+    if text(row, "of") == "first" {
+        return weight_text(alloc, &graph, &pair.first, row);
+    }
+    weight_text(alloc, &graph, &pair.second, row)
 }

@@ -36,6 +36,7 @@ fn answer(alloc: Global, row: &Value) -> Option<String> {
         "effect" => identifying::effect_row(alloc, row),
         "surrogate" => surrogating::surrogate_row(alloc, row),
         "two models" => identifying::two_models_row(alloc, row),
+        "weight in a built model" => identifying::built_weight_row(alloc, row),
         "adjustment" => adjusting::adjustment_row(alloc, row),
         "back door" => adjusting::back_door_row(alloc, row),
         "adjustment formula" => adjusting::formula_row(alloc, row),

@@ -127,11 +127,16 @@ fn weighed(
     }
 }
 
-/// The weight of an event at these values, where a set is intervened on.
+/// The weight of the row's event at its values, where its set is intervened on.
+pub(crate) fn weight_text(alloc: Global, g: &Graph, m: &Model, row: &Value) -> Option<String> {
+    let at = numbers(alloc, row, "at")?;
+    let answer = weighed(g, m, set(row, "do"), set(row, "event"), &at)?;
+    format!(in alloc; "{answer:?}\n").ok()
+}
+
+/// The weight of an event in the row's model.
 pub(crate) fn weight_row(alloc: Global, row: &Value) -> Option<String> {
     let graph = graph(alloc, row)?;
     let model = model(alloc, row)?;
-    let at = numbers(alloc, row, "at")?;
-    let answer = weighed(&graph, &model, set(row, "do"), set(row, "event"), &at)?;
-    format!(in alloc; "{answer:?}\n").ok()
+    weight_text(alloc, &graph, &model, row)
 }
