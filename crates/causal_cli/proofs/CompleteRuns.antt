@@ -4,8 +4,7 @@ use Rattle.replies.specs.declared.outcome.Outcome.{Outcome}
 use Rattle.replies.specs.declared.outcome.Outcome.TheVariants.{Yes, No, Words, Graph, Second, Evaluation, Read, Write, Memory}
 use Rattle.replies.specs.Outcomes.{code_of}
 use Rattle.word_forms.proofs.Exact.{one_call}
-use Rattle.causal_cli.specs.Table.{table}
-use Rattle.causal_cli.specs.Requests.{Request, on_graph, survey, Asks}
+use Rattle.causal_cli.specs.Commands.{table, Request, Asks}
 use Rattle.causal_cli.specs.Run.{Run, Answers, by_words, by_file, by_both, Ends}
 use Rattle.causal_cli.specs.Complete.{NothingFailed, Answered, Complete, WordsAskOnce}
 
@@ -15,9 +14,9 @@ words_ask_once words row other uses others one two = one_call table refl words r
 module _ (r : Run) (code : ℕ) where
   -- a defined answer is one to a request of the words
   none_answered : (o : Outcome) (text : List ℕ) → ((q : Request) → Asks r.words q → ⊥) → Answers r o text → ⊥
-  none_answered o text none (by_words a) = none (survey a.request) a.asks
-  none_answered o text none (by_file a) = none (on_graph a.request) a.asks
-  none_answered o text none (by_both a) = none (on_graph a.request) a.asks
+  none_answered o text none (by_words a) = none a.request a.asks
+  none_answered o text none (by_file a) = none a.request a.asks
+  none_answered o text none (by_both a) = none a.request a.asks
 
   refused : (o : Outcome) (text : List ℕ) → code ≡ code_of o → Ends r o text → ((q : Request) → Asks r.words q → ⊥) → (code ≡ 2) ⊎ (code ≡ 8)
   refused Yes text c h none = absurd (none_answered Yes text none h.answers)
@@ -26,7 +25,7 @@ module _ (r : Run) (code : ℕ) where
   refused Graph text c h none = absurd (none_answered Graph text none h.answers)
   refused Second text c h none = absurd (none_answered Second text none h.answers)
   refused Evaluation text c h none = absurd (none_answered Evaluation text none h.answers)
-  refused Read text c h none = absurd (none (on_graph h.0.request) h.0.asks)
+  refused Read text c h none = absurd (none h.0.request h.0.asks)
   refused Write text c h none = absurd (none_answered h.0.outcome h.0.text none h.0.answers)
   refused Memory text c h none = inr c
 

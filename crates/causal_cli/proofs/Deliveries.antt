@@ -12,17 +12,12 @@ use Rattle.replies.specs.declared.outcome.Outcome.{Outcome}
 use Rattle.replies.specs.declared.outcome.Outcome.TheVariants.{Yes, No, Words, Graph, Second, Evaluation, Read, Write, Memory}
 use Rattle.replies.specs.Outcomes.{code_of, IsAnswered}
 use Rattle.replies.specs.declared.outcome.Reply.{Reply}
-use Rattle.survey_command.specs.Answers.{SurveyAnswer}
-use Rattle.survey_command.specs.Requests.{Request as SurveyRequest}
-use Rattle.causal_cli.specs.Requests.{GraphRequest, Request, on_graph, survey, Asks, file_of}
-use Rattle.causal_cli.specs.Answers.{Defined, too_long, Continues, DefinedWith}
+use Rattle.causal_cli.specs.Commands.{Request, Asks, file_of}
+use Rattle.causal_cli.specs.Answers.{WordsAnswer, Defined, too_long, Continues, DefinedWith, second_in, limit_of, GivesSecond, IsLeftOf}
 use Rattle.causal_cli.specs.Run.{Stream, Run, Answers, by_words, by_file, by_both, second, Ends, Unwritten, NotUnderstood}
 use Rattle.causal_cli.specs.Ends.{told_of, EndsWith, Delivers, written, unwritten, refused, IsTooLongLine, IsTooLong, Proceeds, replied, unread, no_memory}
-use Rattle.causal_cli.specs.SecondInputs.{second_in, limit_of, GivesSecond, IsSecondInput}
-use Rattle.causal_cli.specs.declared.input.SecondInput.{SecondInput}
-use Rattle.survey_command.proofs.Outcomes.{survey_answered}
-use Rattle.causal_cli.proofs.Answered.{defined_answered, gives_answered, long_answered}
-use Rattle.causal_cli.proofs.Definitions.{named, continues, defined_with}
+use Rattle.causal_cli.specs.declared.answer.SecondInput.{SecondInput}
+use Rattle.causal_cli.proofs.Answered.{words_answered, defined_answered, gives_answered, long_answered, named, continues, defined_with}
 
 -- what holds of the bytes that were read holds of those that are held, where they are told
 pub told : (held : Option (List ℕ)) (items : List ℕ) (P : List ℕ → Type 0) → IfSome held (λ all. items ≡ all) → P items → IfSome held P
@@ -60,22 +55,24 @@ delivered r reply e only a (unwritten is low count within front rose) =
     subst (λ o. Ends r o (told_of o e.text.items)) (sym is) (failed, refl)
 
 -- the words ask for nothing
-pub not_understood : (r : Run) (e : Reply) → e.outcome ≡ Words → ((q : Request) → Asks r.words q → ⊥) → r.out.after ≡ r.out.before → EndsWith r e
+pub not_understood : (r : Run) (e : Reply) → e.outcome ≡ Words → ((w : Request) → Asks r.words w → ⊥) → r.out.after ≡ r.out.before → EndsWith r e
 not_understood r e is none same =
     let nothing : NotUnderstood r = record { no_request = none; nothing = same } in subst (λ o. Ends r o (told_of o e.text.items)) (sym is) (nothing, refl)
 
--- the reply of a survey was delivered
-pub delivered_survey : (r : Run) (q : SurveyRequest) (reply : Reply) (e : Reply) → Asks r.words (survey q) → SurveyAnswer q.seed reply.outcome reply.text.items → Delivers r.out reply e → EndsWith r e
-delivered_survey r q reply e asks a o = delivered r reply e (survey_answered q.seed reply.outcome reply.text.items a) (by_words (record { request = q; asks = asks; answer = a })) o
+-- the reply on the words alone was delivered
+pub delivered_words : (r : Run) (w : Request) (reply e : Reply) → Asks r.words w → WordsAnswer w reply.outcome reply.text.items → Delivers r.out reply e → EndsWith r e
+delivered_words r w reply e asks a o = delivered r reply e (words_answered w reply.outcome reply.text.items a) (by_words (record { request = w; asks = asks; answer = a })) o
 
 -- the reply on the file alone was delivered
-pub delivered_file : (r : Run) (w : GraphRequest) (bytes : List ℕ) (reply : Reply) (e : Reply) → Asks r.words (on_graph w) → r.lacks (file_of w) ≡ false →
-    IfSome (r.held (file_of w)) (λ all. bytes ≡ all) → Defined w bytes reply.outcome reply.text.items → Delivers r.out reply e → EndsWith r e
-delivered_file r w bytes reply e asks there held d o = delivered r reply e (defined_answered w bytes reply.outcome reply.text.items d) (by_file (record {
+pub delivered_file : (r : Run) (w : Request) (file : Text) (bytes : List ℕ) (reply e : Reply) → Asks r.words w → file_of w ≡ Some file → r.lacks file ≡ false →
+    IfSome (r.held file) (λ all. bytes ≡ all) → Defined w bytes reply.outcome reply.text.items → Delivers r.out reply e → EndsWith r e
+delivered_file r w file bytes reply e asks names there held d o = delivered r reply e (defined_answered w bytes reply.outcome reply.text.items d) (by_file (record {
   request = w;
   asks = asks;
+  file = file;
+  names_it = names;
   there = there;
-  defined = told (r.held (file_of w)) bytes (λ all. Defined w all reply.outcome reply.text.items) held d;
+  defined = told (r.held file) bytes (λ all. Defined w all reply.outcome reply.text.items) held d;
 })) o
 
 -- a count that rose after it stood higher rose
@@ -83,33 +80,39 @@ rose_since : (before middle after : ℕ) → before ≤ middle → Rose middle a
 rose_since before middle after h r = omega (arith, h, r)
 
 -- the second input was read, over the shelf as the first read left it, and the run ended by it
-pub proceeded : (r : Run) (w : GraphRequest) (bytes : List ℕ) (p : SecondInput) (e : Reply) (held : Text → Option (List ℕ)) (lacks : Text → Bool) (faults : Text → ℕ) → Asks r.words (on_graph w) →
-    r.lacks (file_of w) ≡ false → IfSome (r.held (file_of w)) (λ all. bytes ≡ all) → IsSecondInput w bytes p → held ≡ r.held → lacks ≡ r.lacks →
-    ((name : Text) → r.read_faults name ≤ faults name) → Proceeds held lacks faults r.read_faults_after r.out p e → EndsWith r e
-proceeded r w bytes p e held lacks faults asks there told_it is same_held same_lacks grown (replied reply only second_there gives o) = delivered r reply e only (by_both (record {
-  request = w;
-  asks = asks;
-  second = second_in p;
-  names_it = named w bytes p is;
-  there = there;
-  second_there = subst (λ l. l (second_in p) ≡ false) same_lacks second_there;
-  accepted = told (r.held (file_of w)) bytes (λ all. Continues w all) told_it (continues w bytes p is);
-  defined = told (r.held (file_of w)) bytes (λ all. IfSome (r.held (second_in p)) (λ other. DefinedWith w all other reply.outcome reply.text.items)) told_it
-      (mapped (r.held (second_in p)) (λ other. GivesSecond p other reply) (λ other. DefinedWith w bytes other reply.outcome reply.text.items)
-      (λ other g. defined_with w bytes p other reply is g) (subst (λ h. IfSome (h (second_in p)) (λ other. GivesSecond p other reply)) same_held gives));
-})) o
-proceeded r w bytes p e held lacks faults asks there told_it is same_held same_lacks grown (unread same rose nothing) = subst (λ o. Ends r o (told_of o e.text.items)) (sym same) (
-  record {
+module _ (r : Run) (w : Request) (file : Text) (bytes : List ℕ) (p : SecondInput) (e : Reply) (held : Text → Option (List ℕ)) (lacks : Text → Bool) (faults : Text → ℕ)
+    (asks : Asks r.words w) (names : file_of w ≡ Some file) (there : r.lacks file ≡ false) (told_it : IfSome (r.held file) (λ all. bytes ≡ all)) (is : IsLeftOf w bytes p)
+    (same_held : held ≡ r.held) (same_lacks : lacks ≡ r.lacks) (grown : (name : Text) → r.read_faults name ≤ faults name) where
+  accepted_file : IfSome (r.held file) (λ all. Continues w all)
+  accepted_file = told (r.held file) bytes (λ all. Continues w all) told_it (continues w bytes p is)
+
+  pub proceeded : Proceeds held lacks faults r.read_faults_after r.out p e → EndsWith r e
+  proceeded (replied reply only second_there gives o) = delivered r reply e only (by_both (record {
     request = w;
     asks = asks;
-    name = second_in p;
-    is_read = second (named w bytes p is) there (told (r.held (file_of w)) bytes (λ all. Continues w all) told_it (continues w bytes p is));
-    rose = rose_since (r.read_faults (second_in p)) (faults (second_in p)) (r.read_faults_after (second_in p)) (grown (second_in p)) rose;
-    nothing = nothing;
-  },
-  refl,
-)
-proceeded r w bytes p e held lacks faults asks there told_it is same_held same_lacks grown (no_memory same nothing) = subst (λ o. Ends r o (told_of o e.text.items)) (sym same) (nothing, refl)
+    file = file;
+    names_it = names;
+    second = second_in p;
+    names_second = named w bytes p is;
+    there = there;
+    second_there = subst (λ l. l (second_in p) ≡ false) same_lacks second_there;
+    accepted = accepted_file;
+    defined = told (r.held file) bytes (λ all. IfSome (r.held (second_in p)) (λ other. DefinedWith w all other reply.outcome reply.text.items)) told_it
+        (mapped (r.held (second_in p)) (λ other. GivesSecond p other reply) (λ other. DefinedWith w bytes other reply.outcome reply.text.items)
+        (λ other g. defined_with w bytes p other reply is g) (subst (λ h. IfSome (h (second_in p)) (λ other. GivesSecond p other reply)) same_held gives));
+  })) o
+  proceeded (unread same rose nothing) = subst (λ o. Ends r o (told_of o e.text.items)) (sym same) (
+    record {
+      request = w;
+      asks = asks;
+      name = second_in p;
+      is_read = second file names (named w bytes p is) there accepted_file;
+      rose = rose_since (r.read_faults (second_in p)) (faults (second_in p)) (r.read_faults_after (second_in p)) (grown (second_in p)) rose;
+      nothing = nothing;
+    },
+    refl,
+  )
+  proceeded (no_memory same nothing) = subst (λ o. Ends r o (told_of o e.text.items)) (sym same) (nothing, refl)
 
 -- a test that can't be true is false
 pub not_true : (b : Bool) → (b ≡ true → ⊥) → b ≡ false
@@ -117,30 +120,32 @@ not_true true n = absurd (n refl)
 not_true false n = refl
 
 -- the run ends with a refusal of a text that is too long
-long_end : (r : Run) (w : GraphRequest) → Asks r.words (on_graph w) → r.lacks (file_of w) ≡ false → IfSome (r.held (file_of w)) (λ all. 1048576 < length all) → r.out.after ≡ r.out.before →
-    (o : Outcome) (text : List ℕ) → IsTooLongLine o text → Ends r o (told_of o text)
-long_end r w asks there held same Graph line long = record {
+long_end : (r : Run) (w : Request) (file : Text) → Asks r.words w → file_of w ≡ Some file → r.lacks file ≡ false → IfSome (r.held file) (λ all. 1048576 < length all) →
+    r.out.after ≡ r.out.before → (o : Outcome) (text : List ℕ) → IsTooLongLine o text → Ends r o (told_of o text)
+long_end r w file asks names there held same Graph line long = record {
   answers = by_file (record {
     request = w;
     asks = asks;
+    file = file;
+    names_it = names;
     there = there;
-    defined = mapped (r.held (file_of w)) (λ all. 1048576 < length all) (λ all. Defined w all Graph line) (λ all h. inl (too_long h long)) held;
+    defined = mapped (r.held file) (λ all. 1048576 < length all) (λ all. Defined w all Graph line) (λ all h. inl (too_long h long)) held;
   });
   nothing = same;
 }
-long_end r w asks there held same Memory line long = (same, refl)
-long_end r w asks there held same o line long = absurd long
+long_end r w file asks names there held same Memory line long = (same, refl)
+long_end r w file asks names there held same o line long = absurd long
 
 pub no_fault : (f : ReadError) (most : ℕ) → f ≡ TooLong most → (let r : Result (Vec ℕ) ReadError = Err f in r ≡ Err Fault) → ⊥
 no_fault f most e h = let g : f ≡ Fault = cc h in let t : TooLong most ≡ Fault = sym e ∙ g in cc t
 
 -- the file that the request names holds more than is read
-pub ended_too_long : (r : Run) (w : GraphRequest) (name : Text) (f : ReadError) (most : ℕ) (e : Reply) → name ≡ file_of w → f ≡ TooLong most → Asks r.words (on_graph w) →
-    AnswersAll (r.held name) 1048576 (Err f) → (r.lacks name ≡ true → (let read : Result (Vec ℕ) ReadError = Err f in read ≡ Err Fault)) → r.out.after ≡ r.out.before →
+pub ended_too_long : (r : Run) (w : Request) (file : Text) (f : ReadError) (most : ℕ) (e : Reply) → file_of w ≡ Some file → f ≡ TooLong most → Asks r.words w →
+    AnswersAll (r.held file) 1048576 (Err f) → (r.lacks file ≡ true → (let read : Result (Vec ℕ) ReadError = Err f in read ≡ Err Fault)) → r.out.after ≡ r.out.before →
     IsTooLong e → EndsWith r e
-ended_too_long r w name f most e en ef asks answer lacked same long =
-    let held = subst (λ n. AnswersAll (r.held n) 1048576 (Err (TooLong most))) en (subst (λ k. AnswersAll (r.held name) 1048576 (Err k)) ef answer) in
-    long_end r w asks (subst (λ n. r.lacks n ≡ false) en (not_true (r.lacks name) (λ t. no_fault f most ef (lacked t)))) held.1 same e.outcome e.text.items long
+ended_too_long r w file f most e names ef asks answer lacked same long =
+    let held = subst (λ k. AnswersAll (r.held file) 1048576 (Err k)) ef answer in
+    long_end r w file asks names (not_true (r.lacks file) (λ t. no_fault f most ef (lacked t))) held.1 same e.outcome e.text.items long
 
 -- the second input holds more than is read
 pub long_second : (held : Text → Option (List ℕ)) (lacks : Text → Bool) (faults faults_after : Text → ℕ) (out : Stream) (p : SecondInput) (e : Reply) (name : Text) (limit : ℕ)

@@ -4,7 +4,7 @@ mod ReadCounts
 mod NeverFails
 mod Answered
 mod Readable
-mod Asking
+mod OneCommand
 mod Spoken
 mod Headlines
 mod CheckedRuns

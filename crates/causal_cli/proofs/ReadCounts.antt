@@ -5,11 +5,10 @@ use Rattle.std.proofs.lemmas.Slice.Eq.{bytes_eq-Decides}
 use Rattle.std.specs.Str.{bytes_eq}
 use Rattle.word_forms.specs.Form.{Text}
 use Rattle.causal_io.specs.Reading.{IsReadOnce}
-use Rattle.causal_cli.specs.Requests.{GraphRequest, Asks, on_graph, file_of, second_of}
-use Rattle.causal_cli.specs.Answers.{Continues}
-use Rattle.causal_cli.specs.SecondInputs.{second_in, IsSecondInput}
-use Rattle.causal_cli.specs.declared.input.SecondInput.{SecondInput}
-use Rattle.causal_cli.proofs.Definitions.{named, continues}
+use Rattle.causal_cli.specs.Commands.{Request, Asks, file_of, second_of}
+use Rattle.causal_cli.specs.Answers.{Continues, second_in, IsLeftOf}
+use Rattle.causal_cli.specs.declared.answer.SecondInput.{SecondInput}
+use Rattle.causal_cli.proofs.Answered.{named, continues}
 use Rattle.causal_cli.proofs.Deliveries.{told}
 use Rattle.causal_cli.specs.Run.{Run, Reads, reads_of, IsNotRead, IsReadAtMostOnce, ReadsAsAsked, IsRead, file, second}
 
@@ -58,13 +57,13 @@ module _ (calls calls_middle calls_after given given_middle given_after : Text �
   second_alone (Some all) name p q = record { calls = omega (arith, q.calls, p.calls); bytes = omega (arith, q.bytes, p.given) }
 
   -- the file was read, and then the second input, and the file not again
-  pub both_read : (r : Run) (w : GraphRequest) (name : Text) (bytes : List ℕ) (p : SecondInput) (held : Text → Option (List ℕ)) → name ≡ file_of w → Asks r.words (on_graph w)
-      → r.lacks (file_of w) ≡ false → IfSome (r.held (file_of w)) (λ all. bytes ≡ all) → IsSecondInput w bytes p → held ≡ r.held
+  pub both_read : (r : Run) (w : Request) (name : Text) (bytes : List ℕ) (p : SecondInput) (held : Text → Option (List ℕ)) → file_of w ≡ Some name → Asks r.words w
+      → r.lacks name ≡ false → IfSome (r.held name) (λ all. bytes ≡ all) → IsLeftOf w bytes p → held ≡ r.held
       → IsReadAtMostOnce r.held before name → ((other : Text) → other ≢ name → calls_middle other ≡ calls other) → ((other : Text) → other ≢ name → given_middle other ≡ given other)
       → ((other : Text) → other ≢ second_in p → IsNotRead behind other) → IsNotRead behind name → ((other : Text) → IsReadAtMostOnce held behind other)
       → ReadsAsAsked r whole
-  both_read r w name bytes p held named_so asks there told_it is same_held once other_calls other_given only not_again once_behind = record {
-    only = λ other no. not_read other (others other (λ e. no w asks (file (e ∙ named_so)))) (only other (λ e. no w asks (is_second other e)));
+  both_read r w name bytes p held names asks there told_it is same_held once other_calls other_given only not_again once_behind = record {
+    only = λ other no. not_read other (others other (λ e. no w asks (is_file other e))) (only other (λ e. no w asks (is_second other e)));
     once = λ other. either other name (IsReadAtMostOnce r.held whole other)
         (λ e. subst (IsReadAtMostOnce r.held whole) (sym e) (first_alone (r.held name) name once not_again))
         (λ d. second_alone (r.held other) other (others other d) (subst (λ h. IsReadAtMostOnce h behind other) same_held (once_behind other)));
@@ -73,15 +72,18 @@ module _ (calls calls_middle calls_after given given_middle given_after : Text �
       others : (other : Text) → other ≢ name → IsNotRead before other
       others other d = record { calls = other_calls other d; given = other_given other d }
 
+      is_file : (other : Text) → other ≡ name → IsRead r w other
+      is_file other e = file (subst (λ n. file_of w ≡ Some n) (sym e) names)
+
       is_second : (other : Text) → other ≡ second_in p → IsRead r w other
-      is_second other e = second (subst (λ n. second_of w ≡ Some n) (sym e) (named w bytes p is)) there
-          (told (r.held (file_of w)) bytes (λ all. Continues w all) told_it (continues w bytes p is))
+      is_second other e = second name names (subst (λ n. second_of w ≡ Some n) (sym e) (named w bytes p is)) there
+          (told (r.held name) bytes (λ all. Continues w all) told_it (continues w bytes p is))
 
 -- the file alone was read
-pub file_read : (r : Run) (q : Reads) (w : GraphRequest) (name : Text) → name ≡ file_of w → Asks r.words (on_graph w) → IsReadAtMostOnce r.held q name
+pub file_read : (r : Run) (q : Reads) (w : Request) (name : Text) → file_of w ≡ Some name → Asks r.words w → IsReadAtMostOnce r.held q name
     → ((other : Text) → other ≢ name → q.calls_after other ≡ q.calls other) → ((other : Text) → other ≢ name → q.given_after other ≡ q.given other) → ReadsAsAsked r q
-file_read r q w name named_so asks once other_calls other_given = record {
-  only = λ other no. others other (λ e. no w asks (file (e ∙ named_so)));
+file_read r q w name names asks once other_calls other_given = record {
+  only = λ other no. others other (λ e. no w asks (file (subst (λ n. file_of w ≡ Some n) (sym e) names)));
   once = one_read r.held q name once others;
 }
   where

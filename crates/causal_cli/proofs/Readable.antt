@@ -2,7 +2,7 @@
 use Rattle.std.proofs.Common.{refl}
 use Rattle.word_values.specs.Readable.{IsReadable}
 use Rattle.word_values.proofs.Tables.{readable}
-use Rattle.causal_cli.specs.Table.{table}
+use Rattle.causal_cli.specs.Commands.{table}
 
 pub table_readable : IsReadable table
 table_readable = readable table refl refl (record { defaults = refl; valid = refl }) refl (λ words. refl) (λ words. refl)

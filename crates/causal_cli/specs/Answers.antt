@@ -1,5 +1,6 @@
--- The defined answer of a command on the bytes of its inputs.
-use Rattle.std.specs.Prelude.{ℕ, ◌≡◌, ◌<◌, ◌≤◌, ◌⊎◌, List, length, Option, Err}
+-- The defined answer of a command: by its words alone, on the bytes of its file, or on those of both inputs; and what the code's values say of it.
+use Rattle.std.specs.Prelude.{ℕ, ◌≡◌, ◌<◌, ◌≤◌, ◌⊎◌, List, length, Option, Err, option_map}
+use Rattle.word_forms.specs.Form.{Text}
 use Rattle.dag_reader.specs.declared.graph.ReadGraph.{ReadGraph}
 use Rattle.dag_reader.specs.declared.faults.GraphFault.{GraphFault}
 use Rattle.dag_reader.specs.declared.faults.GraphFault.TheVariants.{NoMemory}
@@ -7,6 +8,7 @@ use Rattle.dag_reader.specs.Reads.{Reads}
 use Rattle.fault_text.specs.Lines.{line_of, graph_fault_text}
 use Rattle.replies.specs.declared.outcome.Outcome.{Outcome}
 use Rattle.replies.specs.declared.outcome.Outcome.TheVariants.{Graph}
+use Rattle.replies.specs.declared.outcome.Reply.{Reply}
 use Rattle.replies.specs.Observed.{Holds}
 use Rattle.graph_command.specs.Answers.{GraphAnswer as TextAnswer}
 use Rattle.separate_command.specs.Answers.{SeparateAnswer}
@@ -14,33 +16,44 @@ use Rattle.rule_command.specs.Answers.{RuleAnswer}
 use Rattle.identify_command.specs.Answers.{IdentifyAnswer}
 use Rattle.check_command.specs.Answers.{CheckAnswer}
 use Rattle.adjust_command.specs.Answers.{AdjustAnswer}
+use Rattle.evaluate_command.specs.Answers.{EvaluateFirst, EvaluateAnswer, CountsAnswer}
+use Rattle.evaluate_command.specs.Effects.{PlainEffect, effect_view, IsIdentified, Identifies}
 use Rattle.targets.specs.declared.query.Sets.{Sets}
-use Rattle.equivalent_command.specs.Answers.{IsAccepted as IsFirstAccepted, IsFirstRefusal, EquivalentAnswer}
-use Rattle.evaluate_command.specs.Answers.{EvaluateFirst, EvaluateAnswer}
-use Rattle.evaluate_command.specs.Effects.{PlainEffect, Identifies}
-use Rattle.causal_cli.specs.Requests.{GraphRequest, graph, separate, rule, identify, check, adjust, evaluate, equivalent}
+use Rattle.equivalent_command.specs.Answers.{IsAccepted as IsFirstAccepted, IsFirstRefusal, EquivalentAnswer, SecondAnswer as SecondGraphAnswer}
+use Rattle.equivalent_command.specs.Requests.{Query}
+use Rattle.survey_command.specs.Answers.{SurveyAnswer}
+use Rattle.causal_cli.specs.Commands.{Request, graph, separate, rule, identify, check, adjust, evaluate, equivalent, survey}
 use Rattle.causal_cli.specs.Lines.{size_line}
+use Rattle.causal_cli.specs.declared.answer.SecondInput.{SecondInput}
+use Rattle.causal_cli.specs.declared.answer.SecondInput.TheVariants as input
+use Rattle.causal_cli.specs.declared.answer.First.{First}
+use Rattle.causal_cli.specs.declared.answer.First.TheVariants as first
+
+-- the answer of a command without an input
+abbrev pub WordsAnswer : Request → Outcome → List ℕ → Type 0
+WordsAnswer (survey q) o text = SurveyAnswer q.seed o text
+WordsAnswer w o text = ⊥
 
 -- the answer of a command on a graph that was read, where its file alone decides
-abbrev pub GraphAnswer : GraphRequest → ReadGraph → Outcome → List ℕ → Type 0
+abbrev pub GraphAnswer : Request → ReadGraph → Outcome → List ℕ → Type 0
 GraphAnswer (graph q) g o text = TextAnswer q.project g o text
 GraphAnswer (separate q) g o text = SeparateAnswer g q.x q.y q.given o text
 GraphAnswer (rule q) g o text = RuleAnswer q.rule g q.y q.done q.z q.given o text
 GraphAnswer (identify q) g o text = IdentifyAnswer q.form g q.x q.y o text
-GraphAnswer (check q) g o text = ⊥
 GraphAnswer (adjust q) g o text = AdjustAnswer g q.x q.y q.query o text
 GraphAnswer (evaluate q) g o text = EvaluateFirst g q.x q.y o text
 GraphAnswer (equivalent q) g o text = IsFirstRefusal g q.query o text
+GraphAnswer w g o text = ⊥
 
 -- the graph is accepted, and the second input is read: counts where the lists name an effect that has a formula
-abbrev pub NeedsSecond : GraphRequest → ReadGraph → Type 0
+abbrev pub NeedsSecond : Request → ReadGraph → Type 0
 NeedsSecond (check q) g = Unit {0}
 NeedsSecond (evaluate q) g = (e : PlainEffect) × Identifies g q.x q.y e
 NeedsSecond (equivalent q) g = (s : Option Sets) × IsFirstAccepted g q.query s
 NeedsSecond w g = ⊥
 
 -- the answer of a command on a graph that was read and the bytes of its second input
-abbrev pub SecondAnswer : GraphRequest → ReadGraph → List ℕ → Outcome → List ℕ → Type 0
+abbrev pub SecondAnswer : Request → ReadGraph → List ℕ → Outcome → List ℕ → Type 0
 SecondAnswer (check q) g other o text = CheckAnswer g other o text
 SecondAnswer (evaluate q) g other o text = EvaluateAnswer q.exact g q.x q.y q.count other o text
 SecondAnswer (equivalent q) g other o text = EquivalentAnswer g q.query other o text
@@ -53,20 +66,69 @@ pub data IsGraphRefusal (bytes line : List ℕ) : Type 0 where
       → IsGraphRefusal bytes line
 
 -- the answer of a command on a graph that the bytes hold
-pub record HoldsAnswer (w : GraphRequest) (bytes : List ℕ) (o : Outcome) (text : List ℕ) : Type 0 where
+pub record HoldsAnswer (w : Request) (bytes : List ℕ) (o : Outcome) (text : List ℕ) : Type 0 where
   pub graph : ReadGraph
   pub holds : Holds bytes graph
   pub answer : GraphAnswer w graph o text
 
 -- the defined answer on the bytes of the file alone: yes or no with its text, or the line of a refused graph or target
-abbrev pub Defined : GraphRequest → List ℕ → Outcome → List ℕ → Type 0
+abbrev pub Defined : Request → List ℕ → Outcome → List ℕ → Type 0
 Defined w bytes Graph line = IsGraphRefusal bytes line ⊎ HoldsAnswer w bytes Graph line
 Defined w bytes o text = HoldsAnswer w bytes o text
 
 -- the bytes hold a graph that is accepted, and the second input is read
-abbrev pub Continues : GraphRequest → List ℕ → Type 0
+abbrev pub Continues : Request → List ℕ → Type 0
 Continues w bytes = (g : ReadGraph) × Holds bytes g × NeedsSecond w g
 
 -- the defined answer on the bytes of both inputs
-abbrev pub DefinedWith : GraphRequest → (bytes other : List ℕ) → Outcome → List ℕ → Type 0
+abbrev pub DefinedWith : Request → (bytes other : List ℕ) → Outcome → List ℕ → Type 0
 DefinedWith w bytes other o text = (g : ReadGraph) × Holds bytes g × NeedsSecond w g × SecondAnswer w g other o text
+
+-- ---- what is left to answer once the file was accepted
+
+-- the name of the second input
+abbrev pub second_in : SecondInput → Text
+second_in (input.Check g certificate) = certificate.now
+second_in (input.Evaluate found counts count exact) = counts.now
+second_in (input.Equivalent g s second) = second.now
+
+-- the most bytes of the second input
+abbrev pub limit_of : SecondInput → ℕ
+limit_of (input.Check g certificate) = 67108864
+limit_of (input.Evaluate found counts count exact) = 67108864
+limit_of (input.Equivalent g s second) = 1048576
+
+-- what is kept is accepted
+abbrev pub IsAccepted : SecondInput → Type 0
+IsAccepted (input.Check g certificate) = Unit {0}
+IsAccepted (input.Evaluate found counts count exact) = IsIdentified (effect_view found)
+IsAccepted (input.Equivalent g s second) = (l : Option Query) × IsFirstAccepted g l s
+
+-- the reply is the answer on these bytes of the second input
+abbrev pub GivesSecond : SecondInput → List ℕ → Reply → Type 0
+GivesSecond (input.Check g certificate) other reply = CheckAnswer g other reply.outcome reply.text.items
+GivesSecond (input.Evaluate found counts count exact) other reply =
+    CountsAnswer exact (effect_view found) (option_map (λ s. s.now) count) other reply.outcome reply.text.items
+GivesSecond (input.Equivalent g s second) other reply = SecondGraphAnswer g s other reply.outcome reply.text.items
+
+-- what is left of a request on a graph that was read
+abbrev pub IsLeft : Request → ReadGraph → SecondInput → Type 0
+IsLeft (check q) g (input.Check kept certificate) = (certificate.now ≡ q.certificate) × (kept ≡ g)
+IsLeft (evaluate q) g (input.Evaluate found counts count exact) =
+    (counts.now ≡ q.counts) × (option_map (λ s. s.now) count ≡ q.count) × (exact ≡ q.exact) × Identifies g q.x q.y (effect_view found)
+IsLeft (equivalent q) g (input.Equivalent kept s second) = (second.now ≡ q.second) × (kept ≡ g) × IsFirstAccepted g q.query s
+IsLeft w g p = ⊥
+
+-- what a graph that was read gives: the answer on it, or what is left
+abbrev pub GivesOn : Request → ReadGraph → First → Type 0
+GivesOn w g (first.Replied reply) = GraphAnswer w g reply.outcome reply.text.items
+GivesOn w g (first.Continues p) = IsLeft w g p
+
+-- what is left of a request whose file has these bytes
+abbrev pub IsLeftOf : Request → List ℕ → SecondInput → Type 0
+IsLeftOf w bytes p = (g : ReadGraph) × Holds bytes g × IsLeft w g p
+
+-- what the file alone gives: the defined answer, or what is left
+abbrev pub GivesFirst : Request → List ℕ → First → Type 0
+GivesFirst w bytes (first.Replied reply) = Defined w bytes reply.outcome reply.text.items
+GivesFirst w bytes (first.Continues p) = IsLeftOf w bytes p

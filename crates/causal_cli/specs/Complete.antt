@@ -4,7 +4,7 @@ use Rattle.causal_io.specs.Causes.{Rose}
 use Rattle.word_forms.specs.Form.{Text}
 use Rattle.replies.specs.declared.outcome.Outcome.{Outcome}
 use Rattle.replies.specs.Outcomes.{code_of, IsAnswered}
-use Rattle.causal_cli.specs.Requests.{Request, Asks, AskOnce}
+use Rattle.causal_cli.specs.Commands.{Request, Asks, AskOnce}
 use Rattle.causal_cli.specs.Run.{Run, Answers}
 
 -- no count of failures rose: of the reads of a name, or of the writes

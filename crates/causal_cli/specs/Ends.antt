@@ -9,8 +9,8 @@ use Rattle.replies.specs.declared.outcome.Reply.{Reply}
 use Rattle.replies.specs.Outcomes.{code_of, IsAnswered}
 use Rattle.causal_cli.specs.Lines.{words_line, size_line, read_line, write_line, memory_line}
 use Rattle.causal_cli.specs.Run.{Stream, Run, Ends}
-use Rattle.causal_cli.specs.SecondInputs.{second_in, GivesSecond}
-use Rattle.causal_cli.specs.declared.input.SecondInput.{SecondInput}
+use Rattle.causal_cli.specs.Answers.{second_in, GivesSecond}
+use Rattle.causal_cli.specs.declared.answer.SecondInput.{SecondInput}
 
 -- what is told of an outcome: the text or the line of a command's answer, or the line of an outcome of the run alone
 abbrev pub told_of : Outcome → List ℕ → List ℕ

@@ -12,7 +12,7 @@ use Rattle.identify_command.specs.Requests.{Request, IsRequest, identify_row}
 use Rattle.check_command.specs.Answers.{CheckAnswer}
 use Rattle.check_command.specs.Requests.{check_row}
 use Rattle.check_command.specs.Requests as check_requests
-use Rattle.causal_cli.specs.Table.{table}
+use Rattle.causal_cli.specs.Commands.{table}
 use Rattle.causal_cli.specs.Run.{Run}
 
 -- The bytes hold a graph, and the text answers for it and for the sets x and y of these lists, in the observed graph.

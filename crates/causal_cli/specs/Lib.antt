@@ -1,11 +1,7 @@
-pub mod Table
 pub mod Commands
-pub mod Requests
-pub mod RequestViews
 pub mod Lines
 pub mod Answers
 pub mod Run
 pub mod Complete
 pub mod Ends
-pub mod SecondInputs
 pub mod Headline

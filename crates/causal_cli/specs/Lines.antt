@@ -1,10 +1,12 @@
 -- The lines of refusals that are no command's own.
-use Rattle.std.specs.Prelude.{ℕ, List, codes}
+use Rattle.std.specs.Prelude.{ℕ, List, ◌∷◌, ◌++◌, codes}
+use Rattle.std.specs.List.{flat_map}
 use Rattle.fault_text.specs.Lines.{line_of}
+use Rattle.causal_cli.specs.Commands.{table}
 
--- words that set no task, with the commands
+-- words that set no task, with the names of the commands
 abbrev pub words_line : List ℕ
-words_line = line_of (codes "words not understood; commands are graph separate rule identify check adjust evaluate equivalent survey")
+words_line = line_of (codes "words not understood; commands are" ++ flat_map (λ row. 32 ∷ row.name) table)
 
 -- a graph text of more than 1,048,576 bytes
 abbrev pub size_line : List ℕ

@@ -7,11 +7,9 @@ use Rattle.word_forms.specs.Form.{Text}
 use Rattle.replies.specs.declared.outcome.Outcome.{Outcome}
 use Rattle.replies.specs.declared.outcome.Outcome.TheVariants.{Yes, No, Words, Graph, Second, Evaluation, Read, Write, Memory}
 use Rattle.replies.specs.Outcomes.{code_of}
-use Rattle.survey_command.specs.Answers.{SurveyAnswer}
-use Rattle.survey_command.specs.Requests.{Request as SurveyRequest}
-use Rattle.causal_cli.specs.Requests.{GraphRequest, Request, on_graph, survey, Asks, file_of, second_of}
+use Rattle.causal_cli.specs.Commands.{Request, Asks, file_of, second_of}
 use Rattle.causal_cli.specs.Lines.{words_line, read_line, write_line, memory_line}
-use Rattle.causal_cli.specs.Answers.{Defined, Continues, DefinedWith}
+use Rattle.causal_cli.specs.Answers.{WordsAnswer, Defined, Continues, DefinedWith}
 
 -- an output before and after a run: what was written, where it tells, and its count of faults
 pub record Stream : Type 0 where
@@ -37,33 +35,37 @@ pub record Run : Type 0 where
 abbrev pub run_on : (words : List Text) (held : Text → Option (List ℕ)) (lacks : Text → Bool) (faults faults_after : Text → ℕ) (out : Stream) → Run
 run_on words held lacks faults faults_after out = record { words = words; held = held; lacks = lacks; read_faults = faults; read_faults_after = faults_after; out = out }
 
+-- the words ask for a request without an input, and this is its answer
+pub record AnswersWords (r : Run) (o : Outcome) (text : List ℕ) : Type 0 where
+  pub request : Request
+  pub asks : Asks r.words request
+  pub answer : WordsAnswer request o text
+
 -- the words ask for a request whose file was read, and on the bytes that it holds this is the defined answer
 pub record AnswersFile (r : Run) (o : Outcome) (text : List ℕ) : Type 0 where
-  pub request : GraphRequest
-  pub asks : Asks r.words (on_graph request)
-  pub there : r.lacks (file_of request) ≡ false
-  pub defined : IfSome (r.held (file_of request)) (λ bytes. Defined request bytes o text)
+  pub request : Request
+  pub asks : Asks r.words request
+  pub file : Text
+  pub names_it : file_of request ≡ Some file
+  pub there : r.lacks file ≡ false
+  pub defined : IfSome (r.held file) (λ bytes. Defined request bytes o text)
 
 -- the words ask for a request whose file was read and accepted, and whose second input was read, and on the bytes of both this is the defined answer
 pub record AnswersBoth (r : Run) (o : Outcome) (text : List ℕ) : Type 0 where
-  pub request : GraphRequest
-  pub asks : Asks r.words (on_graph request)
+  pub request : Request
+  pub asks : Asks r.words request
+  pub file : Text
+  pub names_it : file_of request ≡ Some file
   pub second : Text
-  pub names_it : second_of request ≡ Some second
-  pub there : r.lacks (file_of request) ≡ false
+  pub names_second : second_of request ≡ Some second
+  pub there : r.lacks file ≡ false
   pub second_there : r.lacks second ≡ false
-  pub accepted : IfSome (r.held (file_of request)) (λ bytes. Continues request bytes)
-  pub defined : IfSome (r.held (file_of request)) (λ bytes. IfSome (r.held second) (λ other. DefinedWith request bytes other o text))
-
--- the words ask for a survey, and this is its answer; no input is read
-pub record AnswersSurvey (r : Run) (o : Outcome) (text : List ℕ) : Type 0 where
-  pub request : SurveyRequest
-  pub asks : Asks r.words (survey request)
-  pub answer : SurveyAnswer request.seed o text
+  pub accepted : IfSome (r.held file) (λ bytes. Continues request bytes)
+  pub defined : IfSome (r.held file) (λ bytes. IfSome (r.held second) (λ other. DefinedWith request bytes other o text))
 
 -- the defined answer: by the words alone, by the file alone, or by both inputs
 pub data Answers (r : Run) (o : Outcome) (text : List ℕ) : Type 0 where
-  by_words : AnswersSurvey r o text → Answers r o text
+  by_words : AnswersWords r o text → Answers r o text
   by_file : AnswersFile r o text → Answers r o text
   by_both : AnswersBoth r o text → Answers r o text
 
@@ -83,9 +85,9 @@ pub record NotUnderstood (r : Run) : Type 0 where
   pub nothing : r.out.after ≡ r.out.before
 
 -- the request reads this name: it is that of its file, or that of its second input, where the file is accepted
-pub data IsRead (r : Run) (w : GraphRequest) (name : Text) : Type 0 where
-  file : name ≡ file_of w → IsRead r w name
-  second : second_of w ≡ Some name → r.lacks (file_of w) ≡ false → IfSome (r.held (file_of w)) (λ bytes. Continues w bytes) → IsRead r w name
+pub data IsRead (r : Run) (w : Request) (name : Text) : Type 0 where
+  file : file_of w ≡ Some name → IsRead r w name
+  second : (file : Text) → file_of w ≡ Some file → second_of w ≡ Some name → r.lacks file ≡ false → IfSome (r.held file) (λ bytes. Continues w bytes) → IsRead r w name
 
 -- how often each name was read before and after a run, and how many bytes of it were given, where the input tells
 pub record Reads : Type 0 where
@@ -109,13 +111,13 @@ IsReadAtMostOnce held q name = IfSome (held name) (λ all. IsReadOnce (q.calls n
 
 -- what was read: no name but those that a request of the words reads, and none more than once, also where it is named twice
 pub record ReadsAsAsked (r : Run) (q : Reads) : Type 0 where
-  pub only : (name : Text) → ((w : GraphRequest) → Asks r.words (on_graph w) → IsRead r w name → ⊥) → IsNotRead q name
+  pub only : (name : Text) → ((q : Request) → Asks r.words q → IsRead r q name → ⊥) → IsNotRead q name
   pub once : (name : Text) → IsReadAtMostOnce r.held q name
 
 -- a read of an input failed
 pub record Unread (r : Run) : Type 0 where
-  pub request : GraphRequest
-  pub asks : Asks r.words (on_graph request)
+  pub request : Request
+  pub asks : Asks r.words request
   pub name : Text
   pub is_read : IsRead r request name
   pub rose : Rose (r.read_faults name) (r.read_faults_after name)

@@ -1,16 +1,18 @@
-ghost use Rattle.std.specs.Prelude.{◌≡◌, ◌≤◌, IfOk, OnOk, length, option_map};
-ghost use Rattle.fault_text.specs.Lines.{line_of, graph_fault_text};
-ghost use Rattle.word_lists.specs.Views.{names_in};
-ghost use Rattle.equivalent_command.specs.Requests.{query_of};
-ghost use Rattle.causal_cli.specs.SecondInputs.{GivesOn, GivesFirst, GivesEvaluation, GivesComparison};
-ghost use Rattle.causal_cli.specs.RequestViews.{graph_request_of};
+// What the inputs of a request give: first the file alone, then the second input, where the file was accepted.
 
-use crate::input::SecondInput;
-use crate::request::GraphRequest;
+ghost use Rattle.std.specs.Prelude.{◌≡◌, ◌≤◌, ◌<◌, ℕ, List, IfOk, OnOk, length};
+ghost use Rattle.fault_text.specs.Lines.{line_of, graph_fault_text};
+ghost use Rattle.evaluate_command.specs.Requests as of_evaluate;
+ghost use Rattle.equivalent_command.specs.Requests as of_equivalent;
+ghost use Rattle.causal_cli.specs.Commands.{on_graph, evaluate, equivalent};
+ghost use Rattle.causal_cli.specs.Answers.{GivesOn, GivesFirst, second_in, limit_of, IsAccepted, GivesSecond};
+
+use crate::commands::GraphRequest;
 use adjust_command::adjust_reply;
+use check_command::{check_reply, long_certificate};
 use dag_reader::{GraphFault, ReadGraph, read_graph};
-use equivalent_command::{Query, accept_first};
-use evaluate_command::identify_first;
+use equivalent_command::{accept_first, equivalent_reply, long_second_graph};
+use evaluate_command::{Identified, evaluate_reply, identify_first, long_counts};
 use fault_text::graph_line;
 use graph_command::graph_reply;
 use identify_command::identify_reply;
@@ -18,6 +20,7 @@ use replies::{Outcome, Reply};
 use rule_command::rule_reply;
 use separate_command::separate_reply;
 use std::alloc::{AllocError, Global};
+use targets::Sets;
 
 /// What the file alone gives.
 #[derive(Drop)]
@@ -35,7 +38,7 @@ pub fn answer<'a>(
     bytes: &[u8],
 ) -> Result<First<'a>, AllocError>
     requires { length bytes.now ≤ 1048576 }
-    ensures { IfOk result (GivesFirst (graph_request_of request.entry) bytes.now) }
+    ensures { IfOk result (GivesFirst (on_graph request.entry) bytes.now) }
 {
     match read_graph(alloc, bytes) {
         Ok(graph) => answer_on(alloc, request, graph),
@@ -49,7 +52,7 @@ fn answer_on<'a>(
     request: GraphRequest<'a>,
     graph: ReadGraph,
 ) -> Result<First<'a>, AllocError>
-    ensures { IfOk result (GivesOn (graph_request_of request.entry) graph) }
+    ensures { IfOk result (GivesOn (on_graph request.entry) graph) }
 {
     match request {
         GraphRequest::Graph(asked) => Ok(First::Replied(graph_reply(
@@ -87,16 +90,8 @@ fn answer_on<'a>(
             asked.y,
             asked.query,
         )?)),
-        GraphRequest::Evaluate(asked) => evaluate_over(
-            alloc,
-            &graph,
-            asked.counts,
-            asked.x,
-            asked.y,
-            asked.count,
-            asked.exact,
-        ),
-        GraphRequest::Equivalent(asked) => compare_with(alloc, graph, asked.query, asked.second),
+        GraphRequest::Evaluate(asked) => evaluate_over(alloc, &graph, asked),
+        GraphRequest::Equivalent(asked) => compare_with(alloc, graph, asked),
     }
 }
 
@@ -104,21 +99,17 @@ fn answer_on<'a>(
 fn evaluate_over<'a>(
     alloc: Global,
     graph: &ReadGraph,
-    counts: &'a str,
-    x: Option<Vec<Vec<u8>>>,
-    y: Option<Vec<Vec<u8>>>,
-    count: Option<&'a [u8]>,
-    exact: bool,
+    asked: evaluate_command::Request<'a>,
 ) -> Result<First<'a>, AllocError>
-    ensures { IfOk result (GivesEvaluation graph.now counts.entry.now (option_map names_in x) (option_map names_in y) (option_map (λ s. s.now) count.entry) exact) }
+    ensures { IfOk result (GivesOn (evaluate (of_evaluate.request_of asked.entry)) graph.now) }
 {
-    match identify_first(alloc, graph, x, y)? {
+    match identify_first(alloc, graph, asked.x, asked.y)? {
         evaluate_command::First::Replied(reply) => Ok(First::Replied(reply)),
         evaluate_command::First::Identified(found) => Ok(First::Continues(SecondInput::Evaluate {
             found,
-            counts,
-            count,
-            exact,
+            counts: asked.counts,
+            count: asked.count,
+            exact: asked.exact,
         })),
     }
 }
@@ -127,18 +118,17 @@ fn evaluate_over<'a>(
 fn compare_with<'a>(
     alloc: Global,
     graph: ReadGraph,
-    query: Option<Query>,
-    second: &'a str,
+    asked: equivalent_command::Request<'a>,
 ) -> Result<First<'a>, AllocError>
-    ensures { IfOk result (GivesComparison graph (option_map query_of query) second.entry.now) }
+    ensures { IfOk result (GivesOn (equivalent (of_equivalent.request_of asked.entry)) graph) }
 {
-    match accept_first(alloc, &graph, query)? {
+    match accept_first(alloc, &graph, asked.query)? {
         equivalent_command::First::Refused(reply) => Ok(First::Replied(reply)),
         equivalent_command::First::Accepted(sets) => Ok(First::Continues(
             SecondInput::Equivalent {
                 graph,
                 sets,
-                second,
+                second: asked.second,
             },
         )),
     }
@@ -158,4 +148,85 @@ fn refuse_graph(alloc: Global, fault: &GraphFault) -> Result<Reply, AllocError>
         outcome: Outcome::Graph,
         text,
     })
+}
+
+/// What is left to answer once the file was accepted, where a second input is read.
+#[derive(Drop)]
+pub enum SecondInput<'a> {
+    /// Whether a certificate is accepted.
+    Check {
+        graph: ReadGraph,
+        certificate: &'a str,
+    },
+    /// The values of an effect over counts, whose column may have a name, in exact fractions or in bounds.
+    Evaluate {
+        found: Identified,
+        counts: &'a str,
+        count: Option<&'a [u8]>,
+        exact: bool,
+    },
+    /// Whether a second graph is equivalent, and what both say of sets that are asked about.
+    Equivalent {
+        graph: ReadGraph,
+        sets: Option<Sets>,
+        second: &'a str,
+    },
+}
+
+impl<'a> SecondInput<'a> {
+    /// The second input.
+    pub fn second(&self) -> &'a str
+        ensures { result.now ≡ second_in self.now }
+    {
+        match self {
+            SecondInput::Check { certificate, .. } => certificate,
+            SecondInput::Evaluate { counts, .. } => counts,
+            SecondInput::Equivalent { second, .. } => second,
+        }
+    }
+
+    /// The most bytes of the second input.
+    pub fn limit(&self) -> u64
+        ensures limit { result ≡ limit_of self.now }
+        ensures least { 1048576 ≤ result }
+    {
+        match self {
+            SecondInput::Check { .. } => 67_108_864,
+            SecondInput::Evaluate { .. } => 67_108_864,
+            SecondInput::Equivalent { .. } => 1_048_576,
+        }
+    }
+}
+
+/// The reply on the bytes of the second input.
+pub fn second_reply(
+    alloc: Global,
+    input: &SecondInput<'_>,
+    other: &[u8],
+) -> Result<Reply, AllocError>
+    requires limit { length other.now ≤ limit_of input.now }
+    requires accepted { IsAccepted input.now }
+    ensures { IfOk result (GivesSecond input.now other.now) }
+{
+    match input {
+        SecondInput::Check { graph, .. } => check_reply(alloc, graph, other),
+        SecondInput::Evaluate {
+            found,
+            count,
+            exact,
+            ..
+        } => evaluate_reply(alloc, found, *count, *exact, other),
+        SecondInput::Equivalent { graph, sets, .. } => equivalent_reply(alloc, graph, *sets, other),
+    }
+}
+
+/// The reply where the second input has more bytes than its limit.
+pub fn long_reply(alloc: Global, input: &SecondInput<'_>) -> Result<Reply, AllocError>
+    ensures { IfOk result (λ reply. (other : List ℕ) → limit_of input.now < length other → GivesSecond input.now other reply) }
+{
+    match input {
+        SecondInput::Check { graph, .. } => long_certificate(alloc, graph),
+        SecondInput::Evaluate { .. } => long_counts(alloc),
+        SecondInput::Equivalent { .. } => long_second_graph(alloc),
+    }
 }

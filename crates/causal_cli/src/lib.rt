@@ -2,11 +2,9 @@
 #![tactic(auto)]
 
 mod answer;
-mod input;
+mod commands;
 mod lines;
-mod request;
 mod sure;
-mod table;
 mod theory;
 mod top;
 

@@ -6,16 +6,14 @@ ghost use Rattle.word_forms.specs.Views.{texts_of};
 ghost use Rattle.replies.specs.Outcomes.{code_of};
 ghost use Rattle.causal_cli.specs.Run.{Ended, Received, run_on, stream_of, reads_of, IsNotRead, IsReadAtMostOnce, ReadsAsAsked};
 ghost use Rattle.causal_cli.specs.Complete.{Complete};
-ghost use Rattle.causal_cli.specs.Requests.{Asks, AskOnce, on_graph};
-ghost use Rattle.causal_cli.specs.RequestViews.{graph_request_of};
-ghost use Rattle.causal_cli.specs.SecondInputs.{IsAccepted, second_in};
+ghost use Rattle.causal_cli.specs.Commands.{Asks, AskOnce, on_graph};
+ghost use Rattle.causal_cli.specs.Answers.{IsAccepted, second_in};
 ghost use Rattle.causal_cli.specs.Headline.{Headline, HeadlineOfCheck};
 ghost use Rattle.causal_cli.specs.Ends.{IfAnswered, EndsWith, IsTooLong, Delivers, Proceeds, text_of};
 
-use crate::answer::{First, answer};
-use crate::input::{SecondInput, long_reply, second_reply};
+use crate::answer::{First, SecondInput, answer, long_reply, second_reply};
+use crate::commands::{GraphRequest, Request, read_request};
 use crate::lines::line_of;
-use crate::request::{GraphRequest, Request, read_request};
 use causal_io::{ReadError, Shelf, Sink, read_all, write_all};
 use replies::{Outcome, Reply};
 use request_values::RequestFault;
@@ -101,9 +99,9 @@ fn answer_graph<S: Shelf, O: Sink>(
     shelf: &mut S,
     out: &mut O,
 ) -> Reply
-    ensures ends { (words : List Text) → Asks words (on_graph (graph_request_of request.entry)) → EndsWith (run_on words (S.held shelf.old) (S.lacks shelf.old) (S.faults shelf.old) (S.faults shelf.new)
+    ensures ends { (words : List Text) → Asks words (on_graph request.entry) → EndsWith (run_on words (S.held shelf.old) (S.lacks shelf.old) (S.faults shelf.old) (S.faults shelf.new)
         (stream_of (O.written out.old) (O.written out.new) (O.faults out.old) (O.faults out.new))) result }
-    ensures reads { (words : List Text) → Asks words (on_graph (graph_request_of request.entry)) → ReadsAsAsked (run_on words (S.held shelf.old) (S.lacks shelf.old) (S.faults shelf.old) (S.faults shelf.new)
+    ensures reads { (words : List Text) → Asks words (on_graph request.entry) → ReadsAsAsked (run_on words (S.held shelf.old) (S.lacks shelf.old) (S.faults shelf.old) (S.faults shelf.new)
         (stream_of (O.written out.old) (O.written out.new) (O.faults out.old) (O.faults out.new))) (reads_of (S.reads shelf.old) (S.reads shelf.new) (S.given shelf.old) (S.given shelf.new)) }
     ensures holds { S.held shelf.new ≡ S.held shelf.old }
     ensures lack { S.lacks shelf.new ≡ S.lacks shelf.old }

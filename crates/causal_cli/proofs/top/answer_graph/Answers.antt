@@ -1,6 +1,5 @@
 use Rattle.std.proofs.Common.{refl}
-use Rattle.causal_cli.specs.Requests.{file_of}
-use Rattle.causal_cli.specs.RequestViews.{graph_request_of}
+use Rattle.causal_cli.specs.Commands.{on_graph}
 use Rattle.causal_cli.specs.Run.{Run}
 use Rattle.causal_cli.proofs.Deliveries.{delivered_file, proceeded, ended_too_long, not_true}
 use Rattle.causal_cli.proofs.ReadCounts.{file_read, both_read}
@@ -21,7 +20,7 @@ returns-in-Err-TooLong-clause-ends g c = λ words asks.
         faults_after = g.O.Sink.faults c.args.out.now;
       };
     } in
-    ended_too_long run (graph_request_of c.args.request) c.file-file.result.now c.in-Err-TooLong.field-0 c.in-Err-TooLong.field-0-0 c.too_long.result c.file-file.ensures
+    ended_too_long run (on_graph c.args.request) c.file-file.result.now c.in-Err-TooLong.field-0 c.in-Err-TooLong.field-0-0 c.too_long.result c.file-file.ensures
     c.in-Err-TooLong.field-0-is asks c.in-Err-TooLong.ensures.answer c.in-Err-TooLong.ensures.lacked refl c.too_long.ensures
 
 pub returns-in-Ok-Replied-clause-ends : goal.returns-in-Ok-Replied-clause-ends
@@ -40,10 +39,8 @@ returns-in-Ok-Replied-clause-ends g c = λ words asks.
       };
     } in
     let gives = rw (c.deref.ensures.value, c.in-Ok-Replied.field-0-is) at c.in-Ok-Replied.ensures in
-    let lacked = rw c.file-file.ensures at c.in-Ok.ensures.lacked in
-    let held = rw c.file-file.ensures at c.in-Ok.ensures.answer.1 in
-    delivered_file run (graph_request_of c.args.request) c.in-Ok.bytes.items c.in-Ok-Replied.reply c.deliver.result asks
-    (not_true (g.S.Shelf.lacks c.args.shelf.now (file_of (graph_request_of c.args.request))) (λ t. cc (lacked t))) held gives c.deliver.ensures
+    delivered_file run (on_graph c.args.request) c.file-file.result.now c.in-Ok.bytes.items c.in-Ok-Replied.reply c.deliver.result asks c.file-file.ensures
+    (not_true (g.S.Shelf.lacks c.args.shelf.now c.file-file.result.now) (λ t. cc (c.in-Ok.ensures.lacked t))) c.in-Ok.ensures.answer.1 gives c.deliver.ensures
 
 pub returns-clause-ends : goal.returns-clause-ends
 returns-clause-ends g c = λ words asks.
@@ -61,11 +58,9 @@ returns-clause-ends g c = λ words asks.
       };
     } in
     let gives = rw (c.deref.ensures.value, c.in-Ok-Continues.field-0-is) at c.in-Ok-Continues.ensures in
-    let lacked = rw c.file-file.ensures at c.in-Ok.ensures.lacked in
-    let held = rw c.file-file.ensures at c.in-Ok.ensures.answer.1 in
-    proceeded run (graph_request_of c.args.request) c.in-Ok.bytes.items c.in-Ok-Continues.input c.proceed.result (g.S.Shelf.held c.read_all.new.shelf)
-    (g.S.Shelf.lacks c.read_all.new.shelf) (g.S.Shelf.faults c.read_all.new.shelf) asks
-    (not_true (g.S.Shelf.lacks c.args.shelf.now (file_of (graph_request_of c.args.request))) (λ t. cc (lacked t))) held gives
+    proceeded run (on_graph c.args.request) c.file-file.result.now c.in-Ok.bytes.items c.in-Ok-Continues.input c.proceed.result (g.S.Shelf.held c.read_all.new.shelf)
+    (g.S.Shelf.lacks c.read_all.new.shelf) (g.S.Shelf.faults c.read_all.new.shelf) asks c.file-file.ensures
+    (not_true (g.S.Shelf.lacks c.args.shelf.now c.file-file.result.now) (λ t. cc (c.in-Ok.ensures.lacked t))) c.in-Ok.ensures.answer.1 gives
     c.in-Ok.ensures.holds c.in-Ok.ensures.lack c.in-Ok.ensures.never_falls c.proceed.ensures.proceeds
 
 pub returns-in-Err-Fault-clause-reads : goal.returns-in-Err-Fault-clause-reads
@@ -83,7 +78,7 @@ returns-in-Err-Fault-clause-reads g c = λ words asks.
         faults_after = g.O.Sink.faults c.args.out.now;
       };
     } in
-    file_read run _ (graph_request_of c.args.request) c.file-file.result.now c.file-file.ensures asks c.in-Err-Fault.ensures.once c.in-Err-Fault.ensures.other_reads c.in-Err-Fault.ensures.other_given
+    file_read run _ (on_graph c.args.request) c.file-file.result.now c.file-file.ensures asks c.in-Err-Fault.ensures.once c.in-Err-Fault.ensures.other_reads c.in-Err-Fault.ensures.other_given
 
 pub returns-in-Err-TooLong-clause-reads : goal.returns-in-Err-TooLong-clause-reads
 returns-in-Err-TooLong-clause-reads g c = λ words asks.
@@ -100,7 +95,7 @@ returns-in-Err-TooLong-clause-reads g c = λ words asks.
         faults_after = g.O.Sink.faults c.args.out.now;
       };
     } in
-    file_read run _ (graph_request_of c.args.request) c.file-file.result.now c.file-file.ensures asks c.in-Err-TooLong.ensures.once c.in-Err-TooLong.ensures.other_reads c.in-Err-TooLong.ensures.other_given
+    file_read run _ (on_graph c.args.request) c.file-file.result.now c.file-file.ensures asks c.in-Err-TooLong.ensures.once c.in-Err-TooLong.ensures.other_reads c.in-Err-TooLong.ensures.other_given
 
 pub returns-in-Err-NoMemory-clause-reads : goal.returns-in-Err-NoMemory-clause-reads
 returns-in-Err-NoMemory-clause-reads g c = λ words asks.
@@ -117,7 +112,7 @@ returns-in-Err-NoMemory-clause-reads g c = λ words asks.
         faults_after = g.O.Sink.faults c.args.out.now;
       };
     } in
-    file_read run _ (graph_request_of c.args.request) c.file-file.result.now c.file-file.ensures asks c.in-Err-NoMemory.ensures.once c.in-Err-NoMemory.ensures.other_reads c.in-Err-NoMemory.ensures.other_given
+    file_read run _ (on_graph c.args.request) c.file-file.result.now c.file-file.ensures asks c.in-Err-NoMemory.ensures.once c.in-Err-NoMemory.ensures.other_reads c.in-Err-NoMemory.ensures.other_given
 
 pub returns-in-Err-clause-reads : goal.returns-in-Err-clause-reads
 returns-in-Err-clause-reads g c = λ words asks.
@@ -134,7 +129,7 @@ returns-in-Err-clause-reads g c = λ words asks.
         faults_after = g.O.Sink.faults c.args.out.now;
       };
     } in
-    file_read run _ (graph_request_of c.args.request) c.file-file.result.now c.file-file.ensures asks c.in-Ok.ensures.once c.in-Ok.ensures.other_reads c.in-Ok.ensures.other_given
+    file_read run _ (on_graph c.args.request) c.file-file.result.now c.file-file.ensures asks c.in-Ok.ensures.once c.in-Ok.ensures.other_reads c.in-Ok.ensures.other_given
 
 pub returns-in-Ok-Replied-clause-reads : goal.returns-in-Ok-Replied-clause-reads
 returns-in-Ok-Replied-clause-reads g c = λ words asks.
@@ -151,7 +146,7 @@ returns-in-Ok-Replied-clause-reads g c = λ words asks.
         faults_after = g.O.Sink.faults c.deliver.new.out;
       };
     } in
-    file_read run _ (graph_request_of c.args.request) c.file-file.result.now c.file-file.ensures asks c.in-Ok.ensures.once c.in-Ok.ensures.other_reads c.in-Ok.ensures.other_given
+    file_read run _ (on_graph c.args.request) c.file-file.result.now c.file-file.ensures asks c.in-Ok.ensures.once c.in-Ok.ensures.other_reads c.in-Ok.ensures.other_given
 
 pub returns-clause-reads : goal.returns-clause-reads
 returns-clause-reads g c = λ words asks.
@@ -169,10 +164,8 @@ returns-clause-reads g c = λ words asks.
       };
     } in
     let gives = rw (c.deref.ensures.value, c.in-Ok-Continues.field-0-is) at c.in-Ok-Continues.ensures in
-    let lacked = rw c.file-file.ensures at c.in-Ok.ensures.lacked in
-    let held = rw c.file-file.ensures at c.in-Ok.ensures.answer.1 in
     both_read (g.S.Shelf.reads c.args.shelf.now) (g.S.Shelf.reads c.read_all.new.shelf) (g.S.Shelf.reads c.proceed.new.shelf)
     (g.S.Shelf.given c.args.shelf.now) (g.S.Shelf.given c.read_all.new.shelf) (g.S.Shelf.given c.proceed.new.shelf)
-    run (graph_request_of c.args.request) c.file-file.result.now c.in-Ok.bytes.items c.in-Ok-Continues.input (g.S.Shelf.held c.read_all.new.shelf) c.file-file.ensures asks
-    (not_true (g.S.Shelf.lacks c.args.shelf.now (file_of (graph_request_of c.args.request))) (λ t. cc (lacked t))) held gives c.in-Ok.ensures.holds
+    run (on_graph c.args.request) c.file-file.result.now c.in-Ok.bytes.items c.in-Ok-Continues.input (g.S.Shelf.held c.read_all.new.shelf) c.file-file.ensures asks
+    (not_true (g.S.Shelf.lacks c.args.shelf.now c.file-file.result.now) (λ t. cc (c.in-Ok.ensures.lacked t))) c.in-Ok.ensures.answer.1 gives c.in-Ok.ensures.holds
     c.in-Ok.ensures.once c.in-Ok.ensures.other_reads c.in-Ok.ensures.other_given c.proceed.ensures.only c.proceed.ensures.not_again c.proceed.ensures.once

@@ -1,4 +1,4 @@
-use Rattle.causal_cli.specs.SecondInputs.{GivesSecond}
+use Rattle.causal_cli.specs.Answers.{GivesSecond}
 use Rattle.causal_cli.proofs.Deliveries.{long_second, read_second}
 use Rattle.causal_cli.proofs.top.proceed.Goals as goal
 

@@ -1,8 +1,8 @@
 use Rattle.std.proofs.Common.{refl, ap, Err}
 use Rattle.word_forms.specs.Views.{texts_of}
 use Rattle.survey_command.specs.Requests.{request_of}
-use Rattle.causal_cli.specs.Requests.{AskOnce}
-use Rattle.causal_cli.proofs.Deliveries.{delivered_survey, not_understood}
+use Rattle.causal_cli.specs.Commands.{survey, AskOnce}
+use Rattle.causal_cli.proofs.Deliveries.{delivered_words, not_understood}
 use Rattle.causal_cli.proofs.Headlines.{held_anyway}
 use Rattle.causal_cli.proofs.top.respond.Goals as goal
 
@@ -14,7 +14,7 @@ returns-in-Ok-OnGraph-clause-ends g c =
 pub returns-in-Ok-clause-ends : goal.returns-in-Ok-clause-ends
 returns-in-Ok-clause-ends g c =
     let sets = rw c.in-Ok-Survey.field-0-is at c.in-Ok-Survey.ensures.asks in
-    delivered_survey _ (request_of c.in-Ok-Survey.request) c.in-Ok.reply c.deliver.result sets c.in-Ok.ensures c.deliver.ensures
+    delivered_words _ (survey (request_of c.in-Ok-Survey.request)) c.in-Ok.reply c.deliver.result sets c.in-Ok.ensures c.deliver.ensures
 
 pub returns-in-Ok-OnGraph-clause-once : goal.returns-in-Ok-OnGraph-clause-once
 returns-in-Ok-OnGraph-clause-once g c = held_anyway c.answer_graph.result.outcome (AskOnce (texts_of c.args.words.now)) c.in-Ok-OnGraph.ensures.once

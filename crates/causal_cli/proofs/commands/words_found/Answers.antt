@@ -1,7 +1,7 @@
 use Rattle.std.proofs.Common.{map, sym, subst}
 use Rattle.word_forms.specs.Form.{HasForm, IsCall, IsOnlyCall}
 use Rattle.word_forms.specs.Views.{texts_of, row_of, uses_in}
-use Rattle.causal_cli.proofs.request.words_found.Goals as goal
+use Rattle.causal_cli.proofs.commands.words_found.Goals as goal
 
 pub returns-in-Ok-Some-clause-call : goal.returns-in-Ok-Some-clause-call
 returns-in-Ok-Some-clause-call c =

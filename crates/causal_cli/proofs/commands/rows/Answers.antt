@@ -2,7 +2,7 @@ use Rattle.std.proofs.Common.{map, sym, subst}
 use Rattle.word_forms.specs.Views.{row_of}
 use Rattle.word_values.specs.Readable.{IsReadable}
 use Rattle.causal_cli.proofs.Readable.{table_readable}
-use Rattle.causal_cli.proofs.table.rows.Goals as goal
+use Rattle.causal_cli.proofs.commands.rows.Goals as goal
 
 pub returns-clause-readable : goal.returns-clause-readable
 returns-clause-readable c = table_readable
