@@ -158,24 +158,24 @@ fn request_in<'a>(
     ensures none { (uses : List Use) → HoldsCall (row_for command) uses values.now → IsErrOf result RequestFault.NotUnderstood → AsksNothing command uses }
 {
     match command {
-        Command::Graph => Ok(Request::OnGraph(GraphRequest::Graph(
-            graph_command::Request::read(values)?,
-        ))),
+        Command::Graph => Ok(Request::OnGraph(GraphRequest::Graph(graph_command::Request::read(
+            values,
+        )?))),
         Command::Separate => Ok(Request::OnGraph(GraphRequest::Separate(
             separate_command::Request::read(alloc, values)?,
         ))),
-        Command::Rule => Ok(Request::OnGraph(GraphRequest::Rule(
-            rule_command::Request::read(alloc, values)?,
-        ))),
+        Command::Rule => Ok(Request::OnGraph(GraphRequest::Rule(rule_command::Request::read(
+            alloc, values,
+        )?))),
         Command::Identify => Ok(Request::OnGraph(GraphRequest::Identify(
             identify_command::Request::read(alloc, values)?,
         ))),
-        Command::Check => Ok(Request::OnGraph(GraphRequest::Check(
-            check_command::Request::read(values)?,
-        ))),
-        Command::Adjust => Ok(Request::OnGraph(GraphRequest::Adjust(
-            adjust_command::Request::read(alloc, values)?,
-        ))),
+        Command::Check => Ok(Request::OnGraph(GraphRequest::Check(check_command::Request::read(
+            values,
+        )?))),
+        Command::Adjust => Ok(Request::OnGraph(GraphRequest::Adjust(adjust_command::Request::read(
+            alloc, values,
+        )?))),
         Command::Evaluate => Ok(Request::OnGraph(GraphRequest::Evaluate(
             evaluate_command::Request::read(alloc, values)?,
         ))),

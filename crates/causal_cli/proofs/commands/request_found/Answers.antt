@@ -9,5 +9,5 @@ use Rattle.causal_cli.proofs.commands.request_found.Goals as goal
 pub returns-clause-none : goal.returns-clause-none
 returns-clause-none c = λ uses g e q h is.
     let same : row_for c.in-Some.command ≡ row_of c.args.found.call.row.now =
-        same_Some (row_for c.in-Some.command) (row_of c.args.found.call.row.now) (sym (ap (λ o. option_map row_for o) c.in-Some.is) ∙ c.command_named.ensures ∙ c.requires) in
+    same_Some (row_for c.in-Some.command) (row_of c.args.found.call.row.now) (sym (ap (λ o. option_map row_for o) c.in-Some.is) ∙ c.command_named.ensures ∙ c.requires) in
     nothing_asked c.in-Some.command uses (c.request_in.ensures.none uses (subst (λ r. HoldsCall r uses c.args.found.values) (sym same) g) e) q (h ∙ sym same) is

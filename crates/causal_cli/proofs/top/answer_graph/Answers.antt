@@ -1,6 +1,7 @@
 use Rattle.std.proofs.Common.{refl}
 use Rattle.causal_cli.specs.Commands.{on_graph}
 use Rattle.causal_cli.specs.Run.{Run}
+use Rattle.causal_cli.proofs.Answered.{accepted}
 use Rattle.causal_cli.proofs.Deliveries.{delivered_file, proceeded, ended_too_long, not_true}
 use Rattle.causal_cli.proofs.ReadCounts.{file_read, both_read}
 use Rattle.causal_cli.proofs.top.answer_graph.Goals as goal
@@ -169,3 +170,8 @@ returns-clause-reads g c = λ words asks.
     run (on_graph c.args.request) c.file-file.result.now c.in-Ok.bytes.items c.in-Ok-Continues.input (g.S.Shelf.held c.read_all.new.shelf) c.file-file.ensures asks
     (not_true (g.S.Shelf.lacks c.args.shelf.now c.file-file.result.now) (λ t. cc (c.in-Ok.ensures.lacked t))) c.in-Ok.ensures.answer.1 gives c.in-Ok.ensures.holds
     c.in-Ok.ensures.once c.in-Ok.ensures.other_reads c.in-Ok.ensures.other_given c.proceed.ensures.only c.proceed.ensures.not_again c.proceed.ensures.once
+
+pub proceed-requires-clause-accepted : goal.proceed-requires-clause-accepted
+proceed-requires-clause-accepted g c =
+    let gives = rw (c.deref.ensures.value, c.in-Ok-Continues.field-0-is) at c.in-Ok-Continues.ensures in
+    accepted (on_graph c.args.request) c.in-Ok.bytes.items c.in-Ok-Continues.input gives
