@@ -60,7 +60,7 @@ each_at P (x ∷ xs) e (suc k) d lt = each_at P xs e.1 k d (omega arith)
 pub each_all : {A : Type 0} (P : A → Type 0) (xs : List A) → Each P xs → All P xs
 each_all P xs e = λ k d lt. each_at P xs e k d lt
 
-pairwise_at : {A : Type 0} (R : A → A → Type 0) (xs : List A) → Pairwise R xs → (i j : ℕ) (d : A) → i < j → j < length xs → R (get_or xs i d) (get_or xs j d)
+pub pairwise_at : {A : Type 0} (R : A → A → Type 0) (xs : List A) → Pairwise R xs → (i j : ℕ) (d : A) → i < j → j < length xs → R (get_or xs i d) (get_or xs j d)
 pairwise_at R [] p i j d lt below = absurd (omega arith)
 pairwise_at R (x ∷ xs) p i zero d lt below = absurd (omega arith)
 pairwise_at R (x ∷ xs) p zero (suc j) d lt below = each_at (R x) xs p.0 j d (omega arith)

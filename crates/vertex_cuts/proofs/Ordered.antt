@@ -1,8 +1,10 @@
 -- Ascending lists of sets.
+use Rattle.std.proofs.Common.{true≢false}
 use Rattle.std.proofs.Common.{◌≡◌, ℕ, zero, suc, ◌+◌, ◌<◌, Bool, true, false, cond, ◌&&◌, ◌||◌, ◌==◌, inl, inr, refl, sym, ap, ◌∙◌, List, [], ◌∷◌, ◌++◌, get_or, take, drop, length, nat_lt, length-append, arith, subst}
 use Rattle.std.specs.Cmp.Lexicographic.{slice_cmp, nat_list_cmp_total}
 use Rattle.std.specs.List.{AllWithin, HoldsAt}
-use Rattle.std.specs.Ordering.{nat_cmp, ordering_then, ordering_reverse}
+use Rattle.std.specs.List.Sorted.{IsPartitionedBy}
+use Rattle.std.specs.Ordering.{nat_cmp, ordering_then, ordering_reverse, is_lt}
 use Rattle.std.specs.declared.cmp.Ordering.{Ordering}
 use Rattle.std.specs.declared.cmp.Ordering.TheVariants.{Less, Equal, Greater}
 use Rattle.std.proofs.lemmas.Bool.{cases_lt, cases_eq, eqb-true, eq-eqb, ne_eqb, lt-ltb, le-ltb, false_from_ne_true}
@@ -12,8 +14,8 @@ use Rattle.mixed_graph.specs.declared.sets.VSet.{VSet}
 use Rattle.mixed_graph.proofs.Masks.{same_from_has}
 use Rattle.vertex_cuts.specs.Listings.{IsBefore}
 use Rattle.vertex_cuts.specs.Lists.{Each, Pairwise}
-use Rattle.vertex_cuts.specs.Progress.{AreOther, IsPlaced}
-use Rattle.vertex_cuts.proofs.ListFacts.{each_map, each_at}
+use Rattle.vertex_cuts.specs.Progress.{AreOther, IsPlaced, comes_before}
+use Rattle.vertex_cuts.proofs.ListFacts.{each_map, each_at, pairwise_at}
 use Rattle.vertex_cuts.proofs.Middles.{ordered_middle}
 
 -- ---- sets with one list of members are one
@@ -127,3 +129,22 @@ placed sets s i new sorted others before here e = record {
 
 pub placed_more : (old new : List VSet) (s : VSet) → IsPlaced old s new → length new ≡ length old + 1
 placed_more old new s p = rw (p.new_is, p.old_is) (omega (arith, length-append p.before p.after, length-append p.before (s ∷ p.after)))
+
+-- ---- the place, by halving
+lt_is_less : (o : Ordering) → is_lt o ≡ true → o ≡ Less
+lt_is_less Less e = refl
+lt_is_less Equal e = absurd (cc)
+lt_is_less Greater e = absurd (cc)
+
+-- in an ascending list no set before s comes after one that isn't
+pub parted : (s : VSet) (sets : List VSet) → Pairwise IsBefore sets → IsPartitionedBy (comes_before s) sets
+parted s sets sorted i j d le lt e = elim (cases_eq i j) [
+  | inl same ↦ rw same e
+  | inr other ↦ ap is_lt (before_trans (get_or sets i d) (get_or sets j d) s (pairwise_at IsBefore sets sorted i j d (omega arith) lt) (lt_is_less _ e))
+]
+
+pub all_before : (s : VSet) (sets : List VSet) (i : ℕ) → AllWithin (λ t. comes_before s t ≡ true) sets 0 i → AllWithin (λ t. IsBefore t s) sets 0 i
+all_before s sets i h = λ k d ge lt. lt_is_less _ (h k d ge lt)
+
+pub none_before : (s : VSet) (sets : List VSet) (i : ℕ) → AllWithin (λ t. comes_before s t ≡ false) sets i (length sets) → i < length sets → HoldsAt (λ t. IsBefore t s → ⊥) sets i
+none_before s sets i h lt = λ d b. absurd (true≢false (sym (ap is_lt b) ∙ h i d (omega arith) lt))

@@ -1,5 +1,7 @@
 -- How far the listing of minimal cuts has come. Words for code inside this crate.
 use Rattle.std.specs.Prelude.{ℕ, ◌≡◌, Bool, List, ◌∷◌, ◌++◌, ◌⊎◌}
+use Rattle.std.specs.Ordering.{is_lt, nat_cmp}
+use Rattle.std.specs.Cmp.Lexicographic.{slice_cmp}
 use Rattle.mixed_graph.specs.Bits.{has, members_below}
 use Rattle.mixed_graph.specs.declared.sets.VSet.{VSet}
 use Rattle.vertex_cuts.specs.Branches.{IsNode, IsIn}
@@ -37,6 +39,10 @@ module _ (near : ℕ → ℕ → Bool) (R X Y : ℕ → Bool) where
     pub own_away : Away done n
     pub away : Each (Away done) todo
     pub all : (z : ℕ → Bool) → IsMinimalCut near R X Y z → SomeOf (IsTestOf z) done ⊎ (SomeOf (λ n. IsIn near R X Y n z) todo ⊎ IsIn near R X Y n z)
+
+-- whether the ascending list of the members of t is before that of s
+abbrev pub comes_before : VSet → VSet → Bool
+comes_before s t = is_lt (slice_cmp nat_cmp (members_below (has t.bits) 64) (members_below (has s.bits) 64))
 
 -- the two sets differ
 abbrev pub AreOther : VSet → VSet → Type 0

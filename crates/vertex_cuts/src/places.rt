@@ -2,25 +2,23 @@ ghost use Rattle.std.specs.Prelude.{◌≡◌, ◌<◌, ◌≤◌, length, OnOk}
 ghost use Rattle.std.specs.List.{AllWithin, HoldsAt};
 ghost use Rattle.vertex_cuts.specs.Listings.{IsBefore};
 ghost use Rattle.vertex_cuts.specs.Lists.{Each, Pairwise};
-ghost use Rattle.vertex_cuts.specs.Progress.{AreOther, IsPlaced};
+ghost use Rattle.vertex_cuts.specs.Progress.{AreOther, IsPlaced, comes_before};
 
 use mixed_graph::VSet;
 use std::alloc::AllocError;
-use std::cmp::Ordering;
 
-/// The place of the first set that isn't before s.
+/// The place of the first set that isn't before s, by halving.
 fn place_of(sets: &[VSet], s: VSet) -> usize
+    requires sorted { Pairwise IsBefore sets.now }
     ensures within { result ≤ length sets.now }
     ensures before { AllWithin (λ t. IsBefore t s) sets.now 0 result }
     ensures here { result < length sets.now → HoldsAt (λ t. IsBefore t s → ⊥) sets.now result }
 {
-    for (i, t) in sets.iter().enumerate() {
-        match t.compare_members(s) {
-            Ordering::Less => {}
-            _ => return i,
-        }
-    }
-    sets.len()
+    sets.partition_point(
+        |t: &VSet| -> bool
+            ensures { result ≡ comes_before s t.now }
+        { t.compare_members(s).is_lt() },
+    )
 }
 
 /// Puts one more set into an ascending list.
