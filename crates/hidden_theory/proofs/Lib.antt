@@ -1,0 +1,12 @@
+pub mod Alike
+pub mod Depends
+pub mod Drawn
+pub mod Fold
+pub mod Folded
+pub mod Folding
+pub mod Folds
+pub mod Positions
+pub mod Reaching
+pub mod Renumber
+pub mod Tabled
+pub mod Totals

@@ -1,0 +1,12 @@
+use Rattle.hidden_theory.proofs.Drawn.{folded_is_positive, folded_keeps_values, folded_keeps_effects, right_as_drawn}
+use Rattle.hidden_theory.proofs.Folded.{each_has_folded}
+use Rattle.hidden_theory.proofs.theory.laws.Goals as goal
+
+pub returns : goal.returns
+returns c = record {
+  folded = each_has_folded;
+  positive = folded_is_positive;
+  values = folded_keeps_values;
+  effects = folded_keeps_effects;
+  drawn = right_as_drawn;
+}

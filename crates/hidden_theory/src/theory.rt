@@ -1,0 +1,15 @@
+ghost use Rattle.hidden_theory.specs.Laws.{EachHasFolded, FoldedIsPositive, FoldedKeepsValues, FoldedKeepsEffects, RightAsDrawn};
+
+/// What is true of the models of a diagram with hidden vertices.
+pub fn laws()
+    // Each has a model of the observed graph that gives observed events the same probabilities.
+    ensures folded { EachHasFolded }
+
+    // Such a model is positive where the model is on the observed vertices, and keeps all values.
+    ensures positive { FoldedIsPositive }
+    ensures values { FoldedKeepsValues }
+    ensures effects { FoldedKeepsEffects }
+
+    // So what is right in the observed graph is right in the diagram as drawn.
+    ensures drawn { RightAsDrawn }
+{}
