@@ -5,6 +5,7 @@
 #![tactic(auto)]
 
 mod adjusting;
+mod conditioning;
 mod derivations;
 mod factors;
 mod formulas;
@@ -34,6 +35,7 @@ fn answer(alloc: Global, row: &Value) -> Option<String> {
         "derivation" => derivations::derivation_row(alloc, row),
         "factor" => factors::factor_row(alloc, row),
         "effect" => identifying::effect_row(alloc, row),
+        "conditional" => conditioning::conditional_row(alloc, row),
         "surrogate" => surrogating::surrogate_row(alloc, row),
         "two models" => identifying::two_models_row(alloc, row),
         "weight in a built model" => identifying::built_weight_row(alloc, row),

@@ -1,0 +1,71 @@
+-- What is found, from what identification answers for the joint effect.
+use Rattle.std.proofs.Common.{ℕ, ◌≡◌, ◌≢◌, ◌<◌, ◌≤◌, ◌↔◌, Bool, refl, sym, subst, ◌∙◌, ap, inl, inr, List, [], length, IsTrue}
+use Rattle.std.proofs.lemmas.Bool.{cases_eq}
+use Rattle.mixed_graph.specs.Bits.{has}
+use Rattle.mixed_graph.specs.Graphs.{MixedGraph}
+use Rattle.mixed_graph.proofs.Masks.{has-zero, positive_from_has}
+use Rattle.do_rules.specs.Rules.{AreThreeSets}
+use Rattle.prob_expr.specs.Masks.{join}
+use Rattle.prob_expr.specs.Tree.{PlainFormula, PlainTarget}
+use Rattle.do_derivation.specs.Plans.{PlainDerivation}
+use Rattle.identification.proofs.Bools.{clash}
+use Rattle.identification.specs.Derivations.{IsDerived}
+use Rattle.hedge.specs.Hedges.{IsHedge}
+use Rattle.hedge.specs.declared.kinds.Hedge.{Hedge}
+use Rattle.conditional_theory.proofs.Answered.{one_turned}
+use Rattle.conditional_theory.proofs.Dividing.{divided_defs}
+use Rattle.conditional_theory.proofs.Turning.{joint_target, targeted, turned_target}
+use Rattle.conditional_theory.specs.Conditionals.AreTurned.{still}
+use Rattle.conditional_theory.specs.Conditionals.{AreTurned, IsConditionalBySteps, IsConditionalTarget, IsTurned, divided, divided_derivation}
+use Rattle.conditional_id.specs.Answers.{SomeJointHedge}
+use Rattle.conditional_id.specs.Moves.{AreMoved}
+use Rattle.conditional_id.specs.declared.kinds.Turned.{Turned}
+
+-- where nothing is given, the target's own sets are turned ones
+pub turned_none : (g : MixedGraph) (t : PlainTarget) → t.given ≡ 0 → IsTurned g t t.x 0 []
+turned_none g t e = elim (cases_eq t.x 0) [
+  | inl z ↦ inl (z, refl, sym e, refl)
+  | inr s ↦ inr (s, subst (λ w. AreTurned g t.y t.x w t.x 0 []) (sym e) (still (λ v i n. clash (has 0 v) i (has-zero v))))
+]
+
+-- the sets of the joint effect
+pub joint_sets : (g : MixedGraph) (x y z : ℕ) → AreThreeSets g.vertices (has x) (has y) (has z) → (v : ℕ) × IsTrue (has y v) → (r : Turned) → AreMoved g y x z r → (w : ℕ) → w ≡ join y r.left.bits
+    → IsConditionalTarget g (targeted r.doing.bits w 0)
+joint_sets g x y z sets some r m w e = subst (λ u. IsConditionalTarget g (targeted r.doing.bits u 0)) (sym e)
+    (joint_target g r.doing.bits y r.left.bits (turned_target g y x z r.doing.bits r.left.bits m.moved m.turned (record { sets = sets; some = some })))
+
+pub some_positive : (g : MixedGraph) (t : PlainTarget) → IsConditionalTarget g t → 0 < t.y
+some_positive g t k = positive_from_has t.y k.some.0 k.some.1
+
+-- a hedge for the joint effect is one for some turned sets
+pub exact_for : (g : MixedGraph) (t : PlainTarget) (x' z' : ℕ) (vs : List ℕ) → IsTurned g t x' z' vs → (w : ℕ) → w ≡ join t.y z' → (b : Bool) → IsTrue b ↔ ((h : Hedge) × IsHedge g x' w h) → IsTrue b ↔ SomeJointHedge g t
+exact_for g t x' z' vs turned w e b exact = (λ i. found (exact.0 i), λ s. exact.1 (back s))
+  where
+    found : (h : Hedge) × IsHedge g x' w h → SomeJointHedge g t
+    found p = record { doing = x'; left = z'; moved = vs; turned = turned; hedge = p.0; is_hedge = subst (λ u. IsHedge g x' u p.0) e p.1 }
+
+    back : SomeJointHedge g t → (h : Hedge) × IsHedge g x' w h
+    back s = let o = one_turned g t s.doing s.left x' z' s.moved vs s.turned turned in
+        (s.hedge, subst (λ u. IsHedge g u w s.hedge) o.0 (subst (λ u. IsHedge g s.doing u s.hedge) (ap (join t.y) o.1 ∙ sym e) s.is_hedge))
+
+-- the divided formula, from that of the joint effect
+pub given_formula : (g : MixedGraph) (t : PlainTarget) → t.given ≢ 0 → t.x ≢ 0 → (x' z' : ℕ) (vs : List ℕ) → AreTurned g t.y t.x t.given x' z' vs → (w : ℕ) → w ≡ join t.y z' → (joint : PlainFormula) (e : PlainDerivation)
+    → IsDerived g x' w joint e → length joint.defs ≤ 4096 → (f : PlainFormula) (d : PlainDerivation) → f ≡ divided t.y z' joint → d ≡ divided_derivation vs t.y z' e → IsConditionalBySteps g t f d × (length f.defs ≤ 4096)
+given_formula g t some doing x' z' vs turned w is joint e derived few f d formula steps = (
+  inr (inr (
+    some,
+    doing,
+    record {
+      doing = x';
+      left = z';
+      moved = vs;
+      turned = turned;
+      joint = joint;
+      steps = e;
+      derived = subst (λ u. IsDerived g x' u joint e) is derived;
+      formula = formula;
+      derivation = steps;
+    },
+  )),
+  subst (λ h. length h.defs ≤ 4096) (sym formula) (subst (λ ds. length ds ≤ 4096) (sym (divided_defs t.y z' joint)) few),
+)

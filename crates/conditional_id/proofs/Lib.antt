@@ -1,0 +1,5 @@
+pub mod Found
+pub mod Lists
+pub mod Moving
+pub mod RightAnswers
+pub mod StepCases

@@ -1,0 +1,31 @@
+use Rattle.std.proofs.Common.{◌<◌, sym, subst, ap, ◌∙◌, arith}
+use Rattle.mixed_graph.specs.Shown.{graph_of}
+use Rattle.mixed_graph.proofs.Masks.{some_member}
+use Rattle.prob_expr.specs.Masks.{minus}
+use Rattle.conditional_id.proofs.Moving.{move_smaller, moving_all, moving_more, moving_none}
+use Rattle.conditional_id.proofs.turning.turned.Goals as goal
+
+pub moves-init : goal.moves-init
+moves-init c = moving_none (graph_of c.args.g.now) c.args.y.bits c.args.x.bits c.args.given.bits c.requires.sets
+    (some_member c.args.y.bits (λ z. absurd (let p = c.requires.some in omega (arith, p, z))) (omega arith)) c.new-steps.result.items c.new-steps.ensures.items
+
+pub lowest_turning-requires-clause-sets : goal.lowest_turning-requires-clause-sets
+lowest_turning-requires-clause-sets c = c.moves.invariant.target.sets
+
+pub one-alone-requires : goal.one-alone-requires
+one-alone-requires c =
+    let low = c.moves.invariant.target.sets.w_within c.in-Some.v c.in-Some.ensures.member in
+    let few = c.args.g.now.small in
+    omega (arith, low, few)
+
+pub moves-smaller : goal.moves-smaller
+moves-smaller c =
+    let z = c.moves.left.bits in
+    subst (λ w. w < z) (sym (c.minus-left.ensures ∙ ap (minus z) c.one-alone.ensures)) (move_smaller z c.in-Some.v c.in-Some.ensures.member)
+
+pub moves-preserved : goal.moves-preserved
+moves-preserved c = moving_more (graph_of c.args.g.now) c.args.y.bits c.args.x.bits c.args.given.bits c.moves.doing.bits c.moves.left.bits c.in-Some.v c.moves.steps.items c.one-alone.result c.one-alone.ensures
+    c.moves.invariant c.in-Some.ensures c.join-doing.result.bits c.minus-left.result.bits _ c.join-doing.ensures c.minus-left.ensures c.in_ok-push.ensures.items
+
+pub returns : goal.returns
+returns c = moving_all (graph_of c.args.g.now) c.args.y.bits c.args.x.bits c.args.given.bits _ c.moves.invariant c.in_default.ensures

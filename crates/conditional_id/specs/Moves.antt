@@ -1,0 +1,24 @@
+-- The observations that turn into interventions, one after the other.
+use Rattle.std.specs.Prelude.{ℕ, ◌≡◌, ◌<◌, List, IsTrue}
+use Rattle.mixed_graph.specs.Bits.{has}
+use Rattle.mixed_graph.specs.Graphs.{MixedGraph}
+use Rattle.do_derivation.specs.Plans.{Plans}
+use Rattle.id_recursion.specs.Lists.{onto}
+use Rattle.conditional_theory.specs.Conditionals.{IsTurning, AreTurned, turned_steps}
+use Rattle.conditional_id.specs.declared.kinds.Turned.{Turned}
+
+-- no observation may become an intervention
+abbrev pub NoneTurns : MixedGraph → (x y z : ℕ) → Type 0
+NoneTurns g x y z = (v : ℕ) → IsTrue (has z v) → IsTurning g x y z v → ⊥
+
+-- v is the lowest observation that may
+pub record IsLowestTurning (g : MixedGraph) (x y z v : ℕ) : Type 0 where
+  pub member : IsTrue (has z v)
+  pub turns : IsTurning g x y z v
+  pub lowest : (u : ℕ) → u < v → IsTrue (has z u) → IsTurning g x y z u → ⊥
+
+-- what the observations turn into, with the steps of the moves
+pub record AreMoved (g : MixedGraph) (y x z : ℕ) (r : Turned) : Type 0 where
+  pub moved : List ℕ
+  pub turned : AreTurned g y x z r.doing.bits r.left.bits moved
+  pub steps : (rest : Plans) → onto r.steps.items rest ≡ turned_steps moved rest

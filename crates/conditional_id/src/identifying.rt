@@ -1,0 +1,174 @@
+//! Identification of an effect under a condition.
+
+ghost use Rattle.std.specs.Prelude.{◌≡◌, ◌≢◌, ℕ, ◌<◌, ◌≤◌, ◌↔◌, List, [], true, length, IsTrue, IfOk, None};
+ghost use Rattle.mixed_graph.specs.Bits.{has};
+ghost use Rattle.mixed_graph.specs.Graphs.{IsAncestor};
+ghost use Rattle.mixed_graph.specs.Sets.{Within, Apart};
+ghost use Rattle.mixed_graph.specs.Shown.{graph_of};
+ghost use Rattle.do_rules.specs.Rules.{AreThreeSets};
+ghost use Rattle.prob_expr.specs.Check.{fault_in};
+ghost use Rattle.prob_expr.specs.Masks.{join};
+ghost use Rattle.prob_expr.specs.Terms.{is_do_free};
+ghost use Rattle.prob_expr.specs.Tree.{prob};
+ghost use Rattle.prob_expr.specs.Values.{EqualsEffect};
+ghost use Rattle.prob_expr.specs.View.{formula_view, target_view};
+ghost use Rattle.do_derivation.specs.Accepts.{Accepts};
+ghost use Rattle.do_derivation.specs.Plans.{Plan, Plans, no_plans};
+ghost use Rattle.do_derivation.specs.View.{derivation_view};
+ghost use Rattle.identification.specs.Derivations.{IsDerived};
+ghost use Rattle.identification_answers.specs.Names.{FormulaNamesOnly};
+ghost use Rattle.counter_models.specs.Events.{AreCounterModels};
+ghost use Rattle.id_recursion.specs.Answers.{effect_on};
+ghost use Rattle.id_recursion.specs.Lists.{onto};
+ghost use Rattle.conditional_theory.specs.Conditionals.{divided, divided_derivation, turned_steps, IsConditionalTarget, IsConditional, IsConditionalBySteps};
+ghost use Rattle.conditional_theory.specs.Laws.{IsShallowGiven};
+ghost use Rattle.conditional_id.specs.Answers.{IsAnswerGiven, IsRight, IsJointEffect, IsJointShown, SomeJointHedge, IfFormula, IfJoint, is_joint};
+
+use crate::dividing::{divided, divided_steps};
+use crate::kinds::{Conditional, Turned};
+use crate::turning::turned;
+use do_derivation::{Derivation, Step};
+use id_recursion::{Answer, identify};
+use mixed_graph::{Graph, VSet};
+use prob_expr::masks::{is_empty, join};
+use prob_expr::{Expr, Formula, Target};
+use std::alloc::{AllocError, Global};
+
+/// What identification answers for the effect of x on y.
+fn without_condition(alloc: Global, g: &Graph, x: VSet, y: VSet) -> Result<Conditional, AllocError>
+    requires x_within { Within g.now.n (has x.bits) }
+    requires y_within { Within g.now.n (has y.bits) }
+    requires apart { Apart (has x.bits) (has y.bits) }
+    requires some { 0 < y.bits }
+    ensures answer { IfOk result (IsAnswerGiven (graph_of g.now) (effect_on x.bits y.bits)) }
+    ensures exact { IfOk result (λ a. IsTrue (is_joint a) ↔ SomeJointHedge (graph_of g.now) (effect_on x.bits y.bits)) }
+{
+    match identify(alloc, g, x, y)? {
+        Answer::Formula(formula, derivation) => Ok(Conditional::Formula(formula, derivation)),
+        Answer::Hedge(hedge, pair) => Ok(Conditional::Joint { x, y, hedge, pair }),
+    }
+}
+
+/// The formula P(y | given), which is the effect of no intervention without a step.
+fn observed_given(alloc: Global, y: VSet, given: VSet) -> (Formula, Derivation)
+    ensures formula { formula_view result.0 ≡ record { defs = []; main = prob y.bits 0 given.bits } }
+    ensures derivation { derivation_view result.1 ≡ record { lemmas = []; main = Plan.Then no_plans } }
+{
+    let formula = Formula {
+        defs: Vec::new(alloc),
+        main: Expr::Prob {
+            of: y,
+            doing: VSet { bits: 0 },
+            given,
+        },
+    };
+    let derivation = Derivation {
+        lemmas: Vec::new(alloc),
+        main: Step::Then(Vec::new(alloc)),
+    };
+    (formula, derivation)
+}
+
+/// The divided formula with its derivation, from those of the joint effect into which the observations turn.
+fn divided_answer(
+    alloc: Global,
+    y: VSet,
+    turned: Turned,
+    joint: Formula,
+    derivation: Derivation,
+) -> Result<(Formula, Derivation), AllocError>
+    ensures formula { IfOk result (λ p. formula_view p.0 ≡ divided y.bits turned.left.bits (formula_view joint)) }
+    ensures derivation { (vs : List ℕ) → ((rest : Plans) → onto turned.steps.items rest ≡ turned_steps vs rest)
+        → IfOk result (λ p. derivation_view p.1 ≡ divided_derivation vs y.bits turned.left.bits (derivation_view derivation)) }
+{
+    let formula = divided(alloc, y, turned.left, joint)?;
+    let steps = divided_steps(alloc, y, turned.left, turned.steps, derivation.main)?;
+    let derivation = Derivation {
+        lemmas: derivation.lemmas,
+        main: Step::Then(steps),
+    };
+    Ok((formula, derivation))
+}
+
+/// The answer for a target with interventions.
+fn with_condition(alloc: Global, g: &Graph, t: Target) -> Result<Conditional, AllocError>
+    requires sets { AreThreeSets g.now.n (has t.x.bits) (has t.y.bits) (has t.given.bits) }
+    requires some { 0 < t.y.bits }
+    requires doing { t.x.bits ≢ 0 }
+    requires given { t.given.bits ≢ 0 }
+    ensures answer { IfOk result (IsAnswerGiven (graph_of g.now) (target_view t)) }
+    ensures exact { IfOk result (λ a. IsTrue (is_joint a) ↔ SomeJointHedge (graph_of g.now) (target_view t)) }
+{
+    let turned = turned(alloc, g, t.x, t.y, t.given)?;
+    let doing = turned.doing;
+    let joint = join(t.y, turned.left);
+    match identify(alloc, g, doing, joint)? {
+        Answer::Formula(undivided, derivation) => {
+            let (formula, derivation) = divided_answer(alloc, t.y, turned, undivided, derivation)?;
+            Ok(Conditional::Formula(formula, derivation))
+        }
+        Answer::Hedge(hedge, pair) => Ok(Conditional::Joint {
+            x: doing,
+            y: joint,
+            hedge,
+            pair,
+        }),
+    }
+}
+
+/// What is found for the target.
+fn answer(alloc: Global, g: &Graph, t: Target) -> Result<Conditional, AllocError>
+    requires sets { AreThreeSets g.now.n (has t.x.bits) (has t.y.bits) (has t.given.bits) }
+    requires some { 0 < t.y.bits }
+    ensures target { IsConditionalTarget (graph_of g.now) (target_view t) }
+    ensures answer { IfOk result (IsAnswerGiven (graph_of g.now) (target_view t)) }
+    ensures exact { IfOk result (λ a. IsTrue (is_joint a) ↔ SomeJointHedge (graph_of g.now) (target_view t)) }
+{
+    if is_empty(t.given) {
+        return without_condition(alloc, g, t.x, t.y);
+    }
+    if is_empty(t.x) {
+        let (formula, derivation) = observed_given(alloc, t.y, t.given);
+        return Ok(Conditional::Formula(formula, derivation));
+    }
+    with_condition(alloc, g, t)
+}
+
+/// A formula for P(y | do(x), given) from what is observed, or a joint effect that can't be
+/// identified: the procedure IDC of Shpitser and Pearl (2006).
+///
+/// Observations turn into interventions, the lowest first, as long as rule 2 lets one; then the joint
+/// effect of y and of what is left is identified, and divided by its sum over y. Where that effect has
+/// a hedge, it is answered; that P(y | do(x), given) itself can't be computed is not claimed. The only
+/// error is want of memory.
+pub fn identify_given(alloc: Global, g: &Graph, t: &Target) -> Result<Conditional, AllocError>
+    requires sets { AreThreeSets g.now.n (has t.now.x.bits) (has t.now.y.bits) (has t.now.given.bits) }
+    requires some { 0 < t.now.y.bits }
+
+    // A formula has an accepted derivation and the value of the effect; a joint effect is the one into which the observations
+    // turn, by sets with which the effect is the same, and has two models that agree on all observations and differ on it.
+    ensures right { IfOk result (IsRight (graph_of g.now) (target_view t.now)) }
+
+    // A joint effect is answered exactly where there is a hedge for the one into which the observations turn.
+    ensures exact { IfOk result (λ a. IsTrue (is_joint a) ↔ SomeJointHedge (graph_of g.now) (target_view t.now)) }
+
+    // The formula, its derivation, and what is true of them. Where nothing is given they are those of identification.
+    ensures formula { IfOk result (λ a. IfFormula a (λ f d. IsConditional (graph_of g.now) (target_view t.now) f)) }
+    ensures derived { IfOk result (λ a. IfFormula a (IsConditionalBySteps (graph_of g.now) (target_view t.now))) }
+    ensures plain { t.now.given.bits ≡ 0 → IfOk result (λ a. IfFormula a (IsDerived (graph_of g.now) t.now.x.bits t.now.y.bits)) }
+    ensures accepted { IfOk result (λ a. IfFormula a (Accepts (graph_of g.now) [] (target_view t.now))) }
+    ensures formed { IfOk result (λ a. IfFormula a (λ f d. fault_in g.now.n f ≡ None)) }
+    ensures do_free { IfOk result (λ a. IfFormula a (λ f d. is_do_free f ≡ true)) }
+    ensures names { IfOk result (λ a. IfFormula a (λ f d. FormulaNamesOnly (IsAncestor (graph_of g.now) (has (join t.now.y.bits t.now.given.bits))) f)) }
+    ensures effect { IfOk result (λ a. IfFormula a (λ f d. EqualsEffect (graph_of g.now) (target_view t.now) f)) }
+    ensures shallow { IfOk result (λ a. IfFormula a IsShallowGiven) }
+    ensures few { IfOk result (λ a. IfFormula a (λ f d. length f.defs ≤ 4096)) }
+
+    // The joint effect, its hedge and its two models. Where nothing is given it is the effect of x on y.
+    ensures joint { IfOk result (λ a. IfJoint a (λ x y h pair. IsJointEffect (graph_of g.now) (target_view t.now) x.bits y.bits)) }
+    ensures shown { IfOk result (λ a. IfJoint a (IsJointShown (graph_of g.now) (target_view t.now))) }
+    ensures plain_joint { t.now.given.bits ≡ 0 → IfOk result (λ a. IfJoint a (λ x y h pair. (x.bits ≡ t.now.x.bits) × (y.bits ≡ t.now.y.bits))) }
+    ensures counter { IfOk result (λ a. IfJoint a (λ x y h pair. AreCounterModels (graph_of g.now) x.bits y.bits pair)) }
+{
+    answer(alloc, g, *t)
+}

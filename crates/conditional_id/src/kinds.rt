@@ -1,0 +1,32 @@
+use counter_models::CounterPair;
+use do_derivation::{Derivation, Step};
+use hedge::Hedge;
+use mixed_graph::VSet;
+use prob_expr::Formula;
+
+/// What is found for P(y | do(x), given) (Shpitser and Pearl).
+#[derive(Drop)]
+pub enum Conditional {
+    /// A formula for the effect without interventions, and the steps of the do-calculus that turn the effect into it.
+    Formula(Formula, Derivation),
+    /// The joint effect of `x` on `y` into which the observations turn: `x` has those that became
+    /// interventions, `y` those that are left. It has a hedge, and two models that agree on all
+    /// observations and differ on it.
+    Joint {
+        x: VSet,
+        y: VSet,
+        hedge: Hedge,
+        pair: CounterPair,
+    },
+}
+
+/// What the observations turn into.
+#[derive(Drop)]
+pub struct Turned {
+    /// The interventions, with the observations that became ones.
+    pub doing: VSet,
+    /// The observations that are left.
+    pub left: VSet,
+    /// The steps of the moves, in turn.
+    pub steps: Vec<Step>,
+}
