@@ -100,6 +100,25 @@ uint8_t causal_explain(const uint8_t *bytes, size_t length,
                        uint8_t *err, size_t err_room,
                        causal_sizes *sizes);
 
+/* A diagram that was read, in memory of the caller: the observed graph, after hidden vertices are projected away. Its vertices
+ * are numbered from 0, in the order in which `graph FILE --project` prints them. Row v of `parents`, `children` and `spouses`
+ * has bit u set where u -> v, v -> u and u <-> v.
+ *
+ * All zeros are the diagram without a vertex: begin with `causal_graph graph = {0};`. Only causal_keep may change one. */
+typedef struct causal_graph {
+    uint32_t vertices;
+    uint64_t parents[64], children[64], spouses[64];
+} causal_graph;
+
+/* Reads a graph text, and keeps its observed graph in `graph`. CAUSAL_GRAPH where the bytes are no graph text, over 1,048,576
+ * bytes included (causal_run tells the fault); CAUSAL_NO_MEMORY where memory was refused. Then `graph` stays as it was. */
+uint8_t causal_keep(const uint8_t *text, size_t length, causal_graph *graph);
+
+/* Whether x and y are separated given a set, in a graph that was kept: CAUSAL_YES where no walk between them is open, CAUSAL_NO
+ * where one is. Bit v of a set is set where vertex v is a member. CAUSAL_GRAPH where that can't be asked: a set has a member
+ * that isn't a vertex, two have a common one, or x or y has none. It takes no memory. */
+uint8_t causal_separated(const causal_graph *graph, uint64_t x, uint64_t y, uint64_t given);
+
 #ifdef __cplusplus
 }
 #endif

@@ -103,6 +103,21 @@ static void explained(void) {
     HOLDS(causal_explain((const uint8_t *)steps, sizeof steps - 1, words, 2, inputs, 2, out, 256, err, 256, &sizes) == CAUSAL_WORDS);
 }
 
+static void kept(void) {
+    static const char text[] = "dag{A<-U->B B->C U [latent]}", other[] = "dag{A->}";
+    causal_graph graph = {0};
+    HOLDS(causal_separated(&graph, 1, 2, 0) == CAUSAL_GRAPH);
+    HOLDS(causal_keep((const uint8_t *)text, sizeof text - 1, &graph) == CAUSAL_YES && graph.vertices == 3);
+    HOLDS(graph.spouses[0] == 2 && graph.spouses[1] == 1 && graph.children[1] == 4 && graph.parents[2] == 2);
+    HOLDS(causal_separated(&graph, 1, 4, 2) == CAUSAL_YES && causal_separated(&graph, 1, 4, 0) == CAUSAL_NO);
+    /* sets that can't be asked: no x, one beyond the graph, two that meet */
+    HOLDS(causal_separated(&graph, 0, 4, 2) == CAUSAL_GRAPH && causal_separated(&graph, 1, 0, 2) == CAUSAL_GRAPH);
+    HOLDS(causal_separated(&graph, 1, 8, 0) == CAUSAL_GRAPH && causal_separated(&graph, 1, 4, 4) == CAUSAL_GRAPH);
+    /* a text that is refused changes nothing */
+    HOLDS(causal_keep((const uint8_t *)other, sizeof other - 1, &graph) == CAUSAL_GRAPH && graph.vertices == 3);
+    HOLDS(causal_separated(&graph, 1, 4, 2) == CAUSAL_YES);
+}
+
 static void *many(void *unused) {
     causal_input inputs[] = {{name, graph}};
     for (int i = 0; i < 200; i++) {
@@ -124,6 +139,7 @@ int main(void) {
     names();
     statuses();
     explained();
+    kept();
     threads();
     puts("edges: all hold");
     return 0;

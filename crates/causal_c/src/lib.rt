@@ -1,12 +1,17 @@
 //! The top call for C, Python, R and a web page.
 #![tactic(auto)]
 
-ghost use Rattle.std.specs.Prelude.{◌≡◌, ◌≤◌};
+ghost use Rattle.std.specs.Prelude.{◌≡◌, ◌≤◌, ◌⊎◌};
+ghost use Rattle.mixed_graph.specs.Bits.{has};
+ghost use Rattle.m_separation.specs.Walks.{IsSeparated, HasOpenWalk};
+ghost use Rattle.kept_graph.specs.Kept.{AreAskable, HoldsObserved, IsRefused, graph_in};
 ghost use Rattle.spans.specs.Words.{AreTexts, IsNoText};
 ghost use Rattle.span_call.specs.Called.{Called, LacksInput, IsCutShort};
 ghost use Rattle.explain_call.specs.Calls.{Explained};
 
 use explain_call::explain_spans;
+use kept_graph::{KeepFault, KeptGraph, Separation};
+use mixed_graph::VSet;
 use span_call::{Sizes, run_spans};
 use spans::{Input, Span};
 use std::alloc::Global;
@@ -61,4 +66,49 @@ pub extern "C" fn causal_explain(
     ensures no_sizes { 9 ≤ result → sizes.new ≡ record { out = 0; err = 0 } }
 {
     explain_spans(alloc, bytes, words, inputs, out, err, sizes)
+}
+
+/// Keeps the observed graph of a graph text: 0; 3 where the bytes are no graph text; 8 where memory was refused. What was kept stays then.
+#[unsafe(no_mangle)]
+pub extern "C" fn causal_keep(alloc: Global, text: &[u8], kept: &mut KeptGraph) -> u8
+    ensures holds { result ≡ 0 → HoldsObserved text.now (graph_in kept.new) }
+    ensures refused { result ≡ 3 → IsRefused text.now }
+    ensures known { (result ≡ 0) ⊎ ((result ≡ 3) ⊎ (result ≡ 8)) }
+    ensures stays { 3 ≤ result → kept.new ≡ kept.old }
+{
+    match KeptGraph::read(alloc, text) {
+        Ok(graph) => {
+            *kept = graph;
+            0
+        }
+        Err(fault) => status_of(fault),
+    }
+}
+
+/// The status of a text that isn't kept.
+fn status_of(fault: KeepFault) -> u8
+    ensures refused { result ≡ 3 → fault ≡ KeepFault.Refused }
+    ensures known { (result ≡ 3) ⊎ (result ≡ 8) }
+{
+    match fault {
+        KeepFault::Refused => 3,
+        KeepFault::NoMemory => 8,
+    }
+}
+
+/// Whether x and y are separated given a set in a graph that is kept: 0 or 1; 3 where that can't be asked of these sets.
+#[unsafe(no_mangle)]
+pub extern "C" fn causal_separated(kept: &KeptGraph, x: u64, y: u64, given: u64) -> u8
+    ensures apart { result ≡ 0 → IsSeparated (graph_in kept.now) (has x) (has y) (has given) }
+    ensures open { result ≡ 1 → HasOpenWalk (graph_in kept.now) (has x) (has y) (has given) }
+    ensures askable { result ≤ 1 → AreAskable kept.now.vertices x y given }
+    ensures refused { result ≡ 3 → AreAskable kept.now.vertices x y given → ⊥ }
+    ensures known { (result ≤ 1) ⊎ (result ≡ 3) }
+{
+    let (x, y, given) = (VSet { bits: x }, VSet { bits: y }, VSet { bits: given });
+    match kept.separation(x, y, given) {
+        Separation::Separated => 0,
+        Separation::Open => 1,
+        Separation::Refused => 3,
+    }
 }

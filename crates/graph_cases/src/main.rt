@@ -29,6 +29,7 @@ fn answer(alloc: Global, row: &Value) -> Option<String> {
         "first edges" => graphs::first_edges_row(alloc, row),
         "survey" => graphs::survey_row(alloc, row),
         "separation" => separations::separation_row(alloc, row),
+        "kept graph" => separations::kept_row(alloc, row),
         "districts" => district_sets::districts_row(alloc, row),
         "district" => district_sets::district_row(alloc, row),
         "links" => district_sets::links_row(alloc, row),
