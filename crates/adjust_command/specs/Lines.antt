@@ -7,7 +7,7 @@ use Rattle.answer_text.specs.Texts.{set_text}
 use Rattle.replies.specs.Lines.{open_text}
 use Rattle.adjustment.specs.declared.criteria.AdjFault.{AdjFault}
 use Rattle.adjustment.specs.declared.criteria.AdjFault.TheVariants.{Forbidden, Unblocked}
-use Rattle.adjustment.specs.Formulas.{adjustment_formula}
+use Rattle.adjustment.specs.Formulas.{adjustment_formula, effect_on}
 use Rattle.identify_text.specs.Answers.{formula_answer}
 
 -- a set on a line of its own
@@ -16,7 +16,7 @@ set_line names set = set_text names set ++ codes "\n"
 
 -- `admissible: {Z}`, and then the effect with the adjustment formula of that set
 abbrev pub admissible_text : List (List ℕ) → (x y z : ℕ) → List ℕ
-admissible_text names x y z = codes "admissible: " ++ (set_line names z ++ formula_answer names x y (adjustment_formula x y z))
+admissible_text names x y z = codes "admissible: " ++ (set_line names z ++ formula_answer names (effect_on x y) (adjustment_formula x y z))
 
 -- `forbidden: Z`, with a member that is excluded
 abbrev pub forbidden_line : List (List ℕ) → ℕ → List ℕ

@@ -9,6 +9,7 @@ use adjustment::{AdjFault, formula_for};
 use answer_text::{push_set, push_vertex};
 use identify_text::formula_answer;
 use mixed_graph::{Names, VSet};
+use prob_expr::Target;
 use replies::push_open;
 use std::alloc::{AllocError, Global};
 use targets::Sets;
@@ -30,7 +31,12 @@ pub fn admissible_text(alloc: Global, names: &Names, sets: Sets) -> Result<Vec<u
     ensures { IfOk result (λ v. v.items ≡ admissible_text names.now sets.x.bits sets.y.bits sets.given.bits) }
 {
     let formula = formula_for(alloc, sets.x, sets.y, sets.given)?;
-    let answer = formula_answer(alloc, &formula, sets.x, sets.y, names)?;
+    let effect = Target {
+        x: sets.x,
+        y: sets.y,
+        given: VSet { bits: 0 },
+    };
+    let answer = formula_answer(alloc, &formula, &effect, names)?;
     let mut text = Vec::from_slice(alloc, b"admissible: ")?;
     push_line(&mut text, names, sets.given)?;
     text.extend_from_slice(answer.as_slice())?;

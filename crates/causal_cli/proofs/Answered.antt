@@ -4,24 +4,28 @@ use Rattle.std.specs.Prelude.{suc, replicate}
 use Rattle.std.proofs.lemmas.List.{length-replicate}
 use Rattle.dag_reader.specs.declared.graph.ReadGraph.{ReadGraph}
 use Rattle.replies.specs.declared.outcome.Outcome.{Outcome}
-use Rattle.replies.specs.declared.outcome.Outcome.TheVariants.{Yes, No, Words, Graph, Second, Evaluation, Read, Write, Memory}
+use Rattle.replies.specs.declared.outcome.Outcome.TheVariants.{Words, Read, Write, Memory}
 use Rattle.replies.specs.Outcomes.{IsAnswered}
 use Rattle.replies.proofs.Outcomes.{answered}
 use Rattle.graph_command.proofs.Outcomes.{graph_answered}
 use Rattle.separate_command.proofs.Outcomes.{separate_answered}
 use Rattle.rule_command.proofs.Outcomes.{rule_answered}
-use Rattle.identify_command.proofs.Outcomes.{identify_answered}
+use Rattle.identify_command.proofs.Outcomes.{given_answered}
 use Rattle.check_command.proofs.Outcomes.{check_answered}
 use Rattle.adjust_command.proofs.Outcomes.{adjust_answered}
 use Rattle.evaluate_command.proofs.Outcomes.{first_answered as evaluate_first, counts_answered}
 use Rattle.equivalent_command.proofs.Outcomes.{first_answered as equivalent_first, second_answered}
+use Rattle.implications_command.proofs.Outcomes.{first_answered as implications_first, counts_answered as implied_answered}
 use Rattle.survey_command.proofs.Outcomes.{survey_answered}
-use Rattle.causal_cli.specs.Commands.{Request, graph, separate, rule, identify, check, adjust, evaluate, equivalent, survey, second_of}
+use Rattle.surrogate_command.proofs.Outcomes.{surrogate_answered}
+use Rattle.causal_cli.specs.Commands.{Request, graph, separate, rule, identify, check, adjust, evaluate, equivalent, implications, survey, surrogate, second_of}
 use Rattle.causal_cli.specs.Answers.{WordsAnswer, GraphAnswer, NeedsSecond, SecondAnswer, Defined, Continues, DefinedWith, second_in, limit_of, IsAccepted, GivesSecond, IsLeft, IsLeftOf}
 use Rattle.check_command.specs.Answers.{CheckAnswer}
 use Rattle.evaluate_command.specs.Answers.{CountsAnswer}
 use Rattle.evaluate_command.specs.Effects.{effect_view}
 use Rattle.equivalent_command.specs.Answers.{IsAccepted as IsFirstAccepted, SecondAnswer as SecondGraphAnswer}
+use Rattle.implications_command.specs.Answers.{CountsAnswer as ImpliedAnswer}
+use Rattle.implications_command.specs.Pairs.{pairs_view}
 use Rattle.replies.specs.declared.outcome.Reply.{Reply}
 use Rattle.causal_cli.specs.declared.answer.SecondInput.{SecondInput}
 use Rattle.causal_cli.specs.declared.answer.SecondInput.TheVariants as input
@@ -34,10 +38,12 @@ graph_answer : (w : Request) (g : ReadGraph) (o : Outcome) (text : List ℕ) →
 graph_answer (graph q) g o text h = graph_answered q.project g o text h
 graph_answer (separate q) g o text h = separate_answered g q.x q.y q.given o text h
 graph_answer (rule q) g o text h = rule_answered q.rule g q.y q.done q.z q.given o text h
-graph_answer (identify q) g o text h = identify_answered q.form g q.x q.y o text h
+graph_answer (identify q) g o text h = given_answered q.form g q.x q.y q.given o text h
 graph_answer (adjust q) g o text h = adjust_answered g q.x q.y q.query o text h
 graph_answer (evaluate q) g o text h = evaluate_first g q.x q.y o text h
 graph_answer (equivalent q) g o text h = equivalent_first g q.query o text h
+graph_answer (implications q) g o text h = implications_first q.counts g o text h
+graph_answer (surrogate q) g o text h = surrogate_answered g q.x q.y q.experiments o text h
 graph_answer w g o text h = absurd h
 
 -- the outcome of the answer on the file alone
@@ -51,6 +57,7 @@ gives_answered (input.Check g certificate) other reply = check_answered g other 
 gives_answered (input.Evaluate found counts count exact) other reply =
     counts_answered exact (effect_view found) (option_map (λ s. s.now) count) other reply.outcome reply.text.items
 gives_answered (input.Equivalent g s second) other reply = second_answered g s other reply.outcome reply.text.items
+gives_answered (input.Implications pairs counts count) other reply = implied_answered (pairs_view pairs) (option_map (λ s. s.now) count) other reply.outcome reply.text.items
 
 -- and where it is that on all bytes that are more than a limit
 pub long_answered : (p : SecondInput) (reply : Reply) → ((other : List ℕ) → limit_of p < length other → GivesSecond p other reply) → IsAnswered reply.outcome
@@ -66,6 +73,7 @@ named_on : (w : Request) (g : ReadGraph) (p : SecondInput) → IsLeft w g p → 
 named_on (check q) g (input.Check kept certificate) is = ap (λ t. Some t) (sym is.0)
 named_on (evaluate q) g (input.Evaluate found counts count exact) is = ap (λ t. Some t) (sym is.0)
 named_on (equivalent q) g (input.Equivalent kept s second) is = ap (λ t. Some t) (sym is.0)
+named_on (implications q) g (input.Implications pairs counts count) is = is.0
 named_on w g p is = absurd is
 
 pub named : (w : Request) (bytes : List ℕ) (p : SecondInput) → IsLeftOf w bytes p → second_of w ≡ Some (second_in p)
@@ -76,6 +84,7 @@ needed : (w : Request) (g : ReadGraph) (p : SecondInput) → IsLeft w g p → Ne
 needed (check q) g (input.Check kept certificate) is = tt
 needed (evaluate q) g (input.Evaluate found counts count exact) is = (effect_view found, is.3)
 needed (equivalent q) g (input.Equivalent kept s second) is = (s, is.2)
+needed (implications q) g (input.Implications pairs counts count) is = (pairs_view pairs, is.2)
 needed w g p is = absurd is
 
 pub continues : (w : Request) (bytes : List ℕ) (p : SecondInput) → IsLeftOf w bytes p → Continues w bytes
@@ -89,6 +98,7 @@ second_answer (evaluate q) g (input.Evaluate found counts count exact) other rep
     let named_count = subst (λ m. CountsAnswer exact (effect_view found) m other reply.outcome reply.text.items) is.1 gives in
     (effect_view found, is.3, subst (λ b. CountsAnswer b (effect_view found) q.count other reply.outcome reply.text.items) is.2 named_count)
 second_answer (equivalent q) g (input.Equivalent kept s second) other reply is gives = (s, is.2, subst (λ k. SecondGraphAnswer k s other reply.outcome reply.text.items) is.1 gives)
+second_answer (implications q) g (input.Implications pairs counts count) other reply is gives = (pairs_view pairs, is.2, subst (λ m. ImpliedAnswer (pairs_view pairs) m other reply.outcome reply.text.items) is.1 gives)
 second_answer w g p other reply is gives = absurd is
 
 pub defined_with : (w : Request) (bytes : List ℕ) (p : SecondInput) (other : List ℕ) (reply : Reply) → IsLeftOf w bytes p → GivesSecond p other reply →
@@ -103,4 +113,5 @@ accepted w bytes p is = accepted_on w is.0 p is.2
     accepted_on (check q) g (input.Check kept certificate) is = tt
     accepted_on (evaluate q) g (input.Evaluate found counts count exact) is = is.3.identified
     accepted_on (equivalent q) g (input.Equivalent kept s second) is = (q.query, subst (λ k. IsFirstAccepted k q.query s) (sym is.1) is.2)
+    accepted_on (implications q) g (input.Implications pairs counts count) is = is.2.pairs
     accepted_on w g p is = absurd is

@@ -6,6 +6,7 @@ mod Answered
 mod Readable
 mod OneCommand
 mod Spoken
+mod DrawnRuns
 mod Headlines
 mod CheckedRuns
 mod CompleteRuns

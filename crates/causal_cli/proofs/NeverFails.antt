@@ -3,7 +3,7 @@ use Rattle.std.proofs.Common.{◌≡◌, ℕ, sym, ◌∙◌, arith, List}
 use Rattle.word_forms.specs.Form.{Text}
 use Rattle.causal_io.specs.Causes.{Rose}
 use Rattle.replies.specs.declared.outcome.Outcome.{Outcome}
-use Rattle.replies.specs.declared.outcome.Outcome.TheVariants.{Yes, No, Words, Graph, Second, Evaluation, Read, Write, Memory}
+use Rattle.replies.specs.declared.outcome.Outcome.TheVariants.{Read, Write}
 use Rattle.replies.specs.Outcomes.{code_of}
 use Rattle.causal_cli.specs.Run.{Stream, Run, Ended, Ends}
 

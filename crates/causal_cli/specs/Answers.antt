@@ -1,5 +1,5 @@
 -- The defined answer of a command: by its words alone, on the bytes of its file, or on those of both inputs; and what the code's values say of it.
-use Rattle.std.specs.Prelude.{ℕ, ◌≡◌, ◌<◌, ◌≤◌, ◌⊎◌, List, length, Option, Err, option_map}
+use Rattle.std.specs.Prelude.{ℕ, ◌≡◌, ◌<◌, ◌≤◌, ◌⊎◌, List, length, Option, Some, Err, option_map}
 use Rattle.word_forms.specs.Form.{Text}
 use Rattle.dag_reader.specs.declared.graph.ReadGraph.{ReadGraph}
 use Rattle.dag_reader.specs.declared.faults.GraphFault.{GraphFault}
@@ -13,7 +13,7 @@ use Rattle.replies.specs.Observed.{Holds}
 use Rattle.graph_command.specs.Answers.{GraphAnswer as TextAnswer}
 use Rattle.separate_command.specs.Answers.{SeparateAnswer}
 use Rattle.rule_command.specs.Answers.{RuleAnswer}
-use Rattle.identify_command.specs.Answers.{IdentifyAnswer}
+use Rattle.identify_command.specs.Conditions.{IdentifyAnswerGiven}
 use Rattle.check_command.specs.Answers.{CheckAnswer}
 use Rattle.adjust_command.specs.Answers.{AdjustAnswer}
 use Rattle.evaluate_command.specs.Answers.{EvaluateFirst, EvaluateAnswer, CountsAnswer}
@@ -21,8 +21,11 @@ use Rattle.evaluate_command.specs.Effects.{PlainEffect, effect_view, IsIdentifie
 use Rattle.targets.specs.declared.query.Sets.{Sets}
 use Rattle.equivalent_command.specs.Answers.{IsAccepted as IsFirstAccepted, IsFirstRefusal, EquivalentAnswer, SecondAnswer as SecondGraphAnswer}
 use Rattle.equivalent_command.specs.Requests.{Query}
+use Rattle.implications_command.specs.Answers.{FirstAnswer as ImplicationsFirst, DifferencesAnswer, CountsAnswer as ImpliedAnswer}
+use Rattle.implications_command.specs.Pairs.{PlainPairs, pairs_view, ArePairs, ArePairsOf}
 use Rattle.survey_command.specs.Answers.{SurveyAnswer}
-use Rattle.causal_cli.specs.Commands.{Request, graph, separate, rule, identify, check, adjust, evaluate, equivalent, survey}
+use Rattle.surrogate_command.specs.Answers.{SurrogateAnswer}
+use Rattle.causal_cli.specs.Commands.{Request, graph, separate, rule, identify, check, adjust, evaluate, equivalent, implications, survey, surrogate}
 use Rattle.causal_cli.specs.Lines.{size_line}
 use Rattle.causal_cli.specs.declared.answer.SecondInput.{SecondInput}
 use Rattle.causal_cli.specs.declared.answer.SecondInput.TheVariants as input
@@ -39,17 +42,20 @@ abbrev pub GraphAnswer : Request → ReadGraph → Outcome → List ℕ → Type
 GraphAnswer (graph q) g o text = TextAnswer q.project g o text
 GraphAnswer (separate q) g o text = SeparateAnswer g q.x q.y q.given o text
 GraphAnswer (rule q) g o text = RuleAnswer q.rule g q.y q.done q.z q.given o text
-GraphAnswer (identify q) g o text = IdentifyAnswer q.form g q.x q.y o text
+GraphAnswer (identify q) g o text = IdentifyAnswerGiven q.form g q.x q.y q.given o text
 GraphAnswer (adjust q) g o text = AdjustAnswer g q.x q.y q.query o text
 GraphAnswer (evaluate q) g o text = EvaluateFirst g q.x q.y o text
 GraphAnswer (equivalent q) g o text = IsFirstRefusal g q.query o text
+GraphAnswer (implications q) g o text = ImplicationsFirst q.counts g o text
+GraphAnswer (surrogate q) g o text = SurrogateAnswer g q.x q.y q.experiments o text
 GraphAnswer w g o text = ⊥
 
--- the graph is accepted, and the second input is read: counts where the lists name an effect that has a formula
+-- the graph is accepted, and the second input is read: counts where the lists name an effect that has a formula, or where some set separates two vertices
 abbrev pub NeedsSecond : Request → ReadGraph → Type 0
 NeedsSecond (check q) g = Unit {0}
 NeedsSecond (evaluate q) g = (e : PlainEffect) × Identifies g q.x q.y e
 NeedsSecond (equivalent q) g = (s : Option Sets) × IsFirstAccepted g q.query s
+NeedsSecond (implications q) g = (p : PlainPairs) × ArePairsOf g p
 NeedsSecond w g = ⊥
 
 -- the answer of a command on a graph that was read and the bytes of its second input
@@ -57,6 +63,7 @@ abbrev pub SecondAnswer : Request → ReadGraph → List ℕ → Outcome → Lis
 SecondAnswer (check q) g other o text = CheckAnswer g other o text
 SecondAnswer (evaluate q) g other o text = EvaluateAnswer q.exact g q.x q.y q.count other o text
 SecondAnswer (equivalent q) g other o text = EquivalentAnswer g q.query other o text
+SecondAnswer (implications q) g other o text = DifferencesAnswer g q.count other o text
 SecondAnswer w g other o text = ⊥
 
 -- the bytes are no graph: they are too many, or their text has a fault
@@ -91,18 +98,21 @@ abbrev pub second_in : SecondInput → Text
 second_in (input.Check g certificate) = certificate.now
 second_in (input.Evaluate found counts count exact) = counts.now
 second_in (input.Equivalent g s second) = second.now
+second_in (input.Implications pairs counts count) = counts.now
 
 -- the most bytes of the second input
 abbrev pub limit_of : SecondInput → ℕ
 limit_of (input.Check g certificate) = 67108864
 limit_of (input.Evaluate found counts count exact) = 67108864
 limit_of (input.Equivalent g s second) = 1048576
+limit_of (input.Implications pairs counts count) = 67108864
 
 -- what is kept is accepted
 abbrev pub IsAccepted : SecondInput → Type 0
 IsAccepted (input.Check g certificate) = Unit {0}
 IsAccepted (input.Evaluate found counts count exact) = IsIdentified (effect_view found)
 IsAccepted (input.Equivalent g s second) = (l : Option Query) × IsFirstAccepted g l s
+IsAccepted (input.Implications pairs counts count) = ArePairs (pairs_view pairs)
 
 -- the reply is the answer on these bytes of the second input
 abbrev pub GivesSecond : SecondInput → List ℕ → Reply → Type 0
@@ -110,6 +120,7 @@ GivesSecond (input.Check g certificate) other reply = CheckAnswer g other reply.
 GivesSecond (input.Evaluate found counts count exact) other reply =
     CountsAnswer exact (effect_view found) (option_map (λ s. s.now) count) other reply.outcome reply.text.items
 GivesSecond (input.Equivalent g s second) other reply = SecondGraphAnswer g s other reply.outcome reply.text.items
+GivesSecond (input.Implications pairs counts count) other reply = ImpliedAnswer (pairs_view pairs) (option_map (λ s. s.now) count) other reply.outcome reply.text.items
 
 -- what is left of a request on a graph that was read
 abbrev pub IsLeft : Request → ReadGraph → SecondInput → Type 0
@@ -117,6 +128,7 @@ IsLeft (check q) g (input.Check kept certificate) = (certificate.now ≡ q.certi
 IsLeft (evaluate q) g (input.Evaluate found counts count exact) =
     (counts.now ≡ q.counts) × (option_map (λ s. s.now) count ≡ q.count) × (exact ≡ q.exact) × Identifies g q.x q.y (effect_view found)
 IsLeft (equivalent q) g (input.Equivalent kept s second) = (second.now ≡ q.second) × (kept ≡ g) × IsFirstAccepted g q.query s
+IsLeft (implications q) g (input.Implications pairs counts count) = (q.counts ≡ Some counts.now) × (option_map (λ s. s.now) count ≡ q.count) × ArePairsOf g (pairs_view pairs)
 IsLeft w g p = ⊥
 
 -- what a graph that was read gives: the answer on it, or what is left

@@ -9,7 +9,9 @@ use Rattle.check_command.specs.Requests as of_check
 use Rattle.adjust_command.specs.Requests as of_adjust
 use Rattle.evaluate_command.specs.Requests as of_evaluate
 use Rattle.equivalent_command.specs.Requests as of_equivalent
+use Rattle.implications_command.specs.Requests as of_implications
 use Rattle.survey_command.specs.Requests as of_survey
+use Rattle.surrogate_command.specs.Requests as of_surrogate
 use Rattle.causal_cli.specs.declared.commands.Command.{Command}
 use Rattle.causal_cli.specs.declared.commands.Command.TheVariants as command
 use Rattle.causal_cli.specs.declared.commands.GraphRequest.{GraphRequest}
@@ -19,7 +21,7 @@ use Rattle.causal_cli.specs.declared.commands.Request.TheVariants as request
 
 -- the table of commands
 abbrev pub table : List Row
-table = of_graph.graph_row ∷ of_separate.separate_row ∷ of_rule.rule_row ∷ of_identify.identify_row ∷ of_check.check_row ∷ of_adjust.adjust_row ∷ of_evaluate.evaluate_row ∷ of_equivalent.equivalent_row ∷ of_survey.survey_row ∷ []
+table = of_graph.graph_row ∷ of_separate.separate_row ∷ of_rule.rule_row ∷ of_identify.identify_row ∷ of_check.check_row ∷ of_adjust.adjust_row ∷ of_evaluate.evaluate_row ∷ of_equivalent.equivalent_row ∷ of_implications.implications_row ∷ of_survey.survey_row ∷ of_surrogate.surrogate_row ∷ []
 
 -- the row of a command
 abbrev pub row_for : Command → Row
@@ -31,7 +33,9 @@ row_for command.Check = of_check.check_row
 row_for command.Adjust = of_adjust.adjust_row
 row_for command.Evaluate = of_evaluate.evaluate_row
 row_for command.Equivalent = of_equivalent.equivalent_row
+row_for command.Implications = of_implications.implications_row
 row_for command.Survey = of_survey.survey_row
+row_for command.Surrogate = of_surrogate.surrogate_row
 
 -- what words ask for
 pub data Request : Type 0 where
@@ -43,7 +47,9 @@ pub data Request : Type 0 where
   adjust : of_adjust.Request → Request
   evaluate : of_evaluate.Request → Request
   equivalent : of_equivalent.Request → Request
+  implications : of_implications.Request → Request
   survey : of_survey.Request → Request
+  surrogate : of_surrogate.Request → Request
 
 -- its command
 abbrev pub command_of : Request → Command
@@ -55,7 +61,9 @@ command_of (check q) = command.Check
 command_of (adjust q) = command.Adjust
 command_of (evaluate q) = command.Evaluate
 command_of (equivalent q) = command.Equivalent
+command_of (implications q) = command.Implications
 command_of (survey q) = command.Survey
+command_of (surrogate q) = command.Surrogate
 
 -- its file; a survey has none
 abbrev pub file_of : Request → Option Text
@@ -67,13 +75,16 @@ file_of (check q) = Some q.file
 file_of (adjust q) = Some q.file
 file_of (evaluate q) = Some q.file
 file_of (equivalent q) = Some q.file
+file_of (implications q) = Some q.file
 file_of (survey q) = None
+file_of (surrogate q) = Some q.file
 
 -- its second input, where it has one
 abbrev pub second_of : Request → Option Text
 second_of (check q) = Some q.certificate
 second_of (evaluate q) = Some q.counts
 second_of (equivalent q) = Some q.second
+second_of (implications q) = q.counts
 second_of q = None
 
 -- the uses of its command ask for it
@@ -86,7 +97,9 @@ IsRequest uses (check q) = of_check.IsRequest uses q
 IsRequest uses (adjust q) = of_adjust.IsRequest uses q
 IsRequest uses (evaluate q) = of_evaluate.IsRequest uses q
 IsRequest uses (equivalent q) = of_equivalent.IsRequest uses q
+IsRequest uses (implications q) = of_implications.IsRequest uses q
 IsRequest uses (survey q) = of_survey.IsRequest uses q
+IsRequest uses (surrogate q) = of_surrogate.IsRequest uses q
 
 -- the uses ask the command for nothing
 abbrev pub AsksNothing : Command → List Use → Type 0
@@ -98,7 +111,9 @@ AsksNothing command.Check uses = (q : of_check.Request) → of_check.IsRequest u
 AsksNothing command.Adjust uses = (q : of_adjust.Request) → of_adjust.IsRequest uses q → ⊥
 AsksNothing command.Evaluate uses = (q : of_evaluate.Request) → of_evaluate.IsRequest uses q → ⊥
 AsksNothing command.Equivalent uses = (q : of_equivalent.Request) → of_equivalent.IsRequest uses q → ⊥
+AsksNothing command.Implications uses = (q : of_implications.Request) → of_implications.IsRequest uses q → ⊥
 AsksNothing command.Survey uses = (q : of_survey.Request) → of_survey.IsRequest uses q → ⊥
+AsksNothing command.Surrogate uses = (q : of_surrogate.Request) → of_surrogate.IsRequest uses q → ⊥
 
 -- the words ask for this: they are a call of its command, whose uses give the request
 pub record Asks (words : List Text) (q : Request) : Type 0 where
@@ -120,6 +135,8 @@ on_graph (code.Check q) = check (of_check.request_of q)
 on_graph (code.Adjust q) = adjust (of_adjust.request_of q)
 on_graph (code.Evaluate q) = evaluate (of_evaluate.request_of q)
 on_graph (code.Equivalent q) = equivalent (of_equivalent.request_of q)
+on_graph (code.Implications q) = implications (of_implications.request_of q)
+on_graph (code.Surrogate q) = surrogate (of_surrogate.request_of q)
 
 -- the same of any request
 abbrev pub request_of : CodeRequest → Request

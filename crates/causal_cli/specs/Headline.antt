@@ -1,7 +1,7 @@
 -- The headline, on a run: what words that ask for `identify`, and for `check`, are answered.
-use Rattle.std.specs.Prelude.{ℕ, ◌≡◌, List, IfSome}
+use Rattle.std.specs.Prelude.{ℕ, ◌≡◌, List, None, IfSome, codes}
 use Rattle.std.specs.Io.KnownBytes.{Appends}
-use Rattle.word_forms.specs.Form.{Use, IsCall}
+use Rattle.word_forms.specs.Form.{Use, IsCall, value_of}
 use Rattle.dag_reader.specs.declared.graph.ReadGraph.{ReadGraph}
 use Rattle.replies.specs.declared.outcome.Outcome.{Outcome}
 use Rattle.replies.specs.declared.outcome.Outcome.TheVariants.{Yes, No}
@@ -31,10 +31,10 @@ pub record Identified (r : Run) (uses : List Use) (o : Outcome) : Type 0 where
   pub right : IfSome (r.held request.file) (λ bytes. IsRightText request.form bytes request.x request.y o text)
   pub whole : Appends r.out.before r.out.after text
 
--- where the words ask for `identify`, status 0 says that a right formula was written, and status 1 that a right hedge was
+-- where the words ask for `identify` without a condition, status 0 says that a right formula was written, and status 1 that a right hedge was
 pub record Headline (r : Run) (code : ℕ) : Type 0 where
-  pub formula : (uses : List Use) → IsCall table r.words identify_row uses → code ≡ 0 → Identified r uses Yes
-  pub hedge : (uses : List Use) → IsCall table r.words identify_row uses → code ≡ 1 → Identified r uses No
+  pub formula : (uses : List Use) → IsCall table r.words identify_row uses → value_of uses (codes "given") ≡ None → code ≡ 0 → Identified r uses Yes
+  pub hedge : (uses : List Use) → IsCall table r.words identify_row uses → value_of uses (codes "given") ≡ None → code ≡ 1 → Identified r uses No
 
 -- The bytes of the file hold a graph, and those of the certificate are accepted in its observed graph, as the text says:
 -- its formula has no intervention and equals its effect at each assignment in each positive finite model that fits,

@@ -5,3 +5,4 @@ pub mod Run
 pub mod Complete
 pub mod Ends
 pub mod Headline
+pub mod Drawn

@@ -4,7 +4,8 @@ ghost use Rattle.std.specs.Prelude.{◌≡◌, ◌≤◌, ◌<◌, ℕ, List, If
 ghost use Rattle.fault_text.specs.Lines.{line_of, graph_fault_text};
 ghost use Rattle.evaluate_command.specs.Requests as of_evaluate;
 ghost use Rattle.equivalent_command.specs.Requests as of_equivalent;
-ghost use Rattle.causal_cli.specs.Commands.{on_graph, evaluate, equivalent};
+ghost use Rattle.implications_command.specs.Requests as of_implications;
+ghost use Rattle.causal_cli.specs.Commands.{on_graph, evaluate, equivalent, implications};
 ghost use Rattle.causal_cli.specs.Answers.{GivesOn, GivesFirst, second_in, limit_of, IsAccepted, GivesSecond};
 
 use crate::commands::GraphRequest;
@@ -16,10 +17,12 @@ use evaluate_command::{Identified, evaluate_reply, identify_first, long_counts};
 use fault_text::graph_line;
 use graph_command::graph_reply;
 use identify_command::identify_reply;
+use implications_command::{Pairs, counted_pairs, differences_reply, pairs_reply};
 use replies::{Outcome, Reply};
 use rule_command::rule_reply;
 use separate_command::separate_reply;
 use std::alloc::{AllocError, Global};
+use surrogate_command::surrogate_reply;
 use targets::Sets;
 
 /// What the file alone gives.
@@ -77,7 +80,12 @@ fn answer_on<'a>(
             &asked.given,
         )?)),
         GraphRequest::Identify(asked) => Ok(First::Replied(identify_reply(
-            alloc, &graph, asked.x, asked.y, asked.form,
+            alloc,
+            &graph,
+            asked.x,
+            asked.y,
+            asked.given,
+            asked.form,
         )?)),
         GraphRequest::Check(asked) => Ok(First::Continues(SecondInput::Check {
             graph,
@@ -92,6 +100,14 @@ fn answer_on<'a>(
         )?)),
         GraphRequest::Evaluate(asked) => evaluate_over(alloc, &graph, asked),
         GraphRequest::Equivalent(asked) => compare_with(alloc, graph, asked),
+        GraphRequest::Implications(asked) => list_implications(alloc, &graph, asked),
+        GraphRequest::Surrogate(asked) => Ok(First::Replied(surrogate_reply(
+            alloc,
+            &graph,
+            asked.x,
+            asked.y,
+            asked.experiments,
+        )?)),
     }
 }
 
@@ -134,6 +150,29 @@ fn compare_with<'a>(
     }
 }
 
+/// What a list of implications gives on its graph.
+fn list_implications<'a>(
+    alloc: Global,
+    graph: &ReadGraph,
+    asked: implications_command::Request<'a>,
+) -> Result<First<'a>, AllocError>
+    ensures { IfOk result (GivesOn (implications (of_implications.request_of asked.entry)) graph.now) }
+{
+    let Some(counts) = asked.counts else {
+        return Ok(First::Replied(pairs_reply(alloc, graph)?));
+    };
+    match counted_pairs(alloc, graph)? {
+        implications_command::First::Replied(reply) => Ok(First::Replied(reply)),
+        implications_command::First::Pairs(pairs) => Ok(First::Continues(
+            SecondInput::Implications {
+                pairs,
+                counts,
+                count: asked.count,
+            },
+        )),
+    }
+}
+
 /// The reply to a graph text with a fault.
 fn refuse_graph(alloc: Global, fault: &GraphFault) -> Result<Reply, AllocError>
     ensures outcome { IfOk result (λ r. r.outcome ≡ Outcome.Graph) }
@@ -171,6 +210,12 @@ pub enum SecondInput<'a> {
         sets: Option<Sets>,
         second: &'a str,
     },
+    /// How far counts, whose column may have a name, are from each implication.
+    Implications {
+        pairs: Pairs,
+        counts: &'a str,
+        count: Option<&'a [u8]>,
+    },
 }
 
 impl<'a> SecondInput<'a> {
@@ -182,6 +227,7 @@ impl<'a> SecondInput<'a> {
             SecondInput::Check { certificate, .. } => certificate,
             SecondInput::Evaluate { counts, .. } => counts,
             SecondInput::Equivalent { second, .. } => second,
+            SecondInput::Implications { counts, .. } => counts,
         }
     }
 
@@ -194,6 +240,7 @@ impl<'a> SecondInput<'a> {
             SecondInput::Check { .. } => 67_108_864,
             SecondInput::Evaluate { .. } => 67_108_864,
             SecondInput::Equivalent { .. } => 1_048_576,
+            SecondInput::Implications { .. } => 67_108_864,
         }
     }
 }
@@ -217,6 +264,9 @@ pub fn second_reply(
             ..
         } => evaluate_reply(alloc, found, *count, *exact, other),
         SecondInput::Equivalent { graph, sets, .. } => equivalent_reply(alloc, graph, *sets, other),
+        SecondInput::Implications { pairs, count, .. } => differences_reply(
+            alloc, pairs, *count, other,
+        ),
     }
 }
 
@@ -228,5 +278,6 @@ pub fn long_reply(alloc: Global, input: &SecondInput<'_>) -> Result<Reply, Alloc
         SecondInput::Check { graph, .. } => long_certificate(alloc, graph),
         SecondInput::Evaluate { .. } => long_counts(alloc),
         SecondInput::Equivalent { .. } => long_second_graph(alloc),
+        SecondInput::Implications { .. } => implications_command::long_counts(alloc),
     }
 }

@@ -24,10 +24,12 @@ pub enum Command {
     Adjust,
     Evaluate,
     Equivalent,
+    Implications,
     Survey,
+    Surrogate,
 }
 
-static TABLE: [Entry; 9] = [
+static TABLE: [Entry; 11] = [
     graph_command::ROW,
     separate_command::ROW,
     rule_command::ROW,
@@ -36,7 +38,9 @@ static TABLE: [Entry; 9] = [
     adjust_command::ROW,
     evaluate_command::ROW,
     equivalent_command::ROW,
+    implications_command::ROW,
     survey_command::ROW,
+    surrogate_command::ROW,
 ];
 
 /// A request of a command on the graph of a file.
@@ -50,6 +54,8 @@ pub enum GraphRequest<'a> {
     Adjust(adjust_command::Request<'a>),
     Evaluate(evaluate_command::Request<'a>),
     Equivalent(equivalent_command::Request<'a>),
+    Implications(implications_command::Request<'a>),
+    Surrogate(surrogate_command::Request<'a>),
 }
 
 impl<'a> GraphRequest<'a> {
@@ -68,6 +74,8 @@ impl<'a> GraphRequest<'a> {
             GraphRequest::Adjust(request) => request.file,
             GraphRequest::Evaluate(request) => request.file,
             GraphRequest::Equivalent(request) => request.file,
+            GraphRequest::Implications(request) => request.file,
+            GraphRequest::Surrogate(request) => request.file,
         }
     }
 }
@@ -142,7 +150,9 @@ fn command_named(name: &str) -> Option<Command>
         "adjust" => Some(Command::Adjust),
         "evaluate" => Some(Command::Evaluate),
         "equivalent" => Some(Command::Equivalent),
+        "implications" => Some(Command::Implications),
         "survey" => Some(Command::Survey),
+        "surrogate" => Some(Command::Surrogate),
         _ => None,
     }
 }
@@ -182,6 +192,12 @@ fn request_in<'a>(
         Command::Equivalent => Ok(Request::OnGraph(GraphRequest::Equivalent(
             equivalent_command::Request::read(alloc, values)?,
         ))),
+        Command::Implications => Ok(Request::OnGraph(GraphRequest::Implications(
+            implications_command::Request::read(values)?,
+        ))),
         Command::Survey => Ok(Request::Survey(survey_command::Request::read(values)?)),
+        Command::Surrogate => Ok(Request::OnGraph(GraphRequest::Surrogate(
+            surrogate_command::Request::read(alloc, values)?,
+        ))),
     }
 }

@@ -9,7 +9,7 @@ pub fn line_of(reply: &Reply) -> &[u8]
 {
     match reply.outcome {
         Outcome::Words => {
-            b"causal: words not understood; commands are graph separate rule identify check adjust evaluate equivalent survey\n"
+            b"causal: words not understood; commands are graph separate rule identify check adjust evaluate equivalent implications survey surrogate\n"
         }
         Outcome::Read => b"causal: read failed\n",
         Outcome::Write => b"causal: write failed\n",

@@ -9,6 +9,7 @@ ghost use Rattle.causal_cli.specs.Complete.{Complete};
 ghost use Rattle.causal_cli.specs.Commands.{Asks, AskOnce, on_graph};
 ghost use Rattle.causal_cli.specs.Answers.{IsAccepted, second_in};
 ghost use Rattle.causal_cli.specs.Headline.{Headline, HeadlineOfCheck};
+ghost use Rattle.causal_cli.specs.Drawn.{RightAsDrawn};
 ghost use Rattle.causal_cli.specs.Ends.{IfAnswered, EndsWith, IsTooLong, Delivers, Proceeds, text_of};
 
 use crate::answer::{First, SecondInput, answer, long_reply, second_reply};
@@ -46,6 +47,8 @@ pub fn run<S: Shelf, O: Sink, E: Sink>(
     ensures headline { Headline (run_on (texts_of words.now) (S.held shelf.old) (S.lacks shelf.old) (S.faults shelf.old) (S.faults shelf.new)
         (stream_of (O.written out.old) (O.written out.new) (O.faults out.old) (O.faults out.new))) result.code }
     ensures checked { HeadlineOfCheck (run_on (texts_of words.now) (S.held shelf.old) (S.lacks shelf.old) (S.faults shelf.old) (S.faults shelf.new)
+        (stream_of (O.written out.old) (O.written out.new) (O.faults out.old) (O.faults out.new))) result.code }
+    ensures drawn { RightAsDrawn (run_on (texts_of words.now) (S.held shelf.old) (S.lacks shelf.old) (S.faults shelf.old) (S.faults shelf.new)
         (stream_of (O.written out.old) (O.written out.new) (O.faults out.old) (O.faults out.new))) result.code }
     ensures reads { ReadsAsAsked (run_on (texts_of words.now) (S.held shelf.old) (S.lacks shelf.old) (S.faults shelf.old) (S.faults shelf.new)
         (stream_of (O.written out.old) (O.written out.new) (O.faults out.old) (O.faults out.new))) (reads_of (S.reads shelf.old) (S.reads shelf.new) (S.given shelf.old) (S.given shelf.new)) }

@@ -1,9 +1,10 @@
 -- Reading a certificate: the keys in their order, each with what it has to be, and the first fault.
-use Rattle.std.specs.Prelude.{ℕ, ◌^◌, ◌==◌, Bool, false, List, [], ◌∷◌, ◌++◌, length, Option, Some, None, is_ok, option_and_then, Result, Ok, Err, if◌then◌else◌, codes}
+use Rattle.std.specs.Prelude.{ℕ, ◌^◌, ◌==◌, Bool, false, ◌&&◌, ◌||◌, List, [], ◌∷◌, ◌++◌, length, Option, Some, None, is_ok, option_and_then, Result, Ok, Err, if◌then◌else◌, codes}
 use Rattle.std.specs.Result.{result_ok}
 use Rattle.std.specs.Str.{bytes_eq, is_utf8}
 use Rattle.prob_expr.specs.Tree.{Tree, PlainTarget, PlainFormula}
 use Rattle.prob_expr.specs.Check.{check_tree, cap}
+use Rattle.prob_expr.specs.Masks.{join}
 use Rattle.do_derivation.specs.Plans.{PlainLemma, PlainDerivation}
 use Rattle.expr_text.specs.Read.{expr_of}
 use Rattle.serde_json.specs.Data.{Data, Items, no_items, item, Members}
@@ -79,12 +80,17 @@ lemmas_in names d = list_by (each (lemma_in names) []) d
 unfoldable pub version_in : Data → Result ℕ CertFault
 version_in d = or_fault (Member keys.Version) (option_and_then as_u64 (option_and_then as_number (get (codes "version") d)))
 
--- the two sets of a target, which don't meet; y isn't empty
-unfoldable pub target_in : List (List ℕ) → Data → Result PlainTarget CertFault
-target_in names d = do
+-- what is given: in version 2 alone, a set that isn't empty and that doesn't meet the barred one
+unfoldable pub given_in : List (List ℕ) → (version barred : ℕ) → Data → Result ℕ CertFault
+given_in names version barred d = if version == 2 then member_by keys.Given (codes "given") (filled_set_in names barred) d else Ok 0
+
+-- the sets of a target, no two of which meet; y isn't empty
+unfoldable pub target_in : List (List ℕ) → (version : ℕ) → Data → Result PlainTarget CertFault
+target_in names version d = do
   x ← member_by keys.X (codes "x") (set_in names 0) d
   y ← member_by keys.Y (codes "y") (filled_set_in names x) d
-  Ok (record { x = x; y = y; given = 0 })
+  given ← given_in names version (join x y) d
+  Ok (record { x = x; y = y; given = given })
 
 -- main names no definition that isn't there
 abbrev pub whole : List (List ℕ) → PlainFormula → Result PlainFormula CertFault
@@ -109,13 +115,17 @@ abbrev pub member_count : Option Members → ℕ
 member_count (Some ms) = members_len ms
 member_count None = 0
 
--- the certificate of a formula: its eight keys, and no further one
-unfoldable pub formula_certificate_in : List (List ℕ) → Data → Result PlainCertificate CertFault
-formula_certificate_in names d = do
-  t ← target_in names d
+-- how many keys the certificate of a formula has: `given` stands in version 2 alone
+abbrev pub key_count : (version : ℕ) → ℕ
+key_count version = if version == 2 then 9 else 8
+
+-- the certificate of a formula: its keys, and no further one
+unfoldable pub formula_certificate_in : List (List ℕ) → (version : ℕ) → Data → Result PlainCertificate CertFault
+formula_certificate_in names version d = do
+  t ← target_in names version d
   f ← formula_in names d
   p ← derivation_in names d
-  if member_count (as_object d) == 8 then Ok (formula t f p) else Err (Member keys.Extra)
+  if member_count (as_object d) == key_count version then Ok (formula t f p) else Err (Member keys.Extra)
 
 -- a hedge: its sets, then its choice and its links
 unfoldable pub hedge_in : List (List ℕ) → Data → Result PlainHedge CertFault
@@ -127,10 +137,10 @@ hedge_in names d = do
   links ← member_by keys.Links (codes "links") (links_in names) d
   Ok (record { big = big; small = small; roots = roots; choice = choice; links = links })
 
--- the certificate of a hedge: its nine keys, and no further one
+-- the certificate of a hedge, which is of version 1: its nine keys, and no further one
 unfoldable pub hedge_certificate_in : List (List ℕ) → Data → Result PlainCertificate CertFault
 hedge_certificate_in names d = do
-  t ← target_in names d
+  t ← target_in names 1 d
   h ← hedge_in names d
   if member_count (as_object d) == 9 then Ok (hedge t h) else Err (Member keys.Extra)
 
@@ -143,18 +153,22 @@ is_word word None = false
 abbrev pub is_answer : List ℕ → Data → Bool
 is_answer word d = is_word word (option_and_then as_str (get (codes "answer") d))
 
--- version 1: the answer says which certificate it is
-abbrev pub first_version_in : List (List ℕ) → Data → Result PlainCertificate CertFault
-first_version_in names d =
-    if is_answer (codes "formula") d then formula_certificate_in names d
-    else (if is_answer (codes "hedge") d then hedge_certificate_in names d
+-- version 1 or 2: the answer says which certificate it is; that of a hedge is of version 1
+abbrev pub answer_in : List (List ℕ) → (version : ℕ) → Data → Result PlainCertificate CertFault
+answer_in names version d =
+    if is_answer (codes "formula") d then formula_certificate_in names version d
+    else (if version == 1 && is_answer (codes "hedge") d then hedge_certificate_in names d
     else Err (Member keys.Answer))
+
+-- there are versions 1 and 2
+abbrev pub is_version : ℕ → Bool
+is_version version = version == 1 || version == 2
 
 -- a value: its version is asked first
 unfoldable pub value_certificate : List (List ℕ) → Data → Result PlainCertificate CertFault
 value_certificate names d = do
   version ← version_in d
-  if version == 1 then first_version_in names d else Err (Version version)
+  if is_version version then answer_in names version d else Err (Version version)
 
 -- the value of a text: UTF-8, and JSON
 abbrev pub json_of : List ℕ → Option Data

@@ -11,6 +11,7 @@ pub enum Key {
     Version,
     X,
     Y,
+    Given,
     Formula,
     Defs,
     Lemmas,
@@ -30,7 +31,7 @@ pub enum CertFault {
     NotJson,
     /// The member of that key is missing or hasn't its form, or there is a further key.
     Member(Key),
-    /// The version is another than 1.
+    /// The version is neither 1 nor 2.
     Version(u64),
     /// Steps nest more than 60 deep.
     TooDeep,

@@ -9,7 +9,7 @@ ghost use Rattle.certificate.specs.Faults.{Gives, at_key};
 ghost use Rattle.certificate.specs.declared.fault.Key.TheVariants as keys;
 ghost use Rattle.certificate.specs.Plain.{hedge_view, links_view};
 ghost use Rattle.certificate.specs.HedgeReading.{choice_in, links_in};
-ghost use Rattle.certificate.specs.Reading.{member_by, main_in, defs_in, lemmas_in, version_in, target_in, whole, formula_in, derivation_in, hedge_in, is_answer};
+ghost use Rattle.certificate.specs.Reading.{member_by, main_in, defs_in, lemmas_in, version_in, given_in, target_in, whole, formula_in, derivation_in, hedge_in, is_answer};
 
 use crate::fault::{CertFault, Key, fault_at};
 use crate::formulas::{defs_in, lemmas_in, main_in};
@@ -17,6 +17,7 @@ use crate::hedges::{choice_in, links_in};
 use do_derivation::{Derivation, Lemma, Step};
 use hedge::{Choice, Hedge, Links};
 use mixed_graph::{Names, VSet};
+use prob_expr::masks::join;
 use prob_expr::{Expr, Formula, Target, check_expr};
 use serde_json::Value;
 use std::alloc::Global;
@@ -100,18 +101,35 @@ pub fn version_in(d: &Value) -> Result<u64, CertFault>
     }
 }
 
-/// The two sets of a target, which don't meet; y isn't empty.
+// What is given: in version 2 alone.
+#[tactic(auto, unfolding(crate::specs::Reading::given_in))]
+fn given_in(
+    alloc: Global,
+    names: &Names,
+    version: u64,
+    barred: VSet,
+    d: &Value,
+) -> Result<VSet, CertFault>
+    ensures { Gives (λ s. s.bits) result (given_in names.now version barred.bits (data_view d.now)) }
+{
+    if version != 2 {
+        return Ok(VSet { bits: 0 });
+    }
+    match d.get("given") {
+        Some(value) => at_key(Key::Given, read_filled_set(alloc, names, barred, value)),
+        None => Err(CertFault::Member(Key::Given)),
+    }
+}
+
+/// The sets of a target, no two of which meet; y isn't empty.
 #[tactic(auto, unfolding(crate::specs::Reading::target_in))]
-pub fn target_in(alloc: Global, names: &Names, d: &Value) -> Result<Target, CertFault>
-    ensures { Gives (λ t. target_view t) result (target_in names.now (data_view d.now)) }
+pub fn target_in(alloc: Global, names: &Names, version: u64, d: &Value) -> Result<Target, CertFault>
+    ensures { Gives (λ t. target_view t) result (target_in names.now version (data_view d.now)) }
 {
     let x = x_in(alloc, names, d)?;
     let y = y_in(alloc, names, x, d)?;
-    Ok(Target {
-        x,
-        y,
-        given: VSet { bits: 0 },
-    })
+    let given = given_in(alloc, names, version, join(x, y), d)?;
+    Ok(Target { x, y, given })
 }
 
 // The formula, where main names no definition that isn't there.

@@ -5,8 +5,9 @@
 //! | Key | Value |
 //! |---|---|
 //! | `answer` | `"formula"` or `"hedge"` |
-//! | `version` | 1 |
+//! | `version` | 1, or 2 where `given` stands |
 //! | `x`, `y` | lists of names in index order |
+//! | `given` | a list of names in index order, which isn't empty; in version 2 alone |
 //!
 //! That of a formula has further
 //!
@@ -16,7 +17,7 @@
 //! | `lemmas` | a list of `[set, step]` |
 //! | `main` | a step |
 //!
-//! and that of a hedge
+//! and that of a hedge, which is of version 1,
 //!
 //! | Key | Value |
 //! |---|---|

@@ -65,6 +65,7 @@ fn key_text(key: Key) -> &'static str
         Key::Version => "version",
         Key::X => "x",
         Key::Y => "y",
+        Key::Given => "given",
         Key::Formula => "formula",
         Key::Defs => "defs",
         Key::Lemmas => "lemmas",

@@ -1,17 +1,17 @@
 -- What is written for a certificate is read again.
-use Rattle.std.proofs.Common.{◌≡◌, ◌≤◌, ◌<◌, ◌==◌, ℕ, Bool, true, false, cond, not, ◌&&◌, List, [], ◌∷◌, length, codes, Some, None, Result, Ok, Err, is_ok, refl, sym, ap, subst, ◌∙◌, arith}
+use Rattle.std.proofs.Common.{◌≡◌, ◌≤◌, ◌<◌, ◌==◌, ℕ, Bool, true, false, cond, not, ◌&&◌, ◌||◌, List, [], ◌∷◌, length, codes, Some, None, Result, Ok, Err, is_ok, refl, sym, ap, subst, ◌∙◌, arith, eqb-true, if◌then◌else◌}
 use Rattle.std.specs.Prelude.{All}
 use Rattle.mixed_graph.specs.Bits.{has, members_below}
 use Rattle.mixed_graph.specs.Names.{AreNames}
-use Rattle.prob_expr.specs.Masks.{is_empty, is_below, is_apart, are_term_sets}
+use Rattle.prob_expr.specs.Masks.{join, is_empty, is_below, is_apart, are_term_sets}
 use Rattle.prob_expr.specs.Tree.{Tree, PlainTarget, PlainFormula}
 use Rattle.prob_expr.specs.Check.{check_tree, fault_of, fault_in_defs, fault_in}
 use Rattle.expr_text.proofs.Checked.{neither}
-use Rattle.prob_expr.proofs.MaskLaws.{apart_from, apart_has, has_none}
+use Rattle.prob_expr.proofs.MaskLaws.{apart_from, apart_has, has_join, has_none}
 use Rattle.do_derivation.specs.Plans.{PlainLemma, PlainDerivation}
 use Rattle.expr_text.specs.Write.{text_of}
 use Rattle.expr_text.proofs.Within.{and_true}
-use Rattle.serde_json.specs.Data.{Data, string, array, depth, items_depth}
+use Rattle.serde_json.specs.Data.{Data, string, number, unsigned, array, object, no_members, member, depth, items_depth}
 use Rattle.serde_json.specs.Find.{get, as_object}
 use Rattle.step_json.specs.Reading.{each, set_in, filled_set_in, step_in}
 use Rattle.step_json.specs.Values.{set_value, step_value}
@@ -21,14 +21,14 @@ use Rattle.step_json.proofs.StepsBack.{step_reads_back}
 use Rattle.step_json.proofs.StepDepth.{names_flat, step_nests}
 use Rattle.certificate.specs.declared.fault.Key.{Key}
 use Rattle.certificate.specs.declared.fault.Key.TheVariants as keys
-use Rattle.certificate.specs.declared.fault.CertFault.TheVariants.{NotJson, Member}
+use Rattle.certificate.specs.declared.fault.CertFault.TheVariants.{NotJson, Member, Version}
 use Rattle.certificate.specs.Faults.{◌>>=◌, at_key, or_fault}
 use Rattle.certificate.specs.Plain.{PlainHedge, PlainCertificate, formula, hedge}
 use Rattle.certificate.specs.HedgeReading.{choice_in, links_in}
-use Rattle.certificate.specs.Reading.{member_by, main_in, more_defs, defs_in, lemma_in, lemmas_in, version_in, target_in, whole, formula_in, derivation_in, member_count, formula_certificate_in, hedge_in, hedge_certificate_in, value_certificate, json_of, certificate_in}
+use Rattle.certificate.specs.Reading.{member_by, main_in, more_defs, defs_in, lemma_in, lemmas_in, version_in, given_in, target_in, whole, formula_in, derivation_in, member_count, key_count, formula_certificate_in, hedge_in, hedge_certificate_in, answer_in, is_version, value_certificate, json_of, certificate_in}
 use Rattle.certificate_writing.specs.Kept.{IsKept, IsStartBlank}
-use Rattle.certificate_writing.specs.Writable.{IsBareTarget, IsHedgeWithin, IsWritable, AreStepsShallow, IsShallow}
-use Rattle.certificate_writing.specs.Written.{expr_items, lemma_items, choices_from, pair_items, link_items, certificate_value}
+use Rattle.certificate_writing.specs.Writable.{IsTargetWithin, IsHedgeWithin, IsWritable, AreStepsShallow, IsShallow}
+use Rattle.certificate_writing.specs.Written.{expr_items, lemma_items, choices_from, pair_items, link_items, version_of, certificate_value}
 use Rattle.certificate_writing.proofs.FormulasBack.{main_back, whole_back, defs_back, filled_back, lemmas_back}
 use Rattle.certificate_writing.proofs.HedgesBack.{choice_back, links_back}
 use Rattle.certificate_writing.proofs.Pairs.{IsWithin}
@@ -49,11 +49,13 @@ set_back : (names : List (List ℕ)) (key : Key) (name : List ℕ) (d : Data) (s
     → member_by key name (set_in names 0) d ≡ Ok set
 set_back names key name d set are within at = member_back key name (set_in names 0) d (set_value names set) set at (set_reads_back names 0 set are within (none_apart set))
 
--- the parts of a bare target
+-- the parts of a target
 record TargetParts (n : ℕ) (t : PlainTarget) : Type 0 where
   x_below : is_below n t.x ≡ true
   y_below : is_below n t.y ≡ true
+  given_below : is_below n t.given ≡ true
   apart : is_apart t.x t.y ≡ true
+  given_apart : is_apart (join t.x t.y) t.given ≡ true
   some : not (is_empty t.y) ≡ true
 
 other_way : (a b : ℕ) → is_apart a b ≡ true → is_apart b a ≡ true
@@ -63,23 +65,45 @@ other_way a b h = apart_from b a (λ v e. go v e (has a v) refl)
     go v e true k = cc (e, apart_has a b v h k)
     go v e false k = k
 
-target_parts : (n : ℕ) (t : PlainTarget) → IsBareTarget n t → TargetParts n t
-target_parts n t bare =
-    let a = and_true (are_term_sets n t.y t.x t.given) (not (is_empty t.y)) bare.sets in
+-- what two sets don't meet isn't met by both together
+neither_meets : (a b c : ℕ) → is_apart a c ≡ true → is_apart b c ≡ true → is_apart (join a b) c ≡ true
+neither_meets a b c h k = apart_from (join a b) c (λ v e. go v (has a v) refl (sym (has_join a b v) ∙ e))
+  where
+    go : (v : ℕ) (in_a : Bool) → has a v ≡ in_a → (has a v || has b v) ≡ true → has c v ≡ false
+    go v true e both = apart_has a c v h e
+    go v false e both = apart_has b c v k (ap (λ p. p || has b v) (sym e) ∙ both)
+
+target_parts : (n : ℕ) (t : PlainTarget) → IsTargetWithin n t → TargetParts n t
+target_parts n t within =
+    let a = and_true (are_term_sets n t.y t.x t.given) (not (is_empty t.y)) within in
     let s = and_true (is_below n t.y && (is_below n t.x && is_below n t.given)) (is_apart t.y t.x && (is_apart t.y t.given && is_apart t.x t.given)) a.0 in
     let y = and_true (is_below n t.y) (is_below n t.x && is_below n t.given) s.0 in
     let x = and_true (is_below n t.x) (is_below n t.given) y.1 in
     let p = and_true (is_apart t.y t.x) (is_apart t.y t.given && is_apart t.x t.given) s.1 in
-    record { x_below = x.0; y_below = y.0; apart = other_way t.y t.x p.0; some = a.1 }
+    let g = and_true (is_apart t.y t.given) (is_apart t.x t.given) p.1 in
+    record { x_below = x.0; y_below = y.0; given_below = x.1; apart = other_way t.y t.x p.0; given_apart = neither_meets t.x t.y t.given g.1 g.0; some = a.1 }
 
-target_back : (names : List (List ℕ)) (d : Data) (t : PlainTarget) → AreNames names → IsBareTarget (length names) t → get (codes "x") d ≡ Some (set_value names t.x) → get (codes "y") d ≡ Some (set_value names t.y)
-    → target_in names d ≡ Ok t
+-- in version 1 nothing is given
+none_given_back : (names : List (List ℕ)) (barred given : ℕ) (d : Data) → given ≡ 0 → given_in names 1 barred d ≡ Ok given
+unfolding given_in
+none_given_back names barred given d none = ap (λ g. Ok g) (sym none)
+
+-- in version 2 a set is
+given_back : (names : List (List ℕ)) (d : Data) (t : PlainTarget) → AreNames names → TargetParts (length names) t → is_empty t.given ≡ false → get (codes "given") d ≡ Some (set_value names t.given)
+    → given_in names 2 (join t.x t.y) d ≡ Ok t.given
+unfolding given_in
+given_back names d t are p some at = member_back keys.Given (codes "given") (filled_set_in names (join t.x t.y)) d (set_value names t.given) t.given at
+    (filled_back names (join t.x t.y) t.given are p.given_below p.given_apart (ap not some))
+
+target_back : (names : List (List ℕ)) (version : ℕ) (d : Data) (t : PlainTarget) → AreNames names → TargetParts (length names) t
+    → get (codes "x") d ≡ Some (set_value names t.x) → get (codes "y") d ≡ Some (set_value names t.y) → given_in names version (join t.x t.y) d ≡ Ok t.given
+    → target_in names version d ≡ Ok t
 unfolding target_in
-target_back names d t are bare at_x at_y =
-    let p = target_parts (length names) t bare in
-    ap (λ r. r >>= λ x. member_by keys.Y (codes "y") (filled_set_in names x) d >>= λ y. Ok (record { x = x; y = y; given = 0 })) (set_back names keys.X (codes "x") d t.x are p.x_below at_x)
-    ∙ ap (λ r. r >>= λ y. Ok (record { x = t.x; y = y; given = 0 })) (member_back keys.Y (codes "y") (filled_set_in names t.x) d (set_value names t.y) t.y at_y (filled_back names t.x t.y are p.y_below p.apart p.some))
-    ∙ ap (λ g. Ok (record { x = t.x; y = t.y; given = g })) (sym bare.bare)
+target_back names version d t are p at_x at_y given =
+    ap (λ r. r >>= λ x. member_by keys.Y (codes "y") (filled_set_in names x) d >>= λ y. given_in names version (join x y) d >>= λ given. Ok (record { x = x; y = y; given = given })) (set_back names keys.X (codes "x") d t.x are p.x_below at_x)
+    ∙ ap (λ r. r >>= λ y. given_in names version (join t.x y) d >>= λ given. Ok (record { x = t.x; y = y; given = given }))
+    (member_back keys.Y (codes "y") (filled_set_in names t.x) d (set_value names t.y) t.y at_y (filled_back names t.x t.y are p.y_below p.apart p.some))
+    ∙ ap (λ r. r >>= λ given. Ok (record { x = t.x; y = t.y; given = given })) given
 
 -- ---- formulas
 
@@ -112,18 +136,52 @@ derivation_back names d p lemmas main at_lemmas at_main =
     ap (λ r. r >>= λ lemmas. member_by keys.Main (codes "main") (step_in names) d >>= λ main. Ok (record { lemmas = lemmas; main = main })) (member_back keys.Lemmas (codes "lemmas") (lemmas_in names) d (array (lemma_items names p.lemmas)) p.lemmas at_lemmas lemmas)
     ∙ ap (λ r. r >>= λ main. Ok (record { lemmas = p.lemmas; main = main })) (member_back keys.Main (codes "main") (step_in names) d (step_value names p.main) p.main at_main main)
 
-formula_certificate_back : (names : List (List ℕ)) (t : PlainTarget) (f : PlainFormula) (p : PlainDerivation) → AreNames names → IsWritable (length names) (formula t f p) → IsKept (formula t f p) → IsShallow (formula t f p)
-    → formula_certificate_in names (certificate_value names (formula t f p)) ≡ Ok (formula t f p)
+-- the object of a formula's certificate, by whether nothing is given
+abbrev object_by : (bare : Bool) → List (List ℕ) → PlainTarget → PlainFormula → PlainDerivation → Data
+object_by bare names t f p =
+    let rest = member (codes "lemmas") (array (lemma_items names p.lemmas)) (
+    member (codes "main") (step_value names p.main) (
+    member (codes "version") (number (unsigned (cond bare 1 2))) (
+    member (codes "x") (set_value names t.x) (
+    member (codes "y") (set_value names t.y) no_members)))) in
+    object (
+    member (codes "answer") (string (codes "formula")) (
+    member (codes "defs") (array (expr_items names f.defs)) (
+    member (codes "formula") (string (text_of names f.main)) (cond bare rest (member (codes "given") (set_value names t.given) rest)))))
+
+-- where an object has the members of a formula's certificate, and so many
+formula_certificate_back : (names : List (List ℕ)) (version : ℕ) (d : Data) (t : PlainTarget) (f : PlainFormula) (p : PlainDerivation)
+    → AreNames names → IsWritable (length names) (formula t f p) → IsKept (formula t f p) → IsShallow (formula t f p) → target_in names version d ≡ Ok t
+    → get (codes "formula") d ≡ Some (string (text_of names f.main)) → get (codes "defs") d ≡ Some (array (expr_items names f.defs))
+    → get (codes "lemmas") d ≡ Some (array (lemma_items names p.lemmas)) → get (codes "main") d ≡ Some (step_value names p.main)
+    → (member_count (as_object d) == key_count version) ≡ true
+    → formula_certificate_in names version d ≡ Ok (formula t f p)
 unfolding formula_certificate_in
-formula_certificate_back names t f p are writable kept shallow =
-    let d = certificate_value names (formula t f p) in
+formula_certificate_back names version d t f p are writable kept shallow target at_formula at_defs at_lemmas at_main count =
     let defs = def_list_back names f.defs (defs_back names f.defs [] 0 are refl (defs_checked names f writable.1) (omega (arith, shallow.numbered)) shallow.defs_texts) in
     let lemmas = lemma_list_back names p.lemmas (lemmas_back names p.lemmas [] are writable.2.sets writable.2.lemmas kept.0 shallow.lemmas none_apart) in
-    ap (λ r. r >>= λ t. formula_in names d >>= λ f. derivation_in names d >>= λ p. cond (member_count (as_object d) == 8) (Ok (formula t f p)) (Err (Member keys.Extra))) (target_back names d t are writable.0 refl refl)
-    ∙ ap (λ r. r >>= λ f. derivation_in names d >>= λ p. cond (member_count (as_object d) == 8) (Ok (formula t f p)) (Err (Member keys.Extra)))
-    (formula_back names d f (main_back names f are writable.1 shallow.numbered shallow.main_text) defs (whole_back (length names) f writable.1) refl refl)
-    ∙ ap (λ r. r >>= λ p. cond (member_count (as_object d) == 8) (Ok (formula t f p)) (Err (Member keys.Extra)))
-    (derivation_back names d p lemmas (step_reads_back names p.main are writable.2.main kept.1 shallow.main) refl refl)
+    let whole_object = λ (c : PlainCertificate). cond (member_count (as_object d) == key_count version) (Ok c) (Err (Member keys.Extra)) in
+    ap (λ r. r >>= λ t. formula_in names d >>= λ f. derivation_in names d >>= λ p. whole_object (formula t f p)) target
+    ∙ ap (λ r. r >>= λ f. derivation_in names d >>= λ p. whole_object (formula t f p))
+    (formula_back names d f (main_back names f are writable.1 shallow.numbered shallow.main_text) defs (whole_back (length names) f writable.1) at_formula at_defs)
+    ∙ ap (λ r. r >>= λ p. whole_object (formula t f p)) (derivation_back names d p lemmas (step_reads_back names p.main are writable.2.main kept.1 shallow.main) at_lemmas at_main)
+    ∙ ap (λ b. cond b (Ok (formula t f p)) (Err (Member keys.Extra))) count
+
+-- the object of a formula's certificate is read back, whether something is given or not
+object_back : (bare : Bool) (names : List (List ℕ)) (t : PlainTarget) (f : PlainFormula) (p : PlainDerivation) → is_empty t.given ≡ bare
+    → AreNames names → IsWritable (length names) (formula t f p) → IsKept (formula t f p) → IsShallow (formula t f p)
+    → value_certificate names (object_by bare names t f p) ≡ Ok (formula t f p)
+unfolding value_certificate version_in
+object_back true names t f p none are writable kept shallow =
+    let d = object_by true names t f p in
+    let parts = target_parts (length names) t writable.0 in
+    formula_certificate_back names 1 d t f p are writable kept shallow
+    (target_back names 1 d t are parts refl refl (none_given_back names (join t.x t.y) t.given d (eqb-true t.given 0 none))) refl refl refl refl refl
+object_back false names t f p some are writable kept shallow =
+    let d = object_by false names t f p in
+    let parts = target_parts (length names) t writable.0 in
+    formula_certificate_back names 2 d t f p are writable kept shallow
+    (target_back names 2 d t are parts refl refl (given_back names d t are parts some refl)) refl refl refl refl refl
 
 -- ---- hedges
 
@@ -162,7 +220,9 @@ hedge_certificate_back : (names : List (List ℕ)) (t : PlainTarget) (h : PlainH
 unfolding hedge_certificate_in
 hedge_certificate_back names t h are writable kept =
     let d = certificate_value names (hedge t h) in
-    ap (λ r. r >>= λ t. hedge_in names d >>= λ h. cond (member_count (as_object d) == 9) (Ok (hedge t h)) (Err (Member keys.Extra))) (target_back names d t are writable.0 refl refl)
+    let parts = target_parts (length names) t writable.0.sets in
+    ap (λ r. r >>= λ t. hedge_in names d >>= λ h. cond (member_count (as_object d) == 9) (Ok (hedge t h)) (Err (Member keys.Extra)))
+    (target_back names 1 d t are parts refl refl (none_given_back names (join t.x t.y) t.given d writable.0.bare))
     ∙ ap (λ r. r >>= λ h. cond (member_count (as_object d) == 9) (Ok (hedge t h)) (Err (Member keys.Extra)))
     (hedge_back names d h are writable.1 (choice_back names h.choice are kept.0 writable.1.choice) (all_links_back names h.links are writable.1.links writable.1.some kept.1 kept.2) refl refl refl refl refl)
 
@@ -170,8 +230,10 @@ hedge_certificate_back names t h are writable kept =
 
 value_back : (names : List (List ℕ)) (c : PlainCertificate) → AreNames names → IsWritable (length names) c → IsKept c → IsShallow c → value_certificate names (certificate_value names c) ≡ Ok c
 unfolding value_certificate version_in
-value_back names (formula t f p) are writable kept shallow = formula_certificate_back names t f p are writable kept shallow
-value_back names (hedge t h) are writable kept shallow = hedge_certificate_back names t h are writable kept
+value_back names (formula t f p) are writable kept shallow = object_back (is_empty t.given) names t f p refl are writable kept shallow
+value_back names (hedge t h) are writable kept shallow =
+    ap (λ given. (if is_version (version_of given) then answer_in names (version_of given) (certificate_value names (hedge t h)) else Err (Version (version_of given)))) writable.0.bare
+    ∙ hedge_certificate_back names t h are writable kept
 
 pub certificate_back : (names : List (List ℕ)) (c : PlainCertificate) (text : List ℕ) → AreNames names → IsWritable (length names) c → IsKept c → IsShallow c → json_of text ≡ Some (certificate_value names c)
     → certificate_in names text ≡ Ok c
@@ -201,7 +263,10 @@ lemmas_deep names [] shallow = omega arith
 lemmas_deep names (l ∷ ls) shallow = omega (arith, set_deep names l.set, step_nests names l.plan, shallow.0, lemmas_deep names ls shallow.1)
 
 pub certificate_deep : (names : List (List ℕ)) (c : PlainCertificate) → IsShallow c → depth (certificate_value names c) ≤ 127
-certificate_deep names (formula t f p) shallow =
-    omega (arith, exprs_deep names f.defs, lemmas_deep names p.lemmas shallow.lemmas, step_nests names p.main, shallow.main, set_deep names t.x, set_deep names t.y)
+certificate_deep names (formula t f p) shallow = by (is_empty t.given)
+  where
+    by : (bare : Bool) → depth (object_by bare names t f p) ≤ 127
+    by true = omega (arith, exprs_deep names f.defs, lemmas_deep names p.lemmas shallow.lemmas, step_nests names p.main, shallow.main, set_deep names t.x, set_deep names t.y)
+    by false = omega (arith, exprs_deep names f.defs, lemmas_deep names p.lemmas shallow.lemmas, step_nests names p.main, shallow.main, set_deep names t.x, set_deep names t.y, set_deep names t.given)
 certificate_deep names (hedge t h) shallow =
     omega (arith, set_deep names h.big, pairs_deep names (choices_from 0 h.choice), links_deep names h.links, set_deep names h.roots, set_deep names h.small, set_deep names t.x, set_deep names t.y)

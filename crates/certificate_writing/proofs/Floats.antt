@@ -1,13 +1,15 @@
 -- No number of a certificate is a float.
-use Rattle.std.proofs.Common.{◌≡◌, ℕ, Bool, true, false, ◌||◌, List, [], ◌∷◌, map, refl}
+use Rattle.std.proofs.Common.{◌≡◌, ℕ, Bool, true, false, ◌||◌, cond, codes, List, [], ◌∷◌, map, refl}
 use Rattle.mixed_graph.specs.Bits.{has, members_below}
 use Rattle.mixed_graph.specs.Names.{name_of}
+use Rattle.prob_expr.specs.Masks.{is_empty}
 use Rattle.prob_expr.specs.Tree.{Tree}
 use Rattle.do_derivation.specs.Plans.{Move, Plan, Plans, no_plans, plan, PlainLemma}
-use Rattle.serde_json.specs.Written.{has_float, items_have_float}
+use Rattle.serde_json.specs.Data.{member}
+use Rattle.serde_json.specs.Written.{has_float, items_have_float, members_have_float}
 use Rattle.step_json.specs.Values.{strings, numbers, groups, names_value, set_value, move_value, step_value, step_values}
 use Rattle.certificate.specs.Plain.{PlainCertificate, formula, hedge}
-use Rattle.certificate_writing.specs.Written.{expr_items, lemma_value, lemma_items, choices_from, pair_items, link_items, certificate_value}
+use Rattle.certificate_writing.specs.Written.{expr_items, lemma_value, lemma_items, choices_from, pair_items, link_items, derivation_members, certificate_value}
 
 neither : (a b : Bool) → a ≡ false → b ≡ false → (a || b) ≡ false
 neither false b h k = k
@@ -82,11 +84,18 @@ links_whole names (l ∷ ls) = pairs_whole names ls
 
 pub no_float : (names : List (List ℕ)) (c : PlainCertificate) → has_float (certificate_value names c) ≡ false
 no_float names (formula t f d) =
-    neither (items_have_float (expr_items names f.defs)) _ (exprs_whole names f.defs)
-    (neither (items_have_float (lemma_items names d.lemmas)) _ (lemmas_whole names d.lemmas)
-    (neither (has_float (step_value names d.main)) _ (step_whole names d.main)
-    (neither (has_float (set_value names t.x)) _ (set_whole names t.x)
-    (one (has_float (set_value names t.y)) (set_whole names t.y)))))
+    neither (items_have_float (expr_items names f.defs)) _ (exprs_whole names f.defs) (given_whole (is_empty t.given))
+  where
+    rest_whole : members_have_float (derivation_members names t d) ≡ false
+    rest_whole =
+        neither (items_have_float (lemma_items names d.lemmas)) _ (lemmas_whole names d.lemmas)
+        (neither (has_float (step_value names d.main)) _ (step_whole names d.main)
+        (neither (has_float (set_value names t.x)) _ (set_whole names t.x)
+        (one (has_float (set_value names t.y)) (set_whole names t.y))))
+
+    given_whole : (bare : Bool) → members_have_float (cond bare (derivation_members names t d) (member (codes "given") (set_value names t.given) (derivation_members names t d))) ≡ false
+    given_whole true = rest_whole
+    given_whole false = neither (has_float (set_value names t.given)) _ (set_whole names t.given) rest_whole
 no_float names (hedge t h) =
     neither (has_float (set_value names h.big)) _ (set_whole names h.big)
     (neither (items_have_float (pair_items names (choices_from 0 h.choice))) _ (pairs_whole names (choices_from 0 h.choice))

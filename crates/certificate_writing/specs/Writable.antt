@@ -10,9 +10,13 @@ use Rattle.expr_text.specs.Write as expr
 use Rattle.step_json.specs.Laws as step
 use Rattle.certificate.specs.Plain.{PlainHedge, PlainCertificate, formula, hedge}
 
--- x and y are below n and don't meet, y isn't empty, and nothing is given
+-- the sets of a target are below n and don't meet, and y isn't empty
+abbrev pub IsTargetWithin : ℕ → PlainTarget → Type 0
+IsTargetWithin n t = is_term n t.y t.x t.given ≡ true
+
+-- and nothing is given
 pub record IsBareTarget (n : ℕ) (t : PlainTarget) : Type 0 where
-  pub sets : is_term n t.y t.x t.given ≡ true
+  pub sets : IsTargetWithin n t
   pub bare : t.given ≡ 0
 
 -- the vertices of each lemma's step are below n
@@ -35,9 +39,9 @@ pub record IsHedgeWithin (n : ℕ) (h : PlainHedge) : Type 0 where
   pub some : 0 < length h.links
   pub links : All (λ l. (l.0 < n) × (l.1 < n)) h.links
 
--- what is written, for n names
+-- what is written, for n names: nothing is given where there is a hedge
 abbrev pub IsWritable : ℕ → PlainCertificate → Type 0
-IsWritable n (formula t f d) = IsBareTarget n t × (fault_in n f ≡ None) × IsDerivationWithin n d
+IsWritable n (formula t f d) = IsTargetWithin n t × (fault_in n f ≡ None) × IsDerivationWithin n d
 IsWritable n (hedge t h) = IsBareTarget n t × IsHedgeWithin n h
 
 -- at most 60 steps nest in each lemma's step

@@ -1,5 +1,6 @@
 -- The text of a certificate: one JSON object in compact form, its members sorted by key.
 use Rattle.std.specs.Prelude.{ℕ, ◌+◌, ◌==◌, List, [], ◌∷◌, if◌then◌else◌, codes}
+use Rattle.prob_expr.specs.Masks.{is_empty}
 use Rattle.prob_expr.specs.Tree.{Tree, PlainTarget}
 use Rattle.do_derivation.specs.Plans.{PlainLemma, PlainDerivation}
 use Rattle.expr_text.specs.Write.{text_of}
@@ -37,10 +38,14 @@ abbrev pub link_items : List (List ℕ) → List (ℕ × ℕ) → Items
 link_items names [] = no_items
 link_items names (l ∷ ls) = item (names_value names (l.0 ∷ [])) (pair_items names ls)
 
+-- the version: 1 where nothing is given, else 2
+abbrev pub version_of : (given : ℕ) → ℕ
+version_of given = if is_empty given then 1 else 2
+
 -- the members of every certificate from `version` on
 abbrev pub target_members : List (List ℕ) → PlainTarget → Members
 target_members names t =
-    member (codes "version") (number (unsigned 1)) (
+    member (codes "version") (number (unsigned (version_of t.given))) (
     member (codes "x") (set_value names t.x) (
     member (codes "y") (set_value names t.y) no_members))
 
@@ -49,6 +54,12 @@ abbrev pub derivation_members : List (List ℕ) → PlainTarget → PlainDerivat
 derivation_members names t d =
     member (codes "lemmas") (array (lemma_items names d.lemmas)) (
     member (codes "main") (step_value names d.main) (target_members names t))
+
+-- the members of a formula's certificate from `given` on, which stands there where something is given
+abbrev pub given_members : List (List ℕ) → PlainTarget → PlainDerivation → Members
+given_members names t d =
+    if is_empty t.given then derivation_members names t d
+    else member (codes "given") (set_value names t.given) (derivation_members names t d)
 
 -- the members of a hedge's certificate from `links` on
 abbrev pub root_members : List (List ℕ) → PlainTarget → PlainHedge → Members
@@ -62,7 +73,7 @@ abbrev pub certificate_value : List (List ℕ) → PlainCertificate → Data
 certificate_value names (formula t f d) = object (
     member (codes "answer") (string (codes "formula")) (
     member (codes "defs") (array (expr_items names f.defs)) (
-    member (codes "formula") (string (text_of names f.main)) (derivation_members names t d))))
+    member (codes "formula") (string (text_of names f.main)) (given_members names t d))))
 certificate_value names (hedge t h) = object (
     member (codes "answer") (string (codes "hedge")) (
     member (codes "big") (set_value names h.big) (

@@ -6,8 +6,8 @@ ghost use Rattle.prob_expr.specs.View.{formula_view, target_view};
 ghost use Rattle.do_derivation.specs.View.{derivation_view};
 ghost use Rattle.certificate.specs.Plain.{certificate_view, hedge_view, formula as formula_case, hedge as hedge_case};
 ghost use Rattle.certificate.specs.Reading.{certificate_in};
-ghost use Rattle.certificate_writing.specs.Writable.{IsBareTarget, IsDerivationWithin, IsHedgeWithin, IsWritable, IsShallow};
-ghost use Rattle.certificate_writing.specs.Written.{target_members, derivation_members, root_members, certificate_value, certificate_text};
+ghost use Rattle.certificate_writing.specs.Writable.{IsTargetWithin, IsBareTarget, IsDerivationWithin, IsHedgeWithin, IsWritable, IsShallow};
+ghost use Rattle.certificate_writing.specs.Written.{version_of, target_members, derivation_members, given_members, root_members, certificate_value, certificate_text};
 
 use crate::formulas::{expr_value, exprs_value, lemmas_value};
 use crate::hedges::{choices_value, links_value};
@@ -16,11 +16,19 @@ use crate::objects::{text_value, with};
 use certificate::Certificate;
 use do_derivation::Derivation;
 use hedge::Hedge;
-use mixed_graph::Names;
+use mixed_graph::{Names, VSet};
+use prob_expr::masks::is_empty;
 use prob_expr::{Formula, Target};
 use serde_json::{Map, Value};
 use std::alloc::{AllocError, Global};
 use step_json::{set_value, step_value};
+
+// The version: 1 where nothing is given, else 2.
+fn version_of(given: VSet) -> u64
+    ensures { result ≡ version_of given.bits }
+{
+    if is_empty(given) { 1 } else { 2 }
+}
 
 // The members of a target's object from `version` on.
 fn target_members(
@@ -28,7 +36,7 @@ fn target_members(
     names: &Names,
     target: &Target,
 ) -> Result<Map<String, Value>, AllocError>
-    requires target { IsBareTarget (length names.now) (target_view target.now) }
+    requires target { IsTargetWithin (length names.now) (target_view target.now) }
     ensures { IfOk result (λ m. members_view m.entries ≡ target_members names.now (target_view target.now)) }
 {
     let members = with(
@@ -38,7 +46,8 @@ fn target_members(
         set_value(alloc, names, target.y)?,
     )?;
     let members = with(alloc, members, "x", set_value(alloc, names, target.x)?)?;
-    with(alloc, members, "version", Value::from(1u64))
+    let version = Value::from(version_of(target.given));
+    with(alloc, members, "version", version)
 }
 
 // The members of a formula's object from `lemmas` on.
@@ -49,7 +58,7 @@ fn derivation_members(
     derivation: &Derivation,
 ) -> Result<Map<String, Value>, AllocError>
     requires names { AreNames names.now }
-    requires target { IsBareTarget (length names.now) (target_view target.now) }
+    requires target { IsTargetWithin (length names.now) (target_view target.now) }
     requires derivation { IsDerivationWithin (length names.now) (derivation_view derivation.now) }
     ensures { IfOk result (λ m. members_view m.entries ≡ derivation_members names.now (target_view target.now) (derivation_view derivation.now)) }
 {
@@ -68,6 +77,30 @@ fn derivation_members(
     )
 }
 
+// The members of a formula's object from `given` on.
+fn given_members(
+    alloc: Global,
+    names: &Names,
+    target: &Target,
+    derivation: &Derivation,
+) -> Result<Map<String, Value>, AllocError>
+    requires names { AreNames names.now }
+    requires target { IsTargetWithin (length names.now) (target_view target.now) }
+    requires derivation { IsDerivationWithin (length names.now) (derivation_view derivation.now) }
+    ensures { IfOk result (λ m. members_view m.entries ≡ given_members names.now (target_view target.now) (derivation_view derivation.now)) }
+{
+    let members = derivation_members(alloc, names, target, derivation)?;
+    if is_empty(target.given) {
+        return Ok(members);
+    }
+    with(
+        alloc,
+        members,
+        "given",
+        set_value(alloc, names, target.given)?,
+    )
+}
+
 fn formula_value(
     alloc: Global,
     names: &Names,
@@ -76,12 +109,12 @@ fn formula_value(
     derivation: &Derivation,
 ) -> Result<Value, AllocError>
     requires names { AreNames names.now }
-    requires target { IsBareTarget (length names.now) (target_view target.now) }
+    requires target { IsTargetWithin (length names.now) (target_view target.now) }
     requires formula { fault_in (length names.now) (formula_view formula.now) ≡ None }
     requires derivation { IsDerivationWithin (length names.now) (derivation_view derivation.now) }
     ensures { IfOk result (λ d. data_view d ≡ certificate_value names.now (formula_case (target_view target.now) (formula_view formula.now) (derivation_view derivation.now))) }
 {
-    let members = derivation_members(alloc, names, target, derivation)?;
+    let members = given_members(alloc, names, target, derivation)?;
     let members = with(
         alloc,
         members,

@@ -1,6 +1,6 @@
 -- The open path of a refused step lies in the graph.
-use Rattle.std.proofs.Common.{◌≡◌, ℕ, ◌+◌, ◌<◌, Bool, true, false, List, [], ◌∷◌, ◌++◌, length, Option, Some, None, MatchOption, inl, inr, sym, subst, arith}
-use Rattle.std.specs.Prelude.{not, eqb, ltb, leb, get_or, ◌||◌, ◌&&◌, ◌≤◌, ◌-◌}
+use Rattle.std.proofs.Common.{◌≡◌, ℕ, ◌+◌, Bool, true, false, List, [], ◌∷◌, ◌++◌, length, Option, Some, None, MatchOption, inl, inr, sym, subst}
+use Rattle.std.specs.Prelude.{not, eqb, ltb, leb, get_or, ◌||◌, ◌&&◌}
 use Rattle.mixed_graph.specs.Bits.{has}
 use Rattle.mixed_graph.specs.Graphs.{MixedGraph, IsMixedGraph}
 use Rattle.m_separation.specs.declared.paths.OpenPath.{OpenPath}

@@ -18,7 +18,7 @@ use Rattle.certificate.specs.declared.fault.CertFault.{CertFault}
 use Rattle.certificate.specs.declared.fault.CertFault.TheVariants.{NotJson, Member, Version}
 use Rattle.certificate.specs.Faults.{◌>>=◌, or_fault}
 use Rattle.certificate.specs.Plain.{PlainHedge, PlainCertificate, formula, hedge}
-use Rattle.certificate.specs.Reading.{member_by, expr_in, sound, main_in, def_in, more_defs, defs_in, lemma_of, lemma_items, lemma_in, lemmas_in, target_in, whole, formula_in, derivation_in, hedge_in, member_count, formula_certificate_in, hedge_certificate_in, is_answer, version_in, first_version_in, value_certificate, json_of, certificate_in}
+use Rattle.certificate.specs.Reading.{member_by, expr_in, sound, main_in, def_in, more_defs, defs_in, lemma_of, lemma_items, lemma_in, lemmas_in, target_in, whole, formula_in, derivation_in, hedge_in, member_count, key_count, formula_certificate_in, hedge_certificate_in, is_answer, version_in, answer_in, is_version, value_certificate, json_of, certificate_in}
 use Rattle.check_command.specs.Replies.{IsSoundTarget, IsSoundFormula, IsSoundDerivation}
 use Rattle.check_command.proofs.ReadTargets.{ok_is, then_ok, value_ok, bind_ok, list_ok, member_ok, both, set_below, filled_new, target_sound}
 
@@ -148,38 +148,38 @@ triple_sound : (n : ℕ) (t : PlainTarget) (f : PlainFormula) (d : PlainDerivati
     → ◌≡◌ {A = Result PlainCertificate CertFault} (Ok (formula t f d)) (Ok c) → IsSound n c
 triple_sound n t f d c h e = subst (IsSound n) (ok_is {E = CertFault} (formula t f d) c e) h
 
-formula_case : (names : List (List ℕ)) (d : Data) (c : PlainCertificate) → formula_certificate_in names d ≡ Ok c → IsSound (length names) c
+formula_case : (names : List (List ℕ)) (version : ℕ) (d : Data) (c : PlainCertificate) → formula_certificate_in names version d ≡ Ok c → IsSound (length names) c
 unfolding formula_certificate_in
-formula_case names d c h =
-    let end : PlainTarget → PlainFormula → PlainDerivation → Result PlainCertificate CertFault = λ t f p. if member_count (as_object d) == 8 then Ok (formula t f p) else Err (Member keys.Extra) in
-    let t = bind_ok (target_in names d) (λ t. formula_in names d >>= λ f. derivation_in names d >>= λ p. end t f p) c h in
+formula_case names version d c h =
+    let end : PlainTarget → PlainFormula → PlainDerivation → Result PlainCertificate CertFault = λ t f p. if member_count (as_object d) == key_count version then Ok (formula t f p) else Err (Member keys.Extra) in
+    let t = bind_ok (target_in names version d) (λ t. formula_in names d >>= λ f. derivation_in names d >>= λ p. end t f p) c h in
     let f = bind_ok (formula_in names d) (λ f. derivation_in names d >>= λ p. end t.0 f p) c t.2 in
     let p = bind_ok (derivation_in names d) (λ p. end t.0 f.0 p) c f.2 in
-    let count = then_ok (member_count (as_object d) == 8) (Member keys.Extra) (Ok (formula t.0 f.0 p.0)) c p.2 in
+    let count = then_ok (member_count (as_object d) == key_count version) (Member keys.Extra) (Ok (formula t.0 f.0 p.0)) c p.2 in
     triple_sound (length names) t.0 f.0 p.0 c
-    (record { target = target_sound names d t.0 t.1; formula = formula_sound names d f.0 f.1; derivation = derivation_sound names d p.0 p.1 }) count.1
+    (record { target = target_sound names version d t.0 t.1; formula = formula_sound names d f.0 f.1; derivation = derivation_sound names d p.0 p.1 }) count.1
 
 hedge_case : (names : List (List ℕ)) (d : Data) (c : PlainCertificate) → hedge_certificate_in names d ≡ Ok c → IsSound (length names) c
 unfolding hedge_certificate_in
 hedge_case names d c h =
     let end : PlainTarget → PlainHedge → Result PlainCertificate CertFault = λ t k. if member_count (as_object d) == 9 then Ok (hedge t k) else Err (Member keys.Extra) in
-    let t = bind_ok (target_in names d) (λ t. hedge_in names d >>= λ k. end t k) c h in
+    let t = bind_ok (target_in names 1 d) (λ t. hedge_in names d >>= λ k. end t k) c h in
     let k = bind_ok (hedge_in names d) (λ k. end t.0 k) c t.2 in
     let count = then_ok (member_count (as_object d) == 9) (Member keys.Extra) (Ok (hedge t.0 k.0)) c k.2 in
-    subst (IsSound (length names)) (ok_is {E = CertFault} (hedge t.0 k.0) c count.1) (target_sound names d t.0 t.1)
+    subst (IsSound (length names)) (ok_is {E = CertFault} (hedge t.0 k.0) c count.1) (target_sound names 1 d t.0 t.1)
 
-by_answer : (names : List (List ℕ)) (d : Data) (c : PlainCertificate) (p q : Bool)
-    → (if p then formula_certificate_in names d else (if q then hedge_certificate_in names d else Err (Member keys.Answer))) ≡ Ok c → IsSound (length names) c
-by_answer names d c true q h = formula_case names d c h
-by_answer names d c false true h = hedge_case names d c h
-by_answer names d c false false h = cc h
+by_answer : (names : List (List ℕ)) (version : ℕ) (d : Data) (c : PlainCertificate) (p q : Bool)
+    → (if p then formula_certificate_in names version d else (if q then hedge_certificate_in names d else Err (Member keys.Answer))) ≡ Ok c → IsSound (length names) c
+by_answer names version d c true q h = formula_case names version d c h
+by_answer names version d c false true h = hedge_case names d c h
+by_answer names version d c false false h = cc h
 
 value_sound : (names : List (List ℕ)) (d : Data) (c : PlainCertificate) → value_certificate names d ≡ Ok c → IsSound (length names) c
 unfolding value_certificate
 value_sound names d c h =
-    let v = bind_ok (version_in d) (λ version. if version == 1 then first_version_in names d else Err (Version version)) c h in
-    let one = then_ok (v.0 == 1) (Version v.0) (first_version_in names d) c v.2 in
-    by_answer names d c (is_answer (codes "formula") d) (is_answer (codes "hedge") d) one.1
+    let v = bind_ok (version_in d) (λ version. if is_version version then answer_in names version d else Err (Version version)) c h in
+    let known = then_ok (is_version v.0) (Version v.0) (answer_in names v.0 d) c v.2 in
+    by_answer names v.0 d c (is_answer (codes "formula") d) (v.0 == 1 && is_answer (codes "hedge") d) known.1
 
 -- the target, the formula and the lemmas of a certificate that was read are as the check asks them
 pub read_sound : (names : List (List ℕ)) (text : List ℕ) (c : PlainCertificate) → certificate_in names text ≡ Ok c → IsSound (length names) c

@@ -1,6 +1,6 @@
 -- Sets that were read lie below the number of names, and the sets of a target don't meet.
 use Rattle.std.proofs.Common.{◌≡◌, ℕ, ◌+◌, ◌<◌, ◌⊎◌, Bool, true, false, not, ◌&&◌, ◌||◌, List, [], ◌∷◌, length, Result, Ok, Err, if◌then◌else◌, cond, inl, inr, refl, sym, ap, subst, ◌∙◌, codes, arith}
-use Rattle.std.specs.Prelude.{nat_lt, eqb}
+use Rattle.std.specs.Prelude.{nat_lt, eqb, ◌==◌}
 use Rattle.std.specs.List.{list_any, position_or_len}
 use Rattle.std.specs.Str.{bytes_eq}
 use Rattle.mixed_graph.specs.Bits.{has}
@@ -20,7 +20,7 @@ use Rattle.certificate.specs.declared.fault.Key.TheVariants as keys
 use Rattle.certificate.specs.declared.fault.CertFault.{CertFault}
 use Rattle.certificate.specs.declared.fault.CertFault.TheVariants.{Member}
 use Rattle.certificate.specs.Faults.{◌>>=◌, at_key, or_fault}
-use Rattle.certificate.specs.Reading.{member_by, target_in}
+use Rattle.certificate.specs.Reading.{member_by, given_in, target_in}
 use Rattle.check_command.specs.Replies.{IsSoundTarget}
 
 pub ok_is : {A E : Type 0} (x y : A) → ◌≡◌ {A = Result A E} (Ok x) (Ok y) → x ≡ y
@@ -88,6 +88,10 @@ in_neither : (a b : Bool) → (a || b) ≡ false → a ≡ false
 in_neither true b h = h
 in_neither false b h = refl
 
+second_out : (a b : Bool) → (a || b) ≡ false → b ≡ false
+second_out true b h = absurd cc
+second_out false b h = h
+
 member_of : (set v u : ℕ) → has (join set (one v)) u ≡ true → (has set u ≡ true) ⊎ (u ≡ v)
 member_of set v u h = elim (in_either (has set u) (has (one v) u) (sym (has_join set (one v) u) ∙ h)) [
   | inl e ↦ inl e
@@ -142,29 +146,46 @@ both p q h k = rw (h, k) refl
 pub set_below : (n barred set : ℕ) → AreNew n barred set → is_below n set ≡ true
 set_below n barred set h = below_from n set h.low
 
-nothing_in : (v : ℕ) → has 0 v ≡ true → ⊥
-nothing_in v e = let no = has_none v in cc (sym no ∙ e)
+-- what is given is empty, or was read
+given_new : (names : List (List ℕ)) (version barred : ℕ) (d : Data) (given : ℕ) → given_in names version barred d ≡ Ok given → AreNew (length names) barred given
+unfolding given_in
+given_new names version barred d given = go (version == 2)
+  where
+    go : (b : Bool) → (if b then member_by keys.Given (codes "given") (filled_set_in names barred) d else Ok 0) ≡ Ok given → AreNew (length names) barred given
+    go true h = let m = member_ok keys.Given (codes "given") (filled_set_in names barred) d given h in (filled_new names barred m.0 given m.1).members
+    go false h = subst (AreNew (length names) barred) (ok_is {E = CertFault} 0 given h) (none_new (length names) barred)
 
-term_of_sets : (n x y : ℕ) → is_below n x ≡ true → IsFilled n x y → is_term n y x 0 ≡ true
-term_of_sets n x y low h =
+-- a set that the members of another are outside of doesn't meet it
+outside : (set other : ℕ) → ((v : ℕ) → has other v ≡ true → has set v ≡ false) → is_apart set other ≡ true
+outside set other h = apart_from set other (λ v e. go v e (has other v) refl)
+  where
+    go : (v : ℕ) → has set v ≡ true → (b : Bool) → has other v ≡ b → has other v ≡ false
+    go v e true k = let no = h v k in cc (e, no)
+    go v e false k = k
+
+term_of_sets : (n x y given : ℕ) → is_below n x ≡ true → IsFilled n x y → AreNew n (join x y) given → is_term n y x given ≡ true
+term_of_sets n x y given low h new =
     let ly = set_below n x y h.members in
-    let l0 = below_from n 0 (λ v e. absurd (nothing_in v e)) in
+    let lg = set_below n (join x y) given new in
     let yx = apart_from y x h.members.apart in
-    let y0 = apart_from y 0 (λ v e. has_none v) in
-    let x0 = apart_from x 0 (λ v e. has_none v) in
-    both (are_term_sets n y x 0) (not (is_empty y))
-    (both (is_below n y && (is_below n x && is_below n 0)) (is_apart y x && (is_apart y 0 && is_apart x 0))
-    (both (is_below n y) (is_below n x && is_below n 0) ly (both (is_below n x) (is_below n 0) low l0))
-    (both (is_apart y x) (is_apart y 0 && is_apart x 0) yx (both (is_apart y 0) (is_apart x 0) y0 x0)))
+    let yg = outside y given (λ v e. second_out (has x v) (has y v) (sym (has_join x y v) ∙ new.apart v e)) in
+    let xg = outside x given (λ v e. in_neither (has x v) (has y v) (sym (has_join x y v) ∙ new.apart v e)) in
+    both (are_term_sets n y x given) (not (is_empty y))
+    (both (is_below n y && (is_below n x && is_below n given)) (is_apart y x && (is_apart y given && is_apart x given))
+    (both (is_below n y) (is_below n x && is_below n given) ly (both (is_below n x) (is_below n given) low lg))
+    (both (is_apart y x) (is_apart y given && is_apart x given) yx (both (is_apart y given) (is_apart x given) yg xg)))
     (ap not h.some)
 
-pub target_sound : (names : List (List ℕ)) (d : Data) (t : PlainTarget) → target_in names d ≡ Ok t → IsSoundTarget (length names) t
+pub target_sound : (names : List (List ℕ)) (version : ℕ) (d : Data) (t : PlainTarget) → target_in names version d ≡ Ok t → IsSoundTarget (length names) t
 unfolding target_in
-target_sound names d t h =
-    let made : ℕ → ℕ → PlainTarget = λ x y. record { x = x; y = y; given = 0 } in
-    let xs = bind_ok (member_by keys.X (codes "x") (set_in names 0) d) (λ x. member_by keys.Y (codes "y") (filled_set_in names x) d >>= λ y. Ok (made x y)) t h in
+target_sound names version d t h =
+    let made : ℕ → ℕ → ℕ → PlainTarget = λ x y given. record { x = x; y = y; given = given } in
+    let xs = bind_ok (member_by keys.X (codes "x") (set_in names 0) d)
+    (λ x. member_by keys.Y (codes "y") (filled_set_in names x) d >>= λ y. given_in names version (join x y) d >>= λ given. Ok (made x y given)) t h in
     let x = member_ok keys.X (codes "x") (set_in names 0) d xs.0 xs.1 in
-    let ys = bind_ok (member_by keys.Y (codes "y") (filled_set_in names xs.0) d) (λ y. Ok (made xs.0 y)) t xs.2 in
+    let ys = bind_ok (member_by keys.Y (codes "y") (filled_set_in names xs.0) d) (λ y. given_in names version (join xs.0 y) d >>= λ given. Ok (made xs.0 y given)) t xs.2 in
     let y = member_ok keys.Y (codes "y") (filled_set_in names xs.0) d ys.0 ys.1 in
-    subst (IsSoundTarget (length names)) (ok_is {E = CertFault} (made xs.0 ys.0) t ys.2)
-    (term_of_sets (length names) xs.0 ys.0 (set_below (length names) 0 xs.0 (set_new names 0 x.0 xs.0 x.1)) (filled_new names xs.0 y.0 ys.0 y.1))
+    let gs = bind_ok (given_in names version (join xs.0 ys.0) d) (λ given. Ok (made xs.0 ys.0 given)) t ys.2 in
+    subst (IsSoundTarget (length names)) (ok_is {E = CertFault} (made xs.0 ys.0 gs.0) t gs.2)
+    (term_of_sets (length names) xs.0 ys.0 gs.0 (set_below (length names) 0 xs.0 (set_new names 0 x.0 xs.0 x.1)) (filled_new names xs.0 y.0 ys.0 y.1)
+    (given_new names version (join xs.0 ys.0) d gs.0 gs.1))

@@ -6,7 +6,7 @@ use Rattle.mixed_graph.specs.Sets.{Within, Apart}
 use Rattle.prob_expr.specs.Masks.{is_below, is_apart, are_term_sets}
 use Rattle.prob_expr.specs.Tree.{PlainFormula, PlainTarget}
 use Rattle.prob_expr.proofs.MaskLaws.{apart_has}
-use Rattle.expr_text.proofs.Within.{and_true, first_within, second_within}
+use Rattle.expr_text.proofs.Within.{and_true, first_within, second_within, third_within}
 use Rattle.do_derivation.specs.Accepts.{AcceptsNot}
 use Rattle.do_derivation.specs.Answers.{UnlessNoMemory}
 use Rattle.do_derivation.specs.Plans.{PlainDerivation}
@@ -23,6 +23,9 @@ x_within n t h = second_within n t.y t.x t.given h
 
 pub y_within : (n : ℕ) (t : PlainTarget) → IsSoundTarget n t → Within n (has t.y)
 y_within n t h = first_within n t.y t.x t.given h
+
+pub given_within : (n : ℕ) (t : PlainTarget) → IsSoundTarget n t → Within n (has t.given)
+given_within n t h = third_within n t.y t.x t.given h
 
 pub sets_apart : (n : ℕ) (t : PlainTarget) → IsSoundTarget n t → Apart (has t.x) (has t.y)
 sets_apart n t h v e = go (has t.y v) refl

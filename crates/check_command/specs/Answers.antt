@@ -33,12 +33,12 @@ pub record IsRead (names : List (List ℕ)) (bytes : List ℕ) (c : PlainCertifi
   pub small : length bytes ≤ 67108864
   pub reads : certificate_in names bytes ≡ Ok c
 
--- yes: the derivation is accepted for the formula, which has no intervention and is the effect in each positive model that fits the graph
+-- yes: the derivation is accepted for the formula, which has no intervention and is the effect P(y | do(x), given) at each assignment in each positive model that fits the graph
 pub record AcceptsFormula (q : MixedGraph) (names : List (List ℕ)) (t : PlainTarget) (f : PlainFormula) (d : PlainDerivation) (text : List ℕ) : Type 0 where
   pub accepted : Accepts q [] t f d
   pub do_free : is_do_free f ≡ true
   pub effect : EqualsEffect q t f
-  pub prints : text ≡ accepted_text (formula_answer names t.x t.y f)
+  pub prints : text ≡ accepted_text (formula_answer names t f)
 
 -- no: the derivation has this first fault
 pub record RefusesFormula (q : MixedGraph) (names : List (List ℕ)) (t : PlainTarget) (f : PlainFormula) (d : PlainDerivation) (text : List ℕ) : Type 0 where

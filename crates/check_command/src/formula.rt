@@ -28,7 +28,7 @@ pub fn check_formula(
 {
     match check(alloc, &seen.graph, target, formula, derivation) {
         Ok(()) => {
-            let answer = formula_answer(alloc, formula, target.x, target.y, &seen.names)?;
+            let answer = formula_answer(alloc, formula, target, &seen.names)?;
             Ok(Reply {
                 outcome: Outcome::Yes,
                 text: accepted_text(alloc, &answer)?,

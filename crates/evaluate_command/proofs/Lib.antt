@@ -3,7 +3,6 @@ pub mod Columns
 pub mod Tables
 pub mod CellLists
 pub mod Printed
-pub mod Texts
 pub mod Stops
 pub mod Evaluable
 pub mod Outcomes

@@ -11,9 +11,10 @@ use Rattle.count_table.specs.Tables.{AreCounts}
 use Rattle.count_eval.specs.Answers.{IsPlaceOf, IsCellOf}
 use Rattle.count_eval.specs.Programs.{is_used, cell_of}
 use Rattle.count_eval.specs.Stops.{Stop}
-use Rattle.evaluate_command.specs.Lines.{with_commas, assignment, assignments, level_text, place_text, why_digit, support_text, stop_text}
+use Rattle.count_answers.specs.Lines.{with_commas, assignment, assignments, level_text}
+use Rattle.count_answers.proofs.Texts.{same_texts}
+use Rattle.evaluate_command.specs.Lines.{place_text, why_digit, support_text, stop_text}
 use Rattle.evaluate_command.proofs.Tables.{member_used, member_of_all}
-use Rattle.evaluate_command.proofs.Texts.{same_texts}
 
 -- the place in a fault is that of the stop
 same_place : (place : Place) (s : Stop) → IsPlaceOf place s → place_text place.def place.node ≡ place_text s.def s.node

@@ -1,5 +1,5 @@
 -- The answer of `evaluate`: the effect of x on y at each level of x and y, from counts of observations.
-use Rattle.std.specs.Prelude.{ℕ, ◌≡◌, ◌<◌, ◌≤◌, ◌≢◌, List, ◌++◌, length, All, Bool, true, false, Option, Some, None, Ok, Err}
+use Rattle.std.specs.Prelude.{ℕ, ◌≡◌, List, ◌++◌, All, Bool, true, false, Option, Ok, Err}
 use Rattle.std.specs.List.{flat_map}
 use Rattle.fractions.specs.Fractions.{Fraction}
 use Rattle.mixed_graph.specs.Graphs.{MixedGraph}
@@ -7,7 +7,7 @@ use Rattle.finite_models.specs.Models.{FiniteModel, Fits, IsPositiveModel}
 use Rattle.dag_reader.specs.declared.graph.ReadGraph.{ReadGraph}
 use Rattle.prob_expr.specs.Values.{effect}
 use Rattle.id_recursion.specs.Answers.{effect_on}
-use Rattle.fault_text.specs.Lines.{line_of, count_fault_text, count_size_text}
+use Rattle.fault_text.specs.Lines.{line_of}
 use Rattle.replies.specs.declared.outcome.Outcome.{Outcome}
 use Rattle.replies.specs.declared.outcome.Outcome.TheVariants.{Yes, No, Graph, Second, Evaluation}
 use Rattle.replies.specs.Observed.{Names, observed_names, IsObservedGraph}
@@ -16,16 +16,14 @@ use Rattle.effect_answers.specs.Hedges.{ShowsHedge}
 use Rattle.quantity.specs.Kinds.{Pair, Kind}
 use Rattle.quantity.specs.Exacts.{exact, Equals}
 use Rattle.quantity.specs.Intervals.{bounds, Covers}
-use Rattle.count_rows.specs.declared.fault.CountFault.{CountFault}
-use Rattle.count_rows.specs.declared.fault.CountFault.TheVariants.{NoMemory}
 use Rattle.count_rows.specs.Records.{Field}
 use Rattle.count_rows.specs.Rows.{Table}
 use Rattle.count_table.specs.Cells.{total}
-use Rattle.count_table.specs.Reading.{IsTableOf, text_fault}
 use Rattle.count_eval.specs.Answers.{CoversCounts}
 use Rattle.count_eval.specs.Laws.{IsMatched}
 use Rattle.count_eval.specs.Programs.{weights_in, is_used, cell_of}
 use Rattle.count_eval.specs.Stops.{Stop}
+use Rattle.count_answers.specs.Reads.{IsRead, IsRefused}
 use Rattle.evaluate_command.specs.Effects.{PlainEffect, Identifies, used_in}
 use Rattle.evaluate_command.specs.Cells.{CellValue, value_in, values_at, printed_cells}
 use Rattle.evaluate_command.specs.Lines.{sign_of, value_line, pinned_lines, stop_text}
@@ -79,26 +77,14 @@ QuantityAnswer false = TableAnswer bounds Covers (sign_of false)
 
 -- ---- over the bytes of counts
 
--- the bytes are the text of this table of the effect's vertices, and at most 67,108,864
-pub record IsRead (e : PlainEffect) (count : Option Field) (bytes : List ℕ) (t : Table) : Type 0 where
-  pub small : length bytes ≤ 67108864
-  pub fits : text_fault bytes e.names (used_in e) count ≡ None
-  pub reads : IsTableOf bytes e.names (used_in e) count t
-
--- the bytes are no counts of these vertices: they are too many, or their text has a fault
-pub data IsCountsRefusal (e : PlainEffect) (count : Option Field) (bytes line : List ℕ) : Type 0 where
-  too_long : 67108864 < length bytes → line ≡ line_of count_size_text → IsCountsRefusal e count bytes line
-  faulty : (fault : CountFault) → length bytes ≤ 67108864 → fault ≢ NoMemory → text_fault bytes e.names (used_in e) count ≡ Some fault → line ≡ line_of (count_fault_text fault)
-      → IsCountsRefusal e count bytes line
-
 -- the table of the bytes, and the answer over it
 abbrev pub AnswersTable : Bool → PlainEffect → Option Field → List ℕ → Outcome → List ℕ → Type 0
-AnswersTable is_exact e count bytes o text = (t : Table) × IsRead e count bytes t × QuantityAnswer is_exact e t o text
+AnswersTable is_exact e count bytes o text = (t : Table) × IsRead e.names (used_in e) count bytes t × QuantityAnswer is_exact e t o text
 
 -- the answer for an effect that has a formula: its values, the line of refused counts, or the line of the first printed cell without a value
 abbrev pub CountsAnswer : Bool → PlainEffect → Option Field → List ℕ → Outcome → List ℕ → Type 0
 CountsAnswer is_exact e count bytes Yes text = AnswersTable is_exact e count bytes Yes text
-CountsAnswer is_exact e count bytes Second line = IsCountsRefusal e count bytes line
+CountsAnswer is_exact e count bytes Second line = IsRefused e.names (used_in e) count bytes line
 CountsAnswer is_exact e count bytes Evaluation line = AnswersTable is_exact e count bytes Evaluation line
 CountsAnswer is_exact e count bytes o text = ⊥
 

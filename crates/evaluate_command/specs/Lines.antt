@@ -1,39 +1,19 @@
 -- The lines that `evaluate` prints.
-use Rattle.std.specs.Prelude.{ℕ, List, [], ◌∷◌, ◌++◌, map, codes, slice_index_or, Option, Some, None, Bool, true, false, if◌then◌else◌}
+use Rattle.std.specs.Prelude.{ℕ, List, [], ◌++◌, codes, Option, Some, None, Bool, true, false, if◌then◌else◌}
 use Rattle.std.specs.Fmt.{decimal}
 use Rattle.std.specs.List.{flat_map}
 use Rattle.mixed_graph.specs.Bits.{has, members_below}
-use Rattle.mixed_graph.specs.Names.{name_of}
-use Rattle.name_text.specs.Printing.{printed}
 use Rattle.prob_expr.specs.Masks.{is_empty}
 use Rattle.identify_text.specs.Answers.{free_outside}
 use Rattle.quantity.specs.declared.fault.QuantityFault.{QuantityFault}
 use Rattle.quantity.specs.declared.fault.QuantityFault.TheVariants.{ZeroBelow, TooWide, TooFine}
 use Rattle.quantity.specs.Kinds.{Kind}
 use Rattle.count_rows.specs.Rows.{Table}
-use Rattle.count_table.specs.Tables.{levels_in}
 use Rattle.count_eval.specs.Programs.{cell_of}
 use Rattle.count_eval.specs.Stops.{Stop}
+use Rattle.count_answers.specs.Lines.{assignment, assignments}
 use Rattle.evaluate_command.specs.Effects.{PlainEffect}
 use Rattle.evaluate_command.specs.Cells.{CellValue}
-
--- the bytes of a vertex's level with that number; none where it has no such level
-abbrev pub level_text : Table → ℕ → ℕ → List ℕ
-level_text t v k = slice_index_or (levels_in t.vertices t.levels v) k []
-
--- `Z=level`
-abbrev pub assignment : List (List ℕ) → Table → (ℕ → ℕ) → ℕ → List ℕ
-assignment names t cell v = printed (name_of names v) ++ (codes "=" ++ level_text t v (cell v))
-
--- texts with commas between them
-abbrev pub with_commas : List (List ℕ) → List ℕ
-with_commas [] = []
-with_commas (a ∷ []) = a
-with_commas (a ∷ b ∷ rest) = a ++ (codes "," ++ with_commas (b ∷ rest))
-
--- `Z=level,W=level`: the levels of these vertices in a cell
-abbrev pub assignments : List (List ℕ) → Table → (ℕ → ℕ) → List ℕ → List ℕ
-assignments names t cell vs = with_commas (map (assignment names t cell) vs)
 
 -- what is done: nothing where x is empty
 abbrev pub doing_text : PlainEffect → Table → (ℕ → ℕ) → List ℕ

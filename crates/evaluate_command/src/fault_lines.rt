@@ -9,7 +9,7 @@ ghost use Rattle.count_eval.specs.Programs.{is_used};
 ghost use Rattle.count_eval.specs.Stops.{Stop};
 ghost use Rattle.evaluate_command.specs.Lines.{place_text, stop_text};
 
-use crate::lines::push_assignments;
+use count_answers::{entries, push_assignments};
 use count_eval::EvalFault;
 use count_table::Counts;
 use mixed_graph::Names;
@@ -31,14 +31,6 @@ fn push_place(alloc: Global, out: &mut Vec<u8>, place: Place) -> Result<(), Allo
             out.extend_from_slice(text.as_bytes())
         }
     }
-}
-
-/// A cell as a slice.
-fn entries(cell: &[u32; 64]) -> &[u32]
-    ensures same { result.now ≡ cell.now }
-    ensures long { length result.now ≡ 64 }
-{
-    cell
 }
 
 /// Appends what is wrong, and at which node.

@@ -1,3 +1,4 @@
+pub mod Lists
 pub mod Shallow
 pub mod Within
 pub mod Writing

@@ -9,6 +9,7 @@ use Rattle.step_json.specs.Laws as step
 use Rattle.identification.specs.Depth.{is_plan_within, are_plans_within, are_lemmas_within}
 use Rattle.identification_answers.specs.Depth.{is_tree_within, are_trees_within, are_defs_within}
 use Rattle.id_recursion.specs.Answers.{AreShallowSteps, IsShallowFormula}
+use Rattle.conditional_theory.specs.Laws.{IsShallowGiven}
 use Rattle.certificate_writing.specs.Writable.{AreStepsShallow, IsFormulaShallow}
 
 -- ---- formulas
@@ -62,6 +63,16 @@ lemmas_shallow d [] few h = tt
 lemmas_shallow d (l ∷ ls) few h =
     let here = step_nests d l.plan (and_first (is_plan_within d l.plan) (are_lemmas_within d ls) h) in
     (omega (arith, here, few), lemmas_shallow d ls few (and_second (is_plan_within d l.plan) (are_lemmas_within d ls) h))
+
+-- what nests as the answers under a condition do is read back
+pub given_shallow : (f : PlainFormula) (d : PlainDerivation) → length f.defs ≤ 4096 → IsShallowGiven f d → IsFormulaShallow f d
+given_shallow f d few s = record {
+  numbered = omega (arith, few);
+  main_text = (let n = tree_nests 9 f.main s.main in omega (arith, n));
+  defs_texts = (let n = defs_nest 5 f.defs s.defs in omega (arith, n));
+  lemmas = lemmas_shallow 10 d.lemmas (omega arith) s.lemma_steps;
+  main = (let n = step_nests 18 d.main s.main_steps in omega (arith, n));
+}
 
 -- what nests as the procedure's answers do is read back
 pub formula_shallow : (f : PlainFormula) (d : PlainDerivation) → length f.defs ≤ 4096 → IsShallowFormula f → AreShallowSteps d → IsFormulaShallow f d

@@ -8,13 +8,26 @@ use Rattle.std.proofs.lemmas.Slice.Zip.{length-zip, get_or-zip}
 use Rattle.mixed_graph.specs.Bits.{has}
 use Rattle.mixed_graph.specs.Sets.{Within, Apart}
 use Rattle.mixed_graph.specs.Graphs.{MixedGraph}
+use Rattle.do_rules.specs.Rules.{AreThreeSets}
+use Rattle.prob_expr.specs.Tree.{PlainTarget}
 use Rattle.prob_expr.proofs.MaskLaws.{below_from, has_none}
-use Rattle.do_derivation.proofs.TermSets.{term_test}
+use Rattle.do_derivation.proofs.TermSets.{apart_back, term_test}
 use Rattle.hedge.specs.Hedges.{IsHedge}
 use Rattle.hedge.specs.declared.kinds.Hedge.{Hedge}
 use Rattle.id_recursion.specs.Answers.{effect_on}
 use Rattle.certificate.specs.Plain.{hedge_view}
-use Rattle.certificate_writing.specs.Writable.{IsBareTarget, IsHedgeWithin}
+use Rattle.certificate_writing.specs.Writable.{IsTargetWithin, IsBareTarget, IsHedgeWithin}
+
+-- a target whose sets are disjoint
+pub target_within : (n : ℕ) (t : PlainTarget) → AreThreeSets n (has t.x) (has t.y) (has t.given) → 0 < t.y → IsTargetWithin n t
+target_within n t s some = term_test n t.y t.x t.given (record {
+  of_below = s.y_within;
+  doing_below = s.x_within;
+  given_below = s.w_within;
+  of_doing = apart_back (has t.x) (has t.y) s.x_y;
+  of_given = s.y_w;
+  doing_given = s.x_w;
+}) (λ none. absurd (omega (arith, some, none)))
 
 -- the target of an effect
 pub bare_target : (n x y : ℕ) → Within n (has x) → Within n (has y) → Apart (has x) (has y) → 0 < y → IsBareTarget n (effect_on x y)
@@ -23,16 +36,16 @@ bare_target n x y in_x in_y apart some = record {
     of_below = in_y;
     doing_below = in_x;
     given_below = λ v h. absurd (grind (arith, h, has_none v));
-    of_doing = λ v h. apart_back v h (cases_Bool (has x v));
+    of_doing = λ v h. back v h (cases_Bool (has x v));
     of_given = λ v h. has_none v;
     doing_given = λ v h. has_none v;
   }) (λ none. absurd (omega (arith, some, none)));
   bare = refl;
 }
   where
-    apart_back : (v : ℕ) → has y v ≡ true → (has x v ≡ true) ⊎ (has x v ≡ false) → has x v ≡ false
-    apart_back v h (inl i) = absurd (grind (arith, h, apart v i))
-    apart_back v h (inr o) = o
+    back : (v : ℕ) → has y v ≡ true → (has x v ≡ true) ⊎ (has x v ≡ false) → has x v ≡ false
+    back v h (inl i) = absurd (grind (arith, h, apart v i))
+    back v h (inr o) = o
 
 -- pairs of the first c places of two lists
 pairs_within : (n c : ℕ) (found partner : List ℕ) → ((i : ℕ) → i < c → get_or found i 0 < n) → ((i : ℕ) → i < c → get_or partner i 0 < n)

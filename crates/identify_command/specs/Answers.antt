@@ -6,7 +6,7 @@ use Rattle.targets.specs.Targets.{EffectLists}
 use Rattle.replies.specs.declared.outcome.Outcome.{Outcome}
 use Rattle.replies.specs.declared.outcome.Outcome.TheVariants.{Yes, No, Graph}
 use Rattle.replies.specs.Observed.{Names, IsObservedGraph}
-use Rattle.prob_expr.specs.Tree.{PlainFormula}
+use Rattle.prob_expr.specs.Tree.{PlainFormula, PlainTarget}
 use Rattle.do_derivation.specs.Plans.{PlainDerivation}
 use Rattle.hedge.specs.declared.kinds.Hedge.{Hedge}
 use Rattle.counter_models.specs.declared.kinds.CounterPair.{CounterPair}
@@ -29,13 +29,13 @@ use Rattle.identify_command.specs.declared.form.Form.TheVariants.{Plain, Certifi
 abbrev pub certificate_line : List (List ℕ) → PlainCertificate → List ℕ
 certificate_line names c = certificate_text names c ++ codes "\n"
 
--- the text of a formula for the effect of x on y: the formula, its certificate or its LaTeX
-abbrev pub formula_text : Form → List (List ℕ) → (x y : ℕ) → PlainFormula → PlainDerivation → List ℕ
-formula_text Plain names x y f d = formula_answer names x y f
-formula_text Certificate names x y f d = certificate_line names (plain.formula (effect_on x y) f d)
-formula_text Latex names x y f d = latex_answer names x y f
+-- the text of a formula for a target: the formula, its certificate or its LaTeX
+abbrev pub formula_text : Form → List (List ℕ) → PlainTarget → PlainFormula → PlainDerivation → List ℕ
+formula_text Plain names t f d = formula_answer names t f
+formula_text Certificate names t f d = certificate_line names (plain.formula t f d)
+formula_text Latex names t f d = latex_answer names t f
 
--- the text of a hedge for that effect: the hedge with its two models, or its certificate
+-- the text of a hedge for the effect of x on y: the hedge with its two models, or its certificate
 abbrev pub hedge_text : Form → List (List ℕ) → (x y : ℕ) → Hedge → CounterPair → List ℕ
 hedge_text Plain names x y h pair = hedge_answer names x y h pair
 hedge_text Certificate names x y h pair = certificate_line names (plain.hedge (effect_on x y) (hedge_view h))
@@ -54,7 +54,7 @@ pub record ShowsFormula (form : Form) (q : MixedGraph) (names : List (List ℕ))
   pub derivation : PlainDerivation
   pub right : IsRightFormula q x y formula derivation
   pub derived : IsDerived q x y formula derivation
-  pub prints : text ≡ formula_text form names x y formula derivation
+  pub prints : text ≡ formula_text form names (effect_on x y) formula derivation
   pub reads_back : ReadsBack form names (plain.formula (effect_on x y) formula derivation)
 
 -- No: it is a hedge for the effect of x on y with two models that show that there is no formula, and the text shows it.

@@ -8,24 +8,26 @@ use Rattle.identify_command.specs.declared.form.Form.{Form}
 use Rattle.identify_command.specs.Forms.{IsForm}
 use Rattle.identify_command.specs.declared.request.Request.{Request as CodeRequest}
 
--- `identify FILE [--x L] [--y L] [--certificate] [--latex]`
+-- `identify FILE [--x L] [--y L] [--given L] [--certificate] [--latex]`
 abbrev pub identify_row : Row
-identify_row = record { name = codes "identify"; positionals = codes "file" ∷ []; extra = []; needed = []; options = codes "x" ∷ codes "y" ∷ []; flags = codes "certificate" ∷ codes "latex" ∷ [] }
+identify_row = record { name = codes "identify"; positionals = codes "file" ∷ []; extra = []; needed = []; options = codes "x" ∷ codes "y" ∷ codes "given" ∷ []; flags = codes "certificate" ∷ codes "latex" ∷ [] }
 
 -- a request
 pub record Request : Type 0 where
   pub file : Text
   pub x : Names
   pub y : Names
+  pub given : Names
   pub form : Form
 
 -- the request
 abbrev pub request_of : CodeRequest → Request
-request_of r = record { file = r.file.now; x = option_map names_in r.x; y = option_map names_in r.y; form = r.form }
+request_of r = record { file = r.file.now; x = option_map names_in r.x; y = option_map names_in r.y; given = option_map names_in r.given; form = r.form }
 
 -- the uses ask for this
 pub record IsRequest (uses : List Use) (r : Request) : Type 0 where
   pub file : word_of identify_row uses (codes "file") ≡ Some r.file
   pub x : values.IsListed (value_of uses (codes "x")) r.x
   pub y : values.IsListed (value_of uses (codes "y")) r.y
+  pub given : values.IsListed (value_of uses (codes "given")) r.given
   pub form : IsForm (has_flag uses (codes "certificate")) (has_flag uses (codes "latex")) r.form

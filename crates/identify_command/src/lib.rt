@@ -1,9 +1,11 @@
 //! The command `identify`.
 #![tactic(auto)]
 
+mod conditional;
 mod form;
 mod reply;
 mod request;
+mod target;
 mod texts;
 
 pub use form::Form;

@@ -4,9 +4,11 @@ ghost use Rattle.mixed_graph.specs.Sets.{Within, Apart};
 ghost use Rattle.mixed_graph.specs.Shown.{graph_of};
 ghost use Rattle.word_lists.specs.Views.{names_in};
 ghost use Rattle.identify_command.specs.Answers.{IdentifyAnswer, SetsAnswer};
+ghost use Rattle.identify_command.specs.Conditions.{IdentifyAnswerGiven};
 
+use crate::conditional::conditional_reply;
 use crate::form::Form;
-use crate::texts::{formula_text, hedge_text};
+use crate::texts::{formula_text, hedge_text, target_of};
 use dag_reader::ReadGraph;
 use effect_answers::{Asked, asked_effect};
 use hedge::Hedge;
@@ -16,11 +18,32 @@ use replies::{Outcome, Reply};
 use std::alloc::{AllocError, Global};
 use targets::EffectSets;
 
-/// Whether the effect of x on y can be computed from observations, in the observed graph: a formula for
-/// P(y | do(x)), or a hedge, which shows that there is none (Shpitser and Pearl 2006).
+/// Whether P(y | do(x), given) can be computed from observations, in the observed graph (Shpitser and Pearl 2006):
+/// a formula for it, or a hedge. Where nothing is given the hedge shows that there is no formula, else that there
+/// is none for the joint effect into which the target turns.
 ///
-/// A list that is missing is that of the exposures or of the outcomes.
+/// A list that is missing is that of the exposures or of the outcomes, or empty for what is given.
 pub fn identify_reply(
+    alloc: Global,
+    graph: &ReadGraph,
+    x: Option<Vec<Vec<u8>>>,
+    y: Option<Vec<Vec<u8>>>,
+    given: Option<Vec<Vec<u8>>>,
+    form: Form,
+) -> Result<Reply, AllocError>
+    ensures { IfOk result (λ r. IdentifyAnswerGiven form graph.now (option_map names_in x) (option_map names_in y) (option_map names_in given) r.outcome r.text.items) }
+{
+    let Some(given) = given else {
+        return effect_reply(alloc, graph, x, y, form);
+    };
+    if given.is_empty() {
+        return effect_reply(alloc, graph, x, y, form);
+    }
+    conditional_reply(alloc, graph, x, y, given.as_slice(), form)
+}
+
+/// The answer where nothing is given.
+fn effect_reply(
     alloc: Global,
     graph: &ReadGraph,
     x: Option<Vec<Vec<u8>>>,
@@ -47,7 +70,14 @@ fn decide(alloc: Global, seen: &Observed, sets: EffectSets, form: Form) -> Resul
     match identify(alloc, &seen.graph, sets.x, sets.y)? {
         Answer::Formula(formula, derivation) => Ok(Reply {
             outcome: Outcome::Yes,
-            text: formula_text(alloc, &seen.names, sets, formula, derivation, form)?,
+            text: formula_text(
+                alloc,
+                &seen.names,
+                target_of(sets),
+                formula,
+                derivation,
+                form,
+            )?,
         }),
         Answer::Hedge(hedge, pair) => {
             sized(&hedge);
@@ -60,7 +90,7 @@ fn decide(alloc: Global, seen: &Observed, sets: EffectSets, form: Form) -> Resul
 }
 
 /// How many places a hedge has for links.
-fn sized(hedge: &Hedge)
+pub fn sized(hedge: &Hedge)
     ensures found { length hedge.now.links.found ≡ 64 }
     ensures partner { length hedge.now.links.partner ≡ 64 }
 {

@@ -11,13 +11,13 @@ use std::alloc::Global;
 use word_forms::Entry;
 use word_values::Values;
 
-/// `identify FILE [--x L] [--y L] [--certificate] [--latex]`
+/// `identify FILE [--x L] [--y L] [--given L] [--certificate] [--latex]`
 pub const ROW: Entry = Entry {
     name: "identify",
     positionals: &["file"],
     extra: &[],
     needed: &[],
-    options: &["x", "y"],
+    options: &["x", "y", "given"],
     flags: &["certificate", "latex"],
 };
 
@@ -27,6 +27,7 @@ pub struct Request<'a> {
     pub file: &'a str,
     pub x: Option<Vec<Vec<u8>>>,
     pub y: Option<Vec<Vec<u8>>>,
+    pub given: Option<Vec<Vec<u8>>>,
     pub form: Form,
 }
 
@@ -55,7 +56,17 @@ impl<'a> Request<'a> {
             Ok(y) => y,
             Err(fault) => return Err(fault),
         };
-        Ok(Request { file, x, y, form })
+        let given = match listed_names(alloc, values, "given") {
+            Ok(given) => given,
+            Err(fault) => return Err(fault),
+        };
+        Ok(Request {
+            file,
+            x,
+            y,
+            given,
+            form,
+        })
     }
 }
 

@@ -10,9 +10,10 @@ ghost use Rattle.id_recursion.specs.Answers.{effect_on};
 ghost use Rattle.identify_text.specs.Below.{IsHedgeBelow, ArePairBelow};
 ghost use Rattle.certificate.specs.Plain.{certificate_view, hedge_view, formula as formula_case, hedge as hedge_case};
 ghost use Rattle.certificate.specs.Reading.{certificate_in};
-ghost use Rattle.certificate_writing.specs.Writable.{IsBareTarget, IsDerivationWithin, IsHedgeWithin, IsWritable, IsShallow, IsFormulaShallow};
+ghost use Rattle.certificate_writing.specs.Writable.{IsTargetWithin, IsBareTarget, IsDerivationWithin, IsHedgeWithin, IsWritable, IsShallow, IsFormulaShallow};
 ghost use Rattle.certificate_writing.specs.Written.{certificate_text};
 ghost use Rattle.identify_command.specs.Answers.{certificate_line, formula_text, hedge_text, ReadsBack};
+ghost use Rattle.identify_command.specs.Conditions.{joint_text};
 
 use crate::form::Form;
 use certificate::Certificate;
@@ -20,14 +21,14 @@ use certificate_writing::write_answer;
 use counter_models::CounterPair;
 use do_derivation::Derivation;
 use hedge::Hedge;
-use identify_text::{formula_answer, hedge_answer, latex_answer};
+use identify_text::{formula_answer, hedge_answer, joint_answer, latex_answer};
 use mixed_graph::{Names, VSet};
 use prob_expr::{Formula, Target};
 use std::alloc::{AllocError, Global};
 use targets::EffectSets;
 
 /// The target P(y | do(x)).
-fn target_of(sets: EffectSets) -> Target
+pub fn target_of(sets: EffectSets) -> Target
     ensures { target_view result ≡ effect_on sets.x.bits sets.y.bits }
 {
     Target {
@@ -57,25 +58,26 @@ fn certificate_line(
 pub fn formula_text(
     alloc: Global,
     names: &Names,
-    sets: EffectSets,
+    target: Target,
     formula: Formula,
     derivation: Derivation,
     form: Form,
 ) -> Result<Vec<u8>, AllocError>
-    requires x { Within (length names.now) (has sets.x.bits) }
-    requires y { Within (length names.now) (has sets.y.bits) }
-    requires target { IsBareTarget (length names.now) (effect_on sets.x.bits sets.y.bits) }
+    requires what { Within (length names.now) (has target.y.bits) }
+    requires doing { Within (length names.now) (has target.x.bits) }
+    requires given { Within (length names.now) (has target.given.bits) }
+    requires target { IsTargetWithin (length names.now) (target_view target) }
     requires formula { fault_in (length names.now) (formula_view formula) ≡ None }
     requires derivation { IsDerivationWithin (length names.now) (derivation_view derivation) }
     requires shallow { IsFormulaShallow (formula_view formula) (derivation_view derivation) }
-    ensures text { IfOk result (λ v. v.items ≡ formula_text form names.now sets.x.bits sets.y.bits (formula_view formula) (derivation_view derivation)) }
-    ensures reads_back { IfOk result (λ v. ReadsBack form names.now (formula_case (effect_on sets.x.bits sets.y.bits) (formula_view formula) (derivation_view derivation))) }
+    ensures text { IfOk result (λ v. v.items ≡ formula_text form names.now (target_view target) (formula_view formula) (derivation_view derivation)) }
+    ensures reads_back { IfOk result (λ v. ReadsBack form names.now (formula_case (target_view target) (formula_view formula) (derivation_view derivation))) }
 {
     match form {
-        Form::Plain => formula_answer(alloc, &formula, sets.x, sets.y, names),
-        Form::Latex => latex_answer(alloc, &formula, sets.x, sets.y, names),
+        Form::Plain => formula_answer(alloc, &formula, &target, names),
+        Form::Latex => latex_answer(alloc, &formula, &target, names),
         Form::Certificate => {
-            let certificate = Certificate::Formula(target_of(sets), formula, derivation);
+            let certificate = Certificate::Formula(target, formula, derivation);
             certificate_line(alloc, &certificate, names)
         }
     }
@@ -101,6 +103,39 @@ pub fn hedge_text(
 {
     match form {
         Form::Plain | Form::Latex => hedge_answer(alloc, sets.x, sets.y, &hedge, pair, names),
+        Form::Certificate => {
+            let certificate = Certificate::Hedge(target_of(sets), hedge);
+            certificate_line(alloc, &certificate, names)
+        }
+    }
+}
+
+/// The text of the joint effect of x on y into which a target turns, with its hedge and its two models.
+pub fn joint_text(
+    alloc: Global,
+    names: &Names,
+    target: &Target,
+    sets: EffectSets,
+    hedge: Hedge,
+    pair: &CounterPair,
+    form: Form,
+) -> Result<Vec<u8>, AllocError>
+    requires what { Within (length names.now) (has target.now.y.bits) }
+    requires doing { Within (length names.now) (has target.now.x.bits) }
+    requires given { Within (length names.now) (has target.now.given.bits) }
+    requires x { Within (length names.now) (has sets.x.bits) }
+    requires y { Within (length names.now) (has sets.y.bits) }
+    requires target { IsBareTarget (length names.now) (effect_on sets.x.bits sets.y.bits) }
+    requires hedge { IsHedgeBelow (length names.now) hedge }
+    requires models { ArePairBelow (length names.now) pair.now }
+    requires data { IsHedgeWithin (length names.now) (hedge_view hedge) }
+    ensures text { IfOk result (λ v. v.items ≡ joint_text form names.now (target_view target.now) sets.x.bits sets.y.bits hedge pair.now) }
+    ensures reads_back { IfOk result (λ v. ReadsBack form names.now (hedge_case (effect_on sets.x.bits sets.y.bits) (hedge_view hedge))) }
+{
+    match form {
+        Form::Plain | Form::Latex => {
+            joint_answer(alloc, target, sets.x, sets.y, &hedge, pair, names)
+        }
         Form::Certificate => {
             let certificate = Certificate::Hedge(target_of(sets), hedge);
             certificate_line(alloc, &certificate, names)

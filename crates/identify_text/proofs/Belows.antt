@@ -1,9 +1,9 @@
 -- A hedge that holds and the models that it gives are on the graph's vertices.
-use Rattle.std.proofs.Common.{ℕ, zero, suc, ◌≡◌, ◌<◌, ◌≤◌, ◌&&◌, Bool, true, false, inl, inr, List, [], ◌∷◌, length, get_or, slice_index, Option, Some, None, IsTrue, All, subst, ap, arith}
+use Rattle.std.proofs.Common.{ℕ, suc, ◌≡◌, ◌<◌, ◌≤◌, inl, inr, List, [], ◌∷◌, length, get_or, slice_index, Option, Some, None, All, subst, arith}
 use Rattle.std.proofs.lemmas.Bool.{cases_Bool, and_parts}
 use Rattle.std.proofs.lemmas.List.Elements.{All-nil, All-cons}
 use Rattle.mixed_graph.specs.Bits.{has}
-use Rattle.mixed_graph.specs.Sets.{Within, Apart}
+use Rattle.mixed_graph.specs.Sets.{Within}
 use Rattle.mixed_graph.specs.Graphs.{MixedGraph, IsMixedGraph}
 use Rattle.finite_models.specs.Data.{children_of, has_hedge, has_carried}
 use Rattle.finite_models.specs.Faults.{IsSoundModel}

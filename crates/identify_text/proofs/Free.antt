@@ -1,5 +1,5 @@
 -- The free variables of a formula without a fault are vertices.
-use Rattle.std.proofs.Common.{ℕ, ◌≡◌, ◌<◌, ◌≤◌, Bool, true, false, not, ◌&&◌, ◌||◌, ◌⊎◌, inl, inr, List, [], ◌∷◌, ◌++◌, length, get_or, IsTrue, None, All, refl, sym, ap, ◌∙◌, arith}
+use Rattle.std.proofs.Common.{ℕ, ◌≡◌, ◌<◌, true, not, ◌&&◌, inl, inr, List, [], ◌∷◌, ◌++◌, length, get_or, None, All, refl, sym, ap, ◌∙◌}
 use Rattle.std.proofs.lemmas.Bool.{or_cases, and_parts, cases_lt, false≢true}
 use Rattle.std.proofs.lemmas.List.{get_or_past}
 use Rattle.std.proofs.lemmas.List.Elements.{All-nil, All-get_or, All-push}
@@ -8,13 +8,13 @@ use Rattle.mixed_graph.specs.Sets.{Within}
 use Rattle.mixed_graph.proofs.Masks.{has-zero}
 use Rattle.prob_expr.specs.Masks.{join, minus, is_empty, is_below}
 use Rattle.prob_expr.specs.Check.{are_two, fault_in}
-use Rattle.prob_expr.specs.Tree.{Tree, prob, sum, product, quotient, named, Trees, no_trees, tree, PlainFormula}
+use Rattle.prob_expr.specs.Tree.{Tree, prob, sum, product, quotient, named, Trees, no_trees, tree, PlainFormula, PlainTarget}
 use Rattle.prob_expr.specs.Free.{free_in, free_in_any, free_in_defs, free_of}
 use Rattle.prob_expr.proofs.MaskLaws.{has_join, has_minus}
 use Rattle.expr_text.specs.Sound.{is_sound, are_sound, all_sound}
 use Rattle.expr_text.proofs.Checked.{main_is_sound, defs_are_sound}
 use Rattle.expr_text.proofs.Within.{first_within, second_within, third_within}
-use Rattle.identify_text.specs.Answers.{free_outside}
+use Rattle.identify_text.specs.Answers.{free_outside, free_beside}
 
 -- an empty set is within any number of vertices
 pub none_within : (n a v : ℕ) → a ≡ 0 → has a v ≡ true → v < n
@@ -63,3 +63,7 @@ free_defs n sets low (d ∷ ds) h =
 pub free_within : (n x y : ℕ) (f : PlainFormula) → fault_in n f ≡ None → Within n (has (free_outside x y f))
 free_within n x y f h = minus_low n (free_of f) (join x y)
     (free_tree n (free_in_defs [] f.defs) (free_defs n [] (All-nil (IsLow n)) f.defs (defs_are_sound n f h)) f.main (main_is_sound n f h))
+
+-- and so are those outside a target's sets
+pub beside_within : (n : ℕ) (t : PlainTarget) (f : PlainFormula) → fault_in n f ≡ None → Within n (has (free_beside t f))
+beside_within n t f h = minus_low n (free_outside t.x t.y f) t.given (free_within n t.x t.y f h)

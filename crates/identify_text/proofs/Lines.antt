@@ -1,5 +1,5 @@
 -- Texts that are written one after another.
-use Rattle.std.proofs.Common.{ℕ, zero, suc, ◌≤◌, nat_lt, lt-ltb, arith, ◌+◌, ◌≡◌, Bool, true, false, cond, List, [], ◌∷◌, ◌++◌, map, drop, length, get_or, decimal, codes, ◌<◌, refl, sym, ap, ◌∙◌, add-one, append-nil, drop-cons}
+use Rattle.std.proofs.Common.{ℕ, zero, suc, ◌≤◌, nat_lt, lt-ltb, arith, ◌+◌, ◌≡◌, Bool, true, false, cond, List, [], ◌∷◌, ◌++◌, drop, length, get_or, codes, ◌<◌, refl, sym, ap, ap₂, ◌∙◌, add-one, append-nil, drop-cons}
 use Rattle.std.specs.List.{flat_map}
 use Rattle.std.proofs.lemmas.List.{append_assoc}
 use Rattle.std.proofs.lemmas.List.Concat.{flat_map-append}
@@ -101,3 +101,8 @@ pub six_behind : (a b d e f g h : List ℕ) (start one two three four five out :
     → out ≡ a ++ (b ++ (d ++ (e ++ (f ++ (g ++ h)))))
 six_behind a b d e f g h start one two three four five out p q r s t u v =
     v ∙ ap (λ x. x ++ h) (u ∙ ap (λ x. x ++ g) (t ∙ ap (λ x. x ++ f) (s ∙ ap (λ x. x ++ e) (r ∙ ap (λ x. x ++ d) (q ∙ ap (λ x. x ++ b) p))))) ∙ simp append_assoc
+
+-- three parts, the last of which was made by itself
+pub last_behind : (a b c text more whole last : List ℕ) → text ≡ a → more ≡ text ++ b → last ≡ c → whole ≡ more ++ last → whole ≡ a ++ (b ++ c)
+last_behind a b c text more whole last first second third fourth =
+    fourth ∙ ap₂ (λ x y. x ++ y) (second ∙ ap (λ t. t ++ b) first) third ∙ append_assoc a b c

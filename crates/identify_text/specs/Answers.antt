@@ -2,7 +2,7 @@
 use Rattle.std.specs.Prelude.{ℕ, List, [], ◌++◌, if◌then◌else◌, codes}
 use Rattle.answer_text.specs.Texts.{set_text}
 use Rattle.prob_expr.specs.Masks.{is_empty, join, minus}
-use Rattle.prob_expr.specs.Tree.{Tree, term_of, PlainFormula}
+use Rattle.prob_expr.specs.Tree.{Tree, term_of, PlainFormula, PlainTarget}
 use Rattle.prob_expr.specs.Free.{free_of}
 use Rattle.expr_text.specs.Write.{text_of, formula_text}
 use Rattle.expr_text.specs.Latex.{latex_of, formula_latex}
@@ -15,16 +15,20 @@ effect x y = term_of (record { x = x; y = y; given = 0 })
 abbrev pub free_outside : (x y : ℕ) → PlainFormula → ℕ
 free_outside x y f = minus (free_of f) (join x y)
 
+-- those that are in none of a target's sets
+abbrev pub free_beside : PlainTarget → PlainFormula → ℕ
+free_beside t f = minus (free_outside t.x t.y f) t.given
+
 -- the line `free {Z}` of a set; nothing where the set is empty
 abbrev pub free_line : List (List ℕ) → ℕ → List ℕ
 free_line names free = if is_empty free then [] else codes "free " ++ (set_text names free ++ codes "\n")
 
--- the effect, an equals sign, the lines of the formula, and the line of what is free outside x and y
-abbrev pub formula_answer : List (List ℕ) → (x y : ℕ) → PlainFormula → List ℕ
-formula_answer names x y f =
-    text_of names (effect x y) ++ (codes " = " ++ (formula_text names f ++ (codes "\n" ++ free_line names (free_outside x y f))))
+-- the target, an equals sign, the lines of the formula, and the line of what is free outside the target's sets
+abbrev pub formula_answer : List (List ℕ) → PlainTarget → PlainFormula → List ℕ
+formula_answer names t f =
+    text_of names (term_of t) ++ (codes " = " ++ (formula_text names f ++ (codes "\n" ++ free_line names (free_beside t f))))
 
--- the same with effect and formula as LaTeX
-abbrev pub latex_answer : List (List ℕ) → (x y : ℕ) → PlainFormula → List ℕ
-latex_answer names x y f =
-    latex_of names (effect x y) ++ (codes " = " ++ (formula_latex names f ++ (codes "\n" ++ free_line names (free_outside x y f))))
+-- the same with target and formula as LaTeX
+abbrev pub latex_answer : List (List ℕ) → PlainTarget → PlainFormula → List ℕ
+latex_answer names t f =
+    latex_of names (term_of t) ++ (codes " = " ++ (formula_latex names f ++ (codes "\n" ++ free_line names (free_beside t f))))

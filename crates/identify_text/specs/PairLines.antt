@@ -1,5 +1,7 @@
 -- The printed answer of an effect that has no formula: a hedge, and the two models that it gives.
 use Rattle.std.specs.Prelude.{ℕ, ◌+◌, List, ◌++◌, codes, decimal}
+use Rattle.prob_expr.specs.Tree.{PlainTarget, term_of}
+use Rattle.expr_text.specs.Write.{text_of}
 use Rattle.hedge.specs.declared.kinds.Hedge.{Hedge}
 use Rattle.counter_models.specs.declared.kinds.CounterPair.{CounterPair}
 use Rattle.identify_text.specs.declared.bits.Bit.TheVariants.{Carried}
@@ -16,3 +18,7 @@ abbrev pub hedge_answer : List (List ℕ) → (x y : ℕ) → Hedge → CounterP
 hedge_answer names x y h pair =
     heading_text names x y h ++ (choice_lines names h ++ (link_lines names h ++ (cause_lines names 0 pair.first.causes.items
     ++ (vertex_lines names (codes "first") 0 pair.first.mechanisms.items ++ (vertex_lines names (codes "second") 0 pair.second.mechanisms.items ++ event_line names pair)))))
+
+-- `P(Y|do(X),Z) not identified; P(Y,Z|do(X)) is not identifiable`, and the other lines of the hedge for that joint effect
+abbrev pub joint_answer : List (List ℕ) → PlainTarget → (x y : ℕ) → Hedge → CounterPair → List ℕ
+joint_answer names t x y h pair = text_of names (term_of t) ++ (codes " not identified; " ++ hedge_answer names x y h pair)

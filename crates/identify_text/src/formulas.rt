@@ -3,10 +3,9 @@ ghost use Rattle.mixed_graph.specs.Bits.{has};
 ghost use Rattle.mixed_graph.specs.Sets.{Within};
 ghost use Rattle.prob_expr.specs.Check.{fault_in};
 ghost use Rattle.prob_expr.specs.Masks.{join, minus};
-ghost use Rattle.prob_expr.specs.View.{formula_view};
-ghost use Rattle.expr_text.specs.Latex.{latex_of};
+ghost use Rattle.prob_expr.specs.View.{formula_view, target_view};
 ghost use Rattle.expr_text.specs.Write.{text_of};
-ghost use Rattle.identify_text.specs.Answers.{effect, free_outside, free_line, formula_answer, latex_answer};
+ghost use Rattle.identify_text.specs.Answers.{effect, free_beside, free_line, formula_answer, latex_answer};
 
 use answer_text::push_set;
 use expr_text::{formula_text, latex_text, target_latex, target_text};
@@ -37,15 +36,6 @@ pub fn effect_text(alloc: Global, x: VSet, y: VSet, names: &Names) -> Result<Vec
     target_text(alloc, &effect(x, y), names)
 }
 
-/// An effect as LaTeX.
-fn effect_latex(alloc: Global, x: VSet, y: VSet, names: &Names) -> Result<Vec<u8>, AllocError>
-    requires x { Within (length names.now) (has x.bits) }
-    requires y { Within (length names.now) (has y.bits) }
-    ensures { IfOk result (λ v. v.items ≡ latex_of names.now (effect x.bits y.bits)) }
-{
-    target_latex(alloc, &effect(x, y), names)
-}
-
 /// Appends the line of the free variables, where there are some.
 fn push_free(out: &mut Vec<u8>, names: &Names, free: VSet) -> Result<(), AllocError>
     requires { Within (length names.now) (has free.bits) }
@@ -60,35 +50,36 @@ fn push_free(out: &mut Vec<u8>, names: &Names, free: VSet) -> Result<(), AllocEr
     Ok(())
 }
 
-/// The free variables of a formula that are neither in x nor in y.
-fn free_outside(alloc: Global, f: &Formula, x: VSet, y: VSet) -> Result<VSet, AllocError>
-    ensures { IfOk result (λ s. s.bits ≡ free_outside x.bits y.bits (formula_view f.now)) }
+/// The free variables of a formula that are in none of the target's sets.
+fn free_beside(alloc: Global, f: &Formula, target: &Target) -> Result<VSet, AllocError>
+    ensures { IfOk result (λ s. s.bits ≡ free_beside (target_view target.now) (formula_view f.now)) }
 {
     let all = free(alloc, f)?;
-    Ok(minus(all, join(x, y)))
+    let outside = minus(all, join(target.x, target.y));
+    Ok(minus(outside, target.given))
 }
 
-/// The text of an effect's formula, as `P(Y|do(X)) = sum{Z} P(Z) * P(Y|Z,X)`, and the line of the variables that are free beside x and y.
+/// The text of a target's formula, as `P(Y|do(X)) = sum{Z} P(Z) * P(Y|Z,X)`, and the line of the variables that are free outside its sets.
 ///
 /// Each line ends with a line feed.
 pub fn formula_answer(
     alloc: Global,
     f: &Formula,
-    x: VSet,
-    y: VSet,
+    target: &Target,
     names: &Names,
 ) -> Result<Vec<u8>, AllocError>
-    requires x { Within (length names.now) (has x.bits) }
-    requires y { Within (length names.now) (has y.bits) }
+    requires what { Within (length names.now) (has target.now.y.bits) }
+    requires doing { Within (length names.now) (has target.now.x.bits) }
+    requires given { Within (length names.now) (has target.now.given.bits) }
     requires formula { fault_in (length names.now) (formula_view f.now) ≡ None }
-    ensures { IfOk result (λ v. v.items ≡ formula_answer names.now x.bits y.bits (formula_view f.now)) }
+    ensures { IfOk result (λ v. v.items ≡ formula_answer names.now (target_view target.now) (formula_view f.now)) }
 {
-    let mut text = effect_text(alloc, x, y, names)?;
+    let mut text = target_text(alloc, target, names)?;
     text.extend_from_slice(b" = ")?;
     let formula = formula_text(alloc, f, names)?;
     text.extend_from_slice(formula.as_slice())?;
     text.push(b'\n')?;
-    let free = free_outside(alloc, f, x, y)?;
+    let free = free_beside(alloc, f, target)?;
     push_free(&mut text, names, free)?;
     Ok(text)
 }
@@ -97,21 +88,21 @@ pub fn formula_answer(
 pub fn latex_answer(
     alloc: Global,
     f: &Formula,
-    x: VSet,
-    y: VSet,
+    target: &Target,
     names: &Names,
 ) -> Result<Vec<u8>, AllocError>
-    requires x { Within (length names.now) (has x.bits) }
-    requires y { Within (length names.now) (has y.bits) }
+    requires what { Within (length names.now) (has target.now.y.bits) }
+    requires doing { Within (length names.now) (has target.now.x.bits) }
+    requires given { Within (length names.now) (has target.now.given.bits) }
     requires formula { fault_in (length names.now) (formula_view f.now) ≡ None }
-    ensures { IfOk result (λ v. v.items ≡ latex_answer names.now x.bits y.bits (formula_view f.now)) }
+    ensures { IfOk result (λ v. v.items ≡ latex_answer names.now (target_view target.now) (formula_view f.now)) }
 {
-    let mut text = effect_latex(alloc, x, y, names)?;
+    let mut text = target_latex(alloc, target, names)?;
     text.extend_from_slice(b" = ")?;
     let formula = latex_text(alloc, f, names)?;
     text.extend_from_slice(formula.as_slice())?;
     text.push(b'\n')?;
-    let free = free_outside(alloc, f, x, y)?;
+    let free = free_beside(alloc, f, target)?;
     push_free(&mut text, names, free)?;
     Ok(text)
 }

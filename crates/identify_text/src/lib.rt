@@ -11,5 +11,5 @@ mod theory;
 
 pub use formulas::{formula_answer, latex_answer};
 pub use hedges::hedge_heading;
-pub use pairs::hedge_answer;
+pub use pairs::{hedge_answer, joint_answer};
 pub use theory::laws;

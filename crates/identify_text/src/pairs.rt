@@ -1,15 +1,18 @@
 ghost use Rattle.std.specs.Prelude.{◌≡◌, ◌+◌, ◌++◌, decimal, length, OnOk, IfOk};
 ghost use Rattle.mixed_graph.specs.Bits.{has};
 ghost use Rattle.mixed_graph.specs.Sets.{Within};
+ghost use Rattle.prob_expr.specs.View.{target_view};
 ghost use Rattle.identify_text.specs.Below.{IsHedgeBelow, ArePairBelow};
-ghost use Rattle.identify_text.specs.PairLines.{event_line, hedge_answer};
+ghost use Rattle.identify_text.specs.PairLines.{event_line, hedge_answer, joint_answer};
 
 use crate::bits::{Bit, add_bits, push_sum};
 use crate::hedges::{hedge_heading, push_choices, push_links};
 use crate::models::{push_causes, push_vertices};
 use counter_models::CounterPair;
+use expr_text::target_text;
 use hedge::Hedge;
 use mixed_graph::{Names, VSet};
+use prob_expr::Target;
 use std::alloc::{AllocError, Global};
 
 /// Appends the exponent of the second model's gain: one more than the noise.
@@ -78,5 +81,34 @@ pub fn hedge_answer(
         pair.second.mechanisms.as_slice(),
     )?;
     push_event(alloc, &mut text, names, pair)?;
+    Ok(text)
+}
+
+/// The text of a target with a given whose joint effect, that of x on y, has a hedge: the first line says that the target isn't identified, and
+/// names the joint effect; the other lines are those of its hedge.
+///
+/// Each line ends with a line feed.
+pub fn joint_answer(
+    alloc: Global,
+    target: &Target,
+    x: VSet,
+    y: VSet,
+    h: &Hedge,
+    pair: &CounterPair,
+    names: &Names,
+) -> Result<Vec<u8>, AllocError>
+    requires what { Within (length names.now) (has target.now.y.bits) }
+    requires doing { Within (length names.now) (has target.now.x.bits) }
+    requires given { Within (length names.now) (has target.now.given.bits) }
+    requires x { Within (length names.now) (has x.bits) }
+    requires y { Within (length names.now) (has y.bits) }
+    requires hedge { IsHedgeBelow (length names.now) h.now }
+    requires models { ArePairBelow (length names.now) pair.now }
+    ensures { IfOk result (λ v. v.items ≡ joint_answer names.now (target_view target.now) x.bits y.bits h.now pair.now) }
+{
+    let mut text = target_text(alloc, target, names)?;
+    text.extend_from_slice(b" not identified; ")?;
+    let joint = hedge_answer(alloc, x, y, h, pair, names)?;
+    text.extend_from_slice(joint.as_slice())?;
     Ok(text)
 }

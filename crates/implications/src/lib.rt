@@ -5,8 +5,6 @@
 
 mod pairs;
 mod sets;
-#[cfg(test)]
-mod tests;
 mod theory;
 
 pub use pairs::{Implication, implications};

@@ -7,8 +7,6 @@ mod cells;
 mod largest;
 mod readable;
 mod sets;
-#[cfg(test)]
-mod tests;
 mod theory;
 
 pub use largest::{Difference, largest_difference};

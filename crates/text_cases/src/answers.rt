@@ -5,25 +5,28 @@ use anyhow::{Result, bail};
 use expr_text::read_formula;
 use identify_text::{formula_answer, latex_answer};
 use mixed_graph::Names;
-use prob_expr::{Formula, check};
+use prob_expr::{Formula, Target, check};
 use serde_json::Value;
 use std::alloc::Global;
 
-/// The answer that the effect of X on Y has this formula, as text or as LaTeX.
+/// The answer that the effect of X on Y, given G, has this formula, as text or as LaTeX.
 fn text_of(alloc: Global, call: &str, f: &Formula, names: &Names) -> Result<Vec<u8>> {
-    let x = vertex(names, "X");
-    let y = vertex(names, "Y");
+    let target = Target {
+        x: vertex(names, "X"),
+        y: vertex(names, "Y"),
+        given: vertex(names, "G"),
+    };
     match check(f, names.count()) {
         Ok(()) => match call {
-            "formula_answer" => Ok(formula_answer(alloc, f, x, y, names)?),
-            "latex_answer" => Ok(latex_answer(alloc, f, x, y, names)?),
+            "formula_answer" => Ok(formula_answer(alloc, f, &target, names)?),
+            "latex_answer" => Ok(latex_answer(alloc, f, &target, names)?),
             other => bail!("no call {other}"),
         },
         Err(_) => bail!("the formula has a fault"),
     }
 }
 
-/// Adds the answer that the effect of X on Y has the formula that the case's `text` is.
+/// Adds the answer that the effect of X on Y, given G, has the formula that the case's `text` is.
 pub(crate) fn add_answer(alloc: Global, line: &mut Vec<u8>, case: &Value) -> Result<()> {
     let names = names_in(alloc, case)?;
     let text = text_in(case, "text")?;

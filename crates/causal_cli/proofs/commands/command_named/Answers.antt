@@ -20,4 +20,4 @@ returns-in_default c =
     let n = c.in_default in
     skip _ _ _ _ (apart _ _ n.not-graph) (skip _ _ _ _ (apart _ _ n.not-separate) (skip _ _ _ _ (apart _ _ n.not-rule) (skip _ _ _ _ (apart _ _ n.not-identify)
     (skip _ _ _ _ (apart _ _ n.not-check) (skip _ _ _ _ (apart _ _ n.not-adjust) (skip _ _ _ _ (apart _ _ n.not-evaluate) (skip _ _ _ _ (apart _ _ n.not-equivalent)
-    (skip _ _ _ _ (apart _ _ n.not-survey) refl))))))))
+    (skip _ _ _ _ (apart _ _ n.not-implications) (skip _ _ _ _ (apart _ _ n.not-survey) (skip _ _ _ _ (apart _ _ n.not-surrogate) refl))))))))))

@@ -1,6 +1,3 @@
-use Rattle.std.proofs.Common.{map, sym, subst}
-use Rattle.word_forms.specs.Views.{row_of}
-use Rattle.word_values.specs.Readable.{IsReadable}
 use Rattle.causal_cli.proofs.Readable.{table_readable}
 use Rattle.causal_cli.proofs.commands.rows.Goals as goal
 

@@ -1,4 +1,4 @@
-use Rattle.std.proofs.Common.{map, sym, subst}
+use Rattle.std.proofs.Common.{sym, subst}
 use Rattle.word_forms.specs.Form.{HasForm, IsCall, IsOnlyCall}
 use Rattle.word_forms.specs.Views.{texts_of, row_of, uses_in}
 use Rattle.causal_cli.proofs.commands.words_found.Goals as goal

@@ -2,6 +2,7 @@ use Rattle.causal_cli.specs.Ends.{text_of}
 use Rattle.causal_cli.proofs.Headlines.{headline}
 use Rattle.causal_cli.proofs.CheckedRuns.{checked}
 use Rattle.causal_cli.proofs.CompleteRuns.{complete}
+use Rattle.causal_cli.proofs.DrawnRuns.{right_as_drawn_of}
 use Rattle.causal_cli.proofs.top.run.Goals as goal
 
 pub returns-clause-ended : goal.returns-clause-ended
@@ -20,6 +21,9 @@ returns-clause-headline g c =
 pub returns-clause-checked : goal.returns-clause-checked
 returns-clause-checked g c =
     checked _ _ c.respond-last.result.outcome (text_of c.respond-last.result) c.code.ensures c.respond-last.ensures.ends c.respond-last.ensures.once
+
+pub returns-clause-drawn : goal.returns-clause-drawn
+returns-clause-drawn g c = right_as_drawn_of _ _ (returns-clause-headline g c) (returns-clause-checked g c)
 
 pub returns-clause-complete : goal.returns-clause-complete
 returns-clause-complete g c = complete _ _ c.respond-last.result.outcome (text_of c.respond-last.result) c.code.ensures c.respond-last.ensures.ends

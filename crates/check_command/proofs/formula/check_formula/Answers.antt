@@ -6,14 +6,17 @@ use Rattle.do_derivation.specs.Accepts.{AcceptsNot}
 use Rattle.do_derivation.specs.View.{lemma_view, derivation_view}
 use Rattle.check_command.specs.Lines.{derivation_text}
 use Rattle.check_command.specs.Replies.{IsLowFault}
-use Rattle.check_command.proofs.Using.{x_within, y_within, low_unless, told}
+use Rattle.check_command.proofs.Using.{x_within, y_within, given_within, low_unless, told}
 use Rattle.check_command.proofs.formula.check_formula.Goals as goal
 
-pub formula_answer-requires-clause-x : goal.formula_answer-requires-clause-x
-formula_answer-requires-clause-x c = x_within (length c.args.seen.now.names) (target_view c.args.target.now) c.requires.target
+pub formula_answer-requires-clause-what : goal.formula_answer-requires-clause-what
+formula_answer-requires-clause-what c = y_within (length c.args.seen.now.names) (target_view c.args.target.now) c.requires.target
 
-pub formula_answer-requires-clause-y : goal.formula_answer-requires-clause-y
-formula_answer-requires-clause-y c = y_within (length c.args.seen.now.names) (target_view c.args.target.now) c.requires.target
+pub formula_answer-requires-clause-doing : goal.formula_answer-requires-clause-doing
+formula_answer-requires-clause-doing c = x_within (length c.args.seen.now.names) (target_view c.args.target.now) c.requires.target
+
+pub formula_answer-requires-clause-given : goal.formula_answer-requires-clause-given
+formula_answer-requires-clause-given c = given_within (length c.args.seen.now.names) (target_view c.args.target.now) c.requires.target
 
 pub derivation_text-requires : goal.derivation_text-requires
 derivation_text-requires c =

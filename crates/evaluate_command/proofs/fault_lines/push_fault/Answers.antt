@@ -4,7 +4,8 @@ use Rattle.mixed_graph.specs.Bits.{has, members_below}
 use Rattle.finite_models.proofs.Members.{member_below}
 use Rattle.count_eval.specs.Answers.{IsFaultOf}
 use Rattle.count_eval.specs.Programs.{is_used, cell_of}
-use Rattle.evaluate_command.specs.Lines.{place_text, assignments}
+use Rattle.count_answers.specs.Lines.{assignments}
+use Rattle.evaluate_command.specs.Lines.{place_text}
 use Rattle.evaluate_command.proofs.Stops.{wide_text, fine_text, support_text_is, members_low}
 use Rattle.evaluate_command.proofs.fault_lines.push_fault.Goals as goal
 

@@ -1,7 +1,7 @@
 use Rattle.std.proofs.Common.{◌<◌, sym, ap, subst, ◌∙◌, arith, option_map}
 use Rattle.mixed_graph.specs.Bits.{has}
 use Rattle.count_table.specs.Reading.{text_fault}
-use Rattle.evaluate_command.specs.Answers.{faulty}
+use Rattle.count_answers.specs.Reads.{faulty}
 use Rattle.evaluate_command.specs.Effects.{effect_view}
 use Rattle.evaluate_command.proofs.Evaluable.{used_below, used_some}
 use Rattle.evaluate_command.proofs.reply.evaluate_reply.Goals as goal

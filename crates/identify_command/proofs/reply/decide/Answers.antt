@@ -1,6 +1,9 @@
-use Rattle.std.proofs.Common.{◌≤◌, [], length, sym, subst}
+use Rattle.std.proofs.Common.{◌≤◌, [], length, refl, sym, subst}
+use Rattle.mixed_graph.specs.Bits.{has}
+use Rattle.mixed_graph.specs.Sets.{Within}
 use Rattle.mixed_graph.specs.Shown.{graph_of}
 use Rattle.hedge.specs.Hedges.{IsHedge}
+use Rattle.prob_expr.specs.Tree.{PlainTarget}
 use Rattle.prob_expr.specs.View.{formula_view}
 use Rattle.do_derivation.specs.Accepts.{Accepts}
 use Rattle.do_derivation.specs.View.{derivation_view}
@@ -11,17 +14,31 @@ use Rattle.id_recursion.specs.Answers.{effect_on, IsRight, IfFormula, IfHedge, A
 use Rattle.id_recursion.specs.Hedged.{IsHedgeOf}
 use Rattle.identify_text.specs.Below.{IsHedgeBelow, ArePairBelow}
 use Rattle.identify_text.proofs.Belows.{hedge_below}
+use Rattle.identify_text.proofs.Free.{none_within}
 use Rattle.certificate.specs.Plain.{hedge_view}
-use Rattle.certificate_writing.specs.Writable.{IsBareTarget, IsDerivationWithin, IsHedgeWithin}
+use Rattle.certificate_writing.specs.Writable.{IsTargetWithin, IsBareTarget, IsDerivationWithin, IsHedgeWithin}
 use Rattle.identify_command.proofs.Shallow.{formula_shallow}
 use Rattle.identify_command.proofs.Within.{derivation_within}
 use Rattle.effect_answers.proofs.Belows.{pair_below}
 use Rattle.identify_command.proofs.Writing.{bare_target, hedge_within}
 use Rattle.identify_command.proofs.reply.decide.Goals as goal
 
+pub formula_text-requires-clause-what : goal.formula_text-requires-clause-what
+formula_text-requires-clause-what c = subst (λ (t : PlainTarget). Within (length c.args.seen.now.names) (has t.y)) (sym c.target_of.ensures)
+    (subst (λ n. Within n (has c.args.sets.y.bits)) (sym c.requires.named) c.requires.y)
+
+pub formula_text-requires-clause-doing : goal.formula_text-requires-clause-doing
+formula_text-requires-clause-doing c = subst (λ (t : PlainTarget). Within (length c.args.seen.now.names) (has t.x)) (sym c.target_of.ensures)
+    (subst (λ n. Within n (has c.args.sets.x.bits)) (sym c.requires.named) c.requires.x)
+
+pub formula_text-requires-clause-given : goal.formula_text-requires-clause-given
+formula_text-requires-clause-given c = subst (λ (t : PlainTarget). Within (length c.args.seen.now.names) (has t.given)) (sym c.target_of.ensures)
+    (λ v i. none_within (length c.args.seen.now.names) 0 v refl i)
+
 pub formula_text-requires-clause-target : goal.formula_text-requires-clause-target
-formula_text-requires-clause-target c = subst (λ n. IsBareTarget n (effect_on c.args.sets.x.bits c.args.sets.y.bits)) (sym c.requires.named)
-    (bare_target c.args.seen.now.graph.n c.args.sets.x.bits c.args.sets.y.bits c.requires.x c.requires.y c.requires.apart c.requires.some)
+formula_text-requires-clause-target c = subst (IsTargetWithin (length c.args.seen.now.names)) (sym c.target_of.ensures)
+    (subst (λ n. IsTargetWithin n (effect_on c.args.sets.x.bits c.args.sets.y.bits)) (sym c.requires.named)
+    (bare_target c.args.seen.now.graph.n c.args.sets.x.bits c.args.sets.y.bits c.requires.x c.requires.y c.requires.apart c.requires.some).sets)
 
 pub formula_text-requires-clause-derivation : goal.formula_text-requires-clause-derivation
 formula_text-requires-clause-derivation c =

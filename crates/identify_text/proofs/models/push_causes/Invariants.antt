@@ -1,5 +1,4 @@
-use Rattle.std.proofs.Common.{◌≡◌, ◌++◌, drop, length, All}
-use Rattle.identify_text.specs.Below.{IsCauseBelow}
+use Rattle.std.proofs.Common.{◌≡◌, ◌++◌, drop}
 use Rattle.identify_text.specs.ModelLines.{cause_lines}
 use Rattle.identify_text.proofs.models.push_causes.Given as goal
 

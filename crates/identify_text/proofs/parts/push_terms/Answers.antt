@@ -1,4 +1,4 @@
-use Rattle.std.proofs.Common.{◌≡◌, ◌++◌, ◌∷◌, [], OnOk, map, cond, drop, codes, subst, ap, ◌∙◌}
+use Rattle.std.proofs.Common.{◌≡◌, ◌++◌, ◌∷◌, [], OnOk, map, cond, drop, subst, ap, ◌∙◌}
 use Rattle.identify_text.specs.declared.bits.Bit.TheVariants.{Hedge, Carried}
 use Rattle.identify_text.specs.ModelLines.{added, bit_text, bits_of, cause_text, terms_of}
 use Rattle.identify_text.proofs.Lines.{added_four, without_first}

@@ -1,4 +1,4 @@
-use Rattle.std.proofs.Common.{◌≡◌, ◌∙◌, Err, ap, sym, refl, codes}
+use Rattle.std.proofs.Common.{◌≡◌, Err, ap, refl, codes}
 use Rattle.word_forms.specs.Form.{word_of}
 use Rattle.request_values.specs.declared.RequestFault.TheVariants.{NotUnderstood}
 use Rattle.request_values.proofs.Inputs.{not_two}

@@ -17,6 +17,10 @@ pub returns-in-Err-listed_names-2-clause-none : goal.returns-in-Err-listed_names
 returns-in-Err-listed_names-2-clause-none c = λ uses g e r is.
     let same : c.in-Err-listed_names-2.fault ≡ NotUnderstood = cc e in c.in-Err-listed_names-2.ensures.none identify_row uses g refl (ap (λ f. Err f) same) r.y is.y
 
+pub returns-in-Err-listed_names-3-clause-none : goal.returns-in-Err-listed_names-3-clause-none
+returns-in-Err-listed_names-3-clause-none c = λ uses g e r is.
+    let same : c.in-Err-listed_names-3.fault ≡ NotUnderstood = cc e in c.in-Err-listed_names-3.ensures.none identify_row uses g refl (ap (λ f. Err f) same) r.given is.given
+
 pub returns-in_default-clause-none : goal.returns-in_default-clause-none
 returns-in_default-clause-none c = λ uses g e r is.
     c.in_default.ensures.none r.form (subst (λ b. IsForm b c.flag-latex.result r.form) (sym (c.flag-certificate.ensures identify_row uses g refl))
@@ -27,6 +31,7 @@ returns-clause-ok c = λ uses g. record {
   file = c.in-Ok.ensures.ok identify_row uses g refl;
   x = c.in-Ok-listed_names.ensures.ok identify_row uses g refl;
   y = c.in-Ok-listed_names-2.ensures.ok identify_row uses g refl;
+  given = c.in-Ok-listed_names-3.ensures.ok identify_row uses g refl;
   form = subst (λ b. IsForm b (has_flag uses (codes "latex")) c.in-Some.form) (c.flag-certificate.ensures identify_row uses g refl)
       (subst (λ b. IsForm c.flag-certificate.result b c.in-Some.form) (c.flag-latex.ensures identify_row uses g refl) c.in-Some.ensures.some);
 }

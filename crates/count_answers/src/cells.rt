@@ -1,0 +1,74 @@
+ghost use Rattle.std.specs.Prelude.{ℕ, ◌≡◌, ◌++◌, ◌<◌, length, OnOk};
+ghost use Rattle.mixed_graph.specs.Bits.{has, members_below};
+ghost use Rattle.mixed_graph.specs.Sets.{Within};
+ghost use Rattle.count_eval.specs.Programs.{cell_of};
+ghost use Rattle.answer_text.specs.Texts.{comma_before};
+ghost use Rattle.count_answers.specs.Lines.{level_text, assignment, assignments};
+
+use answer_text::push_vertex;
+use count_table::Counts;
+use mixed_graph::{Names, VSet};
+use std::alloc::AllocError;
+
+/// The level of vertex v with the number k; empty where it has no such level.
+fn level_text(counts: &Counts, v: u8, k: u32) -> &[u8]
+    ensures { result.now ≡ level_text counts.now v k }
+{
+    if k >= counts.levels(v) {
+        return b"";
+    }
+    counts.level(v, k)
+}
+
+/// Appends a vertex with its level of that number, as `Z=level`.
+pub fn push_assignment(
+    out: &mut Vec<u8>,
+    names: &Names,
+    counts: &Counts,
+    v: u8,
+    k: u32,
+) -> Result<(), AllocError>
+    requires { v < length names.now }
+    ensures { OnOk result (out.new.items ≡ out.old.items ++ assignment names.now counts.now (λ u. k) v) }
+{
+    push_vertex(out, names, v)?;
+    out.push(b'=')?;
+    out.extend_from_slice(level_text(counts, v, k))
+}
+
+/// A comma where a member is still to come.
+pub fn separator(rest: VSet) -> &'static [u8]
+    ensures { result.now ≡ comma_before (members_below (has rest.bits) 64) }
+{
+    if rest.is_empty() { b"" } else { b"," }
+}
+
+/// Appends the levels of a set's members in a cell, in index order with commas between them.
+pub fn push_assignments(
+    out: &mut Vec<u8>,
+    names: &Names,
+    counts: &Counts,
+    set: VSet,
+    cell: &[u32],
+) -> Result<(), AllocError>
+    requires named { Within (length names.now) (has set.bits) }
+    requires entries { Within (length cell.now) (has set.bits) }
+    ensures { OnOk result (out.new.items ≡ out.old.items ++ assignments names.now counts.now (cell_of cell.now) (members_below (has set.bits) 64)) }
+{
+    let mut rest = set;
+    'members: while !rest.is_empty() {
+        let v = rest.lowest();
+        push_assignment(out, names, counts, v, cell[v as usize])?;
+        rest = rest.difference(VSet::one(v));
+        out.extend_from_slice(separator(rest))?;
+    }
+    Ok(())
+}
+
+/// A cell as a slice.
+pub fn entries(cell: &[u32; 64]) -> &[u32]
+    ensures same { result.now ≡ cell.now }
+    ensures long { length result.now ≡ 64 }
+{
+    cell
+}

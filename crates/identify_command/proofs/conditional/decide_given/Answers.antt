@@ -1,0 +1,129 @@
+use Rattle.std.proofs.Common.{◌≡◌, ◌≤◌, ℕ, [], length, sym, subst}
+use Rattle.mixed_graph.specs.Bits.{has}
+use Rattle.mixed_graph.specs.Sets.{Within}
+use Rattle.mixed_graph.specs.Shown.{graph_of}
+use Rattle.prob_expr.specs.View.{formula_view, target_view}
+use Rattle.do_derivation.specs.Accepts.{Accepts}
+use Rattle.do_derivation.specs.View.{derivation_view}
+use Rattle.counter_models.specs.Events.{AreCounterModels}
+use Rattle.conditional_theory.specs.Laws.{IsShallowGiven}
+use Rattle.conditional_id.specs.Answers.{IsRight, IsJointEffect, IsJointShown, IfFormula, IfJoint}
+use Rattle.id_recursion.specs.Answers.{effect_on}
+use Rattle.identify_text.specs.Below.{IsHedgeBelow, ArePairBelow}
+use Rattle.identify_text.proofs.Belows.{hedge_below}
+use Rattle.certificate.specs.Plain.{hedge_view}
+use Rattle.certificate_writing.specs.Writable.{IsTargetWithin, IsBareTarget, IsDerivationWithin, IsHedgeWithin}
+use Rattle.effect_answers.proofs.Belows.{pair_below}
+use Rattle.identify_command.proofs.Lists.{with_member}
+use Rattle.identify_command.proofs.Shallow.{given_shallow}
+use Rattle.identify_command.proofs.Within.{derivation_within}
+use Rattle.identify_command.proofs.Writing.{target_within, bare_target, hedge_within}
+use Rattle.identify_command.proofs.conditional.decide_given.Goals as goal
+
+pub formula_text-requires-clause-what : goal.formula_text-requires-clause-what
+formula_text-requires-clause-what c = subst (λ n. Within n (has c.args.target.y.bits)) (sym c.requires.named) c.requires.sets.y_within
+
+pub joint_text-requires-clause-what : goal.joint_text-requires-clause-what
+joint_text-requires-clause-what c = subst (λ n. Within n (has c.args.target.y.bits)) (sym c.requires.named) c.requires.sets.y_within
+
+pub formula_text-requires-clause-doing : goal.formula_text-requires-clause-doing
+formula_text-requires-clause-doing c = subst (λ n. Within n (has c.args.target.x.bits)) (sym c.requires.named) c.requires.sets.x_within
+
+pub joint_text-requires-clause-doing : goal.joint_text-requires-clause-doing
+joint_text-requires-clause-doing c = subst (λ n. Within n (has c.args.target.x.bits)) (sym c.requires.named) c.requires.sets.x_within
+
+pub formula_text-requires-clause-given : goal.formula_text-requires-clause-given
+formula_text-requires-clause-given c = subst (λ n. Within n (has c.args.target.given.bits)) (sym c.requires.named) c.requires.sets.w_within
+
+pub joint_text-requires-clause-given : goal.joint_text-requires-clause-given
+joint_text-requires-clause-given c = subst (λ n. Within n (has c.args.target.given.bits)) (sym c.requires.named) c.requires.sets.w_within
+
+pub formula_text-requires-clause-target : goal.formula_text-requires-clause-target
+formula_text-requires-clause-target c = subst (λ n. IsTargetWithin n (target_view c.args.target)) (sym c.requires.named)
+    (target_within c.args.seen.now.graph.n (target_view c.args.target) c.requires.sets c.requires.some)
+
+pub formula_text-requires-clause-derivation : goal.formula_text-requires-clause-derivation
+formula_text-requires-clause-derivation c =
+    let g = graph_of c.args.seen.now.graph in
+    let t = target_view c.args.target in
+    subst (λ n. IsDerivationWithin n (derivation_view c.in-Formula.derivation)) (sym c.requires.named)
+    (derivation_within g c.args.seen.now.graph.valid [] t (formula_view c.in-Formula.formula) (derivation_view c.in-Formula.derivation)
+    (target_within c.args.seen.now.graph.n t c.requires.sets c.requires.some)
+    (subst (λ a. IfFormula a (Accepts g [] t)) c.in-Formula.is c.in_ok-formula.ensures.accepted))
+
+pub formula_text-requires-clause-shallow : goal.formula_text-requires-clause-shallow
+formula_text-requires-clause-shallow c = given_shallow (formula_view c.in-Formula.formula) (derivation_view c.in-Formula.derivation)
+    (subst (λ a. IfFormula a (λ f d. length f.defs ≤ 4096)) c.in-Formula.is c.in_ok-formula.ensures.few)
+    (subst (λ a. IfFormula a IsShallowGiven) c.in-Formula.is c.in_ok-formula.ensures.shallow)
+
+pub joint_text-requires-clause-x : goal.joint_text-requires-clause-x
+joint_text-requires-clause-x c =
+    let g = graph_of c.args.seen.now.graph in
+    let t = target_view c.args.target in
+    let effect = subst (λ a. IfJoint a (λ x y h pair. IsJointEffect g t x.bits y.bits)) c.in-Joint.is c.in_ok-formula.ensures.joint in
+    let shown = subst (λ a. IfJoint a (IsJointShown g t)) c.in-Joint.is c.in_ok-formula.ensures.shown in
+    subst (λ n. Within n (has c.in-Joint.x.bits)) (sym c.requires.named) effect.target.sets.x_within
+
+pub joint_text-requires-clause-y : goal.joint_text-requires-clause-y
+joint_text-requires-clause-y c =
+    let g = graph_of c.args.seen.now.graph in
+    let t = target_view c.args.target in
+    let effect = subst (λ a. IfJoint a (λ x y h pair. IsJointEffect g t x.bits y.bits)) c.in-Joint.is c.in_ok-formula.ensures.joint in
+    let shown = subst (λ a. IfJoint a (IsJointShown g t)) c.in-Joint.is c.in_ok-formula.ensures.shown in
+    subst (λ n. Within n (has c.in-Joint.y.bits)) (sym c.requires.named) effect.target.sets.y_within
+
+pub joint_text-requires-clause-target : goal.joint_text-requires-clause-target
+joint_text-requires-clause-target c =
+    let g = graph_of c.args.seen.now.graph in
+    let t = target_view c.args.target in
+    let effect = subst (λ a. IfJoint a (λ x y h pair. IsJointEffect g t x.bits y.bits)) c.in-Joint.is c.in_ok-formula.ensures.joint in
+    let shown = subst (λ a. IfJoint a (IsJointShown g t)) c.in-Joint.is c.in_ok-formula.ensures.shown in
+    subst (λ n. IsBareTarget n (effect_on c.in-Joint.x.bits c.in-Joint.y.bits)) (sym c.requires.named)
+    (bare_target c.args.seen.now.graph.n c.in-Joint.x.bits c.in-Joint.y.bits effect.target.sets.x_within effect.target.sets.y_within effect.target.sets.x_y
+    (with_member c.in-Joint.y.bits effect.target.some.0 effect.target.some.1))
+
+pub joint_text-requires-clause-hedge : goal.joint_text-requires-clause-hedge
+joint_text-requires-clause-hedge c =
+    let g = graph_of c.args.seen.now.graph in
+    let t = target_view c.args.target in
+    let effect = subst (λ a. IfJoint a (λ x y h pair. IsJointEffect g t x.bits y.bits)) c.in-Joint.is c.in_ok-formula.ensures.joint in
+    let shown = subst (λ a. IfJoint a (IsJointShown g t)) c.in-Joint.is c.in_ok-formula.ensures.shown in
+    subst (λ n. IsHedgeBelow n c.in-Joint.hedge) (sym c.requires.named)
+    (hedge_below g c.in-Joint.x.bits c.in-Joint.y.bits c.in-Joint.hedge c.args.seen.now.graph.small shown.hedge)
+
+pub joint_text-requires-clause-models : goal.joint_text-requires-clause-models
+joint_text-requires-clause-models c =
+    let g = graph_of c.args.seen.now.graph in
+    let t = target_view c.args.target in
+    let effect = subst (λ a. IfJoint a (λ x y h pair. IsJointEffect g t x.bits y.bits)) c.in-Joint.is c.in_ok-formula.ensures.joint in
+    let shown = subst (λ a. IfJoint a (IsJointShown g t)) c.in-Joint.is c.in_ok-formula.ensures.shown in
+    subst (λ n. ArePairBelow n c.in-Joint.pair) (sym c.requires.named)
+    (pair_below g c.args.seen.now.graph.valid c.in-Joint.x.bits c.in-Joint.y.bits c.in-Joint.hedge c.in-Joint.pair effect.target.sets.y_within shown.models
+    (subst (λ a. IfJoint a (λ x y h pair. AreCounterModels g x.bits y.bits pair)) c.in-Joint.is c.in_ok-formula.ensures.counter))
+
+pub joint_text-requires-clause-data : goal.joint_text-requires-clause-data
+joint_text-requires-clause-data c =
+    let g = graph_of c.args.seen.now.graph in
+    let t = target_view c.args.target in
+    let effect = subst (λ a. IfJoint a (λ x y h pair. IsJointEffect g t x.bits y.bits)) c.in-Joint.is c.in_ok-formula.ensures.joint in
+    let shown = subst (λ a. IfJoint a (IsJointShown g t)) c.in-Joint.is c.in_ok-formula.ensures.shown in
+    subst (λ n. IsHedgeWithin n (hedge_view c.in-Joint.hedge)) (sym c.requires.named)
+    (hedge_within g c.in-Joint.x.bits c.in-Joint.y.bits c.in-Joint.hedge c.sized.ensures.found c.sized.ensures.partner shown.hedge)
+
+pub returns-in_ok-joint_text-in-Joint : goal.returns-in_ok-joint_text-in-Joint
+returns-in_ok-joint_text-in-Joint c =
+    let g = graph_of c.args.seen.now.graph in
+    let t = target_view c.args.target in
+    let effect = subst (λ a. IfJoint a (λ x y h pair. IsJointEffect g t x.bits y.bits)) c.in-Joint.is c.in_ok-formula.ensures.joint in
+    let shown = subst (λ a. IfJoint a (IsJointShown g t)) c.in-Joint.is c.in_ok-formula.ensures.shown in
+    let right = subst (IsRight g t) c.in-Joint.is c.in_ok-formula.ensures.right in
+    record {
+      x = c.in-Joint.x.bits;
+      y = c.in-Joint.y.bits;
+      hedge = c.in-Joint.hedge;
+      pair = c.in-Joint.pair;
+      joint = effect;
+      found = record { right = right.hedge; evidence = shown.hedge; stop = shown.stop; built = shown.built; models = shown.models };
+      prints = c.in_ok-joint_text-in-Joint.ensures.text;
+      reads_back = c.in_ok-joint_text-in-Joint.ensures.reads_back;
+    }

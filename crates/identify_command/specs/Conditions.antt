@@ -1,0 +1,122 @@
+-- The answer of `identify` where something is given: whether P(y | do(x), given) can be computed from observations, in the observed graph of the one that was read.
+use Rattle.std.specs.Prelude.{ℕ, ◌≡◌, List, [], ◌∷◌, Some, None}
+use Rattle.mixed_graph.specs.Graphs.{MixedGraph}
+use Rattle.dag_reader.specs.declared.graph.ReadGraph.{ReadGraph}
+use Rattle.targets.specs.declared.fault.TargetFault.{TargetFault}
+use Rattle.targets.specs.declared.fault.TargetFault.TheVariants.{EmptyX}
+use Rattle.targets.specs.Targets.{Lists, listed, fault_in, IsSetOf, IsTargetFault, IsFaultOrMemory}
+use Rattle.fault_text.specs.Lines.{line_of, target_fault_text}
+use Rattle.replies.specs.declared.outcome.Outcome.{Outcome}
+use Rattle.replies.specs.declared.outcome.Outcome.TheVariants.{Yes, No, Graph}
+use Rattle.replies.specs.Observed.{Names, observed_names, IsObservedGraph}
+use Rattle.prob_expr.specs.Tree.{PlainFormula, PlainTarget}
+use Rattle.do_derivation.specs.Plans.{PlainDerivation}
+use Rattle.hedge.specs.declared.kinds.Hedge.{Hedge}
+use Rattle.counter_models.specs.declared.kinds.CounterPair.{CounterPair}
+use Rattle.id_recursion.specs.Answers.{effect_on}
+use Rattle.conditional_theory.specs.Conditionals.{IsConditionalBySteps}
+use Rattle.conditional_theory.specs.Laws.{IsRightGiven}
+use Rattle.conditional_id.specs.Answers.{IsJointEffect}
+use Rattle.identify_text.specs.PairLines.{joint_answer}
+use Rattle.effect_answers.specs.Hedges.{IsFoundHedge}
+use Rattle.certificate.specs.Plain.{hedge_view}
+use Rattle.certificate.specs.Plain as plain
+use Rattle.identify_command.specs.declared.form.Form.{Form}
+use Rattle.identify_command.specs.declared.form.Form.TheVariants.{Plain, Certificate, Latex}
+use Rattle.identify_command.specs.Answers.{certificate_line, formula_text, ReadsBack, IdentifyAnswer}
+
+-- ---- lists
+
+-- the lists of a target: x and y are those that are listed, or else the exposures and the outcomes
+abbrev pub target_lists : ReadGraph → (x y : Names) → (given : List (List ℕ)) → Lists
+target_lists g x y given = record {
+  all = g.names;
+  observed = observed_names g;
+  x = listed g.names g.exposures.bits x;
+  y = listed g.names g.outcomes.bits y;
+  given = given;
+}
+
+-- the sets of a target: no name is at fault, and y isn't empty
+pub record AreTargetSets (l : Lists) (t : PlainTarget) : Type 0 where
+  pub no_fault : fault_in l ≡ None
+  pub some_y : l.y ≡ [] → ⊥
+  pub set_x : IsSetOf l.observed l.x t.x
+  pub set_y : IsSetOf l.observed l.y t.y
+  pub set_given : IsSetOf l.observed l.given t.given
+
+-- the fault of the lists of a target, for which an empty x is none
+abbrev pub IsListFault : Lists → TargetFault → Type 0
+IsListFault l EmptyX = ⊥
+IsListFault l f = IsTargetFault l f
+
+-- the fault of the lists of a target; want of memory may stand in its place
+abbrev pub IsListFaultOrMemory : Lists → TargetFault → Type 0
+IsListFaultOrMemory l EmptyX = ⊥
+IsListFaultOrMemory l f = IsFaultOrMemory l f
+
+-- a listed name is at fault, or y is empty: the line says so
+pub record IsListRefusal (l : Lists) (line : List ℕ) : Type 0 where
+  pub fault : TargetFault
+  pub is_fault : IsListFault l fault
+  pub prints : line ≡ line_of (target_fault_text fault)
+
+-- ---- answers for a target in the observed graph q
+
+-- the text of the joint effect of x on y into which a target turns: its hedge with the two models, or the hedge's certificate
+abbrev pub joint_text : Form → List (List ℕ) → PlainTarget → (x y : ℕ) → Hedge → CounterPair → List ℕ
+joint_text Plain names t x y h pair = joint_answer names t x y h pair
+joint_text Certificate names t x y h pair = certificate_line names (plain.hedge (effect_on x y) (hedge_view h))
+joint_text Latex names t x y h pair = joint_answer names t x y h pair
+
+-- Yes: the formula is accepted by the check of formulas, has no intervention, equals P(y | do(x), given) in each positive model that fits q, and names ancestors of y and given alone; the derivation turns the effect into it.
+-- Both are those of the procedure for conditional effects (Shpitser and Pearl), and the text shows them.
+pub record ShowsConditional (form : Form) (q : MixedGraph) (names : List (List ℕ)) (t : PlainTarget) (text : List ℕ) : Type 0 where
+  pub formula : PlainFormula
+  pub derivation : PlainDerivation
+  pub right : IsRightGiven q t formula derivation
+  pub derived : IsConditionalBySteps q t formula derivation
+  pub prints : text ≡ formula_text form names t formula derivation
+  pub reads_back : ReadsBack form names (plain.formula t formula derivation)
+
+-- No: observations turn the target into an effect of x on the target's y and what is left, which is equal to it in each positive model that fits q. For the joint effect of both there is a hedge, with two models that show that there is no formula for it, and the text shows it. Of the target itself nothing more is claimed.
+pub record ShowsJoint (form : Form) (q : MixedGraph) (names : List (List ℕ)) (t : PlainTarget) (text : List ℕ) : Type 0 where
+  pub x : ℕ
+  pub y : ℕ
+  pub hedge : Hedge
+  pub pair : CounterPair
+  pub joint : IsJointEffect q t x y
+  pub found : IsFoundHedge q x y hedge pair
+  pub prints : text ≡ joint_text form names t x y hedge pair
+  pub reads_back : ReadsBack form names (plain.hedge (effect_on x y) (hedge_view hedge))
+
+-- the answer for a target
+abbrev pub TargetAnswer : Form → MixedGraph → List (List ℕ) → PlainTarget → Outcome → List ℕ → Type 0
+TargetAnswer form q names t Yes text = ShowsConditional form q names t text
+TargetAnswer form q names t No text = ShowsJoint form q names t text
+TargetAnswer form q names t o text = ⊥
+
+-- ---- answers on a graph that was read
+
+-- the lists name a target, for which the answer is given
+pub record IsAnswerOfTarget (form : Form) (q : MixedGraph) (l : Lists) (o : Outcome) (text : List ℕ) : Type 0 where
+  pub target : PlainTarget
+  pub sets : AreTargetSets l target
+  pub answer : TargetAnswer form q l.observed target o text
+
+-- the answer for lists of names
+abbrev pub ListsAnswer : Form → MixedGraph → Lists → Outcome → List ℕ → Type 0
+ListsAnswer form q l Yes text = IsAnswerOfTarget form q l Yes text
+ListsAnswer form q l No text = IsAnswerOfTarget form q l No text
+ListsAnswer form q l Graph text = IsListRefusal l text
+ListsAnswer form q l o text = ⊥
+
+-- the answer where names are given, in the observed graph
+abbrev pub ConditionalAnswer : Form → ReadGraph → (x y : Names) → (given : List (List ℕ)) → Outcome → List ℕ → Type 0
+ConditionalAnswer form g x y given o text = (q : MixedGraph) × IsObservedGraph g q × ListsAnswer form q (target_lists g x y given) o text
+
+-- the answer on a graph that was read: that for the effect of x on y where nothing is given
+abbrev pub IdentifyAnswerGiven : Form → ReadGraph → (x y given : Names) → Outcome → List ℕ → Type 0
+IdentifyAnswerGiven form g x y None o text = IdentifyAnswer form g x y o text
+IdentifyAnswerGiven form g x y (Some []) o text = IdentifyAnswer form g x y o text
+IdentifyAnswerGiven form g x y (Some (n ∷ ns)) o text = ConditionalAnswer form g x y (n ∷ ns) o text

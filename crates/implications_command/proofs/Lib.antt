@@ -1,0 +1,5 @@
+mod Naming
+mod Pieces
+mod Using
+mod Measuring
+pub mod Outcomes

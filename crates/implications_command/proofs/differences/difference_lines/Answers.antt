@@ -1,0 +1,14 @@
+use Rattle.implications_command.specs.Pairs.{pairs_view}
+use Rattle.implications_command.proofs.Measuring.{measured_more}
+use Rattle.implications_command.proofs.Using.{readable_in}
+use Rattle.implications_command.proofs.differences.difference_lines.Goals as goal
+
+pub push_measured-requires-clause-readable : goal.push_measured-requires-clause-readable
+push_measured-requires-clause-readable c =
+    readable_in (pairs_view c.args.pairs.now) c.requires.pairs c.args.counts.now c.used-used.ensures.table c.requires.used
+    c.deref-i-items.result.now c.deref-i-items.ensures.value c.loop-i.i-index _ c.loop-i-test.true
+
+pub loop-i-preserved : goal.loop-i-preserved
+loop-i-preserved c =
+    measured_more (pairs_view c.args.pairs.now) c.args.counts.now c.deref-i-items.result.now c.loop-i.i-index _ c.loop-i.text.items c.push_measured.new.out.items
+    c.loop-i-test.true c.loop-i.invariant c.in_ok-push_measured.ensures

@@ -1,0 +1,19 @@
+use Rattle.std.proofs.Common.{◌≡◌, ℕ, List, length, arith}
+use Rattle.mixed_graph.specs.Graphs.{MixedGraph}
+use Rattle.mixed_graph.specs.Shown.{graph_of}
+use Rattle.implications.specs.declared.pairs.Implication.{Implication}
+use Rattle.implications.specs.Implications.{AreImplications}
+use Rattle.implications.specs.Separable.{IsSeparable}
+use Rattle.implications_command.proofs.listing.counted_pairs.Goals as goal
+
+-- where no pair is listed, there is none
+none_listed : (g : MixedGraph) (list : List Implication) → AreImplications g list → length list ≡ 0 → (a b : ℕ) → IsSeparable g a b → ⊥
+none_listed g list are none a b s = (let there = are.all a b s in let lt = there.2 in omega (arith, lt, none))
+
+pub returns-then-is_empty : goal.returns-then-is_empty
+returns-then-is_empty c = record {
+  graph = graph_of c.in_ok-seen.seen.graph;
+  observed = c.in_ok-seen.ensures.graph;
+  none = none_listed (graph_of c.in_ok-seen.seen.graph) c.in_ok-list.list.items c.in_ok-list.ensures.implications (grind (arith, c.if-is_empty.true, c.if-is_empty.ensures));
+  prints = c.in_ok-from_slice.ensures.items;
+}

@@ -1,0 +1,11 @@
+-- What is known before counts are read.
+use Rattle.dag_reader.specs.declared.graph.ReadGraph.{ReadGraph}
+use Rattle.implications_command.specs.Answers.{NoPairs}
+use Rattle.implications_command.specs.Pairs.{ArePairsOf, pairs_view}
+use Rattle.implications_command.specs.declared.listing.First.{First}
+use Rattle.implications_command.specs.declared.listing.First.TheVariants as first
+
+-- the answer that there is no pair, or the pairs
+abbrev pub IsFirst : ReadGraph → First → Type 0
+IsFirst g (first.Replied reply) = NoPairs g reply.outcome reply.text.items
+IsFirst g (first.Pairs p) = ArePairsOf g (pairs_view p)

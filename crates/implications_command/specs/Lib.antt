@@ -1,0 +1,7 @@
+pub mod Pairs
+pub mod Used
+pub mod Lines
+pub mod Answers
+pub mod Firsts
+pub mod Printing
+pub mod Requests

@@ -1,0 +1,52 @@
+ghost use Rattle.std.specs.Prelude.{◌≡◌, IfOk, OnOk};
+ghost use Rattle.mixed_graph.specs.Bits.{has, members_below};
+ghost use Rattle.implications.specs.Implications.{IsImplication};
+ghost use Rattle.implied_differences.specs.Differences.{IsReadable};
+ghost use Rattle.implications_command.specs.Pairs.{ArePairs, pairs_view};
+ghost use Rattle.implications_command.specs.Used.{used_in};
+ghost use Rattle.implications_command.specs.Answers.{ShowsDifferences};
+ghost use Rattle.implications_command.specs.Printing.{Appends};
+
+use crate::lines::{push_difference, push_pair};
+use crate::pairs::Pairs;
+use count_table::Counts;
+use implications::Implication;
+use implied_differences::largest_difference;
+use std::alloc::{AllocError, Global};
+
+/// Appends the line of a pair, and that of the largest difference of the counts.
+fn push_measured(
+    alloc: Global,
+    out: &mut Vec<u8>,
+    pairs: &Pairs,
+    counts: &Counts,
+    i: &Implication,
+) -> Result<(), AllocError>
+    requires pairs { ArePairs (pairs_view pairs.now) }
+    requires implication { IsImplication (pairs_view pairs.now).graph i.now }
+    requires readable { IsReadable counts.now i.now }
+    ensures { OnOk result (Appends (pairs_view pairs.now) counts.now i.now out.old.items out.new.items) }
+{
+    push_pair(out, &pairs.seen.names, i)?;
+    let difference = largest_difference(alloc, counts, i)?;
+    push_difference(alloc, out, &pairs.seen.names, counts, i, difference)?;
+    Ok(())
+}
+
+/// The line of each pair, followed by that of the largest difference of the counts.
+pub fn difference_lines(
+    alloc: Global,
+    pairs: &Pairs,
+    counts: &Counts,
+) -> Result<Vec<u8>, AllocError>
+    requires pairs { ArePairs (pairs_view pairs.now) }
+    requires used { counts.now.vertices ≡ members_below (has (used_in (pairs_view pairs.now).list)) 64 }
+    ensures { IfOk result (λ v. ShowsDifferences (pairs_view pairs.now) counts.now v.items) }
+{
+    let _used = counts.used();
+    let mut text = Vec::new(alloc);
+    for i in &pairs.list {
+        push_measured(alloc, &mut text, pairs, counts, i)?;
+    }
+    Ok(text)
+}

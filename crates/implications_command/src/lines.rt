@@ -1,0 +1,89 @@
+//! The lines of an answer.
+
+ghost use Rattle.std.specs.Prelude.{◌≡◌, ◌++◌, ◌≤◌, All, length, OnOk, IfOk};
+ghost use Rattle.count_eval.specs.Programs.{cell_of};
+ghost use Rattle.count_answers.specs.Lines.{assignments};
+ghost use Rattle.implications_command.specs.Pairs.{IsNamed};
+ghost use Rattle.implications_command.specs.Lines.{pair_line, pair_lines, vertices_of, value_text, difference_line};
+
+use answer_text::{push_set, push_vertex};
+use count_answers::{entries, push_assignment, push_assignments, separator};
+use count_table::Counts;
+use implications::Implication;
+use implied_differences::Difference;
+use mixed_graph::Names;
+use std::alloc::{AllocError, Global};
+
+/// Appends the line of a pair: `A from C given {B}`.
+pub fn push_pair(out: &mut Vec<u8>, names: &Names, i: &Implication) -> Result<(), AllocError>
+    requires { IsNamed (length names.now) i.now }
+    ensures { OnOk result (out.new.items ≡ out.old.items ++ pair_line names.now i.now) }
+{
+    push_vertex(out, names, i.a)?;
+    out.extend_from_slice(b" from ")?;
+    push_vertex(out, names, i.b)?;
+    out.extend_from_slice(b" given ")?;
+    push_set(out, names, i.given)?;
+    out.push(b'\n')?;
+    Ok(())
+}
+
+/// The lines of pairs.
+pub fn pair_lines(alloc: Global, names: &Names, list: &[Implication]) -> Result<Vec<u8>, AllocError>
+    requires { All (IsNamed (length names.now)) list.now }
+    ensures { IfOk result (λ v. v.items ≡ pair_lines names.now list.now) }
+{
+    let mut text = Vec::new(alloc);
+    for i in list {
+        push_pair(&mut text, names, i)?;
+    }
+    Ok(text)
+}
+
+/// Appends the levels of a pair and of what is given in a cell: `A=0,C=0,B=1`.
+fn push_cell(
+    out: &mut Vec<u8>,
+    names: &Names,
+    counts: &Counts,
+    i: &Implication,
+    cell: &[u32],
+) -> Result<(), AllocError>
+    requires named { IsNamed (length names.now) i.now }
+    requires entries { IsNamed (length cell.now) i.now }
+    ensures { OnOk result (out.new.items ≡ out.old.items ++ assignments names.now counts.now (cell_of cell.now) (vertices_of i.now)) }
+{
+    push_assignment(out, names, counts, i.a, cell[i.a as usize])?;
+    out.push(b',')?;
+    push_assignment(out, names, counts, i.b, cell[i.b as usize])?;
+    out.extend_from_slice(separator(i.given))?;
+    push_assignments(out, names, counts, i.given, cell)?;
+    Ok(())
+}
+
+/// Appends the value of a difference: `largest difference -5 at `.
+fn push_value(alloc: Global, out: &mut Vec<u8>, value: i128) -> Result<(), AllocError>
+    ensures { OnOk result (out.new.items ≡ out.old.items ++ value_text value) }
+{
+    let text = format!(in alloc; "largest difference {value} at ")?;
+    out.extend_from_slice(text.as_bytes())?;
+    Ok(())
+}
+
+/// Appends the line of a difference: `largest difference -5 at A=0,C=0,B=1`.
+pub fn push_difference(
+    alloc: Global,
+    out: &mut Vec<u8>,
+    names: &Names,
+    counts: &Counts,
+    i: &Implication,
+    d: Difference,
+) -> Result<(), AllocError>
+    requires named { IsNamed (length names.now) i.now }
+    requires few { length names.now ≤ 64 }
+    ensures { OnOk result (out.new.items ≡ out.old.items ++ difference_line names.now counts.now i.now d) }
+{
+    push_value(alloc, out, d.value)?;
+    push_cell(out, names, counts, i, entries(&d.cell))?;
+    out.push(b'\n')?;
+    Ok(())
+}

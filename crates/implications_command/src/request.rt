@@ -1,0 +1,72 @@
+ghost use Rattle.std.specs.Prelude.{◌≡◌, false, List, IfOk, IsErrOf, IsTrue, option_map};
+ghost use Rattle.word_forms.specs.Form.{Use};
+ghost use Rattle.word_values.specs.Gives.{HoldsCall};
+ghost use Rattle.implications_command.specs.Requests.{AreInputs};
+
+use request_values::{RequestFault, are_both_standard, needed_word};
+use word_forms::Entry;
+use word_values::Values;
+
+/// `implications FILE [COUNTS] [--count NAME]`
+pub const ROW: Entry = Entry {
+    name: "implications",
+    positionals: &["file"],
+    extra: &["counts"],
+    needed: &[],
+    options: &["count"],
+    flags: &[],
+};
+
+/// What is asked for.
+#[derive(Drop)]
+pub struct Request<'a> {
+    pub file: &'a str,
+    pub counts: Option<&'a str>,
+    pub count: Option<&'a [u8]>,
+}
+
+impl<'a> Request<'a> {
+    ghost use Rattle.implications_command.specs.Requests.{Request as Asked, implications_row, request_of, IsRequest};
+
+    /// What the words ask for, exactly where their values are what they have to be.
+    pub fn read(values: &Values<'a>) -> Result<Self, RequestFault>
+        ensures ok { (uses : List Use) → HoldsCall implications_row uses values.now → IfOk result (λ r. IsRequest uses (request_of r)) }
+        ensures none { (uses : List Use) → HoldsCall implications_row uses values.now → IsErrOf result RequestFault.NotUnderstood → (r : Asked) → IsRequest uses r → ⊥ }
+    {
+        let file = match needed_word(values, "file") {
+            Ok(file) => file,
+            Err(fault) => return Err(fault),
+        };
+        let counts = values.word("counts");
+        let count = bytes_of(values.option("count"));
+        if !are_inputs(file, counts, count) {
+            return Err(RequestFault::NotUnderstood);
+        }
+        Ok(Request {
+            file,
+            counts,
+            count,
+        })
+    }
+}
+
+/// Whether the inputs go together: counts aren't standard input where the file is, and no column is named without counts.
+fn are_inputs(file: &str, counts: Option<&str>, count: Option<&[u8]>) -> bool
+    ensures yes { IsTrue result → AreInputs file.now (option_map (λ s. s.now) counts.entry) (option_map (λ s. s.now) count.entry) }
+    ensures no { result ≡ false → AreInputs file.now (option_map (λ s. s.now) counts.entry) (option_map (λ s. s.now) count.entry) → ⊥ }
+{
+    match counts {
+        Some(counts) => !are_both_standard(file, counts),
+        None => count.is_none(),
+    }
+}
+
+/// The bytes of a text, where it is given.
+fn bytes_of<'a>(text: Option<&'a str>) -> Option<&'a [u8]>
+    ensures { option_map (λ s. s.now) result ≡ option_map (λ s. s.now) text.entry }
+{
+    match text {
+        Some(text) => Some(text.as_bytes()),
+        None => None,
+    }
+}

@@ -1,0 +1,19 @@
+-- What is printed where a district stops.
+use Rattle.std.specs.Prelude.{ℕ, List, ◌++◌, codes}
+use Rattle.answer_text.specs.Texts.{set_text}
+use Rattle.expr_text.specs.Write.{text_of}
+use Rattle.hedge.specs.declared.kinds.Hedge.{Hedge}
+use Rattle.identify_text.specs.Answers.{effect}
+use Rattle.identify_text.specs.HedgeLines.{sets_line}
+
+-- `P(Y|do(X)) has no formula found from these experiments`
+abbrev pub unfound_line : List (List ℕ) → (x y : ℕ) → List ℕ
+unfound_line names x y = text_of names (effect x y) ++ codes " has no formula found from these experiments\n"
+
+-- `district {Y}`
+abbrev pub district_line : List (List ℕ) → ℕ → List ℕ
+district_line names district = codes "district " ++ (set_text names district ++ codes "\n")
+
+-- that no formula is found, the district that stops, and the sets of the hedge
+abbrev pub stop_answer : List (List ℕ) → (x y district : ℕ) → Hedge → List ℕ
+stop_answer names x y district h = unfound_line names x y ++ (district_line names district ++ sets_line names h)

@@ -1,0 +1,31 @@
+-- What `surrogate` is asked for.
+use Rattle.std.specs.Prelude.{◌≡◌, List, Some, [], ◌∷◌, codes, option_map}
+use Rattle.word_forms.specs.Form.{Text, Row, Use, word_of, value_of}
+use Rattle.request_values.specs.Values as values
+use Rattle.replies.specs.Observed.{Names}
+use Rattle.word_lists.specs.Views.{names_in}
+use Rattle.surrogate_command.specs.Experiments.{Lists, AreNeededExperiments}
+use Rattle.surrogate_command.specs.Views.{lists_in}
+use Rattle.surrogate_command.specs.declared.request.Request.{Request as CodeRequest}
+
+-- `surrogate FILE [--x L] [--y L] --experiments E`
+abbrev pub surrogate_row : Row
+surrogate_row = record { name = codes "surrogate"; positionals = codes "file" ∷ []; extra = []; needed = codes "experiments" ∷ []; options = codes "x" ∷ codes "y" ∷ []; flags = [] }
+
+-- a request
+pub record Request : Type 0 where
+  pub file : Text
+  pub x : Names
+  pub y : Names
+  pub experiments : Lists
+
+-- the request
+abbrev pub request_of : CodeRequest → Request
+request_of r = record { file = r.file.now; x = option_map names_in r.x; y = option_map names_in r.y; experiments = lists_in r.experiments }
+
+-- the uses ask for this
+pub record IsRequest (uses : List Use) (r : Request) : Type 0 where
+  pub file : word_of surrogate_row uses (codes "file") ≡ Some r.file
+  pub x : values.IsListed (value_of uses (codes "x")) r.x
+  pub y : values.IsListed (value_of uses (codes "y")) r.y
+  pub experiments : AreNeededExperiments (value_of uses (codes "experiments")) r.experiments

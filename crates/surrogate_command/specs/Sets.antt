@@ -1,0 +1,46 @@
+-- What the lists of an effect over experiments stand for: sets of vertices, or the first fault.
+use Rattle.std.specs.Prelude.{ℕ, ◌≡◌, false, List, [], ◌∷◌, Option, None}
+use Rattle.targets.specs.declared.fault.TargetFault.{TargetFault}
+use Rattle.targets.specs.declared.fault.TargetFault.TheVariants.{EmptyX, NoMemory}
+use Rattle.targets.specs.Targets.{NameFault, first_fault, or_fault, IsSetOf, IsFaultOf, EffectLists, effect_fault, AreEffectSets}
+
+-- the lists of an effect, and one for each experiment
+pub record SurrogateLists : Type 0 where
+  pub effect : EffectLists
+  pub experiments : List (List (List ℕ))
+
+-- lists of these parts
+abbrev pub lists_of : (all observed x y : List (List ℕ)) → List (List (List ℕ)) → SurrogateLists
+lists_of all observed x y experiments = record { effect = record { all = all; observed = observed; x = x; y = y }; experiments = experiments }
+
+-- the first name at fault of experiments in turn, each of which may share names with the others
+abbrev pub experiments_fault : (all observed : List (List ℕ)) → List (List (List ℕ)) → Option NameFault
+experiments_fault all observed [] = None
+experiments_fault all observed (e ∷ es) = or_fault (first_fault all observed (λ n. false) e) (experiments_fault all observed es)
+
+-- the first name at fault: x first, then y, then each experiment, which may share names with x and y
+abbrev pub surrogate_fault : SurrogateLists → Option NameFault
+surrogate_fault l = or_fault (effect_fault l.effect) (experiments_fault l.effect.all l.effect.observed l.experiments)
+
+-- the masks hold the observed vertices whose names the experiments list, one for each
+abbrev pub AreExperimentSets : (observed : List (List ℕ)) → List (List (List ℕ)) → List ℕ → Type 0
+AreExperimentSets observed [] [] = Unit {0}
+AreExperimentSets observed [] (z ∷ zs) = ⊥
+AreExperimentSets observed (e ∷ es) [] = ⊥
+AreExperimentSets observed (e ∷ es) (z ∷ zs) = IsSetOf observed e z × AreExperimentSets observed es zs
+
+-- the sets of an effect over experiments: no name is at fault, and y isn't empty
+pub record AreSurrogateSets (l : SurrogateLists) (x y : ℕ) (zs : List ℕ) : Type 0 where
+  pub no_fault : surrogate_fault l ≡ None
+  pub effect : AreEffectSets l.effect x y
+  pub experiments : AreExperimentSets l.effect.observed l.experiments zs
+
+-- the fault of the lists: the first name at fault; else y is empty
+abbrev pub IsSurrogateFault : SurrogateLists → TargetFault → Type 0
+IsSurrogateFault l EmptyX = ⊥
+IsSurrogateFault l f = IsFaultOf (surrogate_fault l) l.effect.y l.effect.x f
+
+-- the fault of the lists; want of memory may stand in its place
+abbrev pub IsSurrogateFaultOrMemory : SurrogateLists → TargetFault → Type 0
+IsSurrogateFaultOrMemory l NoMemory = Unit {0}
+IsSurrogateFaultOrMemory l f = IsSurrogateFault l f

@@ -1,0 +1,86 @@
+ghost use Rattle.std.specs.Prelude.{◌≡◌, ◌<◌, ◌≤◌, true, IfOk, length, option_map};
+ghost use Rattle.mixed_graph.specs.Bits.{has};
+ghost use Rattle.mixed_graph.specs.Sets.{Within, Apart};
+ghost use Rattle.mixed_graph.specs.Shown.{graph_of};
+ghost use Rattle.prob_expr.specs.Listed.{masks_of};
+ghost use Rattle.prob_expr.specs.View.{target_view};
+ghost use Rattle.do_derivation.specs.Accepts.{are_sets};
+ghost use Rattle.id_recursion.specs.Answers.{effect_on};
+ghost use Rattle.word_lists.specs.Views.{names_in};
+ghost use Rattle.surrogate_command.specs.Answers.{SurrogateAnswer, SetsAnswer};
+ghost use Rattle.surrogate_command.specs.Experiments.{AreFilled};
+ghost use Rattle.surrogate_command.specs.Views.{lists_in};
+
+use crate::effect::{Asked, asked_effect};
+use crate::sets::SurrogateSets;
+use crate::texts::stop_answer;
+use dag_reader::ReadGraph;
+use identify_text::formula_answer;
+use latent_projection::Observed;
+use mixed_graph::VSet;
+use prob_expr::Target;
+use replies::{Outcome, Reply};
+use std::alloc::{AllocError, Global};
+use surrogates::{Surrogate, identify_with};
+
+/// Whether the effect of x on y can be computed from observations and from experiments, in the observed graph: a formula for
+/// P(y | do(x)), or the first district that no experiment frees (Bareinboim and Pearl 2012).
+///
+/// A list that is missing is that of the exposures or of the outcomes. The only error is want of memory.
+pub fn surrogate_reply(
+    alloc: Global,
+    graph: &ReadGraph,
+    x: Option<Vec<Vec<u8>>>,
+    y: Option<Vec<Vec<u8>>>,
+    experiments: Vec<Vec<Vec<u8>>>,
+) -> Result<Reply, AllocError>
+    requires { AreFilled (lists_in experiments) }
+    ensures { IfOk result (λ r. SurrogateAnswer graph.now (option_map names_in x) (option_map names_in y) (lists_in experiments) r.outcome r.text.items) }
+{
+    match asked_effect(alloc, graph, x, y, &experiments)? {
+        Asked::Effect(effect) => decide(alloc, &effect.seen, &effect.sets),
+        Asked::Refused(reply) => Ok(reply),
+    }
+}
+
+/// The answer for sets of the observed graph.
+fn decide(alloc: Global, seen: &Observed, sets: &SurrogateSets) -> Result<Reply, AllocError>
+    requires named { length seen.now.names ≡ seen.now.graph.n }
+    requires x { Within seen.now.graph.n (has sets.now.x.bits) }
+    requires y { Within seen.now.graph.n (has sets.now.y.bits) }
+    requires apart { Apart (has sets.now.x.bits) (has sets.now.y.bits) }
+    requires some { 0 < sets.now.y.bits }
+    requires few { length sets.now.experiments.items ≤ 8 }
+    requires experiments { are_sets seen.now.graph.n (masks_of sets.now.experiments.items) ≡ true }
+    ensures { IfOk result (λ r. SetsAnswer (graph_of seen.now.graph) seen.now.names (masks_of sets.now.experiments.items) sets.now.x.bits sets.now.y.bits r.outcome r.text.items) }
+{
+    let experiments = sets.experiments.as_slice();
+    match identify_with(alloc, &seen.graph, sets.x, sets.y, experiments)? {
+        Surrogate::Formula(formula, _) => Ok(Reply {
+            outcome: Outcome::Yes,
+            text: formula_answer(alloc, &formula, &effect_of(sets), &seen.names)?,
+        }),
+        Surrogate::Stopped {
+            district,
+            hedge,
+            ..
+        } => Ok(Reply {
+            outcome: Outcome::No,
+            text: stop_answer(alloc, sets.x, sets.y, district, &hedge, &seen.names)?,
+        }),
+    }
+}
+
+/// The effect of the sets.
+fn effect_of(sets: &SurrogateSets) -> Target
+    ensures view { target_view result ≡ effect_on sets.now.x.bits sets.now.y.bits }
+    ensures x { result.x ≡ sets.now.x }
+    ensures y { result.y ≡ sets.now.y }
+    ensures given { result.given.bits ≡ 0 }
+{
+    Target {
+        x: sets.x,
+        y: sets.y,
+        given: VSet { bits: 0 },
+    }
+}

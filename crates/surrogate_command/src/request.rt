@@ -1,0 +1,85 @@
+ghost use Rattle.std.specs.Prelude.{◌≡◌, ℕ, List, true, IfOk, IsErrOf};
+ghost use Rattle.word_forms.specs.Form.{Row, Use, is_among, value_names, value_of};
+ghost use Rattle.word_values.specs.Gives.{HoldsCall};
+ghost use Rattle.surrogate_command.specs.Experiments.{AreFilled, AreNeededExperiments, Lists};
+ghost use Rattle.surrogate_command.specs.Views.{lists_in};
+
+use crate::experiments::read_experiments;
+use request_values::{RequestFault, listed_names, needed_word};
+use std::alloc::Global;
+use word_forms::Entry;
+use word_values::Values;
+
+/// `surrogate FILE [--x L] [--y L] --experiments E`
+pub const ROW: Entry = Entry {
+    name: "surrogate",
+    positionals: &["file"],
+    extra: &[],
+    needed: &["experiments"],
+    options: &["x", "y"],
+    flags: &[],
+};
+
+/// What is asked for.
+#[derive(Drop)]
+pub struct Request<'a> {
+    pub file: &'a str,
+    pub x: Option<Vec<Vec<u8>>>,
+    pub y: Option<Vec<Vec<u8>>>,
+    pub experiments: Vec<Vec<Vec<u8>>>,
+    pub ghost filled: { AreFilled (lists_in experiments) },
+}
+
+impl<'a> Request<'a> {
+    ghost use Rattle.surrogate_command.specs.Requests.{Request as Asked, surrogate_row, request_of, IsRequest};
+
+    /// What the words ask for, exactly where their values are what they have to be.
+    pub fn read(alloc: Global, values: &Values<'a>) -> Result<Self, RequestFault>
+        ensures ok { (uses : List Use) → HoldsCall surrogate_row uses values.now → IfOk result (λ r. IsRequest uses (request_of r)) }
+        ensures none { (uses : List Use) → HoldsCall surrogate_row uses values.now → IsErrOf result RequestFault.NotUnderstood → (r : Asked) → IsRequest uses r → ⊥ }
+    {
+        let file = match needed_word(values, "file") {
+            Ok(file) => file,
+            Err(fault) => return Err(fault),
+        };
+        let x = match listed_names(alloc, values, "x") {
+            Ok(x) => x,
+            Err(fault) => return Err(fault),
+        };
+        let y = match listed_names(alloc, values, "y") {
+            Ok(y) => y,
+            Err(fault) => return Err(fault),
+        };
+        let experiments = match needed_experiments(alloc, values, "experiments") {
+            Ok(experiments) => experiments,
+            Err(fault) => return Err(fault),
+        };
+        Ok(Request {
+            file,
+            x,
+            y,
+            experiments,
+        })
+    }
+}
+
+/// The experiments that the value of an option lists.
+fn needed_experiments(
+    alloc: Global,
+    values: &Values<'_>,
+    name: &str,
+) -> Result<Vec<Vec<Vec<u8>>>, RequestFault>
+    ensures ok { (row : Row) (uses : List Use) → HoldsCall row uses values.now → is_among (value_names row) name.now ≡ true → IfOk result (λ v. AreNeededExperiments (value_of uses name.now) (lists_in v)) }
+    ensures none { (row : Row) (uses : List Use) → HoldsCall row uses values.now → is_among (value_names row) name.now ≡ true → IsErrOf result RequestFault.NotUnderstood
+        → (lists : Lists) → AreNeededExperiments (value_of uses name.now) lists → ⊥ }
+    ensures filled { IfOk result (λ v. AreFilled (lists_in v)) }
+{
+    match values.option(name) {
+        None => Err(RequestFault::NotUnderstood),
+        Some(text) => match read_experiments(alloc, text) {
+            Ok(Some(experiments)) => Ok(experiments),
+            Ok(None) => Err(RequestFault::NotUnderstood),
+            Err(_) => Err(RequestFault::NoMemory),
+        },
+    }
+}

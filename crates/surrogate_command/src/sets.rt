@@ -1,0 +1,82 @@
+//! The sets that the lists of an effect over experiments name.
+
+ghost use Rattle.std.specs.Prelude.{◌≡◌, None, IfOk, IfErr, OnOk, map};
+ghost use Rattle.mixed_graph.specs.Names.{texts};
+ghost use Rattle.prob_expr.specs.Listed.{masks_of};
+ghost use Rattle.targets.specs.Targets.{IsNameFault};
+ghost use Rattle.word_lists.specs.Views.{names_in};
+ghost use Rattle.surrogate_command.specs.Sets.{experiments_fault, AreExperimentSets, AreSurrogateSets, IsSurrogateFaultOrMemory, lists_of};
+
+use mixed_graph::{Names, VSet};
+use std::alloc::Global;
+use targets::{TargetFault, walk};
+
+/// The sets that experiments name, each walked by itself; else the first name at fault.
+fn experiment_sets(
+    alloc: Global,
+    all: &Names,
+    observed: &Names,
+    experiments: &[Vec<Vec<u8>>],
+) -> Result<Vec<VSet>, TargetFault>
+    ensures none { OnOk result (experiments_fault all.now observed.now (map names_in experiments.now) ≡ None) }
+    ensures sets { IfOk result (λ v. AreExperimentSets observed.now (map names_in experiments.now) (masks_of v.items)) }
+    ensures fault { IfErr result (IsNameFault (experiments_fault all.now observed.now (map names_in experiments.now))) }
+{
+    let mut sets = Vec::new(alloc);
+    for experiment in experiments {
+        let set = match walk(alloc, all, observed, VSet::empty(), experiment.as_slice()) {
+            Ok(set) => set,
+            Err(fault) => return Err(fault),
+        };
+        match sets.push(set) {
+            Ok(()) => {}
+            Err(_) => return Err(TargetFault::NoMemory),
+        }
+    }
+    Ok(sets)
+}
+
+/// The sets of an effect of x on y over experiments.
+#[derive(Drop)]
+pub struct SurrogateSets {
+    pub x: VSet,
+    pub y: VSet,
+    pub experiments: Vec<VSet>,
+}
+
+/// The sets that the lists of an effect over experiments name, all of them observed. x may be empty.
+///
+/// No name stands twice in x and y, nor twice in one experiment. Else the first name at fault, x walked first, then y,
+/// then each experiment; else `EmptyY`.
+pub fn find_surrogate_sets(
+    alloc: Global,
+    all: &Names,
+    observed: &Names,
+    x: &[Vec<u8>],
+    y: &[Vec<u8>],
+    experiments: &[Vec<Vec<u8>>],
+) -> Result<SurrogateSets, TargetFault>
+    ensures sets { IfOk result (λ s. AreSurrogateSets (lists_of all.now observed.now (texts x.now) (texts y.now) (map names_in experiments.now)) s.x.bits s.y.bits (masks_of s.experiments.items)) }
+    ensures fault { IfErr result (IsSurrogateFaultOrMemory (lists_of all.now observed.now (texts x.now) (texts y.now) (map names_in experiments.now))) }
+{
+    let exposures = match walk(alloc, all, observed, VSet::empty(), x) {
+        Ok(set) => set,
+        Err(fault) => return Err(fault),
+    };
+    let outcomes = match walk(alloc, all, observed, exposures, y) {
+        Ok(set) => set,
+        Err(fault) => return Err(fault),
+    };
+    let experiments = match experiment_sets(alloc, all, observed, experiments) {
+        Ok(sets) => sets,
+        Err(fault) => return Err(fault),
+    };
+    if y.is_empty() {
+        return Err(TargetFault::EmptyY);
+    }
+    Ok(SurrogateSets {
+        x: exposures,
+        y: outcomes,
+        experiments,
+    })
+}
