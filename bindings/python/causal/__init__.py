@@ -1,7 +1,7 @@
 """Answers about causal diagrams with hidden confounders, from the proved library of `causal`.
 
-A `Diagram` is asked: whether sets are separated, whether a rule of do-calculus applies, for a formula of an effect or a hedge, for
-adjustment sets, and for effects in data. What each answer is proved to say stands in its class and method. Nothing about
+A `Diagram` is asked: whether sets are separated, whether a rule of do-calculus applies, for a formula of an effect or a hedge, also
+from experiments on other variables, for adjustment sets, for what it implies of data, and for effects in data. What each answer is proved to say stands in its class and method. Nothing about
 causality is computed in Python: each question is a call of the library, and its printed answer is read.
 
 >>> import causal
@@ -29,11 +29,13 @@ from causal.errors import (
     UnreadableAnswer,
 )
 from causal.formula import Formula, Hedge, HedgeSets, Term
+from causal.surrogates import Stopped
 from causal.version import VERSION
 
 if TYPE_CHECKING:
     from causal.bootstrap import Bootstrap, ContrastInterval, Interval
     from causal.effects import Contrast, Effect, Effects, Value
+    from causal.implications import Difference, Implication, Implications
 
 __version__ = VERSION
 
@@ -49,6 +51,7 @@ __all__ = [
     "CountsError",
     "Diagram",
     "DiagramError",
+    "Difference",
     "Effect",
     "Effects",
     "Equivalence",
@@ -56,6 +59,8 @@ __all__ = [
     "Formula",
     "Hedge",
     "HedgeSets",
+    "Implication",
+    "Implications",
     "Interval",
     "LibraryMissing",
     "MissingValues",
@@ -66,6 +71,7 @@ __all__ = [
     "RequestError",
     "RuleAnswer",
     "Separation",
+    "Stopped",
     "TargetError",
     "Term",
     "UnreadableAnswer",
@@ -82,6 +88,9 @@ _LATER = {
     "Effect": "causal.effects",
     "Effects": "causal.effects",
     "Value": "causal.effects",
+    "Difference": "causal.implications",
+    "Implication": "causal.implications",
+    "Implications": "causal.implications",
 }
 
 

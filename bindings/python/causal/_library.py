@@ -50,18 +50,21 @@ def library_path() -> str:
 
 
 @functools.lru_cache(maxsize=None)
-def _load() -> Tuple[Any, Any]:
-    """The module `ctypes` and the call. A `CDLL` lets other threads run during a call, and each call has memory of its own."""
+def _load() -> Tuple[Any, Any, Any, Any]:
+    """The module `ctypes` and the calls. A `CDLL` lets other threads run during a call, and each call has memory of its own."""
     import ctypes
 
     try:
-        call = ctypes.CDLL(library_path()).causal_run
+        library = ctypes.CDLL(library_path())
+        run, keep, separated = library.causal_run, library.causal_keep, library.causal_separated
     except (OSError, AttributeError) as cause:
         raise LibraryMissing(f"the library at {library_path()} can't be used: {cause}") from cause
     size, spans, room = ctypes.c_size_t, ctypes.c_void_p, ctypes.c_char_p
-    call.restype = ctypes.c_uint8
-    call.argtypes = [ctypes.c_char_p, size, spans, size, spans, size, room, size, room, size, ctypes.c_void_p]
-    return ctypes, call
+    run.restype = keep.restype = separated.restype = ctypes.c_uint8
+    run.argtypes = [ctypes.c_char_p, size, spans, size, spans, size, room, size, room, size, ctypes.c_void_p]
+    keep.argtypes = [ctypes.c_char_p, size, ctypes.c_void_p]
+    separated.argtypes = [ctypes.c_void_p, ctypes.c_uint64, ctypes.c_uint64, ctypes.c_uint64]
+    return ctypes, run, keep, separated
 
 
 def as_bytes(text: Text) -> bytes:
@@ -78,7 +81,7 @@ def run(words: Iterable[Text], inputs: Optional[Mapping[Text, Text]] = None) -> 
     >>> run(["identify", "g", "--x", "X", "--y", "Y"], {"g": "dag{Z->X Z->Y X->Y}"})
     Reply(status=0, out=b'P(Y|do(X)) = sum{Z} P(Z) * P(Y|Z,X)\\n', err=b'')
     """
-    ctypes, call = _load()
+    ctypes, call, _, _ = _load()
     named = inputs or {}
     words = list(words)
     parts = [as_bytes(text) for text in words] + [as_bytes(text) for pair in named.items() for text in pair]
@@ -102,6 +105,44 @@ def run(words: Iterable[Text], inputs: Optional[Mapping[Text, Text]] = None) -> 
         if sizes[0] <= out_room and sizes[1] <= err_room:
             return Reply(status, ctypes.string_at(out, sizes[0]), ctypes.string_at(err, sizes[1]))
         out_room, err_room = max(sizes[0], out_room), max(sizes[1], err_room)
+
+
+class KeptGraph:
+    """The observed graph of a diagram that was read once, of which separations are asked. The vertices have these names.
+
+    >>> from causal._library import KeptGraph
+    >>> chain = KeptGraph(b"dag{A->B->C}", ("A", "B", "C"))
+    >>> chain.separated(["A"], ["C"], ["B"]), chain.separated(["A"], ["C"], []), chain.separated(["A"], ["D"], [])
+    (True, False, None)
+    """
+
+    # As `causal_graph` in include/causal.h: a number of 32 bits, as many unused, and three rows of 64 numbers of 64 bits.
+    _SIZE = 8 + 3 * 64 * 8
+
+    def __init__(self, text: bytes, names: Iterable[str]) -> None:
+        ctypes, _, keep, self._separated = _load()
+        self._graph = ctypes.create_string_buffer(self._SIZE)
+        self._bits = {name: 1 << place for place, name in enumerate(names)}
+        status = keep(text, len(text), self._graph)
+        if status:
+            raise MemoryError("causal was refused memory") if status in NO_MEMORY else ValueError("the text is refused")
+
+    def _mask(self, names: Iterable[str]) -> int:
+        mask = 0
+        for name in names:
+            bit = self._bits[name]
+            if mask & bit:
+                raise KeyError(name)
+            mask |= bit
+        return mask
+
+    def separated(self, x: Iterable[str], y: Iterable[str], given: Iterable[str]) -> Optional[bool]:
+        """Whether the sets are separated; None where that can't be asked of them: `run` says why."""
+        try:
+            status = self._separated(self._graph, self._mask(x), self._mask(y), self._mask(given))
+        except KeyError:
+            return None
+        return None if status > 1 else status == 0
 
 
 def ask(command: str, text: bytes, *options: Text, second: Optional[bytes] = None, levels: Any = None) -> Tuple[int, str]:

@@ -4,10 +4,11 @@ from __future__ import annotations
 from typing import TYPE_CHECKING, Any, Dict, Iterable, List, Mapping, Optional, Tuple, Union
 
 from causal import answers, formula
-from causal._library import Text, as_bytes, ask
+from causal._library import KeptGraph, Text, as_bytes, ask
 from causal.errors import RequestError
 from causal.formula import Formula, Hedge, HedgeSets
-from causal.names import Names, list_word
+from causal.names import Names, list_word, names_of
+from causal.surrogates import Stopped, experiments_word, read_surrogate
 
 if TYPE_CHECKING:
     import os
@@ -18,6 +19,7 @@ if TYPE_CHECKING:
 
     from causal.bootstrap import Bootstrap
     from causal.effects import Contrast, Effects
+    from causal.implications import Implications
     from causal.tables import Data
 
 
@@ -52,6 +54,11 @@ class Diagram:
         self.source = as_bytes(text)
         self._text = ask("graph", self.source)[1]
         self._content = answers.read_graph(self._text)
+        self._kept: Optional[KeptGraph] = None
+
+    def __getstate__(self) -> Dict[str, Any]:
+        # (what is kept for the library belongs to this process)
+        return {**self.__dict__, "_kept": None}
 
     # Where diagrams come from.
 
@@ -242,6 +249,27 @@ class Diagram:
         """
         return answers.read_separation(ask("separate", self.source, *options(x=x, y=y, given=given))[1])
 
+    def is_separated(self, x: Names, y: Names, given: Names = ()) -> bool:
+        """Whether x and y are separated given a set: `separated` without the path, for many questions about one diagram.
+
+        The diagram is read at the first question and kept; each further one takes some microseconds.
+
+        >>> from causal import Diagram
+        >>> chain = Diagram("dag { A -> B -> C }")
+        >>> chain.is_separated("A", "C", given="B"), chain.is_separated("A", "C")
+        (True, False)
+        """
+        x, y, given = names_of(x), names_of(y), names_of(given)
+        if self._kept is None:
+            self._kept = KeptGraph(self.source, self._observed())
+        answer = self._kept.separated(x, y, given)
+        return bool(self.separated(x, y, given)) if answer is None else answer
+
+    def _observed(self) -> Tuple[str, ...]:
+        """The observed vertices in order."""
+        roles = self._content.roles
+        return tuple(name for name in self._content.vertices if roles.get(name) != "latent")
+
     def rule(self, number: int, y: Names, z: Names, do: Names = (), given: Names = ()) -> answers.RuleAnswer:
         """Whether a rule of do-calculus applies: the answer counts as true where it does, and else has an open path.
 
@@ -254,11 +282,14 @@ class Diagram:
         words = ["--rule", str(number), *options(y=y, z=z, do=do, given=given)]
         return answers.read_rule(ask("rule", self.source, *words)[1])
 
-    def identify(self, x: Optional[Names] = None, y: Optional[Names] = None) -> Union[Formula, Hedge]:
+    def identify(
+        self, x: Optional[Names] = None, y: Optional[Names] = None, given: Optional[Names] = None
+    ) -> Union[Formula, Hedge]:
         """A formula for the effect of x on y, or a hedge, which counts as false.
 
         It is proved that the formula is the effect in every positive finite model that fits the diagram, or that the hedge's two
-        models agree on all observations and differ on the effect.
+        models agree on all observations and differ on the effect. With `given` the effect among those with the same values of
+        these variables is asked for, `P(y | do(x), given)`; a hedge is then one of a joint effect (`Hedge.conditional`).
 
         >>> from causal import Diagram
         >>> napkin = Diagram("dag { W -> Z -> X -> Y W <-> X W <-> Y }").identify("X", "Y")
@@ -266,14 +297,36 @@ class Diagram:
         q0 / (sum{Y} q0) ('sum{W} P(W) * P(X|W,Z) * P(Y|W,Z,X)',) ('Z',)
         >>> bool(Diagram("dag { X -> Y X <-> Y }").identify("X", "Y"))
         False
+        >>> print(Diagram("dag { Z -> X Z -> Y X -> Y }").identify("X", "Y", given="Z"))
+        P(Y|do(X),Z) = P(Y|Z,X)
         """
-        words = options(x=x, y=y)
+        words = options(x=x, y=y, given=given)
         status, text = ask("identify", self.source, *words)
 
         def ask_form(form: str) -> str:
             return ask("identify", self.source, *words, form)[1].rstrip("\n")
 
         return formula.read_hedge(text, ask_form) if status == 1 else formula.read_formula(text, ask_form)
+
+    def surrogate(
+        self, x: Optional[Names] = None, y: Optional[Names] = None, experiments: Union[str, Iterable[Names]] = ()
+    ) -> Union[Formula, Stopped]:
+        """A formula for the effect of x on y that may use experiments, or why none was found, which counts as false.
+
+        Each experiment is one name or several: variables that were set in a trial, under which all others were observed. It is
+        proved that a formula, whose terms are observed or under one of the experiments, is the effect in every positive finite
+        model that fits the diagram.
+
+        >>> from causal import Diagram
+        >>> diagram = Diagram("dag { Z -> X -> Y Z <-> X Z <-> Y }")
+        >>> bool(diagram.identify("X", "Y"))
+        False
+        >>> print(diagram.surrogate("X", "Y", experiments=["Z"]))
+        P(Y|do(X)) = P(Y|do(Z),X)
+        free {Z}
+        """
+        words = [*options(x=x, y=y), "--experiments", experiments_word(experiments)]
+        return read_surrogate(ask("surrogate", self.source, *words)[1])
 
     def check(self, certificate: Union[Text, Formula, Hedge]) -> answers.Check:
         """Whether a certificate is accepted, whoever wrote it: the answer counts as true where it is.
@@ -333,6 +386,23 @@ class Diagram:
         open in the second: A <- B -> C
         """
         return answers.read_equivalence(ask("equivalent", self.source, *options(x=x, y=y, given=given), second=other.source)[1])
+
+    def implications(self, data: Optional[Data] = None, count: Optional[str] = None, *, missing: str = "error") -> Implications:
+        """The testable implications: each pair of variables that some set separates, with one such set.
+
+        With data, each pair has the largest difference of the counts from its independence, and the levels where it is. The data,
+        `count` and `missing` are as in `effects`, with a column for each variable of the pairs and their sets. A difference is no
+        test: the counts of a sample differ from 0 by chance too.
+
+        >>> from causal import Diagram
+        >>> data = {"A": [0, 0, 1, 1], "B": [0, 0, 0, 0], "C": [0, 0, 0, 1]}
+        >>> print(Diagram("dag { A <- B -> C }").implications(data))
+        A from C given {B}
+        largest difference 2 at A=0,C=0,B=0
+        """
+        from causal.implications import implications_of
+
+        return implications_of(self, data, count, missing)
 
     # Effects in data.
 

@@ -48,7 +48,7 @@ TARGET = {
 CERTIFICATE = {
     1: "the text is no JSON",
     2: "the value at the key {0} is missing, or hasn't its form",
-    3: "the version is {0}, and not 1",
+    3: "the version {0} isn't known",
     4: "steps are nested more than 60 deep",
     5: "no vertex is named {0}",
     6: "the text is over 67108864 bytes",

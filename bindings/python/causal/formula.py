@@ -77,10 +77,11 @@ def variables_of(text: str) -> Set[str]:
 
 @dataclass(frozen=True)
 class Formula:
-    """A formula without interventions for an effect.
+    """A formula for an effect, without interventions but those of experiments that were asked about.
 
     Where `identify` gives it, it is proved that the formula equals the effect in every positive finite model that fits the
-    diagram, at every assignment. Where `adjusts` or `check` gives it, the same holds, on what they have found.
+    diagram, at every assignment. Where `adjusts` or `check` gives it, the same holds, on what they have found. Where `surrogate`
+    gives it, its terms may be under an experiment that was asked about, and the same holds.
 
     `target` is the effect, `expression` its formula and `definitions` those of q0, q1 and so on; `free` names what the formula
     reads beside the target's sets. `text` is the whole answer as it is printed.
@@ -235,6 +236,9 @@ class Hedge(HedgeSets):
     `big`, `small` and `roots` are the sets; `choice` gives members of the big set their child; `links` are the bidirected edges
     that join it, found in turn; `causes` are the hidden causes of both models; `first` and `second` are the bits of each model.
 
+    Where a condition was given, `conditional` is the effect that was asked for, and `target` the joint effect of which the hedge
+    speaks: by it the joint effect can't be computed from observations, and nothing is claimed of the conditional one.
+
     >>> from causal import Diagram
     >>> hedge = Diagram("dag{ X -> Y X <-> Y }").identify("X", "Y")
     >>> hedge.big, hedge.small, hedge.links, hedge.probabilities
@@ -250,6 +254,7 @@ class Hedge(HedgeSets):
     second: Tuple[Bit, ...] = ()
     event: Tuple[str, ...] = ()
     noise: int = 0
+    conditional: Optional[Term] = None
     _ask: Optional[AskForm] = field(default=None, repr=False, compare=False)
 
     @property
@@ -262,7 +267,8 @@ class Hedge(HedgeSets):
     @property
     def text(self) -> str:
         """The answer as it is printed."""
-        lines = [HedgeSets.__str__(self)]
+        asked = "" if self.conditional is None else f"{self.conditional} not identified; "
+        lines = [asked + HedgeSets.__str__(self)]
         lines += [f"choice {printed_name(v)} -> {printed_name(c)}" for v, c in self.choice]
         lines += [f"link {printed_name(v)} <-> {printed_name(p)}" for v, p in self.links]
         lines += map(str, self.causes)
@@ -281,6 +287,24 @@ class Hedge(HedgeSets):
         return self._ask("--certificate") if self._ask else None
 
 
+def read_hedge_line(line: str) -> Tuple[Tuple[str, ...], Tuple[str, ...], Tuple[str, ...]]:
+    """Reads the line of a hedge's sets.
+
+    >>> from causal.formula import read_hedge_line
+    >>> read_hedge_line("hedge {X,Y} over {Y} with roots {Y}")
+    (('X', 'Y'), ('Y',), ('Y',))
+    """
+    cursor = Cursor(line)
+    cursor.take("hedge ")
+    big = cursor.set()
+    cursor.take(" over ")
+    small = cursor.set()
+    cursor.take(" with roots ")
+    roots = cursor.set()
+    cursor.end()
+    return big, small, roots
+
+
 def read_hedge_sets(text: str) -> HedgeSets:
     """Reads the first two lines of a hedge.
 
@@ -293,15 +317,7 @@ def read_hedge_sets(text: str) -> HedgeSets:
     target = read_term(cursor)
     cursor.take(" is not identifiable")
     cursor.end()
-    cursor = Cursor(sets)
-    cursor.take("hedge ")
-    big = cursor.set()
-    cursor.take(" over ")
-    small = cursor.set()
-    cursor.take(" with roots ")
-    roots = cursor.set()
-    cursor.end()
-    return HedgeSets(target, big, small, roots)
+    return HedgeSets(target, *read_hedge_line(sets))
 
 
 def _read_pair(line: str, head: str, mark: str) -> Tuple[str, str]:
@@ -370,9 +386,19 @@ def _read_event(line: str) -> Tuple[Tuple[str, ...], int]:
 
 
 def read_hedge(text: str, ask: Optional[AskForm] = None) -> Hedge:
-    """Reads the printed answer of a hedge."""
+    """Reads the printed answer of a hedge.
+
+    >>> from causal.formula import read_hedge
+    >>> text = "P(Y|do(X),Z) not identified; P(Y,Z|do(X)) is not identifiable\\nhedge {X,Y} over {Y} with roots {Y}\\n"
+    >>> hedge = read_hedge(text + "event k(Y) even: 1/2 in the first, 1/2 + 1/2^3 in the second\\n")
+    >>> str(hedge.conditional), str(hedge.target)
+    ('P(Y|do(X),Z)', 'P(Y,Z|do(X))')
+    """
     lines = text.rstrip("\n").split("\n")
-    sets = read_hedge_sets("\n".join(lines[:2]))
+    cursor = Cursor(lines[0])
+    asked = read_term(cursor)
+    conditional = asked if cursor.accept(" not identified; ") else None
+    sets = read_hedge_sets("\n".join([lines[0] if conditional is None else cursor.rest(), lines[1]]))
 
     def having(head: str) -> List[str]:
         return [line for line in lines[2:-1] if line.startswith(head)]
@@ -390,5 +416,6 @@ def read_hedge(text: str, ask: Optional[AskForm] = None) -> Hedge:
         tuple(_read_bit(line, "second ") for line in having("second ")),
         event,
         noise,
+        conditional,
         ask,
     )

@@ -1,5 +1,6 @@
 """Every worked case through the library: as words over inputs, and as a question to a diagram."""
 import os
+import re
 import tempfile
 import threading
 import unittest
@@ -23,6 +24,11 @@ def names_of(word):
     return names
 
 
+def experiments_of(word):
+    """The lists that a word joins by semicolons; one between quotes doesn't."""
+    return [names_of(it) for it in re.findall(r'(?:"[^"]*"|[^";])+', word)]
+
+
 def options_of(words):
     """The positional words and the options of a command."""
     places, options, rest = [], {}, list(words)
@@ -35,6 +41,8 @@ def options_of(words):
         else:
             name, _, value = word[2:].partition("=")
             options[name] = value or rest.pop(0)
+    if "experiments" in options:
+        options["experiments"] = experiments_of(options["experiments"])
     return places, {name: names_of(value) if name in LISTS else value for name, value in options.items()}
 
 
@@ -108,12 +116,21 @@ class Questions(unittest.TestCase):
     def ask_equivalent(self, diagram, second, options, folder):
         return diagram.equivalent(causal.Diagram(second) if second is not None else diagram, **options)
 
-    def ask_evaluate(self, diagram, second, options, folder):
+    def ask_surrogate(self, diagram, second, options, folder):
+        return diagram.surrogate(**options)
+
+    def file_of(self, second, folder):
         path = os.path.join(folder, "counts.csv")
         with open(path, "wb") as file:
             file.write(second or b"")
+        return path
+
+    def ask_implications(self, diagram, second, options, folder):
+        return diagram.implications(None if second is None else self.file_of(second, folder), **options)
+
+    def ask_evaluate(self, diagram, second, options, folder):
         try:
-            return diagram.effects(path, **options)
+            return diagram.effects(self.file_of(second, folder), **options)
         except causal.NotIdentifiable as error:
             return error.place
 
@@ -121,7 +138,7 @@ class Questions(unittest.TestCase):
         number = 0
         with tempfile.TemporaryDirectory() as folder:
             for case in all_cases():
-                if case.words[:1] == ["survey"] or case.fails or case.status in (2, 6) or self.is_refused_before(case):
+                if case.words[:1] in (["implications"], ["survey"], ["surrogate"]) or case.fails or case.status in (2, 6) or self.is_refused_before(case):
                     continue
                 number += 1
                 with self.subTest(case.name):

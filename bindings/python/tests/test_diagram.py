@@ -1,4 +1,5 @@
 """Diagrams: where they come from, what they are, and questions with odd names."""
+import copy
 import os
 import pickle
 import subprocess
@@ -115,6 +116,32 @@ class OddNames(unittest.TestCase):
         with self.assertRaises(causal.TargetError) as caught:
             Diagram("dag { A -> B }").separated("a (b)", "B")
         self.assertEqual((caught.exception.number, caught.exception.place), (1, ("a (b)",)))
+
+
+class Kept(unittest.TestCase):
+    """A diagram that is asked for many separations."""
+
+    def test_hidden_vertices_are_projected(self):
+        diagram = Diagram("dag { A <- U -> B B -> C U [latent] }")
+        self.assertTrue(diagram.is_separated("A", "C", "B"))
+        self.assertFalse(diagram.is_separated("A", "C"))
+
+    def test_refusals_are_those_of_separated(self):
+        diagram = Diagram("dag { A -> B -> C U [latent] U -> A }")
+        for x, y, given in (("D", "C", "B"), ("U", "C", "B"), ("A", (), ()), ("A", "C", "C"), (("A", "A"), "C", ())):
+            with self.subTest(x=x, y=y, given=given):
+                with self.assertRaises(causal.TargetError) as wanted:
+                    diagram.separated(x, y, given)
+                with self.assertRaises(causal.TargetError) as caught:
+                    diagram.is_separated(x, y, given)
+                self.assertEqual(str(caught.exception), str(wanted.exception))
+
+    def test_copies(self):
+        diagram = Diagram("dag { A -> B -> C }")
+        self.assertTrue(diagram.is_separated("A", "C", "B"))
+        for other in (copy.deepcopy(diagram), pickle.loads(pickle.dumps(diagram))):
+            self.assertTrue(other.is_separated("A", "C", iter(["B"])))
+            self.assertEqual(other, diagram)
 
 
 class Answers(unittest.TestCase):

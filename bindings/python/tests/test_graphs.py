@@ -61,7 +61,9 @@ class Networkx(unittest.TestCase):
             for _ in range(10):
                 source.shuffle(names)
                 x, y, given = names[:1], names[1:3], names[3 : 3 + source.randrange(4)]
-                self.assertEqual(bool(diagram.separated(x, y, given)), separated(graph, set(x), set(y), set(given)))
+                expected = separated(graph, set(x), set(y), set(given))
+                self.assertEqual(bool(diagram.separated(x, y, given)), expected)
+                self.assertEqual(diagram.is_separated(x, y, given), expected)
 
 
 @unittest.skipIf(matplotlib is None, "no matplotlib")

@@ -1,15 +1,16 @@
 # Tables of counts. The levels of each column are numbered, so that no level of the data has to be read back from text.
 
-# What `evaluate` of the library answers over a text of counts; the caller looks at the status.
-ask_counts <- function(diagram, words, text, hand_back = integer()) {
-  ask("evaluate", diagram, c("counts", words), list(counts = text), hand_back)
+# What a command of the library answers over a text of counts; the caller looks at the status.
+ask_counts <- function(diagram, words, text, hand_back = integer(), command = "evaluate") {
+  ask(command, diagram, c("counts", words), list(counts = text), hand_back)
 }
 
-# The columns that the effect needs, by the library's own words: it names the first one that a header lacks.
-used_columns <- function(diagram, words) {
+# The columns that the answer needs, by the library's own words: it names the first one that a header lacks. NULL where it reads
+# no counts.
+used_columns <- function(diagram, words, command) {
   used <- character()
   repeat {
-    told <- ask_counts(diagram, words, csv_line(used), hand_back = 4)
+    told <- ask_counts(diagram, words, csv_line(used), hand_back = 4, command)
     if (told$status != 4) return(NULL)
     fault <- causal_fault(told, list(diagram = diagram$text))
     if (fault$number != 2) return(used)
@@ -20,18 +21,18 @@ used_columns <- function(diagram, words) {
 csv_line <- function(fields) paste0('"', gsub('"', '""', fields, fixed = TRUE), '"', collapse = ",", recycle0 = TRUE)
 
 # A table of the rows of a data frame that differ in the used columns, with their counts.
-count_table <- function(diagram, words, data, count, missing) {
+count_table <- function(diagram, words, data, count, missing, command = "evaluate") {
   if (inherits(data, "table")) {
     count <- utils::tail(make.unique(c(names(dimnames(data)), "count")), 1)
     data <- as.data.frame(data, responseName = count, stringsAsFactors = TRUE)
   }
   if (!is.data.frame(data)) stop("`data` has to be a data frame or a table")
   if (!is.null(count) && (!is.character(count) || length(count) != 1 || is.na(count))) stop("`count` is the name of one column")
-  used <- used_columns(diagram, words)
+  used <- used_columns(diagram, words, command)
   if (is.null(used)) return(NULL)
-  check_header(diagram, words, names(data), count)
+  check_header(diagram, words, names(data), count, command)
   columns <- lapply(stats::setNames(used, used), function(name) data[[match(name, enc2utf8(names(data)))]])
-  if (!all(vapply(columns, is_plain, NA))) stop("a column that the effect needs is no vector")
+  if (!all(vapply(columns, is_plain, NA))) stop("a column that the answer needs is no vector")
   weights <- if (is.null(count)) rep(1, nrow(data)) else check_counts(data[[match(count, names(data))]])
   is_whole <- complete_rows(columns, missing)
   columns <- lapply(columns, `[`, is_whole)
@@ -45,9 +46,9 @@ count_table <- function(diagram, words, data, count, missing) {
 }
 
 # The library refuses a header that lacks a column, or has one twice.
-check_header <- function(diagram, words, header, count) {
+check_header <- function(diagram, words, header, count, command) {
   words <- if (is.null(count)) words else c(words, paste0("--count=", count))
-  told <- ask_counts(diagram, words, csv_line(enc2utf8(header)), hand_back = 4)
+  told <- ask_counts(diagram, words, csv_line(enc2utf8(header)), hand_back = 4, command)
   fault <- causal_fault(told, list(diagram = diagram$text))
   if (fault$number %in% 2:3) stop(fault)
 }
@@ -66,7 +67,7 @@ check_counts <- function(counts) {
 complete_rows <- function(columns, missing) {
   is_missing <- Reduce(`|`, lapply(columns, is.na))
   if (missing == "error" && any(is_missing)) {
-    message <- paste(sum(is_missing), "of", counted(length(is_missing), "row"), "have a missing value in a column that the effect needs;",
+    message <- paste(sum(is_missing), "of", counted(length(is_missing), "row"), "have a missing value in a column that the answer needs;",
                      'missing = "drop" leaves them out')
     stop(structure(class = c("causal_missing_values", "error", "condition"), list(message = message, call = NULL, rows = which(is_missing))))
   }

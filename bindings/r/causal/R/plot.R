@@ -29,6 +29,8 @@ plot.causal_adjustment <- function(x, ...) plot(project(x$diagram), path = x$pat
 # The observed graph with the vertices of the hedge, its choices and its links.
 plot.causal_hedge <- function(x, ...) plot(project(x$diagram), hedge = x, ...)
 
+plot.causal_stopped <- plot.causal_hedge
+
 plot.causal_formula <- function(x, ...) plot(project(x$diagram), ...)
 
 widened <- function(places) {
@@ -79,7 +81,7 @@ marked_edges <- function(diagram, path, hedge) {
   ends <- paste(edges$from, edges$edge, edges$to, sep = "\r")
   wanted <- character()
   if (!is.null(path)) wanted <- edges_of_path(path)
-  if (!is.null(hedge)) {
+  if (!is.null(hedge$links)) {
     links <- c(paste(hedge$links$from, "<->", hedge$links$to, sep = "\r"), paste(hedge$links$to, "<->", hedge$links$from, sep = "\r"))
     wanted <- c(wanted, paste(hedge$choice$from, "->", hedge$choice$to, sep = "\r"), links)
   }

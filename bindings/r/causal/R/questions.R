@@ -53,9 +53,9 @@ identify.character <- function(diagram, ...) identify.causal_diagram(as_causal_d
 
 identify.dagitty <- identify.character
 
-identify.causal_diagram <- function(diagram, x = NULL, y = NULL, ...) {
+identify.causal_diagram <- function(diagram, x = NULL, y = NULL, given = NULL, ...) {
   if (...length()) stop("an argument that `identify` doesn't know")
-  words <- c(option("x", x), option("y", y))
+  words <- c(option("x", x), option("y", y), option("given", given))
   told <- ask("identify", diagram, words)
   certificate <- sub("\n$", "", ask("identify", diagram, c(words, "--certificate"))$out)
   if (!told$yes) return(new_hedge(told, certificate, diagram))
@@ -71,7 +71,10 @@ new_hedge <- function(told, certificate, diagram) {
   new_answer("causal_hedge", read, told, diagram)
 }
 
-toLatex.causal_formula <- function(object, ...) structure(object$latex, class = "Latex")
+toLatex.causal_formula <- function(object, ...) {
+  if (is.null(object$latex)) stop("this formula has no LaTeX form: only those of `identify` have one")
+  structure(object$latex, class = "Latex")
+}
 
 summary.causal_hedge <- function(object, ...) structure(object, class = c("summary.causal_hedge", class(object)))
 
@@ -82,9 +85,20 @@ print.summary.causal_hedge <- function(x, ...) {
   invisible(x)
 }
 
+# Experiments: a list of sets of names; a single set needn't be in a list.
+surrogate <- function(diagram, x = NULL, y = NULL, experiments) {
+  diagram <- as_causal_diagram(diagram)
+  experiments <- if (is.list(experiments)) experiments else list(experiments)
+  word <- paste(vapply(experiments, list_word, ""), collapse = ";")
+  told <- ask("surrogate", diagram, c(option("x", x), option("y", y), "--experiments", word))
+  if (told$yes) return(new_answer("causal_formula", c(list(identifiable = TRUE), read_formula(told$lines)), told, diagram))
+  new_answer("causal_stopped", c(list(identifiable = FALSE), read_stopped(told$lines)), told, diagram)
+}
+
 check_certificate <- function(diagram, certificate) {
   diagram <- as_causal_diagram(diagram)
   if (inherits(certificate, c("causal_formula", "causal_hedge"))) certificate <- certificate$certificate
+  if (is.null(certificate)) stop("this formula has no certificate: only those of `identify` have one")
   told <- ask("check", diagram, "certificate", list(certificate = as_bytes(certificate)))
   read <- read_judgement(told$lines)
   new_answer("causal_judgement", c(list(holds = told$yes), read), told, diagram)

@@ -81,12 +81,18 @@ read_formula <- function(lines) {
 
 is_hedge <- function(lines) length(lines) > 0 && !is.null(parts(paste0(target_form, " is not identifiable"), lines[1]))
 
-# A hedge. Where a certificate was accepted, its sets alone are printed.
+# The sets of a hedge.
+read_hedge_sets <- function(line) {
+  sets <- parts_of(paste0("hedge (", set_form, ") over (", set_form, ") with roots (", set_form, ")"), line)
+  stats::setNames(lapply(sets, read_names), c("big", "small", "roots"))
+}
+
+# A hedge. Where a certificate was accepted, its sets alone are printed. Where a condition was given, the effect that was asked for
+# stands before the joint one.
 read_hedge <- function(lines) {
-  form <- paste0("hedge (", set_form, ") over (", set_form, ") with roots (", set_form, ")")
-  sets <- lapply(parts_of(form, lines[2]), read_names)
-  hedge <- list(target = parts_of(paste0("(", target_form, ") is not identifiable"), lines[1]),
-                big = sets[[1]], small = sets[[2]], roots = sets[[3]])
+  told <- parts_of(paste0("(?:(", target_form, ") not identified; )?(", target_form, ") is not identifiable"), lines[1])
+  hedge <- c(list(target = told[2]), read_hedge_sets(lines[2]))
+  if (nzchar(told[1])) hedge$conditional <- told[1]
   if (length(lines) == 2) return(hedge)
   rest <- lines[-(1:2)]
   hedge$choice <- read_pairs(rest, "choice", "->")
@@ -95,6 +101,13 @@ read_hedge <- function(lines) {
   hedge$first <- read_model(rest, "first")
   hedge$second <- read_model(rest, "second")
   c(hedge, read_event(rest[length(rest)]))
+}
+
+# What no formula was found for, and the district that stopped it with a hedge's sets.
+read_stopped <- function(lines) {
+  target <- parts_of(paste0("(", target_form, ") has no formula found from these experiments"), lines[1])
+  district <- parts_of(paste0("district (", set_form, ")"), lines[2])
+  c(list(target = target, district = read_names(district)), read_hedge_sets(lines[3]))
 }
 
 read_pairs <- function(lines, word, mark) {
@@ -183,6 +196,18 @@ read_agreement <- function(lines) {
     return(list(separated = FALSE, paths = list(read_path(lines[1], "open in the first: "), read_path(lines[2], "open in the second: "))))
   sets <- parts_of(paste0("separated in both: (", set_form, ") from (", set_form, ") given (", set_form, ")"), lines)
   list(separated = TRUE, x = read_names(sets[1]), y = read_names(sets[2]), given = read_names(sets[3]))
+}
+
+# The pairs that are separated, each with its set, and over counts the largest difference of each with its levels.
+read_implications <- function(lines) {
+  if (identical(lines, "none")) lines <- character()
+  is_difference <- startsWith(lines, "largest difference ")
+  pairs <- lapply(lines[!is_difference], parts_of, form = paste0("(", name_form, ") from (", name_form, ") given (", set_form, ")"))
+  differences <- lapply(lines[is_difference], parts_of, form = "largest difference (-?[0-9]+) at (.*)")
+  if (any(is_difference) && !identical(is_difference, rep(c(FALSE, TRUE), length(pairs))))
+    stop("the answer of the library isn't understood: ", paste(lines, collapse = "\n"))
+  list(a = unquote(vapply(pairs, `[`, "", 1)), b = unquote(vapply(pairs, `[`, "", 2)), given = lapply(pairs, function(pair) read_names(pair[3])),
+       difference = vapply(differences, `[`, "", 1), cells = lapply(differences, function(it) read_levels(it[2])))
 }
 
 # The effects over a table of counts: the pinned levels, the cells, and the value of each as a fraction or as bounds.

@@ -14,7 +14,8 @@
 }
 \usage{
 identify(diagram, ...)
-\method{identify}{causal_diagram}(diagram, x = NULL, y = NULL, ...)
+\method{identify}{causal_diagram}(diagram, x = NULL, y = NULL,
+         given = NULL, ...)
 
 \method{toLatex}{causal_formula}(object, ...)
 \method{summary}{causal_hedge}(object, ...)
@@ -23,6 +24,7 @@ identify(diagram, ...)
   \item{diagram}{a diagram, its text, or an object of the package \pkg{dagitty}. Everything else is handed on to \code{\link[graphics]{identify}} of the package
     \pkg{graphics}, which has the same name.}
   \item{x, y}{names of the exposures and of the outcomes; \code{NULL} for the vertices with these marks.}
+  \item{given}{names of variables with whose values the effect is asked for, \eqn{P(y | do(x), given)}; \code{NULL} for none.}
   \item{object}{an answer.}
   \item{...}{not used.}
 }
@@ -33,6 +35,9 @@ identify(diagram, ...)
 
   In a formula \code{sum\{M\}} reaches as far right as it can, and \code{q0}, \code{q1} and so on are the definitions. A free
   variable, as the \code{Z} of the napkin, may be set to any value: the formula gives the same.
+
+  With \code{given} the formula is one for the conditional effect. Where there is none, the hedge is one of a joint effect, by
+  which that can't be computed from observations; nothing is claimed of the conditional effect itself.
 }
 \value{
   For a formula a list of the class \code{causal_formula}: \code{identifiable} (\code{TRUE}), \code{target},
@@ -43,13 +48,16 @@ identify(diagram, ...)
   \code{small} and \code{roots}, the data frames \code{choice} and \code{links}, the hidden \code{causes} of both models, the
   bits of the \code{first} and the \code{second} model, each the sum of its terms modulo 2, the vertices of the \code{event}
   that the sum of their bits is even, its probabilities under the intervention, \code{in_first} and \code{in_second}, and
-  their \code{difference}, the \code{certificate} and the printed \code{text}. \code{summary} leaves the models out.
+  their \code{difference}, the \code{certificate} and the printed \code{text}. Where \code{given} was asked about, \code{target} is
+  the joint effect, and \code{conditional} the one that was asked for. \code{summary} leaves the models out.
 }
-\seealso{\code{\link{check_certificate}}, \code{\link{evaluate}}}
+\seealso{\code{\link{check_certificate}}, \code{\link{evaluate}}, \code{\link{surrogate}}}
 \examples{
 formula <- identify("dag { X [exposure] Y [outcome] X -> M -> Y X <-> Y }")
 formula
 toLatex(formula)
+
+identify("dag { Z -> X Z -> Y X -> Y }", x = "X", y = "Y", given = "Z")
 
 hedge <- identify("dag { X -> Y X <-> Y }", x = "X", y = "Y")
 summary(hedge)

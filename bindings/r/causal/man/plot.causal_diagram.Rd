@@ -5,6 +5,7 @@
 \alias{plot.causal_adjustment}
 \alias{plot.causal_formula}
 \alias{plot.causal_hedge}
+\alias{plot.causal_stopped}
 \title{Draw a Diagram}
 \description{
   Draws a diagram with base graphics: roles by colour, bidirected edges dashed. An open path, or a hedge, is drawn out in red.
@@ -16,6 +17,7 @@
 \method{plot}{causal_adjustment}(x, ...)
 \method{plot}{causal_formula}(x, ...)
 \method{plot}{causal_hedge}(x, ...)
+\method{plot}{causal_stopped}(x, ...)
 }
 \arguments{
   \item{x}{a diagram; or an answer, which is drawn in the diagram that was asked about, without its hidden vertices.}

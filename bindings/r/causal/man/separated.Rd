@@ -1,5 +1,6 @@
 \name{separated}
 \alias{separated}
+\alias{is_separated}
 \alias{print.causal_answer}
 \alias{format.causal_answer}
 \alias{as.character.causal_answer}
@@ -11,6 +12,7 @@
 \description{Tells whether two sets of vertices are separated given a third; where they aren't, by which open path.}
 \usage{
 separated(diagram, x = NULL, y = NULL, given = NULL)
+is_separated(diagram, x, y, given = character())
 
 \method{print}{causal_answer}(x, ...)
 \method{as.logical}{causal_answer}(x, ...)
@@ -24,6 +26,9 @@ separated(diagram, x = NULL, y = NULL, given = NULL)
 \details{
   Proved: a yes means that no walk from \code{x} to \code{y} is open given \code{given}, and that \code{x} and \code{y} are
   independent given it in every finite model that fits the diagram; a no comes with a path that is open.
+
+  \code{is_separated} gives \code{TRUE} or \code{FALSE} alone, for many questions about one diagram: the diagram that was asked
+  last is kept by the library, and isn't read again.
 }
 \value{
   A list of the class \code{causal_separation}: \code{holds}; the sets \code{x}, \code{y} and \code{given}; \code{path} with
@@ -38,4 +43,5 @@ answer <- separated(collider, "talent", "looks", given = "fame")
 answer
 answer$holds
 answer$path$vertices
+is_separated(collider, "talent", "looks")
 }

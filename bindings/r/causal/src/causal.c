@@ -1,4 +1,4 @@
-/* One call from R into the library: words and named inputs in, the status, the answer and the line out. */
+/* Calls from R into the library: words and named inputs in, the status, the answer and the line out; and a graph that is kept. */
 #include <string.h>
 #include <R.h>
 #include <Rinternals.h>
@@ -65,7 +65,31 @@ static SEXP call_causal(SEXP words, SEXP names, SEXP contents) {
   return answer;
 }
 
-static const R_CallMethodDef calls[] = {{"call_causal", (DL_FUNC)&call_causal, 3}, {NULL, NULL, 0}};
+/* text: a raw vector. The observed graph that the library keeps of it, as a raw vector, or the status where it keeps none. */
+static SEXP call_keep(SEXP text) {
+  SEXP kept = PROTECT(allocVector(RAWSXP, (R_xlen_t)sizeof(causal_graph)));
+  memset(RAW(kept), 0, sizeof(causal_graph));
+  int status = causal_keep(RAW(text), (size_t)XLENGTH(text), (causal_graph *)RAW(kept));
+  UNPROTECT(1);
+  return status == CAUSAL_YES ? kept : ScalarInteger(status);
+}
+
+/* The set of some vertices, counted from 1. */
+static uint64_t set_of(SEXP places) {
+  uint64_t set = 0;
+  for (R_xlen_t i = 0; i < XLENGTH(places); i++) set |= (uint64_t)1 << ((INTEGER(places)[i] - 1) & 63);
+  return set;
+}
+
+/* kept: what call_keep gave; x, y, given: integer vectors of vertices. The status of the library. */
+static SEXP call_separated(SEXP kept, SEXP x, SEXP y, SEXP given) {
+  return ScalarInteger(causal_separated((const causal_graph *)RAW(kept), set_of(x), set_of(y), set_of(given)));
+}
+
+static const R_CallMethodDef calls[] = {{"call_causal", (DL_FUNC)&call_causal, 3},
+                                        {"call_keep", (DL_FUNC)&call_keep, 1},
+                                        {"call_separated", (DL_FUNC)&call_separated, 4},
+                                        {NULL, NULL, 0}};
 
 void R_init_causal(DllInfo *dll) {
   R_registerRoutines(dll, NULL, calls, NULL, NULL);

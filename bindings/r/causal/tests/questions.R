@@ -38,6 +38,18 @@ stopifnot(inherits(try(as_causal_diagram(data.frame(from = "a\"b", to = "c")), s
 
 # Separation
 fork <- causal_diagram("dag { A <- B -> C }")
+same(is_separated(fork, "A", "C", "B"), TRUE)
+same(is_separated(fork, "A", "C"), FALSE)
+drawn <- causal_diagram("dag { A <- U -> B B -> C U [latent] \"d e\" }")
+same(is_separated(drawn, "A", c("C", "d e"), "B"), TRUE)
+same(is_separated(drawn, "A", "C"), FALSE)
+same(is_separated("dag{A->B}", "A", "B"), FALSE)
+for (sets in list(list("U", "C", "B"), list("none", "C", "B"), list("A", "C", "C"), list("A", character(), "B"), list(c("A", "A"), "C", "B"))) {
+  fault <- tryCatch(is_separated(drawn, sets[[1]], sets[[2]], sets[[3]]), causal_fault = identity)
+  wanted <- tryCatch(separated(drawn, sets[[1]], sets[[2]], sets[[3]]), causal_fault = identity)
+  stopifnot(inherits(fault, "causal_fault"))
+  same(conditionMessage(fault), conditionMessage(wanted))
+}
 answer <- separated(fork, "A", "C", "B")
 stopifnot(answer$holds, as.logical(answer), is.null(answer$path))
 same(as.character(answer), "separated: {A} from {C} given {B}")
@@ -75,7 +87,7 @@ print(summary(hedge))
 same(identify(front_door, x = character(), y = "M")$text, "P(M) = P(M)")
 
 same(identify(dagitty)$text, "P(D|do(E)) = P(D|E)")
-stopifnot(inherits(try(identify(front_door, given = "M"), silent = TRUE), "try-error"))
+stopifnot(inherits(try(identify(front_door, sets = "M"), silent = TRUE), "try-error"))
 
 # The call of the package graphics still works
 pdf(NULL)

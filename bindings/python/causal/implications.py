@@ -1,0 +1,191 @@
+"""What a diagram says of data: the pairs of variables that some set separates, and how far counts are from each."""
+from __future__ import annotations
+
+from dataclasses import dataclass
+from typing import TYPE_CHECKING, Any, Dict, Iterator, List, Optional, Sequence, Tuple
+
+from causal._library import Text, ask
+from causal.effects import Level, LevelOf, split_levels
+from causal.errors import UnreadableAnswer
+from causal.names import Cursor, printed_name, printed_set
+from causal.tables import Data, path_of, read_bytes, table_of
+
+if TYPE_CHECKING:
+    import pandas
+
+    from causal.diagram import Diagram
+
+
+@dataclass(frozen=True)
+class Difference:
+    """How far counts are from an independence of a and b given w.
+
+    `value` is the difference `N(a,b,w) * N(w) - N(a,w) * N(b,w)` that is greatest in size over all levels, N being sums of counts,
+    and `cell` has the levels where it comes first. It is 0 exactly where the counts have the independence.
+
+    >>> from causal import Difference
+    >>> print(Difference(-5, {"A": 0, "C": 0, "B": 1}))
+    largest difference -5 at A=0,C=0,B=1
+    """
+
+    value: int
+    cell: Dict[str, Level]
+
+    def __str__(self) -> str:
+        return f"largest difference {self.value} at " + ",".join(f"{printed_name(v)}={level}" for v, level in self.cell.items())
+
+
+@dataclass(frozen=True)
+class Implication:
+    """A pair of variables that the diagram has independent given a set, and their largest difference where data was given.
+
+    >>> from causal import Implication
+    >>> print(Implication("A", "C", ("B",)))
+    A from C given {B}
+    """
+
+    a: str
+    b: str
+    given: Tuple[str, ...]
+    difference: Optional[Difference] = None
+
+    def __str__(self) -> str:
+        pair = f"{printed_name(self.a)} from {printed_name(self.b)} given {printed_set(self.given)}"
+        return pair if self.difference is None else f"{pair}\n{self.difference}"
+
+
+@dataclass(frozen=True)
+class Implications(Sequence[Implication]):
+    """The testable implications of a diagram: each pair of variables that some set separates, with one such set.
+
+    It is proved that the pairs are exactly those that some set separates, each once, and that the two are independent given
+    their set in every finite model that fits the diagram; and that each difference is the largest one over the counts, and is 0
+    where a model that fits the diagram matches the counts. How far the counts of a sample are from those of the population isn't
+    in it: a difference is no test, and has no p-value.
+
+    `dropped` says how many records were left out since they lacked a value.
+
+    >>> from causal import Diagram
+    >>> implications = Diagram("dag { A -> B -> C -> D B <-> D }").implications()
+    >>> print(implications)
+    A from C given {B}
+    >>> len(implications), implications[0].given
+    (1, ('B',))
+    """
+
+    implications: Tuple[Implication, ...]
+    dropped: int = 0
+
+    def __len__(self) -> int:
+        return len(self.implications)
+
+    def __getitem__(self, index: Any) -> Any:
+        return self.implications[index]
+
+    def __iter__(self) -> Iterator[Implication]:
+        return iter(self.implications)
+
+    def __str__(self) -> str:
+        return "\n".join(map(str, self.implications)) or "none"
+
+    @property
+    def variables(self) -> Tuple[str, ...]:
+        """The names in the pairs and in their sets, each once.
+
+        >>> from causal.implications import read_implications
+        >>> read_implications("A from C given {B}\\nB from D given {C}\\n").variables
+        ('A', 'C', 'B', 'D')
+        """
+        return tuple(dict.fromkeys(name for it in self.implications for name in (it.a, it.b, *it.given)))
+
+    def frame(self) -> "pandas.DataFrame":
+        """A DataFrame with a row for each pair (it needs pandas): `a`, `b` and `given`, and with data `difference` and `cell`.
+
+        >>> import pandas
+        >>> from causal.implications import read_implications
+        >>> print(read_implications("A from C given {B}\\nlargest difference -5 at A=0,C=0,B=1\\n").frame())
+           a  b given  difference                            cell
+        0  A  C  (B,)          -5  {'A': '0', 'C': '0', 'B': '1'}
+        """
+        import pandas
+
+        has_data = any(it.difference is not None for it in self.implications)
+        rows = [[it.a, it.b, it.given, *([it.difference.value, it.difference.cell] if it.difference else [])] for it in self]
+        return pandas.DataFrame(rows, columns=["a", "b", "given", *(["difference", "cell"] if has_data else [])])
+
+    def _repr_html_(self) -> Optional[str]:
+        try:
+            return self.frame().to_html()
+        except ImportError:
+            return None
+
+
+def _read_pair(line: str) -> Implication:
+    cursor = Cursor(line)
+    a = cursor.name()
+    cursor.take(" from ")
+    b = cursor.name()
+    cursor.take(" given ")
+    given = cursor.set()
+    cursor.end()
+    return Implication(a, b, given)
+
+
+def _read_difference(line: str, pair: Implication, level_of: LevelOf) -> Difference:
+    cursor = Cursor(line)
+    cursor.take("largest difference ")
+    sign = -1 if cursor.accept("-") else 1
+    value = sign * cursor.number()
+    cursor.take(" at ")
+    names = (pair.a, pair.b, *pair.given)
+    split = split_levels(cursor.rest(), "", "", [names], "")
+    if split is None:
+        raise UnreadableAnswer(f"a level holds marks of the answer: {line!r}; give a DataFrame instead of a path")
+    return Difference(value, {name: level_of(name, level) for name, level in zip(names, split[0])})
+
+
+def read_implications(text: str, level_of: LevelOf = lambda name, level: level, dropped: int = 0) -> Implications:
+    """Reads the answer of `implications`.
+
+    >>> from causal.implications import read_implications
+    >>> read_implications('A from "b c" given {}\\n')[0]
+    Implication(a='A', b='b c', given=(), difference=None)
+    >>> len(read_implications("none\\n"))
+    0
+    """
+    lines = text[:-1].split("\n")
+    if lines == ["none"]:
+        return Implications(())
+    found: List[Implication] = []
+    for line in lines:
+        if found and found[-1].difference is None and line.startswith("largest difference "):
+            pair = found.pop()
+            found.append(Implication(pair.a, pair.b, pair.given, _read_difference(line, pair, level_of)))
+        else:
+            found.append(_read_pair(line))
+    if len({it.difference is None for it in found}) != 1:
+        raise UnreadableAnswer(f"the library answered what this package doesn't read: {text!r}")
+    return Implications(tuple(found), dropped)
+
+
+def implications_of(diagram: "Diagram", data: Optional[Data], count: Optional[str], missing: str) -> Implications:
+    """The implications of a diagram, with their differences where there is data: see `Diagram.implications`."""
+    pairs = read_implications(ask("implications", diagram.source)[1])
+    if data is None or not pairs:
+        return pairs
+    path = path_of(data)
+    if path is not None:
+        words = [] if count is None else [f"--count={count}"]
+        return _with_counts(diagram, pairs, read_bytes(path), words, lambda name, level: level, 0)
+    table = table_of(data, [name for name in diagram.vertices if name in pairs.variables], count, missing)
+    return _with_counts(diagram, pairs, table.text(), [f"--count={table.count_column}"], table.level, table.dropped)
+
+
+def _with_counts(
+    diagram: "Diagram", pairs: Implications, text: bytes, words: Sequence[Text], level_of: LevelOf, dropped: int
+) -> Implications:
+    found = read_implications(ask("implications", diagram.source, *words, second=text)[1], level_of, dropped)
+    # (a level of a file may hold a line feed)
+    if [(it.a, it.b, it.given) for it in found] != [(it.a, it.b, it.given) for it in pairs]:
+        raise UnreadableAnswer("a level holds a line feed, so the answer can't be told apart; give a DataFrame instead of a path")
+    return found

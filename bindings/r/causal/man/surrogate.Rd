@@ -1,0 +1,34 @@
+\name{surrogate}
+\alias{surrogate}
+\title{Can an Effect Be Computed from Experiments on Other Variables?}
+\description{
+  Gives a formula for the effect of \code{x} on \code{y} that may use experiments, or the part of the diagram for which none was
+  found.
+}
+\usage{
+surrogate(diagram, x = NULL, y = NULL, experiments)
+}
+\arguments{
+  \item{diagram}{a diagram, or what \code{\link{as_causal_diagram}} takes.}
+  \item{x, y}{names of the exposures and of the outcomes; \code{NULL} for the vertices with these marks.}
+  \item{experiments}{a list of character vectors, from one to eight: each names the variables that were set in one experiment,
+    under which all others were observed. A single experiment needn't be in a list.}
+}
+\details{
+  Proved: each term of the formula is observed or under one of the experiments, and the formula equals \eqn{P(y | do(x))} at every
+  assignment, in every positive finite model that fits the diagram. Where none was found, a hedge stands against the named
+  district, without an experiment and under each of those that are disjoint from it. It isn't said that no other way leads
+  from the experiments to the effect.
+}
+\value{
+  For a formula a list of the class \code{causal_formula}, as \code{\link{identify}} gives it, without \code{latex} and
+  \code{certificate}. Else a list of the class \code{causal_stopped}: \code{identifiable} (\code{FALSE}), \code{target}, the
+  \code{district}, the sets \code{big}, \code{small} and \code{roots} of the hedge, and the printed \code{text}.
+}
+\seealso{\code{\link{identify}}}
+\examples{
+diagram <- causal_diagram("dag { X [exposure] Y [outcome] Z -> X -> Y Z <-> X Z <-> Y }")
+identify(diagram)$identifiable
+surrogate(diagram, experiments = "Z")
+surrogate("dag { X -> Y X <-> Y X -> Z }", "X", "Y", experiments = list("Z"))
+}
