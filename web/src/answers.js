@@ -65,6 +65,13 @@ export class Answers {
     for (const words of this.active.ahead ?? []) reading.ask(words);
   }
 
+  /** Forgets what was chosen for another diagram: the condition of the effect, and the trials. */
+  forgetChoices() {
+    const { sets } = this.#memory;
+    for (const key of Object.keys(sets)) if (/^(condition|experiment \d+)$/.test(key)) delete sets[key];
+    this.#memory.experiments = 1;
+  }
+
   /** Shows the answers about a graph that was accepted. */
   update(graph, text) {
     const isNew = JSON.stringify(graph) !== JSON.stringify(this.#graph);
@@ -116,12 +123,12 @@ export class Answers {
     speak(panel.querySelector(".verdict")?.textContent ?? "");
   }
 
-  /** Takes a table of counts, and shows what it gives. @param {File} file */
+  /** Takes a table of counts, and shows what it gives for the effect, or for what is implied. @param {File} file */
   async take(file) {
     const bytes = new Uint8Array(await file.arrayBuffer()), text = new TextDecoder().decode(bytes);
     Object.assign(this.#memory, { csv: { name: file.name, text }, count: undefined });
     this.program.put(tableName(file.name), bytes);
-    this.show("data");
+    this.show(this.active.id === "implications" ? "implications" : "data");
   }
 
   /** Ends the choosing of a set by clicks. @returns {boolean} whether there was one */
@@ -146,6 +153,7 @@ export class Answers {
       observed: graph.vertices.filter((v) => v.role !== "latent").map((v) => v.name),
       put: (name, content) => this.program.put(name, content),
       refresh: () => this.refresh(),
+      show: (id) => this.show(id),
       mark: (marks) => diagram.mark(marks ?? this.#marks),
       take: (file) => this.take(file),
     };

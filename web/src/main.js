@@ -69,6 +69,7 @@ let origin = { source: "", graph: "" };
 /** Shows another diagram. */
 function open(text, source = "") {
   places.reset();
+  answers.forgetChoices();
   origin = { source, graph: "" };
   return draft.show(text, { fit: true });
 }

@@ -68,11 +68,11 @@ export function follow(start, step, order, lemma = null) {
  * @param {string} certificate @param {string[]} order the observed names in the diagram's order @returns {Derived[]}
  */
 export function derivationOf(certificate, order) {
-  const { x, y, main, lemmas } = JSON.parse(certificate);
-  const term = (of, doing) => ({ k: "P", of, doing, given: [] });
+  const { x, y, given, main, lemmas } = JSON.parse(certificate);
+  const term = (of, doing, given = []) => ({ k: "P", of, doing, given });
   const outside = (set) => order.filter((n) => !set.includes(n));
   const parts = lemmas.map(([set, step], k) => follow(term(set, outside(set)), step, order, k).derived);
-  return [...parts, follow(term(y, x), main, order).derived];
+  return [...parts, follow(term(y, x, given), main, order).derived];
 }
 
 // ---- The graph of a rule

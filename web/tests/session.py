@@ -19,6 +19,8 @@ from browser import wait
 TOP = browser.WEB.parent
 EXAMPLES = TOP / "examples"
 NAPKIN_CSV = browser.WEB / "tests/napkin.csv"
+MARKED = """return [...document.querySelectorAll('#drawing .vertex')].filter((v) => v.classList.contains(arguments[0]))
+    .map((v) => v.querySelector('text').textContent)"""
 
 
 class Session:
@@ -90,6 +92,21 @@ class Session:
     def redo(self):
         ActionChains(self.driver).key_down(Keys.CONTROL).key_down(Keys.SHIFT).send_keys("z").key_up(
             Keys.SHIFT).key_up(Keys.CONTROL).perform()
+
+    def write(self, text):
+        """Puts a text in the place of the diagram's."""
+        self.run("""const area = document.getElementById('text');
+            area.value = arguments[0];
+            area.dispatchEvent(new Event('input'));""", text)
+        time.sleep(0.7)
+
+    def lacks(self, what):
+        """Whether the program doesn't know a question yet; then its steps are skipped, by name."""
+        time.sleep(0.4)
+        is_lacking = "words not understood" in self.panel()
+        if is_lacking:
+            print(f"skipped: page-session: {what}: the program doesn't know it")
+        return is_lacking
 
     def saved(self, name):
         """A file that the page saved."""
@@ -314,22 +331,87 @@ def shows_a_hedge(s):
     s.soon("check accepts it", lambda: "accepted" in s.one(".checked").text, lambda: s.one(".checked").text)
 
 
+def lists_what_is_implied(s):
+    s.example("fork")
+    s.tab("implications")
+    if s.lacks("implications"):
+        return
+    s.check("the pairs", s.printed() == "A from C given {B}", s.printed())
+    s.check("their command line", s.command() == "$ causal implications diagram.dag", s.command())
+    s.run("arguments[0].focus()", s.one("table.pairs tbody tr"))
+    s.soon("a pair is drawn", lambda: s.run(MARKED, "from") == ["A"] and s.run(MARKED, "chosen") == ["B"])
+    drop = """const data = new DataTransfer();
+        data.items.add(new File([arguments[0]], "fork.csv", { type: "text/csv" }));
+        document.body.dispatchEvent(new DragEvent("drop", { dataTransfer: data, bubbles: true, cancelable: true }));"""
+    s.run(drop, "A,B,C,count\n0,0,0,4\n0,0,1,2\n1,0,0,2\n1,0,1,1\n0,1,0,1\n0,1,1,3\n1,1,0,2\n1,1,1,1\n")
+    s.soon("the largest difference", lambda: "A=0,C=0,B=1" in s.one("table.pairs").text, s.panel)
+    s.check("with its command line", s.command() == "$ causal implications diagram.dag fork.csv --count=count", s.command())
+    s.check("warned that it is no test", "no test" in s.panel(), s.panel())
+    s.run(drop, "A,C\n0,1\n")
+    s.soon("a table that lacks a column", lambda: "no column named B" in s.panel(), s.panel)
+    s.check("the pairs stay", s.printed() == "A from C given {B}", s.printed())
+    s.example("front_door")
+    s.soon("nothing to test", lambda: "Nothing to test" in s.panel(), s.panel)
+
+
+def takes_trials(s):
+    s.example("front_door")
+    s.tab("experiments")
+    s.soon("trials are asked for", lambda: "set in a trial" in s.panel(), s.panel)
+    s.write("dag { X [exposure] Y [outcome] Z -> X -> Y Z <-> X Z <-> Y }")
+    s.one("[data-key='arm experiment 0']").click()
+    s.vertex("Z").click()
+    if s.lacks("surrogate"):
+        return
+    s.soon("a formula", lambda: s.printed() == "P(Y|do(X)) = P(Y|do(Z),X)\nfree {Z}", s.panel)
+    s.check("its command line", s.command() == "$ causal surrogate diagram.dag --experiments Z", s.command())
+    s.check("typeset", s.all("#panel .formula .katex"))
+    s.one("[data-key='another trial']").click()
+    s.soon("a second trial", lambda: len(s.all("#panel .picker")) == 2)
+    s.write("dag { X [exposure] Y [outcome] Z -> X -> Y X <-> Y }")
+    s.soon("none found", lambda: "No formula found" in s.panel(), s.panel)
+    s.check("the district", "district {Y}" in s.printed(), s.printed())
+    s.keys(Keys.ESCAPE)
+
+
+def asks_under_a_condition(s):
+    s.tab("effect")
+    s.write("dag { X [exposure] Y [outcome] Z -> X Z -> Y X -> Y }")
+    s.soon("the effect", lambda: s.printed() == "P(Y|do(X)) = sum{Z} P(Z) * P(Y|X,Z)", s.panel)
+    s.one("summary[data-key='condition']").click()
+    s.soon("a condition may be chosen", lambda: s.all("[data-key='arm condition']"), s.panel)
+    s.one("[data-key='arm condition']").click()
+    s.vertex("Z").click()
+    if s.lacks("condition"):
+        return
+    s.soon("under a condition", lambda: s.printed() == "P(Y|do(X),Z) = P(Y|X,Z)", s.panel)
+    s.check("its command line", s.command() == "$ causal identify diagram.dag --given Z", s.command())
+    s.one("#check").click()
+    s.soon("check accepts", lambda: "accepted" in s.one(".checked").text, lambda: s.one(".checked").text)
+    s.write("dag { X [exposure] Y [outcome] X -> Y X <-> Y Y -> Z }")
+    s.soon("not identified", lambda: "P(Y|do(X),Z) not identified" in s.printed(), s.panel)
+    s.keys(Keys.ESCAPE)
+    s.example("napkin")
+    s.soon("another diagram has no condition", lambda: s.command() == "$ causal identify diagram.dag", s.command)
+
+
 def saves_the_drawing_and_a_link(s):
     s.one("#export").click()
     path = s.saved("diagram.svg")
     s.check("the drawing is saved", path and "<svg" in path.read_text() and ">X</text>" in path.read_text())
+    text = s.text()
     s.one("#share").click()
     time.sleep(0.3)
     link = s.run("return location.href")
     browser.open_page(s.driver, fragment="#" + link.split("#")[1])
-    s.check("the link carries the diagram", "X <-> Y" in s.text(), s.text())
+    s.check("the link carries the diagram", s.text() == text, s.text())
 
 
 def is_accessible(s):
     """Whatever can be focused has a name, ids are unique, and one heading stands at the top."""
     s.example("napkin")
     s.driver.execute_cdp_cmd("Accessibility.enable", {})
-    for tab in ("effect", "adjustment", "separation", "rules", "data", "compare"):
+    for tab in ("effect", "adjustment", "separation", "rules", "implications", "experiments", "data", "compare"):
         s.tab(tab)
         s.run("document.querySelectorAll('#panel details').forEach((el) => (el.open = true))")
         time.sleep(0.3)
@@ -407,7 +489,7 @@ def works_by_touch():
         touch("touchStart", *middle("W"))
         touch("touchEnd")
         s.soon("a finger opens the menu", lambda: s.one("#menu").is_displayed())
-        for tab in ("effect", "adjustment", "separation", "rules", "data", "compare"):
+        for tab in ("effect", "adjustment", "separation", "rules", "implications", "experiments", "data", "compare"):
             s.run("document.getElementById('tab-' + arguments[0]).click()", tab)
             time.sleep(0.3)
             wide = s.run("return document.documentElement.scrollWidth - innerWidth")
@@ -419,8 +501,8 @@ def works_by_touch():
 
 PARTS = [
     reads_a_formula, drags_and_takes_back, breaks_the_text, chooses_sets, draws, uses_keys_alone, saves_a_certificate,
-    drops_a_table, adjusts_and_compares, shows_a_hedge, saves_the_drawing_and_a_link, is_accessible, sends_nothing,
-    is_served,
+    drops_a_table, adjusts_and_compares, shows_a_hedge, lists_what_is_implied, takes_trials, asks_under_a_condition,
+    saves_the_drawing_and_a_link, is_accessible, sends_nothing, is_served,
 ]
 
 

@@ -11,7 +11,9 @@ import { derivationOf, follow } from "../src/rebuilt.js";
 import { readSteps } from "../src/steps.js";
 import { levelsOf, readRows } from "../src/text/csv.js";
 import * as edit from "../src/text/edit.js";
-import { listWord, openPath, readGraph, readPath, readSet } from "../src/text/printed.js";
+import {
+  experimentsWord, listWord, openPath, readGraph, readHedge, readImplications, readPath, readSet, readStopped,
+} from "../src/text/printed.js";
 
 const causal = await load(readFileSync(process.argv[2]));
 const GRAPHS = Number(process.argv[3] ?? 1500);
@@ -120,14 +122,14 @@ const told = (heading, { wholes, derived }) =>
 
 function testDerivation(text, words, order) {
   const certificate = run([...words, "--certificate"], text).out;
-  const { x, y, main, lemmas, formula, defs } = JSON.parse(certificate);
-  const term = (of, doing) => ({ k: "P", of, doing, given: [] });
+  const { x, y, given, main, lemmas, formula, defs } = JSON.parse(certificate);
+  const term = (of, doing, given = []) => ({ k: "P", of, doing, given });
   const parts = lemmas.map(([set, step], i) => {
     const part = follow(term(set, order.filter((o) => !set.includes(o))), step, order, i);
     same("a part", plain(part.wholes.at(-1)), plain(parse(defs[i])), text);
     return told(`lemma ${i}`, part);
   });
-  const last = follow(term(y, x), main, order), end = last.wholes.at(-1);
+  const last = follow(term(y, x, given), main, order), end = last.wholes.at(-1);
   same("the last expression", plain(end), plain(parse(formula)), text);
   const all = `${[...parts, told("main", last)].join("\n")}\n`, derived = derivationOf(certificate, order);
   same("what is told is read", readSteps(all, certificate), derived, all);
@@ -162,6 +164,9 @@ function testAnswers(text, graph) {
   const identified = run(["identify", "g", ...sets], text);
   same("identify", identified.status < 2, true, identified.err);
   if (identified.status === 0) testDerivation(text, ["identify", "g", ...sets], order);
+  if (KNOWN.given) testCondition(text, order, x, y);
+  if (KNOWN.implications) testImplications(text, order);
+  if (KNOWN.surrogate) testSurrogate(text, order, sets, identified);
   const separated = run(["separate", "g", ...sets, "--given", "{}"], text);
   if (separated.status === 1) testPath(openPath(separated.out), x, y, graph, text);
   const adjusted = run(["adjust", "g", ...sets], text).out.split("\n").filter((line) => line.startsWith("{"));
@@ -170,6 +175,61 @@ function testAnswers(text, graph) {
     same("a minimal set", answer.status, 0, text + set);
     katex.renderToString(annotate(equationLatex(answer.out.split("\n")[1])), { trust: true, strict: "ignore" });
   }
+}
+
+/** Which of the later questions the program of this module knows; the others aren't asked. */
+const knows = (words) => run(words, "dag{A [exposure] B [outcome] A->B}").status !== 2;
+const KNOWN = {
+  given: knows(["identify", "g", "--given", "{}"]), implications: knows(["implications", "g"]),
+  surrogate: knows(["surrogate", "g", "--experiments", "A"]),
+};
+
+function testCondition(text, order, x, y) {
+  const z = shuffled(order).find((name) => name !== x && name !== y);
+  if (!z) return;
+  const words = ["identify", "g", "--x", listWord([x]), "--y", listWord([y]), "--given", listWord([z])];
+  const said = run(words, text);
+  same("a condition", said.status < 2, true, said.err + text);
+  if (said.status === 0) testDerivation(text, words, order);
+  if (said.status === 1) same("what was asked", Boolean(readHedge(said.out).asked), true, said.out);
+}
+
+function testImplications(text, order) {
+  const said = run(["implications", "g"], text), pairs = readImplications(said.out);
+  same("pairs", [pairs.length > 0, pairs.length], [said.status === 0, said.status ? 0 : said.out.trim().split("\n").length], said.out);
+  for (const { a, b, given } of pairs) {
+    const words = ["separate", "g", "--x", listWord([a]), "--y", listWord([b]), "--given", listWord(given)];
+    same("a pair is separated", run(words, text).status, 0, text + said.out);
+  }
+  const rows = `${order.map((name) => `"${name}"`).join(",")}\n${[0, 1, 0].map((k) => order.map((_, i) => (i + k) % 2)).join("\n")}\n`;
+  const counted = run(["implications", "g", "t"], text, { t: rows }), told = readImplications(counted.out);
+  same("pairs over counts", told.map(({ a, b, given }) => ({ a, b, given })), pairs, counted.out + counted.err);
+  same("each has a difference", told.every(({ difference, at }) => /^-?\d+$/.test(difference) && at), true, counted.out);
+}
+
+function testSurrogate(text, order, sets, identified) {
+  const trials = [shuffled(order).slice(0, 1), shuffled(order).slice(0, 2)];
+  const said = run(["surrogate", "g", ...sets, "--experiments", experimentsWord(trials)], text);
+  same("experiments", said.status < 2, true, said.err + text);
+  if (identified.status === 0) same("what is identified needs none", said.status, 0, said.out + text);
+  if (said.status === 1) return same("a district", readStopped(said.out).district.length > 0, true, said.out);
+  for (const line of said.out.trim().split("\n").filter((it) => !it.startsWith("free "))) {
+    katex.renderToString(annotate(equationLatex(line)), { trust: true, strict: "ignore" });
+  }
+}
+
+/** Printed answers of the questions that a program may not know yet. */
+function testLaterForms() {
+  const read = readImplications('A from "b c" given {}\nlargest difference -5 at A=0,"b c"=1\nC from D given {A,"b c"}\n');
+  same("implications", read, [{ a: "A", b: "b c", given: [], difference: "-5", at: 'A=0,"b c"=1' }, { a: "C", b: "D", given: ["A", "b c"] }], "");
+  same("no implication", readImplications("none\n"), [], "");
+  const stopped = readStopped("P(Y|do(X)) has no formula found from these experiments\ndistrict {Y}\nhedge {X,Y} over {Y} with roots {Y}\n");
+  same("no formula", stopped, { effect: "P(Y|do(X))", district: ["Y"], big: ["X", "Y"], small: ["Y"], roots: ["Y"] }, "");
+  same("trials", experimentsWord([["a;b", "c"], ["{}"], ["-d,e"]]), '"a;b",c;"{}";"-d,e"', "");
+  const bow = run(["identify", "g"], "dag{X [exposure] Y [outcome] X->Y X<->Y}").out;
+  same("a hedge", [readHedge(bow).asked ?? null, readHedge(bow).effect], [null, "P(Y|do(X))"], bow);
+  const joint = readHedge(bow.replace("P(Y|do(X)) is", "P(Y|do(X),Z) not identified; P(Y,Z|do(X)) is"));
+  same("a hedge of a joint effect", [joint.asked, joint.effect], ["P(Y|do(X),Z)", "P(Y,Z|do(X))"], bow);
 }
 
 function testPath(printed, x, y, graph, text) {
@@ -192,6 +252,7 @@ for (let k = 0; k < GRAPHS; k++) {
   testAnswers(text, readGraph(before.out));
 }
 
+testLaterForms();
 const circle = "dag { A -> B -> C\nC -> A\nD }", marks = placesOf(readFault(run(["graph", "g"], circle).err), circle);
 same("a circle's places", marks.map((m) => circle.slice(m.start, m.end)), ["A -> B", "B -> C", "C -> A"], circle);
 const rows = readRows('a,"b ""x""",n\r\n1,"p,q",2\n1,r,3\n');

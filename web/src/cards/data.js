@@ -24,27 +24,35 @@ async function answer(ctx) {
 /** The name under which a table is given to the program. */
 export const tableName = (name) => (name.startsWith("-") ? `./${name}` : name);
 
-function wordsOf(ctx) {
+/** The option for the column of counts: the one that was chosen, or else one with such a name. */
+export function countWords(ctx) {
   const { memory } = ctx, others = otherColumns(ctx);
   memory.count = memory.count ?? others.find((column) => COUNT_NAMES.test(column)) ?? "";
-  return ["evaluate", DIAGRAM, tableName(memory.csv.name), ...(memory.count ? [`--count=${memory.count}`] : [])];
+  return memory.count ? [`--count=${memory.count}`] : [];
 }
+
+const wordsOf = (ctx) => ["evaluate", DIAGRAM, tableName(ctx.memory.csv.name), ...countWords(ctx)];
 
 const otherColumns = ({ memory, observed }) => headerOf(memory.csv.text).filter((c) => !observed.includes(c));
 
 // ---- What may come
 
-function invitation(ctx) {
+const invitation = (ctx) => h("div", {},
+  verdict("ask", "How large is the effect in your table?",
+    "A column for each vertex that the formula names, and if you like a column of counts."),
+  asksForTable(ctx));
+
+/** Where a first table is dropped or chosen; an example's is offered where it has a column for each vertex. */
+export function asksForTable(ctx) {
   const { observed, samples } = ctx;
   const holdsAll = ({ columns }) => columns.filter((c) => observed.includes(c)).length === observed.length;
   const sample = samples.find(holdsAll);
-  return h("div", {},
-    verdict("ask", "How large is the effect in your table?",
-      "A column for each vertex that the formula names, and if you like a column of counts."),
+  return [
     dropZone(ctx, [h("b", {}, "Drop a CSV file here"), ", or click to choose one. It stays in this page."]),
     sample && h("p", {},
       button(`Use ${sample.name}`, () => ctx.take(new File([sample.text], sample.name)), { id: "sample" }),
-      " from the examples"));
+      " from the examples"),
+  ];
 }
 
 function dropZone({ take }, content) {

@@ -8,10 +8,10 @@ import { commandOf, fold, listed } from "./parts.js";
 
 /** @typedef {import("../steps.js").Step} Step  @typedef {import("../steps.js").Rule} Rule */
 
-/** The steps of the certificate, each with its terms; each rule is asked of the program again. */
-export function derivation(ctx) {
+/** The steps of the certificate of an answer, each with its terms; each rule is asked of the program again. */
+export function derivation(ctx, asked) {
   const box = h("div", {}, "…");
-  ctx.ask(["identify", DIAGRAM, "--certificate"]).then(async ({ out }) => {
+  ctx.ask([...asked, "--certificate"]).then(async ({ out }) => {
     const parts = await explained(ctx, out), isOne = parts.length === 1;
     box.replaceChildren(...parts.flatMap((part) => [
       ...(isOne ? [] : [h("h4", {}, part.lemma === null ? "The effect" : ["Part ", shown(`q_{${part.lemma}}`)])]),

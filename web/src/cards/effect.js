@@ -1,36 +1,50 @@
 import { h } from "../dom.js";
 import { DIAGRAM } from "../names.js";
-import { readNotes } from "../text/printed.js";
+import { listWord, readNotes } from "../text/printed.js";
 import { derivation } from "./derivation.js";
 import { hedge } from "./hedge.js";
 import { certificateRow, fold, formulaBox, isRefused, listed, refused, source, verdict, withRole } from "./parts.js";
+import { chosenSet, howToChoose } from "./sets.js";
 
 const IDENTIFY = ["identify", DIAGRAM];
 const IN_LATEX = [...IDENTIFY, "--latex"];
 
 /** @param {import("./parts.js").Context} ctx */
 async function answer(ctx) {
-  const [said, latex] = await Promise.all([ctx.ask(IDENTIFY), ctx.ask(IN_LATEX)]);
-  if (isRefused(said)) return refused(IDENTIFY, said);
-  if (said.status === 1) return hedge(ctx, IDENTIFY, said);
+  const given = chosenSet(ctx, "condition", "Given", []), { names } = given;
+  const words = names.length ? [...IDENTIFY, "--given", listWord(names)] : IDENTIFY;
+  const [said, latex] = await Promise.all([ctx.ask(words), ctx.ask([...words, "--latex"])]);
+  if (isRefused(said)) return refused(words, said, () => (names.length ? condition(ctx, given) : null));
+  if (said.status === 1) return hedge(ctx, words, said, condition(ctx, given));
   const tex = latex.out.trimEnd().split("\n").filter((line) => !line.startsWith("free "));
-  return { dot: "yes", view: () => view(ctx, said.out, tex) };
+  return {
+    dot: "yes", view: () => view(ctx, words, said.out, tex, given),
+    marks: names.length ? { vertices: new Map(names.map((name) => [name, "chosen"])) } : {},
+  };
 }
 
-function view(ctx, printed, tex) {
+/** The choice of a condition: the effect among those with the same values of some variables. */
+function condition(ctx, given) {
+  return fold(ctx, "condition", "Given the values of other variables", () => h("div", { class: "stack" },
+    h("p", {}, "The effect among those who have the same values of these when the exposure is set."),
+    h("div", { class: "pickers" }, given.row()), howToChoose()));
+}
+
+function view(ctx, words, printed, tex, given) {
   const xs = withRole(ctx, "exposure"), ys = withRole(ctx, "outcome"), notes = notesOn(printed, xs, ys);
-  const [effect] = printed.split(" = ");
+  const [effect] = printed.split(" = "), among = given.names.length ? [" given ", listed(given.names)] : "";
   const claim = xs.length
-    ? ["The effect of ", listed(xs), " on ", listed(ys), ": ", h("code", {}, effect), " equals this formula at every "
+    ? ["The effect of ", listed(xs), " on ", listed(ys), among, ": ", h("code", {}, effect), " equals this formula at every "
       + "assignment in every positive finite model that fits the diagram."]
-    : ["No exposure is marked, so this is the plain distribution of ", listed(ys), "."];
+    : ["No exposure is marked, so this is the plain distribution of ", listed(ys), among, "."];
   return h("div", {},
     verdict("yes", "Identifiable", claim),
     formulaBox(tex, printed),
     notes.length ? h("ul", { class: "notes" }, notes) : null,
-    source(IDENTIFY, printed),
-    fold(ctx, "derivation", "Derivation in the do-calculus", () => derivation(ctx)),
-    certificateRow(ctx));
+    source(words, printed),
+    fold(ctx, "derivation", "Derivation in the do-calculus", () => derivation(ctx, words)),
+    condition(ctx, given),
+    certificateRow(ctx, words));
 }
 
 /** What there is to say of a formula's signs. */

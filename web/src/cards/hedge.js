@@ -1,34 +1,36 @@
 import { h } from "../dom.js";
+import { parse } from "../expression.js";
 import { readHedge, readSet } from "../text/printed.js";
-import { certificateRow, listed, source, verdict, withRole } from "./parts.js";
+import { certificateRow, listed, source, verdict } from "./parts.js";
 
 const MOST_DIGITS = 12;
 
-/** A hedge in the drawing, with both models as tables and the two effects. */
-export function hedge(ctx, words, answer) {
+/** A hedge in the drawing, with both models as tables and the two effects; below it further parts. */
+export function hedge(ctx, words, answer, ...more) {
   const found = readHedge(answer.out), hedgeEdge = (e) => ({ ...e, cls: "hedge" });
   const classes = [[found.big, "hedge-big"], [found.small, "hedge-small"]];
   const vertices = new Map(classes.flatMap(([names, cls]) => names.map((n) => [n, cls])));
   return {
-    dot: "no", view: () => view(ctx, words, answer.out, found),
+    dot: "no", view: () => view(ctx, words, answer.out, found, more),
     marks: { vertices, edges: [...found.choices, ...found.links].map(hedgeEdge) },
   };
 }
 
-function view(ctx, words, printed, found) {
-  const [effect] = printed.split(" is not identifiable"), { big, small, roots } = found;
+function view(ctx, words, printed, found, more) {
+  const { asked, effect, big, small, roots } = found;
   return h("div", {},
-    verdict("no", "Not identifiable", "Below are two positive finite models that fit the diagram. They agree on all "
-      + "observations and differ on ", h("code", {}, effect),
-    ", so no formula over what is observed equals it in both."),
-    eventTable(found, withRole(ctx, "exposure")),
+    verdict("no", asked ? "Not identified" : "Not identifiable", "Below are two positive finite models that fit the "
+      + "diagram. They agree on all observations and differ on ", h("code", {}, effect),
+    ", so no formula over what is observed equals it in both.",
+    asked ? [" For ", h("code", {}, asked), " no formula was found; more isn't claimed of it."] : ""),
+    eventTable(found, parse(effect).doing),
     h("p", { class: "legendline" }, h("span", { class: "swatch hedge-big" }), "hedge ", listed(big),
       h("span", { class: "swatch hedge-small" }), "over ", listed(small), "; roots ", listed(roots)),
     h("div", { class: "scroll" }, modelsTable(found)),
     h("p", { class: "small-print" }, "h and k are bits that a vertex carries; + is addition without carry (1 + 1 = 0). "
       + "Hidden causes, each 0 or 1: ", found.causes.map(causeText), "."),
     source(words, printed),
-    certificateRow(ctx));
+    certificateRow(ctx, words), ...more);
 }
 
 const causeText = ([number, on, zero, one], i) => [

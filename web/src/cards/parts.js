@@ -25,6 +25,7 @@ import { readPath } from "../text/printed.js";
  * @property {(words: string[]) => Promise<import("../runner.js").Answer>} ask
  * @property {(name: string, text: string) => void} put gives the program a second input
  * @property {() => void} refresh shows the card anew, after a choice in it
+ * @property {(id: string) => void} show shows another card
  * @property {(marks?: Marks) => void} mark shows something else in the drawing; nothing gives the card's own again
  * @property {(file: File) => void} take takes a table of counts
  * @property {import("../page/drawing.js").Drawing} drawing
@@ -71,13 +72,13 @@ export const withRole = ({ graph }, role) => graph.vertices.filter((v) => v.role
 export const listed = (names) =>
   names.map((name, i) => [i ? (i === names.length - 1 ? " and " : ", ") : "", h("b", {}, name)]);
 
-/** What is shown where the program refuses the question. */
-export function refused(words, answer) {
+/** What is shown where the program refuses the question, above it the choices that led to it. */
+export function refused(words, answer, choices = () => null) {
   const fault = readFault(answer.err), mustMark = fault.number === 4 || fault.number === 5;
   const help = "Click a vertex (or focus it and press e or o) to mark it as the exposure or the outcome.";
   return {
     dot: "",
-    view: () => h("div", {}, verdict("ask", fault.sentence, ...(mustMark ? [help] : [])), source(words, answer.err)),
+    view: () => h("div", {}, choices(), verdict("ask", fault.sentence, ...(mustMark ? [help] : [])), source(words, answer.err)),
   };
 }
 
@@ -99,10 +100,10 @@ export function formulaBox(tex, printed) {
     h("div", { class: "row end" }, copyButton(tex.join("\n"), "LaTeX", "Copy LaTeX"), button("Enlarge", enlarge)));
 }
 
-/** Saving the certificate of an answer, and having it checked. */
-export function certificateRow(ctx) {
+/** Saving the certificate of the answer to these words, and having it checked. */
+export function certificateRow(ctx, asked) {
   const result = h("div", { class: "checked", role: "status" });
-  const certificate = async () => (await ctx.ask(["identify", DIAGRAM, "--certificate"])).out;
+  const certificate = async () => (await ctx.ask([...asked, "--certificate"])).out;
   const check = async () => {
     ctx.put(CERTIFICATE, await certificate());
     const words = ["check", DIAGRAM, CERTIFICATE], answer = await ctx.ask(words);

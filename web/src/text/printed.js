@@ -54,6 +54,7 @@ const ONE = String.raw`("[^"]*"|\S+)`;
 export function readHedge(printed) {
   const all = (pattern) => [...printed.matchAll(new RegExp(pattern, "gm"))].map((m) => m.slice(1));
   const [sets] = all(String.raw`^hedge (\{.*\}) over (\{.*\}) with roots (\{.*\})$`);
+  const [[asked, effect]] = all(String.raw`^(?:(.*) not identified; )?(.*) is not identifiable$`);
   const [[event, power]] = all(String.raw`^event (.*) even: 1/2 in the first, 1/2 \+ 1/2\^(\d+) in the second$`);
   const [big, small, roots] = sets.map(readSet), bits = new Map();
   for (const [model, bit, sum] of all(String.raw`^(first|second) ([hk]\(.*?\)) = (.*)$`)) {
@@ -63,7 +64,7 @@ export function readHedge(printed) {
     a: bare(a), b: bare(b), both: mark === "<->",
   }));
   return {
-    big, small, roots, bits, event, power: Number(power),
+    asked, effect, big, small, roots, bits, event, power: Number(power),
     choices: edges("choice", "->"), links: edges("link", "<->"),
     causes: all(String.raw`^cause (\d+) on (\{.*\}) with weights (\d+) (\d+)$`),
   };
@@ -95,6 +96,29 @@ function fraction(text) {
   return q === undefined ? p : p / q;
 }
 
+/** @typedef {{a: string, b: string, given: string[], difference?: string, at?: string}} Implication */
+
+/** The printed pairs with their sets, and their largest differences where counts were given. @returns {Implication[]} */
+export function readImplications(printed) {
+  const pairs = printed.matchAll(new RegExp(
+    `^${ONE} from ${ONE} given (\\{.*\\})(?:\n(?:largest difference (-?\\d+) at (.*)))?$`, "gm"));
+  return [...pairs].map(([, a, b, given, difference, at]) => ({
+    a: bare(a), b: bare(b), given: readSet(given), ...(difference ? { difference, at } : {}),
+  }));
+}
+
+/** What is printed where experiments give no formula. */
+export function readStopped(printed) {
+  const m = new RegExp("^(.*) has no formula found from these experiments\ndistrict (\\{.*\\})\n"
+    + "hedge (\\{.*\\}) over (\\{.*\\}) with roots (\\{.*\\})").exec(printed);
+  const [district, big, small, roots] = m.slice(2).map(readSet);
+  return { effect: m[1], district, big, small, roots };
+}
+
+const quotedWhere = (marks) => (name) => (marks.test(name) ? `"${name}"` : name);
+
 /** A list of names as one word of the command line. */
-export const listWord = (names) =>
-  names.length ? names.map((n) => (/[,]|^-/.test(n) ? `"${n}"` : n)).join(",") : "{}";
+export const listWord = (names, needsQuotes = /,|^-|^\{\}$/) => names.map(quotedWhere(needsQuotes)).join(",") || "{}";
+
+/** Lists of names as one word. @param {string[][]} sets */
+export const experimentsWord = (sets) => sets.map((names) => listWord(names, /[,;]|^-|^\{\}$/)).join(";");

@@ -1,0 +1,68 @@
+import { button, h } from "../dom.js";
+import { equationLatex } from "../expression.js";
+import { DIAGRAM } from "../names.js";
+import { experimentsWord, readNotes, readStopped } from "../text/printed.js";
+import { formulaBox, isRefused, listed, refused, source, verdict } from "./parts.js";
+import { chosenSet, howToChoose } from "./sets.js";
+
+const MOST = 8;
+
+/** @param {import("./parts.js").Context} ctx */
+async function answer(ctx) {
+  const { memory } = ctx, number = (memory.experiments ??= 1);
+  const sets = Array.from({ length: number }, (_, i) => chosenSet(ctx, `experiment ${i}`, `Trial ${i + 1}`, []));
+  const chosen = sets.map((set) => set.names).filter((names) => names.length);
+  const pickers = () => choice(ctx, sets, chosen.length);
+  if (!chosen.length) return { dot: "", view: () => h("div", {}, invitation(), pickers()) };
+  const words = ["surrogate", DIAGRAM, "--experiments", experimentsWord(chosen)], said = await ctx.ask(words);
+  const marks = { vertices: new Map(chosen.flat().map((name) => [name, "chosen"])) };
+  if (isRefused(said)) return { ...refused(words, said, pickers), marks };
+  if (said.status === 1) return stopped(words, said, pickers);
+  return { dot: "", marks, view: () => h("div", {}, pickers(), formulaView(words, said.out)) };
+}
+
+const invitation = () => verdict("ask", "Were other variables set in a trial?",
+  "Choose what was set in each trial; all else was observed in it. A formula for the effect may then use it.");
+
+/** The sets that were set in each trial. */
+function choice(ctx, sets, chosen) {
+  const add = () => {
+    ctx.memory.experiments = sets.length + 1;
+    ctx.refresh();
+  };
+  const canAdd = chosen === sets.length && sets.length < MOST;
+  return h("div", {}, h("div", { class: "pickers" }, sets.map((set) => set.row())),
+    canAdd ? h("p", {}, button("Another trial", add, { data: { key: "another trial" } })) : null, howToChoose());
+}
+
+function formulaView(words, printed) {
+  const lines = printed.trimEnd().split("\n").filter((line) => !line.startsWith("free ")), { free } = readNotes(printed);
+  const usesTrial = lines.some((line, i) => (i ? line : line.slice(line.indexOf(" = "))).includes("do("));
+  return h("div", { class: "stack" },
+    verdict("yes", usesTrial ? "A formula from these trials" : "A formula from observations alone", h("code", {}, lines[0].split(" = ")[0]),
+      " equals it at every assignment in every positive finite model that fits the diagram. A term with do(…) is read "
+      + "off the trial that sets these variables; the others are observed."),
+    formulaBox(lines.map(equationLatex), printed),
+    free.length ? h("p", {}, "The formula reads ", listed(free), ", yet in every positive model that fits its value doesn't "
+      + "depend on it: take any one level.") : null,
+    source(words, printed));
+}
+
+function stopped(words, said, pickers) {
+  const { district, big, small, effect } = readStopped(said.out);
+  const classes = [[big, "hedge-big"], [small, "hedge-small"]];
+  return {
+    dot: "",
+    marks: { vertices: new Map(classes.flatMap(([names, cls]) => names.map((name) => [name, cls]))) },
+    view: () => h("div", {}, pickers(),
+      verdict("no", "No formula found from these trials", h("code", {}, effect), " can't be computed from observations "
+        + "alone, and none of the trials gives the part of ", listed(district), ". That another way leads from them to "
+        + "the effect isn't ruled out."),
+      h("p", { class: "legendline" }, h("span", { class: "swatch hedge-big" }), "hedge ", listed(big),
+        h("span", { class: "swatch hedge-small" }), "over ", listed(small)),
+      source(words, said.out)),
+  };
+}
+
+/** @type {import("./parts.js").Card} */
+export const experiments = { id: "experiments", title: "Trials", answer };
