@@ -1,8 +1,9 @@
 """Proves and builds the program: `rt ci` over a scratch copy of the crates below it, without their wrong bodies.
 
 `rt ci` proves crates side by side, as many as there are processors and memory for them, those with the longest chain above
-them first. It keeps each crate that passed, by the sum of all that it read: a start after an interrupted one goes on from
-there, and two runs on one machine wait for each other's crates. The program is the one that LLVM built of what was proved.
+them first. Where the kit keeps what passed, by the sum of all that it read, a start after an interrupted one goes on from
+there, and two runs on one machine wait for each other's crates; a kit that keeps nothing proves all anew. The program is the
+one that LLVM built of what was proved.
 """
 import contextlib
 import fcntl
@@ -45,7 +46,7 @@ def build(rt, kit):
             if not made.is_current(kit):
                 build_anew(rt, kit)
     except Interrupted as ended:
-        print("causal: interrupted; the next start goes on with what was proved", file=sys.stderr)
+        print("causal: interrupted; the next start goes on with what the toolchain has kept", file=sys.stderr)
         signal.signal(ended.args[0], signal.SIG_DFL)
         os.kill(os.getpid(), ended.args[0])
     finally:
