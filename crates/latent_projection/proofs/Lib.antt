@@ -7,3 +7,4 @@ pub mod Projecting
 pub mod Projected
 pub mod Numbering
 pub mod KeptNames
+pub mod WholeGraph

@@ -23,11 +23,26 @@ pub fn observed(
     ensures named { IfOk result (λ o. length o.names ≡ o.graph.n) }
 {
     let kept = observed_names(alloc, names, latent)?;
-    let projection = project(graph, latent);
     Ok(Observed {
         names: kept,
-        graph: drop_latent(&projection, latent),
+        graph: observed_graph(graph, latent),
     })
+}
+
+/// The observed graph; without latent vertices it is the graph itself.
+fn observed_graph(graph: &Graph, latent: VSet) -> Graph
+    ensures { IsObserved (graph_of graph.now) (has latent.bits) (graph_of result) }
+{
+    if latent.is_empty() {
+        return Graph {
+            n: graph.n,
+            parents: graph.parents,
+            children: graph.children,
+            spouses: graph.spouses,
+        };
+    }
+    let projection = project(graph, latent);
+    drop_latent(&projection, latent)
 }
 
 /// The names of the observed vertices.
