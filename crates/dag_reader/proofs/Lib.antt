@@ -11,9 +11,11 @@ pub mod DrawnPasses
 pub mod OneAnswer
 pub mod TextForm
 pub mod MarkLists
+pub mod KnownNames
 pub mod Loops
 pub mod EdgeRows
 pub mod RowPairs
+pub mod Joined
 pub mod RoleClashes
 pub mod PairLists
 pub mod WholeAnswers

@@ -2,7 +2,7 @@
 use Rattle.std.proofs.Common.{◌≡◌, ◌<◌, ◌+◌, ◌-◌, ℕ, zero, suc, Bool, true, false, List, [], ◌∷◌, ◌++◌, map, length, get_or, Option, Some, None, inl, inr, refl, sym, ap, subst, ◌∙◌, arith}
 use Rattle.std.specs.Prelude.{cond, ◌==◌, ◌||◌, ◌&&◌, nat_lt, find, option_map, All}
 use Rattle.std.specs.List.{list_any, list_all, flat_map, filter_map, cons_option}
-use Rattle.std.proofs.lemmas.Bool.{and_parts, and_from, ltb-true, lt-ltb, le-ltb, eq-eqb, ne_eqb, eqb-true, cases_eq, cases_lt, cases_Bool, or_cases}
+use Rattle.std.proofs.lemmas.Bool.{and_parts, and_from, ltb-true, lt-ltb, le-ltb, eq-eqb, ne_eqb, eqb-true, cases_eq, cases_lt, cases_Bool, or_cases, or_parts, both_ways}
 use Rattle.std.proofs.lemmas.List.Folds.{list_any-append, list_all-append}
 use Rattle.std.proofs.lemmas.Grind.{flat_map-append}
 use Rattle.mixed_graph.specs.Bits.{members_below}
@@ -167,6 +167,29 @@ arrows_apart marks v h = no_loops arrow_of v (λ e k. arrow_misses v e.arrow e.l
 
 pub doubles_apart : (marks : List Mark) (v : ℕ) → ◌≡◌ {A = Option Edge} (self_loop marks) None → joins (doubles_of marks) v v ≡ false
 doubles_apart marks v h = no_loops both_of v (λ e k. both_misses v e.arrow e.left e.right k) (edges_behind [] marks) h
+
+caught : (a : Arrow) (l r : ℕ) (ds bs : List (ℕ × ℕ)) → (l == r) ≡ true → joins (cons_option (arrow_of (record { left = l; arrow = a; right = r })) ds) l l ≡ false
+    → joins (cons_option (both_of (record { left = l; arrow = a; right = r })) bs) l l ≡ false → ⊥
+caught Right l r ds bs same h k = let t = and_from (l == l) (l == r) (eq-eqb l l refl) same in let f = (or_parts ((l == l) && (l == r)) (joins ds l l) h).0 in both_ways _ f t
+caught Left l r ds bs same h k = let t = and_from (l == r) (l == l) same (eq-eqb l l refl) in let f = (or_parts ((l == r) && (l == l)) (joins ds l l) h).0 in both_ways _ f t
+caught Both l r ds bs same h k = let t = and_from (l == l) (l == r) (eq-eqb l l refl) same in let f = (or_parts ((l == l) && (l == r)) (joins bs l l) k).0 in both_ways _ f t
+
+left_out : (o : Option (ℕ × ℕ)) (rest : List (ℕ × ℕ)) (v : ℕ) → joins (cons_option o rest) v v ≡ false → joins rest v v ≡ false
+left_out None rest v h = h
+left_out (Some p) rest v h = (or_parts ((v == p.0) && (v == p.1)) (joins rest v v) h).1
+
+none_looped : (es : List Edge) → ((v : ℕ) → joins (filter_map arrow_of es) v v ≡ false) → ((v : ℕ) → joins (filter_map both_of es) v v ≡ false)
+    → ◌≡◌ {A = Option Edge} (find is_self_loop es) None
+none_looped [] h k = refl
+none_looped (e ∷ es) h k = elim (cases_Bool (e.left == e.right)) [
+  | inl t ↦ absurd (caught e.arrow e.left e.right (filter_map arrow_of es) (filter_map both_of es) t (h e.left) (k e.left))
+  | inr f ↦ rw f (none_looped es (λ v. left_out (arrow_of e) (filter_map arrow_of es) v (h v)) (λ v. left_out (both_of e) (filter_map both_of es) v (k v)))
+]
+
+-- where no vertex is joined to itself there is no self-loop
+pub no_self_loop : (marks : List Mark) → ((v : ℕ) → joins (arrows_of marks) v v ≡ false) → ((v : ℕ) → joins (doubles_of marks) v v ≡ false)
+    → ◌≡◌ {A = Option Edge} (self_loop marks) None
+no_self_loop marks h k = none_looped (edges_behind [] marks) h k
 
 -- ---- the pairs of a relation
 

@@ -12,6 +12,7 @@ use Rattle.dag_reader.specs.declared.tokens.Class.{Class}
 use Rattle.dag_reader.specs.declared.tokens.Class.TheVariants as classes
 use Rattle.name_text.specs.Printing.{is_white, is_edge_byte, is_sign, is_name_byte}
 use Rattle.dag_reader.specs.Bytes.{in_class, is_run_byte}
+use Rattle.dag_reader.specs.Tokens.{past_white}
 
 taken_step : (p : ℕ → Bool) (x : ℕ) (k : ℕ) (xs : List ℕ) (b : Bool) → p x ≡ b → list_all p (take k xs) ≡ true → list_all p (take (cond b (1 + k) 0) (x ∷ xs)) ≡ true
 taken_step p x k xs true h rest = rw (one-add, h) rest
@@ -44,7 +45,7 @@ cut_low p bs (suc n) low utf8 is =
     subst (TwoTexts bs) e
     (cut_at bs (n + 1) utf8 (IsCharBoundary-after_ascii bs n (IsUtf8-from_is_utf8 bs utf8) (omega arith) (low (get_or bs n 0) (prefix_len_passes p bs n 0 (omega arith)))))
 
-white_low : (b : ℕ) → is_white b ≡ true → b < 128
+pub white_low : (b : ℕ) → is_white b ≡ true → b < 128
 white_low b h = grind (arith, nat_tests)
 
 edge_low : (b : ℕ) → is_edge_byte b ≡ true → b < 128
@@ -61,7 +62,6 @@ run_high b h = grind (arith, nat_tests)
 
 -- A text is cut into two at the end of the run at its front.
 pub run_cut : (c : Class) (bs : List ℕ) → is_utf8 bs ≡ true → TwoTexts bs (prefix_len (in_class c) bs)
-run_cut classes.White bs utf8 = cut_low is_white bs (prefix_len is_white bs) white_low utf8 refl
 run_cut classes.Edge bs utf8 = cut_low is_edge_byte bs (prefix_len is_edge_byte bs) edge_low utf8 refl
 run_cut classes.Name bs utf8 = cut_high is_name_byte bs name_high utf8
 run_cut classes.Line bs utf8 = cut_high is_line_byte bs line_high utf8
@@ -114,3 +114,26 @@ run_is_name bytes rest run b first front test here is passes utf8 = record {
       (cut_front (is_name_byte b) (prefix_len is_name_byte rest) b rest (sym test ∙ here));
   line = names_are_lines run passes;
 }
+
+-- ---- one byte more of a run
+
+pub length-behind : (bytes : List ℕ) → 1 ≤ length bytes → 1 + length (take (length bytes - 1) (drop 1 bytes)) ≡ length bytes
+length-behind [] some = absurd (omega arith)
+length-behind (b ∷ bs) some = let e = ap (λ (l : List ℕ). length l) (take_rest (b ∷ bs) 1) in omega (arith, e)
+
+pub run_stays : (p : ℕ → Bool) (bytes : List ℕ) → 1 ≤ length bytes → p (get_or bytes 0 0) ≡ false → prefix_len p bytes ≡ 0
+run_stays p [] some out = absurd (omega arith)
+run_stays p (b ∷ bs) some out = rw out refl
+
+pub run_goes : (p : ℕ → Bool) (bytes : List ℕ) → 1 ≤ length bytes → p (get_or bytes 0 0) ≡ true
+    → prefix_len p bytes ≡ 1 + prefix_len p (take (length bytes - 1) (drop 1 bytes))
+run_goes p [] some here = absurd (omega arith)
+run_goes p (b ∷ bs) some here = rw here (ap (λ l. 1 + prefix_len p l) (sym (take_rest (b ∷ bs) 1)))
+
+pub white_stays : (bytes : List ℕ) → 1 ≤ length bytes → is_white (get_or bytes 0 0) ≡ false → past_white bytes ≡ bytes
+white_stays bytes some out = ap (λ n. drop n bytes) (run_stays is_white bytes some out)
+
+pub white_goes : (bytes : List ℕ) → 1 ≤ length bytes → is_white (get_or bytes 0 0) ≡ true
+    → past_white (take (length bytes - 1) (drop 1 bytes)) ≡ past_white bytes
+white_goes [] some here = absurd (omega arith)
+white_goes (b ∷ bs) some here = ap past_white (take_rest (b ∷ bs) 1) ∙ sym (rw (here, one-add) refl)

@@ -2,6 +2,9 @@
 use Rattle.std.specs.Prelude.{◌≡◌, ℕ, List, length, Some, Result, Ok, Err}
 use Rattle.mixed_graph.specs.Shown.{graph_of}
 use Rattle.mixed_graph.specs.Built.{IsGraphOf}
+use Rattle.mixed_graph.specs.Pairs.{joins}
+use Rattle.dag_reader.specs.declared.edges.Edges.{Edges}
+use Rattle.dag_reader.specs.Rows.{row_has}
 use Rattle.mixed_graph.specs.declared.mixed.Graph.{Graph}
 use Rattle.dag_reader.specs.declared.marks.Mark.{Mark}
 use Rattle.dag_reader.specs.declared.faults.Fault.TheVariants as faults
@@ -18,6 +21,11 @@ use Rattle.mixed_graph.specs.Names.{name_of}
 use Rattle.dag_reader.specs.Passes.{Edge, self_loop, arrows_of, doubles_of, roles_of, has_role, IsRoleClash}
 use Rattle.dag_reader.specs.Reads.{HasNoLoop, HasNoClash, IsNamedCycle, Gives, is_marked}
 use Rattle.dag_reader.specs.declared.graph.ReadGraph.{ReadGraph}
+
+-- the rows hold the edges that the marks say
+pub record AreEdgesOf (marks : List Mark) (edges : Edges) : Type 0 where
+  pub arrows : (a b : ℕ) → row_has edges.arrows a b ≡ joins (arrows_of marks) a b
+  pub doubles : (a b : ℕ) → row_has edges.doubles a b ≡ joins (doubles_of marks) a b
 
 -- the graph of the edges that the marks say, or a cycle of them
 abbrev pub Builds : List (List ℕ) → List Mark → Result Graph GraphFault → Type 0

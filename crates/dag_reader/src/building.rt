@@ -3,9 +3,9 @@ ghost use Rattle.std.specs.List.{list_all};
 ghost use Rattle.dag_reader.specs.MarkEnds.{is_inside};
 ghost use Rattle.mixed_graph.specs.Names.{name_of};
 ghost use Rattle.dag_reader.specs.Reads.{HasNoLoop};
-ghost use Rattle.dag_reader.specs.Builds.{Builds, ChecksLoops, ChecksRoles, Marks};
+ghost use Rattle.dag_reader.specs.Builds.{AreEdgesOf, Builds, ChecksLoops, ChecksRoles, Marks};
 
-use crate::edges::{edges_in, pairs_below, self_loop};
+use crate::edges::{Edges, edges_in, has_loop, pairs_below, self_loop};
 use crate::faults::GraphFault;
 use crate::marks::Mark;
 use crate::roles::{Roles, roles_in};
@@ -41,13 +41,18 @@ fn cycle_names(alloc: Global, names: &Names, cycle: &Cycle) -> Result<Vec<Text>,
 }
 
 /// The graph of the edges that the marks say.
-fn build_graph(alloc: Global, names: &Names, marks: &[Mark]) -> Result<Graph, GraphFault>
+fn build_graph(
+    alloc: Global,
+    names: &Names,
+    marks: &[Mark],
+    edges: &Edges,
+) -> Result<Graph, GraphFault>
     requires inside { list_all (is_inside (length names.now)) marks.now ≡ true }
     requires no_loop { HasNoLoop marks.now }
+    requires edges { AreEdgesOf marks.now edges.now }
     ensures { Builds names.now marks.now result }
 {
     let n = names.count();
-    let edges = edges_in(marks);
     let arrows = pairs_below(alloc, n, &edges.arrows)?;
     let doubles = pairs_below(alloc, n, &edges.doubles)?;
     match Graph::build(n, arrows.as_slice(), doubles.as_slice()) {
@@ -58,11 +63,20 @@ fn build_graph(alloc: Global, names: &Names, marks: &[Mark]) -> Result<Graph, Gr
 }
 
 /// Refuses a self-loop.
-fn check_loops(alloc: Global, names: &Names, marks: &[Mark]) -> Result<(), GraphFault>
-    requires { list_all (is_inside (length names.now)) marks.now ≡ true }
+fn check_loops(
+    alloc: Global,
+    names: &Names,
+    marks: &[Mark],
+    edges: &Edges,
+) -> Result<(), GraphFault>
+    requires inside { list_all (is_inside (length names.now)) marks.now ≡ true }
+    requires edges { AreEdgesOf marks.now edges.now }
     ensures { ChecksLoops names.now marks.now result }
 {
     let _count = names.count();
+    if !has_loop(edges) {
+        return Ok(());
+    }
     match self_loop(alloc, marks)? {
         Some(v) => Err(GraphFault::SelfLoop(vertex_name(alloc, names, v)?)),
         None => Ok(()),
@@ -88,8 +102,9 @@ pub fn marked_graph(alloc: Global, names: &Names, marks: &[Mark]) -> Result<Mark
     ensures { Marks names.now marks.now result }
 {
     let _count = names.count();
-    check_loops(alloc, names, marks)?;
+    let edges = edges_in(marks);
+    check_loops(alloc, names, marks, &edges)?;
     let roles = check_roles(alloc, names, marks)?;
-    let graph = build_graph(alloc, names, marks)?;
+    let graph = build_graph(alloc, names, marks, &edges)?;
     Ok(MarkedGraph { graph, roles })
 }

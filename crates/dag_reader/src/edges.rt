@@ -67,13 +67,14 @@ pub fn self_loop(alloc: Global, marks: &[Mark]) -> Result<Option<u8>, AllocError
 fn connect(rows: &mut [u64; 64], from: VSet, to: VSet)
     ensures { (a b : ℕ) → row_has rows.new a b ≡ (row_has rows.old a b || (has from.bits a && has to.bits b)) }
 {
-    let _bits = from.bits;
-    for v in 0..64u8 {
-        rows[v as usize] = VSet {
+    let mut rest = from;
+    'members: while !rest.is_empty() {
+        let v = rest.lowest();
+        let row = VSet {
             bits: rows[v as usize],
-        }
-        .union(to.only_if(from.has(v)))
-        .bits;
+        };
+        rows[v as usize] = row.union(to).bits;
+        rest = rest.difference(VSet::one(v));
     }
 }
 
@@ -114,16 +115,33 @@ pub fn edges_in(marks: &[Mark]) -> Edges
     Edges { arrows, doubles }
 }
 
-/// Adds the pairs of one row.
-fn push_row(out: &mut Vec<(u8, u8)>, n: u32, a: u8, row: u64) -> Result<(), AllocError>
-    requires { n ≤ 64 }
-    ensures { OnOk result (out.new.items ≡ out.old.items ++ map (λ b. (a, b)) (members_below (has row) n)) }
+/// Whether an edge joins a vertex to itself.
+pub fn has_loop(edges: &Edges) -> bool
+    ensures { result ≡ false → (v : ℕ) → (row_has edges.now.arrows v v ≡ false) × (row_has edges.now.doubles v v ≡ false) }
 {
-    let row = VSet { bits: row };
-    for b in 0..n {
-        if row.has(b as u8) {
-            out.push((a, b as u8))?;
+    for v in 0..64u8 {
+        let row = VSet {
+            bits: edges.arrows[v as usize],
+        };
+        let both = VSet {
+            bits: edges.doubles[v as usize],
+        };
+        if row.union(both).has(v) {
+            return true;
         }
+    }
+    false
+}
+
+/// Adds the pairs of one row.
+fn push_row(out: &mut Vec<(u8, u8)>, a: u8, row: VSet) -> Result<(), AllocError>
+    ensures { OnOk result (out.new.items ≡ out.old.items ++ map (λ b. (a, b)) (members_below (has row.bits) 64)) }
+{
+    let mut rest = row;
+    'members_of_row: while !rest.is_empty() {
+        let b = rest.lowest();
+        out.push((a, b))?;
+        rest = rest.difference(VSet::one(b));
     }
     Ok(())
 }
@@ -133,9 +151,13 @@ pub fn pairs_below(alloc: Global, n: u32, rows: &[u64; 64]) -> Result<Vec<(u8, u
     requires { n ≤ 64 }
     ensures { IfOk result (λ pairs. pairs.items ≡ pairs_below n (row_has rows.now)) }
 {
+    let below = VSet::below(n);
     let mut out = Vec::new(alloc);
     for a in 0..n {
-        push_row(&mut out, n, a as u8, rows[a as usize])?;
+        let row = VSet {
+            bits: rows[a as usize],
+        };
+        push_row(&mut out, a as u8, row.intersection(below))?;
     }
     Ok(out)
 }

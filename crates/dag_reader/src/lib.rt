@@ -8,6 +8,7 @@ mod edges;
 mod faults;
 mod grammar;
 mod graph;
+mod guesses;
 mod law;
 mod marks;
 mod reading;

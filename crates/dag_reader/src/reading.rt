@@ -32,7 +32,7 @@ fn named_graph(names: Names, marked: MarkedGraph) -> ReadGraph
 fn graph_from(alloc: Global, said: Statements) -> Result<ReadGraph, GraphFault>
     ensures { Gives (said_by said) result }
 {
-    let Statements { names, marks } = said;
+    let Statements { names, marks, .. } = said;
     match marked_graph(alloc, &names, marks.as_slice()) {
         Ok(marked) => Ok(named_graph(names, marked)),
         Err(fault) => Err(fault),

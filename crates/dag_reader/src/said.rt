@@ -4,6 +4,7 @@ ghost use Rattle.dag_reader.specs.MarkEnds.{is_inside};
 
 use crate::faults::{Fault, ReadError, misfit, own_fault};
 use crate::grammar::{Place, next};
+use crate::guesses::NameGuesses;
 use crate::marks::{Mark, Role};
 use crate::tokens::{Token, is_end};
 use crate::words::Word;
@@ -15,6 +16,7 @@ use std::alloc::{AllocError, Global};
 pub struct Statements {
     pub names: Names,
     pub marks: Vec<Mark>,
+    pub guesses: NameGuesses,
     pub ghost inside: { list_all (is_inside (length names)) marks.items ≡ true },
 }
 
@@ -32,6 +34,7 @@ impl Statements {
         Statements {
             names: Names::empty(alloc),
             marks: Vec::new(alloc),
+            guesses: NameGuesses::new(),
         }
     }
 
@@ -46,8 +49,13 @@ impl Statements {
     fn add_vertex<'a>(&mut self, name: Word<'a>) -> Result<(), ReadError<'a>>
         ensures { Leaves (with_vertex name.entry.bytes.now (said_by self.old)) (said_by self.new) result }
     {
+        if let Some(index) = self.guesses.index(&self.names, name.bytes) {
+            self.mark(Mark::Member(index))?;
+            return Ok(());
+        }
         match self.names.add(name.bytes) {
             Ok(index) => {
+                self.guesses.keep(name.bytes, index);
                 self.mark(Mark::Member(index))?;
                 Ok(())
             }

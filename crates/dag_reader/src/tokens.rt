@@ -16,7 +16,6 @@ use name_text::{is_edge_byte, is_name_byte, is_white};
 /// The classes of bytes of which runs are made.
 #[derive(Clone, Copy, Debug, PartialEq, Eq)]
 pub enum Class {
-    White,
     Edge,
     Name,
     Line,
@@ -45,11 +44,11 @@ pub enum Token<'a> {
     BadEdge,
 }
 
+#[inline(always)]
 fn is_in(class: Class, byte: u8) -> bool
     ensures { result ≡ in_class class byte }
 {
     match class {
-        Class::White => is_white(byte),
         Class::Edge => is_edge_byte(byte),
         Class::Name => is_name_byte(byte),
         Class::Line => !matches!(byte, b'"' | b'\r' | b'\n'),
@@ -58,19 +57,41 @@ fn is_in(class: Class, byte: u8) -> bool
 }
 
 /// How many bytes at the front are in the class.
+#[inline(always)]
 fn run_len(class: Class, bytes: &[u8]) -> usize
     ensures run { result ≡ prefix_len (in_class class) bytes.now }
     ensures within { result ≤ length bytes.now }
 {
-    for (i, byte) in bytes.iter().enumerate() {
+    let mut rest = bytes;
+    while let [byte, after @ ..] = rest {
         if !is_in(class, *byte) {
-            return i;
+            return bytes.len() - rest.len();
         }
+        rest = after;
     }
     bytes.len()
 }
 
+/// What follows the white space at the front.
+#[inline(always)]
+fn past_white(bytes: &[u8]) -> &[u8]
+    requires { is_utf8 bytes.now ≡ true }
+    ensures rest { result.now ≡ past_white bytes.now }
+    ensures text { is_utf8 result.now ≡ true }
+    ensures within { length result.now ≤ length bytes.now }
+{
+    let mut rest = bytes;
+    while let [byte, after @ ..] = rest {
+        if !is_white(*byte) {
+            return rest;
+        }
+        rest = after;
+    }
+    rest
+}
+
 /// The run of the class at the front, and what follows it.
+#[inline(always)]
 fn split_run(class: Class, bytes: &[u8]) -> (&[u8], &[u8])
     requires { is_utf8 bytes.now ≡ true }
     ensures run { result.0.now ≡ take (prefix_len (in_class class) bytes.now) bytes.now }
@@ -249,7 +270,7 @@ impl<'a> Lexer<'a> {
         ensures due { self.new.value_due ≡ wants_value (view result.1) }
         ensures shorter { view result.1 ≢ end → length self.new.rest.now < length self.old.rest.now }
     {
-        let (_, bytes) = split_run(Class::White, self.rest);
+        let bytes = past_white(self.rest);
         let at = self.size - bytes.len();
         let (token, rest) = token_of(self.value_due, bytes);
         self.rest = rest;

@@ -1,17 +1,24 @@
-use Rattle.std.proofs.Common.{◌≡◌, Bool, true, false, arith, inl, inr, refl, sym, ap, ◌∙◌}
-use Rattle.std.specs.Prelude.{◌||◌, ◌&&◌}
+use Rattle.std.proofs.Common.{◌∙◌, ap, arith}
+use Rattle.std.specs.Prelude.{◌&&◌, not}
 use Rattle.mixed_graph.specs.Bits.{has}
+use Rattle.mixed_graph.proofs.Masks.{has-zero}
 use Rattle.dag_reader.specs.Rows.{row_has}
-use Rattle.std.proofs.lemmas.Bool.{cases_lt}
-use Rattle.mixed_graph.proofs.Masks.{has-above}
+use Rattle.dag_reader.proofs.Joined.{row_joined, member_at, rest_joined, rest_smaller, all_joined}
 use Rattle.dag_reader.proofs.edges.connect.Goals as goal
 
-or_none : (a : Bool) → (a || false) ≡ a
-or_none true = refl
-or_none false = refl
+pub members-preserved : goal.members-preserved
+members-preserved c = record {
+  whole = λ a b.
+      rest_joined _ _ _ _ _ _ (row_joined c.members.rows c.lowest-v.result c.union.result.bits (has c.args.to.bits) (omega arith) c.union.ensures a b)
+      (c.difference-rest.ensures a ∙ ap (λ t. has c.members.rest.bits a && not t) (c.one.ensures a))
+      (member_at c.members.rest.bits c.lowest-v.result a c.lowest-v.ensures.member) ∙ c.members.invariant.whole a b;
+  fits = omega arith;
+}
+
+pub members-smaller : goal.members-smaller
+members-smaller c = rest_smaller c.members.rest.bits c.difference-rest.result.bits c.lowest-v.result c.lowest-v.ensures.member
+    (λ u. c.difference-rest.ensures u ∙ ap (λ t. has c.members.rest.bits u && not t) (c.one.ensures u))
 
 pub returns : goal.returns
-returns c = λ a b. elim (cases_lt a 64) [
-  | inl lt ↦ c.loop-v.invariant.done a b (omega arith)
-  | inr ge ↦ c.loop-v.invariant.kept a b (omega arith) ∙ sym (ap (λ t. row_has c.args.rows.now a b || (t && has c.args.to.bits b)) (has-above c.args.from.bits a (omega arith) ge) ∙ or_none (row_has c.args.rows.now a b))
-]
+returns c = λ a b. all_joined (row_has c.members.rows a b) (has c.members.rest.bits a) (has c.args.to.bits b)
+    (ap (λ m. has m a) (c.is_empty.ensures.0 c.members-test.false) ∙ has-zero a) ∙ c.members.invariant.whole a b

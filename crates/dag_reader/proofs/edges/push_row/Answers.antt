@@ -1,16 +1,25 @@
-use Rattle.std.proofs.Common.{sym, ◌∙◌, ap}
-use Rattle.std.proofs.Common.{ℕ}
-use Rattle.std.specs.Global.{Vec}
+use Rattle.std.proofs.Common.{◌≡◌, ℕ, ◌∙◌, ap, arith}
+use Rattle.std.specs.Prelude.{◌&&◌, ◌==◌, not}
 use Rattle.mixed_graph.specs.Bits.{has}
-use Rattle.dag_reader.proofs.RowPairs.{row_begin, row_yes, row_no}
+use Rattle.mixed_graph.proofs.FirstMembers.{members-empty, members-without}
+use Rattle.dag_reader.proofs.Joined.{rest_smaller, pair_more, pairs_done}
 use Rattle.dag_reader.proofs.edges.push_row.Goals as goal
-use Rattle.dag_reader.proofs.edges.push_row.Goals.{then-has+in_ok-push, else-has}
+use Rattle.dag_reader.proofs.edges.push_row.Goals.{After-difference-rest}
 
-pub loop-b-init : goal.loop-b-init
-loop-b-init c = row_begin c.args.out.now.items c.args.a (has c.args.row)
+rest_is : (c : After-difference-rest) → (u : ℕ) → has c.difference-rest.result.bits u ≡ (has c.members_of_row.rest.bits u && not (u == c.lowest-b.result))
+rest_is c u = c.difference-rest.ensures u ∙ ap (λ t. has c.members_of_row.rest.bits u && not t) (c.one.ensures u)
 
-pub loop-b-preserved : goal.loop-b-preserved
-loop-b-preserved c = elim c.if-has.branch [
-  | then-has+in_ok-push w ↦ row_yes c.loop-b.out.items c.if-has.out.items c.args.out.now.items c.args.a c.loop-b.b (has c.args.row) (sym c.has.ensures ∙ w.if-has.true) c.loop-b.invariant (ap (λ (v : Vec (ℕ × ℕ)). v.items) w.out-is ∙ w.in_ok-push.ensures.items)
-  | else-has w ↦ row_no c.loop-b.out.items c.if-has.out.items c.args.out.now.items c.args.a c.loop-b.b (has c.args.row) (sym c.has.ensures ∙ w.if-has.false) c.loop-b.invariant (ap (λ (v : Vec (ℕ × ℕ)). v.items) w.out-is)
-]
+pub members_of_row-smaller : goal.members_of_row-smaller
+members_of_row-smaller c = rest_smaller c.members_of_row.rest.bits c.difference-rest.result.bits c.lowest-b.result c.lowest-b.ensures.member (rest_is c)
+
+pub members_of_row-preserved : goal.members_of_row-preserved
+members_of_row-preserved c = record {
+  whole = pair_more c.members_of_row.out.items c.push.new.self.items _ c.args.a c.lowest-b.result _ _
+      (members-without c.members_of_row.rest.bits c.difference-rest.result.bits c.lowest-b.result c.lowest-b.ensures.in_range c.lowest-b.ensures.member c.lowest-b.ensures.least (rest_is c))
+      c.in_ok-push.ensures.items c.members_of_row.invariant.whole;
+  fits = omega arith;
+}
+
+pub returns : goal.returns
+returns c = pairs_done c.members_of_row.out.items c.args.a _ (members-empty c.members_of_row.rest.bits (c.is_empty.ensures.0 c.members_of_row-test.false))
+    ∙ c.members_of_row.invariant.whole

@@ -1,10 +1,8 @@
-use Rattle.std.proofs.Common.{arith, ap, length, length-drop}
-use Rattle.std.specs.List.{prefix_len}
-use Rattle.name_text.specs.Printing.{is_white}
+use Rattle.std.proofs.Common.{arith}
 use Rattle.dag_reader.proofs.tokens.Lexer.next.Goals as goal
 
 pub invariant_of-self : goal.invariant_of-self
 invariant_of-self c = record {
-  within = omega (arith, c.token_of.ensures.kept, ap length c.split_run.ensures.rest, length-drop (prefix_len is_white c.args.self.now.rest.now) c.args.self.now.rest.now, c.args.self.now.within);
+  within = omega (arith, c.token_of.ensures.kept, c.past_white-bytes.ensures.within, c.args.self.now.within);
   text = c.token_of.ensures.after;
 }
