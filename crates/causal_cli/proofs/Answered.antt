@@ -18,7 +18,8 @@ use Rattle.equivalent_command.proofs.Outcomes.{first_answered as equivalent_firs
 use Rattle.implications_command.proofs.Outcomes.{first_answered as implications_first, counts_answered as implied_answered}
 use Rattle.survey_command.proofs.Outcomes.{survey_answered}
 use Rattle.surrogate_command.proofs.Outcomes.{surrogate_answered}
-use Rattle.causal_cli.specs.Commands.{Request, graph, separate, rule, identify, check, adjust, evaluate, equivalent, implications, survey, surrogate, second_of}
+use Rattle.causal_cli.specs.Commands.{Request, second_of}
+use Rattle.causal_cli.specs.declared.commands.Command.TheVariants as command
 use Rattle.causal_cli.specs.Answers.{WordsAnswer, GraphAnswer, NeedsSecond, SecondAnswer, Defined, Continues, DefinedWith, second_in, limit_of, IsAccepted, GivesSecond, IsLeft, IsLeftOf}
 use Rattle.check_command.specs.Answers.{CheckAnswer}
 use Rattle.evaluate_command.specs.Answers.{CountsAnswer}
@@ -31,19 +32,19 @@ use Rattle.causal_cli.specs.declared.answer.SecondInput.{SecondInput}
 use Rattle.causal_cli.specs.declared.answer.SecondInput.TheVariants as input
 
 pub words_answered : (w : Request) (o : Outcome) (text : List ℕ) → WordsAnswer w o text → IsAnswered o
-words_answered (survey q) o text h = survey_answered q.seed o text h
+words_answered (command.Survey, q) o text h = survey_answered q.seed o text h
 words_answered w o text h = absurd h
 
 graph_answer : (w : Request) (g : ReadGraph) (o : Outcome) (text : List ℕ) → GraphAnswer w g o text → IsAnswered o
-graph_answer (graph q) g o text h = graph_answered q.project g o text h
-graph_answer (separate q) g o text h = separate_answered g q.x q.y q.given o text h
-graph_answer (rule q) g o text h = rule_answered q.rule g q.y q.done q.z q.given o text h
-graph_answer (identify q) g o text h = given_answered q.form g q.x q.y q.given o text h
-graph_answer (adjust q) g o text h = adjust_answered g q.x q.y q.query o text h
-graph_answer (evaluate q) g o text h = evaluate_first g q.x q.y o text h
-graph_answer (equivalent q) g o text h = equivalent_first g q.query o text h
-graph_answer (implications q) g o text h = implications_first q.counts g o text h
-graph_answer (surrogate q) g o text h = surrogate_answered g q.x q.y q.experiments o text h
+graph_answer (command.Graph, q) g o text h = graph_answered q.project g o text h
+graph_answer (command.Separate, q) g o text h = separate_answered g q.x q.y q.given o text h
+graph_answer (command.Rule, q) g o text h = rule_answered q.rule g q.y q.done q.z q.given o text h
+graph_answer (command.Identify, q) g o text h = given_answered q.form g q.x q.y q.given o text h
+graph_answer (command.Adjust, q) g o text h = adjust_answered g q.x q.y q.query o text h
+graph_answer (command.Evaluate, q) g o text h = evaluate_first g q.x q.y o text h
+graph_answer (command.Equivalent, q) g o text h = equivalent_first g q.query o text h
+graph_answer (command.Implications, q) g o text h = implications_first q.counts g o text h
+graph_answer (command.Surrogate, q) g o text h = surrogate_answered g q.x q.y q.experiments o text h
 graph_answer w g o text h = absurd h
 
 -- the outcome of the answer on the file alone
@@ -70,10 +71,10 @@ long_answered p reply gives =
 
 -- what is left names the second input of the request
 named_on : (w : Request) (g : ReadGraph) (p : SecondInput) → IsLeft w g p → second_of w ≡ Some (second_in p)
-named_on (check q) g (input.Check kept certificate) is = ap (λ t. Some t) (sym is.0)
-named_on (evaluate q) g (input.Evaluate found counts count exact) is = ap (λ t. Some t) (sym is.0)
-named_on (equivalent q) g (input.Equivalent kept s second) is = ap (λ t. Some t) (sym is.0)
-named_on (implications q) g (input.Implications pairs counts count) is = is.0
+named_on (command.Check, q) g (input.Check kept certificate) is = ap (λ t. Some t) (sym is.0)
+named_on (command.Evaluate, q) g (input.Evaluate found counts count exact) is = ap (λ t. Some t) (sym is.0)
+named_on (command.Equivalent, q) g (input.Equivalent kept s second) is = ap (λ t. Some t) (sym is.0)
+named_on (command.Implications, q) g (input.Implications pairs counts count) is = is.0
 named_on w g p is = absurd is
 
 pub named : (w : Request) (bytes : List ℕ) (p : SecondInput) → IsLeftOf w bytes p → second_of w ≡ Some (second_in p)
@@ -81,10 +82,10 @@ named w bytes p is = named_on w is.0 p is.2
 
 -- the graph is accepted, where something is left
 needed : (w : Request) (g : ReadGraph) (p : SecondInput) → IsLeft w g p → NeedsSecond w g
-needed (check q) g (input.Check kept certificate) is = tt
-needed (evaluate q) g (input.Evaluate found counts count exact) is = (effect_view found, is.3)
-needed (equivalent q) g (input.Equivalent kept s second) is = (s, is.2)
-needed (implications q) g (input.Implications pairs counts count) is = (pairs_view pairs, is.2)
+needed (command.Check, q) g (input.Check kept certificate) is = tt
+needed (command.Evaluate, q) g (input.Evaluate found counts count exact) is = (effect_view found, is.3)
+needed (command.Equivalent, q) g (input.Equivalent kept s second) is = (s, is.2)
+needed (command.Implications, q) g (input.Implications pairs counts count) is = (pairs_view pairs, is.2)
 needed w g p is = absurd is
 
 pub continues : (w : Request) (bytes : List ℕ) (p : SecondInput) → IsLeftOf w bytes p → Continues w bytes
@@ -93,12 +94,12 @@ continues w bytes p is = (is.0, is.1, needed w is.0 p is.2)
 -- the answer on the bytes of the second input
 second_answer : (w : Request) (g : ReadGraph) (p : SecondInput) (other : List ℕ) (reply : Reply) → IsLeft w g p → GivesSecond p other reply →
     SecondAnswer w g other reply.outcome reply.text.items
-second_answer (check q) g (input.Check kept certificate) other reply is gives = subst (λ k. CheckAnswer k other reply.outcome reply.text.items) is.1 gives
-second_answer (evaluate q) g (input.Evaluate found counts count exact) other reply is gives =
+second_answer (command.Check, q) g (input.Check kept certificate) other reply is gives = subst (λ k. CheckAnswer k other reply.outcome reply.text.items) is.1 gives
+second_answer (command.Evaluate, q) g (input.Evaluate found counts count exact) other reply is gives =
     let named_count = subst (λ m. CountsAnswer exact (effect_view found) m other reply.outcome reply.text.items) is.1 gives in
     (effect_view found, is.3, subst (λ b. CountsAnswer b (effect_view found) q.count other reply.outcome reply.text.items) is.2 named_count)
-second_answer (equivalent q) g (input.Equivalent kept s second) other reply is gives = (s, is.2, subst (λ k. SecondGraphAnswer k s other reply.outcome reply.text.items) is.1 gives)
-second_answer (implications q) g (input.Implications pairs counts count) other reply is gives = (pairs_view pairs, is.2, subst (λ m. ImpliedAnswer (pairs_view pairs) m other reply.outcome reply.text.items) is.1 gives)
+second_answer (command.Equivalent, q) g (input.Equivalent kept s second) other reply is gives = (s, is.2, subst (λ k. SecondGraphAnswer k s other reply.outcome reply.text.items) is.1 gives)
+second_answer (command.Implications, q) g (input.Implications pairs counts count) other reply is gives = (pairs_view pairs, is.2, subst (λ m. ImpliedAnswer (pairs_view pairs) m other reply.outcome reply.text.items) is.1 gives)
 second_answer w g p other reply is gives = absurd is
 
 pub defined_with : (w : Request) (bytes : List ℕ) (p : SecondInput) (other : List ℕ) (reply : Reply) → IsLeftOf w bytes p → GivesSecond p other reply →
@@ -110,8 +111,8 @@ pub accepted : (w : Request) (bytes : List ℕ) (p : SecondInput) → IsLeftOf w
 accepted w bytes p is = accepted_on w is.0 p is.2
   where
     accepted_on : (w : Request) (g : ReadGraph) (p : SecondInput) → IsLeft w g p → IsAccepted p
-    accepted_on (check q) g (input.Check kept certificate) is = tt
-    accepted_on (evaluate q) g (input.Evaluate found counts count exact) is = is.3.identified
-    accepted_on (equivalent q) g (input.Equivalent kept s second) is = (q.query, subst (λ k. IsFirstAccepted k q.query s) (sym is.1) is.2)
-    accepted_on (implications q) g (input.Implications pairs counts count) is = is.2.pairs
+    accepted_on (command.Check, q) g (input.Check kept certificate) is = tt
+    accepted_on (command.Evaluate, q) g (input.Evaluate found counts count exact) is = is.3.identified
+    accepted_on (command.Equivalent, q) g (input.Equivalent kept s second) is = (q.query, subst (λ k. IsFirstAccepted k q.query s) (sym is.1) is.2)
+    accepted_on (command.Implications, q) g (input.Implications pairs counts count) is = is.2.pairs
     accepted_on w g p is = absurd is

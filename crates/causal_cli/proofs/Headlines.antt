@@ -12,11 +12,11 @@ use Rattle.identify_command.specs.Conditions.{IdentifyAnswerGiven}
 use Rattle.identify_command.specs.Requests.{Request as Asked, identify_row}
 use Rattle.replies.specs.Observed.{Names}
 use Rattle.causal_cli.specs.Answers.{WordsAnswer, HoldsAnswer}
-use Rattle.causal_cli.specs.Commands.{table, row_for, Request, identify, survey, command_of, file_of, second_of, IsRequest, Asks, AskOnce}
-use Rattle.causal_cli.specs.declared.commands.Command.TheVariants.{Identify}
+use Rattle.causal_cli.specs.Commands.{table, row_for, Request, command_of, file_of, second_of, IsRequest, Asks}
+use Rattle.causal_cli.specs.declared.commands.Command.TheVariants.{Identify, Survey}
 use Rattle.causal_cli.specs.Run.{Run, Answers, by_words, by_file, by_both, Ends}
-use Rattle.causal_cli.specs.Ends.{IfAnswered}
 use Rattle.causal_cli.specs.Headline.{IsRightText, Identified, Headline}
+use Rattle.causal_cli.proofs.CompleteRuns.{words_ask_once}
 use Rattle.causal_cli.proofs.OneCommand.{one_command}
 
 -- where no list is given, nothing is
@@ -25,38 +25,38 @@ nothing_given given (Some t) none is = absurd (none-some t (sym none))
 nothing_given None None none is = refl
 nothing_given (Some names) None none is = absurd is
 
-right_on : (o : Option (List ℕ)) (q : Asked) (k : Outcome) (text : List ℕ) → q.given ≡ None → IfSome o (λ bytes. HoldsAnswer (identify q) bytes k text) → IfSome o (λ bytes. IsRightText q.form bytes q.x q.y k text)
+right_on : (o : Option (List ℕ)) (q : Asked) (k : Outcome) (text : List ℕ) → q.given ≡ None → IfSome o (λ bytes. HoldsAnswer (Identify, q) bytes k text) → IfSome o (λ bytes. IsRightText q.form bytes q.x q.y k text)
 right_on None q k text none h = tt
 right_on (Some bytes) q k text none h = record { graph = h.graph; holds = h.holds; answer = subst (λ given. IdentifyAnswerGiven q.form h.graph q.x q.y given k text) none h.answer }
 
 -- the answer to a request of `identify`, on its file, is right
 identified : (r : Run) (uses : List Use) (o : Outcome) (text : List ℕ) (w : Request) (file : Text) → value_of uses (codes "given") ≡ None → command_of w ≡ Identify → IsRequest uses w → file_of w ≡ Some file →
     IfSome (r.held file) (λ bytes. HoldsAnswer w bytes o text) → Appends r.out.before r.out.after text → Identified r uses o
-identified r uses o text (identify q) file bare e is names defined whole = record {
+identified r uses o text (Identify, q) file bare e is names defined whole = record {
   request = q;
   text = text;
   asks = is;
-  right = right_on (r.held q.file) q o text (nothing_given q.given (value_of uses (codes "given")) bare is.given) (subst (λ f. IfSome (r.held f) (λ bytes. HoldsAnswer (identify q) bytes o text)) (sym (same_Some q.file file names)) defined);
+  right = right_on (r.held q.file) q o text (nothing_given q.given (value_of uses (codes "given")) bare is.given) (subst (λ f. IfSome (r.held f) (λ bytes. HoldsAnswer (Identify, q) bytes o text)) (sym (same_Some q.file file names)) defined);
   whole = whole;
 }
 identified r uses o text w file bare e is names defined whole = absurd (cc e)
 
 -- such a request has no second input, and words alone don't answer it
 no_second : (w : Request) (name : Text) → command_of w ≡ Identify → second_of w ≡ Some name → ⊥
-no_second (identify q) name e s = none-some name s
+no_second (Identify, q) name e s = none-some name s
 no_second w name e s = absurd (cc e)
 
 no_words : (w : Request) (o : Outcome) (text : List ℕ) → command_of w ≡ Identify → WordsAnswer w o text → ⊥
-no_words (survey q) o text e h = absurd (cc e)
+no_words (Survey, q) o text e h = absurd (cc e)
 no_words w o text e h = h
 
-module _ (r : Run) (once : AskOnce r.words) (uses : List Use) (call : IsCall table r.words identify_row uses) (bare : value_of uses (codes "given") ≡ None) where
+module _ (r : Run) (uses : List Use) (call : IsCall table r.words identify_row uses) (bare : value_of uses (codes "given") ≡ None) where
   -- a request that the words ask for is one of `identify`, by the same uses
   is_identify : (w : Request) → Asks r.words w → command_of w ≡ Identify
-  is_identify w a = one_command (command_of w) Identify (once identify_row (row_for (command_of w)) uses a.uses call a.call).0
+  is_identify w a = one_command (command_of w) Identify (words_ask_once r.words identify_row (row_for (command_of w)) uses a.uses call a.call).0
 
   same_uses : (w : Request) → Asks r.words w → IsRequest uses w
-  same_uses w a = subst (λ us. IsRequest us w) (once identify_row (row_for (command_of w)) uses a.uses call a.call).1 a.asks
+  same_uses w a = subst (λ us. IsRequest us w) (words_ask_once r.words identify_row (row_for (command_of w)) uses a.uses call a.call).1 a.asks
 
   on_yes : (text : List ℕ) → Answers r Yes text → Appends r.out.before r.out.after text → Identified r uses Yes
   on_yes text (by_words a) whole = absurd (no_words a.request Yes text (is_identify a.request a.asks) a.answer)
@@ -75,19 +75,13 @@ other_status r code high = record {
   hedge = λ uses call bare e. absurd (omega (arith, high, e));
 }
 
-pub headline : (r : Run) (code : ℕ) (o : Outcome) (text : List ℕ) → code ≡ code_of o → Ends r o text → IfAnswered o (AskOnce r.words) → Headline r code
-headline r code Yes text c h once = record {
-  formula = λ uses call bare zero. on_yes r once uses call bare text h.answers h.whole;
+pub headline : (r : Run) (code : ℕ) (o : Outcome) (text : List ℕ) → code ≡ code_of o → Ends r o text → Headline r code
+headline r code Yes text c h = record {
+  formula = λ uses call bare zero. on_yes r uses call bare text h.answers h.whole;
   hedge = λ uses call bare one. absurd (omega (arith, c, one));
 }
-headline r code No text c h once = record {
+headline r code No text c h = record {
   formula = λ uses call bare zero. absurd (omega (arith, c, zero));
-  hedge = λ uses call bare one. on_no r once uses call bare text h.answers h.whole;
+  hedge = λ uses call bare one. on_no r uses call bare text h.answers h.whole;
 }
-headline r code o text c h once = other_status r code (omega (arith, c))
-
--- a fact holds where an answer was written, if it holds anyway
-pub held_anyway : (o : Outcome) (P : Type 0) → P → IfAnswered o P
-held_anyway Yes P p = p
-held_anyway No P p = p
-held_anyway o P p = tt
+headline r code o text c h = other_status r code (omega (arith, c))

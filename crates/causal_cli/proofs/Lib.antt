@@ -10,3 +10,4 @@ mod DrawnRuns
 mod Headlines
 mod CheckedRuns
 mod CompleteRuns
+mod GraphRequests

@@ -1,26 +1,19 @@
 -- From what words of the form are to what they ask for.
-use Rattle.std.proofs.Common.{◌≡◌, List, Result, Ok, Err, sym, ◌∙◌, subst}
+use Rattle.std.proofs.Common.{◌≡◌, List, Result, Ok, Err, sym, subst}
 use Rattle.std.specs.Prelude.{IfOk}
-use Rattle.word_forms.specs.Form.{Text, Row, Use, HasForm, IsCall, IsOnlyCall}
-use Rattle.causal_cli.specs.Commands.{table, row_for, Request, command_of, IsRequest, Asks, AskOnce, request_of}
+use Rattle.word_forms.specs.Form.{Text, Row, Use, HasForm, IsCall}
+use Rattle.causal_cli.specs.Commands.{table, row_for, Request, command_of, IsRequest, Asks, request_of}
 use Rattle.causal_cli.specs.declared.commands.Request.{Request as CodeRequest}
+use Rattle.causal_cli.proofs.CompleteRuns.{words_ask_once}
 
 module _ (words : List Text) where
   pub no_form : (HasForm table words → ⊥) → (q : Request) → Asks words q → ⊥
   no_form none q a = none (row_for (command_of q), a.uses, a.call)
 
-  module _ (row : Row) (uses : List Use) (call : IsCall table words row uses) (only : IsOnlyCall table words row uses) where
+  module _ (row : Row) (uses : List Use) (call : IsCall table words row uses) where
     pub asked : {E : Type 0} (r : Result CodeRequest E) → IfOk r (λ x. row_for (command_of (request_of x)) ≡ row) → IfOk r (λ x. IsRequest uses (request_of x)) → IfOk r (λ x. Asks words (request_of x))
     asked (Err e) h is = tt
     asked (Ok x) h is = record { uses = uses; call = subst (λ o. IsCall table words o uses) (sym h) call; asks = is }
 
     pub not_asked : ((q : Request) → row_for (command_of q) ≡ row → IsRequest uses q → ⊥) → (q : Request) → Asks words q → ⊥
-    not_asked none q a = let h = only (row_for (command_of q)) a.uses a.call in none q h.0 (subst (λ us. IsRequest us q) h.1 a.asks)
-
-    once : AskOnce words
-    once one other us others c d =
-        let h = only one us c in let k = only other others d in (k.0 ∙ sym h.0, k.1 ∙ sym h.1)
-
-    pub asked_once : {A E : Type 0} (r : Result A E) → IfOk r (λ _. AskOnce words)
-    asked_once (Ok x) = once
-    asked_once (Err e) = tt
+    not_asked none q a = let h = words_ask_once words row (row_for (command_of q)) uses a.uses call a.call in none q h.0 (subst (λ us. IsRequest us q) h.1 a.asks)

@@ -25,7 +25,8 @@ use Rattle.implications_command.specs.Answers.{FirstAnswer as ImplicationsFirst,
 use Rattle.implications_command.specs.Pairs.{PlainPairs, pairs_view, ArePairs, ArePairsOf}
 use Rattle.survey_command.specs.Answers.{SurveyAnswer}
 use Rattle.surrogate_command.specs.Answers.{SurrogateAnswer}
-use Rattle.causal_cli.specs.Commands.{Request, graph, separate, rule, identify, check, adjust, evaluate, equivalent, implications, survey, surrogate}
+use Rattle.causal_cli.specs.Commands.{Request}
+use Rattle.causal_cli.specs.declared.commands.Command.TheVariants as command
 use Rattle.causal_cli.specs.Lines.{size_line}
 use Rattle.causal_cli.specs.declared.answer.SecondInput.{SecondInput}
 use Rattle.causal_cli.specs.declared.answer.SecondInput.TheVariants as input
@@ -34,36 +35,36 @@ use Rattle.causal_cli.specs.declared.answer.First.TheVariants as first
 
 -- the answer of a command without an input
 abbrev pub WordsAnswer : Request → Outcome → List ℕ → Type 0
-WordsAnswer (survey q) o text = SurveyAnswer q.seed o text
+WordsAnswer (command.Survey, q) o text = SurveyAnswer q.seed o text
 WordsAnswer w o text = ⊥
 
 -- the answer of a command on a graph that was read, where its file alone decides
 abbrev pub GraphAnswer : Request → ReadGraph → Outcome → List ℕ → Type 0
-GraphAnswer (graph q) g o text = TextAnswer q.project g o text
-GraphAnswer (separate q) g o text = SeparateAnswer g q.x q.y q.given o text
-GraphAnswer (rule q) g o text = RuleAnswer q.rule g q.y q.done q.z q.given o text
-GraphAnswer (identify q) g o text = IdentifyAnswerGiven q.form g q.x q.y q.given o text
-GraphAnswer (adjust q) g o text = AdjustAnswer g q.x q.y q.query o text
-GraphAnswer (evaluate q) g o text = EvaluateFirst g q.x q.y o text
-GraphAnswer (equivalent q) g o text = IsFirstRefusal g q.query o text
-GraphAnswer (implications q) g o text = ImplicationsFirst q.counts g o text
-GraphAnswer (surrogate q) g o text = SurrogateAnswer g q.x q.y q.experiments o text
+GraphAnswer (command.Graph, q) g o text = TextAnswer q.project g o text
+GraphAnswer (command.Separate, q) g o text = SeparateAnswer g q.x q.y q.given o text
+GraphAnswer (command.Rule, q) g o text = RuleAnswer q.rule g q.y q.done q.z q.given o text
+GraphAnswer (command.Identify, q) g o text = IdentifyAnswerGiven q.form g q.x q.y q.given o text
+GraphAnswer (command.Adjust, q) g o text = AdjustAnswer g q.x q.y q.query o text
+GraphAnswer (command.Evaluate, q) g o text = EvaluateFirst g q.x q.y o text
+GraphAnswer (command.Equivalent, q) g o text = IsFirstRefusal g q.query o text
+GraphAnswer (command.Implications, q) g o text = ImplicationsFirst q.counts g o text
+GraphAnswer (command.Surrogate, q) g o text = SurrogateAnswer g q.x q.y q.experiments o text
 GraphAnswer w g o text = ⊥
 
 -- the graph is accepted, and the second input is read: counts where the lists name an effect that has a formula, or where some set separates two vertices
 abbrev pub NeedsSecond : Request → ReadGraph → Type 0
-NeedsSecond (check q) g = Unit {0}
-NeedsSecond (evaluate q) g = (e : PlainEffect) × Identifies g q.x q.y e
-NeedsSecond (equivalent q) g = (s : Option Sets) × IsFirstAccepted g q.query s
-NeedsSecond (implications q) g = (p : PlainPairs) × ArePairsOf g p
+NeedsSecond (command.Check, q) g = Unit {0}
+NeedsSecond (command.Evaluate, q) g = (e : PlainEffect) × Identifies g q.x q.y e
+NeedsSecond (command.Equivalent, q) g = (s : Option Sets) × IsFirstAccepted g q.query s
+NeedsSecond (command.Implications, q) g = (p : PlainPairs) × ArePairsOf g p
 NeedsSecond w g = ⊥
 
 -- the answer of a command on a graph that was read and the bytes of its second input
 abbrev pub SecondAnswer : Request → ReadGraph → List ℕ → Outcome → List ℕ → Type 0
-SecondAnswer (check q) g other o text = CheckAnswer g other o text
-SecondAnswer (evaluate q) g other o text = EvaluateAnswer q.exact g q.x q.y q.count other o text
-SecondAnswer (equivalent q) g other o text = EquivalentAnswer g q.query other o text
-SecondAnswer (implications q) g other o text = DifferencesAnswer g q.count other o text
+SecondAnswer (command.Check, q) g other o text = CheckAnswer g other o text
+SecondAnswer (command.Evaluate, q) g other o text = EvaluateAnswer q.exact g q.x q.y q.count other o text
+SecondAnswer (command.Equivalent, q) g other o text = EquivalentAnswer g q.query other o text
+SecondAnswer (command.Implications, q) g other o text = DifferencesAnswer g q.count other o text
 SecondAnswer w g other o text = ⊥
 
 -- the bytes are no graph: they are too many, or their text has a fault
@@ -124,11 +125,11 @@ GivesSecond (input.Implications pairs counts count) other reply = ImpliedAnswer 
 
 -- what is left of a request on a graph that was read
 abbrev pub IsLeft : Request → ReadGraph → SecondInput → Type 0
-IsLeft (check q) g (input.Check kept certificate) = (certificate.now ≡ q.certificate) × (kept ≡ g)
-IsLeft (evaluate q) g (input.Evaluate found counts count exact) =
+IsLeft (command.Check, q) g (input.Check kept certificate) = (certificate.now ≡ q.certificate) × (kept ≡ g)
+IsLeft (command.Evaluate, q) g (input.Evaluate found counts count exact) =
     (counts.now ≡ q.counts) × (option_map (λ s. s.now) count ≡ q.count) × (exact ≡ q.exact) × Identifies g q.x q.y (effect_view found)
-IsLeft (equivalent q) g (input.Equivalent kept s second) = (second.now ≡ q.second) × (kept ≡ g) × IsFirstAccepted g q.query s
-IsLeft (implications q) g (input.Implications pairs counts count) = (q.counts ≡ Some counts.now) × (option_map (λ s. s.now) count ≡ q.count) × ArePairsOf g (pairs_view pairs)
+IsLeft (command.Equivalent, q) g (input.Equivalent kept s second) = (second.now ≡ q.second) × (kept ≡ g) × IsFirstAccepted g q.query s
+IsLeft (command.Implications, q) g (input.Implications pairs counts count) = (q.counts ≡ Some counts.now) × (option_map (λ s. s.now) count ≡ q.count) × ArePairsOf g (pairs_view pairs)
 IsLeft w g p = ⊥
 
 -- what a graph that was read gives: the answer on it, or what is left

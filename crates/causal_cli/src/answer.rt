@@ -2,10 +2,7 @@
 
 ghost use Rattle.std.specs.Prelude.{◌≡◌, ◌≤◌, ◌<◌, ℕ, List, IfOk, OnOk, length};
 ghost use Rattle.fault_text.specs.Lines.{line_of, graph_fault_text};
-ghost use Rattle.evaluate_command.specs.Requests as of_evaluate;
-ghost use Rattle.equivalent_command.specs.Requests as of_equivalent;
-ghost use Rattle.implications_command.specs.Requests as of_implications;
-ghost use Rattle.causal_cli.specs.Commands.{on_graph, evaluate, equivalent, implications};
+ghost use Rattle.causal_cli.specs.Commands.{on_graph};
 ghost use Rattle.causal_cli.specs.Answers.{GivesOn, GivesFirst, second_in, limit_of, IsAccepted, GivesSecond};
 
 use crate::commands::GraphRequest;
@@ -117,7 +114,7 @@ fn evaluate_over<'a>(
     graph: &ReadGraph,
     asked: evaluate_command::Request<'a>,
 ) -> Result<First<'a>, AllocError>
-    ensures { IfOk result (GivesOn (evaluate (of_evaluate.request_of asked.entry)) graph.now) }
+    ensures { IfOk result (GivesOn (on_graph (GraphRequest.Evaluate asked.entry)) graph.now) }
 {
     match identify_first(alloc, graph, asked.x, asked.y)? {
         evaluate_command::First::Replied(reply) => Ok(First::Replied(reply)),
@@ -136,7 +133,7 @@ fn compare_with<'a>(
     graph: ReadGraph,
     asked: equivalent_command::Request<'a>,
 ) -> Result<First<'a>, AllocError>
-    ensures { IfOk result (GivesOn (equivalent (of_equivalent.request_of asked.entry)) graph) }
+    ensures { IfOk result (GivesOn (on_graph (GraphRequest.Equivalent asked.entry)) graph) }
 {
     match accept_first(alloc, &graph, asked.query)? {
         equivalent_command::First::Refused(reply) => Ok(First::Replied(reply)),
@@ -156,7 +153,7 @@ fn list_implications<'a>(
     graph: &ReadGraph,
     asked: implications_command::Request<'a>,
 ) -> Result<First<'a>, AllocError>
-    ensures { IfOk result (GivesOn (implications (of_implications.request_of asked.entry)) graph.now) }
+    ensures { IfOk result (GivesOn (on_graph (GraphRequest.Implications asked.entry)) graph.now) }
 {
     let Some(counts) = asked.counts else {
         return Ok(First::Replied(pairs_reply(alloc, graph)?));

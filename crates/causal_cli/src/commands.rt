@@ -1,12 +1,13 @@
 // The commands: each one's row and request stand in its crate.
 
 ghost use Rattle.std.specs.Prelude.{List, ◌≡◌, Some, IfOk, IsErrOf, map, option_map};
-ghost use Rattle.word_forms.specs.Form.{Use, row_named, HasForm, IsCall, IsOnlyCall};
+ghost use Rattle.word_forms.specs.Form.{Use, row_named, HasForm, IsCall};
 ghost use Rattle.word_forms.specs.Views.{row_of, texts_of, uses_in};
 ghost use Rattle.word_values.specs.Gives.{HoldsCall};
 ghost use Rattle.word_values.specs.Readable.{IsReadable};
-ghost use Rattle.causal_cli.specs.Commands.{row_for, table, command_of, IsRequest, AsksNothing, Asks, AskOnce, request_of};
+ghost use Rattle.causal_cli.specs.Commands.{all_commands, row_for, table, command_of, IsRequest, AsksNothing, Asks, request_of};
 ghost use Rattle.causal_cli.specs.Commands as asked;
+ghost use Rattle.causal_cli.specs.Lines.{words_line};
 
 use request_values::RequestFault;
 use std::alloc::Global;
@@ -28,6 +29,20 @@ pub enum Command {
     Survey,
     Surrogate,
 }
+
+static COMMANDS: [Command; 11] = [
+    Command::Graph,
+    Command::Separate,
+    Command::Rule,
+    Command::Identify,
+    Command::Check,
+    Command::Adjust,
+    Command::Evaluate,
+    Command::Equivalent,
+    Command::Implications,
+    Command::Survey,
+    Command::Surrogate,
+];
 
 static TABLE: [Entry; 11] = [
     graph_command::ROW,
@@ -89,10 +104,9 @@ pub enum Request<'a> {
     Survey(survey_command::Request),
 }
 
-/// What the words ask for. They are one call at most.
+/// What the words ask for.
 pub fn read_request<'a>(alloc: Global, words: &'a [String]) -> Result<Request<'a>, RequestFault>
     ensures asks { IfOk result (λ r. Asks (texts_of words.now) (request_of r)) }
-    ensures once { IfOk result (λ _. AskOnce (texts_of words.now)) }
     ensures none { IsErrOf result RequestFault.NotUnderstood → (q : asked.Request) → Asks (texts_of words.now) q → ⊥ }
 {
     match words_found(alloc, words) {
@@ -104,7 +118,6 @@ pub fn read_request<'a>(alloc: Global, words: &'a [String]) -> Result<Request<'a
 /// The words by the table, exactly where they have its form.
 fn words_found<'a>(alloc: Global, words: &'a [String]) -> Result<Words<'a>, RequestFault>
     ensures call { IfOk result (λ w. IsCall table (texts_of words.now) (row_of w.call.row.now) (uses_in w.call.uses)) }
-    ensures only { IfOk result (λ w. IsOnlyCall table (texts_of words.now) (row_of w.call.row.now) (uses_in w.call.uses)) }
     ensures values { IfOk result (λ w. HoldsCall (row_of w.call.row.now) (uses_in w.call.uses) w.values) }
     ensures none { IsErrOf result RequestFault.NotUnderstood → HasForm table (texts_of words.now) → ⊥ }
 {
@@ -137,24 +150,49 @@ fn rows() -> &'static [Entry]
     &TABLE
 }
 
+/// All commands, in the order of the table.
+fn all_commands() -> &'static [Command]
+    ensures { result.now ≡ all_commands }
+{
+    &COMMANDS
+}
+
+/// The row of a command.
+fn row_for(command: Command) -> Entry
+    ensures { row_of result ≡ row_for command }
+{
+    match command {
+        Command::Graph => graph_command::ROW,
+        Command::Separate => separate_command::ROW,
+        Command::Rule => rule_command::ROW,
+        Command::Identify => identify_command::ROW,
+        Command::Check => check_command::ROW,
+        Command::Adjust => adjust_command::ROW,
+        Command::Evaluate => evaluate_command::ROW,
+        Command::Equivalent => equivalent_command::ROW,
+        Command::Implications => implications_command::ROW,
+        Command::Survey => survey_command::ROW,
+        Command::Surrogate => surrogate_command::ROW,
+    }
+}
+
+/// The line for words that aren't understood, with the names of the commands.
+pub fn words_line() -> &'static [u8]
+    ensures { result.now ≡ words_line }
+{
+    b"causal: words not understood; commands are graph separate rule identify check adjust evaluate equivalent implications survey surrogate\n"
+}
+
 /// The command of this name.
 fn command_named(name: &str) -> Option<Command>
     ensures { option_map row_for result ≡ row_named table name.now }
 {
-    match name {
-        "graph" => Some(Command::Graph),
-        "separate" => Some(Command::Separate),
-        "rule" => Some(Command::Rule),
-        "identify" => Some(Command::Identify),
-        "check" => Some(Command::Check),
-        "adjust" => Some(Command::Adjust),
-        "evaluate" => Some(Command::Evaluate),
-        "equivalent" => Some(Command::Equivalent),
-        "implications" => Some(Command::Implications),
-        "survey" => Some(Command::Survey),
-        "surrogate" => Some(Command::Surrogate),
-        _ => None,
+    for command in all_commands() {
+        if row_for(*command).name == name {
+            return Some(*command);
+        }
     }
+    None
 }
 
 /// What a command is asked for.

@@ -1,6 +1,7 @@
 ghost use Rattle.std.specs.Prelude.{◌≡◌};
 ghost use Rattle.causal_cli.specs.Ends.{text_of};
 
+use crate::commands::words_line;
 use replies::{Outcome, Reply};
 
 /// The line of a reply for `err`: its text, or the fixed line of an outcome that no command answers.
@@ -8,9 +9,7 @@ pub fn line_of(reply: &Reply) -> &[u8]
     ensures { result.now ≡ text_of reply.now }
 {
     match reply.outcome {
-        Outcome::Words => {
-            b"causal: words not understood; commands are graph separate rule identify check adjust evaluate equivalent implications survey surrogate\n"
-        }
+        Outcome::Words => words_line(),
         Outcome::Read => b"causal: read failed\n",
         Outcome::Write => b"causal: write failed\n",
         Outcome::Memory => b"causal: no memory\n",

@@ -4,13 +4,13 @@ ghost use Rattle.causal_io.specs.Reading.{AnswersAll};
 ghost use Rattle.word_forms.specs.Form.{Text};
 ghost use Rattle.word_forms.specs.Views.{texts_of};
 ghost use Rattle.replies.specs.Outcomes.{code_of};
-ghost use Rattle.causal_cli.specs.Run.{Ended, Received, run_on, stream_of, reads_of, IsNotRead, IsReadAtMostOnce, ReadsAsAsked};
+ghost use Rattle.causal_cli.specs.Run.{Stream, Ended, Received, run_on, stream_of, reads_of, IsNotRead, IsReadAtMostOnce, ReadsAsAsked};
 ghost use Rattle.causal_cli.specs.Complete.{Complete};
-ghost use Rattle.causal_cli.specs.Commands.{Asks, AskOnce, on_graph};
+ghost use Rattle.causal_cli.specs.Commands.{Asks, on_graph};
 ghost use Rattle.causal_cli.specs.Answers.{IsAccepted, second_in};
 ghost use Rattle.causal_cli.specs.Headline.{Headline, HeadlineOfCheck};
 ghost use Rattle.causal_cli.specs.Drawn.{RightAsDrawn};
-ghost use Rattle.causal_cli.specs.Ends.{IfAnswered, EndsWith, IsTooLong, Delivers, Proceeds, text_of};
+ghost use Rattle.causal_cli.specs.Ends.{RepliesWith, EndsWith, IsTooLong, Delivers, Proceeds, text_of};
 
 use crate::answer::{First, SecondInput, answer, long_reply, second_reply};
 use crate::commands::{GraphRequest, Request, read_request};
@@ -78,16 +78,27 @@ fn report<E: Sink>(err: &mut E, last: &Reply)
 fn respond<S: Shelf, O: Sink>(alloc: Global, words: &[String], shelf: &mut S, out: &mut O) -> Reply
     ensures ends { EndsWith (run_on (texts_of words.now) (S.held shelf.old) (S.lacks shelf.old) (S.faults shelf.old) (S.faults shelf.new)
         (stream_of (O.written out.old) (O.written out.new) (O.faults out.old) (O.faults out.new))) result }
-    ensures once { IfAnswered result.outcome (AskOnce (texts_of words.now)) }
     ensures reads { ReadsAsAsked (run_on (texts_of words.now) (S.held shelf.old) (S.lacks shelf.old) (S.faults shelf.old) (S.faults shelf.new)
         (stream_of (O.written out.old) (O.written out.new) (O.faults out.old) (O.faults out.new))) (reads_of (S.reads shelf.old) (S.reads shelf.new) (S.given shelf.old) (S.given shelf.new)) }
     ensures holds { S.held shelf.new ≡ S.held shelf.old }
     ensures lack { S.lacks shelf.new ≡ S.lacks shelf.old }
 {
+    let reply = reply_to(alloc, words, shelf);
+    deliver(alloc, out, reply)
+}
+
+/// The reply to the words, for which their inputs are read and nothing is written.
+fn reply_to<S: Shelf>(alloc: Global, words: &[String], shelf: &mut S) -> Reply
+    ensures replies { (out : Stream) → RepliesWith (run_on (texts_of words.now) (S.held shelf.old) (S.lacks shelf.old) (S.faults shelf.old) (S.faults shelf.new) out) result }
+    ensures reads { (out : Stream) → ReadsAsAsked (run_on (texts_of words.now) (S.held shelf.old) (S.lacks shelf.old) (S.faults shelf.old) (S.faults shelf.new) out)
+        (reads_of (S.reads shelf.old) (S.reads shelf.new) (S.given shelf.old) (S.given shelf.new)) }
+    ensures holds { S.held shelf.new ≡ S.held shelf.old }
+    ensures lack { S.lacks shelf.new ≡ S.lacks shelf.old }
+{
     match read_request(alloc, words) {
-        Ok(Request::OnGraph(request)) => answer_graph(alloc, request, shelf, out),
+        Ok(Request::OnGraph(request)) => answer_graph(alloc, request, shelf),
         Ok(Request::Survey(request)) => match survey_reply(alloc, request.seed) {
-            Ok(reply) => deliver(alloc, out, reply),
+            Ok(reply) => reply,
             Err(_) => Reply::bare(alloc, Outcome::Memory),
         },
         Err(RequestFault::NotUnderstood) => Reply::bare(alloc, Outcome::Words),
@@ -96,16 +107,11 @@ fn respond<S: Shelf, O: Sink>(alloc: Global, words: &[String], shelf: &mut S, ou
 }
 
 /// Reads the file of a request and answers on it.
-fn answer_graph<S: Shelf, O: Sink>(
-    alloc: Global,
-    request: GraphRequest<'_>,
-    shelf: &mut S,
-    out: &mut O,
-) -> Reply
-    ensures ends { (words : List Text) → Asks words (on_graph request.entry) → EndsWith (run_on words (S.held shelf.old) (S.lacks shelf.old) (S.faults shelf.old) (S.faults shelf.new)
-        (stream_of (O.written out.old) (O.written out.new) (O.faults out.old) (O.faults out.new))) result }
-    ensures reads { (words : List Text) → Asks words (on_graph request.entry) → ReadsAsAsked (run_on words (S.held shelf.old) (S.lacks shelf.old) (S.faults shelf.old) (S.faults shelf.new)
-        (stream_of (O.written out.old) (O.written out.new) (O.faults out.old) (O.faults out.new))) (reads_of (S.reads shelf.old) (S.reads shelf.new) (S.given shelf.old) (S.given shelf.new)) }
+fn answer_graph<S: Shelf>(alloc: Global, request: GraphRequest<'_>, shelf: &mut S) -> Reply
+    ensures replies { (words : List Text) → Asks words (on_graph request.entry) → (out : Stream)
+        → RepliesWith (run_on words (S.held shelf.old) (S.lacks shelf.old) (S.faults shelf.old) (S.faults shelf.new) out) result }
+    ensures reads { (words : List Text) → Asks words (on_graph request.entry) → (out : Stream)
+        → ReadsAsAsked (run_on words (S.held shelf.old) (S.lacks shelf.old) (S.faults shelf.old) (S.faults shelf.new) out) (reads_of (S.reads shelf.old) (S.reads shelf.new) (S.given shelf.old) (S.given shelf.new)) }
     ensures holds { S.held shelf.new ≡ S.held shelf.old }
     ensures lack { S.lacks shelf.new ≡ S.lacks shelf.old }
 {
@@ -118,26 +124,24 @@ fn answer_graph<S: Shelf, O: Sink>(
     };
     match answer(alloc, request, &bytes) {
         Err(_) => Reply::bare(alloc, Outcome::Memory),
-        Ok(First::Replied(reply)) => deliver(alloc, out, reply),
-        Ok(First::Continues(input)) => proceed(alloc, file, &bytes, &input, shelf, out),
+        Ok(First::Replied(reply)) => reply,
+        Ok(First::Continues(input)) => proceed(alloc, file, &bytes, &input, shelf),
     }
 }
 
 /// Reads the second input and answers on it.
-fn proceed<S: Shelf, O: Sink>(
+fn proceed<S: Shelf>(
     alloc: Global,
     file: &str,
     bytes: &[u8],
     input: &SecondInput<'_>,
     shelf: &mut S,
-    out: &mut O,
 ) -> Reply
     requires held { IfSome (S.held shelf.now file.now) (λ all. bytes.now ≡ all) }
     requires there { S.lacks shelf.now file.now ≡ false }
     requires small { length bytes.now ≤ 1048576 }
     requires accepted { IsAccepted input.now }
-    ensures proceeds { Proceeds (S.held shelf.old) (S.lacks shelf.old) (S.faults shelf.old) (S.faults shelf.new)
-        (stream_of (O.written out.old) (O.written out.new) (O.faults out.old) (O.faults out.new)) input.now result }
+    ensures proceeds { Proceeds (S.held shelf.old) (S.lacks shelf.old) (S.faults shelf.old) (S.faults shelf.new) input.now result }
     ensures only { (name : List ℕ) → name ≢ second_in input.now → IsNotRead (reads_of (S.reads shelf.old) (S.reads shelf.new) (S.given shelf.old) (S.given shelf.new)) name }
     ensures not_again { IsNotRead (reads_of (S.reads shelf.old) (S.reads shelf.new) (S.given shelf.old) (S.given shelf.new)) file.now }
     ensures once { (name : List ℕ) → IsReadAtMostOnce (S.held shelf.old) (reads_of (S.reads shelf.old) (S.reads shelf.new) (S.given shelf.old) (S.given shelf.new)) name }
@@ -146,11 +150,11 @@ fn proceed<S: Shelf, O: Sink>(
 {
     match read_second(alloc, file, bytes, input.second(), input.limit(), shelf) {
         Ok(other) => match second_reply(alloc, input, &other) {
-            Ok(reply) => deliver(alloc, out, reply),
+            Ok(reply) => reply,
             Err(_) => Reply::bare(alloc, Outcome::Memory),
         },
         Err(ReadError::TooLong { limit: _ }) => match long_reply(alloc, input) {
-            Ok(reply) => deliver(alloc, out, reply),
+            Ok(reply) => reply,
             Err(_) => Reply::bare(alloc, Outcome::Memory),
         },
         Err(ReadError::Fault) => Reply::bare(alloc, Outcome::Read),

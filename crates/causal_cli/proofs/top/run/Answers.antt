@@ -16,11 +16,11 @@ returns-clause-ended g c = record {
 
 pub returns-clause-headline : goal.returns-clause-headline
 returns-clause-headline g c =
-    headline _ _ c.respond-last.result.outcome (text_of c.respond-last.result) c.code.ensures c.respond-last.ensures.ends c.respond-last.ensures.once
+    headline _ _ c.respond-last.result.outcome (text_of c.respond-last.result) c.code.ensures c.respond-last.ensures.ends
 
 pub returns-clause-checked : goal.returns-clause-checked
 returns-clause-checked g c =
-    checked _ _ c.respond-last.result.outcome (text_of c.respond-last.result) c.code.ensures c.respond-last.ensures.ends c.respond-last.ensures.once
+    checked _ _ c.respond-last.result.outcome (text_of c.respond-last.result) c.code.ensures c.respond-last.ensures.ends
 
 pub returns-clause-drawn : goal.returns-clause-drawn
 returns-clause-drawn g c = right_as_drawn_of _ _ (returns-clause-headline g c) (returns-clause-checked g c)
