@@ -6,6 +6,7 @@ mod Answered
 mod Readable
 mod OneCommand
 mod Spoken
+mod DrawnCounts
 mod DrawnRuns
 mod Headlines
 mod CheckedRuns

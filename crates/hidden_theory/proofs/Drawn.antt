@@ -18,7 +18,7 @@ use Rattle.latent_projection.proofs.Projected.{IsMixedGraph-projection}
 use Rattle.prob_expr.specs.Tree.{PlainFormula, PlainTarget}
 use Rattle.prob_expr.specs.Values.{weights_of, term_value, value_of, effect}
 use Rattle.hidden_theory.specs.Folding.{Folds, IsObservedPositive, values_after, values_before, set_before, drawn_weights, drawn_effect}
-use Rattle.hidden_theory.specs.Laws.{FoldedIsPositive, FoldedKeepsValues, FoldedKeepsEffects, RightAsDrawn}
+use Rattle.hidden_theory.specs.Laws.{FoldedIsPositive, FoldedKeepsWeights, FoldedKeepsValues, FoldedKeepsEffects, RightAsDrawn}
 use Rattle.hidden_theory.proofs.Alike.{left_positive, term_alike, formula_alike}
 use Rattle.hidden_theory.proofs.Depends.{weight_depends}
 use Rattle.hidden_theory.proofs.Folded.{each_has_folded}
@@ -133,6 +133,9 @@ module _ (g : MixedGraph) (ok : IsMixedGraph g) (l : ℕ → Bool) (q : MixedGra
 
 pub folded_is_positive : FoldedIsPositive
 folded_is_positive = λ g ok l q is m m' fit fit' folds observed. folded_positive g ok l q is m m' fit fit' folds observed
+
+pub folded_keeps_weights : FoldedKeepsWeights
+folded_keeps_weights = λ g ok l q is m m' fit fit' folds b a s hs. drawn_weight g ok l q is m m' fit fit' folds b a s hs
 
 pub folded_keeps_values : FoldedKeepsValues
 folded_keeps_values = λ g ok l q is m m' fit fit' folds observed f s hs. keeps_value g ok l q is m m' fit fit' folds observed f s hs

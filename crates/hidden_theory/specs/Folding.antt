@@ -1,5 +1,5 @@
 -- A model of a diagram with hidden vertices, and the models of its observed graph that give every observed probability the same value.
-use Rattle.std.specs.Prelude.{ℕ, ◌*◌, ◌≡◌, ◌<◌, ◌≤◌, Bool, not, ◌&&◌, cond, length, slice_index}
+use Rattle.std.specs.Prelude.{ℕ, ◌*◌, ◌≡◌, ◌<◌, ◌≤◌, Bool, true, false, not, ◌&&◌, cond, length, slice_index}
 use Rattle.mixed_graph.specs.Bits.{has}
 use Rattle.mixed_graph.specs.Sets.{Apart}
 use Rattle.fractions.specs.Fractions.{Fraction}
@@ -46,3 +46,11 @@ drawn_weights l m = record {
 -- the effect of a target of observed vertices, in their new numbers, in a model of the diagram as drawn, at values of all its vertices
 abbrev pub drawn_effect : (ℕ → Bool) → FiniteModel → PlainTarget → (ℕ → ℕ) → Fraction
 drawn_effect l m t s = probability m (set_before l (has t.x)) (set_before l (has t.y)) (set_before l (has t.given)) s
+
+-- The model's weights of events of the vertices that are used, observed ones in their new numbers, are those of w, whose total is `all`, up to one factor.
+pub record IsMatchedAsDrawn (l : ℕ → Bool) (used : ℕ → Bool) (w : Weights) (all : ℕ) (m : FiniteModel) : Type 0 where
+  pub vertices : w.vertices ≡ (drawn_weights l m).vertices
+  pub sizes : (k : ℕ) → k < w.vertices → used k ≡ true → w.size k ≡ (drawn_weights l m).size k
+  pub some : 1 ≤ all
+  pub weights : (a : ℕ → Bool) → ((k : ℕ) → a k ≡ true → used k ≡ true) → (s : ℕ → ℕ) → IsAssignment (drawn_weights l m).vertices (drawn_weights l m).size s
+      → (drawn_weights l m).weight (λ k. false) a s * all ≡ w.weight (λ k. false) a s * total m

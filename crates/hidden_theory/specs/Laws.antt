@@ -1,8 +1,8 @@
 -- What is true of the models of a diagram with hidden vertices.
-use Rattle.std.specs.Prelude.{ℕ, Bool}
+use Rattle.std.specs.Prelude.{ℕ, ◌*◌, ◌≡◌, Bool}
 use Rattle.mixed_graph.specs.Graphs.{MixedGraph, IsMixedGraph}
 use Rattle.fractions.specs.Fractions.{IsEqual}
-use Rattle.finite_models.specs.Models.{FiniteModel, Fits, IsAssignment, IsPositiveModel}
+use Rattle.finite_models.specs.Models.{FiniteModel, Fits, IsAssignment, IsPositiveModel, weight_of, total}
 use Rattle.latent_projection.specs.Renumbering.{IsObserved}
 use Rattle.prob_expr.specs.Tree.{PlainFormula, PlainTarget}
 use Rattle.prob_expr.specs.Values.{weights_of, value_of, effect, EqualsEffect}
@@ -22,6 +22,11 @@ EachHasFolded = (g : MixedGraph) → IsMixedGraph g → (l : ℕ → Bool) (q : 
 abbrev pub FoldedIsPositive : Type 0
 FoldedIsPositive = (g : MixedGraph) → IsMixedGraph g → (l : ℕ → Bool) (q : MixedGraph) → IsObserved g l q → (m m' : FiniteModel) → Fits g m → Fits q m' → Folds l m m'
     → IsObservedPositive l m → IsPositiveModel m'
+
+-- each event of the observed vertices, in their new numbers, has in it the probability that it has in the model itself, under every intervention on them
+abbrev pub FoldedKeepsWeights : Type 0
+FoldedKeepsWeights = (g : MixedGraph) → IsMixedGraph g → (l : ℕ → Bool) (q : MixedGraph) → IsObserved g l q → (m m' : FiniteModel) → Fits g m → Fits q m' → Folds l m m'
+    → (b a : ℕ → Bool) (s : ℕ → ℕ) → IsAssignment m'.vertices m'.size s → (drawn_weights l m).weight b a s * total m' ≡ weight_of m' b a s * total m
 
 -- and each formula over the observed vertices has in it the value that it has where its terms are taken in the model itself
 abbrev pub FoldedKeepsValues : Type 0

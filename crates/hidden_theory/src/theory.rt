@@ -1,12 +1,13 @@
-ghost use Rattle.hidden_theory.specs.Laws.{EachHasFolded, FoldedIsPositive, FoldedKeepsValues, FoldedKeepsEffects, RightAsDrawn};
+ghost use Rattle.hidden_theory.specs.Laws.{EachHasFolded, FoldedIsPositive, FoldedKeepsWeights, FoldedKeepsValues, FoldedKeepsEffects, RightAsDrawn};
 
 /// What is true of the models of a diagram with hidden vertices.
 pub fn laws()
     // Each has a model of the observed graph that gives observed events the same probabilities.
     ensures folded { EachHasFolded }
 
-    // Such a model is positive where the model is on the observed vertices, and keeps all values.
+    // Such a model is positive where the model is on the observed vertices, and keeps all weights and values.
     ensures positive { FoldedIsPositive }
+    ensures weights { FoldedKeepsWeights }
     ensures values { FoldedKeepsValues }
     ensures effects { FoldedKeepsEffects }
 

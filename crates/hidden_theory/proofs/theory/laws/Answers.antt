@@ -1,4 +1,4 @@
-use Rattle.hidden_theory.proofs.Drawn.{folded_is_positive, folded_keeps_values, folded_keeps_effects, right_as_drawn}
+use Rattle.hidden_theory.proofs.Drawn.{folded_is_positive, folded_keeps_weights, folded_keeps_values, folded_keeps_effects, right_as_drawn}
 use Rattle.hidden_theory.proofs.Folded.{each_has_folded}
 use Rattle.hidden_theory.proofs.theory.laws.Goals as goal
 
@@ -6,6 +6,7 @@ pub returns : goal.returns
 returns c = record {
   folded = each_has_folded;
   positive = folded_is_positive;
+  weights = folded_keeps_weights;
   values = folded_keeps_values;
   effects = folded_keeps_effects;
   drawn = right_as_drawn;
