@@ -1,2 +1,5 @@
 pub mod PathsBelow
 pub mod Outcomes
+pub mod OneGraph
+pub mod OneTarget
+pub mod OneOutcome

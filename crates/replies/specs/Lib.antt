@@ -1,3 +1,4 @@
 pub mod Observed
 pub mod Outcomes
+pub mod OneOutcome
 pub mod Lines

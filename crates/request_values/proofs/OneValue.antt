@@ -1,0 +1,34 @@
+-- The values of words are one list or one number.
+use Rattle.std.proofs.Common.{◌≡◌, ℕ, List, Option, Some, None, refl, sym, ap, ◌∙◌}
+use Rattle.std.proofs.lemmas.Option.{same_Some}
+use Rattle.word_forms.specs.Form.{Text}
+use Rattle.word_lists.specs.Lists.{IsList}
+use Rattle.word_lists.proofs.Law.{list_is_read}
+use Rattle.request_values.specs.Values.{IsListed, IsListedOrEmpty, IsNeededList, IsNeededNumber, IsNumberOr}
+
+pub one_list : (text : List ℕ) (a b : List (List ℕ)) → IsList text a → IsList text b → b ≡ a
+one_list text a b s t = same_Some b a (sym (list_is_read text b t) ∙ list_is_read text a s)
+
+pub one_listed : (text : Option Text) (a b : Option (List (List ℕ))) → IsListed text a → IsListed text b → b ≡ a
+one_listed None None None s t = refl
+one_listed None None (Some b) s t = absurd t
+one_listed None (Some a) b s t = absurd s
+one_listed (Some text) None b s t = absurd s
+one_listed (Some text) (Some a) None s t = absurd t
+one_listed (Some text) (Some a) (Some b) s t = ap (λ (names : List (List ℕ)). Some names) (one_list text a b s t)
+
+pub one_listed_or_empty : (text : Option Text) (a b : List (List ℕ)) → IsListedOrEmpty text a → IsListedOrEmpty text b → b ≡ a
+one_listed_or_empty None a b s t = t ∙ sym s
+one_listed_or_empty (Some text) a b s t = one_list text a b s t
+
+pub one_needed_list : (text : Option Text) (a b : List (List ℕ)) → IsNeededList text a → IsNeededList text b → b ≡ a
+one_needed_list None a b s t = absurd s
+one_needed_list (Some text) a b s t = one_list text a b s t
+
+pub one_needed_number : (text : Option Text) (low high a b : ℕ) → IsNeededNumber text low high a → IsNeededNumber text low high b → b ≡ a
+one_needed_number None low high a b s t = absurd s
+one_needed_number (Some text) low high a b s t = sym t.value ∙ s.value
+
+pub one_number_or : (default : ℕ) (text : Option Text) (low high a b : ℕ) → IsNumberOr default text low high a → IsNumberOr default text low high b → b ≡ a
+one_number_or default None low high a b s t = t ∙ sym s
+one_number_or default (Some text) low high a b s t = sym t.value ∙ s.value
