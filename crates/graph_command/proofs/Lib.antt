@@ -1,2 +1,3 @@
 mod Texts
 pub mod Outcomes
+pub mod Exclusive

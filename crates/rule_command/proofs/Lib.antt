@@ -1,3 +1,4 @@
 mod Sets
 mod Equations
 pub mod Outcomes
+pub mod Exclusive

@@ -1,2 +1,3 @@
 mod Sets
 pub mod Outcomes
+pub mod Exclusive

@@ -3,3 +3,4 @@ mod OneSets
 mod Surveying
 mod Tallying
 pub mod Outcomes
+pub mod Exclusive
