@@ -3,3 +3,4 @@ pub mod Shallow
 pub mod Within
 pub mod Writing
 pub mod Outcomes
+pub mod Exclusive

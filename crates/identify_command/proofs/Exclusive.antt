@@ -1,0 +1,100 @@
+-- A formula, a hedge and a refused list exclude each other, also where something is given.
+use Rattle.std.proofs.Common.{◌≡◌, ℕ, List, [], ◌∷◌, Some, None, length, inl, inr, refl, ap, ◌∙◌, subst}
+use Rattle.mixed_graph.specs.Graphs.{MixedGraph, IsMixedGraph}
+use Rattle.dag_reader.specs.declared.graph.ReadGraph.{ReadGraph}
+use Rattle.dag_reader.specs.RoundTrip.{AreSame}
+use Rattle.targets.specs.declared.fault.TargetFault.{TargetFault}
+use Rattle.targets.specs.declared.fault.TargetFault.TheVariants.{EmptyX}
+use Rattle.targets.specs.Targets.{EffectLists, Lists, fault_in, IsFaultOf}
+use Rattle.prob_expr.specs.Tree.{PlainTarget}
+use Rattle.identification.specs.Procedure.{IsUnidentified}
+use Rattle.conditional_theory.specs.Conditionals.{IsConditionalTarget}
+use Rattle.conditional_theory.proofs.Answered.{joint_excludes_formula, derived_is_conditional}
+use Rattle.replies.specs.declared.outcome.Outcome.{Outcome}
+use Rattle.replies.specs.declared.outcome.Outcome.TheVariants.{Yes, No, Graph}
+use Rattle.replies.specs.Observed.{Names}
+use Rattle.replies.specs.OneOutcome.{OneOutcome, IsAnswerOn}
+use Rattle.replies.proofs.OneGraph.{observed_is_mixed, observed_named}
+use Rattle.replies.proofs.OneOutcome.{IsOneOf, one_of_three, one_for_lists}
+use Rattle.replies.proofs.OneTarget.{one_set, no_fault_of, some_list, is_some_list, some_member}
+use Rattle.effect_answers.specs.Effects.{effect_lists}
+use Rattle.effect_answers.proofs.Exclusive.{formula_or_hedge, effect_refused, same_effect_lists}
+use Rattle.identify_command.specs.declared.form.Form.{Form}
+use Rattle.identify_command.specs.Answers.{EffectAnswer, IdentifyAnswer}
+use Rattle.identify_command.specs.Conditions.{target_lists, AreTargetSets, IsListFault, IsListRefusal, ShowsConditional, ShowsJoint, ListsAnswer, ConditionalAnswer, IdentifyAnswerGiven}
+use Rattle.identify_command.proofs.Lists.{three_sets, outcome}
+
+-- ---- where nothing is given
+
+module _ (form : Form) (q : MixedGraph) (valid : IsMixedGraph q) (l : EffectLists) (named : length l.observed ≡ q.vertices) where
+  formula_or_none : (text line : List ℕ) → EffectAnswer form q l Yes text → EffectAnswer form q l No line → ⊥
+  formula_or_none text line a b = formula_or_hedge q valid l named a.x a.y b.x b.y a.sets b.sets a.answer.formula a.answer.derivation a.answer.derived b.answer.hedge b.answer.pair b.answer.found
+
+  among : (o : Outcome) (text : List ℕ) → EffectAnswer form q l o text → IsOneOf Yes No Graph o
+  among Yes text h = inl refl
+  among No text h = inr (inl refl)
+  among Graph text h = inr (inr refl)
+  among o text h = absurd h
+
+  effect_once : OneOutcome (EffectAnswer form q l)
+  effect_once = one_of_three Yes No Graph (EffectAnswer form q l) among formula_or_none
+      (λ text line a r. effect_refused l a.x a.y line a.sets r) (λ text line a r. effect_refused l a.x a.y line a.sets r)
+
+bare_once : (bytes : List ℕ) (form : Form) (x y : Names) → OneOutcome (IsAnswerOn bytes (λ g. IdentifyAnswer form g x y))
+bare_once bytes form x y = one_for_lists bytes (λ g. effect_lists g x y) (λ q l. EffectAnswer form q l) (same_effect_lists x y)
+    (λ g q is. effect_once form q (observed_is_mixed g q is) (effect_lists g x y) (observed_named g q is))
+
+-- ---- where something is given
+
+abbrev target : (x y given : ℕ) → PlainTarget
+target x y given = record { x = x; y = y; given = given }
+
+-- the lists name one target
+one_target : (l : Lists) (t u : PlainTarget) → AreTargetSets l t → AreTargetSets l u → u ≡ t
+one_target l t u s v =
+    ap (λ (k : ℕ). target k u.y u.given) (one_set l.observed l.x t.x u.x s.set_x v.set_x)
+    ∙ ap (λ (k : ℕ). target t.x k u.given) (one_set l.observed l.y t.y u.y s.set_y v.set_y)
+    ∙ ap (λ (k : ℕ). target t.x t.y k) (one_set l.observed l.given t.given u.given s.set_given v.set_given)
+
+list_fault_of : (l : Lists) (f : TargetFault) → IsListFault l f → IsFaultOf (fault_in l) l.y some_list f
+list_fault_of l EmptyX h = absurd h
+list_fault_of l f h = h
+
+refused : (l : Lists) (t : PlainTarget) (line : List ℕ) → AreTargetSets l t → IsListRefusal l line → ⊥
+refused l t line s r = no_fault_of (fault_in l) l.y some_list r.fault s.no_fault s.some_y is_some_list (list_fault_of l r.fault r.is_fault)
+
+module _ (form : Form) (q : MixedGraph) (valid : IsMixedGraph q) (l : Lists) (named : length l.observed ≡ q.vertices) where
+  is_target : (t : PlainTarget) → AreTargetSets l t → IsConditionalTarget q t
+  is_target t s = let sets = three_sets l q.vertices t named s in record { sets = sets; some = some_member q.vertices t.y sets.y_within (outcome l t s) }
+
+  formula_or_joint : (t : PlainTarget) (text line : List ℕ) → AreTargetSets l t → ShowsConditional form q l.observed t text → ShowsJoint form q l.observed t line → ⊥
+  formula_or_joint t text line s a b =
+      let e = b.joint in
+      joint_excludes_formula q valid t (is_target t s) b.x e.left e.moved e.turned b.hedge.small.bits b.hedge.big.bits
+      (subst (λ (y : ℕ). IsUnidentified q b.x y b.hedge.small.bits b.hedge.big.bits) e.joint b.found.stop) a.formula (derived_is_conditional q t a.formula a.derivation a.derived)
+
+  given_yes_no : (text line : List ℕ) → ListsAnswer form q l Yes text → ListsAnswer form q l No line → ⊥
+  given_yes_no text line a b = formula_or_joint a.target text line a.sets a.answer
+      (subst (λ (t : PlainTarget). ShowsJoint form q l.observed t line) (one_target l a.target b.target a.sets b.sets) b.answer)
+
+  given_among : (o : Outcome) (text : List ℕ) → ListsAnswer form q l o text → IsOneOf Yes No Graph o
+  given_among Yes text h = inl refl
+  given_among No text h = inr (inl refl)
+  given_among Graph text h = inr (inr refl)
+  given_among o text h = absurd h
+
+  target_once : OneOutcome (ListsAnswer form q l)
+  target_once = one_of_three Yes No Graph (ListsAnswer form q l) given_among given_yes_no
+      (λ text line a r. refused l a.target line a.sets r) (λ text line a r. refused l a.target line a.sets r)
+
+same_target_lists : (x y : Names) (given : List (List ℕ)) (g h : ReadGraph) → AreSame g h → target_lists h x y given ≡ target_lists g x y given
+same_target_lists x y given g h s = rw (s.names, s.vertices, s.latent, s.exposures, s.outcomes) refl
+
+conditional_once : (bytes : List ℕ) (form : Form) (x y : Names) (given : List (List ℕ)) → OneOutcome (IsAnswerOn bytes (λ g. ConditionalAnswer form g x y given))
+conditional_once bytes form x y given = one_for_lists bytes (λ g. target_lists g x y given) (λ q l. ListsAnswer form q l) (same_target_lists x y given)
+    (λ g q is. target_once form q (observed_is_mixed g q is) (target_lists g x y given) (observed_named g q is))
+
+pub identify_once : (bytes : List ℕ) (form : Form) (x y given : Names) → OneOutcome (IsAnswerOn bytes (λ g. IdentifyAnswerGiven form g x y given))
+identify_once bytes form x y None = bare_once bytes form x y
+identify_once bytes form x y (Some []) = bare_once bytes form x y
+identify_once bytes form x y (Some (n ∷ ns)) = conditional_once bytes form x y (n ∷ ns)
