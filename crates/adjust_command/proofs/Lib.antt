@@ -6,3 +6,4 @@ pub mod Lists
 pub mod Outcomes
 pub mod Ranges
 mod NoQueries
+pub mod Exclusive

@@ -6,3 +6,4 @@ pub mod Printed
 pub mod Stops
 pub mod Evaluable
 pub mod Outcomes
+pub mod Exclusive

@@ -3,3 +3,5 @@ mod Pieces
 mod Using
 mod Measuring
 pub mod Outcomes
+mod OneList
+pub mod Exclusive
