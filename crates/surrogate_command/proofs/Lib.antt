@@ -5,3 +5,5 @@ pub mod Filled
 pub mod Stops
 pub mod Answering
 pub mod Outcomes
+pub mod Exclusive
+pub mod OneWord

@@ -1,5 +1,5 @@
 mod Assembled
 mod GatheredWith
 mod Passing
-mod RightAnswers
+pub mod RightAnswers
 mod Trying

@@ -42,7 +42,7 @@ blocked_first : (g : MixedGraph) (zs : List ℕ) (c : ℕ) (cs : List ℕ) → I
 blocked_first g zs c _ (IsFirstBlocked.here b) = b
 blocked_first g zs c _ (IsFirstBlocked.after {cs = cs} n r) = blocked_first g zs c cs r
 
-some_blocked : (g : MixedGraph) (zs : List ℕ) (x y c : ℕ) → IsFirstBlockedFor g zs x y c → SomeBlocked g zs x y
+pub some_blocked : (g : MixedGraph) (zs : List ℕ) (x y c : ℕ) → IsFirstBlockedFor g zs x y c → SomeBlocked g zs x y
 some_blocked g zs x y c f = record {
   district = c;
   is_district = record { order = f.order; is_order = f.is_order; d = f.d; is_d = f.is_d; districts = f.districts; are_districts = f.are_districts; among = among_first g zs c f.districts f.first };
