@@ -4,3 +4,4 @@ pub mod Held
 pub mod Placing
 pub mod Queries
 pub mod Outcomes
+pub mod Exclusive
