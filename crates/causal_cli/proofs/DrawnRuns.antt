@@ -122,7 +122,7 @@ certificate_as_drawn g other text (q, observed, of_formula u h e read answer) t 
     let same = same_read _ (certificates.formula u h e) (certificates.formula t f d) read.reads is.reads in
     let right = drawn g q observed u h answer.effect in
     subst (λ x. IsRightAsDrawn g x f) (same_target u t h f e d same) (subst (λ x. IsRightAsDrawn g u x) (same_formula u t h f e d same) right)
-certificate_as_drawn g other text (q, observed, of_hedge u h read answer) t f d is =
+certificate_as_drawn g other text (q, observed, of_hedge u h entries read answer) t f d is =
     let same = same_read _ (certificates.hedge u (certificates.hedge_view h)) (certificates.formula t f d) read.reads is.reads in absurd (cc same)
 
 checked : (r : Run) (uses : List Use) → Checked r uses → CheckedAsDrawn r uses

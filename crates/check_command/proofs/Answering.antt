@@ -12,7 +12,7 @@ use Rattle.replies.specs.declared.outcome.Outcome.{Outcome}
 use Rattle.replies.specs.declared.outcome.Outcome.TheVariants.{Yes, No}
 use Rattle.replies.specs.declared.outcome.Reply.{Reply}
 use Rattle.replies.specs.Observed.{observed_names, IsObservedGraph}
-use Rattle.check_command.specs.Answers.{IsRead, FormulaAnswer, HedgeAnswer, CertificateAnswer, of_formula, of_hedge, ObservedAnswer, CheckAnswer}
+use Rattle.check_command.specs.Answers.{IsRead, FormulaAnswer, HedgeAnswer, HasEntries, CertificateAnswer, of_formula, of_hedge, ObservedAnswer, CheckAnswer}
 use Rattle.check_command.specs.Replies.{AnswersFormula, AnswersHedge}
 
 -- what holds of a result and what follows from it
@@ -30,10 +30,10 @@ module _ (g : ReadGraph) (q : MixedGraph) (names : List (List ℕ)) (bytes : Lis
   formula_case t f d r No text a = in_graph No text (of_formula t f d r a)
   formula_case t f d r o text a = absurd a
 
-  hedge_case : (t : PlainTarget) (h : Hedge) → IsRead names bytes (hedge t (hedge_view h)) → (o : Outcome) (text : List ℕ) → HedgeAnswer q names t h o text → CheckAnswer g bytes o text
-  hedge_case t h r Yes text a = in_graph Yes text (of_hedge t h r a)
-  hedge_case t h r No text a = in_graph No text (of_hedge t h r a)
-  hedge_case t h r o text a = absurd a
+  hedge_case : (t : PlainTarget) (h : Hedge) → HasEntries h → IsRead names bytes (hedge t (hedge_view h)) → (o : Outcome) (text : List ℕ) → HedgeAnswer q names t h o text → CheckAnswer g bytes o text
+  hedge_case t h n r Yes text a = in_graph Yes text (of_hedge t h n r a)
+  hedge_case t h n r No text a = in_graph No text (of_hedge t h n r a)
+  hedge_case t h n r o text a = absurd a
 
   -- the answer for a formula is that of the check
   pub formula_answers : (t : PlainTarget) (f : PlainFormula) (d : PlainDerivation) → certificate_in names bytes ≡ Ok (formula t f d)
@@ -42,7 +42,7 @@ module _ (g : ReadGraph) (q : MixedGraph) (names : List (List ℕ)) (bytes : Lis
       (λ x h. formula_case t f d (record { small = small; reads = reads }) x.outcome x.text.items h) a
 
   -- the answer for a hedge is that of the check
-  pub hedge_answers : (t : PlainTarget) (h : Hedge) → certificate_in names bytes ≡ Ok (hedge t (hedge_view h))
+  pub hedge_answers : (t : PlainTarget) (h : Hedge) → HasEntries h → certificate_in names bytes ≡ Ok (hedge t (hedge_view h))
       → {E : Type 0} (r : Result Reply E) → IfOk r (AnswersHedge q names t h) → IfOk r (λ x. CheckAnswer g bytes x.outcome x.text.items)
-  hedge_answers t h reads r a = mapped (AnswersHedge q names t h) (λ x. CheckAnswer g bytes x.outcome x.text.items) r
-      (λ x k. hedge_case t h (record { small = small; reads = reads }) x.outcome x.text.items k) a
+  hedge_answers t h n reads r a = mapped (AnswersHedge q names t h) (λ x. CheckAnswer g bytes x.outcome x.text.items) r
+      (λ x k. hedge_case t h n (record { small = small; reads = reads }) x.outcome x.text.items k) a

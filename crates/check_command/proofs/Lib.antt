@@ -4,3 +4,5 @@ pub mod ReadFormulas
 pub mod ReadTargets
 pub mod Using
 pub mod Outcomes
+mod OneHedge
+pub mod Exclusive

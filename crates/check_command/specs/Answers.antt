@@ -72,11 +72,16 @@ HedgeAnswer q names t h Yes text = AcceptsHedge q names t h text
 HedgeAnswer q names t h No text = RefusesHedge q names t h text
 HedgeAnswer q names t h o text = ⊥
 
+-- its links are two arrays of 64 entries
+pub record HasEntries (h : Hedge) : Type 0 where
+  pub found : length h.links.found ≡ 64
+  pub partner : length h.links.partner ≡ 64
+
 -- the bytes are a certificate of a formula or of a hedge, and this is its answer
 pub data CertificateAnswer (q : MixedGraph) (names : List (List ℕ)) (bytes : List ℕ) (o : Outcome) (text : List ℕ) : Type 0 where
   of_formula : (t : PlainTarget) (f : PlainFormula) (d : PlainDerivation) → IsRead names bytes (formula t f d) → FormulaAnswer q names t f d o text
       → CertificateAnswer q names bytes o text
-  of_hedge : (t : PlainTarget) (h : Hedge) → IsRead names bytes (hedge t (hedge_view h)) → HedgeAnswer q names t h o text
+  of_hedge : (t : PlainTarget) (h : Hedge) → HasEntries h → IsRead names bytes (hedge t (hedge_view h)) → HedgeAnswer q names t h o text
       → CertificateAnswer q names bytes o text
 
 -- the bytes are no certificate: they are too many, or their text has a fault

@@ -43,7 +43,7 @@ pub returns-in-Ok-Hedge : goal.returns-in-Ok-Hedge
 returns-in-Ok-Hedge c =
     let reads = rw c.in-Ok-Hedge.field-0-is at c.in-Ok-Hedge.ensures in
     hedge_answers c.args.graph.now (graph_of c.in_ok-seen.seen.graph) c.in_ok-seen.seen.names c.args.certificate.now c.in_ok-seen.ensures.graph c.in_ok-seen.ensures.names c.requires
-    (target_view c.in-Ok-Hedge.target) c.in-Ok-Hedge.hedge reads c.check_hedge.result c.check_hedge.ensures
+    (target_view c.in-Ok-Hedge.target) c.in-Ok-Hedge.hedge c.check_hedge.ensures.entries reads c.check_hedge.result c.check_hedge.ensures.answer
 
 pub returns : goal.returns
 returns c =
