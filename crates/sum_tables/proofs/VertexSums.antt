@@ -96,7 +96,7 @@ counts-are t counts are e = record {
   total = ap sum e ∙ sum-map (λ (r : Row). r.count) t.rows;
 }
 
-row-levels : (t : Table) → AreCounts t → (i : ℕ) → i < length t.vertices → All (HasLevel (length t.vertices) i (size_in t (get_or t.vertices i 0))) t.rows
+pub row-levels : (t : Table) → AreCounts t → (i : ℕ) → i < length t.vertices → All (HasLevel (length t.vertices) i (size_in t (get_or t.vertices i 0))) t.rows
 row-levels t are i lt j d less =
     let many = row-count t are in
     let within : j < product (sizes_of t.levels) = omega (arith, less, many) in

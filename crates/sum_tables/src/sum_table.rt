@@ -2,6 +2,7 @@ ghost use Rattle.std.specs.Prelude.{ℕ, ◌≡◌, IfOk, slice_index};
 ghost use Rattle.mixed_graph.specs.Bits.{has};
 ghost use Rattle.count_rows.specs.Rows.{counted};
 ghost use Rattle.count_table.specs.Tables.{HasLevels};
+ghost use Rattle.sum_tables.specs.Sums.{AreSums};
 
 use crate::places::Places;
 use crate::summing::sums_over;
@@ -52,6 +53,13 @@ impl<'a> SumTable<'a> {
         ensures { result.bits ≡ self.now.set }
     {
         self.of
+    }
+
+    /// The sums, each at the place of its cell.
+    pub fn sums(&self) -> &[u64]
+        ensures { AreSums self.now.table (has self.now.set) result.now }
+    {
+        self.sums.as_slice()
     }
 
     /// The sum of the counts of the rows that agree with `at` on the set.
