@@ -1,6 +1,13 @@
 pub mod Agreeing
+pub mod AllSums
+pub mod Bases
+pub mod BlockSums
+pub mod Ending
+pub mod Parts
+pub mod Spots
 pub mod UsedVertices
 pub mod Vanishing
+pub mod Visiting
 pub mod Walking
 pub mod Writing
 pub mod Zero

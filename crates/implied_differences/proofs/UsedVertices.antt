@@ -1,5 +1,5 @@
 -- Whether a table has levels of an implication's vertices, by sets.
-use Rattle.std.proofs.Common.{ℕ, zero, suc, ◌+◌, ◌≡◌, ◌<◌, ◌≤◌, ◌^◌, Bool, true, false, cond, not, ◌&&◌, List, [], ◌∷◌, ◌++◌, All, sym, ap, subst, ◌∙◌, refl, inl, inr, arith}
+use Rattle.std.proofs.Common.{ℕ, zero, suc, ◌≡◌, ◌<◌, ◌^◌, Bool, true, false, cond, not, ◌&&◌, List, [], ◌∷◌, All, sym, ap, subst, ◌∙◌, refl, inl, inr}
 use Rattle.std.proofs.lemmas.Bool.{cases_lt, lt-ltb, ltb-true, and_parts, both_ways}
 use Rattle.std.proofs.lemmas.List.Elements.{All-nil, All-cons, All-append}
 use Rattle.mixed_graph.specs.Bits.{has, members_below}
@@ -12,7 +12,7 @@ use Rattle.implications.specs.declared.pairs.Implication.{Implication}
 use Rattle.implied_differences.specs.Differences.{whole_of, IsReadable}
 use Rattle.implied_differences.proofs.Walking.{levels_hold}
 
-all_members : (P : ℕ → Type 0) (s : ℕ → Bool) (k : ℕ) → ((v : ℕ) → s v ≡ true → P v) → All P (members_below s k)
+pub all_members : (P : ℕ → Type 0) (s : ℕ → Bool) (k : ℕ) → ((v : ℕ) → s v ≡ true → P v) → All P (members_below s k)
 unfolding members_below
 all_members P s zero h = All-nil P
 all_members P s (suc k) h = All-append P (members_below s k) (cond (s k) (k ∷ []) []) (all_members P s k h) (last (s k) refl)

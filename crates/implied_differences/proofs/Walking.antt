@@ -1,125 +1,22 @@
--- The walk over the cells of an implication.
-use Rattle.std.proofs.Common.{ℕ, zero, suc, ◌+◌, ◌*◌, ◌/◌, ◌%◌, ◌≡◌, ◌≢◌, ◌<◌, ◌≤◌, true, cond, ◌||◌, List, [], ◌∷◌, length, get_or, All, refl, sym, ap, ap₂, subst, ◌∙◌, inl, inr, ◌⊎◌, arith}
-use Rattle.std.specs.Prelude.{pos, ◌-ℤ◌}
-use Rattle.std.specs.Int.{abs_diff}
+-- The cell of a number.
+use Rattle.std.proofs.Common.{ℕ, zero, suc, ◌+◌, ◌*◌, ◌/◌, ◌%◌, ◌≡◌, ◌≢◌, ◌<◌, true, cond, ◌||◌, List, [], ◌∷◌, length, get_or, All, refl, sym, ap, ap₂, subst, ◌∙◌, inl, inr, arith}
 use Rattle.std.specs.List.{filter}
-use Rattle.std.proofs.lemmas.Bool.{cases_lt, or_cases, or_left, or_right, eqb-true, eq-eqb, ltb-true}
+use Rattle.std.proofs.lemmas.Bool.{or_left, or_right, eq-eqb, ltb-true}
 use Rattle.std.proofs.lemmas.Bool.Decides.{eqb_tells}
 use Rattle.std.proofs.lemmas.List.Elements.{All-cons, All-head, All-tail}
 use Rattle.std.proofs.lemmas.Nat.{div_below}
 use Rattle.mixed_graph.specs.Bits.{has}
 use Rattle.count_rows.specs.Records.{Field}
 use Rattle.count_rows.specs.Rows.{Table}
-use Rattle.count_table.specs.Cells.{IsCell, place_of}
-use Rattle.count_table.specs.Tables.{levels_in, AreCounts, HasLevels}
-use Rattle.count_table.proofs.CellLists.{place_of-lt}
+use Rattle.count_table.specs.Cells.{place_of}
+use Rattle.count_table.specs.Tables.{levels_in, AreCounts}
 use Rattle.count_eval.specs.Programs.{cell_of}
-use Rattle.sum_tables.specs.Axes.{Axes, axes_of, HasCell, cell_at, place_at, cells_over}
-use Rattle.sum_tables.proofs.CellLevels.{has_levels, outside_of}
+use Rattle.sum_tables.specs.Axes.{Axes, axes_of, HasCell, place_at, cells_over}
+use Rattle.sum_tables.proofs.CellLevels.{outside_of}
 use Rattle.sum_tables.proofs.Choosing.{size_in}
-use Rattle.sum_tables.proofs.Lists.{same-map}
-use Rattle.sum_tables.proofs.Placing.{same_place}
 use Rattle.implications.specs.declared.pairs.Implication.{Implication}
 use Rattle.implications.specs.Separable.{only}
-use Rattle.implied_differences.specs.declared.largest.Candidate.{Candidate}
-use Rattle.implied_differences.specs.declared.largest.Difference.{Difference}
-use Rattle.implied_differences.specs.Differences.{whole_of, difference, distance, IsReadable, axes_in, IsLargest}
-use Rattle.implied_differences.specs.Candidates.{HasProducts, IsAt}
-use Rattle.implied_differences.proofs.Agreeing.{whole_holds, left_same, right_same}
-
--- the absolute value of a candidate's difference
-abbrev pub gap : Candidate → ℕ
-gap c = abs_diff c.left c.right
-
-module _ (t : Table) (i : Implication) where
-  abbrev pub IsCellIn : (ℕ → ℕ) → Type 0
-  IsCellIn s = IsCell (axes_in t i).sizes (cell_at (axes_in t i) s)
-
-  -- the best of the first n cells
-  pub record IsBest (n : ℕ) (c : Candidate) : Type 0 where
-    pub number : ℕ
-    pub at : IsAt t i number c
-    pub greatest : (s : ℕ → ℕ) → IsCellIn s → place_at (axes_in t i) s < n → distance t i s ≤ gap c
-    pub first : (s : ℕ → ℕ) → IsCellIn s → place_at (axes_in t i) s < number → distance t i s < gap c
-
-  own_gap : (c : Candidate) → HasProducts t i c → gap c ≡ distance t i (cell_of c.cell)
-  own_gap c p = ap₂ abs_diff p.left_is p.right_is
-
-  -- an assignment with the place of a candidate has its difference
-  same_gap : (number : ℕ) (c : Candidate) → IsAt t i number c → (s : ℕ → ℕ) → IsCellIn s → place_at (axes_in t i) s ≡ number → distance t i s ≡ gap c
-  same_gap number c at s h e =
-      let agree = same-map s (cell_of c.cell) (axes_in t i).vertices (same_place (axes_in t i).sizes (cell_at (axes_in t i) s) (cell_at (axes_in t i) (cell_of c.cell)) h at.cell.cell (e ∙ sym at.place)) in
-      let whole = whole_holds i (λ v. s v ≡ cell_of c.cell v) t.vertices agree in
-      ap₂ abs_diff (left_same t i s (cell_of c.cell) whole) (right_same t i s (cell_of c.cell) whole) ∙ sym (own_gap c at.products)
-
-  at_most : (x y : ℕ) → x ≡ y → x ≤ y
-  at_most x y e = omega arith
-
-  through : (x y z : ℕ) → x ≤ y → y ≤ z → x ≤ z
-  through x y z p q = omega arith
-
-  below_through : (x y z : ℕ) → x ≤ y → y < z → x < z
-  below_through x y z p q = omega arith
-
-  pub best_first : (c : Candidate) → IsAt t i 0 c → IsBest 1 c
-  best_first c at = record {
-    number = 0;
-    at = at;
-    greatest = λ s h lt. at_most (distance t i s) (gap c) (same_gap 0 c at s h (zero_of (place_at (axes_in t i) s) lt));
-    first = λ s h lt. absurd (none (place_at (axes_in t i) s) lt);
-  }
-    where
-      zero_of : (n : ℕ) → n < 1 → n ≡ 0
-      zero_of n lt = omega arith
-
-      none : (n : ℕ) → n < 0 → ⊥
-      none n lt = omega arith
-
-  last_or_before : (p n : ℕ) → p < n + 1 → (p < n) ⊎ (p ≡ n)
-  last_or_before p n lt = elim (cases_lt p n) [
-    | inl l ↦ inl l
-    | inr m ↦ inr (omega arith)
-  ]
-
-  pub best_kept : (n : ℕ) (c e : Candidate) → IsBest n c → IsAt t i n e → gap e ≤ gap c → IsBest (n + 1) c
-  best_kept n c e b at le = record { number = b.number; at = b.at; greatest = λ s h lt. greatest s h (last_or_before (place_at (axes_in t i) s) n lt); first = b.first }
-    where
-      greatest : (s : ℕ → ℕ) → IsCellIn s → (place_at (axes_in t i) s < n) ⊎ (place_at (axes_in t i) s ≡ n) → distance t i s ≤ gap c
-      greatest s h (inl lt) = b.greatest s h lt
-      greatest s h (inr q) = through (distance t i s) (gap e) (gap c) (at_most (distance t i s) (gap e) (same_gap n e at s h q)) le
-
-  pub best_new : (n : ℕ) (c e : Candidate) → IsBest n c → IsAt t i n e → gap c < gap e → IsBest (n + 1) e
-  best_new n c e b at lt = record {
-    number = n;
-    at = at;
-    greatest = λ s h l. greatest s h (last_or_before (place_at (axes_in t i) s) n l);
-    first = λ s h l. below_through (distance t i s) (gap c) (gap e) (b.greatest s h l) lt;
-  }
-    where
-      less : (x y z : ℕ) → x ≤ y → y < z → x ≤ z
-      less x y z p q = omega arith
-
-      greatest : (s : ℕ → ℕ) → IsCellIn s → (place_at (axes_in t i) s < n) ⊎ (place_at (axes_in t i) s ≡ n) → distance t i s ≤ gap e
-      greatest s h (inl l) = less (distance t i s) (gap c) (gap e) (b.greatest s h l) lt
-      greatest s h (inr q) = at_most (distance t i s) (gap e) (same_gap n e at s h q)
-
-  -- the best of all cells is the largest difference
-  pub best_ends : (n : ℕ) (c : Candidate) (d : Difference) → cells_over (axes_in t i) ≤ n → IsBest n c → d.value ≡ pos c.left -ℤ pos c.right → d.cell ≡ c.cell → IsLargest t i d
-  best_ends n c d le b value cell = record {
-    cell = subst (λ (x : List ℕ). HasCell (axes_in t i) x) (sym cell) b.at.cell;
-    outside = λ v none. ap (λ (x : List ℕ). get_or x v 0) cell ∙ b.at.outside v none;
-    value = value ∙ ap₂ (λ x y. pos x -ℤ pos y) b.at.products.left_is b.at.products.right_is ∙ ap (λ (x : List ℕ). difference t i (cell_of x)) (sym cell);
-    greatest = λ s h. subst (λ m. distance t i s ≤ m) here (b.greatest s h (inside (place_at (axes_in t i) s) (place_of-lt (axes_in t i).sizes (cell_at (axes_in t i) s) h)));
-    first = λ s h lt. subst (λ m. distance t i s < m) here (b.first s h (subst (λ m. place_at (axes_in t i) s < m) (ap (λ (x : List ℕ). place_at (axes_in t i) (cell_of x)) cell ∙ b.at.place) lt));
-  }
-    where
-      here : gap c ≡ distance t i (cell_of d.cell)
-      here = own_gap c b.at.products ∙ ap (λ (x : List ℕ). distance t i (cell_of x)) (sym cell)
-
-      inside : (p : ℕ) → p < cells_over (axes_in t i) → p < n
-      inside p lt = omega arith
-
--- ---- the cell of a number
+use Rattle.implied_differences.specs.Differences.{whole_of, IsReadable, axes_in}
 
 -- what holds of all used vertices holds of one that has a level
 pub levels_hold : (Q : ℕ → Type 0) (vs : List ℕ) (levels : List (List Field)) (v : ℕ) → All Q vs → 0 < length (levels_in vs levels v) → Q v
@@ -233,22 +130,3 @@ module _ (t : Table) (are : AreCounts t) (i : Implication) (r : IsReadable t i) 
           let rest = All-tail (λ u. u ≢ v) i.a (i.b ∷ filter (has i.given.bits) t.vertices) none in
           d.outside v (λ e. All-head (λ u. u ≢ v) i.a (i.b ∷ filter (has i.given.bits) t.vertices) none (sym e)) (λ e. All-head (λ u. u ≢ v) i.b (filter (has i.given.bits) t.vertices) rest (sym e))
           (All-tail (λ u. u ≢ v) i.b (filter (has i.given.bits) t.vertices) rest)
-
-      pub digits_levels : HasLevels t (whole_of i) cell
-      digits_levels v e = go (or_cases (only i.a v) (only i.b v || has i.given.bits v) e)
-        where
-          later : (only i.b v ≡ true) ⊎ (has i.given.bits v ≡ true) → (v < length cell) × (get_or cell v 0 < size_in t v)
-          later (inl f) = rw (eqb-true v i.b f) (subst (λ n. i.b < n) (sym d.long) b_below, second_less)
-          later (inr f) = has_levels t (has i.given.bits) cell (λ u h. level_of u (or_right (only i.a u) (only i.b u || has i.given.bits u) (or_right (only i.b u) (has i.given.bits u) h))) d.rest v f
-
-          go : (only i.a v ≡ true) ⊎ ((only i.b v || has i.given.bits v) ≡ true) → (v < length cell) × (get_or cell v 0 < size_in t v)
-          go (inl f) = rw (eqb-true v i.a f) (subst (λ n. i.a < n) (sym d.long) a_below, first_less)
-          go (inr f) = later (or_cases (only i.b v) (has i.given.bits v) f)
-
-      pub digits_at : (c : Candidate) → c.cell ≡ cell → HasProducts t i c → IsAt t i number c
-      digits_at c e p = record {
-        cell = subst (λ (x : List ℕ). HasCell (axes_in t i) x) (sym e) digits_cell;
-        outside = λ v none. ap (λ (x : List ℕ). get_or x v 0) e ∙ digits_outside v none;
-        place = ap (λ (x : List ℕ). place_at (axes_in t i) (cell_of x)) e ∙ digits_place;
-        products = p;
-      }

@@ -1,9 +1,10 @@
 -- What the differences have to do with models.
-use Rattle.std.specs.Prelude.{ℕ, ◌≡◌, IsTrue, pos}
+use Rattle.std.specs.Prelude.{ℕ, ◌≡◌, ◌-◌, ◌^◌, IsTrue, pos, negsuc, ◌≤ℤ◌}
 use Rattle.mixed_graph.specs.Graphs.{MixedGraph, IsMixedGraph}
 use Rattle.finite_models.specs.Models.{FiniteModel, Fits, IsAssignment}
 use Rattle.count_rows.specs.Rows.{Table}
 use Rattle.count_table.specs.Cells.{total}
+use Rattle.count_table.specs.Tables.{AreCounts}
 use Rattle.count_eval.specs.Laws.{IsMatched}
 use Rattle.count_eval.specs.Programs.{weights_in, is_used}
 use Rattle.implications.specs.declared.pairs.Implication.{Implication}
@@ -24,3 +25,7 @@ MatchedDifferencesVanish = (g : MixedGraph) → IsMixedGraph g → (i : Implicat
 -- so the difference is 0 wherever there is such a model of a graph with the implication
 abbrev pub IsZeroWhereMatched : Table → Implication → Difference → Type 0
 IsZeroWhereMatched t i d = (g : MixedGraph) → IsMixedGraph g → IsImplication g i → (m : FiniteModel) → IsMatchedBy g t m → d.value ≡ pos 0
+
+-- each difference is a number of 128 bits with a sign: from -2 ^ 127 up to 2 ^ 127 - 1
+abbrev pub DifferencesFit : Type 0
+DifferencesFit = (t : Table) → AreCounts t → (i : Implication) → (s : ℕ → ℕ) → (negsuc (2 ^ 127 - 1) ≤ℤ difference t i s) × (difference t i s ≤ℤ pos (2 ^ 127 - 1))

@@ -1,3 +1,5 @@
+pub mod Blocks
 pub mod Candidates
 pub mod Differences
 pub mod Laws
+pub mod Layouts

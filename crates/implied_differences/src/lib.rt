@@ -3,8 +3,11 @@
 //! `largest_difference(alloc, &counts, &implication)` gives the largest one, and where it is.
 #![tactic(auto)]
 
+mod blocks;
+mod candidates;
 mod cells;
 mod largest;
+mod layout;
 mod readable;
 mod sets;
 mod theory;

@@ -2,7 +2,7 @@ ghost use Rattle.std.specs.Prelude.{ℕ, ◌<◌, ◌^◌};
 ghost use Rattle.std.specs.Bool.{OnTrue, OnFalse};
 ghost use Rattle.implied_differences.specs.Differences.{IsReadable};
 
-use crate::sets::sets_of;
+use crate::sets::vertices_of;
 use count_table::Counts;
 use implications::Implication;
 use mixed_graph::VSet;
@@ -32,8 +32,7 @@ pub fn is_readable(c: &Counts, i: &Implication) -> bool
     if i.given.has(i.b) {
         return false;
     }
-    let sets = sets_of(i);
-    let unused = sets.whole.difference(used);
+    let unused = vertices_of(i).difference(used);
     sized(unused);
     if !unused.is_empty() {
         return false;

@@ -1,49 +1,91 @@
-use Rattle.std.proofs.Common.{◌+◌, ◌<◌, ◌≤◌, sym, subst}
+use Rattle.std.proofs.Common.{ℕ, ◌≢◌, ◌<◌, ◌≤◌, ◌/◌, List, All, get_or, sym, ap, ap₂, subst, ◌∙◌, arith}
+use Rattle.mixed_graph.specs.Bits.{has}
+use Rattle.count_rows.specs.Rows.{Table}
+use Rattle.count_table.specs.Tables.{AreCounts}
 use Rattle.count_eval.specs.Programs.{cell_of}
-use Rattle.implied_differences.specs.declared.largest.Candidate.{Candidate}
-use Rattle.implied_differences.proofs.Agreeing.{left_most, right_most}
-use Rattle.implied_differences.proofs.Walking.{gap, IsBest, best_first, best_kept, best_new, best_ends, a_below, b_below}
+use Rattle.sum_tables.specs.Axes.{Axes, axes_of, HasCell, place_at, cells_over}
+use Rattle.sum_tables.proofs.Choosing.{axes-are}
+use Rattle.sum_tables.proofs.Lists.{product-pos}
+use Rattle.implications.specs.declared.pairs.Implication.{Implication}
+use Rattle.implied_differences.specs.declared.layout.Layout.{Layout}
+use Rattle.implied_differences.specs.Differences.{axes_in}
+use Rattle.implied_differences.specs.Layouts.{IsLayoutOf}
+use Rattle.implied_differences.proofs.Agreeing.{levels_few}
+use Rattle.implied_differences.proofs.Ending.{number_below, products_small, best_ends}
+use Rattle.implied_differences.proofs.Walking.{a_below, b_below, a_outside, b_outside, first_below, digits_from, digits_cell, digits_place, digits_outside}
 use Rattle.implied_differences.proofs.Zero.{zero_where_matched}
 use Rattle.implied_differences.proofs.largest.largest_difference.Goals as goal
-use Rattle.implied_differences.proofs.largest.largest_difference.Goals.{then-distance, else-distance}
 
-pub sets_of-sets-requires-clause-a : goal.sets_of-sets-requires-clause-a
-sets_of-sets-requires-clause-a c = a_below c.args.c.now c.used-used.ensures.table c.args.i.now c.requires
+below_few : (x y : ℕ) → x < y → y ≤ 1048576 → x < 4294967296
+below_few x y p q = omega arith
 
-pub sets_of-sets-requires-clause-b : goal.sets_of-sets-requires-clause-b
-sets_of-sets-requires-clause-b c = b_below c.args.c.now c.used-used.ensures.table c.args.i.now c.requires
+at_most_few : (x : ℕ) → x ≤ 1048576 → x < 4294967296
+at_most_few x p = omega arith
 
-pub candidate_at-largest-requires-clause-number : goal.candidate_at-largest-requires-clause-number
-candidate_at-largest-requires-clause-number c = subst (λ n. 0 < n) c.cell_count-count.ensures.count c.cell_count-count.ensures.some
+some_cells : (t : Table) → AreCounts t → (i : Implication) (l : Layout) → IsLayoutOf t i l → 0 < l.count
+some_cells t are i l h = subst (λ n. 0 < n) (sym h.count) (product-pos (axes_of t (has i.given.bits)).sizes (axes-are t (has i.given.bits) are).each)
 
-pub cells-init : goal.cells-init
-cells-init c = best_first c.args.c.now c.args.i.now c.candidate_at-largest.result c.candidate_at-largest.ensures
+pub cell_at-cell-requires-clause-a : goal.cell_at-cell-requires-clause-a
+cell_at-cell-requires-clause-a c = a_below c.args.c.now c.used-used.ensures.table c.args.i.now c.requires
 
-pub cells-preserved : goal.cells-preserved
-cells-preserved c =
+pub cell_at-cell-requires-clause-b : goal.cell_at-cell-requires-clause-b
+cell_at-cell-requires-clause-b c = b_below c.args.c.now c.used-used.ensures.table c.args.i.now c.requires
+
+pub cell_at-cell-requires-clause-a_apart : goal.cell_at-cell-requires-clause-a_apart
+cell_at-cell-requires-clause-a_apart c =
+    subst (λ (x : Axes). All (λ u. u ≢ c.args.i.now.a) x.vertices) (sym c.in_ok-given.ensures) (a_outside c.args.c.now c.used-used.ensures.table c.args.i.now c.requires)
+
+pub cell_at-cell-requires-clause-b_apart : goal.cell_at-cell-requires-clause-b_apart
+cell_at-cell-requires-clause-b_apart c =
+    subst (λ (x : Axes). All (λ u. u ≢ c.args.i.now.b) x.vertices) (sym c.in_ok-given.ensures) (b_outside c.args.c.now c.used-used.ensures.table c.args.i.now c.requires)
+
+pub cell_at-cell-requires-clause-few : goal.cell_at-cell-requires-clause-few
+cell_at-cell-requires-clause-few c =
+    subst (λ n. n < 4294967296) (sym c.in_ok-layout.ensures.seconds) (at_most_few _ (levels_few c.args.c.now c.used-used.ensures.table c.args.i.now.b))
+
+pub cell_at-cell-requires-clause-cells : goal.cell_at-cell-requires-clause-cells
+cell_at-cell-requires-clause-cells c =
+    subst (λ (x : Axes). 0 < cells_over x) (sym c.in_ok-given.ensures)
+    (product-pos (axes_of c.args.c.now (has c.args.i.now.given.bits)).sizes (axes-are c.args.c.now (has c.args.i.now.given.bits) c.used-used.ensures.table).each)
+
+pub cell_at-cell-requires-clause-levels : goal.cell_at-cell-requires-clause-levels
+cell_at-cell-requires-clause-levels c =
     let t = c.args.c.now in
+    let are = c.used-used.ensures.table in
     let i = c.args.i.now in
-    let next = c.candidate_at-next.result in
-    elim c.if-distance.branch [
-      | then-distance w ↦ subst (λ (x : Candidate). IsBest t i (c.cells.number + 1) x) (sym w.largest-is) (best_new t i c.cells.number c.cells.largest next c.cells.invariant c.candidate_at-next.ensures
-          (subst (λ n. n < gap next) c.distance-in-cells.ensures (subst (λ n. c.distance-in-cells.result < n) c.distance.ensures w.if-distance.true)))
-      | else-distance w ↦ subst (λ (x : Candidate). IsBest t i (c.cells.number + 1) x) (sym w.largest-is) (best_kept t i c.cells.number c.cells.largest next c.cells.invariant c.candidate_at-next.ensures
-          (subst (λ n. n ≤ gap c.cells.largest) c.distance.ensures (subst (λ n. c.distance.result ≤ n) c.distance-in-cells.ensures w.if-distance.false)))
-    ]
+    let l = c.in_ok-layout.layout in
+    let best = c.in_ok-best.best in
+    let lt = number_below t are i c.requires l c.in_ok-layout.ensures best c.in_ok-best.ensures (some_cells t are i l c.in_ok-layout.ensures) in
+    subst (λ n. n < 4294967296) (sym (ap₂ (λ (x : Axes) k. best.number / cells_over x / k) c.in_ok-given.ensures c.in_ok-layout.ensures.seconds))
+    (below_few _ _ (first_below t are i c.requires best.number lt) (levels_few t are i.a))
 
-pub difference-requires-clause-left : goal.difference-requires-clause-left
-difference-requires-clause-left c =
-    subst (λ n. n ≤ 1000000000000000000000000000000) (sym c.cells.invariant.at.products.left_is) (left_most c.args.c.now c.used-used.ensures.table c.args.i.now (cell_of c.cells.largest.cell))
+pub difference_of-requires-clause-left : goal.difference_of-requires-clause-left
+difference_of-requires-clause-left c =
+    (products_small c.args.c.now c.used-used.ensures.table c.args.i.now c.requires c.in_ok-layout.layout c.in_ok-layout.ensures c.in_ok-best.best c.in_ok-best.ensures).0
 
-pub difference-requires-clause-right : goal.difference-requires-clause-right
-difference-requires-clause-right c =
-    subst (λ n. n ≤ 1000000000000000000000000000000) (sym c.cells.invariant.at.products.right_is) (right_most c.args.c.now c.used-used.ensures.table c.args.i.now (cell_of c.cells.largest.cell))
+pub difference_of-requires-clause-right : goal.difference_of-requires-clause-right
+difference_of-requires-clause-right c =
+    (products_small c.args.c.now c.used-used.ensures.table c.args.i.now c.requires c.in_ok-layout.layout c.in_ok-layout.ensures c.in_ok-best.best c.in_ok-best.ensures).1
 
 pub returns-clause-largest : goal.returns-clause-largest
 returns-clause-largest c =
-    best_ends c.args.c.now c.args.i.now c.cells.number c.cells.largest c.difference.result (subst (λ n. n ≤ c.cells.number) c.cell_count-count.ensures.count c.cells-test.false) c.cells.invariant c.difference.ensures.value c.difference.ensures.cell
+    let t = c.args.c.now in
+    let are = c.used-used.ensures.table in
+    let i = c.args.i.now in
+    let r = c.requires in
+    let l = c.in_ok-layout.layout in
+    let best = c.in_ok-best.best in
+    let lt = number_below t are i r l c.in_ok-layout.ensures best c.in_ok-best.ensures (some_cells t are i l c.in_ok-layout.ensures) in
+    let cell = c.cell_at-cell.result in
+    let e = c.cell_at-cell.ensures in
+    let d = digits_from t are i r best.number lt c.in_ok-given.given l.seconds cell c.in_ok-given.ensures c.in_ok-layout.ensures.seconds e.long e.first e.second e.cell e.place e.outside in
+    let same = c.difference_of.ensures.cell in
+    best_ends t are i r l c.in_ok-layout.ensures best c.in_ok-best.ensures c.difference_of.result
+    (subst (λ (x : List ℕ). HasCell (axes_in t i) x) (sym same) (digits_cell t are i r best.number lt cell d))
+    (λ v none. ap (λ (x : List ℕ). get_or x v 0) same ∙ digits_outside t are i r best.number lt cell d v none)
+    (ap (λ (x : List ℕ). place_at (axes_in t i) (cell_of x)) same ∙ digits_place t are i r best.number lt cell d)
+    c.difference_of.ensures.value
 
 pub returns-clause-matched : goal.returns-clause-matched
 returns-clause-matched c =
-    zero_where_matched c.args.c.now c.used-used.ensures.table c.args.i.now c.requires c.difference.result
-    (best_ends c.args.c.now c.args.i.now c.cells.number c.cells.largest c.difference.result (subst (λ n. n ≤ c.cells.number) c.cell_count-count.ensures.count c.cells-test.false) c.cells.invariant c.difference.ensures.value c.difference.ensures.cell)
+    zero_where_matched c.args.c.now c.used-used.ensures.table c.args.i.now c.requires c.difference_of.result (returns-clause-largest c)

@@ -1,0 +1,5 @@
+use Rattle.implied_differences.proofs.BlockSums.{AreColumnsTo}
+use Rattle.implied_differences.proofs.blocks.sum_columns.Given as goal
+
+abbrev pub invariant-loop-x : goal.invariant-loop-x
+invariant-loop-x l = AreColumnsTo l.cells l.l l.begin l.x l.columns

@@ -1,0 +1,117 @@
+ghost use Rattle.std.specs.Prelude.{ℕ, ◌≡◌, ◌<◌, ◌≤◌, ◌+◌, ◌*◌, ◌^◌, IfOk, length, slice_index};
+ghost use Rattle.implied_differences.specs.Layouts.{base_of};
+ghost use Rattle.implied_differences.specs.Blocks.{strided, IsBlock, AreColumns, block_at, IsBest, AreBlocks};
+
+use crate::candidates::Candidate;
+use crate::layout::{Block, Layout};
+use std::alloc::{AllocError, Global};
+
+/// The sum of so many cells, one each `step` places.
+fn strided_sum(cells: &[u64], begin: usize, step: usize, count: usize) -> u64
+    requires inside { (k : ℕ) → k < count → begin + k * step < length cells.now }
+    requires room { strided cells.now begin step count < 2 ^ 64 }
+    ensures { result ≡ strided cells.now begin step count }
+{
+    let mut sum = 0;
+    for k in 0..count {
+        sum += cells[begin + k * step];
+    }
+    sum
+}
+
+/// Adds cells, one each `step` places, to the sums.
+fn add_strided(sums: &mut [u64], cells: &[u64], begin: usize, step: usize)
+    requires inside { (k : ℕ) → k < length sums.old → begin + k * step < length cells.now }
+    requires room { (k : ℕ) → k < length sums.old → slice_index sums.old k + slice_index cells.now (begin + k * step) < 2 ^ 64 }
+    ensures { (k : ℕ) → k < length sums.old → slice_index sums.new k ≡ slice_index sums.old k + slice_index cells.now (begin + k * step) }
+{
+    for k in 0..sums.len() {
+        sums[k] += cells[begin + k * step];
+    }
+}
+
+/// N(b,W) for each level of the second vertex, and the given vertices' cell of a block.
+fn sum_columns(cells: &[u64], l: &Layout, begin: usize, columns: &mut [u64])
+    requires block { IsBlock cells.now l.now begin }
+    requires long { length columns.old ≡ l.now.seconds }
+    ensures { AreColumns cells.now l.now begin columns.new }
+{
+    columns.fill(0);
+    for x in 0..l.firsts {
+        add_strided(columns, cells, begin + x * l.first_step, l.second_step);
+    }
+}
+
+/// The best of what came before and of the cells of a block at a level of the first vertex.
+fn best_in_row(
+    cells: &[u64],
+    l: &Layout,
+    block: &Block,
+    x: usize,
+    columns: &[u64],
+    given: u64,
+    before: Candidate,
+) -> Candidate
+    requires block { IsBlock cells.now l.now block.now.begin }
+    requires base { block.now.begin ≡ base_of l.now block.now.number }
+    requires first { x < l.now.firsts }
+    requires number { block.now.number < l.now.count }
+    requires few { l.now.firsts * l.now.seconds * l.now.count ≤ 2 ^ 20 }
+    requires columns { AreColumns cells.now l.now block.now.begin columns.now }
+    requires given { given ≡ block_at cells.now l.now block.now.begin }
+    requires before { IsBest cells.now l.now block.now.number x 0 before }
+    ensures { IsBest cells.now l.now block.now.number x l.now.seconds result }
+{
+    let row = block.begin + x * l.first_step;
+    let first = strided_sum(cells, row, l.second_step, l.seconds);
+    let mut best = before;
+    for y in 0..l.seconds {
+        let whole = cells[row + y * l.second_step];
+        let number = (x * l.seconds + y) * l.count + block.number;
+        let here = Candidate::new(whole, given, first, columns[y], number);
+        if here.is_ahead(&best) {
+            best = here;
+        }
+    }
+    best
+}
+
+/// The best of what came before and of the cells of a block.
+fn best_in_block(
+    cells: &[u64],
+    l: &Layout,
+    block: &Block,
+    columns: &mut [u64],
+    before: Candidate,
+) -> Candidate
+    requires block { IsBlock cells.now l.now block.now.begin }
+    requires base { block.now.begin ≡ base_of l.now block.now.number }
+    requires number { block.now.number < l.now.count }
+    requires few { l.now.firsts * l.now.seconds * l.now.count ≤ 2 ^ 20 }
+    requires long { length columns.old ≡ l.now.seconds }
+    requires before { IsBest cells.now l.now block.now.number 0 0 before }
+    ensures { IsBest cells.now l.now (block.now.number + 1) 0 0 result }
+{
+    sum_columns(cells, l, block.begin, columns);
+    let given = strided_sum(columns, 0, 1, l.seconds);
+    let mut best = before;
+    for x in 0..l.firsts {
+        best = best_in_row(cells, l, block, x, columns, given, best);
+    }
+    best
+}
+
+/// The best of all cells.
+pub fn best_in_blocks(alloc: Global, cells: &[u64], l: &Layout) -> Result<Candidate, AllocError>
+    requires { AreBlocks cells.now l.now }
+    ensures { IfOk result (λ best. IsBest cells.now l.now l.now.count 0 0 best) }
+{
+    let mut columns = vec![in alloc; 0; l.seconds]?;
+    let mut best = Candidate::none();
+    let mut block = Block::first();
+    'each: while block.number < l.count {
+        best = best_in_block(cells, l, &block, columns.as_mut_slice(), best);
+        block = block.next(l);
+    }
+    Ok(best)
+}
