@@ -1,4 +1,7 @@
 pub mod Fullness
 pub mod Soundness
+pub mod Unmarked
+pub mod Factors
+pub mod Asking
 pub mod Turns
 pub mod LemmaTurns

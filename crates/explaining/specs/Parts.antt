@@ -1,5 +1,5 @@
 -- A derivation explained: the expressions of its lemmas and of its main step, one after another.
-use Rattle.std.specs.Prelude.{ℕ, ◌+◌, ◌≡◌, ◌⊎◌, List, [], ◌∷◌, ◌++◌, Option, Some, None, codes, decimal}
+use Rattle.std.specs.Prelude.{ℕ, ◌+◌, ◌≡◌, ◌⊎◌, Bool, List, [], ◌∷◌, ◌++◌, Option, Some, None, codes, decimal}
 use Rattle.mixed_graph.specs.Graphs.{MixedGraph}
 use Rattle.prob_expr.specs.Tree.{Tree, PlainTarget, term_of}
 use Rattle.expr_text.specs.Write.{text_of}
@@ -20,23 +20,23 @@ abbrev pub part_start : List (List ℕ) → Option ℕ → Tree → List ℕ
 part_start names place start = heading place ++ (text_of names start ++ codes "\n")
 
 -- the start of a part, and then the lines of its moves in turn
-pub record IsPart (g : MixedGraph) (names : List (List ℕ)) (lemmas : List ℕ) (place : Option ℕ) (plan : Plan) (start : Tree) (text : List ℕ) : Type 0 where
+pub record IsPart (graphs : Bool) (g : MixedGraph) (names : List (List ℕ)) (lemmas : List ℕ) (place : Option ℕ) (plan : Plan) (start : Tree) (text : List ℕ) : Type 0 where
   pub lines : List ℕ
-  pub traces : Traces g names lemmas (moves_of plan) start lines
+  pub traces : Traces graphs g names lemmas (moves_of plan) start lines
   pub is : text ≡ part_start names place start ++ lines
 
 -- the parts of the lemmas from number k on, which come after those with the sets `before`
-abbrev pub LemmaParts : MixedGraph → List (List ℕ) → List ℕ → ℕ → List PlainLemma → List ℕ → Type 0
-LemmaParts g names before k [] text = text ≡ []
-LemmaParts g names before k (l ∷ ls) text =
-    (part : List ℕ) × (rest : List ℕ) × IsPart g names before (Some k) l.plan (start_of g.vertices l.set) part × LemmaParts g names (before ++ (l.set ∷ [])) (k + 1) ls rest × (text ≡ part ++ rest)
+abbrev pub LemmaParts : Bool → MixedGraph → List (List ℕ) → List ℕ → ℕ → List PlainLemma → List ℕ → Type 0
+LemmaParts graphs g names before k [] text = text ≡ []
+LemmaParts graphs g names before k (l ∷ ls) text =
+    (part : List ℕ) × (rest : List ℕ) × IsPart graphs g names before (Some k) l.plan (start_of g.vertices l.set) part × LemmaParts graphs g names (before ++ (l.set ∷ [])) (k + 1) ls rest × (text ≡ part ++ rest)
 
 -- the parts of all lemmas, and then that of main, which starts from the target's term
-pub record Explains (g : MixedGraph) (names : List (List ℕ)) (t : PlainTarget) (d : PlainDerivation) (text : List ℕ) : Type 0 where
+pub record Explains (graphs : Bool) (g : MixedGraph) (names : List (List ℕ)) (t : PlainTarget) (d : PlainDerivation) (text : List ℕ) : Type 0 where
   pub lemmas : List ℕ
   pub main : List ℕ
-  pub parts : LemmaParts g names [] 0 d.lemmas lemmas
-  pub last : IsPart g names (sets_of d.lemmas) None d.main (term_of t) main
+  pub parts : LemmaParts graphs g names [] 0 d.lemmas lemmas
+  pub last : IsPart graphs g names (sets_of d.lemmas) None d.main (term_of t) main
   pub is : text ≡ lemmas ++ main
 
 -- a move of some lemma is refused by that fault, all before it being made

@@ -1,5 +1,5 @@
 -- What the moves of a step make, one after another, as lines.
-use Rattle.std.specs.Prelude.{ℕ, ◌+◌, ◌≡◌, ◌⊎◌, List, [], ◌∷◌, ◌++◌, Option, Some, None, codes, decimal}
+use Rattle.std.specs.Prelude.{ℕ, ◌+◌, ◌≡◌, ◌⊎◌, Bool, List, [], ◌∷◌, ◌++◌, Option, Some, None, codes, decimal}
 use Rattle.mixed_graph.specs.Graphs.{MixedGraph}
 use Rattle.prob_expr.specs.Tree.{Tree}
 use Rattle.expr_text.specs.Write.{text_of}
@@ -7,6 +7,7 @@ use Rattle.do_derivation.specs.Plans.{Move, Plan}
 use Rattle.do_derivation.specs.Steps.{Makes}
 use Rattle.do_derivation.specs.Answers.{IsApplyFault}
 use Rattle.do_derivation.specs.declared.faults.ApplyFault.{ApplyFault}
+use Rattle.explaining.specs.Told.{Tells}
 
 -- the word of a move, as certificates have it
 abbrev pub move_word : Move → List ℕ
@@ -35,10 +36,11 @@ word_of (Plan.Then ps) = []
 abbrev pub made_line : List (List ℕ) → Plan → Tree → List ℕ
 made_line names p x = word_of p ++ (codes ": " ++ (text_of names x ++ codes "\n"))
 
--- the moves are made in turn, from the expression e on, and these are their lines
-abbrev pub Traces : MixedGraph → List (List ℕ) → List ℕ → List Plan → Tree → List ℕ → Type 0
-Traces g names lemmas [] e text = text ≡ []
-Traces g names lemmas (p ∷ ps) e text = (x : Tree) × (rest : List ℕ) × Makes g lemmas p e x × Traces g names lemmas ps x rest × (text ≡ made_line names p x ++ rest)
+-- the moves are made in turn, from the expression e on, and these are their lines: of each the line, and where graphs are wanted what is told of its rule
+abbrev pub Traces : Bool → MixedGraph → List (List ℕ) → List ℕ → List Plan → Tree → List ℕ → Type 0
+Traces graphs g names lemmas [] e text = text ≡ []
+Traces graphs g names lemmas (p ∷ ps) e text =
+    (x : Tree) × (told : List ℕ) × (rest : List ℕ) × Makes g lemmas p e x × Tells graphs g names lemmas p e told × Traces graphs g names lemmas ps x rest × (text ≡ (made_line names p x ++ told) ++ rest)
 
 -- the moves are made in turn up to one that is refused by that fault; want of memory may come at any time
 abbrev pub Stops : MixedGraph → List ℕ → List Plan → Tree → ApplyFault → Type 0

@@ -52,6 +52,7 @@ fn part_start(
 /// The text of a part: the expressions that its step makes, one after another.
 fn part(
     alloc: Global,
+    graphs: bool,
     g: &Graph,
     names: &Names,
     lemmas: &[VSet],
@@ -61,7 +62,7 @@ fn part(
 ) -> Result<Vec<u8>, ApplyFault>
     requires named { length names.now ≡ g.now.n }
     requires sound { is_sound g.now.n (view start) ≡ true }
-    ensures part { IfOk result (λ v. IsPart (graph_of g.now) names.now (masks_of lemmas.now) place (step_view step.now) (view start) v.items) }
+    ensures part { IfOk result (λ v. IsPart graphs (graph_of g.now) names.now (masks_of lemmas.now) place (step_view step.now) (view start) v.items) }
     ensures stops { IfErr result (λ why. UnlessNoMemory why (Stops (graph_of g.now) (masks_of lemmas.now) (moves_of (step_view step.now)) (view start) why)) }
 {
     let Ok(mut text) = part_start(alloc, names, place, &start) else {
@@ -70,7 +71,7 @@ fn part(
     let Ok(moves) = moves_of(alloc, step) else {
         return Err(ApplyFault::NoMemory);
     };
-    match trace(alloc, g, names, lemmas, moves.as_slice(), start) {
+    match trace(alloc, graphs, g, names, lemmas, moves.as_slice(), start) {
         Err(fault) => Err(fault),
         Ok(lines) => match text.extend_from_slice(lines.as_slice()) {
             Ok(()) => Ok(text),
@@ -100,13 +101,14 @@ struct LemmaTexts {
 /// The texts of the lemmas' parts.
 fn lemma_parts(
     alloc: Global,
+    graphs: bool,
     g: &Graph,
     names: &Names,
     lemmas: &Vec<Lemma>,
 ) -> Result<LemmaTexts, ApplyFault>
     requires named { length names.now ≡ g.now.n }
     requires sets { are_sets g.now.n (sets_of (map lemma_view lemmas.now.items)) ≡ true }
-    ensures parts { IfOk result (λ v. LemmaParts (graph_of g.now) names.now [] 0 (map lemma_view lemmas.now.items) v.text.items) }
+    ensures parts { IfOk result (λ v. LemmaParts graphs (graph_of g.now) names.now [] 0 (map lemma_view lemmas.now.items) v.text.items) }
     ensures sets { IfOk result (λ v. masks_of v.sets.items ≡ sets_of (map lemma_view lemmas.now.items)) }
     ensures stops { IfErr result (λ why. UnlessNoMemory why (LemmasStop (graph_of g.now) [] (map lemma_view lemmas.now.items) why)) }
 {
@@ -115,7 +117,7 @@ fn lemma_parts(
     for k in 0..lemmas.len() {
         let lemma = &lemmas[k];
         let start = start_of(g, lemma.set);
-        let made = match part(alloc, g, names, &sets, Some(k), &lemma.step, start) {
+        let made = match part(alloc, graphs, g, names, &sets, Some(k), &lemma.step, start) {
             Ok(made) => made,
             Err(fault) => return Err(fault),
         };
@@ -129,10 +131,11 @@ fn lemma_parts(
     Ok(LemmaTexts { sets, text })
 }
 
-/// A derivation explained: of each lemma and of the main step the expression that each move makes, in turn; else the fault of the first move
-/// that is refused.
+/// A derivation explained: of each lemma and of the main step the expression that each move makes, in turn, where graphs are wanted with the
+/// rule for which it asks and that rule's graph; else the fault of the first move that is refused.
 pub fn explain(
     alloc: Global,
+    graphs: bool,
     g: &Graph,
     names: &Names,
     target: &Target,
@@ -141,10 +144,10 @@ pub fn explain(
     requires named { length names.now ≡ g.now.n }
     requires target { is_term g.now.n target.now.y.bits target.now.x.bits target.now.given.bits ≡ true }
     requires sets { are_sets g.now.n (sets_of (derivation_view derivation.now).lemmas) ≡ true }
-    ensures explains { IfOk result (λ v. Explains (graph_of g.now) names.now (target_view target.now) (derivation_view derivation.now) v.items) }
+    ensures explains { IfOk result (λ v. Explains graphs (graph_of g.now) names.now (target_view target.now) (derivation_view derivation.now) v.items) }
     ensures stops { IfErr result (λ why. UnlessNoMemory why (DerivationStops (graph_of g.now) (target_view target.now) (derivation_view derivation.now) why)) }
 {
-    let mut texts = match lemma_parts(alloc, g, names, &derivation.lemmas) {
+    let mut texts = match lemma_parts(alloc, graphs, g, names, &derivation.lemmas) {
         Ok(texts) => texts,
         Err(fault) => return Err(fault),
     };
@@ -153,7 +156,7 @@ pub fn explain(
         doing: target.x,
         given: target.given,
     };
-    match part(alloc, g, names, &texts.sets, None, &derivation.main, start) {
+    match part(alloc, graphs, g, names, &texts.sets, None, &derivation.main, start) {
         Err(fault) => Err(fault),
         Ok(main) => match texts.text.extend_from_slice(main.as_slice()) {
             Ok(()) => Ok(texts.text),

@@ -25,13 +25,13 @@ loop-k-preserved c =
     let lt : c.loop-k.k < length c.args.lemmas.now.items = search rules in
     let pushed : c.push.new.self.items ≡ c.loop-k.sets.items ++ (l.set ∷ []) = search rules in
     let longer : c.extend_from_slice.new.self.items ≡ c.loop-k.text.items ++ c.in-Ok.made.items = search rules in
-    let made : IsPart g names (masks_of c.loop-k.sets.items) (Some c.loop-k.k) (step_view l.step) (start_of c.args.g.now.n l.set.bits) c.in-Ok.made.items =
-    subst (λ b. IsPart g names (masks_of b) (Some c.loop-k.k) (step_view l.step) (start_of c.args.g.now.n l.set.bits) c.in-Ok.made.items) c.deref.ensures.value
-    (subst (λ e. IsPart g names (masks_of c.deref.result.now) (Some c.loop-k.k) (step_view l.step) e c.in-Ok.made.items) c.start_of-start.ensures c.in-Ok.ensures.part) in
-    left_more g names c.args.lemmas.now.items c.loop-k.k l (masks_of c.loop-k.sets.items) (masks_of c.push.new.self.items) c.loop-k.text.items c.in-Ok.made.items c.extend_from_slice.new.self.items
+    let made : IsPart c.args.graphs g names (masks_of c.loop-k.sets.items) (Some c.loop-k.k) (step_view l.step) (start_of c.args.g.now.n l.set.bits) c.in-Ok.made.items =
+    subst (λ b. IsPart c.args.graphs g names (masks_of b) (Some c.loop-k.k) (step_view l.step) (start_of c.args.g.now.n l.set.bits) c.in-Ok.made.items) c.deref.ensures.value
+    (subst (λ e. IsPart c.args.graphs g names (masks_of c.deref.result.now) (Some c.loop-k.k) (step_view l.step) e c.in-Ok.made.items) c.start_of-start.ensures c.in-Ok.ensures.part) in
+    left_more c.args.graphs g names c.args.lemmas.now.items c.loop-k.k l (masks_of c.loop-k.sets.items) (masks_of c.push.new.self.items) c.loop-k.text.items c.in-Ok.made.items c.extend_from_slice.new.self.items
     lt c.index-lemma.ensures c.loop-k.invariant made (ap masks_of pushed ∙ map-append (λ s. s.bits) c.loop-k.sets.items (l.set ∷ [])) longer
 
 pub returns-clause-parts : goal.returns-clause-parts
 returns-clause-parts c =
-    left_parts (graph_of c.args.g.now) c.args.names.now (masks_of c.loop-k.sets.items) c.loop-k.k (map lemma_view (drop c.loop-k.k c.args.lemmas.now.items)) c.loop-k.text.items (map lemma_view c.args.lemmas.now.items)
+    left_parts c.args.graphs (graph_of c.args.g.now) c.args.names.now (masks_of c.loop-k.sets.items) c.loop-k.k (map lemma_view (drop c.loop-k.k c.args.lemmas.now.items)) c.loop-k.text.items (map lemma_view c.args.lemmas.now.items)
     (ap (map lemma_view) (drop_of_length-le c.args.lemmas.now.items {i = c.loop-k.k} (search rules))) c.loop-k.invariant

@@ -7,4 +7,4 @@ use Rattle.explaining.proofs.Turns.{IsLeft}
 use Rattle.explaining.proofs.tracing.trace.Given as goal
 
 abbrev pub invariant-loop-i : goal.invariant-loop-i
-invariant-loop-i l = IsLeft (graph_of l.g) l.names (masks_of l.lemmas) (map step_view (drop l.i l.moves)) (view l.made) l.text.items (map step_view l.moves) (view l.fn.start)
+invariant-loop-i l = IsLeft l.graphs (graph_of l.g) l.names (masks_of l.lemmas) (map step_view (drop l.i l.moves)) (view l.made) l.text.items (map step_view l.moves) (view l.fn.start)
