@@ -1,5 +1,5 @@
 -- The question that is found of a step that is made is that of its row of the table.
-use Rattle.std.proofs.Common.{ℕ, ◌≡◌, ◌<◌, Bool, true, false, not, ◌&&◌, refl, sym, subst, List, [], Option, Some, None, MatchOption}
+use Rattle.std.proofs.Common.{ℕ, ◌≡◌, ◌<◌, Bool, true, false, not, refl, List, [], Option, Some, None, MatchOption}
 use Rattle.std.specs.Prelude.{IfSome, option_and_then}
 use Rattle.finite_models.proofs.Bools.{and_second}
 use Rattle.mixed_graph.specs.Bits.{has}

@@ -2,7 +2,6 @@
 use Rattle.std.proofs.Common.{ℕ, zero, suc, ◌≡◌, ◌<◌, ◌≤◌, refl, sym, ap, ◌∙◌, List, [], ◌∷◌, length, get_or, Option, Some, None, option_map, MatchOption, Bor, arith}
 use Rattle.std.specs.Prelude.{IfSome}
 use Rattle.prob_expr.specs.declared.expr.Expr.{Expr}
-use Rattle.prob_expr.specs.Tree.{Tree}
 use Rattle.prob_expr.specs.View.{view, views}
 use Rattle.do_derivation.specs.Shapes.{factor_at}
 use Rattle.do_derivation.proofs.Lists.{factor_some}

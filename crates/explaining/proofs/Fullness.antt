@@ -1,5 +1,5 @@
 -- A step leaves no part of an expression empty.
-use Rattle.std.proofs.Common.{ℕ, zero, suc, ◌≡◌, ◌≤◌, ◌<◌, ◌+◌, Bool, true, false, cond, not, ◌&&◌, ltb, leb, refl, sym, ap, ◌∙◌, subst, List, [], ◌∷◌, ◌++◌, length, Some, None, Option, MatchOption, arith, ltb-true, leb-true}
+use Rattle.std.proofs.Common.{ℕ, zero, suc, ◌≡◌, ◌≤◌, ◌<◌, ◌+◌, Bool, true, false, cond, not, ◌&&◌, ltb, leb, refl, sym, ap, subst, List, [], ◌∷◌, ◌++◌, length, Some, None, Option, MatchOption, arith, ltb-true, leb-true}
 use Rattle.std.proofs.lemmas.Bool.{and_from, false≢true}
 use Rattle.std.proofs.lemmas.Option.{none-some}
 use Rattle.finite_models.proofs.Bools.{and_first, and_second}

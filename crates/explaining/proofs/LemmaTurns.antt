@@ -1,5 +1,5 @@
 -- Lemmas in turn.
-use Rattle.std.proofs.Common.{ℕ, ◌+◌, ◌≡◌, ◌<◌, Bool, true, sym, ap, ◌∙◌, subst, refl, List, [], ◌∷◌, ◌++◌, map, length, get_or, drop, Some, inl, inr, append_assoc, append-nil}
+use Rattle.std.proofs.Common.{ℕ, ◌+◌, ◌≡◌, ◌<◌, Bool, sym, ap, ◌∙◌, subst, refl, List, [], ◌∷◌, ◌++◌, map, length, get_or, drop, Some, inl, inr, append_assoc, append-nil}
 use Rattle.std.proofs.lemmas.List.{at_drop_more}
 use Rattle.mixed_graph.specs.Graphs.{MixedGraph}
 use Rattle.do_derivation.specs.Accepts.{sets_of, start_of}

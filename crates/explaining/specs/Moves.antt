@@ -1,5 +1,5 @@
 -- The moves of a step in turn, each at its place.
-use Rattle.std.specs.Prelude.{ℕ, List, [], ◌∷◌, ◌++◌, map}
+use Rattle.std.specs.Prelude.{List, [], ◌∷◌, ◌++◌, map}
 use Rattle.do_derivation.specs.Plans.{Plan, Plans, no_plans, plan}
 
 -- a move stands alone; those of a step on a child are on that child; those of several steps follow one another

@@ -156,7 +156,16 @@ pub fn explain(
         doing: target.x,
         given: target.given,
     };
-    match part(alloc, graphs, g, names, &texts.sets, None, &derivation.main, start) {
+    match part(
+        alloc,
+        graphs,
+        g,
+        names,
+        &texts.sets,
+        None,
+        &derivation.main,
+        start,
+    ) {
         Err(fault) => Err(fault),
         Ok(main) => match texts.text.extend_from_slice(main.as_slice()) {
             Ok(()) => Ok(texts.text),

@@ -1,9 +1,8 @@
-use Rattle.std.proofs.Common.{◌≡◌, ◌++◌, ◌∷◌, [], ◌∙◌, ◌<◌, true, Some, length, map, drop, sym, ap, subst, arith, rules}
+use Rattle.std.proofs.Common.{◌≡◌, ◌++◌, ◌∷◌, [], ◌∙◌, ◌<◌, true, Some, length, map, drop, sym, ap, subst, rules}
 use Rattle.std.proofs.Math.ListN.{drop_of_length-le}
 use Rattle.std.proofs.lemmas.List.{map-append}
 use Rattle.mixed_graph.specs.Shown.{graph_of}
 use Rattle.prob_expr.specs.Listed.{masks_of}
-use Rattle.prob_expr.specs.View.{view}
 use Rattle.expr_text.specs.Sound.{is_sound}
 use Rattle.do_derivation.specs.Accepts.{start_of}
 use Rattle.do_derivation.specs.View.{step_view, lemma_view}

@@ -1,4 +1,4 @@
-use Rattle.std.proofs.Common.{◌≡◌, ◌++◌, true, length, map, drop, sym, ap, subst, arith, rules}
+use Rattle.std.proofs.Common.{◌≡◌, ◌++◌, true, map, drop, sym, ap, subst, arith}
 use Rattle.mixed_graph.specs.Shown.{graph_of}
 use Rattle.prob_expr.specs.Listed.{masks_of}
 use Rattle.prob_expr.specs.View.{view}
@@ -36,7 +36,7 @@ loop-i-preserved c =
     let lemmas = masks_of c.args.lemmas.now in
     let p = step_view c.index-moves-i.result in
     let tells = told_of g c.args.names.now c.in-Ok-told.told.items c.args.graphs lemmas p (view c.loop-i.made) (view c.in-Ok.next) c.in-Ok.ensures.made
-        (subst (λ o. TellsAsked c.args.graphs g c.args.names.now o c.in-Ok-told.told.items) c.question_of-question.ensures c.in-Ok-told.ensures) in
+    (subst (λ o. TellsAsked c.args.graphs g c.args.names.now o c.in-Ok-told.told.items) c.question_of-question.ensures c.in-Ok-told.ensures) in
     left_more c.args.graphs g c.args.g.now.valid c.args.names.now lemmas c.args.moves.now c.loop-i.i c.index-moves-i.result (view c.loop-i.made) (view c.in-Ok.next) c.loop-i.text.items c.in-Ok-told.told.items c.push_line.new.out.items (view c.args.start)
     (omega arith) c.index-moves-i.is c.loop-i.invariant c.in-Ok.ensures.made tells
     (subst (λ t. c.push_line.new.out.items ≡ c.loop-i.text.items ++ (made_line c.args.names.now p (view c.in-Ok.next) ++ t)) c.as_slice.ensures.value c.in-Ok-push_line.ensures)
