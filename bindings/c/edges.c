@@ -103,6 +103,54 @@ static void explained(void) {
     HOLDS(causal_explain((const uint8_t *)steps, sizeof steps - 1, words, 2, inputs, 2, out, 256, err, 256, &sizes) == CAUSAL_WORDS);
 }
 
+/* Explains by words with a blank between them, over a diagram g and a certificate c. */
+static result explain_in(const char *line, const char *diagram, const char *certificate) {
+    char bytes[1024];
+    causal_span words[16];
+    size_t count = 0, end = 0, at = (size_t)snprintf(bytes, sizeof bytes, "%s|%s|%s|gc", line, diagram, certificate);
+    size_t length = strlen(line), second = length + 1 + strlen(diagram), third = second + 1 + strlen(certificate);
+    for (size_t start = 0; start <= length; start = end + 1) {
+        for (end = start; end < length && bytes[end] != ' '; end++) continue;
+        words[count++] = (causal_span){start, end};
+    }
+    causal_input inputs[] = {{{at - 2, at - 1}, {length + 1, second}}, {{at - 1, at}, {second + 1, third}}};
+    result r;
+    memset(&r, '#', sizeof r);
+    r.status = causal_explain((const uint8_t *)bytes, at, words, count, inputs, 2, r.out, 256, r.err, 256, &r.sizes);
+    return r;
+}
+
+static int tells(result r, uint8_t status, const char *out, const char *err) {
+    return r.status == status && is_text(r.out, r.sizes.out, out) && is_text(r.err, r.sizes.err, err);
+}
+
+static void explained_more(void) {
+    static const char front[] = "dag{X [exposure] Y [outcome] X->M->Y X<->Y}", hidden[] = "dag{X [exposure] Y [outcome] X<-U->Y U [latent] Z->X->Y}";
+    const char *certificate = steps + 25;
+    /* a rule's question with its graph behind its move */
+    HOLDS(tells(explain_in("steps g c --graphs", front, certificate), CAUSAL_YES,
+                "main\nP(M|do(X))\nrule2see: P(M|X)\nrule 2 y {M} z {X} do {} given {}\ndag {\nX\nY\nM\nM -> Y\nX <-> Y\n}\n", ""));
+    HOLDS(explain_in("steps --graphs g c", front, certificate).sizes.out == explain_in("steps g c --graphs", front, certificate).sizes.out);
+    HOLDS(tells(explain_in("steps g c", front, "{}"), CAUSAL_SECOND, "", "causal: certificate fault 3: \n"));
+    /* the graph in which a rule is asked, whether it holds or not, after hidden vertices are projected away */
+    HOLDS(tells(explain_in("rule g --rule 1 --y Y --z Z", hidden, ""), CAUSAL_YES, "dag {\nX\nY\nZ\nX -> Y\nZ -> X\nX <-> Y\n}\n", ""));
+    HOLDS(tells(explain_in("rule g --rule 1 --y Y --z Z --do X", hidden, ""), CAUSAL_YES, "dag {\nX\nY\nZ\nX -> Y\n}\n", ""));
+    HOLDS(tells(explain_in("rule g --rule 2 --y Y --z X --given Z", hidden, ""), CAUSAL_YES, "dag {\nX\nY\nZ\nZ -> X\nX <-> Y\n}\n", ""));
+    HOLDS(tells(explain_in("rule g --rule 3 --y Y --z X", hidden, ""), CAUSAL_YES, "dag {\nX\nY\nZ\nX -> Y\n}\n", ""));
+    /* z is an ancestor of what is observed, so rule 3 cuts nothing there */
+    HOLDS(tells(explain_in("rule g --rule 3 --y Y --z X --given M", front, ""), CAUSAL_YES, "dag {\nX\nY\nM\nX -> M\nM -> Y\nX <-> Y\n}\n", ""));
+    HOLDS(tells(explain_in("rule g --rule 2 --y U --z X", hidden, ""), CAUSAL_GRAPH, "", "causal: target fault 2: U\n"));
+    HOLDS(explain_in("rule g --rule 4 --y Y --z X", front, "").status == CAUSAL_WORDS);
+    /* an adjustment formula in LaTeX, by one of two criteria */
+    HOLDS(tells(explain_in("adjust g --set M --x X --y Y", "dag{X->Y M->X M->Y}", ""), CAUSAL_YES,
+                "P(Y \\mid \\mathrm{do}(X)) = \\sum_{M} P(M) P(Y \\mid X, M)\n", ""));
+    HOLDS(tells(explain_in("adjust g --set {} --back-door", "dag{X [exposure] Y [outcome] X->Y}", ""), CAUSAL_YES,
+                "P(Y \\mid \\mathrm{do}(X)) = P(Y \\mid X)\n", ""));
+    HOLDS(tells(explain_in("adjust g --set M", front, ""), CAUSAL_NO, "not admissible\n", ""));
+    HOLDS(tells(explain_in("adjust g --set {} --x X,M --back-door", front, ""), CAUSAL_GRAPH, "", "causal: target fault 6\n"));
+    HOLDS(tells(explain_in("adjust g", front, ""), CAUSAL_WORDS, "", "causal: words: steps, rule or adjust\n"));
+}
+
 static void kept(void) {
     static const char text[] = "dag{A<-U->B B->C U [latent]}", other[] = "dag{A->}";
     causal_graph graph = {0};
@@ -139,6 +187,7 @@ int main(void) {
     names();
     statuses();
     explained();
+    explained_more();
     kept();
     threads();
     puts("edges: all hold");
