@@ -36,7 +36,7 @@ export async function load(bytes) {
     /** Runs a command line of the program `causal`. */
     run: (words, inputs, room) => ask("causal_run", words, inputs, room),
 
-    /** Tells what a certificate's steps make: the words are `steps`, a file and a certificate. */
+    /** Explains: the words are `steps`, `rule` or `adjust` with what include/causal.h lists. */
     explain: (words, inputs, room) => ask("causal_explain", words, inputs, room),
   };
 }

@@ -1,20 +1,41 @@
-// What the page shows beside the program's own text: the steps of a derivation, and the edges that a rule's graph
-// lacks. What the module tells is taken from it; what it doesn't tell comes from the one file that rebuilds it.
-import { CERTIFICATE, DIAGRAM } from "./names.js";
-import { derivationOf } from "./rebuilt.js";
+// What the program explains beside its answers, by the call causal_explain: the steps of a derivation with the graphs of
+// its rules, the graph in which a rule is asked, and an adjustment formula in LaTeX. Nothing of it is made here.
+import { CERTIFICATE, DIAGRAM, EXPLAIN } from "./names.js";
+import { keyOf } from "./diagram/geometry.js";
 import { readSteps } from "./steps.js";
+import { readGraph } from "./text/printed.js";
 
-export { cutOf } from "./rebuilt.js";
+/** @typedef {import("./cards/parts.js").Context} Context */
+/** @typedef {import("./text/printed.js").Graph} Graph  @typedef {import("./text/printed.js").Edge} Edge */
 
-/** The call that tells the expression after each step of a certificate; a module may lack it. */
-export const STEPS = ["steps", DIAGRAM, CERTIFICATE];
+/** The question for the steps of the certificate. */
+const STEPS = [EXPLAIN, "steps", DIAGRAM, CERTIFICATE, "--graphs"];
+const PROJECTED = ["graph", DIAGRAM, "--project"];
 
-/**
- * The derivation of a certificate.
- * @param {import("./cards/parts.js").Context} ctx @param {string} certificate
- */
-export async function explained(ctx, certificate) {
+/** The derivation of a certificate, or null where the program tells none. @param {Context} ctx @param {string} certificate */
+export async function derivationOf(ctx, certificate) {
   ctx.put(CERTIFICATE, certificate);
   const told = await ctx.ask(STEPS);
-  return told.status === 0 ? readSteps(told.out, certificate) : derivationOf(certificate, ctx.observed);
+  return told.status === 0 ? readSteps(told.out, certificate) : null;
+}
+
+/**
+ * The graph in which a rule is asked, or null where the rule's words are refused.
+ * @param {Context} ctx @param {string[]} words those of the command `rule` @returns {Promise<Graph | null>}
+ */
+export async function ruleGraph(ctx, words) {
+  const told = await ctx.ask([EXPLAIN, ...words]);
+  return told.status === 0 ? readGraph(told.out) : null;
+}
+
+/** The edges of the observed diagram that another printed graph lacks. @returns {Promise<Edge[]>} */
+export async function lostEdges(ctx, /** @type {Graph} */ graph) {
+  const left = new Set(graph.edges.map(keyOf)), { out } = await ctx.ask(PROJECTED);
+  return readGraph(out).edges.filter((edge) => !left.has(keyOf(edge)));
+}
+
+/** The lines of an adjustment formula in LaTeX. @param {string[]} words those of `adjust` with a set */
+export async function adjustmentLatex(ctx, words) {
+  const told = await ctx.ask([EXPLAIN, ...words]);
+  return told.out.trimEnd().split("\n").filter((line) => !line.startsWith("free "));
 }

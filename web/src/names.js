@@ -2,3 +2,6 @@
 export const DIAGRAM = "diagram.dag";
 export const SECOND = "second.dag";
 export const CERTIFICATE = "certificate.json";
+
+/** The first word of a question to the call that explains; the others go to the call that runs a command. */
+export const EXPLAIN = "explain";

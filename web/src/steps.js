@@ -1,12 +1,14 @@
-// The steps of a derivation, as they are shown.
+// The steps of a derivation, as the program tells them.
 import { latex, parse, partAt } from "./expression.js";
+import { readGraph, readSet } from "./text/printed.js";
 
 /**
  * @typedef {import("./expression.js").Expr} Expr  @typedef {import("./expression.js").Term} Term
  * @typedef {{n: 1 | 2 | 3, y: string[], z: string[], doing: string[], given: string[]}} Rule
  * @typedef {{word: string, arg: any, path: number[]}} Move a step at its place, as a certificate has it
  * @typedef {{number: number, word: string, set: string[], part: number | null, before: string, after: string,
- *   whole: string | null, rule: Rule | null}} Step its expressions in LaTeX; `whole` where it has more than `after`
+ *   whole: string | null, rule: Rule | null, graph: import("./text/printed.js").Graph | null}} Step its expressions in
+ *   LaTeX, `whole` where it has more than `after`; and the rule for which it asks, with the graph in which it is asked
  * @typedef {{lemma: number | null, start: string, steps: Step[]}} Derived
  */
 
@@ -16,46 +18,57 @@ export function movesOf([word, arg, inner], path = []) {
   return word === "at" ? movesOf(inner, [...path, arg]) : [{ word, arg, path }];
 }
 
-/** What is shown of a move. @param {Move} move @param {Expr} before @param {Expr} after @param {Expr} whole */
-export function stepOf({ word, arg, path }, number, before, after, whole) {
-  return {
-    number, word, set: Array.isArray(arg) ? arg : [], part: word === "cite" ? arg : null, before: latex(before),
-    after: latex(after), whole: path.length ? latex(whole) : null, rule: ruleOf(word, arg, before),
-  };
-}
+const QUESTION = /^rule ([123]) y (\{.*\}) z (\{.*\}) do (\{.*\}) given (\{.*\})$/;
 
-/** The rule for which a move asks, on the term that it begins with. @returns {Rule | null} */
-function ruleOf(word, z, /** @type {Term} */ { of, doing, given }) {
-  const minus = (list) => list.filter((name) => !z.includes(name));
-  const rule = (n, d, g) => ({ n, y: of, z, doing: d, given: g });
-  switch (word) {
-    case "rule1in": return rule(1, doing, given);
-    case "rule1out": return rule(1, doing, minus(given));
-    case "rule2see": return rule(2, minus(doing), given);
-    case "rule2do": return rule(2, doing, minus(given));
-    case "rule3in": return rule(3, doing, given);
-    case "rule3out": return rule(3, minus(doing), given);
-    default: return null;
+/** Goes through the lines of what is told. */
+class Lines {
+  #at = 0;
+
+  constructor(text) {
+    this.list = text.trimEnd().split("\n");
+  }
+
+  next() {
+    return this.list[this.#at++];
+  }
+
+  /** The rule for which the last move asked, with its graph; nothing where it asked for none. */
+  rule() {
+    const m = QUESTION.exec(this.list[this.#at] ?? "");
+    if (!m) return { rule: null, graph: null };
+    const start = ++this.#at;
+    while (this.next() !== "}");
+    const [y, z, doing, given] = m.slice(2).map(readSet);
+    return { rule: { n: Number(m[1]), y, z, doing, given }, graph: readGraph(this.list.slice(start, this.#at).join("\n")) };
   }
 }
 
 /**
- * Reads what the module tells of a certificate's steps: for each lemma and for main a heading, the expression that it
- * starts from, and the whole expression after each move.
+ * Reads what the program tells of a certificate's steps: for each lemma and for main a heading, the expression that it
+ * starts from, and of each move the whole expression after it, and the rule for which it asks with that rule's graph.
+ * The certificate has the place of each move, so that the part that it changes can be shown.
  * @param {string} told @param {string} certificate @returns {Derived[]}
  */
 export function readSteps(told, certificate) {
-  const { lemmas, main } = JSON.parse(certificate), lines = told.trimEnd().split("\n");
+  const { lemmas, main } = JSON.parse(certificate), lines = new Lines(told);
   const plans = [...lemmas.map(([, step]) => step), main].map((step) => movesOf(step));
-  let at = 0;
   return plans.map((moves, k) => {
-    const start = lines[at + 1], wholes = lines.slice(at + 1, at + 2 + moves.length).map(expressionOf);
-    at += 2 + moves.length;
-    const steps = moves.map((move, i) =>
-      stepOf(move, i + 1, partAt(wholes[i], move.path), partAt(wholes[i + 1], move.path), wholes[i + 1]));
-    return { lemma: k < lemmas.length ? k : null, start: latex(parse(start)), steps };
+    lines.next();
+    let whole = parse(lines.next());
+    const start = latex(whole), steps = moves.map((move, i) => {
+      const line = lines.next(), after = parse(line.slice(line.indexOf(": ") + 2));
+      const step = stepOf(move, i + 1, whole, after);
+      whole = after;
+      return { ...step, ...lines.rule() };
+    });
+    return { lemma: k < lemmas.length ? k : null, start, steps };
   });
 }
 
-/** The expression of a line such as `widen: sum{M} P(Y,M|do(X))`; the first line of a part has no word. */
-const expressionOf = (line, i) => parse(i ? line.slice(line.indexOf(": ") + 2) : line);
+/** What is shown of a move, by the whole expressions before and after it. @param {Move} move */
+function stepOf({ word, arg, path }, number, before, after) {
+  return {
+    number, word, set: Array.isArray(arg) ? arg : [], part: word === "cite" ? arg : null,
+    before: latex(partAt(before, path)), after: latex(partAt(after, path)), whole: path.length ? latex(after) : null,
+  };
+}

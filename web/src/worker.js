@@ -1,9 +1,10 @@
 // Holds the proved program, away from the page. Messages to it:
 //   {packed}                 the module, gzip in base64; comes first
 //   {name, text}             a file that later questions may name; text is null where it goes
-//   {id, text, questions}    lists of words about diagram.dag with this text; answered by {id, answers}
+//   {id, text, questions}    lists of words about diagram.dag with this text, those of the call that explains behind the
+//                            word `explain`; answered by {id, answers}
 import { load } from "./causal.mjs";
-import { DIAGRAM } from "./names.js";
+import { DIAGRAM, EXPLAIN } from "./names.js";
 
 const files = new Map();
 let causal;
@@ -18,9 +19,10 @@ async function unpack(packed) {
 function answer(program, words, text) {
   const named = words.filter((word) => files.has(word));
   const inputs = { ...Object.fromEntries(named.map((name) => [name, files.get(name)])), [DIAGRAM]: text };
-  const start = performance.now(), call = words[0] === "steps" ? program.explain : program.run;
+  const start = performance.now(), explains = words[0] === EXPLAIN;
   try {
-    return { ...call(words, inputs), ms: performance.now() - start };
+    const said = explains ? program.explain(words.slice(1), inputs) : program.run(words, inputs);
+    return { ...said, ms: performance.now() - start };
   } catch (e) {
     return { status: -1, out: "", err: `causal: the module stopped: ${e.message}`, ms: 0 };
   }

@@ -21,6 +21,7 @@ EXAMPLES = TOP / "examples"
 NAPKIN_CSV = browser.WEB / "tests/napkin.csv"
 MARKED = """return [...document.querySelectorAll('#drawing .vertex')].filter((v) => v.classList.contains(arguments[0]))
     .map((v) => v.querySelector('text').textContent)"""
+CUT = "return [...document.querySelectorAll('#drawing .edge.cut')].map((e) => e.dataset.edge)"
 
 
 class Session:
@@ -69,6 +70,10 @@ class Session:
 
     def names(self):
         return [el.text for el in self.all("#drawing .vertex text")]
+
+    def cut(self):
+        """The edges that the drawing shows as taken away."""
+        return self.run(CUT)
 
     # What is done
 
@@ -174,6 +179,8 @@ def chooses_sets(s):
     s.soon("escape ends it", lambda: s.one("#hint").text == "", lambda: s.one("#hint").text)
     s.tab("rules")
     s.check("a rule", s.printed().startswith("rule 2"), s.printed())
+    s.check("its graph is drawn", s.cut() == ["X→Y"], s.cut())
+    s.check("and told", "without X → Y" in s.panel(), s.panel())
     s.example("hidden_cause")
     s.tab("separation")
     s.check("a path through a hidden vertex", "smoking -> tar -> cancer" in s.panel() or "<->" in s.panel(), s.panel())
@@ -254,6 +261,12 @@ def saves_a_certificate(s):
         s.run("arguments[0].scrollIntoView()", item)
         time.sleep(0.05)
     s.soon("each rule holds", lambda: s.run(asked) == [6, 0, 6], lambda: s.run(asked))
+    s.run("arguments[0].focus()", s.all("#panel .steps .asks")[0])
+    s.soon("a rule's graph is drawn", lambda: s.cut(), s.cut)
+    lost = s.one("#panel .steps .asked").text.split(" without ")[1].rstrip(".")
+    s.check("and its edges are told", sorted(lost.replace(" ", "").split(",")) == sorted(s.cut()), (lost, s.cut()))
+    s.run("document.activeElement.blur()")
+    s.soon("and goes", lambda: not s.cut(), s.cut)
     s.run("document.getElementById('check').scrollIntoView()")
     s.one("#check").click()
     s.soon("check accepts", lambda: "accepted" in s.one(".checked").text, lambda: s.one(".checked").text)
@@ -295,6 +308,8 @@ def adjusts_and_compares(s):
     s.tab("adjustment")
     s.check("the sets", [c.text for c in s.all("#panel .chip")] == ["S"], [c.text for c in s.all("#panel .chip")])
     s.check("the formula", "sum{S} P(S) * P(R|" in s.printed(1), s.printed(1))
+    s.check("in the program's LaTeX", s.all("#panel .formula .mop") and s.one("#panel .formula [role=math]").get_attribute(
+        "aria-label") == s.printed(1).split("\n")[1], s.printed(1))
     s.one("button[data-key='take']").click()
     s.soon("the set is marked", lambda: "S [adjusted" in s.text(), s.text)
     s.soon("and admissible", lambda: "Admissible" in s.panel(), s.panel)

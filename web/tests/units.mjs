@@ -7,7 +7,7 @@ import { routed } from "../src/diagram/route.js";
 import { placesOf, readFault } from "../src/faults.js";
 import { annotate, annotatePieces } from "../src/latex.js";
 import { equationLatex, latex, parse } from "../src/expression.js";
-import { derivationOf, follow } from "../src/rebuilt.js";
+import { keyOf } from "../src/diagram/geometry.js";
 import { readSteps } from "../src/steps.js";
 import { levelsOf, readRows } from "../src/text/csv.js";
 import * as edit from "../src/text/edit.js";
@@ -57,9 +57,9 @@ function randomAttributes() {
   return random(3) ? "" : ' [pos=-1 , foo="b]r"]';
 }
 
-/** The graph of a changed text, by the program; its line where it's refused. */
-function graphOf(text) {
-  const answer = run(["graph", "g"], text);
+/** The graph of a text, by the program; its line where it's refused. */
+function graphOf(text, ...flags) {
+  const answer = run(["graph", "g", ...flags], text);
   return answer.status ? answer.err : readGraph(answer.out);
 }
 
@@ -104,57 +104,59 @@ function turned(edge, { vertices }) {
 }
 
 const plain = (e) => JSON.parse(JSON.stringify(e));
+const listed = (names) => listWord(names);
 
-/** An expression as the program prints it. */
-function printed(e) {
-  const names = (list) => list.map((n) => (/[\s{}[\]";=,<>\-@()|*/]|^#/.test(n) ? `"${n}"` : n)).join(",");
-  const wrap = (x) => (x.k === "P" || x.k === "q" ? printed(x) : `(${printed(x)})`);
-  if (e.k === "q") return `q${e.n}`;
-  if (e.k === "sum") return `sum{${names(e.over)}} ${printed(e.body)}`;
-  if (e.k !== "P") return e.list.map(wrap).join(e.k === "mul" ? " * " : " / ");
-  const given = [...(e.doing.length ? [`do(${names(e.doing)})`] : []), ...(e.given.length ? [names(e.given)] : [])];
-  return `P(${names(e.of)}${given.length ? `|${given.join(",")}` : ""})`;
+/** The words of a rule, behind the program's name for it. */
+const ruleWords = ({ n, y, z, doing, given }) => ["rule", "g", "--rule", String(n), "--y", listed(y), "--z", listed(z),
+  "--do", listed(doing), "--given", listed(given)];
+
+/**
+ * The edges of a rule's graph, by the textbook: without those into what is set, and those out of z (rule 2) or into z
+ * (rule 3, where nothing is observed; else a member of z keeps them where it is an ancestor of what is observed).
+ */
+function expectedEdges({ edges }, { n, z, doing, given }) {
+  if (n === 3 && given.length) return null;
+  const into = n === 3 ? [...doing, ...z] : doing;
+  const isCut = ({ a, b, both }) => into.includes(b) || (both && into.includes(a)) || (n === 2 && !both && z.includes(a));
+  return edges.filter((e) => !isCut(e)).map(keyOf);
 }
 
-/** What the module tells of a part of a derivation, rebuilt. */
-const told = (heading, { wholes, derived }) =>
-  [heading, ...wholes.map((e, i) => (i ? `${derived.steps[i - 1].word}: ` : "") + printed(e))].join("\n");
+function testRule(text, rule, graph) {
+  const words = ruleWords(rule), holds = run(words, text), drawn = causal.explain(words, { g: text });
+  same("a rule holds", holds.status, 0, holds.out + holds.err + text);
+  same("its graph is told alone too", drawn.status === 0 && readGraph(drawn.out), graph, drawn.out + drawn.err);
+  const whole = graphOf(text, "--project"), wanted = expectedEdges(whole, rule);
+  if (wanted) same("its edges", graph.edges.map(keyOf), wanted, text + JSON.stringify(rule));
+  same("its vertices", graph.vertices.map((v) => v.name), whole.vertices.map((v) => v.name), text);
+}
 
-function testDerivation(text, words, order) {
-  const certificate = run([...words, "--certificate"], text).out;
-  const { x, y, given, main, lemmas, formula, defs } = JSON.parse(certificate);
-  const term = (of, doing, given = []) => ({ k: "P", of, doing, given });
-  const parts = lemmas.map(([set, step], i) => {
-    const part = follow(term(set, order.filter((o) => !set.includes(o))), step, order, i);
-    same("a part", plain(part.wholes.at(-1)), plain(parse(defs[i])), text);
-    return told(`lemma ${i}`, part);
-  });
-  const last = follow(term(y, x, given), main, order), end = last.wholes.at(-1);
-  same("the last expression", plain(end), plain(parse(formula)), text);
-  const all = `${[...parts, told("main", last)].join("\n")}\n`, derived = derivationOf(certificate, order);
-  same("what is told is read", readSteps(all, certificate), derived, all);
-  const answer = causal.explain(["steps", "g", "c"], { g: text, c: certificate });
-  if (answer.status !== 2) same("what is told is what was rebuilt", answer.out, all, text);
-  for (const { rule } of derived.flatMap((part) => part.steps)) {
-    if (!rule) continue;
-    const holds = run(["rule", "g", "--rule", String(rule.n), "--y", listWord(rule.y), "--z", listWord(rule.z),
-      "--do", listWord(rule.doing), "--given", listWord(rule.given)], text);
-    same("a rule holds", holds.status, 0, holds.out + holds.err + text);
-  }
+function testDerivation(text, words) {
+  const certificate = run([...words, "--certificate"], text).out, { formula, defs } = JSON.parse(certificate);
+  const [brief, told] = [[], ["--graphs"]].map((more) => causal.explain(["steps", "g", "c", ...more], { g: text, c: certificate }));
+  same("steps are told", [brief.status, told.status], [0, 0], brief.err + told.err + text);
+  const derived = readSteps(told.out, certificate), without = readSteps(brief.out, certificate);
+  const bare = (part) => ({ ...part, steps: part.steps.map((step) => ({ ...step, rule: null, graph: null })) });
+  same("the same without graphs", without, derived.map(bare), text);
+  const ends = derived.map(({ start, steps }) => steps.reduce((end, step) => step.whole ?? step.after, start));
+  same("the last expressions", ends, [...defs, formula].map((printed) => latex(parse(printed))), text);
+  for (const { rule, graph } of derived.flatMap((part) => part.steps)) if (rule) testRule(text, rule, graph);
   const lines = run([...words, "--latex"], text).out.trim().split("\n").filter((line) => !line.startsWith("free"));
   for (const line of lines) {
-    let error = "";
-    try {
-      const right = line.slice(line.indexOf(" = ") + 3);
-      for (const tex of [annotate(line), ...annotatePieces(right)]) {
-        katex.renderToString(tex, { trust: true, strict: "ignore" });
-      }
-    } catch (e) {
-      error = e.message;
-    }
-    same("typesetting", error, "", line);
+    const right = line.slice(line.indexOf(" = ") + 3);
+    for (const tex of [annotate(line), ...annotatePieces(right)]) typesets(tex, line);
   }
-  same("LaTeX", lines[0].slice(lines[0].indexOf(" = ") + 3), latex(end), text);
+  same("LaTeX", lines[0].slice(lines[0].indexOf(" = ") + 3), ends.at(-1), text);
+}
+
+/** That KaTeX takes this. */
+function typesets(tex, about) {
+  let error = "";
+  try {
+    katex.renderToString(tex, { trust: true, strict: "ignore" });
+  } catch (e) {
+    error = e.message;
+  }
+  same("typesetting", error, "", about);
 }
 
 function testAnswers(text, graph) {
@@ -163,7 +165,7 @@ function testAnswers(text, graph) {
   const [x, y] = shuffled(order), sets = ["--x", listWord([x]), "--y", listWord([y])];
   const identified = run(["identify", "g", ...sets], text);
   same("identify", identified.status < 2, true, identified.err);
-  if (identified.status === 0) testDerivation(text, ["identify", "g", ...sets], order);
+  if (identified.status === 0) testDerivation(text, ["identify", "g", ...sets]);
   if (KNOWN.given) testCondition(text, order, x, y);
   if (KNOWN.implications) testImplications(text, order);
   if (KNOWN.surrogate) testSurrogate(text, order, sets, identified);
@@ -171,9 +173,23 @@ function testAnswers(text, graph) {
   if (separated.status === 1) testPath(openPath(separated.out), x, y, graph, text);
   const adjusted = run(["adjust", "g", ...sets], text).out.split("\n").filter((line) => line.startsWith("{"));
   for (const set of adjusted) {
-    const answer = run(["adjust", "g", ...sets, "--set", listWord(readSet(set))], text);
-    same("a minimal set", answer.status, 0, text + set);
-    katex.renderToString(annotate(equationLatex(answer.out.split("\n")[1])), { trust: true, strict: "ignore" });
+    const words = ["adjust", "g", ...sets, "--set", listWord(readSet(set))], answer = run(words, text);
+    const told = causal.explain(words, { g: text }), [, printed] = answer.out.split("\n"), [tex] = told.out.split("\n");
+    same("a minimal set", [answer.status, told.status], [0, 0], text + set + told.err);
+    same("its formula in LaTeX", tex, equationLatex(printed), text + set);
+    typesets(annotate(tex), tex);
+  }
+  testOtherSet(text, order, sets, [x, y]);
+}
+
+/** A set that need not be admissible, by both criteria: both calls agree. */
+function testOtherSet(text, order, sets, [x, y]) {
+  const set = shuffled(order).filter((name) => name !== x && name !== y).slice(0, 2);
+  for (const more of [[], ["--back-door"]]) {
+    const words = ["adjust", "g", ...sets, "--set", listWord(set), ...more];
+    const said = run(words, text), told = causal.explain(words, { g: text });
+    same("any set", told.status, said.status, said.out + told.err + text);
+    if (told.status === 1) same("no formula", told.out, "not admissible\n", text);
   }
 }
 
@@ -190,7 +206,7 @@ function testCondition(text, order, x, y) {
   const words = ["identify", "g", "--x", listWord([x]), "--y", listWord([y]), "--given", listWord([z])];
   const said = run(words, text);
   same("a condition", said.status < 2, true, said.err + text);
-  if (said.status === 0) testDerivation(text, words, order);
+  if (said.status === 0) testDerivation(text, words);
   if (said.status === 1) same("what was asked", Boolean(readHedge(said.out).asked), true, said.out);
 }
 

@@ -1,5 +1,5 @@
 import { button, h } from "../dom.js";
-import { equationLatex } from "../expression.js";
+import { adjustmentLatex } from "../explain.js";
 import { readFault } from "../faults.js";
 import { DIAGRAM } from "../names.js";
 import { listWord, openPath, readSet } from "../text/printed.js";
@@ -16,9 +16,10 @@ async function answer(ctx) {
   const lines = said.out.trimEnd().split("\n"), sets = lines.filter((line) => line.startsWith("{"));
   if (!sets.includes(memory.set)) memory.set = sets[0] ?? null;
   const chosen = memory.set && [...LIST, "--set", listWord(readSet(memory.set))];
+  const [formula, tex] = chosen ? await Promise.all([ctx.ask(chosen), adjustmentLatex(ctx, chosen)]) : [null, []];
   const found = {
-    ctx, said, sets, hasMore: lines.includes("more"), adjusted, test, tested,
-    chosen, formula: chosen && (await ctx.ask(chosen)), path: openPath(tested.out),
+    ctx, said, sets, hasMore: lines.includes("more"), adjusted, test, tested, chosen, formula, tex,
+    path: openPath(tested.out),
     forbidden: tested.out.match(/^forbidden: (.*)$/m)?.[1],
   };
   const isTestFirst = !sets.length || (adjusted.length && tested.status === 1);
@@ -38,11 +39,11 @@ function testMarks({ path, forbidden, adjusted }) {
 }
 
 function view(found, isOnTest) {
-  const { said, chosen, formula } = found;
+  const { said, chosen, formula, tex } = found;
   return h("div", {},
     setsVerdict(found), chips(found),
     source(LIST, said.out),
-    formula && formulaBox([equationLatex(formula.out.split("\n")[1])], formula.out),
+    formula && formulaBox(tex, formula.out),
     formula && source(chosen, formula.out),
     h("h3", {}, "The set that is marked adjusted"),
     tested(found, isOnTest));

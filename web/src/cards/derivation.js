@@ -1,5 +1,5 @@
 import { h } from "../dom.js";
-import { cutOf, explained } from "../explain.js";
+import { derivationOf, lostEdges } from "../explain.js";
 import { typesetWhenSeen } from "../formula.js";
 import { DIAGRAM } from "../names.js";
 import { whenSeen } from "../seen.js";
@@ -12,7 +12,9 @@ import { commandOf, fold, listed } from "./parts.js";
 export function derivation(ctx, asked) {
   const box = h("div", {}, "…");
   ctx.ask([...asked, "--certificate"]).then(async ({ out }) => {
-    const parts = await explained(ctx, out), isOne = parts.length === 1;
+    const parts = await derivationOf(ctx, out);
+    if (!parts) return box.replaceChildren("The program tells no steps of this certificate.");
+    const isOne = parts.length === 1;
     box.replaceChildren(...parts.flatMap((part) => [
       ...(isOne ? [] : [h("h4", {}, part.lemma === null ? "The effect" : ["Part ", shown(`q_{${part.lemma}}`)])]),
       h("ol", { class: "steps" }, h("li", { class: "start" }, shown(part.start)),
@@ -42,24 +44,33 @@ function stepItem(ctx, step, lemma) {
 
 /** A step by a rule: the rule's graph is drawn while it has the pointer or the focus. */
 function asksRule(ctx, step, parts) {
-  const { number, rule } = step, asked = h("div", { class: "asked" });
-  const show = () => ctx.mark(ruleMarks(rule)), hide = () => ctx.mark();
-  whenSeen(asked, () => askRule(ctx, rule, asked));
+  const { number, rule, graph } = step, asked = h("div", { class: "asked" });
+  const show = () => ctx.mark(ruleMarks(rule, graph)), hide = () => ctx.mark();
+  whenSeen(asked, () => askRule(ctx, step, asked));
   return h("div", {
     class: "asks", tabindex: 0, role: "group", "aria-label": `Step ${number}: ${inWords(step)}`,
     onpointerenter: show, onfocus: show, onpointerleave: hide, onblur: hide,
   }, parts, asked);
 }
 
-async function askRule(ctx, rule, box) {
-  const words = ruleWords(rule), answer = await ctx.ask(words), holds = answer.status === 0;
-  const seen = [...rule.doing, ...rule.given];
+async function askRule(ctx, { rule, graph }, box) {
+  const words = ruleWords(rule), [answer, lost] = await Promise.all([ctx.ask(words), lostEdges(ctx, graph)]);
+  const holds = answer.status === 0, seen = [...rule.doing, ...rule.given];
   box.replaceChildren(
     h("span", { class: holds ? "tick" : "cross" }, holds ? "✓ " : "✗ "),
     h("code", { title: commandOf(words) }, (answer.out + answer.err).trim()),
     ...(holds ? [h("span", {}, ": no open path from ", listed(rule.y), " to ", listed(rule.z),
-      seen.length ? ` given ${seen.join(", ")} ` : " ", cutOf(rule).words, ".")] : []),
+      seen.length ? ` given ${seen.join(", ")} ` : " ", inGraph(lost), ".")] : []),
   );
+}
+
+const MOST_LOST = 6; // edges that are named
+
+/** Where a rule is asked, by the edges that its graph lacks. @param {import("../text/printed.js").Edge[]} lost */
+export function inGraph(lost) {
+  const named = lost.slice(0, MOST_LOST).map(({ a, b, both }) => `${a} ${both ? "↔" : "→"} ${b}`).join(", ");
+  const more = lost.length > MOST_LOST ? ` and ${lost.length - MOST_LOST} more` : "";
+  return lost.length ? `in the diagram without ${named}${more}` : "in the diagram";
 }
 
 /** The command line that asks for a rule. */
@@ -68,13 +79,14 @@ export const ruleWords = ({ n, y, z, doing, given }) => [
   "--given", listWord(given),
 ];
 
-/** The sets of a rule in the drawing, without the edges that the rule takes away. @param {Rule} rule */
-export function ruleMarks(rule) {
-  const { y, z, doing, given } = rule;
+/**
+ * The sets of a rule in the drawing, and the graph in which it is asked.
+ * @param {Rule} rule @param {import("../text/printed.js").Graph | null} graph
+ */
+export function ruleMarks({ y, z, doing, given }, graph) {
   const classes = [[y, "from"], [z, "to"], [[...doing, ...given], "chosen"]];
   return {
-    cut: cutOf(rule).cut,
-    vertices: new Map(classes.flatMap(([names, cls]) => names.map((name) => [name, cls]))),
+    graph, vertices: new Map(classes.flatMap(([names, cls]) => names.map((name) => [name, cls]))),
   };
 }
 

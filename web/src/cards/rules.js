@@ -1,8 +1,8 @@
 import { h } from "../dom.js";
-import { cutOf } from "../explain.js";
+import { lostEdges, ruleGraph } from "../explain.js";
 import { readFault } from "../faults.js";
 import { openPath } from "../text/printed.js";
-import { ruleMarks, ruleWords } from "./derivation.js";
+import { inGraph, ruleMarks, ruleWords } from "./derivation.js";
 import { pathMarks, source, verdict, withRole } from "./parts.js";
 import { chosenSet, howToChoose } from "./sets.js";
 
@@ -17,31 +17,32 @@ async function answer(ctx) {
   const z = chosenSet(ctx, "rule z", "z", withRole(ctx, "exposure"));
   const doing = chosenSet(ctx, "rule do", "do", []), given = chosenSet(ctx, "rule given", "given", []);
   const rule = { n, y: y.names, z: z.names, doing: doing.names, given: given.names };
-  const words = ruleWords(rule), said = await ctx.ask(words), path = openPath(said.out);
+  const words = ruleWords(rule), [said, graph] = await Promise.all([ctx.ask(words), ruleGraph(ctx, words)]);
+  const path = openPath(said.out), where = graph ? inGraph(await lostEdges(ctx, graph)) : "";
   const choose = (e) => {
     ctx.memory.rule = Number(e.target.value);
     ctx.refresh();
   };
   return {
     dot: "",
-    marks: { ...ruleMarks(rule), edges: path ? pathMarks(path) : [] },
+    marks: { ...ruleMarks(rule, graph), edges: path ? pathMarks(path) : [] },
     view: () => h("div", {},
       h("label", { class: "picker" }, h("span", { class: "arm" }, "Rule"),
         h("select", { data: { key: "rule number" }, onchange: choose },
           RULES.map((text, i) => h("option", { value: i + 1, selected: i + 1 === n }, text)))),
       h("div", { class: "pickers" }, [y, z, doing, given].map((set) => set.row())), howToChoose(),
-      judged(said, path, rule), source(words, said.out + said.err)),
+      judged(said, path, where), source(words, said.out + said.err)),
   };
 }
 
-function judged(said, path, rule) {
+function judged(said, path, where) {
   if (said.status > 1 || said.status < 0) return verdict("ask", readFault(said.err).sentence);
   if (said.status === 1) {
-    return verdict("no", "The rule doesn't apply", `This path is open ${cutOf(rule).words}: `, h("code", {}, path));
+    return verdict("no", "The rule doesn't apply", `This path is open ${where}: `, h("code", {}, path));
   }
   const [, equation] = said.out.trim().split(" holds: ");
   return verdict("yes", "The rule applies", h("code", {}, equation ?? said.out.trim()),
-    " in every positive finite model that fits the diagram, at every assignment.");
+    ` in every positive finite model that fits the diagram, at every assignment: no path is open ${where}.`);
 }
 
 /** @type {import("./parts.js").Card} */

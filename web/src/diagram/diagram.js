@@ -9,8 +9,9 @@ import { routed } from "./route.js";
 /** @typedef {import("../text/printed.js").Graph} Graph  @typedef {import("../text/printed.js").Edge} Edge */
 /** @typedef {{x: number, y: number}} Point */
 /**
- * What an answer shows in the drawing: classes of vertices, edges drawn over, and edges that are taken away.
- * @typedef {{vertices?: Map<string, string>, edges?: (Edge & {cls: string})[], cut?: (e: Edge) => boolean}} Marks
+ * What an answer shows in the drawing: classes of vertices, edges drawn over, and another graph on the observed vertices
+ * in the place of the drawn one, whose edges alone are shown.
+ * @typedef {{vertices?: Map<string, string>, edges?: (Edge & {cls: string})[], graph?: Graph | null}} Marks
  */
 /**
  * @typedef {object} Listeners
@@ -21,7 +22,7 @@ import { routed } from "./route.js";
  * @property {(name: string, e: KeyboardEvent) => void} [key]
  */
 
-const HEADS = ["edge", "open", "hedge", "chosen", "difference"];
+const HEADS = ["edge", "open", "hedge", "chosen", "difference", "left"];
 const MOST_ANIMATED = 30;
 const FRAMES_MS = 260;
 
@@ -220,22 +221,26 @@ export class Diagram {
   }
 
   #render() {
-    const marked = (this.marks.edges ?? []).filter((e) => this.places.has(e.a) && this.places.has(e.b));
-    const over = routed(this.graph, marked);
-    this.#renderEdges(new Set(over.map(keyOf)));
+    const { graph, marks, places } = this, isThere = (e) => places.has(e.a) && places.has(e.b);
+    const marked = (marks.edges ?? []).filter(isThere), left = marks.graph?.edges.filter(isThere);
+    const over = left ? [...undrawn(graph, left), ...marked] : routed(graph, marked);
+    this.#renderEdges(new Set(over.map(keyOf)), left && new Set(left.map(keyOf)));
     this.#renderOver(over);
     this.#renderVertices();
   }
 
-  #renderEdges(over) {
-    const { graph, marks, layers } = this, end = `url(#${this.id}-edge)`, seen = new Set();
+  /** @param {Set<string>} over those that are drawn over @param {Set<string>} [left] those that another graph has */
+  #renderEdges(over, left) {
+    const { graph, layers } = this, end = `url(#${this.id}-edge)`, seen = new Set();
     for (const edge of graph.edges) {
       const key = keyOf(edge), path = this.#path(edge);
       seen.add(key);
       const item = getOrMake(this.#shown.edges, key, () => this.#newEdge());
       item.edge = edge;
-      const classes = ["edge", edge.both && "both", over.has(key) && "under", marks.cut?.(edge) && "cut"];
-      this.#set(item.group, { class: classes.filter(Boolean).join(" ") });
+      const classes = ["edge", edge.both && "both", over.has(key) && "under", left && !left.has(key) && "cut"];
+      this.#set(item.group, {
+        class: classes.filter(Boolean).join(" "), "data-edge": `${edge.a}${edge.both ? "↔" : "→"}${edge.b}`,
+      });
       this.#set(item.grip, { d: path });
       this.#set(item.line, { d: path, "marker-end": end, "marker-start": edge.both ? end : null });
       if (!item.group.parentNode) layers.edges.append(item.group);
@@ -265,13 +270,14 @@ export class Diagram {
 
   #renderVertices() {
     const { graph, marks, places, layers } = this, seen = new Set(graph.vertices.map((v) => v.name));
+    const kept = marks.graph && new Set(marks.graph.vertices.map((v) => v.name));
     for (const vertex of graph.vertices) {
       const { name, role } = vertex, p = places.get(name), half = this.#halves.get(name);
       if (!p) continue;
       const item = getOrMake(this.#shown.vertices, name, () => this.#newVertex(name));
       const lead = role === "exposure" || role === "outcome";
       this.#set(item.group, {
-        class: ["vertex", role, marks.vertices?.get(name)].filter(Boolean).join(" "),
+        class: ["vertex", role, marks.vertices?.get(name), kept && !kept.has(name) && "gone"].filter(Boolean).join(" "),
         transform: `translate(${p.x.toFixed(1)},${p.y.toFixed(1)})`,
         "aria-label": describe(vertex, graph, marks.vertices?.get(name)),
       });
@@ -313,6 +319,12 @@ export class Diagram {
     }
     this.#attributes.set(el, { ...had, ...attributes });
   }
+}
+
+/** Edges of another graph that aren't drawn: those that stand for hidden vertices. */
+function undrawn(graph, edges) {
+  const drawn = new Set(graph.edges.map(keyOf));
+  return edges.filter((e) => !drawn.has(keyOf(e))).map((e) => ({ ...e, cls: "left" }));
 }
 
 const MARKS = { exposure: "M0,-5.5L9,0L0,5.5z", outcome: "M1,-5.5h2.6v11h-2.6z" };
