@@ -1,2 +1,5 @@
 mod Telling
-mod ThreeWords
+mod Readable
+mod OneKind
+mod Spoken
+mod BackDoors

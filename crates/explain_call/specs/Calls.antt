@@ -26,7 +26,7 @@ answer_of NoMemory = []
 -- what is written as a line
 abbrev pub line_of : Ending → List ℕ
 line_of (Replied r) = if nat_le (outcomes.code_of r.outcome) 1 then [] else r.text.items
-line_of NotUnderstood = codes "causal: words: steps FILE CERTIFICATE\n"
+line_of NotUnderstood = codes "causal: words: steps, rule or adjust\n"
 line_of NoInput = codes "causal: read failed\n"
 line_of NoMemory = codes "causal: no memory\n"
 

@@ -1,4 +1,8 @@
+pub mod Requests
+pub mod Steps
+pub mod Told
+pub mod RuleGraphs
+pub mod Formulas
 pub mod Answers
 pub mod Ends
-pub mod Told
 pub mod Calls

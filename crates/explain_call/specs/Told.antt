@@ -1,5 +1,5 @@
 -- What is told of a derivation.
-use Rattle.std.specs.Prelude.{ℕ, ◌≡◌, List, codes}
+use Rattle.std.specs.Prelude.{ℕ, ◌≡◌, Bool, List, codes}
 use Rattle.mixed_graph.specs.Graphs.{MixedGraph}
 use Rattle.prob_expr.specs.Tree.{PlainTarget}
 use Rattle.do_derivation.specs.Plans.{PlainDerivation}
@@ -9,7 +9,7 @@ use Rattle.replies.specs.declared.outcome.Outcome.TheVariants.{Yes, No}
 use Rattle.explaining.specs.Parts.{Explains, DerivationStops}
 
 -- yes with its text, or no where a move is refused
-abbrev pub TellsSteps : MixedGraph → List (List ℕ) → PlainTarget → PlainDerivation → Outcome → List ℕ → Type 0
-TellsSteps q names t d Yes text = Explains q names t d text
-TellsSteps q names t d No text = ((why : ApplyFault) × DerivationStops q t d why) × (text ≡ codes "refused\n")
-TellsSteps q names t d o text = ⊥
+abbrev pub TellsSteps : Bool → MixedGraph → List (List ℕ) → PlainTarget → PlainDerivation → Outcome → List ℕ → Type 0
+TellsSteps graphs q names t d Yes text = Explains graphs q names t d text
+TellsSteps graphs q names t d No text = ((why : ApplyFault) × DerivationStops q t d why) × (text ≡ codes "refused\n")
+TellsSteps graphs q names t d o text = ⊥

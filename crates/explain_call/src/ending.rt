@@ -1,10 +1,12 @@
-ghost use Rattle.std.specs.Prelude.{◌≡◌, ◌≤◌, ◌∷◌, [], None, codes, string_bytes, IsNone, IfSome, map};
-ghost use Rattle.word_forms.specs.Form.{Text};
+ghost use Rattle.std.specs.Prelude.{◌≡◌, ◌≤◌, IsNone, IfSome};
 ghost use Rattle.word_forms.specs.Views.{texts_of};
-ghost use Rattle.explain_call.specs.Ends.{AskSteps, Ends};
+ghost use Rattle.explain_call.specs.Requests.{request_of, second_of};
+ghost use Rattle.explain_call.specs.Ends.{HoldsSecond, LacksSecond, Ends};
 
 use crate::reply::file_reply;
+use crate::requests::{Request, read_request};
 use replies::Reply;
+use request_values::RequestFault;
 use spans::{Input, content_named};
 use std::alloc::Global;
 
@@ -65,51 +67,44 @@ impl Ending {
                     reply.text.as_slice()
                 }
             }
-            Ending::NotUnderstood => b"causal: words: steps FILE CERTIFICATE\n",
+            Ending::NotUnderstood => b"causal: words: steps, rule or adjust\n",
             Ending::NoInput => b"causal: read failed\n",
             Ending::NoMemory => b"causal: no memory\n",
         }
     }
 }
 
-/// The names of a file and of a certificate.
-#[derive(Clone, Copy)]
-struct Asked<'a> {
-    file: &'a str,
-    certificate: &'a str,
-}
-
-/// What the words ask for.
-fn read_words(words: &[String]) -> Option<Asked<'_>>
-    ensures asks { IfSome result (λ a. AskSteps (texts_of words.now) a.file.now a.certificate.now) }
-    ensures none { IsNone result → (file certificate : Text) → AskSteps (texts_of words.now) file certificate → ⊥ }
+/// What the second input of a request holds; nothing where it has none.
+fn second_content<'a>(
+    bytes: &'a [u8],
+    inputs: &[Input],
+    request: &Request<'_>,
+) -> Option<&'a [u8]>
+    ensures holds { IfSome result (λ c. HoldsSecond bytes.now inputs.now (second_of (request_of request.now)) c.now) }
+    ensures lacks { IsNone result → LacksSecond bytes.now inputs.now (second_of (request_of request.now)) }
 {
-    let [command, file, certificate] = words else {
-        return None;
-    };
-    if command.as_str() != "steps" {
-        return None;
+    match request.second() {
+        None => Some(&[]),
+        Some(name) => content_named(bytes, inputs, name),
     }
-    Some(Asked {
-        file: file.as_str(),
-        certificate: certificate.as_str(),
-    })
 }
 
 /// Answers the words on the inputs, of which the first of a name counts.
 pub fn respond(alloc: Global, bytes: &[u8], words: &[String], inputs: &[Input]) -> Ending
     ensures { Ends bytes.now (texts_of words.now) inputs.now result }
 {
-    let Some(asked) = read_words(words) else {
-        return Ending::NotUnderstood;
+    let request = match read_request(alloc, words) {
+        Ok(request) => request,
+        Err(RequestFault::NotUnderstood) => return Ending::NotUnderstood,
+        Err(RequestFault::NoMemory) => return Ending::NoMemory,
     };
-    let Some(file) = content_named(bytes, inputs, asked.file) else {
+    let Some(file) = content_named(bytes, inputs, request.file()) else {
         return Ending::NoInput;
     };
-    let Some(certificate) = content_named(bytes, inputs, asked.certificate) else {
+    let Some(second) = second_content(bytes, inputs, &request) else {
         return Ending::NoInput;
     };
-    match file_reply(alloc, file, certificate) {
+    match file_reply(alloc, request, file, second) {
         Ok(reply) => Ending::Replied(reply),
         Err(_) => Ending::NoMemory,
     }

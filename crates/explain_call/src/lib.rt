@@ -1,4 +1,5 @@
-//! The steps of a certificate's derivation, for callers that are no Rattle code.
+//! Answers explained, for callers that are no Rattle code: the steps of a certificate's derivation with the graphs of its rules, the graph in
+//! which a rule is asked, and an adjustment formula in LaTeX.
 #![tactic(auto)]
 
 ghost use Rattle.std.specs.Prelude.{◌≡◌, ◌≤◌};
@@ -6,15 +7,19 @@ ghost use Rattle.spans.specs.Words.{AreTexts, IsNoText};
 ghost use Rattle.explain_call.specs.Calls.{Explained};
 
 mod ending;
+mod formulas;
 mod reply;
+mod requests;
+mod rule_graphs;
+mod steps;
 
 pub use ending::{Ending, respond};
-pub use reply::{file_reply, steps_reply};
+pub use requests::{Kind, FormulaRequest, Request, StepsRequest};
 use span_call::{NO_WORDS, NOT_TEXT, Sizes, show};
 use spans::{Input, Span, WordsFault, words_in};
 use std::alloc::Global;
 
-/// Answers the words `steps FILE CERTIFICATE` over the inputs, which are parts of `bytes`, shows what was written, and gives the status.
+/// Answers words of the table of requests over the inputs, which are parts of `bytes`, shows what was written, and gives the status.
 pub fn explain_spans(
     alloc: Global,
     bytes: &[u8],

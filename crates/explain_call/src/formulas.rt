@@ -1,0 +1,117 @@
+ghost use Rattle.std.specs.Prelude.{ℕ, ◌≡◌, ◌<◌, IfOk, length, option_map};
+ghost use Rattle.mixed_graph.specs.Bits.{has};
+ghost use Rattle.mixed_graph.specs.Names.{texts};
+ghost use Rattle.mixed_graph.specs.Shown.{graph_of};
+ghost use Rattle.do_rules.specs.Rules.{AreThreeSets};
+ghost use Rattle.word_lists.specs.Views.{names_in};
+ghost use Rattle.explain_call.specs.Formulas.{formula_latex, SetFormula, BackDoorFormula, FormulaFor, FormulaAnswer};
+
+use adjustment::{adjusts, back_door, formula_for};
+use dag_reader::ReadGraph;
+use identify_text::latex_answer;
+use latent_projection::{Observed, observed};
+use mixed_graph::{Names, VSet};
+use prob_expr::Target;
+use replies::{Outcome, Reply, list_or, refuse};
+use std::alloc::{AllocError, Global};
+use targets::{Sets, TargetFault, find_sets};
+
+/// The adjustment formula of a set in LaTeX, where the set meets one of the two criteria for the effect of x on y, in the observed graph.
+///
+/// A list that is missing is that of the exposures or of the outcomes.
+pub fn formula_reply(
+    alloc: Global,
+    graph: &ReadGraph,
+    x: Option<Vec<Vec<u8>>>,
+    y: Option<Vec<Vec<u8>>>,
+    set: &[Vec<u8>],
+    by_back_door: bool,
+) -> Result<Reply, AllocError>
+    ensures { IfOk result (λ r. FormulaAnswer by_back_door graph.now (option_map names_in x) (option_map names_in y) (texts set.now) r.outcome r.text.items) }
+{
+    let seen = observed(alloc, &graph.names, &graph.graph, graph.latent)?;
+    let x = list_or(alloc, &graph.names, graph.exposures, x)?;
+    let y = list_or(alloc, &graph.names, graph.outcomes, y)?;
+    match find_sets(alloc, &graph.names, &seen.names, &x, &y, set) {
+        Ok(sets) => decide(alloc, &seen, sets, by_back_door),
+        Err(fault) => refuse(alloc, &fault),
+    }
+}
+
+/// The answer for sets of the observed graph.
+fn decide(
+    alloc: Global,
+    seen: &Observed,
+    sets: Sets,
+    by_back_door: bool,
+) -> Result<Reply, AllocError>
+    requires named { length seen.now.names ≡ seen.now.graph.n }
+    requires sets { AreThreeSets seen.now.graph.n (has sets.x.bits) (has sets.y.bits) (has sets.given.bits) }
+    requires some_x { 0 < sets.x.bits }
+    requires some_y { 0 < sets.y.bits }
+    ensures { IfOk result (λ r. FormulaFor by_back_door (graph_of seen.now.graph) seen.now.names sets.x.bits sets.y.bits sets.given.bits r.outcome r.text.items) }
+{
+    if by_back_door {
+        of_back_door_set(alloc, seen, sets)
+    } else {
+        of_set(alloc, seen, sets)
+    }
+}
+
+/// The answer by the adjustment criterion.
+fn of_set(alloc: Global, seen: &Observed, sets: Sets) -> Result<Reply, AllocError>
+    requires named { length seen.now.names ≡ seen.now.graph.n }
+    requires sets { AreThreeSets seen.now.graph.n (has sets.x.bits) (has sets.y.bits) (has sets.given.bits) }
+    requires some { 0 < sets.y.bits }
+    ensures { IfOk result (λ r. SetFormula (graph_of seen.now.graph) seen.now.names sets.x.bits sets.y.bits sets.given.bits r.outcome r.text.items) }
+{
+    match adjusts(&seen.graph, sets.x, sets.y, sets.given) {
+        Ok(()) => Ok(Reply {
+            outcome: Outcome::Yes,
+            text: formula_latex(alloc, &seen.names, sets)?,
+        }),
+        Err(_) => Ok(Reply {
+            outcome: Outcome::No,
+            text: Vec::from_slice(alloc, b"not admissible\n")?,
+        }),
+    }
+}
+
+/// The answer by the back-door criterion, for which the exposures are one vertex.
+fn of_back_door_set(alloc: Global, seen: &Observed, sets: Sets) -> Result<Reply, AllocError>
+    requires named { length seen.now.names ≡ seen.now.graph.n }
+    requires sets { AreThreeSets seen.now.graph.n (has sets.x.bits) (has sets.y.bits) (has sets.given.bits) }
+    requires some_x { 0 < sets.x.bits }
+    requires some_y { 0 < sets.y.bits }
+    ensures { IfOk result (λ r. BackDoorFormula (graph_of seen.now.graph) seen.now.names sets.x.bits sets.y.bits sets.given.bits r.outcome r.text.items) }
+{
+    let v = sets.x.lowest();
+    if sets.x.bits != VSet::one(v).bits {
+        return refuse(alloc, &TargetFault::NotOneX);
+    }
+    match back_door(&seen.graph, v, sets.y, sets.given) {
+        Ok(()) => Ok(Reply {
+            outcome: Outcome::Yes,
+            text: formula_latex(alloc, &seen.names, sets)?,
+        }),
+        Err(_) => Ok(Reply {
+            outcome: Outcome::No,
+            text: Vec::from_slice(alloc, b"not admissible\n")?,
+        }),
+    }
+}
+
+/// The effect of x on y and the adjustment formula of a set, in LaTeX.
+fn formula_latex(alloc: Global, names: &Names, sets: Sets) -> Result<Vec<u8>, AllocError>
+    requires sets { AreThreeSets (length names.now) (has sets.x.bits) (has sets.y.bits) (has sets.given.bits) }
+    requires some { 0 < sets.y.bits }
+    ensures { IfOk result (λ v. v.items ≡ formula_latex names.now sets.x.bits sets.y.bits sets.given.bits) }
+{
+    let formula = formula_for(alloc, sets.x, sets.y, sets.given)?;
+    let effect = Target {
+        x: sets.x,
+        y: sets.y,
+        given: VSet { bits: 0 },
+    };
+    latex_answer(alloc, &formula, &effect, names)
+}

@@ -1,0 +1,233 @@
+// What the words ask for.
+
+ghost use Rattle.std.specs.Prelude.{List, ◌≡◌, Some, None, IfOk, IsErrOf, map, option_map};
+ghost use Rattle.word_forms.specs.Form.{Text, Use, row_named, HasForm, IsCall, IsOnlyCall};
+ghost use Rattle.word_forms.specs.Views.{row_of, texts_of, uses_in};
+ghost use Rattle.word_values.specs.Gives.{HoldsCall};
+ghost use Rattle.word_values.specs.Readable.{IsReadable};
+ghost use Rattle.explain_call.specs.Requests.{row_for, table, kind_of, IsRequest, AsksNothing, Asks, request_of};
+ghost use Rattle.explain_call.specs.Requests as asked;
+
+use request_values::{RequestFault, listed_names, needed_names, needed_word};
+use std::alloc::Global;
+use word_forms::Entry;
+use word_values::{Values, Words, read_words};
+
+/// `steps FILE CERTIFICATE [--graphs]`
+const STEPS_ROW: Entry = Entry {
+    name: "steps",
+    positionals: &["file", "certificate"],
+    extra: &[],
+    needed: &[],
+    options: &[],
+    flags: &["graphs"],
+};
+
+/// `adjust FILE --set L [--x L] [--y L] [--back-door]`
+const FORMULA_ROW: Entry = Entry {
+    name: "adjust",
+    positionals: &["file"],
+    extra: &[],
+    needed: &["set"],
+    options: &["x", "y"],
+    flags: &["back-door"],
+};
+
+static TABLE: [Entry; 3] = [STEPS_ROW, rule_command::ROW, FORMULA_ROW];
+
+/// A kind of words.
+#[derive(Clone, Copy)]
+pub enum Kind {
+    Steps,
+    Rule,
+    Formula,
+}
+
+/// The steps of a certificate's derivation, with the graphs of their rules or without.
+#[derive(Clone, Copy)]
+pub struct StepsRequest<'a> {
+    pub file: &'a str,
+    pub certificate: &'a str,
+    pub graphs: bool,
+}
+
+impl<'a> StepsRequest<'a> {
+    ghost use Rattle.explain_call.specs.Requests.{AskedSteps, steps_row, steps_of, IsSteps};
+
+    /// What the words ask for, exactly where their values are what they have to be.
+    fn read(values: &Values<'a>) -> Result<Self, RequestFault>
+        ensures ok { (uses : List Use) → HoldsCall steps_row uses values.now → IfOk result (λ r. IsSteps uses (steps_of r)) }
+        ensures none { (uses : List Use) → HoldsCall steps_row uses values.now → IsErrOf result RequestFault.NotUnderstood → (r : AskedSteps) → IsSteps uses r → ⊥ }
+    {
+        let file = match needed_word(values, "file") {
+            Ok(file) => file,
+            Err(fault) => return Err(fault),
+        };
+        let certificate = match needed_word(values, "certificate") {
+            Ok(certificate) => certificate,
+            Err(fault) => return Err(fault),
+        };
+        let graphs = values.flag("graphs");
+        Ok(StepsRequest {
+            file,
+            certificate,
+            graphs,
+        })
+    }
+}
+
+/// The adjustment formula of a set, by one of two criteria.
+#[derive(Drop)]
+pub struct FormulaRequest<'a> {
+    pub file: &'a str,
+    pub x: Option<Vec<Vec<u8>>>,
+    pub y: Option<Vec<Vec<u8>>>,
+    pub set: Vec<Vec<u8>>,
+    pub back_door: bool,
+}
+
+impl<'a> FormulaRequest<'a> {
+    ghost use Rattle.explain_call.specs.Requests.{AskedFormula, formula_row, formula_of, IsFormula};
+
+    /// What the words ask for, exactly where their values are what they have to be.
+    fn read(alloc: Global, values: &Values<'a>) -> Result<Self, RequestFault>
+        ensures ok { (uses : List Use) → HoldsCall formula_row uses values.now → IfOk result (λ r. IsFormula uses (formula_of r)) }
+        ensures none { (uses : List Use) → HoldsCall formula_row uses values.now → IsErrOf result RequestFault.NotUnderstood → (r : AskedFormula) → IsFormula uses r → ⊥ }
+    {
+        let file = match needed_word(values, "file") {
+            Ok(file) => file,
+            Err(fault) => return Err(fault),
+        };
+        let set = match needed_names(alloc, values, "set") {
+            Ok(set) => set,
+            Err(fault) => return Err(fault),
+        };
+        let x = match listed_names(alloc, values, "x") {
+            Ok(x) => x,
+            Err(fault) => return Err(fault),
+        };
+        let y = match listed_names(alloc, values, "y") {
+            Ok(y) => y,
+            Err(fault) => return Err(fault),
+        };
+        let back_door = values.flag("back-door");
+        Ok(FormulaRequest {
+            file,
+            x,
+            y,
+            set,
+            back_door,
+        })
+    }
+}
+
+/// What words ask for.
+#[derive(Drop)]
+pub enum Request<'a> {
+    Steps(StepsRequest<'a>),
+    /// The graph in which a rule is asked.
+    Rule(rule_command::Request<'a>),
+    Formula(FormulaRequest<'a>),
+}
+
+impl<'a> Request<'a> {
+    ghost use Rattle.explain_call.specs.Requests.{file_of, second_of};
+
+    /// The file.
+    pub fn file(&self) -> &'a str
+        ensures { file_of (request_of self.now) ≡ result.now }
+    {
+        match self {
+            Request::Steps(asked) => asked.file,
+            Request::Rule(asked) => asked.file,
+            Request::Formula(asked) => asked.file,
+        }
+    }
+
+    /// The second input, where there is one.
+    pub fn second(&self) -> Option<&'a str>
+        ensures { second_of (request_of self.now) ≡ option_map (λ s. s.now) result }
+    {
+        match self {
+            Request::Steps(asked) => Some(asked.certificate),
+            Request::Rule(_) => None,
+            Request::Formula(_) => None,
+        }
+    }
+}
+
+/// What the words ask for.
+pub fn read_request<'a>(alloc: Global, words: &'a [String]) -> Result<Request<'a>, RequestFault>
+    ensures asks { IfOk result (λ r. Asks (texts_of words.now) (request_of r)) }
+    ensures none { IsErrOf result RequestFault.NotUnderstood → (q : asked.Request) → Asks (texts_of words.now) q → ⊥ }
+{
+    match words_found(alloc, words) {
+        Ok(found) => request_found(alloc, found),
+        Err(fault) => Err(fault),
+    }
+}
+
+/// The words by the table, exactly where they have its form.
+fn words_found<'a>(alloc: Global, words: &'a [String]) -> Result<Words<'a>, RequestFault>
+    ensures call { IfOk result (λ w. IsCall table (texts_of words.now) (row_of w.call.row.now) (uses_in w.call.uses)) }
+    ensures only { IfOk result (λ w. IsOnlyCall table (texts_of words.now) (row_of w.call.row.now) (uses_in w.call.uses)) }
+    ensures values { IfOk result (λ w. HoldsCall (row_of w.call.row.now) (uses_in w.call.uses) w.values) }
+    ensures none { IsErrOf result RequestFault.NotUnderstood → HasForm table (texts_of words.now) → ⊥ }
+{
+    match read_words(alloc, rows(), words) {
+        Ok(Some(found)) => Ok(found),
+        Ok(None) => Err(RequestFault::NotUnderstood),
+        Err(_) => Err(RequestFault::NoMemory),
+    }
+}
+
+/// What words of the form ask for.
+fn request_found<'a>(alloc: Global, found: Words<'a>) -> Result<Request<'a>, RequestFault>
+    requires { row_named table (row_of found.call.row.now).name ≡ Some (row_of found.call.row.now) }
+    ensures row { IfOk result (λ r. row_for (kind_of (request_of r)) ≡ row_of found.entry.call.row.now) }
+    ensures ok { (uses : List Use) → HoldsCall (row_of found.entry.call.row.now) uses found.entry.values → IfOk result (λ r. IsRequest uses (request_of r)) }
+    ensures none { (uses : List Use) → HoldsCall (row_of found.entry.call.row.now) uses found.entry.values → IsErrOf result RequestFault.NotUnderstood
+        → (q : asked.Request) → row_for (kind_of q) ≡ row_of found.entry.call.row.now → IsRequest uses q → ⊥ }
+{
+    let Some(kind) = kind_named(found.call.row.name) else {
+        unreachable!()
+    };
+    request_in(alloc, kind, &found.values)
+}
+
+/// The rows of the table.
+fn rows() -> &'static [Entry]
+    ensures rows { map row_of result.now ≡ table }
+    ensures readable { IsReadable (map row_of result.now) }
+{
+    &TABLE
+}
+
+/// The kind of this name.
+fn kind_named(name: &str) -> Option<Kind>
+    ensures { option_map row_for result ≡ row_named table name.now }
+{
+    match name {
+        "steps" => Some(Kind::Steps),
+        "rule" => Some(Kind::Rule),
+        "adjust" => Some(Kind::Formula),
+        _ => None,
+    }
+}
+
+/// What words of a kind ask for.
+fn request_in<'a>(
+    alloc: Global,
+    kind: Kind,
+    values: &Values<'a>,
+) -> Result<Request<'a>, RequestFault>
+    ensures row { IfOk result (λ r. kind_of (request_of r) ≡ kind) }
+    ensures ok { (uses : List Use) → HoldsCall (row_for kind) uses values.now → IfOk result (λ r. IsRequest uses (request_of r)) }
+    ensures none { (uses : List Use) → HoldsCall (row_for kind) uses values.now → IsErrOf result RequestFault.NotUnderstood → AsksNothing kind uses }
+{
+    match kind {
+        Kind::Steps => Ok(Request::Steps(StepsRequest::read(values)?)),
+        Kind::Rule => Ok(Request::Rule(rule_command::Request::read(alloc, values)?)),
+        Kind::Formula => Ok(Request::Formula(FormulaRequest::read(alloc, values)?)),
+    }
+}

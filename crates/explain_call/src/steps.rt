@@ -1,0 +1,84 @@
+ghost use Rattle.std.specs.Prelude.{◌≡◌, IfOk, length};
+ghost use Rattle.mixed_graph.specs.Shown.{graph_of};
+ghost use Rattle.prob_expr.specs.View.{target_view};
+ghost use Rattle.do_derivation.specs.View.{derivation_view};
+ghost use Rattle.check_command.specs.Replies.{IsSoundTarget, IsSoundDerivation};
+ghost use Rattle.explain_call.specs.Steps.{StepsAnswer};
+ghost use Rattle.explain_call.specs.Told.{TellsSteps};
+
+use certificate::{Certificate, read_answer};
+use certificate_fault_text::{certificate_line, certificate_size_line};
+use dag_reader::ReadGraph;
+use do_derivation::{ApplyFault, Derivation};
+use explaining::explain;
+use latent_projection::{Observed, observed};
+use prob_expr::Target;
+use replies::{Outcome, Reply};
+use std::alloc::{AllocError, Global};
+
+/// The most bytes of a certificate.
+const MAX_CERTIFICATE_BYTES: usize = 67_108_864;
+
+/// The answer for a derivation.
+fn tell(
+    alloc: Global,
+    seen: &Observed,
+    target: &Target,
+    derivation: &Derivation,
+    graphs: bool,
+) -> Result<Reply, AllocError>
+    requires named { length seen.now.names ≡ seen.now.graph.n }
+    requires target { IsSoundTarget (length seen.now.names) (target_view target.now) }
+    requires derivation { IsSoundDerivation (length seen.now.names) (derivation_view derivation.now) }
+    ensures { IfOk result (λ r. TellsSteps graphs (graph_of seen.now.graph) seen.now.names (target_view target.now) (derivation_view derivation.now) r.outcome r.text.items) }
+{
+    match explain(alloc, graphs, &seen.graph, &seen.names, target, derivation) {
+        Ok(text) => Ok(Reply {
+            outcome: Outcome::Yes,
+            text,
+        }),
+        Err(
+            ApplyFault::Step {
+                number: _,
+                fault: _,
+            },
+        ) => Ok(Reply {
+            outcome: Outcome::No,
+            text: Vec::from_slice(alloc, b"refused\n")?,
+        }),
+        Err(ApplyFault::NoMemory) => Err(AllocError),
+    }
+}
+
+/// The steps of the derivation of a certificate, in the observed graph: of each lemma and of the main step the expression that each move
+/// makes, in turn, where graphs are wanted with the rule for which it asks and that rule's graph. A certificate that isn't read is refused
+/// with its line.
+pub fn steps_reply(
+    alloc: Global,
+    graph: &ReadGraph,
+    certificate: &[u8],
+    graphs: bool,
+) -> Result<Reply, AllocError>
+    ensures { IfOk result (λ r. StepsAnswer graphs graph.now certificate.now r.outcome r.text.items) }
+{
+    let seen = observed(alloc, &graph.names, &graph.graph, graph.latent)?;
+    if certificate.len() > MAX_CERTIFICATE_BYTES {
+        return Ok(Reply {
+            outcome: Outcome::Second,
+            text: certificate_size_line(alloc)?,
+        });
+    }
+    match read_answer(alloc, certificate, &seen.names) {
+        Ok(Certificate::Formula(target, formula, derivation)) => {
+            tell(alloc, &seen, &target, &derivation, graphs)
+        }
+        Ok(Certificate::Hedge(target, hedge)) => Ok(Reply {
+            outcome: Outcome::No,
+            text: Vec::from_slice(alloc, b"hedge\n")?,
+        }),
+        Err(fault) => Ok(Reply {
+            outcome: Outcome::Second,
+            text: certificate_line(alloc, &fault)?,
+        }),
+    }
+}
