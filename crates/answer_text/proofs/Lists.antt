@@ -3,36 +3,40 @@ use Rattle.std.proofs.Common.{Bool, codes, append-nil, ◌≡◌, ℕ, ◌+◌, 
 use Rattle.std.specs.Prelude.{suc, slice_index, slice_index_or}
 use Rattle.std.proofs.lemmas.List.{append_assoc}
 use Rattle.mixed_graph.specs.Bits.{has, members_below}
-use Rattle.name_text.specs.Printing.{printed, comma_text}
+use Rattle.name_text.specs.Printing.{printed}
 use Rattle.m_separation.specs.declared.marks.Mark.{Mark}
 use Rattle.m_separation.specs.declared.marks.Mark.TheVariants.{Out}
-use Rattle.answer_text.specs.Texts.{comma_before, mark_text, steps_text, member_names, conditions_text}
+use Rattle.answer_text.specs.declared.signs.Notation.{Notation}
+use Rattle.answer_text.specs.declared.signs.Sign.{Sign}
+use Rattle.answer_text.specs.declared.signs.Sign.TheVariants.{Comma, Bar, Do}
+use Rattle.answer_text.specs.Notations.{sign_text, name_in}
+use Rattle.answer_text.specs.Texts.{comma_in, names_in, names_behind, mark_text, steps_text, member_names, conditions_in}
 use Rattle.mixed_graph.specs.Names.{name_of}
 
 -- the first name, the comma behind it where more names follow, and these
-pub comma_text-first : (names : List (List ℕ)) (v : ℕ) (vs : List ℕ) →
-    comma_text (map (name_of names) (v ∷ vs)) ≡ printed (name_of names v) ++ (comma_before vs ++ comma_text (map (name_of names) vs))
-comma_text-first names v [] = sym (append-nil (printed (name_of names v)))
-comma_text-first names v (u ∷ vs) = refl
+pub names_in-first : (w : Notation) (names : List (List ℕ)) (v : ℕ) (vs : List ℕ) →
+    names_in w (map (name_of names) (v ∷ vs)) ≡ name_in w (name_of names v) ++ (comma_in w vs ++ names_in w (map (name_of names) vs))
+names_in-first w names v [] = sym (append-nil (name_in w (name_of names v)))
+names_in-first w names v (u ∷ vs) = refl
 
 -- what is written of a set, and what of it is still to be written
-pub record IsWriting (names : List (List ℕ)) (old out : List ℕ) (set rest : ℕ) : Type 0 where
-  pub text : out ++ comma_text (map (name_of names) (members_below (has rest) 64)) ≡ old ++ comma_text (map (name_of names) (members_below (has set) 64))
+pub record IsWriting (w : Notation) (names : List (List ℕ)) (old out : List ℕ) (set rest : ℕ) : Type 0 where
+  pub text : out ++ names_in w (member_names names (has rest)) ≡ old ++ names_in w (member_names names (has set))
 
-pub writing_more : (names : List (List ℕ)) (old out : List ℕ) (set rest rest' v : ℕ) → members_below (has rest) 64 ≡ v ∷ members_below (has rest') 64 →
-    IsWriting names old out set rest →
-    IsWriting names old (out ++ printed (name_of names v) ++ comma_before (members_below (has rest') 64)) set rest'
-writing_more names old out set rest rest' v first w = record {
+pub writing_more : (w : Notation) (names : List (List ℕ)) (old out : List ℕ) (set rest rest' v : ℕ) → members_below (has rest) 64 ≡ v ∷ members_below (has rest') 64 →
+    IsWriting w names old out set rest →
+    IsWriting w names old (out ++ name_in w (name_of names v) ++ comma_in w (members_below (has rest') 64)) set rest'
+writing_more w names old out set rest rest' v first is = record {
   text =
-      append_assoc (out ++ printed (name_of names v)) (comma_before (members_below (has rest') 64)) (comma_text (map (name_of names) (members_below (has rest') 64)))
-      ∙ append_assoc out (printed (name_of names v)) (comma_before (members_below (has rest') 64) ++ comma_text (map (name_of names) (members_below (has rest') 64)))
-      ∙ ap (λ t. out ++ t) (sym (comma_text-first names v (members_below (has rest') 64)) ∙ ap (λ vs. comma_text (map (name_of names) vs)) (sym first))
-      ∙ w.text;
+      append_assoc (out ++ name_in w (name_of names v)) (comma_in w (members_below (has rest') 64)) (names_in w (member_names names (has rest')))
+      ∙ append_assoc out (name_in w (name_of names v)) (comma_in w (members_below (has rest') 64) ++ names_in w (member_names names (has rest')))
+      ∙ ap (λ t. out ++ t) (sym (names_in-first w names v (members_below (has rest') 64)) ∙ ap (λ vs. names_in w (map (name_of names) vs)) (sym first))
+      ∙ is.text;
 }
 
-pub writing_done : (names : List (List ℕ)) (old out : List ℕ) (set rest : ℕ) → members_below (has rest) 64 ≡ [] → IsWriting names old out set rest →
-    out ≡ old ++ comma_text (map (name_of names) (members_below (has set) 64))
-writing_done names old out set rest none w = sym (append-nil out) ∙ ap (λ vs. out ++ comma_text (map (name_of names) vs)) (sym none) ∙ w.text
+pub writing_done : (w : Notation) (names : List (List ℕ)) (old out : List ℕ) (set rest : ℕ) → members_below (has rest) 64 ≡ [] → IsWriting w names old out set rest →
+    out ≡ old ++ names_in w (member_names names (has set))
+writing_done w names old out set rest none is = sym (append-nil out) ∙ ap (λ vs. out ++ names_in w (map (name_of names) vs)) (sym none) ∙ is.text
 
 -- one more step of a path
 pub steps_more : (names : List (List ℕ)) (vertices : List ℕ) (marks : List Mark) (old out : List ℕ) (i : ℕ) → out ≡ old ++ steps_text names vertices marks i →
@@ -46,33 +50,28 @@ steps_more names vertices marks old out i e =
     ∙ append_assoc old (steps_text names vertices marks i) (m ++ n)
     ∙ ap (λ k. old ++ steps_text names vertices marks k) {x = suc i} {y = i + 1} (omega arith)
 
--- what stands behind the bar, by which of the two sets have members
-pub no_conditions : (names : List (List ℕ)) (b c : ℕ → Bool) → members_below b 64 ≡ [] → members_below c 64 ≡ [] →
-    conditions_text (member_names names b) (member_names names c) ≡ []
-no_conditions names b c eb ec = rw (eb, ec) refl
+-- names behind a sign, and what stands behind the bar, by whether a set has members
+pub none_behind : (w : Notation) (sign : Sign) (names : List (List ℕ)) (set : ℕ → Bool) → members_below set 64 ≡ [] → names_behind w sign (member_names names set) ≡ []
+none_behind w sign names set e = rw e refl
 
-pub given_alone : (names : List (List ℕ)) (b c : ℕ → Bool) (v : ℕ) (vs : List ℕ) → members_below b 64 ≡ [] → members_below c 64 ≡ v ∷ vs →
-    conditions_text (member_names names b) (member_names names c) ≡ codes "|" ++ comma_text (member_names names c)
-given_alone names b c v vs eb ec = rw (eb, ec) refl
+pub some_behind : (w : Notation) (sign : Sign) (names : List (List ℕ)) (set : ℕ → Bool) (v : ℕ) (vs : List ℕ) → members_below set 64 ≡ v ∷ vs →
+    names_behind w sign (member_names names set) ≡ sign_text w sign ++ names_in w (member_names names set)
+some_behind w sign names set v vs e = rw e refl
 
-pub done_alone : (names : List (List ℕ)) (b c : ℕ → Bool) (u : ℕ) (us : List ℕ) → members_below b 64 ≡ u ∷ us → members_below c 64 ≡ [] →
-    conditions_text (member_names names b) (member_names names c) ≡ codes "|do(" ++ (comma_text (member_names names b) ++ codes ")")
-done_alone names b c u us eb ec = rw (eb, ec) refl
+pub given_alone : (w : Notation) (names : List (List ℕ)) (b c : ℕ → Bool) → members_below b 64 ≡ [] →
+    conditions_in w (member_names names b) (member_names names c) ≡ names_behind w Bar (member_names names c)
+given_alone w names b c e = rw e refl
 
-pub done_and_given : (names : List (List ℕ)) (b c : ℕ → Bool) (u v : ℕ) (us vs : List ℕ) → members_below b 64 ≡ u ∷ us → members_below c 64 ≡ v ∷ vs →
-    conditions_text (member_names names b) (member_names names c)
-    ≡ codes "|do(" ++ (comma_text (member_names names b) ++ (codes ")," ++ comma_text (member_names names c)))
-done_and_given names b c u v us vs eb ec = rw (eb, ec) refl
+pub done_first : (w : Notation) (names : List (List ℕ)) (b c : ℕ → Bool) (v : ℕ) (vs : List ℕ) → members_below b 64 ≡ v ∷ vs →
+    conditions_in w (member_names names b) (member_names names c)
+    ≡ sign_text w Bar ++ (sign_text w Do ++ (names_in w (member_names names b) ++ (codes ")" ++ names_behind w Comma (member_names names c))))
+done_first w names b c v vs e = rw e refl
 
 -- texts that are appended one after the other
 pub appended_two : (old a b : List ℕ) {out one : List ℕ} → one ≡ old ++ a → out ≡ one ++ b → out ≡ old ++ (a ++ b)
 appended_two old a b e f = f ∙ ap (λ t. t ++ b) e ∙ append_assoc old a b
 
-pub appended_three : (old a b c : List ℕ) {out one two : List ℕ} → one ≡ old ++ a → two ≡ one ++ b → out ≡ two ++ c → out ≡ old ++ (a ++ (b ++ c))
-appended_three old a b c e f g = g ∙ ap (λ t. t ++ c) (appended_two old a b e f) ∙ append_assoc old (a ++ b) c ∙ ap (λ t. old ++ t) (append_assoc a b c)
-
-pub appended_four : (old a b c d : List ℕ) {out one two three : List ℕ} → one ≡ old ++ a → two ≡ one ++ b → three ≡ two ++ c → out ≡ three ++ d →
-    out ≡ old ++ (a ++ (b ++ (c ++ d)))
-appended_four old a b c d e f g h =
-    h ∙ ap (λ t. t ++ d) (appended_three old a b c e f g) ∙ append_assoc old (a ++ (b ++ c)) d
-    ∙ ap (λ t. old ++ t) (append_assoc a (b ++ c) d ∙ ap (λ t. a ++ t) (append_assoc b c d))
+pub appended_five : (old a b c d e : List ℕ) {out one two three four : List ℕ} → one ≡ old ++ a → two ≡ one ++ b → three ≡ two ++ c → four ≡ three ++ d → out ≡ four ++ e →
+    out ≡ old ++ (a ++ (b ++ (c ++ (d ++ e))))
+appended_five old a b c d e p q r s t =
+    t ∙ ap (λ x. x ++ e) (s ∙ ap (λ x. x ++ d) (r ∙ ap (λ x. x ++ c) (q ∙ ap (λ x. x ++ b) p))) ∙ simp append_assoc

@@ -1,18 +1,24 @@
-//! How sets of vertices and paths are printed.
+//! How sets of vertices, probabilities and paths are printed.
 //!
-//! `push_set(&mut text, &names, set)` writes `{A,B}`.
+//! `push_set(&mut text, &names, set)` writes `{A,B}`. Sets and probabilities are written in either `Notation`: plain, or LaTeX.
 #![tactic(auto)]
 
 ghost use Rattle.std.specs.Prelude.{◌≡◌, ◌++◌, ◌<◌, ◌≤◌, ◌+◌, ◌∷◌, [], ℕ, length, map, OnOk, slice_index, slice_index_or};
 ghost use Rattle.mixed_graph.specs.Bits.{has, members_below};
-ghost use Rattle.mixed_graph.specs.Sets.{Within};
-ghost use Rattle.name_text.specs.Printing.{printed, comma_text};
-ghost use Rattle.answer_text.specs.Texts.{comma_before, set_text, mark_text, steps_text, path_text, member_names, conditions_text, term_text};
 ghost use Rattle.mixed_graph.specs.Names.{name_of};
+ghost use Rattle.mixed_graph.specs.Sets.{Within};
+ghost use Rattle.name_text.specs.Printing.{printed};
+ghost use Rattle.answer_text.specs.Notations.{name_in, sign_text};
+ghost use Rattle.answer_text.specs.Texts.{comma_in, names_in, names_behind, set_in, set_text, mark_text, steps_text, path_text, member_names, conditions_in, term_in, term_text};
 
+mod latex;
+mod signs;
+
+use latex::push_latex_name;
 use m_separation::Mark;
 use mixed_graph::{Names, VSet};
 use name_text::push_name;
+pub use signs::{Notation, Sign, push_sign};
 use std::alloc::AllocError;
 
 /// Appends the name of vertex v as it is printed. At an error what was appended is open.
@@ -23,36 +29,74 @@ pub fn push_vertex(out: &mut Vec<u8>, names: &Names, v: u8) -> Result<(), AllocE
     push_name(out, names.get(v))
 }
 
+/// Appends the name of vertex v in a notation.
+fn push_vertex_in(
+    out: &mut Vec<u8>,
+    notation: Notation,
+    names: &Names,
+    v: u8,
+) -> Result<(), AllocError>
+    requires { v < length names.now }
+    ensures { OnOk result (out.new.items ≡ out.old.items ++ name_in notation (name_of names.now v)) }
+{
+    match notation {
+        Notation::Plain => push_vertex(out, names, v),
+        Notation::Latex => push_latex_name(out, names.get(v)),
+    }
+}
+
 /// Appends a set: its names in index order, with commas between them, in braces.
 /// At an error what was appended is open.
 pub fn push_set(out: &mut Vec<u8>, names: &Names, set: VSet) -> Result<(), AllocError>
     requires { Within (length names.now) (has set.bits) }
     ensures { OnOk result (out.new.items ≡ out.old.items ++ set_text names.now set.bits) }
 {
+    push_set_in(out, Notation::Plain, names, set)
+}
+
+/// Appends a set in a notation. At an error what was appended is open.
+pub fn push_set_in(
+    out: &mut Vec<u8>,
+    notation: Notation,
+    names: &Names,
+    set: VSet,
+) -> Result<(), AllocError>
+    requires { Within (length names.now) (has set.bits) }
+    ensures { OnOk result (out.new.items ≡ out.old.items ++ set_in notation names.now set.bits) }
+{
     out.push(b'{')?;
-    push_members(out, names, set)?;
+    push_members(out, notation, names, set)?;
     out.push(b'}')?;
     Ok(())
 }
 
 /// A comma where a member is still to come.
-fn separator(rest: VSet) -> &'static [u8]
-    ensures { result.now ≡ comma_before (members_below (has rest.bits) 64) }
+fn separator(notation: Notation, rest: VSet) -> &'static [u8]
+    ensures { result.now ≡ comma_in notation (members_below (has rest.bits) 64) }
 {
-    if rest.is_empty() { b"" } else { b"," }
+    if rest.is_empty() {
+        b""
+    } else {
+        notation.sign(Sign::Comma)
+    }
 }
 
 /// Appends the names of a set's members, with commas between them.
-fn push_members(out: &mut Vec<u8>, names: &Names, set: VSet) -> Result<(), AllocError>
+fn push_members(
+    out: &mut Vec<u8>,
+    notation: Notation,
+    names: &Names,
+    set: VSet,
+) -> Result<(), AllocError>
     requires { Within (length names.now) (has set.bits) }
-    ensures { OnOk result (out.new.items ≡ out.old.items ++ comma_text (map (name_of names.now) (members_below (has set.bits) 64))) }
+    ensures { OnOk result (out.new.items ≡ out.old.items ++ names_in notation (member_names names.now (has set.bits))) }
 {
     let mut rest = set;
     'members: while !rest.is_empty() {
         let v = rest.lowest();
-        push_vertex(out, names, v)?;
+        push_vertex_in(out, notation, names, v)?;
         rest = rest.difference(VSet::one(v));
-        out.extend_from_slice(separator(rest))?;
+        out.extend_from_slice(separator(notation, rest))?;
     }
     Ok(())
 }
@@ -106,9 +150,24 @@ pub fn push_term(out: &mut Vec<u8>, names: &Names, term: Term) -> Result<(), All
     requires given { Within (length names.now) (has term.given.bits) }
     ensures { OnOk result (out.new.items ≡ out.old.items ++ term_text names.now (has term.of.bits) (has term.doing.bits) (has term.given.bits)) }
 {
+    push_term_in(out, Notation::Plain, names, term)
+}
+
+/// Appends a probability in a notation. At an error what was appended is open.
+pub fn push_term_in(
+    out: &mut Vec<u8>,
+    notation: Notation,
+    names: &Names,
+    term: Term,
+) -> Result<(), AllocError>
+    requires what { Within (length names.now) (has term.of.bits) }
+    requires doing { Within (length names.now) (has term.doing.bits) }
+    requires given { Within (length names.now) (has term.given.bits) }
+    ensures { OnOk result (out.new.items ≡ out.old.items ++ term_in notation names.now (has term.of.bits) (has term.doing.bits) (has term.given.bits)) }
+{
     out.extend_from_slice(b"P(")?;
-    push_members(out, names, term.of)?;
-    push_conditions(out, names, term.doing, term.given)?;
+    push_members(out, notation, names, term.of)?;
+    push_conditions(out, notation, names, term.doing, term.given)?;
     out.push(b')')?;
     Ok(())
 }
@@ -116,29 +175,41 @@ pub fn push_term(out: &mut Vec<u8>, names: &Names, term: Term) -> Result<(), All
 /// Appends what stands behind the bar of a probability, with the bar; nothing where both sets are empty.
 fn push_conditions(
     out: &mut Vec<u8>,
+    notation: Notation,
     names: &Names,
     doing: VSet,
     given: VSet,
 ) -> Result<(), AllocError>
     requires doing { Within (length names.now) (has doing.bits) }
     requires given { Within (length names.now) (has given.bits) }
-    ensures { OnOk result (out.new.items ≡ out.old.items ++ conditions_text (member_names names.now (has doing.bits)) (member_names names.now (has given.bits))) }
+    ensures { OnOk result (out.new.items ≡ out.old.items ++ conditions_in notation (member_names names.now (has doing.bits)) (member_names names.now (has given.bits))) }
 {
     if doing.is_empty() {
-        if given.is_empty() {
-            return Ok(());
-        }
-        out.push(b'|')?;
-        push_members(out, names, given)?;
+        return push_behind(out, notation, Sign::Bar, names, given);
+    }
+    push_sign(out, notation, Sign::Bar)?;
+    push_sign(out, notation, Sign::Do)?;
+    push_members(out, notation, names, doing)?;
+    out.push(b')')?;
+    push_behind(out, notation, Sign::Comma, names, given)?;
+    Ok(())
+}
+
+/// Appends a sign and the names of a set's members; nothing where there are none.
+fn push_behind(
+    out: &mut Vec<u8>,
+    notation: Notation,
+    sign: Sign,
+    names: &Names,
+    set: VSet,
+) -> Result<(), AllocError>
+    requires { Within (length names.now) (has set.bits) }
+    ensures { OnOk result (out.new.items ≡ out.old.items ++ names_behind notation sign (member_names names.now (has set.bits))) }
+{
+    if set.is_empty() {
         return Ok(());
     }
-    out.extend_from_slice(b"|do(")?;
-    push_members(out, names, doing)?;
-    if given.is_empty() {
-        out.push(b')')?;
-        return Ok(());
-    }
-    out.extend_from_slice(b"),")?;
-    push_members(out, names, given)?;
+    push_sign(out, notation, sign)?;
+    push_members(out, notation, names, set)?;
     Ok(())
 }

@@ -8,10 +8,11 @@ use Rattle.std.proofs.lemmas.Str.{IsUtf8-nil, IsUtf8-from_ascii, IsUtf8-from_is_
 use Rattle.std.proofs.lemmas.Str.Ascii.{IsAscii-cons, IsAscii-nil}
 use Rattle.mixed_graph.specs.Bits.{has, members_below}
 use Rattle.mixed_graph.specs.Names.{AreNames, name_of}
-use Rattle.name_text.specs.Printing.{is_plain, printed, comma_text}
-use Rattle.answer_text.specs.Texts.{set_text, conditions_text, term_text}
+use Rattle.name_text.specs.Printing.{is_plain, printed}
+use Rattle.answer_text.specs.declared.signs.Notation.TheVariants.{Plain}
+use Rattle.answer_text.specs.Texts.{names_in, set_text, conditions_in, term_text}
 use Rattle.prob_expr.specs.Tree.{Tree, prob, sum, product, quotient, named, Trees, no_trees, tree}
-use Rattle.expr_text.specs.Write.{parenthesized, wrapped, text_of, factors_text, more_factors_text}
+use Rattle.expr_text.specs.Write.{parenthesized, wrapped, text_of, factors_in}
 
 behind : (b : ℕ) (bs : List ℕ) → b < 128 → IsUtf8 bs → IsUtf8 (b ∷ bs)
 behind b bs lt h = IsUtf8-append (b ∷ []) bs (IsUtf8-from_ascii (b ∷ []) (IsAscii-cons b [] lt IsAscii-nil)) h
@@ -50,12 +51,12 @@ printed_utf8 name h = either (is_plain name)
     either true = h
     either false = behind 34 (name ++ 34 ∷ []) (omega arith) (IsUtf8-append name (34 ∷ []) h (behind 34 [] (omega arith) IsUtf8-nil))
 
-names_utf8 : (names : List (List ℕ)) (vs : List ℕ) → AreNames names → IsUtf8 (comma_text (map (name_of names) vs))
+names_utf8 : (names : List (List ℕ)) (vs : List ℕ) → AreNames names → IsUtf8 (names_in Plain (map (name_of names) vs))
 names_utf8 names [] are = IsUtf8-nil
 names_utf8 names (v ∷ []) are = printed_utf8 (name_of names v) (name_utf8 names v are)
 names_utf8 names (v ∷ u ∷ us) are =
-    IsUtf8-append (printed (name_of names v)) (44 ∷ comma_text (map (name_of names) (u ∷ us))) (printed_utf8 (name_of names v) (name_utf8 names v are))
-    (behind 44 (comma_text (map (name_of names) (u ∷ us))) (omega arith) (names_utf8 names (u ∷ us) are))
+    IsUtf8-append (printed (name_of names v)) (44 ∷ names_in Plain (map (name_of names) (u ∷ us))) (printed_utf8 (name_of names v) (name_utf8 names v are))
+    (behind 44 (names_in Plain (map (name_of names) (u ∷ us))) (omega arith) (names_utf8 names (u ∷ us) are))
 
 -- ---- expressions
 
@@ -77,7 +78,7 @@ closing = ascii1 41 (omega arith)
 opening : IsUtf8 (codes "(")
 opening = ascii1 40 (omega arith)
 
-conditions_utf8 : (names : List (List ℕ)) (bs cs : List ℕ) → AreNames names → IsUtf8 (conditions_text (map (name_of names) bs) (map (name_of names) cs))
+conditions_utf8 : (names : List (List ℕ)) (bs cs : List ℕ) → AreNames names → IsUtf8 (conditions_in Plain (map (name_of names) bs) (map (name_of names) cs))
 conditions_utf8 names [] [] are = IsUtf8-nil
 conditions_utf8 names [] (c ∷ cs) are = join (codes "|") _ bar (names_utf8 names (c ∷ cs) are)
 conditions_utf8 names (b ∷ bs) [] are = join (codes "|do(") _ do_mark (join _ (codes ")") (names_utf8 names (b ∷ bs) are) closing)
@@ -92,10 +93,10 @@ term_utf8 names a b c are =
 set_utf8 : (names : List (List ℕ)) (u : ℕ) → AreNames names → IsUtf8 (set_text names u)
 set_utf8 names u are = behind 123 _ (omega arith) (join _ (125 ∷ []) (names_utf8 names (members_below (has u) 64) are) (ascii1 125 (omega arith)))
 
-parenthesized_utf8 : (text : List ℕ) → IsUtf8 text → IsUtf8 (parenthesized text)
+parenthesized_utf8 : (text : List ℕ) → IsUtf8 text → IsUtf8 (parenthesized Plain text)
 parenthesized_utf8 text h = join (codes "(") _ opening (join text (codes ")") h closing)
 
-wrapped_utf8 : (t : Tree) (text : List ℕ) → IsUtf8 text → IsUtf8 (wrapped t text)
+wrapped_utf8 : (t : Tree) (text : List ℕ) → IsUtf8 text → IsUtf8 (wrapped Plain t text)
 wrapped_utf8 (prob a b c) text h = h
 wrapped_utf8 (sum u e) text h = parenthesized_utf8 text h
 wrapped_utf8 (product ts) text h = parenthesized_utf8 text h
@@ -117,11 +118,11 @@ mutual
       (join (codes " / ") _ (between 47 (omega arith)) (wrapped_utf8 q (text_of names q) (text_is_utf8 names q are)))
   text_is_utf8 names (named k) are = join (codes "q") _ (ascii1 113 (omega arith)) (number_utf8 k)
 
-  factors_utf8 : (names : List (List ℕ)) (ts : Trees) → AreNames names → IsUtf8 (factors_text names ts)
+  factors_utf8 : (names : List (List ℕ)) (ts : Trees) → AreNames names → IsUtf8 (factors_in Plain false names ts)
   factors_utf8 names no_trees are = IsUtf8-nil
   factors_utf8 names (tree t ts) are = join _ _ (wrapped_utf8 t (text_of names t) (text_is_utf8 names t are)) (more_factors_utf8 names ts are)
 
-  more_factors_utf8 : (names : List (List ℕ)) (ts : Trees) → AreNames names → IsUtf8 (more_factors_text names ts)
+  more_factors_utf8 : (names : List (List ℕ)) (ts : Trees) → AreNames names → IsUtf8 (factors_in Plain true names ts)
   more_factors_utf8 names no_trees are = IsUtf8-nil
   more_factors_utf8 names (tree t ts) are =
       join (codes " * ") _ (between 42 (omega arith)) (join _ _ (wrapped_utf8 t (text_of names t) (text_is_utf8 names t are)) (more_factors_utf8 names ts are))

@@ -5,7 +5,8 @@ use Rattle.std.proofs.lemmas.List.{length-append}
 use Rattle.prob_expr.specs.Tree.{Tree, PlainFormula}
 use Rattle.prob_expr.specs.Check.{check_tree, fault_of, fault_in_defs, cap}
 use Rattle.expr_text.specs.Read.{◌>>=◌, bad, trim, next_is, expect, repeat, inner_of, def_body, def_at, def_step, checked, formula_of}
-use Rattle.expr_text.specs.Write.{text_of, nesting, defs_text, formula_text, nesting_all}
+use Rattle.answer_text.specs.declared.signs.Notation.TheVariants.{Plain}
+use Rattle.expr_text.specs.Write.{text_of, nesting, defs_in, formula_text, nesting_all}
 use Rattle.expr_text.specs.Laws.{ReadsWholeBack}
 use Rattle.expr_text.proofs.Known.{AreKnown, known}
 use Rattle.expr_text.proofs.Readable.{is_readable, readable}
@@ -19,7 +20,7 @@ readable_from n def limit t le h = readable n t (sound_from n def limit t h) (nu
 
 -- ---- definitions
 
-ends_at_defs : (names : List (List ℕ)) (k : ℕ) (ds : List Tree) → Ends (defs_text names k ds ++ [])
+ends_at_defs : (names : List (List ℕ)) (k : ℕ) (ds : List Tree) → Ends (defs_in Plain names k ds ++ [])
 unfolding next_is trim
 ends_at_defs names k [] = ends_here
 ends_at_defs names k (d ∷ ds) = record { star = refl; slash = refl; digit = refl }
@@ -48,7 +49,7 @@ def_back names before d more are sound nests ends lt =
     ∙ body_back names before d more are sound nests ends
 
 defs_back : (names : List (List ℕ)) (ds : List Tree) (fuel : ℕ) (before : List Tree) (k : ℕ) → AreKnown names → k ≡ length before → fault_in_defs (length names) k ds ≡ None → k + length ds ≤ 2 ^ 32 → nesting_all ds ≤ 60 → length ds ≤ fuel
-    → repeat (def_step names) fuel before (defs_text names k ds ++ []) ≡ Ok (before ++ ds, [])
+    → repeat (def_step names) fuel before (defs_in Plain names k ds ++ []) ≡ Ok (before ++ ds, [])
 unfolding next_is trim
 defs_back names [] fuel before k are at ok room nests le = end_with (def_step names) before [] fuel refl ∙ ap (λ ds. Ok (ds, [])) (sym (append-nil before))
 defs_back names (d ∷ ds) zero before k are at ok room nests le = absurd (omega arith)
@@ -56,7 +57,7 @@ defs_back names (d ∷ ds) (suc fuel) before k are at ok room nests le =
     let n = length names in
     let parts = neither (fault_of (check_tree n (Some (cap k)) k d 0)) (fault_in_defs n (k + 1) ds) ok in
     let sound = readable_from n (Some (cap k)) k d (omega arith) parts.0 in
-    let more = defs_text names (k + 1) ds in
+    let more = defs_in Plain names (k + 1) ds in
     let len : k + 1 ≡ length (before ++ d ∷ []) = omega (arith, length-append before (d ∷ [])) in
     ap (λ t. repeat (def_step names) (suc fuel) before (10 ∷ 113 ∷ t)) (grouped names k d more)
     ∙ ap (λ q. def_at names before (decimal q ++ 32 ∷ 61 ∷ 32 ∷ (text_of names d ++ (more ++ []))) >>= λ p. repeat (def_step names) fuel p.0 p.1) at
@@ -64,10 +65,10 @@ defs_back names (d ∷ ds) (suc fuel) before k are at ok room nests le =
     ∙ defs_back names ds fuel (before ++ d ∷ []) (k + 1) are len parts.1 (omega arith) (omega arith) (omega arith)
     ∙ ap (λ ds. Ok (ds, [])) (append_assoc before (d ∷ []) ds)
 
-enough : (names : List (List ℕ)) (k : ℕ) (ds : List Tree) → length ds ≤ length (defs_text names k ds ++ [])
+enough : (names : List (List ℕ)) (k : ℕ) (ds : List Tree) → length ds ≤ length (defs_in Plain names k ds ++ [])
 enough names k [] = omega arith
 enough names k (d ∷ ds) =
-    let more = defs_text names (k + 1) ds in
+    let more = defs_in Plain names (k + 1) ds in
     omega (arith, enough names (k + 1) ds, ap length (grouped names k d more), length-append (decimal k) (32 ∷ 61 ∷ 32 ∷ (text_of names d ++ (more ++ []))), length-append (text_of names d) (more ++ []))
 
 pub reads_whole_back : ReadsWholeBack
@@ -77,10 +78,10 @@ reads_whole_back names f are_names ok room main_nests defs_nest =
     let n = length names in
     let parts = neither (fault_in_defs n 0 f.defs) (fault_of (check_tree n None (length f.defs) f.main 0)) ok in
     let sound = readable_from n None (length f.defs) f.main room parts.1 in
-    let rest = defs_text names 0 f.defs ++ [] in
+    let rest = defs_in Plain names 0 f.defs ++ [] in
     let end : Result (List Tree × List ℕ) ℕ → Result PlainFormula ℕ = λ r. r >>= λ defs. cond (eqb (length (trim defs.1)) 0) (checked n (record { defs = defs.0; main = f.main })) (bad defs.1) in
     ap (formula_of names) (sym (append-nil (formula_text names f)))
-    ∙ ap (formula_of names) (append_assoc (text_of names f.main) (defs_text names 0 f.defs) [])
+    ∙ ap (formula_of names) (append_assoc (text_of names f.main) (defs_in Plain names 0 f.defs) [])
     ∙ ap (λ r. r >>= λ main. repeat (def_step names) (length main.1) [] main.1 >>= λ defs. cond (eqb (length (trim defs.1)) 0) (checked n (record { defs = defs.0; main = main.0 })) (bad defs.1))
     (expr_back names are f.main 60 rest sound main_nests (ends_at_defs names 0 f.defs))
     ∙ ap end (defs_back names f.defs (length rest) [] 0 are refl parts.0 (omega arith) defs_nest (enough names 0 f.defs))

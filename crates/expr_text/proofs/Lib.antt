@@ -2,7 +2,6 @@ pub mod Repeats
 pub mod Digits
 pub mod Inner
 pub mod Within
-pub mod LatexLists
 pub mod Checked
 pub mod Known
 pub mod Fronts

@@ -7,8 +7,9 @@ use Rattle.std.proofs.Math.Nat.{pow-le-pow_right}
 use Rattle.mixed_graph.specs.Bits.{has, members_below}
 use Rattle.mixed_graph.specs.Names.{name_of}
 use Rattle.mixed_graph.proofs.FirstMembers.{members-empty, members-some}
-use Rattle.name_text.specs.Printing.{printed, comma_text}
-use Rattle.answer_text.specs.Texts.{member_names, conditions_text, term_text}
+use Rattle.name_text.specs.Printing.{printed}
+use Rattle.answer_text.specs.declared.signs.Notation.TheVariants.{Plain}
+use Rattle.answer_text.specs.Texts.{names_in, member_names, conditions_in, term_text}
 use Rattle.prob_expr.specs.Masks.{is_empty}
 use Rattle.prob_expr.proofs.MaskLaws.{below_has}
 
@@ -98,14 +99,14 @@ names_same names set few lt =
     ∙ ap (λ t. map (name_of names) (members_below (has set) n) ++ t) (sym rest)
     ∙ front_and_rest set names n (omega arith)
 
-commas : (names : List (List ℕ)) → comma_text names ≡ listed names
+commas : (names : List (List ℕ)) → names_in Plain names ≡ listed names
 commas [] = refl
 commas (n ∷ []) = sym (append-nil (printed n))
 commas (n ∷ m ∷ names) = ap (λ t. printed n ++ 44 ∷ t) (commas (m ∷ names))
 
-pub text_same : (names : List (List ℕ)) (set : ℕ) → length names ≤ 64 → set < 2 ^ length names → comma_text (member_names names (has set)) ≡ names_text names set
+pub text_same : (names : List (List ℕ)) (set : ℕ) → length names ≤ 64 → set < 2 ^ length names → names_in Plain (member_names names (has set)) ≡ names_text names set
 unfolding names_text
-text_same names set few lt = ap comma_text (names_same names set few lt) ∙ commas (members set 0 names)
+text_same names set few lt = ap (names_in Plain) (names_same names set few lt) ∙ commas (members set 0 names)
 
 -- ---- terms
 
@@ -116,8 +117,8 @@ filled : (set : ℕ) → is_empty set ≡ false → set ≡ 0 → ⊥
 filled set h e = false≢true (sym h ∙ eq-eqb set 0 e)
 
 conds_same_by : (names : List (List ℕ)) (b c : ℕ) (eb ec : Bool) → length names ≤ 64 → b < 2 ^ length names → c < 2 ^ length names → is_empty b ≡ eb → is_empty c ≡ ec
-    → conditions_text (member_names names (has b)) (member_names names (has c))
-    ≡ cond eb (cond ec [] (124 ∷ comma_text (member_names names (has c)))) (124 ∷ 100 ∷ 111 ∷ 40 ∷ (comma_text (member_names names (has b)) ++ (41 ∷ cond ec [] (44 ∷ comma_text (member_names names (has c))))))
+    → conditions_in Plain (member_names names (has b)) (member_names names (has c))
+    ≡ cond eb (cond ec [] (124 ∷ names_in Plain (member_names names (has c)))) (124 ∷ 100 ∷ 111 ∷ 40 ∷ (names_in Plain (member_names names (has b)) ++ (41 ∷ cond ec [] (44 ∷ names_in Plain (member_names names (has c))))))
 conds_same_by names b c true true few lb lc hb hc =
     let eb = members-empty b (eqb-true b 0 hb) in let ec = members-empty c (eqb-true c 0 hc) in rw (eb, ec) refl
 conds_same_by names b c true false few lb lc hb hc =
@@ -133,8 +134,8 @@ pub term_same : (names : List (List ℕ)) (a b c : ℕ) → length names ≤ 64 
     → term_text names (has a) (has b) (has c) ≡ codes "P(" ++ (names_text names a ++ (conds_text names b c ++ codes ")"))
 unfolding conds_text
 term_same names a b c few la lb lc =
-    ap (λ t. codes "P(" ++ (t ++ (conditions_text (member_names names (has b)) (member_names names (has c)) ++ codes ")"))) (text_same names a few la)
+    ap (λ t. codes "P(" ++ (t ++ (conditions_in Plain (member_names names (has b)) (member_names names (has c)) ++ codes ")"))) (text_same names a few la)
     ∙ ap (λ t. codes "P(" ++ (names_text names a ++ (t ++ codes ")"))) (
     conds_same_by names b c (is_empty b) (is_empty c) few lb lc refl refl
-    ∙ ap (λ t. cond (is_empty b) (cond (is_empty c) [] (124 ∷ t)) (124 ∷ 100 ∷ 111 ∷ 40 ∷ (comma_text (member_names names (has b)) ++ (41 ∷ cond (is_empty c) [] (44 ∷ t))))) (text_same names c few lc)
+    ∙ ap (λ t. cond (is_empty b) (cond (is_empty c) [] (124 ∷ t)) (124 ∷ 100 ∷ 111 ∷ 40 ∷ (names_in Plain (member_names names (has b)) ++ (41 ∷ cond (is_empty c) [] (44 ∷ t))))) (text_same names c few lc)
     ∙ ap (λ t. cond (is_empty b) (cond (is_empty c) [] (124 ∷ names_text names c)) (124 ∷ 100 ∷ 111 ∷ 40 ∷ (t ++ (41 ∷ cond (is_empty c) [] (44 ∷ names_text names c))))) (text_same names b few lb))

@@ -6,11 +6,12 @@ use Rattle.std.specs.List.{prefix_len}
 use Rattle.prob_expr.specs.Tree.{Tree, prob, sum, product, quotient, named, Trees, no_trees, tree, trees_of}
 use Rattle.prob_expr.specs.Masks.{is_empty, is_below}
 use Rattle.mixed_graph.specs.Bits.{has}
-use Rattle.name_text.specs.Printing.{is_white, comma_text}
-use Rattle.answer_text.specs.Texts.{member_names}
+use Rattle.name_text.specs.Printing.{is_white}
+use Rattle.answer_text.specs.declared.signs.Notation.TheVariants.{Plain}
+use Rattle.answer_text.specs.Texts.{names_in, member_names}
 use Rattle.expr_text.specs.Bytes.{is_digit}
 use Rattle.expr_text.specs.Read.{◌>>=◌, Parse, when, bad, trim, next_is, expect, named_at, Inner, in_parentheses, operand_at, sum_at, factor_at, factor_step, repeat, factors_at, bottom_at, operands_at, expr_with, inner_of, expr_of}
-use Rattle.expr_text.specs.Write.{parenthesized, wrapped, text_of, more_factors_text, deeper, nesting, nesting_each}
+use Rattle.expr_text.specs.Write.{parenthesized, wrapped, text_of, factors_in, deeper, nesting, nesting_each}
 use Rattle.expr_text.proofs.Readable.{is_readable, are_readable, readable}
 use Rattle.expr_text.specs.Laws.{ReadsBack}
 use Rattle.expr_text.proofs.Within.{and_true, term_parts}
@@ -59,7 +60,7 @@ abbrev pub ExprBack : List (List ℕ) → Tree → Type 0
 ExprBack names t = (d : ℕ) (rest : List ℕ) → is_readable (length names) t ≡ true → nesting t ≤ d → Ends rest → expr_with names (inner_of names d) (text_of names t ++ rest) ≡ Ok (t, rest)
 
 abbrev OperandBack : List (List ℕ) → Tree → Type 0
-OperandBack names t = (d : ℕ) (rest : List ℕ) → is_readable (length names) t ≡ true → deeper t (nesting t) ≤ d → Stops is_digit rest → operand_at names (inner_of names d) (wrapped t (text_of names t) ++ rest) ≡ Ok (t, rest)
+OperandBack names t = (d : ℕ) (rest : List ℕ) → is_readable (length names) t ≡ true → deeper t (nesting t) ≤ d → Stops is_digit rest → operand_at names (inner_of names d) (wrapped Plain t (text_of names t) ++ rest) ≡ Ok (t, rest)
 
 -- ---- operands
 
@@ -80,7 +81,7 @@ named_back names k d rest sound deep digit =
     ap (λ r. r >>= λ k. Ok (named k.0, k.1)) (number_is_read k rest (ltb-true _ _ sound) digit)
 
 in_back : (names : List (List ℕ)) (t : Tree) → ExprBack names t → (d : ℕ) (rest : List ℕ) → is_readable (length names) t ≡ true → suc (nesting t) ≤ d
-    → operand_at names (inner_of names d) (parenthesized (text_of names t) ++ rest) ≡ Ok (t, rest)
+    → operand_at names (inner_of names d) (parenthesized Plain (text_of names t) ++ rest) ≡ Ok (t, rest)
 unfolding operand_at in_parentheses expect next_is trim
 in_back names t back zero rest sound deep = absurd (omega arith)
 in_back names t back (suc d) rest sound deep =
@@ -98,7 +99,7 @@ operand_from names (named k) are back d rest sound deep digit = named_back names
 
 -- ---- expressions
 
-no_sum : (names : List (List ℕ)) (t : Tree) (rest : List ℕ) → next_is (codes "sum") (wrapped t (text_of names t) ++ rest) ≡ None
+no_sum : (names : List (List ℕ)) (t : Tree) (rest : List ℕ) → next_is (codes "sum") (wrapped Plain t (text_of names t) ++ rest) ≡ None
 unfolding next_is trim
 no_sum names (prob a b c) rest = refl
 no_sum names (sum u e) rest = refl
@@ -114,11 +115,11 @@ behind names inner first =
     ) (factors_at names inner first.0)
 
 first_back : (names : List (List ℕ)) (t : Tree) (d : ℕ) (rest : List ℕ) → AreKnown names → ExprBack names t → is_readable (length names) t ≡ true → deeper t (nesting t) ≤ d → Stops is_digit rest
-    → expr_with names (inner_of names d) (wrapped t (text_of names t) ++ rest) ≡ behind names (inner_of names d) (t, rest)
+    → expr_with names (inner_of names d) (wrapped Plain t (text_of names t) ++ rest) ≡ behind names (inner_of names d) (t, rest)
 unfolding expr_with operands_at
 first_back names t d rest are back sound deep digit =
     let inner = inner_of names d in
-    let text = wrapped t (text_of names t) ++ rest in
+    let text = wrapped Plain t (text_of names t) ++ rest in
     ap (λ o. when o (operands_at names inner text) (λ rest. when inner (bad text) (λ read. sum_at names read rest))) (no_sum names t rest)
     ∙ ap (λ r. r >>= behind names inner) (operand_from names t are back d rest sound deep digit)
 
@@ -126,18 +127,18 @@ behind_end : (names : List (List ℕ)) (inner : Inner) (t : Tree) (rest : List �
 behind_end names inner t rest ends = rw (ends.star, ends.slash) refl
 
 bottom_back : (names : List (List ℕ)) (p q : Tree) (d : ℕ) (rest : List ℕ) → AreKnown names → ExprBack names q → is_readable (length names) q ≡ true → deeper q (nesting q) ≤ d → Stops is_digit rest
-    → behind names (inner_of names d) (p, 32 ∷ 47 ∷ 32 ∷ (wrapped q (text_of names q) ++ rest)) ≡ Ok (quotient p q, rest)
+    → behind names (inner_of names d) (p, 32 ∷ 47 ∷ 32 ∷ (wrapped Plain q (text_of names q) ++ rest)) ≡ Ok (quotient p q, rest)
 unfolding bottom_at next_is trim
 bottom_back names p q d rest are back sound deep digit =
     ap (λ r. r >>= λ bottom. Ok (quotient p bottom.0, bottom.1))
-    (operand_space names (inner_of names d) (wrapped q (text_of names q) ++ rest) ∙ operand_from names q are back d rest sound deep digit)
+    (operand_space names (inner_of names d) (wrapped Plain q (text_of names q) ++ rest) ∙ operand_from names q are back d rest sound deep digit)
 
 quotient_back : (names : List (List ℕ)) (p q : Tree) → AreKnown names → ExprBack names p → ExprBack names q → ExprBack names (quotient p q)
 quotient_back names p q are bp bq d rest sound deep ends =
     let n = length names in
     let parts = and_true (is_readable n p) (is_readable n q) sound in
-    let wp = wrapped p (text_of names p) in
-    let wq = wrapped q (text_of names q) in
+    let wp = wrapped Plain p (text_of names p) in
+    let wq = wrapped Plain q (text_of names q) in
     ap (expr_with names (inner_of names d)) (append_assoc wp (32 ∷ 47 ∷ 32 ∷ wq) rest)
     ∙ first_back names p d (32 ∷ 47 ∷ 32 ∷ (wq ++ rest)) are bp parts.0 (omega arith) refl
     ∙ bottom_back names p q d rest are bq parts.1 (omega arith) ends.digit
@@ -152,7 +153,7 @@ sum_back names u e are back (suc d) rest sound deep ends =
     let below = ltb-true u (2 ^ n) more.0 in
     let text = text_of names e in
     let inner = expr_with names (inner_of names d) in
-    let commas = comma_text (member_names names (has u)) in
+    let commas = names_in Plain (member_names names (has u)) in
     let bytes = ((commas ++ 125 ∷ []) ++ 32 ∷ text) ++ rest in
     let grouped : bytes ≡ commas ++ 125 ∷ 32 ∷ (text ++ rest) =
     append_assoc (commas ++ 125 ∷ []) (32 ∷ text) rest ∙ append_assoc commas (125 ∷ []) (32 ∷ (text ++ rest)) in
@@ -176,16 +177,16 @@ trees_again : (ts : Trees) → trees_of (list_of ts) ≡ ts
 trees_again no_trees = refl
 trees_again (tree t ts) = ap (tree t) (trees_again ts)
 
-stops_factors : (names : List (List ℕ)) (ts : Trees) (rest : List ℕ) → Stops is_digit rest → Stops is_digit (more_factors_text names ts ++ rest)
+stops_factors : (names : List (List ℕ)) (ts : Trees) (rest : List ℕ) → Stops is_digit rest → Stops is_digit (factors_in Plain true names ts ++ rest)
 stops_factors names no_trees rest s = s
 stops_factors names (tree t ts) rest s = refl
 
 factor_back : (names : List (List ℕ)) (before : List Tree) (t : Tree) (ts : Trees) (d : ℕ) (rest : List ℕ) → AreKnown names → ExprBack names t → is_readable (length names) t ≡ true → deeper t (nesting t) ≤ d → Stops is_digit rest
-    → factor_at names (inner_of names d) before (32 ∷ ((wrapped t (text_of names t) ++ more_factors_text names ts) ++ rest)) ≡ Ok (before ++ t ∷ [], more_factors_text names ts ++ rest)
+    → factor_at names (inner_of names d) before (32 ∷ ((wrapped Plain t (text_of names t) ++ factors_in Plain true names ts) ++ rest)) ≡ Ok (before ++ t ∷ [], factors_in Plain true names ts ++ rest)
 unfolding factor_at
 factor_back names before t ts d rest are back sound deep digit =
-    let w = wrapped t (text_of names t) in
-    let more = more_factors_text names ts in
+    let w = wrapped Plain t (text_of names t) in
+    let more = factors_in Plain true names ts in
     ap (λ r. r >>= λ next. Ok (before ++ next.0 ∷ [], next.1)) (
     operand_space names (inner_of names d) ((w ++ more) ++ rest)
     ∙ ap (operand_at names (inner_of names d)) (append_assoc w more rest)
@@ -195,7 +196,7 @@ regroup : (before : List Tree) (t : Tree) (ts : List Tree) → (before ++ t ∷ 
 regroup before t ts = append_assoc before (t ∷ []) ts
 
 more_back : (names : List (List ℕ)) (ts : Trees) (d : ℕ) (rest : List ℕ) → AreKnown names → EachBack names ts → are_readable (length names) ts ≡ true → nesting_each ts ≤ d → Ends rest
-    → (fuel : ℕ) (before : List Tree) → length (list_of ts) ≤ fuel → repeat (factor_step names (inner_of names d)) fuel before (more_factors_text names ts ++ rest) ≡ Ok (before ++ list_of ts, rest)
+    → (fuel : ℕ) (before : List Tree) → length (list_of ts) ≤ fuel → repeat (factor_step names (inner_of names d)) fuel before (factors_in Plain true names ts ++ rest) ≡ Ok (before ++ list_of ts, rest)
 unfolding next_is trim
 more_back names no_trees d rest are each sound deep ends fuel before le =
     end_with (factor_step names (inner_of names d)) before rest fuel (ap (λ o. when o None (λ r. Some (factor_at names (inner_of names d) before r))) ends.star)
@@ -209,20 +210,20 @@ more_back names (tree t ts) d rest are each sound deep ends (suc fuel) before le
     ∙ more_back names ts d rest are each.1 parts.1 (omega arith) ends fuel (before ++ t ∷ []) (omega arith)
     ∙ ap (λ ts. Ok (ts, rest)) (regroup before t (list_of ts))
 
-fewer : (names : List (List ℕ)) (ts : Trees) (rest : List ℕ) → length (list_of ts) ≤ length (more_factors_text names ts ++ rest)
+fewer : (names : List (List ℕ)) (ts : Trees) (rest : List ℕ) → length (list_of ts) ≤ length (factors_in Plain true names ts ++ rest)
 fewer names no_trees rest = omega arith
 fewer names (tree t ts) rest =
-    let w = wrapped t (text_of names t) in
-    let more = more_factors_text names ts in
+    let w = wrapped Plain t (text_of names t) in
+    let more = factors_in Plain true names ts in
     omega (arith, fewer names ts rest, ap length (append_assoc w more rest), length-append w (more ++ rest))
 
 factors_back : (names : List (List ℕ)) (t u : Tree) (ts : Trees) (d : ℕ) (rest : List ℕ) → AreKnown names → ExprBack names u → EachBack names ts → is_readable (length names) u ≡ true → are_readable (length names) ts ≡ true
     → deeper u (nesting u) ≤ d → nesting_each ts ≤ d → Ends rest
-    → factors_at names (inner_of names d) t (32 ∷ ((wrapped u (text_of names u) ++ more_factors_text names ts) ++ rest)) ≡ Ok (product (tree t (tree u ts)), rest)
+    → factors_at names (inner_of names d) t (32 ∷ ((wrapped Plain u (text_of names u) ++ factors_in Plain true names ts) ++ rest)) ≡ Ok (product (tree t (tree u ts)), rest)
 unfolding factors_at
 factors_back names t u ts d rest are back each su ss du ds ends =
     let step = factor_step names (inner_of names d) in
-    let more = more_factors_text names ts in
+    let more = factors_in Plain true names ts in
     ap (λ r. r >>= λ two. repeat step (length two.1) two.0 two.1 >>= λ all. Ok (product (trees_of all.0), all.1)) (factor_back names (t ∷ []) u ts d rest are back su du ends.digit)
     ∙ ap (λ r. r >>= λ all. Ok (product (trees_of all.0), all.1)) (more_back names ts d rest are each ss ds ends (length (more ++ rest)) (t ∷ u ∷ []) (fewer names ts rest))
     ∙ ap (λ ts. Ok (product (tree t (tree u ts)), rest)) (trees_again ts)
@@ -238,8 +239,8 @@ product_back names (tree t (tree u ts)) are each d rest sound deep ends =
     let n = length names in
     let one = and_true (is_readable n t) (is_readable n u && are_readable n ts) sound in
     let two = and_true (is_readable n u) (are_readable n ts) one.1 in
-    let w = wrapped t (text_of names t) in
-    let more = wrapped u (text_of names u) ++ more_factors_text names ts in
+    let w = wrapped Plain t (text_of names t) in
+    let more = wrapped Plain u (text_of names u) ++ factors_in Plain true names ts in
     ap (expr_with names (inner_of names d)) (append_assoc w (32 ∷ 42 ∷ 32 ∷ more) rest)
     ∙ first_back names t d (32 ∷ 42 ∷ 32 ∷ (more ++ rest)) are each.0 one.0 (omega arith) refl
     ∙ behind_star names (inner_of names d) t (32 ∷ (more ++ rest))

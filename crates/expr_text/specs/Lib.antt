@@ -1,6 +1,5 @@
 pub mod Bytes
 pub mod Grammar
-pub mod Latex
 pub mod Laws
 pub mod Read
 pub mod Sound

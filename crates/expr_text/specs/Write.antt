@@ -1,49 +1,79 @@
--- The text of an expression, and of a formula.
+-- The text of an expression, and of a formula, in either notation.
 use Rattle.std.specs.Prelude.{ℕ, suc, ◌+◌, max, Bool, true, false, List, [], ◌∷◌, ◌++◌, if◌then◌else◌, codes, decimal}
 use Rattle.mixed_graph.specs.Bits.{has}
-use Rattle.answer_text.specs.Texts.{set_text, term_text}
+use Rattle.answer_text.specs.declared.signs.Notation.{Notation}
+use Rattle.answer_text.specs.declared.signs.Notation.TheVariants.{Plain, Latex}
+use Rattle.answer_text.specs.declared.signs.Sign.TheVariants.{Sum, Times, Open, Close}
+use Rattle.answer_text.specs.Notations.{sign_text, by_notation}
+use Rattle.answer_text.specs.Texts.{set_in, term_in}
 use Rattle.prob_expr.specs.Tree.{Tree, prob, sum, product, quotient, named, Trees, no_trees, tree, PlainFormula}
 
 -- a text in parentheses
-abbrev pub parenthesized : List ℕ → List ℕ
-parenthesized text = codes "(" ++ (text ++ codes ")")
+abbrev pub parenthesized : Notation → List ℕ → List ℕ
+parenthesized notation text = sign_text notation Open ++ (text ++ sign_text notation Close)
 
 -- the text of an expression as an operand: sums, products and quotients stand in parentheses
-abbrev pub wrapped : Tree → List ℕ → List ℕ
-wrapped (prob a b c) text = text
-wrapped (sum u e) text = parenthesized text
-wrapped (product ts) text = parenthesized text
-wrapped (quotient p q) text = parenthesized text
-wrapped (named k) text = text
+abbrev pub wrapped : Notation → Tree → List ℕ → List ℕ
+wrapped notation (prob a b c) text = text
+wrapped notation (sum u e) text = parenthesized notation text
+wrapped notation (product ts) text = parenthesized notation text
+wrapped notation (quotient p q) text = parenthesized notation text
+wrapped notation (named k) text = text
+
+-- two operands with a slash between them; in LaTeX a fraction, whose parts have no parentheses
+abbrev pub quotient_in : Notation → (p q : Tree) → (top bottom : List ℕ) → List ℕ
+quotient_in Plain p q top bottom = wrapped Plain p top ++ (codes " / " ++ wrapped Plain q bottom)
+quotient_in Latex p q top bottom = codes "\\frac{" ++ (top ++ (codes "}{" ++ (bottom ++ codes "}")))
+
+-- the name of a definition: `q` and its number
+abbrev pub name_of_def : Notation → ℕ → List ℕ
+name_of_def notation k = by_notation notation (codes "q" ++ decimal k) (codes "q_{" ++ (decimal k ++ codes "}"))
+
+-- a factor, and the sign of a product before it if others were there
+abbrev pub factor_in : Notation → Bool → List ℕ → List ℕ
+factor_in notation started text = if started then sign_text notation Times ++ text else text
 
 abbrev mutual
-  -- a term as `P(Y|do(X),Z)`; a sum as `sum{A,B} ` and its body; factors and the parts of a quotient as operands;
-  -- a definition as `q` and its number
-  pub text_of : List (List ℕ) → Tree → List ℕ
-  text_of names (prob a b c) = term_text names (has a) (has b) (has c)
-  text_of names (sum u e) = codes "sum" ++ (set_text names u ++ (codes " " ++ text_of names e))
-  text_of names (product ts) = factors_text names ts
-  text_of names (quotient p q) = wrapped p (text_of names p) ++ (codes " / " ++ wrapped q (text_of names q))
-  text_of names (named k) = codes "q" ++ decimal k
+  -- a term as `P(Y|do(X),Z)`; a sum as its sign, the set and the body; factors as operands
+  pub expr_in : Notation → List (List ℕ) → Tree → List ℕ
+  expr_in notation names (prob a b c) = term_in notation names (has a) (has b) (has c)
+  expr_in notation names (sum u e) = sign_text notation Sum ++ (set_in notation names u ++ (codes " " ++ expr_in notation names e))
+  expr_in notation names (product ts) = factors_in notation false names ts
+  expr_in notation names (quotient p q) = quotient_in notation p q (expr_in notation names p) (expr_in notation names q)
+  expr_in notation names (named k) = name_of_def notation k
 
-  pub factors_text : List (List ℕ) → Trees → List ℕ
-  factors_text names no_trees = []
-  factors_text names (tree t ts) = wrapped t (text_of names t) ++ more_factors_text names ts
+  -- factors, the first ones or behind others
+  pub factors_in : Notation → (started : Bool) → List (List ℕ) → Trees → List ℕ
+  factors_in notation started names no_trees = []
+  factors_in notation started names (tree t ts) = factor_in notation started (wrapped notation t (expr_in notation names t)) ++ factors_in notation true names ts
 
-  pub more_factors_text : List (List ℕ) → Trees → List ℕ
-  more_factors_text names no_trees = []
-  more_factors_text names (tree t ts) = codes " * " ++ (wrapped t (text_of names t) ++ more_factors_text names ts)
+-- each definition on a line of its own, behind its name and ` = `
+abbrev pub defs_in : Notation → List (List ℕ) → ℕ → List Tree → List ℕ
+defs_in notation names k [] = []
+defs_in notation names k (d ∷ ds) =
+    codes "\n" ++ (name_of_def notation k ++ (codes " = " ++ (expr_in notation names d ++ defs_in notation names (k + 1) ds)))
 
--- a factor, and a star before it if others were there
-abbrev pub factor_text : Bool → List ℕ → List ℕ
-factor_text started text = if started then codes " * " ++ text else text
+-- the main expression, and then the definitions
+abbrev pub formula_in : Notation → List (List ℕ) → PlainFormula → List ℕ
+formula_in notation names f = expr_in notation names f.main ++ defs_in notation names 0 f.defs
 
--- factors behind others, or the first ones
-abbrev pub rest_factors : Bool → List (List ℕ) → Trees → List ℕ
-rest_factors true names ts = more_factors_text names ts
-rest_factors false names ts = factors_text names ts
+-- ---- plain text, and LaTeX
 
--- how many parentheses and sums stand round the innermost part of a text
+abbrev pub text_of : List (List ℕ) → Tree → List ℕ
+text_of names t = expr_in Plain names t
+
+abbrev pub latex_of : List (List ℕ) → Tree → List ℕ
+latex_of names t = expr_in Latex names t
+
+abbrev pub formula_text : List (List ℕ) → PlainFormula → List ℕ
+formula_text names f = formula_in Plain names f
+
+abbrev pub formula_latex : List (List ℕ) → PlainFormula → List ℕ
+formula_latex names f = formula_in Latex names f
+
+-- ---- what is read back
+
+-- how many parentheses and sums stand round the innermost part of a plain text
 abbrev pub deeper : Tree → ℕ → ℕ
 deeper (prob a b c) n = n
 deeper (sum u e) n = suc n
@@ -62,17 +92,6 @@ abbrev mutual
   pub nesting_each : Trees → ℕ
   nesting_each no_trees = 0
   nesting_each (tree t ts) = max (deeper t (nesting t)) (nesting_each ts)
-
--- ---- formulas
-
--- each definition on a line of its own, behind `qk = `
-abbrev pub defs_text : List (List ℕ) → ℕ → List Tree → List ℕ
-defs_text names k [] = []
-defs_text names k (d ∷ ds) = codes "\nq" ++ (decimal k ++ (codes " = " ++ (text_of names d ++ defs_text names (k + 1) ds)))
-
--- the main expression, and then the definitions
-abbrev pub formula_text : List (List ℕ) → PlainFormula → List ℕ
-formula_text names f = text_of names f.main ++ defs_text names 0 f.defs
 
 -- the deepest nesting in a list of trees
 abbrev pub nesting_all : List Tree → ℕ

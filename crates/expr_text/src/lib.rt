@@ -13,7 +13,6 @@
 #![tactic(auto)]
 
 mod bytes;
-mod latex;
 mod laws;
 mod reading;
 mod stop;
@@ -21,8 +20,7 @@ mod target;
 mod tokens;
 mod writing;
 
-pub use latex::latex_text;
 pub use laws::{the_grammar, written_is_read};
 pub use reading::{TextFault, read_expr, read_formula};
-pub use target::{target_latex, target_text};
-pub use writing::{formula_text, write_expr};
+pub use target::{target_in, target_latex, target_text};
+pub use writing::{formula_in, formula_text, latex_text, write_expr};

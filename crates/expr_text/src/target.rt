@@ -3,11 +3,9 @@ ghost use Rattle.mixed_graph.specs.Bits.{has};
 ghost use Rattle.mixed_graph.specs.Sets.{Within};
 ghost use Rattle.prob_expr.specs.Tree.{term_of};
 ghost use Rattle.prob_expr.specs.View.{target_view};
-ghost use Rattle.expr_text.specs.Latex.{latex_of};
-ghost use Rattle.expr_text.specs.Write.{text_of};
+ghost use Rattle.expr_text.specs.Write.{expr_in, text_of, latex_of};
 
-use crate::latex;
-use answer_text::{Term, push_term};
+use answer_text::{Notation, Term, push_term_in};
 use mixed_graph::Names;
 use prob_expr::Target;
 use std::alloc::{AllocError, Global};
@@ -25,6 +23,23 @@ fn term(target: &Target) -> Term
     }
 }
 
+/// A target in a notation: the term `P(Y|do(X))`, or `P(Y)` where X is empty.
+pub fn target_in(
+    alloc: Global,
+    notation: Notation,
+    target: &Target,
+    names: &Names,
+) -> Result<Vec<u8>, AllocError>
+    requires what { Within (length names.now) (has target.now.y.bits) }
+    requires doing { Within (length names.now) (has target.now.x.bits) }
+    requires given { Within (length names.now) (has target.now.given.bits) }
+    ensures { IfOk result (λ v. v.items ≡ expr_in notation names.now (term_of (target_view target.now))) }
+{
+    let mut out = Vec::new(alloc);
+    push_term_in(&mut out, notation, names, term(target))?;
+    Ok(out)
+}
+
 /// The text of a target: the term `P(Y|do(X))`, or `P(Y)` where X is empty.
 pub fn target_text(alloc: Global, target: &Target, names: &Names) -> Result<Vec<u8>, AllocError>
     requires what { Within (length names.now) (has target.now.y.bits) }
@@ -32,9 +47,7 @@ pub fn target_text(alloc: Global, target: &Target, names: &Names) -> Result<Vec<
     requires given { Within (length names.now) (has target.now.given.bits) }
     ensures { IfOk result (λ v. v.items ≡ text_of names.now (term_of (target_view target.now))) }
 {
-    let mut out = Vec::new(alloc);
-    push_term(&mut out, names, term(target))?;
-    Ok(out)
+    target_in(alloc, Notation::Plain, target, names)
 }
 
 /// A target as LaTeX: the term `P(Y \mid \mathrm{do}(X))`, or `P(Y)` where X is empty.
@@ -44,7 +57,5 @@ pub fn target_latex(alloc: Global, target: &Target, names: &Names) -> Result<Vec
     requires given { Within (length names.now) (has target.now.given.bits) }
     ensures { IfOk result (λ v. v.items ≡ latex_of names.now (term_of (target_view target.now))) }
 {
-    let mut out = Vec::new(alloc);
-    latex::push_term(alloc, &mut out, names, term(target))?;
-    Ok(out)
+    target_in(alloc, Notation::Latex, target, names)
 }

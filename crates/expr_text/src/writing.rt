@@ -1,14 +1,15 @@
-ghost use Rattle.std.specs.Prelude.{◌≡◌, ◌<◌, ◌≤◌, ◌++◌, ◌+◌, ℕ, length, OnOk, IfOk, codes, decimal, map, true, None};
+ghost use Rattle.std.specs.Prelude.{◌≡◌, ◌<◌, ◌≤◌, ◌++◌, ◌+◌, ℕ, length, OnOk, IfOk, codes, decimal, string_bytes, map, true, false, None};
 ghost use Rattle.mixed_graph.specs.Bits.{has};
-ghost use Rattle.answer_text.specs.Texts.{set_text, term_text};
+ghost use Rattle.answer_text.specs.Notations.{sign_text};
+ghost use Rattle.answer_text.specs.Texts.{set_in, term_in};
 ghost use Rattle.prob_expr.specs.Check.{fault_in};
 ghost use Rattle.prob_expr.specs.Masks.{is_below, is_empty};
 ghost use Rattle.prob_expr.specs.Terms.{is_term};
 ghost use Rattle.prob_expr.specs.View.{view, views, formula_view};
 ghost use Rattle.expr_text.specs.Sound.{is_sound, are_sound, all_sound};
-ghost use Rattle.expr_text.specs.Write.{parenthesized, factor_text, wrapped, text_of, factors_text, more_factors_text, defs_text, formula_text};
+ghost use Rattle.expr_text.specs.Write.{parenthesized, factor_in, wrapped, quotient_in, name_of_def, expr_in, factors_in, defs_in, formula_in, text_of, formula_text, formula_latex};
 
-use answer_text::{Term, push_set, push_term};
+use answer_text::{Notation, Sign, Term, push_set_in, push_sign, push_term_in};
 use mixed_graph::{Names, VSet};
 use prob_expr::{Expr, Formula};
 use std::alloc::{AllocError, Global};
@@ -17,69 +18,112 @@ use std::alloc::{AllocError, Global};
 #[tactic(auto, using(crate::proofs::Within::first_within, crate::proofs::Within::second_within, crate::proofs::Within::third_within))]
 fn put_term(
     out: &mut Vec<u8>,
+    notation: Notation,
     names: &Names,
     of: VSet,
     doing: VSet,
     given: VSet,
 ) -> Result<(), AllocError>
     requires { is_term (length names.now) of.bits doing.bits given.bits ≡ true }
-    ensures { OnOk result (out.new.items ≡ out.old.items ++ term_text names.now (has of.bits) (has doing.bits) (has given.bits)) }
+    ensures { OnOk result (out.new.items ≡ out.old.items ++ term_in notation names.now (has of.bits) (has doing.bits) (has given.bits)) }
 {
-    push_term(out, names, Term { of, doing, given })
+    push_term_in(out, notation, names, Term { of, doing, given })
 }
 
-/// Appends `sum` and the set over which the sum is.
+/// Appends the sign of a sum and the set over which the sum is.
 #[tactic(auto, using(crate::proofs::Within::below_within))]
-fn put_over(out: &mut Vec<u8>, names: &Names, over: VSet) -> Result<(), AllocError>
+fn put_over(
+    out: &mut Vec<u8>,
+    notation: Notation,
+    names: &Names,
+    over: VSet,
+) -> Result<(), AllocError>
     requires { is_below (length names.now) over.bits ≡ true }
-    ensures { OnOk result (out.new.items ≡ out.old.items ++ (codes "sum" ++ (set_text names.now over.bits ++ codes " "))) }
+    ensures { OnOk result (out.new.items ≡ out.old.items ++ (sign_text notation Sign.Sum ++ (set_in notation names.now over.bits ++ codes " "))) }
 {
-    out.extend_from_slice(b"sum")?;
-    push_set(out, names, over)?;
+    push_sign(out, notation, Sign::Sum)?;
+    push_set_in(out, notation, names, over)?;
     out.extend_from_slice(b" ")?;
     Ok(())
 }
 
-/// Appends a definition's name.
-fn put_named(alloc: Global, out: &mut Vec<u8>, k: u32) -> Result<(), AllocError>
-    ensures { OnOk result (out.new.items ≡ out.old.items ++ (codes "q" ++ decimal k)) }
+/// The name of definition k.
+fn name_of_def(alloc: Global, notation: Notation, k: usize) -> Result<String, AllocError>
+    ensures { IfOk result (λ t. string_bytes t ≡ name_of_def notation k) }
 {
-    let text = format!(in alloc; "q{k}")?;
+    match notation {
+        Notation::Plain => format!(in alloc; "q{k}"),
+        Notation::Latex => format!(in alloc; "q_{{{k}}}"),
+    }
+}
+
+/// Appends the name of definition k.
+fn put_named(
+    alloc: Global,
+    out: &mut Vec<u8>,
+    notation: Notation,
+    k: usize,
+) -> Result<(), AllocError>
+    ensures { OnOk result (out.new.items ≡ out.old.items ++ name_of_def notation k) }
+{
+    let text = name_of_def(alloc, notation, k)?;
     out.extend_from_slice(text.as_bytes())?;
     Ok(())
 }
 
 /// Appends an expression.
 #[cycle(put)]
-fn put_expr(alloc: Global, out: &mut Vec<u8>, names: &Names, e: &Expr) -> Result<(), AllocError>
+fn put_expr(
+    alloc: Global,
+    out: &mut Vec<u8>,
+    notation: Notation,
+    names: &Names,
+    e: &Expr,
+) -> Result<(), AllocError>
     requires { is_sound (length names.now) (view e.now) ≡ true }
-    ensures { OnOk result (out.new.items ≡ out.old.items ++ text_of names.now (view e.now)) }
+    ensures { OnOk result (out.new.items ≡ out.old.items ++ expr_in notation names.now (view e.now)) }
 {
     match e {
-        Expr::Prob { of, doing, given } => put_term(out, names, *of, *doing, *given),
+        Expr::Prob { of, doing, given } => put_term(out, notation, names, *of, *doing, *given),
         Expr::Sum { over, body } => {
-            put_over(out, names, *over)?;
-            put_expr(alloc, out, names, body)
+            put_over(out, notation, names, *over)?;
+            put_expr(alloc, out, notation, names, body)
         }
-        Expr::Product(factors) => put_factors(alloc, out, names, factors),
-        Expr::Quotient { top, bottom } => {
-            put_operand(alloc, out, names, top)?;
-            out.extend_from_slice(b" / ")?;
-            put_operand(alloc, out, names, bottom)
-        }
-        Expr::Named(k) => put_named(alloc, out, *k),
+        Expr::Product(factors) => put_factors(alloc, out, notation, names, factors),
+        Expr::Quotient { top, bottom } => match notation {
+            Notation::Plain => {
+                put_operand(alloc, out, Notation::Plain, names, top)?;
+                out.extend_from_slice(b" / ")?;
+                put_operand(alloc, out, Notation::Plain, names, bottom)
+            }
+            Notation::Latex => {
+                out.extend_from_slice(b"\\frac{")?;
+                put_expr(alloc, out, Notation::Latex, names, top)?;
+                out.extend_from_slice(b"}{")?;
+                put_expr(alloc, out, Notation::Latex, names, bottom)?;
+                out.extend_from_slice(b"}")?;
+                Ok(())
+            }
+        },
+        Expr::Named(k) => put_named(alloc, out, notation, *k as usize),
     }
 }
 
 /// Appends an expression as an operand.
 #[cycle(put)]
-fn put_operand(alloc: Global, out: &mut Vec<u8>, names: &Names, e: &Expr) -> Result<(), AllocError>
+fn put_operand(
+    alloc: Global,
+    out: &mut Vec<u8>,
+    notation: Notation,
+    names: &Names,
+    e: &Expr,
+) -> Result<(), AllocError>
     requires { is_sound (length names.now) (view e.now) ≡ true }
-    ensures { OnOk result (out.new.items ≡ out.old.items ++ wrapped (view e.now) (text_of names.now (view e.now))) }
+    ensures { OnOk result (out.new.items ≡ out.old.items ++ wrapped notation (view e.now) (expr_in notation names.now (view e.now))) }
 {
     match e {
-        Expr::Prob { .. } | Expr::Named(_) => put_expr(alloc, out, names, e),
-        _ => put_parenthesized(alloc, out, names, e),
+        Expr::Prob { .. } | Expr::Named(_) => put_expr(alloc, out, notation, names, e),
+        _ => put_parenthesized(alloc, out, notation, names, e),
     }
 }
 
@@ -88,15 +132,16 @@ fn put_operand(alloc: Global, out: &mut Vec<u8>, names: &Names, e: &Expr) -> Res
 fn put_parenthesized(
     alloc: Global,
     out: &mut Vec<u8>,
+    notation: Notation,
     names: &Names,
     e: &Expr,
 ) -> Result<(), AllocError>
     requires { is_sound (length names.now) (view e.now) ≡ true }
-    ensures { OnOk result (out.new.items ≡ out.old.items ++ parenthesized (text_of names.now (view e.now))) }
+    ensures { OnOk result (out.new.items ≡ out.old.items ++ parenthesized notation (expr_in notation names.now (view e.now))) }
 {
-    out.extend_from_slice(b"(")?;
-    put_expr(alloc, out, names, e)?;
-    out.extend_from_slice(b")")?;
+    push_sign(out, notation, Sign::Open)?;
+    put_expr(alloc, out, notation, names, e)?;
+    push_sign(out, notation, Sign::Close)?;
     Ok(())
 }
 
@@ -105,38 +150,40 @@ fn put_parenthesized(
 fn put_factors(
     alloc: Global,
     out: &mut Vec<u8>,
+    notation: Notation,
     names: &Names,
     factors: &Vec<Expr>,
 ) -> Result<(), AllocError>
     requires { are_sound (length names.now) (views factors.now.items) ≡ true }
-    ensures { OnOk result (out.new.items ≡ out.old.items ++ factors_text names.now (views factors.now.items)) }
+    ensures { OnOk result (out.new.items ≡ out.old.items ++ factors_in notation false names.now (views factors.now.items)) }
 {
     let mut started = false;
     for factor in factors {
-        put_factor(alloc, out, names, started, factor)?;
+        put_factor(alloc, out, notation, names, started, factor)?;
         started = true;
     }
     Ok(())
 }
 
-/// Appends a factor, and a star before it if others were there.
+/// Appends a factor, and the sign of a product before it if others were there.
 #[cycle(put)]
 fn put_factor(
     alloc: Global,
     out: &mut Vec<u8>,
+    notation: Notation,
     names: &Names,
     started: bool,
     e: &Expr,
 ) -> Result<(), AllocError>
     requires { is_sound (length names.now) (view e.now) ≡ true }
-    ensures { OnOk result (out.new.items ≡ out.old.items ++ factor_text started (wrapped (view e.now) (text_of names.now (view e.now)))) }
+    ensures { OnOk result (out.new.items ≡ out.old.items ++ factor_in notation started (wrapped notation (view e.now) (expr_in notation names.now (view e.now)))) }
 {
     if started {
-        out.extend_from_slice(b" * ")?;
-        put_operand(alloc, out, names, e)?;
+        push_sign(out, notation, Sign::Times)?;
+        put_operand(alloc, out, notation, names, e)?;
         return Ok(());
     }
-    put_operand(alloc, out, names, e)
+    put_operand(alloc, out, notation, names, e)
 }
 
 /// The text of an expression.
@@ -145,7 +192,7 @@ pub fn write_expr(alloc: Global, e: &Expr, names: &Names) -> Result<Vec<u8>, All
     ensures { IfOk result (λ v. v.items ≡ text_of names.now (view e.now)) }
 {
     let mut out = Vec::new(alloc);
-    put_expr(alloc, &mut out, names, e)?;
+    put_expr(alloc, &mut out, Notation::Plain, names, e)?;
     Ok(out)
 }
 
@@ -153,16 +200,18 @@ pub fn write_expr(alloc: Global, e: &Expr, names: &Names) -> Result<Vec<u8>, All
 fn put_def(
     alloc: Global,
     out: &mut Vec<u8>,
+    notation: Notation,
     names: &Names,
     k: usize,
     def: &Expr,
 ) -> Result<(), AllocError>
     requires { is_sound (length names.now) (view def.now) ≡ true }
-    ensures { OnOk result (out.new.items ≡ out.old.items ++ (codes "\nq" ++ (decimal k ++ (codes " = " ++ text_of names.now (view def.now))))) }
+    ensures { OnOk result (out.new.items ≡ out.old.items ++ (codes "\n" ++ (name_of_def notation k ++ (codes " = " ++ expr_in notation names.now (view def.now))))) }
 {
-    let text = format!(in alloc; "\nq{k} = ")?;
-    out.extend_from_slice(text.as_bytes())?;
-    put_expr(alloc, out, names, def)?;
+    out.extend_from_slice(b"\n")?;
+    put_named(alloc, out, notation, k)?;
+    out.extend_from_slice(b" = ")?;
+    put_expr(alloc, out, notation, names, def)?;
     Ok(())
 }
 
@@ -170,18 +219,35 @@ fn put_def(
 fn put_defs(
     alloc: Global,
     out: &mut Vec<u8>,
+    notation: Notation,
     names: &Names,
     defs: &Vec<Expr>,
 ) -> Result<(), AllocError>
     requires { all_sound (length names.now) (map view defs.now.items) ≡ true }
-    ensures { OnOk result (out.new.items ≡ out.old.items ++ defs_text names.now 0 (map view defs.now.items)) }
+    ensures { OnOk result (out.new.items ≡ out.old.items ++ defs_in notation names.now 0 (map view defs.now.items)) }
 {
     let mut k = 0;
     for def in defs {
-        put_def(alloc, out, names, k, def)?;
+        put_def(alloc, out, notation, names, k, def)?;
         k += 1;
     }
     Ok(())
+}
+
+/// A formula that `check` accepts, in a notation.
+pub fn formula_in(
+    alloc: Global,
+    notation: Notation,
+    f: &Formula,
+    names: &Names,
+) -> Result<Vec<u8>, AllocError>
+    requires { fault_in (length names.now) (formula_view f.now) ≡ None }
+    ensures { IfOk result (λ v. v.items ≡ formula_in notation names.now (formula_view f.now)) }
+{
+    let mut out = Vec::new(alloc);
+    put_expr(alloc, &mut out, notation, names, &f.main)?;
+    put_defs(alloc, &mut out, notation, names, &f.defs)?;
+    Ok(out)
 }
 
 /// The text of a formula that `check` accepts.
@@ -189,8 +255,13 @@ pub fn formula_text(alloc: Global, f: &Formula, names: &Names) -> Result<Vec<u8>
     requires { fault_in (length names.now) (formula_view f.now) ≡ None }
     ensures { IfOk result (λ v. v.items ≡ formula_text names.now (formula_view f.now)) }
 {
-    let mut out = Vec::new(alloc);
-    put_expr(alloc, &mut out, names, &f.main)?;
-    put_defs(alloc, &mut out, names, &f.defs)?;
-    Ok(out)
+    formula_in(alloc, Notation::Plain, f, names)
+}
+
+/// A formula that `check` accepts, as LaTeX.
+pub fn latex_text(alloc: Global, f: &Formula, names: &Names) -> Result<Vec<u8>, AllocError>
+    requires { fault_in (length names.now) (formula_view f.now) ≡ None }
+    ensures { IfOk result (λ v. v.items ≡ formula_latex names.now (formula_view f.now)) }
+{
+    formula_in(alloc, Notation::Latex, f, names)
 }

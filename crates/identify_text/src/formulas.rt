@@ -5,10 +5,10 @@ ghost use Rattle.prob_expr.specs.Check.{fault_in};
 ghost use Rattle.prob_expr.specs.Masks.{join, minus};
 ghost use Rattle.prob_expr.specs.View.{formula_view, target_view};
 ghost use Rattle.expr_text.specs.Write.{text_of};
-ghost use Rattle.identify_text.specs.Answers.{effect, free_beside, free_line, formula_answer, latex_answer};
+ghost use Rattle.identify_text.specs.Answers.{effect, free_beside, free_line, answer_in, formula_answer, latex_answer};
 
-use answer_text::push_set;
-use expr_text::{formula_text, latex_text, target_latex, target_text};
+use answer_text::{Notation, push_set};
+use expr_text::{formula_in, target_in, target_text};
 use mixed_graph::{Names, VSet};
 use prob_expr::masks::{is_empty, join, minus};
 use prob_expr::{Formula, Target, free};
@@ -59,6 +59,30 @@ fn free_beside(alloc: Global, f: &Formula, target: &Target) -> Result<VSet, Allo
     Ok(minus(outside, target.given))
 }
 
+/// A target's formula in a notation, and the line of the variables that are free outside its sets, which is plain in both.
+fn answer_in(
+    alloc: Global,
+    notation: Notation,
+    f: &Formula,
+    target: &Target,
+    names: &Names,
+) -> Result<Vec<u8>, AllocError>
+    requires what { Within (length names.now) (has target.now.y.bits) }
+    requires doing { Within (length names.now) (has target.now.x.bits) }
+    requires given { Within (length names.now) (has target.now.given.bits) }
+    requires formula { fault_in (length names.now) (formula_view f.now) ≡ None }
+    ensures { IfOk result (λ v. v.items ≡ answer_in notation names.now (target_view target.now) (formula_view f.now)) }
+{
+    let mut text = target_in(alloc, notation, target, names)?;
+    text.extend_from_slice(b" = ")?;
+    let formula = formula_in(alloc, notation, f, names)?;
+    text.extend_from_slice(formula.as_slice())?;
+    text.push(b'\n')?;
+    let free = free_beside(alloc, f, target)?;
+    push_free(&mut text, names, free)?;
+    Ok(text)
+}
+
 /// The text of a target's formula, as `P(Y|do(X)) = sum{Z} P(Z) * P(Y|Z,X)`, and the line of the variables that are free outside its sets.
 ///
 /// Each line ends with a line feed.
@@ -74,14 +98,7 @@ pub fn formula_answer(
     requires formula { fault_in (length names.now) (formula_view f.now) ≡ None }
     ensures { IfOk result (λ v. v.items ≡ formula_answer names.now (target_view target.now) (formula_view f.now)) }
 {
-    let mut text = target_text(alloc, target, names)?;
-    text.extend_from_slice(b" = ")?;
-    let formula = formula_text(alloc, f, names)?;
-    text.extend_from_slice(formula.as_slice())?;
-    text.push(b'\n')?;
-    let free = free_beside(alloc, f, target)?;
-    push_free(&mut text, names, free)?;
-    Ok(text)
+    answer_in(alloc, Notation::Plain, f, target, names)
 }
 
 /// The same as LaTeX; the line of the free variables is as in the plain text.
@@ -97,12 +114,5 @@ pub fn latex_answer(
     requires formula { fault_in (length names.now) (formula_view f.now) ≡ None }
     ensures { IfOk result (λ v. v.items ≡ latex_answer names.now (target_view target.now) (formula_view f.now)) }
 {
-    let mut text = target_latex(alloc, target, names)?;
-    text.extend_from_slice(b" = ")?;
-    let formula = latex_text(alloc, f, names)?;
-    text.extend_from_slice(formula.as_slice())?;
-    text.push(b'\n')?;
-    let free = free_beside(alloc, f, target)?;
-    push_free(&mut text, names, free)?;
-    Ok(text)
+    answer_in(alloc, Notation::Latex, f, target, names)
 }

@@ -1,12 +1,12 @@
 use Rattle.std.proofs.Common.{◌≡◌, ◌++◌, drop, map, length, true}
 use Rattle.prob_expr.specs.View.{view}
 use Rattle.expr_text.specs.Sound.{all_sound}
-use Rattle.expr_text.specs.Write.{defs_text}
+use Rattle.expr_text.specs.Write.{defs_in}
 use Rattle.expr_text.proofs.writing.put_defs.Given as goal
 
 abbrev pub invariant-loop-def : goal.invariant-loop-def
 invariant-loop-def l = record {
   index : l.k ≡ l.def-index;
-  told : l.out.items ++ defs_text l.names l.k (map view (drop l.def-index l.def-items)) ≡ l.fn.out.items ++ defs_text l.names 0 (map view l.def-items);
+  told : l.out.items ++ defs_in l.notation l.names l.k (map view (drop l.def-index l.def-items)) ≡ l.fn.out.items ++ defs_in l.notation l.names 0 (map view l.def-items);
   sound : all_sound (length l.names) (map view (drop l.def-index l.def-items)) ≡ true;
 }

@@ -1,6 +1,6 @@
 use Rattle.std.proofs.Common.{◌≡◌, ◌++◌, drop}
-use Rattle.expr_text.specs.Latex.{escaped}
-use Rattle.expr_text.proofs.latex.push_escaped.Given as goal
+use Rattle.answer_text.specs.Notations.{escaped}
+use Rattle.answer_text.proofs.latex.push_escaped.Given as goal
 
 abbrev pub invariant-loop-byte : goal.invariant-loop-byte
 invariant-loop-byte l = l.out.items ++ escaped (drop l.byte-index l.bytes) ≡ l.fn.out.items ++ escaped l.bytes

@@ -3,7 +3,7 @@ use Rattle.mixed_graph.specs.Bits.{has}
 use Rattle.mixed_graph.specs.Sets.{Within}
 use Rattle.prob_expr.specs.View.{formula_view, target_view}
 use Rattle.identify_text.proofs.Free.{beside_within}
-use Rattle.identify_text.proofs.formulas.formula_answer.Goals as goal
+use Rattle.identify_text.proofs.formulas.answer_in.Goals as goal
 
 pub push_free-requires : goal.push_free-requires
 push_free-requires c = subst (λ m. Within (length c.args.names.now) (has m)) (sym c.in_ok-free.ensures)
