@@ -1,12 +1,13 @@
 -- From how a run ended to which status it has to have.
-use Rattle.std.proofs.Common.{◌≡◌, ℕ, List, ◌⊎◌, inl, inr, refl}
+use Rattle.std.proofs.Common.{◌≡◌, ℕ, List, ◌⊎◌, inl, inr, refl, ap, ◌∙◌}
 use Rattle.replies.specs.declared.outcome.Outcome.{Outcome}
 use Rattle.replies.specs.declared.outcome.Outcome.TheVariants.{Yes, No, Words, Graph, Second, Evaluation, Read, Write, Memory}
 use Rattle.replies.specs.Outcomes.{code_of}
 use Rattle.word_forms.proofs.Exact.{one_call}
 use Rattle.causal_cli.specs.Commands.{table, Request, Asks}
 use Rattle.causal_cli.specs.Run.{Run, Answers, by_words, by_file, by_both, Ends}
-use Rattle.causal_cli.specs.Complete.{NothingFailed, Answered, Complete, WordsAskOnce}
+use Rattle.causal_cli.specs.Complete.{NothingFailed, Answered, IsTold, IsExact, Complete, WordsAskOnce}
+use Rattle.causal_cli.proofs.OneAnswer.{one_answer, asked}
 
 pub words_ask_once : WordsAskOnce
 words_ask_once words row other uses others one two = one_call table refl words row other uses others one two
@@ -40,5 +41,12 @@ module _ (r : Run) (code : ℕ) where
   given Write text c h q a f = absurd (f.writes h.0.rose)
   given Memory text c h q a f = inr c
 
+  -- the inputs have one defined answer, so the status is that of each
+  exactly : (o : Outcome) (text : List ℕ) → code ≡ code_of o → Ends r o text → IsTold r → NothingFailed r → IsExact r code
+  exactly o text c h told f k line answers = let q = asked r k line answers in elim (given o text c h q.0 q.1 f) [
+    | inl found ↦ inl (found.status ∙ ap code_of (one_answer r told found.outcome k found.text line found.answers answers))
+    | inr memory ↦ inr memory
+  ]
+
   pub complete : (o : Outcome) (text : List ℕ) → code ≡ code_of o → Ends r o text → Complete r code
-  complete o text c h = record { refused = refused o text c h; answered = given o text c h }
+  complete o text c h = record { refused = refused o text c h; answered = given o text c h; exact = exactly o text c h }

@@ -10,5 +10,7 @@ mod DrawnCounts
 mod DrawnRuns
 mod Headlines
 mod CheckedRuns
+mod OneRequest
+mod OneAnswer
 mod CompleteRuns
 mod GraphRequests

@@ -1,11 +1,11 @@
 -- The other way round: which status a run has to have.
-use Rattle.std.specs.Prelude.{ℕ, ◌≡◌, ◌⊎◌, List}
+use Rattle.std.specs.Prelude.{ℕ, ◌≡◌, ◌⊎◌, false, List, Some}
 use Rattle.causal_io.specs.Causes.{Rose}
 use Rattle.word_forms.specs.Form.{Text}
 use Rattle.replies.specs.declared.outcome.Outcome.{Outcome}
 use Rattle.replies.specs.Outcomes.{code_of, IsAnswered}
 use Rattle.causal_cli.specs.Commands.{Request, Asks, AskOnce}
-use Rattle.causal_cli.specs.Run.{Run, Answers}
+use Rattle.causal_cli.specs.Run.{Run, Answers, IsRead}
 
 -- no count of failures rose: of the reads of a name, or of the writes
 pub record NothingFailed (r : Run) : Type 0 where
@@ -20,10 +20,19 @@ pub record Answered (r : Run) (code : ℕ) : Type 0 where
   pub answered : IsAnswered outcome
   pub answers : Answers r outcome text
 
--- Where the words ask for nothing, the status is 2; where they ask for something and nothing failed, it is that of the defined answer. Or memory was refused.
+-- each input that a request of the words reads tells what it holds
+abbrev pub IsTold : Run → Type 0
+IsTold r = (q : Request) → Asks r.words q → (name : Text) → IsRead r q name → r.lacks name ≡ false → (bytes : List ℕ) × (r.held name ≡ Some bytes)
+
+-- whatever is the defined answer, the status is that of its outcome; or memory was refused
+abbrev pub IsExact : Run → ℕ → Type 0
+IsExact r code = (o : Outcome) (text : List ℕ) → Answers r o text → (code ≡ code_of o) ⊎ (code ≡ 8)
+
+-- Where the words ask for nothing, the status is 2; where they ask for something and nothing failed, it is that of a defined answer, and, where the inputs are told, of each defined answer. Or memory was refused.
 pub record Complete (r : Run) (code : ℕ) : Type 0 where
   pub refused : ((q : Request) → Asks r.words q → ⊥) → (code ≡ 2) ⊎ (code ≡ 8)
   pub answered : (q : Request) → Asks r.words q → NothingFailed r → Answered r code ⊎ (code ≡ 8)
+  pub exact : IsTold r → NothingFailed r → IsExact r code
 
 -- words ask for one call at most
 abbrev pub WordsAskOnce : Type 0

@@ -1,4 +1,4 @@
-use Rattle.std.proofs.Common.{refl}
+use Rattle.std.proofs.Common.{refl, arith}
 use Rattle.causal_cli.proofs.NeverFails.{sure_end}
 use Rattle.causal_cli.proofs.sure.run_surely.Goals as goal
 
@@ -7,3 +7,7 @@ returns-clause-read g c = (sure_end _ _ _ (λ name. refl) refl c.run.ensures.end
 
 pub returns-clause-write : goal.returns-clause-write
 returns-clause-write g c = (sure_end _ _ _ (λ name. refl) refl c.run.ensures.ended).1
+
+pub returns-clause-exact : goal.returns-clause-exact
+returns-clause-exact g c = c.run.ensures.complete.exact (λ q asks name is_read there. (_, refl))
+    (record { reads = λ name rose. absurd (omega (arith, rose)); writes = λ rose. absurd (omega (arith, rose)) })
