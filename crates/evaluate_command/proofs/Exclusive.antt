@@ -82,7 +82,7 @@ same_values kind e bytes count t u a b =
     let ls : u.levels ≡ t.levels = b.levels ∙ sym a.levels in
     let all = rows_in (layout_in (records_of bytes) e.names (used_in e) count) (rows_of (records_of bytes)) in
     let ws : counted u.vertices u.rows ≡ counted t.vertices t.rows =
-        fun_ext (λ k. fun_ext (λ s. b.rows k s ∙ ap (λ (v : List ℕ). counted v all k s) vs ∙ sym (a.rows k s))) in
+    fun_ext (λ k. fun_ext (λ s. b.rows k s ∙ ap (λ (v : List ℕ). counted v all k s) vs ∙ sym (a.rows k s))) in
     of_table kind e u
     ∙ ap (λ (v : List ℕ). values_of kind e v u.levels (counted u.vertices u.rows)) vs
     ∙ ap (λ (l : List (List Field)). values_of kind e t.vertices l (counted u.vertices u.rows)) ls
@@ -127,8 +127,8 @@ same_effect g h s x y e f a b =
     let xs : f.x ≡ e.x = one_set l.observed l.x e.x f.x a.sets.set_x sets.set_x in
     let ys : f.y ≡ e.y = one_set l.observed l.y e.y f.y a.sets.set_y sets.set_y in
     let found : IsIdentified e.graph e.x e.y f.formula =
-        subst (λ (k : ℕ). IsIdentified e.graph e.x k f.formula) ys (subst (λ (k : ℕ). IsIdentified e.graph k f.y f.formula) xs (subst (λ (q : MixedGraph). IsIdentified q f.x f.y f.formula) qs
-        (derived_is_identified f.graph f.x f.y f.formula b.identified.derivation b.identified.derived))) in
+    subst (λ (k : ℕ). IsIdentified e.graph e.x k f.formula) ys (subst (λ (k : ℕ). IsIdentified e.graph k f.y f.formula) xs (subst (λ (q : MixedGraph). IsIdentified q f.x f.y f.formula) qs
+    (derived_is_identified f.graph f.x f.y f.formula b.identified.derivation b.identified.derived))) in
     let fs : f.formula ≡ e.formula = one_formula e.graph e.x e.y f.formula e.formula found (derived_is_identified e.graph e.x e.y e.formula a.identified.derivation a.identified.derived) in
     ap (λ (k : List (List ℕ)). effect k f.graph f.x f.y f.formula) ns ∙ ap (λ (k : MixedGraph). effect e.names k f.x f.y f.formula) qs ∙ ap (λ (k : ℕ). effect e.names e.graph k f.y f.formula) xs
     ∙ ap (λ (k : ℕ). effect e.names e.graph e.x k f.formula) ys ∙ ap (λ (k : PlainFormula). effect e.names e.graph e.x e.y k) fs

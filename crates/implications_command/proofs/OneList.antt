@@ -81,7 +81,7 @@ module _ (g : MixedGraph) (list others : List Implication) (is : AreImplications
       let j = there.1 in
       let other : IsImplication g j = subst (IsImplication g) there.3 (are.each there.0 j there.2) in
       let given : IsGivenSet g i.a i.b (has j.given.bits) =
-          subst (λ (k : ℕ). IsGivenSet g i.a k (has j.given.bits)) there.4.1 (subst (λ (k : ℕ). IsGivenSet g k j.b (has j.given.bits)) there.4.0 other.given) in
+      subst (λ (k : ℕ). IsGivenSet g i.a k (has j.given.bits)) there.4.1 (subst (λ (k : ℕ). IsGivenSet g k j.b (has j.given.bits)) there.4.0 other.given) in
       let bits : j.given.bits ≡ i.given.bits = same_from_has j.given.bits i.given.bits (one_given g i.a i.b (has j.given.bits) (has i.given.bits) given imp.given) in
       let used : used_for j ≡ used_for i = same_used i j there.4.0 there.4.1 bits in
       of_member others there.0 j v there.2 (subst (λ (k : Implication). has (used_for k) v ≡ true) (sym there.3) (ap (λ (m : ℕ). has m v) used ∙ e))

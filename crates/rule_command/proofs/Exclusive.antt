@@ -22,7 +22,7 @@ module _ (rule : Rule) (q : MixedGraph) where
   holds_or_fails names y done z given text line a b =
       let k = a.blocked in let p = b.path in
       let path = subst (λ (m : MixedGraph). IsOpenPath m (has y) (has z) (λ v. has done v || has given v) p.vertices p.marks p.count)
-          (one_graph rule q (has done) (has z) (has given) b.is_open.graph k.graph b.is_open.is_graph k.is_graph) b.is_open.path in
+      (one_graph rule q (has done) (has z) (has given) b.is_open.graph k.graph b.is_open.is_graph k.is_graph) b.is_open.path in
       k.separated (slice_index p.vertices 0) (steps_from p.vertices p.marks 0 (p.count - 1)) path.walk
 
   -- lists name one set each
