@@ -8,5 +8,4 @@ pub mod Folds
 pub mod Positions
 pub mod Reaching
 pub mod Renumber
-pub mod Tabled
 pub mod Totals

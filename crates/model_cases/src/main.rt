@@ -8,6 +8,7 @@ mod adjusting;
 mod conditioning;
 mod derivations;
 mod factors;
+mod folding;
 mod formulas;
 mod identifying;
 mod listing;
@@ -28,6 +29,7 @@ fn answer(alloc: Global, row: &Value) -> Option<String> {
     match text(row, "kind") {
         "model" => models::model_row(alloc, row),
         "weight" => models::weight_row(alloc, row),
+        "folded model" => folding::folded_row(alloc, row),
         "rule" => ruling::rule_row(alloc, row),
         "formula" => formulas::formula_row(alloc, row),
         "same formulas" => formulas::same_row(alloc, row),

@@ -3,7 +3,7 @@ ghost use Rattle.mixed_graph.specs.Shown.{graph_of};
 ghost use Rattle.finite_models.specs.Models.{IsAssignment};
 ghost use Rattle.finite_models.specs.Worlds.{IsAccepted};
 
-use case_rows::{flag, graph, list, numbers, set};
+use case_rows::{flag, graph, list, number, numbers, set};
 use finite_models::{Cause, Mechanism, Model, ModelFault, Part, WeightFault, check_model, weight};
 use mixed_graph::{Graph, VSet};
 use serde_json::Value;
@@ -27,10 +27,18 @@ fn part_of(alloc: Global, row: &Value, name: &str) -> Option<Option<Part>> {
     }
 }
 
+/// The numbers of this name, or so many equal ones where the value says how many there are.
+fn listed_or_equal(alloc: Global, value: &Value, name: &str, equal: u32) -> Option<Vec<u32>> {
+    if value.get("many").is_some() {
+        return vec![in alloc; equal; number(value, "many") as usize].ok();
+    }
+    numbers(alloc, value, name)
+}
+
 /// The mechanism that a value is: a table of outputs, or two parts.
 fn mechanism(alloc: Global, value: &Value) -> Option<Mechanism> {
-    if value.get("outputs").is_some() {
-        let outputs = numbers(alloc, value, "outputs")?;
+    if value.get("outputs").is_some() || value.get("many").is_some() {
+        let outputs = listed_or_equal(alloc, value, "outputs", 0)?;
         return Some(Mechanism::Table { outputs });
     }
     let hedge = part_of(alloc, value, "hedge")?;
@@ -42,7 +50,7 @@ fn mechanism(alloc: Global, value: &Value) -> Option<Mechanism> {
 fn causes(alloc: Global, row: &Value) -> Option<Vec<Cause>> {
     let mut causes = Vec::new(alloc);
     for value in list(row, "causes") {
-        let weights = numbers(alloc, value, "weights")?;
+        let weights = listed_or_equal(alloc, value, "weights", 1)?;
         let children = set(value, "children");
         causes.push(Cause { weights, children }).ok()?;
     }
@@ -59,7 +67,7 @@ fn mechanisms(alloc: Global, row: &Value) -> Option<Vec<Mechanism>> {
 }
 
 /// The row's model.
-fn model(alloc: Global, row: &Value) -> Option<Model> {
+pub(crate) fn model(alloc: Global, row: &Value) -> Option<Model> {
     let sizes = numbers(alloc, row, "sizes")?;
     let causes = causes(alloc, row)?;
     let mechanisms = mechanisms(alloc, row)?;
@@ -89,7 +97,7 @@ pub(crate) fn model_row(alloc: Global, row: &Value) -> Option<String> {
 }
 
 /// Whether the model is accepted.
-fn is_accepted(g: &Graph, m: &Model) -> bool
+pub(crate) fn is_accepted(g: &Graph, m: &Model) -> bool
     ensures { IsTrue result → IsAccepted (graph_of g.now) m.now }
 {
     let n = g.n as usize;

@@ -1,4 +1,4 @@
--- A model whose mechanisms are the tables of another's has the same weights.
+-- A model whose mechanisms are tables with the values of another's has the same weights.
 use Rattle.std.proofs.Common.{ℕ, zero, suc, ◌+◌, ◌*◌, ◌/◌, ◌%◌, ◌≡◌, ◌<◌, ◌≤◌, Bool, true, false, not, cond, eqb, List, refl, sym, ap, ap₂, ◌∙◌, subst, arith, eqb-true, get_or}
 use Rattle.std.proofs.lemmas.Nat.{div-mul-add, mod-mul-add}
 use Rattle.mixed_graph.specs.Graphs.{MixedGraph, IsMixedGraph}
@@ -16,30 +16,6 @@ use Rattle.latent_projection.specs.Renumbering.{observed_below, renumbered_set}
 use Rattle.hidden_theory.specs.Folding.{Folds, values_after}
 use Rattle.hidden_theory.proofs.Positions.{member_is}
 
--- the digits of the number i, at the k below n with p k
-abbrev pub digits : ℕ → (ℕ → Bool) → (ℕ → ℕ) → ℕ → ℕ → ℕ
-digits zero p b i = λ k. 0
-digits (suc n) p b i = cond (p n) (set_at (digits n p b (i / b n)) n (i % b n)) (digits n p b i)
-
-pub digits_radix : (n : ℕ) (p : ℕ → Bool) (b s : ℕ → ℕ) → ((k : ℕ) → k < n → p k ≡ true → s k < b k) → (k : ℕ) → k < n → p k ≡ true → digits n p b (radix n p b s) k ≡ s k
-digits_radix zero p b s h k lt e = absurd (omega arith)
-digits_radix (suc n) p b s h k lt e = go (p n) refl (digits_radix n p b s (λ i il f. h i (omega arith) f) k)
-  where
-    less : eqb k n ≡ false → k < n
-    less q = let d : k ≡ n → ⊥ = λ t. absurd (grind (arith, t, q)) in omega arith
-
-    go : (c : Bool) → p n ≡ c → (k < n → p k ≡ true → digits n p b (radix n p b s) k ≡ s k)
-        → cond c (set_at (digits n p b (cond c (radix n p b s * b n + s n) (radix n p b s) / b n)) n (cond c (radix n p b s * b n + s n) (radix n p b s) % b n)) (digits n p b (cond c (radix n p b s * b n + s n) (radix n p b s))) k ≡ s k
-    go false f ih = ih (let d : k ≡ n → ⊥ = λ t. absurd (grind (arith, ap p t, e, f)) in omega arith) e
-    go true f ih = at (eqb k n) refl
-      where
-        last : s n < b n
-        last = h n (omega arith) f
-
-        at : (c : Bool) → eqb k n ≡ c → cond (eqb k n) ((radix n p b s * b n + s n) % b n) (digits n p b ((radix n p b s * b n + s n) / b n) k) ≡ s k
-        at true q = rw q (mod-mul-add (radix n p b s) (b n) (s n) last ∙ ap s (sym (eqb-true k n q)))
-        at false q = rw q (rw (div-mul-add (radix n p b s) (b n) (s n) last) (ih (less q) e))
-
 -- the models have the same vertices, causes and values, and in range the mechanisms of m' are tables of those of m
 pub record IsTabled (q : MixedGraph) (m m' : FiniteModel) : Type 0 where
   pub vertices : m'.vertices ≡ m.vertices
@@ -50,8 +26,7 @@ pub record IsTabled (q : MixedGraph) (m m' : FiniteModel) : Type 0 where
   pub serves : (j v : ℕ) → j < m.causes → m'.serves j v ≡ m.serves j v
   pub outputs : ℕ → List ℕ
   pub looked_up : (v : ℕ) → v < m.vertices → (s u : ℕ → ℕ) → m'.mechanism v s u ≡ table_value (outputs v) (table_index m'.vertices m'.causes (λ p. q.arrow p v) (λ j. m'.serves j v) m'.size m'.values s u)
-  pub listed : (v : ℕ) → v < m.vertices → (i : ℕ) → i < table_range m'.vertices m'.causes (λ p. q.arrow p v) (λ j. m'.serves j v) m'.size m'.values
-      → get_or (outputs v) i 0 ≡ m.mechanism v (digits m'.vertices (λ p. q.arrow p v) m'.size (i / radix_range m'.causes (λ j. m'.serves j v) m'.values)) (digits m'.causes (λ j. m'.serves j v) m'.values (i % radix_range m'.causes (λ j. m'.serves j v) m'.values))
+  pub agrees : (v : ℕ) → v < m.vertices → (s u : ℕ → ℕ) → IsAssignment m.vertices m.size s → IsAssignment m.causes m.values u → m'.mechanism v s u ≡ m.mechanism v s u
 
 module _ (q : MixedGraph) (m m' : FiniteModel) (ok : IsMixedGraph q) (fit : Fits q m) (is : IsTabled q m m') where
   assigned : (s : ℕ → ℕ) → IsAssignment m'.vertices m'.size s → IsAssignment m.vertices m.size s
@@ -65,35 +40,6 @@ module _ (q : MixedGraph) (m m' : FiniteModel) (ok : IsMixedGraph q) (fit : Fits
 
   world_back : (u : ℕ → ℕ) → IsAssignment m.causes m.values u → IsAssignment m'.causes m'.values u
   world_back u h j jl = let l : j < m.causes = subst (λ n. j < n) is.causes jl in subst (λ n. u j < n) (sym (is.values j l)) (h j l)
-
-  -- in range the table's value is the mechanism's
-  pub value_is : (v : ℕ) → v < m.vertices → (s u : ℕ → ℕ) → IsAssignment m.vertices m.size s → IsAssignment m.causes m.values u → m'.mechanism v s u ≡ m.mechanism v s u
-  value_is v vl s u hs hu =
-      is.looked_up v vl s u
-      ∙ is.listed v vl (table_index m'.vertices m'.causes parent cause m'.size m'.values s u) (table_index-lt m'.vertices m'.causes parent cause m'.size m'.values s u (λ p pl e. hs' p pl) (λ j jl e. hu' j jl))
-      ∙ ap₂ (λ x y. m.mechanism v (digits m'.vertices parent m'.size x) (digits m'.causes cause m'.values y))
-      (div-mul-add (radix m'.vertices parent m'.size s) low (radix m'.causes cause m'.values u) small) (mod-mul-add (radix m'.vertices parent m'.size s) low (radix m'.causes cause m'.values u) small)
-      ∙ fit.reads v vl (digits m'.vertices parent m'.size (radix m'.vertices parent m'.size s)) s (digits m'.causes cause m'.values (radix m'.causes cause m'.values u)) u
-      (λ p e. digits_radix m'.vertices parent m'.size s (λ k kl f. hs' k kl) p (subst (λ n. p < n) (sym (is.vertices ∙ fit.vertices)) (ok.tail_below p v e)) e)
-      (λ j jl e. digits_radix m'.causes cause m'.values u (λ k kl f. hu' k kl) j (subst (λ n. j < n) (sym is.causes) jl) (is.serves j v jl ∙ e))
-    where
-      parent : ℕ → Bool
-      parent p = q.arrow p v
-
-      cause : ℕ → Bool
-      cause j = m'.serves j v
-
-      low : ℕ
-      low = radix_range m'.causes (λ j. m'.serves j v) m'.values
-
-      hs' : IsAssignment m'.vertices m'.size s
-      hs' = assigned_back s hs
-
-      hu' : IsAssignment m'.causes m'.values u
-      hu' = world_back u hu
-
-      small : radix m'.causes (λ j. m'.serves j v) m'.values u < radix_range m'.causes (λ j. m'.serves j v) m'.values
-      small = radix-lt m'.causes (λ j. m'.serves j v) m'.values u (λ k kl f. hu' k kl)
 
   pub tabled_fits : Fits q m'
   tabled_fits = record {
@@ -109,7 +55,7 @@ module _ (q : MixedGraph) (m m' : FiniteModel) (ok : IsMixedGraph q) (fit : Fits
         ∙ sym (is.looked_up v l t w);
     below = λ v vl s u hs hu. let l = low_v v vl in
         let b : m.mechanism v s u < m.size v = fit.below v l s u (assigned s hs) (world u hu) in
-        subst (λ n. m'.mechanism v s u < n) (sym (is.sizes v l)) (subst (λ n. n < m.size v) (sym (value_is v l s u (assigned s hs) (world u hu))) b);
+        subst (λ n. m'.mechanism v s u < n) (sym (is.sizes v l)) (subst (λ n. n < m.size v) (sym (is.agrees v l s u (assigned s hs) (world u hu))) b);
   }
     where
       low_v : (v : ℕ) → v < m'.vertices → v < m.vertices
@@ -153,7 +99,7 @@ module _ (q : MixedGraph) (m m' : FiniteModel) (ok : IsMixedGraph q) (fit : Fits
     same u hu v vl =
         unique q (intervene m' b s) rank ranked second_follows u (solution (intervene m b s) u) (solution (intervene m' b s) u)
         (λ x xl. let l : x < m.vertices = subst (λ n. x < n) is.vertices xl in solution_is q (intervene m b s) rank ranked first_follows u x l
-        ∙ ap (λ y. cond (b x) (s x) y) (sym (value_is x l (solution (intervene m b s) u) u (solution_within q (intervene m b s) first_follows u hu) hu)))
+        ∙ ap (λ y. cond (b x) (s x) y) (sym (is.agrees x l (solution (intervene m b s) u) u (solution_within q (intervene m b s) first_follows u hu) hu)))
         (λ x xl. solution_is q (intervene m' b s) rank ranked second_follows u x xl) v (subst (λ n. v < n) (sym is.vertices) vl)
 
     same_agree : (u : ℕ → ℕ) → IsAssignment m.causes m.values u → agree m.vertices a (solution (intervene m b s) u) s ≡ agree m'.vertices a (solution (intervene m' b s) u) s

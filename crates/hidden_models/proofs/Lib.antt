@@ -1,0 +1,10 @@
+mod ListLaws
+mod Worlds
+mod Masks
+mod Reach
+mod DigitLaws
+mod OneEntry
+mod Tabled
+mod Compress
+mod Compose
+mod TooLarge

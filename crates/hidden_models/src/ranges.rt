@@ -1,0 +1,65 @@
+ghost use Rattle.std.specs.Prelude.{◌≡◌, ℕ, ◌*◌, ◌+◌, ◌^◌, ◌<◌, ◌≤◌, cond, min, length, slice_index};
+ghost use Rattle.mixed_graph.specs.Bits.{has};
+ghost use Rattle.mixed_graph.specs.Shown.{graph_of};
+ghost use Rattle.finite_models.specs.Tables.{radix_range};
+ghost use Rattle.finite_models.specs.Data.{weights_of};
+ghost use Rattle.hidden_models.specs.Reaching.{mask_at};
+ghost use Rattle.hidden_models.specs.Tables.{entries};
+
+use finite_models::Model;
+use mixed_graph::{Graph, VSet};
+
+/// The most entries of a table.
+pub const MOST_ENTRIES: u64 = 1_048_576;
+
+/// The range, times the base where it is kept, and at most one more than the most entries.
+fn widened(range: u64, kept: bool, base: usize) -> u64
+    requires { range ≤ 1048577 }
+    ensures { result ≡ cond kept (min (range * base) 1048577) range }
+{
+    if kept {
+        (u128::from(range) * base as u128).min(1_048_577) as u64
+    } else {
+        range
+    }
+}
+
+/// The number of values of the parents of v together, at most one more than the most entries.
+fn parents_range(p: &Graph, m: &Model, v: u8) -> u64
+    requires vertex { v < 64 }
+    requires sizes { length m.now.sizes.items ≡ p.now.n }
+    ensures { result ≡ min (radix_range p.now.n (λ k. (graph_of p.now).arrow k v) (λ k. slice_index m.now.sizes.items k)) 1048577 }
+{
+    let row = VSet {
+        bits: p.parents[v as usize],
+    };
+    let mut range = 1u64;
+    for k in 0..m.sizes.len() {
+        range = widened(range, row.has(k as u8), m.sizes[k] as usize);
+    }
+    range
+}
+
+/// The start times the number of values of the causes that reach v together, at most one more than the most entries.
+pub fn causes_range(m: &Model, reached: &[VSet], v: u8, start: u64) -> u64
+    requires vertex { v < 64 }
+    requires below { start ≤ 1048577 }
+    requires sets { length reached.now ≡ length m.now.causes.items }
+    ensures { result ≡ min (start * radix_range (length m.now.causes.items) (λ j. has (mask_at reached.now j) v) (λ j. length (weights_of m.now.causes.items j))) 1048577 }
+{
+    let mut range = start;
+    for j in 0..m.causes.len() {
+        range = widened(range, reached[j].has(v), m.causes[j].weights.len());
+    }
+    range
+}
+
+/// How many entries the table of v has, at most one more than the most.
+pub fn count_entries(p: &Graph, m: &Model, reached: &[VSet], v: u8) -> u64
+    requires vertex { v < 64 }
+    requires sizes { length m.now.sizes.items ≡ p.now.n }
+    requires sets { length reached.now ≡ length m.now.causes.items }
+    ensures { result ≡ min (entries (graph_of p.now) m.now reached.now v) 1048577 }
+{
+    causes_range(m, reached, v, parents_range(p, m, v))
+}
