@@ -1,7 +1,7 @@
 -- The data of a folded model means a table model of the model that the theory gives.
 use Rattle.std.specs.Prelude.{◌↔◌}
-use Rattle.std.proofs.Common.{ℕ, zero, suc, ◌^◌, ◌∷◌, ◌++◌, ◌+◌, ◌*◌, ◌/◌, ◌%◌, ◌≡◌, ◌<◌, ◌≤◌, Bool, true, false, not, cond, ◌&&◌, ◌==◌, nat_lt, List, [], length, map, get_or, IsTrue, refl, sym, ap, ap₂, ◌∙◌, subst, arith}
-use Rattle.std.proofs.lemmas.Bool.{false_from_ne_true, not_from_false, not_from_true, and_from, lt-ltb, ltb-true, eq-eqb, ne_eqb}
+use Rattle.std.proofs.Common.{ℕ, zero, suc, ◌^◌, ◌∷◌, ◌++◌, ◌+◌, ◌*◌, ◌≡◌, ◌<◌, Bool, true, false, not, cond, ◌&&◌, ◌==◌, nat_lt, List, [], length, map, get_or, IsTrue, refl, sym, ap, ap₂, ◌∙◌, subst, arith}
+use Rattle.std.proofs.lemmas.Bool.{false_from_ne_true, not_from_false, lt-ltb, eq-eqb, ne_eqb}
 use Rattle.std.proofs.lemmas.List.{get_or-map}
 use Rattle.std.proofs.lemmas.Nat.{div-mul-add, mod-mul-add}
 use Rattle.mixed_graph.specs.Bits.{has, members_below}
@@ -9,37 +9,34 @@ use Rattle.mixed_graph.specs.Graphs.{MixedGraph, IsMixedGraph}
 use Rattle.mixed_graph.specs.declared.sets.VSet.{VSet}
 use Rattle.mixed_graph.proofs.Masks.{positive_from_has, some_member}
 use Rattle.latent_projection.specs.Projection.{IsProjection}
-use Rattle.latent_projection.specs.Renumbering.{observed_below, renumbered_set, renumbered, IsObserved}
+use Rattle.latent_projection.specs.Renumbering.{observed_below, IsObserved}
 use Rattle.latent_projection.proofs.Numbering.{IsMixedGraph-renumbered}
 use Rattle.latent_projection.proofs.Projected.{IsMixedGraph-projection}
 use Rattle.latent_projection.proofs.Treks.{clash}
 use Rattle.finite_models.specs.Data.{weights_of, children_of, meaning, value_by, place_in_table}
 use Rattle.finite_models.specs.Models.{FiniteModel, Fits, IsAssignment}
-use Rattle.finite_models.specs.Faults.{HasForm}
 use Rattle.finite_models.specs.Inputs.{places_of, HasInputs, HasPartSize}
-use Rattle.finite_models.specs.Tables.{radix, radix_range, table_index, table_range, table_value}
+use Rattle.finite_models.specs.Tables.{radix, radix_range, table_value}
 use Rattle.finite_models.specs.Worlds.{values_of, IsAccepted}
 use Rattle.finite_models.specs.declared.kinds.Model.{Model}
-use Rattle.finite_models.specs.declared.kinds.Cause.{Cause}
 use Rattle.finite_models.specs.declared.kinds.Mechanism.{Mechanism}
 use Rattle.finite_models.specs.declared.kinds.Mechanism.TheVariants.{Table, Parity}
-use Rattle.finite_models.proofs.Bools.{and_first, and_second, same_truth}
+use Rattle.finite_models.proofs.Bools.{same_truth}
 use Rattle.finite_models.proofs.DataFits.{value_at}
 use Rattle.finite_models.proofs.Factors.{any_below_from, any_below_gives}
 use Rattle.finite_models.proofs.Following.{follows_of}
 use Rattle.finite_models.proofs.Places.{weights_of-at, children_of-at}
 use Rattle.finite_models.proofs.TableLaws.{radix-lt, table_index-lt}
 use Rattle.hidden_theory.proofs.Fold.{fold_follows}
-use Rattle.hidden_theory.proofs.Folding.{filled, fold, folded_by, TellsReached, by_treks, position, member, values_in}
+use Rattle.hidden_theory.proofs.Folding.{filled, fold, folded_by, by_treks, position, member, values_in}
 use Rattle.hidden_theory.proofs.Positions.{position_lt, member_position, member_is}
 use Rattle.hidden_theory.proofs.Reaching.{reached, reaches_some, tells_reached, reached_below, keeps_causes, observed_of}
 use Rattle.hidden_theory.specs.Folding.{Folds}
 use Rattle.hidden_theory.proofs.Folded.{by_fits, by_folds}
 use Rattle.hidden_models.proofs.Tabled.{IsTabled, tabled_fits, tabled_folds}
-use Rattle.hidden_models.specs.Folded.{TellsReach, IsCauseOf, AreFoldedCauses, table_size, IsFoldedData}
-use Rattle.hidden_models.specs.Lists.{AreListed}
+use Rattle.hidden_models.specs.Folded.{TellsReach, AreFoldedCauses, table_size, IsFoldedData}
 use Rattle.hidden_models.specs.Reaching.{IsReachedFrom, IsReachOf, AreReached, mask_at, has_some}
-use Rattle.hidden_models.specs.Tables.{world_range, entries, parents_at, causes_at, entry_at, AreEntries, IsTableFor}
+use Rattle.hidden_models.specs.Tables.{world_range, entries, parents_at, causes_at, AreEntries, IsTableFor}
 use Rattle.hidden_models.specs.Digits.{digits}
 use Rattle.hidden_models.proofs.Compress.{AreAt, radix_compress, range_compress}
 use Rattle.hidden_models.proofs.DigitLaws.{digits_radix}

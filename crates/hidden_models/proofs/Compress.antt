@@ -1,9 +1,9 @@
 -- A number in mixed radix over the members of a set, by their new numbers, is the one over all places.
-use Rattle.std.proofs.Common.{ℕ, zero, suc, ◌+◌, ◌*◌, ◌≡◌, ◌<◌, ◌≤◌, Bool, true, false, cond, ◌&&◌, refl, sym, ap, ap₂, ◌∙◌, subst, arith}
+use Rattle.std.proofs.Common.{ℕ, zero, suc, ◌+◌, ◌*◌, ◌≡◌, ◌<◌, Bool, true, false, cond, refl, sym, subst, arith}
 use Rattle.mixed_graph.proofs.Members.{length-members-zero}
 use Rattle.finite_models.specs.Tables.{radix, radix_range}
-use Rattle.hidden_theory.proofs.Folding.{position, member, values_in}
-use Rattle.hidden_theory.proofs.Positions.{position_suc, position_lt, member_position}
+use Rattle.hidden_theory.proofs.Folding.{position}
+use Rattle.hidden_theory.proofs.Positions.{position_suc}
 
 -- flags, bases and digits at the members of j by their new numbers, and at their old ones
 pub record AreAt (j : ℕ → Bool) (n : ℕ) (p' p : ℕ → Bool) (b' b s' s : ℕ → ℕ) : Type 0 where

@@ -6,7 +6,6 @@ use Rattle.mixed_graph.specs.Graphs.{MixedGraph, IsMixedGraph}
 use Rattle.mixed_graph.specs.declared.sets.VSet.{VSet}
 use Rattle.latent_projection.specs.Projection.{IsProjection}
 use Rattle.finite_models.specs.Data.{meaning}
-use Rattle.finite_models.specs.Models.{FiniteModel}
 use Rattle.finite_models.specs.Sums.{sum_below}
 use Rattle.finite_models.specs.Tables.{radix_range}
 use Rattle.finite_models.specs.Worlds.{values_of, IsAccepted}

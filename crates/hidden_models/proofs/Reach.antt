@@ -1,6 +1,6 @@
 -- Descendants along arrows out of hidden vertices alone are what is reached.
-use Rattle.std.proofs.Common.{ℕ, ◌≡◌, ◌<◌, Bool, true, false, ◌&&◌, nat_lt, List, [], ◌∷◌, sym, ◌∙◌}
-use Rattle.std.proofs.lemmas.Bool.{and_from, lt-ltb}
+use Rattle.std.proofs.Common.{ℕ, ◌≡◌, ◌<◌, Bool, true, false, ◌&&◌, List, [], ◌∷◌, sym}
+use Rattle.std.proofs.lemmas.Bool.{and_from}
 use Rattle.mixed_graph.specs.Graphs.{MixedGraph, IsMixedGraph, IsDirectedPath, IsDescendant, restricted}
 use Rattle.latent_projection.specs.Projection.{AreBefore}
 use Rattle.latent_projection.proofs.Treks.{left_true, right_true}

@@ -1,16 +1,15 @@
 -- A model whose mechanisms are tables with the values of another's has the same weights.
-use Rattle.std.proofs.Common.{ℕ, zero, suc, ◌+◌, ◌*◌, ◌/◌, ◌%◌, ◌≡◌, ◌<◌, ◌≤◌, Bool, true, false, not, cond, eqb, List, refl, sym, ap, ap₂, ◌∙◌, subst, arith, eqb-true, get_or}
-use Rattle.std.proofs.lemmas.Nat.{div-mul-add, mod-mul-add}
+use Rattle.std.proofs.Common.{ℕ, zero, suc, ◌*◌, ◌≡◌, ◌<◌, ◌≤◌, Bool, true, not, cond, List, sym, ap, ap₂, ◌∙◌, subst, arith, get_or}
 use Rattle.mixed_graph.specs.Graphs.{MixedGraph, IsMixedGraph}
-use Rattle.finite_models.specs.Sums.{set_at, product_below, sum_below, sum_over}
+use Rattle.finite_models.specs.Sums.{product_below, sum_below, sum_over}
 use Rattle.finite_models.specs.Models.{FiniteModel, Fits, IsAssignment, solution, agree, intervene, weight_of, world_weight, total}
-use Rattle.finite_models.specs.Tables.{radix, radix_range, table_index, table_range, table_value}
+use Rattle.finite_models.specs.Tables.{table_index, table_value}
 use Rattle.finite_models.proofs.Following.{Follows, follows_of, follows_intervene}
 use Rattle.finite_models.proofs.Ranks.{with_rank}
 use Rattle.finite_models.proofs.Solutions.{IsRanked, solution_is, solution_within, unique, agree_gives, agree_from}
 use Rattle.finite_models.proofs.Bools.{same_truth}
 use Rattle.finite_models.proofs.SumLaws.{sum_below-congr, product_below-congr}
-use Rattle.finite_models.proofs.TableLaws.{radix-lt, table_index-lt, table_reads}
+use Rattle.finite_models.proofs.TableLaws.{table_reads}
 use Rattle.prob_expr.proofs.Boxes.{assignment_set, sum_over_equal}
 use Rattle.latent_projection.specs.Renumbering.{observed_below, renumbered_set}
 use Rattle.hidden_theory.specs.Folding.{Folds, values_after}

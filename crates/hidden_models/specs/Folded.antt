@@ -1,5 +1,5 @@
 -- The folded model of a model of a diagram with hidden vertices, as data.
-use Rattle.std.specs.Prelude.{ℕ, ◌≡◌, ◌<◌, ◌≤◌, ◌^◌, ◌↔◌, Bool, List, length, slice_index, EachIndex, IsTrue, All}
+use Rattle.std.specs.Prelude.{ℕ, ◌≡◌, ◌<◌, ◌≤◌, ◌↔◌, Bool, List, length, slice_index, IsTrue}
 use Rattle.mixed_graph.specs.Bits.{has, members_below}
 use Rattle.mixed_graph.specs.Graphs.{MixedGraph}
 use Rattle.mixed_graph.specs.declared.sets.VSet.{VSet}
@@ -12,7 +12,7 @@ use Rattle.finite_models.specs.declared.kinds.Cause.{Cause}
 use Rattle.finite_models.specs.declared.kinds.Mechanism.{Mechanism}
 use Rattle.finite_models.specs.declared.kinds.Mechanism.TheVariants.{Table, Parity}
 use Rattle.hidden_models.specs.Lists.{AreListed}
-use Rattle.hidden_models.specs.Reaching.{IsReachedFrom, has_some, mask_at}
+use Rattle.hidden_models.specs.Reaching.{IsReachedFrom, mask_at}
 use Rattle.hidden_models.specs.Tables.{IsTableFor}
 use Rattle.hidden_models.specs.declared.faults.FoldFault.{FoldFault}
 use Rattle.hidden_models.specs.declared.faults.FoldFault.TheVariants.{TooLarge, NoMemory}

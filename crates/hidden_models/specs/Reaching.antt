@@ -1,6 +1,6 @@
 -- The observed vertices that a cause reaches.
 use Rattle.std.specs.Prelude.{ℕ, ◌≡◌, ◌<◌, ◌^◌, ◌↔◌, Bool, not, false, ◌==◌, List, length, map, slice_index, IsTrue}
-use Rattle.mixed_graph.specs.Bits.{has, members_below}
+use Rattle.mixed_graph.specs.Bits.{has}
 use Rattle.mixed_graph.specs.Graphs.{MixedGraph, IsDirectedPath}
 use Rattle.mixed_graph.specs.declared.sets.VSet.{VSet}
 use Rattle.latent_projection.specs.Projection.{AreBefore}

@@ -1,9 +1,9 @@
 -- The tables of a folded model, in the old numbers of vertices and causes.
-use Rattle.std.specs.Prelude.{ℕ, ◌≡◌, ◌<◌, ◌*◌, ◌/◌, ◌%◌, Bool, not, List, length, slice_index, get_or}
+use Rattle.std.specs.Prelude.{ℕ, ◌≡◌, ◌<◌, ◌*◌, ◌/◌, ◌%◌, Bool, List, length, slice_index}
 use Rattle.mixed_graph.specs.Bits.{has}
 use Rattle.mixed_graph.specs.Graphs.{MixedGraph}
 use Rattle.mixed_graph.specs.declared.sets.VSet.{VSet}
-use Rattle.finite_models.specs.Data.{weights_of, meaning}
+use Rattle.finite_models.specs.Data.{meaning}
 use Rattle.finite_models.specs.Models.{FiniteModel}
 use Rattle.finite_models.specs.Tables.{radix_range}
 use Rattle.finite_models.specs.Worlds.{values_of}

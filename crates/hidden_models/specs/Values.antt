@@ -1,5 +1,5 @@
 -- Values of causes and of hidden vertices.
-use Rattle.std.specs.Prelude.{ℕ, ◌≡◌, ◌<◌, Bool, not, List, length, slice_index}
+use Rattle.std.specs.Prelude.{ℕ, ◌≡◌, Bool, not, List, length, slice_index}
 use Rattle.finite_models.specs.Models.{FiniteModel, IsAssignment, solution, intervene}
 use Rattle.finite_models.specs.Worlds.{values_of}
 use Rattle.finite_models.specs.declared.kinds.Cause.{Cause}

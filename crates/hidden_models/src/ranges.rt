@@ -9,10 +9,7 @@ ghost use Rattle.hidden_models.specs.Tables.{entries};
 use finite_models::Model;
 use mixed_graph::{Graph, VSet};
 
-/// The most entries of a table.
-pub const MOST_ENTRIES: u64 = 1_048_576;
-
-/// The range, times the base where it is kept, and at most one more than the most entries.
+/// The range, times the base where it is kept, and at most 2^20 + 1.
 fn widened(range: u64, kept: bool, base: usize) -> u64
     requires { range ≤ 1048577 }
     ensures { result ≡ cond kept (min (range * base) 1048577) range }
@@ -24,7 +21,7 @@ fn widened(range: u64, kept: bool, base: usize) -> u64
     }
 }
 
-/// The number of values of the parents of v together, at most one more than the most entries.
+/// The number of values of the parents of v together, at most 2^20 + 1.
 fn parents_range(p: &Graph, m: &Model, v: u8) -> u64
     requires vertex { v < 64 }
     requires sizes { length m.now.sizes.items ≡ p.now.n }
@@ -40,7 +37,7 @@ fn parents_range(p: &Graph, m: &Model, v: u8) -> u64
     range
 }
 
-/// The start times the number of values of the causes that reach v together, at most one more than the most entries.
+/// The start times the number of values of the causes that reach v together, at most 2^20 + 1.
 pub fn causes_range(m: &Model, reached: &[VSet], v: u8, start: u64) -> u64
     requires vertex { v < 64 }
     requires below { start ≤ 1048577 }
@@ -54,7 +51,7 @@ pub fn causes_range(m: &Model, reached: &[VSet], v: u8, start: u64) -> u64
     range
 }
 
-/// How many entries the table of v has, at most one more than the most.
+/// How many entries the table of v has, at most 2^20 + 1.
 pub fn count_entries(p: &Graph, m: &Model, reached: &[VSet], v: u8) -> u64
     requires vertex { v < 64 }
     requires sizes { length m.now.sizes.items ≡ p.now.n }

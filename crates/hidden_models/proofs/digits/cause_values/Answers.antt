@@ -1,4 +1,4 @@
-use Rattle.std.proofs.Common.{◌≡◌, ◌<◌, ◌-◌, ◌∙◌, ℕ, refl, sym, ap, length, get_or, subst, arith}
+use Rattle.std.proofs.Common.{◌≡◌, ◌<◌, ◌-◌, ◌∙◌, ℕ, sym, ap, length, get_or, arith}
 use Rattle.std.proofs.lemmas.List.{length-set}
 use Rattle.mixed_graph.specs.Bits.{has}
 use Rattle.finite_models.specs.Worlds.{values_of}

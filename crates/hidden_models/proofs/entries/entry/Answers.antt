@@ -1,4 +1,4 @@
-use Rattle.std.proofs.Common.{◌≡◌, ◌<◌, ◌/◌, ◌%◌, ◌∙◌, ℕ, sym, ap, length, get_or, subst, arith}
+use Rattle.std.proofs.Common.{◌/◌, ◌%◌, sym, subst}
 use Rattle.mixed_graph.specs.Bits.{has}
 use Rattle.mixed_graph.specs.Shown.{graph_of}
 use Rattle.hidden_models.specs.Values.{IsWorldOf}

@@ -1,4 +1,4 @@
-use Rattle.std.proofs.Common.{◌≡◌, ◌<◌, ◌∙◌, ap, refl, sym, length, get_or, arith}
+use Rattle.std.proofs.Common.{◌<◌, ◌∙◌, ap, refl, sym, length, get_or, arith}
 use Rattle.mixed_graph.specs.Bits.{has}
 use Rattle.finite_models.specs.Data.{children_of}
 use Rattle.finite_models.specs.Worlds.{values_of}

@@ -1,4 +1,4 @@
-use Rattle.std.proofs.Common.{◌≡◌, ◌<◌, ◌≤◌, ◌∙◌, ℕ, not, length, List, get_or, sym, ap, subst, arith}
+use Rattle.std.proofs.Common.{◌∙◌, ℕ, not, length, List, ap, arith}
 use Rattle.mixed_graph.specs.Bits.{has}
 use Rattle.mixed_graph.specs.Shown.{graph_of}
 use Rattle.mixed_graph.proofs.Members.{length-members-le}

@@ -1,4 +1,4 @@
-use Rattle.std.proofs.Common.{◌≡◌, ◌<◌, ◌∙◌, ℕ, not, length, List, get_or, sym, ap, subst, arith}
+use Rattle.std.proofs.Common.{◌<◌, ◌∙◌, not, length, get_or, sym, ap, subst}
 use Rattle.mixed_graph.specs.Bits.{has}
 use Rattle.hidden_models.specs.Reaching.{has_some}
 use Rattle.hidden_models.proofs.ListLaws.{members-within}

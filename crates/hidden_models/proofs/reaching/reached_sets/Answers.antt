@@ -1,4 +1,4 @@
-use Rattle.std.proofs.Common.{◌≡◌, ◌<◌, ◌+◌, ◌∙◌, IsTrue, List, sym, ap, length, subst, arith}
+use Rattle.std.proofs.Common.{◌+◌, ◌∙◌, IsTrue, List, sym, ap, subst, arith}
 use Rattle.std.specs.Prelude.{◌↔◌}
 use Rattle.mixed_graph.specs.Bits.{has}
 use Rattle.mixed_graph.specs.Sets.{Within}
