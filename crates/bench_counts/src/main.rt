@@ -1,7 +1,10 @@
 //! What the bench times: a table of counts from standard input is read, and its sums are printed.
 //! With the word `lanes` counts are summed under a mask instead. With the words `plain` or `prepared` a front-door formula
 //! is evaluated over the table of standard input, by the plain evaluator at the first cells, or by the prepared form at more.
+//! With the word `differences` the largest differences of some pairs of a table of 20 vertices are timed.
 #![tactic(auto)]
+
+mod differences;
 
 ghost use Rattle.std.specs.Prelude.{◌≡◌, ◌<◌, ◌^◌, IfOk, length, sum};
 
@@ -13,11 +16,18 @@ use prob_expr::{Expr, Formula};
 use quantity::Bounds;
 use std::alloc::{AllocError, Global};
 use std::io::Read;
+use std::rt::Clock;
 use std::{env, io};
 use value_tables::prepare;
 
 /// The used vertices of the bench's table.
 const VERTICES: [&str; 4] = ["stone", "treatment", "sex", "year"];
+
+/// The vertices of the table whose differences are timed.
+const COLUMNS: [&str; 20] = [
+    "v0", "v1", "v2", "v3", "v4", "v5", "v6", "v7", "v8", "v9", "v10", "v11", "v12", "v13", "v14",
+    "v15", "v16", "v17", "v18", "v19",
+];
 
 /// The number of cells that are summed.
 const CELLS: usize = 1048576;
@@ -144,6 +154,8 @@ enum Asked {
     Plain,
     /// The same by the prepared form.
     Prepared,
+    /// Largest differences over the table of standard input.
+    Differences,
 }
 
 /// What the word asks for, if there is one.
@@ -151,6 +163,7 @@ fn asked_by(word: Option<&str>) -> Asked {
     match word {
         Some("plain") => Asked::Plain,
         Some("prepared") => Asked::Prepared,
+        Some("differences") => Asked::Differences,
         Some(_) => Asked::Lanes,
         None => Asked::Table,
     }
@@ -184,6 +197,14 @@ fn print_text(rt: &impl Print, alloc: Global, text: &[u8]) -> io::Result<()> {
     }
 }
 
+/// Times the largest differences over the table that a text is.
+fn print_differences<R: Print + Clock>(rt: &R, alloc: Global, text: &[u8]) -> io::Result<()> {
+    match table_of(alloc, text, &COLUMNS) {
+        Ok(counts) => differences::print_times(rt, alloc, &counts),
+        Err(_) => rt.println("fault"),
+    }
+}
+
 fn main(rt: HostRuntime) -> io::Result<()> {
     let alloc = rt.alloc();
     let word = env::args(&rt)?.skip(1).next();
@@ -195,6 +216,7 @@ fn main(rt: HostRuntime) -> io::Result<()> {
     rt.reader().read_to_end(&mut text)?;
     match asked {
         Asked::Table => print_text(&rt, alloc, text.as_slice()),
+        Asked::Differences => print_differences(&rt, alloc, text.as_slice()),
         _ => print_values(&rt, alloc, text.as_slice(), asked),
     }
 }
