@@ -1,7 +1,7 @@
 //! What a case asks for. No answer means that it asks for what can't be asked, or that memory was refused.
 
 use crate::sources::{read, source_of};
-use crate::{lanes, quantities, readings, sums, tables, values};
+use crate::{differences, lanes, quantities, readings, sums, tables, values};
 use case_rows::{Printed, names, text};
 use count_table::Counts;
 use mixed_graph::Names;
@@ -24,6 +24,7 @@ fn over_counts(
         "cells" => sums::print_cells(alloc, names, counts, source, print),
         "sum" => sums::print_sums(alloc, names, counts, source, case, print),
         "Places" => sums::print_place(alloc, names, counts, case, print),
+        "largest_difference" => differences::print_largest(alloc, names, counts, case, print),
         "value" => values::print_values(alloc, names, counts, case, print),
         _ => None,
     }

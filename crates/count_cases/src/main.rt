@@ -1,4 +1,4 @@
-//! Worked cases of counts, of their sums and of quantities: each prints a line.
+//! Worked cases of counts, of their sums and differences, and of quantities: each prints a line.
 //!
 //! The file `cases.json` is an object with two members. `tables` has tables of counts by name: a text of CSV (`text`), the
 //! names of its vertices (`names`), those of them that aren't used (`unused`) and the column of counts (`count`). `cases` is a
@@ -7,6 +7,7 @@
 #![tactic(auto)]
 
 mod asking;
+mod differences;
 mod lanes;
 mod quantities;
 mod readings;

@@ -30,7 +30,7 @@ impl fmt::Display for Node {
 }
 
 /// Prints the first n levels of a cell.
-fn print_cell(cell: &[u32; 64], n: usize, print: &mut Printed) -> Option<()> {
+pub(crate) fn print_cell(cell: &[u32; 64], n: usize, print: &mut Printed) -> Option<()> {
     for level in cell.iter().take(n) {
         write!(print, " {level}").ok()?;
     }
