@@ -75,11 +75,7 @@ impl Ending {
 }
 
 /// What the second input of a request holds; nothing where it has none.
-fn second_content<'a>(
-    bytes: &'a [u8],
-    inputs: &[Input],
-    request: &Request<'_>,
-) -> Option<&'a [u8]>
+fn second_content<'a>(bytes: &'a [u8], inputs: &[Input], request: &Request<'_>) -> Option<&'a [u8]>
     ensures holds { IfSome result (λ c. HoldsSecond bytes.now inputs.now (second_of (request_of request.now)) c.now) }
     ensures lacks { IsNone result → LacksSecond bytes.now inputs.now (second_of (request_of request.now)) }
 {

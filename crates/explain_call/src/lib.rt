@@ -14,7 +14,7 @@ mod rule_graphs;
 mod steps;
 
 pub use ending::{Ending, respond};
-pub use requests::{Kind, FormulaRequest, Request, StepsRequest};
+pub use requests::{FormulaRequest, Kind, Request, StepsRequest};
 use span_call::{NO_WORDS, NOT_TEXT, Sizes, show};
 use spans::{Input, Span, WordsFault, words_in};
 use std::alloc::Global;
