@@ -131,7 +131,8 @@ static void explained_more(void) {
     HOLDS(tells(explain_in("steps g c --graphs", front, certificate), CAUSAL_YES,
                 "main\nP(M|do(X))\nrule2see: P(M|X)\nrule 2 y {M} z {X} do {} given {}\ndag {\nX\nY\nM\nM -> Y\nX <-> Y\n}\n", ""));
     HOLDS(explain_in("steps --graphs g c", front, certificate).sizes.out == explain_in("steps g c --graphs", front, certificate).sizes.out);
-    HOLDS(tells(explain_in("steps g c", front, "{}"), CAUSAL_SECOND, "", "causal: certificate fault 3: \n"));
+    result r = explain_in("steps g c", front, "{}");
+    HOLDS(r.status == CAUSAL_SECOND && r.sizes.out == 0 && memcmp(r.err, "causal: certificate fault ", 26) == 0);
     /* the graph in which a rule is asked, whether it holds or not, after hidden vertices are projected away */
     HOLDS(tells(explain_in("rule g --rule 1 --y Y --z Z", hidden, ""), CAUSAL_YES, "dag {\nX\nY\nZ\nX -> Y\nZ -> X\nX <-> Y\n}\n", ""));
     HOLDS(tells(explain_in("rule g --rule 1 --y Y --z Z --do X", hidden, ""), CAUSAL_YES, "dag {\nX\nY\nZ\nX -> Y\n}\n", ""));

@@ -261,6 +261,7 @@ def saves_a_certificate(s):
         s.run("arguments[0].scrollIntoView()", item)
         time.sleep(0.05)
     s.soon("each rule holds", lambda: s.run(asked) == [6, 0, 6], lambda: s.run(asked))
+    ActionChains(s.driver).move_to_element(s.one("#undo")).perform()
     s.run("arguments[0].focus()", s.all("#panel .steps .asks")[0])
     s.soon("a rule's graph is drawn", lambda: s.cut(), s.cut)
     lost = s.one("#panel .steps .asked").text.split(" without ")[1].rstrip(".")
