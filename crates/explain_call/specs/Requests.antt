@@ -100,13 +100,15 @@ pub record Asks (words : List Text) (q : Request) : Type 0 where
   pub call : IsCall table words (row_for (kind_of q)) uses
   pub asks : IsRequest uses q
 
--- what the code's requests stand for
+-- what the code's request for steps stands for
 abbrev pub steps_of : StepsRequest → AskedSteps
 steps_of q = record { file = q.file.now; certificate = q.certificate.now; graphs = q.graphs }
 
+-- the same of a formula
 abbrev pub formula_of : FormulaRequest → AskedFormula
 formula_of q = record { file = q.file.now; x = option_map names_in q.x; y = option_map names_in q.y; set = names_in q.set; back_door = q.back_door }
 
+-- the same of any request
 abbrev pub request_of : CodeRequest → Request
 request_of (request.Steps q) = steps (steps_of q)
 request_of (request.Rule q) = rule (of_rule.request_of q)

@@ -30,13 +30,15 @@ pub record IsBelow (n : ℕ) (q : Asked) : Type 0 where
   pub z : Within n (has q.z)
   pub given : Within n (has q.given)
 
--- z is new beside the term P(a | do(b), c); it is a part of what is observed; it is a part of what is set
+-- z is new beside the term P(a | do(b), c)
 abbrev pub beside : Rule → (z a b c : ℕ) → Asked
 beside r z a b c = record { rule = r; doing = b; y = a; z = z; given = c }
 
+-- z is a part of what the term observes
 abbrev pub of_given : Rule → (z a b c : ℕ) → Asked
 of_given r z a b c = record { rule = r; doing = b; y = a; z = z; given = minus c z }
 
+-- z is a part of what the term sets
 abbrev pub of_doing : Rule → (z a b c : ℕ) → Asked
 of_doing r z a b c = record { rule = r; doing = minus b z; y = a; z = z; given = c }
 
