@@ -39,13 +39,13 @@ use Rattle.surrogate_command.specs.Answers.{SurrogateAnswer}
 use Rattle.surrogate_command.specs.Requests.{Request as SurrogateRequest, surrogate_row}
 use Rattle.evaluate_command.specs.Requests.{Request as EvaluateRequest, evaluate_row}
 use Rattle.causal_cli.specs.Answers.{WordsAnswer, HoldsAnswer, DefinedWith}
-use Rattle.causal_cli.specs.Commands.{table, row_for, Request, identify, adjust, evaluate, survey, surrogate, command_of, file_of, second_of, IsRequest, Asks, AskOnce}
+use Rattle.causal_cli.specs.Commands.{table, row_for, Request, command_of, file_of, second_of, IsRequest, Asks}
 use Rattle.causal_cli.specs.declared.commands.Command.{Command}
-use Rattle.causal_cli.specs.declared.commands.Command.TheVariants.{Identify, Adjust, Surrogate, Evaluate}
+use Rattle.causal_cli.specs.declared.commands.Command.TheVariants.{Identify, Adjust, Surrogate, Evaluate, Survey}
 use Rattle.causal_cli.specs.Drawn.{IsRightAsDrawn, IsTextAsDrawn, IdentifiedAsDrawn, IsCertificateAsDrawn, CheckedAsDrawn, AdjustsAsDrawn, ShowsAdjustmentAsDrawn, IsAdjustmentAsDrawn, AdjustedAsDrawn, IsSurrogateAsDrawn, SurrogatedAsDrawn, IsEvaluationAsDrawn, EvaluatedAsDrawn, RightAsDrawn}
-use Rattle.causal_cli.specs.Ends.{IfAnswered}
 use Rattle.causal_cli.specs.Headline.{IsRightCertificate, Checked, HeadlineOfCheck}
 use Rattle.causal_cli.specs.Run.{Run, Answers, by_words, by_file, by_both, Ends}
+use Rattle.causal_cli.proofs.CompleteRuns.{words_ask_once}
 use Rattle.causal_cli.proofs.Deliveries.{mapped}
 use Rattle.causal_cli.proofs.DrawnCounts.{shows_quantities}
 use Rattle.causal_cli.proofs.OneCommand.{one_command}
@@ -91,13 +91,13 @@ module _ (form : Form) (bytes : List ℕ) (g : ReadGraph) (holds : Holds bytes g
 
 identified : (r : Run) (uses : List Use) (text : List ℕ) (w : Request) (file : Text) → command_of w ≡ Identify → IsRequest uses w → file_of w ≡ Some file
     → IfSome (r.held file) (λ bytes. HoldsAnswer w bytes Yes text) → Appends r.out.before r.out.after text → IdentifiedAsDrawn r uses
-identified r uses text (identify q) file e is names defined whole = record {
+identified r uses text (Identify, q) file e is names defined whole = record {
   request = q;
   text = text;
   asks = is;
-  right = mapped (r.held q.file) (λ bytes. HoldsAnswer (identify q) bytes Yes text) (λ bytes. IsTextAsDrawn q.form bytes q.x q.y q.given text)
+  right = mapped (r.held q.file) (λ bytes. HoldsAnswer (Identify, q) bytes Yes text) (λ bytes. IsTextAsDrawn q.form bytes q.x q.y q.given text)
       (λ bytes a. text_as_drawn q.form bytes a.graph a.holds q.x q.y text q.given a.answer)
-      (subst (λ f. IfSome (r.held f) (λ bytes. HoldsAnswer (identify q) bytes Yes text)) (sym (same_Some q.file file names)) defined);
+      (subst (λ f. IfSome (r.held f) (λ bytes. HoldsAnswer (Identify, q) bytes Yes text)) (sym (same_Some q.file file names)) defined);
   whole = whole;
 }
 identified r uses text w file e is names defined whole = absurd (cc e)
@@ -152,12 +152,12 @@ adjusted_on q bytes text g holds (p, observed, h) = record { graph = g; holds = 
 
 adjusted : (r : Run) (uses : List Use) (text : List ℕ) (w : Request) (file : Text) → command_of w ≡ Adjust → IsRequest uses w → file_of w ≡ Some file
     → IfSome (r.held file) (λ bytes. HoldsAnswer w bytes Yes text) → Appends r.out.before r.out.after text → AdjustedAsDrawn r uses
-adjusted r uses text (adjust q) file e is names defined whole = record {
+adjusted r uses text (Adjust, q) file e is names defined whole = record {
   request = q;
   text = text;
   asks = is;
-  right = mapped (r.held q.file) (λ bytes. HoldsAnswer (adjust q) bytes Yes text) (λ bytes. IsAdjustmentAsDrawn q bytes text) (λ bytes a. adjusted_on q bytes text a.graph a.holds a.answer)
-      (subst (λ f. IfSome (r.held f) (λ bytes. HoldsAnswer (adjust q) bytes Yes text)) (sym (same_Some q.file file names)) defined);
+  right = mapped (r.held q.file) (λ bytes. HoldsAnswer (Adjust, q) bytes Yes text) (λ bytes. IsAdjustmentAsDrawn q bytes text) (λ bytes a. adjusted_on q bytes text a.graph a.holds a.answer)
+      (subst (λ f. IfSome (r.held f) (λ bytes. HoldsAnswer (Adjust, q) bytes Yes text)) (sym (same_Some q.file file names)) defined);
   whole = whole;
 }
 adjusted r uses text w file e is names defined whole = absurd (cc e)
@@ -179,19 +179,19 @@ surrogated_on q bytes text g holds (p, observed, h) = record {
 
 surrogated : (r : Run) (uses : List Use) (text : List ℕ) (w : Request) (file : Text) → command_of w ≡ Surrogate → IsRequest uses w → file_of w ≡ Some file
     → IfSome (r.held file) (λ bytes. HoldsAnswer w bytes Yes text) → Appends r.out.before r.out.after text → SurrogatedAsDrawn r uses
-surrogated r uses text (surrogate q) file e is names defined whole = record {
+surrogated r uses text (Surrogate, q) file e is names defined whole = record {
   request = q;
   text = text;
   asks = is;
-  right = mapped (r.held q.file) (λ bytes. HoldsAnswer (surrogate q) bytes Yes text) (λ bytes. IsSurrogateAsDrawn q bytes text) (λ bytes a. surrogated_on q bytes text a.graph a.holds a.answer)
-      (subst (λ f. IfSome (r.held f) (λ bytes. HoldsAnswer (surrogate q) bytes Yes text)) (sym (same_Some q.file file names)) defined);
+  right = mapped (r.held q.file) (λ bytes. HoldsAnswer (Surrogate, q) bytes Yes text) (λ bytes. IsSurrogateAsDrawn q bytes text) (λ bytes a. surrogated_on q bytes text a.graph a.holds a.answer)
+      (subst (λ f. IfSome (r.held f) (λ bytes. HoldsAnswer (Surrogate, q) bytes Yes text)) (sym (same_Some q.file file names)) defined);
   whole = whole;
 }
 surrogated r uses text w file e is names defined whole = absurd (cc e)
 
 -- ---- evaluate
 
-evaluated_on : (q : EvaluateRequest) (bytes other text : List ℕ) → DefinedWith (evaluate q) bytes other Yes text → IsEvaluationAsDrawn q bytes other text
+evaluated_on : (q : EvaluateRequest) (bytes other text : List ℕ) → DefinedWith (Evaluate, q) bytes other Yes text → IsEvaluationAsDrawn q bytes other text
 evaluated_on q bytes other text (g, holds, needs, (e, identifies, (t, read, shows))) = record {
   graph = g;
   holds = holds;
@@ -204,14 +204,14 @@ evaluated_on q bytes other text (g, holds, needs, (e, identifies, (t, read, show
 
 evaluated : (r : Run) (uses : List Use) (text : List ℕ) (w : Request) (file other : Text) → command_of w ≡ Evaluate → IsRequest uses w → file_of w ≡ Some file → second_of w ≡ Some other
     → IfSome (r.held file) (λ bytes. IfSome (r.held other) (λ second. DefinedWith w bytes second Yes text)) → Appends r.out.before r.out.after text → EvaluatedAsDrawn r uses
-evaluated r uses text (evaluate q) file other e is names names_second defined whole = record {
+evaluated r uses text (Evaluate, q) file other e is names names_second defined whole = record {
   request = q;
   text = text;
   asks = is;
-  right = mapped (r.held q.file) (λ bytes. IfSome (r.held q.counts) (λ second. DefinedWith (evaluate q) bytes second Yes text)) (λ bytes. IfSome (r.held q.counts) (λ second. IsEvaluationAsDrawn q bytes second text))
-      (λ bytes. mapped (r.held q.counts) (λ second. DefinedWith (evaluate q) bytes second Yes text) (λ second. IsEvaluationAsDrawn q bytes second text) (λ second d. evaluated_on q bytes second text d))
-      (subst (λ f. IfSome (r.held f) (λ bytes. IfSome (r.held q.counts) (λ second. DefinedWith (evaluate q) bytes second Yes text))) (sym (same_Some q.file file names))
-      (subst (λ n. IfSome (r.held file) (λ bytes. IfSome (r.held n) (λ second. DefinedWith (evaluate q) bytes second Yes text))) (sym (same_Some q.counts other names_second)) defined));
+  right = mapped (r.held q.file) (λ bytes. IfSome (r.held q.counts) (λ second. DefinedWith (Evaluate, q) bytes second Yes text)) (λ bytes. IfSome (r.held q.counts) (λ second. IsEvaluationAsDrawn q bytes second text))
+      (λ bytes. mapped (r.held q.counts) (λ second. DefinedWith (Evaluate, q) bytes second Yes text) (λ second. IsEvaluationAsDrawn q bytes second text) (λ second d. evaluated_on q bytes second text d))
+      (subst (λ f. IfSome (r.held f) (λ bytes. IfSome (r.held q.counts) (λ second. DefinedWith (Evaluate, q) bytes second Yes text))) (sym (same_Some q.file file names))
+      (subst (λ n. IfSome (r.held file) (λ bytes. IfSome (r.held n) (λ second. DefinedWith (Evaluate, q) bytes second Yes text))) (sym (same_Some q.counts other names_second)) defined));
   whole = whole;
 }
 evaluated r uses text w file other e is names names_second defined whole = absurd (cc e)
@@ -219,12 +219,12 @@ evaluated r uses text w file other e is names names_second defined whole = absur
 -- the answer on the file alone is none: where there is a formula, the counts are read
 no_first : (r : Run) (uses : List Use) (text : List ℕ) (w : Request) (file : Text) → command_of w ≡ Evaluate → IsRequest uses w → file_of w ≡ Some file
     → IfSome (r.held file) (λ bytes. HoldsAnswer w bytes Yes text) → Appends r.out.before r.out.after text → EvaluatedAsDrawn r uses
-no_first r uses text (evaluate q) file e is names defined whole = record {
+no_first r uses text (Evaluate, q) file e is names defined whole = record {
   request = q;
   text = text;
   asks = is;
-  right = mapped (r.held q.file) (λ bytes. HoldsAnswer (evaluate q) bytes Yes text) (λ bytes. IfSome (r.held q.counts) (λ second. IsEvaluationAsDrawn q bytes second text)) (λ bytes a. absurd a.answer)
-      (subst (λ f. IfSome (r.held f) (λ bytes. HoldsAnswer (evaluate q) bytes Yes text)) (sym (same_Some q.file file names)) defined);
+  right = mapped (r.held q.file) (λ bytes. HoldsAnswer (Evaluate, q) bytes Yes text) (λ bytes. IfSome (r.held q.counts) (λ second. IsEvaluationAsDrawn q bytes second text)) (λ bytes a. absurd a.answer)
+      (subst (λ f. IfSome (r.held f) (λ bytes. HoldsAnswer (Evaluate, q) bytes Yes text)) (sym (same_Some q.file file names)) defined);
   whole = whole;
 }
 no_first r uses text w file e is names defined whole = absurd (cc e)
@@ -233,54 +233,54 @@ no_first r uses text w file e is names defined whole = absurd (cc e)
 
 -- a command that has an answer by the words alone, or by two inputs, is none of these
 no_words : (w : Request) (text : List ℕ) → WordsAnswer w Yes text → (command_of w ≡ Identify → ⊥) × (command_of w ≡ Adjust → ⊥) × (command_of w ≡ Surrogate → ⊥) × (command_of w ≡ Evaluate → ⊥)
-no_words (survey q) text h = (λ e. cc e, λ e. cc e, λ e. cc e, λ e. cc e)
+no_words (Survey, q) text h = (λ e. cc e, λ e. cc e, λ e. cc e, λ e. cc e)
 no_words w text h = absurd h
 
 no_second : (w : Request) (name : Text) → second_of w ≡ Some name → (command_of w ≡ Identify → ⊥) × (command_of w ≡ Adjust → ⊥) × (command_of w ≡ Surrogate → ⊥)
-no_second (identify q) name s = absurd (none-some name s)
-no_second (adjust q) name s = absurd (none-some name s)
-no_second (surrogate q) name s = absurd (none-some name s)
+no_second (Identify, q) name s = absurd (none-some name s)
+no_second (Adjust, q) name s = absurd (none-some name s)
+no_second (Surrogate, q) name s = absurd (none-some name s)
 no_second w name s = (λ e. cc e, λ e. cc e, λ e. cc e)
 
-module _ (r : Run) (once : AskOnce r.words) (uses : List Use) (c : Command) (call : IsCall table r.words (row_for c) uses) where
+module _ (r : Run) (uses : List Use) (c : Command) (call : IsCall table r.words (row_for c) uses) where
   -- a request that the words ask for is one of this command, by the same uses
   is_of : (w : Request) → Asks r.words w → command_of w ≡ c
-  is_of w a = one_command (command_of w) c (once (row_for c) (row_for (command_of w)) uses a.uses call a.call).0
+  is_of w a = one_command (command_of w) c (words_ask_once r.words (row_for c) (row_for (command_of w)) uses a.uses call a.call).0
 
   by_them : (w : Request) → Asks r.words w → IsRequest uses w
-  by_them w a = subst (λ us. IsRequest us w) (once (row_for c) (row_for (command_of w)) uses a.uses call a.call).1 a.asks
+  by_them w a = subst (λ us. IsRequest us w) (words_ask_once r.words (row_for c) (row_for (command_of w)) uses a.uses call a.call).1 a.asks
 
-module _ (r : Run) (text : List ℕ) (once : AskOnce r.words) (whole : Appends r.out.before r.out.after text) (uses : List Use) where
+module _ (r : Run) (text : List ℕ) (whole : Appends r.out.before r.out.after text) (uses : List Use) where
   on_identify : IsCall table r.words identify_row uses → Answers r Yes text → IdentifiedAsDrawn r uses
-  on_identify call (by_words a) = absurd ((no_words a.request text a.answer).0 (is_of r once uses Identify call a.request a.asks))
-  on_identify call (by_file a) = identified r uses text a.request a.file (is_of r once uses Identify call a.request a.asks) (by_them r once uses Identify call a.request a.asks) a.names_it a.defined whole
-  on_identify call (by_both a) = absurd ((no_second a.request a.second a.names_second).0 (is_of r once uses Identify call a.request a.asks))
+  on_identify call (by_words a) = absurd ((no_words a.request text a.answer).0 (is_of r uses Identify call a.request a.asks))
+  on_identify call (by_file a) = identified r uses text a.request a.file (is_of r uses Identify call a.request a.asks) (by_them r uses Identify call a.request a.asks) a.names_it a.defined whole
+  on_identify call (by_both a) = absurd ((no_second a.request a.second a.names_second).0 (is_of r uses Identify call a.request a.asks))
 
   on_adjust : IsCall table r.words adjust_row uses → Answers r Yes text → AdjustedAsDrawn r uses
-  on_adjust call (by_words a) = absurd ((no_words a.request text a.answer).1 (is_of r once uses Adjust call a.request a.asks))
-  on_adjust call (by_file a) = adjusted r uses text a.request a.file (is_of r once uses Adjust call a.request a.asks) (by_them r once uses Adjust call a.request a.asks) a.names_it a.defined whole
-  on_adjust call (by_both a) = absurd ((no_second a.request a.second a.names_second).1 (is_of r once uses Adjust call a.request a.asks))
+  on_adjust call (by_words a) = absurd ((no_words a.request text a.answer).1 (is_of r uses Adjust call a.request a.asks))
+  on_adjust call (by_file a) = adjusted r uses text a.request a.file (is_of r uses Adjust call a.request a.asks) (by_them r uses Adjust call a.request a.asks) a.names_it a.defined whole
+  on_adjust call (by_both a) = absurd ((no_second a.request a.second a.names_second).1 (is_of r uses Adjust call a.request a.asks))
 
   on_surrogate : IsCall table r.words surrogate_row uses → Answers r Yes text → SurrogatedAsDrawn r uses
-  on_surrogate call (by_words a) = absurd ((no_words a.request text a.answer).2 (is_of r once uses Surrogate call a.request a.asks))
-  on_surrogate call (by_file a) = surrogated r uses text a.request a.file (is_of r once uses Surrogate call a.request a.asks) (by_them r once uses Surrogate call a.request a.asks) a.names_it a.defined whole
-  on_surrogate call (by_both a) = absurd ((no_second a.request a.second a.names_second).2 (is_of r once uses Surrogate call a.request a.asks))
+  on_surrogate call (by_words a) = absurd ((no_words a.request text a.answer).2 (is_of r uses Surrogate call a.request a.asks))
+  on_surrogate call (by_file a) = surrogated r uses text a.request a.file (is_of r uses Surrogate call a.request a.asks) (by_them r uses Surrogate call a.request a.asks) a.names_it a.defined whole
+  on_surrogate call (by_both a) = absurd ((no_second a.request a.second a.names_second).2 (is_of r uses Surrogate call a.request a.asks))
 
   on_evaluate : IsCall table r.words evaluate_row uses → Answers r Yes text → EvaluatedAsDrawn r uses
-  on_evaluate call (by_words a) = absurd ((no_words a.request text a.answer).3 (is_of r once uses Evaluate call a.request a.asks))
-  on_evaluate call (by_file a) = no_first r uses text a.request a.file (is_of r once uses Evaluate call a.request a.asks) (by_them r once uses Evaluate call a.request a.asks) a.names_it a.defined whole
-  on_evaluate call (by_both a) = evaluated r uses text a.request a.file a.second (is_of r once uses Evaluate call a.request a.asks) (by_them r once uses Evaluate call a.request a.asks) a.names_it a.names_second a.defined whole
+  on_evaluate call (by_words a) = absurd ((no_words a.request text a.answer).3 (is_of r uses Evaluate call a.request a.asks))
+  on_evaluate call (by_file a) = no_first r uses text a.request a.file (is_of r uses Evaluate call a.request a.asks) (by_them r uses Evaluate call a.request a.asks) a.names_it a.defined whole
+  on_evaluate call (by_both a) = evaluated r uses text a.request a.file a.second (is_of r uses Evaluate call a.request a.asks) (by_them r uses Evaluate call a.request a.asks) a.names_it a.names_second a.defined whole
 
 -- status 0 is that of a yes
-pub right_as_drawn_of : (r : Run) (code : ℕ) (o : Outcome) (text : List ℕ) → code ≡ code_of o → Ends r o text → IfAnswered o (AskOnce r.words) → HeadlineOfCheck r code → RightAsDrawn r code
-right_as_drawn_of r code Yes text c h once accepted = record {
-  identified = λ uses call zero. on_identify r text once h.whole uses call h.answers;
+pub right_as_drawn_of : (r : Run) (code : ℕ) (o : Outcome) (text : List ℕ) → code ≡ code_of o → Ends r o text → HeadlineOfCheck r code → RightAsDrawn r code
+right_as_drawn_of r code Yes text c h accepted = record {
+  identified = λ uses call zero. on_identify r text h.whole uses call h.answers;
   checked = λ uses call zero. checked r uses (accepted uses call zero);
-  adjusted = λ uses call zero. on_adjust r text once h.whole uses call h.answers;
-  surrogated = λ uses call zero. on_surrogate r text once h.whole uses call h.answers;
-  evaluated = λ uses call zero. on_evaluate r text once h.whole uses call h.answers;
+  adjusted = λ uses call zero. on_adjust r text h.whole uses call h.answers;
+  surrogated = λ uses call zero. on_surrogate r text h.whole uses call h.answers;
+  evaluated = λ uses call zero. on_evaluate r text h.whole uses call h.answers;
 }
-right_as_drawn_of r code o text c h once accepted = record {
+right_as_drawn_of r code o text c h accepted = record {
   identified = λ uses call zero. absurd (omega (arith, c, zero));
   checked = λ uses call zero. absurd (omega (arith, c, zero));
   adjusted = λ uses call zero. absurd (omega (arith, c, zero));

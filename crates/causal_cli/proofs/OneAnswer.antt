@@ -25,7 +25,8 @@ use Rattle.implications_command.proofs.Exclusive.{implications_once}
 use Rattle.implications_command.proofs.Exclusive as implies
 use Rattle.survey_command.proofs.Exclusive.{survey_once}
 use Rattle.surrogate_command.proofs.Exclusive.{surrogate_once}
-use Rattle.causal_cli.specs.Commands.{Request, graph, separate, rule, identify, check, adjust, evaluate, equivalent, implications, survey, surrogate, file_of, second_of, Asks}
+use Rattle.causal_cli.specs.Commands.{Request, file_of, second_of, Asks}
+use Rattle.causal_cli.specs.declared.commands.Command.TheVariants as command
 use Rattle.causal_cli.specs.Answers.{WordsAnswer, GraphAnswer, NeedsSecond, SecondAnswer, IsGraphRefusal, too_long, faulty, HoldsAnswer, Defined, Continues, DefinedWith}
 use Rattle.causal_cli.specs.Run.{Run, AnswersFile, AnswersBoth, Answers, by_words, by_file, by_both, IsRead}
 use Rattle.causal_cli.specs.Complete.{IsTold}
@@ -34,39 +35,39 @@ use Rattle.causal_cli.proofs.OneRequest.{one_request}
 -- ---- what each command answers
 
 words_once : (w : Request) → OneOutcome (WordsAnswer w)
-words_once (survey q) = survey_once q.seed
+words_once (command.Survey, q) = survey_once q.seed
 words_once w = λ o p text line a b. absurd a
 
 -- a request that words alone answer has no file
 words_alone : (w : Request) (file : Text) (o : Outcome) (text : List ℕ) → WordsAnswer w o text → file_of w ≡ Some file → ⊥
-words_alone (survey q) file o text a names = none-some file names
+words_alone (command.Survey, q) file o text a names = none-some file names
 words_alone w file o text a names = a
 
 on_graph : (w : Request) (bytes : List ℕ) → OneOutcome (IsAnswerOn bytes (λ g. GraphAnswer w g))
-on_graph (graph q) bytes = graph_once bytes q.project
-on_graph (separate q) bytes = separate_once bytes q.x q.y q.given
-on_graph (rule q) bytes = rule_once bytes q.rule q.y q.done q.z q.given
-on_graph (identify q) bytes = identify_once bytes q.form q.x q.y q.given
-on_graph (adjust q) bytes = adjust_once bytes q.x q.y q.query
-on_graph (evaluate q) bytes = evaluates.first_once bytes q.x q.y
-on_graph (equivalent q) bytes = compares.first_once bytes q.query
-on_graph (implications q) bytes = implies.first_once bytes q.counts
-on_graph (surrogate q) bytes = surrogate_once bytes q.x q.y q.experiments
+on_graph (command.Graph, q) bytes = graph_once bytes q.project
+on_graph (command.Separate, q) bytes = separate_once bytes q.x q.y q.given
+on_graph (command.Rule, q) bytes = rule_once bytes q.rule q.y q.done q.z q.given
+on_graph (command.Identify, q) bytes = identify_once bytes q.form q.x q.y q.given
+on_graph (command.Adjust, q) bytes = adjust_once bytes q.x q.y q.query
+on_graph (command.Evaluate, q) bytes = evaluates.first_once bytes q.x q.y
+on_graph (command.Equivalent, q) bytes = compares.first_once bytes q.query
+on_graph (command.Implications, q) bytes = implies.first_once bytes q.counts
+on_graph (command.Surrogate, q) bytes = surrogate_once bytes q.x q.y q.experiments
 on_graph w bytes = λ o p text line a b. absurd a.given
 
 on_both : (w : Request) (bytes other : List ℕ) → OneOutcome (IsAnswerOn bytes (λ g. SecondAnswer w g other))
-on_both (check q) bytes other = check_once bytes other
-on_both (evaluate q) bytes other = evaluate_once bytes other q.exact q.x q.y q.count
-on_both (equivalent q) bytes other = equivalent_once bytes other q.query
-on_both (implications q) bytes other = implications_once bytes other q.count
+on_both (command.Check, q) bytes other = check_once bytes other
+on_both (command.Evaluate, q) bytes other = evaluate_once bytes other q.exact q.x q.y q.count
+on_both (command.Equivalent, q) bytes other = equivalent_once bytes other q.query
+on_both (command.Implications, q) bytes other = implications_once bytes other q.count
 on_both w bytes other = λ o p text line a b. absurd a.given
 
 -- a request that the file alone answers reads no second input
 file_alone : (w : Request) (second : Text) (g h : ReadGraph) → AreSame g h → second_of w ≡ Some second → (o : Outcome) (text : List ℕ) → GraphAnswer w g o text → NeedsSecond w h → ⊥
-file_alone (check q) second g h s names o text a n = a
-file_alone (evaluate q) second g h s names o text a n = evaluates.first_alone g h s q.x q.y o text n.0 a n.1
-file_alone (equivalent q) second g h s names o text a n = compares.first_alone g h s q.query n.0 o text a n.1
-file_alone (implications q) second g h s names o text a n = implies.first_alone g h s second o text n.0 (subst (λ (c : Option Text). FirstAnswer c g o text) names a) n.1
+file_alone (command.Check, q) second g h s names o text a n = a
+file_alone (command.Evaluate, q) second g h s names o text a n = evaluates.first_alone g h s q.x q.y o text n.0 a n.1
+file_alone (command.Equivalent, q) second g h s names o text a n = compares.first_alone g h s q.query n.0 o text a n.1
+file_alone (command.Implications, q) second g h s names o text a n = implies.first_alone g h s second o text n.0 (subst (λ (c : Option Text). FirstAnswer c g o text) names a) n.1
 file_alone w second g h s names o text a n = n
 
 -- ---- what bytes answer

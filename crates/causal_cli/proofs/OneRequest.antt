@@ -27,7 +27,9 @@ use Rattle.equivalent_command.specs.Requests as of_equivalent
 use Rattle.implications_command.specs.Requests as of_implications
 use Rattle.survey_command.specs.Requests as of_survey
 use Rattle.surrogate_command.specs.Requests as of_surrogate
-use Rattle.causal_cli.specs.Commands.{table, row_for, Request, graph, separate, rule, identify, check, adjust, evaluate, equivalent, implications, survey, surrogate, command_of, IsRequest, Asks}
+use Rattle.causal_cli.specs.Commands.{table, row_for, Request, RequestOf, command_of, IsRequest, Asks}
+use Rattle.causal_cli.specs.declared.commands.Command.{Command}
+use Rattle.causal_cli.specs.declared.commands.Command.TheVariants as command
 use Rattle.causal_cli.proofs.OneCommand.{one_command}
 
 -- ---- values of requests
@@ -141,20 +143,24 @@ one_surrogate uses q r a b =
 
 -- ---- the request of words
 
+-- the uses of a command ask it for one thing
+one_of : (c : Command) (uses : List Use) (q r : RequestOf c) → IsRequest uses (c, q) → IsRequest uses (c, r) → r ≡ q
+one_of command.Graph uses q r a b = one_graph uses q r a b
+one_of command.Separate uses q r a b = one_separate uses q r a b
+one_of command.Rule uses q r a b = one_rule uses q r a b
+one_of command.Identify uses q r a b = one_identify uses q r a b
+one_of command.Check uses q r a b = one_check uses q r a b
+one_of command.Adjust uses q r a b = one_adjust uses q r a b
+one_of command.Evaluate uses q r a b = one_evaluate uses q r a b
+one_of command.Equivalent uses q r a b = one_equivalent uses q r a b
+one_of command.Implications uses q r a b = one_implications uses q r a b
+one_of command.Survey uses q r a b = one_survey uses q r a b
+one_of command.Surrogate uses q r a b = one_surrogate uses q r a b
+
 -- the uses of a command ask for one request
 one_of_uses : (uses : List Use) (q r : Request) → command_of q ≡ command_of r → IsRequest uses q → IsRequest uses r → r ≡ q
-one_of_uses uses (graph q) (graph r) e a b = ap graph (one_graph uses q r a b)
-one_of_uses uses (separate q) (separate r) e a b = ap separate (one_separate uses q r a b)
-one_of_uses uses (rule q) (rule r) e a b = ap rule (one_rule uses q r a b)
-one_of_uses uses (identify q) (identify r) e a b = ap identify (one_identify uses q r a b)
-one_of_uses uses (check q) (check r) e a b = ap check (one_check uses q r a b)
-one_of_uses uses (adjust q) (adjust r) e a b = ap adjust (one_adjust uses q r a b)
-one_of_uses uses (evaluate q) (evaluate r) e a b = ap evaluate (one_evaluate uses q r a b)
-one_of_uses uses (equivalent q) (equivalent r) e a b = ap equivalent (one_equivalent uses q r a b)
-one_of_uses uses (implications q) (implications r) e a b = ap implications (one_implications uses q r a b)
-one_of_uses uses (survey q) (survey r) e a b = ap survey (one_survey uses q r a b)
-one_of_uses uses (surrogate q) (surrogate r) e a b = ap surrogate (one_surrogate uses q r a b)
-one_of_uses uses q r e a b = absurd (cc e)
+one_of_uses uses q r e a b =
+    subst (λ (k : Command). (w : RequestOf k) → IsRequest uses (k, w) → (let v : Request = (k, w) in v ≡ q)) e (λ w h. ap (λ (v : RequestOf q.0). let u : Request = (q.0, v) in u) (one_of q.0 uses q.1 w a h)) r.1 b
 
 pub one_request : (words : List Text) (q r : Request) → Asks words q → Asks words r → r ≡ q
 one_request words q r a b =

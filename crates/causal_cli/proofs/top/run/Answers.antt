@@ -24,7 +24,7 @@ returns-clause-checked g c =
 
 pub returns-clause-drawn : goal.returns-clause-drawn
 returns-clause-drawn g c =
-    right_as_drawn_of _ _ c.respond-last.result.outcome (text_of c.respond-last.result) c.code.ensures c.respond-last.ensures.ends c.respond-last.ensures.once (returns-clause-checked g c)
+    right_as_drawn_of _ _ c.respond-last.result.outcome (text_of c.respond-last.result) c.code.ensures c.respond-last.ensures.ends (returns-clause-checked g c)
 
 pub returns-clause-complete : goal.returns-clause-complete
 returns-clause-complete g c = complete _ _ c.respond-last.result.outcome (text_of c.respond-last.result) c.code.ensures c.respond-last.ensures.ends
