@@ -11,15 +11,15 @@ def main():
     state = SEED
     print("dag {")
     for v in range(VERTICES):
-        print(f"v{v}")
+        print(f"node{v}")
     for i in range(VERTICES):
         for j in range(i + 1, VERTICES):
             state = (state * 6364136223846793005 + 1442695040888963407) % 2**64
             draw = (state >> 33) % 16
             if draw < 4:
-                print(f"v{i} -> v{j}")
+                print(f"node{i} -> node{j}")
             elif draw == 4:
-                print(f"v{i} <-> v{j}")
+                print(f"node{i} <-> node{j}")
     print("}")
 
 
