@@ -11,7 +11,7 @@ use Rattle.do_derivation.proofs.TermSets.{apart_back}
 use Rattle.dag_reader.specs.declared.graph.ReadGraph.{ReadGraph}
 use Rattle.dag_reader.specs.RoundTrip.{AreSame}
 use Rattle.targets.specs.Targets.{Lists, AreSets}
-use Rattle.prob_expr.specs.Masks.{one}
+use Rattle.mixed_graph.specs.Masks.{one}
 use Rattle.adjustment.specs.declared.criteria.AdjFault.{AdjFault}
 use Rattle.adjustment.specs.declared.criteria.AdjFault.TheVariants.{Forbidden, Unblocked}
 use Rattle.adjustment.specs.Criteria.{IsBackDoorSet}

@@ -3,7 +3,7 @@ use Rattle.std.proofs.Common.{◌≡◌, ℕ, ◌==◌, true, List, Result, Ok, 
 use Rattle.mixed_graph.specs.Bits.{has}
 use Rattle.mixed_graph.specs.Graphs.{MixedGraph}
 use Rattle.mixed_graph.proofs.Masks.{has-pow, same_from_has}
-use Rattle.prob_expr.specs.Masks.{one}
+use Rattle.mixed_graph.specs.Masks.{one}
 use Rattle.targets.specs.declared.fault.TargetFault.TheVariants.{NotOneX}
 use Rattle.fault_text.specs.Lines.{line_of, target_fault_text}
 use Rattle.replies.specs.declared.outcome.Reply.{Reply}

@@ -11,7 +11,7 @@ use Rattle.fault_text.specs.Lines.{line_of, target_fault_text}
 use Rattle.replies.specs.declared.outcome.Outcome.{Outcome}
 use Rattle.replies.specs.declared.outcome.Outcome.TheVariants.{Yes, No, Graph}
 use Rattle.replies.specs.Observed.{Names, observed_names, IsObservedGraph, IsTargetRefusal}
-use Rattle.prob_expr.specs.Masks.{one}
+use Rattle.mixed_graph.specs.Masks.{one}
 use Rattle.prob_expr.specs.Values.{EqualsEffect}
 use Rattle.adjustment.specs.declared.criteria.AdjFault.{AdjFault}
 use Rattle.adjustment.specs.Criteria.{IsAdmissible, IsBackDoorSet}

@@ -17,7 +17,7 @@ use Rattle.finite_models.proofs.SumLaws.{along, set_at-other}
 use Rattle.finite_models.proofs.Tested.{Test, tested, stable}
 use Rattle.finite_models.proofs.Weights.{weight-none, weight_of-none}
 use Rattle.do_rules.specs.Rules.{AreThreeSets}
-use Rattle.prob_expr.specs.Masks.{join, one, is_empty}
+use Rattle.mixed_graph.specs.Masks.{join, one, is_empty}
 use Rattle.prob_expr.specs.Tree.{prob, product, tree, no_trees}
 use Rattle.prob_expr.specs.Values.{weights_of, value, value_of, effect, EqualsEffect}
 use Rattle.prob_expr.proofs.Boxes.{assignment_set, add_over_whole}

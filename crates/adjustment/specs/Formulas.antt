@@ -1,6 +1,6 @@
 -- The adjustment formula (Pearl, Causality, section 3.3).
 use Rattle.std.specs.Prelude.{ℕ, [], cond}
-use Rattle.prob_expr.specs.Masks.{join, is_empty}
+use Rattle.mixed_graph.specs.Masks.{join, is_empty}
 use Rattle.prob_expr.specs.Tree.{Tree, prob, sum, product, no_trees, tree, PlainFormula, PlainTarget}
 
 -- sum{z} P(z) * P(y | x, z)

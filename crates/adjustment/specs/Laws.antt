@@ -6,7 +6,7 @@ use Rattle.m_separation.specs.Walks.{IsSeparated}
 use Rattle.surgery.specs.Cuts.{cut_out}
 use Rattle.do_rules.specs.Rules.{AreThreeSets}
 use Rattle.proper_paths.specs.Proper.{IsBackDoorGraph}
-use Rattle.prob_expr.specs.Masks.{one}
+use Rattle.mixed_graph.specs.Masks.{one}
 use Rattle.prob_expr.specs.Values.{EqualsEffect}
 use Rattle.adjustment.specs.Criteria.{IsExcluded, IsAdmissible, IsBackDoorSet}
 use Rattle.adjustment.specs.Faults.{IsClearOf}

@@ -2,7 +2,7 @@ ghost use Rattle.std.specs.Prelude.{ℕ, ◌<◌, ◌==◌, IfErr, IfSome, IfNon
 ghost use Rattle.mixed_graph.specs.Bits.{has};
 ghost use Rattle.mixed_graph.specs.Shown.{graph_of};
 ghost use Rattle.do_rules.specs.Rules.{AreThreeSets};
-ghost use Rattle.prob_expr.specs.Masks.{one};
+ghost use Rattle.mixed_graph.specs.Masks.{one};
 ghost use Rattle.prob_expr.specs.Values.{EqualsEffect};
 ghost use Rattle.adjustment.specs.Criteria.{IsAdmissible, IsBackDoorSet};
 ghost use Rattle.adjustment.specs.Faults.{IsLowestIn, IsClearOf, IsAdjustmentFault, IsBackDoorFault};

@@ -1,5 +1,5 @@
 ghost use Rattle.std.specs.Prelude.{◌≡◌, IfOk};
-ghost use Rattle.prob_expr.specs.Masks.{join};
+ghost use Rattle.mixed_graph.specs.Masks.{join};
 ghost use Rattle.prob_expr.specs.Tree.{prob, tree, no_trees};
 ghost use Rattle.prob_expr.specs.View.{view, views, formula_view};
 ghost use Rattle.adjustment.specs.Formulas.{adjusted_sum, adjustment_formula};

@@ -4,7 +4,7 @@ use Rattle.std.specs.Result.{result_ok}
 use Rattle.std.specs.Str.{bytes_eq, is_utf8}
 use Rattle.prob_expr.specs.Tree.{Tree, PlainTarget, PlainFormula}
 use Rattle.prob_expr.specs.Check.{check_tree, cap}
-use Rattle.prob_expr.specs.Masks.{join}
+use Rattle.mixed_graph.specs.Masks.{join}
 use Rattle.do_derivation.specs.Plans.{PlainLemma, PlainDerivation}
 use Rattle.expr_text.specs.Read.{expr_of}
 use Rattle.serde_json.specs.Data.{Data, Items, no_items, item, Members}

@@ -3,11 +3,12 @@ use Rattle.std.proofs.Common.{◌≡◌, ◌≤◌, ◌<◌, ◌==◌, ℕ, Bool
 use Rattle.std.specs.Prelude.{All}
 use Rattle.mixed_graph.specs.Bits.{has, members_below}
 use Rattle.mixed_graph.specs.Names.{AreNames}
-use Rattle.prob_expr.specs.Masks.{join, is_empty, is_below, is_apart, are_term_sets}
+use Rattle.mixed_graph.specs.Masks.{join, is_empty, is_below, is_apart}
+use Rattle.prob_expr.specs.Masks.{are_term_sets}
 use Rattle.prob_expr.specs.Tree.{Tree, PlainTarget, PlainFormula}
 use Rattle.prob_expr.specs.Check.{check_tree, fault_of, fault_in_defs, fault_in}
 use Rattle.expr_text.proofs.Checked.{neither}
-use Rattle.prob_expr.proofs.MaskLaws.{apart_from, apart_has, has_join, has_none}
+use Rattle.mixed_graph.proofs.MaskLaws.{apart_from, apart_has, has_join, has_none}
 use Rattle.do_derivation.specs.Plans.{PlainLemma, PlainDerivation}
 use Rattle.expr_text.specs.Write.{text_of}
 use Rattle.expr_text.proofs.Within.{and_true}

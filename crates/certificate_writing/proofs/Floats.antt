@@ -2,7 +2,7 @@
 use Rattle.std.proofs.Common.{◌≡◌, ℕ, Bool, true, false, ◌||◌, cond, codes, List, [], ◌∷◌, map, refl}
 use Rattle.mixed_graph.specs.Bits.{has, members_below}
 use Rattle.mixed_graph.specs.Names.{name_of}
-use Rattle.prob_expr.specs.Masks.{is_empty}
+use Rattle.mixed_graph.specs.Masks.{is_empty}
 use Rattle.prob_expr.specs.Tree.{Tree}
 use Rattle.do_derivation.specs.Plans.{Move, Plan, Plans, no_plans, plan, PlainLemma}
 use Rattle.serde_json.specs.Data.{member}

@@ -2,7 +2,7 @@
 use Rattle.std.proofs.Common.{◌≡◌, ◌≤◌, ◌<◌, ◌+◌, ◌^◌, ℕ, Bool, true, false, cond, not, ltb, ◌&&◌, List, [], ◌∷◌, ◌++◌, length, Option, Some, None, Result, Ok, Err, is_ok, refl, sym, ap, ◌∙◌, append_assoc, append-nil, length-append, arith, ltb-true, lt-ltb}
 use Rattle.std.specs.Result.{result_ok}
 use Rattle.mixed_graph.specs.Names.{AreNames}
-use Rattle.prob_expr.specs.Masks.{is_empty, is_below, is_apart}
+use Rattle.mixed_graph.specs.Masks.{is_empty, is_below, is_apart}
 use Rattle.prob_expr.specs.Tree.{Tree, prob, sum, product, quotient, named, Trees, no_trees, tree, PlainFormula}
 use Rattle.prob_expr.specs.Check.{◌>>=◌, next_node, are_two, check_tree, check_trees, fault_of, fault_in_defs, fault_in, cap}
 use Rattle.prob_expr.specs.declared.checking.ExprFault.{ExprFault}

@@ -1,6 +1,6 @@
 -- Which certificates are written, and which of those are read again.
 use Rattle.std.specs.Prelude.{◌≡◌, ℕ, ◌<◌, ◌≤◌, ◌^◌, Bool, true, ◌&&◌, List, [], ◌∷◌, length, slice_index, All, None}
-use Rattle.prob_expr.specs.Masks.{is_below}
+use Rattle.mixed_graph.specs.Masks.{is_below}
 use Rattle.prob_expr.specs.Terms.{is_term}
 use Rattle.prob_expr.specs.Tree.{PlainTarget, PlainFormula}
 use Rattle.prob_expr.specs.Check.{fault_in}

@@ -1,6 +1,6 @@
 -- The text of a certificate: one JSON object in compact form, its members sorted by key.
 use Rattle.std.specs.Prelude.{ℕ, ◌+◌, ◌==◌, List, [], ◌∷◌, if◌then◌else◌, codes}
-use Rattle.prob_expr.specs.Masks.{is_empty}
+use Rattle.mixed_graph.specs.Masks.{is_empty}
 use Rattle.prob_expr.specs.Tree.{Tree, PlainTarget}
 use Rattle.do_derivation.specs.Plans.{PlainLemma, PlainDerivation}
 use Rattle.expr_text.specs.Write.{text_of}

@@ -2,7 +2,7 @@ ghost use Rattle.std.specs.Prelude.{◌≡◌, true, length, map, IfOk};
 ghost use Rattle.mixed_graph.specs.Names.{AreNames};
 ghost use Rattle.serde_json.specs.Data.{string, array, item, no_items};
 ghost use Rattle.serde_json.specs.View.{view as data_view};
-ghost use Rattle.prob_expr.specs.Masks.{is_below};
+ghost use Rattle.mixed_graph.specs.Masks.{is_below};
 ghost use Rattle.prob_expr.specs.View.{view};
 ghost use Rattle.do_derivation.specs.Accepts.{are_sets, sets_of};
 ghost use Rattle.do_derivation.specs.View.{lemma_view, step_view};

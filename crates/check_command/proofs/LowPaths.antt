@@ -11,7 +11,7 @@ use Rattle.do_rules.specs.declared.rules.Rule.{Rule}
 use Rattle.do_rules.specs.declared.rules.Rule.TheVariants.{One, Two, Three}
 use Rattle.do_rules.proofs.RuleGraphs.{cut_graph}
 use Rattle.prob_expr.specs.Check.{cap}
-use Rattle.prob_expr.specs.Masks.{join, minus, all, is_empty}
+use Rattle.mixed_graph.specs.Masks.{join, minus, all, is_empty}
 use Rattle.prob_expr.specs.Tree.{Tree, prob, sum, product, quotient, named, PlainFormula, PlainTarget, term_of}
 use Rattle.do_derivation.specs.Plans.{Move, Plan, Plans, no_plans, plan, numbered, PlainLemma, PlainDerivation}
 use Rattle.do_derivation.specs.Shapes.{child, is_list_of, chained, unchained, grouped, narrowed, unwrapped}

@@ -2,7 +2,7 @@
 use Rattle.std.proofs.Common.{◌≡◌, ℕ, ◌+◌, Bool, true, false, not, ◌&&◌, List, [], ◌∷◌, ◌++◌, length, Option, Some, None, Result, Ok, Err, if◌then◌else◌, is_ok, refl, ap, subst, codes, arith}
 use Rattle.std.specs.Prelude.{◌==◌}
 use Rattle.prob_expr.specs.Check.{check_tree, cap, fault_of, or_else, fault_in_defs}
-use Rattle.prob_expr.specs.Masks.{is_below, is_empty}
+use Rattle.mixed_graph.specs.Masks.{is_below, is_empty}
 use Rattle.prob_expr.specs.Tree.{Tree, PlainFormula, PlainTarget}
 use Rattle.prob_expr.specs.declared.checking.ExprFault.{ExprFault}
 use Rattle.do_derivation.specs.Accepts.{are_sets, sets_of}

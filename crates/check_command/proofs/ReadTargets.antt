@@ -5,10 +5,11 @@ use Rattle.std.specs.List.{list_any, position_or_len}
 use Rattle.std.specs.Str.{bytes_eq}
 use Rattle.mixed_graph.specs.Bits.{has}
 use Rattle.mixed_graph.specs.Names.{is_named, index_of}
-use Rattle.prob_expr.specs.Masks.{join, one, is_empty, is_below, is_apart, are_term_sets}
+use Rattle.mixed_graph.specs.Masks.{join, one, is_empty, is_below, is_apart}
+use Rattle.prob_expr.specs.Masks.{are_term_sets}
 use Rattle.prob_expr.specs.Terms.{is_term}
 use Rattle.prob_expr.specs.Tree.{PlainTarget}
-use Rattle.prob_expr.proofs.MaskLaws.{has_join, has_one, has_none, below_from, apart_from}
+use Rattle.mixed_graph.proofs.MaskLaws.{has_join, has_one, has_none, below_from, apart_from}
 use Rattle.serde_json.specs.Data.{Data, Items, no_items, item}
 use Rattle.serde_json.specs.Find.{get, as_str, as_array}
 use Rattle.step_json.specs.Reading as value

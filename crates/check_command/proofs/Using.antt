@@ -3,9 +3,10 @@ use Rattle.std.proofs.Common.{◌≡◌, ℕ, Bool, true, false, ◌&&◌, Resul
 use Rattle.mixed_graph.specs.Bits.{has}
 use Rattle.mixed_graph.specs.Graphs.{MixedGraph, IsMixedGraph}
 use Rattle.mixed_graph.specs.Sets.{Within, Apart}
-use Rattle.prob_expr.specs.Masks.{is_below, is_apart, are_term_sets}
+use Rattle.mixed_graph.specs.Masks.{is_below, is_apart}
+use Rattle.prob_expr.specs.Masks.{are_term_sets}
 use Rattle.prob_expr.specs.Tree.{PlainFormula, PlainTarget}
-use Rattle.prob_expr.proofs.MaskLaws.{apart_has}
+use Rattle.mixed_graph.proofs.MaskLaws.{apart_has}
 use Rattle.expr_text.proofs.Within.{and_true, first_within, second_within, third_within}
 use Rattle.do_derivation.specs.Accepts.{AcceptsNot}
 use Rattle.do_derivation.specs.Answers.{UnlessNoMemory}

@@ -5,7 +5,7 @@ use Rattle.mixed_graph.specs.Bits.{has}
 use Rattle.mixed_graph.specs.Graphs.{MixedGraph}
 use Rattle.mixed_graph.proofs.Masks.{has-zero, positive_from_has}
 use Rattle.do_rules.specs.Rules.{AreThreeSets}
-use Rattle.prob_expr.specs.Masks.{join}
+use Rattle.mixed_graph.specs.Masks.{join}
 use Rattle.prob_expr.specs.Tree.{PlainFormula, PlainTarget}
 use Rattle.do_derivation.specs.Plans.{PlainDerivation}
 use Rattle.identification.proofs.Bools.{clash}

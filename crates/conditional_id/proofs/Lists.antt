@@ -10,7 +10,7 @@ use Rattle.id_recursion.proofs.StepLists.{onto_append, onto_more, onto_nothing, 
 use Rattle.id_recursion.specs.Lists.{onto}
 use Rattle.identification.specs.Derivations.{single}
 use Rattle.mixed_graph.specs.declared.sets.VSet.{VSet}
-use Rattle.prob_expr.specs.Masks.{is_empty}
+use Rattle.mixed_graph.specs.Masks.{is_empty}
 use Rattle.prob_expr.specs.Tree.{PlainFormula, quotient, sum}
 
 -- ---- the formula

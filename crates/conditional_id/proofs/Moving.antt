@@ -19,7 +19,7 @@ use Rattle.m_separation.specs.declared.paths.OpenPath.{OpenPath}
 use Rattle.mixed_graph.specs.Bits.{has}
 use Rattle.mixed_graph.specs.Graphs.{MixedGraph}
 use Rattle.mixed_graph.specs.declared.sets.VSet.{VSet}
-use Rattle.prob_expr.specs.Masks.{join, minus, one}
+use Rattle.mixed_graph.specs.Masks.{join, minus, one}
 
 -- ---- the sets of a rule
 not_true : (p : Bool) → (p ≡ true → ⊥) → p ≡ false

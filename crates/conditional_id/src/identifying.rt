@@ -7,7 +7,7 @@ ghost use Rattle.mixed_graph.specs.Sets.{Within, Apart};
 ghost use Rattle.mixed_graph.specs.Shown.{graph_of};
 ghost use Rattle.do_rules.specs.Rules.{AreThreeSets};
 ghost use Rattle.prob_expr.specs.Check.{fault_in};
-ghost use Rattle.prob_expr.specs.Masks.{join};
+ghost use Rattle.mixed_graph.specs.Masks.{join};
 ghost use Rattle.prob_expr.specs.Terms.{is_do_free};
 ghost use Rattle.prob_expr.specs.Tree.{prob};
 ghost use Rattle.prob_expr.specs.Values.{EqualsEffect};

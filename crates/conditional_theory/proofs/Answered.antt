@@ -24,7 +24,7 @@ use Rattle.identification_answers.specs.Names.{FormulaNamesOnly}
 use Rattle.mixed_graph.proofs.Masks.{has-or, has-zero}
 use Rattle.mixed_graph.specs.Bits.{has}
 use Rattle.mixed_graph.specs.Graphs.{IsAncestor, IsMixedGraph, MixedGraph}
-use Rattle.prob_expr.specs.Masks.{join}
+use Rattle.mixed_graph.specs.Masks.{join}
 use Rattle.prob_expr.specs.Tree.{PlainFormula, PlainTarget, prob}
 
 -- ---- the formula and its derivation

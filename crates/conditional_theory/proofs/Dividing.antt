@@ -24,7 +24,7 @@ use Rattle.identification_answers.specs.Names.{AreAll, FormulaNamesOnly}
 use Rattle.mixed_graph.proofs.Masks.{has-or, has-zero, same_from_has}
 use Rattle.mixed_graph.specs.Bits.{has}
 use Rattle.mixed_graph.specs.Graphs.{IsMixedGraph, MixedGraph}
-use Rattle.prob_expr.specs.Masks.{is_empty, join}
+use Rattle.mixed_graph.specs.Masks.{is_empty, join}
 use Rattle.prob_expr.specs.Terms.{all_under, is_do_free, is_under}
 use Rattle.prob_expr.specs.Tree.{PlainFormula, PlainTarget, Tree, prob, quotient, sum}
 

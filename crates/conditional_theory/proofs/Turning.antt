@@ -15,7 +15,7 @@ use Rattle.identification.specs.Procedure.{IsTarget}
 use Rattle.mixed_graph.proofs.Masks.{has-or, has-zero}
 use Rattle.mixed_graph.specs.Bits.{has}
 use Rattle.mixed_graph.specs.Graphs.{MixedGraph}
-use Rattle.prob_expr.specs.Masks.{is_empty, join, minus, one}
+use Rattle.mixed_graph.specs.Masks.{is_empty, join, minus, one}
 use Rattle.prob_expr.specs.Terms.{is_term}
 use Rattle.prob_expr.specs.Tree.{PlainTarget, Tree, prob}
 

@@ -6,7 +6,7 @@ use Rattle.finite_models.specs.Models.{FiniteModel, Fits, IsAssignment, IsPositi
 use Rattle.fractions.specs.Fractions.{IsEqual}
 use Rattle.do_rules.specs.Rules.{AreThreeSets, IsBlockedFor}
 use Rattle.do_rules.specs.declared.rules.Rule.{Rule}
-use Rattle.prob_expr.specs.Masks.{join, minus, one, is_empty}
+use Rattle.mixed_graph.specs.Masks.{join, minus, one, is_empty}
 use Rattle.prob_expr.specs.Tree.{prob, sum, quotient, PlainFormula, PlainTarget}
 use Rattle.prob_expr.specs.Values.{effect}
 use Rattle.do_derivation.specs.Plans.{Move, Plan, Plans, no_plans, plan, PlainDerivation}

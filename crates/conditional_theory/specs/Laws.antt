@@ -4,7 +4,7 @@ use Rattle.mixed_graph.specs.Bits.{has}
 use Rattle.mixed_graph.specs.Graphs.{MixedGraph, IsMixedGraph, IsAncestor}
 use Rattle.hedge.specs.Shapes.{AreSetsOfHedge}
 use Rattle.prob_expr.specs.Check.{fault_in}
-use Rattle.prob_expr.specs.Masks.{join}
+use Rattle.mixed_graph.specs.Masks.{join}
 use Rattle.prob_expr.specs.Terms.{is_do_free}
 use Rattle.prob_expr.specs.Tree.{PlainFormula, PlainTarget}
 use Rattle.prob_expr.specs.Values.{EqualsEffect}

@@ -1,7 +1,7 @@
 -- What check says of the definitions that a formula names.
 use Rattle.std.proofs.Common.{ℕ, suc, ◌+◌, ◌≡◌, Bool, true, false, ltb, not, Option, Some, None, Result, Ok, Err, if◌then◌else◌, List, [], ◌∷◌, length, refl, subst, arith}
 use Rattle.std.proofs.lemmas.Bool.{ltb-true}
-use Rattle.prob_expr.specs.Masks.{is_empty, is_below}
+use Rattle.mixed_graph.specs.Masks.{is_empty, is_below}
 use Rattle.prob_expr.specs.Tree.{Tree, prob, sum, product, quotient, named, Trees, no_trees, tree, PlainFormula}
 use Rattle.prob_expr.specs.Check.{check_tree, check_trees, fault_of, or_else, fault_in_defs, fault_in, are_two, next_node, cap, ◌>>=◌}
 use Rattle.prob_expr.specs.declared.checking.ExprFault.{ExprFault}

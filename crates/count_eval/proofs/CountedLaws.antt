@@ -6,8 +6,8 @@ use Rattle.mixed_graph.specs.Bits.{has}
 use Rattle.finite_models.proofs.Bools.{and_first, and_second}
 use Rattle.quantity.specs.declared.fault.QuantityFault.TheVariants.{ZeroBelow}
 use Rattle.quantity.specs.Kinds.{Pair, Kind}
-use Rattle.prob_expr.specs.Masks.{join}
-use Rattle.prob_expr.proofs.MaskLaws.{has_join}
+use Rattle.mixed_graph.specs.Masks.{join}
+use Rattle.mixed_graph.proofs.MaskLaws.{has_join}
 use Rattle.count_rows.specs.Rows.{Row, agrees, counted}
 use Rattle.count_table.specs.Cells.{total}
 use Rattle.count_eval.specs.Stops.{Stop, stop}

@@ -5,13 +5,13 @@ use Rattle.mixed_graph.specs.Graphs.{MixedGraph, IsMixedGraph}
 use Rattle.finite_models.specs.Sums.{set_at, all_below}
 use Rattle.finite_models.specs.Models.{FiniteModel, Fits, IsAssignment, IsPositiveModel, weight_of, total}
 use Rattle.mixed_graph.specs.Bits.{has}
-use Rattle.prob_expr.specs.Masks.{is_empty}
+use Rattle.mixed_graph.specs.Masks.{is_empty}
 use Rattle.prob_expr.specs.Tree.{Tree, prob, sum, product, quotient, named, Trees, no_trees, tree, PlainFormula}
 use Rattle.prob_expr.specs.Terms.{is_under, are_under, all_under, is_listed, is_do_free}
 use Rattle.fractions.specs.Fractions.{Fraction, over, IsEqual, add, mul, div, add_below}
 use Rattle.prob_expr.specs.Values.{add_over, Weights, weights_of, value, product_value, values_from, value_of}
 use Rattle.finite_models.proofs.Bools.{and_first, and_second, either}
-use Rattle.prob_expr.proofs.MaskLaws.{empty_has}
+use Rattle.mixed_graph.proofs.MaskLaws.{empty_has}
 use Rattle.fractions.specs.Fractions.{IsPositive}
 use Rattle.fractions.proofs.FractionLaws.{mul_positive, div_positive}
 use Rattle.prob_expr.proofs.Boxes.{assignment_set, add_over_positive}

@@ -4,8 +4,8 @@ use Rattle.std.specs.Prelude.{None, Result, Ok, Err}
 use Rattle.std.proofs.lemmas.Bool.{cases_lt}
 use Rattle.mixed_graph.specs.Bits.{has, members_below}
 use Rattle.mixed_graph.proofs.Masks.{has-above}
-use Rattle.prob_expr.specs.Masks.{is_inside, is_below}
-use Rattle.prob_expr.proofs.MaskLaws.{inside_has, inside_from, below_has, below_from}
+use Rattle.mixed_graph.specs.Masks.{is_inside, is_below}
+use Rattle.mixed_graph.proofs.MaskLaws.{inside_has, inside_from, below_has, below_from}
 use Rattle.prob_expr.specs.Terms.{is_do_free}
 use Rattle.prob_expr.specs.Tree.{Tree, prob, sum, product, quotient, named, Trees, no_trees, tree, PlainFormula}
 use Rattle.prob_expr.specs.Check.{fault_in, fault_of}

@@ -1,6 +1,6 @@
 -- Whether a formula has vertices of a set alone, in its terms and its sums, and a cell a level of a vertex.
 use Rattle.std.specs.Prelude.{ℕ, ◌<◌, Bool, true, ◌&&◌, IsTrue, List, [], ◌∷◌, length, slice_index}
-use Rattle.prob_expr.specs.Masks.{is_inside}
+use Rattle.mixed_graph.specs.Masks.{is_inside}
 use Rattle.prob_expr.specs.Tree.{Tree, prob, sum, product, quotient, named, Trees, no_trees, tree, PlainFormula}
 use Rattle.count_rows.specs.Rows.{Table}
 use Rattle.count_table.specs.Tables.{levels_in}

@@ -4,7 +4,7 @@ use Rattle.std.specs.Global.{Vec}
 use Rattle.std.proofs.lemmas.List.{at_drop_more, at_drop_all}
 use Rattle.mixed_graph.specs.Bits.{has}
 use Rattle.mixed_graph.specs.Graphs.{MixedGraph}
-use Rattle.prob_expr.specs.Masks.{join, one}
+use Rattle.mixed_graph.specs.Masks.{join, one}
 use Rattle.prob_expr.specs.Tree.{Trees, no_trees, tree}
 use Rattle.prob_expr.specs.View.{views}
 use Rattle.prob_expr.specs.declared.expr.Expr.{Expr}

@@ -6,8 +6,8 @@ use Rattle.mixed_graph.specs.Graphs.{MixedGraph, IsMixedGraph, IsDirectedPath, i
 use Rattle.mixed_graph.specs.Sets.{Within}
 use Rattle.mixed_graph.proofs.Masks.{has-pow, has-above, has-zero, same_from_has, some_member, le_from_subset}
 use Rattle.mixed_graph.proofs.Members.{one_if, length-members-suc, length-members-zero, length-members-none}
-use Rattle.prob_expr.specs.Masks.{minus}
-use Rattle.prob_expr.proofs.MaskLaws.{has_minus, below_from}
+use Rattle.mixed_graph.specs.Masks.{minus}
+use Rattle.mixed_graph.proofs.MaskLaws.{has_minus, below_from}
 use Rattle.districts.specs.Linked.{IsLinked, IsDistrict, IsInside, IsJoinedSet}
 use Rattle.districts.specs.Linked.IsLinked.{at, by}
 use Rattle.districts.proofs.Parts.{link_in, link_through}

@@ -1,7 +1,7 @@
 -- The factors of the vertices of a district, and that of the district, as the code gives them.
 use Rattle.std.specs.Prelude.{ℕ, ◌≡◌, List}
 use Rattle.mixed_graph.specs.Graphs.{MixedGraph}
-use Rattle.prob_expr.specs.Masks.{join, one}
+use Rattle.mixed_graph.specs.Masks.{join, one}
 use Rattle.prob_expr.specs.View.{view, views}
 use Rattle.do_derivation.specs.View.{steps_view}
 use Rattle.identification.specs.Procedure.{common, IsPillow, Source, conditional, AreFactors, IsBody}

@@ -1,7 +1,7 @@
 -- The factor of a district, as the code gives it.
 use Rattle.std.specs.Prelude.{ℕ, List, map}
 use Rattle.mixed_graph.specs.Graphs.{MixedGraph}
-use Rattle.prob_expr.specs.Masks.{all}
+use Rattle.mixed_graph.specs.Masks.{all}
 use Rattle.prob_expr.specs.View.{view}
 use Rattle.do_derivation.specs.View.{steps_view, lemma_view}
 use Rattle.identification.specs.Procedure.{AreAncestorsIn, Source, IsFactor, IsStopped}

@@ -2,7 +2,7 @@
 use Rattle.std.specs.Prelude.{ℕ, ◌≡◌, ◌≢◌, List, []}
 use Rattle.mixed_graph.specs.Graphs.{MixedGraph}
 use Rattle.districts.specs.Linked.{IsDistrict}
-use Rattle.prob_expr.specs.Masks.{minus}
+use Rattle.mixed_graph.specs.Masks.{minus}
 use Rattle.prob_expr.specs.Tree.{sum}
 use Rattle.prob_expr.specs.View.{view}
 use Rattle.do_derivation.specs.View.{steps_view}

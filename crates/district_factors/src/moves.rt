@@ -1,7 +1,7 @@
 //! The steps that make the expressions of a factor.
 
 ghost use Rattle.std.specs.Prelude.{◌≡◌, ◌<◌, ◌≤◌, ◌++◌, [], ◌∷◌, All, cond, length, IfOk, OnOk};
-ghost use Rattle.prob_expr.specs.Masks.{is_empty};
+ghost use Rattle.mixed_graph.specs.Masks.{is_empty};
 ghost use Rattle.do_derivation.specs.Plans.{Plan, Plans};
 ghost use Rattle.do_derivation.specs.View.{listed, step_view, steps_view};
 ghost use Rattle.identification.specs.Derivations.{at_place, marginal_steps, source_steps, place_list, cut_steps, in_order};

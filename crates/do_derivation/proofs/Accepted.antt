@@ -8,11 +8,11 @@ use Rattle.fractions.specs.Fractions.{Fraction, over, IsEqual}
 use Rattle.fractions.proofs.FractionLaws.{equal_sym}
 use Rattle.finite_models.specs.Models.{FiniteModel, Fits, IsAssignment, IsPositiveModel}
 use Rattle.finite_models.proofs.Bools.{and_first, and_second}
-use Rattle.prob_expr.specs.Masks.{minus, all, is_empty, is_below}
+use Rattle.mixed_graph.specs.Masks.{minus, all, is_empty, is_below}
 use Rattle.prob_expr.specs.Terms.{is_term}
 use Rattle.prob_expr.specs.Tree.{Tree, prob, PlainFormula, PlainTarget}
 use Rattle.prob_expr.specs.Values.{weights_of, term_value, value, values_from, value_of, effect}
-use Rattle.prob_expr.proofs.MaskLaws.{has_none, has_all_above, below_has, filled_from}
+use Rattle.mixed_graph.proofs.MaskLaws.{has_none, has_all_above, below_has, filled_from}
 use Rattle.do_derivation.specs.Accepts.{Accepts, Define, start_of, sets_of, are_sets}
 use Rattle.do_derivation.specs.Plans.{PlainLemma, PlainDerivation}
 use Rattle.do_derivation.specs.Sound.{AcceptedIsEffect, StepKeepsValue}

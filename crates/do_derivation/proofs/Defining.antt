@@ -6,12 +6,12 @@ use Rattle.mixed_graph.specs.declared.sets.VSet.{VSet}
 use Rattle.finite_models.proofs.Bools.{and_first, and_second}
 use Rattle.prob_expr.specs.Check.{cap}
 use Rattle.prob_expr.specs.Listed.{masks_of}
-use Rattle.prob_expr.specs.Masks.{minus, all, is_empty, is_below}
+use Rattle.mixed_graph.specs.Masks.{minus, all, is_empty, is_below}
 use Rattle.prob_expr.specs.Terms.{are_terms, is_allowed}
 use Rattle.prob_expr.specs.Tree.{Tree, PlainFormula, PlainTarget, term_of}
 use Rattle.prob_expr.specs.View.{view}
 use Rattle.prob_expr.specs.declared.expr.Expr.{Expr}
-use Rattle.prob_expr.proofs.MaskLaws.{filled_from}
+use Rattle.mixed_graph.proofs.MaskLaws.{filled_from}
 use Rattle.do_derivation.specs.Accepts.{Accepts, AcceptsNot, Define, DefinesNot, are_sets, sets_of, start_of}
 use Rattle.do_derivation.specs.Answers.{UnlessNoMemory, IsStopped}
 use Rattle.do_derivation.specs.Plans.{PlainDerivation}

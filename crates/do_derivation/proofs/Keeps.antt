@@ -9,11 +9,11 @@ use Rattle.fractions.proofs.FractionLaws.{equal_refl, equal_sym, equal_trans, mu
 use Rattle.finite_models.specs.Models.{FiniteModel, Fits, IsAssignment, IsPositiveModel}
 use Rattle.finite_models.proofs.Bools.{and_first, and_second}
 use Rattle.do_rules.specs.declared.rules.Rule.TheVariants.{One, Two, Three}
-use Rattle.prob_expr.specs.Masks.{join, minus, all, is_empty, is_apart, is_inside}
+use Rattle.mixed_graph.specs.Masks.{join, minus, all, is_empty, is_apart, is_inside}
 use Rattle.prob_expr.specs.Tree.{Tree, prob, sum, product, quotient, named, Trees, no_trees, tree}
 use Rattle.prob_expr.specs.Values.{weights_of, term_value, value, product_value}
-use Rattle.prob_expr.proofs.MaskLaws as masks
-use Rattle.prob_expr.proofs.MaskLaws.{has_join, has_one, put_back}
+use Rattle.mixed_graph.proofs.MaskLaws as masks
+use Rattle.mixed_graph.proofs.MaskLaws.{has_join, has_one, put_back}
 use Rattle.do_derivation.specs.Plans.{Move, Plan, Plans, no_plans, plan}
 use Rattle.do_derivation.specs.Shapes.{is_list_of, chained, gathered, term_with, unchained, grouped, is_grouping, groups_of, count_factors, narrowed, unwrapped, has_product, flat, child, with_child}
 use Rattle.do_derivation.specs.Steps.{IsMade, Makes, MakesAll}

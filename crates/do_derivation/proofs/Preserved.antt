@@ -5,7 +5,7 @@ use Rattle.fractions.specs.Fractions.{Fraction, IsEqual, IsPositive}
 use Rattle.fractions.proofs.FractionLaws.{equal_refl}
 use Rattle.finite_models.specs.Models.{FiniteModel, Fits, IsAssignment, IsPositiveModel, rounds, solution}
 use Rattle.finite_models.proofs.Solutions.{agree_from}
-use Rattle.prob_expr.specs.Masks.{minus, all}
+use Rattle.mixed_graph.specs.Masks.{minus, all}
 use Rattle.prob_expr.specs.Values.{weights_of, term_value}
 use Rattle.do_derivation.specs.Sound.{StepKeepsTerms}
 use Rattle.prob_expr.proofs.ValueLaws.{term_positive}

@@ -18,10 +18,10 @@ use Rattle.finite_models.proofs.Positive.{positive_weight}
 use Rattle.do_rules.specs.Rules.{IsBlockedFor}
 use Rattle.do_rules.specs.declared.rules.Rule.TheVariants.{One, Two, Three}
 use Rattle.do_rules.proofs.Holds.{rule_holds}
-use Rattle.prob_expr.specs.Masks.{join, minus, one}
+use Rattle.mixed_graph.specs.Masks.{join, minus, one}
 use Rattle.prob_expr.specs.Tree.{prob, sum}
 use Rattle.prob_expr.specs.Values.{weights_of, term_value, value, product_value, add_over}
-use Rattle.prob_expr.proofs.MaskLaws.{has_join, has_minus, has_none, has_one, empty_has}
+use Rattle.mixed_graph.proofs.MaskLaws.{has_join, has_minus, has_none, has_one, empty_has}
 use Rattle.do_derivation.specs.Shapes.{is_list_of, chained}
 use Rattle.prob_expr.proofs.Boxes.{add_over_whole}
 use Rattle.do_derivation.proofs.TermSets.{IsTerm, IsNew, apart_back, four_sets}

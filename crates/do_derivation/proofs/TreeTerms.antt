@@ -4,10 +4,10 @@ use Rattle.std.proofs.lemmas.Bool.{and_from}
 use Rattle.std.proofs.lemmas.Option.{none-some}
 use Rattle.mixed_graph.specs.Bits.{has}
 use Rattle.finite_models.proofs.Bools.{and_first, and_second}
-use Rattle.prob_expr.specs.Masks.{minus, one, join, is_below}
+use Rattle.mixed_graph.specs.Masks.{minus, one, join, is_below}
 use Rattle.prob_expr.specs.Terms.{are_terms, are_terms_each}
 use Rattle.prob_expr.specs.Tree.{Tree, prob, sum, product, quotient, named, Trees, no_trees, tree}
-use Rattle.prob_expr.proofs.MaskLaws.{has_one, filled_has, below_has, below_from}
+use Rattle.mixed_graph.proofs.MaskLaws.{has_one, filled_has, below_has, below_from}
 use Rattle.do_derivation.specs.Shapes.{is_list_of, chained, picked, as_one, or_nothing, groups_of, factor_at, flat, joined, child, with_child, with_factor}
 use Rattle.do_derivation.proofs.TermSets.{IsTerm, of_part, chain_on, term_from, term_filled, term_test}
 use Rattle.do_derivation.proofs.Children.{some_is}

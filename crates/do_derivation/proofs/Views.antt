@@ -5,7 +5,7 @@ use Rattle.mixed_graph.specs.Bits.{has}
 use Rattle.mixed_graph.specs.declared.sets.VSet.{VSet}
 use Rattle.finite_models.proofs.Bools.{and_second}
 use Rattle.do_rules.specs.Rules.{AreFourSets}
-use Rattle.prob_expr.specs.Masks.{minus, is_empty, is_inside}
+use Rattle.mixed_graph.specs.Masks.{minus, is_empty, is_inside}
 use Rattle.prob_expr.specs.Terms.{is_term}
 use Rattle.prob_expr.specs.Tree.{prob, sum, quotient}
 use Rattle.prob_expr.specs.View.{view}

@@ -2,7 +2,7 @@
 use Rattle.std.specs.Prelude.{ℕ, ◌+◌, ◌≡◌, ◌⊎◌, Bool, true, false, not, ◌&&◌, List, [], ◌∷◌, ◌++◌, length, map, Some, None, ⊤}
 use Rattle.mixed_graph.specs.Graphs.{MixedGraph}
 use Rattle.prob_expr.specs.Check.{cap}
-use Rattle.prob_expr.specs.Masks.{minus, all, is_empty, is_below}
+use Rattle.mixed_graph.specs.Masks.{minus, all, is_empty, is_below}
 use Rattle.prob_expr.specs.Terms.{is_allowed}
 use Rattle.prob_expr.specs.Tree.{Tree, prob, PlainFormula, PlainTarget, term_of}
 use Rattle.do_derivation.specs.Plans.{PlainLemma, PlainDerivation}

@@ -2,7 +2,7 @@
 use Rattle.std.specs.Prelude.{ℕ, zero, suc, ◌+◌, Bool, true, false, not, ◌&&◌, cond, eqb, ltb, leb, List, [], ◌∷◌, ◌++◌, length, Option, Some, None}
 use Rattle.mixed_graph.specs.Bits.{has}
 use Rattle.finite_models.specs.Sums.{all_below}
-use Rattle.prob_expr.specs.Masks.{join, minus, one, is_empty, is_apart, is_inside}
+use Rattle.mixed_graph.specs.Masks.{join, minus, one, is_empty, is_apart, is_inside}
 use Rattle.prob_expr.specs.Tree.{Tree, prob, sum, product, quotient, named, Trees, no_trees, tree}
 
 -- the list holds each member of a once, and nothing else

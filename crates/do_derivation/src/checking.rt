@@ -3,7 +3,7 @@ ghost use Rattle.mixed_graph.specs.Bits.{has};
 ghost use Rattle.mixed_graph.specs.Shown.{graph_of};
 ghost use Rattle.prob_expr.specs.Check.{cap};
 ghost use Rattle.prob_expr.specs.Listed.{masks_of};
-ghost use Rattle.prob_expr.specs.Masks.{is_below};
+ghost use Rattle.mixed_graph.specs.Masks.{is_below};
 ghost use Rattle.prob_expr.specs.Terms.{is_term, are_terms, is_allowed, is_do_free};
 ghost use Rattle.prob_expr.specs.Values.{EqualsEffect};
 ghost use Rattle.prob_expr.specs.View.{view, formula_view, target_view};

@@ -3,7 +3,7 @@ use Rattle.std.proofs.Common.{ℕ, true, ◌≡◌, [], inl, inr, refl}
 use Rattle.mixed_graph.specs.Bits.{has}
 use Rattle.mixed_graph.specs.Graphs.{IsAncestor}
 use Rattle.mixed_graph.specs.Sets.{Within}
-use Rattle.prob_expr.specs.Masks.{join}
+use Rattle.mixed_graph.specs.Masks.{join}
 use Rattle.identification_answers.specs.Names.{FormulaNamesOnly}
 use Rattle.evaluate_command.specs.Effects.{PlainEffect, IsColumn, used_in}
 use Rattle.evaluate_command.specs.Mentioned.{mentioned}

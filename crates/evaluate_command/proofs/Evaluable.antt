@@ -4,12 +4,12 @@ use Rattle.std.proofs.lemmas.Bool.{cases_lt, or_parts}
 use Rattle.std.proofs.lemmas.List.Elements.{All-append}
 use Rattle.mixed_graph.specs.Bits.{has, members_below}
 use Rattle.mixed_graph.specs.Graphs.{IsAncestor}
-use Rattle.prob_expr.specs.Masks.{join}
+use Rattle.mixed_graph.specs.Masks.{join}
 use Rattle.count_rows.specs.Rows.{Table}
 use Rattle.count_table.specs.Tables.{AreCounts}
 use Rattle.count_eval.specs.Answers.{IsEvaluable}
 use Rattle.count_eval.specs.Programs.{is_used}
-use Rattle.prob_expr.proofs.MaskLaws.{has_join, has_none, zero_from}
+use Rattle.mixed_graph.proofs.MaskLaws.{has_join, has_none, zero_from}
 use Rattle.evaluate_command.specs.Cells.{varied}
 use Rattle.evaluate_command.specs.Effects.{PlainEffect, IsIdentified, used_in}
 use Rattle.evaluate_command.specs.Mentioned.{mentioned, mentioned_in, mentioned_in_defs}

@@ -3,11 +3,11 @@ use Rattle.std.proofs.Common.{◌≡◌, ℕ, ◌+◌, ◌<◌, ◌≤◌, inl, 
 use Rattle.std.proofs.lemmas.Bool.{or_cases, or_left, or_right, false≢true}
 use Rattle.std.proofs.lemmas.List.{at_drop_more, at_drop_all}
 use Rattle.mixed_graph.specs.Bits.{has}
-use Rattle.prob_expr.specs.Masks.{join}
+use Rattle.mixed_graph.specs.Masks.{join}
 use Rattle.prob_expr.specs.Tree.{Tree, prob, sum, product, quotient, named, Trees, no_trees, tree, PlainFormula}
 use Rattle.prob_expr.specs.View.{view, views}
 use Rattle.prob_expr.specs.declared.expr.Expr.{Expr}
-use Rattle.prob_expr.proofs.MaskLaws.{has_join, has_none, join_assoc, join-zero}
+use Rattle.mixed_graph.proofs.MaskLaws.{has_join, has_none, join_assoc, join-zero}
 use Rattle.prob_expr.proofs.Views.{views_more, none_after}
 use Rattle.identification_answers.specs.Names.{NamesOnly, EachNamesOnly, AllNameOnly, FormulaNamesOnly}
 use Rattle.count_eval.specs.Laws.{IsUsed, AreUsed, AllUsed}

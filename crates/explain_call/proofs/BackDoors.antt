@@ -2,7 +2,7 @@
 use Rattle.std.proofs.Common.{◌≡◌, ℕ, List, Result, Ok, Err, sym, subst}
 use Rattle.std.specs.Prelude.{IfOk}
 use Rattle.mixed_graph.specs.Graphs.{MixedGraph}
-use Rattle.prob_expr.specs.Masks.{one}
+use Rattle.mixed_graph.specs.Masks.{one}
 use Rattle.targets.specs.declared.fault.TargetFault.TheVariants.{NotOneX}
 use Rattle.fault_text.specs.Lines.{line_of, target_fault_text}
 use Rattle.replies.specs.declared.outcome.Reply.{Reply}

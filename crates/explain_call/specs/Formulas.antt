@@ -7,7 +7,7 @@ use Rattle.targets.specs.Targets.{listed, Lists, AreSets}
 use Rattle.replies.specs.declared.outcome.Outcome.{Outcome}
 use Rattle.replies.specs.declared.outcome.Outcome.TheVariants.{Yes, No, Graph}
 use Rattle.replies.specs.Observed.{Names, observed_names, IsObservedGraph, IsTargetRefusal}
-use Rattle.prob_expr.specs.Masks.{one}
+use Rattle.mixed_graph.specs.Masks.{one}
 use Rattle.prob_expr.specs.Values.{EqualsEffect}
 use Rattle.identify_text.specs.Answers.{latex_answer}
 use Rattle.adjustment.specs.declared.criteria.AdjFault.{AdjFault}

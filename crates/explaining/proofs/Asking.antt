@@ -6,9 +6,9 @@ use Rattle.mixed_graph.specs.Bits.{has}
 use Rattle.mixed_graph.specs.Graphs.{MixedGraph}
 use Rattle.do_rules.specs.declared.rules.Rule.{Rule}
 use Rattle.do_rules.specs.declared.rules.Rule.TheVariants.{One, Two, Three}
-use Rattle.prob_expr.specs.Masks.{join, minus, is_empty, is_inside}
+use Rattle.mixed_graph.specs.Masks.{join, minus, is_empty, is_inside}
 use Rattle.prob_expr.specs.Tree.{Tree, prob, sum, product, quotient, named}
-use Rattle.prob_expr.proofs.MaskLaws.{inside_has}
+use Rattle.mixed_graph.proofs.MaskLaws.{inside_has}
 use Rattle.do_derivation.specs.Plans.{Move, Plan}
 use Rattle.do_derivation.specs.Shapes.{child}
 use Rattle.do_derivation.specs.Steps.{IsMade, Makes}

@@ -4,7 +4,7 @@ use Rattle.std.proofs.lemmas.Bool.{and_from, false≢true}
 use Rattle.std.proofs.lemmas.Option.{none-some}
 use Rattle.finite_models.proofs.Bools.{and_first, and_second}
 use Rattle.mixed_graph.specs.Graphs.{MixedGraph}
-use Rattle.prob_expr.specs.Masks.{join, minus, one, is_empty, is_inside}
+use Rattle.mixed_graph.specs.Masks.{join, minus, one, is_empty, is_inside}
 use Rattle.prob_expr.specs.Check.{are_two}
 use Rattle.prob_expr.specs.Tree.{Tree, prob, sum, product, quotient, named, Trees, no_trees, tree}
 use Rattle.do_derivation.specs.Plans.{Move, Plan, Plans, no_plans, plan}

@@ -3,7 +3,7 @@ use Rattle.std.proofs.Common.{ℕ, ◌≡◌, true, not, ◌&&◌, refl, List}
 use Rattle.std.proofs.lemmas.Bool.{and_from}
 use Rattle.finite_models.proofs.Bools.{and_first, and_second}
 use Rattle.mixed_graph.specs.Graphs.{MixedGraph, IsMixedGraph}
-use Rattle.prob_expr.specs.Masks.{is_empty, is_below}
+use Rattle.mixed_graph.specs.Masks.{is_empty, is_below}
 use Rattle.prob_expr.specs.Check.{are_two}
 use Rattle.prob_expr.specs.Terms.{are_terms, are_terms_each}
 use Rattle.prob_expr.specs.Tree.{Tree, prob, sum, product, quotient, named, Trees, no_trees, tree}

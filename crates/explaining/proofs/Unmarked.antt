@@ -7,7 +7,7 @@ use Rattle.std.specs.Prelude.{IfOk}
 use Rattle.std.specs.Global.{Vec}
 use Rattle.mixed_graph.specs.Bits.{has}
 use Rattle.mixed_graph.specs.Shown.{graph_of}
-use Rattle.prob_expr.proofs.MaskLaws.{has_none}
+use Rattle.mixed_graph.proofs.MaskLaws.{has_none}
 use Rattle.dag_reader.specs.declared.graph.ReadGraph.{ReadGraph}
 use Rattle.dag_reader.specs.declared.marks.Role.{Role}
 use Rattle.dag_reader.specs.RoleSets.{AreRoleSets}

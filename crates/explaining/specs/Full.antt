@@ -1,6 +1,6 @@
 -- Expressions without an empty part: no sum is over nothing, and no product has fewer than two factors.
 use Rattle.std.specs.Prelude.{Bool, true, not, ◌&&◌}
-use Rattle.prob_expr.specs.Masks.{is_empty}
+use Rattle.mixed_graph.specs.Masks.{is_empty}
 use Rattle.prob_expr.specs.Tree.{Tree, prob, sum, product, quotient, named, Trees, no_trees, tree}
 use Rattle.prob_expr.specs.Check.{are_two}
 

@@ -2,7 +2,7 @@
 use Rattle.std.proofs.Common.{◌≡◌, ℕ, zero, suc, ◌+◌, ◌≤◌, true, cond, eqb, List, [], ◌∷◌, ◌++◌, length, Some, None, Result, Ok, Err, ◌⊎◌, inl, inr, refl, sym, ap, subst, ◌∙◌, append_assoc, append-nil, length-append, arith, codes, decimal, is_none}
 use Rattle.std.proofs.lemmas.Bool.{eq-eqb}
 use Rattle.prob_expr.specs.Check.{fault_in}
-use Rattle.prob_expr.specs.Masks.{join, one}
+use Rattle.mixed_graph.specs.Masks.{join, one}
 use Rattle.prob_expr.specs.Tree.{Tree, prob, sum, product, quotient, named, trees_of, PlainFormula}
 use Rattle.mixed_graph.specs.Names.{name_of}
 use Rattle.name_text.specs.Printing.{is_white}

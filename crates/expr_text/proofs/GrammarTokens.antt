@@ -8,7 +8,7 @@ use Rattle.std.proofs.lemmas.Slice.Eq.{bytes_eq-Decides}
 use Rattle.mixed_graph.specs.Bits.{has}
 use Rattle.mixed_graph.specs.Names.{is_line_byte, is_named, index_of, name_of}
 use Rattle.name_text.specs.Printing.{is_white, is_plain_byte, is_plain}
-use Rattle.prob_expr.specs.Masks.{join, one}
+use Rattle.mixed_graph.specs.Masks.{join, one}
 use Rattle.expr_text.specs.Read.{◌>>=◌, when, bad, after, trim, next_is, expect, closed, quoted, bare, raw_name, with_vertex, name_at}
 use Rattle.expr_text.specs.Grammar.{IsBlank, EndsRun, Token, Name, bare_name, quoted_name, Member}
 use Rattle.expr_text.proofs.Within.{and_true}

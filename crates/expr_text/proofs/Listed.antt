@@ -10,8 +10,8 @@ use Rattle.mixed_graph.proofs.FirstMembers.{members-empty, members-some}
 use Rattle.name_text.specs.Printing.{printed}
 use Rattle.answer_text.specs.declared.signs.Notation.TheVariants.{Plain}
 use Rattle.answer_text.specs.Texts.{names_in, member_names, conditions_in, term_text}
-use Rattle.prob_expr.specs.Masks.{is_empty}
-use Rattle.prob_expr.proofs.MaskLaws.{below_has}
+use Rattle.mixed_graph.specs.Masks.{is_empty}
+use Rattle.mixed_graph.proofs.MaskLaws.{below_has}
 
 -- the names of the members, where the first of these names has index k
 abbrev pub members : ℕ → ℕ → List (List ℕ) → List (List ℕ)

@@ -1,7 +1,7 @@
 -- Sound trees whose numbers have 32 bits.
 use Rattle.std.proofs.Common.{◌≡◌, ℕ, ◌^◌, Bool, true, not, ◌&&◌, ltb, refl}
 use Rattle.prob_expr.specs.Tree.{Tree, prob, sum, product, quotient, named, Trees, no_trees, tree}
-use Rattle.prob_expr.specs.Masks.{is_empty, is_below}
+use Rattle.mixed_graph.specs.Masks.{is_empty, is_below}
 use Rattle.prob_expr.specs.Terms.{is_term}
 use Rattle.prob_expr.specs.Check.{are_two}
 use Rattle.expr_text.specs.Sound.{is_sound, are_sound, is_numbered, are_numbered}

@@ -3,7 +3,7 @@ use Rattle.std.proofs.Common.{◌≡◌, ℕ, zero, suc, ◌^◌, ◌<◌, Bool,
 use Rattle.std.proofs.lemmas.Bool.{eqb-false}
 use Rattle.std.specs.List.{prefix_len}
 use Rattle.prob_expr.specs.Tree.{prob}
-use Rattle.prob_expr.specs.Masks.{is_empty}
+use Rattle.mixed_graph.specs.Masks.{is_empty}
 use Rattle.std.specs.List.{list_all}
 use Rattle.name_text.specs.Printing.{is_plain_byte, is_plain, printed}
 use Rattle.expr_text.specs.Read.{◌>>=◌, when, after, trim, next_is, expect, names_at, given_at, doing_at, conds_at, term_at}

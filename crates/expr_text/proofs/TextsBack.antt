@@ -4,7 +4,7 @@ use Rattle.std.proofs.lemmas.List.{length-append}
 use Rattle.std.proofs.lemmas.Bool.{ltb-true}
 use Rattle.std.specs.List.{prefix_len}
 use Rattle.prob_expr.specs.Tree.{Tree, prob, sum, product, quotient, named, Trees, no_trees, tree, trees_of}
-use Rattle.prob_expr.specs.Masks.{is_empty, is_below}
+use Rattle.mixed_graph.specs.Masks.{is_empty, is_below}
 use Rattle.mixed_graph.specs.Bits.{has}
 use Rattle.name_text.specs.Printing.{is_white}
 use Rattle.answer_text.specs.declared.signs.Notation.TheVariants.{Plain}

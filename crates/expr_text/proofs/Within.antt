@@ -2,9 +2,10 @@
 use Rattle.std.proofs.Common.{◌≡◌, ℕ, Bool, true, false, not, ◌&&◌, refl}
 use Rattle.mixed_graph.specs.Bits.{has}
 use Rattle.mixed_graph.specs.Sets.{Within}
-use Rattle.prob_expr.specs.Masks.{is_empty, is_below, is_apart, are_term_sets}
+use Rattle.mixed_graph.specs.Masks.{is_empty, is_below, is_apart}
+use Rattle.prob_expr.specs.Masks.{are_term_sets}
 use Rattle.prob_expr.specs.Terms.{is_term}
-use Rattle.prob_expr.proofs.MaskLaws.{below_has}
+use Rattle.mixed_graph.proofs.MaskLaws.{below_has}
 
 pub and_true : (a b : Bool) → (a && b) ≡ true → (a ≡ true) × (b ≡ true)
 and_true true b h = (refl, h)

@@ -11,7 +11,7 @@ use Rattle.std.specs.List.{list_all}
 use Rattle.mixed_graph.specs.Bits.{has}
 use Rattle.mixed_graph.specs.Names.{is_line_byte, name_of}
 use Rattle.name_text.specs.Printing.{is_white, is_plain_byte, is_plain}
-use Rattle.prob_expr.specs.Masks.{join, one}
+use Rattle.mixed_graph.specs.Masks.{join, one}
 use Rattle.prob_expr.specs.Tree.{Tree, prob, sum, product, quotient, named, trees_of, PlainFormula}
 use Rattle.expr_text.specs.Bytes.{is_digit}
 

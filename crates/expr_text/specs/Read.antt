@@ -7,7 +7,7 @@ use Rattle.prob_expr.specs.Check.{fault_in}
 use Rattle.mixed_graph.specs.Bits.{has}
 use Rattle.mixed_graph.specs.Names.{is_line_byte, is_named, index_of}
 use Rattle.name_text.specs.Printing.{is_white, is_plain_byte}
-use Rattle.prob_expr.specs.Masks.{join, one}
+use Rattle.mixed_graph.specs.Masks.{join, one}
 use Rattle.expr_text.specs.Bytes.{is_digit}
 use Rattle.expr_text.specs.declared.stop.Stop.{Stop}
 use Rattle.expr_text.specs.declared.stop.Stop.TheVariants.{Left, NoMemory}

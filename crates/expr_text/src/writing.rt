@@ -3,7 +3,7 @@ ghost use Rattle.mixed_graph.specs.Bits.{has};
 ghost use Rattle.answer_text.specs.Notations.{sign_text};
 ghost use Rattle.answer_text.specs.Texts.{set_in, term_in};
 ghost use Rattle.prob_expr.specs.Check.{fault_in};
-ghost use Rattle.prob_expr.specs.Masks.{is_below, is_empty};
+ghost use Rattle.mixed_graph.specs.Masks.{is_below, is_empty};
 ghost use Rattle.prob_expr.specs.Terms.{is_term};
 ghost use Rattle.prob_expr.specs.View.{view, views, formula_view};
 ghost use Rattle.expr_text.specs.Sound.{is_sound, are_sound, all_sound};

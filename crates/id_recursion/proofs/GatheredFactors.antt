@@ -5,7 +5,7 @@ use Rattle.std.specs.Global.{Vec}
 use Rattle.mixed_graph.specs.Graphs.{MixedGraph}
 use Rattle.mixed_graph.specs.declared.sets.VSet.{VSet}
 use Rattle.districts.specs.Listed.{first_masks}
-use Rattle.prob_expr.specs.Masks.{all}
+use Rattle.mixed_graph.specs.Masks.{all}
 use Rattle.prob_expr.specs.Tree.{Tree, Trees, no_trees, tree}
 use Rattle.prob_expr.specs.View.{view, views}
 use Rattle.prob_expr.specs.declared.expr.Expr.{Expr}

@@ -13,7 +13,7 @@ use Rattle.parity_models.specs.Laws.{DifferAt}
 use Rattle.parity_models.specs.Pairs.{first_model, second_model}
 use Rattle.parity_models.proofs.Witness.{fit_one, fit_two, positive_one, positive_two, agree_observed, effects}
 use Rattle.prob_expr.specs.Check.{fault_in}
-use Rattle.prob_expr.specs.Masks.{is_apart, is_below, is_empty}
+use Rattle.mixed_graph.specs.Masks.{is_apart, is_below, is_empty}
 use Rattle.prob_expr.specs.Terms.{is_term, is_do_free}
 use Rattle.prob_expr.specs.Tree.{PlainFormula}
 use Rattle.prob_expr.specs.Values.{effect, EqualsEffect}

@@ -11,7 +11,7 @@ use Rattle.do_derivation.specs.View.{step_view, steps_view}
 use Rattle.do_derivation.specs.declared.steps.Step.{Step, the_lemmas, At, Then, Rule2Do, Rule3In, Widen}
 use Rattle.do_derivation.proofs.StepViews.{step-Rule2Do, step-Rule3In, step-Widen}
 use Rattle.districts.specs.Listed.{first_masks}
-use Rattle.prob_expr.specs.Masks.{minus, all, is_empty}
+use Rattle.mixed_graph.specs.Masks.{minus, all, is_empty}
 use Rattle.prob_expr.specs.Tree.{Trees, product}
 use Rattle.prob_expr.specs.View.{view, views}
 use Rattle.prob_expr.specs.declared.expr.Expr.{Expr}

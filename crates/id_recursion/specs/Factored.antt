@@ -1,7 +1,7 @@
 -- What the factors of the districts have to be, and where one stops.
 use Rattle.std.specs.Prelude.{ℕ, ◌≡◌, ◌≤◌, ◌*◌, List, [], ◌∷◌, ◌++◌, length, map}
 use Rattle.mixed_graph.specs.Graphs.{MixedGraph}
-use Rattle.prob_expr.specs.Masks.{minus}
+use Rattle.mixed_graph.specs.Masks.{minus}
 use Rattle.prob_expr.specs.Tree.{PlainFormula}
 use Rattle.prob_expr.specs.View.{view, views}
 use Rattle.do_derivation.specs.Plans.{Plan, PlainDerivation}

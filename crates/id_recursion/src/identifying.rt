@@ -9,7 +9,7 @@ ghost use Rattle.mixed_graph.specs.Shown.{graph_of};
 ghost use Rattle.hedge.specs.Hedges.{IsHedge};
 ghost use Rattle.hedge.specs.declared.kinds.Hedge.{Hedge as HedgeData};
 ghost use Rattle.prob_expr.specs.Check.{fault_in};
-ghost use Rattle.prob_expr.specs.Masks.{minus, all};
+ghost use Rattle.mixed_graph.specs.Masks.{minus, all};
 ghost use Rattle.prob_expr.specs.Terms.{is_do_free};
 ghost use Rattle.prob_expr.specs.Tree.{prob};
 ghost use Rattle.prob_expr.specs.Values.{EqualsEffect};

@@ -5,7 +5,7 @@ ghost use Rattle.mixed_graph.specs.Orders.{IsOrder};
 ghost use Rattle.mixed_graph.specs.Shown.{graph_of};
 ghost use Rattle.districts.specs.Linked.{AreDistricts};
 ghost use Rattle.districts.specs.Listed.{first_masks};
-ghost use Rattle.prob_expr.specs.Masks.{minus, all};
+ghost use Rattle.mixed_graph.specs.Masks.{minus, all};
 ghost use Rattle.prob_expr.specs.Tree.{Trees};
 ghost use Rattle.prob_expr.specs.View.{formula_view};
 ghost use Rattle.do_derivation.specs.Plans.{Plans, no_plans};

@@ -1,7 +1,7 @@
 //! Lists of steps, built from the front.
 
 ghost use Rattle.std.specs.Prelude.{◌≡◌, ℕ, ◌≤◌, OnOk, length, cond};
-ghost use Rattle.prob_expr.specs.Masks.{is_empty};
+ghost use Rattle.mixed_graph.specs.Masks.{is_empty};
 ghost use Rattle.do_derivation.specs.Plans.{Plans};
 ghost use Rattle.do_derivation.specs.View.{step_view, steps_view};
 ghost use Rattle.identification.specs.Derivations.{with_set, at_place, at_each};

@@ -29,7 +29,7 @@ use Rattle.identification.specs.Procedure.{AreAncestorsIn, AreFactored, IsTarget
 use Rattle.mixed_graph.proofs.Masks.{has-and, has-or, has-zero, same_from_has}
 use Rattle.mixed_graph.specs.Bits.{has}
 use Rattle.mixed_graph.specs.Graphs.{IsAncestor, IsMixedGraph, MixedGraph, induced}
-use Rattle.prob_expr.specs.Masks.{all, is_below, is_empty, join, minus, one}
+use Rattle.mixed_graph.specs.Masks.{all, is_below, is_empty, join, minus, one}
 use Rattle.prob_expr.specs.Tree.{Tree, Trees, named, no_trees, prob, product, quotient, sum, tree}
 use Rattle.identification.specs.Derivations.{AreAllSteps, single, with_set, Lists, no_more, more, at_each, at_zero, in_order, home, home_list, home_lists, group_lists, unchain_steps, unchain_lists, unwrap_steps, main_steps}
 

@@ -20,7 +20,7 @@ use Rattle.identification.specs.Procedure.{Source, common}
 use Rattle.mixed_graph.proofs.Masks.{has-and, has-or, has-zero, same_from_has}
 use Rattle.mixed_graph.specs.Bits.{has}
 use Rattle.mixed_graph.specs.Graphs.{IsMixedGraph, MixedGraph}
-use Rattle.prob_expr.specs.Masks.{all, is_apart, is_empty, join, minus, one}
+use Rattle.mixed_graph.specs.Masks.{all, is_apart, is_empty, join, minus, one}
 use Rattle.prob_expr.specs.Tree.{Tree, Trees, no_trees, prob, product, tree}
 use Rattle.identification.specs.Derivations.{more, in_order, home, home_list, home_lists, unchain_steps, unchain_lists}
 

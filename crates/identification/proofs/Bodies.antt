@@ -13,7 +13,7 @@ use Rattle.identification.specs.Procedure.{Source, conditional, marginal}
 use Rattle.mixed_graph.proofs.Masks.{has-or, has-zero, same_from_has}
 use Rattle.mixed_graph.specs.Bits.{has}
 use Rattle.mixed_graph.specs.Graphs.{MixedGraph}
-use Rattle.prob_expr.specs.Masks.{all, is_apart, is_below, is_empty, join, minus, one}
+use Rattle.mixed_graph.specs.Masks.{all, is_apart, is_below, is_empty, join, minus, one}
 use Rattle.prob_expr.specs.Tree.{Tree, Trees, named, no_trees, prob, product, quotient, sum, tree}
 use Rattle.identification.specs.Derivations.{single, Lists, no_more, more, at_place, at_each, universe, marginal_steps, source_steps}
 

@@ -20,7 +20,7 @@ use Rattle.identification.specs.Procedure.{AreFactors, IsBody, IsParent, IsPillo
 use Rattle.mixed_graph.proofs.Masks.{has-and, has-or, has-zero, same_from_has}
 use Rattle.mixed_graph.specs.Bits.{has}
 use Rattle.mixed_graph.specs.Graphs.{IsMixedGraph, MixedGraph, induced}
-use Rattle.prob_expr.specs.Masks.{all, is_empty, join, minus, one}
+use Rattle.mixed_graph.specs.Masks.{all, is_empty, join, minus, one}
 use Rattle.prob_expr.specs.Tree.{Tree, Trees, no_trees, prob, product, tree}
 use Rattle.identification.specs.Derivations.{ArePlaceLists, AreBodySteps, Lists, no_more, more, in_order, universe, source_steps, place_list, body_steps}
 

@@ -14,7 +14,7 @@ use Rattle.identification.specs.Procedure.{common}
 use Rattle.mixed_graph.proofs.Masks.{has-and, has-or, same_from_has}
 use Rattle.mixed_graph.specs.Bits.{has}
 use Rattle.mixed_graph.specs.Graphs.{IsMixedGraph, MixedGraph}
-use Rattle.prob_expr.specs.Masks.{all, is_apart, is_below, is_empty, join, minus, one}
+use Rattle.mixed_graph.specs.Masks.{all, is_apart, is_below, is_empty, join, minus, one}
 use Rattle.prob_expr.specs.Tree.{prob}
 use Rattle.identification.specs.Derivations.{with_set}
 

@@ -18,7 +18,7 @@ use Rattle.identification.specs.Procedure.{IsComposed, IsTarget, product_of}
 use Rattle.mixed_graph.proofs.Masks.{has-zero}
 use Rattle.mixed_graph.specs.Bits.{has}
 use Rattle.mixed_graph.specs.Graphs.{IsMixedGraph, MixedGraph}
-use Rattle.prob_expr.specs.Masks.{all, minus}
+use Rattle.mixed_graph.specs.Masks.{all, minus}
 use Rattle.prob_expr.specs.Tree.{PlainFormula, Trees, prob}
 use Rattle.identification.specs.Derivations.{group_lists, unchain_lists, IsComposedWith, Lists, at_each, in_order, home_lists, unwrap_steps, two_or_more, has_pair, district_steps, main_steps}
 

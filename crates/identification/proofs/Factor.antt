@@ -24,7 +24,7 @@ use Rattle.identification.specs.Procedure.{AreAncestorsIn, IsFactor, Source}
 use Rattle.mixed_graph.proofs.Masks.{has-or, has-zero, same_from_has}
 use Rattle.mixed_graph.specs.Bits.{has}
 use Rattle.mixed_graph.specs.Graphs.{IsAncestor, IsDirectedPath, IsMixedGraph, MixedGraph, induced}
-use Rattle.prob_expr.specs.Masks.{all, is_below, is_empty, join, minus}
+use Rattle.mixed_graph.specs.Masks.{all, is_below, is_empty, join, minus}
 use Rattle.prob_expr.specs.Tree.{Tree, prob, sum}
 use Rattle.surgery.specs.Cuts.{cut_into}
 use Rattle.identification.specs.Derivations.{AreFactorSteps, at_zero, universe, cut_steps}

@@ -5,7 +5,7 @@ use Rattle.identification.proofs.Bools.{and_l, and_r, both_true}
 use Rattle.identification.specs.Procedure.IsFactor.{whole, summed, further}
 use Rattle.identification.specs.Procedure.{AreFactored, AreFactors, IsBody, IsComposed, IsFactor, Source, conditional, marginal, product_of, sum_if}
 use Rattle.mixed_graph.specs.Graphs.{MixedGraph}
-use Rattle.prob_expr.specs.Masks.{is_empty, join, minus, one}
+use Rattle.mixed_graph.specs.Masks.{is_empty, join, minus, one}
 use Rattle.prob_expr.specs.Terms.{all_under, are_under, is_do_free, is_listed, is_under}
 use Rattle.prob_expr.specs.Tree.{PlainFormula, Tree, Trees, named, no_trees, prob, product, quotient, sum, tree}
 

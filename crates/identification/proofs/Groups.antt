@@ -13,7 +13,7 @@ use Rattle.identification.specs.Procedure.{common}
 use Rattle.mixed_graph.proofs.Masks.{has-and, has-or, has-zero, same_from_has}
 use Rattle.mixed_graph.specs.Bits.{has}
 use Rattle.mixed_graph.specs.Graphs.{IsMixedGraph, MixedGraph}
-use Rattle.prob_expr.specs.Masks.{all, join, minus, one}
+use Rattle.mixed_graph.specs.Masks.{all, join, minus, one}
 use Rattle.prob_expr.specs.Tree.{Tree, Trees, no_trees, prob, tree}
 use Rattle.identification.specs.Derivations.{in_order, home, places, group_lists}
 

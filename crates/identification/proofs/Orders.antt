@@ -7,7 +7,7 @@ use Rattle.mixed_graph.proofs.Masks.{has-or, has-zero, has-ones, has-pow, same_f
 use Rattle.mixed_graph.specs.Bits.{has}
 use Rattle.mixed_graph.specs.Graphs.{MixedGraph}
 use Rattle.mixed_graph.specs.Orders.{taken_by, IsNext, IsOrder}
-use Rattle.prob_expr.specs.Masks.{join, one, all}
+use Rattle.mixed_graph.specs.Masks.{join, one, all}
 
 -- the list orders the vertices outside p: each once, after its parents
 abbrev pub IsOrderFrom : MixedGraph → ℕ → List ℕ → Type 0

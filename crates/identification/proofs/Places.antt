@@ -16,7 +16,7 @@ use Rattle.identification.specs.Procedure.{common}
 use Rattle.mixed_graph.proofs.Masks.{has-and, has-or, same_from_has}
 use Rattle.mixed_graph.specs.Bits.{has}
 use Rattle.mixed_graph.specs.Graphs.{IsAncestor, IsMixedGraph, MixedGraph}
-use Rattle.prob_expr.specs.Masks.{all, is_empty, is_inside, join, minus, one}
+use Rattle.mixed_graph.specs.Masks.{all, is_empty, is_inside, join, minus, one}
 use Rattle.prob_expr.specs.Tree.{Tree, prob}
 use Rattle.surgery.specs.Cuts.{cut_into}
 use Rattle.identification.specs.Derivations.{with_set, place_list}

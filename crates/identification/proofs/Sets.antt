@@ -6,7 +6,7 @@ use Rattle.std.proofs.lemmas.Nat.{and_le_r, pow_pos}
 use Rattle.identification.proofs.Bools.{clash, decide}
 use Rattle.mixed_graph.proofs.Masks.{below_two, has-and, has-zero, has-pow, has-ones, same_from_has, zero_from_empty}
 use Rattle.mixed_graph.specs.Bits.{has}
-use Rattle.prob_expr.specs.Masks.{minus, one, all, is_empty, is_apart, is_inside, is_below}
+use Rattle.mixed_graph.specs.Masks.{minus, one, all, is_empty, is_apart, is_inside, is_below}
 
 pub has-minus : (a b v : ℕ) → has (minus a b) v ≡ (has a v && not (has b v))
 unfolding has

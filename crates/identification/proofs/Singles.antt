@@ -20,7 +20,7 @@ use Rattle.identification.specs.Procedure.{common, product_of}
 use Rattle.mixed_graph.proofs.Masks.{has-and, has-zero, same_from_has}
 use Rattle.mixed_graph.specs.Bits.{has}
 use Rattle.mixed_graph.specs.Graphs.{IsMixedGraph, MixedGraph}
-use Rattle.prob_expr.specs.Masks.{all, join, minus, one}
+use Rattle.mixed_graph.specs.Masks.{all, join, minus, one}
 use Rattle.prob_expr.specs.Tree.{Trees, prob, product, tree}
 use Rattle.identification.specs.Derivations.{single, Lists, at_each, in_order, home, home_lists, unwrap_steps}
 

@@ -4,7 +4,7 @@ use Rattle.mixed_graph.specs.Bits.{has}
 use Rattle.mixed_graph.specs.Graphs.{MixedGraph}
 use Rattle.mixed_graph.specs.Orders.{IsOrder}
 use Rattle.districts.specs.Linked.{IsDistrict}
-use Rattle.prob_expr.specs.Masks.{join, minus, one, all, is_empty}
+use Rattle.mixed_graph.specs.Masks.{join, minus, one, all, is_empty}
 use Rattle.prob_expr.specs.Tree.{prob, Trees, PlainFormula}
 use Rattle.do_derivation.specs.Plans.{Move, Plan, Plans, no_plans, plan, PlainLemma, PlainDerivation}
 use Rattle.do_derivation.specs.Shapes.{has_product}

@@ -4,7 +4,7 @@ use Rattle.mixed_graph.specs.Bits.{has}
 use Rattle.mixed_graph.specs.Graphs.{MixedGraph, IsAncestor, induced}
 use Rattle.mixed_graph.specs.Orders.{IsOrder}
 use Rattle.districts.specs.Linked.{IsLinked, IsSetOf, IsDistrict, AreDistricts}
-use Rattle.prob_expr.specs.Masks.{join, minus, one, all, is_empty}
+use Rattle.mixed_graph.specs.Masks.{join, minus, one, all, is_empty}
 use Rattle.prob_expr.specs.Tree.{Tree, prob, sum, product, quotient, named, Trees, no_trees, tree, PlainFormula}
 use Rattle.do_derivation.specs.Shapes.{as_one, flat}
 

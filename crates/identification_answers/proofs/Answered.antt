@@ -22,7 +22,7 @@ use Rattle.identification_answers.specs.Names.{FormulaNamesOnly}
 use Rattle.mixed_graph.proofs.Masks.{has-zero}
 use Rattle.mixed_graph.specs.Bits.{has}
 use Rattle.mixed_graph.specs.Graphs.{IsAncestor, IsMixedGraph, MixedGraph}
-use Rattle.prob_expr.specs.Masks.{is_apart, is_below}
+use Rattle.mixed_graph.specs.Masks.{is_apart, is_below}
 use Rattle.prob_expr.specs.Terms.{is_term}
 use Rattle.hedge.specs.Hedges.{Meets}
 

@@ -6,7 +6,7 @@ use Rattle.identification.specs.Procedure.IsFactor.{whole, summed, further}
 use Rattle.identification.specs.Procedure.{AreFactored, AreFactors, IsBody, IsComposed, IsFactor, Source, conditional, marginal, product_of, sum_if}
 use Rattle.identification_answers.specs.Depth.{are_defs_within, are_trees_within, is_tree_within}
 use Rattle.mixed_graph.specs.Graphs.{MixedGraph}
-use Rattle.prob_expr.specs.Masks.{is_empty, join, minus, one}
+use Rattle.mixed_graph.specs.Masks.{is_empty, join, minus, one}
 use Rattle.prob_expr.specs.Tree.{PlainFormula, Tree, Trees, named, no_trees, prob, product, quotient, sum, tree}
 
 mutual

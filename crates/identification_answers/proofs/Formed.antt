@@ -15,7 +15,7 @@ use Rattle.identification_answers.proofs.Names.{pillow_in}
 use Rattle.mixed_graph.proofs.Masks.{has-zero}
 use Rattle.mixed_graph.specs.Bits.{has}
 use Rattle.mixed_graph.specs.Graphs.{IsMixedGraph, MixedGraph}
-use Rattle.prob_expr.specs.Masks.{is_apart, is_below, is_empty, join, minus, one}
+use Rattle.mixed_graph.specs.Masks.{is_apart, is_below, is_empty, join, minus, one}
 use Rattle.prob_expr.specs.Terms.{is_term}
 use Rattle.prob_expr.specs.Tree.{PlainFormula, Tree, Trees, named, no_trees, prob, product, quotient, sum, tree}
 

@@ -17,7 +17,7 @@ use Rattle.identification_answers.specs.Names.{AllNameOnly, AreAll, EachNamesOnl
 use Rattle.mixed_graph.proofs.Masks.{has-and, has-or, has-zero}
 use Rattle.mixed_graph.specs.Bits.{has}
 use Rattle.mixed_graph.specs.Graphs.{IsAncestor, IsDirectedPath, IsMixedGraph, MixedGraph, induced}
-use Rattle.prob_expr.specs.Masks.{all, is_empty, join, minus, one}
+use Rattle.mixed_graph.specs.Masks.{all, is_empty, join, minus, one}
 use Rattle.prob_expr.specs.Tree.{PlainFormula, Tree, Trees, named, no_trees, prob, product, quotient, sum, tree}
 
 module _ (g : MixedGraph) (is_graph : IsMixedGraph g) (o : List ℕ) (order : IsOrderFrom g 0 o) (z : ℕ → Type 0) where

@@ -8,7 +8,7 @@ use Rattle.identification.specs.Procedure.{AreAncestorsIn, Source}
 use Rattle.identification_answers.proofs.Unique.{one_set, parts_one}
 use Rattle.mixed_graph.specs.Bits.{has}
 use Rattle.mixed_graph.specs.Graphs.{MixedGraph}
-use Rattle.prob_expr.specs.Masks.{join, minus, one}
+use Rattle.mixed_graph.specs.Masks.{join, minus, one}
 use Rattle.prob_expr.specs.Tree.{PlainFormula}
 
 module _ (g : MixedGraph) (o : List ℕ) where

@@ -15,7 +15,7 @@ use Rattle.identification.specs.Procedure.{AreAncestorsIn, IsStopped, IsTarget}
 use Rattle.mixed_graph.proofs.Masks.{has-or, has-zero, same_from_has}
 use Rattle.mixed_graph.specs.Bits.{has}
 use Rattle.mixed_graph.specs.Graphs.{IsAncestor, IsDirectedPath, IsMixedGraph, MixedGraph, induced}
-use Rattle.prob_expr.specs.Masks.{all, is_empty, join, minus, one}
+use Rattle.mixed_graph.specs.Masks.{all, is_empty, join, minus, one}
 
 pub ne_of : (i n : ℕ) → eqb i n ≡ false → i ≡ n → ⊥
 ne_of i n e s = grind (arith, s, e)

@@ -9,7 +9,7 @@ use Rattle.identification.specs.Procedure.{AreAncestorsIn, AreFactored, AreFacto
 use Rattle.mixed_graph.proofs.Masks.{same_from_has}
 use Rattle.mixed_graph.specs.Bits.{has}
 use Rattle.mixed_graph.specs.Graphs.{MixedGraph}
-use Rattle.prob_expr.specs.Masks.{join, minus, one}
+use Rattle.mixed_graph.specs.Masks.{join, minus, one}
 use Rattle.prob_expr.specs.Tree.{PlainFormula, Tree, Trees, sum, tree}
 
 pub one_set : (a b : ℕ) (P : ℕ → Type 0) → IsSetOf a P → IsSetOf b P → a ≡ b

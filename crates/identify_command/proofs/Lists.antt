@@ -5,7 +5,7 @@ use Rattle.mixed_graph.specs.Sets.{Within, Apart}
 use Rattle.mixed_graph.specs.Names.{is_named}
 use Rattle.do_rules.specs.Rules.{AreThreeSets}
 use Rattle.prob_expr.specs.Tree.{PlainTarget}
-use Rattle.prob_expr.proofs.MaskLaws.{has_none}
+use Rattle.mixed_graph.proofs.MaskLaws.{has_none}
 use Rattle.targets.specs.declared.fault.TargetFault.{TargetFault}
 use Rattle.targets.specs.declared.fault.TargetFault.TheVariants.{Unknown, Latent, Twice, EmptyY, EmptyX, NotOneX, Bidirected, OtherNames, NoMemory}
 use Rattle.targets.specs.Targets.{NameFault, fault_in, IsNameFault, IsSetOf, Lists}

@@ -4,10 +4,10 @@ use Rattle.std.proofs.lemmas.Bool.{and_from, lt-ltb}
 use Rattle.mixed_graph.specs.Bits.{has}
 use Rattle.mixed_graph.specs.Graphs.{MixedGraph, IsMixedGraph}
 use Rattle.finite_models.proofs.Bools.{and_first, and_second}
-use Rattle.prob_expr.specs.Masks.{minus, one, is_empty, is_apart, is_inside, is_below}
+use Rattle.mixed_graph.specs.Masks.{minus, one, is_empty, is_apart, is_inside, is_below}
 use Rattle.prob_expr.specs.Terms.{is_term}
 use Rattle.prob_expr.specs.Tree.{Tree, prob, sum, product, quotient, named, PlainFormula, PlainTarget, term_of}
-use Rattle.prob_expr.proofs.MaskLaws.{below_from, inside_has}
+use Rattle.mixed_graph.proofs.MaskLaws.{below_from, inside_has}
 use Rattle.do_derivation.specs.Accepts.{Accepts, Define, start_of, sets_of, are_sets}
 use Rattle.do_derivation.specs.Plans.{Move, Plan, Plans, no_plans, plan, PlainLemma, PlainDerivation}
 use Rattle.do_derivation.specs.Shapes.{is_list_of, child, with_child}
@@ -18,7 +18,7 @@ use Rattle.do_derivation.proofs.Accepted.{start_term}
 use Rattle.do_derivation.proofs.Preserved.{step_keeps_terms}
 use Rattle.do_derivation.proofs.TermSets.{IsTerm, minus_left, term_from, term_filled}
 use Rattle.do_derivation.proofs.TreeTerms.{AreTerms, child_terms, terms_of, terms_test}
-use Rattle.prob_expr.proofs.MaskLaws.{filled_from}
+use Rattle.mixed_graph.proofs.MaskLaws.{filled_from}
 use Rattle.step_json.specs.Laws.{are_below, is_move_within, is_within, are_within}
 use Rattle.certificate_writing.specs.Writable.{are_steps_within, IsDerivationWithin}
 

@@ -10,7 +10,7 @@ use Rattle.mixed_graph.specs.Sets.{Within, Apart}
 use Rattle.mixed_graph.specs.Graphs.{MixedGraph}
 use Rattle.do_rules.specs.Rules.{AreThreeSets}
 use Rattle.prob_expr.specs.Tree.{PlainTarget}
-use Rattle.prob_expr.proofs.MaskLaws.{below_from, has_none}
+use Rattle.mixed_graph.proofs.MaskLaws.{below_from, has_none}
 use Rattle.do_derivation.proofs.TermSets.{apart_back, term_test}
 use Rattle.hedge.specs.Hedges.{IsHedge}
 use Rattle.hedge.specs.declared.kinds.Hedge.{Hedge}

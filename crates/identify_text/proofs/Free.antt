@@ -6,11 +6,11 @@ use Rattle.std.proofs.lemmas.List.Elements.{All-nil, All-get_or, All-push}
 use Rattle.mixed_graph.specs.Bits.{has}
 use Rattle.mixed_graph.specs.Sets.{Within}
 use Rattle.mixed_graph.proofs.Masks.{has-zero}
-use Rattle.prob_expr.specs.Masks.{join, minus, is_empty, is_below}
+use Rattle.mixed_graph.specs.Masks.{join, minus, is_empty, is_below}
 use Rattle.prob_expr.specs.Check.{are_two, fault_in}
 use Rattle.prob_expr.specs.Tree.{Tree, prob, sum, product, quotient, named, Trees, no_trees, tree, PlainFormula, PlainTarget}
 use Rattle.prob_expr.specs.Free.{free_in, free_in_any, free_in_defs, free_of}
-use Rattle.prob_expr.proofs.MaskLaws.{has_join, has_minus}
+use Rattle.mixed_graph.proofs.MaskLaws.{has_join, has_minus}
 use Rattle.expr_text.specs.Sound.{is_sound, are_sound, all_sound}
 use Rattle.expr_text.proofs.Checked.{main_is_sound, defs_are_sound}
 use Rattle.expr_text.proofs.Within.{first_within, second_within, third_within}

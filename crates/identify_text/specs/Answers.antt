@@ -3,7 +3,7 @@ use Rattle.std.specs.Prelude.{ℕ, List, [], ◌++◌, if◌then◌else◌, code
 use Rattle.answer_text.specs.declared.signs.Notation.{Notation}
 use Rattle.answer_text.specs.declared.signs.Notation.TheVariants.{Plain, Latex}
 use Rattle.answer_text.specs.Texts.{set_text}
-use Rattle.prob_expr.specs.Masks.{is_empty, join, minus}
+use Rattle.mixed_graph.specs.Masks.{is_empty, join, minus}
 use Rattle.prob_expr.specs.Tree.{Tree, term_of, PlainFormula, PlainTarget}
 use Rattle.prob_expr.specs.Free.{free_of}
 use Rattle.expr_text.specs.Write.{expr_in, formula_in}

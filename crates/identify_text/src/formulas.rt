@@ -2,7 +2,7 @@ ghost use Rattle.std.specs.Prelude.{◌≡◌, ◌++◌, length, None, OnOk, IfO
 ghost use Rattle.mixed_graph.specs.Bits.{has};
 ghost use Rattle.mixed_graph.specs.Sets.{Within};
 ghost use Rattle.prob_expr.specs.Check.{fault_in};
-ghost use Rattle.prob_expr.specs.Masks.{join, minus};
+ghost use Rattle.mixed_graph.specs.Masks.{join, minus};
 ghost use Rattle.prob_expr.specs.View.{formula_view, target_view};
 ghost use Rattle.expr_text.specs.Write.{text_of};
 ghost use Rattle.identify_text.specs.Answers.{effect, free_beside, free_line, answer_in, formula_answer, latex_answer};

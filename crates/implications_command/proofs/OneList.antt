@@ -9,8 +9,8 @@ use Rattle.mixed_graph.specs.Bits.{has}
 use Rattle.mixed_graph.specs.Graphs.{MixedGraph}
 use Rattle.mixed_graph.proofs.Masks.{same_from_has}
 use Rattle.m_separation.specs.Walks.{IsSeparated}
-use Rattle.prob_expr.specs.Masks.{join, one}
-use Rattle.prob_expr.proofs.MaskLaws.{has_join, has_none}
+use Rattle.mixed_graph.specs.Masks.{join, one}
+use Rattle.mixed_graph.proofs.MaskLaws.{has_join, has_none}
 use Rattle.implications.specs.declared.pairs.Implication.{Implication}
 use Rattle.implications.specs.Separable.{only, rest_at, IsThinned, IsGivenSet}
 use Rattle.implications.specs.Implications.{IsImplication, AreImplications}

@@ -5,8 +5,8 @@ use Rattle.std.proofs.lemmas.List.{at_drop_more, at_drop_all}
 use Rattle.std.proofs.lemmas.List.Elements.{All-nil, All-cons, All-weaker}
 use Rattle.mixed_graph.specs.Bits.{has, members_below}
 use Rattle.mixed_graph.specs.Sets.{Within}
-use Rattle.prob_expr.specs.Masks.{join, one}
-use Rattle.prob_expr.proofs.MaskLaws.{has_join, has_one, has_none, join_assoc, join-zero, filled_has}
+use Rattle.mixed_graph.specs.Masks.{join, one}
+use Rattle.mixed_graph.proofs.MaskLaws.{has_join, has_one, has_none, join_assoc, join-zero, filled_has}
 use Rattle.count_rows.specs.Rows.{Table}
 use Rattle.count_table.specs.Tables.{AreCounts}
 use Rattle.count_eval.specs.Programs.{is_used}

@@ -1,7 +1,8 @@
 -- Names as lists of bytes, and as they are kept.
 use Rattle.std.proofs.Common.{◌≡◌, ℕ, ◌+◌, Bool, true, false, List, [], ◌∷◌, ◌++◌, length, length-append, inl, inr, get_or, Some, Option, refl, ap, sym, ◌∙◌, arith}
 use Rattle.std.specs.Prelude.{zero, slice_get, option_map, ◌||◌, not, cond, position, IfSome, ◌<◌, None}
-use Rattle.std.specs.List.{list_any, position_or_len}
+use Rattle.std.specs.List.{list_any, position_or_len, AllZip, each_same}
+use Rattle.std.specs.Vec.{vec_len}
 use Rattle.std.specs.Global.{Vec}
 use Rattle.std.proofs.lemmas.List.{map-append}
 use Rattle.std.proofs.lemmas.Option.{cond_some}
@@ -92,3 +93,10 @@ pub slice_get-texts : (ks : List (Vec ℕ)) (i : ℕ) (k : Vec ℕ) → slice_ge
 slice_get-texts [] i k e = absurd (cc)
 slice_get-texts (x ∷ ks) zero k e = ap (λ (o : Option (Vec ℕ)). option_map (λ (v : Vec ℕ). v.items) o) e
 slice_get-texts (x ∷ ks) (suc i) k e = slice_get-texts ks i k e
+
+-- clones of the names have the same texts
+pub texts-cloned : (xs ys : List (Vec ℕ)) → AllZip (λ x y. AllZip (λ a b. b ≡ a) x.items y.items × (vec_len y ≡ vec_len x)) xs ys → texts ys ≡ texts xs
+texts-cloned [] [] h = refl
+texts-cloned [] (y ∷ ys) h = elim h [ ]
+texts-cloned (x ∷ xs) [] h = elim h [ ]
+texts-cloned (x ∷ xs) (y ∷ ys) h = rw (each_same x.items y.items h.0.0, texts-cloned xs ys h.1) refl

@@ -2,8 +2,10 @@ pub mod Arrows
 pub mod Bits
 pub mod Built
 pub mod Graphs
+pub mod Masks
 pub mod Names
 pub mod Orders
 pub mod Pairs
+pub mod Reached
 pub mod Sets
 pub mod Shown

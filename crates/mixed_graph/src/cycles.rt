@@ -13,10 +13,7 @@ pub fn childless(children: &[u64; 64], set: VSet) -> Option<u8>
 {
     for v in 0..64u8 {
         if set.has(v) {
-            let within = VSet {
-                bits: children[v as usize],
-            }
-            .intersection(set);
+            let within = VSet::row(children, v).intersection(set);
             if within.is_empty() {
                 return Some(v);
             }
@@ -46,11 +43,7 @@ fn child_in(children: &[u64; 64], v: u8, set: VSet) -> u8
     ensures member { IsTrue (has set.bits result) }
     ensures arrow { IsTrue (has (slice_index children.now v) result) }
 {
-    VSet {
-        bits: children[v as usize],
-    }
-    .intersection(set)
-    .lowest()
+    VSet::row(children, v).intersection(set).lowest()
 }
 
 /// A walk that came back: each of the first `count` entries has an arrow to the next, and the last has one to entry `back`.

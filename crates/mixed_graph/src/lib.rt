@@ -8,11 +8,13 @@ mod lists;
 mod mixed;
 mod names;
 mod pairs;
+mod rows;
 mod sets;
 mod text;
 
 pub use lists::{Cycle, Order};
 pub use mixed::{BuildFault, Graph};
 pub use names::{AddFault, Names, is_name};
+pub use rows::{joined, reached};
 pub use sets::VSet;
 pub use text::Text;

@@ -7,6 +7,7 @@ ghost use Rattle.mixed_graph.specs.Graphs.{IsMixedGraph, graph_from, Agree, IsAn
 use crate::cycles::{childless, cycle_of, stuck, walk_back};
 use crate::lists::{Cycle, Order};
 use crate::pairs::{heads, loop_among, neighbours, tails};
+use crate::rows::reached;
 use crate::sets::VSet;
 
 /// An acyclic mixed graph on the vertices below `n`, at most 64.
@@ -37,6 +38,33 @@ impl Graph {
     ghost use Rattle.mixed_graph.specs.Orders.{IsOrder};
     ghost use Rattle.mixed_graph.specs.Built.{IsGraphOf, IsFaultOf};
     ghost use Rattle.mixed_graph.specs.Shown.{graph_of};
+
+    /// The vertices u with u -> v.
+    pub fn parents(&self, v: u8) -> VSet
+        requires { v < 64 }
+        ensures members { (u : ℕ) → has result.bits u ≡ (graph_of self.now).arrow u v }
+        ensures mask { result.bits ≡ slice_index self.now.parents v }
+    {
+        VSet::row(&self.parents, v)
+    }
+
+    /// The vertices u with v -> u.
+    pub fn children(&self, v: u8) -> VSet
+        requires { v < 64 }
+        ensures members { (u : ℕ) → has result.bits u ≡ (graph_of self.now).arrow v u }
+        ensures mask { result.bits ≡ slice_index self.now.children v }
+    {
+        VSet::row(&self.children, v)
+    }
+
+    /// The vertices u with v <-> u.
+    pub fn spouses(&self, v: u8) -> VSet
+        requires { v < 64 }
+        ensures members { (u : ℕ) → has result.bits u ≡ (graph_of self.now).both v u }
+        ensures mask { result.bits ≡ slice_index self.now.spouses v }
+    {
+        VSet::row(&self.spouses, v)
+    }
 
     /// Whether every member is a vertex of the graph.
     pub fn covers(&self, s: VSet) -> bool
@@ -131,22 +159,12 @@ impl Graph {
 
 /// The vertices from which a member of s is reached, where row v holds the vertices one step before v.
 fn closure(n: u32, rows: &[u64; 64], s: VSet) -> VSet
+    requires size { n ≤ 64 }
     requires set { Within n (has s.bits) }
     requires rows { (u v : ℕ) → IsTrue (has (slice_index rows.now v) u) → u < n }
     ensures { (v : ℕ) → IsTrue (has result.bits v) ↔ IsAncestor (graph_of_rows n rows.now) (has s.bits) v }
 {
-    let mut found = s;
-    let mut front = s;
-    while front.bits != 0 {
-        let v = front.lowest();
-        let fresh = VSet {
-            bits: rows[v as usize],
-        }
-        .difference(found);
-        found = found.union(fresh);
-        front = front.difference(VSet::one(v)).union(fresh);
-    }
-    found
+    reached(rows, s, VSet::below(n))
 }
 
 /// The bits inside `within` of the rows in `of`.
@@ -155,12 +173,10 @@ fn kept(rows: &[u64; 64], of: VSet, within: VSet) -> [u64; 64]
 {
     let mut out = [0u64; 64];
     for v in 0..64u8 {
-        out[v as usize] = VSet {
-            bits: rows[v as usize],
-        }
-        .intersection(within)
-        .only_if(of.has(v))
-        .bits;
+        out[v as usize] = VSet::row(rows, v)
+            .intersection(within)
+            .only_if(of.has(v))
+            .bits;
     }
     out
 }

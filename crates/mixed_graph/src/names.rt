@@ -49,6 +49,17 @@ impl Names {
         }
     }
 
+    /// The same names again.
+    pub fn copy(&self) -> Result<Names, AllocError>
+        ensures { IfOk result (λ names. names ≡ self.now) }
+    {
+        let set = self.set.clone()?;
+        Ok(Names {
+            alloc: self.alloc,
+            set,
+        })
+    }
+
     /// The number of names.
     pub fn count(&self) -> u32
         ensures count { result ≡ length self.now }

@@ -2,7 +2,8 @@
 use Rattle.std.proofs.Common.{◌≡◌, ℕ, ◌+◌, Bool, true, false, not, ◌&&◌, Option, Some, None, Result, Ok, Err, if◌then◌else◌, List, [], ◌∷◌, length, refl, sym, ap}
 use Rattle.std.specs.Prelude.{All}
 use Rattle.std.proofs.lemmas.List.Elements.{All-nil, All-cons}
-use Rattle.prob_expr.specs.Masks.{is_empty, is_below, are_term_sets}
+use Rattle.mixed_graph.specs.Masks.{is_empty, is_below}
+use Rattle.prob_expr.specs.Masks.{are_term_sets}
 use Rattle.prob_expr.specs.Tree.{Tree, prob, sum, product, quotient, named, Trees, no_trees, tree}
 use Rattle.prob_expr.specs.Terms.{are_terms, are_terms_each}
 use Rattle.prob_expr.specs.Fold.{has_factors, are_some, each_has}

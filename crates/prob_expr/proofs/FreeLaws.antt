@@ -8,14 +8,14 @@ use Rattle.fractions.specs.Fractions.{Fraction, over, add, mul, div, add_below}
 use Rattle.finite_models.specs.Sums.{set_at, all_below}
 use Rattle.finite_models.specs.Models.{FiniteModel, event_weight, intervene, weight_of, sum_worlds, solution, world_weight}
 use Rattle.finite_models.proofs.Bools.{and_first, and_second}
-use Rattle.prob_expr.specs.Masks.{join, is_below}
+use Rattle.mixed_graph.specs.Masks.{join, is_below}
 use Rattle.prob_expr.specs.Tree.{Tree, prob, sum, product, quotient, named, Trees, no_trees, tree}
 use Rattle.prob_expr.specs.Terms.{are_terms, are_terms_each}
 use Rattle.prob_expr.specs.Free.{free_in, free_in_any, free_in_defs}
 use Rattle.prob_expr.specs.Values.{weights_of, term_value, value, product_value, values_from, add_over}
 use Rattle.prob_expr.specs.Laws.{IsWhole, AgreeOn, ValueReadsFree}
 use Rattle.prob_expr.proofs.Checked.{accepted_is_whole}
-use Rattle.prob_expr.proofs.MaskLaws.{has_join, has_minus, below_has}
+use Rattle.mixed_graph.proofs.MaskLaws.{has_join, has_minus, below_has}
 
 -- ---- weights
 same_at : (p : Bool) (x y z : ℕ) → (p ≡ true → x ≡ y) → cond p x z ≡ cond p y z

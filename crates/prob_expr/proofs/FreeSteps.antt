@@ -1,10 +1,10 @@
 -- The free variables of factors, one after another.
 use Rattle.std.proofs.Common.{◌≡◌, ℕ, ◌+◌, ◌<◌, ◌≤◌, List, length, drop, get_or, sym, ap, ◌∙◌}
-use Rattle.prob_expr.specs.Masks.{join}
+use Rattle.mixed_graph.specs.Masks.{join}
 use Rattle.prob_expr.specs.View.{view, views}
 use Rattle.prob_expr.specs.Free.{free_in, free_in_any}
 use Rattle.prob_expr.specs.declared.expr.Expr.{Expr}
-use Rattle.prob_expr.proofs.MaskLaws.{join_assoc, join-zero}
+use Rattle.mixed_graph.proofs.MaskLaws.{join_assoc, join-zero}
 use Rattle.prob_expr.proofs.Views.{views_more, none_after}
 
 pub free_step : (sets : List ℕ) (before after : ℕ) (es : List Expr) (i : ℕ) (e : Expr) → i < length es → e ≡ get_or es i e → after ≡ join before (free_in sets (view e))

@@ -2,7 +2,6 @@ pub mod Boxes
 pub mod Checked
 pub mod FreeLaws
 mod FreeSteps
-pub mod MaskLaws
 pub mod Observed
 mod SameTrees
 pub mod ValueLaws

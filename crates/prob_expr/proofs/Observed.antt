@@ -15,14 +15,14 @@ use Rattle.finite_models.proofs.Positive.{positive_weight}
 use Rattle.finite_models.proofs.Ranks.{with_rank}
 use Rattle.finite_models.proofs.SumLaws.{over-mul-right}
 use Rattle.finite_models.proofs.Weights.{weight-none, weight_of-none}
-use Rattle.prob_expr.specs.Masks.{is_empty}
+use Rattle.mixed_graph.specs.Masks.{is_empty}
 use Rattle.prob_expr.specs.Tree.{Tree, prob, sum, product, quotient, named, Trees, no_trees, tree, PlainFormula}
 use Rattle.prob_expr.specs.Terms.{is_listed, is_under, are_under, all_under, is_do_free}
 use Rattle.prob_expr.specs.Values.{Weights, weights_of, term_value, value, product_value, values_from, value_of, effect, add_over}
 use Rattle.finite_models.specs.Agreement.{AgreeObserved}
 use Rattle.prob_expr.specs.Laws.{EffectIsOverTotal, ObservedFixesValue, FormulaFixesEffect}
 use Rattle.prob_expr.proofs.Boxes.{assignment_set, add_over_equal, add_over_positive, sum_over_equal}
-use Rattle.prob_expr.proofs.MaskLaws.{has_none, empty_has}
+use Rattle.mixed_graph.proofs.MaskLaws.{has_none, empty_has}
 
 ratio_numbers : (p d p' d' t t' : ℕ) → 1 ≤ t * t' → p * t' ≡ p' * t → d * t' ≡ d' * t → p * d' ≡ p' * d
 ratio_numbers p d p' d' t t' pos e f =

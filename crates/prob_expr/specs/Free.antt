@@ -1,6 +1,6 @@
 -- The free variables of a formula: those whose values its value may depend on.
 use Rattle.std.specs.Prelude.{ℕ, List, [], ◌∷◌, ◌++◌, get_or}
-use Rattle.prob_expr.specs.Masks.{join, minus}
+use Rattle.mixed_graph.specs.Masks.{join, minus}
 use Rattle.prob_expr.specs.Tree.{Tree, prob, sum, product, quotient, named, Trees, no_trees, tree, PlainFormula}
 
 abbrev mutual

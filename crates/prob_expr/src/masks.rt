@@ -3,7 +3,8 @@
 //! The methods of `VSet` tell a result's members; these tell its mask, as trees hold it.
 
 ghost use Rattle.std.specs.Prelude.{◌≡◌, ◌<◌, ◌≤◌};
-ghost use Rattle.prob_expr.specs.Masks.{join, minus, one, all, is_empty, is_apart, is_inside, is_below, are_term_sets};
+ghost use Rattle.mixed_graph.specs.Masks.{join, minus, one, all, is_empty, is_apart, is_inside, is_below};
+ghost use Rattle.prob_expr.specs.Masks.{are_term_sets};
 
 use mixed_graph::VSet;
 

@@ -3,7 +3,7 @@ use Rattle.std.proofs.Common.{◌≡◌, ℕ, zero, suc, ◌+◌, ◌<◌, Bool,
 use Rattle.std.proofs.lemmas.Bool.{cases_lt, false≢true}
 use Rattle.std.proofs.lemmas.List.{at_drop_more}
 use Rattle.mixed_graph.specs.Bits.{has, members_below}
-use Rattle.prob_expr.specs.Masks.{is_below}
+use Rattle.mixed_graph.specs.Masks.{is_below}
 use Rattle.step_json.specs.Laws.{are_below}
 use Rattle.step_json.proofs.SetsBack.{not_above}
 

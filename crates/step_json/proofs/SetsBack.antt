@@ -10,7 +10,7 @@ use Rattle.mixed_graph.specs.Bits.{has, members_below}
 use Rattle.mixed_graph.specs.Names.{AreNames, name_of}
 use Rattle.mixed_graph.proofs.Masks.{has-zero, has-or, has-and}
 use Rattle.mixed_graph.proofs.Members.{length-members-le}
-use Rattle.prob_expr.specs.Masks.{join, one, is_below, is_apart}
+use Rattle.mixed_graph.specs.Masks.{join, one, is_below, is_apart}
 use Rattle.serde_json.specs.Data.{string, Items, no_items, item}
 use Rattle.step_json.specs.Values.{strings}
 use Rattle.step_json.specs.Reading.{◌>>=◌, vertex_of, with_member, more_of_set, set_in}

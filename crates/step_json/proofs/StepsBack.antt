@@ -3,8 +3,8 @@ use Rattle.std.proofs.Common.{◌≡◌, ℕ, zero, suc, ◌+◌, ◌^◌, ◌�
 use Rattle.mixed_graph.specs.Bits.{has}
 use Rattle.mixed_graph.specs.Names.{AreNames, name_of}
 use Rattle.mixed_graph.proofs.Masks.{has-zero, has-and, zero_from_empty}
-use Rattle.prob_expr.specs.Masks.{is_below}
-use Rattle.prob_expr.specs.Masks as masks
+use Rattle.mixed_graph.specs.Masks.{is_below}
+use Rattle.mixed_graph.specs.Masks as masks
 use Rattle.do_derivation.specs.Plans.{Move, Plan, Plans, no_plans, plan, plans_of}
 use Rattle.serde_json.specs.Data.{array, number, unsigned, Items, no_items, item}
 use Rattle.step_json.specs.Values.{strings, numbers, groups, names_value, set_value, said, move_value, step_value, step_values}

@@ -1,7 +1,7 @@
 -- What is written for a step is read again, and doesn't nest too deep for JSON.
 use Rattle.std.specs.Prelude.{◌≡◌, ℕ, suc, ◌+◌, ◌*◌, ◌≤◌, ◌^◌, max, Bool, true, ◌&&◌, ltb, leb, List, [], ◌∷◌, length, Ok}
 use Rattle.mixed_graph.specs.Names.{AreNames}
-use Rattle.prob_expr.specs.Masks.{is_below, is_apart}
+use Rattle.mixed_graph.specs.Masks.{is_below, is_apart}
 use Rattle.do_derivation.specs.Plans.{Move, Plan, Plans, no_plans, plan}
 use Rattle.serde_json.specs.Data.{depth}
 use Rattle.step_json.specs.Values.{set_value, step_value}

@@ -2,7 +2,7 @@
 use Rattle.std.specs.Prelude.{◌≡◌, ℕ, zero, suc, ◌+◌, ◌^◌, Bool, true, false, nat_lt, List, [], ◌∷◌, ◌++◌, length, Option, Some, None, option_and_then, Result, Ok, Err, if◌then◌else◌}
 use Rattle.mixed_graph.specs.Bits.{has}
 use Rattle.mixed_graph.specs.Names.{is_named, index_of}
-use Rattle.prob_expr.specs.Masks.{join, one, is_empty}
+use Rattle.mixed_graph.specs.Masks.{join, one, is_empty}
 use Rattle.do_derivation.specs.Plans.{Move, Plan, plans_of}
 use Rattle.serde_json.specs.Data.{Data, Items, no_items, item}
 use Rattle.serde_json.specs.Find.{as_str, as_array, as_number, as_u64}

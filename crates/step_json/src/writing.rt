@@ -1,7 +1,7 @@
 ghost use Rattle.std.specs.Prelude.{◌≡◌, ◌<◌, ◌++◌, ◌∷◌, [], true, length, codes, take, IfOk};
 ghost use Rattle.mixed_graph.specs.Bits.{has, members_below};
 ghost use Rattle.mixed_graph.specs.Names.{name_of};
-ghost use Rattle.prob_expr.specs.Masks.{is_below};
+ghost use Rattle.mixed_graph.specs.Masks.{is_below};
 ghost use Rattle.serde_json.specs.Data.{string, array, number, unsigned, item, no_items};
 ghost use Rattle.serde_json.specs.View.{view};
 ghost use Rattle.do_derivation.specs.Plans.{Move, Plan};

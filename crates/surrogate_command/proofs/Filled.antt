@@ -4,8 +4,8 @@ use Rattle.std.specs.List.{list_all}
 use Rattle.std.proofs.lemmas.Bool.{and_parts}
 use Rattle.mixed_graph.specs.Bits.{has}
 use Rattle.mixed_graph.specs.Sets.{Within}
-use Rattle.prob_expr.specs.Masks.{is_below, is_empty}
-use Rattle.prob_expr.proofs.MaskLaws.{below_from, not_empty}
+use Rattle.mixed_graph.specs.Masks.{is_below, is_empty}
+use Rattle.mixed_graph.proofs.MaskLaws.{below_from, not_empty}
 use Rattle.do_derivation.specs.Accepts.{are_sets}
 use Rattle.targets.specs.Targets.{NameFault, or_fault, first_fault}
 use Rattle.targets.proofs.Queries.{set_within}

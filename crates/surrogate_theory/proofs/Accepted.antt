@@ -19,7 +19,7 @@ use Rattle.identification.specs.Procedure.{IsTarget, Source, product_of}
 use Rattle.identification_answers.proofs.OneDerivation.{factor_one}
 use Rattle.mixed_graph.specs.Bits.{has}
 use Rattle.mixed_graph.specs.Graphs.{IsMixedGraph, MixedGraph}
-use Rattle.prob_expr.specs.Masks.{all, minus}
+use Rattle.mixed_graph.specs.Masks.{all, minus}
 use Rattle.prob_expr.specs.Terms.{all_under, are_under, is_under}
 use Rattle.prob_expr.specs.Tree.{PlainFormula, Tree, Trees, prob}
 use Rattle.surrogate_theory.proofs.Induced.{factor_out, steps_out}

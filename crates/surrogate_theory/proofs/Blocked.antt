@@ -20,7 +20,7 @@ use Rattle.mixed_graph.proofs.Masks.{has-zero}
 use Rattle.mixed_graph.specs.Bits.{has}
 use Rattle.mixed_graph.specs.Graphs.{IsAncestor, IsDirectedPath, IsMixedGraph, MixedGraph, induced}
 use Rattle.mixed_graph.specs.Orders.{IsOrder}
-use Rattle.prob_expr.specs.Masks.{all, is_apart, minus, one}
+use Rattle.mixed_graph.specs.Masks.{all, is_apart, minus, one}
 use Rattle.prob_expr.specs.Terms.{is_listed}
 use Rattle.prob_expr.specs.Tree.{Tree, Trees, PlainFormula}
 use Rattle.surrogate_theory.proofs.Induced.{inner_graph, link_in, stopped_out}

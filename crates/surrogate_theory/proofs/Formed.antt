@@ -11,7 +11,7 @@ use Rattle.identification_answers.proofs.Formed.{IsFormed, AreFormed, AllFormed,
 use Rattle.mixed_graph.proofs.Masks.{has-zero}
 use Rattle.mixed_graph.specs.Bits.{has}
 use Rattle.mixed_graph.specs.Graphs.{IsMixedGraph, MixedGraph}
-use Rattle.prob_expr.specs.Masks.{all, minus}
+use Rattle.mixed_graph.specs.Masks.{all, minus}
 use Rattle.prob_expr.specs.Tree.{PlainFormula, Tree, Trees, no_trees}
 use Rattle.surrogate_theory.proofs.Induced.{inner_graph}
 use Rattle.surrogate_theory.proofs.Rooms.{Chosen, chosen, listed_low, a_off, inner_stage}

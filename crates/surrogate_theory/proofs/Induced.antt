@@ -10,7 +10,7 @@ use Rattle.identification.specs.Procedure.{common, AreAncestorsIn, AreFactors, I
 use Rattle.mixed_graph.proofs.Masks.{has-and, has-or}
 use Rattle.mixed_graph.specs.Bits.{has}
 use Rattle.mixed_graph.specs.Graphs.{IsAncestor, IsDirectedPath, IsMixedGraph, MixedGraph, induced}
-use Rattle.prob_expr.specs.Masks.{join, one}
+use Rattle.mixed_graph.specs.Masks.{join, one}
 use Rattle.prob_expr.specs.Tree.{Tree, Trees}
 
 module _ (g : MixedGraph) (room : ℕ) where

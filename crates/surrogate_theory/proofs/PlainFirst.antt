@@ -8,7 +8,7 @@ use Rattle.mixed_graph.proofs.Masks.{has-zero}
 use Rattle.mixed_graph.specs.Bits.{has}
 use Rattle.mixed_graph.specs.Graphs.{IsMixedGraph, MixedGraph}
 use Rattle.mixed_graph.specs.Orders.{IsOrder}
-use Rattle.prob_expr.specs.Masks.{all, minus}
+use Rattle.mixed_graph.specs.Masks.{all, minus}
 use Rattle.prob_expr.specs.Tree.{PlainFormula, Tree, Trees, prob}
 use Rattle.surrogate_theory.proofs.Rooms.{zero_apart}
 use Rattle.surrogate_theory.specs.Surrogates.{without, ComesFirst, AreFactoredWith, IsComposedWith, IsSurrogate}

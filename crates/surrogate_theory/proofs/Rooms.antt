@@ -8,8 +8,8 @@ use Rattle.identification.specs.Procedure.{AreAncestorsIn, Source}
 use Rattle.mixed_graph.proofs.Masks.{has-zero}
 use Rattle.mixed_graph.specs.Bits.{has}
 use Rattle.mixed_graph.specs.Graphs.{IsAncestor, IsDirectedPath, IsMixedGraph, MixedGraph, induced}
-use Rattle.prob_expr.proofs.MaskLaws.{apart_has, below_has}
-use Rattle.prob_expr.specs.Masks.{all, is_apart, is_below, is_empty, minus}
+use Rattle.mixed_graph.proofs.MaskLaws.{apart_has, below_has}
+use Rattle.mixed_graph.specs.Masks.{all, is_apart, is_below, is_empty, minus}
 use Rattle.prob_expr.specs.Terms.{is_listed}
 use Rattle.surrogate_theory.specs.Surrogates.{without, ComesFirst}
 

@@ -7,7 +7,7 @@ use Rattle.identification.specs.Procedure.{AreAncestorsIn, IsFactor, IsStopped, 
 use Rattle.identification_answers.proofs.Unique.{districts_one, factor_one, made_or_stopped, one_set, stopped_one}
 use Rattle.mixed_graph.specs.Graphs.{MixedGraph}
 use Rattle.mixed_graph.specs.Orders.{IsOrder}
-use Rattle.prob_expr.specs.Masks.{all, is_apart, minus}
+use Rattle.mixed_graph.specs.Masks.{all, is_apart, minus}
 use Rattle.prob_expr.specs.Terms.{is_listed}
 use Rattle.prob_expr.specs.Tree.{PlainFormula, Tree, Trees, prob, tree}
 use Rattle.surrogate_theory.proofs.Rooms.{Chosen, chosen}

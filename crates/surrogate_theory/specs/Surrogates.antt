@@ -6,7 +6,7 @@ use Rattle.mixed_graph.specs.Graphs.{MixedGraph, induced}
 use Rattle.mixed_graph.specs.Orders.{IsOrder}
 use Rattle.districts.specs.Linked.{AreDistricts}
 use Rattle.hedge.specs.Shapes.{AreSetsOfHedge}
-use Rattle.prob_expr.specs.Masks.{minus, all, is_apart}
+use Rattle.mixed_graph.specs.Masks.{minus, all, is_apart}
 use Rattle.prob_expr.specs.Terms.{is_listed}
 use Rattle.prob_expr.specs.Tree.{prob, Tree, Trees, no_trees, tree, PlainFormula}
 use Rattle.do_derivation.specs.Plans.{Plan, Plans, no_plans, PlainLemma, PlainDerivation}

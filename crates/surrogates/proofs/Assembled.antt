@@ -2,7 +2,7 @@
 use Rattle.std.proofs.Common.{ℕ, ◌≡◌, List, length, map, sym, subst}
 use Rattle.districts.specs.Linked.{AreDistricts}
 use Rattle.mixed_graph.specs.Graphs.{MixedGraph}
-use Rattle.prob_expr.specs.Masks.{all, minus}
+use Rattle.mixed_graph.specs.Masks.{all, minus}
 use Rattle.prob_expr.specs.Tree.{PlainFormula}
 use Rattle.prob_expr.specs.View.{view, views}
 use Rattle.do_derivation.specs.Plans.{PlainDerivation}

@@ -6,7 +6,7 @@ use Rattle.identification.proofs.Bools.{clash, or_e}
 use Rattle.mixed_graph.specs.Graphs.{MixedGraph}
 use Rattle.mixed_graph.specs.declared.sets.VSet.{VSet}
 use Rattle.prob_expr.specs.Listed.{masks_of}
-use Rattle.prob_expr.specs.Masks.{is_apart}
+use Rattle.mixed_graph.specs.Masks.{is_apart}
 use Rattle.prob_expr.specs.Terms.{is_listed}
 use Rattle.district_factors.specs.declared.kinds.Factor.{Factor}
 use Rattle.district_factors.specs.declared.kinds.FactorFault.{FactorFault}

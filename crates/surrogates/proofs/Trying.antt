@@ -13,7 +13,7 @@ use Rattle.mixed_graph.specs.Bits.{has}
 use Rattle.mixed_graph.specs.Graphs.{IsMixedGraph, MixedGraph}
 use Rattle.mixed_graph.specs.Orders.{IsOrder}
 use Rattle.mixed_graph.specs.Sets.{Within}
-use Rattle.prob_expr.specs.Masks.{all, is_apart, minus}
+use Rattle.mixed_graph.specs.Masks.{all, is_apart, minus}
 use Rattle.prob_expr.specs.View.{view}
 use Rattle.std.specs.Prelude.{map}
 use Rattle.surrogate_theory.proofs.Induced.{link_in}

@@ -1,7 +1,7 @@
 -- The factor of a district under one experiment after the other, as the code gives it.
 use Rattle.std.specs.Prelude.{ℕ, ◌≡◌, ◌≤◌, ◌⊎◌, false, List, [], ◌∷◌, length, map, Option, Some, None, IsTrue}
 use Rattle.mixed_graph.specs.Graphs.{MixedGraph}
-use Rattle.prob_expr.specs.Masks.{is_apart}
+use Rattle.mixed_graph.specs.Masks.{is_apart}
 use Rattle.prob_expr.specs.View.{view}
 use Rattle.do_derivation.specs.View.{lemma_view, steps_view}
 use Rattle.district_factors.specs.declared.kinds.Factor.{Factor}

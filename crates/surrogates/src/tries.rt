@@ -6,7 +6,7 @@ ghost use Rattle.mixed_graph.specs.Sets.{Within};
 ghost use Rattle.mixed_graph.specs.Shown.{graph_of};
 ghost use Rattle.districts.specs.Linked.{IsJoinedSet};
 ghost use Rattle.prob_expr.specs.Listed.{masks_of};
-ghost use Rattle.prob_expr.specs.Masks.{is_apart};
+ghost use Rattle.mixed_graph.specs.Masks.{is_apart};
 ghost use Rattle.surrogate_theory.specs.Surrogates.{IsStoppedUnder};
 ghost use Rattle.surrogates.specs.Tries.{IsTried, IsTryFault, IsAttempt, IsAttemptOf, IsFirstTried, IsFirstFault};
 

@@ -3,7 +3,7 @@ use Rattle.std.proofs.Common.{ℕ, ◌≡◌, ◌↔◌, IsTrue, refl, subst}
 use Rattle.mixed_graph.specs.Graphs.{MixedGraph}
 use Rattle.hedge.specs.Hedges.{IsHedge}
 use Rattle.hedge.specs.declared.kinds.Hedge.{Hedge as HedgeData}
-use Rattle.prob_expr.specs.Masks.{one}
+use Rattle.mixed_graph.specs.Masks.{one}
 use Rattle.prob_expr.specs.View.{formula_view}
 use Rattle.do_derivation.specs.View.{derivation_view}
 use Rattle.id_recursion.specs.Answers.{IsRight, is_hedge}

@@ -4,7 +4,7 @@ use Rattle.std.proofs.lemmas.Bool.{ne_eqb, eq-eqb, eqb-true}
 use Rattle.mixed_graph.specs.Bits.{has}
 use Rattle.mixed_graph.specs.Sets.{Within, Apart}
 use Rattle.mixed_graph.proofs.Masks.{has-pow, positive_from_has}
-use Rattle.prob_expr.specs.Masks.{one}
+use Rattle.mixed_graph.specs.Masks.{one}
 
 member : (a v : ℕ) → IsTrue (has (one a) v) → v ≡ a
 member a v i = eqb-true v a (sym (has-pow a v) ∙ i)

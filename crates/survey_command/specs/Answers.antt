@@ -3,7 +3,7 @@ use Rattle.std.specs.Prelude.{ℕ, ◌≡◌, ◌<◌, Bool, true, false, not, �
 use Rattle.mixed_graph.specs.Graphs.{MixedGraph}
 use Rattle.hedge.specs.Hedges.{IsHedge}
 use Rattle.hedge.specs.declared.kinds.Hedge.{Hedge}
-use Rattle.prob_expr.specs.Masks.{one}
+use Rattle.mixed_graph.specs.Masks.{one}
 use Rattle.prob_expr.specs.Tree.{PlainFormula}
 use Rattle.do_derivation.specs.Plans.{PlainDerivation}
 use Rattle.id_recursion.specs.Answers.{IsRightFormula}

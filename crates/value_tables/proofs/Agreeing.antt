@@ -4,12 +4,12 @@ use Rattle.std.proofs.Math.Seq.{take-length}
 use Rattle.finite_models.specs.Sums.{set_at}
 use Rattle.finite_models.proofs.Bools.{either}
 use Rattle.mixed_graph.specs.Bits.{has}
-use Rattle.prob_expr.specs.Masks.{join}
+use Rattle.mixed_graph.specs.Masks.{join}
 use Rattle.prob_expr.specs.Tree.{Tree, prob, sum, product, quotient, named, Trees, no_trees, tree}
 use Rattle.prob_expr.specs.Free.{free_in, free_in_any, free_in_defs}
 use Rattle.prob_expr.specs.Values.{Weights}
 use Rattle.prob_expr.specs.Check.{cap, next_node}
-use Rattle.prob_expr.proofs.MaskLaws.{has_join, has_minus}
+use Rattle.mixed_graph.proofs.MaskLaws.{has_join, has_minus}
 use Rattle.quantity.specs.declared.fault.QuantityFault.{QuantityFault}
 use Rattle.quantity.specs.declared.fault.QuantityFault.TheVariants.{ZeroBelow}
 use Rattle.quantity.specs.Kinds.{Pair, Kind}

@@ -9,7 +9,7 @@ use Rattle.answer_text.proofs.push_members.Goals as goal
 use Rattle.answer_text.proofs.push_members.Goals.{After-difference-rest}
 
 rest_is : (c : After-difference-rest) → (u : ℕ) → has c.difference-rest.result.bits u ≡ (has c.members.rest.bits u && not (u == c.lowest-v.result))
-rest_is c u = c.difference-rest.ensures u ∙ ap (λ t. has c.members.rest.bits u && not t) (c.one.ensures u)
+rest_is c u = c.difference-rest.ensures.members u ∙ ap (λ t. has c.members.rest.bits u && not t) (c.one.ensures.members u)
 
 pub members-smaller : goal.members-smaller
 members-smaller c =
@@ -31,4 +31,4 @@ members-preserved c =
 
 pub returns : goal.returns
 returns c = writing_done c.args.notation c.args.names.now c.args.out.now.items c.members.out.items c.args.set.bits c.members.rest.bits
-    (members-empty c.members.rest.bits (c.is_empty.ensures.0 (search rules))) c.members.invariant.0
+    (members-empty c.members.rest.bits (c.is_empty.ensures.none.0 (search rules))) c.members.invariant.0

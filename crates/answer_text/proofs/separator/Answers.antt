@@ -4,9 +4,9 @@ use Rattle.answer_text.specs.Texts.{comma_in}
 use Rattle.answer_text.proofs.separator.Goals as goal
 
 pub returns-then-is_empty : goal.returns-then-is_empty
-returns-then-is_empty c = ap (comma_in c.args.notation) (sym (members-empty c.args.rest.bits (c.is_empty.ensures.0 c.if-is_empty.true)))
+returns-then-is_empty c = ap (comma_in c.args.notation) (sym (members-empty c.args.rest.bits (c.is_empty.ensures.none.0 c.if-is_empty.true)))
 
 pub returns-else-is_empty : goal.returns-else-is_empty
 returns-else-is_empty c =
-    let some = members-some c.args.rest.bits (λ z. absurd (let t = c.is_empty.ensures.1 z in let f = c.if-is_empty.false in cc)) (omega arith) in
+    let some = members-some c.args.rest.bits (λ z. absurd (let t = c.is_empty.ensures.none.1 z in let f = c.if-is_empty.false in cc)) (omega arith) in
     c.sign.ensures ∙ ap (comma_in c.args.notation) (sym some.2)

@@ -21,5 +21,5 @@ unreachable-requires c =
     let y : ℕ → Bool = λ v. v == slice_index c.args.p.now.vertices (c.args.p.now.count - 1) in
     let carried = open_carried (graph_of c.args.g.now) (graph_of c.args.h.now) c.args.g.now.valid c.args.h.now.valid c.requires.size c.requires.first c.requires.equivalent x y (has c.args.w.bits)
     (slice_index c.args.p.now.vertices 0, steps_from c.args.p.now.vertices c.args.p.now.marks 0 (c.args.p.now.count - 1), c.requires.path.walk) in
-    let moved = open_between (graph_of c.args.h.now) x y (has c.one.result.bits) (has c.one-2.result.bits) (has c.args.w.bits) (λ v e. c.one.ensures v ∙ e) (λ v e. c.one-2.ensures v ∙ e) carried in
+    let moved = open_between (graph_of c.args.h.now) x y (has c.one.result.bits) (has c.one-2.result.bits) (has c.args.w.bits) (λ v e. c.one.ensures.members v ∙ e) (λ v e. c.one-2.ensures.members v ∙ e) carried in
     c.in-None.ensures.none moved.0 moved.1 moved.2

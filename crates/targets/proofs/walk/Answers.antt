@@ -20,7 +20,7 @@ pub returns-in-Err-clause-fault : goal.returns-in-Err-clause-fault
 returns-in-Err-clause-fault c =
     let at = coming (goal.at.returns-in-Err-clause-fault c).After-as_slice in
     subst (λ o. IsNameFault o c.in-Err.fault)
-    (sym (c.loop-name.invariant.faults c.union.result.bits c.union.ensures
+    (sym (c.loop-name.invariant.faults c.union.result.bits c.union.ensures.members
     ∙ ap (first_fault c.args.all.now c.args.observed.now (walked_in c.args.observed.now c.union.result.bits)) at))
     (fault_first _ _ c.in-Err.fault c.in-Err.ensures.fault)
 
@@ -29,8 +29,8 @@ loop-name-preserved c =
     let at = coming (goal.at.loop-name-preserved c).After-as_slice in
     walking_more c.args.all.now c.args.observed.now c.in-Ok.ensures.names c.args.walked.bits c.loop-name.set.bits c.union.result.bits c.union-set.result.bits
     (texts c.args.list.now) (texts (drop (c.loop-name.name-index + 1) c.args.list.now)) c.as_slice.result.now
-    c.union.ensures
-    (λ u. c.union-set.ensures u ∙ ap (λ b. has c.loop-name.set.bits u || b) (c.one.ensures u ∙ ap (λ v. u == v) c.in-Ok.ensures.vertex))
+    c.union.ensures.members
+    (λ u. c.union-set.ensures.members u ∙ ap (λ b. has c.loop-name.set.bits u || b) (c.one.ensures.members u ∙ ap (λ v. u == v) c.in-Ok.ensures.vertex))
     c.in-Ok.ensures.none (subst (λ v. v < length c.args.observed.now) c.in-Ok.ensures.vertex c.in-Ok.ensures.within.0)
     (subst (IsWalking c.args.all.now c.args.observed.now c.args.walked.bits c.loop-name.set.bits (texts c.args.list.now)) at c.loop-name.invariant)
 

@@ -1,7 +1,7 @@
 use Rattle.std.proofs.Common.{◌≡◌, sym, subst}
 use Rattle.mixed_graph.specs.Bits.{has}
 use Rattle.mixed_graph.specs.Shown.{graph_of}
-use Rattle.prob_expr.specs.Masks.{one}
+use Rattle.mixed_graph.specs.Masks.{one}
 use Rattle.prob_expr.specs.Values.{EqualsEffect}
 use Rattle.adjustment.specs.Formulas.{adjustment_formula, effect_on}
 use Rattle.adjust_command.specs.Faults.{IsPrintable}
@@ -11,7 +11,7 @@ use Rattle.adjust_command.proofs.criteria.by_back_door.Goals as goal
 
 pub returns-then-sets-one : goal.returns-then-sets-one
 returns-then-sets-one c = refused (graph_of c.args.seen.now.graph) c.args.seen.now.names c.args.sets.x.bits c.args.sets.y.bits c.args.sets.given.bits c.refuse.result
-    (is_not_one c.args.sets.x.bits c.one.result.bits c.lowest-v.result c.one.ensures c.lowest-v.ensures.member c.if-sets-one.true)
+    (is_not_one c.args.sets.x.bits c.one.result.bits c.lowest-v.result c.one.ensures.members c.lowest-v.ensures.member c.if-sets-one.true)
     c.refuse.ensures.outcome c.refuse.ensures.line
 
 pub not_admissible_text-requires-clause-fault : goal.not_admissible_text-requires-clause-fault
@@ -21,7 +21,7 @@ not_admissible_text-requires-clause-fault c = subst (λ n. IsPrintable n c.in-Er
 
 pub returns-in_ok-admissible_text-in-Ok : goal.returns-in_ok-admissible_text-in-Ok
 returns-in_ok-admissible_text-in-Ok c =
-    let exposure = subst (λ m. m ≡ one c.lowest-v.result) (sym c.if-sets-one.false) (is_one c.one.result.bits c.lowest-v.result c.one.ensures) in
+    let exposure = subst (λ m. m ≡ one c.lowest-v.result) (sym c.if-sets-one.false) (is_one c.one.result.bits c.lowest-v.result c.one.ensures.members) in
     record {
       v = c.lowest-v.result;
       exposure = exposure;
@@ -34,7 +34,7 @@ returns-in_ok-admissible_text-in-Ok c =
 pub returns-in_ok-not_admissible_text-in-Err : goal.returns-in_ok-not_admissible_text-in-Err
 returns-in_ok-not_admissible_text-in-Err c = record {
   v = c.lowest-v.result;
-  exposure = subst (λ m. m ≡ one c.lowest-v.result) (sym c.if-sets-one.false) (is_one c.one.result.bits c.lowest-v.result c.one.ensures);
+  exposure = subst (λ m. m ≡ one c.lowest-v.result) (sym c.if-sets-one.false) (is_one c.one.result.bits c.lowest-v.result c.one.ensures.members);
   fault = c.in-Err.fault;
   breaks = c.in-Err.ensures.fault;
   prints = c.in_ok-not_admissible_text-in-Err.ensures;

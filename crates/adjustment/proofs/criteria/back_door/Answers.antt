@@ -9,7 +9,7 @@ use Rattle.m_separation.specs.Paths.{IsOpenPath}
 use Rattle.m_separation.specs.Walks.{IsSeparated}
 use Rattle.surgery.specs.Cuts.{cut_out}
 use Rattle.do_rules.specs.Rules.{AreThreeSets}
-use Rattle.prob_expr.specs.Masks.{one}
+use Rattle.mixed_graph.specs.Masks.{one}
 use Rattle.adjustment.specs.Faults.{IsClearOf}
 use Rattle.adjustment.proofs.Effects.{unconfounded_adjusts}
 use Rattle.adjustment.proofs.Separating.{only, back_door_from, back_door_path}
@@ -17,7 +17,7 @@ use Rattle.adjustment.proofs.criteria.back_door.Goals as goal
 use Rattle.adjustment.proofs.criteria.back_door.Goals.{After-open_path}
 
 exposure_is : (c : After-open_path) → has c.one-exposure.result.bits ≡ only c.args.x
-exposure_is c = fun_ext c.one-exposure.ensures
+exposure_is c = fun_ext c.one-exposure.ensures.members
 
 clear : (c : After-open_path) → IsClearOf (IsDescendant (graph_of c.args.g.now) (only c.args.x)) (has c.args.z.bits)
 clear c = let none = c.in_default.ensures.none in

@@ -4,7 +4,7 @@ use Rattle.std.proofs.lemmas.List.{at_drop_more}
 use Rattle.serde_json.specs.Data.{Items, array}
 use Rattle.serde_json.specs.View.{view as data_view}
 use Rattle.serde_json.proofs.Views.{view-Array}
-use Rattle.prob_expr.specs.Masks.{is_below, is_empty}
+use Rattle.mixed_graph.specs.Masks.{is_below, is_empty}
 use Rattle.do_derivation.specs.Accepts.{are_sets, sets_of}
 use Rattle.do_derivation.specs.View.{lemma_view, step_view}
 use Rattle.do_derivation.specs.declared.steps.Lemma.{Lemma}

@@ -4,7 +4,7 @@ use Rattle.mixed_graph.specs.Shown.{graph_of}
 use Rattle.do_rules.specs.declared.rules.Rule.TheVariants.{Two}
 use Rattle.do_derivation.proofs.Exact.{holds_or_fails}
 use Rattle.identification.proofs.Bools.{clash}
-use Rattle.prob_expr.specs.Masks.{minus, one}
+use Rattle.mixed_graph.specs.Masks.{minus, one}
 use Rattle.conditional_id.proofs.Moving.{blocked_to, four_of, open_to}
 use Rattle.conditional_id.proofs.turning.turns.Goals as goal
 

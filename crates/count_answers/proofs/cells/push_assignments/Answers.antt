@@ -10,7 +10,7 @@ use Rattle.count_answers.proofs.cells.push_assignments.Goals as goal
 use Rattle.count_answers.proofs.cells.push_assignments.Goals.{After-difference-rest}
 
 rest_is : (c : After-difference-rest) → (u : ℕ) → has c.difference-rest.result.bits u ≡ (has c.members.rest.bits u && not (u == c.lowest-v.result))
-rest_is c u = c.difference-rest.ensures u ∙ ap (λ t. has c.members.rest.bits u && not t) (c.one.ensures u)
+rest_is c u = c.difference-rest.ensures.members u ∙ ap (λ t. has c.members.rest.bits u && not t) (c.one.ensures.members u)
 
 pub members-smaller : goal.members-smaller
 members-smaller c =
@@ -35,4 +35,4 @@ members-preserved c =
 
 pub returns : goal.returns
 returns c = writing_done (assignment c.args.names.now c.args.counts.now (λ v. slice_index c.args.cell.now v)) c.args.out.now.items c.members.out.items c.args.set.bits c.members.rest.bits
-    (members-empty c.members.rest.bits (c.is_empty.ensures.0 (search rules))) c.members.invariant.text
+    (members-empty c.members.rest.bits (c.is_empty.ensures.none.0 (search rules))) c.members.invariant.text

@@ -1,7 +1,7 @@
 use Rattle.std.proofs.Common.{ℕ, ◌≡◌, ◌∙◌, Ok, true, sym, ap, arith}
 use Rattle.mixed_graph.specs.Bits.{has}
 use Rattle.finite_models.proofs.Bools.{either}
-use Rattle.prob_expr.proofs.MaskLaws.{has_join}
+use Rattle.mixed_graph.proofs.MaskLaws.{has_join}
 use Rattle.count_rows.specs.Rows.{counted}
 use Rattle.count_eval.specs.Programs.{cell_of, is_used}
 use Rattle.count_eval.proofs.CountedLaws.{counted_shrinks, counted_small, term_is, given_joined}

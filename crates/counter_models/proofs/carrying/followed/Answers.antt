@@ -11,10 +11,10 @@ step_of : (c : After-union-front) → Step (choosing c.args.choice.now.next) c.l
     c.loop-front.found.bits c.loop-front.front.bits c.difference.result.bits c.difference-fresh.result.bits c.union-found.result.bits c.union-front.result.bits
 step_of c = record {
   taken = c.lowest-v.ensures.member;
-  rest_is = λ u. c.difference.ensures u ∙ ap (λ t. has c.loop-front.front.bits u && not t) (c.one.ensures u);
-  fresh_is = λ u. c.difference-fresh.ensures u ∙ ap (λ t. t && not (has c.loop-front.found.bits u)) (c.vertex_or_none.ensures u);
-  found_is = c.union-found.ensures;
-  front_is = c.union-front.ensures;
+  rest_is = λ u. c.difference.ensures.members u ∙ ap (λ t. has c.loop-front.front.bits u && not t) (c.one.ensures.members u);
+  fresh_is = λ u. c.difference-fresh.ensures.members u ∙ ap (λ t. t && not (has c.loop-front.found.bits u)) (c.vertex_or_none.ensures u);
+  found_is = c.union-found.ensures.members;
+  front_is = c.union-front.ensures.members;
 }
 
 pub loop-front-init : goal.loop-front-init

@@ -7,7 +7,7 @@ use Rattle.dag_reader.proofs.edges.push_row.Goals as goal
 use Rattle.dag_reader.proofs.edges.push_row.Goals.{After-difference-rest}
 
 rest_is : (c : After-difference-rest) → (u : ℕ) → has c.difference-rest.result.bits u ≡ (has c.members_of_row.rest.bits u && not (u == c.lowest-b.result))
-rest_is c u = c.difference-rest.ensures u ∙ ap (λ t. has c.members_of_row.rest.bits u && not t) (c.one.ensures u)
+rest_is c u = c.difference-rest.ensures.members u ∙ ap (λ t. has c.members_of_row.rest.bits u && not t) (c.one.ensures.members u)
 
 pub members_of_row-smaller : goal.members_of_row-smaller
 members_of_row-smaller c = rest_smaller c.members_of_row.rest.bits c.difference-rest.result.bits c.lowest-b.result c.lowest-b.ensures.member (rest_is c)
@@ -21,5 +21,5 @@ members_of_row-preserved c = record {
 }
 
 pub returns : goal.returns
-returns c = pairs_done c.members_of_row.out.items c.args.a _ (members-empty c.members_of_row.rest.bits (c.is_empty.ensures.0 c.members_of_row-test.false))
+returns c = pairs_done c.members_of_row.out.items c.args.a _ (members-empty c.members_of_row.rest.bits (c.is_empty.ensures.none.0 c.members_of_row-test.false))
     ∙ c.members_of_row.invariant.whole

@@ -4,7 +4,7 @@ use Rattle.prob_expr.specs.declared.expr.Expr.{Expr}
 use Rattle.do_derivation.specs.declared.steps.Step.{Step}
 use Rattle.mixed_graph.specs.Bits.{has}
 use Rattle.mixed_graph.specs.Shown.{graph_of}
-use Rattle.prob_expr.specs.Masks.{join, one}
+use Rattle.mixed_graph.specs.Masks.{join, one}
 use Rattle.district_factors.specs.Parts.{source_of}
 use Rattle.district_factors.proofs.Placing.{placing_skip, placing_take, placing_factors, placing_lists}
 use Rattle.district_factors.proofs.body.places_of.Goals as goal

@@ -6,7 +6,7 @@ use Rattle.district_factors.proofs.sets.parents_of.Goals as goal
 use Rattle.district_factors.proofs.sets.parents_of.Goals.{After-union-parents}
 
 pub loop-v-init : goal.loop-v-init
-loop-v-init c = λ u. (λ i. absurd (let e = c.empty-parents.ensures u in cc), λ p. absurd (let l = p.1 in omega arith))
+loop-v-init c = λ u. (λ i. absurd (let e = c.empty-parents.ensures.members u in cc), λ p. absurd (let l = p.1 in omega arith))
 
 -- what the row of c adds
 added : (c : After-union-parents) → (u : ℕ) → has c.only_if.result.bits u ≡ (has c.args.set.bits c.loop-v.v && has (get_or c.args.g.now.children u 0) c.loop-v.v)
@@ -14,11 +14,11 @@ added c u = c.only_if.ensures u ∙ (let e = c.has.ensures in let a = c.args.g.n
 
 pub loop-v-preserved : goal.loop-v-preserved
 loop-v-preserved c = λ u. (
-  λ i. elim (or_cases _ _ (sym (c.union-parents.ensures u) ∙ i)) [
+  λ i. elim (or_cases _ _ (sym (c.union-parents.ensures.members u) ∙ i)) [
     | inl old ↦ let p = (c.loop-v.invariant u).0 old in (p.0, omega (arith, p.1), p.2, p.3)
     | inr new ↦ let p = and_parts _ _ (sym (added (goal.at.loop-v-preserved c).After-union-parents u) ∙ new) in (c.loop-v.v, omega arith, p.0, p.1)
   ],
-  λ p. c.union-parents.ensures u ∙ elim (cases_eq p.0 c.loop-v.v) [
+  λ p. c.union-parents.ensures.members u ∙ elim (cases_eq p.0 c.loop-v.v) [
     | inl e ↦ or_right _ _ (added (goal.at.loop-v-preserved c).After-union-parents u
         ∙ and_from _ _ (subst (λ w. has c.args.set.bits w ≡ true) e p.2) (subst (λ w. has (get_or c.args.g.now.children u 0) w ≡ true) e p.3))
     | inr d ↦ or_left _ _ ((c.loop-v.invariant u).1 (p.0, let l = p.1 in omega arith, p.2, p.3))

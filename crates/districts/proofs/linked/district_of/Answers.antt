@@ -19,17 +19,17 @@ step_of : (c : After-union-front) → Step (sibling (graph_of c.args.g.now) (has
     c.search.found.bits c.search.front.bits c.difference-front.result.bits c.difference-fresh.result.bits c.union-found.result.bits c.union-front.result.bits
 step_of c = record {
   taken = c.lowest-u.ensures.member;
-  rest_is = λ u. c.difference-front.ensures u ∙ ap (λ t. has c.search.front.bits u && not t) (c.one.ensures u);
-  fresh_is = λ u. (let a = c.difference-fresh.ensures u in let b = c.intersection.ensures u in let s = same_both (graph_of c.args.g.now) c.args.g.now.valid u c.lowest-u.result in cc);
-  found_is = c.union-found.ensures;
-  front_is = c.union-front.ensures;
+  rest_is = λ u. c.difference-front.ensures.members u ∙ ap (λ t. has c.search.front.bits u && not t) (c.one.ensures.members u);
+  fresh_is = λ u. (let a = c.difference-fresh.ensures.members u in let b = c.intersection.ensures u in let s = same_both (graph_of c.args.g.now) c.args.g.now.valid u c.lowest-u.result in cc);
+  found_is = c.union-found.ensures.members;
+  front_is = c.union-front.ensures.members;
 }
 
 pub search-init : goal.search-init
 search-init c = (
   searching_none (sibling (graph_of c.args.g.now) (has c.args.within.bits)) c.one-found.result.bits
-      (λ v i. c.requires.within v (subst (λ w. has c.args.within.bits w ≡ true) (sym (eqb-true v c.args.v (sym (c.one-found.ensures v) ∙ i))) c.requires.member)),
-  c.one-found.ensures,
+      (λ v i. c.requires.within v (subst (λ w. has c.args.within.bits w ≡ true) (sym (eqb-true v c.args.v (sym (c.one-found.ensures.members v) ∙ i))) c.requires.member)),
+  c.one-found.ensures.members,
   omega arith,
   omega arith,
 )
@@ -39,7 +39,7 @@ search-preserved c = (
   searching_more (sibling (graph_of c.args.g.now) (has c.args.within.bits)) (λ u v a. c.args.g.now.valid.both_below u v (and_parts _ _ a).0) c.one-found.result.bits c.lowest-u.result
       c.search.found.bits c.search.front.bits c.difference-front.result.bits c.difference-fresh.result.bits c.union-found.result.bits c.union-front.result.bits
       (step_of c) c.search.invariant.0,
-  c.one-found.ensures,
+  c.one-found.ensures.members,
   omega arith,
   omega arith,
 )

@@ -26,28 +26,28 @@ outside false y e = inl refl
 pub loop-i-init : goal.loop-i-init
 loop-i-init c = (
   collected_none (graph_of c.args.g.now) c.args.within.bits c.order-order.result.list _ c.empty-seen.result.bits
-      refl (no_masks c.empty-sets.result (zero_from_empty c.empty-sets.result.bits c.empty-sets.ensures)) c.empty-seen.ensures,
+      refl (no_masks c.empty-sets.result (zero_from_empty c.empty-sets.result.bits c.empty-sets.ensures.members)) c.empty-seen.ensures.members,
   omega arith,
   refl,
 )
 
 pub district_of-t-requires : goal.district_of-t-requires
-district_of-t-requires c = record { within = c.requires; member = (and_parts _ _ (sym (c.difference.ensures (get_or c.order-order.result.list c.loop-i.i 0)) ∙ (sym c.has.ensures ∙ c.if-has.true))).0 }
+district_of-t-requires c = record { within = c.requires; member = (and_parts _ _ (sym (c.difference.ensures.members (get_or c.order-order.result.list c.loop-i.i 0)) ∙ (sym c.has.ensures ∙ c.if-has.true))).0 }
 
 pub loop-i-preserved : goal.loop-i-preserved
 loop-i-preserved c = elim c.if-has.branch [
   | then-has w ↦
       let v : ℕ = get_or c.order-order.result.list c.loop-i.i 0 in
-      let p = and_parts _ _ (sym (c.difference.ensures v) ∙ (sym c.has.ensures ∙ w.if-has.true)) in
+      let p = and_parts _ _ (sym (c.difference.ensures.members v) ∙ (sym c.has.ensures ∙ w.if-has.true)) in
       let k = collected_take (graph_of c.args.g.now) c.args.within.bits c.order-order.result.list c.loop-i.i (map (λ s. s.bits) c.loop-i.sets) c.loop-i.count c.loop-i.seen.bits
-      w.district_of-t.result.bits w.union-seen.result.bits (let o = c.order-order.result.in_range in omega arith) p.0 (not_true _ p.1) w.district_of-t.ensures.district w.union-seen.ensures c.loop-i.invariant.0 in (
+      w.district_of-t.result.bits w.union-seen.result.bits (let o = c.order-order.result.in_range in omega arith) p.0 (not_true _ p.1) w.district_of-t.ensures.district w.union-seen.ensures.members c.loop-i.invariant.0 in (
         subst (λ m. Collected (graph_of c.args.g.now) c.args.within.bits c.order-order.result.list (c.loop-i.i + 1) m c.if-has.count c.if-has.seen.bits)
             (sym (ap (map (λ s. s.bits)) w.sets-is ∙ map-set (λ s. s.bits) c.loop-i.sets c.loop-i.count w.district_of-t.result)) (rw (w.count-is, w.seen-is) k),
         rw w.seen-is (omega arith),
         ap length w.sets-is ∙ simp length-set c.loop-i.invariant.2,
       )
   | else-has w ↦
-      let out = outside _ _ (sym (c.difference.ensures (get_or c.order-order.result.list c.loop-i.i 0)) ∙ (sym c.has.ensures ∙ w.if-has.false)) in
+      let out = outside _ _ (sym (c.difference.ensures.members (get_or c.order-order.result.list c.loop-i.i 0)) ∙ (sym c.has.ensures ∙ w.if-has.false)) in
       rw (w.sets-is, w.count-is, w.seen-is) (
         collected_skip (graph_of c.args.g.now) c.args.within.bits c.order-order.result.list c.loop-i.i (map (λ s. s.bits) c.loop-i.sets) c.loop-i.count c.loop-i.seen.bits
             out c.loop-i.invariant.0,

@@ -24,7 +24,7 @@ next-init c = (
       (λ i p. get_or-set_other (replicate 64 0) 0 i c.lowest-start.result 0 (omega arith) ∙ blank 64 i)
       (blank 64)
       (record { member = c.lowest-start.ensures.member; least = c.lowest-start.ensures.least })
-      c.one-taken.ensures (λ u. refl),
+      c.one-taken.ensures.members (λ u. refl),
   omega arith,
 )
 
@@ -40,8 +40,8 @@ pub lowest-v-requires : goal.lowest-v-requires
 lowest-v-requires c =
     wanted_some (graph_of c.args.g.now) c.args.g.now.valid c.args.small.bits c.args.big.bits c.next.found c.next.partner c.next.count c.next.taken.bits c.next.near.bits c.next.invariant.0
     c.wanted.result.bits c.intersection.result.bits c.requires.inside c.requires.small_joined c.requires.big_joined c.wanted.ensures c.intersection.ensures
-    (let m = some_member c.difference.result.bits (λ z. absurd (let t = c.is_empty.ensures.1 z in let f = c.next-test.true in cc)) (omega arith) in
-    let p = and_parts _ _ (sym (c.difference.ensures m.0) ∙ m.1) in (m.0, p.0, not_true _ p.1))
+    (let m = some_member c.difference.result.bits (λ z. absurd (let t = c.is_empty.ensures.none.1 z in let f = c.next-test.true in cc)) (omega arith) in
+    let p = and_parts _ _ (sym (c.difference.ensures.members m.0) ∙ m.1) in (m.0, p.0, not_true _ p.1))
 
 pub earliest-requires-clause-size : goal.earliest-requires-clause-size
 earliest-requires-clause-size c = let r = room (goal.at.earliest-requires-clause-size c).After-lowest-v in omega arith
@@ -71,13 +71,13 @@ overflow_add-count c = let r = room (goal.at.overflow_add-count c).After-lowest-
 pub next-smaller : goal.next-smaller
 next-smaller c = growing_smaller (graph_of c.args.g.now) c.args.g.now.valid c.args.small.bits c.args.big.bits c.next.found c.next.partner c.next.count c.next.taken.bits c.next.near.bits c.next.invariant.0
     c.lowest-v.result c.earliest.result c.union-taken.result.bits c.union-near.result.bits c.lowest-v.ensures.in_range (link (goal.at.next-smaller c).After-lowest-v) c.earliest.ensures
-    (λ u. c.union-taken.ensures u ∙ ap (λ t. has c.next.taken.bits u || t) (c.one.ensures u)) c.union-near.ensures (omega arith)
+    (λ u. c.union-taken.ensures.members u ∙ ap (λ t. has c.next.taken.bits u || t) (c.one.ensures.members u)) c.union-near.ensures.members (omega arith)
 
 pub next-preserved : goal.next-preserved
 next-preserved c = (
   growing_more (graph_of c.args.g.now) c.args.g.now.valid c.args.small.bits c.args.big.bits c.next.found c.next.partner c.next.count c.next.taken.bits c.next.near.bits c.next.invariant.0
       c.lowest-v.result c.earliest.result c.union-taken.result.bits c.union-near.result.bits c.lowest-v.ensures.in_range (link (goal.at.next-preserved c).After-lowest-v) c.earliest.ensures
-      (λ u. c.union-taken.ensures u ∙ ap (λ t. has c.next.taken.bits u || t) (c.one.ensures u)) c.union-near.ensures,
+      (λ u. c.union-taken.ensures.members u ∙ ap (λ t. has c.next.taken.bits u || t) (c.one.ensures.members u)) c.union-near.ensures.members,
   omega arith,
 )
 
@@ -91,5 +91,5 @@ pub returns : goal.returns
 returns c = links_from (graph_of c.args.g.now) c.args.g.now.valid c.args.small.bits c.args.big.bits c.next.found c.next.partner c.next.count c.next.taken.bits c.next.near.bits c.next.invariant.0
     (λ u i. elim (cases_Bool (has c.next.taken.bits u)) [
       | inl t ↦ t
-      | inr f ↦ absurd (let z : has c.difference.result.bits u ≡ false = rw (c.is_empty.ensures.0 c.next-test.false) (has-zero u) in let d = c.difference.ensures u in grind arith)
+      | inr f ↦ absurd (let z : has c.difference.result.bits u ≡ false = rw (c.is_empty.ensures.none.0 c.next-test.false) (has-zero u) in let d = c.difference.ensures.members u in grind arith)
     ])

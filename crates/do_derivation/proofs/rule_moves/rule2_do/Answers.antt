@@ -4,7 +4,7 @@ use Rattle.mixed_graph.specs.Bits.{has}
 use Rattle.mixed_graph.specs.Shown.{graph_of}
 use Rattle.do_rules.specs.Rules.{IsBlockedFor, IsOpenFor}
 use Rattle.do_rules.specs.declared.rules.Rule.TheVariants.{Two}
-use Rattle.prob_expr.specs.Masks.{join, minus}
+use Rattle.mixed_graph.specs.Masks.{join, minus}
 use Rattle.prob_expr.specs.Tree.{prob}
 use Rattle.prob_expr.specs.declared.expr.Expr.{Prob}
 use Rattle.prob_expr.specs.Terms.{are_terms}

@@ -4,11 +4,11 @@ use Rattle.equivalent_command.proofs.Placing.{no_member, member_more}
 use Rattle.equivalent_command.proofs.numbers.members_at.Goals as goal
 
 pub loop-k-init : goal.loop-k-init
-loop-k-init c = λ j. c.empty-found.ensures j ∙ no_member (λ i. has c.args.s.bits (get_or c.args.places.now i 0)) j
+loop-k-init c = λ j. c.empty-found.ensures.members j ∙ no_member (λ i. has c.args.s.bits (get_or c.args.places.now i 0)) j
 
 pub loop-k-preserved : goal.loop-k-preserved
-loop-k-preserved c = λ j. c.union-found.ensures j ∙ ap (λ b. b || has c.only_if.result.bits j) (c.loop-k.invariant j)
-    ∙ ap (λ b. (nat_lt j c.loop-k.k && has c.args.s.bits (get_or c.args.places.now j 0)) || b) (c.only_if.ensures j ∙ ap (λ b. c.has.result && b) (c.one.ensures j))
+loop-k-preserved c = λ j. c.union-found.ensures.members j ∙ ap (λ b. b || has c.only_if.result.bits j) (c.loop-k.invariant j)
+    ∙ ap (λ b. (nat_lt j c.loop-k.k && has c.args.s.bits (get_or c.args.places.now j 0)) || b) (c.only_if.ensures j ∙ ap (λ b. c.has.result && b) (c.one.ensures.members j))
     ∙ member_more (λ i. has c.args.s.bits (get_or c.args.places.now i 0)) c.loop-k.k j c.has.result c.has.ensures
 
 pub returns : goal.returns

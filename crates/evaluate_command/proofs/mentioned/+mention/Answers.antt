@@ -1,5 +1,5 @@
 use Rattle.std.proofs.Common.{ap, ◌∙◌, arith, length, ◌≤◌}
-use Rattle.prob_expr.specs.Masks.{join}
+use Rattle.mixed_graph.specs.Masks.{join}
 use Rattle.evaluate_command.proofs.Mentions.{factors_step, factors_end}
 use Rattle.evaluate_command.proofs.mentioned.+mention.Goals as goal
 

@@ -1,5 +1,5 @@
 use Rattle.std.proofs.Common.{◌≡◌, drop}
-use Rattle.prob_expr.specs.Masks.{join}
+use Rattle.mixed_graph.specs.Masks.{join}
 use Rattle.prob_expr.specs.View.{views}
 use Rattle.evaluate_command.specs.Mentioned.{mentioned_in_any}
 use Rattle.evaluate_command.proofs.mentioned.+mention.Given as goal

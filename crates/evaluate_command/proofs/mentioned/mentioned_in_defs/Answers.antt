@@ -1,5 +1,5 @@
 use Rattle.std.proofs.Common.{ap, ◌∙◌, arith, length, ◌≤◌}
-use Rattle.prob_expr.specs.Masks.{join}
+use Rattle.mixed_graph.specs.Masks.{join}
 use Rattle.evaluate_command.proofs.Mentions.{defs_step, defs_end}
 use Rattle.evaluate_command.proofs.mentioned.mentioned_in_defs.Goals as goal
 

@@ -1,5 +1,5 @@
 use Rattle.std.proofs.Common.{◌≡◌, drop, map}
-use Rattle.prob_expr.specs.Masks.{join}
+use Rattle.mixed_graph.specs.Masks.{join}
 use Rattle.prob_expr.specs.View.{view}
 use Rattle.evaluate_command.specs.Mentioned.{mentioned_in_defs}
 use Rattle.evaluate_command.proofs.mentioned.mentioned_in_defs.Given as goal

@@ -6,8 +6,8 @@ use Rattle.finite_models.proofs.inputs.lies_in.Goals as goal
 
 pub returns : goal.returns
 returns c = (
-  λ t v i. (let d = c.difference.ensures v in let z : has c.difference.result.bits v ≡ false = rw (c.is_empty.ensures.0 t) (has-zero v) in
+  λ t v i. (let d = c.difference.ensures.members v in let z : has c.difference.result.bits v ≡ false = rw (c.is_empty.ensures.none.0 t) (has-zero v) in
       elim (cases_Bool (has c.args.t.bits v)) [ inl in' ↦ in' | inr out ↦ absurd (grind arith) ]),
-  λ sub. c.is_empty.ensures.1 (zero_from_empty c.difference.result.bits (λ v. (let d = c.difference.ensures v in let k = sub v in
+  λ sub. c.is_empty.ensures.none.1 (zero_from_empty c.difference.result.bits (λ v. (let d = c.difference.ensures.members v in let k = sub v in
       elim (cases_Bool (has c.args.s.bits v)) [ inl i ↦ grind arith | inr o ↦ grind arith ]))),
 )

@@ -9,5 +9,5 @@ use Rattle.graph_cases.proofs.district_sets.links_at.Goals as goal
 pub links-requires-clause-inside : goal.links-requires-clause-inside
 links-requires-clause-inside c = λ u i.
     let v = c.args.v in
-    let e = eqb-true u v (sym (c.one-alone.ensures u) ∙ c.district_of-small.ensures.maximal.inside u i) in
+    let e = eqb-true u v (sym (c.one-alone.ensures.members u) ∙ c.district_of-small.ensures.maximal.inside u i) in
     subst (λ w. has c.district_of-big.result.bits w ≡ true) (sym e) (c.district_of-big.ensures.district.complete v (at (has-pow v v ∙ eq-eqb v v refl)))

@@ -4,6 +4,3 @@ use Rattle.hedge.proofs.entries.is_right_partner.Goals as goal
 
 pub bounds-g-v : goal.bounds-g-v
 bounds-g-v c = below_64 c.args.h.now.big.bits (get_or c.args.h.now.links.found c.args.i 0) (omega arith) c.requires.inside
-
-pub has-requires : goal.has-requires
-has-requires c = below_64 c.args.h.now.big.bits (get_or c.args.h.now.links.found c.args.i 0) (omega arith) c.requires.inside

@@ -1,5 +1,5 @@
 use Rattle.std.proofs.Common.{◌≡◌, sym, ap, ◌∙◌}
-use Rattle.prob_expr.specs.Masks.{minus}
+use Rattle.mixed_graph.specs.Masks.{minus}
 use Rattle.do_derivation.specs.Plans.{no_plans}
 use Rattle.do_derivation.specs.View.{step_view}
 use Rattle.do_derivation.specs.declared.steps.Step.{Rule2Do, Rule3In}

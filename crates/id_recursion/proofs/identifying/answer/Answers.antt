@@ -3,7 +3,7 @@ use Rattle.mixed_graph.specs.Orders.{IsOrder}
 use Rattle.mixed_graph.specs.Shown.{graph_of}
 use Rattle.mixed_graph.specs.declared.sets.VSet.{VSet}
 use Rattle.districts.specs.Listed.{first_masks}
-use Rattle.prob_expr.specs.Masks.{is_empty}
+use Rattle.mixed_graph.specs.Masks.{is_empty}
 use Rattle.do_derivation.specs.View.{listed}
 use Rattle.identification.specs.Procedure.{IsUnidentified}
 use Rattle.id_recursion.proofs.Orders.{listed_order, districts_by}

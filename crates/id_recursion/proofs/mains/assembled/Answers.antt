@@ -1,5 +1,5 @@
 use Rattle.std.proofs.Common.{refl, sym, ap, ◌∙◌}
-use Rattle.prob_expr.specs.Masks.{minus}
+use Rattle.mixed_graph.specs.Masks.{minus}
 use Rattle.prob_expr.specs.View.{view, views}
 use Rattle.do_derivation.specs.Plans.{Plan}
 use Rattle.identification.specs.Procedure.{sum_if}

@@ -5,7 +5,7 @@ use Rattle.mixed_graph.specs.Graphs.{MixedGraph}
 use Rattle.mixed_graph.specs.Shown.{graph_of}
 use Rattle.districts.specs.Linked.{AreDistricts}
 use Rattle.districts.specs.Listed.{first_masks}
-use Rattle.prob_expr.specs.Masks.{minus, all}
+use Rattle.mixed_graph.specs.Masks.{minus, all}
 use Rattle.prob_expr.specs.Tree.{PlainFormula}
 use Rattle.prob_expr.specs.View.{view, views, formula_view}
 use Rattle.do_derivation.specs.Plans.{PlainDerivation}

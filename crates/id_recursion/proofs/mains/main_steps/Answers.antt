@@ -1,5 +1,5 @@
 use Rattle.std.proofs.Common.{◌≡◌, true, false, sym, ap, ◌∙◌}
-use Rattle.prob_expr.specs.Masks.{minus, all, is_empty}
+use Rattle.mixed_graph.specs.Masks.{minus, all, is_empty}
 use Rattle.do_derivation.specs.Plans.{no_plans, plan}
 use Rattle.do_derivation.specs.View.{step_view, steps_view}
 use Rattle.do_derivation.specs.declared.steps.Step.{Rule3In, Widen}

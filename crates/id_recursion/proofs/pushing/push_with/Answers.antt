@@ -1,5 +1,5 @@
 use Rattle.std.proofs.Common.{◌≡◌, false, cond, sym, ap, ◌∙◌}
-use Rattle.prob_expr.specs.Masks.{is_empty}
+use Rattle.mixed_graph.specs.Masks.{is_empty}
 use Rattle.do_derivation.specs.Plans.{plan}
 use Rattle.do_derivation.specs.View.{step_view}
 use Rattle.id_recursion.specs.Lists.{onto}

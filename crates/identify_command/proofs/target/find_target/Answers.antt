@@ -20,17 +20,17 @@ lists-3 c = record { all = c.args.all.now; observed = c.args.observed.now; x = t
 abbrev after_first : (c : After-walk-2) → fault_in (lists-2 c)
     ≡ or_fault (first_fault c.args.all.now c.args.observed.now (walked_in c.args.observed.now c.in-Ok.set.bits) (texts c.args.y.now))
     (first_fault c.args.all.now c.args.observed.now (λ m. is_named (texts c.args.x.now) m || is_named (texts c.args.y.now) m) (texts c.args.given.now))
-after_first c = query_after_first (lists-2 c) c.empty.result.bits c.in-Ok.set.bits c.empty.ensures c.in-Ok.ensures.none c.in-Ok.ensures.set
+after_first c = query_after_first (lists-2 c) c.empty.result.bits c.in-Ok.set.bits c.empty.ensures.members c.in-Ok.ensures.none c.in-Ok.ensures.set
 
 abbrev after_second : (c : After-walk-3) → fault_in (lists-3 c)
     ≡ first_fault c.args.all.now c.args.observed.now (walked_in c.args.observed.now c.union.result.bits) (texts c.args.given.now)
-after_second c = query_after_second (lists-3 c) c.empty.result.bits c.in-Ok.set.bits c.in-Ok-walk.set.bits c.union.result.bits c.empty.ensures
-    c.in-Ok.ensures.none c.in-Ok.ensures.set c.in-Ok-walk.ensures.none c.in-Ok-walk.ensures.set c.union.ensures
+after_second c = query_after_second (lists-3 c) c.empty.result.bits c.in-Ok.set.bits c.in-Ok-walk.set.bits c.union.result.bits c.empty.ensures.members
+    c.in-Ok.ensures.none c.in-Ok.ensures.set c.in-Ok-walk.ensures.none c.in-Ok-walk.ensures.set c.union.ensures.members
 
 pub returns-in-Err-clause-fault : goal.returns-in-Err-clause-fault
 returns-in-Err-clause-fault c =
     let l = lists (goal.at.returns-in-Err-clause-fault c).After-walk in
-    fault_of_lists l _ c.in-Err.fault (query_first l c.empty.result.bits c.empty.ensures) (fault_first _ _ c.in-Err.fault c.in-Err.ensures.fault)
+    fault_of_lists l _ c.in-Err.fault (query_first l c.empty.result.bits c.empty.ensures.members) (fault_first _ _ c.in-Err.fault c.in-Err.ensures.fault)
 
 pub returns-in-Err-walk-clause-fault : goal.returns-in-Err-walk-clause-fault
 returns-in-Err-walk-clause-fault c =

@@ -8,4 +8,4 @@ use Rattle.latent_projection.proofs.dropping.observed_graph.Goals as goal
 pub returns-then-is_empty : goal.returns-then-is_empty
 returns-then-is_empty c =
     observed_whole (graph_of c.args.graph.now) (has c.args.latent.bits) c.args.graph.now.valid
-    (λ v. ap (λ m. has m v) (c.is_empty.ensures.0 c.if-is_empty.true) ∙ has-zero v)
+    (λ v. ap (λ m. has m v) (c.is_empty.ensures.none.0 c.if-is_empty.true) ∙ has-zero v)

@@ -10,8 +10,8 @@ loop-v-init c = no_row _
 
 pub loop-v-preserved : goal.loop-v-preserved
 loop-v-preserved c = row_more _ _ _ _ (omega arith) (λ b.
-    let p = c.only_if-in-loop-v.ensures b in let q = c.difference.ensures b in let r = c.union.ensures b in let s = c.only_if.ensures b in
-    let t = c.one-gone.ensures b in let u = c.has.ensures in grind arith) c.loop-v.invariant
+    let p = c.only_if-in-loop-v.ensures b in let q = c.difference.ensures.members b in let r = c.union.ensures.members b in let s = c.only_if.ensures b in
+    let t = c.one-gone.ensures.members b in let u = c.has.ensures in grind arith) c.loop-v.invariant
 
 pub returns : goal.returns
 returns c = rows_whole _ _ _ c.loop-v.invariant (λ a b h.

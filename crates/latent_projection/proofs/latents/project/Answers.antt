@@ -11,7 +11,7 @@ use Rattle.latent_projection.proofs.latents.project.Goals as goal
 use Rattle.latent_projection.proofs.latents.project.Goals.{After-difference-rest}
 
 rest_is : (c : After-difference-rest) → (u : ℕ) → has c.difference-rest.result.bits u ≡ (has c.vertices.rest.bits u && not (u == c.lowest-k.result))
-rest_is c u = c.difference-rest.ensures u ∙ ap (λ t. has c.vertices.rest.bits u && not t) (c.one.ensures u)
+rest_is c u = c.difference-rest.ensures.members u ∙ ap (λ t. has c.vertices.rest.bits u && not t) (c.one.ensures.members u)
 
 removed : (c : After-difference-rest) → has c.difference-rest.result.bits c.lowest-k.result ≡ false
 removed c = let e = rest_is c c.lowest-k.result in let s : (c.lowest-k.result == c.lowest-k.result) ≡ true = eq-eqb _ _ refl in grind arith
@@ -35,4 +35,4 @@ vertices-preserved c = record {
 
 pub returns : goal.returns
 returns c = projection_by_treks _ _ _ (c.vertices.invariant.projects _
-    (projects_itself _ _ (λ v. ap (λ m. has m v) (c.is_empty.ensures.0 c.vertices-test.false) ∙ has-zero v) c.vertices.invariant.valid))
+    (projects_itself _ _ (λ v. ap (λ m. has m v) (c.is_empty.ensures.none.0 c.vertices-test.false) ∙ has-zero v) c.vertices.invariant.valid))

@@ -9,9 +9,9 @@ loop-v-init c = no_row _
 
 pub loop-v-preserved : goal.loop-v-preserved
 loop-v-preserved c = row_more _ _ _ _ (omega arith) (λ b.
-    let p = c.only_if-in-loop-v-2.ensures b in let q = c.difference.ensures b in let r = c.union.ensures b in let s = c.union-in-loop-v.ensures b in
-    let t = c.one-gone.ensures b in let u = c.one.ensures b in let past = c.union-past.ensures b in let head = c.only_if.ensures b in let kids = c.only_if-in-loop-v.ensures b in
-    let headed = c.union-headed.ensures b in let h = c.has.ensures in let h' = c.has-in-loop-v.ensures in
+    let p = c.only_if-in-loop-v-2.ensures b in let q = c.difference.ensures.members b in let r = c.union.ensures.members b in let s = c.union-in-loop-v.ensures.members b in
+    let t = c.one-gone.ensures.members b in let u = c.one.ensures.members b in let past = c.union-past.ensures.members b in let head = c.only_if.ensures b in let kids = c.only_if-in-loop-v.ensures b in
+    let headed = c.union-headed.ensures.members b in let h = c.has.ensures in let h' = c.has-in-loop-v.ensures in
     elim (cases_eq b c.loop-v.v) [
       | inl e ↦
           let x : (b == c.loop-v.v) ≡ true = eq-eqb b c.loop-v.v e in let y : (c.loop-v.v == b) ≡ true = eq-eqb c.loop-v.v b (sym e) in

@@ -6,4 +6,4 @@ use Rattle.latent_projection.proofs.numbers.count_observed.Goals as goal
 pub returns : goal.returns
 returns c = c.count.ensures
     ∙ length-members-cut (λ v. not (has c.args.latent.bits v)) (has c.difference.result.bits) c.args.n 64 c.requires
-    (λ v. c.difference.ensures v ∙ ap (λ b. b && not (has c.args.latent.bits v)) (c.below.ensures v))
+    (λ v. c.difference.ensures.members v ∙ ap (λ b. b && not (has c.args.latent.bits v)) (c.below.ensures.members v))

@@ -9,7 +9,7 @@ use Rattle.latent_projection.proofs.numbers.renumber.Goals as goal
 use Rattle.latent_projection.proofs.numbers.renumber.Goals.{then-not-has, else-not-has}
 
 pub loop-v-init : goal.loop-v-init
-loop-v-init c = IsRenumbered-none _ _ _ c.empty-found.ensures
+loop-v-init c = IsRenumbered-none _ _ _ c.empty-found.ensures.members
 
 pub one-requires : goal.one-requires
 one-requires c = let p = c.loop-v.invariant.place_is in let q = length-members-le (λ v. not (has c.args.latent.bits v)) c.loop-v.v in omega (arith, p, q)
@@ -21,8 +21,8 @@ pub loop-v-preserved : goal.loop-v-preserved
 loop-v-preserved c = elim c.if-not-has.branch [
   | then-not-has w ↦ IsRenumbered-more _ _ c.loop-v.v c.loop-v.place c.loop-v.found.bits c.if-not-has.place c.if-not-has.found.bits
       (not_from_false (has c.args.latent.bits c.loop-v.v) (sym c.has.ensures ∙ w.if-not-has.true)) w.place-is
-      (λ k. ap (λ (x : VSet). has x.bits k) w.found-is ∙ w.union-found.ensures k
-      ∙ ap (λ b. has c.loop-v.found.bits k || b) (w.only_if.ensures k ∙ (let h = w.has-then-not-has.ensures in let o = w.one.ensures k in grind arith)))
+      (λ k. ap (λ (x : VSet). has x.bits k) w.found-is ∙ w.union-found.ensures.members k
+      ∙ ap (λ b. has c.loop-v.found.bits k || b) (w.only_if.ensures k ∙ (let h = w.has-then-not-has.ensures in let o = w.one.ensures.members k in grind arith)))
       c.loop-v.invariant
   | else-not-has w ↦ IsRenumbered-same _ _ c.loop-v.v c.loop-v.place c.loop-v.found.bits c.if-not-has.place c.if-not-has.found.bits
       (not_from_true (has c.args.latent.bits c.loop-v.v) (sym c.has.ensures ∙ w.if-not-has.false)) w.place-is

@@ -14,4 +14,4 @@ returns c = next_is (graph_of c.args.g.now) c.args.g.now.valid (has c.args.w.bit
       λ i. (let s = (c.joined.ensures u).0 i in (s.0, s.1, sym (c.args.g.now.agree u s.0) ∙ s.2)),
       λ s. (c.joined.ensures u).1 (s.0, s.1, c.args.g.now.agree u s.0 ∙ s.2),
     ))
-    c.joined-2.ensures c.joined-3.ensures c.union.ensures
+    c.joined-2.ensures c.joined-3.ensures c.union.ensures.members

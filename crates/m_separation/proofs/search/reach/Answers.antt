@@ -15,7 +15,7 @@ start_fits c false = omega arith
 pub grow-init : goal.grow-init
 grow-init c = (
   searching_none (graph_of c.args.g.now) (has c.args.x.bits) (has c.args.w.bits) (mask_of (record { tails = c.difference.result; heads = c.empty.result }))
-      c.requires.x c.difference.ensures c.empty.ensures,
+      c.requires.x c.difference.ensures.members c.empty.ensures.members,
   start_fits c,
   start_fits c,
 )
@@ -31,19 +31,19 @@ front_fits c false = omega arith
 pub grow-preserved : goal.grow-preserved
 grow-preserved c = (
   searching_more (graph_of c.args.g.now) (has c.args.x.bits) (has c.args.w.bits) (mask_of c.grow.found) (mask_of c.grow.front) (mask_of c.next.result)
-      (mask_of c.union-found.result) (mask_of c.difference-front.result) c.next.ensures c.difference-front.ensures c.union-found.ensures c.grow.invariant.0,
+      (mask_of c.union-found.result) (mask_of c.difference-front.result) c.next.ensures c.difference-front.ensures.members c.union-found.ensures.members c.grow.invariant.0,
   found_fits c,
   front_fits c,
 )
 
 pub grow-smaller : goal.grow-smaller
 grow-smaller c = searching_smaller (graph_of c.args.g.now) (has c.args.x.bits) (has c.args.w.bits) (mask_of c.grow.found) (mask_of c.grow.front) (mask_of c.next.result)
-    (mask_of c.union-found.result) (mask_of c.difference-front.result) c.next.ensures c.difference-front.ensures c.union-found.ensures
-    (λ z. absurd (let t : c.is_empty.result ≡ true = c.is_empty.ensures.1 (z.1, z.0) in let f = c.grow-test.true in cc)) (found_fits c) (front_fits c)
+    (mask_of c.union-found.result) (mask_of c.difference-front.result) c.next.ensures c.difference-front.ensures.members c.union-found.ensures.members
+    (λ z. absurd (let t : c.is_empty.result ≡ true = c.is_empty.ensures.none.1 (z.1, z.0) in let f = c.grow-test.true in cc)) (found_fits c) (front_fits c)
 
 done : (c : After-difference-2) → (h : Bool) → mask_of c.grow.front h ≡ 0
-done c true = (c.is_empty.ensures.0 c.grow-test.false).1
-done c false = (c.is_empty.ensures.0 c.grow-test.false).0
+done c true = (c.is_empty.ensures.none.0 c.grow-test.false).1
+done c false = (c.is_empty.ensures.none.0 c.grow-test.false).0
 
 -- what is found at a vertex in the answer, and the answer at what is found
 record Answered (g : goal.After-difference-2) (v : ℕ) : Type 0 where
@@ -53,7 +53,7 @@ record Answered (g : goal.After-difference-2) (v : ℕ) : Type 0 where
 
 answered : (c : After-difference-2) → (v : ℕ) → IsTrue (has c.difference-2.result.bits v) → Answered c v
 answered c v i =
-    let p = and_parts (has c.vertices.result.bits v) _ (sym (c.difference-2.ensures v) ∙ i) in
+    let p = and_parts (has c.vertices.result.bits v) _ (sym (c.difference-2.ensures.members v) ∙ i) in
     let outside = not-true (has c.args.w.bits v) p.1 in
     elim (or_cases (has c.grow.found.tails.bits v) (has c.grow.found.heads.bits v) (sym (c.vertices.ensures v) ∙ p.0)) [
       | inl t ↦ record { head = false; comes = c.grow.invariant.0.sound false v t; outside = outside }
@@ -61,8 +61,8 @@ answered c v i =
     ]
 
 in_answer : (c : After-difference-2) → (h : Bool) (v : ℕ) → IsTrue (has (mask_of c.grow.found h) v) → has c.args.w.bits v ≡ false → IsTrue (has c.difference-2.result.bits v)
-in_answer c true v i out = c.difference-2.ensures v ∙ and_from _ _ (c.vertices.ensures v ∙ or_right _ _ i) (not_from_false (has c.args.w.bits v) out)
-in_answer c false v i out = c.difference-2.ensures v ∙ and_from _ _ (c.vertices.ensures v ∙ or_left _ _ i) (not_from_false (has c.args.w.bits v) out)
+in_answer c true v i out = c.difference-2.ensures.members v ∙ and_from _ _ (c.vertices.ensures v ∙ or_right _ _ i) (not_from_false (has c.args.w.bits v) out)
+in_answer c false v i out = c.difference-2.ensures.members v ∙ and_from _ _ (c.vertices.ensures v ∙ or_left _ _ i) (not_from_false (has c.args.w.bits v) out)
 
 last_outside : (c : After-difference-2) → (v : ℕ) → IsReached (graph_of c.args.g.now) (has c.args.x.bits) (has c.args.w.bits) v → has c.args.w.bits v ≡ false
 last_outside c v r = subst (λ u. has c.args.w.bits u ≡ false) (eqb-true _ v r.2.ends) r.2.last_outside

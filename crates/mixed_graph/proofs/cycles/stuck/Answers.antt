@@ -8,7 +8,7 @@ use Rattle.mixed_graph.proofs.cycles.stuck.Goals as goal
 use Rattle.mixed_graph.proofs.cycles.stuck.Goals.{After-difference-rest}
 
 rest_is : (c : After-difference-rest) → (u : ℕ) → has c.difference-rest.result.bits u ≡ (has c.loop-v.rest.bits u && not (u == c.in-Some.v))
-rest_is c u = c.difference-rest.ensures u ∙ ap (λ t. has c.loop-v.rest.bits u && not t) (c.one.ensures u)
+rest_is c u = c.difference-rest.ensures.members u ∙ ap (λ t. has c.loop-v.rest.bits u && not t) (c.one.ensures.members u)
 
 pub loop-v-smaller : goal.loop-v-smaller
 loop-v-smaller c = lt_from_subset _ _ c.in-Some.v (λ u h. let e = rest_is c u in grind arith)

@@ -10,7 +10,7 @@ room c = walked_room _ c.walk.list c.walk.place c.walk.count c.walk.seen.bits c.
 
 pub walk-init : goal.walk-init
 walk-init c = (
-  walked_none _ _ _ c.empty-seen.result.bits c.lowest-v.result (length-replicate {A = ℕ} 64 0) (length-replicate {A = ℕ} 64 0) c.empty-seen.ensures,
+  walked_none _ _ _ c.empty-seen.result.bits c.lowest-v.result (length-replicate {A = ℕ} 64 0) (length-replicate {A = ℕ} 64 0) c.empty-seen.ensures.members,
   c.lowest-v.ensures.in_range,
   c.lowest-v.ensures.member,
 )
@@ -31,7 +31,7 @@ pub walk-preserved : goal.walk-preserved
 walk-preserved c = (
   walked_more (λ a b. has (get_or c.args.children.now a 0) b) c.walk.list c.walk.place c.walk.count c.walk.seen.bits c.walk.v c.union-seen.result.bits c.child_in-v.result
       c.walk.invariant.1 (sym c.has.ensures ∙ c.walk-test.true)
-      (λ u. c.union-seen.ensures u ∙ ap (λ t. has c.walk.seen.bits u || t) (c.one.ensures u))
+      (λ u. c.union-seen.ensures.members u ∙ ap (λ t. has c.walk.seen.bits u || t) (c.one.ensures.members u))
       c.child_in-v.ensures.arrow c.walk.invariant.0,
   c.child_in-v.ensures.in_range,
   c.child_in-v.ensures.member,

@@ -12,7 +12,7 @@ returns-in-Err-clause-fault c =
     let all = c.args.all.now in let observed = c.args.observed.now in let lists = map names_in c.args.experiments.now in
     let rest = map names_in (drop (c.loop-experiment.experiment-index + 1) c.args.experiments.now) in
     let at = lists-drop c.args.experiments.now c.loop-experiment.experiment-index c.experiment-item.result c.loop-experiment-test.true (sym c.experiment-item.is) in
-    fault_next all observed lists rest (masks_of c.loop-experiment.sets.items) (names_in c.experiment-item.result) c.empty.result.bits c.empty.ensures
+    fault_next all observed lists rest (masks_of c.loop-experiment.sets.items) (names_in c.experiment-item.result) c.empty.result.bits c.empty.ensures.members
     (subst (AreWalked all observed lists (masks_of c.loop-experiment.sets.items)) at c.loop-experiment.invariant) c.in-Err.fault
     (subst (λ t. IsNameFault (first_fault all observed (walked_in observed c.empty.result.bits) t) c.in-Err.fault) (ap texts c.as_slice.ensures.value) c.in-Err.ensures.fault)
 
@@ -24,7 +24,7 @@ loop-experiment-preserved c =
     let at = lists-drop c.args.experiments.now c.loop-experiment.experiment-index c.experiment-item.result c.loop-experiment-test.true (sym c.experiment-item.is) in
     walked_more all observed lists rest (masks_of c.loop-experiment.sets.items) (masks_of c.push.new.self.items) e c.in-Ok.set.bits
     (masks_pushed c.push.new.self.items c.loop-experiment.sets.items c.in-Ok.set c.in-Ok-push.ensures.items)
-    (sym (walked_alone all observed c.empty.result.bits c.empty.ensures e) ∙ ap (first_fault all observed (walked_in observed c.empty.result.bits)) (sym (ap texts c.as_slice.ensures.value)) ∙ c.in-Ok.ensures.none)
+    (sym (walked_alone all observed c.empty.result.bits c.empty.ensures.members e) ∙ ap (first_fault all observed (walked_in observed c.empty.result.bits)) (sym (ap texts c.as_slice.ensures.value)) ∙ c.in-Ok.ensures.none)
     (subst (λ t. IsSetOf observed t c.in-Ok.set.bits) (ap texts c.as_slice.ensures.value) c.in-Ok.ensures.set)
     (subst (AreWalked all observed lists (masks_of c.loop-experiment.sets.items)) at c.loop-experiment.invariant)
 

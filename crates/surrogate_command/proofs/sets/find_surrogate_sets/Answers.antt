@@ -20,13 +20,13 @@ abbrev lists-3 : After-experiment_sets → SurrogateLists
 lists-3 c = lists_of c.args.all.now c.args.observed.now (texts c.args.x.now) (texts c.args.y.now) (map names_in c.args.experiments.now)
 
 abbrev no_effect_fault : (c : After-experiment_sets) → effect_fault (lists-3 c).effect ≡ None
-no_effect_fault c = effect_after_x (lists-3 c).effect c.empty.result.bits c.in-Ok.set.bits c.empty.ensures c.in-Ok.ensures.none c.in-Ok.ensures.set ∙ c.in-Ok-walk.ensures.none
+no_effect_fault c = effect_after_x (lists-3 c).effect c.empty.result.bits c.in-Ok.set.bits c.empty.ensures.members c.in-Ok.ensures.none c.in-Ok.ensures.set ∙ c.in-Ok-walk.ensures.none
 
 pub returns-in-Err-clause-fault : goal.returns-in-Err-clause-fault
 returns-in-Err-clause-fault c =
     let l = lists (goal.at.returns-in-Err-clause-fault c).After-walk in
     let later = experiments_fault l.effect.all l.effect.observed l.experiments in
-    fault_of_lists l _ c.in-Err.fault (ap (λ o. or_fault o later) (effect_walked l.effect c.empty.result.bits c.empty.ensures
+    fault_of_lists l _ c.in-Err.fault (ap (λ o. or_fault o later) (effect_walked l.effect c.empty.result.bits c.empty.ensures.members
     ∙ first_fault-append l.effect.all l.effect.observed (walked_in l.effect.observed c.empty.result.bits) l.effect.x l.effect.y))
     (fault_first _ later c.in-Err.fault (fault_first _ _ c.in-Err.fault c.in-Err.ensures.fault))
 
@@ -34,7 +34,7 @@ pub returns-in-Err-walk-clause-fault : goal.returns-in-Err-walk-clause-fault
 returns-in-Err-walk-clause-fault c =
     let l = lists-2 (goal.at.returns-in-Err-walk-clause-fault c).After-walk-2 in
     let later = experiments_fault l.effect.all l.effect.observed l.experiments in
-    fault_of_lists l _ c.in-Err-walk.fault (ap (λ o. or_fault o later) (effect_after_x l.effect c.empty.result.bits c.in-Ok.set.bits c.empty.ensures c.in-Ok.ensures.none c.in-Ok.ensures.set))
+    fault_of_lists l _ c.in-Err-walk.fault (ap (λ o. or_fault o later) (effect_after_x l.effect c.empty.result.bits c.in-Ok.set.bits c.empty.ensures.members c.in-Ok.ensures.none c.in-Ok.ensures.set))
     (fault_first _ later c.in-Err-walk.fault c.in-Err-walk.ensures.fault)
 
 pub returns-in-Err-experiment_sets-clause-fault : goal.returns-in-Err-experiment_sets-clause-fault

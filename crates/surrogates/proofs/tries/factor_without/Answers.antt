@@ -5,7 +5,7 @@ use Rattle.mixed_graph.specs.Orders.{IsOrder}
 use Rattle.mixed_graph.specs.Shown.{graph_of}
 use Rattle.do_derivation.specs.View.{listed}
 use Rattle.id_recursion.proofs.Orders.{listed_order}
-use Rattle.prob_expr.specs.Masks.{minus}
+use Rattle.mixed_graph.specs.Masks.{minus}
 use Rattle.surrogate_theory.specs.Surrogates.{without}
 use Rattle.surrogates.proofs.Trying.{joined_in, low_in, tried_ok, tried_err}
 use Rattle.surrogates.proofs.tries.factor_without.Goals as goal

@@ -2,7 +2,7 @@ use Rattle.std.proofs.Common.{◌<◌, sym, subst}
 use Rattle.mixed_graph.specs.Bits.{has}
 use Rattle.mixed_graph.specs.Sets.{Within, Apart}
 use Rattle.mixed_graph.specs.Shown.{graph_of}
-use Rattle.prob_expr.specs.Masks.{one}
+use Rattle.mixed_graph.specs.Masks.{one}
 use Rattle.survey_command.proofs.Answering.{answered_of}
 use Rattle.survey_command.proofs.OneSets.{within_one, apart_one, some_one}
 use Rattle.survey_command.proofs.tally.is_hedged.Goals as goal

@@ -15,12 +15,12 @@ abbrev lists-2 : After-walk-2 → EffectLists
 lists-2 c = record { all = c.args.all.now; observed = c.args.observed.now; x = texts c.args.x.now; y = texts c.args.y.now }
 
 abbrev y_on : (c : After-walk-2) → effect_fault (lists-2 c) ≡ first_fault c.args.all.now c.args.observed.now (walked_in c.args.observed.now c.in-Ok.set.bits) (texts c.args.y.now)
-y_on c = effect_after_x (lists-2 c) c.empty.result.bits c.in-Ok.set.bits c.empty.ensures c.in-Ok.ensures.none c.in-Ok.ensures.set
+y_on c = effect_after_x (lists-2 c) c.empty.result.bits c.in-Ok.set.bits c.empty.ensures.members c.in-Ok.ensures.none c.in-Ok.ensures.set
 
 pub returns-in-Err-clause-fault : goal.returns-in-Err-clause-fault
 returns-in-Err-clause-fault c =
     let l = lists (goal.at.returns-in-Err-clause-fault c).After-walk in
-    fault_of_effect l _ c.in-Err.fault (effect_walked l c.empty.result.bits c.empty.ensures
+    fault_of_effect l _ c.in-Err.fault (effect_walked l c.empty.result.bits c.empty.ensures.members
     ∙ first_fault-append l.all l.observed (walked_in l.observed c.empty.result.bits) l.x l.y) (fault_first _ _ c.in-Err.fault c.in-Err.ensures.fault)
 
 pub returns-in-Err-walk-clause-fault : goal.returns-in-Err-walk-clause-fault

@@ -22,28 +22,28 @@ lists-4 c = record { all = c.args.all.now; observed = c.args.observed.now; y = t
 
 abbrev done_on : (c : After-walk-2) → rule_fault (lists-2 c)
     ≡ first_fault c.args.all.now c.args.observed.now (walked_in c.args.observed.now c.in-Ok.set.bits) (texts c.args.done.now ++ (texts c.args.z.now ++ texts c.args.given.now))
-done_on c = after_y (lists-2 c) c.empty.result.bits c.in-Ok.set.bits c.empty.ensures c.in-Ok.ensures.none c.in-Ok.ensures.set
+done_on c = after_y (lists-2 c) c.empty.result.bits c.in-Ok.set.bits c.empty.ensures.members c.in-Ok.ensures.none c.in-Ok.ensures.set
 
 abbrev z_on : (c : After-walk-3) → rule_fault (lists-3 c)
     ≡ first_fault c.args.all.now c.args.observed.now (walked_in c.args.observed.now c.union-before_z.result.bits) (texts c.args.z.now ++ texts c.args.given.now)
 z_on c =
-    after_y (lists-3 c) c.empty.result.bits c.in-Ok.set.bits c.empty.ensures c.in-Ok.ensures.none c.in-Ok.ensures.set
+    after_y (lists-3 c) c.empty.result.bits c.in-Ok.set.bits c.empty.ensures.members c.in-Ok.ensures.none c.in-Ok.ensures.set
     ∙ after_list c.args.all.now c.args.observed.now c.in-Ok.set.bits c.in-Ok-walk.set.bits c.union-before_z.result.bits (texts c.args.done.now)
-    (texts c.args.z.now ++ texts c.args.given.now) c.in-Ok-walk.ensures.none c.in-Ok-walk.ensures.set c.union-before_z.ensures
+    (texts c.args.z.now ++ texts c.args.given.now) c.in-Ok-walk.ensures.none c.in-Ok-walk.ensures.set c.union-before_z.ensures.members
 
 abbrev given_on : (c : After-walk-4) → rule_fault (lists-4 c)
     ≡ first_fault c.args.all.now c.args.observed.now (walked_in c.args.observed.now c.union.result.bits) (texts c.args.given.now)
 given_on c =
-    after_y (lists-4 c) c.empty.result.bits c.in-Ok.set.bits c.empty.ensures c.in-Ok.ensures.none c.in-Ok.ensures.set
+    after_y (lists-4 c) c.empty.result.bits c.in-Ok.set.bits c.empty.ensures.members c.in-Ok.ensures.none c.in-Ok.ensures.set
     ∙ after_list c.args.all.now c.args.observed.now c.in-Ok.set.bits c.in-Ok-walk.set.bits c.union-before_z.result.bits (texts c.args.done.now)
-    (texts c.args.z.now ++ texts c.args.given.now) c.in-Ok-walk.ensures.none c.in-Ok-walk.ensures.set c.union-before_z.ensures
+    (texts c.args.z.now ++ texts c.args.given.now) c.in-Ok-walk.ensures.none c.in-Ok-walk.ensures.set c.union-before_z.ensures.members
     ∙ after_list c.args.all.now c.args.observed.now c.union-before_z.result.bits c.in-Ok-walk-2.set.bits c.union.result.bits (texts c.args.z.now)
-    (texts c.args.given.now) c.in-Ok-walk-2.ensures.none c.in-Ok-walk-2.ensures.set c.union.ensures
+    (texts c.args.given.now) c.in-Ok-walk-2.ensures.none c.in-Ok-walk-2.ensures.set c.union.ensures.members
 
 pub returns-in-Err-clause-fault : goal.returns-in-Err-clause-fault
 returns-in-Err-clause-fault c =
     let l = lists (goal.at.returns-in-Err-clause-fault c).After-walk in
-    fault_of_rule l _ c.in-Err.fault (from_none l c.empty.result.bits c.empty.ensures
+    fault_of_rule l _ c.in-Err.fault (from_none l c.empty.result.bits c.empty.ensures.members
     ∙ first_fault-append l.all l.observed (walked_in l.observed c.empty.result.bits) l.y (l.done ++ (l.z ++ l.given))) (fault_first _ _ c.in-Err.fault c.in-Err.ensures.fault)
 
 pub returns-in-Err-walk-clause-fault : goal.returns-in-Err-walk-clause-fault

@@ -11,7 +11,7 @@ use Rattle.targets.proofs.query.names_of.Goals as goal
 use Rattle.targets.proofs.query.names_of.Goals.{After-difference-rest}
 
 rest_is : (c : After-difference-rest) → (u : ℕ) → has c.difference-rest.result.bits u ≡ (has c.members.rest.bits u && not (u == c.lowest-v.result))
-rest_is c u = c.difference-rest.ensures u ∙ ap (λ t. has c.members.rest.bits u && not t) (c.one.ensures u)
+rest_is c u = c.difference-rest.ensures.members u ∙ ap (λ t. has c.members.rest.bits u && not t) (c.one.ensures.members u)
 
 pub members-smaller : goal.members-smaller
 members-smaller c =
@@ -39,5 +39,5 @@ members-preserved c =
 pub returns : goal.returns
 returns c =
     sym (append-nil (texts c.members.list.items))
-    ∙ ap (λ vs. texts c.members.list.items ++ map (name_of c.args.names.now) vs) (sym (members-empty c.members.rest.bits (c.is_empty.ensures.0 (search rules))))
+    ∙ ap (λ vs. texts c.members.list.items ++ map (name_of c.args.names.now) vs) (sym (members-empty c.members.rest.bits (c.is_empty.ensures.none.0 (search rules))))
     ∙ c.members.invariant.0

@@ -15,7 +15,7 @@ returns-clause-listed g c = elim c.match-closest.branch [
   | in-Some+in_ok-push w ↦
       subst (λ t. IsSoFar (joins c.args.p.now.near) (has c.args.p.now.allowed.bits) (has c.args.p.now.x.bits) (has c.args.p.now.y.bits) [] t)
       (sym (ap (λ t. t.items) w.todo-is ∙ w.in_ok-push.ensures.items ∙ ap (λ t. t ++ (record { cut = w.in-Some.c.cut; side = w.in-Some.c.side; kept = w.empty.result }) ∷ []) c.new-todo.ensures.items))
-      (listing_one (joins c.args.p.now.near) (has c.args.p.now.allowed.bits) (has c.args.p.now.x.bits) (has c.args.p.now.y.bits) c.args.p.now.frame (record { cut = w.in-Some.c.cut; side = w.in-Some.c.side; kept = w.empty.result }) w.in-Some.ensures.some w.empty.ensures)
+      (listing_one (joins c.args.p.now.near) (has c.args.p.now.allowed.bits) (has c.args.p.now.x.bits) (has c.args.p.now.y.bits) c.args.p.now.frame (record { cut = w.in-Some.c.cut; side = w.in-Some.c.side; kept = w.empty.result }) w.in-Some.ensures.some w.empty.ensures.members)
   | in_default w ↦
       subst (λ t. IsSoFar (joins c.args.p.now.near) (has c.args.p.now.allowed.bits) (has c.args.p.now.x.bits) (has c.args.p.now.y.bits) [] t)
       (sym (ap (λ t. t.items) w.todo-is ∙ c.new-todo.ensures.items))

@@ -12,8 +12,8 @@ members-preserved g c = elim c.if-has.branch [
       moved (joins c.args.p.now.near) (has c.args.p.now.allowed.bits) (has c.args.p.now.x.bits) (has c.args.p.now.y.bits) c.args.node c.args.todo.now.items
           (c.members.todo.items ++ w'.in-Some.fork ∷ []) c.if-has.todo.items w.union-kept.result c.if-has.kept (c.members.v + 1)
           (spreading_forked (joins c.args.p.now.near) (has c.args.p.now.allowed.bits) (has c.args.p.now.x.bits) (has c.args.p.now.y.bits) c.args.p.now.frame c.args.node c.requires.node c.args.todo.now.items c.members.todo.items
-          c.members.kept c.members.v c.members.invariant.0 (sym (c.difference-left.ensures c.members.v) ∙ sym c.has.ensures ∙ w.if-has.true)
-          w.union-kept.result (λ u. w.union-kept.ensures u ∙ ap (λ t. has c.members.kept.bits u || t) (w.one.ensures u)) w'.in-Some.fork w'.in-Some.ensures.some)
+          c.members.kept c.members.v c.members.invariant.0 (sym (c.difference-left.ensures.members c.members.v) ∙ sym c.has.ensures ∙ w.if-has.true)
+          w.union-kept.result (λ u. w.union-kept.ensures.members u ∙ ap (λ t. has c.members.kept.bits u || t) (w.one.ensures.members u)) w'.in-Some.fork w'.in-Some.ensures.some)
           (ap (λ t. t.items) (w.todo-is ∙ w'.todo-is) ∙ w'.in_ok-push.ensures.items) w.kept-is,
       omega (arith, w.steps-is, w.joined.ensures.cost, c.members.invariant.1),
     )
@@ -21,8 +21,8 @@ members-preserved g c = elim c.if-has.branch [
       moved (joins c.args.p.now.near) (has c.args.p.now.allowed.bits) (has c.args.p.now.x.bits) (has c.args.p.now.y.bits) c.args.node c.args.todo.now.items
           c.members.todo.items c.if-has.todo.items w.union-kept.result c.if-has.kept (c.members.v + 1)
           (spreading_still (joins c.args.p.now.near) (has c.args.p.now.allowed.bits) (has c.args.p.now.x.bits) (has c.args.p.now.y.bits) c.args.p.now.frame c.args.node c.requires.node c.args.todo.now.items c.members.todo.items
-          c.members.kept c.members.v c.members.invariant.0 (sym (c.difference-left.ensures c.members.v) ∙ sym c.has.ensures ∙ w.if-has.true)
-          w.union-kept.result (λ u. w.union-kept.ensures u ∙ ap (λ t. has c.members.kept.bits u || t) (w.one.ensures u)) w'.in_default.ensures.none)
+          c.members.kept c.members.v c.members.invariant.0 (sym (c.difference-left.ensures.members c.members.v) ∙ sym c.has.ensures ∙ w.if-has.true)
+          w.union-kept.result (λ u. w.union-kept.ensures.members u ∙ ap (λ t. has c.members.kept.bits u || t) (w.one.ensures.members u)) w'.in_default.ensures.none)
           (ap (λ t. t.items) (w.todo-is ∙ w'.todo-is)) w.kept-is,
       omega (arith, w.steps-is, w.joined.ensures.cost, c.members.invariant.1),
     )
@@ -31,7 +31,7 @@ members-preserved g c = elim c.if-has.branch [
     moved (joins c.args.p.now.near) (has c.args.p.now.allowed.bits) (has c.args.p.now.x.bits) (has c.args.p.now.y.bits) c.args.node c.args.todo.now.items
         c.members.todo.items c.if-has.todo.items c.members.kept c.if-has.kept (c.members.v + 1)
         (spreading_skip (joins c.args.p.now.near) (has c.args.p.now.allowed.bits) (has c.args.p.now.x.bits) (has c.args.p.now.y.bits) c.args.p.now.frame c.args.node c.requires.node c.args.todo.now.items c.members.todo.items
-        c.members.kept c.members.v (sym (c.difference-left.ensures c.members.v) ∙ sym c.has.ensures ∙ w.if-has.false) c.members.invariant.0)
+        c.members.kept c.members.v (sym (c.difference-left.ensures.members c.members.v) ∙ sym c.has.ensures ∙ w.if-has.false) c.members.invariant.0)
         (ap (λ t. t.items) w.todo-is) w.kept-is,
     omega (arith, w.steps-is, c.members.invariant.1),
   )

@@ -9,14 +9,14 @@ step_of : (c : After-union-front) → Step (joins c.args.near.now) c.args.avoid.
     c.search.found.bits c.search.front.bits c.difference-front.result.bits c.difference-fresh.result.bits c.union-found.result.bits c.union-front.result.bits
 step_of c = record {
   taken = c.lowest-v.ensures.member;
-  rest_is = λ u. c.difference-front.ensures u ∙ ap (λ t. has c.search.front.bits u && not t) (c.one.ensures u);
-  fresh_is = λ u. c.difference-fresh.ensures u ∙ ap (λ t. t && not (has c.search.found.bits u)) (c.difference.ensures u);
-  found_is = c.union-found.ensures;
-  front_is = c.union-front.ensures;
+  rest_is = λ u. c.difference-front.ensures.members u ∙ ap (λ t. has c.search.front.bits u && not t) (c.one.ensures.members u);
+  fresh_is = λ u. c.difference-fresh.ensures.members u ∙ ap (λ t. t && not (has c.search.found.bits u)) (c.difference.ensures.members u);
+  found_is = c.union-found.ensures.members;
+  front_is = c.union-front.ensures.members;
 }
 
 pub search-init : goal.search-init
-search-init c = (flooding_none (joins c.args.near.now) c.args.from.bits c.args.avoid.bits c.difference-found.result.bits c.difference-found.ensures, omega arith, omega arith)
+search-init c = (flooding_none (joins c.args.near.now) c.args.from.bits c.args.avoid.bits c.difference-found.result.bits c.difference-found.ensures.members, omega arith, omega arith)
 
 pub search-preserved : goal.search-preserved
 search-preserved c = (

@@ -14,7 +14,7 @@ blocks : (c : After-blocked) → IsSeparated (graph_of c.graph.result) (has c.ar
 blocks c sep = record {
   graph = graph_of c.graph.result;
   is_graph = c.graph.ensures.cut;
-  separated = separated_moved (graph_of c.graph.result) (graph_of c.graph.result) (has c.args.y.bits) (has c.args.z.bits) (has c.union.result.bits) (λ v. has c.args.x.bits v || has c.args.w.bits v) refl c.union.ensures sep;
+  separated = separated_moved (graph_of c.graph.result) (graph_of c.graph.result) (has c.args.y.bits) (has c.args.z.bits) (has c.union.result.bits) (λ v. has c.args.x.bits v || has c.args.w.bits v) refl c.union.ensures.members sep;
 }
 
 pub returns-clause-apart : goal.returns-clause-apart
@@ -31,6 +31,6 @@ returns-clause-open c = IfErr-weaker c.blocked.result
     (λ p o. record {
       graph = graph_of c.graph.result;
       is_graph = c.graph.ensures.cut;
-      path = open_moved (graph_of c.graph.result) (graph_of c.graph.result) (has c.args.y.bits) (has c.args.z.bits) (has c.union.result.bits) (λ v. has c.args.x.bits v || has c.args.w.bits v) p.vertices p.marks p.count refl c.union.ensures o;
+      path = open_moved (graph_of c.graph.result) (graph_of c.graph.result) (has c.args.y.bits) (has c.args.z.bits) (has c.union.result.bits) (λ v. has c.args.x.bits v || has c.args.w.bits v) p.vertices p.marks p.count refl c.union.ensures.members o;
     })
     c.blocked.ensures.open

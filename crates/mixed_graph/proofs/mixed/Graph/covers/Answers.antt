@@ -6,12 +6,12 @@ use Rattle.mixed_graph.proofs.mixed.Graph.covers.Goals as goal
 
 pub returns : goal.returns
 returns c = (
-  λ t v h. (let z = c.is_empty.ensures.0 t in
-      let d = c.difference.ensures v in let b = c.below.ensures v in
+  λ t v h. (let z = c.is_empty.ensures.none.0 t in
+      let d = c.difference.ensures.members v in let b = c.below.ensures.members v in
       let n : has c.difference.result.bits v ≡ false = rw z (has-zero v) in
       ltb-true v c.args.self.now.n (grind arith)),
-  λ within. c.is_empty.ensures.1 (zero_from_empty c.difference.result.bits (λ v.
-      let d = c.difference.ensures v in let b = c.below.ensures v in
+  λ within. c.is_empty.ensures.none.1 (zero_from_empty c.difference.result.bits (λ v.
+      let d = c.difference.ensures.members v in let b = c.below.ensures.members v in
       elim (cases_Bool (has c.args.s.bits v)) [
         | inl i ↦ let t : nat_lt v c.args.self.now.n ≡ true = lt-ltb v c.args.self.now.n (within v i) in grind arith
         | inr o ↦ grind arith

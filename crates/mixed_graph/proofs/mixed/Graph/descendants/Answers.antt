@@ -1,4 +1,4 @@
-use Rattle.std.proofs.Common.{ℕ, IsTrue, refl}
+use Rattle.std.proofs.Common.{refl}
 use Rattle.mixed_graph.specs.Bits.{has}
 use Rattle.mixed_graph.specs.Shown.{graph_of}
 use Rattle.mixed_graph.specs.Arrows.{graph_of_rows}

@@ -10,7 +10,7 @@ use Rattle.mixed_graph.proofs.mixed.Graph.order.Goals as goal
 use Rattle.mixed_graph.proofs.mixed.Graph.order.Goals.{In-Some, After-difference-rest}
 
 pub next-init : goal.next-init
-next-init c = (ordering_none (graph_of c.args.self.now) _ c.below-rest.result.bits (length-replicate {A = ℕ} 64 0) (blank 64) c.below-rest.ensures, omega arith, omega arith)
+next-init c = (ordering_none (graph_of c.args.self.now) _ c.below-rest.result.bits (length-replicate {A = ℕ} 64 0) (blank 64) c.below-rest.ensures.members, omega arith, omega arith)
 
 room : (c : In-Some) → c.next.count < 64
 room c = ordering_room (graph_of c.args.self.now) c.next.list c.next.count c.next.rest.bits c.in-Some.v c.in-Some.ensures.found.0 c.in-Some.ensures.found.1 c.next.invariant.0
@@ -19,7 +19,7 @@ pub bounds-list-count : goal.bounds-list-count
 bounds-list-count c = room (goal.at.bounds-list-count c).In-Some
 
 rest_is : (c : After-difference-rest) → (u : ℕ) → has c.difference-rest.result.bits u ≡ (has c.next.rest.bits u && not (u == c.in-Some.v))
-rest_is c u = c.difference-rest.ensures u ∙ ap (λ t. has c.next.rest.bits u && not t) (c.one.ensures u)
+rest_is c u = c.difference-rest.ensures.members u ∙ ap (λ t. has c.next.rest.bits u && not t) (c.one.ensures.members u)
 
 pub next-smaller : goal.next-smaller
 next-smaller c = lt_from_subset _ _ c.in-Some.v (λ u h. let e = rest_is c u in grind arith)

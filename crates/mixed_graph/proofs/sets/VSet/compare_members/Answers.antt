@@ -8,8 +8,8 @@ use Rattle.mixed_graph.proofs.sets.VSet.compare_members.Goals.{After-difference-
 
 pub returns-then-is_empty : goal.returns-then-is_empty
 returns-then-is_empty c = sym (c.firsts.invariant.0 ∙ (
-    let a = members-some c.firsts.a.bits (λ z. absurd (let t = c.is_empty.ensures.1 z in let f = c.firsts-test.true in cc)) (omega arith) in
-    let b = members-empty c.firsts.b.bits (c.is_empty-in-firsts.ensures.0 c.if-is_empty.true) in
+    let a = members-some c.firsts.a.bits (λ z. absurd (let t = c.is_empty.ensures.none.1 z in let f = c.firsts-test.true in cc)) (omega arith) in
+    let b = members-empty c.firsts.b.bits (c.is_empty-in-firsts.ensures.none.0 c.if-is_empty.true) in
     rw (a.2, b) refl))
 
 pub returns-then-p-q : goal.returns-then-p-q
@@ -25,10 +25,10 @@ returns-then-q-p c = sym (c.firsts.invariant.0 ∙ (
     rw (a.1, b.1) (compare_greater c.lowest-p.result c.lowest-q.result a.0 b.0 c.if-q-p.true)))
 
 without_p : (c : After-difference-a) → (u : ℕ) → has c.difference-a.result.bits u ≡ (has c.firsts.a.bits u && not (u == c.lowest-p.result))
-without_p c u = c.difference-a.ensures u ∙ ap (λ t. has c.firsts.a.bits u && not t) (c.one.ensures u)
+without_p c u = c.difference-a.ensures.members u ∙ ap (λ t. has c.firsts.a.bits u && not t) (c.one.ensures.members u)
 
 without_q : (c : After-difference-b) → (u : ℕ) → has c.difference-b.result.bits u ≡ (has c.firsts.b.bits u && not (u == c.lowest-q.result))
-without_q c u = c.difference-b.ensures u ∙ ap (λ t. has c.firsts.b.bits u && not t) (c.one-in-firsts.ensures u)
+without_q c u = c.difference-b.ensures.members u ∙ ap (λ t. has c.firsts.b.bits u && not t) (c.one-in-firsts.ensures.members u)
 
 pub firsts-smaller : goal.firsts-smaller
 firsts-smaller c = let d = (goal.at.firsts-smaller c).After-difference-a in
@@ -49,12 +49,12 @@ firsts-preserved c = (
 
 pub returns-then-is_empty-2 : goal.returns-then-is_empty-2
 returns-then-is_empty-2 c = sym (c.firsts.invariant.0 ∙ (
-    let a = members-empty c.firsts.a.bits (c.is_empty.ensures.0 c.firsts-test.false) in
-    let b = members-empty c.firsts.b.bits (c.is_empty-2.ensures.0 c.if-is_empty-2.true) in
+    let a = members-empty c.firsts.a.bits (c.is_empty.ensures.none.0 c.firsts-test.false) in
+    let b = members-empty c.firsts.b.bits (c.is_empty-2.ensures.none.0 c.if-is_empty-2.true) in
     rw (a, b) refl))
 
 pub returns-else-is_empty-2 : goal.returns-else-is_empty-2
 returns-else-is_empty-2 c = sym (c.firsts.invariant.0 ∙ (
-    let a = members-empty c.firsts.a.bits (c.is_empty.ensures.0 c.firsts-test.false) in
-    let b = members-some c.firsts.b.bits (λ z. absurd (let t = c.is_empty-2.ensures.1 z in let f = c.if-is_empty-2.false in cc)) (omega arith) in
+    let a = members-empty c.firsts.a.bits (c.is_empty.ensures.none.0 c.firsts-test.false) in
+    let b = members-some c.firsts.b.bits (λ z. absurd (let t = c.is_empty-2.ensures.none.1 z in let f = c.if-is_empty-2.false in cc)) (omega arith) in
     rw (a, b.2) refl))

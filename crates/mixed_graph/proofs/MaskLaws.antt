@@ -5,7 +5,7 @@ use Rattle.std.proofs.lemmas.Nat.Bits.{bit_at_xor, bit_at_and, bit_at-lt, bit_at
 use lib.Bits.{mask_lt}
 use Rattle.mixed_graph.specs.Bits.{has}
 use Rattle.mixed_graph.proofs.Masks.{below_two, has-zero, has-or, has-and, has-pow, has-ones, same_from_has, zero_from_empty}
-use Rattle.prob_expr.specs.Masks.{join, minus, one, all, is_empty, is_apart, is_inside, is_below}
+use Rattle.mixed_graph.specs.Masks.{join, minus, one, all, is_empty, is_apart, is_inside, is_below}
 
 pub has_join : (a b v : ℕ) → has (join a b) v ≡ (has a v || has b v)
 has_join a b v = has-or a b v

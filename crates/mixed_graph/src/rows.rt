@@ -1,0 +1,34 @@
+ghost use Rattle.std.specs.Prelude.{ℕ, ◌↔◌, IsTrue, slice_index};
+ghost use Rattle.mixed_graph.specs.Bits.{has};
+ghost use Rattle.mixed_graph.specs.Reached.{Reached, has_in_row};
+
+use crate::sets::VSet;
+
+/// What the rows of the members hold.
+pub fn joined(rows: &[u64; 64], members: VSet) -> VSet
+    ensures { (u : ℕ) → IsTrue (has result.bits u) ↔ ((v : ℕ) × IsTrue (has members.bits v) × IsTrue (has (slice_index rows.now v) u)) }
+{
+    let mut all = VSet::empty();
+    let mut rest = members;
+    'each: while !rest.is_empty() {
+        let v = rest.lowest();
+        all = all.union(VSet::row(rows, v));
+        rest = rest.difference(VSet::one(v));
+    }
+    all
+}
+
+/// What is reached from the members of `from` inside `within`, where row v holds the vertices one step from v.
+///
+/// Each step joins the rows of all vertices that were new in the step before.
+pub fn reached(rows: &[u64; 64], from: VSet, within: VSet) -> VSet
+    ensures { (v : ℕ) → IsTrue (has result.bits v) ↔ Reached (has_in_row rows.now) (has from.bits) (has within.bits) v }
+{
+    let mut found = VSet::empty();
+    let mut front = from.intersection(within);
+    'steps: while !front.is_empty() {
+        found = found.union(front);
+        front = joined(rows, front).intersection(within).difference(found);
+    }
+    found
+}
