@@ -1,6 +1,6 @@
 // Names as lines.
 
-ghost use Rattle.std.specs.Prelude.{◌≡◌, ◌<◌, ◌++◌, [], ◌∷◌, ℕ, List, false, length, IfOk, OnOk, IfSome, IfNone, IsErrOf};
+ghost use Rattle.std.specs.Prelude.{◌≡◌, ◌<◌, ◌++◌, [], ◌∷◌, ℕ, List, false, length, position, IfOk, OnOk, OnSome, IfSome, IsNone, IsErrOf};
 ghost use Rattle.std.specs.List.{before_first, after_first, position_or_len};
 ghost use Rattle.mixed_graph.specs.Names.{AreNames, IsName, is_named};
 ghost use Rattle.kept_graph.specs.Kept.{lines_of};
@@ -30,14 +30,21 @@ pub fn lines(alloc: Global, names: &Names) -> Result<Vec<u8>, AllocError>
     Ok(text)
 }
 
+/// Where the first line feed stands.
+fn feed(bytes: &[u8]) -> Option<usize>
+    ensures { result ≡ position is_feed bytes.now }
+{
+    bytes.iter().position(|byte| *byte == b'\n')
+}
+
 /// What stands before the first line feed, and behind it.
 fn split_line(bytes: &[u8]) -> Option<(&[u8], &[u8])>
-    ensures found { IfSome result (λ p. position_or_len is_feed bytes.now < length bytes.now) }
+    ensures found { OnSome result (position_or_len is_feed bytes.now < length bytes.now) }
     ensures line { IfSome result (λ p. p.0.now ≡ before_first is_feed bytes.now) }
     ensures rest { IfSome result (λ p. p.1.now ≡ after_first is_feed bytes.now) }
-    ensures none { IfNone result (position_or_len is_feed bytes.now ≡ length bytes.now) }
+    ensures none { IsNone result → position_or_len is_feed bytes.now < length bytes.now → ⊥ }
 {
-    match bytes.iter().position(|byte| *byte == b'\n') {
+    match feed(bytes) {
         Some(at) => Some((&bytes[..at], &bytes[at + 1..])),
         None => None,
     }
@@ -73,7 +80,10 @@ pub fn names_on(alloc: Global, lines: &[u8], count: u32) -> Result<Names, NamesF
         }
         rest = after;
     }
-    if !rest.is_empty() || names.count() != count {
+    if !rest.is_empty() {
+        return Err(NamesFault::NotNames);
+    }
+    if names.count() != count {
         return Err(NamesFault::NotNames);
     }
     Ok(names)
