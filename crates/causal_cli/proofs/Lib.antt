@@ -1,8 +1,8 @@
-mod Definitions
+pub mod Definitions
 mod Deliveries
 mod ReadCounts
 mod NeverFails
-mod Answered
+pub mod Answered
 mod Readable
 mod OneCommand
 mod Spoken
