@@ -5,7 +5,7 @@ ghost use Rattle.std.specs.Prelude.{◌≡◌, ◌≤◌, ◌⊎◌, List, ℕ};
 ghost use Rattle.mixed_graph.specs.Bits.{has};
 ghost use Rattle.m_separation.specs.Walks.{IsSeparated, HasOpenWalk};
 ghost use Rattle.dag_reader.specs.declared.graph.ReadGraph.{ReadGraph};
-ghost use Rattle.kept_graph.specs.Kept.{AreAskable, IsKept, IsRefused, Keeps, graph_in};
+ghost use Rattle.kept_graph.specs.Kept.{AreAskable, IsKept, IsNoGraphText, Keeps, graph_in};
 ghost use Rattle.kept_call.specs.Asked.{Asked, HasKept};
 ghost use Rattle.spans.specs.Words.{AreTexts, IsNoText};
 ghost use Rattle.span_call.specs.Called.{Called, LacksInput, IsCutShort};
@@ -82,7 +82,7 @@ pub extern "C" fn causal_keep(
     size: &mut usize,
 ) -> u8
     ensures kept { result ≡ 0 → HasKept text.now kept.new names.old names.new size.new }
-    ensures refused { result ≡ 3 → IsRefused text.now }
+    ensures refused { result ≡ 3 → IsNoGraphText text.now }
     ensures known { (result ≡ 0) ⊎ ((result ≡ 3) ⊎ (result ≡ 8)) }
     ensures stays { 3 ≤ result → kept.new ≡ kept.old }
     ensures names_stay { 3 ≤ result → names.new ≡ names.old }

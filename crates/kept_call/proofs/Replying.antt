@@ -7,7 +7,7 @@ use Rattle.replies.specs.declared.outcome.Outcome.{Outcome}
 use Rattle.replies.specs.declared.outcome.Outcome.TheVariants.{Yes, No, Words, Graph, Second, Evaluation, Read, Write, Memory}
 use Rattle.replies.specs.declared.outcome.Reply.{Reply}
 use Rattle.replies.specs.Outcomes.{IsAnswered}
-use Rattle.replies.specs.Observed.{Holds}
+use Rattle.replies.specs.Observed.{HoldsGraph}
 use Rattle.causal_cli.specs.Commands.{Request, Asks}
 use Rattle.causal_cli.specs.Answers.{WordsAnswer, Defined, GivesOn, GivesFirst, IsLeftOf}
 use Rattle.causal_cli.specs.declared.answer.First.{First}
@@ -28,7 +28,7 @@ settled q Write text is a = absurd is
 settled q Memory text is a = absurd is
 
 -- what a request gives on a graph of the text
-pub given : (w : Request) (diagram : List ℕ) (g : ReadGraph) (f : First) → Holds diagram g → GivesOn w g f → GivesFirst w diagram f
+pub given : (w : Request) (diagram : List ℕ) (g : ReadGraph) (f : First) → HoldsGraph diagram g → GivesOn w g f → GivesFirst w diagram f
 given w diagram g f h a = defined_on {E = ℕ} w diagram g (Ok f) h.small h.reads a
 
 pub replied_words : (q : Question) (w : Request) (reply : Reply) → Asks q.words w → WordsAnswer w reply.outcome reply.text.items → RepliesWith q reply

@@ -4,7 +4,7 @@ ghost use Rattle.std.specs.Prelude.{◌≡◌, List, ℕ, IfOk, OnErr};
 ghost use Rattle.word_forms.specs.Form.{Text};
 ghost use Rattle.word_forms.specs.Views.{texts_of};
 ghost use Rattle.dag_reader.specs.declared.graph.ReadGraph.{ReadGraph as Read};
-ghost use Rattle.replies.specs.Observed.{Holds};
+ghost use Rattle.replies.specs.Observed.{HoldsGraph};
 ghost use Rattle.causal_cli.specs.Commands.{Asks, on_graph};
 ghost use Rattle.causal_cli.specs.Answers.{GivesSecond, IsAccepted};
 ghost use Rattle.kept_graph.specs.Kept.{IsKept, Keeps};
@@ -53,7 +53,7 @@ fn respond(
     bytes: &[u8],
     inputs: &[Input],
 ) -> Reply
-    ensures { (diagram : List ℕ) → Holds diagram graph → RepliesWith (question diagram (texts_of words.now) bytes.now inputs.now) result }
+    ensures { (diagram : List ℕ) → HoldsGraph diagram graph → RepliesWith (question diagram (texts_of words.now) bytes.now inputs.now) result }
 {
     match read_request(alloc, words) {
         Ok(Request::OnGraph(request)) => answer_graph(alloc, request, graph, bytes, inputs),
@@ -74,7 +74,7 @@ fn answer_graph(
     bytes: &[u8],
     inputs: &[Input],
 ) -> Reply
-    ensures { (words : List Text) → Asks words (on_graph request.entry) → (diagram : List ℕ) → Holds diagram graph
+    ensures { (words : List Text) → Asks words (on_graph request.entry) → (diagram : List ℕ) → HoldsGraph diagram graph
         → RepliesWith (question diagram words bytes.now inputs.now) result }
 {
     match answer_on(alloc, request, graph) {
@@ -99,11 +99,7 @@ fn proceed(alloc: Global, input: &SecondInput<'_>, bytes: &[u8], inputs: &[Input
 }
 
 /// The reply on the bytes of the second input.
-fn reply_on(
-    alloc: Global,
-    input: &SecondInput<'_>,
-    other: &[u8],
-) -> Result<Reply, AllocError>
+fn reply_on(alloc: Global, input: &SecondInput<'_>, other: &[u8]) -> Result<Reply, AllocError>
     requires { IsAccepted input.now }
     ensures { IfOk result (GivesSecond input.now other.now) }
 {

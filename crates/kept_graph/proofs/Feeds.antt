@@ -44,7 +44,7 @@ feed_behind name rest formed =
     let size = length-append name (10 ∷ rest) in
     position_or_len_is is_feed (name ++ 10 ∷ rest) (length name) 0 (omega (arith, size))
     (λ k below. ap is_feed (get_or_append_left name (10 ∷ rest) 0 k below)
-        ∙ no_feed (get_or name k 0) (All-get_or (λ b. is_line_byte b ≡ true) name k 0 below (AllPass-from_list_all is_line_byte name formed.line)))
+    ∙ no_feed (get_or name k 0) (All-get_or (λ b. is_line_byte b ≡ true) name k 0 below (AllPass-from_list_all is_line_byte name formed.line)))
     (λ below. ap is_feed (get_or-append_seam name 10 rest 0))
 
 before : (name rest : List ℕ) → IsName name → before_first is_feed (name ++ 10 ∷ rest) ≡ name
@@ -80,10 +80,10 @@ module _ (all names : List (List ℕ)) (rest : List ℕ) (are : AreNames all) wh
       differs : (i : ℕ) → i < length names → bytes_eq m (get_or names i []) ≡ false
       differs i below = elim (cases_Bool (bytes_eq m (get_or names i []))) [
         | inl t ↦
-          let size = length-append names (m ∷ ms) in
-          let distinct = subst (λ l. (i j : ℕ) (d : List ℕ) → i < j → j < length l → get_or l i d ≢ get_or l j d) e are.distinct in
-          let same : get_or names i [] ≡ m = sym ((bytes_eq-Decides m (get_or names i [])).0 t) in
-          absurd (distinct i (length names) [] below (omega (arith, size))
+            let size = length-append names (m ∷ ms) in
+            let distinct = subst (λ l. (i j : ℕ) (d : List ℕ) → i < j → j < length l → get_or l i d ≢ get_or l j d) e are.distinct in
+            let same : get_or names i [] ≡ m = sym ((bytes_eq-Decides m (get_or names i [])).0 t) in
+            absurd (distinct i (length names) [] below (omega (arith, size))
             (get_or_append_left names (m ∷ ms) [] i below ∙ same ∙ sym (get_or-append_seam names m ms [])))
         | inr f ↦ f
       ]
@@ -151,7 +151,7 @@ named_all lines names rest none e = e ∙ ap (λ r. lines_of names ++ r) none �
 pub no_place : (bytes : List ℕ) → position is_feed bytes ≡ None → position_or_len is_feed bytes < length bytes → ⊥
 no_place bytes none found =
     let some : position is_feed bytes ≡ Some (position_or_len is_feed bytes) =
-      ap (λ b. cond b (Some (position_or_len is_feed bytes)) None) (lt-ltb (position_or_len is_feed bytes) (length bytes) found) in
+    ap (λ b. cond b (Some (position_or_len is_feed bytes)) None) (lt-ltb (position_or_len is_feed bytes) (length bytes) found) in
     let e : ◌≡◌ {A = Option ℕ} None (Some (position_or_len is_feed bytes)) = sym none ∙ some in cc e
 
 pub place_of : (bytes : List ℕ) (at : ℕ) → position is_feed bytes ≡ Some at → (at ≡ position_or_len is_feed bytes) × (at < length bytes)

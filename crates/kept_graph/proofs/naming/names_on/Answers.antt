@@ -19,7 +19,7 @@ loop-line-preserved c =
     let line : c.in-Some.line.now ≡ before_first is_feed c.loop-line.rest.now = let a = c.in-Some.line-is in let b = c.in-Some.ensures.line in cc in
     let after : c.in-Some.after.now ≡ after_first is_feed c.loop-line.rest.now = let a = c.in-Some.after-is in let b = c.in-Some.ensures.rest in cc in
     let added : c.add_new.new.names ≡ c.loop-line.names ++ before_first is_feed c.loop-line.rest.now ∷ [] =
-      c.in_default-add_new.ensures.added ∙ ap (λ l. c.loop-line.names ++ l ∷ []) line in
+    c.in_default-add_new.ensures.added ∙ ap (λ l. c.loop-line.names ++ l ∷ []) line in
     record {
       named = named_more c.args.lines.now c.loop-line.names c.loop-line.rest.now c.in-Some.ensures.found c.loop-line.invariant.named
           ∙ ap (λ ns. lines_of ns ++ after_first is_feed c.loop-line.rest.now) (sym added) ∙ ap (λ r. lines_of c.add_new.new.names ++ r) (sym after);
