@@ -34,15 +34,20 @@ module _ (g : MixedGraph) (graph : IsMixedGraph g) (small : g.vertices ≤ 64) (
     where
       go : (b : Bool) → has roots n ≡ b → (k : ℕ) × ((v : ℕ) → v < n → has roots v ≡ true → leads k v ≡ true) → (k : ℕ) × ((v : ℕ) → v < suc n → has roots v ≡ true → leads k v ≡ true)
       go true i e =
-          let r = reaches g graph small x y roots reach n (root i) in
-          (e.0 + length r.path, λ v lt j. elim (cases_lt v n) [
-            | inl l ↦ leads_further outside_x (has y) heads e.0 (e.0 + length r.path) v (omega arith) (e.1 v l j)
-            | inr ge ↦ let q : n ≡ v = omega arith in subst (λ w. leads (e.0 + length r.path) w ≡ true) q (by_route outside_x (has y) heads (e.0 + length r.path) n r.path r.end r.leads r.inside (omega arith))
-          ])
-      go false o e = (e.0, λ v lt j. elim (cases_lt v n) [
-        | inl l ↦ e.1 v l j
-        | inr ge ↦ absurd (let q : v ≡ n = omega arith in clash (has roots n) (ap (has roots) (sym q) ∙ j) o)
-      ])
+          let r = reaches g graph small x y roots reach n (root i) in (
+            e.0 + length r.path,
+            λ v lt j. elim (cases_lt v n) [
+              | inl l ↦ leads_further outside_x (has y) heads e.0 (e.0 + length r.path) v (omega arith) (e.1 v l j)
+              | inr ge ↦ let q : n ≡ v = omega arith in subst (λ w. leads (e.0 + length r.path) w ≡ true) q (by_route outside_x (has y) heads (e.0 + length r.path) n r.path r.end r.leads r.inside (omega arith))
+            ],
+          )
+      go false o e = (
+        e.0,
+        λ v lt j. elim (cases_lt v n) [
+          | inl l ↦ e.1 v l j
+          | inr ge ↦ absurd (let q : v ≡ n = omega arith in clash (has roots n) (ap (has roots) (sym q) ∙ j) o)
+        ],
+      )
 
   abbrev most : ℕ
   most = (enough 64).0
