@@ -7,17 +7,17 @@ use Rattle.std.proofs.lemmas.List.FromFn.{get_or-map-range_with_len, length-map-
 use Rattle.mixed_graph.specs.Bits.{has, members_below}
 use Rattle.mixed_graph.specs.Graphs.{MixedGraph, IsMixedGraph}
 use Rattle.mixed_graph.proofs.Members.{length-members-le}
-use Rattle.finite_models.specs.declared.kinds.Cause.{Cause}
-use Rattle.finite_models.specs.declared.kinds.Model.{Model}
-use Rattle.finite_models.specs.declared.kinds.Part.{Part}
-use Rattle.finite_models.specs.declared.kinds.Mechanism.{Mechanism}
-use Rattle.finite_models.specs.declared.kinds.Mechanism.TheVariants.{Parity}
+use Rattle.finite_models.specs.declared.model.Cause.{Cause}
+use Rattle.finite_models.specs.declared.model.Model.{Model}
+use Rattle.finite_models.specs.declared.model.Part.{Part}
+use Rattle.finite_models.specs.declared.model.Mechanism.{Mechanism}
+use Rattle.finite_models.specs.declared.model.Mechanism.TheVariants.{Parity}
 use Rattle.hedge.specs.Hedges.{size_of, IsHedge}
-use Rattle.hedge.specs.declared.kinds.Hedge.{Hedge}
+use Rattle.hedge.specs.declared.hedge.Hedge.{Hedge}
 use Rattle.districts.specs.declared.lists.Choice.{Choice}
 use Rattle.counter_models.specs.Kept.{AreKept}
 use Rattle.counter_models.specs.Pairs.{links_of, joins, before, HasLowLinks, small_cause, kept_cause, IsCauseAt, AreCauses, link_causes, IsHedgePart, IsCarriedPart, IsPartWhere, IsMechanismOf, size_at, IsModelOf, in_first, in_second, IsPairOf}
-use Rattle.counter_models.specs.declared.kinds.CounterPair.{CounterPair}
+use Rattle.counter_models.specs.declared.counter_pair.CounterPair.{CounterPair}
 use Rattle.counter_models.proofs.Carried.{kept_mask, carry_list, carry_low, are_carried}
 use Rattle.counter_models.proofs.Counted.{numbered}
 use Rattle.counter_models.proofs.Lists.{before-less, low_links}
