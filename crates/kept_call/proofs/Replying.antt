@@ -1,19 +1,13 @@
 -- From what a request gives to what is replied.
-use Rattle.std.proofs.Common.{◌≡◌, ℕ, List, Ok, sym, subst}
-use Rattle.std.specs.Prelude.{IfOk}
-use Rattle.word_forms.specs.Form.{Text}
-use Rattle.dag_reader.specs.declared.graph.ReadGraph.{ReadGraph}
+use Rattle.std.proofs.Common.{◌≡◌, ℕ, List, sym, subst}
 use Rattle.replies.specs.declared.outcome.Outcome.{Outcome}
 use Rattle.replies.specs.declared.outcome.Outcome.TheVariants.{Yes, No, Words, Graph, Second, Evaluation, Read, Write, Memory}
 use Rattle.replies.specs.declared.outcome.Reply.{Reply}
 use Rattle.replies.specs.Outcomes.{IsAnswered}
-use Rattle.replies.specs.Observed.{HoldsGraph}
 use Rattle.causal_cli.specs.Commands.{Request, Asks}
-use Rattle.causal_cli.specs.Answers.{WordsAnswer, Defined, GivesOn, GivesFirst, IsLeftOf}
-use Rattle.causal_cli.specs.declared.answer.First.{First}
+use Rattle.causal_cli.specs.Answers.{WordsAnswer, Defined, IsLeftOf}
 use Rattle.causal_cli.specs.declared.answer.SecondInput.{SecondInput}
 use Rattle.causal_cli.proofs.Answered.{words_answered, defined_answered, gives_answered, named, continues, defined_with}
-use Rattle.causal_cli.proofs.Definitions.{defined_on}
 use Rattle.kept_call.specs.Replies.{Question, Answers, by_words, by_diagram, by_both, Replies, RepliesWith, Proceeds, replied, lacked, no_memory}
 
 settled : (q : Question) (o : Outcome) (text : List ℕ) → IsAnswered o → Answers q o text → Replies q o text
@@ -26,10 +20,6 @@ settled q Words text is a = absurd is
 settled q Read text is a = absurd is
 settled q Write text is a = absurd is
 settled q Memory text is a = absurd is
-
--- what a request gives on a graph of the text
-pub given : (w : Request) (diagram : List ℕ) (g : ReadGraph) (f : First) → HoldsGraph diagram g → GivesOn w g f → GivesFirst w diagram f
-given w diagram g f h a = defined_on {E = ℕ} w diagram g (Ok f) h.small h.reads a
 
 pub replied_words : (q : Question) (w : Request) (reply : Reply) → Asks q.words w → WordsAnswer w reply.outcome reply.text.items → RepliesWith q reply
 replied_words q w reply asks a =
