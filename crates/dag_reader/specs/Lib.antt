@@ -17,3 +17,4 @@ pub mod Reads
 pub mod Builds
 pub mod Written
 pub mod RoundTrip
+pub mod Links

@@ -4,6 +4,7 @@
 #![tactic(auto)]
 
 mod building;
+mod bytes;
 mod edges;
 mod faults;
 mod grammar;

@@ -1,12 +1,32 @@
-ghost use Rattle.std.specs.Prelude.{◌≡◌, true};
+ghost use Rattle.std.specs.Prelude.{◌≡◌, ◌<◌, true, false, length, IfSome, IfNone};
 ghost use Rattle.std.specs.Str.{is_utf8};
+ghost use Rattle.dag_reader.specs.Links.{IsLink, begins_statement};
+ghost use Rattle.dag_reader.specs.PlaceView.{place_view};
 ghost use Rattle.dag_reader.specs.Turns.{ReadsStatements};
 
 use crate::faults::ReadError;
-use crate::grammar::Place;
+use crate::grammar::{Place, begins_statement};
 use crate::said::Statements;
 use crate::tokens::Lexer;
+use crate::words::Link;
 use std::alloc::Global;
+
+/// The edge between two bare names that comes next, where a statement may begin. Where there is none, nothing is taken.
+#[inline(always)]
+fn next_link<'a>(lexer: &mut Lexer<'a>, place: Place<'a>) -> Option<Link<'a>>
+    ensures place { IfSome result (λ _. begins_statement (place_view place.entry) ≡ true) }
+    ensures link { IfSome result (λ l. IsLink lexer.old.rest.now l.left.bytes.now l.arrow l.right.bytes.now lexer.new.rest.now) }
+    ensures none { IfNone result (lexer.new.rest.now ≡ lexer.old.rest.now) }
+    ensures size { lexer.new.size ≡ lexer.old.size }
+    ensures due { lexer.new.value_due ≡ lexer.old.value_due }
+    ensures not_due { IfSome result (λ _. lexer.old.value_due ≡ false) }
+    ensures shorter { IfSome result (λ _. length lexer.new.rest.now < length lexer.old.rest.now) }
+{
+    if !begins_statement(place) {
+        return None;
+    }
+    lexer.link()
+}
 
 /// What a text says, from left to right.
 pub fn read_statements<'a>(alloc: Global, text: &'a [u8]) -> Result<Statements, ReadError<'a>>
@@ -17,10 +37,18 @@ pub fn read_statements<'a>(alloc: Global, text: &'a [u8]) -> Result<Statements, 
     let mut place = Place::Start;
     let mut said = Statements::empty(alloc);
     loop {
-        let (at, token) = lexer.next();
-        match said.step(place, at, token)? {
-            Some(after) => place = after,
-            None => return Ok(said),
+        match next_link(&mut lexer, place) {
+            Some(link) => {
+                said.link(place, link.left, link.arrow)?;
+                place = Place::ChainName(link.right);
+            }
+            None => {
+                let (at, token) = lexer.next();
+                match said.step(place, at, token)? {
+                    Some(after) => place = after,
+                    None => return Ok(said),
+                }
+            }
         }
     }
 }
