@@ -36,7 +36,7 @@ pub fn read_statements<'a>(alloc: Global, text: &'a [u8]) -> Result<Statements, 
     let mut lexer = Lexer::new(text);
     let mut place = Place::Start;
     let mut said = Statements::empty(alloc);
-    loop {
+    'turns: loop {
         match next_link(&mut lexer, place) {
             Some(link) => {
                 said.link(place, link.left, link.arrow)?;

@@ -10,7 +10,7 @@ use Rattle.latent_projection.proofs.dropping.observed_names.Goals as goal
 use Rattle.latent_projection.proofs.dropping.observed_names.Goals.{then-not-has+in_ok-put, else-not-has}
 
 pub loop-v-init : goal.loop-v-init
-loop-v-init c = c.empty-kept.ensures.members ∙ sym (names_at-none (λ v. not (has c.args.latent.bits v)) c.args.names.now)
+loop-v-init c = c.empty-kept.ensures ∙ sym (names_at-none (λ v. not (has c.args.latent.bits v)) c.args.names.now)
 
 pub put-requires-clause-new : goal.put-requires-clause-new
 put-requires-clause-new c =
