@@ -70,10 +70,7 @@ fn connect(rows: &mut [u64; 64], from: VSet, to: VSet)
     let mut rest = from;
     'members: while !rest.is_empty() {
         let v = rest.lowest();
-        let row = VSet {
-            bits: rows[v as usize],
-        };
-        rows[v as usize] = row.union(to).bits;
+        rows[v as usize] = VSet::row(rows, v).union(to).bits;
         rest = rest.difference(VSet::one(v));
     }
 }
@@ -120,12 +117,8 @@ pub fn has_loop(edges: &Edges) -> bool
     ensures { result ≡ false → (v : ℕ) → (row_has edges.now.arrows v v ≡ false) × (row_has edges.now.doubles v v ≡ false) }
 {
     for v in 0..64u8 {
-        let row = VSet {
-            bits: edges.arrows[v as usize],
-        };
-        let both = VSet {
-            bits: edges.doubles[v as usize],
-        };
+        let row = VSet::row(&edges.arrows, v);
+        let both = VSet::row(&edges.doubles, v);
         if row.union(both).has(v) {
             return true;
         }
@@ -154,9 +147,7 @@ pub fn pairs_below(alloc: Global, n: u32, rows: &[u64; 64]) -> Result<Vec<(u8, u
     let below = VSet::below(n);
     let mut out = Vec::new(alloc);
     for a in 0..n {
-        let row = VSet {
-            bits: rows[a as usize],
-        };
+        let row = VSet::row(rows, a as u8);
         push_row(&mut out, a as u8, row.intersection(below))?;
     }
     Ok(out)

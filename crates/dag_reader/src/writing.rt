@@ -105,11 +105,9 @@ fn above(rows: &[u64; 64]) -> [u64; 64]
 {
     let mut out = [0u64; 64];
     for v in 0..64u8 {
-        out[v as usize] = VSet {
-            bits: rows[v as usize],
-        }
-        .difference(VSet::below(v as u32 + 1))
-        .bits;
+        out[v as usize] = VSet::row(rows, v)
+            .difference(VSet::below(v as u32 + 1))
+            .bits;
     }
     out
 }

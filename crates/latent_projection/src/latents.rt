@@ -48,15 +48,11 @@ fn arrows_past(rows: &[u64; 64], k: u8) -> [u64; 64]
         ≡ (not (a == k) && (not (b == k) && (has (slice_index rows.now a) b
         || (has (slice_index rows.now a) k && has (slice_index rows.now k) b)))) }
 {
-    let next = VSet {
-        bits: rows[k as usize],
-    };
+    let next = VSet::row(rows, k);
     let gone = VSet::one(k);
     let mut out = [0u64; 64];
     for v in 0..64u8 {
-        let row = VSet {
-            bits: rows[v as usize],
-        };
+        let row = VSet::row(rows, v);
         out[v as usize] = row
             .union(next.only_if(row.has(k)))
             .difference(gone)
@@ -72,17 +68,11 @@ fn spouses_past(g: &Graph, k: u8) -> [u64; 64]
     ensures { (a b : ℕ) → has (slice_index result a) b ≡ (without (graph_of g.now) k).both a b }
 {
     let gone = VSet::one(k);
-    let children = VSet {
-        bits: g.children[k as usize],
-    };
-    let headed = children.union(VSet {
-        bits: g.spouses[k as usize],
-    });
+    let children = g.children(k);
+    let headed = children.union(g.spouses(k));
     let mut out = [0u64; 64];
     for v in 0..64u8 {
-        let row = VSet {
-            bits: g.spouses[v as usize],
-        };
+        let row = g.spouses(v);
         let past = headed
             .only_if(children.has(v))
             .union(children.only_if(row.has(k)));

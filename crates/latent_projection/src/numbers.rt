@@ -41,10 +41,7 @@ fn observed_rows(latent: VSet, n: u32, rows: &[u64; 64]) -> [u64; 64]
     let mut place = 0usize;
     for v in 0..n as u8 {
         if !latent.has(v) {
-            let row = VSet {
-                bits: rows[v as usize],
-            };
-            out[place] = renumber(latent, n, row).bits;
+            out[place] = renumber(latent, n, VSet::row(rows, v)).bits;
             place += 1;
         }
     }

@@ -12,6 +12,8 @@ loop-v-preserved c = row_more _ _ _ _ (omega arith) (λ b.
     let p = c.only_if-in-loop-v-2.ensures b in let q = c.difference.ensures.members b in let r = c.union.ensures.members b in let s = c.union-in-loop-v.ensures.members b in
     let t = c.one-gone.ensures.members b in let u = c.one.ensures.members b in let past = c.union-past.ensures.members b in let head = c.only_if.ensures b in let kids = c.only_if-in-loop-v.ensures b in
     let headed = c.union-headed.ensures.members b in let h = c.has.ensures in let h' = c.has-in-loop-v.ensures in
+    let child = c.children-children.ensures.members b in let at = c.children-children.ensures.members c.loop-v.v in let spouse = c.spouses.ensures.members b in
+    let row = c.spouses-row.ensures.members b in let through = c.spouses-row.ensures.members c.args.k in
     elim (cases_eq b c.loop-v.v) [
       | inl e ↦
           let x : (b == c.loop-v.v) ≡ true = eq-eqb b c.loop-v.v e in let y : (c.loop-v.v == b) ≡ true = eq-eqb c.loop-v.v b (sym e) in
