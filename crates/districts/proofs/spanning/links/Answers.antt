@@ -30,7 +30,7 @@ next-init c = (
 
 link : (c : After-lowest-v) → IsNextLink (graph_of c.args.g.now) (has c.args.small.bits) (has c.args.big.bits) (has c.next.taken.bits) c.lowest-v.result
 link c = next_link (graph_of c.args.g.now) c.args.g.now.valid c.args.small.bits c.args.big.bits c.next.found c.next.partner c.next.count c.next.taken.bits c.next.near.bits c.next.invariant.0
-    c.wanted.result.bits c.intersection.result.bits c.lowest-v.result c.wanted.ensures c.intersection.ensures c.lowest-v.ensures.member c.lowest-v.ensures.least
+    c.wanted.result.bits c.intersection.result.bits c.lowest-v.result c.wanted.ensures c.intersection.ensures.members c.lowest-v.ensures.member c.lowest-v.ensures.least
 
 room : (c : After-lowest-v) → c.next.count < 64
 room c = growing_room (graph_of c.args.g.now) c.args.g.now.valid c.args.small.bits c.args.big.bits c.next.found c.next.partner c.next.count c.next.taken.bits c.next.near.bits c.next.invariant.0
@@ -39,7 +39,7 @@ room c = growing_room (graph_of c.args.g.now) c.args.g.now.valid c.args.small.bi
 pub lowest-v-requires : goal.lowest-v-requires
 lowest-v-requires c =
     wanted_some (graph_of c.args.g.now) c.args.g.now.valid c.args.small.bits c.args.big.bits c.next.found c.next.partner c.next.count c.next.taken.bits c.next.near.bits c.next.invariant.0
-    c.wanted.result.bits c.intersection.result.bits c.requires.inside c.requires.small_joined c.requires.big_joined c.wanted.ensures c.intersection.ensures
+    c.wanted.result.bits c.intersection.result.bits c.requires.inside c.requires.small_joined c.requires.big_joined c.wanted.ensures c.intersection.ensures.members
     (let m = some_member c.difference.result.bits (λ z. absurd (let t = c.is_empty.ensures.none.1 z in let f = c.next-test.true in cc)) (omega arith) in
     let p = and_parts _ _ (sym (c.difference.ensures.members m.0) ∙ m.1) in (m.0, p.0, not_true _ p.1))
 
