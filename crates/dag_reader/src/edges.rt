@@ -7,7 +7,7 @@ ghost use Rattle.dag_reader.specs.Passes.{Edge, members, self_loop, arrows_of, d
 ghost use Rattle.dag_reader.specs.Rows.{row_has, pairs_below};
 
 use crate::marks::{Arrow, Mark};
-use mixed_graph::VSet;
+use mixed_graph::{Rows, VSet};
 use std::alloc::{AllocError, Global};
 
 /// The members of the group at the front.
@@ -64,7 +64,7 @@ pub fn self_loop(alloc: Global, marks: &[Mark]) -> Result<Option<u8>, AllocError
 }
 
 /// Joins each member of one set to each of another.
-fn connect(rows: &mut [u64; 64], from: VSet, to: VSet)
+fn connect(rows: &mut Rows, from: VSet, to: VSet)
     ensures { (a b : ℕ) → row_has rows.new a b ≡ (row_has rows.old a b || (has from.bits a && has to.bits b)) }
 {
     let mut rest = from;
@@ -78,8 +78,8 @@ fn connect(rows: &mut [u64; 64], from: VSet, to: VSet)
 /// The edges of each kind: row a holds each b with a -> b, or with a <-> b as it is written from the left.
 #[derive(Clone, Copy)]
 pub struct Edges {
-    pub arrows: [u64; 64],
-    pub doubles: [u64; 64],
+    pub arrows: Rows,
+    pub doubles: Rows,
 }
 
 /// The edges that the marks say.
@@ -140,7 +140,7 @@ fn push_row(out: &mut Vec<(u8, u8)>, a: u8, row: VSet) -> Result<(), AllocError>
 }
 
 /// The pairs of the rows, sorted.
-pub fn pairs_below(alloc: Global, n: u32, rows: &[u64; 64]) -> Result<Vec<(u8, u8)>, AllocError>
+pub fn pairs_below(alloc: Global, n: u32, rows: &Rows) -> Result<Vec<(u8, u8)>, AllocError>
     requires { n ≤ 64 }
     ensures { IfOk result (λ pairs. pairs.items ≡ pairs_below n (row_has rows.now)) }
 {
