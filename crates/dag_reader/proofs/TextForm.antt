@@ -74,6 +74,10 @@ behind_first bs utf8 some low =
     subst (λ (l : List ℕ). is_utf8 l ≡ true) (sym (take_rest bs 1))
     (cut_at bs (0 + 1) utf8 (IsCharBoundary-after_ascii bs 0 (IsUtf8-from_is_utf8 bs utf8) (omega arith) low)).1
 
+-- the bytes behind a byte below 128 are a text
+pub behind_byte : (b : ℕ) (bs : List ℕ) → b < 128 → is_utf8 (b ∷ bs) ≡ true → is_utf8 bs ≡ true
+behind_byte b bs low utf8 = (cut_at (b ∷ bs) (0 + 1) utf8 (IsCharBoundary-after_ascii (b ∷ bs) 0 (IsUtf8-from_is_utf8 (b ∷ bs) utf8) (omega arith) low)).1
+
 -- ---- names
 
 line_byte : (w e s q r n : Bool) → not (w || e || s || q) ≡ true → (w ≡ false → (r ≡ false) × (n ≡ false)) → not (q || r || n) ≡ true

@@ -1,9 +1,22 @@
 -- Edges between two bare names, read as a whole.
-use Rattle.std.specs.Prelude.{◌≡◌, ℕ, Bool, true, false, List, [], ◌∷◌, Result, Ok}
+use Rattle.std.specs.Prelude.{◌≡◌, ℕ, Bool, true, false, not, List, [], ◌∷◌, codes, Result, Ok}
+use Rattle.name_text.specs.Printing.{is_edge_byte}
 use Rattle.dag_reader.specs.declared.marks.Arrow.{Arrow}
+use Rattle.dag_reader.specs.declared.marks.Arrow.TheVariants.{Right, Left, Both}
 use Rattle.dag_reader.specs.declared.marks.Mark.TheVariants.{Begins, Joined}
 use Rattle.dag_reader.specs.Tokens.{edge, name, first}
 use Rattle.dag_reader.specs.Grammar.{Fault, ◌>>=◌, Said, Place, at_statement, after_name, chain_name, after_group, with_marks, with_vertex, settled}
+
+-- an edge as it is written
+abbrev pub sign_of : Arrow → List ℕ
+sign_of Right = codes "->"
+sign_of Left = codes "<-"
+sign_of Both = codes "<->"
+
+-- no byte of an edge is at the front
+abbrev pub ends_edge : List ℕ → Bool
+ends_edge [] = true
+ends_edge (b ∷ bs) = not (is_edge_byte b)
 
 -- the first three tokens are a bare name, an edge and a bare name, and `rest` follows them
 pub record IsLink (bytes left : List ℕ) (a : Arrow) (right rest : List ℕ) : Type 0 where

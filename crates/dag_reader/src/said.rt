@@ -97,6 +97,7 @@ impl Statements {
     }
 
     /// What the name before a token is, which the token settles.
+    #[inline(always)]
     fn settle<'a>(&mut self, place: Place<'a>, token: Token<'a>) -> Result<(), ReadError<'a>>
         ensures { Leaves (settled (place_view place.entry) (view token.entry) (said_by self.old)) (said_by self.new) result }
     {

@@ -1,4 +1,4 @@
-ghost use Rattle.std.specs.Prelude.{◌≡◌, ◌≢◌, ◌<◌, ◌≤◌, ◌-◌, ◌+◌, List, ℕ, [], ◌∷◌, Some, None, IsTrue, true, false, length, take, drop, IfOk, IfSome, IfNone, option_map};
+ghost use Rattle.std.specs.Prelude.{◌≡◌, ◌≢◌, ◌<◌, ◌≤◌, ◌-◌, ◌+◌, ◌++◌, List, ℕ, [], ◌∷◌, Some, None, IsTrue, true, false, length, take, drop, IfOk, IfSome, IfNone, option_map};
 ghost use Rattle.std.specs.List.{prefix_len, list_all};
 ghost use Rattle.std.specs.Str.{is_utf8};
 ghost use Rattle.mixed_graph.specs.Names.{IsName};
@@ -8,7 +8,7 @@ ghost use Rattle.mixed_graph.specs.Names.{is_line_byte};
 ghost use Rattle.dag_reader.specs.Tokens.{Tok, end, edge, name, edge_token, name_token, quoted_name_token, sign_token, quoted_text, token_at, value_at, token_of, past_white, first, place_of, wants_value};
 ghost use Rattle.dag_reader.specs.Views.{view};
 ghost use Rattle.dag_reader.specs.Grammar.{is_end};
-ghost use Rattle.dag_reader.specs.Links.{IsLink};
+ghost use Rattle.dag_reader.specs.Links.{IsLink, sign_of, ends_edge};
 
 use crate::bytes::{is_edge_byte, is_name_byte, is_white};
 use crate::marks::Arrow;
@@ -236,7 +236,7 @@ fn token_of(value_due: bool, bytes: &[u8]) -> (Token<'_>, &[u8])
     token_at(*byte, rest, bytes)
 }
 
-/// The bare name at the front, behind white space, and what follows it.
+/// The bare name at the front, behind white space, and what follows it; none of those that may look like a comment.
 #[inline(always)]
 fn name_first(bytes: &[u8]) -> Option<(Word<'_>, &[u8])>
     requires { is_utf8 bytes.now ≡ true }
@@ -245,13 +245,16 @@ fn name_first(bytes: &[u8]) -> Option<(Word<'_>, &[u8])>
     ensures after { IfSome result (λ p. is_utf8 p.1.now ≡ true) }
 {
     let (run, rest) = split_run(Class::Name, past_white(bytes));
-    if run.is_empty() {
+    let [byte, ..] = run else {
+        return None;
+    };
+    if *byte == b'/' {
         return None;
     }
-    match bare_name(run) {
-        Token::Name(_, word) => Some((word, rest)),
-        _ => None,
+    if *byte == b'#' {
+        return None;
     }
+    Some((Word { bytes: run }, rest))
 }
 
 /// The edge at the front, behind white space, and what follows it.
@@ -262,10 +265,35 @@ fn edge_first(bytes: &[u8]) -> Option<(Arrow, &[u8])>
     ensures kept { IfSome result (λ p. length p.1.now ≤ length bytes.now) }
     ensures after { IfSome result (λ p. is_utf8 p.1.now ≡ true) }
 {
-    let (run, rest) = split_run(Class::Edge, past_white(bytes));
-    match edge(run) {
-        Token::Edge(arrow) => Some((arrow, rest)),
+    let (arrow, rest) = arrow_at(past_white(bytes))?;
+    if ends_edge(rest) {
+        return Some((arrow, rest));
+    }
+    None
+}
+
+/// The arrow at the front, which may go on, and what follows it.
+#[inline(always)]
+fn arrow_at(bytes: &[u8]) -> Option<(Arrow, &[u8])>
+    ensures arrow { IfSome result (λ p. bytes.now ≡ sign_of p.0 ++ p.1.now) }
+    ensures kept { IfSome result (λ p. length p.1.now ≤ length bytes.now) }
+{
+    match bytes {
+        [b'-', b'>', rest @ ..] => Some((Arrow::Right, rest)),
+        [b'<', b'-', b'>', rest @ ..] => Some((Arrow::Both, rest)),
+        [b'<', b'-', rest @ ..] => Some((Arrow::Left, rest)),
         _ => None,
+    }
+}
+
+/// Whether no byte of an edge is at the front.
+#[inline(always)]
+fn ends_edge(bytes: &[u8]) -> bool
+    ensures { result ≡ ends_edge bytes.now }
+{
+    match bytes {
+        [byte, ..] => !is_edge_byte(*byte),
+        [] => true,
     }
 }
 

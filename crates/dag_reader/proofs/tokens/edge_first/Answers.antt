@@ -1,10 +1,13 @@
-use Rattle.std.proofs.Common.{◌∙◌, ap, sym}
-use Rattle.std.specs.Prelude.{take, drop}
-use Rattle.std.specs.List.{prefix_len}
-use Rattle.name_text.specs.Printing.{is_edge_byte}
-use Rattle.dag_reader.proofs.Fronts.{edge_here}
+use Rattle.std.proofs.Common.{◌≡◌, ℕ, true, List, sym, subst, ◌∙◌}
+use Rattle.std.specs.Str.{is_utf8}
+use Rattle.dag_reader.proofs.Fronts.{edge_here, behind_sign}
 use Rattle.dag_reader.proofs.tokens.edge_first.Goals as goal
 
-pub returns-in-Edge-clause-token : goal.returns-in-Edge-clause-token
-returns-in-Edge-clause-token c =
-    edge_here c.args.bytes.now c.past_white.result.now c.split_run.result.0.now c.split_run.result.1.now c.in-Edge.arrow c.past_white.ensures.rest c.split_run.ensures.run c.split_run.ensures.rest c.in-Edge.ensures
+pub returns-then-ends_edge-clause-token : goal.returns-then-ends_edge-clause-token
+returns-then-ends_edge-clause-token c =
+    edge_here c.args.bytes.now c.past_white.result.now c.in_ok-arrow.rest.now c.in_ok-arrow.arrow c.past_white.ensures.rest c.in_ok-arrow.ensures.arrow
+    (sym c.ends_edge.ensures ∙ c.if-ends_edge.true)
+
+pub returns-then-ends_edge-clause-after : goal.returns-then-ends_edge-clause-after
+returns-then-ends_edge-clause-after c =
+    behind_sign c.in_ok-arrow.arrow c.in_ok-arrow.rest.now (subst (λ (l : List ℕ). is_utf8 l ≡ true) c.in_ok-arrow.ensures.arrow c.past_white.ensures.text)
