@@ -3,9 +3,9 @@ use Rattle.std.specs.Prelude.{◌≡◌, ℕ, Bool, true, false, not, List, [], 
 use Rattle.name_text.specs.Printing.{is_edge_byte}
 use Rattle.dag_reader.specs.declared.marks.Arrow.{Arrow}
 use Rattle.dag_reader.specs.declared.marks.Arrow.TheVariants.{Right, Left, Both}
-use Rattle.dag_reader.specs.declared.marks.Mark.TheVariants.{Begins, Joined}
+use Rattle.dag_reader.specs.declared.marks.Remark.TheVariants.{Begins, Joined}
 use Rattle.dag_reader.specs.Tokens.{edge, name, first}
-use Rattle.dag_reader.specs.Grammar.{Fault, ◌>>=◌, Said, Place, at_statement, after_name, chain_name, after_group, with_marks, with_vertex, settled}
+use Rattle.dag_reader.specs.Grammar.{Fault, ◌>>=◌, Said, Position, at_statement, after_name, chain_name, after_group, with_marks, with_vertex, settled}
 
 -- an edge as it is written
 abbrev pub sign_of : Arrow → List ℕ
@@ -27,7 +27,7 @@ pub record IsLink (bytes left : List ℕ) (a : Arrow) (right rest : List ℕ) : 
   pub right_first : first false behind_edge ≡ (name false right, rest)
 
 -- whether a name that comes here begins a statement
-abbrev pub begins_statement : Place → Bool
+abbrev pub begins_statement : Position → Bool
 begins_statement at_statement = true
 begins_statement (after_name n) = true
 begins_statement (chain_name n) = true
@@ -35,7 +35,7 @@ begins_statement after_group = true
 begins_statement p = false
 
 -- what a name that begins a statement and the edge behind it say
-abbrev pub with_link : Place → List ℕ → Arrow → Said → Result Said Fault
+abbrev pub with_link : Position → List ℕ → Arrow → Said → Result Said Fault
 with_link p left a s =
     settled p (name false left) s
     >>= (λ u. with_vertex left (with_marks (Begins ∷ []) u) >>= (λ v. Ok (with_marks (Joined a ∷ []) v)))

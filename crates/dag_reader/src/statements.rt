@@ -4,8 +4,8 @@ ghost use Rattle.dag_reader.specs.Links.{IsLink, begins_statement};
 ghost use Rattle.dag_reader.specs.PlaceView.{place_view};
 ghost use Rattle.dag_reader.specs.Turns.{ReadsStatements};
 
-use crate::faults::ReadError;
-use crate::grammar::{Place, begins_statement};
+use crate::faults::ReadFault;
+use crate::grammar::{Position, begins_statement};
 use crate::said::Statements;
 use crate::tokens::Lexer;
 use crate::words::Link;
@@ -13,7 +13,7 @@ use std::alloc::Global;
 
 /// The edge between two bare names that comes next, where a statement may begin. Where there is none, nothing is taken.
 #[inline(always)]
-fn next_link<'a>(lexer: &mut Lexer<'a>, place: Place<'a>) -> Option<Link<'a>>
+fn next_link<'a>(lexer: &mut Lexer<'a>, place: Position<'a>) -> Option<Link<'a>>
     ensures place { IfSome result (λ _. begins_statement (place_view place.entry) ≡ true) }
     ensures link { IfSome result (λ l. IsLink lexer.old.rest.now l.left.bytes.now l.arrow l.right.bytes.now lexer.new.rest.now) }
     ensures none { IfNone result (lexer.new.rest.now ≡ lexer.old.rest.now) }
@@ -29,18 +29,18 @@ fn next_link<'a>(lexer: &mut Lexer<'a>, place: Place<'a>) -> Option<Link<'a>>
 }
 
 /// What a text says, from left to right.
-pub fn read_statements<'a>(alloc: Global, text: &'a [u8]) -> Result<Statements, ReadError<'a>>
+pub fn read_statements<'a>(alloc: Global, text: &'a [u8]) -> Result<Statements, ReadFault<'a>>
     requires { is_utf8 text.now ≡ true }
     ensures { ReadsStatements text.now result }
 {
     let mut lexer = Lexer::new(text);
-    let mut place = Place::Start;
+    let mut place = Position::Start;
     let mut said = Statements::empty(alloc);
     'turns: loop {
         match next_link(&mut lexer, place) {
             Some(link) => {
                 said.link(place, link.left, link.arrow)?;
-                place = Place::ChainName(link.right);
+                place = Position::ChainName(link.right);
             }
             None => {
                 let (at, token) = lexer.next();
