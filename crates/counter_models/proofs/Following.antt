@@ -5,7 +5,7 @@ use Rattle.mixed_graph.specs.Bits.{has}
 use Rattle.mixed_graph.specs.Graphs.{MixedGraph, IsDirectedPath}
 use Rattle.mixed_graph.proofs.Searches.{Searching}
 use Rattle.counter_models.specs.Kept.{IsChosenFrom}
-use Rattle.counter_models.specs.Kept.IsReached.{at, by}
+use Rattle.counter_models.specs.Kept.IsChosenFrom.{at, by}
 
 -- u -> v where v chose u
 abbrev pub choosing : List ℕ → MixedGraph

@@ -6,6 +6,7 @@
 mod building;
 mod bytes;
 mod edges;
+mod fault_text;
 mod faults;
 mod grammar;
 mod graph;
