@@ -107,12 +107,12 @@ pub defined_with : (w : Request) (bytes : List ℕ) (p : SecondInput) (other : L
 defined_with w bytes p other reply is gives = (is.0, is.1, needed w is.0 p is.2, second_answer w is.0 p other reply is.2 gives)
 
 -- what is kept is accepted, where something is left
+pub accepted_on : (w : Request) (g : ReadGraph) (p : SecondInput) → IsLeft w g p → IsAccepted p
+accepted_on (command.Check, q) g (input.Check kept certificate) is = tt
+accepted_on (command.Evaluate, q) g (input.Evaluate found counts count exact) is = is.3.identified
+accepted_on (command.Equivalent, q) g (input.Equivalent kept s second) is = (q.query, subst (λ k. IsFirstAccepted k q.query s) (sym is.1) is.2)
+accepted_on (command.Implications, q) g (input.Implications pairs counts count) is = is.2.pairs
+accepted_on w g p is = absurd is
+
 pub accepted : (w : Request) (bytes : List ℕ) (p : SecondInput) → IsLeftOf w bytes p → IsAccepted p
 accepted w bytes p is = accepted_on w is.0 p is.2
-  where
-    accepted_on : (w : Request) (g : ReadGraph) (p : SecondInput) → IsLeft w g p → IsAccepted p
-    accepted_on (command.Check, q) g (input.Check kept certificate) is = tt
-    accepted_on (command.Evaluate, q) g (input.Evaluate found counts count exact) is = is.3.identified
-    accepted_on (command.Equivalent, q) g (input.Equivalent kept s second) is = (q.query, subst (λ k. IsFirstAccepted k q.query s) (sym is.1) is.2)
-    accepted_on (command.Implications, q) g (input.Implications pairs counts count) is = is.2.pairs
-    accepted_on w g p is = absurd is
