@@ -19,6 +19,7 @@ pub record Question : Type 0 where
   pub bytes : List ℕ
   pub inputs : List Input
 
+-- the question of these parts
 abbrev pub question : (diagram : List ℕ) (words : List Text) (bytes : List ℕ) (inputs : List Input) → Question
 question diagram words bytes inputs = record { diagram = diagram; words = words; bytes = bytes; inputs = inputs }
 
