@@ -1,0 +1,38 @@
+-- The command's words ask for one request, and its answers have one outcome.
+use Rattle.std.proofs.Common.{◌≡◌, Bool, List, Option, Some, refl, sym, ap, ◌∙◌}
+use Rattle.std.specs.Prelude.{codes}
+use Rattle.std.proofs.lemmas.Option.{same_Some}
+use Rattle.word_forms.specs.Form.{Text, Use, value_of}
+use Rattle.request_values.proofs.OneValue.{one_listed}
+use Rattle.replies.specs.Observed.{Names}
+use Rattle.dag_reader.specs.declared.graph.ReadGraph.{ReadGraph}
+use Rattle.replies.specs.Command.{IsLeft}
+use Rattle.replies.proofs.Commands.{IsLawful, lawful_on_two_inputs}
+use Rattle.evaluate_command.specs.Answers.{EvaluateFirst, EvaluateAnswer}
+use Rattle.evaluate_command.specs.Effects.{PlainEffect, Identifies}
+use Rattle.evaluate_command.specs.Requests.{Request, IsRequest, evaluate_row}
+use Rattle.evaluate_command.specs.Command.{evaluate_command, evaluate_left}
+use Rattle.evaluate_command.proofs.Outcomes.{first_answered, counts_answered}
+use Rattle.evaluate_command.proofs.Exclusive.{evaluate_once, first_alone, first_once}
+
+-- the uses ask for one request
+one_request : (uses : List Use) (q r : Request) → IsRequest uses q → IsRequest uses r → r ≡ q
+one_request uses q r a b =
+    ap (λ (k : Text). let w : Request = record { file = k; counts = r.counts; x = r.x; y = r.y; count = r.count; exact = r.exact } in w) (same_Some r.file q.file (sym b.file ∙ a.file))
+    ∙ ap (λ (k : Text). let w : Request = record { file = q.file; counts = k; x = r.x; y = r.y; count = r.count; exact = r.exact } in w) (same_Some r.counts q.counts (sym b.counts ∙ a.counts))
+    ∙ ap (λ (k : Names). let w : Request = record { file = q.file; counts = q.counts; x = k; y = r.y; count = r.count; exact = r.exact } in w) (one_listed (value_of uses (codes "x")) q.x r.x a.x b.x)
+    ∙ ap (λ (k : Names). let w : Request = record { file = q.file; counts = q.counts; x = q.x; y = k; count = r.count; exact = r.exact } in w) (one_listed (value_of uses (codes "y")) q.y r.y a.y b.y)
+    ∙ ap (λ (k : Option Text). let w : Request = record { file = q.file; counts = q.counts; x = q.x; y = q.y; count = k; exact = r.exact } in w) (sym b.count ∙ a.count)
+    ∙ ap (λ (k : Bool). let w : Request = record { file = q.file; counts = q.counts; x = q.x; y = q.y; count = q.count; exact = k } in w) (sym b.exact ∙ a.exact)
+
+-- what holds of each command
+pub evaluate_lawful : IsLawful evaluate_command
+evaluate_lawful = lawful_on_two_inputs evaluate_row Request IsRequest one_request (λ q. q.file) (λ q. Some q.counts) (λ q g. EvaluateFirst g q.x q.y) (λ q g. (e : PlainEffect) × Identifies g q.x q.y e) (λ q g other. EvaluateAnswer q.exact g q.x q.y q.count other)
+    (λ q g. first_answered g q.x q.y)
+    (λ q g other o text a. counts_answered q.exact a.0 q.count other o text a.2)
+    (λ q bytes. first_once bytes q.x q.y)
+    (λ q bytes other. evaluate_once bytes other q.exact q.x q.y q.count)
+    (λ q name g h same names o text a n. first_alone g h same q.x q.y o text n.0 a n.1)
+
+pub evaluate_is_left : (q : Request) (g : ReadGraph) (e : PlainEffect) → Identifies g q.x q.y e → IsLeft evaluate_command q g (evaluate_left e q.counts q.count q.exact)
+evaluate_is_left q g e is = record { named = refl; continues = (e, is); known = is.identified; answers = λ other o text a. (e, is, a) }

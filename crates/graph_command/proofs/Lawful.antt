@@ -1,0 +1,22 @@
+-- The command's words ask for one request, and its answers have one outcome.
+use Rattle.std.proofs.Common.{◌≡◌, Bool, List, sym, ap, ◌∙◌}
+use Rattle.std.proofs.lemmas.Option.{same_Some}
+use Rattle.word_forms.specs.Form.{Text, Use}
+use Rattle.replies.proofs.Commands.{IsLawful, lawful_on_file}
+use Rattle.graph_command.specs.Answers.{GraphAnswer}
+use Rattle.graph_command.specs.Requests.{Request, IsRequest, graph_row}
+use Rattle.graph_command.specs.Command.{graph_command}
+use Rattle.graph_command.proofs.Outcomes.{graph_answered}
+use Rattle.graph_command.proofs.Exclusive.{graph_once}
+
+-- the uses ask for one request
+one_request : (uses : List Use) (q r : Request) → IsRequest uses q → IsRequest uses r → r ≡ q
+one_request uses q r a b =
+    ap (λ (k : Text). let w : Request = record { file = k; project = r.project } in w) (same_Some r.file q.file (sym b.file ∙ a.file))
+    ∙ ap (λ (k : Bool). let w : Request = record { file = q.file; project = k } in w) (sym b.project ∙ a.project)
+
+-- what holds of each command
+pub graph_lawful : IsLawful graph_command
+graph_lawful = lawful_on_file graph_row Request IsRequest one_request (λ q. q.file) (λ q g. GraphAnswer q.project g)
+    (λ q g. graph_answered q.project g)
+    (λ q bytes. graph_once bytes q.project)

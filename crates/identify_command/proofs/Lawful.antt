@@ -1,0 +1,36 @@
+-- The command's words ask for one request, and its answers have one outcome.
+use Rattle.std.proofs.Common.{◌≡◌, Bool, true, false, List, sym, ap, ◌∙◌}
+use Rattle.std.specs.Prelude.{codes}
+use Rattle.std.proofs.lemmas.Option.{same_Some}
+use Rattle.word_forms.specs.Form.{Text, Use, value_of, has_flag}
+use Rattle.request_values.proofs.OneValue.{one_listed}
+use Rattle.replies.specs.Observed.{Names}
+use Rattle.identify_command.specs.declared.form.Form.{Form}
+use Rattle.identify_command.specs.Forms.{IsForm}
+use Rattle.replies.proofs.Commands.{IsLawful, lawful_on_file}
+use Rattle.identify_command.specs.Conditions.{IdentifyAnswerGiven}
+use Rattle.identify_command.specs.Requests.{Request, IsRequest, identify_row}
+use Rattle.identify_command.specs.Command.{identify_command}
+use Rattle.identify_command.proofs.Outcomes.{given_answered}
+use Rattle.identify_command.proofs.Exclusive.{identify_once}
+
+one_form : (certificate latex : Bool) (f h : Form) → IsForm certificate latex f → IsForm certificate latex h → h ≡ f
+one_form false false f h a b = b ∙ sym a
+one_form true false f h a b = b ∙ sym a
+one_form false true f h a b = b ∙ sym a
+one_form true true f h a b = absurd a
+
+-- the uses ask for one request
+one_request : (uses : List Use) (q r : Request) → IsRequest uses q → IsRequest uses r → r ≡ q
+one_request uses q r a b =
+    ap (λ (k : Text). let w : Request = record { file = k; x = r.x; y = r.y; given = r.given; form = r.form } in w) (same_Some r.file q.file (sym b.file ∙ a.file))
+    ∙ ap (λ (k : Names). let w : Request = record { file = q.file; x = k; y = r.y; given = r.given; form = r.form } in w) (one_listed (value_of uses (codes "x")) q.x r.x a.x b.x)
+    ∙ ap (λ (k : Names). let w : Request = record { file = q.file; x = q.x; y = k; given = r.given; form = r.form } in w) (one_listed (value_of uses (codes "y")) q.y r.y a.y b.y)
+    ∙ ap (λ (k : Names). let w : Request = record { file = q.file; x = q.x; y = q.y; given = k; form = r.form } in w) (one_listed (value_of uses (codes "given")) q.given r.given a.given b.given)
+    ∙ ap (λ (k : Form). let w : Request = record { file = q.file; x = q.x; y = q.y; given = q.given; form = k } in w) (one_form (has_flag uses (codes "certificate")) (has_flag uses (codes "latex")) q.form r.form a.form b.form)
+
+-- what holds of each command
+pub identify_lawful : IsLawful identify_command
+identify_lawful = lawful_on_file identify_row Request IsRequest one_request (λ q. q.file) (λ q g. IdentifyAnswerGiven q.form g q.x q.y q.given)
+    (λ q g. given_answered q.form g q.x q.y q.given)
+    (λ q bytes. identify_once bytes q.form q.x q.y q.given)

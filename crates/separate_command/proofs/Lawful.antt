@@ -1,0 +1,27 @@
+-- The command's words ask for one request, and its answers have one outcome.
+use Rattle.std.proofs.Common.{◌≡◌, List, sym, ap, ◌∙◌}
+use Rattle.std.specs.Prelude.{codes}
+use Rattle.std.proofs.lemmas.Option.{same_Some}
+use Rattle.word_forms.specs.Form.{Text, Use, value_of}
+use Rattle.request_values.proofs.OneValue.{one_listed}
+use Rattle.replies.specs.Observed.{Names}
+use Rattle.replies.proofs.Commands.{IsLawful, lawful_on_file}
+use Rattle.separate_command.specs.Answers.{SeparateAnswer}
+use Rattle.separate_command.specs.Requests.{Request, IsRequest, separate_row}
+use Rattle.separate_command.specs.Command.{separate_command}
+use Rattle.separate_command.proofs.Outcomes.{separate_answered}
+use Rattle.separate_command.proofs.Exclusive.{separate_once}
+
+-- the uses ask for one request
+one_request : (uses : List Use) (q r : Request) → IsRequest uses q → IsRequest uses r → r ≡ q
+one_request uses q r a b =
+    ap (λ (k : Text). let w : Request = record { file = k; x = r.x; y = r.y; given = r.given } in w) (same_Some r.file q.file (sym b.file ∙ a.file))
+    ∙ ap (λ (k : Names). let w : Request = record { file = q.file; x = k; y = r.y; given = r.given } in w) (one_listed (value_of uses (codes "x")) q.x r.x a.x b.x)
+    ∙ ap (λ (k : Names). let w : Request = record { file = q.file; x = q.x; y = k; given = r.given } in w) (one_listed (value_of uses (codes "y")) q.y r.y a.y b.y)
+    ∙ ap (λ (k : Names). let w : Request = record { file = q.file; x = q.x; y = q.y; given = k } in w) (one_listed (value_of uses (codes "given")) q.given r.given a.given b.given)
+
+-- what holds of each command
+pub separate_lawful : IsLawful separate_command
+separate_lawful = lawful_on_file separate_row Request IsRequest one_request (λ q. q.file) (λ q g. SeparateAnswer g q.x q.y q.given)
+    (λ q g. separate_answered g q.x q.y q.given)
+    (λ q bytes. separate_once bytes q.x q.y q.given)

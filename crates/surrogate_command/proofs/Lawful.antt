@@ -1,0 +1,29 @@
+-- The command's words ask for one request, and its answers have one outcome.
+use Rattle.std.proofs.Common.{◌≡◌, List, sym, ap, ◌∙◌}
+use Rattle.std.specs.Prelude.{codes}
+use Rattle.std.proofs.lemmas.Option.{same_Some}
+use Rattle.word_forms.specs.Form.{Text, Use, value_of}
+use Rattle.request_values.proofs.OneValue.{one_listed}
+use Rattle.replies.specs.Observed.{Names}
+use Rattle.surrogate_command.specs.Experiments.{Lists}
+use Rattle.surrogate_command.proofs.OneWord.{one_word}
+use Rattle.replies.proofs.Commands.{IsLawful, lawful_on_file}
+use Rattle.surrogate_command.specs.Answers.{SurrogateAnswer}
+use Rattle.surrogate_command.specs.Requests.{Request, IsRequest, surrogate_row}
+use Rattle.surrogate_command.specs.Command.{surrogate_command}
+use Rattle.surrogate_command.proofs.Outcomes.{surrogate_answered}
+use Rattle.surrogate_command.proofs.Exclusive.{surrogate_once}
+
+-- the uses ask for one request
+one_request : (uses : List Use) (q r : Request) → IsRequest uses q → IsRequest uses r → r ≡ q
+one_request uses q r a b =
+    ap (λ (k : Text). let w : Request = record { file = k; x = r.x; y = r.y; experiments = r.experiments } in w) (same_Some r.file q.file (sym b.file ∙ a.file))
+    ∙ ap (λ (k : Names). let w : Request = record { file = q.file; x = k; y = r.y; experiments = r.experiments } in w) (one_listed (value_of uses (codes "x")) q.x r.x a.x b.x)
+    ∙ ap (λ (k : Names). let w : Request = record { file = q.file; x = q.x; y = k; experiments = r.experiments } in w) (one_listed (value_of uses (codes "y")) q.y r.y a.y b.y)
+    ∙ ap (λ (k : Lists). let w : Request = record { file = q.file; x = q.x; y = q.y; experiments = k } in w) (one_word (value_of uses (codes "experiments")) q.experiments r.experiments a.experiments b.experiments)
+
+-- what holds of each command
+pub surrogate_lawful : IsLawful surrogate_command
+surrogate_lawful = lawful_on_file surrogate_row Request IsRequest one_request (λ q. q.file) (λ q g. SurrogateAnswer g q.x q.y q.experiments)
+    (λ q g. surrogate_answered g q.x q.y q.experiments)
+    (λ q bytes. surrogate_once bytes q.x q.y q.experiments)
