@@ -8,7 +8,7 @@ use Rattle.replies.specs.Observed.{Names}
 use Rattle.adjust_command.specs.Queries.{Query, query_for}
 use Rattle.replies.proofs.Commands.{IsLawful, lawful_on_file}
 use Rattle.adjust_command.specs.Answers.{AdjustAnswer}
-use Rattle.adjust_command.specs.Requests.{Request, IsRequest, adjust_row}
+use Rattle.adjust_command.specs.Requests.{Request, IsRequest}
 use Rattle.adjust_command.specs.Command.{adjust_command}
 use Rattle.adjust_command.proofs.Outcomes.{adjust_answered}
 use Rattle.adjust_command.proofs.Exclusive.{adjust_once}
@@ -27,8 +27,8 @@ one_request uses q r a b =
     ∙ ap (λ (k : Names). let w : Request = record { file = q.file; x = q.x; y = k; query = r.query } in w) (one_listed (value_of uses (codes "y")) q.y r.y a.y b.y)
     ∙ ap (λ (k : Query). let w : Request = record { file = q.file; x = q.x; y = q.y; query = k } in w) (one_adjusting uses q r a b)
 
--- what holds of each command
+-- what holds of each command holds of it
 pub adjust_lawful : IsLawful adjust_command
-adjust_lawful = lawful_on_file adjust_row Request IsRequest one_request (λ q. q.file) (λ q g. AdjustAnswer g q.x q.y q.query)
+adjust_lawful = lawful_on_file Request IsRequest one_request (λ q. q.file) (λ q g. AdjustAnswer g q.x q.y q.query)
     (λ q g. adjust_answered g q.x q.y q.query)
     (λ q bytes. adjust_once bytes q.x q.y q.query)

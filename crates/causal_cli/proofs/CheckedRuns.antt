@@ -9,7 +9,7 @@ use Rattle.replies.specs.declared.outcome.Outcome.TheVariants.{Yes}
 use Rattle.replies.specs.Outcomes.{code_of}
 use Rattle.check_command.specs.Requests.{Request as Asked, check_row}
 use Rattle.causal_cli.specs.Answers.{WordsAnswer, HoldsAnswer, DefinedWith}
-use Rattle.causal_cli.specs.Commands.{table, row_for, Request, command_of, file_of, second_of, IsRequest, Asks}
+use Rattle.causal_cli.specs.Commands.{table, row_for, Request, of, command_of, file_of, second_of, IsRequest, Asks}
 use Rattle.causal_cli.specs.declared.commands.Command.TheVariants.{Check, Survey}
 use Rattle.causal_cli.specs.Run.{Run, Answers, by_words, by_file, by_both, Ends}
 use Rattle.causal_cli.specs.Headline.{IsRightCertificate, Checked, HeadlineOfCheck}
@@ -18,18 +18,18 @@ use Rattle.causal_cli.proofs.OneCommand.{one_command}
 use Rattle.causal_cli.proofs.Deliveries.{mapped}
 
 -- a certificate has no answer on the file alone
-no_answer : (held : Option (List ℕ)) (q : Asked) (P : List ℕ → Type 0) (text : List ℕ) → IfSome held (λ bytes. HoldsAnswer (Check, q) bytes Yes text) → IfSome held P
-no_answer held q P text = mapped held (λ bytes. HoldsAnswer (Check, q) bytes Yes text) P (λ bytes a. absurd a.answer)
+no_answer : (held : Option (List ℕ)) (q : Asked) (P : List ℕ → Type 0) (text : List ℕ) → IfSome held (λ bytes. HoldsAnswer (of Check q) bytes Yes text) → IfSome held P
+no_answer held q P text = mapped held (λ bytes. HoldsAnswer (of Check q) bytes Yes text) P (λ bytes a. absurd a.answer)
 
 -- the answer to a request of `check` on its file alone, of which there is none
 by_file_alone : (r : Run) (uses : List Use) (text : List ℕ) (w : Request) (file : Text) → command_of w ≡ Check → IsRequest uses w → file_of w ≡ Some file →
     IfSome (r.held file) (λ bytes. HoldsAnswer w bytes Yes text) → Appends r.out.before r.out.after text → Checked r uses
-by_file_alone r uses text (Check, q) file e is names defined whole = record {
+by_file_alone r uses text (of Check q) file e is names defined whole = record {
   request = q;
   text = text;
   asks = is;
   right = no_answer (r.held q.file) q (λ bytes. IfSome (r.held q.certificate) (λ other. IsRightCertificate bytes other text)) text
-      (subst (λ f. IfSome (r.held f) (λ bytes. HoldsAnswer (Check, q) bytes Yes text)) (sym (same_Some q.file file names)) defined);
+      (subst (λ f. IfSome (r.held f) (λ bytes. HoldsAnswer (of Check q) bytes Yes text)) (sym (same_Some q.file file names)) defined);
   whole = whole;
 }
 by_file_alone r uses text w file e is names defined whole = absurd (cc e)
@@ -37,22 +37,22 @@ by_file_alone r uses text w file e is names defined whole = absurd (cc e)
 -- and on both inputs
 by_two : (r : Run) (uses : List Use) (text : List ℕ) (w : Request) (file other : Text) → command_of w ≡ Check → IsRequest uses w → file_of w ≡ Some file → second_of w ≡ Some other →
     IfSome (r.held file) (λ bytes. IfSome (r.held other) (λ second. DefinedWith w bytes second Yes text)) → Appends r.out.before r.out.after text → Checked r uses
-by_two r uses text (Check, q) file other e is names names_second defined whole = record {
+by_two r uses text (of Check q) file other e is names names_second defined whole = record {
   request = q;
   text = text;
   asks = is;
-  right = mapped (r.held q.file) (λ bytes. IfSome (r.held q.certificate) (λ second. DefinedWith (Check, q) bytes second Yes text)) (λ bytes. IfSome (r.held q.certificate) (λ second. IsRightCertificate bytes second text))
-      (λ bytes. mapped (r.held q.certificate) (λ second. DefinedWith (Check, q) bytes second Yes text) (λ second. IsRightCertificate bytes second text)
+  right = mapped (r.held q.file) (λ bytes. IfSome (r.held q.certificate) (λ second. DefinedWith (of Check q) bytes second Yes text)) (λ bytes. IfSome (r.held q.certificate) (λ second. IsRightCertificate bytes second text))
+      (λ bytes. mapped (r.held q.certificate) (λ second. DefinedWith (of Check q) bytes second Yes text) (λ second. IsRightCertificate bytes second text)
       (λ second d. record { graph = d.0; holds = d.1; accepted = d.3 }))
-      (subst (λ f. IfSome (r.held f) (λ bytes. IfSome (r.held q.certificate) (λ second. DefinedWith (Check, q) bytes second Yes text))) (sym (same_Some q.file file names))
-      (subst (λ n. IfSome (r.held file) (λ bytes. IfSome (r.held n) (λ second. DefinedWith (Check, q) bytes second Yes text))) (sym (same_Some q.certificate other names_second)) defined));
+      (subst (λ f. IfSome (r.held f) (λ bytes. IfSome (r.held q.certificate) (λ second. DefinedWith (of Check q) bytes second Yes text))) (sym (same_Some q.file file names))
+      (subst (λ n. IfSome (r.held file) (λ bytes. IfSome (r.held n) (λ second. DefinedWith (of Check q) bytes second Yes text))) (sym (same_Some q.certificate other names_second)) defined));
   whole = whole;
 }
 by_two r uses text w file other e is names names_second defined whole = absurd (cc e)
 
 -- words alone don't answer it
 no_words : (w : Request) (text : List ℕ) → command_of w ≡ Check → WordsAnswer w Yes text → ⊥
-no_words (Survey, q) text e h = absurd (cc e)
+no_words (of Survey q) text e h = absurd (cc e)
 no_words w text e h = h
 
 module _ (r : Run) (uses : List Use) (call : IsCall table r.words check_row uses) where

@@ -39,7 +39,7 @@ use Rattle.surrogate_command.specs.Answers.{SurrogateAnswer}
 use Rattle.surrogate_command.specs.Requests.{Request as SurrogateRequest, surrogate_row}
 use Rattle.evaluate_command.specs.Requests.{Request as EvaluateRequest, evaluate_row}
 use Rattle.causal_cli.specs.Answers.{WordsAnswer, HoldsAnswer, DefinedWith}
-use Rattle.causal_cli.specs.Commands.{table, row_for, Request, command_of, file_of, second_of, IsRequest, Asks}
+use Rattle.causal_cli.specs.Commands.{table, row_for, Request, of, command_of, file_of, second_of, IsRequest, Asks}
 use Rattle.causal_cli.specs.declared.commands.Command.{Command}
 use Rattle.causal_cli.specs.declared.commands.Command.TheVariants.{Identify, Adjust, Surrogate, Evaluate, Survey}
 use Rattle.causal_cli.specs.Drawn.{IsRightAsDrawn, IsTextAsDrawn, IdentifiedAsDrawn, IsCertificateAsDrawn, CheckedAsDrawn, AdjustsAsDrawn, ShowsAdjustmentAsDrawn, IsAdjustmentAsDrawn, AdjustedAsDrawn, IsSurrogateAsDrawn, SurrogatedAsDrawn, IsEvaluationAsDrawn, EvaluatedAsDrawn, RightAsDrawn}
@@ -91,13 +91,13 @@ module _ (form : Form) (bytes : List ℕ) (g : ReadGraph) (holds : Holds bytes g
 
 identified : (r : Run) (uses : List Use) (text : List ℕ) (w : Request) (file : Text) → command_of w ≡ Identify → IsRequest uses w → file_of w ≡ Some file
     → IfSome (r.held file) (λ bytes. HoldsAnswer w bytes Yes text) → Appends r.out.before r.out.after text → IdentifiedAsDrawn r uses
-identified r uses text (Identify, q) file e is names defined whole = record {
+identified r uses text (of Identify q) file e is names defined whole = record {
   request = q;
   text = text;
   asks = is;
-  right = mapped (r.held q.file) (λ bytes. HoldsAnswer (Identify, q) bytes Yes text) (λ bytes. IsTextAsDrawn q.form bytes q.x q.y q.given text)
+  right = mapped (r.held q.file) (λ bytes. HoldsAnswer (of Identify q) bytes Yes text) (λ bytes. IsTextAsDrawn q.form bytes q.x q.y q.given text)
       (λ bytes a. text_as_drawn q.form bytes a.graph a.holds q.x q.y text q.given a.answer)
-      (subst (λ f. IfSome (r.held f) (λ bytes. HoldsAnswer (Identify, q) bytes Yes text)) (sym (same_Some q.file file names)) defined);
+      (subst (λ f. IfSome (r.held f) (λ bytes. HoldsAnswer (of Identify q) bytes Yes text)) (sym (same_Some q.file file names)) defined);
   whole = whole;
 }
 identified r uses text w file e is names defined whole = absurd (cc e)
@@ -152,12 +152,12 @@ adjusted_on q bytes text g holds (p, observed, h) = record { graph = g; holds = 
 
 adjusted : (r : Run) (uses : List Use) (text : List ℕ) (w : Request) (file : Text) → command_of w ≡ Adjust → IsRequest uses w → file_of w ≡ Some file
     → IfSome (r.held file) (λ bytes. HoldsAnswer w bytes Yes text) → Appends r.out.before r.out.after text → AdjustedAsDrawn r uses
-adjusted r uses text (Adjust, q) file e is names defined whole = record {
+adjusted r uses text (of Adjust q) file e is names defined whole = record {
   request = q;
   text = text;
   asks = is;
-  right = mapped (r.held q.file) (λ bytes. HoldsAnswer (Adjust, q) bytes Yes text) (λ bytes. IsAdjustmentAsDrawn q bytes text) (λ bytes a. adjusted_on q bytes text a.graph a.holds a.answer)
-      (subst (λ f. IfSome (r.held f) (λ bytes. HoldsAnswer (Adjust, q) bytes Yes text)) (sym (same_Some q.file file names)) defined);
+  right = mapped (r.held q.file) (λ bytes. HoldsAnswer (of Adjust q) bytes Yes text) (λ bytes. IsAdjustmentAsDrawn q bytes text) (λ bytes a. adjusted_on q bytes text a.graph a.holds a.answer)
+      (subst (λ f. IfSome (r.held f) (λ bytes. HoldsAnswer (of Adjust q) bytes Yes text)) (sym (same_Some q.file file names)) defined);
   whole = whole;
 }
 adjusted r uses text w file e is names defined whole = absurd (cc e)
@@ -179,19 +179,19 @@ surrogated_on q bytes text g holds (p, observed, h) = record {
 
 surrogated : (r : Run) (uses : List Use) (text : List ℕ) (w : Request) (file : Text) → command_of w ≡ Surrogate → IsRequest uses w → file_of w ≡ Some file
     → IfSome (r.held file) (λ bytes. HoldsAnswer w bytes Yes text) → Appends r.out.before r.out.after text → SurrogatedAsDrawn r uses
-surrogated r uses text (Surrogate, q) file e is names defined whole = record {
+surrogated r uses text (of Surrogate q) file e is names defined whole = record {
   request = q;
   text = text;
   asks = is;
-  right = mapped (r.held q.file) (λ bytes. HoldsAnswer (Surrogate, q) bytes Yes text) (λ bytes. IsSurrogateAsDrawn q bytes text) (λ bytes a. surrogated_on q bytes text a.graph a.holds a.answer)
-      (subst (λ f. IfSome (r.held f) (λ bytes. HoldsAnswer (Surrogate, q) bytes Yes text)) (sym (same_Some q.file file names)) defined);
+  right = mapped (r.held q.file) (λ bytes. HoldsAnswer (of Surrogate q) bytes Yes text) (λ bytes. IsSurrogateAsDrawn q bytes text) (λ bytes a. surrogated_on q bytes text a.graph a.holds a.answer)
+      (subst (λ f. IfSome (r.held f) (λ bytes. HoldsAnswer (of Surrogate q) bytes Yes text)) (sym (same_Some q.file file names)) defined);
   whole = whole;
 }
 surrogated r uses text w file e is names defined whole = absurd (cc e)
 
 -- ---- evaluate
 
-evaluated_on : (q : EvaluateRequest) (bytes other text : List ℕ) → DefinedWith (Evaluate, q) bytes other Yes text → IsEvaluationAsDrawn q bytes other text
+evaluated_on : (q : EvaluateRequest) (bytes other text : List ℕ) → DefinedWith (of Evaluate q) bytes other Yes text → IsEvaluationAsDrawn q bytes other text
 evaluated_on q bytes other text (g, holds, needs, (e, identifies, (t, read, shows))) = record {
   graph = g;
   holds = holds;
@@ -204,14 +204,14 @@ evaluated_on q bytes other text (g, holds, needs, (e, identifies, (t, read, show
 
 evaluated : (r : Run) (uses : List Use) (text : List ℕ) (w : Request) (file other : Text) → command_of w ≡ Evaluate → IsRequest uses w → file_of w ≡ Some file → second_of w ≡ Some other
     → IfSome (r.held file) (λ bytes. IfSome (r.held other) (λ second. DefinedWith w bytes second Yes text)) → Appends r.out.before r.out.after text → EvaluatedAsDrawn r uses
-evaluated r uses text (Evaluate, q) file other e is names names_second defined whole = record {
+evaluated r uses text (of Evaluate q) file other e is names names_second defined whole = record {
   request = q;
   text = text;
   asks = is;
-  right = mapped (r.held q.file) (λ bytes. IfSome (r.held q.counts) (λ second. DefinedWith (Evaluate, q) bytes second Yes text)) (λ bytes. IfSome (r.held q.counts) (λ second. IsEvaluationAsDrawn q bytes second text))
-      (λ bytes. mapped (r.held q.counts) (λ second. DefinedWith (Evaluate, q) bytes second Yes text) (λ second. IsEvaluationAsDrawn q bytes second text) (λ second d. evaluated_on q bytes second text d))
-      (subst (λ f. IfSome (r.held f) (λ bytes. IfSome (r.held q.counts) (λ second. DefinedWith (Evaluate, q) bytes second Yes text))) (sym (same_Some q.file file names))
-      (subst (λ n. IfSome (r.held file) (λ bytes. IfSome (r.held n) (λ second. DefinedWith (Evaluate, q) bytes second Yes text))) (sym (same_Some q.counts other names_second)) defined));
+  right = mapped (r.held q.file) (λ bytes. IfSome (r.held q.counts) (λ second. DefinedWith (of Evaluate q) bytes second Yes text)) (λ bytes. IfSome (r.held q.counts) (λ second. IsEvaluationAsDrawn q bytes second text))
+      (λ bytes. mapped (r.held q.counts) (λ second. DefinedWith (of Evaluate q) bytes second Yes text) (λ second. IsEvaluationAsDrawn q bytes second text) (λ second d. evaluated_on q bytes second text d))
+      (subst (λ f. IfSome (r.held f) (λ bytes. IfSome (r.held q.counts) (λ second. DefinedWith (of Evaluate q) bytes second Yes text))) (sym (same_Some q.file file names))
+      (subst (λ n. IfSome (r.held file) (λ bytes. IfSome (r.held n) (λ second. DefinedWith (of Evaluate q) bytes second Yes text))) (sym (same_Some q.counts other names_second)) defined));
   whole = whole;
 }
 evaluated r uses text w file other e is names names_second defined whole = absurd (cc e)
@@ -219,12 +219,12 @@ evaluated r uses text w file other e is names names_second defined whole = absur
 -- the answer on the file alone is none: where there is a formula, the counts are read
 no_first : (r : Run) (uses : List Use) (text : List ℕ) (w : Request) (file : Text) → command_of w ≡ Evaluate → IsRequest uses w → file_of w ≡ Some file
     → IfSome (r.held file) (λ bytes. HoldsAnswer w bytes Yes text) → Appends r.out.before r.out.after text → EvaluatedAsDrawn r uses
-no_first r uses text (Evaluate, q) file e is names defined whole = record {
+no_first r uses text (of Evaluate q) file e is names defined whole = record {
   request = q;
   text = text;
   asks = is;
-  right = mapped (r.held q.file) (λ bytes. HoldsAnswer (Evaluate, q) bytes Yes text) (λ bytes. IfSome (r.held q.counts) (λ second. IsEvaluationAsDrawn q bytes second text)) (λ bytes a. absurd a.answer)
-      (subst (λ f. IfSome (r.held f) (λ bytes. HoldsAnswer (Evaluate, q) bytes Yes text)) (sym (same_Some q.file file names)) defined);
+  right = mapped (r.held q.file) (λ bytes. HoldsAnswer (of Evaluate q) bytes Yes text) (λ bytes. IfSome (r.held q.counts) (λ second. IsEvaluationAsDrawn q bytes second text)) (λ bytes a. absurd a.answer)
+      (subst (λ f. IfSome (r.held f) (λ bytes. HoldsAnswer (of Evaluate q) bytes Yes text)) (sym (same_Some q.file file names)) defined);
   whole = whole;
 }
 no_first r uses text w file e is names defined whole = absurd (cc e)
@@ -233,13 +233,13 @@ no_first r uses text w file e is names defined whole = absurd (cc e)
 
 -- a command that has an answer by the words alone, or by two inputs, is none of these
 no_words : (w : Request) (text : List ℕ) → WordsAnswer w Yes text → (command_of w ≡ Identify → ⊥) × (command_of w ≡ Adjust → ⊥) × (command_of w ≡ Surrogate → ⊥) × (command_of w ≡ Evaluate → ⊥)
-no_words (Survey, q) text h = (λ e. cc e, λ e. cc e, λ e. cc e, λ e. cc e)
+no_words (of Survey q) text h = (λ e. cc e, λ e. cc e, λ e. cc e, λ e. cc e)
 no_words w text h = absurd h
 
 no_second : (w : Request) (name : Text) → second_of w ≡ Some name → (command_of w ≡ Identify → ⊥) × (command_of w ≡ Adjust → ⊥) × (command_of w ≡ Surrogate → ⊥)
-no_second (Identify, q) name s = absurd (none-some name s)
-no_second (Adjust, q) name s = absurd (none-some name s)
-no_second (Surrogate, q) name s = absurd (none-some name s)
+no_second (of Identify q) name s = absurd (none-some name s)
+no_second (of Adjust q) name s = absurd (none-some name s)
+no_second (of Surrogate q) name s = absurd (none-some name s)
 no_second w name s = (λ e. cc e, λ e. cc e, λ e. cc e)
 
 module _ (r : Run) (uses : List Use) (c : Command) (call : IsCall table r.words (row_for c) uses) where

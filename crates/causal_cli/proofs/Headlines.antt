@@ -12,7 +12,7 @@ use Rattle.identify_command.specs.Conditions.{IdentifyAnswerGiven}
 use Rattle.identify_command.specs.Requests.{Request as Asked, identify_row}
 use Rattle.replies.specs.Observed.{Names}
 use Rattle.causal_cli.specs.Answers.{WordsAnswer, HoldsAnswer}
-use Rattle.causal_cli.specs.Commands.{table, row_for, Request, command_of, file_of, second_of, IsRequest, Asks}
+use Rattle.causal_cli.specs.Commands.{table, row_for, Request, of, command_of, file_of, second_of, IsRequest, Asks}
 use Rattle.causal_cli.specs.declared.commands.Command.TheVariants.{Identify, Survey}
 use Rattle.causal_cli.specs.Run.{Run, Answers, by_words, by_file, by_both, Ends}
 use Rattle.causal_cli.specs.Headline.{IsRightText, Identified, Headline}
@@ -25,29 +25,29 @@ nothing_given given (Some t) none is = absurd (none-some t (sym none))
 nothing_given None None none is = refl
 nothing_given (Some names) None none is = absurd is
 
-right_on : (o : Option (List ℕ)) (q : Asked) (k : Outcome) (text : List ℕ) → q.given ≡ None → IfSome o (λ bytes. HoldsAnswer (Identify, q) bytes k text) → IfSome o (λ bytes. IsRightText q.form bytes q.x q.y k text)
+right_on : (o : Option (List ℕ)) (q : Asked) (k : Outcome) (text : List ℕ) → q.given ≡ None → IfSome o (λ bytes. HoldsAnswer (of Identify q) bytes k text) → IfSome o (λ bytes. IsRightText q.form bytes q.x q.y k text)
 right_on None q k text none h = tt
 right_on (Some bytes) q k text none h = record { graph = h.graph; holds = h.holds; answer = subst (λ given. IdentifyAnswerGiven q.form h.graph q.x q.y given k text) none h.answer }
 
 -- the answer to a request of `identify`, on its file, is right
 identified : (r : Run) (uses : List Use) (o : Outcome) (text : List ℕ) (w : Request) (file : Text) → value_of uses (codes "given") ≡ None → command_of w ≡ Identify → IsRequest uses w → file_of w ≡ Some file →
     IfSome (r.held file) (λ bytes. HoldsAnswer w bytes o text) → Appends r.out.before r.out.after text → Identified r uses o
-identified r uses o text (Identify, q) file bare e is names defined whole = record {
+identified r uses o text (of Identify q) file bare e is names defined whole = record {
   request = q;
   text = text;
   asks = is;
-  right = right_on (r.held q.file) q o text (nothing_given q.given (value_of uses (codes "given")) bare is.given) (subst (λ f. IfSome (r.held f) (λ bytes. HoldsAnswer (Identify, q) bytes o text)) (sym (same_Some q.file file names)) defined);
+  right = right_on (r.held q.file) q o text (nothing_given q.given (value_of uses (codes "given")) bare is.given) (subst (λ f. IfSome (r.held f) (λ bytes. HoldsAnswer (of Identify q) bytes o text)) (sym (same_Some q.file file names)) defined);
   whole = whole;
 }
 identified r uses o text w file bare e is names defined whole = absurd (cc e)
 
 -- such a request has no second input, and words alone don't answer it
 no_second : (w : Request) (name : Text) → command_of w ≡ Identify → second_of w ≡ Some name → ⊥
-no_second (Identify, q) name e s = none-some name s
+no_second (of Identify q) name e s = none-some name s
 no_second w name e s = absurd (cc e)
 
 no_words : (w : Request) (o : Outcome) (text : List ℕ) → command_of w ≡ Identify → WordsAnswer w o text → ⊥
-no_words (Survey, q) o text e h = absurd (cc e)
+no_words (of Survey q) o text e h = absurd (cc e)
 no_words w o text e h = h
 
 module _ (r : Run) (uses : List Use) (call : IsCall table r.words identify_row uses) (bare : value_of uses (codes "given") ≡ None) where

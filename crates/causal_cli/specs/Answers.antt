@@ -11,8 +11,8 @@ use Rattle.replies.specs.declared.outcome.Outcome.TheVariants.{Graph}
 use Rattle.replies.specs.declared.outcome.Reply.{Reply}
 use Rattle.replies.specs.Observed.{Holds}
 use Rattle.replies.specs.Outcomes.{IsAnswered}
-use Rattle.replies.specs.Command as commands
-use Rattle.causal_cli.specs.Commands.{form_of, Request, left_of}
+use Rattle.replies.specs.Command as forms
+use Rattle.causal_cli.specs.Commands.{form_of, Request, of, left_of}
 use Rattle.causal_cli.specs.Lines.{size_line}
 use Rattle.causal_cli.specs.declared.answer.SecondInput.{SecondInput}
 use Rattle.causal_cli.specs.declared.answer.First.{First}
@@ -20,19 +20,19 @@ use Rattle.causal_cli.specs.declared.answer.First.TheVariants as first
 
 -- the answer of a command without an input
 abbrev pub WordsAnswer : Request → Outcome → List ℕ → Type 0
-WordsAnswer w o text = (form_of w.0).by_words w.1 o text
+WordsAnswer (of c q) o text = (form_of c).by_words q o text
 
 -- the answer of a command on a graph that was read, where its file alone decides
 abbrev pub GraphAnswer : Request → ReadGraph → Outcome → List ℕ → Type 0
-GraphAnswer w g o text = (form_of w.0).by_graph w.1 g o text
+GraphAnswer (of c q) g o text = (form_of c).by_graph q g o text
 
 -- the graph is accepted, and the second input is read
 abbrev pub NeedsSecond : Request → ReadGraph → Type 0
-NeedsSecond w g = (form_of w.0).continues w.1 g
+NeedsSecond (of c q) g = (form_of c).continues q g
 
 -- the answer of a command on a graph that was read and the bytes of its second input
 abbrev pub SecondAnswer : Request → ReadGraph → List ℕ → Outcome → List ℕ → Type 0
-SecondAnswer w g other o text = (form_of w.0).by_both w.1 g other o text
+SecondAnswer (of c q) g other o text = (form_of c).by_both q g other o text
 
 -- the bytes are no graph: they are too many, or their text has a fault
 pub data IsGraphRefusal (bytes line : List ℕ) : Type 0 where
@@ -83,7 +83,7 @@ IsAnsweredWith p = (other : List ℕ) (o : Outcome) (text : List ℕ) → (left_
 
 -- what is left of a request on a graph that was read
 abbrev pub IsLeft : Request → ReadGraph → SecondInput → Type 0
-IsLeft w g p = commands.IsLeft (form_of w.0) w.1 g (left_of p)
+IsLeft (of c q) g p = forms.IsLeft (form_of c) q g (left_of p)
 
 -- what a graph that was read gives: the answer on it, or what is left
 abbrev pub GivesOn : Request → ReadGraph → First → Type 0

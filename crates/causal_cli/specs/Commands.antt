@@ -2,6 +2,7 @@
 use Rattle.std.specs.Prelude.{◌≡◌, List, [], ◌∷◌, Option, map, option_map}
 use Rattle.word_forms.specs.Form.{Text, Row, Use, IsCall}
 use Rattle.replies.specs.Command.{CommandForm, Remainder}
+use Rattle.replies.specs.Command as forms
 use Rattle.graph_command.specs.Command.{graph_command}
 use Rattle.graph_command.specs.Requests as of_graph
 use Rattle.separate_command.specs.Command.{separate_command}
@@ -41,7 +42,25 @@ use Rattle.causal_cli.specs.declared.answer.SecondInput.TheVariants as input
 abbrev pub all_commands : List Command
 all_commands = command.Graph ∷ command.Separate ∷ command.Rule ∷ command.Identify ∷ command.Check ∷ command.Adjust ∷ command.Evaluate ∷ command.Equivalent ∷ command.Implications ∷ command.Survey ∷ command.Surrogate ∷ []
 
--- what a command is
+-- the row of a command
+abbrev pub row_for : Command → Row
+row_for command.Graph = of_graph.graph_row
+row_for command.Separate = of_separate.separate_row
+row_for command.Rule = of_rule.rule_row
+row_for command.Identify = of_identify.identify_row
+row_for command.Check = of_check.check_row
+row_for command.Adjust = of_adjust.adjust_row
+row_for command.Evaluate = of_evaluate.evaluate_row
+row_for command.Equivalent = of_equivalent.equivalent_row
+row_for command.Implications = of_implications.implications_row
+row_for command.Survey = of_survey.survey_row
+row_for command.Surrogate = of_surrogate.surrogate_row
+
+-- the table of commands
+abbrev pub table : List Row
+table = map row_for all_commands
+
+-- what a command is asked for, and what it answers
 abbrev pub form_of : Command → CommandForm
 form_of command.Graph = graph_command
 form_of command.Separate = separate_command
@@ -57,37 +76,29 @@ form_of command.Surrogate = surrogate_command
 
 -- ---- what words ask for
 
--- the row of a command
-abbrev pub row_for : Command → Row
-row_for c = (form_of c).row
-
--- the table of commands
-abbrev pub table : List Row
-table = map row_for all_commands
-
 -- what words ask for: a command, and what it is asked for
-abbrev pub Request : Type 0
-Request = (c : Command) × (form_of c).Request
+pub data Request : Type 0 where
+  of : (c : Command) → (form_of c).Request → Request
 
 -- its command
 abbrev pub command_of : Request → Command
-command_of q = q.0
+command_of (of c q) = c
 
 -- its file, where it has one
 abbrev pub file_of : Request → Option Text
-file_of q = (form_of q.0).file q.1
+file_of (of c q) = (form_of c).file q
 
 -- its second input, where it has one
 abbrev pub second_of : Request → Option Text
-second_of q = (form_of q.0).second q.1
+second_of (of c q) = (form_of c).second q
 
 -- the uses of its command ask for it
 abbrev pub IsRequest : List Use → Request → Type 0
-IsRequest uses q = (form_of q.0).asks uses q.1
+IsRequest uses (of c q) = (form_of c).asks uses q
 
 -- the uses ask the command for nothing
 abbrev pub AsksNothing : Command → List Use → Type 0
-AsksNothing c uses = (q : (form_of c).Request) → (form_of c).asks uses q → ⊥
+AsksNothing c uses = forms.AsksNothing (form_of c) uses
 
 -- the words ask for this: they are a call of its command, whose uses give the request
 pub record Asks (words : List Text) (q : Request) : Type 0 where
@@ -103,21 +114,21 @@ AskOnce words = (row other : Row) (uses others : List Use) → IsCall table word
 
 -- a request on a graph
 abbrev pub on_graph : GraphRequest → Request
-on_graph (code.Graph q) = (command.Graph, of_graph.request_of q)
-on_graph (code.Separate q) = (command.Separate, of_separate.request_of q)
-on_graph (code.Rule q) = (command.Rule, of_rule.request_of q)
-on_graph (code.Identify q) = (command.Identify, of_identify.request_of q)
-on_graph (code.Check q) = (command.Check, of_check.request_of q)
-on_graph (code.Adjust q) = (command.Adjust, of_adjust.request_of q)
-on_graph (code.Evaluate q) = (command.Evaluate, of_evaluate.request_of q)
-on_graph (code.Equivalent q) = (command.Equivalent, of_equivalent.request_of q)
-on_graph (code.Implications q) = (command.Implications, of_implications.request_of q)
-on_graph (code.Surrogate q) = (command.Surrogate, of_surrogate.request_of q)
+on_graph (code.Graph q) = of command.Graph (of_graph.request_of q)
+on_graph (code.Separate q) = of command.Separate (of_separate.request_of q)
+on_graph (code.Rule q) = of command.Rule (of_rule.request_of q)
+on_graph (code.Identify q) = of command.Identify (of_identify.request_of q)
+on_graph (code.Check q) = of command.Check (of_check.request_of q)
+on_graph (code.Adjust q) = of command.Adjust (of_adjust.request_of q)
+on_graph (code.Evaluate q) = of command.Evaluate (of_evaluate.request_of q)
+on_graph (code.Equivalent q) = of command.Equivalent (of_equivalent.request_of q)
+on_graph (code.Implications q) = of command.Implications (of_implications.request_of q)
+on_graph (code.Surrogate q) = of command.Surrogate (of_surrogate.request_of q)
 
 -- a request
 abbrev pub request_of : CodeRequest → Request
 request_of (request.OnGraph q) = on_graph q
-request_of (request.Survey q) = (command.Survey, of_survey.request_of q)
+request_of (request.Survey q) = of command.Survey (of_survey.request_of q)
 
 -- what is left to answer
 abbrev pub left_of : SecondInput → Remainder

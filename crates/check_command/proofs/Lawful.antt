@@ -6,7 +6,7 @@ use Rattle.dag_reader.specs.declared.graph.ReadGraph.{ReadGraph}
 use Rattle.replies.specs.Command.{IsLeft}
 use Rattle.replies.proofs.Commands.{IsLawful, lawful_on_two_inputs}
 use Rattle.check_command.specs.Answers.{CheckAnswer}
-use Rattle.check_command.specs.Requests.{Request, IsRequest, check_row}
+use Rattle.check_command.specs.Requests.{Request, IsRequest}
 use Rattle.check_command.specs.Command.{check_command, check_left}
 use Rattle.check_command.proofs.Outcomes.{check_answered}
 use Rattle.check_command.proofs.Exclusive.{check_once}
@@ -17,9 +17,9 @@ one_request uses q r a b =
     ap (λ (k : Text). let w : Request = record { file = k; certificate = r.certificate } in w) (same_Some r.file q.file (sym b.file ∙ a.file))
     ∙ ap (λ (k : Text). let w : Request = record { file = q.file; certificate = k } in w) (same_Some r.certificate q.certificate (sym b.certificate ∙ a.certificate))
 
--- what holds of each command
+-- what holds of each command holds of it
 pub check_lawful : IsLawful check_command
-check_lawful = lawful_on_two_inputs check_row Request IsRequest one_request (λ q. q.file) (λ q. Some q.certificate) (λ q g o text. ⊥) (λ q g. Unit {0}) (λ q g other. CheckAnswer g other)
+check_lawful = lawful_on_two_inputs Request IsRequest one_request (λ q. q.file) (λ q. Some q.certificate) (λ q g o text. ⊥) (λ q g. Unit {0}) (λ q g other. CheckAnswer g other)
     (λ q g o text a. absurd a)
     (λ q g other. check_answered g other)
     (λ q bytes o p text line a b. absurd a.given)

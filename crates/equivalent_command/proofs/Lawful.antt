@@ -11,7 +11,7 @@ use Rattle.replies.specs.Command.{IsLeft}
 use Rattle.replies.proofs.Commands.{IsLawful, lawful_on_two_inputs}
 use Rattle.targets.specs.declared.query.Sets.{Sets}
 use Rattle.equivalent_command.specs.Answers.{IsAccepted, IsFirstRefusal, EquivalentAnswer}
-use Rattle.equivalent_command.specs.Requests.{Request, IsRequest, equivalent_row}
+use Rattle.equivalent_command.specs.Requests.{Request, IsRequest}
 use Rattle.equivalent_command.specs.Command.{equivalent_command, equivalent_left}
 use Rattle.equivalent_command.proofs.Outcomes.{first_answered, second_answered}
 use Rattle.equivalent_command.proofs.Exclusive.{equivalent_once, first_alone, first_once}
@@ -37,9 +37,9 @@ one_request uses q r a b =
     ∙ ap (λ (k : Text). let w : Request = record { file = q.file; second = k; query = r.query } in w) (same_Some r.second q.second (sym b.second ∙ a.second))
     ∙ ap (λ (k : Option Query). let w : Request = record { file = q.file; second = q.second; query = k } in w) (one_query (value_of uses (codes "x")) (value_of uses (codes "y")) (value_of uses (codes "given")) q.query r.query a.query b.query)
 
--- what holds of each command
+-- what holds of each command holds of it
 pub equivalent_lawful : IsLawful equivalent_command
-equivalent_lawful = lawful_on_two_inputs equivalent_row Request IsRequest one_request (λ q. q.file) (λ q. Some q.second) (λ q g. IsFirstRefusal g q.query) (λ q g. (s : Option Sets) × IsAccepted g q.query s) (λ q g other. EquivalentAnswer g q.query other)
+equivalent_lawful = lawful_on_two_inputs Request IsRequest one_request (λ q. q.file) (λ q. Some q.second) (λ q g. IsFirstRefusal g q.query) (λ q g. (s : Option Sets) × IsAccepted g q.query s) (λ q g other. EquivalentAnswer g q.query other)
     (λ q g. first_answered g q.query)
     (λ q g other o text a. second_answered g a.0 other o text a.2)
     (λ q bytes. first_once bytes q.query)

@@ -10,7 +10,7 @@ use Rattle.replies.specs.Command.{IsLeft}
 use Rattle.replies.proofs.Commands.{IsLawful, lawful_on_two_inputs}
 use Rattle.evaluate_command.specs.Answers.{EvaluateFirst, EvaluateAnswer}
 use Rattle.evaluate_command.specs.Effects.{PlainEffect, Identifies}
-use Rattle.evaluate_command.specs.Requests.{Request, IsRequest, evaluate_row}
+use Rattle.evaluate_command.specs.Requests.{Request, IsRequest}
 use Rattle.evaluate_command.specs.Command.{evaluate_command, evaluate_left}
 use Rattle.evaluate_command.proofs.Outcomes.{first_answered, counts_answered}
 use Rattle.evaluate_command.proofs.Exclusive.{evaluate_once, first_alone, first_once}
@@ -25,9 +25,9 @@ one_request uses q r a b =
     ∙ ap (λ (k : Option Text). let w : Request = record { file = q.file; counts = q.counts; x = q.x; y = q.y; count = k; exact = r.exact } in w) (sym b.count ∙ a.count)
     ∙ ap (λ (k : Bool). let w : Request = record { file = q.file; counts = q.counts; x = q.x; y = q.y; count = q.count; exact = k } in w) (sym b.exact ∙ a.exact)
 
--- what holds of each command
+-- what holds of each command holds of it
 pub evaluate_lawful : IsLawful evaluate_command
-evaluate_lawful = lawful_on_two_inputs evaluate_row Request IsRequest one_request (λ q. q.file) (λ q. Some q.counts) (λ q g. EvaluateFirst g q.x q.y) (λ q g. (e : PlainEffect) × Identifies g q.x q.y e) (λ q g other. EvaluateAnswer q.exact g q.x q.y q.count other)
+evaluate_lawful = lawful_on_two_inputs Request IsRequest one_request (λ q. q.file) (λ q. Some q.counts) (λ q g. EvaluateFirst g q.x q.y) (λ q g. (e : PlainEffect) × Identifies g q.x q.y e) (λ q g other. EvaluateAnswer q.exact g q.x q.y q.count other)
     (λ q g. first_answered g q.x q.y)
     (λ q g other o text a. counts_answered q.exact a.0 q.count other o text a.2)
     (λ q bytes. first_once bytes q.x q.y)

@@ -4,7 +4,7 @@ use Rattle.std.proofs.lemmas.Option.{same_Some}
 use Rattle.word_forms.specs.Form.{Text, Use}
 use Rattle.replies.proofs.Commands.{IsLawful, lawful_on_file}
 use Rattle.graph_command.specs.Answers.{GraphAnswer}
-use Rattle.graph_command.specs.Requests.{Request, IsRequest, graph_row}
+use Rattle.graph_command.specs.Requests.{Request, IsRequest}
 use Rattle.graph_command.specs.Command.{graph_command}
 use Rattle.graph_command.proofs.Outcomes.{graph_answered}
 use Rattle.graph_command.proofs.Exclusive.{graph_once}
@@ -15,8 +15,8 @@ one_request uses q r a b =
     ap (λ (k : Text). let w : Request = record { file = k; project = r.project } in w) (same_Some r.file q.file (sym b.file ∙ a.file))
     ∙ ap (λ (k : Bool). let w : Request = record { file = q.file; project = k } in w) (sym b.project ∙ a.project)
 
--- what holds of each command
+-- what holds of each command holds of it
 pub graph_lawful : IsLawful graph_command
-graph_lawful = lawful_on_file graph_row Request IsRequest one_request (λ q. q.file) (λ q g. GraphAnswer q.project g)
+graph_lawful = lawful_on_file Request IsRequest one_request (λ q. q.file) (λ q g. GraphAnswer q.project g)
     (λ q g. graph_answered q.project g)
     (λ q bytes. graph_once bytes q.project)

@@ -1,8 +1,8 @@
 -- The command `graph`.
 use Rattle.replies.specs.Command.{CommandForm, on_file}
 use Rattle.graph_command.specs.Answers.{GraphAnswer}
-use Rattle.graph_command.specs.Requests.{Request, IsRequest, graph_row}
+use Rattle.graph_command.specs.Requests.{Request, IsRequest}
 
--- its row, its request, and its answers
+-- its request and its answers
 abbrev pub graph_command : CommandForm
-graph_command = on_file graph_row Request IsRequest (λ q. q.file) (λ q g. GraphAnswer q.project g)
+graph_command = on_file Request IsRequest (λ q. q.file) (λ q g. GraphAnswer q.project g)

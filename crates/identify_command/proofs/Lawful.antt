@@ -9,7 +9,7 @@ use Rattle.identify_command.specs.declared.form.Form.{Form}
 use Rattle.identify_command.specs.Forms.{IsForm}
 use Rattle.replies.proofs.Commands.{IsLawful, lawful_on_file}
 use Rattle.identify_command.specs.Conditions.{IdentifyAnswerGiven}
-use Rattle.identify_command.specs.Requests.{Request, IsRequest, identify_row}
+use Rattle.identify_command.specs.Requests.{Request, IsRequest}
 use Rattle.identify_command.specs.Command.{identify_command}
 use Rattle.identify_command.proofs.Outcomes.{given_answered}
 use Rattle.identify_command.proofs.Exclusive.{identify_once}
@@ -29,8 +29,8 @@ one_request uses q r a b =
     ∙ ap (λ (k : Names). let w : Request = record { file = q.file; x = q.x; y = q.y; given = k; form = r.form } in w) (one_listed (value_of uses (codes "given")) q.given r.given a.given b.given)
     ∙ ap (λ (k : Form). let w : Request = record { file = q.file; x = q.x; y = q.y; given = q.given; form = k } in w) (one_form (has_flag uses (codes "certificate")) (has_flag uses (codes "latex")) q.form r.form a.form b.form)
 
--- what holds of each command
+-- what holds of each command holds of it
 pub identify_lawful : IsLawful identify_command
-identify_lawful = lawful_on_file identify_row Request IsRequest one_request (λ q. q.file) (λ q g. IdentifyAnswerGiven q.form g q.x q.y q.given)
+identify_lawful = lawful_on_file Request IsRequest one_request (λ q. q.file) (λ q g. IdentifyAnswerGiven q.form g q.x q.y q.given)
     (λ q g. given_answered q.form g q.x q.y q.given)
     (λ q bytes. identify_once bytes q.form q.x q.y q.given)

@@ -7,7 +7,7 @@ use Rattle.replies.specs.Command.{IsLeft}
 use Rattle.replies.proofs.Commands.{IsLawful, lawful_on_two_inputs}
 use Rattle.implications_command.specs.Answers.{FirstAnswer, DifferencesAnswer}
 use Rattle.implications_command.specs.Pairs.{PlainPairs, ArePairsOf}
-use Rattle.implications_command.specs.Requests.{Request, IsRequest, implications_row}
+use Rattle.implications_command.specs.Requests.{Request, IsRequest}
 use Rattle.implications_command.specs.Command.{implications_command, implications_left}
 use Rattle.implications_command.proofs.Outcomes.{first_answered, counts_answered}
 use Rattle.implications_command.proofs.Exclusive.{first_alone, first_once, implications_once}
@@ -19,9 +19,9 @@ one_request uses q r a b =
     ∙ ap (λ (k : Option Text). let w : Request = record { file = q.file; counts = k; count = r.count } in w) (sym b.counts ∙ a.counts)
     ∙ ap (λ (k : Option Text). let w : Request = record { file = q.file; counts = q.counts; count = k } in w) (sym b.count ∙ a.count)
 
--- what holds of each command
+-- what holds of each command holds of it
 pub implications_lawful : IsLawful implications_command
-implications_lawful = lawful_on_two_inputs implications_row Request IsRequest one_request (λ q. q.file) (λ q. q.counts) (λ q g. FirstAnswer q.counts g) (λ q g. (p : PlainPairs) × ArePairsOf g p) (λ q g other. DifferencesAnswer g q.count other)
+implications_lawful = lawful_on_two_inputs Request IsRequest one_request (λ q. q.file) (λ q. q.counts) (λ q g. FirstAnswer q.counts g) (λ q g. (p : PlainPairs) × ArePairsOf g p) (λ q g other. DifferencesAnswer g q.count other)
     (λ q g. first_answered q.counts g)
     (λ q g other o text a. counts_answered a.0 q.count other o text a.2)
     (λ q bytes. first_once bytes q.counts)

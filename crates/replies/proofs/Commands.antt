@@ -1,7 +1,7 @@
 -- What holds of each command: its words ask for one request, and its answers have one outcome, which is one that commands answer.
 use Rattle.std.proofs.Common.{◌≡◌, ℕ, List, Option, Some}
 use Rattle.std.proofs.lemmas.Option.{none-some}
-use Rattle.word_forms.specs.Form.{Text, Row, Use}
+use Rattle.word_forms.specs.Form.{Text, Use}
 use Rattle.dag_reader.specs.declared.graph.ReadGraph.{ReadGraph}
 use Rattle.dag_reader.specs.RoundTrip.{AreSame}
 use Rattle.replies.specs.declared.outcome.Outcome.{Outcome}
@@ -21,9 +21,9 @@ pub record IsLawful (c : CommandForm) : Type 0 where
   pub both_once : (q : c.Request) (bytes other : List ℕ) → OneOutcome (IsAnswerOn bytes (λ g. c.by_both q g other))
   pub file_alone : (q : c.Request) (second : Text) (g h : ReadGraph) → AreSame g h → c.second q ≡ Some second → (o : Outcome) (text : List ℕ) → c.by_graph q g o text → c.continues q h → ⊥
 
-module _ (row : Row) (Request : Type 0) (asks : List Use → Request → Type 0) (one : (uses : List Use) (q r : Request) → asks uses q → asks uses r → r ≡ q) where
+module _ (Request : Type 0) (asks : List Use → Request → Type 0) (one : (uses : List Use) (q r : Request) → asks uses q → asks uses r → r ≡ q) where
   pub lawful_on_words : (answer : Request → Outcome → List ℕ → Type 0) → ((q : Request) (o : Outcome) (text : List ℕ) → answer q o text → IsAnswered o) → ((q : Request) → OneOutcome (answer q))
-      → IsLawful (on_words row Request asks answer)
+      → IsLawful (on_words Request asks answer)
   lawful_on_words answer answered once = record {
     one_request = one;
     words_answered = answered;
@@ -37,7 +37,7 @@ module _ (row : Row) (Request : Type 0) (asks : List Use → Request → Type 0)
   }
 
   pub lawful_on_file : (file : Request → Text) (answer : Request → ReadGraph → Outcome → List ℕ → Type 0) → ((q : Request) (g : ReadGraph) (o : Outcome) (text : List ℕ) → answer q g o text → IsAnswered o)
-      → ((q : Request) (bytes : List ℕ) → OneOutcome (IsAnswerOn bytes (λ g. answer q g))) → IsLawful (on_file row Request asks file answer)
+      → ((q : Request) (bytes : List ℕ) → OneOutcome (IsAnswerOn bytes (λ g. answer q g))) → IsLawful (on_file Request asks file answer)
   lawful_on_file file answer answered once = record {
     one_request = one;
     words_answered = λ q o text a. absurd a;
@@ -55,7 +55,7 @@ module _ (row : Row) (Request : Type 0) (asks : List Use → Request → Type 0)
       → ((q : Request) (g : ReadGraph) (other : List ℕ) (o : Outcome) (text : List ℕ) → answer q g other o text → IsAnswered o)
       → ((q : Request) (bytes : List ℕ) → OneOutcome (IsAnswerOn bytes (λ g. alone q g))) → ((q : Request) (bytes other : List ℕ) → OneOutcome (IsAnswerOn bytes (λ g. answer q g other)))
       → ((q : Request) (name : Text) (g h : ReadGraph) → AreSame g h → second q ≡ Some name → (o : Outcome) (text : List ℕ) → alone q g o text → continues q h → ⊥)
-      → IsLawful (on_two_inputs row Request asks file second alone continues answer)
+      → IsLawful (on_two_inputs Request asks file second alone continues answer)
   lawful_on_two_inputs file second alone continues answer alone_answered answered alone_once once file_alone = record {
     one_request = one;
     words_answered = λ q o text a. absurd a;

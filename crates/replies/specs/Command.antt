@@ -1,13 +1,12 @@
 -- What a command is.
 use Rattle.std.specs.Prelude.{ℕ, ◌≡◌, List, Option, Some, None}
-use Rattle.word_forms.specs.Form.{Text, Row, Use}
+use Rattle.word_forms.specs.Form.{Text, Use}
 use Rattle.dag_reader.specs.declared.graph.ReadGraph.{ReadGraph}
 use Rattle.replies.specs.declared.outcome.Outcome.{Outcome}
 
--- A command: its row of the table of words; what it is asked for, and when uses of its words ask for that; its inputs, where it has them;
+-- A command: what it is asked for, and when uses of its words ask for that; its inputs, where it has them;
 -- and its answers, by the words alone, on the graph of the file where that alone decides, and on the graph and the bytes of the second input, where the graph is accepted for it.
 pub record CommandForm : Type 1 where
-  pub row : Row
   pub Request : Type 0
   pub asks : List Use → Request → Type 0
   pub file : Request → Option Text
@@ -18,9 +17,8 @@ pub record CommandForm : Type 1 where
   pub by_both : Request → ReadGraph → List ℕ → Outcome → List ℕ → Type 0
 
 -- a command without an input
-abbrev pub on_words : (row : Row) (Request : Type 0) → (List Use → Request → Type 0) → (Request → Outcome → List ℕ → Type 0) → CommandForm
-on_words row Request asks answer = record {
-  row = row;
+abbrev pub on_words : (Request : Type 0) → (List Use → Request → Type 0) → (Request → Outcome → List ℕ → Type 0) → CommandForm
+on_words Request asks answer = record {
   Request = Request;
   asks = asks;
   file = λ q. None;
@@ -32,9 +30,8 @@ on_words row Request asks answer = record {
 }
 
 -- a command on the graph of a file
-abbrev pub on_file : (row : Row) (Request : Type 0) → (List Use → Request → Type 0) → (Request → Text) → (Request → ReadGraph → Outcome → List ℕ → Type 0) → CommandForm
-on_file row Request asks file answer = record {
-  row = row;
+abbrev pub on_file : (Request : Type 0) → (List Use → Request → Type 0) → (Request → Text) → (Request → ReadGraph → Outcome → List ℕ → Type 0) → CommandForm
+on_file Request asks file answer = record {
   Request = Request;
   asks = asks;
   file = λ q. Some (file q);
@@ -46,10 +43,9 @@ on_file row Request asks file answer = record {
 }
 
 -- a command on the graph of a file and on a second input
-abbrev pub on_two_inputs : (row : Row) (Request : Type 0) → (List Use → Request → Type 0) → (Request → Text) → (Request → Option Text) → (Request → ReadGraph → Outcome → List ℕ → Type 0)
+abbrev pub on_two_inputs : (Request : Type 0) → (List Use → Request → Type 0) → (Request → Text) → (Request → Option Text) → (Request → ReadGraph → Outcome → List ℕ → Type 0)
     → (Request → ReadGraph → Type 0) → (Request → ReadGraph → List ℕ → Outcome → List ℕ → Type 0) → CommandForm
-on_two_inputs row Request asks file second alone continues answer = record {
-  row = row;
+on_two_inputs Request asks file second alone continues answer = record {
   Request = Request;
   asks = asks;
   file = λ q. Some (file q);
@@ -59,6 +55,10 @@ on_two_inputs row Request asks file second alone continues answer = record {
   continues = continues;
   by_both = answer;
 }
+
+-- the uses ask a command for nothing
+pub record AsksNothing (c : CommandForm) (uses : List Use) : Type 0 where
+  pub nothing : (q : c.Request) → c.asks uses q → ⊥
 
 -- What is left to answer once a graph was accepted: the name of the second input, the most bytes that it may have, what is known of what was kept of the graph, and the answer on the bytes.
 pub record Remainder : Type 1 where

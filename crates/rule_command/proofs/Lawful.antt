@@ -9,7 +9,7 @@ use Rattle.do_rules.specs.declared.rules.Rule.{Rule}
 use Rattle.do_rules.specs.declared.rules.Rule.TheVariants as rules
 use Rattle.replies.proofs.Commands.{IsLawful, lawful_on_file}
 use Rattle.rule_command.specs.Answers.{RuleAnswer}
-use Rattle.rule_command.specs.Requests.{Request, IsRequest, rule_row}
+use Rattle.rule_command.specs.Requests.{Request, IsRequest}
 use Rattle.rule_command.specs.Command.{rule_command}
 use Rattle.rule_command.proofs.Outcomes.{rule_answered}
 use Rattle.rule_command.proofs.Exclusive.{rule_once}
@@ -30,8 +30,8 @@ one_request uses q r a b =
     ∙ ap (λ (k : List Text). let w : Request = record { file = q.file; rule = q.rule; y = q.y; done = q.done; z = k; given = r.given } in w) (one_needed_list (value_of uses (codes "z")) q.z r.z a.z b.z)
     ∙ ap (λ (k : List Text). let w : Request = record { file = q.file; rule = q.rule; y = q.y; done = q.done; z = q.z; given = k } in w) (one_listed_or_empty (value_of uses (codes "given")) q.given r.given a.given b.given)
 
--- what holds of each command
+-- what holds of each command holds of it
 pub rule_lawful : IsLawful rule_command
-rule_lawful = lawful_on_file rule_row Request IsRequest one_request (λ q. q.file) (λ q g. RuleAnswer q.rule g q.y q.done q.z q.given)
+rule_lawful = lawful_on_file Request IsRequest one_request (λ q. q.file) (λ q g. RuleAnswer q.rule g q.y q.done q.z q.given)
     (λ q g. rule_answered q.rule g q.y q.done q.z q.given)
     (λ q bytes. rule_once bytes q.rule q.y q.done q.z q.given)

@@ -7,7 +7,7 @@ use Rattle.request_values.proofs.OneValue.{one_listed}
 use Rattle.replies.specs.Observed.{Names}
 use Rattle.replies.proofs.Commands.{IsLawful, lawful_on_file}
 use Rattle.separate_command.specs.Answers.{SeparateAnswer}
-use Rattle.separate_command.specs.Requests.{Request, IsRequest, separate_row}
+use Rattle.separate_command.specs.Requests.{Request, IsRequest}
 use Rattle.separate_command.specs.Command.{separate_command}
 use Rattle.separate_command.proofs.Outcomes.{separate_answered}
 use Rattle.separate_command.proofs.Exclusive.{separate_once}
@@ -20,8 +20,8 @@ one_request uses q r a b =
     ∙ ap (λ (k : Names). let w : Request = record { file = q.file; x = q.x; y = k; given = r.given } in w) (one_listed (value_of uses (codes "y")) q.y r.y a.y b.y)
     ∙ ap (λ (k : Names). let w : Request = record { file = q.file; x = q.x; y = q.y; given = k } in w) (one_listed (value_of uses (codes "given")) q.given r.given a.given b.given)
 
--- what holds of each command
+-- what holds of each command holds of it
 pub separate_lawful : IsLawful separate_command
-separate_lawful = lawful_on_file separate_row Request IsRequest one_request (λ q. q.file) (λ q g. SeparateAnswer g q.x q.y q.given)
+separate_lawful = lawful_on_file Request IsRequest one_request (λ q. q.file) (λ q g. SeparateAnswer g q.x q.y q.given)
     (λ q g. separate_answered g q.x q.y q.given)
     (λ q bytes. separate_once bytes q.x q.y q.given)

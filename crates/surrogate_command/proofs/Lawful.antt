@@ -9,7 +9,7 @@ use Rattle.surrogate_command.specs.Experiments.{Lists}
 use Rattle.surrogate_command.proofs.OneWord.{one_word}
 use Rattle.replies.proofs.Commands.{IsLawful, lawful_on_file}
 use Rattle.surrogate_command.specs.Answers.{SurrogateAnswer}
-use Rattle.surrogate_command.specs.Requests.{Request, IsRequest, surrogate_row}
+use Rattle.surrogate_command.specs.Requests.{Request, IsRequest}
 use Rattle.surrogate_command.specs.Command.{surrogate_command}
 use Rattle.surrogate_command.proofs.Outcomes.{surrogate_answered}
 use Rattle.surrogate_command.proofs.Exclusive.{surrogate_once}
@@ -22,8 +22,8 @@ one_request uses q r a b =
     ∙ ap (λ (k : Names). let w : Request = record { file = q.file; x = q.x; y = k; experiments = r.experiments } in w) (one_listed (value_of uses (codes "y")) q.y r.y a.y b.y)
     ∙ ap (λ (k : Lists). let w : Request = record { file = q.file; x = q.x; y = q.y; experiments = k } in w) (one_word (value_of uses (codes "experiments")) q.experiments r.experiments a.experiments b.experiments)
 
--- what holds of each command
+-- what holds of each command holds of it
 pub surrogate_lawful : IsLawful surrogate_command
-surrogate_lawful = lawful_on_file surrogate_row Request IsRequest one_request (λ q. q.file) (λ q g. SurrogateAnswer g q.x q.y q.experiments)
+surrogate_lawful = lawful_on_file Request IsRequest one_request (λ q. q.file) (λ q g. SurrogateAnswer g q.x q.y q.experiments)
     (λ q g. surrogate_answered g q.x q.y q.experiments)
     (λ q bytes. surrogate_once bytes q.x q.y q.experiments)

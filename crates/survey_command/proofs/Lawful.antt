@@ -15,8 +15,8 @@ one_request : (uses : List Use) (q r : Request) → IsRequest uses q → IsReque
 one_request uses q r a b =
     ap (λ (k : ℕ). let w : Request = record { seed = k } in w) (one_needed_number (word_of survey_row uses (codes "number")) 0 (2 ^ 64 - 1) q.seed r.seed a.seed b.seed)
 
--- what holds of each command
+-- what holds of each command holds of it
 pub survey_lawful : IsLawful survey_command
-survey_lawful = lawful_on_words survey_row Request IsRequest one_request (λ q. SurveyAnswer q.seed)
+survey_lawful = lawful_on_words Request IsRequest one_request (λ q. SurveyAnswer q.seed)
     (λ q. survey_answered q.seed)
     (λ q. survey_once q.seed)
