@@ -14,3 +14,4 @@ mod CheckedRuns
 mod OneRequest
 mod OneAnswer
 mod CompleteRuns
+mod CallAnswers
