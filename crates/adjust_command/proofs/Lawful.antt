@@ -2,10 +2,10 @@
 use Rattle.std.proofs.Common.{◌≡◌, ℕ, List, sym, ap, ◌∙◌}
 use Rattle.std.specs.Prelude.{codes}
 use Rattle.std.proofs.lemmas.Option.{same_Some}
-use Rattle.word_forms.specs.Form.{Text, Use, value_of, has_flag}
+use Rattle.word_forms.specs.Form.{Use, value_of, has_flag}
 use Rattle.request_values.proofs.OneValue.{one_listed, one_number_or}
 use Rattle.replies.specs.Observed.{Names}
-use Rattle.adjust_command.specs.Queries.{Query, query_for}
+use Rattle.adjust_command.specs.Queries.{query_for}
 use Rattle.replies.proofs.Commands.{IsLawful, lawful_on_file}
 use Rattle.adjust_command.specs.Answers.{AdjustAnswer}
 use Rattle.adjust_command.specs.Requests.{Request, IsRequest}
@@ -21,11 +21,12 @@ one_adjusting uses q r a b =
 
 -- the uses ask for one request
 one_request : (uses : List Use) (q r : Request) → IsRequest uses q → IsRequest uses r → r ≡ q
-one_request uses q r a b =
-    ap (λ (k : Text). let w : Request = record { file = k; x = r.x; y = r.y; query = r.query } in w) (same_Some r.file q.file (sym b.file ∙ a.file))
-    ∙ ap (λ (k : Names). let w : Request = record { file = q.file; x = k; y = r.y; query = r.query } in w) (one_listed (value_of uses (codes "x")) q.x r.x a.x b.x)
-    ∙ ap (λ (k : Names). let w : Request = record { file = q.file; x = q.x; y = k; query = r.query } in w) (one_listed (value_of uses (codes "y")) q.y r.y a.y b.y)
-    ∙ ap (λ (k : Query). let w : Request = record { file = q.file; x = q.x; y = q.y; query = k } in w) (one_adjusting uses q r a b)
+one_request uses q r a b = λ i. record {
+  file = same_Some r.file q.file (sym b.file ∙ a.file) i;
+  x = one_listed (value_of uses (codes "x")) q.x r.x a.x b.x i;
+  y = one_listed (value_of uses (codes "y")) q.y r.y a.y b.y i;
+  query = one_adjusting uses q r a b i;
+}
 
 -- what holds of each command holds of it
 pub adjust_lawful : IsLawful adjust_command

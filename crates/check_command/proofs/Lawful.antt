@@ -1,7 +1,7 @@
 -- The command's words ask for one request, and its answers have one outcome.
-use Rattle.std.proofs.Common.{◌≡◌, List, Some, refl, sym, ap, ◌∙◌}
+use Rattle.std.proofs.Common.{◌≡◌, List, Some, refl, sym, ◌∙◌}
 use Rattle.std.proofs.lemmas.Option.{same_Some}
-use Rattle.word_forms.specs.Form.{Text, Use}
+use Rattle.word_forms.specs.Form.{Use}
 use Rattle.dag_reader.specs.declared.graph.ReadGraph.{ReadGraph}
 use Rattle.replies.specs.Command.{IsLeft}
 use Rattle.replies.proofs.Commands.{IsLawful, lawful_on_two_inputs}
@@ -13,9 +13,10 @@ use Rattle.check_command.proofs.Exclusive.{check_once}
 
 -- the uses ask for one request
 one_request : (uses : List Use) (q r : Request) → IsRequest uses q → IsRequest uses r → r ≡ q
-one_request uses q r a b =
-    ap (λ (k : Text). let w : Request = record { file = k; certificate = r.certificate } in w) (same_Some r.file q.file (sym b.file ∙ a.file))
-    ∙ ap (λ (k : Text). let w : Request = record { file = q.file; certificate = k } in w) (same_Some r.certificate q.certificate (sym b.certificate ∙ a.certificate))
+one_request uses q r a b = λ i. record {
+  file = same_Some r.file q.file (sym b.file ∙ a.file) i;
+  certificate = same_Some r.certificate q.certificate (sym b.certificate ∙ a.certificate) i;
+}
 
 -- what holds of each command holds of it
 pub check_lawful : IsLawful check_command

@@ -1,5 +1,5 @@
 -- The command's words ask for one request, and its answers have one outcome.
-use Rattle.std.proofs.Common.{◌≡◌, List, Option, Some, None, refl, sym, ap, ◌∙◌}
+use Rattle.std.proofs.Common.{◌≡◌, List, Option, Some, None, refl, sym, ◌∙◌}
 use Rattle.std.specs.Prelude.{codes}
 use Rattle.std.proofs.lemmas.Option.{none-some, same_Some}
 use Rattle.word_forms.specs.Form.{Text, Use, value_of}
@@ -26,16 +26,15 @@ one_query x y given None None a b = refl
 one_query x y given None (Some r) a b = absurd (no_query x r.x a.0 b.0)
 one_query x y given (Some q) None a b = absurd (no_query x q.x b.0 a.0)
 one_query x y given (Some q) (Some r) a b =
-    ap (λ (k : List Text). let w : Query = record { x = k; y = r.y; given = r.given } in Some w) (one_needed_list x q.x r.x a.0 b.0)
-    ∙ ap (λ (k : List Text). let w : Query = record { x = q.x; y = k; given = r.given } in Some w) (one_needed_list y q.y r.y a.1 b.1)
-    ∙ ap (λ (k : List Text). let w : Query = record { x = q.x; y = q.y; given = k } in Some w) (one_listed_or_empty given q.given r.given a.2 b.2)
+    λ i. let w : Query = record { x = one_needed_list x q.x r.x a.0 b.0 i; y = one_needed_list y q.y r.y a.1 b.1 i; given = one_listed_or_empty given q.given r.given a.2 b.2 i } in Some w
 
 -- the uses ask for one request
 one_request : (uses : List Use) (q r : Request) → IsRequest uses q → IsRequest uses r → r ≡ q
-one_request uses q r a b =
-    ap (λ (k : Text). let w : Request = record { file = k; second = r.second; query = r.query } in w) (same_Some r.file q.file (sym b.file ∙ a.file))
-    ∙ ap (λ (k : Text). let w : Request = record { file = q.file; second = k; query = r.query } in w) (same_Some r.second q.second (sym b.second ∙ a.second))
-    ∙ ap (λ (k : Option Query). let w : Request = record { file = q.file; second = q.second; query = k } in w) (one_query (value_of uses (codes "x")) (value_of uses (codes "y")) (value_of uses (codes "given")) q.query r.query a.query b.query)
+one_request uses q r a b = λ i. record {
+  file = same_Some r.file q.file (sym b.file ∙ a.file) i;
+  second = same_Some r.second q.second (sym b.second ∙ a.second) i;
+  query = one_query (value_of uses (codes "x")) (value_of uses (codes "y")) (value_of uses (codes "given")) q.query r.query a.query b.query i;
+}
 
 -- what holds of each command holds of it
 pub equivalent_lawful : IsLawful equivalent_command

@@ -1,10 +1,9 @@
 -- The command's words ask for one request, and its answers have one outcome.
-use Rattle.std.proofs.Common.{◌≡◌, Bool, List, Option, Some, refl, sym, ap, ◌∙◌}
+use Rattle.std.proofs.Common.{◌≡◌, List, Some, refl, sym, ◌∙◌}
 use Rattle.std.specs.Prelude.{codes}
 use Rattle.std.proofs.lemmas.Option.{same_Some}
-use Rattle.word_forms.specs.Form.{Text, Use, value_of}
+use Rattle.word_forms.specs.Form.{Use, value_of}
 use Rattle.request_values.proofs.OneValue.{one_listed}
-use Rattle.replies.specs.Observed.{Names}
 use Rattle.dag_reader.specs.declared.graph.ReadGraph.{ReadGraph}
 use Rattle.replies.specs.Command.{IsLeft}
 use Rattle.replies.proofs.Commands.{IsLawful, lawful_on_two_inputs}
@@ -17,13 +16,14 @@ use Rattle.evaluate_command.proofs.Exclusive.{evaluate_once, first_alone, first_
 
 -- the uses ask for one request
 one_request : (uses : List Use) (q r : Request) → IsRequest uses q → IsRequest uses r → r ≡ q
-one_request uses q r a b =
-    ap (λ (k : Text). let w : Request = record { file = k; counts = r.counts; x = r.x; y = r.y; count = r.count; exact = r.exact } in w) (same_Some r.file q.file (sym b.file ∙ a.file))
-    ∙ ap (λ (k : Text). let w : Request = record { file = q.file; counts = k; x = r.x; y = r.y; count = r.count; exact = r.exact } in w) (same_Some r.counts q.counts (sym b.counts ∙ a.counts))
-    ∙ ap (λ (k : Names). let w : Request = record { file = q.file; counts = q.counts; x = k; y = r.y; count = r.count; exact = r.exact } in w) (one_listed (value_of uses (codes "x")) q.x r.x a.x b.x)
-    ∙ ap (λ (k : Names). let w : Request = record { file = q.file; counts = q.counts; x = q.x; y = k; count = r.count; exact = r.exact } in w) (one_listed (value_of uses (codes "y")) q.y r.y a.y b.y)
-    ∙ ap (λ (k : Option Text). let w : Request = record { file = q.file; counts = q.counts; x = q.x; y = q.y; count = k; exact = r.exact } in w) (sym b.count ∙ a.count)
-    ∙ ap (λ (k : Bool). let w : Request = record { file = q.file; counts = q.counts; x = q.x; y = q.y; count = q.count; exact = k } in w) (sym b.exact ∙ a.exact)
+one_request uses q r a b = λ i. record {
+  file = same_Some r.file q.file (sym b.file ∙ a.file) i;
+  counts = same_Some r.counts q.counts (sym b.counts ∙ a.counts) i;
+  x = one_listed (value_of uses (codes "x")) q.x r.x a.x b.x i;
+  y = one_listed (value_of uses (codes "y")) q.y r.y a.y b.y i;
+  count = (sym b.count ∙ a.count) i;
+  exact = (sym b.exact ∙ a.exact) i;
+}
 
 -- what holds of each command holds of it
 pub evaluate_lawful : IsLawful evaluate_command

@@ -1,7 +1,7 @@
 -- The command's words ask for one request, and its answers have one outcome.
-use Rattle.std.proofs.Common.{◌≡◌, Bool, List, sym, ap, ◌∙◌}
+use Rattle.std.proofs.Common.{◌≡◌, List, sym, ◌∙◌}
 use Rattle.std.proofs.lemmas.Option.{same_Some}
-use Rattle.word_forms.specs.Form.{Text, Use}
+use Rattle.word_forms.specs.Form.{Use}
 use Rattle.replies.proofs.Commands.{IsLawful, lawful_on_file}
 use Rattle.graph_command.specs.Answers.{GraphAnswer}
 use Rattle.graph_command.specs.Requests.{Request, IsRequest}
@@ -11,9 +11,10 @@ use Rattle.graph_command.proofs.Exclusive.{graph_once}
 
 -- the uses ask for one request
 one_request : (uses : List Use) (q r : Request) → IsRequest uses q → IsRequest uses r → r ≡ q
-one_request uses q r a b =
-    ap (λ (k : Text). let w : Request = record { file = k; project = r.project } in w) (same_Some r.file q.file (sym b.file ∙ a.file))
-    ∙ ap (λ (k : Bool). let w : Request = record { file = q.file; project = k } in w) (sym b.project ∙ a.project)
+one_request uses q r a b = λ i. record {
+  file = same_Some r.file q.file (sym b.file ∙ a.file) i;
+  project = (sym b.project ∙ a.project) i;
+}
 
 -- what holds of each command holds of it
 pub graph_lawful : IsLawful graph_command

@@ -1,5 +1,5 @@
 -- The command's words ask for one request, and its answers have one outcome.
-use Rattle.std.proofs.Common.{◌≡◌, List, Option, Some, sym, ap, ◌∙◌, subst}
+use Rattle.std.proofs.Common.{◌≡◌, List, Option, Some, sym, ◌∙◌, subst}
 use Rattle.std.proofs.lemmas.Option.{same_Some}
 use Rattle.word_forms.specs.Form.{Text, Use}
 use Rattle.dag_reader.specs.declared.graph.ReadGraph.{ReadGraph}
@@ -14,10 +14,11 @@ use Rattle.implications_command.proofs.Exclusive.{first_alone, first_once, impli
 
 -- the uses ask for one request
 one_request : (uses : List Use) (q r : Request) → IsRequest uses q → IsRequest uses r → r ≡ q
-one_request uses q r a b =
-    ap (λ (k : Text). let w : Request = record { file = k; counts = r.counts; count = r.count } in w) (same_Some r.file q.file (sym b.file ∙ a.file))
-    ∙ ap (λ (k : Option Text). let w : Request = record { file = q.file; counts = k; count = r.count } in w) (sym b.counts ∙ a.counts)
-    ∙ ap (λ (k : Option Text). let w : Request = record { file = q.file; counts = q.counts; count = k } in w) (sym b.count ∙ a.count)
+one_request uses q r a b = λ i. record {
+  file = same_Some r.file q.file (sym b.file ∙ a.file) i;
+  counts = (sym b.counts ∙ a.counts) i;
+  count = (sym b.count ∙ a.count) i;
+}
 
 -- what holds of each command holds of it
 pub implications_lawful : IsLawful implications_command

@@ -1,8 +1,8 @@
 -- The command's words ask for one request, and its answers have one outcome.
-use Rattle.std.proofs.Common.{◌≡◌, List, refl, sym, ap, ◌∙◌, arith}
+use Rattle.std.proofs.Common.{◌≡◌, List, refl, sym, ◌∙◌, arith}
 use Rattle.std.specs.Prelude.{codes}
 use Rattle.std.proofs.lemmas.Option.{same_Some}
-use Rattle.word_forms.specs.Form.{Text, Use, value_of}
+use Rattle.word_forms.specs.Form.{Use, value_of}
 use Rattle.request_values.proofs.OneValue.{one_listed_or_empty, one_needed_list, one_needed_number}
 use Rattle.do_rules.specs.Rules.{number_of}
 use Rattle.do_rules.specs.declared.rules.Rule.{Rule}
@@ -22,13 +22,14 @@ same_rule s t e = absurd (omega (arith, e))
 
 -- the uses ask for one request
 one_request : (uses : List Use) (q r : Request) → IsRequest uses q → IsRequest uses r → r ≡ q
-one_request uses q r a b =
-    ap (λ (k : Text). let w : Request = record { file = k; rule = r.rule; y = r.y; done = r.done; z = r.z; given = r.given } in w) (same_Some r.file q.file (sym b.file ∙ a.file))
-    ∙ ap (λ (k : Rule). let w : Request = record { file = q.file; rule = k; y = r.y; done = r.done; z = r.z; given = r.given } in w) (same_rule r.rule q.rule (one_needed_number (value_of uses (codes "rule")) 1 3 (number_of q.rule) (number_of r.rule) a.rule b.rule))
-    ∙ ap (λ (k : List Text). let w : Request = record { file = q.file; rule = q.rule; y = k; done = r.done; z = r.z; given = r.given } in w) (one_needed_list (value_of uses (codes "y")) q.y r.y a.y b.y)
-    ∙ ap (λ (k : List Text). let w : Request = record { file = q.file; rule = q.rule; y = q.y; done = k; z = r.z; given = r.given } in w) (one_listed_or_empty (value_of uses (codes "do")) q.done r.done a.done b.done)
-    ∙ ap (λ (k : List Text). let w : Request = record { file = q.file; rule = q.rule; y = q.y; done = q.done; z = k; given = r.given } in w) (one_needed_list (value_of uses (codes "z")) q.z r.z a.z b.z)
-    ∙ ap (λ (k : List Text). let w : Request = record { file = q.file; rule = q.rule; y = q.y; done = q.done; z = q.z; given = k } in w) (one_listed_or_empty (value_of uses (codes "given")) q.given r.given a.given b.given)
+one_request uses q r a b = λ i. record {
+  file = same_Some r.file q.file (sym b.file ∙ a.file) i;
+  rule = same_rule r.rule q.rule (one_needed_number (value_of uses (codes "rule")) 1 3 (number_of q.rule) (number_of r.rule) a.rule b.rule) i;
+  y = one_needed_list (value_of uses (codes "y")) q.y r.y a.y b.y i;
+  done = one_listed_or_empty (value_of uses (codes "do")) q.done r.done a.done b.done i;
+  z = one_needed_list (value_of uses (codes "z")) q.z r.z a.z b.z i;
+  given = one_listed_or_empty (value_of uses (codes "given")) q.given r.given a.given b.given i;
+}
 
 -- what holds of each command holds of it
 pub rule_lawful : IsLawful rule_command

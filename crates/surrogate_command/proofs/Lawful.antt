@@ -1,11 +1,9 @@
 -- The command's words ask for one request, and its answers have one outcome.
-use Rattle.std.proofs.Common.{◌≡◌, List, sym, ap, ◌∙◌}
+use Rattle.std.proofs.Common.{◌≡◌, List, sym, ◌∙◌}
 use Rattle.std.specs.Prelude.{codes}
 use Rattle.std.proofs.lemmas.Option.{same_Some}
-use Rattle.word_forms.specs.Form.{Text, Use, value_of}
+use Rattle.word_forms.specs.Form.{Use, value_of}
 use Rattle.request_values.proofs.OneValue.{one_listed}
-use Rattle.replies.specs.Observed.{Names}
-use Rattle.surrogate_command.specs.Experiments.{Lists}
 use Rattle.surrogate_command.proofs.OneWord.{one_word}
 use Rattle.replies.proofs.Commands.{IsLawful, lawful_on_file}
 use Rattle.surrogate_command.specs.Answers.{SurrogateAnswer}
@@ -16,11 +14,12 @@ use Rattle.surrogate_command.proofs.Exclusive.{surrogate_once}
 
 -- the uses ask for one request
 one_request : (uses : List Use) (q r : Request) → IsRequest uses q → IsRequest uses r → r ≡ q
-one_request uses q r a b =
-    ap (λ (k : Text). let w : Request = record { file = k; x = r.x; y = r.y; experiments = r.experiments } in w) (same_Some r.file q.file (sym b.file ∙ a.file))
-    ∙ ap (λ (k : Names). let w : Request = record { file = q.file; x = k; y = r.y; experiments = r.experiments } in w) (one_listed (value_of uses (codes "x")) q.x r.x a.x b.x)
-    ∙ ap (λ (k : Names). let w : Request = record { file = q.file; x = q.x; y = k; experiments = r.experiments } in w) (one_listed (value_of uses (codes "y")) q.y r.y a.y b.y)
-    ∙ ap (λ (k : Lists). let w : Request = record { file = q.file; x = q.x; y = q.y; experiments = k } in w) (one_word (value_of uses (codes "experiments")) q.experiments r.experiments a.experiments b.experiments)
+one_request uses q r a b = λ i. record {
+  file = same_Some r.file q.file (sym b.file ∙ a.file) i;
+  x = one_listed (value_of uses (codes "x")) q.x r.x a.x b.x i;
+  y = one_listed (value_of uses (codes "y")) q.y r.y a.y b.y i;
+  experiments = one_word (value_of uses (codes "experiments")) q.experiments r.experiments a.experiments b.experiments i;
+}
 
 -- what holds of each command holds of it
 pub surrogate_lawful : IsLawful surrogate_command

@@ -1,5 +1,5 @@
 -- The command's words ask for one request, and its answers have one outcome.
-use Rattle.std.proofs.Common.{◌≡◌, ◌-◌, ℕ, List, ap}
+use Rattle.std.proofs.Common.{◌≡◌, ◌-◌, List}
 use Rattle.std.specs.Prelude.{◌^◌, codes}
 use Rattle.word_forms.specs.Form.{Use, word_of}
 use Rattle.request_values.proofs.OneValue.{one_needed_number}
@@ -12,8 +12,9 @@ use Rattle.survey_command.proofs.Exclusive.{survey_once}
 
 -- the uses ask for one request
 one_request : (uses : List Use) (q r : Request) → IsRequest uses q → IsRequest uses r → r ≡ q
-one_request uses q r a b =
-    ap (λ (k : ℕ). let w : Request = record { seed = k } in w) (one_needed_number (word_of survey_row uses (codes "number")) 0 (2 ^ 64 - 1) q.seed r.seed a.seed b.seed)
+one_request uses q r a b = λ i. record {
+  seed = one_needed_number (word_of survey_row uses (codes "number")) 0 (2 ^ 64 - 1) q.seed r.seed a.seed b.seed i;
+}
 
 -- what holds of each command holds of it
 pub survey_lawful : IsLawful survey_command
