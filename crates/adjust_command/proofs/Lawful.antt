@@ -7,7 +7,6 @@ use Rattle.request_values.proofs.OneValue.{one_listed, one_number_or}
 use Rattle.replies.specs.Observed.{Names}
 use Rattle.adjust_command.specs.Queries.{query_for}
 use Rattle.replies.proofs.Commands.{IsLawful, lawful_on_file}
-use Rattle.adjust_command.specs.Answers.{AdjustAnswer}
 use Rattle.adjust_command.specs.Requests.{Request, IsRequest}
 use Rattle.adjust_command.specs.Command.{adjust_command}
 use Rattle.adjust_command.proofs.Outcomes.{adjust_answered}
@@ -30,6 +29,4 @@ one_request uses q r a b = λ i. record {
 
 -- what holds of each command holds of it
 pub adjust_lawful : IsLawful adjust_command
-adjust_lawful = lawful_on_file Request IsRequest one_request (λ q. q.file) (λ q g. AdjustAnswer g q.x q.y q.query)
-    (λ q g. adjust_answered g q.x q.y q.query)
-    (λ q bytes. adjust_once bytes q.x q.y q.query)
+adjust_lawful = lawful_on_file one_request (λ q g. adjust_answered g q.x q.y q.query) (λ q bytes. adjust_once bytes q.x q.y q.query)

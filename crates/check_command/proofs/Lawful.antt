@@ -1,11 +1,10 @@
 -- The command's words ask for one request, and its answers have one outcome.
-use Rattle.std.proofs.Common.{◌≡◌, List, Some, refl, sym, ◌∙◌}
+use Rattle.std.proofs.Common.{◌≡◌, List, refl, sym, ◌∙◌}
 use Rattle.std.proofs.lemmas.Option.{same_Some}
 use Rattle.word_forms.specs.Form.{Use}
 use Rattle.dag_reader.specs.declared.graph.ReadGraph.{ReadGraph}
 use Rattle.replies.specs.Command.{IsLeft}
 use Rattle.replies.proofs.Commands.{IsLawful, lawful_on_two_inputs}
-use Rattle.check_command.specs.Answers.{CheckAnswer}
 use Rattle.check_command.specs.Requests.{Request, IsRequest}
 use Rattle.check_command.specs.Command.{check_command, check_left}
 use Rattle.check_command.proofs.Outcomes.{check_answered}
@@ -20,7 +19,7 @@ one_request uses q r a b = λ i. record {
 
 -- what holds of each command holds of it
 pub check_lawful : IsLawful check_command
-check_lawful = lawful_on_two_inputs Request IsRequest one_request (λ q. q.file) (λ q. Some q.certificate) (λ q g o text. ⊥) (λ q g. Unit {0}) (λ q g other. CheckAnswer g other)
+check_lawful = lawful_on_two_inputs one_request
     (λ q g o text a. absurd a)
     (λ q g other. check_answered g other)
     (λ q bytes o p text line a b. absurd a.given)

@@ -10,7 +10,7 @@ use Rattle.dag_reader.specs.declared.graph.ReadGraph.{ReadGraph}
 use Rattle.replies.specs.Command.{IsLeft}
 use Rattle.replies.proofs.Commands.{IsLawful, lawful_on_two_inputs}
 use Rattle.targets.specs.declared.query.Sets.{Sets}
-use Rattle.equivalent_command.specs.Answers.{IsAccepted, IsFirstRefusal, EquivalentAnswer}
+use Rattle.equivalent_command.specs.Answers.{IsAccepted}
 use Rattle.equivalent_command.specs.Requests.{Request, IsRequest}
 use Rattle.equivalent_command.specs.Command.{equivalent_command, equivalent_left}
 use Rattle.equivalent_command.proofs.Outcomes.{first_answered, second_answered}
@@ -38,7 +38,7 @@ one_request uses q r a b = λ i. record {
 
 -- what holds of each command holds of it
 pub equivalent_lawful : IsLawful equivalent_command
-equivalent_lawful = lawful_on_two_inputs Request IsRequest one_request (λ q. q.file) (λ q. Some q.second) (λ q g. IsFirstRefusal g q.query) (λ q g. (s : Option Sets) × IsAccepted g q.query s) (λ q g other. EquivalentAnswer g q.query other)
+equivalent_lawful = lawful_on_two_inputs one_request
     (λ q g. first_answered g q.query)
     (λ q g other o text a. second_answered g a.0 other o text a.2)
     (λ q bytes. first_once bytes q.query)

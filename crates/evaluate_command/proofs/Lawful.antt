@@ -1,5 +1,5 @@
 -- The command's words ask for one request, and its answers have one outcome.
-use Rattle.std.proofs.Common.{◌≡◌, List, Some, refl, sym, ◌∙◌}
+use Rattle.std.proofs.Common.{◌≡◌, List, refl, sym, ◌∙◌}
 use Rattle.std.specs.Prelude.{codes}
 use Rattle.std.proofs.lemmas.Option.{same_Some}
 use Rattle.word_forms.specs.Form.{Use, value_of}
@@ -7,7 +7,6 @@ use Rattle.request_values.proofs.OneValue.{one_listed}
 use Rattle.dag_reader.specs.declared.graph.ReadGraph.{ReadGraph}
 use Rattle.replies.specs.Command.{IsLeft}
 use Rattle.replies.proofs.Commands.{IsLawful, lawful_on_two_inputs}
-use Rattle.evaluate_command.specs.Answers.{EvaluateFirst, EvaluateAnswer}
 use Rattle.evaluate_command.specs.Effects.{PlainEffect, Identifies}
 use Rattle.evaluate_command.specs.Requests.{Request, IsRequest}
 use Rattle.evaluate_command.specs.Command.{evaluate_command, evaluate_left}
@@ -27,7 +26,7 @@ one_request uses q r a b = λ i. record {
 
 -- what holds of each command holds of it
 pub evaluate_lawful : IsLawful evaluate_command
-evaluate_lawful = lawful_on_two_inputs Request IsRequest one_request (λ q. q.file) (λ q. Some q.counts) (λ q g. EvaluateFirst g q.x q.y) (λ q g. (e : PlainEffect) × Identifies g q.x q.y e) (λ q g other. EvaluateAnswer q.exact g q.x q.y q.count other)
+evaluate_lawful = lawful_on_two_inputs one_request
     (λ q g. first_answered g q.x q.y)
     (λ q g other o text a. counts_answered q.exact a.0 q.count other o text a.2)
     (λ q bytes. first_once bytes q.x q.y)

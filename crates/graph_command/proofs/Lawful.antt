@@ -3,7 +3,6 @@ use Rattle.std.proofs.Common.{◌≡◌, List, sym, ◌∙◌}
 use Rattle.std.proofs.lemmas.Option.{same_Some}
 use Rattle.word_forms.specs.Form.{Use}
 use Rattle.replies.proofs.Commands.{IsLawful, lawful_on_file}
-use Rattle.graph_command.specs.Answers.{GraphAnswer}
 use Rattle.graph_command.specs.Requests.{Request, IsRequest}
 use Rattle.graph_command.specs.Command.{graph_command}
 use Rattle.graph_command.proofs.Outcomes.{graph_answered}
@@ -18,6 +17,4 @@ one_request uses q r a b = λ i. record {
 
 -- what holds of each command holds of it
 pub graph_lawful : IsLawful graph_command
-graph_lawful = lawful_on_file Request IsRequest one_request (λ q. q.file) (λ q g. GraphAnswer q.project g)
-    (λ q g. graph_answered q.project g)
-    (λ q bytes. graph_once bytes q.project)
+graph_lawful = lawful_on_file one_request (λ q g. graph_answered q.project g) (λ q bytes. graph_once bytes q.project)

@@ -7,7 +7,6 @@ use Rattle.request_values.proofs.OneValue.{one_listed}
 use Rattle.identify_command.specs.declared.form.Form.{Form}
 use Rattle.identify_command.specs.Forms.{IsForm}
 use Rattle.replies.proofs.Commands.{IsLawful, lawful_on_file}
-use Rattle.identify_command.specs.Conditions.{IdentifyAnswerGiven}
 use Rattle.identify_command.specs.Requests.{Request, IsRequest}
 use Rattle.identify_command.specs.Command.{identify_command}
 use Rattle.identify_command.proofs.Outcomes.{given_answered}
@@ -31,6 +30,4 @@ one_request uses q r a b = λ i. record {
 
 -- what holds of each command holds of it
 pub identify_lawful : IsLawful identify_command
-identify_lawful = lawful_on_file Request IsRequest one_request (λ q. q.file) (λ q g. IdentifyAnswerGiven q.form g q.x q.y q.given)
-    (λ q g. given_answered q.form g q.x q.y q.given)
-    (λ q bytes. identify_once bytes q.form q.x q.y q.given)
+identify_lawful = lawful_on_file one_request (λ q g. given_answered q.form g q.x q.y q.given) (λ q bytes. identify_once bytes q.form q.x q.y q.given)

@@ -5,7 +5,7 @@ use Rattle.word_forms.specs.Form.{Text, Use}
 use Rattle.dag_reader.specs.declared.graph.ReadGraph.{ReadGraph}
 use Rattle.replies.specs.Command.{IsLeft}
 use Rattle.replies.proofs.Commands.{IsLawful, lawful_on_two_inputs}
-use Rattle.implications_command.specs.Answers.{FirstAnswer, DifferencesAnswer}
+use Rattle.implications_command.specs.Answers.{FirstAnswer}
 use Rattle.implications_command.specs.Pairs.{PlainPairs, ArePairsOf}
 use Rattle.implications_command.specs.Requests.{Request, IsRequest}
 use Rattle.implications_command.specs.Command.{implications_command, implications_left}
@@ -22,7 +22,7 @@ one_request uses q r a b = λ i. record {
 
 -- what holds of each command holds of it
 pub implications_lawful : IsLawful implications_command
-implications_lawful = lawful_on_two_inputs Request IsRequest one_request (λ q. q.file) (λ q. q.counts) (λ q g. FirstAnswer q.counts g) (λ q g. (p : PlainPairs) × ArePairsOf g p) (λ q g other. DifferencesAnswer g q.count other)
+implications_lawful = lawful_on_two_inputs one_request
     (λ q g. first_answered q.counts g)
     (λ q g other o text a. counts_answered a.0 q.count other o text a.2)
     (λ q bytes. first_once bytes q.counts)

@@ -21,10 +21,10 @@ pub record IsLawful (c : CommandForm) : Type 0 where
   pub both_once : (q : c.Request) (bytes other : List ℕ) → OneOutcome (IsAnswerOn bytes (λ g. c.by_both q g other))
   pub file_alone : (q : c.Request) (second : Text) (g h : ReadGraph) → AreSame g h → c.second q ≡ Some second → (o : Outcome) (text : List ℕ) → c.by_graph q g o text → c.continues q h → ⊥
 
-module _ (Request : Type 0) (asks : List Use → Request → Type 0) (one : (uses : List Use) (q r : Request) → asks uses q → asks uses r → r ≡ q) where
-  pub lawful_on_words : (answer : Request → Outcome → List ℕ → Type 0) → ((q : Request) (o : Outcome) (text : List ℕ) → answer q o text → IsAnswered o) → ((q : Request) → OneOutcome (answer q))
+module _ {Request : Type 0} {asks : List Use → Request → Type 0} (one : (uses : List Use) (q r : Request) → asks uses q → asks uses r → r ≡ q) where
+  pub lawful_on_words : {answer : Request → Outcome → List ℕ → Type 0} → ((q : Request) (o : Outcome) (text : List ℕ) → answer q o text → IsAnswered o) → ((q : Request) → OneOutcome (answer q))
       → IsLawful (on_words Request asks answer)
-  lawful_on_words answer answered once = record {
+  lawful_on_words answered once = record {
     one_request = one;
     words_answered = answered;
     graph_answered = λ q g o text a. absurd a;
@@ -36,9 +36,9 @@ module _ (Request : Type 0) (asks : List Use → Request → Type 0) (one : (use
     file_alone = λ q second g h s names o text a n. n;
   }
 
-  pub lawful_on_file : (file : Request → Text) (answer : Request → ReadGraph → Outcome → List ℕ → Type 0) → ((q : Request) (g : ReadGraph) (o : Outcome) (text : List ℕ) → answer q g o text → IsAnswered o)
+  pub lawful_on_file : {file : Request → Text} {answer : Request → ReadGraph → Outcome → List ℕ → Type 0} → ((q : Request) (g : ReadGraph) (o : Outcome) (text : List ℕ) → answer q g o text → IsAnswered o)
       → ((q : Request) (bytes : List ℕ) → OneOutcome (IsAnswerOn bytes (λ g. answer q g))) → IsLawful (on_file Request asks file answer)
-  lawful_on_file file answer answered once = record {
+  lawful_on_file answered once = record {
     one_request = one;
     words_answered = λ q o text a. absurd a;
     graph_answered = answered;
@@ -50,13 +50,14 @@ module _ (Request : Type 0) (asks : List Use → Request → Type 0) (one : (use
     file_alone = λ q second g h s names o text a n. n;
   }
 
-  pub lawful_on_two_inputs : (file : Request → Text) (second : Request → Option Text) (alone : Request → ReadGraph → Outcome → List ℕ → Type 0) (continues : Request → ReadGraph → Type 0)
-      (answer : Request → ReadGraph → List ℕ → Outcome → List ℕ → Type 0) → ((q : Request) (g : ReadGraph) (o : Outcome) (text : List ℕ) → alone q g o text → IsAnswered o)
+  -- what is answered on the graph alone, and on both inputs
+  pub lawful_on_two_inputs : {file : Request → Text} {second : Request → Option Text} {alone : Request → ReadGraph → Outcome → List ℕ → Type 0} {continues : Request → ReadGraph → Type 0}
+      {answer : Request → ReadGraph → List ℕ → Outcome → List ℕ → Type 0} → ((q : Request) (g : ReadGraph) (o : Outcome) (text : List ℕ) → alone q g o text → IsAnswered o)
       → ((q : Request) (g : ReadGraph) (other : List ℕ) (o : Outcome) (text : List ℕ) → answer q g other o text → IsAnswered o)
       → ((q : Request) (bytes : List ℕ) → OneOutcome (IsAnswerOn bytes (λ g. alone q g))) → ((q : Request) (bytes other : List ℕ) → OneOutcome (IsAnswerOn bytes (λ g. answer q g other)))
       → ((q : Request) (name : Text) (g h : ReadGraph) → AreSame g h → second q ≡ Some name → (o : Outcome) (text : List ℕ) → alone q g o text → continues q h → ⊥)
       → IsLawful (on_two_inputs Request asks file second alone continues answer)
-  lawful_on_two_inputs file second alone continues answer alone_answered answered alone_once once file_alone = record {
+  lawful_on_two_inputs alone_answered answered alone_once once file_alone = record {
     one_request = one;
     words_answered = λ q o text a. absurd a;
     graph_answered = alone_answered;

@@ -8,7 +8,6 @@ use Rattle.do_rules.specs.Rules.{number_of}
 use Rattle.do_rules.specs.declared.rules.Rule.{Rule}
 use Rattle.do_rules.specs.declared.rules.Rule.TheVariants as rules
 use Rattle.replies.proofs.Commands.{IsLawful, lawful_on_file}
-use Rattle.rule_command.specs.Answers.{RuleAnswer}
 use Rattle.rule_command.specs.Requests.{Request, IsRequest}
 use Rattle.rule_command.specs.Command.{rule_command}
 use Rattle.rule_command.proofs.Outcomes.{rule_answered}
@@ -33,6 +32,4 @@ one_request uses q r a b = λ i. record {
 
 -- what holds of each command holds of it
 pub rule_lawful : IsLawful rule_command
-rule_lawful = lawful_on_file Request IsRequest one_request (λ q. q.file) (λ q g. RuleAnswer q.rule g q.y q.done q.z q.given)
-    (λ q g. rule_answered q.rule g q.y q.done q.z q.given)
-    (λ q bytes. rule_once bytes q.rule q.y q.done q.z q.given)
+rule_lawful = lawful_on_file one_request (λ q g. rule_answered q.rule g q.y q.done q.z q.given) (λ q bytes. rule_once bytes q.rule q.y q.done q.z q.given)

@@ -5,7 +5,6 @@ use Rattle.std.proofs.lemmas.Option.{same_Some}
 use Rattle.word_forms.specs.Form.{Use, value_of}
 use Rattle.request_values.proofs.OneValue.{one_listed}
 use Rattle.replies.proofs.Commands.{IsLawful, lawful_on_file}
-use Rattle.separate_command.specs.Answers.{SeparateAnswer}
 use Rattle.separate_command.specs.Requests.{Request, IsRequest}
 use Rattle.separate_command.specs.Command.{separate_command}
 use Rattle.separate_command.proofs.Outcomes.{separate_answered}
@@ -22,6 +21,4 @@ one_request uses q r a b = λ i. record {
 
 -- what holds of each command holds of it
 pub separate_lawful : IsLawful separate_command
-separate_lawful = lawful_on_file Request IsRequest one_request (λ q. q.file) (λ q g. SeparateAnswer g q.x q.y q.given)
-    (λ q g. separate_answered g q.x q.y q.given)
-    (λ q bytes. separate_once bytes q.x q.y q.given)
+separate_lawful = lawful_on_file one_request (λ q g. separate_answered g q.x q.y q.given) (λ q bytes. separate_once bytes q.x q.y q.given)

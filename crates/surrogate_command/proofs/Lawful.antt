@@ -6,7 +6,6 @@ use Rattle.word_forms.specs.Form.{Use, value_of}
 use Rattle.request_values.proofs.OneValue.{one_listed}
 use Rattle.surrogate_command.proofs.OneWord.{one_word}
 use Rattle.replies.proofs.Commands.{IsLawful, lawful_on_file}
-use Rattle.surrogate_command.specs.Answers.{SurrogateAnswer}
 use Rattle.surrogate_command.specs.Requests.{Request, IsRequest}
 use Rattle.surrogate_command.specs.Command.{surrogate_command}
 use Rattle.surrogate_command.proofs.Outcomes.{surrogate_answered}
@@ -23,6 +22,4 @@ one_request uses q r a b = λ i. record {
 
 -- what holds of each command holds of it
 pub surrogate_lawful : IsLawful surrogate_command
-surrogate_lawful = lawful_on_file Request IsRequest one_request (λ q. q.file) (λ q g. SurrogateAnswer g q.x q.y q.experiments)
-    (λ q g. surrogate_answered g q.x q.y q.experiments)
-    (λ q bytes. surrogate_once bytes q.x q.y q.experiments)
+surrogate_lawful = lawful_on_file one_request (λ q g. surrogate_answered g q.x q.y q.experiments) (λ q bytes. surrogate_once bytes q.x q.y q.experiments)

@@ -4,7 +4,6 @@ use Rattle.std.specs.Prelude.{◌^◌, codes}
 use Rattle.word_forms.specs.Form.{Use, word_of}
 use Rattle.request_values.proofs.OneValue.{one_needed_number}
 use Rattle.replies.proofs.Commands.{IsLawful, lawful_on_words}
-use Rattle.survey_command.specs.Answers.{SurveyAnswer}
 use Rattle.survey_command.specs.Requests.{Request, IsRequest, survey_row}
 use Rattle.survey_command.specs.Command.{survey_command}
 use Rattle.survey_command.proofs.Outcomes.{survey_answered}
@@ -18,6 +17,4 @@ one_request uses q r a b = λ i. record {
 
 -- what holds of each command holds of it
 pub survey_lawful : IsLawful survey_command
-survey_lawful = lawful_on_words Request IsRequest one_request (λ q. SurveyAnswer q.seed)
-    (λ q. survey_answered q.seed)
-    (λ q. survey_once q.seed)
+survey_lawful = lawful_on_words one_request (λ q. survey_answered q.seed) (λ q. survey_once q.seed)
