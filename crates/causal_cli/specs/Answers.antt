@@ -9,7 +9,7 @@ use Rattle.fault_text.specs.Lines.{line_of, graph_fault_text}
 use Rattle.replies.specs.declared.outcome.Outcome.{Outcome}
 use Rattle.replies.specs.declared.outcome.Outcome.TheVariants.{Graph}
 use Rattle.replies.specs.declared.outcome.Reply.{Reply}
-use Rattle.replies.specs.Observed.{Holds}
+use Rattle.replies.specs.Observed.{HoldsGraph}
 use Rattle.replies.specs.Outcomes.{IsAnswered}
 use Rattle.replies.specs.Command as forms
 use Rattle.causal_cli.specs.Commands.{form_of, Request, of, left_of}
@@ -43,7 +43,7 @@ pub data IsGraphRefusal (bytes line : List ℕ) : Type 0 where
 -- the answer of a command on a graph that the bytes hold
 pub record HoldsAnswer (w : Request) (bytes : List ℕ) (o : Outcome) (text : List ℕ) : Type 0 where
   pub graph : ReadGraph
-  pub holds : Holds bytes graph
+  pub holds : HoldsGraph bytes graph
   pub answer : GraphAnswer w graph o text
 
 -- the defined answer on the bytes of the file alone: yes or no with its text, or the line of a refused graph or target
@@ -53,11 +53,11 @@ Defined w bytes o text = HoldsAnswer w bytes o text
 
 -- the bytes hold a graph that is accepted, and the second input is read
 abbrev pub Continues : Request → List ℕ → Type 0
-Continues w bytes = (g : ReadGraph) × Holds bytes g × NeedsSecond w g
+Continues w bytes = (g : ReadGraph) × HoldsGraph bytes g × NeedsSecond w g
 
 -- the defined answer on the bytes of both inputs
 abbrev pub DefinedWith : Request → (bytes other : List ℕ) → Outcome → List ℕ → Type 0
-DefinedWith w bytes other o text = (g : ReadGraph) × Holds bytes g × NeedsSecond w g × SecondAnswer w g other o text
+DefinedWith w bytes other o text = (g : ReadGraph) × HoldsGraph bytes g × NeedsSecond w g × SecondAnswer w g other o text
 
 -- ---- what is left to answer once the file was accepted
 
@@ -92,7 +92,7 @@ GivesOn w g (first.Continues p) = IsLeft w g p
 
 -- what is left of a request whose file has these bytes
 abbrev pub IsLeftOf : Request → List ℕ → SecondInput → Type 0
-IsLeftOf w bytes p = (g : ReadGraph) × Holds bytes g × IsLeft w g p
+IsLeftOf w bytes p = (g : ReadGraph) × HoldsGraph bytes g × IsLeft w g p
 
 -- what the file alone gives: the defined answer, or what is left
 abbrev pub GivesFirst : Request → List ℕ → First → Type 0

@@ -25,7 +25,7 @@ ghost use Rattle.conditional_theory.specs.Laws.{IsShallowGiven};
 ghost use Rattle.conditional_id.specs.Answers.{IsAnswerGiven, IsRight, IsJointEffect, IsJointShown, SomeJointHedge, IfFormula, IfJoint, is_joint};
 
 use crate::dividing::{divided, divided_steps};
-use crate::kinds::{Conditional, Turned};
+use crate::answer::{Conditional, Turned};
 use crate::turning::turned;
 use do_derivation::{Derivation, Step};
 use id_recursion::{Answer, identify};

@@ -14,7 +14,7 @@ pub record IsRead (names : List (List ℕ)) (used : ℕ) (count : Option Field) 
   pub reads : IsTableOf bytes names used count t
 
 -- the bytes are no counts of the used vertices: they are too many, or their text has a fault
-pub data IsRefused (names : List (List ℕ)) (used : ℕ) (count : Option Field) (bytes line : List ℕ) : Type 0 where
-  too_long : 67108864 < length bytes → line ≡ line_of count_size_text → IsRefused names used count bytes line
+pub data AreRefusedCounts (names : List (List ℕ)) (used : ℕ) (count : Option Field) (bytes line : List ℕ) : Type 0 where
+  too_long : 67108864 < length bytes → line ≡ line_of count_size_text → AreRefusedCounts names used count bytes line
   faulty : (fault : CountFault) → length bytes ≤ 67108864 → fault ≢ NoMemory → text_fault bytes names used count ≡ Some fault → line ≡ line_of (count_fault_text fault)
-      → IsRefused names used count bytes line
+      → AreRefusedCounts names used count bytes line

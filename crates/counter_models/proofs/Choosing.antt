@@ -6,16 +6,16 @@ use Rattle.mixed_graph.specs.Graphs.{MixedGraph, IsMixedGraph, IsDirectedPath, I
 use Rattle.districts.specs.Linked.{IsSetOf}
 use Rattle.districts.specs.Nearest.{Leads, IsChoiceOf}
 use Rattle.hedge.specs.Hedges.{Reaches, outside}
-use Rattle.counter_models.specs.Kept.{free, CarriesTo, IsKept, AreKept, IsReached}
+use Rattle.counter_models.specs.Kept.{free, CarriesTo, IsKept, AreKept, IsChosenFrom}
 use Rattle.counter_models.specs.Kept.IsKept.{root, next}
-use Rattle.counter_models.specs.Kept.IsReached.{at, by}
+use Rattle.counter_models.specs.Kept.IsChosenFrom.{at, by}
 
 below : (p q : ℕ) → p < q → nat_lt p q ≡ true
 below p q lt = grind (arith, lt)
 
 module _ (g : MixedGraph) (graph : IsMixedGraph g) (small : g.vertices ≤ 64) (x y roots : ℕ) (reach : (v : ℕ) → IsTrue (has roots v) → Reaches g x y v)
     (choice : List ℕ) (chooses : (v : ℕ) → v < 64 → IsChoiceOf g (free g x) (has y) v (slice_index choice v))
-    (kept : ℕ) (kept_is : IsSetOf kept (IsReached choice roots))
+    (kept : ℕ) (kept_is : IsSetOf kept (IsChosenFrom choice roots))
     (carry : List ℕ) (carry_is : (v : ℕ) → v < 64 → slice_index carry v ≡ cond (has kept v) (slice_index choice v) 64) where
   -- an arrow of the graph outside x
   free_arrow : (u v : ℕ) → IsTrue (g.arrow u v) → IsTrue (not (has x u) && not (has x v)) → IsTrue (g.arrow u v && (free g x u && free g x v))
@@ -66,7 +66,7 @@ module _ (g : MixedGraph) (graph : IsMixedGraph g) (small : g.vertices ≤ 64) (
       go (inl c) = absurd (let o = c.0.outside in grind (arith, i, o))
       go (inr c) = c.1
 
-  sound : (v : ℕ) → IsReached choice roots v → IsKept g x y roots v
+  sound : (v : ℕ) → IsChosenFrom choice roots v → IsKept g x y roots v
   sound v (at i) = root i
   sound v (by {u} r e lt) = go (has y u) refl (sound u r)
     where
@@ -74,7 +74,7 @@ module _ (g : MixedGraph) (graph : IsMixedGraph g) (small : g.vertices ≤ 64) (
       go true i k = absurd (let z = none_at_y u (kept_low u k) i in omega (arith, z, e, lt))
       go false o k = next k o (rw (sym e) (chosen_carries u (kept_low u k) k o))
 
-  complete : (v : ℕ) → IsKept g x y roots v → IsReached choice roots v
+  complete : (v : ℕ) → IsKept g x y roots v → IsChosenFrom choice roots v
   complete v (root i) = at i
   complete v (next {u} k o c) = by (complete u k) (same_child u (slice_index choice u) v (chosen_carries u (kept_low u k) k o) c) (kept_low v (next k o c))
 

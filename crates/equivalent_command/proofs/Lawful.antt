@@ -10,7 +10,7 @@ use Rattle.dag_reader.specs.declared.graph.ReadGraph.{ReadGraph}
 use Rattle.replies.specs.Command.{IsLeft}
 use Rattle.replies.proofs.Commands.{IsLawful, lawful_on_two_inputs}
 use Rattle.targets.specs.declared.query.Sets.{Sets}
-use Rattle.equivalent_command.specs.Answers.{IsAccepted}
+use Rattle.equivalent_command.specs.Answers.{IsAcceptedFirst}
 use Rattle.equivalent_command.specs.Requests.{Request, IsRequest}
 use Rattle.equivalent_command.specs.Command.{equivalent_command, equivalent_left}
 use Rattle.equivalent_command.proofs.Outcomes.{first_answered, second_answered}
@@ -45,5 +45,5 @@ equivalent_lawful = lawful_on_two_inputs one_request
     (λ q bytes other. equivalent_once bytes other q.query)
     (λ q name g h same names o text a n. first_alone g h same q.query n.0 o text a n.1)
 
-pub equivalent_is_left : (q : Request) (g : ReadGraph) (s : Option Sets) → IsAccepted g q.query s → IsLeft equivalent_command q g (equivalent_left g s q.second)
+pub equivalent_is_left : (q : Request) (g : ReadGraph) (s : Option Sets) → IsAcceptedFirst g q.query s → IsLeft equivalent_command q g (equivalent_left g s q.second)
 equivalent_is_left q g s is = record { named = refl; continues = (s, is); known = (q.query, is); answers = λ other o text a. (s, is, a) }

@@ -7,7 +7,7 @@ ghost use Rattle.equivalent_command.specs.Queries.{AreBelow};
 ghost use Rattle.mixed_graph.specs.Shown.{graph_of};
 ghost use Rattle.markov_equivalence.specs.Skeletons.{HasArrowsAlone};
 ghost use Rattle.equivalent_command.specs.Numbers.{HaveSameNames, on_names};
-ghost use Rattle.equivalent_command.specs.Answers.{IsDirected, IsAccepted, SecondAnswer, ComparisonAnswer, GraphsAnswer, ObservedFault};
+ghost use Rattle.equivalent_command.specs.Answers.{IsDirected, IsAcceptedFirst, SecondAnswer, ComparisonAnswer, GraphsAnswer, ObservedFault};
 
 use crate::agreement::agreement_text;
 use crate::faults::{bidirected_fault, names_fault};
@@ -29,7 +29,7 @@ pub fn equivalent_reply(
     sets: Option<Sets>,
     second: &[u8],
 ) -> Result<Reply, AllocError>
-    requires accepted { (query : Option AskedQuery) × IsAccepted graph.now query sets }
+    requires accepted { (query : Option AskedQuery) × IsAcceptedFirst graph.now query sets }
     requires small { length second.now ≤ 1048576 }
     ensures { IfOk result (λ r. SecondAnswer graph.now sets second.now r.outcome r.text.items) }
 {

@@ -4,9 +4,9 @@ ghost use Rattle.mixed_graph.specs.Bits.{has};
 ghost use Rattle.mixed_graph.specs.Sets.{Within};
 ghost use Rattle.mixed_graph.specs.Shown.{graph_of};
 ghost use Rattle.hedge.specs.Hedges.{IsPlaced, IsRightPartner, AreRightLinks};
-ghost use Rattle.hedge.specs.Faults.{IsFirstWrong, IsLaterEntry, HasRightPartner, AllPlaced, HasStranger, AllInside, IsWrongLink};
+ghost use Rattle.hedge.specs.Faults.{IsLowestWrong, IsLaterEntry, HasRightPartner, AllPlaced, HasStranger, AllInside, IsWrongLink};
 
-use crate::kinds::Hedge;
+use crate::hedge::Hedge;
 use districts::Links;
 use mixed_graph::{Graph, VSet};
 
@@ -61,7 +61,7 @@ fn is_placed(h: &Hedge, v: u8) -> bool
 /// The lowest member of big that isn't placed, if there is one.
 fn unplaced(h: &Hedge) -> Option<u8>
     requires { Within 64 (has h.now.big.bits) }
-    ensures wrong { IfSome result (IsFirstWrong (λ u. IsTrue (has h.now.big.bits u)) (IsPlaced h.now)) }
+    ensures wrong { IfSome result (IsLowestWrong (λ u. IsTrue (has h.now.big.bits u)) (IsPlaced h.now)) }
     ensures right { IfNone result (AllPlaced h.now) }
 {
     for v in 0..64u8 {
@@ -120,7 +120,7 @@ fn wrong_partner(g: &Graph, h: &Hedge) -> Option<u8>
     requires low { Within 64 (has h.now.big.bits) }
     requires placed { AllPlaced h.now }
     requires inside { AllInside h.now }
-    ensures wrong { IfSome result (IsFirstWrong (IsLaterEntry h.now) (HasRightPartner (graph_of g.now) h.now)) }
+    ensures wrong { IfSome result (IsLowestWrong (IsLaterEntry h.now) (HasRightPartner (graph_of g.now) h.now)) }
     ensures right { IfNone result ((i : ℕ) → 0 < i → i < h.now.links.count → IsRightPartner (graph_of g.now) h.now i) }
 {
     for v in 0..64u8 {

@@ -11,9 +11,9 @@ use Rattle.finite_models.proofs.Tested.{Test, tested}
 use Rattle.districts.specs.Linked.{IsSetOf}
 use Rattle.districts.specs.Nearest.{IsDistance, IsNearestChild, Leads, IsChoiceOf}
 use Rattle.hedge.specs.Hedges.{IsHedge}
-use Rattle.hedge.specs.declared.kinds.Hedge.{Hedge}
-use Rattle.counter_models.specs.Kept.{free, AreKept, IsReached}
-use Rattle.counter_models.specs.Kept.IsReached.{at, by}
+use Rattle.hedge.specs.declared.hedge.Hedge.{Hedge}
+use Rattle.counter_models.specs.Kept.{free, AreKept, IsChosenFrom}
+use Rattle.counter_models.specs.Kept.IsChosenFrom.{at, by}
 use Rattle.counter_models.proofs.Choosing.{are_kept}
 
 -- ---- what cannot be missing
@@ -120,13 +120,13 @@ module _ (g : MixedGraph) (valid : IsMixedGraph g) (few : g.vertices ≤ 64) (wi
 
 -- ---- the kept vertices of a hedge
 module _ (g : MixedGraph) (valid : IsMixedGraph g) (few : g.vertices ≤ 64) (x y : ℕ) (h : Hedge) (hedge : IsHedge g x y h) where
-  reached_low : (next : List ℕ) (v : ℕ) → IsReached next h.roots.bits v → v < 64
+  reached_low : (next : List ℕ) (v : ℕ) → IsChosenFrom next h.roots.bits v → v < 64
   reached_low next v (at i) = let l = (hedge.roots v i).vertex in omega (arith, l, few)
   reached_low next v (by r e lt) = lt
 
   pub kept_some : ((kept : ℕ) (carry : List ℕ) → AreKept g x y h.roots.bits kept carry → ⊥) → ⊥
   kept_some none = listed (λ v c. IsChoiceOf g (free g x) (has y) v c) (choice_some g valid few (free g x) (has y)) 64 (λ choice len chooses.
-      tested (IsReached choice h.roots.bits) 64 (λ t.
+      tested (IsChosenFrom choice h.roots.bits) 64 (λ t.
       listed (λ v c. c ≡ cond (has (mask_of t.test 64) v) (get_or choice v 0) 64) (λ v k. k (cond (has (mask_of t.test 64) v) (get_or choice v 0) 64) refl) 64 (λ carry long is.
       none (mask_of t.test 64) carry (are_kept g valid few x y h.roots.bits hedge.roots choice chooses (mask_of t.test 64) (record {
         sound = λ v i. t.sound v (and_parts (t.test v) (nat_lt v 64) (sym (has-mask t.test 64 v) ∙ i)).0;

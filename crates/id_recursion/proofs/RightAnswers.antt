@@ -30,14 +30,14 @@ use Rattle.identification.specs.Laws.{IsAcceptedFor}
 use Rattle.identification.specs.Procedure.{IsTarget, IsIdentified}
 use Rattle.identification_answers.specs.Names.{FormulaNamesOnly}
 use Rattle.hedge.specs.Hedges.{IsHedge}
-use Rattle.hedge.specs.declared.kinds.Hedge.{Hedge as HedgeData}
+use Rattle.hedge.specs.declared.hedge.Hedge.{Hedge as HedgeData}
 use Rattle.hedge.proofs.Shaping.{sets_form_hedge}
 use Rattle.counter_models.specs.Events.{AreCounterModels}
 use Rattle.counter_models.specs.Pairs.{IsPairOf}
-use Rattle.counter_models.specs.declared.kinds.CounterPair.{CounterPair}
+use Rattle.counter_models.specs.declared.counter_pair.CounterPair.{CounterPair}
 use Rattle.id_recursion.specs.Answers.{IsAnswerOf, IsRight, IfFormula, IfHedge, is_hedge, effect_on, AreShallowSteps, IsShallowFormula}
-use Rattle.id_recursion.specs.declared.kinds.Answer.{Answer}
-use Rattle.id_recursion.specs.declared.kinds.Answer.TheVariants.{Formula, Hedge}
+use Rattle.id_recursion.specs.declared.answer.Answer.{Answer}
+use Rattle.id_recursion.specs.declared.answer.Answer.TheVariants.{Formula, Hedge}
 use Rattle.identification_answers.proofs.Answered.{formula_names_ancestors, formula_is_formed, formula_is_shallow, derived_is_identified, derivation_is_accepted}
 use Rattle.counter_models.specs.Theory.{data_of}
 use Rattle.counter_models.proofs.Bridge.{whole}

@@ -23,7 +23,7 @@ abbrev pub IsObservedGraph : ReadGraph → MixedGraph → Type 0
 IsObservedGraph g q = IsObserved (graph_of g.graph) (has g.latent.bits) q
 
 -- the bytes are the text of this graph, and at most 1,048,576
-pub record Holds (bytes : List ℕ) (g : ReadGraph) : Type 0 where
+pub record HoldsGraph (bytes : List ℕ) (g : ReadGraph) : Type 0 where
   pub small : length bytes ≤ 1048576
   pub reads : Reads bytes (Ok g)
 

@@ -13,7 +13,7 @@ ghost use Rattle.surrogate_theory.specs.Surrogates.{IsSurrogate, IsSurrogateBySt
 ghost use Rattle.surrogates.specs.Answers.{IsAnswerWith, IsRightWith, IfFormula, IfStopped, IsStopShown, is_stopped};
 
 use crate::gathering::factors_with;
-use crate::kinds::Surrogate;
+use crate::answer::Surrogate;
 use districts::districts;
 use id_recursion::{Stop, ancestors_outside, assembled, hedge_of, observed, order_of};
 use mixed_graph::{Graph, VSet};

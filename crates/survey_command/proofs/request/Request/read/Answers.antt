@@ -6,7 +6,7 @@ use Rattle.survey_command.proofs.request.Request.read.Goals as goal
 pub returns-in-Err-clause-none : goal.returns-in-Err-clause-none
 returns-in-Err-clause-none c = λ uses g e. record {
   nothing = λ r is.
-    let same : c.in-Err.fault ≡ NotUnderstood = cc e in c.in-Err.ensures.none survey_row uses g refl (ap (λ f. Err f) same) r.seed is.seed;
+      let same : c.in-Err.fault ≡ NotUnderstood = cc e in c.in-Err.ensures.none survey_row uses g refl (ap (λ f. Err f) same) r.seed is.seed;
 }
 
 pub returns-clause-ok : goal.returns-clause-ok
