@@ -4,7 +4,7 @@ use Rattle.std.specs.Prelude.{All}
 use Rattle.mixed_graph.specs.Bits.{has, members_below}
 use Rattle.mixed_graph.specs.Names.{AreNames}
 use Rattle.mixed_graph.specs.Masks.{join, is_empty, is_below, is_apart}
-use Rattle.prob_expr.specs.Masks.{are_term_sets}
+use Rattle.prob_expr.specs.TermSets.{are_term_sets}
 use Rattle.prob_expr.specs.Tree.{Tree, PlainTarget, PlainFormula}
 use Rattle.prob_expr.specs.Check.{check_tree, fault_of, fault_in_defs, fault_in}
 use Rattle.expr_text.proofs.Checked.{neither}

@@ -20,8 +20,8 @@ use Rattle.certificate.specs.declared.fault.CertFault.{CertFault}
 use Rattle.certificate.specs.declared.fault.CertFault.TheVariants.{NoMemory}
 use Rattle.identify_text.specs.Answers.{formula_answer}
 use Rattle.identify_text.specs.HedgeLines.{heading_text}
-use Rattle.fault_text.specs.Lines.{line_of}
-use Rattle.certificate_fault_text.specs.Lines.{cert_fault_text, cert_size_text}
+use Rattle.name_text.specs.Lines.{line_of}
+use Rattle.certificate.specs.FaultTexts.{cert_fault_text, cert_size_text}
 use Rattle.dag_reader.specs.declared.graph.ReadGraph.{ReadGraph}
 use Rattle.replies.specs.declared.outcome.Outcome.{Outcome}
 use Rattle.replies.specs.declared.outcome.Outcome.TheVariants.{Yes, No, Second}

@@ -10,5 +10,5 @@ mod dividing;
 mod identifying;
 mod turning;
 
-pub use identifying::identify_given;
 pub use answer::Conditional;
+pub use identifying::identify_given;

@@ -1,6 +1,7 @@
 -- What the bytes of counts are, for the vertices that are used: the text of a table, or refused.
 use Rattle.std.specs.Prelude.{ℕ, ◌≡◌, ◌≢◌, ◌<◌, ◌≤◌, List, length, Option, Some, None}
-use Rattle.fault_text.specs.Lines.{line_of, count_fault_text, count_size_text}
+use Rattle.name_text.specs.Lines.{line_of}
+use Rattle.count_rows.specs.FaultTexts.{count_fault_text, count_size_text}
 use Rattle.count_rows.specs.declared.fault.CountFault.{CountFault}
 use Rattle.count_rows.specs.declared.fault.CountFault.TheVariants.{NoMemory}
 use Rattle.count_rows.specs.Records.{Field}

@@ -11,7 +11,7 @@ ghost use Rattle.count_rows.specs.Tally.{layout_from, HoldsRecords};
 
 use crate::fault::CountFault;
 use crate::header::{column, columns, no_column};
-use crate::reader::{Step, open, read};
+use crate::reader::{NextRecord, open, read};
 use crate::tally::{Columns, Tally};
 use csv::{ByteRecord, Reader};
 use mixed_graph::{Names, VSet};
@@ -79,10 +79,10 @@ fn read_rows_under(
     let mut row = ByteRecord::new(alloc);
     for number in 1..usize::MAX {
         match read(reader, &mut row) {
-            Step::Record => {}
-            Step::End => return finished(tally),
-            Step::OtherLength => return Err(CountFault::NotCsv(number)),
-            Step::NoMemory => return Err(CountFault::NoMemory),
+            NextRecord::Record => {}
+            NextRecord::End => return finished(tally),
+            NextRecord::OtherLength => return Err(CountFault::NotCsv(number)),
+            NextRecord::NoMemory => return Err(CountFault::NoMemory),
         }
         match tally.add(alloc, &row, number, columns) {
             Ok(()) => {}
@@ -111,9 +111,9 @@ fn read_rows_of(
     let mut reader = open(alloc, text);
     let mut header = ByteRecord::new(alloc);
     match read(&mut reader, &mut header) {
-        Step::Record => {}
-        Step::End => return Err(no_column(alloc, names.get(vertices[0]))),
-        Step::OtherLength | Step::NoMemory => return Err(CountFault::NoMemory),
+        NextRecord::Record => {}
+        NextRecord::End => return Err(no_column(alloc, names.get(vertices[0]))),
+        NextRecord::OtherLength | NextRecord::NoMemory => return Err(CountFault::NoMemory),
     }
     let columns = match layout(alloc, &header, names, vertices, count_column) {
         Ok(columns) => columns,

@@ -45,3 +45,7 @@ pub record AreCounterModels (g : MixedGraph) (x y : ℕ) (pair : CounterPair) : 
 -- the two models of a hedge show that the effect isn't identifiable
 abbrev pub PairsAreCounterModels : Type 0
 PairsAreCounterModels = (g : MixedGraph) → IsMixedGraph g → g.vertices ≤ 64 → (x y : ℕ) (h : Hedge) → IsHedge g x y h → Apart (has x) (has y) → (pair : CounterPair) → IsPairOf g x y h pair → AreCounterModels g x y pair
+
+-- each hedge has two such models, whether or not anybody builds them
+abbrev pub HedgesHavePairs : Type 0
+HedgesHavePairs = (g : MixedGraph) → IsMixedGraph g → g.vertices ≤ 64 → (x y : ℕ) (h : Hedge) → IsHedge g x y h → (pair : CounterPair) × IsPairOf g x y h pair

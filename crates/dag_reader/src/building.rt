@@ -97,7 +97,11 @@ fn check_roles(alloc: Global, names: &Names, marks: &[Remark]) -> Result<Roles, 
 }
 
 /// The graph and the roles that the marks say.
-pub fn marked_graph(alloc: Global, names: &Names, marks: &[Remark]) -> Result<MarkedGraph, GraphFault>
+pub fn marked_graph(
+    alloc: Global,
+    names: &Names,
+    marks: &[Remark],
+) -> Result<MarkedGraph, GraphFault>
     requires { list_all (is_inside (length names.now)) marks.now ≡ true }
     ensures { Marks names.now marks.now result }
 {

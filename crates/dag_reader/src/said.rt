@@ -114,8 +114,10 @@ impl Statements {
         match token {
             Token::Edge(arrow) => self.mark(Remark::Joined(arrow)),
             Token::OpenBrace => match place {
-                Position::Statement | Position::AfterName(_) | Position::ChainName(_) | Position::AfterGroup =>
-                    self.mark(Remark::Begins),
+                Position::Statement
+                | Position::AfterName(_)
+                | Position::ChainName(_)
+                | Position::AfterGroup => self.mark(Remark::Begins),
                 _ => Ok(()),
             },
             _ => Ok(()),

@@ -11,7 +11,9 @@ use Rattle.dag_reader.specs.declared.faults.GraphFault.TheVariants.{NoMemory}
 use Rattle.dag_reader.specs.Reads.{Reads}
 use Rattle.targets.specs.declared.fault.TargetFault.{TargetFault}
 use Rattle.targets.specs.declared.query.Sets.{Sets}
-use Rattle.fault_text.specs.Lines.{line_of, graph_fault_text, target_fault_text, size_text, second as of_second}
+use Rattle.name_text.specs.Lines.{line_of, second as of_second}
+use Rattle.dag_reader.specs.FaultTexts.{graph_fault_text, size_text}
+use Rattle.targets.specs.FaultTexts.{target_fault_text}
 use Rattle.markov_equivalence.specs.Skeletons.{HasArrowsAlone, AreEquivalent}
 use Rattle.markov_equivalence.specs.Comparisons.{IsEdgeDifference, IsColliderDifference, IsShown}
 use Rattle.markov_equivalence.specs.declared.comparison.Difference.{Difference}

@@ -13,8 +13,7 @@ use crate::agreement::agreement_text;
 use crate::faults::{bidirected_fault, names_fault};
 use crate::numbers::graph_on;
 use crate::printing::{collider_text, edge_text};
-use dag_reader::{ReadGraph, read_graph};
-use fault_text::{second_graph_line, second_size_line, second_target_line};
+use dag_reader::{GraphFault, ReadGraph, read_graph};
 use latent_projection::{Observed, observed};
 use markov_equivalence::{Compared, compare};
 use mixed_graph::{Graph, Names};
@@ -37,7 +36,7 @@ pub fn equivalent_reply(
         Ok(other) => reply_to(alloc, graph, sets, &other),
         Err(fault) => Ok(Reply {
             outcome: Outcome::Second,
-            text: second_graph_line(alloc, &fault)?,
+            text: fault.second_line(alloc)?,
         }),
     }
 }
@@ -48,7 +47,7 @@ pub fn long_second_graph(alloc: Global) -> Result<Reply, AllocError>
 {
     Ok(Reply {
         outcome: Outcome::Second,
-        text: second_size_line(alloc)?,
+        text: GraphFault::second_size_line(alloc)?,
     })
 }
 
@@ -68,7 +67,7 @@ fn reply_to(
     match second_fault(alloc, &first.names, &second)? {
         Some(fault) => Ok(Reply {
             outcome: Outcome::Second,
-            text: second_target_line(alloc, &fault)?,
+            text: fault.second_line(alloc)?,
         }),
         None => compared_reply(alloc, &first, &second, sets),
     }

@@ -7,7 +7,7 @@ use Rattle.finite_models.specs.Models.{FiniteModel, Fits, IsPositiveModel}
 use Rattle.dag_reader.specs.declared.graph.ReadGraph.{ReadGraph}
 use Rattle.prob_expr.specs.Values.{effect}
 use Rattle.id_recursion.specs.Answers.{effect_on}
-use Rattle.fault_text.specs.Lines.{line_of}
+use Rattle.name_text.specs.Lines.{line_of}
 use Rattle.replies.specs.declared.outcome.Outcome.{Outcome}
 use Rattle.replies.specs.declared.outcome.Outcome.TheVariants.{Yes, No, Graph, Second, Evaluation}
 use Rattle.replies.specs.Observed.{Names, observed_names, IsObservedGraph}

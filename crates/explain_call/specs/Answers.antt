@@ -4,7 +4,8 @@ use Rattle.dag_reader.specs.Reads.{Reads}
 use Rattle.dag_reader.specs.declared.graph.ReadGraph.{ReadGraph}
 use Rattle.dag_reader.specs.declared.faults.GraphFault.{GraphFault}
 use Rattle.dag_reader.specs.declared.faults.GraphFault.TheVariants.{NoMemory}
-use Rattle.fault_text.specs.Lines.{line_of, graph_fault_text, size_text}
+use Rattle.name_text.specs.Lines.{line_of}
+use Rattle.dag_reader.specs.FaultTexts.{graph_fault_text, size_text}
 use Rattle.replies.specs.declared.outcome.Outcome.{Outcome}
 use Rattle.replies.specs.declared.outcome.Outcome.TheVariants.{Graph}
 use Rattle.replies.specs.Observed.{HoldsGraph}

@@ -5,8 +5,8 @@ ghost use Rattle.finite_models.specs.Data.{meaning};
 ghost use Rattle.finite_models.specs.Faults.{cap, IsWellFormed, IsFirstModelFault};
 
 use crate::causes::wrong_cause;
-use crate::model::{Model, ModelFault};
 use crate::mechanisms::{wrong_input, wrong_value};
+use crate::model::{Model, ModelFault};
 use mixed_graph::Graph;
 
 /// The number, or the last one of 32 bits where it would pass that.

@@ -8,14 +8,7 @@ ghost use Rattle.hedge.specs.Faults.{IsLowestWrong, IsLaterEntry, HasRightPartne
 
 use crate::hedge::Hedge;
 use districts::Links;
-use mixed_graph::{Graph, VSet};
-
-/// Whether the set has this number.
-fn contains(s: VSet, v: u8) -> bool
-    ensures { result ≡ has s.bits v }
-{
-    v < 64 && s.has(v)
-}
+use mixed_graph::Graph;
 
 /// The first place of v among the entries, if there is one.
 fn place_of(links: &Links, v: u8) -> Option<usize>
@@ -78,7 +71,7 @@ fn has_stranger(h: &Hedge) -> bool
     ensures none { OnFalse result (AllInside h.now) }
 {
     for i in 0..h.links.count as usize {
-        if !contains(h.big, h.links.found[i]) {
+        if !h.big.has(h.links.found[i]) {
             return true;
         }
     }
@@ -97,8 +90,8 @@ fn is_right_partner(g: &Graph, h: &Hedge, i: usize) -> bool
         Some(j) => j < i,
         None => false,
     };
-    let joined = contains(g.spouses(v), partner);
-    let leaves = h.small.has(v) && !contains(h.small, partner);
+    let joined = g.spouses(v).has(partner);
+    let leaves = h.small.has(v) && !h.small.has(partner);
     earlier && joined && !leaves
 }
 

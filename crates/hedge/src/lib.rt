@@ -10,6 +10,6 @@ mod holding;
 mod theory;
 
 pub use districts::{Choice, Districts, Links, child_choice, district_of, districts, links};
-pub use holding::holds;
 pub use hedge::{Hedge, HedgeFault};
+pub use holding::holds;
 pub use theory::laws;

@@ -25,8 +25,8 @@ ghost use Rattle.counter_models.specs.Pairs.{IsPairOf};
 ghost use Rattle.id_recursion.specs.Hedged.{IsHedgeOf};
 ghost use Rattle.id_recursion.specs.Answers.{IsAnswerOf, IsRight, IfFormula, IfHedge, is_hedge, effect_on, AreShallowSteps, IsShallowFormula};
 
-use crate::gathering::factors;
 use crate::answer::{Answer, Stop};
+use crate::gathering::factors;
 use crate::mains::composed;
 use crate::stops::stopped;
 use districts::districts;

@@ -15,8 +15,8 @@ mod mains;
 mod pushing;
 mod stops;
 
+pub use answer::{Answer, Factors, Stop};
 pub use gathering::add_factor;
 pub use identifying::{ancestors_outside, identify, observed, order_of};
-pub use answer::{Answer, Factors, Stop};
 pub use mains::assembled;
 pub use stops::hedge_of;

@@ -5,7 +5,8 @@ use Rattle.dag_reader.specs.declared.graph.ReadGraph.{ReadGraph}
 use Rattle.targets.specs.declared.fault.TargetFault.{TargetFault}
 use Rattle.targets.specs.declared.fault.TargetFault.TheVariants.{EmptyX}
 use Rattle.targets.specs.Targets.{Lists, listed, fault_in, IsListedSet, IsTargetFault, IsFaultOrMemory}
-use Rattle.fault_text.specs.Lines.{line_of, target_fault_text}
+use Rattle.name_text.specs.Lines.{line_of}
+use Rattle.targets.specs.FaultTexts.{target_fault_text}
 use Rattle.replies.specs.declared.outcome.Outcome.{Outcome}
 use Rattle.replies.specs.declared.outcome.Outcome.TheVariants.{Yes, No, Graph}
 use Rattle.replies.specs.Observed.{Names, observed_names, IsObservedGraph}

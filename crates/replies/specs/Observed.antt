@@ -8,7 +8,8 @@ use Rattle.dag_reader.specs.Reads.{Reads}
 use Rattle.latent_projection.specs.Renumbering.{IsObserved, observed_below, names_at}
 use Rattle.targets.specs.declared.fault.TargetFault.{TargetFault}
 use Rattle.targets.specs.Targets.{Lists, IsTargetFault}
-use Rattle.fault_text.specs.Lines.{line_of, target_fault_text}
+use Rattle.name_text.specs.Lines.{line_of}
+use Rattle.targets.specs.FaultTexts.{target_fault_text}
 
 -- the names of a list, where an option gives one
 abbrev pub Names : Type 0

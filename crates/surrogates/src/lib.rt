@@ -9,5 +9,5 @@ mod gathering;
 mod identifying;
 mod tries;
 
-pub use identifying::{are_experiments, identify_with};
 pub use answer::Surrogate;
+pub use identifying::{are_experiments, identify_with};
