@@ -16,7 +16,6 @@ use crate::applying::apply_step;
 use crate::faults::{ApplyFault, CheckFault, Refusal, StepPlace};
 use crate::steps::{Derivation, Lemma, Step};
 use mixed_graph::{Graph, VSet};
-use prob_expr::masks::{all, minus};
 use prob_expr::{Expr, Formula, Target, is_allowed, is_same};
 use std::alloc::Global;
 
@@ -93,8 +92,8 @@ fn start_of(g: &Graph, set: VSet) -> Expr
 {
     Expr::Prob {
         of: set,
-        doing: minus(all(g.n), set),
-        given: VSet { bits: 0 },
+        doing: VSet::below(g.n).difference(set),
+        given: VSet::EMPTY,
     }
 }
 

@@ -11,7 +11,6 @@ ghost use Rattle.do_derivation.specs.Applied.{IsRow};
 
 use crate::faults::{Refusal, StepFault};
 use mixed_graph::{Graph, VSet};
-use prob_expr::masks::{is_apart, join};
 use prob_expr::{Expr, copy_expr};
 use std::alloc::{AllocError, Global};
 
@@ -24,11 +23,11 @@ fn gathered(a: VSet, b: VSet, c: VSet, factors: &[Expr]) -> Option<VSet>
         let Expr::Prob { of, doing, given } = factor else {
             return None;
         };
-        let known = join(c, all);
-        if !is_apart(*of, all) || doing.bits != b.bits || given.bits != known.bits {
+        let known = c.union(all);
+        if !of.is_apart(all) || doing.bits != b.bits || given.bits != known.bits {
             return None;
         }
-        all = join(all, *of);
+        all = all.union(*of);
     }
     Some(all)
 }

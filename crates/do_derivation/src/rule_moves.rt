@@ -10,20 +10,19 @@ use crate::faults::{Refusal, StepFault};
 use do_rules::{rule1, rule2, rule3};
 use mixed_graph::{Graph, VSet};
 use prob_expr::Expr;
-use prob_expr::masks::{is_apart, is_below, is_empty, is_inside, join, minus};
 
 /// Whether z isn't empty and stands within the graph apart from a, b and c.
 pub fn is_new(g: &Graph, z: VSet, a: VSet, b: VSet, c: VSet) -> bool
     ensures { result ≡ is_new g.now.n z.bits a.bits b.bits c.bits }
 {
-    !is_empty(z) && is_below(g.n, z) && is_apart(z, a) && is_apart(z, b) && is_apart(z, c)
+    !z.is_empty() && z.is_below(g.n) && z.is_apart(a) && z.is_apart(b) && z.is_apart(c)
 }
 
 /// Whether z isn't empty and is a part of b.
 pub fn is_part(z: VSet, b: VSet) -> bool
     ensures { result ≡ is_part z.bits b.bits }
 {
-    !is_empty(z) && is_inside(z, b)
+    !z.is_empty() && z.is_inside(b)
 }
 
 /// Rule 1: z comes into the condition.
@@ -41,7 +40,7 @@ pub fn rule1_in(g: &Graph, z: VSet, e: Expr) -> Result<Expr, Refusal>
         Ok(()) => Ok(Expr::Prob {
             of,
             doing,
-            given: join(given, z),
+            given: given.union(z),
         }),
         Err(path) => Err(Refusal::Fault(StepFault::Unblocked(path))),
     }
@@ -58,7 +57,7 @@ pub fn rule1_out(g: &Graph, z: VSet, e: Expr) -> Result<Expr, Refusal>
     if !is_part(z, given) {
         return Err(Refusal::Fault(StepFault::Sets));
     }
-    let rest = minus(given, z);
+    let rest = given.difference(z);
     match rule1(g, doing, of, z, rest) {
         Ok(()) => Ok(Expr::Prob {
             of,
@@ -80,12 +79,12 @@ pub fn rule2_see(g: &Graph, z: VSet, e: Expr) -> Result<Expr, Refusal>
     if !is_part(z, doing) {
         return Err(Refusal::Fault(StepFault::Sets));
     }
-    let rest = minus(doing, z);
+    let rest = doing.difference(z);
     match rule2(g, rest, of, z, given) {
         Ok(()) => Ok(Expr::Prob {
             of,
             doing: rest,
-            given: join(given, z),
+            given: given.union(z),
         }),
         Err(path) => Err(Refusal::Fault(StepFault::Unblocked(path))),
     }
@@ -102,11 +101,11 @@ pub fn rule2_do(g: &Graph, z: VSet, e: Expr) -> Result<Expr, Refusal>
     if !is_part(z, given) {
         return Err(Refusal::Fault(StepFault::Sets));
     }
-    let rest = minus(given, z);
+    let rest = given.difference(z);
     match rule2(g, doing, of, z, rest) {
         Ok(()) => Ok(Expr::Prob {
             of,
-            doing: join(doing, z),
+            doing: doing.union(z),
             given: rest,
         }),
         Err(path) => Err(Refusal::Fault(StepFault::Unblocked(path))),
@@ -127,7 +126,7 @@ pub fn rule3_in(g: &Graph, z: VSet, e: Expr) -> Result<Expr, Refusal>
     match rule3(g, doing, of, z, given) {
         Ok(()) => Ok(Expr::Prob {
             of,
-            doing: join(doing, z),
+            doing: doing.union(z),
             given,
         }),
         Err(path) => Err(Refusal::Fault(StepFault::Unblocked(path))),
@@ -145,7 +144,7 @@ pub fn rule3_out(g: &Graph, z: VSet, e: Expr) -> Result<Expr, Refusal>
     if !is_part(z, doing) {
         return Err(Refusal::Fault(StepFault::Sets));
     }
-    let rest = minus(doing, z);
+    let rest = doing.difference(z);
     match rule3(g, rest, of, z, given) {
         Ok(()) => Ok(Expr::Prob {
             of,

@@ -15,7 +15,6 @@ use crate::faults::{Refusal, StepFault};
 use crate::rule_moves::is_new;
 use mixed_graph::{Graph, Order, VSet};
 use prob_expr::Expr;
-use prob_expr::masks::{all, is_empty, is_inside, join, minus, one};
 use std::alloc::{AllocError, Global};
 
 // A term in a box.
@@ -34,7 +33,7 @@ pub fn widen(alloc: Global, g: &Graph, u: VSet, e: Expr) -> Result<Expr, Refusal
             if !is_new(g, u, of, doing, given) {
                 return Err(Refusal::Fault(StepFault::Sets));
             }
-            match boxed(alloc, join(of, u), doing, given) {
+            match boxed(alloc, of.union(u), doing, given) {
                 Ok(body) => Ok(Expr::Sum { over: u, body }),
                 Err(_) => Err(Refusal::NoMemory),
             }
@@ -50,9 +49,9 @@ pub fn narrow(g: &Graph, e: Expr) -> Result<Expr, Refusal>
     match e {
         Expr::Sum { over, body } => match Box::into_inner(body) {
             Expr::Prob { of, doing, given } => {
-                if is_inside(over, of) && over.bits != of.bits {
+                if over.is_inside(of) && over.bits != of.bits {
                     Ok(Expr::Prob {
-                        of: minus(of, over),
+                        of: of.difference(over),
                         doing,
                         given,
                     })
@@ -72,11 +71,11 @@ pub fn split(alloc: Global, g: &Graph, e: Expr) -> Result<Expr, Refusal>
 {
     match e {
         Expr::Prob { of, doing, given } => {
-            if is_empty(given) {
+            if given.is_empty() {
                 return Err(Refusal::Fault(StepFault::Sets));
             }
-            let none = VSet { bits: 0 };
-            let top = match boxed(alloc, join(of, given), doing, none) {
+            let none = VSet::EMPTY;
+            let top = match boxed(alloc, of.union(given), doing, none) {
                 Ok(top) => top,
                 Err(_) => return Err(Refusal::NoMemory),
             };
@@ -99,8 +98,8 @@ pub fn cite(g: &Graph, lemmas: &[VSet], k: u32, e: Expr) -> Result<Expr, Refusal
     let set = lemmas[k as usize];
     match e {
         Expr::Prob { of, doing, given } => {
-            let others = minus(all(g.n), set);
-            if of.bits == set.bits && doing.bits == others.bits && is_empty(given) {
+            let others = VSet::below(g.n).difference(set);
+            if of.bits == set.bits && doing.bits == others.bits && given.is_empty() {
                 Ok(Expr::Named(k))
             } else {
                 Err(Refusal::Fault(StepFault::Shape))
@@ -132,9 +131,9 @@ fn is_list_of(list: &[u8], set: VSet) -> bool
         if !is_member(rest, *v) {
             return false;
         }
-        rest = minus(rest, one(*v));
+        rest = rest.difference(VSet::one(*v));
     }
-    is_empty(rest)
+    rest.is_empty()
 }
 
 // The term as a product over the vertices of the list.
@@ -145,13 +144,13 @@ fn chained(alloc: Global, doing: VSet, given: VSet, list: &[u8]) -> Result<Vec<E
     let mut factors = Vec::with_capacity(alloc, list.len())?;
     let mut known = given;
     for v in list {
-        let of = one(*v);
+        let of = VSet::one(*v);
         factors.push(Expr::Prob {
             of,
             doing,
             given: known,
         })?;
-        known = join(known, of);
+        known = known.union(of);
     }
     Ok(factors)
 }

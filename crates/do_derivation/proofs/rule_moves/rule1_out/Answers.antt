@@ -10,4 +10,4 @@ rule1-requires-clause-sets c =
     let seen = ap view c.in-Prob.is ∙ view-Prob c.in-Prob.of c.in-Prob.doing c.in-Prob.given in
     let asked : is_part c.args.z.bits c.in-Prob.given.bits ≡ true = search rules in
     let sets = given_four_sets c.args.g.now.n c.in-Prob.of.bits c.in-Prob.doing.bits c.in-Prob.given.bits c.args.z.bits (subst (λ x. are_terms c.args.g.now.n x ≡ true) seen c.requires.terms) asked in
-    rw c.minus-rest.ensures sets
+    rw c.difference-rest.ensures.mask sets

@@ -22,18 +22,18 @@ rule2-requires-clause-sets c =
     let seen = ap view c.in-Prob.is ∙ view-Prob c.in-Prob.of c.in-Prob.doing c.in-Prob.given in
     let asked : is_part c.args.z.bits c.in-Prob.given.bits ≡ true = search rules in
     let sets = given_four_sets c.args.g.now.n c.in-Prob.of.bits c.in-Prob.doing.bits c.in-Prob.given.bits c.args.z.bits (subst (λ x. are_terms c.args.g.now.n x ≡ true) seen c.requires.terms) asked in
-    rw c.minus-rest.ensures sets
+    rw c.difference-rest.ensures.mask sets
 
 pub returns-in-Ok : goal.returns-in-Ok
 returns-in-Ok c =
     let seen = ap view c.in-Prob.is ∙ view-Prob c.in-Prob.of c.in-Prob.doing c.in-Prob.given in
     let asked : is_part c.args.z.bits c.in-Prob.given.bits ≡ true = search rules in
     record {
-      row = subst (λ e. IsMade (graph_of c.args.g.now) (row c.args.g.now.n [] (Move.Rule2Do c.args.z.bits) e) (view (Prob c.in-Prob.of c.join.result c.minus-rest.result))) (sym seen)
+      row = subst (λ e. IsMade (graph_of c.args.g.now) (row c.args.g.now.n [] (Move.Rule2Do c.args.z.bits) e) (view (Prob c.in-Prob.of c.union.result c.difference-rest.result))) (sym seen)
           (asked_made (graph_of c.args.g.now) Two (c.in-Prob.doing.bits) c.in-Prob.of.bits c.args.z.bits (minus c.in-Prob.given.bits c.args.z.bits) (prob c.in-Prob.of.bits (join c.in-Prob.doing.bits c.args.z.bits) (minus c.in-Prob.given.bits c.args.z.bits)) Sets
-          (is_part c.args.z.bits c.in-Prob.given.bits) (view (Prob c.in-Prob.of c.join.result c.minus-rest.result)) asked
-          (subst (λ r. IsBlockedFor Two (graph_of c.args.g.now) (has c.in-Prob.doing.bits) (has c.in-Prob.of.bits) (has c.args.z.bits) (has r)) c.minus-rest.ensures c.in-Ok.ensures.apart)
-          (view-Prob c.in-Prob.of c.join.result c.minus-rest.result ∙ ap₂ (λ r j. prob c.in-Prob.of.bits j r) c.minus-rest.ensures c.join.ensures));
+          (is_part c.args.z.bits c.in-Prob.given.bits) (view (Prob c.in-Prob.of c.union.result c.difference-rest.result)) asked
+          (subst (λ r. IsBlockedFor Two (graph_of c.args.g.now) (has c.in-Prob.doing.bits) (has c.in-Prob.of.bits) (has c.args.z.bits) (has r)) c.difference-rest.ensures.mask c.in-Ok.ensures.apart)
+          (view-Prob c.in-Prob.of c.union.result c.difference-rest.result ∙ ap₂ (λ r j. prob c.in-Prob.of.bits j r) c.difference-rest.ensures.mask c.union.ensures.mask));
     }
 
 pub returns-in-Err : goal.returns-in-Err
@@ -44,5 +44,5 @@ returns-in-Err c =
       row = subst (λ e. RowRefuses (graph_of c.args.g.now) (row c.args.g.now.n [] (Move.Rule2Do c.args.z.bits) e) (Unblocked c.in-Err.path)) (sym seen)
           (asked_refused (graph_of c.args.g.now) Two (c.in-Prob.doing.bits) c.in-Prob.of.bits c.args.z.bits (minus c.in-Prob.given.bits c.args.z.bits) (prob c.in-Prob.of.bits (join c.in-Prob.doing.bits c.args.z.bits) (minus c.in-Prob.given.bits c.args.z.bits)) Sets
           (is_part c.args.z.bits c.in-Prob.given.bits) c.in-Err.path asked
-          (subst (λ r. IsOpenFor Two (graph_of c.args.g.now) (has c.in-Prob.doing.bits) (has c.in-Prob.of.bits) (has c.args.z.bits) (has r) c.in-Err.path) c.minus-rest.ensures c.in-Err.ensures.open));
+          (subst (λ r. IsOpenFor Two (graph_of c.args.g.now) (has c.in-Prob.doing.bits) (has c.in-Prob.of.bits) (has c.args.z.bits) (has r) c.in-Err.path) c.difference-rest.ensures.mask c.in-Err.ensures.open));
     }

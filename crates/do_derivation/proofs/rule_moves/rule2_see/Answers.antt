@@ -22,18 +22,18 @@ rule2-requires-clause-sets c =
     let seen = ap view c.in-Prob.is ∙ view-Prob c.in-Prob.of c.in-Prob.doing c.in-Prob.given in
     let asked : is_part c.args.z.bits c.in-Prob.doing.bits ≡ true = search rules in
     let sets = doing_four_sets c.args.g.now.n c.in-Prob.of.bits c.in-Prob.doing.bits c.in-Prob.given.bits c.args.z.bits (subst (λ x. are_terms c.args.g.now.n x ≡ true) seen c.requires.terms) asked in
-    rw c.minus-rest.ensures sets
+    rw c.difference-rest.ensures.mask sets
 
 pub returns-in-Ok : goal.returns-in-Ok
 returns-in-Ok c =
     let seen = ap view c.in-Prob.is ∙ view-Prob c.in-Prob.of c.in-Prob.doing c.in-Prob.given in
     let asked : is_part c.args.z.bits c.in-Prob.doing.bits ≡ true = search rules in
     record {
-      row = subst (λ e. IsMade (graph_of c.args.g.now) (row c.args.g.now.n [] (Move.Rule2See c.args.z.bits) e) (view (Prob c.in-Prob.of c.minus-rest.result c.join.result))) (sym seen)
+      row = subst (λ e. IsMade (graph_of c.args.g.now) (row c.args.g.now.n [] (Move.Rule2See c.args.z.bits) e) (view (Prob c.in-Prob.of c.difference-rest.result c.union.result))) (sym seen)
           (asked_made (graph_of c.args.g.now) Two (minus c.in-Prob.doing.bits c.args.z.bits) c.in-Prob.of.bits c.args.z.bits (c.in-Prob.given.bits) (prob c.in-Prob.of.bits (minus c.in-Prob.doing.bits c.args.z.bits) (join c.in-Prob.given.bits c.args.z.bits)) Sets
-          (is_part c.args.z.bits c.in-Prob.doing.bits) (view (Prob c.in-Prob.of c.minus-rest.result c.join.result)) asked
-          (subst (λ r. IsBlockedFor Two (graph_of c.args.g.now) (has r) (has c.in-Prob.of.bits) (has c.args.z.bits) (has c.in-Prob.given.bits)) c.minus-rest.ensures c.in-Ok.ensures.apart)
-          (view-Prob c.in-Prob.of c.minus-rest.result c.join.result ∙ ap₂ (λ r j. prob c.in-Prob.of.bits r j) c.minus-rest.ensures c.join.ensures));
+          (is_part c.args.z.bits c.in-Prob.doing.bits) (view (Prob c.in-Prob.of c.difference-rest.result c.union.result)) asked
+          (subst (λ r. IsBlockedFor Two (graph_of c.args.g.now) (has r) (has c.in-Prob.of.bits) (has c.args.z.bits) (has c.in-Prob.given.bits)) c.difference-rest.ensures.mask c.in-Ok.ensures.apart)
+          (view-Prob c.in-Prob.of c.difference-rest.result c.union.result ∙ ap₂ (λ r j. prob c.in-Prob.of.bits r j) c.difference-rest.ensures.mask c.union.ensures.mask));
     }
 
 pub returns-in-Err : goal.returns-in-Err
@@ -44,5 +44,5 @@ returns-in-Err c =
       row = subst (λ e. RowRefuses (graph_of c.args.g.now) (row c.args.g.now.n [] (Move.Rule2See c.args.z.bits) e) (Unblocked c.in-Err.path)) (sym seen)
           (asked_refused (graph_of c.args.g.now) Two (minus c.in-Prob.doing.bits c.args.z.bits) c.in-Prob.of.bits c.args.z.bits (c.in-Prob.given.bits) (prob c.in-Prob.of.bits (minus c.in-Prob.doing.bits c.args.z.bits) (join c.in-Prob.given.bits c.args.z.bits)) Sets
           (is_part c.args.z.bits c.in-Prob.doing.bits) c.in-Err.path asked
-          (subst (λ r. IsOpenFor Two (graph_of c.args.g.now) (has r) (has c.in-Prob.of.bits) (has c.args.z.bits) (has c.in-Prob.given.bits) c.in-Err.path) c.minus-rest.ensures c.in-Err.ensures.open));
+          (subst (λ r. IsOpenFor Two (graph_of c.args.g.now) (has r) (has c.in-Prob.of.bits) (has c.args.z.bits) (has c.in-Prob.given.bits) c.in-Err.path) c.difference-rest.ensures.mask c.in-Err.ensures.open));
     }
