@@ -4,6 +4,8 @@ pub mod Bases
 pub mod BlockSums
 pub mod Ending
 pub mod Parts
+pub mod Passing
+pub mod Quarters
 pub mod Spots
 pub mod UsedVertices
 pub mod Vanishing

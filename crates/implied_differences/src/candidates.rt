@@ -1,7 +1,7 @@
-ghost use Rattle.std.specs.Prelude.{◌≡◌, ◌≤◌, ◌*◌, ◌^◌};
+ghost use Rattle.std.specs.Prelude.{◌≡◌, ◌≤◌, ◌*◌, ◌/◌, ◌^◌};
 ghost use Rattle.std.specs.Bool.{OnTrue, OnFalse};
 ghost use Rattle.std.specs.Int.{abs_diff};
-ghost use Rattle.implied_differences.specs.Candidates.{IsAhead, IsNotAhead};
+ghost use Rattle.implied_differences.specs.Candidates.{IsAhead, IsNotAhead, IsOutOfReach};
 
 /// Two products and how far they are apart, with the number of their cell in order.
 #[derive(Clone, Copy)]
@@ -71,5 +71,17 @@ impl Candidate {
             return false;
         }
         self.number < other.number
+    }
+    /// Whether a cell with at least this number may be ahead, where N(W) is at most `most`. Its products are no further
+    /// apart than a quarter of the square of N(W).
+    pub fn may_be_passed(&self, most: u64, number: usize) -> bool
+        requires { most ≤ 10 ^ 15 }
+        ensures no { OnFalse result (IsOutOfReach self.now (most * most / 4) number) }
+    {
+        let furthest = product(most, most) / 4;
+        if number < self.number {
+            return furthest >= self.distance;
+        }
+        furthest > self.distance
     }
 }

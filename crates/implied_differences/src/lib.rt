@@ -10,6 +10,7 @@ mod largest;
 mod layout;
 mod readable;
 mod sets;
+mod strips;
 mod theory;
 
 pub use largest::{Difference, largest_difference};

@@ -4,17 +4,19 @@ use Rattle.implied_differences.specs.declared.layout.Block.{Block}
 use Rattle.implied_differences.specs.declared.layout.Layout.{Layout}
 use Rattle.implied_differences.specs.Layouts.{IsBase}
 use Rattle.implied_differences.specs.Blocks.{IsBest}
-use Rattle.implied_differences.proofs.blocks.best_in_blocks.Given as goal
+use Rattle.implied_differences.proofs.strips.best_of_strips.Given as goal
 
 -- the best of the blocks before this one
-pub record IsWalked (cells : List ℕ) (l : Layout) (block : Block) (columns : List ℕ) (so_far : Candidate) : Type 0 where
-  pub long : length columns ≡ l.seconds
+pub record IsWalked (cells : List ℕ) (l : Layout) (block : Block) (places totals across : List ℕ) (so_far : Candidate) : Type 0 where
+  pub begins : length places ≡ 64
+  pub sums : length totals ≡ 64
+  pub columns : length across ≡ l.seconds
   pub within : block.number ≤ l.count
   pub base : IsBase l block
   pub best : IsBest cells l block.number 0 0 so_far
 
-abbrev pub invariant-each : goal.invariant-each
-invariant-each l = IsWalked l.cells l.l l.block l.columns.items l.best
+abbrev pub invariant-strips : goal.invariant-strips
+invariant-strips l = IsWalked l.cells l.l l.block l.begins l.sums l.columns l.best
 
-abbrev pub decreases-each : goal.decreases-each
-decreases-each l = l.l.count - l.block.number
+abbrev pub decreases-strips : goal.decreases-strips
+decreases-strips l = l.l.count - l.block.number
