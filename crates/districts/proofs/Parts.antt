@@ -1,33 +1,22 @@
--- Districts by searches, and how they part a set.
-use Rattle.std.proofs.Common.{◌≡◌, ℕ, ◌^◌, Bool, true, ◌&&◌, ◌==◌, List, [], ◌∷◌, IsTrue, inl, inr, refl, sym, ◌∙◌, subst}
-use Rattle.std.proofs.lemmas.Bool.{cases_Bool, and_parts, eqb-true, eq-eqb}
+-- Links and districts, and how they part a set.
+use Rattle.std.proofs.Common.{◌≡◌, ℕ, ◌^◌, Bool, true, ◌==◌, IsTrue, refl, sym, ◌∙◌, subst}
+use Rattle.std.proofs.lemmas.Bool.{eqb-true, eq-eqb}
 use Rattle.mixed_graph.specs.Bits.{has}
-use Rattle.mixed_graph.specs.Graphs.{MixedGraph, IsMixedGraph, IsDirectedPath}
+use Rattle.mixed_graph.specs.Graphs.{MixedGraph, IsMixedGraph}
+use Rattle.mixed_graph.specs.Reached.{Reached}
 use Rattle.mixed_graph.proofs.Masks.{has-pow}
 use Rattle.districts.specs.Linked.{IsLinked, IsSetOf, IsDistrict, IsJoinedSet, IsMaximalJoined}
 use Rattle.districts.specs.Linked.IsLinked.{at, by}
 
--- the graph in which a step along a bidirected edge to a member of d is an arrow against it
-abbrev pub sibling : MixedGraph → (ℕ → Bool) → MixedGraph
-sibling g d = record g { arrow = λ u v. g.both u v && d u }
-
--- bidirected edges are the same read from either end
-pub same_both : (g : MixedGraph) (valid : IsMixedGraph g) (u v : ℕ) → g.both u v ≡ g.both v u
-same_both g valid u v = elim (cases_Bool (g.both u v)) [
-  | inl t ↦ t ∙ sym (valid.symmetric u v t)
-  | inr f ↦ elim (cases_Bool (g.both v u)) [ inl t ↦ absurd (let s = valid.symmetric v u t in cc) | inr o ↦ f ∙ sym o ]
-]
-
 module _ (g : MixedGraph) (valid : IsMixedGraph g) where
-  pub linked_from_path : (d s : ℕ → Bool) (v : ℕ) (path : List ℕ) (u : ℕ) → IsDirectedPath (sibling g d) v path u → IsTrue (s u) → IsLinked g d s v
-  linked_from_path d s v [] u p i = at (subst (λ w. s w ≡ true) (sym p) i)
-  linked_from_path d s v (x ∷ xs) u p i = let e = and_parts (g.both v x) (d v) p.0 in by e.1 e.0 (linked_from_path d s x xs u p.1 i)
+  -- what is reached by bidirected edges inside a set is linked inside it
+  pub linked_from_reached : (a s : ℕ → Bool) (v : ℕ) → Reached g.both s a v → IsLinked g a s v
+  linked_from_reached a s v (Reached.start i w) = at i
+  linked_from_reached a s v (Reached.next {u} r b w) = by w (valid.symmetric u v b) (linked_from_reached a s u r)
 
-  -- a set that holds the neighbours inside d of its members holds what is linked to it
-  pub held_along_links : (d s : ℕ → Bool) (held : ℕ → Bool) → ((u v : ℕ) → IsTrue (held v) → IsTrue (d u) → IsTrue (g.both u v) → IsTrue (held u)) →
-      ((v : ℕ) → IsTrue (s v) → IsTrue (held v)) → (v : ℕ) → IsLinked g d s v → IsTrue (held v)
-  held_along_links d s held closed start v (at i) = start v i
-  held_along_links d s held closed start v (by {v = w} i b r) = closed v w (held_along_links d s held closed start w r) i b
+  pub reached_from_linked : (a s : ℕ → Bool) → ((v : ℕ) → IsTrue (s v) → IsTrue (a v)) → (v : ℕ) → IsLinked g a s v → Reached g.both s a v
+  reached_from_linked a s inside v (at i) = Reached.start i (inside v i)
+  reached_from_linked a s inside v (by {v = w} i b r) = Reached.next (reached_from_linked a s inside w r) (valid.symmetric v w b) i
 
   pub link_in : (a s : ℕ → Bool) (u : ℕ) → ((w : ℕ) → IsTrue (s w) → IsTrue (a w)) → IsLinked g a s u → IsTrue (a u)
   link_in a s u h (at e) = h u e

@@ -6,7 +6,7 @@ ghost use Rattle.districts.specs.Linked.{IsDistrict, IsMaximalJoined, AreDistric
 ghost use Rattle.districts.specs.Listed.{first_masks};
 
 use crate::lists::Districts;
-use mixed_graph::{Graph, VSet};
+use mixed_graph::{Graph, VSet, reached};
 
 /// The district of v in `within`: the vertices that come to v by bidirected edges inside `within`.
 pub fn district_of(g: &Graph, within: VSet, v: u8) -> VSet
@@ -15,19 +15,7 @@ pub fn district_of(g: &Graph, within: VSet, v: u8) -> VSet
     ensures district { IsDistrict (graph_of g.now) within.bits (2 ^ v) result.bits }
     ensures maximal { IsMaximalJoined (graph_of g.now) within.bits result.bits }
 {
-    let mut found = VSet::one(v);
-    let mut front = found;
-    'search: while front.bits != 0 {
-        let u = front.lowest();
-        front = front.difference(VSet::one(u));
-        let near = VSet {
-            bits: g.spouses[u as usize],
-        };
-        let fresh = near.intersection(within).difference(found);
-        found = found.union(fresh);
-        front = front.union(fresh);
-    }
-    found
+    reached(&g.spouses, VSet::one(v), within)
 }
 
 /// The districts of `within`, by their first members in the graph's order.

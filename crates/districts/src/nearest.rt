@@ -6,20 +6,13 @@ ghost use Rattle.districts.specs.Spanning.{IsLowest};
 ghost use Rattle.districts.specs.Nearest.{IsChoiceOf};
 
 use crate::lists::Choice;
-use mixed_graph::{Graph, VSet};
+use mixed_graph::{Graph, VSet, joined};
 
 /// The vertices with a child in the set.
 fn parents_of(g: &Graph, set: VSet) -> VSet
     ensures { (u : ℕ) → IsTrue (has result.bits u) ↔ ((c : ℕ) × IsTrue (has set.bits c) × IsTrue ((graph_of g.now).arrow u c)) }
 {
-    let mut parents = VSet::empty();
-    for c in 0..64u8 {
-        let row = VSet {
-            bits: g.parents[c as usize],
-        };
-        parents = parents.union(row.only_if(set.has(c)));
-    }
-    parents
+    joined(&g.parents, set)
 }
 
 /// Writes the lowest child in `goal` for each member of `fresh`.
@@ -30,10 +23,7 @@ fn choose_children(g: &Graph, next: &mut [u8; 64], fresh: VSet, goal: VSet)
 {
     for v in 0..64u8 {
         if fresh.has(v) {
-            let row = VSet {
-                bits: g.children[v as usize],
-            };
-            next[v as usize] = row.intersection(goal).lowest();
+            next[v as usize] = g.children(v).intersection(goal).lowest();
         }
     }
 }

@@ -29,9 +29,7 @@ fn earliest(g: &Graph, found: &[u8; 64], count: usize, v: u8) -> u8
     requires some { (i : ℕ) × (i < count) × IsTrue ((graph_of g.now).both v (slice_index found.now i)) }
     ensures { IsEarliest (graph_of g.now) found.now count v result }
 {
-    let near = VSet {
-        bits: g.spouses[v as usize],
-    };
+    let near = g.spouses(v);
     for i in 0..count {
         if near.has(found[i]) {
             return found[i];
@@ -57,18 +55,14 @@ pub fn links(g: &Graph, small: VSet, big: VSet) -> Links
     found[0] = start;
     let mut count = 1usize;
     let mut taken = VSet::one(start);
-    let mut near = VSet {
-        bits: g.spouses[start as usize],
-    };
+    let mut near = g.spouses(start);
     'next: while !big.difference(taken).is_empty() {
         let v = wanted(small, big, taken).intersection(near).lowest();
         partner[count] = earliest(g, &found, count, v);
         found[count] = v;
         count += 1;
         taken = taken.union(VSet::one(v));
-        near = near.union(VSet {
-            bits: g.spouses[v as usize],
-        });
+        near = near.union(g.spouses(v));
     }
     Links {
         found,

@@ -25,9 +25,7 @@ fn joins_others(g: &Graph, children: VSet, v: u8) -> bool
     requires { v < 64 }
     ensures { IsTrue result ↔ (IsTrue (has children.bits v) → (u : ℕ) → IsTrue (has children.bits u) → (u ≡ v → ⊥) → IsTrue ((graph_of g.now).both v u)) }
 {
-    let row = VSet {
-        bits: g.spouses[v as usize],
-    };
+    let row = g.spouses(v);
     let missed = children.difference(VSet::one(v)).difference(row);
     !children.has(v) || missed.is_empty()
 }

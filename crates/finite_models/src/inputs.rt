@@ -90,9 +90,7 @@ fn may_read(g: &Graph, m: &Model, v: u8, p: &Part) -> bool
     requires few { length m.now.mechanisms.items ≤ 64 }
     ensures { IsTrue result ↔ MayRead (graph_of g.now) m.now v p.now }
 {
-    let row = VSet {
-        bits: g.parents[v as usize],
-    };
+    let row = g.parents(v);
     let hedges = lies_in(p.hedge_of, row.intersection(with_hedge(&m.mechanisms)));
     let carrieds = lies_in(p.carried_of, row.intersection(with_carried(&m.mechanisms)));
     let causes = are_bit_causes(m, v, &p.causes);

@@ -26,9 +26,7 @@ fn parents_place(g: &Graph, m: &Model, v: u8, values: &[u32; 64]) -> usize
     requires fits { radix_range g.now.n (λ p. (graph_of g.now).arrow p v) (λ p. slice_index m.now.sizes.items p) < 2 ^ 64 }
     ensures { result ≡ radix g.now.n (λ p. (graph_of g.now).arrow p v) (λ p. slice_index m.now.sizes.items p) (λ p. slice_index values.now p) }
 {
-    let row = VSet {
-        bits: g.parents[v as usize],
-    };
+    let row = g.parents(v);
     let mut place = 0usize;
     for p in 0..m.sizes.len() {
         place = with_digit(

@@ -29,9 +29,7 @@ pub fn parents_range(g: &Graph, m: &Model, v: u8, cap: u128) -> u128
     requires small { cap ≤ 2 ^ 64 }
     ensures { result ≡ min (radix_range g.now.n (λ p. (graph_of g.now).arrow p v) (λ p. slice_index m.now.sizes.items p)) cap }
 {
-    let row = VSet {
-        bits: g.parents[v as usize],
-    };
+    let row = g.parents(v);
     let mut range = 1u128;
     for p in 0..m.sizes.len() {
         range = widened(range, row.has(p as u8), u64::from(m.sizes[p]), cap);

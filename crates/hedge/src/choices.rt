@@ -28,10 +28,7 @@ fn chooses_right(g: &Graph, h: &Hedge, v: u8) -> bool
     if !h.big.difference(h.roots).has(v) {
         return next == 64;
     }
-    let row = VSet {
-        bits: g.children[v as usize],
-    };
-    let children = row.intersection(home(h, v));
+    let children = g.children(v).intersection(home(h, v));
     next < 64 && children.has(next)
 }
 

@@ -97,10 +97,7 @@ fn is_right_partner(g: &Graph, h: &Hedge, i: usize) -> bool
         Some(j) => j < i,
         None => false,
     };
-    let row = VSet {
-        bits: g.spouses[v as usize],
-    };
-    let joined = contains(row, partner);
+    let joined = contains(g.spouses(v), partner);
     let leaves = h.small.has(v) && !contains(h.small, partner);
     earlier && joined && !leaves
 }

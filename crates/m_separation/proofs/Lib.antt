@@ -1,4 +1,3 @@
-pub mod Rows
 pub mod Going
 pub mod Splices
 pub mod OpenPaths

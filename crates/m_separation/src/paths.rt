@@ -37,13 +37,9 @@ fn link_to(g: &Graph, w: VSet, above: VSet, from: States, s: State) -> Link
     ensures passed { IsPassed (graph_of g.now) (has w.bits) result.from.vertex result.from.head (heads_first result.mark) }
     ensures arrives { heads_second result.mark ≡ s.head }
 {
-    let v = s.vertex as usize;
     let turning = from.passing(w, above, true);
     if !s.head {
-        let children = VSet {
-            bits: g.children[v],
-        };
-        return match turning.first_in(children) {
+        return match turning.first_in(g.children(s.vertex)) {
             Some(t) => Link {
                 from: t,
                 mark: Mark::Into,
@@ -51,15 +47,13 @@ fn link_to(g: &Graph, w: VSet, above: VSet, from: States, s: State) -> Link
             None => unreachable!(),
         };
     }
-    let parents = VSet { bits: g.parents[v] };
-    if let Some(t) = from.passing(w, above, false).first_in(parents) {
+    if let Some(t) = from.passing(w, above, false).first_in(g.parents(s.vertex)) {
         return Link {
             from: t,
             mark: Mark::Out,
         };
     }
-    let spouses = VSet { bits: g.spouses[v] };
-    match turning.first_in(spouses) {
+    match turning.first_in(g.spouses(s.vertex)) {
         Some(t) => Link {
             from: t,
             mark: Mark::Both,

@@ -6,8 +6,8 @@ ghost use Rattle.mixed_graph.specs.Shown.{graph_of};
 ghost use Rattle.m_separation.specs.Walks.{HasOpenWalk, IsSeparated, IsReached};
 ghost use Rattle.m_separation.specs.States.{AreAncestors, mask_of, IsLed};
 
-use crate::states::{States, joined};
-use mixed_graph::{Graph, VSet};
+use crate::states::States;
+use mixed_graph::{Graph, VSet, joined};
 
 /// The states that an edge leads to from those of `from`.
 pub fn next(g: &Graph, w: VSet, above: VSet, from: States) -> States

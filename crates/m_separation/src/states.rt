@@ -1,4 +1,4 @@
-ghost use Rattle.std.specs.Prelude.{◌≡◌, ℕ, ◌<◌, ◌&&◌, ◌||◌, ◌↔◌, not, false, IsTrue, Bool, IfSome, IfNone, slice_index};
+ghost use Rattle.std.specs.Prelude.{◌≡◌, ℕ, ◌<◌, ◌&&◌, ◌||◌, ◌↔◌, not, false, IsTrue, Bool, IfSome, IfNone};
 ghost use Rattle.mixed_graph.specs.Bits.{has};
 ghost use Rattle.m_separation.specs.States.{mask_of, lets_pass};
 
@@ -90,20 +90,4 @@ impl States {
         }
         None
     }
-}
-
-/// What the rows of the members hold.
-pub fn joined(rows: &[u64; 64], members: VSet) -> VSet
-    ensures { (u : ℕ) → IsTrue (has result.bits u) ↔ ((v : ℕ) × IsTrue (has members.bits v) × IsTrue (has (slice_index rows.now v) u)) }
-{
-    let mut all = VSet::empty();
-    let mut rest = members;
-    'each: while !rest.is_empty() {
-        let v = rest.lowest();
-        all = all.union(VSet {
-            bits: rows[v as usize],
-        });
-        rest = rest.difference(VSet::one(v));
-    }
-    all
 }

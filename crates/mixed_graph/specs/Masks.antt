@@ -5,6 +5,10 @@ use Rattle.std.specs.Prelude.{ℕ, ◌-◌, ◌^◌, Bool, eqb, ltb, bit_and, bi
 abbrev pub join : ℕ → ℕ → ℕ
 join a b = bit_or a b
 
+-- the members of both
+abbrev pub common : ℕ → ℕ → ℕ
+common a b = bit_and a b
+
 -- the members of a outside b
 abbrev pub minus : ℕ → ℕ → ℕ
 minus a b = bit_xor a (bit_and a b)

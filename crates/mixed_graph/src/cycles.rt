@@ -4,10 +4,11 @@ ghost use Rattle.mixed_graph.specs.Pairs.{IsCycle};
 ghost use Rattle.mixed_graph.specs.Arrows.{arrows_only, IsOnNoCycle, HasChildIn, HasNoChildIn, IsLasso, turn};
 
 use crate::lists::Cycle;
+use crate::rows::Rows;
 use crate::sets::VSet;
 
 /// A member of the set that has no child in it, if there is one.
-pub fn childless(children: &[u64; 64], set: VSet) -> Option<u8>
+pub fn childless(children: &Rows, set: VSet) -> Option<u8>
     ensures found { IfSome result (λ v. (v < 64) × IsTrue (has set.bits v) × HasNoChildIn children.now v set.bits × ((u : ℕ) → u < v → IsTrue (has set.bits u) → HasChildIn children.now u set.bits)) }
     ensures none { IfNone result ((v : ℕ) → IsTrue (has set.bits v) → HasChildIn children.now v set.bits) }
 {
@@ -23,7 +24,7 @@ pub fn childless(children: &[u64; 64], set: VSet) -> Option<u8>
 }
 
 /// What stays of the vertices below n when, again and again, one without a child among those left is taken.
-pub fn stuck(n: u32, children: &[u64; 64]) -> VSet
+pub fn stuck(n: u32, children: &Rows) -> VSet
     requires { n ≤ 64 }
     ensures taken { (a : ℕ) → has result.bits a ≡ false → IsOnNoCycle (arrows_only n children.now) a }
     ensures left { (a : ℕ) → IsTrue (has result.bits a) → HasChildIn children.now a result.bits }
@@ -36,7 +37,7 @@ pub fn stuck(n: u32, children: &[u64; 64]) -> VSet
 }
 
 /// A child of v in the set.
-fn child_in(children: &[u64; 64], v: u8, set: VSet) -> u8
+fn child_in(children: &Rows, v: u8, set: VSet) -> u8
     requires below { v < 64 }
     requires child { HasChildIn children.now v set.bits }
     ensures in_range { result < 64 }
@@ -55,7 +56,7 @@ pub struct Lasso {
 }
 
 /// A walk inside the set until it comes back.
-pub fn walk_back(children: &[u64; 64], set: VSet) -> Lasso
+pub fn walk_back(children: &Rows, set: VSet) -> Lasso
     requires some { 0 < set.bits }
     requires left { (a : ℕ) → IsTrue (has set.bits a) → HasChildIn children.now a set.bits }
     ensures { IsLasso (λ a b. has (slice_index children.now a) b) result.list result.count result.back }
@@ -117,7 +118,7 @@ fn turned(list: &[u8; 64], back: usize, count: usize, p: usize) -> [u8; 64]
 }
 
 /// The cycle of a walk that came back.
-pub fn cycle_of(children: &[u64; 64], walk: Lasso) -> Cycle
+pub fn cycle_of(children: &Rows, walk: Lasso) -> Cycle
     requires { IsLasso (λ a b. has (slice_index children.now a) b) walk.list walk.count walk.back }
     ensures { IsCycle (λ a b. has (slice_index children.now a) b) result.list result.count }
 {

@@ -15,6 +15,6 @@ mod text;
 pub use lists::{Cycle, Order};
 pub use mixed::{BuildFault, Graph};
 pub use names::{AddFault, Names, is_name};
-pub use rows::{joined, reached};
+pub use rows::{Rows, joined, reached};
 pub use sets::VSet;
 pub use text::Text;

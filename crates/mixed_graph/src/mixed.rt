@@ -7,7 +7,7 @@ ghost use Rattle.mixed_graph.specs.Graphs.{IsMixedGraph, graph_from, Agree, IsAn
 use crate::cycles::{childless, cycle_of, stuck, walk_back};
 use crate::lists::{Cycle, Order};
 use crate::pairs::{heads, loop_among, neighbours, tails};
-use crate::rows::reached;
+use crate::rows::{Rows, reached};
 use crate::sets::VSet;
 
 /// An acyclic mixed graph on the vertices below `n`, at most 64.
@@ -158,7 +158,7 @@ impl Graph {
 }
 
 /// The vertices from which a member of s is reached, where row v holds the vertices one step before v.
-fn closure(n: u32, rows: &[u64; 64], s: VSet) -> VSet
+fn closure(n: u32, rows: &Rows, s: VSet) -> VSet
     requires size { n ≤ 64 }
     requires set { Within n (has s.bits) }
     requires rows { (u v : ℕ) → IsTrue (has (slice_index rows.now v) u) → u < n }
@@ -168,7 +168,7 @@ fn closure(n: u32, rows: &[u64; 64], s: VSet) -> VSet
 }
 
 /// The bits inside `within` of the rows in `of`.
-fn kept(rows: &[u64; 64], of: VSet, within: VSet) -> [u64; 64]
+fn kept(rows: &Rows, of: VSet, within: VSet) -> Rows
     ensures { (a b : ℕ) → has (slice_index result a) b ≡ (has (slice_index rows.now a) b && (has of.bits a && has within.bits b)) }
 {
     let mut out = [0u64; 64];

@@ -4,8 +4,11 @@ ghost use Rattle.mixed_graph.specs.Reached.{Reached, has_in_row};
 
 use crate::sets::VSet;
 
+/// A relation between vertices as rows of bits: bit u of row v is set where v has the relation to u.
+pub type Rows = [u64; 64];
+
 /// What the rows of the members hold.
-pub fn joined(rows: &[u64; 64], members: VSet) -> VSet
+pub fn joined(rows: &Rows, members: VSet) -> VSet
     ensures { (u : ℕ) → IsTrue (has result.bits u) ↔ ((v : ℕ) × IsTrue (has members.bits v) × IsTrue (has (slice_index rows.now v) u)) }
 {
     let mut all = VSet::empty();
@@ -21,7 +24,7 @@ pub fn joined(rows: &[u64; 64], members: VSet) -> VSet
 /// What is reached from the members of `from` inside `within`, where row v holds the vertices one step from v.
 ///
 /// Each step joins the rows of all vertices that were new in the step before.
-pub fn reached(rows: &[u64; 64], from: VSet, within: VSet) -> VSet
+pub fn reached(rows: &Rows, from: VSet, within: VSet) -> VSet
     ensures { (v : ℕ) → IsTrue (has result.bits v) ↔ Reached (has_in_row rows.now) (has from.bits) (has within.bits) v }
 {
     let mut found = VSet::empty();

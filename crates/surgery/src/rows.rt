@@ -10,9 +10,7 @@ fn column(rows: &[u64; 64], v: u8) -> VSet
 {
     let mut found = VSet::empty();
     for u in 0..64u8 {
-        let row = VSet {
-            bits: rows[u as usize],
-        };
+        let row = VSet::row(rows, u);
         found = found.union(VSet::one(u).only_if(row.has(v)));
     }
     found
@@ -35,13 +33,8 @@ pub fn without(rows: &[u64; 64], dropped: &[u64; 64]) -> [u64; 64]
 {
     let mut out = [0u64; 64];
     for u in 0..64u8 {
-        let row = VSet {
-            bits: rows[u as usize],
-        };
-        let less = VSet {
-            bits: dropped[u as usize],
-        };
-        out[u as usize] = row.difference(less).bits;
+        let less = VSet::row(dropped, u);
+        out[u as usize] = VSet::row(rows, u).difference(less).bits;
     }
     out
 }

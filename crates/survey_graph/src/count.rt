@@ -3,16 +3,16 @@ ghost use Rattle.mixed_graph.specs.Bits.{has};
 ghost use Rattle.mixed_graph.specs.Shown.{graph_of};
 ghost use Rattle.survey_graph.specs.Counts.{pairs_from, arrow_count, spouse_count};
 
-use mixed_graph::{Graph, VSet};
+use mixed_graph::{Graph, Rows, VSet};
 
 /// How many bits the first n rows have.
-fn count_rows(n: u32, rows: &[u64; 64]) -> u32
+fn count_rows(n: u32, rows: &Rows) -> u32
     requires { n ≤ 64 }
     ensures { result ≡ pairs_from 64 (λ a b. has (slice_index rows.now a) b) n }
 {
     let mut total = 0u32;
-    for v in 0..n as usize {
-        total += VSet { bits: rows[v] }.count();
+    for v in 0..n as u8 {
+        total += VSet::row(rows, v).count();
     }
     total
 }
@@ -30,10 +30,7 @@ pub fn bidirected_count(g: &Graph) -> u32
 {
     let mut total = 0u32;
     for v in 0..g.n as u8 {
-        let later = VSet {
-            bits: g.spouses[v as usize],
-        }
-        .difference(VSet::below(v as u32 + 1));
+        let later = g.spouses(v).difference(VSet::below(v as u32 + 1));
         total += later.count();
     }
     total

@@ -21,9 +21,9 @@ most_none v = elim (cases_lt v 64) [
 step_of : (c : After-union-seen) → NextLevel (graph_of c.args.g.now) (has c.args.within.bits) c.levels.seen.bits c.levels.front.bits c.intersection-goal.result.bits
     c.parents_of.result.bits c.difference-fresh.result.bits c.union-seen.result.bits c.levels.next c.choose_children.new.next
 step_of c = record {
-  goal_is = c.intersection-goal.ensures;
+  goal_is = c.intersection-goal.ensures.members;
   parents_are = c.parents_of.ensures;
-  fresh_is = λ u. (let a = c.difference-fresh.ensures.members u in let b = c.intersection.ensures u in cc);
+  fresh_is = λ u. (let a = c.difference-fresh.ensures.members u in let b = c.intersection.ensures.members u in cc);
   seen_is = c.union-seen.ensures.members;
   goal_small = λ u i. elim (cases_lt u 64) [ inl l ↦ l | inr ge ↦ absurd (let e = has-above c.intersection-goal.result.bits u (omega arith) ge in cc) ];
   sized = c.choose_children.array_long;
@@ -32,7 +32,7 @@ step_of c = record {
 }
 
 pub choose_children-requires : goal.choose_children-requires
-choose_children-requires c = λ v i. (c.parents_of.ensures v).0 (and_parts _ _ (sym (c.intersection.ensures v) ∙ (and_parts _ _ (sym (c.difference-fresh.ensures.members v) ∙ i)).0)).0
+choose_children-requires c = λ v i. (c.parents_of.ensures v).0 (and_parts _ _ (sym (c.intersection.ensures.members v) ∙ (and_parts _ _ (sym (c.difference-fresh.ensures.members v) ∙ i)).0)).0
 
 pub levels-init : goal.levels-init
 levels-init c = ((0, level_none (graph_of c.args.g.now) (has c.args.within.bits) c.args.toward.bits _ (length-replicate {A = ℕ} 64 64) all_none most_none), omega arith, omega arith)

@@ -26,7 +26,7 @@ lowest_child g goal meet v x is i low = record { member = sym (is x) ∙ i; leas
 
 pub lowest-requires : goal.lowest-requires
 lowest-requires c = let p = c.requires c.loop-v.v (sym c.has.ensures ∙ c.if-has.true) in
-    positive_from_has c.intersection.result.bits p.0 (c.intersection.ensures p.0 ∙ and_from _ _ p.2 p.1)
+    positive_from_has c.intersection.result.bits p.0 (c.intersection.ensures.members p.0 ∙ and_from _ _ (c.children.ensures.members p.0 ∙ p.2) p.1)
 
 pub loop-v-preserved : goal.loop-v-preserved
 loop-v-preserved c = elim c.if-has.branch [
@@ -35,7 +35,8 @@ loop-v-preserved c = elim c.if-has.branch [
       let room : c.loop-v.v < length c.loop-v.next = (let l = c.if-has.array_long in let e : length c.if-has.next ≡ length c.loop-v.next = ap length w.next-is ∙ simp length-set in omega (arith, l, e)) in (
         λ u h i. subst (λ xs. IsLowest (Child c.args.g.now c.args.goal.bits u) (get_or xs u 0)) (sym w.next-is)
             (written_more (λ u x. IsTrue (has c.args.fresh.bits u) → IsLowest (Child c.args.g.now c.args.goal.bits u) x) c.loop-v.next c.loop-v.v w.lowest.result room
-            (λ _. lowest_child c.args.g.now c.args.goal.bits w.intersection.result.bits c.loop-v.v w.lowest.result w.intersection.ensures w.lowest.ensures.member w.lowest.ensures.least)
+            (λ _. lowest_child c.args.g.now c.args.goal.bits w.intersection.result.bits c.loop-v.v w.lowest.result
+            (λ z. w.intersection.ensures.members z ∙ ap (λ t. t && has c.args.goal.bits z) (w.children.ensures.members z)) w.lowest.ensures.member w.lowest.ensures.least)
             c.loop-v.invariant.0 u h i),
         λ u n. subst (λ xs. get_or xs u 0 ≡ get_or c.args.next.now u 0) (sym w.next-is)
             (get_or-set_other c.loop-v.next c.loop-v.v u w.lowest.result 0 (λ e. absurd (let t : has c.args.fresh.bits u ≡ true = ap (has c.args.fresh.bits) e ∙ is_fresh in cc))

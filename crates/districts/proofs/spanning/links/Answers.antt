@@ -1,4 +1,4 @@
-use Rattle.std.proofs.Common.{◌≡◌, ℕ, ◌<◌, ◌≤◌, ◌||◌, true, false, set, get_or, replicate, length-set, inl, inr, sym, ap, ◌∙◌, refl, subst, arith, rules}
+use Rattle.std.proofs.Common.{◌≡◌, ℕ, ◌<◌, ◌≤◌, ◌||◌, true, false, set, get_or, replicate, length-set, inl, inr, sym, ap, ◌∙◌, subst, arith, rules}
 use Rattle.std.proofs.lemmas.Bool.{cases_Bool, cases_lt, and_parts}
 use Rattle.std.proofs.lemmas.List.{length-replicate, get_or-set_same, get_or-set_other}
 use Rattle.mixed_graph.specs.Bits.{has}
@@ -10,7 +10,7 @@ use Rattle.mixed_graph.specs.Orders.{taken_by}
 use Rattle.districts.specs.Spanning.{IsNextLink}
 use Rattle.districts.proofs.Trees.{growing_none, growing_more, growing_room, growing_smaller, wanted_some, next_link, link_new, links_from, place_of_taken, taken_own, not_true}
 use Rattle.districts.proofs.spanning.links.Goals as goal
-use Rattle.districts.proofs.spanning.links.Goals.{After-lowest-v, After-next}
+use Rattle.districts.proofs.spanning.links.Goals.{After-lowest-v, After-union-near, After-next}
 
 most : (c : After-next) → c.next.count ≤ 64
 most c = let e = c.next.invariant.0.counted in let l = length-members-le (taken_by c.next.found c.next.count) 64 in omega arith
@@ -18,19 +18,19 @@ most c = let e = c.next.invariant.0.counted in let l = length-members-le (taken_
 pub next-init : goal.next-init
 next-init c = (
   growing_none (graph_of c.args.g.now) c.args.g.now.valid c.args.small.bits c.args.big.bits (set (replicate 64 0) 0 c.lowest-start.result) (replicate 64 0) c.lowest-start.result c.one-taken.result.bits
-      (get_or c.args.g.now.spouses c.lowest-start.result 0)
+      c.spouses-near.result.bits
       (simp length-set (length-replicate {A = ℕ} 64 0)) (length-replicate {A = ℕ} 64 0) c.lowest-start.ensures.in_range
       (get_or-set_same (replicate 64 0) 0 c.lowest-start.result 0 (simp length-replicate (omega arith)))
       (λ i p. get_or-set_other (replicate 64 0) 0 i c.lowest-start.result 0 (omega arith) ∙ blank 64 i)
       (blank 64)
       (record { member = c.lowest-start.ensures.member; least = c.lowest-start.ensures.least })
-      c.one-taken.ensures.members (λ u. refl),
+      c.one-taken.ensures.members c.spouses-near.ensures.members,
   omega arith,
 )
 
 link : (c : After-lowest-v) → IsNextLink (graph_of c.args.g.now) (has c.args.small.bits) (has c.args.big.bits) (has c.next.taken.bits) c.lowest-v.result
 link c = next_link (graph_of c.args.g.now) c.args.g.now.valid c.args.small.bits c.args.big.bits c.next.found c.next.partner c.next.count c.next.taken.bits c.next.near.bits c.next.invariant.0
-    c.wanted.result.bits c.intersection.result.bits c.lowest-v.result c.wanted.ensures c.intersection.ensures c.lowest-v.ensures.member c.lowest-v.ensures.least
+    c.wanted.result.bits c.intersection.result.bits c.lowest-v.result c.wanted.ensures c.intersection.ensures.members c.lowest-v.ensures.member c.lowest-v.ensures.least
 
 room : (c : After-lowest-v) → c.next.count < 64
 room c = growing_room (graph_of c.args.g.now) c.args.g.now.valid c.args.small.bits c.args.big.bits c.next.found c.next.partner c.next.count c.next.taken.bits c.next.near.bits c.next.invariant.0
@@ -39,7 +39,7 @@ room c = growing_room (graph_of c.args.g.now) c.args.g.now.valid c.args.small.bi
 pub lowest-v-requires : goal.lowest-v-requires
 lowest-v-requires c =
     wanted_some (graph_of c.args.g.now) c.args.g.now.valid c.args.small.bits c.args.big.bits c.next.found c.next.partner c.next.count c.next.taken.bits c.next.near.bits c.next.invariant.0
-    c.wanted.result.bits c.intersection.result.bits c.requires.inside c.requires.small_joined c.requires.big_joined c.wanted.ensures c.intersection.ensures
+    c.wanted.result.bits c.intersection.result.bits c.requires.inside c.requires.small_joined c.requires.big_joined c.wanted.ensures c.intersection.ensures.members
     (let m = some_member c.difference.result.bits (λ z. absurd (let t = c.is_empty.ensures.none.1 z in let f = c.next-test.true in cc)) (omega arith) in
     let p = and_parts _ _ (sym (c.difference.ensures.members m.0) ∙ m.1) in (m.0, p.0, not_true _ p.1))
 
@@ -68,16 +68,19 @@ bounds-found-count c = room (goal.at.bounds-found-count c).After-lowest-v
 pub overflow_add-count : goal.overflow_add-count
 overflow_add-count c = let r = room (goal.at.overflow_add-count c).After-lowest-v in search (rules, r)
 
+near_is : (c : After-union-near) → (u : ℕ) → has c.union-near.result.bits u ≡ (has c.next.near.bits u || (graph_of c.args.g.now).both c.lowest-v.result u)
+near_is c u = c.union-near.ensures.members u ∙ ap (λ t. has c.next.near.bits u || t) (c.spouses.ensures.members u)
+
 pub next-smaller : goal.next-smaller
 next-smaller c = growing_smaller (graph_of c.args.g.now) c.args.g.now.valid c.args.small.bits c.args.big.bits c.next.found c.next.partner c.next.count c.next.taken.bits c.next.near.bits c.next.invariant.0
     c.lowest-v.result c.earliest.result c.union-taken.result.bits c.union-near.result.bits c.lowest-v.ensures.in_range (link (goal.at.next-smaller c).After-lowest-v) c.earliest.ensures
-    (λ u. c.union-taken.ensures.members u ∙ ap (λ t. has c.next.taken.bits u || t) (c.one.ensures.members u)) c.union-near.ensures.members (omega arith)
+    (λ u. c.union-taken.ensures.members u ∙ ap (λ t. has c.next.taken.bits u || t) (c.one.ensures.members u)) (near_is (goal.at.next-smaller c).After-union-near) (omega arith)
 
 pub next-preserved : goal.next-preserved
 next-preserved c = (
   growing_more (graph_of c.args.g.now) c.args.g.now.valid c.args.small.bits c.args.big.bits c.next.found c.next.partner c.next.count c.next.taken.bits c.next.near.bits c.next.invariant.0
       c.lowest-v.result c.earliest.result c.union-taken.result.bits c.union-near.result.bits c.lowest-v.ensures.in_range (link (goal.at.next-preserved c).After-lowest-v) c.earliest.ensures
-      (λ u. c.union-taken.ensures.members u ∙ ap (λ t. has c.next.taken.bits u || t) (c.one.ensures.members u)) c.union-near.ensures.members,
+      (λ u. c.union-taken.ensures.members u ∙ ap (λ t. has c.next.taken.bits u || t) (c.one.ensures.members u)) (near_is (goal.at.next-preserved c).After-union-near),
   omega arith,
 )
 

@@ -12,37 +12,37 @@ sets : (c : Else-not-has_sets) → AreHedgeSets (graph_of c.args.g.now) c.args.h
 sets c = c.has_sets.ensures.0 c.if-not-has_sets.false
 
 meets : (c : Else-is_empty) → Meets (has c.args.h.now.big.bits) (has c.args.x.bits)
-meets c = meets_of c.args.h.now.big.bits c.args.x.bits c.intersection.result.bits c.intersection.ensures
+meets c = meets_of c.args.h.now.big.bits c.args.x.bits c.intersection.result.bits c.intersection.ensures.members
     (λ z. absurd (let t = c.is_empty.ensures.none.1 z in let f = c.if-is_empty.false in cc)) (omega arith)
 
 off : (c : Else-not-is_empty) → IsOffIn (graph_of c.args.g.now) c.args.x.bits c.args.h.now
 off c = (
   (
     c.has_sets.ensures.0 c.if-not-has_sets.false,
-    meets_of c.args.h.now.big.bits c.args.x.bits c.intersection.result.bits c.intersection.ensures
+    meets_of c.args.h.now.big.bits c.args.x.bits c.intersection.result.bits c.intersection.ensures.members
         (λ z. absurd (let t = c.is_empty.ensures.none.1 z in let f = c.if-is_empty.false in cc)) (omega arith),
   ),
-  apart_from_meet c.intersection-2.result.bits c.args.h.now.small.bits c.args.x.bits c.intersection-2.ensures (c.is_empty-2.ensures.none.0 c.if-not-is_empty.false),
+  apart_from_meet c.intersection-2.result.bits c.args.h.now.small.bits c.args.x.bits c.intersection-2.ensures.members (c.is_empty-2.ensures.none.0 c.if-not-is_empty.false),
 )
 
 pub returns-then-is_empty-clause-hedge : goal.returns-then-is_empty-clause-hedge
 returns-then-is_empty-clause-hedge c = (
   λ e. absurd (cc),
-  λ h. absurd (let o = apart_from_meet c.intersection.result.bits c.args.h.now.big.bits c.args.x.bits c.intersection.ensures (c.is_empty.ensures.none.0 c.if-is_empty.true)
+  λ h. absurd (let o = apart_from_meet c.intersection.result.bits c.args.h.now.big.bits c.args.x.bits c.intersection.ensures.members (c.is_empty.ensures.none.0 c.if-is_empty.true)
       h.meets.vertex h.meets.in_first in let i = h.meets.in_second in cc),
 )
 
 pub returns-then-is_empty-clause-fault : goal.returns-then-is_empty-clause-fault
 returns-then-is_empty-clause-fault c = (
   c.has_sets.ensures.0 c.if-not-has_sets.false,
-  apart_from_meet c.intersection.result.bits c.args.h.now.big.bits c.args.x.bits c.intersection.ensures (c.is_empty.ensures.none.0 c.if-is_empty.true),
+  apart_from_meet c.intersection.result.bits c.args.h.now.big.bits c.args.x.bits c.intersection.ensures.members (c.is_empty.ensures.none.0 c.if-is_empty.true),
 )
 
 pub returns-then-not-is_empty-clause-hedge : goal.returns-then-not-is_empty-clause-hedge
 returns-then-not-is_empty-clause-hedge c = (
   λ e. absurd (cc),
   λ h. absurd (
-      let m = meets_of c.args.h.now.small.bits c.args.x.bits c.intersection-2.result.bits c.intersection-2.ensures
+      let m = meets_of c.args.h.now.small.bits c.args.x.bits c.intersection-2.result.bits c.intersection-2.ensures.members
       (λ z. absurd (let t = c.is_empty-2.ensures.none.1 z in let f = c.if-not-is_empty.true in cc)) (omega arith) in
       let o = h.apart m.vertex m.in_first in let i = m.in_second in cc),
 )
@@ -50,7 +50,7 @@ returns-then-not-is_empty-clause-hedge c = (
 pub returns-then-not-is_empty-clause-fault : goal.returns-then-not-is_empty-clause-fault
 returns-then-not-is_empty-clause-fault c = (
   (c.has_sets.ensures.0 c.if-not-has_sets.false, meets (goal.at.returns-then-not-is_empty-clause-fault c).Else-is_empty),
-  meets_of c.args.h.now.small.bits c.args.x.bits c.intersection-2.result.bits c.intersection-2.ensures
+  meets_of c.args.h.now.small.bits c.args.x.bits c.intersection-2.result.bits c.intersection-2.ensures.members
       (λ z. absurd (let t = c.is_empty-2.ensures.none.1 z in let f = c.if-not-is_empty.true in cc)) (omega arith),
 )
 

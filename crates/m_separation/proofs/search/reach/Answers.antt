@@ -31,19 +31,19 @@ front_fits c false = omega arith
 pub grow-preserved : goal.grow-preserved
 grow-preserved c = (
   searching_more (graph_of c.args.g.now) (has c.args.x.bits) (has c.args.w.bits) (mask_of c.grow.found) (mask_of c.grow.front) (mask_of c.next.result)
-      (mask_of c.union-found.result) (mask_of c.difference-front.result) c.next.ensures c.difference-front.ensures.members c.union-found.ensures.members c.grow.invariant.0,
+      (mask_of c.union-found.result) (mask_of c.difference-front.result) c.next.ensures c.difference-front.ensures c.union-found.ensures c.grow.invariant.0,
   found_fits c,
   front_fits c,
 )
 
 pub grow-smaller : goal.grow-smaller
 grow-smaller c = searching_smaller (graph_of c.args.g.now) (has c.args.x.bits) (has c.args.w.bits) (mask_of c.grow.found) (mask_of c.grow.front) (mask_of c.next.result)
-    (mask_of c.union-found.result) (mask_of c.difference-front.result) c.next.ensures c.difference-front.ensures.members c.union-found.ensures.members
-    (λ z. absurd (let t : c.is_empty.result ≡ true = c.is_empty.ensures.none.1 (z.1, z.0) in let f = c.grow-test.true in cc)) (found_fits c) (front_fits c)
+    (mask_of c.union-found.result) (mask_of c.difference-front.result) c.next.ensures c.difference-front.ensures c.union-found.ensures
+    (λ z. absurd (let t : c.is_empty.result ≡ true = c.is_empty.ensures.1 (z.1, z.0) in let f = c.grow-test.true in cc)) (found_fits c) (front_fits c)
 
 done : (c : After-difference-2) → (h : Bool) → mask_of c.grow.front h ≡ 0
-done c true = (c.is_empty.ensures.none.0 c.grow-test.false).1
-done c false = (c.is_empty.ensures.none.0 c.grow-test.false).0
+done c true = (c.is_empty.ensures.0 c.grow-test.false).1
+done c false = (c.is_empty.ensures.0 c.grow-test.false).0
 
 -- what is found at a vertex in the answer, and the answer at what is found
 record Answered (g : goal.After-difference-2) (v : ℕ) : Type 0 where

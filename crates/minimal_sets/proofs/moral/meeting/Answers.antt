@@ -9,7 +9,7 @@ use Rattle.minimal_sets.proofs.moral.meeting.Goals as goal
 use Rattle.minimal_sets.proofs.moral.meeting.Goals.{After-flood-heads}
 
 first_is : (c : After-flood-heads) → (v : ℕ) → has c.intersection-first.result.bits v ≡ ((joins c.args.g.now.children c.args.u v || joins c.args.g.now.spouses c.args.u v) && has c.args.within.bits v)
-first_is c v = c.intersection-first.ensures v ∙ ap (λ t. t && has c.args.within.bits v) (c.union.ensures.members v)
+first_is c v = c.intersection-first.ensures.members v ∙ ap (λ t. t && has c.args.within.bits v) (c.union.ensures.members v)
 
 inside : (c : After-flood-heads) → (w v : ℕ) → joins c.args.g.now.spouses w v ≡ true → has c.difference.result.bits v ≡ false → has c.args.within.bits v ≡ true
 inside c w v j o = let l = c.args.g.now.valid.both_below v w (c.args.g.now.valid.symmetric w v j) in

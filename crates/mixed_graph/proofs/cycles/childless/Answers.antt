@@ -11,7 +11,7 @@ returns-then-is_empty-clause-found c = (
   omega arith,
   sym c.has.ensures ∙ c.if-has.true,
   apart_from_meet c.intersection-within.result.bits (get_or c.args.children.now c.loop-v.v 0) c.args.set.bits
-      (λ u. c.intersection-within.ensures u ∙ ap (λ m. has m u && has c.args.set.bits u) c.row.ensures) (c.is_empty.ensures.none.0 c.if-is_empty.true),
+      (λ u. c.intersection-within.ensures.members u ∙ ap (λ m. has m u && has c.args.set.bits u) c.row.ensures) (c.is_empty.ensures.none.0 c.if-is_empty.true),
   c.loop-v.invariant,
 )
 
@@ -19,7 +19,7 @@ pub loop-v-preserved : goal.loop-v-preserved
 loop-v-preserved c = below_more _ _ c.loop-v.invariant (elim c.if-has.branch [
   | then-has+else-is_empty w ↦ λ _.
       let m = some_in_meet w.intersection-within.result.bits (get_or c.args.children.now c.loop-v.v 0) c.args.set.bits
-      (λ u. w.intersection-within.ensures u ∙ ap (λ m. has m u && has c.args.set.bits u) w.row.ensures)
+      (λ u. w.intersection-within.ensures.members u ∙ ap (λ m. has m u && has c.args.set.bits u) w.row.ensures)
       (λ z. absurd (let t = w.is_empty.ensures.none.1 z in let f = w.if-is_empty.false in cc)) (omega arith) in
       (m.0, m.2, m.1)
   | else-has w ↦ λ h. absurd (let e = c.has.ensures in let f = w.if-has.false in cc)

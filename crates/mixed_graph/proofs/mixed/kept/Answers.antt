@@ -13,7 +13,7 @@ pub loop-v-preserved : goal.loop-v-preserved
 loop-v-preserved c = (
   λ a b h. elim (cases_eq a c.loop-v.v) [
     | inl e ↦ rw e (ap (λ m. has m b) (get_or-set_same c.loop-v.out c.loop-v.v _ 0 (omega arith))
-        ∙ (let p = c.only_if.ensures b in let q = c.intersection.ensures b in let r = c.has.ensures in grind arith))
+        ∙ (let p = c.only_if.ensures b in let q = c.intersection.ensures.members b in let r = c.has.ensures in grind arith))
     | inr d ↦ ap (λ m. has m b) (get_or-set_other c.loop-v.out c.loop-v.v a _ 0 d) ∙ c.loop-v.invariant.0 a b (omega arith)
   ],
   λ a h. (let d : a ≢ c.loop-v.v = omega arith in get_or-set_other c.loop-v.out c.loop-v.v a _ 0 d ∙ c.loop-v.invariant.1 a (omega arith)),

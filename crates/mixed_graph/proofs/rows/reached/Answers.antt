@@ -10,13 +10,13 @@ spread_of : (c : After-difference-front) → Spread (has_in_row c.args.rows.now)
 spread_of c = record {
   near_is = c.joined.ensures;
   found_is = c.union-found.ensures.members;
-  front_is = λ u. c.difference-front.ensures.members u ∙ ap (λ t. t && not (has c.union-found.result.bits u)) (c.intersection.ensures u);
+  front_is = λ u. c.difference-front.ensures.members u ∙ ap (λ t. t && not (has c.union-found.result.bits u)) (c.intersection.ensures.members u);
 }
 
 pub steps-init : goal.steps-init
 steps-init c = (
   spreading_none (has_in_row c.args.rows.now) (has c.args.from.bits) (has c.args.within.bits) c.empty-found.result.bits c.intersection-front.result.bits
-      c.empty-found.ensures.members c.intersection-front.ensures,
+      c.empty-found.ensures.members c.intersection-front.ensures.members,
   omega arith,
   omega arith,
 )

@@ -15,7 +15,7 @@ loop-v-preserved c =
     let few = count_le (has c.difference-later.result.bits) c.count-total.result c.count-total.ensures in
     let low = c.loop-v.invariant.1 in
     let spouses = has (get_or c.args.g.now.spouses c.loop-v.v 0) in
-    let is : (b : ℕ) → has c.difference-later.result.bits b ≡ (spouses b && not (nat_lt b (c.loop-v.v + 1))) = λ b. c.difference-later.ensures.members b ∙ ap (λ x. spouses b && not x) (c.below.ensures.members b) in (
+    let is : (b : ℕ) → has c.difference-later.result.bits b ≡ (spouses b && not (nat_lt b (c.loop-v.v + 1))) = λ b. c.difference-later.ensures.members b ∙ ap (λ x. x && not (has c.below.result.bits b)) (c.spouses.ensures.members b) ∙ ap (λ x. spouses b && not x) (c.below.ensures.members b) in (
       pairs_from_more 64 (λ a b. has (get_or c.args.g.now.spouses a 0) b && nat_lt a b) c.loop-v.v c.loop-v.total c.count-total.result c.loop-v.invariant.0
           (count_later spouses (has c.difference-later.result.bits) c.loop-v.v c.count-total.result is c.count-total.ensures),
       omega (arith, few, low),

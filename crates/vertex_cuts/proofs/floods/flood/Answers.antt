@@ -1,39 +1,16 @@
-use Rattle.std.proofs.Common.{◌∙◌, arith, ap, ◌&&◌, not}
+use Rattle.std.proofs.Common.{◌≡◌, ℕ, ◌∙◌, arith, ap, get_or, nat_lt, ◌&&◌, not}
 use Rattle.mixed_graph.specs.Bits.{has}
 use Rattle.vertex_cuts.specs.Rows.{joins}
-use Rattle.vertex_cuts.proofs.Flooding.{Step, flooding_none, flooding_more, flooding_smaller, flooded}
+use Rattle.vertex_cuts.proofs.Flooding.{reached_outside, reached_inside, below_64}
 use Rattle.vertex_cuts.proofs.floods.flood.Goals as goal
-use Rattle.vertex_cuts.proofs.floods.flood.Goals.{After-union-front}
+use Rattle.vertex_cuts.proofs.floods.flood.Goals.{After-difference}
 
-step_of : (c : After-union-front) → Step (joins c.args.near.now) c.args.avoid.bits c.lowest-v.result
-    c.search.found.bits c.search.front.bits c.difference-front.result.bits c.difference-fresh.result.bits c.union-found.result.bits c.union-front.result.bits
-step_of c = record {
-  taken = c.lowest-v.ensures.member;
-  rest_is = λ u. c.difference-front.ensures.members u ∙ ap (λ t. has c.search.front.bits u && not t) (c.one.ensures.members u);
-  fresh_is = λ u. c.difference-fresh.ensures.members u ∙ ap (λ t. t && not (has c.search.found.bits u)) (c.difference.ensures.members u);
-  found_is = c.union-found.ensures.members;
-  front_is = c.union-front.ensures.members;
-}
-
-pub search-init : goal.search-init
-search-init c = (flooding_none (joins c.args.near.now) c.args.from.bits c.args.avoid.bits c.difference-found.result.bits c.difference-found.ensures.members, omega arith, omega arith)
-
-pub search-preserved : goal.search-preserved
-search-preserved c = (
-  flooding_more (joins c.args.near.now) c.args.from.bits c.args.avoid.bits c.lowest-v.result
-      c.search.found.bits c.search.front.bits c.difference-front.result.bits c.difference-fresh.result.bits c.union-found.result.bits c.union-front.result.bits
-      (step_of c) c.search.invariant.0,
-  omega arith,
-  omega arith,
-)
-
-pub search-smaller : goal.search-smaller
-search-smaller c = flooding_smaller (joins c.args.near.now) c.args.from.bits c.args.avoid.bits c.lowest-v.result
-    c.search.found.bits c.search.front.bits c.difference-front.result.bits c.difference-fresh.result.bits c.union-found.result.bits c.union-front.result.bits
-    (step_of c) (omega arith) (omega arith) (omega arith) (omega arith)
+within_is : (c : After-difference) → (v : ℕ) → has c.difference.result.bits v ≡ (nat_lt v 64 && not (has c.args.avoid.bits v))
+within_is c v = c.difference.ensures.members v ∙ ap (λ t. t && not (has c.args.avoid.bits v)) (c.below.ensures.members v)
 
 pub returns : goal.returns
-returns c = λ v. (
-  c.search.invariant.0.sound v,
-  λ r. flooded (joins c.args.near.now) c.args.from.bits c.args.avoid.bits c.search.found.bits c.search.front.bits c.search.invariant.0 c.search-test.false v r,
+returns c = let w = within_is (goal.at.returns c).After-difference in λ v. (
+  λ i. reached_outside (joins c.args.near.now) (has c.args.from.bits) (has c.args.avoid.bits) (has c.difference.result.bits) w v ((c.reached.ensures v).0 i),
+  λ r. (c.reached.ensures v).1 (reached_inside (joins c.args.near.now) (has c.args.from.bits) (has c.args.avoid.bits) (has c.difference.result.bits) w
+      (below_64 c.args.from.bits (omega arith)) (λ u z j. below_64 (get_or c.args.near.now u 0) (c.fits-near u) z j) v r),
 )

@@ -13,7 +13,7 @@ loop-v-init c = chosen_none c.args.c.now (has c.intersection-members.result.bits
 pub overflow_mul-count : goal.overflow_mul-count
 overflow_mul-count c =
     let part : IsPart c.args.c.now (has c.used.result.bits) (has c.args.of.bits) (has c.intersection-members.result.bits) =
-    record { all = c.used.ensures.members; members = c.intersection-members.ensures; table = c.used.ensures.table } in
+    record { all = c.used.ensures.members; members = c.intersection-members.ensures.members; table = c.used.ensures.table } in
     let fits = chosen_fits c.args.c.now (has c.used.result.bits) (has c.args.of.bits)
     (has c.intersection-members.result.bits) c.loop-v.v c.loop-v.vertices.items c.loop-v.sizes.items c.loop-v.count
     c.levels-levels.result c.loop-v-test.true part (sym c.has.ensures ∙ c.if-has.true) c.levels-levels.ensures c.loop-v.invariant in
@@ -35,7 +35,7 @@ loop-v-preserved c = elim c.if-has.branch [
 pub invariant_of-result : goal.invariant_of-result
 invariant_of-result c =
     let part : IsPart c.args.c.now (has c.used.result.bits) (has c.args.of.bits) (has c.intersection-members.result.bits) =
-    record { all = c.used.ensures.members; members = c.intersection-members.ensures; table = c.used.ensures.table } in
+    record { all = c.used.ensures.members; members = c.intersection-members.ensures.members; table = c.used.ensures.table } in
     let taken = chosen_end c.args.c.now (has c.used.result.bits) (has c.args.of.bits)
     (has c.intersection-members.result.bits) c.loop-v.v c.loop-v.vertices.items c.loop-v.sizes.items c.loop-v.count (omega arith) part c.loop-v.invariant in
     record { axes = taken-axes c.args.c.now (has c.args.of.bits) c.loop-v.vertices.items c.loop-v.sizes.items c.loop-v.count c.used.ensures.table taken; count = taken.count }
@@ -43,7 +43,7 @@ invariant_of-result c =
 pub returns : goal.returns
 returns c =
     let part : IsPart c.args.c.now (has c.used.result.bits) (has c.args.of.bits) (has c.intersection-members.result.bits) =
-    record { all = c.used.ensures.members; members = c.intersection-members.ensures; table = c.used.ensures.table } in
+    record { all = c.used.ensures.members; members = c.intersection-members.ensures.members; table = c.used.ensures.table } in
     let taken = chosen_end c.args.c.now (has c.used.result.bits) (has c.args.of.bits)
     (has c.intersection-members.result.bits) c.loop-v.v c.loop-v.vertices.items c.loop-v.sizes.items c.loop-v.count (omega arith) part c.loop-v.invariant in
     let axes : List ℕ → List ℕ → Axes = λ vs ns. record { vertices = vs; sizes = ns } in
