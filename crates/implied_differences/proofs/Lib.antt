@@ -3,6 +3,7 @@ pub mod AllSums
 pub mod Bases
 pub mod BlockSums
 pub mod Ending
+pub mod Pairs
 pub mod Parts
 pub mod Passing
 pub mod Quarters

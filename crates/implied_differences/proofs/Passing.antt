@@ -1,10 +1,11 @@
 -- Blocks that are passed over together.
-use Rattle.std.proofs.Common.{ℕ, ◌+◌, ◌*◌, ◌-◌, ◌/◌, ◌≡◌, ◌<◌, ◌≤◌, List, subst, sym, inl, inr, ◌⊎◌, arith}
+use Rattle.std.proofs.Common.{ℕ, ◌+◌, ◌*◌, ◌-◌, ◌/◌, ◌≡◌, ◌<◌, ◌≤◌, List, get_or, subst, sym, inl, inr, ◌⊎◌, arith}
 use Rattle.implied_differences.specs.declared.candidates.Candidate.{Candidate}
 use Rattle.implied_differences.specs.declared.layout.Layout.{Layout}
 use Rattle.implied_differences.specs.Candidates.{IsOutOfReach}
 use Rattle.implied_differences.specs.Layouts.{base_of}
-use Rattle.implied_differences.specs.Blocks.{block_at, gap_at, number_at, IsSeen, IsBest}
+use Rattle.implied_differences.specs.Blocks.{block_at, gap_at, number_at, IsPassedAt, IsSeen, IsBest}
+use Rattle.implied_differences.proofs.Pairs.{gap_in}
 use Rattle.implied_differences.proofs.Quarters.{gap_quarter, gap_most}
 
 module _ (cells : List ℕ) (l : Layout) (w n : ℕ) (c : Candidate) where
@@ -93,3 +94,11 @@ sums_passed cells l w n most c sums out = record {
 
     lower : (j p q : ℕ) → number_at l (w + j) p q < c.number → w < c.number
     lower j p q less = omega (arith, less)
+
+-- nor is one, where the cells at each two levels are passed
+pub cells_passed : (cells : List ℕ) (l : Layout) (begins : List ℕ) (w n : ℕ) (c : Candidate) → ((j : ℕ) → j < n → get_or begins j 0 ≡ base_of l (w + j))
+    → ((x y : ℕ) → x < l.firsts → y < l.seconds → IsPassedAt cells l begins n w x y c) → ArePassed cells l w n c
+cells_passed cells l begins w n c bases h = record {
+  greatest = λ j p q lt lp lq. subst (λ b. gap_in cells l b p q ≤ c.distance) (bases j lt) ((h p q lp lq).each j lt).distance;
+  least = λ j p q lt lp lq less. subst (λ b. gap_in cells l b p q < c.distance) (bases j lt) (((h p q lp lq).each j lt).number less);
+}

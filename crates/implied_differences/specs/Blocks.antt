@@ -8,6 +8,7 @@ use Rattle.implications.specs.declared.pairs.Implication.{Implication}
 use Rattle.implied_differences.specs.Differences.{whole_of}
 use Rattle.implied_differences.specs.declared.candidates.Candidate.{Candidate}
 use Rattle.implied_differences.specs.declared.layout.Layout.{Layout}
+use Rattle.implied_differences.specs.Candidates.{IsOutOfReach}
 use Rattle.implied_differences.specs.Layouts.{IsStepped, base_of, gap_of}
 
 -- the sum of so many cells, one each `step` places
@@ -70,6 +71,12 @@ gap_at cells l w x y = abs_diff (left_at cells l w x y) (right_at cells l w x y)
 -- the number of a cell in order: its levels of a, of b and the number of the given vertices' cell as digits
 abbrev pub number_at : Layout → ℕ → ℕ → ℕ → ℕ
 number_at l w x y = (x * l.seconds + y) * l.count + w
+
+-- no cell at these levels is ahead, of so many blocks from number w on
+pub record IsPassedAt (cells : List ℕ) (l : Layout) (begins : List ℕ) (width w x y : ℕ) (c : Candidate) : Type 0 where
+  pub each : (j : ℕ) → j < width → IsOutOfReach c
+      (abs_diff (value_at cells l (slice_index begins j) x y * block_at cells l (slice_index begins j)) (row_at cells l (slice_index begins j) x * column_at cells l (slice_index begins j) y))
+      (number_at l (w + j) x y)
 
 -- the cell (u, p, q) is one, and comes before (w, x, y)
 pub record IsSeen (l : Layout) (w x y u p q : ℕ) : Type 0 where

@@ -1,4 +1,4 @@
-ghost use Rattle.std.specs.Prelude.{◌≡◌, ◌≤◌, ◌*◌, ◌/◌, ◌^◌};
+ghost use Rattle.std.specs.Prelude.{ℕ, ◌≡◌, ◌<◌, ◌≤◌, ◌*◌, ◌/◌, ◌^◌};
 ghost use Rattle.std.specs.Bool.{OnTrue, OnFalse};
 ghost use Rattle.std.specs.Int.{abs_diff};
 ghost use Rattle.implied_differences.specs.Candidates.{IsAhead, IsNotAhead, IsOutOfReach};
@@ -83,5 +83,19 @@ impl Candidate {
             return furthest >= self.distance;
         }
         furthest > self.distance
+    }
+    /// What the distance of a cell with at least this number has to reach for the cell to be ahead, or the greatest `u64`.
+    pub fn limit(&self, number: usize) -> u64
+        ensures { (furthest : ℕ) → furthest < result → IsOutOfReach self.now furthest number }
+    {
+        let limit = if number < self.number {
+            self.distance
+        } else {
+            self.distance.saturating_add(1)
+        };
+        if limit > u64::MAX as u128 {
+            return u64::MAX;
+        }
+        limit as u64
     }
 }

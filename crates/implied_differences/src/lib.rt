@@ -8,6 +8,7 @@ mod candidates;
 mod cells;
 mod largest;
 mod layout;
+mod reaching;
 mod readable;
 mod sets;
 mod strips;

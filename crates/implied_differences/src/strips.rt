@@ -5,6 +5,7 @@ ghost use Rattle.implied_differences.specs.Blocks.{IsBlock, AreBegins, column_at
 use crate::blocks::best_in_block;
 use crate::candidates::Candidate;
 use crate::layout::{Block, Layout};
+use crate::reaching::strip_reaches;
 use std::alloc::{AllocError, Global};
 
 /// How many blocks are looked at together, at most.
@@ -31,7 +32,7 @@ fn list_begins(l: &Layout, block: Block, begins: &mut [usize], width: usize) -> 
 }
 
 /// Adds to each sum the cell that is so far behind where a block begins.
-fn add_cells(sums: &mut [u64], cells: &[u64], begins: &[usize], offset: usize, width: usize)
+pub fn add_cells(sums: &mut [u64], cells: &[u64], begins: &[usize], offset: usize, width: usize)
     requires sums { width ≤ length sums.old }
     requires begins { width ≤ length begins.now }
     requires inside { (j : ℕ) → j < width → slice_index begins.now j + offset < length cells.now }
@@ -44,7 +45,7 @@ fn add_cells(sums: &mut [u64], cells: &[u64], begins: &[usize], offset: usize, w
 }
 
 /// Adds to each sum N(b,W) of a block, at a level of b.
-fn add_columns(
+pub fn add_columns(
     sums: &mut [u64],
     cells: &[u64],
     l: &Layout,
@@ -114,13 +115,15 @@ fn best_in_each(
     best
 }
 
-/// The same; the blocks are walked cell by cell only where one of them is large enough for a cell that is ahead.
+/// The same; the blocks are walked only where one of their cells may be ahead.
 fn best_in_strip(
     cells: &[u64],
     l: &Layout,
     block: &Block,
     begins: &[usize],
     sums: &mut [u64],
+    rows: &mut [u64],
+    across: &mut [u64],
     columns: &mut [u64],
     width: usize,
     before: Candidate,
@@ -130,6 +133,8 @@ fn best_in_strip(
     requires numbers { block.now.number + width ≤ l.now.count }
     requires some { 0 < width }
     requires sums { width ≤ length sums.old }
+    requires rows { width ≤ length rows.old }
+    requires across { width ≤ length across.old }
     requires listed { width ≤ length begins.now }
     requires begins { (j : ℕ) → j < width → slice_index begins.now j ≡ base_of l.now (block.now.number + j) }
     requires long { length columns.old ≡ l.now.seconds }
@@ -141,6 +146,12 @@ fn best_in_strip(
     if !before.may_be_passed(most, block.number) {
         return before;
     }
+    let number = block.number;
+    if !strip_reaches(
+        cells, l, number, begins, sums, rows, across, width, most, &before,
+    ) {
+        return before;
+    }
     best_in_each(cells, l, block, width, columns, before)
 }
 
@@ -150,11 +161,15 @@ fn best_of_strips(
     l: &Layout,
     begins: &mut [usize],
     sums: &mut [u64],
+    rows: &mut [u64],
+    across: &mut [u64],
     columns: &mut [u64],
 ) -> Candidate
     requires blocks { AreBlocks cells.now l.now }
     requires begins { length begins.old ≡ 64 }
     requires sums { length sums.old ≡ 64 }
+    requires rows { length rows.old ≡ 64 }
+    requires across { length across.old ≡ 64 }
     requires columns { length columns.old ≡ l.now.seconds }
     ensures { IsBest cells.now l.now l.now.count 0 0 result }
 {
@@ -163,7 +178,9 @@ fn best_of_strips(
     'strips: while block.number < l.count {
         let width = (l.count - block.number).min(WIDTH);
         let next = list_begins(l, block, begins, width);
-        best = best_in_strip(cells, l, &block, begins, sums, columns, width, best);
+        best = best_in_strip(
+            cells, l, &block, begins, sums, rows, across, columns, width, best,
+        );
         block = next;
     }
     best
@@ -176,12 +193,16 @@ pub fn best_in_strips(alloc: Global, cells: &[u64], l: &Layout) -> Result<Candid
 {
     let mut begins = vec![in alloc; 0; WIDTH]?;
     let mut sums = vec![in alloc; 0; WIDTH]?;
+    let mut rows = vec![in alloc; 0; WIDTH]?;
+    let mut across = vec![in alloc; 0; WIDTH]?;
     let mut columns = vec![in alloc; 0; l.seconds]?;
     Ok(best_of_strips(
         cells,
         l,
         begins.as_mut_slice(),
         sums.as_mut_slice(),
+        rows.as_mut_slice(),
+        across.as_mut_slice(),
         columns.as_mut_slice(),
     ))
 }

@@ -12,6 +12,8 @@ strips-init c =
     record {
       begins = c.requires.begins;
       sums = c.requires.sums;
+      rows = c.requires.rows;
+      across = c.requires.across;
       columns = c.requires.columns;
       within = omega (arith, number);
       base = base_first c.args.l.now c.first-block.result c.requires.blocks.stepped first.number first.begin first.between first.behind;
