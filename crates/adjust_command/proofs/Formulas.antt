@@ -4,7 +4,7 @@ use Rattle.mixed_graph.specs.Bits.{has}
 use Rattle.finite_models.proofs.Bools.{and_first, and_second}
 use Rattle.do_rules.specs.Rules.{AreThreeSets}
 use Rattle.mixed_graph.specs.Masks.{join, is_empty, is_below}
-use Rattle.prob_expr.specs.Masks.{are_term_sets}
+use Rattle.prob_expr.specs.TermSets.{are_term_sets}
 use Rattle.prob_expr.specs.Tree.{Tree, prob, sum, product, no_trees, tree}
 use Rattle.prob_expr.specs.Check.{◌>>=◌, next_node, check_tree, check_trees, fault_of, fault_in}
 use Rattle.mixed_graph.proofs.MaskLaws.{has_none, below_from, filled_from}

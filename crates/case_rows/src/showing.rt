@@ -63,15 +63,15 @@ impl fmt::Display for Path<'_> {
 
 /// The ends of a vertex's edges, if there are any, as ` -> {0,2}`.
 #[derive(Clone, Copy)]
-struct Ends(&'static str, u64);
+struct Ends(&'static str, VSet);
 
 impl fmt::Display for Ends {
     fn fmt<W: Write>(&self, f: &mut Formatter<W>) -> fmt::Result {
-        if self.1 == 0 {
+        if self.1.is_empty() {
             return Ok(());
         }
         let sign = self.0;
-        let ends = Members(VSet { bits: self.1 });
+        let ends = Members(self.1);
         write!(f, " {sign} {ends}")
     }
 }
@@ -85,10 +85,10 @@ impl fmt::Display for Rows<'_> {
         let n = self.0.n;
         write!(f, "{n}")?;
         let mut before = ": ";
-        for v in 0..64usize {
-            let (from, to) = (self.0.parents[v], self.0.children[v]);
-            let with = self.0.spouses[v];
-            if from | to | with != 0 {
+        for v in 0..64u8 {
+            let (from, to) = (self.0.parents(v), self.0.children(v));
+            let with = self.0.spouses(v);
+            if !from.union(to).union(with).is_empty() {
                 let (from, to) = (Ends("<-", from), Ends("->", to));
                 let with = Ends("<->", with);
                 write!(f, "{before}{v}{from}{to}{with}")?;

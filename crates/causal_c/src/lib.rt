@@ -4,7 +4,7 @@
 ghost use Rattle.std.specs.Prelude.{◌≡◌, ◌≤◌, ◌⊎◌};
 ghost use Rattle.mixed_graph.specs.Bits.{has};
 ghost use Rattle.m_separation.specs.Walks.{IsSeparated, HasOpenWalk};
-ghost use Rattle.kept_graph.specs.Kept.{AreAskable, HoldsObserved, IsRefused, graph_in};
+ghost use Rattle.kept_graph.specs.Kept.{AreAskable, HoldsObserved, IsNoGraphText, graph_in};
 ghost use Rattle.spans.specs.Words.{AreTexts, IsNoText};
 ghost use Rattle.span_call.specs.Called.{Called, LacksInput, IsCutShort};
 ghost use Rattle.explain_call.specs.Calls.{Explained};
@@ -72,7 +72,7 @@ pub extern "C" fn causal_explain(
 #[unsafe(no_mangle)]
 pub extern "C" fn causal_keep(alloc: Global, text: &[u8], kept: &mut KeptGraph) -> u8
     ensures holds { result ≡ 0 → HoldsObserved text.now (graph_in kept.new) }
-    ensures refused { result ≡ 3 → IsRefused text.now }
+    ensures refused { result ≡ 3 → IsNoGraphText text.now }
     ensures known { (result ≡ 0) ⊎ ((result ≡ 3) ⊎ (result ≡ 8)) }
     ensures stays { 3 ≤ result → kept.new ≡ kept.old }
 {

@@ -4,11 +4,12 @@ use Rattle.dag_reader.specs.declared.graph.ReadGraph.{ReadGraph}
 use Rattle.dag_reader.specs.declared.faults.GraphFault.{GraphFault}
 use Rattle.dag_reader.specs.declared.faults.GraphFault.TheVariants.{NoMemory}
 use Rattle.dag_reader.specs.Reads.{Reads}
-use Rattle.fault_text.specs.Lines.{line_of, graph_fault_text}
+use Rattle.name_text.specs.Lines.{line_of}
+use Rattle.dag_reader.specs.FaultTexts.{graph_fault_text}
 use Rattle.replies.specs.declared.outcome.Reply.{Reply}
 use Rattle.replies.specs.declared.outcome.Outcome.{Outcome}
 use Rattle.replies.specs.declared.outcome.Outcome.TheVariants.{Graph}
-use Rattle.replies.specs.Observed.{Holds}
+use Rattle.replies.specs.Observed.{HoldsGraph}
 use Rattle.causal_cli.specs.Commands.{Request}
 use Rattle.causal_cli.specs.Answers.{HoldsAnswer, faulty, Defined, GivesOn, GivesFirst}
 use Rattle.causal_cli.specs.declared.answer.First.{First}
@@ -19,7 +20,7 @@ held w bytes Graph text h = inr h
 held w bytes o text h = h
 
 -- what a request gives on the graph that the bytes hold
-given_on : (w : Request) (bytes : List ℕ) (g : ReadGraph) (f : First) → Holds bytes g → GivesOn w g f → GivesFirst w bytes f
+given_on : (w : Request) (bytes : List ℕ) (g : ReadGraph) (f : First) → HoldsGraph bytes g → GivesOn w g f → GivesFirst w bytes f
 given_on w bytes g (first.Replied reply) h a = held w bytes reply.outcome reply.text.items (record { graph = g; holds = h; answer = a })
 given_on w bytes g (first.Continues p) h a = (g, h, a)
 

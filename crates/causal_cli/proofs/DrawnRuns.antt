@@ -24,7 +24,7 @@ use Rattle.id_recursion.specs.Answers.{effect_on}
 use Rattle.adjustment.specs.Formulas.{adjustment_formula}
 use Rattle.replies.specs.declared.outcome.Outcome.{Outcome}
 use Rattle.replies.specs.declared.outcome.Outcome.TheVariants.{Yes}
-use Rattle.replies.specs.Observed.{Names, Holds, IsObservedGraph, observed_names}
+use Rattle.replies.specs.Observed.{Names, HoldsGraph, IsObservedGraph, observed_names}
 use Rattle.replies.specs.Outcomes.{code_of}
 use Rattle.effect_answers.specs.Effects.{effect_lists}
 use Rattle.identify_command.specs.declared.form.Form.{Form}
@@ -72,7 +72,7 @@ bare_sets g xs ys x y h =
       set_given = λ v. has-zero v ∙ sym (and_false (nat_lt v (length l.observed)));
     }
 
-module _ (form : Form) (bytes : List ℕ) (g : ReadGraph) (holds : Holds bytes g) (x y : Names) (text : List ℕ) where
+module _ (form : Form) (bytes : List ℕ) (g : ReadGraph) (holds : HoldsGraph bytes g) (x y : Names) (text : List ℕ) where
   shown : (q : MixedGraph) → IsObservedGraph g q → (given : Names) (t : PlainTarget) → AreTargetSets (target_lists g x y (unwrap_or given [])) t → (f : PlainFormula) (d : PlainDerivation) → EqualsEffect q t f
       → text ≡ formula_text form (observed_names g) t f d → IsTextAsDrawn form bytes x y given text
   shown q observed given t sets f d right prints = record { graph = g; holds = holds; target = t; sets = sets; formula = f; derivation = d; right = drawn g q observed t f right; prints = prints }
@@ -147,7 +147,7 @@ adjustment_as_drawn g q observed (listing most) x y z text h = record {
   prints = h.prints;
 }
 
-adjusted_on : (q : AdjustRequest) (bytes text : List ℕ) (g : ReadGraph) → Holds bytes g → AdjustAnswer g q.x q.y q.query Yes text → IsAdjustmentAsDrawn q bytes text
+adjusted_on : (q : AdjustRequest) (bytes text : List ℕ) (g : ReadGraph) → HoldsGraph bytes g → AdjustAnswer g q.x q.y q.query Yes text → IsAdjustmentAsDrawn q bytes text
 adjusted_on q bytes text g holds (p, observed, h) = record { graph = g; holds = holds; x = h.x; y = h.y; z = h.z; sets = h.sets; shows = adjustment_as_drawn g p observed q.query h.x h.y h.z text h.answer }
 
 adjusted : (r : Run) (uses : List Use) (text : List ℕ) (w : Request) (file : Text) → command_of w ≡ Adjust → IsRequest uses w → file_of w ≡ Some file
@@ -164,7 +164,7 @@ adjusted r uses text w file e is names defined whole = absurd (cc e)
 
 -- ---- surrogate
 
-surrogated_on : (q : SurrogateRequest) (bytes text : List ℕ) (g : ReadGraph) → Holds bytes g → SurrogateAnswer g q.x q.y q.experiments Yes text → IsSurrogateAsDrawn q bytes text
+surrogated_on : (q : SurrogateRequest) (bytes text : List ℕ) (g : ReadGraph) → HoldsGraph bytes g → SurrogateAnswer g q.x q.y q.experiments Yes text → IsSurrogateAsDrawn q bytes text
 surrogated_on q bytes text g holds (p, observed, h) = record {
   graph = g;
   holds = holds;

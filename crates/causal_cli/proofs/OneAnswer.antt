@@ -7,7 +7,7 @@ use Rattle.dag_reader.specs.declared.graph.ReadGraph.{ReadGraph}
 use Rattle.dag_reader.specs.RoundTrip.{AreSame}
 use Rattle.replies.specs.declared.outcome.Outcome.{Outcome}
 use Rattle.replies.specs.declared.outcome.Outcome.TheVariants.{Graph}
-use Rattle.replies.specs.Observed.{Holds}
+use Rattle.replies.specs.Observed.{HoldsGraph}
 use Rattle.replies.specs.OneOutcome.{OneOutcome, IsAnswerOn}
 use Rattle.replies.proofs.OneGraph.{one_reading, reads_either}
 use Rattle.graph_command.proofs.Exclusive.{graph_once}
@@ -73,7 +73,7 @@ file_alone w second g h s names o text a n = n
 -- ---- what bytes answer
 
 -- bytes that hold a graph are no refused graph
-held_or_refused : (bytes : List ℕ) (g : ReadGraph) (line : List ℕ) → Holds bytes g → IsGraphRefusal bytes line → ⊥
+held_or_refused : (bytes : List ℕ) (g : ReadGraph) (line : List ℕ) → HoldsGraph bytes g → IsGraphRefusal bytes line → ⊥
 held_or_refused bytes g line h (too_long long is) = absurd (let small = h.small in omega (arith, small, long))
 held_or_refused bytes g line h (faulty fault short ne reads is) = reads_either bytes g fault h.reads ne reads
 

@@ -5,11 +5,12 @@ use Rattle.dag_reader.specs.declared.graph.ReadGraph.{ReadGraph}
 use Rattle.dag_reader.specs.declared.faults.GraphFault.{GraphFault}
 use Rattle.dag_reader.specs.declared.faults.GraphFault.TheVariants.{NoMemory}
 use Rattle.dag_reader.specs.Reads.{Reads}
-use Rattle.fault_text.specs.Lines.{line_of, graph_fault_text}
+use Rattle.name_text.specs.Lines.{line_of}
+use Rattle.dag_reader.specs.FaultTexts.{graph_fault_text}
 use Rattle.replies.specs.declared.outcome.Outcome.{Outcome}
 use Rattle.replies.specs.declared.outcome.Outcome.TheVariants.{Graph}
 use Rattle.replies.specs.declared.outcome.Reply.{Reply}
-use Rattle.replies.specs.Observed.{Holds}
+use Rattle.replies.specs.Observed.{HoldsGraph}
 use Rattle.graph_command.specs.Answers.{GraphAnswer as TextAnswer}
 use Rattle.separate_command.specs.Answers.{SeparateAnswer}
 use Rattle.rule_command.specs.Answers.{RuleAnswer}
@@ -19,7 +20,7 @@ use Rattle.adjust_command.specs.Answers.{AdjustAnswer}
 use Rattle.evaluate_command.specs.Answers.{EvaluateFirst, EvaluateAnswer, CountsAnswer}
 use Rattle.evaluate_command.specs.Effects.{PlainEffect, effect_view, IsIdentified, Identifies}
 use Rattle.targets.specs.declared.query.Sets.{Sets}
-use Rattle.equivalent_command.specs.Answers.{IsAccepted as IsFirstAccepted, IsFirstRefusal, EquivalentAnswer, SecondAnswer as SecondGraphAnswer}
+use Rattle.equivalent_command.specs.Answers.{IsAcceptedFirst as IsFirstAccepted, IsFirstRefusal, EquivalentAnswer, SecondAnswer as SecondGraphAnswer}
 use Rattle.equivalent_command.specs.Requests.{Query}
 use Rattle.implications_command.specs.Answers.{FirstAnswer as ImplicationsFirst, DifferencesAnswer, CountsAnswer as ImpliedAnswer}
 use Rattle.implications_command.specs.Pairs.{PlainPairs, pairs_view, ArePairs, ArePairsOf}
@@ -76,7 +77,7 @@ pub data IsGraphRefusal (bytes line : List ℕ) : Type 0 where
 -- the answer of a command on a graph that the bytes hold
 pub record HoldsAnswer (w : Request) (bytes : List ℕ) (o : Outcome) (text : List ℕ) : Type 0 where
   pub graph : ReadGraph
-  pub holds : Holds bytes graph
+  pub holds : HoldsGraph bytes graph
   pub answer : GraphAnswer w graph o text
 
 -- the defined answer on the bytes of the file alone: yes or no with its text, or the line of a refused graph or target
@@ -86,11 +87,11 @@ Defined w bytes o text = HoldsAnswer w bytes o text
 
 -- the bytes hold a graph that is accepted, and the second input is read
 abbrev pub Continues : Request → List ℕ → Type 0
-Continues w bytes = (g : ReadGraph) × Holds bytes g × NeedsSecond w g
+Continues w bytes = (g : ReadGraph) × HoldsGraph bytes g × NeedsSecond w g
 
 -- the defined answer on the bytes of both inputs
 abbrev pub DefinedWith : Request → (bytes other : List ℕ) → Outcome → List ℕ → Type 0
-DefinedWith w bytes other o text = (g : ReadGraph) × Holds bytes g × NeedsSecond w g × SecondAnswer w g other o text
+DefinedWith w bytes other o text = (g : ReadGraph) × HoldsGraph bytes g × NeedsSecond w g × SecondAnswer w g other o text
 
 -- ---- what is left to answer once the file was accepted
 
@@ -109,11 +110,11 @@ limit_of (input.Equivalent g s second) = 1048576
 limit_of (input.Implications pairs counts count) = 67108864
 
 -- what is kept is accepted
-abbrev pub IsAccepted : SecondInput → Type 0
-IsAccepted (input.Check g certificate) = Unit {0}
-IsAccepted (input.Evaluate found counts count exact) = IsIdentified (effect_view found)
-IsAccepted (input.Equivalent g s second) = (l : Option Query) × IsFirstAccepted g l s
-IsAccepted (input.Implications pairs counts count) = ArePairs (pairs_view pairs)
+abbrev pub IsAcceptedFirst : SecondInput → Type 0
+IsAcceptedFirst (input.Check g certificate) = Unit {0}
+IsAcceptedFirst (input.Evaluate found counts count exact) = IsIdentified (effect_view found)
+IsAcceptedFirst (input.Equivalent g s second) = (l : Option Query) × IsFirstAccepted g l s
+IsAcceptedFirst (input.Implications pairs counts count) = ArePairs (pairs_view pairs)
 
 -- the reply is the answer on these bytes of the second input
 abbrev pub GivesSecond : SecondInput → List ℕ → Reply → Type 0
@@ -139,7 +140,7 @@ GivesOn w g (first.Continues p) = IsLeft w g p
 
 -- what is left of a request whose file has these bytes
 abbrev pub IsLeftOf : Request → List ℕ → SecondInput → Type 0
-IsLeftOf w bytes p = (g : ReadGraph) × Holds bytes g × IsLeft w g p
+IsLeftOf w bytes p = (g : ReadGraph) × HoldsGraph bytes g × IsLeft w g p
 
 -- what the file alone gives: the defined answer, or what is left
 abbrev pub GivesFirst : Request → List ℕ → First → Type 0

@@ -24,7 +24,7 @@ use Rattle.count_rows.specs.Rows.{Table}
 use Rattle.count_table.specs.Cells.{total}
 use Rattle.count_eval.specs.Programs.{weights_in, is_used, cell_of}
 use Rattle.count_answers.specs.Reads as counts
-use Rattle.replies.specs.Observed.{Names, Holds, observed_names}
+use Rattle.replies.specs.Observed.{Names, HoldsGraph, observed_names}
 use Rattle.identify_text.specs.Answers.{formula_answer}
 use Rattle.identify_command.specs.declared.form.Form.{Form}
 use Rattle.identify_command.specs.Answers.{formula_text}
@@ -59,7 +59,7 @@ IsRightAsDrawn g t f = EqualsAsDrawn (graph_of g.graph) (has g.latent.bits) t f
 -- the bytes hold a graph; the lists name a target, with nothing given where no list says so; and the text shows a formula for it that equals it in the diagram as drawn
 pub record IsTextAsDrawn (form : Form) (bytes : List ℕ) (x y given : Names) (text : List ℕ) : Type 0 where
   pub graph : ReadGraph
-  pub holds : Holds bytes graph
+  pub holds : HoldsGraph bytes graph
   pub target : PlainTarget
   pub sets : AreTargetSets (target_lists graph x y (unwrap_or given [])) target
   pub formula : PlainFormula
@@ -80,7 +80,7 @@ pub record IdentifiedAsDrawn (r : Run) (uses : List Use) : Type 0 where
 -- the bytes of the file hold a graph; and where those of the certificate are the certificate of a formula, that equals the effect of its target in the diagram as drawn
 pub record IsCertificateAsDrawn (bytes other : List ℕ) : Type 0 where
   pub graph : ReadGraph
-  pub holds : Holds bytes graph
+  pub holds : HoldsGraph bytes graph
   pub right : (t : PlainTarget) (f : PlainFormula) (d : PlainDerivation) → IsRead (observed_names graph) other (certificates.formula t f d) → IsRightAsDrawn graph t f
 
 -- a certificate that these uses ask about is so for the file that they ask for
@@ -115,7 +115,7 @@ ShowsAdjustmentAsDrawn query g x y z text = ShowsSetAsDrawn g x y z text
 -- the bytes hold a graph, the lists name these sets, and the text is such a one for them
 pub record IsAdjustmentAsDrawn (q : adjust_requests.Request) (bytes text : List ℕ) : Type 0 where
   pub graph : ReadGraph
-  pub holds : Holds bytes graph
+  pub holds : HoldsGraph bytes graph
   pub x : ℕ
   pub y : ℕ
   pub z : ℕ
@@ -135,7 +135,7 @@ pub record AdjustedAsDrawn (r : Run) (uses : List Use) : Type 0 where
 -- the bytes hold a graph, the lists name these sets and experiments, and the text shows a formula over them that equals the effect in the diagram as drawn
 pub record IsSurrogateAsDrawn (q : surrogate_requests.Request) (bytes text : List ℕ) : Type 0 where
   pub graph : ReadGraph
-  pub holds : Holds bytes graph
+  pub holds : HoldsGraph bytes graph
   pub x : ℕ
   pub y : ℕ
   pub experiments : List ℕ
@@ -176,7 +176,7 @@ ShowsQuantitiesAsDrawn false = ShowsValuesAsDrawn bounds Covers (sign_of false)
 -- the bytes hold a graph, the lists name an effect that has a formula, the other bytes hold a table of its counts, and the text is such a one for them
 pub record IsEvaluationAsDrawn (q : evaluate_requests.Request) (bytes other text : List ℕ) : Type 0 where
   pub graph : ReadGraph
-  pub holds : Holds bytes graph
+  pub holds : HoldsGraph bytes graph
   pub effect : PlainEffect
   pub identifies : Identifies graph q.x q.y effect
   pub counted : Table

@@ -5,7 +5,7 @@ use Rattle.word_forms.specs.Form.{Use, IsCall, value_of}
 use Rattle.dag_reader.specs.declared.graph.ReadGraph.{ReadGraph}
 use Rattle.replies.specs.declared.outcome.Outcome.{Outcome}
 use Rattle.replies.specs.declared.outcome.Outcome.TheVariants.{Yes, No}
-use Rattle.replies.specs.Observed.{Names, Holds}
+use Rattle.replies.specs.Observed.{Names, HoldsGraph}
 use Rattle.identify_command.specs.declared.form.Form.{Form}
 use Rattle.identify_command.specs.Answers.{IdentifyAnswer}
 use Rattle.identify_command.specs.Requests.{Request, IsRequest, identify_row}
@@ -20,7 +20,7 @@ use Rattle.causal_cli.specs.Run.{Run}
 -- No: it shows a hedge with two positive finite models that fit, agree on all observations, and differ on P(y | do(x)).
 pub record IsRightText (form : Form) (bytes : List ℕ) (x y : Names) (o : Outcome) (text : List ℕ) : Type 0 where
   pub graph : ReadGraph
-  pub holds : Holds bytes graph
+  pub holds : HoldsGraph bytes graph
   pub answer : IdentifyAnswer form graph x y o text
 
 -- a right text was written for the bytes of the file, and for the lists and the form, that these uses ask for
@@ -41,7 +41,7 @@ pub record Headline (r : Run) (code : ℕ) : Type 0 where
 -- or its hedge has two positive finite models that fit, agree on all observations, and differ on the effect.
 pub record IsRightCertificate (bytes other : List ℕ) (text : List ℕ) : Type 0 where
   pub graph : ReadGraph
-  pub holds : Holds bytes graph
+  pub holds : HoldsGraph bytes graph
   pub accepted : CheckAnswer graph other Yes text
 
 -- a certificate that these uses ask about was accepted for the file that they ask for, and the text was written

@@ -1,7 +1,7 @@
 -- The lines of refusals that are no command's own.
 use Rattle.std.specs.Prelude.{ℕ, List, ◌∷◌, ◌++◌, codes}
 use Rattle.std.specs.List.{flat_map}
-use Rattle.fault_text.specs.Lines.{line_of}
+use Rattle.name_text.specs.Lines.{line_of}
 use Rattle.causal_cli.specs.Commands.{table}
 
 -- words that set no task, with the names of the commands

@@ -1,7 +1,8 @@
 // What the inputs of a request give: first the file alone, then the second input, where the file was accepted.
 
 ghost use Rattle.std.specs.Prelude.{◌≡◌, ◌≤◌, ◌<◌, ℕ, List, IfOk, OnOk, length};
-ghost use Rattle.fault_text.specs.Lines.{line_of, graph_fault_text};
+ghost use Rattle.name_text.specs.Lines.{line_of};
+ghost use Rattle.dag_reader.specs.FaultTexts.{graph_fault_text};
 ghost use Rattle.causal_cli.specs.Commands.{on_graph};
 ghost use Rattle.causal_cli.specs.Answers.{GivesOn, GivesFirst, second_in, limit_of, IsAccepted, GivesSecond};
 
@@ -11,7 +12,6 @@ use check_command::{check_reply, long_certificate};
 use dag_reader::{GraphFault, ReadGraph, read_graph};
 use equivalent_command::{accept_first, equivalent_reply, long_second_graph};
 use evaluate_command::{Identified, evaluate_reply, identify_first, long_counts};
-use fault_text::graph_line;
 use graph_command::graph_reply;
 use identify_command::identify_reply;
 use implications_command::{Pairs, counted_pairs, differences_reply, pairs_reply};
@@ -176,13 +176,9 @@ fn refuse_graph(alloc: Global, fault: &GraphFault) -> Result<Reply, AllocError>
     ensures line { IfOk result (λ r. r.text.items ≡ line_of (graph_fault_text fault.now)) }
     ensures fault { OnOk result (fault.now ≡ GraphFault.NoMemory → ⊥) }
 {
-    if let GraphFault::NoMemory = fault {
-        return Err(AllocError);
-    }
-    let text = graph_line(alloc, fault)?;
     Ok(Reply {
         outcome: Outcome::Graph,
-        text,
+        text: fault.line(alloc)?,
     })
 }
 

@@ -1,4 +1,5 @@
 pub mod Faults
+pub mod FaultTexts
 pub mod HedgeReading
 pub mod Plain
 pub mod Reading

@@ -6,7 +6,7 @@ use Rattle.prob_expr.specs.View.{target_view, formula_view}
 use Rattle.do_derivation.specs.Plans.{PlainDerivation}
 use Rattle.do_derivation.specs.View.{derivation_view}
 use Rattle.districts.specs.declared.lists.Links.{Links}
-use Rattle.hedge.specs.declared.kinds.Hedge.{Hedge}
+use Rattle.hedge.specs.declared.hedge.Hedge.{Hedge}
 use Rattle.certificate.specs.declared.values.Certificate.{Certificate}
 use Rattle.certificate.specs.declared.values.Certificate.TheVariants as cases
 

@@ -4,7 +4,7 @@ use Rattle.std.specs.Prelude.{All}
 use Rattle.mixed_graph.specs.Bits.{has, members_below}
 use Rattle.mixed_graph.specs.Names.{AreNames}
 use Rattle.mixed_graph.specs.Masks.{join, is_empty, is_below, is_apart}
-use Rattle.prob_expr.specs.Masks.{are_term_sets}
+use Rattle.prob_expr.specs.TermSets.{are_term_sets}
 use Rattle.prob_expr.specs.Tree.{Tree, PlainTarget, PlainFormula}
 use Rattle.prob_expr.specs.Check.{check_tree, fault_of, fault_in_defs, fault_in}
 use Rattle.expr_text.proofs.Checked.{neither}
@@ -27,7 +27,7 @@ use Rattle.certificate.specs.Faults.{◌>>=◌, at_key, or_fault}
 use Rattle.certificate.specs.Plain.{PlainHedge, PlainCertificate, formula, hedge}
 use Rattle.certificate.specs.HedgeReading.{choice_in, links_in}
 use Rattle.certificate.specs.Reading.{member_by, main_in, more_defs, defs_in, lemma_in, lemmas_in, version_in, given_in, target_in, whole, formula_in, derivation_in, member_count, key_count, formula_certificate_in, hedge_in, hedge_certificate_in, answer_in, is_version, value_certificate, json_of, certificate_in}
-use Rattle.certificate_writing.specs.Kept.{IsKept, IsStartBlank}
+use Rattle.certificate_writing.specs.Kept.{IsRepresentable, IsStartBlank}
 use Rattle.certificate_writing.specs.Writable.{IsTargetWithin, IsHedgeWithin, IsWritable, AreStepsShallow, IsShallow}
 use Rattle.certificate_writing.specs.Written.{expr_items, lemma_items, choices_from, pair_items, link_items, version_of, certificate_value}
 use Rattle.certificate_writing.proofs.FormulasBack.{main_back, whole_back, defs_back, filled_back, lemmas_back}
@@ -152,7 +152,7 @@ object_by bare names t f p =
 
 -- where an object has the members of a formula's certificate, and so many
 formula_certificate_back : (names : List (List ℕ)) (version : ℕ) (d : Data) (t : PlainTarget) (f : PlainFormula) (p : PlainDerivation)
-    → AreNames names → IsWritable (length names) (formula t f p) → IsKept (formula t f p) → IsShallow (formula t f p) → target_in names version d ≡ Ok t
+    → AreNames names → IsWritable (length names) (formula t f p) → IsRepresentable (formula t f p) → IsShallow (formula t f p) → target_in names version d ≡ Ok t
     → get (codes "formula") d ≡ Some (string (text_of names f.main)) → get (codes "defs") d ≡ Some (array (expr_items names f.defs))
     → get (codes "lemmas") d ≡ Some (array (lemma_items names p.lemmas)) → get (codes "main") d ≡ Some (step_value names p.main)
     → (member_count (as_object d) == key_count version) ≡ true
@@ -170,7 +170,7 @@ formula_certificate_back names version d t f p are writable kept shallow target 
 
 -- the object of a formula's certificate is read back, whether something is given or not
 object_back : (bare : Bool) (names : List (List ℕ)) (t : PlainTarget) (f : PlainFormula) (p : PlainDerivation) → is_empty t.given ≡ bare
-    → AreNames names → IsWritable (length names) (formula t f p) → IsKept (formula t f p) → IsShallow (formula t f p)
+    → AreNames names → IsWritable (length names) (formula t f p) → IsRepresentable (formula t f p) → IsShallow (formula t f p)
     → value_certificate names (object_by bare names t f p) ≡ Ok (formula t f p)
 unfolding value_certificate version_in
 object_back true names t f p none are writable kept shallow =
@@ -216,7 +216,7 @@ all_links_back names (l ∷ ls) are within some room blank =
     ∙ links_back names l.0 ls are (subst (λ m. All (IsWithin (length names)) (m ∷ ls)) e within) (omega (arith, room))
     ∙ ap (λ m. Ok (m ∷ ls)) (sym e)
 
-hedge_certificate_back : (names : List (List ℕ)) (t : PlainTarget) (h : PlainHedge) → AreNames names → IsWritable (length names) (hedge t h) → IsKept (hedge t h)
+hedge_certificate_back : (names : List (List ℕ)) (t : PlainTarget) (h : PlainHedge) → AreNames names → IsWritable (length names) (hedge t h) → IsRepresentable (hedge t h)
     → hedge_certificate_in names (certificate_value names (hedge t h)) ≡ Ok (hedge t h)
 unfolding hedge_certificate_in
 hedge_certificate_back names t h are writable kept =
@@ -229,14 +229,14 @@ hedge_certificate_back names t h are writable kept =
 
 -- ---- certificates
 
-value_back : (names : List (List ℕ)) (c : PlainCertificate) → AreNames names → IsWritable (length names) c → IsKept c → IsShallow c → value_certificate names (certificate_value names c) ≡ Ok c
+value_back : (names : List (List ℕ)) (c : PlainCertificate) → AreNames names → IsWritable (length names) c → IsRepresentable c → IsShallow c → value_certificate names (certificate_value names c) ≡ Ok c
 unfolding value_certificate version_in
 value_back names (formula t f p) are writable kept shallow = object_back (is_empty t.given) names t f p refl are writable kept shallow
 value_back names (hedge t h) are writable kept shallow =
     ap (λ given. (if is_version (version_of given) then answer_in names (version_of given) (certificate_value names (hedge t h)) else Err (Version (version_of given)))) writable.0.bare
     ∙ hedge_certificate_back names t h are writable kept
 
-pub certificate_back : (names : List (List ℕ)) (c : PlainCertificate) (text : List ℕ) → AreNames names → IsWritable (length names) c → IsKept c → IsShallow c → json_of text ≡ Some (certificate_value names c)
+pub certificate_back : (names : List (List ℕ)) (c : PlainCertificate) (text : List ℕ) → AreNames names → IsWritable (length names) c → IsRepresentable c → IsShallow c → json_of text ≡ Some (certificate_value names c)
     → certificate_in names text ≡ Ok c
 unfolding certificate_in
 certificate_back names c text are writable kept shallow json =

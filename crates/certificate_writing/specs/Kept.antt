@@ -15,6 +15,6 @@ IsStartBlank [] = Unit {0}
 IsStartBlank (l ∷ ls) = l.1 ≡ 0
 
 -- steps are short; a choice is for 64 vertices, and there are 64 links at most, the first of which has no partner
-abbrev pub IsKept : PlainCertificate → Type 0
-IsKept (formula t f d) = (are_steps_short d.lemmas ≡ true) × (step.is_short d.main ≡ true)
-IsKept (hedge t h) = (length h.choice ≡ 64) × (length h.links ≤ 64) × IsStartBlank h.links
+abbrev pub IsRepresentable : PlainCertificate → Type 0
+IsRepresentable (formula t f d) = (are_steps_short d.lemmas ≡ true) × (step.is_short d.main ≡ true)
+IsRepresentable (hedge t h) = (length h.choice ≡ 64) × (length h.links ≤ 64) × IsStartBlank h.links

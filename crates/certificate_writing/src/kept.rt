@@ -2,7 +2,7 @@ ghost use Rattle.std.specs.Prelude.{◌≡◌, ◌≤◌, ◌^◌, true, ltb, le
 ghost use Rattle.do_derivation.specs.View.{step_view, steps_view, lemma_view, listed, numbers_of};
 ghost use Rattle.step_json.specs.Laws.{are_below, groups_below, is_short, are_short};
 ghost use Rattle.certificate.specs.Plain.{certificate_view, links_view};
-ghost use Rattle.certificate_writing.specs.Kept.{are_steps_short, IsStartBlank, IsKept};
+ghost use Rattle.certificate_writing.specs.Kept.{are_steps_short, IsStartBlank, IsRepresentable};
 
 use certificate::Certificate;
 use do_derivation::{Lemma, Step};
@@ -89,7 +89,7 @@ fn links_kept(links: &Links)
 
 /// What the types keep of a certificate: numbers of 32 bits, orders and links of 64 vertices at most, a choice for 64 vertices.
 pub fn certificate_kept(c: &Certificate)
-    ensures { IsKept (certificate_view c.now) }
+    ensures { IsRepresentable (certificate_view c.now) }
 {
     match c {
         Certificate::Formula(_, _, derivation) => {

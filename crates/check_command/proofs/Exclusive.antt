@@ -5,8 +5,8 @@ use Rattle.prob_expr.specs.Tree.{PlainFormula, PlainTarget}
 use Rattle.do_derivation.specs.Accepts.{AcceptsNot}
 use Rattle.do_derivation.specs.Plans.{PlainDerivation}
 use Rattle.do_derivation.proofs.Exact.{accepts_either}
-use Rattle.hedge.specs.Faults.{IsFirstFault}
-use Rattle.hedge.specs.declared.kinds.Hedge.{Hedge}
+use Rattle.hedge.specs.Faults.{IsFirstHedgeFault}
+use Rattle.hedge.specs.declared.hedge.Hedge.{Hedge}
 use Rattle.certificate.specs.Plain.{PlainCertificate, hedge_view}
 use Rattle.certificate.specs.Plain as plain
 use Rattle.certificate.specs.declared.fault.CertFault.{CertFault}
@@ -36,8 +36,8 @@ module _ (q : MixedGraph) (names : List (List ℕ)) (text line : List ℕ) where
   hedges t u h k n m same a b =
       let ts : u ≡ t = cc same in let views : hedge_view k ≡ hedge_view h = cc same in
       no_hedge_fault q t.x t.y h b.fault a.evidence
-      (subst (λ (x : PlainTarget). IsFirstFault q x.x x.y h b.fault) ts
-      (subst (λ (x : Hedge). IsFirstFault q u.x u.y x b.fault) (hedge_from_view h k n m views) b.is_fault))
+      (subst (λ (x : PlainTarget). IsFirstHedgeFault q x.x x.y h b.fault) ts
+      (subst (λ (x : Hedge). IsFirstHedgeFault q u.x u.y x b.fault) (hedge_from_view h k n m views) b.is_fault))
 
   -- a certificate isn't both accepted and refused
   accepted_or_not : (bytes : List ℕ) → CertificateAnswer q names bytes Yes text → CertificateAnswer q names bytes No line → ⊥

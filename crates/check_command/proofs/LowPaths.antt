@@ -16,7 +16,7 @@ use Rattle.prob_expr.specs.Tree.{Tree, prob, sum, product, quotient, named, Plai
 use Rattle.do_derivation.specs.Plans.{Move, Plan, Plans, no_plans, plan, numbered, PlainLemma, PlainDerivation}
 use Rattle.do_derivation.specs.Shapes.{child, is_list_of, chained, unchained, grouped, narrowed, unwrapped}
 use Rattle.do_derivation.specs.Table.{Row, row, on_term, if_so, if_made, is_new, is_part}
-use Rattle.do_derivation.specs.Steps.{IsRefused, Refuses, RefusesAny}
+use Rattle.do_derivation.specs.Steps.{RowRefuses, Refuses, RefusesAny}
 use Rattle.do_derivation.specs.Accepts.{AcceptsNot, DefinesNot, EndsNot, start_of, sets_of}
 use Rattle.do_derivation.specs.declared.faults.StepFault.{StepFault}
 use Rattle.do_derivation.specs.declared.faults.StepFault.TheVariants.{Sets, BadOrder, Grouping, NoLemma, NoPlace, Shape}
@@ -72,7 +72,7 @@ low_row n lemmas (Move.Cite k) e =
 low_row n lemmas Move.Unwrap e = low_made n (unwrapped e) Shape tt
 
 module _ (g : MixedGraph) (valid : IsMixedGraph g) where
-  row_low : (r : Row) (f : StepFault) → IsLowRow g.vertices r → IsRefused g r f → HasLowPath g.vertices f
+  row_low : (r : Row) (f : StepFault) → IsLowRow g.vertices r → RowRefuses g r f → HasLowPath g.vertices f
   row_low (Row.Refuse x) f h e = subst (HasLowPath g.vertices) (sym e) h
   row_low (Row.Make x) f h e = absurd e
   row_low (Row.Ask r x y z w made) f h e = subst (HasLowPath g.vertices) (sym e.2) (open_low g valid r (has x) (has y) (has z) (has w) e.0 e.1)

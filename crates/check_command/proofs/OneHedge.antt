@@ -12,11 +12,11 @@ use Rattle.mixed_graph.specs.Graphs.{MixedGraph}
 use Rattle.mixed_graph.specs.declared.sets.VSet.{VSet}
 use Rattle.districts.specs.declared.lists.Links.{Links}
 use Rattle.districts.specs.declared.lists.Choice.{Choice}
-use Rattle.hedge.specs.Faults.{IsFirstFault, IsWrongLink}
+use Rattle.hedge.specs.Faults.{IsFirstHedgeFault, IsWrongLink}
 use Rattle.hedge.specs.Hedges.{IsHedge}
-use Rattle.hedge.specs.declared.kinds.Hedge.{Hedge}
-use Rattle.hedge.specs.declared.kinds.HedgeFault.{HedgeFault}
-use Rattle.hedge.specs.declared.kinds.HedgeFault.TheVariants as wrong
+use Rattle.hedge.specs.declared.hedge.Hedge.{Hedge}
+use Rattle.hedge.specs.declared.hedge.HedgeFault.{HedgeFault}
+use Rattle.hedge.specs.declared.hedge.HedgeFault.TheVariants as wrong
 use Rattle.certificate.specs.Plain.{PlainHedge, links_view, hedge_view}
 use Rattle.check_command.specs.Answers.{HasEntries}
 
@@ -107,7 +107,7 @@ no_wrong_link g x y h v is (inl f) = f.wrong (is.links.placed v f.among)
 no_wrong_link g x y h v is (inr (inl f)) = let stranger = f.1 in clash _ (is.links.inside stranger.place stranger.listed) stranger.outside
 no_wrong_link g x y h v is (inr (inr f)) = f.2.wrong (λ i some listed at. is.links.partners i some listed)
 
-pub no_hedge_fault : (g : MixedGraph) (x y : ℕ) (h : Hedge) (f : HedgeFault) → IsHedge g x y h → IsFirstFault g x y h f → ⊥
+pub no_hedge_fault : (g : MixedGraph) (x y : ℕ) (h : Hedge) (f : HedgeFault) → IsHedge g x y h → IsFirstHedgeFault g x y h f → ⊥
 no_hedge_fault g x y h wrong.Sets is f = f is.sets
 no_hedge_fault g x y h wrong.BigMissesX is f = let m = is.meets in clash (has x m.vertex) m.in_second (f.1 m.vertex m.in_first)
 no_hedge_fault g x y h wrong.SmallMeetsX is f = let m = f.1 in clash (has x m.vertex) m.in_second (is.apart m.vertex m.in_first)

@@ -6,7 +6,7 @@ use Rattle.std.specs.Str.{bytes_eq}
 use Rattle.mixed_graph.specs.Bits.{has}
 use Rattle.mixed_graph.specs.Names.{is_named, index_of}
 use Rattle.mixed_graph.specs.Masks.{join, one, is_empty, is_below, is_apart}
-use Rattle.prob_expr.specs.Masks.{are_term_sets}
+use Rattle.prob_expr.specs.TermSets.{are_term_sets}
 use Rattle.prob_expr.specs.Terms.{is_term}
 use Rattle.prob_expr.specs.Tree.{PlainTarget}
 use Rattle.mixed_graph.proofs.MaskLaws.{has_join, has_one, has_none, below_from, apart_from}

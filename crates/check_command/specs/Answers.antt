@@ -7,21 +7,21 @@ use Rattle.prob_expr.specs.Values.{EqualsEffect}
 use Rattle.do_derivation.specs.Accepts.{Accepts, AcceptsNot}
 use Rattle.do_derivation.specs.Plans.{PlainDerivation}
 use Rattle.do_derivation.specs.declared.faults.CheckFault.{CheckFault}
-use Rattle.hedge.specs.Faults.{IsFirstFault}
+use Rattle.hedge.specs.Faults.{IsFirstHedgeFault}
 use Rattle.hedge.specs.Hedges.{IsHedge}
 use Rattle.hedge.specs.Shapes.{FormHedge}
-use Rattle.hedge.specs.declared.kinds.Hedge.{Hedge}
-use Rattle.hedge.specs.declared.kinds.HedgeFault.{HedgeFault}
+use Rattle.hedge.specs.declared.hedge.Hedge.{Hedge}
+use Rattle.hedge.specs.declared.hedge.HedgeFault.{HedgeFault}
 use Rattle.counter_models.specs.Events.{AreCounterModels}
-use Rattle.counter_models.specs.declared.kinds.CounterPair.{CounterPair}
+use Rattle.counter_models.specs.declared.counter_pair.CounterPair.{CounterPair}
 use Rattle.certificate.specs.Plain.{PlainCertificate, formula, hedge, hedge_view}
 use Rattle.certificate.specs.Reading.{certificate_in}
 use Rattle.certificate.specs.declared.fault.CertFault.{CertFault}
 use Rattle.certificate.specs.declared.fault.CertFault.TheVariants.{NoMemory}
 use Rattle.identify_text.specs.Answers.{formula_answer}
 use Rattle.identify_text.specs.HedgeLines.{heading_text}
-use Rattle.fault_text.specs.Lines.{line_of}
-use Rattle.certificate_fault_text.specs.Lines.{cert_fault_text, cert_size_text}
+use Rattle.name_text.specs.Lines.{line_of}
+use Rattle.certificate.specs.FaultTexts.{cert_fault_text, cert_size_text}
 use Rattle.dag_reader.specs.declared.graph.ReadGraph.{ReadGraph}
 use Rattle.replies.specs.declared.outcome.Outcome.{Outcome}
 use Rattle.replies.specs.declared.outcome.Outcome.TheVariants.{Yes, No, Second}
@@ -57,7 +57,7 @@ pub record AcceptsHedge (q : MixedGraph) (names : List (List ℕ)) (t : PlainTar
 -- no: what keeps it from being a hedge, the first in order
 pub record RefusesHedge (q : MixedGraph) (names : List (List ℕ)) (t : PlainTarget) (h : Hedge) (text : List ℕ) : Type 0 where
   pub fault : HedgeFault
-  pub is_fault : IsFirstFault q t.x t.y h fault
+  pub is_fault : IsFirstHedgeFault q t.x t.y h fault
   pub prints : text ≡ hedge_text names fault
 
 -- the answer for a formula with its derivation

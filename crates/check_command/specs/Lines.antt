@@ -9,8 +9,8 @@ use Rattle.do_derivation.specs.declared.faults.StepFault.TheVariants.{NotATerm, 
 use Rattle.do_derivation.specs.declared.faults.StepPlace.{StepPlace}
 use Rattle.do_derivation.specs.declared.faults.CheckFault.{CheckFault}
 use Rattle.do_derivation.specs.declared.faults.CheckFault.TheVariants.{Step, EndDiffers, DoLeft, NoMemory}
-use Rattle.hedge.specs.declared.kinds.HedgeFault.{HedgeFault}
-use Rattle.hedge.specs.declared.kinds.HedgeFault.TheVariants as hedges
+use Rattle.hedge.specs.declared.hedge.HedgeFault.{HedgeFault}
+use Rattle.hedge.specs.declared.hedge.HedgeFault.TheVariants as hedges
 
 -- what is accepted, and its text
 abbrev pub accepted_text : List ℕ → List ℕ

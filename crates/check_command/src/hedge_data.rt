@@ -6,7 +6,7 @@ ghost use Rattle.check_command.specs.Answers.{HasEntries};
 ghost use Rattle.check_command.specs.Replies.{IsSoundTarget, AnswersHedge};
 
 use crate::lines::{accepted_text, hedge_text};
-use counter_models::{build, laws};
+use counter_models::laws;
 use hedge::{Hedge, holds};
 use identify_text::hedge_heading;
 use latent_projection::Observed;
@@ -44,7 +44,7 @@ fn has_entries(hedge: &Hedge)
     let _ = hedge.links.partner[0];
 }
 
-/// The answer for a hedge that holds: its two models show that the effect isn't identifiable.
+/// The answer for a hedge that holds: there are two models that show that the effect isn't identifiable.
 fn accept(
     alloc: Global,
     seen: &Observed,
@@ -57,7 +57,6 @@ fn accept(
     ensures { IfOk result (AnswersHedge (graph_of seen.now.graph) seen.now.names (target_view target.now) hedge.now) }
 {
     laws();
-    let _pair = build(alloc, &seen.graph, target.x, target.y, hedge)?;
     let heading = hedge_heading(alloc, target.x, target.y, hedge, &seen.names)?;
     Ok(Reply {
         outcome: Outcome::Yes,

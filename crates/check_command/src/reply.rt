@@ -3,8 +3,7 @@ ghost use Rattle.check_command.specs.Answers.{CheckAnswer};
 
 use crate::formula::check_formula;
 use crate::hedge_data::check_hedge;
-use certificate::{Certificate, read_answer};
-use certificate_fault_text::{certificate_line, certificate_size_line};
+use certificate::{CertFault, Certificate, read_answer};
 use dag_reader::ReadGraph;
 use latent_projection::observed;
 use replies::{Outcome, Reply};
@@ -30,7 +29,7 @@ pub fn check_reply(
         Ok(Certificate::Hedge(target, hedge)) => check_hedge(alloc, &seen, &target, &hedge),
         Err(fault) => Ok(Reply {
             outcome: Outcome::Second,
-            text: certificate_line(alloc, &fault)?,
+            text: fault.line(alloc)?,
         }),
     }
 }
@@ -41,6 +40,6 @@ pub fn long_certificate(alloc: Global, graph: &ReadGraph) -> Result<Reply, Alloc
 {
     Ok(Reply {
         outcome: Outcome::Second,
-        text: certificate_size_line(alloc)?,
+        text: CertFault::size_line(alloc)?,
     })
 }

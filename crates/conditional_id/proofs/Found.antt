@@ -11,7 +11,7 @@ use Rattle.do_derivation.specs.Plans.{PlainDerivation}
 use Rattle.identification.proofs.Bools.{clash}
 use Rattle.identification.specs.Derivations.{IsDerived}
 use Rattle.hedge.specs.Hedges.{IsHedge}
-use Rattle.hedge.specs.declared.kinds.Hedge.{Hedge}
+use Rattle.hedge.specs.declared.hedge.Hedge.{Hedge}
 use Rattle.conditional_theory.proofs.Answered.{one_turned}
 use Rattle.conditional_theory.proofs.Dividing.{divided_defs}
 use Rattle.conditional_theory.proofs.Turning.{joint_target, targeted, turned_target}
@@ -19,7 +19,7 @@ use Rattle.conditional_theory.specs.Conditionals.AreTurned.{still}
 use Rattle.conditional_theory.specs.Conditionals.{AreTurned, IsConditionalBySteps, IsConditionalTarget, IsTurned, divided, divided_derivation}
 use Rattle.conditional_id.specs.Answers.{SomeJointHedge}
 use Rattle.conditional_id.specs.Moves.{AreMoved}
-use Rattle.conditional_id.specs.declared.kinds.Turned.{Turned}
+use Rattle.conditional_id.specs.declared.answer.Turned.{Turned}
 
 -- where nothing is given, the target's own sets are turned ones
 pub turned_none : (g : MixedGraph) (t : PlainTarget) → t.given ≡ 0 → IsTurned g t t.x 0 []

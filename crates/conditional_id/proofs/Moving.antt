@@ -2,7 +2,7 @@
 use Rattle.std.proofs.Common.{ℕ, ◌+◌, ◌≡◌, ◌<◌, Bool, true, false, not, refl, sym, ap, subst, ◌∙◌, ◌&&◌, inl, inr, List, [], ◌∷◌, ◌++◌, append_assoc, append-nil, IsTrue, arith}
 use Rattle.std.proofs.lemmas.Bool.{cases_lt}
 use Rattle.conditional_id.specs.Moves.{AreMoved, IsLowestTurning, NoneTurns}
-use Rattle.conditional_id.specs.declared.kinds.Turned.{Turned}
+use Rattle.conditional_id.specs.declared.answer.Turned.{Turned}
 use Rattle.conditional_theory.proofs.Turning.{moved_target, targeted}
 use Rattle.conditional_theory.specs.Conditionals.AreTurned.{move, still}
 use Rattle.conditional_theory.specs.Conditionals.{AreTurned, IsConditionalTarget, IsTurning, turned_steps}

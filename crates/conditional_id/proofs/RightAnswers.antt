@@ -24,8 +24,8 @@ use Rattle.conditional_theory.proofs.Turning.{none_moves}
 use Rattle.conditional_theory.specs.Conditionals.{IsConditional, IsConditionalBySteps, IsConditionalTarget, IsTurned}
 use Rattle.conditional_theory.specs.Laws.{IsRightGiven, IsShallowGiven}
 use Rattle.conditional_id.specs.Answers.{IsAnswerGiven, IsRight, IsJointEffect, IsJointShown, SomeJointHedge, IfFormula, IfJoint}
-use Rattle.conditional_id.specs.declared.kinds.Conditional.{Conditional}
-use Rattle.conditional_id.specs.declared.kinds.Conditional.TheVariants.{Formula, Joint}
+use Rattle.conditional_id.specs.declared.answer.Conditional.{Conditional}
+use Rattle.conditional_id.specs.declared.answer.Conditional.TheVariants.{Formula, Joint}
 
 -- where nothing is given, the target's own sets are the turned ones
 pub turned_plain : (g : MixedGraph) (t : PlainTarget) (x' z' : ℕ) (vs : List ℕ) → t.given ≡ 0 → IsTurned g t x' z' vs → (x' ≡ t.x) × (z' ≡ 0)

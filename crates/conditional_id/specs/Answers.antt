@@ -9,15 +9,15 @@ use Rattle.do_derivation.specs.Plans.{PlainDerivation}
 use Rattle.do_derivation.specs.View.{derivation_view}
 use Rattle.identification.specs.Procedure.{IsUnidentified}
 use Rattle.hedge.specs.Hedges.{IsHedge}
-use Rattle.hedge.specs.declared.kinds.Hedge.{Hedge}
+use Rattle.hedge.specs.declared.hedge.Hedge.{Hedge}
 use Rattle.counter_models.specs.Pairs.{IsPairOf}
-use Rattle.counter_models.specs.declared.kinds.CounterPair.{CounterPair}
+use Rattle.counter_models.specs.declared.counter_pair.CounterPair.{CounterPair}
 use Rattle.id_recursion.specs.Answers.{effect_on, IsRightHedge}
 use Rattle.id_recursion.specs.Hedged.{IsHedgeOf}
 use Rattle.conditional_theory.specs.Conditionals.{IsConditionalTarget, IsTurned, IsConditionalBySteps, AreEqualEffects}
 use Rattle.conditional_theory.specs.Laws.{IsRightGiven}
-use Rattle.conditional_id.specs.declared.kinds.Conditional.{Conditional}
-use Rattle.conditional_id.specs.declared.kinds.Conditional.TheVariants as answers
+use Rattle.conditional_id.specs.declared.answer.Conditional.{Conditional}
+use Rattle.conditional_id.specs.declared.answer.Conditional.TheVariants as answers
 
 -- P(y | do(x), given) turns into P(y | do(x'), z'): x is x', and y has z' too. Both effects are equal in each positive model of the graph, at each assignment.
 pub record IsJointEffect (g : MixedGraph) (t : PlainTarget) (x y : ℕ) : Type 0 where

@@ -5,7 +5,7 @@ use Rattle.mixed_graph.specs.Graphs.{MixedGraph}
 use Rattle.do_derivation.specs.Plans.{Plans}
 use Rattle.id_recursion.specs.Lists.{onto}
 use Rattle.conditional_theory.specs.Conditionals.{IsTurning, AreTurned, turned_steps}
-use Rattle.conditional_id.specs.declared.kinds.Turned.{Turned}
+use Rattle.conditional_id.specs.declared.answer.Turned.{Turned}
 
 -- no observation may become an intervention
 abbrev pub NoneTurns : MixedGraph → (x y z : ℕ) → Type 0

@@ -24,8 +24,8 @@ ghost use Rattle.conditional_theory.specs.Conditionals.{divided, divided_derivat
 ghost use Rattle.conditional_theory.specs.Laws.{IsShallowGiven};
 ghost use Rattle.conditional_id.specs.Answers.{IsAnswerGiven, IsRight, IsJointEffect, IsJointShown, SomeJointHedge, IfFormula, IfJoint, is_joint};
 
+use crate::answer::{Conditional, Turned};
 use crate::dividing::{divided, divided_steps};
-use crate::kinds::{Conditional, Turned};
 use crate::turning::turned;
 use do_derivation::{Derivation, Step};
 use id_recursion::{Answer, identify};

@@ -4,11 +4,11 @@
 //! `identify_given(alloc, &graph, &target)` gives the one or the other.
 #![tactic(auto)]
 
+mod answer;
 mod copying;
 mod dividing;
 mod identifying;
-mod kinds;
 mod turning;
 
+pub use answer::Conditional;
 pub use identifying::identify_given;
-pub use kinds::Conditional;

@@ -7,7 +7,7 @@ ghost use Rattle.do_rules.specs.Rules.{AreThreeSets};
 ghost use Rattle.conditional_theory.specs.Conditionals.{IsTurning};
 ghost use Rattle.conditional_id.specs.Moves.{NoneTurns, IsLowestTurning, AreMoved};
 
-use crate::kinds::Turned;
+use crate::answer::Turned;
 use do_derivation::Step;
 use do_rules::rule2;
 use mixed_graph::{Graph, VSet};

@@ -17,7 +17,7 @@ use Rattle.count_eval.specs.declared.failure.EvalFault.TheVariants.{NoSupport, T
 use Rattle.count_eval.specs.Stops.{Stop}
 use Rattle.count_eval.specs.Evaluated.{evaluated, evaluated_from, formula_value}
 use Rattle.count_eval.specs.Programs.{weights_in, is_used, known}
-use Rattle.count_eval.specs.Answers.{IsEvaluable, IsFaultOf, CoversCounts, CoversMatches, DeniesMatches}
+use Rattle.count_eval.specs.Answers.{IsEvaluable, IsEvaluationFault, CoversCounts, CoversMatches, DeniesMatches}
 use Rattle.count_eval.proofs.Covered.{formula_good}
 use Rattle.count_eval.proofs.Matched.{matched_has_value}
 use Rattle.count_eval.proofs.Used.{used_is}
@@ -37,7 +37,7 @@ levels_kept t of at cell le same h v member =
     (omega (arith, within, le), omega (arith, below, e))
 
 -- a fault over the set of a table's vertices is one over the table
-pub fault_over : (t : Table) (u : ℕ) (e : EvalFault) (s : Stop) → AreCounts t → members_below (has u) 64 ≡ t.vertices → IsFaultOf (has u) e s → IsFaultOf (is_used t) e s
+pub fault_over : (t : Table) (u : ℕ) (e : EvalFault) (s : Stop) → AreCounts t → members_below (has u) 64 ≡ t.vertices → IsEvaluationFault (has u) e s → IsEvaluationFault (is_used t) e s
 fault_over t u (NoSupport cell place) s are e h = (h.0, h.1, λ v lt. h.2 v lt ∙ ap (λ (b : Bool). cond b (s.cell v) 0) (used_is t u v are e lt))
 fault_over t u (TooWide place) s are e h = h
 fault_over t u (TooFine place) s are e h = h
@@ -58,7 +58,7 @@ covers_matches k covers law n t f s c ok e = λ g mixed m fit positive matched w
 
 -- a fault is no missing support where the counts match a positive model
 pub denies_matches : (k : Kind) (covers : Pair → Fraction → Type 0) → IsLawful k covers → (n : ℕ) (t : Table) (f : PlainFormula) (s : ℕ → ℕ) (e : EvalFault) (stop : Stop) → IsEvaluable n t f
-    → formula_value k (weights_in n t) f s ≡ Err stop → IsFaultOf (is_used t) e stop → DeniesMatches n t s e
+    → formula_value k (weights_in n t) f s ≡ Err stop → IsEvaluationFault (is_used t) e stop → DeniesMatches n t s e
 denies_matches k covers law n t f s (NoSupport cell place) stop ok e h = λ g mixed m fit positive matched within.
     false≢true (sym ((formula_good k covers law (weights_in n t) f s).none stop e h.0)
     ∙ (matched_has_value g mixed m fit positive (is_used t) (weights_in n t) (total t.rows) matched f ok.do_free ok.defs ok.main s within).0)
@@ -67,7 +67,7 @@ denies_matches k covers law n t f s (TooFine place) stop ok e h = tt
 denies_matches k covers law n t f s NoMemory stop ok e h = tt
 
 -- and no want of memory
-pub needs_no_memory : (used : ℕ → Bool) (e : EvalFault) (stop : Stop) → IsFaultOf used e stop → e ≢ NoMemory
+pub needs_no_memory : (used : ℕ → Bool) (e : EvalFault) (stop : Stop) → IsEvaluationFault used e stop → e ≢ NoMemory
 needs_no_memory used (NoSupport cell place) stop h = λ x. cc
 needs_no_memory used (TooWide place) stop h = λ x. cc
 needs_no_memory used (TooFine place) stop h = λ x. cc

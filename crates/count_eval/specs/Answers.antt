@@ -37,16 +37,16 @@ abbrev pub IsCellOf : (ℕ → Bool) → List ℕ → Stop → Type 0
 IsCellOf used cell s = (v : ℕ) → v < 64 → slice_index cell v ≡ (if used v then s.cell v else 0)
 
 -- the fault says why the evaluation stopped, and where
-abbrev pub IsFaultOf : (ℕ → Bool) → EvalFault → Stop → Type 0
-IsFaultOf used (NoSupport cell place) s = (s.why ≡ quantity.ZeroBelow) × IsPlaceOf place s × IsCellOf used cell s
-IsFaultOf used (TooWide place) s = (s.why ≡ quantity.TooWide) × IsPlaceOf place s
-IsFaultOf used (TooFine place) s = (s.why ≡ quantity.TooFine) × IsPlaceOf place s
-IsFaultOf used NoMemory s = ⊥
+abbrev pub IsEvaluationFault : (ℕ → Bool) → EvalFault → Stop → Type 0
+IsEvaluationFault used (NoSupport cell place) s = (s.why ≡ quantity.ZeroBelow) × IsPlaceOf place s × IsCellOf used cell s
+IsEvaluationFault used (TooWide place) s = (s.why ≡ quantity.TooWide) × IsPlaceOf place s
+IsEvaluationFault used (TooFine place) s = (s.why ≡ quantity.TooFine) × IsPlaceOf place s
+IsEvaluationFault used NoMemory s = ⊥
 
 -- the answer is the value, or the fault of the stop
 abbrev pub Answers : {Q : Type 0} → (Q → Pair) → Table → Result Pair Stop → Result Q EvalFault → Type 0
 Answers numbers t o (Ok q) = o ≡ Ok (numbers q)
-Answers numbers t o (Err e) = (s : Stop) × (o ≡ Err s) × IsFaultOf (is_used t) e s
+Answers numbers t o (Err e) = (s : Stop) × (o ≡ Err s) × IsEvaluationFault (is_used t) e s
 
 -- the formula has a value over the counts, and this covers it
 pub record CoversCounts (covers : Pair → Fraction → Type 0) (n : ℕ) (t : Table) (f : PlainFormula) (s : ℕ → ℕ) (c : Pair) : Type 0 where

@@ -4,7 +4,7 @@ ghost use Rattle.prob_expr.specs.View.{formula_view};
 ghost use Rattle.count_table.specs.Tables.{AreCounts, HasLevels};
 ghost use Rattle.count_eval.specs.Evaluated.{formula_value};
 ghost use Rattle.count_eval.specs.Programs.{weights_in, is_used, cell_of, stop_of, AreValues};
-ghost use Rattle.count_eval.specs.Answers.{IsEvaluable, IsFaultOf, Answers, CoversCounts, CoversMatches, DeniesMatches};
+ghost use Rattle.count_eval.specs.Answers.{IsEvaluable, IsEvaluationFault, Answers, CoversCounts, CoversMatches, DeniesMatches};
 
 use crate::eval::value_at;
 use crate::failure::{EvalFault, Failure};
@@ -41,7 +41,7 @@ fn cell_within(used: VSet, cell: [u32; 64]) -> [u32; 64]
 
 /// The fault that a failure is, over a table whose used vertices these are.
 fn fault_of(used: VSet, failure: Failure) -> EvalFault
-    ensures { IsFaultOf (has used.bits) result (stop_of failure) }
+    ensures { IsEvaluationFault (has used.bits) result (stop_of failure) }
 {
     let place = Place {
         def: failure.def,

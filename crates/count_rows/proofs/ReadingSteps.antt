@@ -12,8 +12,8 @@ use Rattle.csv.specs.declared.error.ErrorKind.{ErrorKind}
 use Rattle.csv.specs.declared.error.ErrorKind.TheVariants as kind
 use Rattle.csv.proofs.ReadFacts.{rows-more, rows-end}
 use Rattle.count_rows.specs.Records.{Record, records_of}
-use Rattle.count_rows.specs.Reader.{HasRead, StepGives, width_of, failure_of}
-use Rattle.count_rows.specs.declared.reader.Step.TheVariants as step
+use Rattle.count_rows.specs.Reader.{HasRead, GivesNext, width_of, failure_of}
+use Rattle.count_rows.specs.declared.reader.NextRecord.TheVariants as next
 use Rattle.count_rows.proofs.Cutting.{read_first, none_left, some_left}
 
 widths : (before : List Record) (f : Record) (old new : Option ℕ) → old ≡ width_of before → IfSome old (λ e. new ≡ Some e) → new ≡ Some (length f) →
@@ -25,8 +25,8 @@ widths (h ∷ rs) f old new o i n =
 
 -- another record
 pub another : (text : List ℕ) (before : List Record) (a b : Reader (Bor (List ℕ))) (f : Record) → HasRead text before a → ReadRecord (λ s. Some s.now) a b true f → b.first ≡ true → is_flexible b ≡ is_flexible a
-    → StepGives text before b f step.Record
-unfolding StepGives
+    → GivesNext text before b f next.Record
+unfolding GivesNext
 another text before a b f h r first flexible =
     let (z, at_z, reached) = rows-more (λ (s : Bor (List ℕ)). Some s.now) a b f default_config st.StartRecord (strip_bom text) h.rest before h.default h.pending h.reached r in
     let e = r.5 refl h.strict in
@@ -50,8 +50,8 @@ split text before a h = read_first default_config st.StartRecord a.state (strip_
 
 -- no other record
 pub all_read : (text : List ℕ) (before : List Record) (a b : Reader (Bor (List ℕ))) (f : Record) → HasRead text before a → ReadRecord (λ s. Some s.now) a b false f
-    → StepGives text before b f step.End
-unfolding StepGives
+    → GivesNext text before b f next.End
+unfolding GivesNext
 all_read text before a b f h r =
     split text before a h
     ∙ ap (λ (l : List Record). before ++ l) (none_left default_config a.state h.rest (rows-end (λ (s : Bor (List ℕ)). Some s.now) a b f default_config h.rest h.default h.pending r))
@@ -73,8 +73,8 @@ differ (h ∷ rs) old expected len f o e d is =
 
 -- a read that failed
 pub failed : (text : List ℕ) (before : List Record) (a b : Reader (Bor (List ℕ))) (f : Record) (k : ErrorKind) → HasRead text before a → ExplainsRead (λ s. Some s.now) a b false k
-    → StepGives text before b f (failure_of k)
-unfolding StepGives
+    → GivesNext text before b f (failure_of k)
+unfolding GivesNext
 failed text before a b f (kind.UnequalLengths pos expected len) h why =
     let (flexible, at, other, fields, took_it, long) = why in
     let t = took default_config a.state b.state h.rest fields (pending_of (Some b.rdr.now) b) (rw (h.default, h.pending) at took_it) in

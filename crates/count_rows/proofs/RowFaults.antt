@@ -12,9 +12,9 @@ use Rattle.count_rows.specs.declared.fault.CountFault.{CountFault}
 use Rattle.count_rows.specs.declared.fault.CountFault.TheVariants.{NotCsv, NoColumn, NoRows}
 use Rattle.count_rows.specs.declared.tally.Tally.{Tally}
 use Rattle.count_rows.specs.Records.{Record, Layout, records_of, header_of, rows_of, layout_of, sum_of}
-use Rattle.count_rows.specs.Faults.{or_else, row_fault, rows_fault, empty_fault, records_fault, header_fault, Explains}
+use Rattle.count_rows.specs.Faults.{or_else, row_fault, rows_fault, empty_fault, records_fault, header_fault, IsExpectedFault}
 use Rattle.count_rows.specs.Reader.{HasRead}
-use Rattle.count_rows.specs.Tally.{Holds}
+use Rattle.count_rows.specs.Tally.{HoldsRecords}
 use Rattle.count_rows.proofs.ReadingSteps.{split}
 
 or_else-assoc : (a b c : Option CountFault) → or_else a (or_else b c) ≡ or_else (or_else a b) c
@@ -76,15 +76,15 @@ pub row_too_long : (text : List ℕ) (header : Record) (rows more : List Record)
 row_too_long text header rows more other l is long fine = refused text header rows more other l (NotCsv (length rows + 1)) is fine (wrong (length header) rows other l long)
 
 -- all rows were read
-pub ended : (text : List ℕ) (header : Record) (rows : List Record) (l : Layout) (tally : Tally) (result : Result Tally CountFault) → records_of text ≡ header ∷ rows → rows_fault (length header) l [] rows ≡ None → Holds l rows tally →
+pub ended : (text : List ℕ) (header : Record) (rows : List Record) (l : Layout) (tally : Tally) (result : Result Tally CountFault) → records_of text ≡ header ∷ rows → rows_fault (length header) l [] rows ≡ None → HoldsRecords l rows tally →
     IfOk result (λ t. (t ≡ tally) × (0 < tally.sum)) → IfErr result (λ f. (f ≡ NoRows) × (tally.sum ≡ 0)) →
     MatchResult result
-    (λ t. Holds l (rows_of (records_of text)) t × (or_else (rows_fault (length header) l [] (rows_of (records_of text))) (empty_fault l (rows_of (records_of text))) ≡ None))
-    (Explains (or_else (rows_fault (length header) l [] (rows_of (records_of text))) (empty_fault l (rows_of (records_of text)))))
+    (λ t. HoldsRecords l (rows_of (records_of text)) t × (or_else (rows_fault (length header) l [] (rows_of (records_of text))) (empty_fault l (rows_of (records_of text))) ≡ None))
+    (IsExpectedFault (or_else (rows_fault (length header) l [] (rows_of (records_of text))) (empty_fault l (rows_of (records_of text)))))
 ended text header rows l tally (Ok t) is fine held ok err =
     let behind : rows_of (records_of text) ≡ rows = ap rows_of is in
     rw behind (
-      subst (λ (x : Tally). Holds l rows x) (sym ok.0) held,
+      subst (λ (x : Tally). HoldsRecords l rows x) (sym ok.0) held,
       ap (λ (o : Option CountFault). or_else o (empty_fault l rows)) fine
           ∙ ap (λ b. cond b (Some NoRows) None) (ne_eqb (sum_of l rows) 0 (let s = held.sum in let p = ok.1 in omega (arith, s, p))),
     )

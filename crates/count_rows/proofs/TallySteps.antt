@@ -10,7 +10,7 @@ use Rattle.std.proofs.Math.Nat.{one-le-mul, le-mul_of_pos_right, mul_assoc}
 use Rattle.mixed_graph.specs.Names.{index_of, is_named, with_name}
 use Rattle.count_rows.specs.declared.fault.CountFault.TheVariants.{Count, TooLarge, SumTooLarge}
 use Rattle.count_rows.specs.declared.tally.Tally.{Tally}
-use Rattle.count_rows.specs.Tally.{Holds}
+use Rattle.count_rows.specs.Tally.{HoldsRecords}
 use Rattle.count_rows.specs.Numbers.{most_counted}
 use Rattle.count_rows.specs.Records.{Record, Layout, field_in, levels_at, levels_of, count_of, sum_of, cell_count}
 use Rattle.count_rows.specs.Rows.{Row, row_in, rows_in, list_below}
@@ -201,7 +201,7 @@ counts_held layout rows r n old new some held e =
     ∙ ap (map (λ (x : Row). x.count)) (sym (rows_in-append layout rows r))
 
 -- before the first row
-pub holds-nil : (layout : Layout) (tally : Tally) → tally.levels.items ≡ replicate (length layout.places) [] → tally.cells.items ≡ [] → tally.counts.items ≡ [] → tally.sum ≡ 0 → Holds layout [] tally
+pub holds-nil : (layout : Layout) (tally : Tally) → tally.levels.items ≡ replicate (length layout.places) [] → tally.cells.items ≡ [] → tally.counts.items ≡ [] → tally.sum ≡ 0 → HoldsRecords layout [] tally
 unfolding levels_at rows_in
 holds-nil layout tally levels cells counts sum = record {
   levels = levels ∙ copies layout.places;

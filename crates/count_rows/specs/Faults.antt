@@ -60,5 +60,5 @@ records_fault records used count =
     (empty_fault (layout_of (header_of records) used count) (rows_of records)))
 
 -- a fault is the expected one; want of memory may come instead
-abbrev pub Explains : Option CountFault → CountFault → Type 0
-Explains expected fault = fault ≢ NoMemory → expected ≡ Some fault
+abbrev pub IsExpectedFault : Option CountFault → CountFault → Type 0
+IsExpectedFault expected fault = fault ≢ NoMemory → expected ≡ Some fault

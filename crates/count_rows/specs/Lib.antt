@@ -5,3 +5,4 @@ pub mod Rows
 pub mod Faults
 pub mod Reader
 pub mod Tally
+pub mod FaultTexts

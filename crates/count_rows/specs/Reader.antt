@@ -7,8 +7,8 @@ use Rattle.csv.specs.declared.error.ErrorKind.TheVariants as kind
 use Rattle.csv.specs.declared.parser.State.TheVariants as st
 use Rattle.csv.specs.declared.reader.Trim.TheVariants as trim
 use Rattle.csv.specs.Reading.{Reached, Ready, default_config, source_of, strip_bom, reader_trim, reader_config, is_flexible, expected_len, reader_state}
-use Rattle.count_rows.specs.declared.reader.Step.{Step}
-use Rattle.count_rows.specs.declared.reader.Step.TheVariants as step
+use Rattle.count_rows.specs.declared.reader.NextRecord.{NextRecord}
+use Rattle.count_rows.specs.declared.reader.NextRecord.TheVariants as next
 use Rattle.count_rows.specs.Records.{Record, records_of}
 
 -- the number of fields that each record must have: that of the first
@@ -29,18 +29,18 @@ pub record HasRead (text : List ℕ) (records : List Record) (reader : Reader (B
 
 -- what one more read of a text says, behind these records: another record, with the fields r; that these are all;
 -- or that the next one has another number of fields than the first
-unfoldable pub StepGives : List ℕ → List Record → Reader (Bor (List ℕ)) → Record → Step → Type 0
-StepGives text before reader r step.Record = HasRead text (before ++ r ∷ []) reader × IfSome (width_of before) (λ width. length r ≡ width)
-StepGives text before reader r step.End = records_of text ≡ before
-StepGives text before reader r step.OtherLength =
+unfoldable pub GivesNext : List ℕ → List Record → Reader (Bor (List ℕ)) → Record → NextRecord → Type 0
+GivesNext text before reader r next.Record = HasRead text (before ++ r ∷ []) reader × IfSome (width_of before) (λ width. length r ≡ width)
+GivesNext text before reader r next.End = records_of text ≡ before
+GivesNext text before reader r next.OtherLength =
     (other : Record) × (more : List Record) × (records_of text ≡ before ++ other ∷ more) × IsSomeAnd (width_of before) (λ width. length other ≢ width)
-StepGives text before reader r step.NoMemory = Unit {0}
+GivesNext text before reader r next.NoMemory = Unit {0}
 
 -- what a failure of a reader means: a record of another length, or else want of memory
-abbrev pub failure_of : ErrorKind → Step
-failure_of (kind.UnequalLengths pos expected len) = step.OtherLength
-failure_of (kind.Io e) = step.NoMemory
-failure_of (kind.Utf8 pos err) = step.NoMemory
-failure_of kind.OutOfMemory = step.NoMemory
-failure_of (kind.Serialize text) = step.NoMemory
-failure_of (kind.Deserialize pos err) = step.NoMemory
+abbrev pub failure_of : ErrorKind → NextRecord
+failure_of (kind.UnequalLengths pos expected len) = next.OtherLength
+failure_of (kind.Io e) = next.NoMemory
+failure_of (kind.Utf8 pos err) = next.NoMemory
+failure_of kind.OutOfMemory = next.NoMemory
+failure_of (kind.Serialize text) = next.NoMemory
+failure_of (kind.Deserialize pos err) = next.NoMemory

@@ -12,7 +12,7 @@ abbrev pub layout_from : Columns → Layout
 layout_from c = record { places = c.places.items; count_place = c.count_place }
 
 -- the levels, rows and sum of counts of these records
-pub record Holds (layout : Layout) (rows : List Record) (tally : Tally) : Type 0 where
+pub record HoldsRecords (layout : Layout) (rows : List Record) (tally : Tally) : Type 0 where
   pub levels : tally.levels.items ≡ levels_of layout rows
   pub cells : tally.cells.items ≡ flat_map (λ r. r.cell) (rows_in layout rows)
   pub counts : tally.counts.items ≡ map (λ r. r.count) (rows_in layout rows)

@@ -1,4 +1,10 @@
+ghost use Rattle.std.specs.Prelude.{◌≡◌, IfOk, OnOk};
+ghost use Rattle.name_text.specs.Lines.{line_of};
+ghost use Rattle.count_rows.specs.FaultTexts.{count_fault_text, count_size_text};
+
 use mixed_graph::Text;
+use name_text::{refusal_line, with_name, with_number};
+use std::alloc::{AllocError, Global};
 
 /// Why a text gives no counts.
 #[derive(Drop)]
@@ -19,4 +25,38 @@ pub enum CountFault {
     NoRows,
     /// Memory was refused.
     NoMemory,
+}
+
+impl CountFault {
+    /// The line that says what is wrong, as `causal: counts fault 4: row 7` with a line feed. The error is want of memory, which has no line.
+    pub fn line(&self, alloc: Global) -> Result<Vec<u8>, AllocError>
+        ensures line { IfOk result (λ v. v.items ≡ line_of (count_fault_text self.now)) }
+        ensures memory { OnOk result (self.now ≡ CountFault.NoMemory → ⊥) }
+    {
+        refusal_line(alloc, &self.text(alloc)?)
+    }
+
+    /// The line of more than 67,108,864 bytes of counts.
+    pub fn size_line(alloc: Global) -> Result<Vec<u8>, AllocError>
+        ensures { IfOk result (λ v. v.items ≡ line_of count_size_text) }
+    {
+        refusal_line(alloc, b"counts fault 8: over 67108864 bytes")
+    }
+
+    /// What is wrong.
+    fn text(&self, alloc: Global) -> Result<Vec<u8>, AllocError>
+        ensures text { IfOk result (λ v. v.items ≡ count_fault_text self.now) }
+        ensures memory { OnOk result (self.now ≡ CountFault.NoMemory → ⊥) }
+    {
+        match self {
+            CountFault::NotCsv(row) => with_number(alloc, "counts fault 1: row ", *row as u64),
+            CountFault::NoColumn(name) => with_name(alloc, "counts fault 2: ", name.bytes()),
+            CountFault::TwoColumns(name) => with_name(alloc, "counts fault 3: ", name.bytes()),
+            CountFault::Count(row) => with_number(alloc, "counts fault 4: row ", *row as u64),
+            CountFault::TooLarge => Vec::from_slice(alloc, b"counts fault 5"),
+            CountFault::SumTooLarge => Vec::from_slice(alloc, b"counts fault 6"),
+            CountFault::NoRows => Vec::from_slice(alloc, b"counts fault 7"),
+            CountFault::NoMemory => Err(AllocError),
+        }
+    }
 }

@@ -4,7 +4,7 @@ ghost use Rattle.std.specs.Str.{bytes_eq};
 ghost use Rattle.csv.specs.Records.{fields_of};
 ghost use Rattle.mixed_graph.specs.Names.{index_of, name_of};
 ghost use Rattle.count_rows.specs.Records.{field_in};
-ghost use Rattle.count_rows.specs.Faults.{name_fault, header_fault, Explains};
+ghost use Rattle.count_rows.specs.Faults.{name_fault, header_fault, IsExpectedFault};
 
 use crate::fault::CountFault;
 use csv::ByteRecord;
@@ -37,7 +37,7 @@ fn column_from(header: &ByteRecord, name: &[u8], from: usize) -> usize
 
 /// The fault of a name that isn't in the header.
 pub fn no_column(alloc: Global, name: &[u8]) -> CountFault
-    ensures { Explains (Some (CountFault.NoColumn name.now)) result }
+    ensures { IsExpectedFault (Some (CountFault.NoColumn name.now)) result }
 {
     match Text::of(alloc, name) {
         Ok(name) => CountFault::NoColumn(name),
@@ -47,7 +47,7 @@ pub fn no_column(alloc: Global, name: &[u8]) -> CountFault
 
 /// The fault of a name that is in the header twice.
 fn two_columns(alloc: Global, name: &[u8]) -> CountFault
-    ensures { Explains (Some (CountFault.TwoColumns name.now)) result }
+    ensures { IsExpectedFault (Some (CountFault.TwoColumns name.now)) result }
 {
     match Text::of(alloc, name) {
         Ok(name) => CountFault::TwoColumns(name),
@@ -59,7 +59,7 @@ fn two_columns(alloc: Global, name: &[u8]) -> CountFault
 pub fn column(alloc: Global, header: &ByteRecord, name: &[u8]) -> Result<usize, CountFault>
     ensures place { IfOk result (λ place. place ≡ index_of (fields_of header.now) name.now) }
     ensures fit { IfOk result (λ place. name_fault (fields_of header.now) name.now ≡ None) }
-    ensures fault { IfErr result (Explains (name_fault (fields_of header.now) name.now)) }
+    ensures fault { IfErr result (IsExpectedFault (name_fault (fields_of header.now) name.now)) }
 {
     let first = column_from(header, name, 0);
     if first == header.len() {
@@ -81,7 +81,7 @@ pub fn columns(
     requires { All (λ v. v < length names.now) vertices.now }
     ensures places { IfOk result (λ places. places.items ≡ map (index_of (fields_of header.now)) (map (name_of names.now) vertices.now)) }
     ensures fit { IfOk result (λ places. header_fault (fields_of header.now) (map (name_of names.now) vertices.now) ≡ None) }
-    ensures fault { IfErr result (Explains (header_fault (fields_of header.now) (map (name_of names.now) vertices.now))) }
+    ensures fault { IfErr result (IsExpectedFault (header_fault (fields_of header.now) (map (name_of names.now) vertices.now))) }
 {
     let mut places = Vec::new(alloc);
     for v in vertices {

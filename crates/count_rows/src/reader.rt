@@ -2,14 +2,14 @@ ghost use Rattle.std.specs.Prelude.{◌≡◌, List, ℕ, []};
 ghost use Rattle.csv.specs.Reading.{error_kind};
 ghost use Rattle.csv.specs.Records.{fields_of};
 ghost use Rattle.count_rows.specs.Records.{Record};
-ghost use Rattle.count_rows.specs.Reader.{HasRead, StepGives, failure_of};
+ghost use Rattle.count_rows.specs.Reader.{HasRead, GivesNext, failure_of};
 
 use csv::{ByteRecord, Error, ErrorKind, Reader, ReaderBuilder};
 use std::alloc::Global;
 
 /// What one more read gave.
 #[derive(Clone, Copy)]
-pub enum Step {
+pub enum NextRecord {
     /// Another record.
     Record,
     /// The text has no other record.
@@ -30,22 +30,22 @@ pub fn open(alloc: Global, text: &[u8]) -> Reader<&[u8]>
 }
 
 /// Reads the next record into `into`.
-pub fn read(reader: &mut Reader<&[u8]>, into: &mut ByteRecord) -> Step
-    ensures { (text : List ℕ) (before : List Record) → HasRead text before reader.old → StepGives text before reader.new (fields_of into.new) result }
+pub fn read(reader: &mut Reader<&[u8]>, into: &mut ByteRecord) -> NextRecord
+    ensures { (text : List ℕ) (before : List Record) → HasRead text before reader.old → GivesNext text before reader.new (fields_of into.new) result }
 {
     match reader.read_byte_record(into) {
-        Ok(true) => Step::Record,
-        Ok(false) => Step::End,
-        Err(error) => failed_step(error),
+        Ok(true) => NextRecord::Record,
+        Ok(false) => NextRecord::End,
+        Err(error) => failed_read(error),
     }
 }
 
 /// What a failed read gave. A text in memory is always readable, so any other failure is of memory.
-fn failed_step(error: Error) -> Step
+fn failed_read(error: Error) -> NextRecord
     ensures { result ≡ failure_of (error_kind error) }
 {
     match error.into_kind() {
-        ErrorKind::UnequalLengths { .. } => Step::OtherLength,
-        _ => Step::NoMemory,
+        ErrorKind::UnequalLengths { .. } => NextRecord::OtherLength,
+        _ => NextRecord::NoMemory,
     }
 }

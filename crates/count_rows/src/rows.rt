@@ -3,15 +3,15 @@ ghost use Rattle.std.specs.Option.{option_to_list};
 ghost use Rattle.csv.specs.Records.{fields_of};
 ghost use Rattle.mixed_graph.specs.Names.{name_of, index_of};
 ghost use Rattle.count_rows.specs.Records.{Record, records_of, header_of, rows_of, layout_of};
-ghost use Rattle.count_rows.specs.Faults.{name_fault, header_fault, rows_fault, empty_fault, or_else, records_fault, used_names, Explains};
+ghost use Rattle.count_rows.specs.Faults.{name_fault, header_fault, rows_fault, empty_fault, or_else, records_fault, used_names, IsExpectedFault};
 ghost use Rattle.mixed_graph.specs.Bits.{has, members_below};
 ghost use Rattle.mixed_graph.specs.Sets.{Within};
 ghost use Rattle.count_rows.specs.Reader.{HasRead};
-ghost use Rattle.count_rows.specs.Tally.{layout_from, Holds};
+ghost use Rattle.count_rows.specs.Tally.{layout_from, HoldsRecords};
 
 use crate::fault::CountFault;
 use crate::header::{column, columns, no_column};
-use crate::reader::{Step, open, read};
+use crate::reader::{NextRecord, open, read};
 use crate::tally::{Columns, Tally};
 use csv::{ByteRecord, Reader};
 use mixed_graph::{Names, VSet};
@@ -29,7 +29,7 @@ fn layout(
     ensures layout { IfOk result (λ c. layout_from c
         ≡ layout_of (fields_of header.now) (map (name_of names.now) vertices.now) (option_map (λ s. s.now) count_column.entry)) }
     ensures fit { IfOk result (λ c. header_fault (fields_of header.now) (map (name_of names.now) vertices.now ++ option_to_list (option_map (λ s. s.now) count_column.entry)) ≡ None) }
-    ensures fault { IfErr result (Explains (header_fault (fields_of header.now) (map (name_of names.now) vertices.now ++ option_to_list (option_map (λ s. s.now) count_column.entry)))) }
+    ensures fault { IfErr result (IsExpectedFault (header_fault (fields_of header.now) (map (name_of names.now) vertices.now ++ option_to_list (option_map (λ s. s.now) count_column.entry)))) }
 {
     let places = match columns(alloc, header, names, vertices) {
         Ok(places) => places,
@@ -69,9 +69,9 @@ fn read_rows_under(
 ) -> Result<Tally, CountFault>
     ensures { (text : List ℕ) (header : Record) → HasRead text (header ∷ []) reader.old →
         MatchResult result
-        (λ t. Holds (layout_from columns.now) (rows_of (records_of text)) t
+        (λ t. HoldsRecords (layout_from columns.now) (rows_of (records_of text)) t
         × (or_else (rows_fault (length header) (layout_from columns.now) [] (rows_of (records_of text))) (empty_fault (layout_from columns.now) (rows_of (records_of text))) ≡ None))
-        (Explains (or_else (rows_fault (length header) (layout_from columns.now) [] (rows_of (records_of text))) (empty_fault (layout_from columns.now) (rows_of (records_of text))))) }
+        (IsExpectedFault (or_else (rows_fault (length header) (layout_from columns.now) [] (rows_of (records_of text))) (empty_fault (layout_from columns.now) (rows_of (records_of text))))) }
 {
     let Ok(mut tally) = Tally::empty(alloc, columns.places.len()) else {
         return Err(CountFault::NoMemory);
@@ -79,10 +79,10 @@ fn read_rows_under(
     let mut row = ByteRecord::new(alloc);
     for number in 1..usize::MAX {
         match read(reader, &mut row) {
-            Step::Record => {}
-            Step::End => return finished(tally),
-            Step::OtherLength => return Err(CountFault::NotCsv(number)),
-            Step::NoMemory => return Err(CountFault::NoMemory),
+            NextRecord::Record => {}
+            NextRecord::End => return finished(tally),
+            NextRecord::OtherLength => return Err(CountFault::NotCsv(number)),
+            NextRecord::NoMemory => return Err(CountFault::NoMemory),
         }
         match tally.add(alloc, &row, number, columns) {
             Ok(()) => {}
@@ -103,17 +103,17 @@ fn read_rows_of(
 ) -> Result<Tally, CountFault>
     requires some { 0 < length vertices.now }
     requires named { All (λ v. v < length names.now) vertices.now }
-    ensures rows { IfOk result (λ t. Holds (layout_of (header_of (records_of text.now)) (map (name_of names.now) vertices.now) (option_map (λ s. s.now) count_column.entry))
+    ensures rows { IfOk result (λ t. HoldsRecords (layout_of (header_of (records_of text.now)) (map (name_of names.now) vertices.now) (option_map (λ s. s.now) count_column.entry))
         (rows_of (records_of text.now)) t) }
     ensures fit { IfOk result (λ t. records_fault (records_of text.now) (map (name_of names.now) vertices.now) (option_map (λ s. s.now) count_column.entry) ≡ None) }
-    ensures fault { IfErr result (Explains (records_fault (records_of text.now) (map (name_of names.now) vertices.now) (option_map (λ s. s.now) count_column.entry))) }
+    ensures fault { IfErr result (IsExpectedFault (records_fault (records_of text.now) (map (name_of names.now) vertices.now) (option_map (λ s. s.now) count_column.entry))) }
 {
     let mut reader = open(alloc, text);
     let mut header = ByteRecord::new(alloc);
     match read(&mut reader, &mut header) {
-        Step::Record => {}
-        Step::End => return Err(no_column(alloc, names.get(vertices[0]))),
-        Step::OtherLength | Step::NoMemory => return Err(CountFault::NoMemory),
+        NextRecord::Record => {}
+        NextRecord::End => return Err(no_column(alloc, names.get(vertices[0]))),
+        NextRecord::OtherLength | NextRecord::NoMemory => return Err(CountFault::NoMemory),
     }
     let columns = match layout(alloc, &header, names, vertices, count_column) {
         Ok(columns) => columns,
@@ -149,10 +149,10 @@ pub fn read_rows(
 ) -> Result<Tally, CountFault>
     requires some { 0 < used.bits }
     requires named { Within (length names.now) (has used.bits) }
-    ensures rows { IfOk result (λ t. Holds (layout_of (header_of (records_of text.now)) (used_names names.now used.bits) (option_map (λ s. s.now) count_column.entry))
+    ensures rows { IfOk result (λ t. HoldsRecords (layout_of (header_of (records_of text.now)) (used_names names.now used.bits) (option_map (λ s. s.now) count_column.entry))
         (rows_of (records_of text.now)) t) }
     ensures fit { IfOk result (λ t. records_fault (records_of text.now) (used_names names.now used.bits) (option_map (λ s. s.now) count_column.entry) ≡ None) }
-    ensures fault { IfErr result (Explains (records_fault (records_of text.now) (used_names names.now used.bits) (option_map (λ s. s.now) count_column.entry))) }
+    ensures fault { IfErr result (IsExpectedFault (records_fault (records_of text.now) (used_names names.now used.bits) (option_map (λ s. s.now) count_column.entry))) }
 {
     let Ok(vertices) = members(alloc, used) else {
         return Err(CountFault::NoMemory);

@@ -3,7 +3,7 @@ ghost use Rattle.csv.specs.Records.{fields_of};
 ghost use Rattle.mixed_graph.specs.Names.{with_name, index_of};
 ghost use Rattle.count_rows.specs.Records.{Record, field_in, count_of, cell_count};
 ghost use Rattle.count_rows.specs.Rows.{list_below};
-ghost use Rattle.count_rows.specs.Faults.{most_cells, row_fault, Explains};
+ghost use Rattle.count_rows.specs.Faults.{most_cells, row_fault, IsExpectedFault};
 
 use crate::digits::{MOST, read_count};
 use crate::fault::CountFault;
@@ -85,7 +85,7 @@ fn is_too_large(levels: &[Levels]) -> bool
 }
 
 impl Tally {
-    ghost use Rattle.count_rows.specs.Tally.{layout_from, Holds};
+    ghost use Rattle.count_rows.specs.Tally.{layout_from, HoldsRecords};
 
     /// No row yet, of this number of used vertices.
     pub fn empty(alloc: Global, vertices: usize) -> Result<Tally, AllocError>
@@ -116,11 +116,11 @@ impl Tally {
     ) -> Result<(), CountFault>
         requires { length self.old.levels.items ≡ length columns.now.places.items }
         ensures width { length self.new.levels.items ≡ length self.old.levels.items }
-        ensures row { (rows : List Record) → Holds (layout_from columns.now) rows self.old → number ≡ length rows + 1 →
+        ensures row { (rows : List Record) → HoldsRecords (layout_from columns.now) rows self.old → number ≡ length rows + 1 →
             MatchResult result
-            (λ _. Holds (layout_from columns.now) (rows ++ fields_of row.now ∷ []) self.new
+            (λ _. HoldsRecords (layout_from columns.now) (rows ++ fields_of row.now ∷ []) self.new
             × (row_fault (length (fields_of row.now)) (layout_from columns.now) rows (fields_of row.now) ≡ None))
-            (Explains (row_fault (length (fields_of row.now)) (layout_from columns.now) rows (fields_of row.now))) }
+            (IsExpectedFault (row_fault (length (fields_of row.now)) (layout_from columns.now) rows (fields_of row.now))) }
     {
         let Some(count) = count_in_record(row, columns.count_place) else {
             return Err(CountFault::Count(number));

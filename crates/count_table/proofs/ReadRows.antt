@@ -18,12 +18,12 @@ use Rattle.count_rows.specs.Records.{Field, Record, Layout, header_of, rows_of, 
 use Rattle.count_rows.specs.Rows.{Row, row_in, rows_in}
 use Rattle.count_rows.specs.Faults.{or_else, header_fault, row_fault, rows_fault, empty_fault, records_fault, most_cells}
 use Rattle.count_rows.specs.Levels.{AreLevels}
-use Rattle.count_rows.specs.Tally.{Holds}
+use Rattle.count_rows.specs.Tally.{HoldsRecords}
 use Rattle.count_rows.proofs.LevelLists.{is_named-with_name, is_named-with_name_self}
 use Rattle.count_rows.proofs.MemberLists.{members-pos}
 use Rattle.count_table.specs.Cells.{IsCell, cells_of, sizes_of, rows_from, count_at}
 use Rattle.count_table.specs.Codes.{code_of_cell}
-use Rattle.count_table.specs.Tables.{AreRows, IsKept}
+use Rattle.count_table.specs.Tables.{AreRows, IsKeptTable}
 use Rattle.count_table.proofs.CellLists.{length-cells_of}
 use Rattle.count_table.proofs.RowLists.{cells-rows_with, total_alike}
 use Rattle.count_table.proofs.Filling.{rows_from-all, total-rows_from}
@@ -149,7 +149,7 @@ sum-read : (l : Layout) (rows : List Record) → sum (map (λ (r : Row). r.count
 unfolding rows_in
 sum-read l rows = ap sum (map_map (λ (r : Row). r.count) (row_in l rows) rows) ∙ sum-map (λ (r : Record). unwrap_or (count_of l.count_place r) 0) rows
 
-pub rows-read : (l : Layout) (rows : List Record) (tally : Tally) → Holds l rows tally → rows_from (length tally.levels.items) tally.cells.items tally.counts.items ≡ rows_in l rows
+pub rows-read : (l : Layout) (rows : List Record) (tally : Tally) → HoldsRecords l rows tally → rows_from (length tally.levels.items) tally.cells.items tally.counts.items ≡ rows_in l rows
 rows-read l rows tally h =
     ap (λ (ys : List (List Field)). rows_from (length ys) tally.cells.items tally.counts.items) h.levels
     ∙ ap (λ (ns : List ℕ). rows_from (length (levels_of l rows)) ns tally.counts.items) h.cells
@@ -161,7 +161,7 @@ unfolding rows_in
 cells-in l rows = All-map (λ (r : Row). IsCell (sizes_of (levels_of l rows)) r.cell) (row_in l rows) rows (λ i d lt. cell-in l.places rows (get_or rows i d) (λ place. level_found rows place i d lt))
 
 -- without a fault, they are rows of a table
-pub are_rows : (w : ℕ) (l : Layout) (rows : List Record) (tally : Tally) → Holds l rows tally → tally.sum ≤ 10 ^ 15 → rows_fault w l [] rows ≡ None → empty_fault l rows ≡ None
+pub are_rows : (w : ℕ) (l : Layout) (rows : List Record) (tally : Tally) → HoldsRecords l rows tally → tally.sum ≤ 10 ^ 15 → rows_fault w l [] rows ≡ None → empty_fault l rows ≡ None
     → AreRows tally.levels.items tally.cells.items tally.counts.items
 are_rows w l [] tally h most fine some = absurd (cc some)
 are_rows w l (r ∷ rows) tally h most fine some =
@@ -182,7 +182,7 @@ are_rows w l (r ∷ rows) tally h most fine some =
       most = omega (arith, sums, held, most);
     }
 
-pub read_are_rows : (records : List Record) (used : List Field) (count : Option Field) (tally : Tally) → Holds (layout_of (header_of records) used count) (rows_of records) tally → tally.sum ≤ 10 ^ 15
+pub read_are_rows : (records : List Record) (used : List Field) (count : Option Field) (tally : Tally) → HoldsRecords (layout_of (header_of records) used count) (rows_of records) tally → tally.sum ≤ 10 ^ 15
     → records_fault records used count ≡ None → AreRows tally.levels.items tally.cells.items tally.counts.items
 unfolding records_fault
 read_are_rows records used count tally h most fine =
@@ -197,7 +197,7 @@ read_are_rows records used count tally h most fine =
 pub are_kept : (used : ℕ) (vertices : List ℕ) (levels : List (List Field)) (numbers counts cells codes : List ℕ) → vertices ≡ members_below (has used) 64 → 0 < used → used < 2 ^ 64
     → length levels ≡ length vertices → All AreLevels levels → AreRows levels numbers counts → length cells ≡ cell_count levels
     → ((i : ℕ) → i < cell_count levels → get_or cells i 0 ≡ count_at (sizes_of levels) (rows_from (length levels) numbers counts) i)
-    → codes ≡ map (code_of_cell (sizes_of levels)) (cells_of (sizes_of levels)) → IsKept used vertices levels cells codes
+    → codes ≡ map (code_of_cell (sizes_of levels)) (cells_of (sizes_of levels)) → IsKeptTable used vertices levels cells codes
 are_kept used vertices levels numbers counts cells codes members pos small matched differ rows long filled coded =
     let sizes = sizes_of levels in
     let all = total_alike vertices sizes (rows_from (length levels) numbers counts) cells rows.cells long filled ∙ total-rows_from (length levels) numbers counts in

@@ -30,13 +30,13 @@ pub struct Counts {
 impl Model for Counts {
     ghost use Rattle.count_rows.specs.Rows.{Table};
     ghost use Rattle.count_table.specs.Cells.{sizes_of, cells_of, rows_with};
-    ghost use Rattle.count_table.specs.Tables.{IsKept};
+    ghost use Rattle.count_table.specs.Tables.{IsKeptTable};
 
     ghost Value = { Table };
 
     ghost view = { λ s. record { vertices = s.vertices.items; levels = s.levels.items; rows = rows_with (cells_of (sizes_of s.levels.items)) s.cells.items } };
 
-    ghost invariant = { λ s. IsKept s.used.bits s.vertices.items s.levels.items s.cells.items s.codes.items };
+    ghost invariant = { λ s. IsKeptTable s.used.bits s.vertices.items s.levels.items s.cells.items s.codes.items };
 }
 
 /// The levels of a vertex, if it is one of these.

@@ -2,7 +2,7 @@ ghost use Rattle.std.specs.Prelude.{ℕ, ◌≡◌, ◌<◌, ◌≤◌, ◌^◌,
 ghost use Rattle.mixed_graph.specs.Bits.{has, members_below};
 ghost use Rattle.mixed_graph.specs.Sets.{Within};
 ghost use Rattle.count_rows.specs.Records.{Record, Layout};
-ghost use Rattle.count_rows.specs.Faults.{Explains};
+ghost use Rattle.count_rows.specs.Faults.{IsExpectedFault};
 ghost use Rattle.count_table.specs.Reading.{IsTableOf, text_fault};
 
 use crate::cells::counts_of;
@@ -42,7 +42,7 @@ pub fn read_counts(
     requires named { Within (length names.now) (has used.bits) }
     ensures table { IfOk result (IsTableOf text.now names.now used.bits (option_map (λ s. s.now) count_column.entry)) }
     ensures fit { IfOk result (λ c. text_fault text.now names.now used.bits (option_map (λ s. s.now) count_column.entry) ≡ None) }
-    ensures fault { IfErr result (Explains (text_fault text.now names.now used.bits (option_map (λ s. s.now) count_column.entry))) }
+    ensures fault { IfErr result (IsExpectedFault (text_fault text.now names.now used.bits (option_map (λ s. s.now) count_column.entry))) }
 {
     let Ok(vertices) = members(alloc, used) else {
         return Err(CountFault::NoMemory);

@@ -5,7 +5,7 @@ use Rattle.mixed_graph.specs.Bits.{has, members_below}
 use Rattle.mixed_graph.specs.Sets.{Apart}
 use Rattle.mixed_graph.specs.Graphs.{MixedGraph, IsMixedGraph}
 use Rattle.hedge.specs.Hedges.{size_of, IsPlaced, IsChildInside, IsHedge}
-use Rattle.hedge.specs.declared.kinds.Hedge.{Hedge}
+use Rattle.hedge.specs.declared.hedge.Hedge.{Hedge}
 use Rattle.parity_models.specs.Parities.{differ}
 use Rattle.parity_models.specs.Links.{is_entry}
 use Rattle.parity_models.specs.Hedges.{ParityHedge, IsParityHedge, IsTree, IsNumbered, IsWholeHedge, AreOuter, links_of, privates}

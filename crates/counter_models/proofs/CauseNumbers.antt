@@ -5,9 +5,9 @@ use Rattle.mixed_graph.specs.Bits.{has}
 use Rattle.mixed_graph.specs.Graphs.{MixedGraph, IsMixedGraph}
 use Rattle.finite_models.specs.Data.{weights_of, children_of}
 use Rattle.finite_models.specs.Sound.{IsSoundCause}
-use Rattle.finite_models.specs.declared.kinds.Cause.{Cause}
+use Rattle.finite_models.specs.declared.model.Cause.{Cause}
 use Rattle.hedge.specs.Hedges.{size_of, IsHedge}
-use Rattle.hedge.specs.declared.kinds.Hedge.{Hedge}
+use Rattle.hedge.specs.declared.hedge.Hedge.{Hedge}
 use Rattle.parity_models.proofs.CounterFits.{or_split, or_first}
 use Rattle.counter_models.specs.Pairs.{small_cause, kept_cause, IsCauseAt, AreCauses}
 use Rattle.counter_models.proofs.Counted.{find}

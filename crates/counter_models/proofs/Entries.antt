@@ -5,8 +5,8 @@ use Rattle.mixed_graph.specs.Bits.{has}
 use Rattle.mixed_graph.specs.Graphs.{MixedGraph}
 use Rattle.finite_models.proofs.SumLaws.{eqb-refl}
 use Rattle.hedge.specs.Hedges.{size_of, IsPlaced, IsHedge}
-use Rattle.hedge.specs.declared.kinds.Hedge.{Hedge}
-use Rattle.parity_models.specs.Links.{is_entry, IsNoEntry, AreApart, AreOrdered, AreBelow, AreInside, AreRooted, AreJoined}
+use Rattle.hedge.specs.declared.hedge.Hedge.{Hedge}
+use Rattle.parity_models.specs.Links.{is_entry, IsNoEntry, EndsDiffer, AreOrdered, AreBelow, AreInside, AreRooted, LinksAreEdges}
 use Rattle.counter_models.specs.Theory.{links_from}
 use Rattle.parity_models.proofs.CounterFits.{or_first, or_second}
 
@@ -51,11 +51,11 @@ module _ (g : MixedGraph) (x y : ℕ) (h : Hedge) (hedge : IsHedge g x y h) wher
   inside k (suc c) pos le ls = let s = entry_small k (omega arith) (omega arith) in
       (s, (hedge.links.partners k pos (omega arith)).in_small s, inside (suc k) c (omega arith) (omega arith) (omega arith))
 
-  pub apart : (k c : ℕ) → 0 < k → k + c ≤ h.links.count → AreApart (links_from h k c)
+  pub apart : (k c : ℕ) → 0 < k → k + c ≤ h.links.count → EndsDiffer (links_from h k c)
   apart k zero pos le = tt
   apart k (suc c) pos le = (apart_at k pos (omega arith), apart (suc k) c (omega arith) (omega arith))
 
-  pub joined : (k c : ℕ) → 0 < k → k + c ≤ h.links.count → AreJoined g (links_from h k c)
+  pub joined : (k c : ℕ) → 0 < k → k + c ≤ h.links.count → LinksAreEdges g (links_from h k c)
   joined k zero pos le = tt
   joined k (suc c) pos le = ((hedge.links.partners k pos (omega arith)).joined, joined (suc k) c (omega arith) (omega arith))
 

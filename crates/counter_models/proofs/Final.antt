@@ -5,11 +5,11 @@ use Rattle.mixed_graph.specs.Sets.{Apart}
 use Rattle.mixed_graph.specs.Graphs.{MixedGraph, IsMixedGraph}
 use Rattle.finite_models.specs.Models.{FiniteModel, Fits, IsAssignment, IsWorld, solution, intervene, world_weight, weight_of, total}
 use Rattle.finite_models.specs.Data.{meaning}
-use Rattle.finite_models.specs.declared.kinds.Model.{Model}
+use Rattle.finite_models.specs.declared.model.Model.{Model}
 use Rattle.finite_models.proofs.Following.{follows_of}
 use Rattle.finite_models.proofs.Indicators.{number}
 use Rattle.hedge.specs.Hedges.{IsHedge}
-use Rattle.hedge.specs.declared.kinds.Hedge.{Hedge}
+use Rattle.hedge.specs.declared.hedge.Hedge.{Hedge}
 use Rattle.parity_models.specs.Parities.{bit}
 use Rattle.parity_models.specs.Hedges.{ParityHedge, IsWholeHedge, links_of, noise_of}
 use Rattle.parity_models.specs.Pairs.{first_model, second_model, event_odd, event_even, size_of}
@@ -20,7 +20,7 @@ use Rattle.parity_models.proofs.Witness.{fit_one, fit_two, positive_one, positiv
 use Rattle.counter_models.specs.Events.{carried_sum, even_weight, IsProperModel, AreCounterModels}
 use Rattle.counter_models.specs.Pairs.{IsPairOf, in_first, in_second}
 use Rattle.counter_models.specs.Theory.{data_of, inner_entries}
-use Rattle.counter_models.specs.declared.kinds.CounterPair.{CounterPair}
+use Rattle.counter_models.specs.declared.counter_pair.CounterPair.{CounterPair}
 use Rattle.counter_models.proofs.Alike.{Alike, sum_alike, weight_alike, total_alike, solution_within_range, solution_alike, event_alike}
 use Rattle.counter_models.proofs.Bridge.{whole, links_is, some_small, some_entry}
 use Rattle.counter_models.proofs.Same.{two_values, same_hedges, first_alike, second_alike}

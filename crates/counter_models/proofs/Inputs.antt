@@ -4,8 +4,8 @@ use Rattle.std.proofs.lemmas.Bool.{cases_lt}
 use Rattle.mixed_graph.specs.Bits.{members_below}
 use Rattle.mixed_graph.proofs.Members.{one_if, length-members-suc, length-members-zero}
 use Rattle.finite_models.specs.Inputs.{HedgeMayRead, MayRead}
-use Rattle.finite_models.specs.declared.kinds.Model.{Model}
-use Rattle.finite_models.specs.declared.kinds.Part.{Part}
+use Rattle.finite_models.specs.declared.model.Model.{Model}
+use Rattle.finite_models.specs.declared.model.Part.{Part}
 use Rattle.mixed_graph.specs.Graphs.{MixedGraph}
 use Rattle.counter_models.specs.Pairs.{IsPartWhere}
 use Rattle.counter_models.proofs.Counted.{get-first, get-last}

@@ -3,11 +3,11 @@ use Rattle.std.proofs.Common.{ℕ, zero, suc, ◌+◌, ◌≡◌, ◌<◌, ◌�
 use Rattle.std.proofs.lemmas.Bool.{cases_lt}
 use Rattle.mixed_graph.specs.Bits.{has, members_below}
 use Rattle.mixed_graph.proofs.Members.{one_if, length-members-suc, length-members-zero}
-use Rattle.finite_models.specs.declared.kinds.Cause.{Cause}
+use Rattle.finite_models.specs.declared.model.Cause.{Cause}
 use Rattle.finite_models.specs.Data.{weights_of, children_of}
 use Rattle.mixed_graph.specs.Graphs.{MixedGraph}
 use Rattle.hedge.specs.Hedges.{IsHedge}
-use Rattle.hedge.specs.declared.kinds.Hedge.{Hedge}
+use Rattle.hedge.specs.declared.hedge.Hedge.{Hedge}
 use Rattle.counter_models.specs.Pairs.{HasLowLinks, IsCauseAt, before, joins}
 
 -- an old entry, and the new one

@@ -5,10 +5,10 @@ use Rattle.mixed_graph.specs.Bits.{has}
 use Rattle.mixed_graph.specs.Graphs.{MixedGraph}
 use Rattle.finite_models.specs.Data.{weights_of, has_hedge}
 use Rattle.finite_models.specs.Inputs.{IsBitCause, MayRead}
-use Rattle.finite_models.specs.declared.kinds.Model.{Model}
-use Rattle.finite_models.specs.declared.kinds.Part.{Part}
+use Rattle.finite_models.specs.declared.model.Model.{Model}
+use Rattle.finite_models.specs.declared.model.Part.{Part}
 use Rattle.hedge.specs.Hedges.{IsHedge}
-use Rattle.hedge.specs.declared.kinds.Hedge.{Hedge}
+use Rattle.hedge.specs.declared.hedge.Hedge.{Hedge}
 use Rattle.counter_models.specs.Pairs.{joins, link_causes, small_cause, AreCauses, IsHedgePart}
 use Rattle.counter_models.proofs.Counted.{get-first, get-last}
 use Rattle.counter_models.proofs.Inputs.{member_at}

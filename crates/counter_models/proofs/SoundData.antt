@@ -9,13 +9,13 @@ use Rattle.finite_models.specs.Data.{weights_of, carries, has_hedge, has_carried
 use Rattle.finite_models.specs.Inputs.{IsBitCause, MayRead, CarriedMayRead, HasInputs, HasValues, parity_size}
 use Rattle.finite_models.specs.Faults.{IsSoundModel}
 use Rattle.finite_models.specs.Models.{Fits}
-use Rattle.finite_models.specs.declared.kinds.Model.{Model}
-use Rattle.finite_models.specs.declared.kinds.Part.{Part}
-use Rattle.finite_models.specs.declared.kinds.Mechanism.{Mechanism}
-use Rattle.finite_models.specs.declared.kinds.Mechanism.TheVariants.{Table, Parity}
+use Rattle.finite_models.specs.declared.model.Model.{Model}
+use Rattle.finite_models.specs.declared.model.Part.{Part}
+use Rattle.finite_models.specs.declared.model.Mechanism.{Mechanism}
+use Rattle.finite_models.specs.declared.model.Mechanism.TheVariants.{Table, Parity}
 use Rattle.finite_models.proofs.DataFits.{data_fits}
 use Rattle.hedge.specs.Hedges.{IsHedge}
-use Rattle.hedge.specs.declared.kinds.Hedge.{Hedge}
+use Rattle.hedge.specs.declared.hedge.Hedge.{Hedge}
 use Rattle.parity_models.specs.Hedges.{links_of}
 use Rattle.counter_models.specs.Kept.{free, CarriesTo}
 use Rattle.counter_models.specs.Pairs.{kept_cause, IsModelOf, IsMechanismOf, IsPartWhere, IsHedgePart, IsCarriedPart}

@@ -4,7 +4,7 @@ use Rattle.std.proofs.lemmas.List.Sums.{sum_by-cons}
 use Rattle.mixed_graph.specs.Bits.{members_below}
 use Rattle.finite_models.specs.Sums.{sum_below}
 use Rattle.finite_models.proofs.Indicators.{number}
-use Rattle.hedge.specs.declared.kinds.Hedge.{Hedge}
+use Rattle.hedge.specs.declared.hedge.Hedge.{Hedge}
 use Rattle.parity_models.specs.Parities.{differ, odd_below, bit}
 use Rattle.parity_models.specs.Links.{at_vertex}
 use Rattle.parity_models.proofs.ParityLaws.{differ-assoc, differ-false}

@@ -7,13 +7,13 @@ use Rattle.finite_models.specs.Sums.{sum_below}
 use Rattle.finite_models.specs.Models.{Fits, IsAssignment, IsPositiveModel, sum_worlds, world_weight, solution, intervene, total}
 use Rattle.finite_models.specs.Data.{meaning, carried_bit}
 use Rattle.finite_models.specs.Faults.{IsSoundModel}
-use Rattle.finite_models.specs.declared.kinds.Model.{Model}
+use Rattle.finite_models.specs.declared.model.Model.{Model}
 use Rattle.finite_models.specs.Agreement.{AgreeObserved}
 use Rattle.parity_models.specs.Laws.{DifferAt, DifferAtEach}
 use Rattle.hedge.specs.Hedges.{IsHedge}
-use Rattle.hedge.specs.declared.kinds.Hedge.{Hedge}
+use Rattle.hedge.specs.declared.hedge.Hedge.{Hedge}
 use Rattle.counter_models.specs.Pairs.{IsPairOf}
-use Rattle.counter_models.specs.declared.kinds.CounterPair.{CounterPair}
+use Rattle.counter_models.specs.declared.counter_pair.CounterPair.{CounterPair}
 
 -- the sum of the carried bits of the event's members, where the vertices have the values s
 abbrev pub carried_sum : MixedGraph → Model → (event : ℕ) → (ℕ → ℕ) → ℕ
@@ -45,3 +45,7 @@ pub record AreCounterModels (g : MixedGraph) (x y : ℕ) (pair : CounterPair) : 
 -- the two models of a hedge show that the effect isn't identifiable
 abbrev pub PairsAreCounterModels : Type 0
 PairsAreCounterModels = (g : MixedGraph) → IsMixedGraph g → g.vertices ≤ 64 → (x y : ℕ) (h : Hedge) → IsHedge g x y h → Apart (has x) (has y) → (pair : CounterPair) → IsPairOf g x y h pair → AreCounterModels g x y pair
+
+-- each hedge has two such models, whether or not anybody builds them
+abbrev pub HedgesHavePairs : Type 0
+HedgesHavePairs = (g : MixedGraph) → IsMixedGraph g → g.vertices ≤ 64 → (x y : ℕ) (h : Hedge) → IsHedge g x y h → (pair : CounterPair) × IsPairOf g x y h pair

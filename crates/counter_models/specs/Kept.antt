@@ -25,6 +25,6 @@ pub record AreKept (g : MixedGraph) (x y roots kept : ℕ) (carry : List ℕ) : 
   pub others : (v : ℕ) → v < 64 → (has kept v ≡ false) ⊎ IsTrue (has y v) → slice_index carry v ≡ 64
 
 -- v is a member of `start`, or what a reached vertex chose
-pub data IsReached (next : List ℕ) (start : ℕ) : ℕ → Type 0 where
-  at : {v : ℕ} → IsTrue (has start v) → IsReached next start v
-  by : {u v : ℕ} → IsReached next start u → slice_index next u ≡ v → v < 64 → IsReached next start v
+pub data IsChosenFrom (next : List ℕ) (start : ℕ) : ℕ → Type 0 where
+  at : {v : ℕ} → IsTrue (has start v) → IsChosenFrom next start v
+  by : {u v : ℕ} → IsChosenFrom next start u → slice_index next u ≡ v → v < 64 → IsChosenFrom next start v

@@ -3,15 +3,15 @@ use Rattle.std.specs.Prelude.{◌≡◌, ℕ, suc, ◌+◌, ◌-◌, ◌<◌, Bo
 use Rattle.mixed_graph.specs.Bits.{has, members_below}
 use Rattle.mixed_graph.specs.Graphs.{MixedGraph}
 use Rattle.finite_models.specs.Data.{weights_of, children_of}
-use Rattle.finite_models.specs.declared.kinds.Cause.{Cause}
-use Rattle.finite_models.specs.declared.kinds.Model.{Model}
-use Rattle.finite_models.specs.declared.kinds.Part.{Part}
-use Rattle.finite_models.specs.declared.kinds.Mechanism.{Mechanism}
-use Rattle.finite_models.specs.declared.kinds.Mechanism.TheVariants.{Table, Parity}
+use Rattle.finite_models.specs.declared.model.Cause.{Cause}
+use Rattle.finite_models.specs.declared.model.Model.{Model}
+use Rattle.finite_models.specs.declared.model.Part.{Part}
+use Rattle.finite_models.specs.declared.model.Mechanism.{Mechanism}
+use Rattle.finite_models.specs.declared.model.Mechanism.TheVariants.{Table, Parity}
 use Rattle.hedge.specs.Hedges.{size_of}
-use Rattle.hedge.specs.declared.kinds.Hedge.{Hedge}
+use Rattle.hedge.specs.declared.hedge.Hedge.{Hedge}
 use Rattle.counter_models.specs.Kept.{AreKept}
-use Rattle.counter_models.specs.declared.kinds.CounterPair.{CounterPair}
+use Rattle.counter_models.specs.declared.counter_pair.CounterPair.{CounterPair}
 
 -- ---- causes: one of each link in found order, one of each member of small, one of each kept vertex
 -- how many links there are: one for each entry after the first

@@ -4,7 +4,7 @@ use Rattle.mixed_graph.specs.Bits.{has}
 use Rattle.mixed_graph.specs.Sets.{Apart}
 use Rattle.mixed_graph.specs.Graphs.{MixedGraph, IsMixedGraph}
 use Rattle.hedge.specs.Hedges.{size_of, IsHedge}
-use Rattle.hedge.specs.declared.kinds.Hedge.{Hedge}
+use Rattle.hedge.specs.declared.hedge.Hedge.{Hedge}
 use Rattle.parity_models.specs.Links.{Link}
 use Rattle.parity_models.specs.Hedges.{ParityHedge, IsWholeHedge}
 use Rattle.counter_models.specs.Kept.{AreKept}

@@ -4,7 +4,7 @@ ghost use Rattle.mixed_graph.specs.Sets.{Within};
 ghost use Rattle.mixed_graph.specs.Shown.{graph_of};
 ghost use Rattle.districts.specs.Linked.{IsSetOf};
 ghost use Rattle.hedge.specs.Hedges.{Reaches};
-ghost use Rattle.counter_models.specs.Kept.{AreKept, IsReached};
+ghost use Rattle.counter_models.specs.Kept.{AreKept, IsChosenFrom};
 
 use hedge::{Choice, child_choice};
 use mixed_graph::{Graph, VSet};
@@ -25,7 +25,7 @@ fn vertex_or_none(v: u8) -> VSet
 
 /// The vertices to which the choices lead from the members of `roots`, and these.
 fn followed(choice: &Choice, roots: VSet) -> VSet
-    ensures { IsSetOf result.bits (IsReached choice.now.next roots.bits) }
+    ensures { IsSetOf result.bits (IsChosenFrom choice.now.next roots.bits) }
 {
     let mut found = roots;
     let mut front = roots;

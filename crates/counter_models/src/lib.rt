@@ -5,12 +5,12 @@
 
 mod carrying;
 mod causes;
-mod kinds;
+mod counter_pair;
 mod mechanisms;
 mod pairs;
 mod parts;
 mod theory;
 
-pub use kinds::CounterPair;
+pub use counter_pair::CounterPair;
 pub use pairs::build;
 pub use theory::laws;

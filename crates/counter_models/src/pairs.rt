@@ -7,7 +7,7 @@ ghost use Rattle.counter_models.specs.Pairs.{IsPairOf};
 
 use crate::carrying::carry_toward;
 use crate::causes::causes;
-use crate::kinds::CounterPair;
+use crate::counter_pair::CounterPair;
 use crate::mechanisms::{first_mechanisms, second_mechanisms, sizes};
 use finite_models::Model;
 use hedge::Hedge;

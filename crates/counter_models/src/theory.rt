@@ -1,5 +1,5 @@
 ghost use Rattle.counter_models.specs.Theory.{HedgeIsWhole};
-ghost use Rattle.counter_models.specs.Events.{PairsAreCounterModels};
+ghost use Rattle.counter_models.specs.Events.{PairsAreCounterModels, HedgesHavePairs};
 
 /// What the two models of a hedge show (Shpitser and Pearl).
 pub fn laws()
@@ -8,4 +8,7 @@ pub fn laws()
 
     // Its two models agree on all observations and differ on the effect.
     ensures counter { PairsAreCounterModels }
+
+    // There are such two models of each hedge, though nobody builds them.
+    ensures pairs { HedgesHavePairs }
 {}

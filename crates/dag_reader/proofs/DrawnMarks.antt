@@ -5,20 +5,20 @@ use Rattle.std.specs.Str.{bytes_eq}
 use Rattle.dag_reader.specs.declared.marks.Arrow.{Arrow}
 use Rattle.dag_reader.specs.declared.marks.Arrow.TheVariants.{Right, Both}
 use Rattle.dag_reader.specs.declared.marks.Role.{Role}
-use Rattle.dag_reader.specs.declared.marks.Mark.{Mark}
-use Rattle.dag_reader.specs.declared.marks.Mark.TheVariants.{Begins, Joined, Member, HasRole}
+use Rattle.dag_reader.specs.declared.marks.Remark.{Remark}
+use Rattle.dag_reader.specs.declared.marks.Remark.TheVariants.{Begins, Joined, Member, HasRole}
 use Rattle.dag_reader.specs.Grammar.{Said}
 use Rattle.dag_reader.specs.Written.{Drawn}
 
-abbrev pub role_marks : Option Role → List Mark
+abbrev pub role_marks : Option Role → List Remark
 role_marks None = []
 role_marks (Some r) = HasRole r ∷ []
 
-abbrev pub vertex_marks : ℕ → List (Option Role) → List Mark
+abbrev pub vertex_marks : ℕ → List (Option Role) → List Remark
 vertex_marks i [] = []
 vertex_marks i (r ∷ rs) = Begins ∷ Member i ∷ (role_marks r ++ vertex_marks (i + 1) rs)
 
-abbrev pub edge_marks : Arrow → List (ℕ × ℕ) → List Mark
+abbrev pub edge_marks : Arrow → List (ℕ × ℕ) → List Remark
 edge_marks a [] = []
 edge_marks a (e ∷ es) = Begins ∷ Member e.0 ∷ Joined a ∷ Member e.1 ∷ edge_marks a es
 

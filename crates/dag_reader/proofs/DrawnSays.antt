@@ -14,8 +14,8 @@ use Rattle.dag_reader.specs.declared.marks.Arrow.{Arrow}
 use Rattle.dag_reader.specs.declared.marks.Arrow.TheVariants.{Right, Both}
 use Rattle.dag_reader.specs.declared.marks.Role.{Role}
 use Rattle.dag_reader.specs.declared.marks.Role.TheVariants.{Exposure, Outcome, Adjusted, Latent}
-use Rattle.dag_reader.specs.declared.marks.Mark.{Mark}
-use Rattle.dag_reader.specs.declared.marks.Mark.TheVariants.{Begins, Joined, Member}
+use Rattle.dag_reader.specs.declared.marks.Remark.{Remark}
+use Rattle.dag_reader.specs.declared.marks.Remark.TheVariants.{Begins, Joined, Member}
 use Rattle.mixed_graph.specs.Names.{index_of}
 use Rattle.dag_reader.specs.Grammar.{Fault, Said, with_marks, with_vertex}
 use Rattle.dag_reader.specs.Syntax.{single, links_say, ◌>>=◌, allowed, vertex_says, attrs_say, statements_say, Statement, text_says}
@@ -25,7 +25,7 @@ use Rattle.dag_reader.proofs.DrawnMarks.{all_new, role_marks, vertex_marks, edge
 use Rattle.mixed_graph.proofs.NameLists.{position_or_len-none}
 use Rattle.dag_reader.proofs.Cut.{word_of, role_attrs, vertices, joined, drawn_text}
 
-says : List (List ℕ) → List Mark → Said
+says : List (List ℕ) → List Remark → Said
 says names marks = record { names = names; marks = marks }
 
 not_true : (a : Bool) → not a ≡ true → a ≡ false
@@ -37,7 +37,7 @@ both_true true b h = (refl, h)
 both_true false b h = cc h
 
 -- a name that is new, where there is room
-new_vertex : (n : List ℕ) (names : List (List ℕ)) (marks : List Mark) → list_any (bytes_eq n) names ≡ false → length names < 64
+new_vertex : (n : List ℕ) (names : List (List ℕ)) (marks : List Remark) → list_any (bytes_eq n) names ≡ false → length names < 64
     → with_vertex n (says names marks) ≡ Ok (says (names ++ n ∷ []) (marks ++ Member (length names) ∷ []))
 unfolding says
 new_vertex n names marks new room =
@@ -45,12 +45,12 @@ new_vertex n names marks new room =
     rw (new, full, position_or_len-none (bytes_eq n) names new) refl
 
 -- a name that is there
-old_vertex : (n : List ℕ) (names : List (List ℕ)) (marks : List Mark) → list_any (bytes_eq n) names ≡ true
+old_vertex : (n : List ℕ) (names : List (List ℕ)) (marks : List Remark) → list_any (bytes_eq n) names ≡ true
     → with_vertex n (says names marks) ≡ Ok (says names (marks ++ Member (index_of names n) ∷ []))
 unfolding says
 old_vertex n names marks there = rw there refl
 
-role_says : (r : Option Role) (n : List ℕ) (names : List (List ℕ)) (marks : List Mark)
+role_says : (r : Option Role) (n : List ℕ) (names : List (List ℕ)) (marks : List Remark)
     → attrs_say (Some n) (role_attrs r) (says names marks) ≡ Some (says names (marks ++ role_marks r))
 unfolding says
 role_says None n names marks = rw append-nil refl
@@ -59,10 +59,10 @@ role_says (Some Outcome) n names marks = refl
 role_says (Some Adjusted) n names marks = refl
 role_says (Some Latent) n names marks = refl
 
-marks_more : (marks : List Mark) (i : ℕ) (rs more : List Mark) → (((marks ++ Begins ∷ []) ++ Member i ∷ []) ++ rs) ++ more ≡ marks ++ (Begins ∷ Member i ∷ (rs ++ more))
+marks_more : (marks : List Remark) (i : ℕ) (rs more : List Remark) → (((marks ++ Begins ∷ []) ++ Member i ∷ []) ++ rs) ++ more ≡ marks ++ (Begins ∷ Member i ∷ (rs ++ more))
 marks_more marks i rs more = simp append_assoc
 
-vertex_line_says : (n : List ℕ) (r : Option Role) (names : List (List ℕ)) (marks : List Mark) → list_any (bytes_eq n) names ≡ false → length names < 64
+vertex_line_says : (n : List ℕ) (r : Option Role) (names : List (List ℕ)) (marks : List Remark) → list_any (bytes_eq n) names ≡ false → length names < 64
     → (vertex_says (word_of n) (with_marks (Begins ∷ []) (says names marks)) >>= attrs_say (Some n) (role_attrs r))
     ≡ Some (says (names ++ n ∷ []) (((marks ++ Begins ∷ []) ++ Member (length names) ∷ []) ++ role_marks r))
 unfolding says
@@ -70,7 +70,7 @@ vertex_line_says n r names marks new room =
     ap (λ (v : Result Said _). allowed v >>= attrs_say (Some n) (role_attrs r)) (new_vertex n names (marks ++ Begins ∷ []) new room)
     ∙ role_says r n (names ++ n ∷ []) ((marks ++ Begins ∷ []) ++ Member (length names) ∷ [])
 
-vertices_say : (ns : List (List ℕ)) (rs : List (Option Role)) (xs : List Statement) (front : List (List ℕ)) (marks : List Mark)
+vertices_say : (ns : List (List ℕ)) (rs : List (Option Role)) (xs : List Statement) (front : List (List ℕ)) (marks : List Remark)
     → length rs ≡ length ns → all_new front ns ≡ true → length front + length ns ≤ 64
     → statements_say (vertices ns rs xs) (says front marks) ≡ statements_say xs (says (front ++ ns) (marks ++ vertex_marks (length front) rs))
 vertices_say [] [] xs front marks same new room = rw (append-nil, append-nil) refl
@@ -128,16 +128,16 @@ name_index names i new h = index_at names [] i new h ∙ omega arith
 name_there : (names : List (List ℕ)) (i : ℕ) → all_new [] names ≡ true → i < length names → list_any (bytes_eq (name_of names i)) names ≡ true
 name_there names i new h = there (bytes_eq (name_of names i)) names (omega (arith, name_index names i new h))
 
-vertex_at : (names : List (List ℕ)) (i : ℕ) (marks : List Mark) → all_new [] names ≡ true → i < length names
+vertex_at : (names : List (List ℕ)) (i : ℕ) (marks : List Remark) → all_new [] names ≡ true → i < length names
     → with_vertex (name_of names i) (says names marks) ≡ Ok (says names (marks ++ Member i ∷ []))
 vertex_at names i marks new h =
     old_vertex (name_of names i) names marks (name_there names i new h) ∙ ap (λ (k : ℕ). Ok (says names (marks ++ Member k ∷ []))) (name_index names i new h)
 
-chain_more : (marks : List Mark) (i j : ℕ) (a : Arrow) (more : List Mark)
+chain_more : (marks : List Remark) (i j : ℕ) (a : Arrow) (more : List Remark)
     → ((((marks ++ Begins ∷ []) ++ Member i ∷ []) ++ Joined a ∷ []) ++ Member j ∷ []) ++ more ≡ marks ++ (Begins ∷ Member i ∷ Joined a ∷ Member j ∷ more)
 chain_more marks i j a more = simp append_assoc
 
-edges_say : (a : Arrow) (names : List (List ℕ)) (es : List (ℕ × ℕ)) (xs : List Statement) (marks : List Mark) → all_new [] names ≡ true → All (λ p. (p.0 < length names) × (p.1 < length names)) es
+edges_say : (a : Arrow) (names : List (List ℕ)) (es : List (ℕ × ℕ)) (xs : List Statement) (marks : List Remark) → all_new [] names ≡ true → All (λ p. (p.0 < length names) × (p.1 < length names)) es
     → statements_say (joined a names es xs) (says names marks) ≡ statements_say xs (says names (marks ++ edge_marks a es))
 unfolding says
 edges_say a names [] xs marks new within = rw append-nil refl

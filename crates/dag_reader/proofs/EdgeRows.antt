@@ -10,8 +10,8 @@ use Rattle.mixed_graph.specs.Bits.{has}
 use Rattle.mixed_graph.specs.Pairs.{joins}
 use Rattle.dag_reader.specs.declared.marks.Arrow.{Arrow}
 use Rattle.dag_reader.specs.declared.marks.Arrow.TheVariants.{Right, Left, Both}
-use Rattle.dag_reader.specs.declared.marks.Mark.{Mark}
-use Rattle.dag_reader.specs.declared.marks.Mark.TheVariants.{Begins, Joined, Member, HasRole}
+use Rattle.dag_reader.specs.declared.marks.Remark.{Remark}
+use Rattle.dag_reader.specs.declared.marks.Remark.TheVariants.{Begins, Joined, Member, HasRole}
 use Rattle.dag_reader.specs.MarkEnds.{is_inside}
 use Rattle.dag_reader.specs.Rows.{row_has}
 use Rattle.dag_reader.specs.Passes.{Edge, pairs, members, edges_behind, arrow_of, both_of, arrows_of, doubles_of}
@@ -101,7 +101,7 @@ turned_pairs ls rs x y =
 -- ---- the rows so far
 
 -- the rows hold the edges before the rest, and the mask the last group so far
-pub record SoFar (marks rest : List Mark) (left : ℕ) (arrows doubles : List ℕ) : Type 0 where
+pub record SoFar (marks rest : List Remark) (left : ℕ) (arrows doubles : List ℕ) : Type 0 where
   pub group : List ℕ
   pub same : (v : ℕ) → has left v ≡ list_any (λ u. v == u) group
   pub arrow_rows : (a b : ℕ) → (row_has arrows a b || joins (filter_map arrow_of (edges_behind group rest)) a b) ≡ joins (arrows_of marks) a b
@@ -112,7 +112,7 @@ false_or : (a b : Bool) → a ≡ false → (a || b) ≡ b
 false_or true b h = cc h
 false_or false b h = refl
 
-pub begin : (marks : List Mark) (left : ℕ) (arrows doubles : List ℕ) → ((v : ℕ) → has left v ≡ false) → ((a b : ℕ) → row_has arrows a b ≡ false) → ((a b : ℕ) → row_has doubles a b ≡ false)
+pub begin : (marks : List Remark) (left : ℕ) (arrows doubles : List ℕ) → ((v : ℕ) → has left v ≡ false) → ((a b : ℕ) → row_has arrows a b ≡ false) → ((a b : ℕ) → row_has doubles a b ≡ false)
     → list_all (is_inside 64) marks ≡ true → SoFar marks marks left arrows doubles
 begin marks left arrows doubles none no_arrows no_doubles inside = record {
   group = [];
@@ -122,11 +122,11 @@ begin marks left arrows doubles none no_arrows no_doubles inside = record {
   inside = inside;
 }
 
-pub at_begins : (marks ms : List Mark) (left new : ℕ) (arrows doubles : List ℕ) → SoFar marks (Begins ∷ ms) left arrows doubles → ((v : ℕ) → has new v ≡ false) → SoFar marks ms new arrows doubles
+pub at_begins : (marks ms : List Remark) (left new : ℕ) (arrows doubles : List ℕ) → SoFar marks (Begins ∷ ms) left arrows doubles → ((v : ℕ) → has new v ≡ false) → SoFar marks ms new arrows doubles
 at_begins marks ms left new arrows doubles s none =
     record { group = []; same = none; arrow_rows = s.arrow_rows; double_rows = s.double_rows; inside = s.inside }
 
-pub at_role : (marks ms : List Mark) (left : ℕ) (arrows doubles : List ℕ) (r : _) → SoFar marks (HasRole r ∷ ms) left arrows doubles → SoFar marks ms left arrows doubles
+pub at_role : (marks ms : List Remark) (left : ℕ) (arrows doubles : List ℕ) (r : _) → SoFar marks (HasRole r ∷ ms) left arrows doubles → SoFar marks ms left arrows doubles
 at_role marks ms left arrows doubles r s =
     record { group = s.group; same = s.same; arrow_rows = s.arrow_rows; double_rows = s.double_rows; inside = s.inside }
 
@@ -135,7 +135,7 @@ or_none true b = refl
 or_none false true = refl
 or_none false false = refl
 
-pub at_member : (marks ms : List Mark) (left new : ℕ) (arrows doubles : List ℕ) (w : ℕ) → SoFar marks (Member w ∷ ms) left arrows doubles
+pub at_member : (marks ms : List Remark) (left new : ℕ) (arrows doubles : List ℕ) (w : ℕ) → SoFar marks (Member w ∷ ms) left arrows doubles
     → ((v : ℕ) → has new v ≡ (has left v || (v == w))) → SoFar marks ms new arrows doubles
 at_member marks ms left new arrows doubles w s is = record {
   group = s.group ++ w ∷ [];
@@ -151,7 +151,7 @@ shift o p q c n is h = ap (λ b. b || q) is ∙ or_assoc o p q ∙ h
 both_same : (p q r s : Bool) → p ≡ r → q ≡ s → (p && q) ≡ (r && s)
 both_same p q r s h k = rw (h, k) refl
 
-pub at_right : (marks ms : List Mark) (left right new : ℕ) (arrows more doubles : List ℕ) → SoFar marks (Joined Right ∷ ms) left arrows doubles
+pub at_right : (marks ms : List Remark) (left right new : ℕ) (arrows more doubles : List ℕ) → SoFar marks (Joined Right ∷ ms) left arrows doubles
     → ((v : ℕ) → has right v ≡ list_any (λ u. v == u) (members ms)) → ((v : ℕ) → has new v ≡ false)
     → ((a b : ℕ) → row_has more a b ≡ (row_has arrows a b || (has left a && has right b))) → SoFar marks ms new more doubles
 at_right marks ms left right new arrows more doubles s group none joined = record {
@@ -169,7 +169,7 @@ at_right marks ms left right new arrows more doubles s group none joined = recor
   inside = s.inside;
 }
 
-pub at_left : (marks ms : List Mark) (left right new : ℕ) (arrows more doubles : List ℕ) → SoFar marks (Joined Left ∷ ms) left arrows doubles
+pub at_left : (marks ms : List Remark) (left right new : ℕ) (arrows more doubles : List ℕ) → SoFar marks (Joined Left ∷ ms) left arrows doubles
     → ((v : ℕ) → has right v ≡ list_any (λ u. v == u) (members ms)) → ((v : ℕ) → has new v ≡ false)
     → ((a b : ℕ) → row_has more a b ≡ (row_has arrows a b || (has right a && has left b))) → SoFar marks ms new more doubles
 at_left marks ms left right new arrows more doubles s group none joined = record {
@@ -187,7 +187,7 @@ at_left marks ms left right new arrows more doubles s group none joined = record
   inside = s.inside;
 }
 
-pub at_both : (marks ms : List Mark) (left right new : ℕ) (arrows doubles more : List ℕ) → SoFar marks (Joined Both ∷ ms) left arrows doubles
+pub at_both : (marks ms : List Remark) (left right new : ℕ) (arrows doubles more : List ℕ) → SoFar marks (Joined Both ∷ ms) left arrows doubles
     → ((v : ℕ) → has right v ≡ list_any (λ u. v == u) (members ms)) → ((v : ℕ) → has new v ≡ false)
     → ((a b : ℕ) → row_has more a b ≡ (row_has doubles a b || (has left a && has right b))) → SoFar marks ms new arrows more
 at_both marks ms left right new arrows doubles more s group none joined = record {
@@ -210,16 +210,16 @@ or_false true = refl
 or_false false = refl
 
 -- at the end the rows hold all edges
-pub at_end : (marks rest : List Mark) (left : ℕ) (arrows doubles : List ℕ) → SoFar marks rest left arrows doubles → rest ≡ []
+pub at_end : (marks rest : List Remark) (left : ℕ) (arrows doubles : List ℕ) → SoFar marks rest left arrows doubles → rest ≡ []
     → ((a b : ℕ) → row_has arrows a b ≡ joins (arrows_of marks) a b) × ((a b : ℕ) → row_has doubles a b ≡ joins (doubles_of marks) a b)
 at_end marks rest left arrows doubles s is =
-    let e : SoFar marks [] left arrows doubles = subst (λ (l : List Mark). SoFar marks l left arrows doubles) is s in
+    let e : SoFar marks [] left arrows doubles = subst (λ (l : List Remark). SoFar marks l left arrows doubles) is s in
     (λ a b. sym (or_false (row_has arrows a b)) ∙ e.arrow_rows a b, λ a b. sym (or_false (row_has doubles a b)) ∙ e.double_rows a b)
 
 -- the rest, as its first mark and the others
-pub opened : (marks rest : List Mark) (left : ℕ) (arrows doubles : List ℕ) (m : Mark) → SoFar marks rest left arrows doubles → 1 ≤ length rest → get_or rest 0 Begins ≡ m
+pub opened : (marks rest : List Remark) (left : ℕ) (arrows doubles : List ℕ) (m : Remark) → SoFar marks rest left arrows doubles → 1 ≤ length rest → get_or rest 0 Begins ≡ m
     → SoFar marks (m ∷ take (length rest - 1) (drop 1 rest)) left arrows doubles
 opened marks [] left arrows doubles m s h is = absurd (omega arith)
 opened marks (x ∷ xs) left arrows doubles m s h is =
     let e : x ∷ xs ≡ m ∷ take (length (x ∷ xs) - 1) (drop 1 (x ∷ xs)) = ap (λ y. y ∷ xs) is ∙ ap (λ l. m ∷ l) (sym (take_rest (x ∷ xs) 1)) in
-    subst (λ (l : List Mark). SoFar marks l left arrows doubles) e s
+    subst (λ (l : List Remark). SoFar marks l left arrows doubles) e s

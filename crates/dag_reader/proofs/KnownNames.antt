@@ -8,7 +8,7 @@ use Rattle.std.proofs.lemmas.List.Sums.{position_or_len_is}
 use Rattle.std.proofs.lemmas.Option.{get_or_from_slice_get}
 use Rattle.std.proofs.lemmas.Slice.Eq.{bytes_eq-Decides}
 use Rattle.mixed_graph.specs.Names.{AreNames, is_named, index_of}
-use Rattle.dag_reader.specs.declared.marks.Mark.TheVariants.{Member}
+use Rattle.dag_reader.specs.declared.marks.Remark.TheVariants.{Member}
 use Rattle.dag_reader.specs.Grammar.{Said, with_marks, with_vertex}
 
 -- the name at a place, and the place of that name

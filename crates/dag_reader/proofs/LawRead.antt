@@ -4,9 +4,9 @@ use Rattle.std.specs.Prelude.{if◌then◌else◌, codes}
 use Rattle.std.specs.Str.{bytes_eq}
 use Rattle.dag_reader.specs.declared.marks.Arrow.{Arrow}
 use Rattle.dag_reader.specs.declared.marks.Role.{Role}
-use Rattle.dag_reader.specs.declared.marks.Mark.TheVariants.{Begins, Joined}
+use Rattle.dag_reader.specs.declared.marks.Remark.TheVariants.{Begins, Joined}
 use Rattle.dag_reader.specs.Tokens.{Tok, open_brace, close_brace, open_bracket, close_bracket, semicolon, equals, comma, edge, name, value, end, bad, bad_edge}
-use Rattle.dag_reader.specs.Grammar.{Fault, selected, Said, nothing, with_marks, with_vertex, with_flag, with_role, role_of, Place, step, taken}
+use Rattle.dag_reader.specs.Grammar.{Fault, selected, Said, nothing, with_marks, with_vertex, with_flag, with_role, role_of, Position, step, taken}
 use Rattle.dag_reader.specs.Grammar.{at_start, at_dag, at_title, at_statement, after_name, at_key_value, in_group, group_name, after_first, after_edge, chain_name, after_group, at_attrs, attr_name, at_attr_value, after_attr, after_comma, at_end}
 use Rattle.dag_reader.specs.Syntax.{Word, Inner, inner_semicolon, inner_name, Group, single, braces, Attr, bare, valued, Later, next_attr, comma_attr, Attrs, no_attr, attr_list, Statement, lone_semicolon, dropped, vertex, chain, Text}
 use Rattle.dag_reader.specs.Syntax.{inner_tokens, group_tokens, attr_tokens, later_tokens, attrs_tokens, links_tokens, statement_tokens, body_tokens, title_tokens, text_tokens}
@@ -15,7 +15,7 @@ use Rattle.dag_reader.proofs.LawRun.{ok, then_ok, one_ok, none_ok, bind_ext, bin
 
 -- ---- the name before a token
 
-no_more : (f : ℕ → ℕ) (p q : Place) (s : Said) (r : Option Said) → ok f p s [] ≡ (r >>= (λ u. ok f q u []))
+no_more : (f : ℕ → ℕ) (p q : Position) (s : Said) (r : Option Said) → ok f p s [] ≡ (r >>= (λ u. ok f q u []))
 no_more f p q s r = none_ok f p s ∙ sym (bind_ext r (λ u. ok f q u []) (λ u. None) (λ u. none_ok f q u) ∙ bind_none r)
 
 chain_turn : (f : ℕ → ℕ) (n : List ℕ) (s : Said) (at : ℕ) (t : Tok) (ts : List Tok)
@@ -143,7 +143,7 @@ name_then_bracket f n s ts =
 
 -- ---- groups
 
-abbrev behind_braces : Bool → Place
+abbrev behind_braces : Bool → Position
 behind_braces b = if b then after_first else after_group
 
 inner_read : (f : ℕ → ℕ) (b : Bool) (is : List Inner) (s : Said) (more : List Tok)
@@ -191,10 +191,10 @@ first_links_read f l ls s more =
 
 -- ---- attributes
 
-abbrev Enters : (ℕ → ℕ) → Option (List ℕ) → Place → Type 0
+abbrev Enters : (ℕ → ℕ) → Option (List ℕ) → Position → Type 0
 Enters f of p = (q : Bool) (n : List ℕ) (s : Said) (ts : List Tok) → ok f p s (name q n ∷ ts) ≡ ok f (attr_name of (f (length ts)) n) s ts
 
-attr_read : (f : ℕ → ℕ) (of : Option (List ℕ)) (p : Place) → Enters f of p → (a : Attr) (s : Said) (ts : List Tok) → Unassigned ts
+attr_read : (f : ℕ → ℕ) (of : Option (List ℕ)) (p : Position) → Enters f of p → (a : Attr) (s : Said) (ts : List Tok) → Unassigned ts
     → ok f p s (attr_tokens a ts) ≡ (attr_says of a s >>= (λ u. ok f (after_attr of) u ts))
 unfolding step
 attr_read f of p enters (bare w) s ts h = enters w.quoted w.text s ts ∙ pending_attr f of (f (length ts)) w.text s ts h

@@ -6,7 +6,7 @@ use Rattle.std.proofs.lemmas.Option.{cond_some}
 use Rattle.std.proofs.lemmas.Slice.Eq.{bytes_eq-Decides}
 use Rattle.dag_reader.specs.declared.marks.Arrow.{Arrow}
 use Rattle.dag_reader.specs.Tokens.{Tok, open_brace, close_brace, open_bracket, close_bracket, semicolon, equals, comma, edge, name, value, end, bad, bad_edge}
-use Rattle.dag_reader.specs.Grammar.{Fault, Said, Place, step, settled, taken, ended, fitted, next, next_statement, noted, is_end}
+use Rattle.dag_reader.specs.Grammar.{Fault, Said, Position, step, settled, taken, ended, fitted, next, next_statement, noted, is_end}
 use Rattle.dag_reader.specs.Grammar.{at_start, at_dag, at_title, at_statement, after_name, at_key_value, in_group, group_name, after_first, after_edge, chain_name, after_group, at_attrs, attr_name, at_attr_value, after_attr, after_comma, at_end}
 use Rattle.dag_reader.specs.Syntax.{Word, Inner, inner_semicolon, inner_name, Group, single, braces, Attr, bare, valued, Later, next_attr, comma_attr, Attrs, no_attr, attr_list, Statement, lone_semicolon, dropped, vertex, chain, Text}
 use Rattle.dag_reader.specs.Syntax.{inner_tokens, group_tokens, attr_tokens, later_tokens, inside_tokens, attrs_tokens, links_tokens, body_tokens, title_tokens, text_tokens}
@@ -14,32 +14,32 @@ use Rattle.dag_reader.proofs.LawRun.{ok, then_ok, one_ok, none_ok}
 
 -- ---- what is accepted, as a path through the places
 
-abbrev Path : Place → List Tok → Type 0
+abbrev Path : Position → List Tok → Type 0
 Path p [] = ⊥
 Path p (end ∷ ts) = p ≡ at_end
-Path p (t ∷ ts) = (at : ℕ) × (q : Place) × (next p at t ≡ Some q) × Path q ts
+Path p (t ∷ ts) = (at : ℕ) × (q : Position) × (next p at t ≡ Some q) × Path q ts
 
-over : (f : ℕ → ℕ) (ts : List Tok) (p : Place) (at : ℕ) (u v : Said) → then_ok f ts (ended p at u) ≡ Some v → p ≡ at_end
+over : (f : ℕ → ℕ) (ts : List Tok) (p : Position) (at : ℕ) (u v : Said) → then_ok f ts (ended p at u) ≡ Some v → p ≡ at_end
 over f ts at_end at u v h = refl
 over f ts p at u v h = cc h
 
-over_taken : (f : ℕ → ℕ) (ts : List Tok) (p : Place) (at : ℕ) (r : Result Said Fault) (v : Said) → then_ok f ts (taken p at end r) ≡ Some v → p ≡ at_end
+over_taken : (f : ℕ → ℕ) (ts : List Tok) (p : Position) (at : ℕ) (r : Result Said Fault) (v : Said) → then_ok f ts (taken p at end r) ≡ Some v → p ≡ at_end
 over_taken f ts p at (Err e) v h = cc h
 over_taken f ts p at (Ok u) v h = over f ts p at u v h
 
-abbrev Goes : (ℕ → ℕ) → List Tok → Option Place → Said → Type 0
-Goes f ts o v = (q : Place) × (u : Said) × (o ≡ Some q) × (ok f q u ts ≡ Some v)
+abbrev Goes : (ℕ → ℕ) → List Tok → Option Position → Said → Type 0
+Goes f ts o v = (q : Position) × (u : Said) × (o ≡ Some q) × (ok f q u ts ≡ Some v)
 
-on_fitted : (f : ℕ → ℕ) (ts : List Tok) (p : Place) (at : ℕ) (t : Tok) (o : Option Place) (u v : Said) → then_ok f ts (fitted p at t o u) ≡ Some v → Goes f ts o v
+on_fitted : (f : ℕ → ℕ) (ts : List Tok) (p : Position) (at : ℕ) (t : Tok) (o : Option Position) (u v : Said) → then_ok f ts (fitted p at t o u) ≡ Some v → Goes f ts o v
 on_fitted f ts p at t None u v h = cc h
 on_fitted f ts p at t (Some q) u v h = (q, noted p t u, refl, h)
 
-on_taken : (f : ℕ → ℕ) (ts : List Tok) (p : Place) (at : ℕ) (t : Tok) (r : Result Said Fault) (v : Said) → is_end t ≡ false
+on_taken : (f : ℕ → ℕ) (ts : List Tok) (p : Position) (at : ℕ) (t : Tok) (r : Result Said Fault) (v : Said) → is_end t ≡ false
     → then_ok f ts (taken p at t r) ≡ Some v → Goes f ts (next p at t) v
 on_taken f ts p at t (Err e) v goes h = cc h
 on_taken f ts p at t (Ok u) v goes h = on_fitted f ts p at t (next p at t) u v (rw goes at h)
 
-on_step : (f : ℕ → ℕ) (ts : List Tok) (p : Place) (s : Said) (at : ℕ) (t : Tok) (v : Said) → is_end t ≡ false
+on_step : (f : ℕ → ℕ) (ts : List Tok) (p : Position) (s : Said) (at : ℕ) (t : Tok) (v : Said) → is_end t ≡ false
     → then_ok f ts (step p s at t) ≡ Some v → Goes f ts (next p at t) v
 unfolding step
 on_step f ts p s at bad v goes h = cc h
@@ -47,7 +47,7 @@ on_step f ts p s at bad_edge v goes h = cc h
 on_step f ts p s at end v goes h = cc goes
 on_step f ts p s at t v goes h = on_taken f ts p at t (settled p t s) v goes h
 
-path_of : (f : ℕ → ℕ) (ts : List Tok) (p : Place) (s v : Said) → ok f p s ts ≡ Some v → Path p ts
+path_of : (f : ℕ → ℕ) (ts : List Tok) (p : Position) (s v : Said) → ok f p s ts ≡ Some v → Path p ts
 unfolding step
 path_of f [] p s v h = cc (sym (none_ok f p s) ∙ h)
 path_of f (end ∷ ts) p s v h = over_taken f ts p (f (length ts)) (settled p end s) v (sym (one_ok f p s end ts) ∙ h)
@@ -90,7 +90,7 @@ pub data NameTail : List Tok → Type 0 where
   is_vertex : {ts : List Tok} (attrs : Option Attrs) (rest : List Tok) → ts ≡ attrs_tokens attrs rest → Body rest → NameTail ts
   is_chain : {ts : List Tok} → FirstTail ts → NameTail ts
 
-abbrev pub Behind : Place → List Tok → Type 0
+abbrev pub Behind : Position → List Tok → Type 0
 Behind at_start ts = (t : Text) × (more : List Tok) × (ts ≡ text_tokens t more)
 Behind at_dag ts = (title : Option Word) × (xs : List Statement) × (more : List Tok) × (ts ≡ title_tokens title (body_tokens xs more))
 Behind at_title ts = (xs : List Statement) × (more : List Tok) × (ts ≡ open_brace ∷ body_tokens xs more)
@@ -112,8 +112,8 @@ Behind at_end ts = (more : List Tok) × (ts ≡ end ∷ more)
 
 -- ---- one token before what stands behind the next place
 
-got : (q r : Place) (ts : List Tok) → ◌≡◌ {A = Option Place} (Some q) (Some r) → Behind r ts → Behind q ts
-got q r ts is b = let e : q ≡ r = cc is in subst (λ (p : Place). Behind p ts) (sym e) b
+got : (q r : Position) (ts : List Tok) → ◌≡◌ {A = Option Position} (Some q) (Some r) → Behind r ts → Behind q ts
+got q r ts is b = let e : q ≡ r = cc is in subst (λ (p : Position). Behind p ts) (sym e) b
 
 word : Bool → List ℕ → Word
 word q n = record { quoted = q; text = n }
@@ -136,7 +136,7 @@ braced ts i =
     )
 
 -- a token that begins a statement or ends the text
-started : (t : Tok) (ts : List Tok) (q : Place) → next_statement t ≡ Some q → Behind q ts → Body (t ∷ ts)
+started : (t : Tok) (ts : List Tok) (q : Position) → next_statement t ≡ Some q → Behind q ts → Body (t ∷ ts)
 started semicolon ts q is h = let b = got at_statement q ts is h in (lone_semicolon ∷ b.0, b.1, ap (λ l. semicolon ∷ l) b.2)
 started (name k n) ts q is h = named k n ts (got (after_name n) q ts is h)
 started open_brace ts q is h = braced ts (got (in_group true) q ts is h)
@@ -176,7 +176,7 @@ first_attr ts o = (attr_list o.0 o.3.0, o.3.1, o.2 ∙ ap (attr_tokens o.0) o.3.
 
 -- ---- each place and each token
 
-in_chain : (p : Place) (t : Tok) (ts : List Tok) (q : Place) → next after_group 0 t ≡ Some q → Behind q ts → ChainTail (t ∷ ts)
+in_chain : (p : Position) (t : Tok) (ts : List Tok) (q : Position) → next after_group 0 t ≡ Some q → Behind q ts → ChainTail (t ∷ ts)
 in_chain p (edge a) ts q is h = chained (edge a ∷ ts) (linked a ts (got after_edge q ts is h))
 in_chain p open_bracket ts q is h = attributed ts (got (at_attrs None) q ts is h)
 in_chain p semicolon ts q is h = unchained (semicolon ∷ ts) (started semicolon ts q is h)
@@ -185,7 +185,7 @@ in_chain p open_brace ts q is h = unchained (open_brace ∷ ts) (started open_br
 in_chain p close_brace ts q is h = unchained (close_brace ∷ ts) (started close_brace ts q is h)
 in_chain p t ts q is h = cc is
 
-after_a_name : (n : List ℕ) (t : Tok) (ts : List Tok) (q : Place) → next (after_name n) 0 t ≡ Some q → Behind q ts → NameTail (t ∷ ts)
+after_a_name : (n : List ℕ) (t : Tok) (ts : List Tok) (q : Position) → next (after_name n) 0 t ≡ Some q → Behind q ts → NameTail (t ∷ ts)
 after_a_name n equals ts q is h = let b = got at_key_value q ts is h in is_dropped b.0 (ap (λ l. equals ∷ l) b.1) b.2
 after_a_name n (edge a) ts q is h = is_chain (linked a ts (got after_edge q ts is h))
 after_a_name n open_bracket ts q is h = let a = got (at_attrs (Some n)) q ts is h in is_vertex (Some a.0) a.1 (ap (λ l. open_bracket ∷ l) a.2) a.3
@@ -195,40 +195,40 @@ after_a_name n open_brace ts q is h = is_vertex None (open_brace ∷ ts) refl (s
 after_a_name n close_brace ts q is h = is_vertex None (close_brace ∷ ts) refl (started close_brace ts q is h)
 after_a_name n t ts q is h = cc is
 
-closing_tail : (b : Bool) (ts : List Tok) (q : Place) → ◌≡◌ {A = Option Place} (Some (if b then after_first else after_group)) (Some q) → Behind q ts → GroupTail b ts
+closing_tail : (b : Bool) (ts : List Tok) (q : Position) → ◌≡◌ {A = Option Position} (Some (if b then after_first else after_group)) (Some q) → Behind q ts → GroupTail b ts
 closing_tail true ts q is h = got after_first q ts is h
 closing_tail false ts q is h = got after_group q ts is h
 
-in_a_group : (b : Bool) (t : Tok) (ts : List Tok) (q : Place) → next (in_group b) 0 t ≡ Some q → Behind q ts → Inside b (t ∷ ts)
+in_a_group : (b : Bool) (t : Tok) (ts : List Tok) (q : Position) → next (in_group b) 0 t ≡ Some q → Behind q ts → Inside b (t ∷ ts)
 unfolding word
 in_a_group b semicolon ts q is h = let i = got (in_group b) q ts is h in (inner_semicolon ∷ i.0, i.1, ap (λ l. semicolon ∷ l) i.2, i.3)
 in_a_group b (name k n) ts q is h = let i = got (group_name b n) q ts is h in (inner_name (word k n) ∷ i.0, i.1, ap (λ l. name k n ∷ l) i.2, i.3)
 in_a_group b close_brace ts q is h = ([], ts, refl, closing_tail b ts q is h)
 in_a_group b t ts q is h = cc is
 
-in_attrs : (of : Option (List ℕ)) (at : ℕ) (t : Tok) (ts : List Tok) (q : Place) → next (at_attrs of) at t ≡ Some q → Behind q ts → InAttrs (t ∷ ts)
+in_attrs : (of : Option (List ℕ)) (at : ℕ) (t : Tok) (ts : List Tok) (q : Position) → next (at_attrs of) at t ≡ Some q → Behind q ts → InAttrs (t ∷ ts)
 in_attrs of at (name k n) ts q is h = first_attr (name k n ∷ ts) (one_attr k n ts (got (attr_name of at n) q ts is h))
 in_attrs of at close_bracket ts q is h = (no_attr, ts, refl, got at_statement q ts is h)
 in_attrs of at t ts q is h = cc is
 
-after_an_attr : (of : Option (List ℕ)) (at : ℕ) (t : Tok) (ts : List Tok) (q : Place) → next (after_attr of) at t ≡ Some q → Behind q ts → LaterTail (t ∷ ts)
+after_an_attr : (of : Option (List ℕ)) (at : ℕ) (t : Tok) (ts : List Tok) (q : Position) → next (after_attr of) at t ≡ Some q → Behind q ts → LaterTail (t ∷ ts)
 after_an_attr of at comma ts q is h = after_comma_attr ts (got (after_comma of) q ts is h)
 after_an_attr of at (name k n) ts q is h = later_attr (name k n ∷ ts) (one_attr k n ts (got (attr_name of at n) q ts is h))
 after_an_attr of at close_bracket ts q is h = ([], ts, refl, got at_statement q ts is h)
 after_an_attr of at t ts q is h = cc is
 
-after_attr_name : (of : Option (List ℕ)) (k : ℕ) (n : List ℕ) (at : ℕ) (t : Tok) (ts : List Tok) (q : Place) → next (attr_name of k n) at t ≡ Some q → Behind q ts → AttrTail (t ∷ ts)
+after_attr_name : (of : Option (List ℕ)) (k : ℕ) (n : List ℕ) (at : ℕ) (t : Tok) (ts : List Tok) (q : Position) → next (attr_name of k n) at t ≡ Some q → Behind q ts → AttrTail (t ∷ ts)
 after_attr_name of k n at equals ts q is h = let b = got (at_attr_value of) q ts is h in (true, b.0, ap (λ l. equals ∷ l) b.1, b.2)
 after_attr_name of k n at t ts q is h = (false, t ∷ ts, refl, after_an_attr of at t ts q is h)
 
-dag_first : (n : List ℕ) (ts : List Tok) (q : Place) → (if bytes_eq n (codes "dag") then Some at_dag else None) ≡ Some q → Behind q ts → Behind at_start (name false n ∷ ts)
+dag_first : (n : List ℕ) (ts : List Tok) (q : Position) → (if bytes_eq n (codes "dag") then Some at_dag else None) ≡ Some q → Behind q ts → Behind at_start (name false n ∷ ts)
 dag_first n ts q is h =
     let dag = cond_some _ _ _ is in
     let same : n ≡ codes "dag" = (bytes_eq-Decides n (codes "dag")).0 dag.0 in
-    let b : Behind at_dag ts = subst (λ (p : Place). Behind p ts) (sym dag.1) h in
+    let b : Behind at_dag ts = subst (λ (p : Position). Behind p ts) (sym dag.1) h in
     (record { title = b.0; statements = b.1 }, b.2, λ i. name false (same i) ∷ b.3 i)
 
-behind_next : (p : Place) (at : ℕ) (t : Tok) (ts : List Tok) (q : Place) → next p at t ≡ Some q → Behind q ts → Behind p (t ∷ ts)
+behind_next : (p : Position) (at : ℕ) (t : Tok) (ts : List Tok) (q : Position) → next p at t ≡ Some q → Behind q ts → Behind p (t ∷ ts)
 unfolding word
 behind_next at_start at (name false n) ts q is h = dag_first n ts q is h
 behind_next at_dag at (name k n) ts q is h =
@@ -252,10 +252,10 @@ behind_next (after_attr of) at t ts q is h = after_an_attr of at t ts q is h
 behind_next (after_comma of) at (name k n) ts q is h = one_attr k n ts (got (attr_name of at n) q ts is h)
 behind_next p at t ts q is h = cc is
 
-at_the_end : (p : Place) (ts : List Tok) → p ≡ at_end → Behind p (end ∷ ts)
-at_the_end p ts is = subst (λ (q : Place). Behind q (end ∷ ts)) (sym is) (ts, refl)
+at_the_end : (p : Position) (ts : List Tok) → p ≡ at_end → Behind p (end ∷ ts)
+at_the_end p ts is = subst (λ (q : Position). Behind q (end ∷ ts)) (sym is) (ts, refl)
 
-sound : (ts : List Tok) (p : Place) → Path p ts → Behind p ts
+sound : (ts : List Tok) (p : Position) → Path p ts → Behind p ts
 sound [] p k = absurd k
 sound (end ∷ ts) p k = at_the_end p ts k
 sound (t ∷ ts) p k = behind_next p k.0 t ts k.1 k.2 (sound ts k.1 k.3)

@@ -5,8 +5,8 @@ use Rattle.std.specs.List.{list_any}
 use Rattle.dag_reader.specs.declared.marks.Arrow.{Arrow}
 use Rattle.std.proofs.Common.{◌≤◌, ◌-◌, length, drop, take, get_or, arith}
 use Rattle.std.proofs.lemmas.List.{take_rest}
-use Rattle.dag_reader.specs.declared.marks.Mark.{Mark}
-use Rattle.dag_reader.specs.declared.marks.Mark.TheVariants.{Begins, Joined}
+use Rattle.dag_reader.specs.declared.marks.Remark.{Remark}
+use Rattle.dag_reader.specs.declared.marks.Remark.TheVariants.{Begins, Joined}
 use Rattle.dag_reader.specs.Passes.{Edge, pairs, is_self_loop, edges_behind, members}
 
 abbrev pub looped : List Edge → Option ℕ
@@ -40,10 +40,10 @@ pairs_loop (l ∷ ls) a rs more =
     ∙ joined_step (list_any (λ r. l == r) rs) l (find (λ l. list_any (λ r. l == r) rs) ls) (looped more)
 
 -- at an edge: a member of the group before that is in the group behind, or what comes then
-pub at_joined : (left : List ℕ) (marks : List Mark) (a : Arrow) → 1 ≤ length marks → get_or marks 0 Begins ≡ Joined a
+pub at_joined : (left : List ℕ) (marks : List Remark) (a : Arrow) → 1 ≤ length marks → get_or marks 0 Begins ≡ Joined a
     → looped (edges_behind left marks) ≡ or_else (find (λ l. list_any (λ r. l == r) (members (drop 1 marks))) left) (looped (edges_behind [] (drop 1 marks)))
 at_joined left [] a h is = absurd (omega arith)
-at_joined left (m ∷ ms) a h is = ap (λ (k : Mark). looped (edges_behind left (k ∷ ms))) is ∙ pairs_loop left a (members ms) (edges_behind [] ms)
+at_joined left (m ∷ ms) a h is = ap (λ (k : Remark). looped (edges_behind left (k ∷ ms))) is ∙ pairs_loop left a (members ms) (edges_behind [] ms)
 
 found_is : (o q : Option ℕ) (v : ℕ) → Some v ≡ o → or_else o q ≡ Some v
 found_is None q v h = cc h
@@ -53,7 +53,7 @@ lost_is : (o q : Option ℕ) → ◌≡◌ {A = Option ℕ} None o → or_else o
 lost_is None q h = refl
 lost_is (Some w) q h = cc h
 
-whole_rest : (marks : List Mark) → take (length marks - 1) (drop 1 marks) ≡ drop 1 marks
+whole_rest : (marks : List Remark) → take (length marks - 1) (drop 1 marks) ≡ drop 1 marks
 whole_rest marks = take_rest marks 1
 
 find_same : (p q : ℕ → Bool) → ((v : ℕ) → p v ≡ q v) → (vs : List ℕ) → find p vs ≡ find q vs
@@ -61,24 +61,24 @@ find_same p q is [] = refl
 find_same p q is (v ∷ vs) = rw (is v, find_same p q is vs) refl
 
 -- the members of the group behind an edge, as a set
-abbrev SetOf : (ℕ → Bool) → List Mark → Type 0
+abbrev SetOf : (ℕ → Bool) → List Remark → Type 0
 SetOf p marks = (v : ℕ) → p v ≡ list_any (λ r. v == r) (members (take (length marks - 1) (drop 1 marks)))
 
-find_is : (p : ℕ → Bool) (marks : List Mark) (left : List ℕ) → SetOf p marks → find p left ≡ find (λ l. list_any (λ r. l == r) (members (drop 1 marks))) left
+find_is : (p : ℕ → Bool) (marks : List Remark) (left : List ℕ) → SetOf p marks → find p left ≡ find (λ l. list_any (λ r. l == r) (members (drop 1 marks))) left
 find_is p marks left is =
-    find_same p (λ l. list_any (λ r. l == r) (members (drop 1 marks))) (λ v. is v ∙ ap (λ (ms : List Mark). list_any (λ r. v == r) (members ms)) (whole_rest marks)) left
+    find_same p (λ l. list_any (λ r. l == r) (members (drop 1 marks))) (λ v. is v ∙ ap (λ (ms : List Remark). list_any (λ r. v == r) (members ms)) (whole_rest marks)) left
 
-pub at_found : (p : ℕ → Bool) (left : List ℕ) (marks : List Mark) (a : Arrow) (v : ℕ) → 1 ≤ length marks → get_or marks 0 Begins ≡ Joined a → SetOf p marks
+pub at_found : (p : ℕ → Bool) (left : List ℕ) (marks : List Remark) (a : Arrow) (v : ℕ) → 1 ≤ length marks → get_or marks 0 Begins ≡ Joined a → SetOf p marks
     → Some v ≡ find p left → Some v ≡ looped (edges_behind left marks)
 at_found p left marks a v h joined is found =
     sym (at_joined left marks a h joined ∙ found_is (find (λ l. list_any (λ r. l == r) (members (drop 1 marks))) left) (looped (edges_behind [] (drop 1 marks))) v
     (found ∙ find_is p marks left is))
 
-pub at_lost : (p : ℕ → Bool) (left new : List ℕ) (marks : List Mark) (a : Arrow) → 1 ≤ length marks → get_or marks 0 Begins ≡ Joined a → SetOf p marks
+pub at_lost : (p : ℕ → Bool) (left new : List ℕ) (marks : List Remark) (a : Arrow) → 1 ≤ length marks → get_or marks 0 Begins ≡ Joined a → SetOf p marks
     → ◌≡◌ {A = Option ℕ} None (find p left) → new ≡ []
     → looped (edges_behind new (take (length marks - 1) (drop 1 marks))) ≡ looped (edges_behind left marks)
 at_lost p left new marks a h joined is lost empty =
     ap (λ (l : List ℕ). looped (edges_behind l (take (length marks - 1) (drop 1 marks)))) empty
-    ∙ ap (λ (ms : List Mark). looped (edges_behind [] ms)) (whole_rest marks)
+    ∙ ap (λ (ms : List Remark). looped (edges_behind [] ms)) (whole_rest marks)
     ∙ sym (at_joined left marks a h joined ∙ lost_is (find (λ l. list_any (λ r. l == r) (members (drop 1 marks))) left) (looped (edges_behind [] (drop 1 marks)))
     (lost ∙ find_is p marks left is))

@@ -6,18 +6,18 @@ use Rattle.name_text.specs.Printing.{is_white, is_edge_byte, is_name_byte}
 use Rattle.dag_reader.specs.Bytes.{is_run_byte}
 use Rattle.mixed_graph.specs.Names.{is_line_byte}
 use Rattle.dag_reader.specs.Tokens.{Tok, end, value, first, place_of, wants_value, past_white, token_of, token_at, value_at, run_at, quoted_text, closed_by, quoted_name, quoted_value, edge_token, name_token}
-use Rattle.dag_reader.specs.Grammar.{Fault, Said, nothing, Place, at_start, Turn, goes_on, ends, step}
+use Rattle.dag_reader.specs.Grammar.{Fault, Said, nothing, Position, at_start, Turn, goes_on, ends, step}
 use Rattle.dag_reader.specs.Reading.{AreFirst, rest_says, on_turn, RestSays, Says}
 use Rattle.dag_reader.proofs.TokenSteps.{one_more, last_one, end_ends}
 
 -- ---- at most one
 
-same_turn : (turn : Turn) (f g : Place → Said → Option (Result Said Fault)) (r v : Result Said Fault) → on_turn turn f ≡ Some r → on_turn turn g ≡ Some v
-    → ((q : Place) (u : Said) → f q u ≡ Some r → g q u ≡ Some v → r ≡ v) → r ≡ v
+same_turn : (turn : Turn) (f g : Position → Said → Option (Result Said Fault)) (r v : Result Said Fault) → on_turn turn f ≡ Some r → on_turn turn g ≡ Some v
+    → ((q : Position) (u : Said) → f q u ≡ Some r → g q u ≡ Some v → r ≡ v) → r ≡ v
 same_turn (goes_on q u) f g r v a b more = more q u a b
 same_turn (ends w) f g r v a b more = cc (sym a ∙ b)
 
-one_rest : (size : ℕ) (due : Bool) (p : Place) (s : Said) (ts us : List (ℕ × Tok)) (bytes : List ℕ) (r v : Result Said Fault)
+one_rest : (size : ℕ) (due : Bool) (p : Position) (s : Said) (ts us : List (ℕ × Tok)) (bytes : List ℕ) (r v : Result Said Fault)
     → AreFirst size due ts bytes → AreFirst size due us bytes → rest_says p s ts ≡ Some r → rest_says p s us ≡ Some v → r ≡ v
 unfolding AreFirst rest_says
 one_rest size due p s [] us bytes r v a b h k = cc h
@@ -84,11 +84,11 @@ shorter : (due : Bool) (bytes : List ℕ) → ((first due bytes).0 ≡ end → �
 unfolding first
 shorter due bytes h = omega (arith, of_len due (past_white bytes) h, length-drop (prefix_len is_white bytes) bytes)
 
-abbrev Some_answer : ℕ → Bool → Place → Said → List ℕ → Type 0
+abbrev Some_answer : ℕ → Bool → Position → Said → List ℕ → Type 0
 Some_answer size due p s bytes = (r : Result Said Fault) × RestSays size due p s bytes r
 
-by_turn : (size : ℕ) (due : Bool) (p : Place) (s : Said) (bytes : List ℕ) (turn : Turn) → step p s (place_of size bytes) (first due bytes).0 ≡ turn
-    → ((q : Place) (u : Said) → ((first due bytes).0 ≡ end → ⊥) → Some_answer size (wants_value (first due bytes).0) q u (first due bytes).1)
+by_turn : (size : ℕ) (due : Bool) (p : Position) (s : Said) (bytes : List ℕ) (turn : Turn) → step p s (place_of size bytes) (first due bytes).0 ≡ turn
+    → ((q : Position) (u : Said) → ((first due bytes).0 ≡ end → ⊥) → Some_answer size (wants_value (first due bytes).0) q u (first due bytes).1)
     → Some_answer size due p s bytes
 by_turn size due p s bytes (ends r) is more =
     (r, last_one size due p s bytes (first due bytes).1 (place_of size bytes) (first due bytes).0 r refl refl is)
@@ -96,7 +96,7 @@ by_turn size due p s bytes (goes_on q u) is more =
     let m = more q u (end_ends p q s u (place_of size bytes) (first due bytes).0 is) in
     (m.0, one_more size due p q s u bytes (first due bytes).1 (place_of size bytes) (first due bytes).0 m.0 refl refl is m.1)
 
-some_rest : (n : ℕ) (size : ℕ) (due : Bool) (p : Place) (s : Said) (bytes : List ℕ) → length bytes < n → Some_answer size due p s bytes
+some_rest : (n : ℕ) (size : ℕ) (due : Bool) (p : Position) (s : Said) (bytes : List ℕ) → length bytes < n → Some_answer size due p s bytes
 some_rest zero size due p s bytes h = absurd (omega arith)
 some_rest (suc n) size due p s bytes h =
     by_turn size due p s bytes (step p s (place_of size bytes) (first due bytes).0) refl

@@ -12,8 +12,8 @@ use Rattle.mixed_graph.specs.Built.{IsGraphOf}
 use Rattle.dag_reader.specs.declared.marks.Arrow.{Arrow}
 use Rattle.dag_reader.specs.declared.marks.Arrow.TheVariants.{Right, Left, Both}
 use Rattle.dag_reader.specs.declared.marks.Role.{Role}
-use Rattle.dag_reader.specs.declared.marks.Mark.{Mark}
-use Rattle.dag_reader.specs.declared.marks.Mark.TheVariants.{Begins, Joined, Member, HasRole}
+use Rattle.dag_reader.specs.declared.marks.Remark.{Remark}
+use Rattle.dag_reader.specs.declared.marks.Remark.TheVariants.{Begins, Joined, Member, HasRole}
 use Rattle.dag_reader.specs.MarkEnds.{is_inside}
 use Rattle.dag_reader.specs.Rows.{count_up, pairs_below}
 use Rattle.dag_reader.specs.Passes.{Edge, pairs, members, edges_behind, is_self_loop, self_loop, arrow_of, both_of, arrows_of, doubles_of, roles_behind, has_role, same_role}
@@ -27,7 +27,7 @@ below n v = nat_lt v n
 abbrev edge_inside : ℕ → Edge → Bool
 edge_inside n e = nat_lt e.left n && nat_lt e.right n
 
-members_inside : (n : ℕ) (marks : List Mark) → list_all (is_inside n) marks ≡ true → list_all (below n) (members marks) ≡ true
+members_inside : (n : ℕ) (marks : List Remark) → list_all (is_inside n) marks ≡ true → list_all (below n) (members marks) ≡ true
 members_inside n [] h = refl
 members_inside n (Begins ∷ ms) h = refl
 members_inside n (Joined a ∷ ms) h = refl
@@ -49,7 +49,7 @@ pairs_inside n a (l ∷ ls) rs h k =
     list_all-append (edge_inside n) (map (λ r. record { left = l; arrow = a; right = r }) rs) (pairs ls a rs)
     ∙ and_from _ (list_all (edge_inside n) (pairs ls a rs)) (row_inside n l a rs parts.0 k) (pairs_inside n a ls rs parts.1 k)
 
-edges_inside : (n : ℕ) (marks : List Mark) (left : List ℕ) → list_all (below n) left ≡ true → list_all (is_inside n) marks ≡ true → list_all (edge_inside n) (edges_behind left marks) ≡ true
+edges_inside : (n : ℕ) (marks : List Remark) (left : List ℕ) → list_all (below n) left ≡ true → list_all (is_inside n) marks ≡ true → list_all (edge_inside n) (edges_behind left marks) ≡ true
 edges_inside n [] left h k = refl
 edges_inside n (Begins ∷ ms) left h k = edges_inside n ms [] refl k
 edges_inside n (Joined a ∷ ms) left h k =
@@ -70,7 +70,7 @@ find_holds p q (x ∷ xs) e h is =
     let parts = and_parts (q x) (list_all q xs) h in chosen_holds q (p x) x e (find p xs) parts.0 (λ k. find_holds p q xs e parts.1 k) is
 
 -- the vertex of a self-loop is one of the names'
-pub loop_inside : (n : ℕ) (marks : List Mark) (e : Edge) → list_all (is_inside n) marks ≡ true → self_loop marks ≡ Some e → e.left < n
+pub loop_inside : (n : ℕ) (marks : List Remark) (e : Edge) → list_all (is_inside n) marks ≡ true → self_loop marks ≡ Some e → e.left < n
 loop_inside n marks e h is =
     ltb-true e.left n (and_parts (nat_lt e.left n) (nat_lt e.right n) (find_holds is_self_loop (edge_inside n) (edges_behind [] marks) e (edges_inside n marks [] refl h) is)).0
 
@@ -105,10 +105,10 @@ all_inside f n keeps (e ∷ es) h =
     let parts = and_parts (edge_inside n e) (list_all (edge_inside n) es) h in
     kept_inside n (f e) (filter_map f es) (keeps e parts.0) (all_inside f n keeps es parts.1)
 
-arrows_inside : (n : ℕ) (marks : List Mark) → list_all (is_inside n) marks ≡ true → list_all (pair_inside n) (arrows_of marks) ≡ true
+arrows_inside : (n : ℕ) (marks : List Remark) → list_all (is_inside n) marks ≡ true → list_all (pair_inside n) (arrows_of marks) ≡ true
 arrows_inside n marks h = all_inside arrow_of n (λ e k. turned_inside n e.arrow e.left e.right k) (edges_behind [] marks) (edges_inside n marks [] refl h)
 
-doubles_inside : (n : ℕ) (marks : List Mark) → list_all (is_inside n) marks ≡ true → list_all (pair_inside n) (doubles_of marks) ≡ true
+doubles_inside : (n : ℕ) (marks : List Remark) → list_all (is_inside n) marks ≡ true → list_all (pair_inside n) (doubles_of marks) ≡ true
 doubles_inside n marks h = all_inside both_of n (λ e k. both_inside n e.arrow e.left e.right k) (edges_behind [] marks) (edges_inside n marks [] refl h)
 
 joins_inside : (n : ℕ) (ps : List (ℕ × ℕ)) (a b : ℕ) → list_all (pair_inside n) ps ≡ true → joins ps a b ≡ true → (a < n) × (b < n)
@@ -162,10 +162,10 @@ no_loops f v misses (e ∷ es) h =
     let parts = none_first (e.left == e.right) e (find is_self_loop es) h in
     joins_kept v (f e) (filter_map f es) (misses e parts.0) (no_loops f v misses es parts.1)
 
-pub arrows_apart : (marks : List Mark) (v : ℕ) → ◌≡◌ {A = Option Edge} (self_loop marks) None → joins (arrows_of marks) v v ≡ false
+pub arrows_apart : (marks : List Remark) (v : ℕ) → ◌≡◌ {A = Option Edge} (self_loop marks) None → joins (arrows_of marks) v v ≡ false
 arrows_apart marks v h = no_loops arrow_of v (λ e k. arrow_misses v e.arrow e.left e.right k) (edges_behind [] marks) h
 
-pub doubles_apart : (marks : List Mark) (v : ℕ) → ◌≡◌ {A = Option Edge} (self_loop marks) None → joins (doubles_of marks) v v ≡ false
+pub doubles_apart : (marks : List Remark) (v : ℕ) → ◌≡◌ {A = Option Edge} (self_loop marks) None → joins (doubles_of marks) v v ≡ false
 doubles_apart marks v h = no_loops both_of v (λ e k. both_misses v e.arrow e.left e.right k) (edges_behind [] marks) h
 
 caught : (a : Arrow) (l r : ℕ) (ds bs : List (ℕ × ℕ)) → (l == r) ≡ true → joins (cons_option (arrow_of (record { left = l; arrow = a; right = r })) ds) l l ≡ false
@@ -187,7 +187,7 @@ none_looped (e ∷ es) h k = elim (cases_Bool (e.left == e.right)) [
 ]
 
 -- where no vertex is joined to itself there is no self-loop
-pub no_self_loop : (marks : List Mark) → ((v : ℕ) → joins (arrows_of marks) v v ≡ false) → ((v : ℕ) → joins (doubles_of marks) v v ≡ false)
+pub no_self_loop : (marks : List Remark) → ((v : ℕ) → joins (arrows_of marks) v v ≡ false) → ((v : ℕ) → joins (doubles_of marks) v v ≡ false)
     → ◌≡◌ {A = Option Edge} (self_loop marks) None
 no_self_loop marks h k = none_looped (edges_behind [] marks) h k
 
@@ -284,11 +284,11 @@ pairs_below-same n r ps is inside a b = pairs_below-joins n r a b ∙ elim (case
     none true false = refl
     none false q = refl
 
-pub arrows_same : (n : ℕ) (r : ℕ → ℕ → Bool) (marks : List Mark) → ((a b : ℕ) → r a b ≡ joins (arrows_of marks) a b) → list_all (is_inside n) marks ≡ true
+pub arrows_same : (n : ℕ) (r : ℕ → ℕ → Bool) (marks : List Remark) → ((a b : ℕ) → r a b ≡ joins (arrows_of marks) a b) → list_all (is_inside n) marks ≡ true
     → (a b : ℕ) → joins (pairs_below n r) a b ≡ joins (arrows_of marks) a b
 arrows_same n r marks is inside = pairs_below-same n r (arrows_of marks) is (arrows_inside n marks inside)
 
-pub doubles_same : (n : ℕ) (r : ℕ → ℕ → Bool) (marks : List Mark) → ((a b : ℕ) → r a b ≡ joins (doubles_of marks) a b) → list_all (is_inside n) marks ≡ true
+pub doubles_same : (n : ℕ) (r : ℕ → ℕ → Bool) (marks : List Remark) → ((a b : ℕ) → r a b ≡ joins (doubles_of marks) a b) → list_all (is_inside n) marks ≡ true
     → (a b : ℕ) → joins (pairs_below n r) a b ≡ joins (doubles_of marks) a b
 doubles_same n r marks is inside = pairs_below-same n r (doubles_of marks) is (doubles_inside n marks inside)
 
@@ -331,7 +331,7 @@ no_first_loop ds bs v h d b = by_first (loop_in ds) ds bs v refl h (λ t. (let f
 
 -- ---- roles
 
-pub role_inside : (n : ℕ) (marks : List Mark) (last : Option ℕ) (r : Role) (v : ℕ) → list_all (is_inside n) marks ≡ true → ((w : ℕ) → last ≡ Some w → w < n)
+pub role_inside : (n : ℕ) (marks : List Remark) (last : Option ℕ) (r : Role) (v : ℕ) → list_all (is_inside n) marks ≡ true → ((w : ℕ) → last ≡ Some w → w < n)
     → has_role (roles_behind last marks) r v ≡ true → v < n
 role_inside n [] last r v h k t = cc t
 role_inside n (Begins ∷ ms) last r v h k t = role_inside n ms last r v h k t
@@ -367,7 +367,7 @@ cycle_same p q list count is c = record {
   once = c.once;
 }
 
-pub cycle_inside : (n : ℕ) (marks : List Mark) (list : List ℕ) (count : ℕ) → list_all (is_inside n) marks ≡ true → IsCycle (joins (arrows_of marks)) list count → (i : ℕ) → i < count → get_or list i 0 < n
+pub cycle_inside : (n : ℕ) (marks : List Remark) (list : List ℕ) (count : ℕ) → list_all (is_inside n) marks ≡ true → IsCycle (joins (arrows_of marks)) list count → (i : ℕ) → i < count → get_or list i 0 < n
 cycle_inside n marks list count inside c i h = elim (cases_lt (i + 1) count) [
   | inl more ↦ (joins_inside n (arrows_of marks) (get_or list i 0) (get_or list (i + 1) 0) (arrows_inside n marks inside) (c.next i more)).0
   | inr last ↦ (let at : count - 1 ≡ i = omega arith in
@@ -375,10 +375,10 @@ cycle_inside n marks list count inside c i h = elim (cases_lt (i + 1) count) [
       subst (λ (k : ℕ). get_or list k 0 < n) at low)
 ]
 
-by_edge : (n : ℕ) (marks : List Mark) (o : Option Edge) (v : ℕ) → o ≡ self_loop marks → option_map (λ (e : Edge). e.left) o ≡ Some v → list_all (is_inside n) marks ≡ true → v < n
+by_edge : (n : ℕ) (marks : List Remark) (o : Option Edge) (v : ℕ) → o ≡ self_loop marks → option_map (λ (e : Edge). e.left) o ≡ Some v → list_all (is_inside n) marks ≡ true → v < n
 by_edge n marks None v is h inside = cc h
 by_edge n marks (Some e) v is h inside = let low = loop_inside n marks e inside (sym is) in let same : e.left ≡ v = cc h in omega arith
 
 -- the vertex of the first self-loop, as the search found it
-pub loop_found_inside : (n : ℕ) (marks : List Mark) (v : ℕ) → option_map (λ (e : Edge). e.left) (self_loop marks) ≡ Some v → list_all (is_inside n) marks ≡ true → v < n
+pub loop_found_inside : (n : ℕ) (marks : List Remark) (v : ℕ) → option_map (λ (e : Edge). e.left) (self_loop marks) ≡ Some v → list_all (is_inside n) marks ≡ true → v < n
 loop_found_inside n marks v h inside = by_edge n marks (self_loop marks) v refl h inside

@@ -11,7 +11,7 @@ use Rattle.dag_reader.specs.declared.faults.GraphFault.TheVariants.{NotUtf8, Tok
 use Rattle.dag_reader.specs.Grammar.{Fault, Said, token, expected, not_a_dag, edge_kind, flag, selected, too_many}
 use Rattle.dag_reader.specs.Passes.{arrows_of}
 use Rattle.dag_reader.specs.Reading.{Says}
-use Rattle.dag_reader.specs.Reads.{Tells, Gives, Reads}
+use Rattle.dag_reader.specs.Reads.{Tells, GivesGraph, Reads}
 use Rattle.dag_reader.specs.Written.{drawn_of, written}
 use Rattle.dag_reader.specs.RoundTrip.{AreSame, IsReadBack}
 use Rattle.dag_reader.proofs.LawBytes.{read}
@@ -53,7 +53,7 @@ no_fault : (g : ReadGraph) (f : Fault) → Says (written (drawn_of g)) (Err f) �
 no_fault g f says =
     let e : ◌≡◌ {A = Result Said Fault} (Err f) (Ok (drawn_says (drawn_of g))) = one_answer (written (drawn_of g)) (Err f) (Ok (drawn_says (drawn_of g))) says (written_says g) in cc e
 
-given_back : (g : ReadGraph) (r : Result ReadGraph GraphFault) → Gives (drawn_says (drawn_of g)) r → IsReadBack g r
+given_back : (g : ReadGraph) (r : Result ReadGraph GraphFault) → GivesGraph (drawn_says (drawn_of g)) r → IsReadBack g r
 given_back g (Ok h) gives = same_told (drawn_says (drawn_of g)) g h (drawn_tells g) gives.2
 given_back g (Err NoMemory) gives = tt
 given_back g (Err (SelfLoop n)) gives = absurd (let none = (drawn_gives g).0 in let some = gives.1 in cc)
@@ -64,8 +64,8 @@ given_back g (Err (Cycle ns)) gives =
     (cycle_same (joins (arrows_of (drawn_says (drawn_of g)).marks)) (graph_of g.graph).arrow c.list c.count (λ a b. sym ((drawn_tells g).edges.arrows a b)) c.is_cycle))
 given_back g (Err f) gives = absurd gives
 
-told_back : (g : ReadGraph) (r : Result ReadGraph GraphFault) (s : Said) → Says (written (drawn_of g)) (Ok s) → Gives s r → IsReadBack g r
-told_back g r s says gives = given_back g r (subst (λ (u : Said). Gives u r) (same_said g s says) gives)
+told_back : (g : ReadGraph) (r : Result ReadGraph GraphFault) (s : Said) → Says (written (drawn_of g)) (Ok s) → GivesGraph s r → IsReadBack g r
+told_back g r s says gives = given_back g r (subst (λ (u : Said). GivesGraph u r) (same_said g s says) gives)
 
 pub reads_back : (g : ReadGraph) (r : Result ReadGraph GraphFault) → Reads (written (drawn_of g)) r → IsReadBack g r
 reads_back g (Ok h) is = told_back g (Ok h) is.1 is.2 is.3

@@ -1,16 +1,16 @@
 -- One token more, and the token that ends the reading.
 use Rattle.std.proofs.Common.{◌≡◌, ℕ, Bool, List, [], ◌∷◌, Result, Ok, Err, refl, sym, subst}
 use Rattle.dag_reader.specs.Tokens.{Tok, end, first, place_of, wants_value}
-use Rattle.dag_reader.specs.Grammar.{Fault, Said, Place, goes_on, ends, step, settled, taken, ended}
+use Rattle.dag_reader.specs.Grammar.{Fault, Said, Position, goes_on, ends, step, settled, taken, ended}
 use Rattle.dag_reader.specs.Grammar.{at_end}
 use Rattle.dag_reader.specs.Reading.{AreFirst, rest_says, RestSays, Says}
 use Rattle.dag_reader.specs.Turns.{TurnFails, ReadsStatements}
 use Rattle.dag_reader.specs.FaultView.{fault_view}
 use Rattle.dag_reader.specs.declared.said.Statements.{Statements}
-use Rattle.dag_reader.specs.declared.faults.ReadError.{ReadError}
-use Rattle.dag_reader.specs.declared.faults.ReadError.TheVariants as errors
+use Rattle.dag_reader.specs.declared.faults.ReadFault.{ReadFault}
+use Rattle.dag_reader.specs.declared.faults.ReadFault.TheVariants as errors
 
-pub one_more : (size : ℕ) (due : Bool) (p q : Place) (s u : Said) (bytes rest : List ℕ) (at : ℕ) (t : Tok) (r : Result Said Fault)
+pub one_more : (size : ℕ) (due : Bool) (p q : Position) (s u : Said) (bytes rest : List ℕ) (at : ℕ) (t : Tok) (r : Result Said Fault)
     → at ≡ place_of size bytes → ◌≡◌ {A = Tok × List ℕ} (t, rest) (first due bytes) → step p s at t ≡ goes_on q u
     → RestSays size (wants_value t) q u rest r → RestSays size due p s bytes r
 unfolding AreFirst rest_says
@@ -20,7 +20,7 @@ one_more size due p q s u bytes rest at t r place here goes more = record {
   says = rw goes more.says;
 }
 
-pub last_one : (size : ℕ) (due : Bool) (p : Place) (s : Said) (bytes rest : List ℕ) (at : ℕ) (t : Tok) (r : Result Said Fault)
+pub last_one : (size : ℕ) (due : Bool) (p : Position) (s : Said) (bytes rest : List ℕ) (at : ℕ) (t : Tok) (r : Result Said Fault)
     → at ≡ place_of size bytes → ◌≡◌ {A = Tok × List ℕ} (t, rest) (first due bytes) → step p s at t ≡ ends r
     → RestSays size due p s bytes r
 unfolding AreFirst rest_says
@@ -30,21 +30,21 @@ last_one size due p s bytes rest at t r place here stops = record {
   says = rw stops refl;
 }
 
-ended_ends : (p q : Place) (at : ℕ) (s u : Said) → ended p at s ≡ goes_on q u → ⊥
+ended_ends : (p q : Position) (at : ℕ) (s u : Said) → ended p at s ≡ goes_on q u → ⊥
 ended_ends at_end q at s u h = cc h
 ended_ends p q at s u h = cc h
 
-taken_ends : (p q : Place) (at : ℕ) (u : Said) (r : Result Said Fault) → taken p at end r ≡ goes_on q u → ⊥
+taken_ends : (p q : Position) (at : ℕ) (u : Said) (r : Result Said Fault) → taken p at end r ≡ goes_on q u → ⊥
 taken_ends p q at u (Err e) h = cc h
 taken_ends p q at u (Ok s) h = ended_ends p q at s u h
 
 -- no token comes behind the end
-pub end_ends : (p q : Place) (s u : Said) (at : ℕ) (t : Tok) → step p s at t ≡ goes_on q u → t ≡ end → ⊥
+pub end_ends : (p q : Position) (s u : Said) (at : ℕ) (t : Tok) → step p s at t ≡ goes_on q u → t ≡ end → ⊥
 unfolding step
 end_ends p q s u at t h is = taken_ends p q at u (settled p end s) (rw is at h)
 
 -- the error that a step gave is that of the text
-pub step_failed : (text : List ℕ) (p : Place) (s new : Said) (at : ℕ) (t : Tok) (e : ReadError) (r : Result Statements ReadError)
+pub step_failed : (text : List ℕ) (p : Position) (s new : Said) (at : ℕ) (t : Tok) (e : ReadFault) (r : Result Statements ReadFault)
     → TurnFails e (step p s at t) → ((v : Result Said Fault) → step p s at t ≡ ends v → Says text v) → r ≡ Err e → ReadsStatements text r
 step_failed text p s new at t errors.Memory r fails all is = subst (ReadsStatements text) (sym is) tt
 step_failed text p s new at t (errors.Fault f) r fails all is = subst (ReadsStatements text) (sym is) (all (Err (fault_view f)) fails)

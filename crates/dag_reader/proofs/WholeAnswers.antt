@@ -8,12 +8,12 @@ use Rattle.mixed_graph.specs.Sets.{Within, Apart}
 use Rattle.mixed_graph.specs.Shown.{graph_of}
 use Rattle.dag_reader.specs.declared.marks.Role.{Role}
 use Rattle.dag_reader.specs.declared.marks.Role.TheVariants.{Exposure, Outcome, Adjusted, Latent}
-use Rattle.dag_reader.specs.declared.marks.Mark.{Mark}
+use Rattle.dag_reader.specs.declared.marks.Remark.{Remark}
 use Rattle.dag_reader.specs.declared.building.MarkedGraph.{MarkedGraph}
 use Rattle.dag_reader.specs.declared.graph.ReadGraph.{ReadGraph}
 use Rattle.dag_reader.specs.declared.faults.Fault.TheVariants as faults
-use Rattle.dag_reader.specs.declared.faults.ReadError.{ReadError}
-use Rattle.dag_reader.specs.declared.faults.ReadError.TheVariants as errors
+use Rattle.dag_reader.specs.declared.faults.ReadFault.{ReadFault}
+use Rattle.dag_reader.specs.declared.faults.ReadFault.TheVariants as errors
 use Rattle.dag_reader.specs.declared.faults.GraphFault.{GraphFault}
 use Rattle.dag_reader.specs.declared.faults.GraphFault.TheVariants.{SelfLoop, RoleClash, Cycle, NoMemory}
 use Rattle.dag_reader.specs.Grammar.{Said}
@@ -23,21 +23,21 @@ use Rattle.mixed_graph.specs.Built.{IsGraphOf}
 use Rattle.dag_reader.specs.Passes.{arrows_of, doubles_of}
 use Rattle.dag_reader.specs.Reading.{Says}
 use Rattle.dag_reader.specs.Turns.{ReadsStatements}
-use Rattle.dag_reader.specs.Reads.{Tells, Gives, Reads}
-use Rattle.dag_reader.specs.Builds.{Marked, IsNamed, Holds, Owns}
+use Rattle.dag_reader.specs.Reads.{Tells, GivesGraph, Reads}
+use Rattle.dag_reader.specs.Builds.{Marked, IsNamed, HoldsMarked, Owns}
 use Rattle.dag_reader.proofs.PairLists.{role_inside}
 
-set_below : (names : List (List ℕ)) (marks : List Mark) (m : MarkedGraph) → Marked names marks m → list_all (is_inside (length names)) marks ≡ true → (r : Role) → Within (length names) (in_set m.roles r)
+set_below : (names : List (List ℕ)) (marks : List Remark) (m : MarkedGraph) → Marked names marks m → list_all (is_inside (length names)) marks ≡ true → (r : Role) → Within (length names) (in_set m.roles r)
 set_below names marks m is inside r = λ v h. role_inside (length names) marks None r v inside (λ w e. absurd (cc e)) (sym (is.roles r v) ∙ h)
 
-sets_apart : (names : List (List ℕ)) (marks : List Mark) (m : MarkedGraph) → Marked names marks m → (r q : Role) → r ≢ q → Apart (in_set m.roles r) (in_set m.roles q)
+sets_apart : (names : List (List ℕ)) (marks : List Remark) (m : MarkedGraph) → Marked names marks m → (r q : Role) → r ≢ q → Apart (in_set m.roles r) (in_set m.roles q)
 sets_apart names marks m is r q d = λ v h. elim (cases_Bool (in_set m.roles q v)) [
   | inl k ↦ absurd (is.no_clash v (record { first = r; second = q; differ = d; has_first = sym (is.roles r v) ∙ h; has_second = sym (is.roles q v) ∙ k }))
   | inr f ↦ f
 ]
 
 -- the roles of marks without a clash are four sets apart
-pub marked_named : (names : List (List ℕ)) (marks : List Mark) (m : MarkedGraph) → Marked names marks m → list_all (is_inside (length names)) marks ≡ true → IsNamed names m
+pub marked_named : (names : List (List ℕ)) (marks : List Remark) (m : MarkedGraph) → Marked names marks m → list_all (is_inside (length names)) marks ≡ true → IsNamed names m
 marked_named names marks m is inside = record {
   are_names = is.are_names;
   sized = sym is.edges.size;
@@ -56,7 +56,7 @@ marked_named names marks m is inside = record {
 }
 
 -- the graph that holds them is the one that the statements say
-pub held_tells : (names : List (List ℕ)) (marks : List Mark) (m : MarkedGraph) (g : ReadGraph) → Marked names marks m → Holds g names m → Tells (record { names = names; marks = marks }) g
+pub held_tells : (names : List (List ℕ)) (marks : List Remark) (m : MarkedGraph) (g : ReadGraph) → Marked names marks m → HoldsMarked g names m → Tells (record { names = names; marks = marks }) g
 held_tells names marks m g is held = record {
   names = held.names_kept;
   edges = subst (λ x. IsGraphOf (length names) (arrows_of marks) (doubles_of marks) (graph_of x)) (sym held.graph_kept) is.edges;
@@ -65,7 +65,7 @@ held_tells names marks m g is held = record {
 }
 
 -- what the statements of a text give is the answer
-pub given_reads : (text : List ℕ) (s : Said) (r : Result ReadGraph GraphFault) → IsUtf8 text → Says text (Ok s) → Gives s r → Reads text r
+pub given_reads : (text : List ℕ) (s : Said) (r : Result ReadGraph GraphFault) → IsUtf8 text → Says text (Ok s) → GivesGraph s r → Reads text r
 given_reads text s (Ok g) u says gives = (u, s, says, gives)
 given_reads text s (Err NoMemory) u says gives = tt
 given_reads text s (Err (SelfLoop n)) u says gives = (u, s, says, gives)
@@ -74,7 +74,7 @@ given_reads text s (Err (Cycle ns)) u says gives = (u, s, says, gives)
 given_reads text s (Err f) u says gives = absurd gives
 
 -- a fault from left to right is the answer
-pub fault_reads : (text : List ℕ) (e : ReadError) (f : GraphFault) → IsUtf8 text → ReadsStatements text (Err e) → Owns e f → Reads text (Err f)
+pub fault_reads : (text : List ℕ) (e : ReadFault) (f : GraphFault) → IsUtf8 text → ReadsStatements text (Err e) → Owns e f → Reads text (Err f)
 fault_reads text e NoMemory u says owns = tt
 fault_reads text errors.Memory f u says owns = absurd owns
 fault_reads text (errors.Fault (faults.Token at)) f u says owns = subst (λ x. Reads text (Err x)) (sym owns) (u, says)

@@ -5,8 +5,8 @@ use Rattle.std.specs.Str.{bytes_eq}
 use Rattle.mixed_graph.specs.Names.{with_name, index_of}
 use Rattle.dag_reader.specs.declared.marks.Role.{Role}
 use Rattle.dag_reader.specs.declared.marks.Role.TheVariants.{Exposure, Outcome, Adjusted, Latent}
-use Rattle.dag_reader.specs.declared.marks.Mark.{Mark}
-use Rattle.dag_reader.specs.declared.marks.Mark.TheVariants.{Begins, Joined, Member, HasRole}
+use Rattle.dag_reader.specs.declared.marks.Remark.{Remark}
+use Rattle.dag_reader.specs.declared.marks.Remark.TheVariants.{Begins, Joined, Member, HasRole}
 use Rattle.dag_reader.specs.Tokens.{Tok, open_brace, close_brace, open_bracket, close_bracket, semicolon, equals, comma, edge, name, value, end, bad, bad_edge}
 
 -- the faults of a text from left to right, with their places and names
@@ -32,7 +32,7 @@ abbrev pub ◌>>=◌ : {A B : Type 0} → Result A Fault → (A → Result B Fau
 -- what was said: the names of the vertices, and the marks of what was said of them
 pub record Said : Type 0 where
   pub names : List (List ℕ)
-  pub marks : List Mark
+  pub marks : List Remark
 
 -- nothing was said
 abbrev pub nothing : Said
@@ -40,30 +40,30 @@ nothing = record { names = []; marks = [] }
 
 -- ---- where a reader is between two tokens
 
-pub data Place : Type 0 where
-  at_start : Place
-  at_dag : Place  -- behind `dag`
-  at_title : Place  -- behind the graph's name
-  at_statement : Place
-  after_name : List ℕ → Place  -- the first name of a statement, whose use the next token settles
-  at_key_value : Place
-  in_group : Bool → Place  -- in braces, and whether these begin the statement
-  group_name : Bool → List ℕ → Place  -- behind a name in braces
-  after_first : Place  -- behind the braces that begin a statement
-  after_edge : Place
-  chain_name : List ℕ → Place  -- behind a name that is a group of a chain
-  after_group : Place  -- behind the braces of a group of a chain
-  at_attrs : Option (List ℕ) → Place  -- behind `[`: of a vertex or of a chain
-  attr_name : Option (List ℕ) → ℕ → List ℕ → Place  -- behind an attribute's name, which stands there
-  at_attr_value : Option (List ℕ) → Place
-  after_attr : Option (List ℕ) → Place
-  after_comma : Option (List ℕ) → Place
-  at_end : Place  -- behind the last `}`
+pub data Position : Type 0 where
+  at_start : Position
+  at_dag : Position  -- behind `dag`
+  at_title : Position  -- behind the graph's name
+  at_statement : Position
+  after_name : List ℕ → Position  -- the first name of a statement, whose use the next token settles
+  at_key_value : Position
+  in_group : Bool → Position  -- in braces, and whether these begin the statement
+  group_name : Bool → List ℕ → Position  -- behind a name in braces
+  after_first : Position  -- behind the braces that begin a statement
+  after_edge : Position
+  chain_name : List ℕ → Position  -- behind a name that is a group of a chain
+  after_group : Position  -- behind the braces of a group of a chain
+  at_attrs : Option (List ℕ) → Position  -- behind `[`: of a vertex or of a chain
+  attr_name : Option (List ℕ) → ℕ → List ℕ → Position  -- behind an attribute's name, which stands there
+  at_attr_value : Option (List ℕ) → Position
+  after_attr : Option (List ℕ) → Position
+  after_comma : Option (List ℕ) → Position
+  at_end : Position  -- behind the last `}`
 
 -- ---- the grammar of tokens alone
 
 -- what may begin at a statement's place, or end the text
-abbrev pub next_statement : Tok → Option Place
+abbrev pub next_statement : Tok → Option Position
 next_statement semicolon = Some at_statement
 next_statement (name q n) = Some (after_name n)
 next_statement open_brace = Some (in_group true)
@@ -71,38 +71,38 @@ next_statement close_brace = Some at_end
 next_statement t = None
 
 -- behind a group of a chain
-abbrev pub next_in_chain : Tok → Option Place
+abbrev pub next_in_chain : Tok → Option Position
 next_in_chain (edge a) = Some after_edge
 next_in_chain open_bracket = Some (at_attrs None)
 next_in_chain t = next_statement t
 
 -- behind a first name
-abbrev pub next_after_name : List ℕ → Tok → Option Place
+abbrev pub next_after_name : List ℕ → Tok → Option Position
 next_after_name n equals = Some at_key_value
 next_after_name n (edge a) = Some after_edge
 next_after_name n open_bracket = Some (at_attrs (Some n))
 next_after_name n t = next_statement t
 
 -- inside braces
-abbrev pub next_in_group : Bool → Tok → Option Place
+abbrev pub next_in_group : Bool → Tok → Option Position
 next_in_group begins semicolon = Some (in_group begins)
 next_in_group begins (name q n) = Some (group_name begins n)
 next_in_group begins close_brace = Some (if begins then after_first else after_group)
 next_in_group begins t = None
 
 -- behind `[`
-abbrev pub next_in_attrs : Option (List ℕ) → ℕ → Tok → Option Place
+abbrev pub next_in_attrs : Option (List ℕ) → ℕ → Tok → Option Position
 next_in_attrs of at (name q n) = Some (attr_name of at n)
 next_in_attrs of at close_bracket = Some at_statement
 next_in_attrs of at t = None
 
 -- behind an attribute
-abbrev pub next_after_attr : Option (List ℕ) → ℕ → Tok → Option Place
+abbrev pub next_after_attr : Option (List ℕ) → ℕ → Tok → Option Position
 next_after_attr of at comma = Some (after_comma of)
 next_after_attr of at t = next_in_attrs of at t
 
 -- The place behind a token that stands at `at`, where it fits.
-abbrev pub next : Place → ℕ → Tok → Option Place
+abbrev pub next : Position → ℕ → Tok → Option Position
 next at_start at (name false n) = if bytes_eq n (codes "dag") then Some at_dag else None
 next at_dag at (name q n) = Some at_title
 next at_dag at open_brace = Some at_statement
@@ -127,7 +127,7 @@ next p at t = None
 
 -- ---- what is said, and the faults of names and flags
 
-abbrev pub with_marks : List Mark → Said → Said
+abbrev pub with_marks : List Remark → Said → Said
 with_marks ms s = record { names = s.names; marks = s.marks ++ ms }
 
 -- a vertex more; a name that is there keeps its number
@@ -155,7 +155,7 @@ with_flag None at n s = Err (flag at)
 with_flag (Some v) at n s = if bytes_eq n (codes "selected") then Err (selected v) else with_role at (role_of n) s
 
 -- what the name before a token is, which the token settles
-abbrev pub settled : Place → Tok → Said → Result Said Fault
+abbrev pub settled : Position → Tok → Said → Result Said Fault
 settled (after_name n) equals s = Ok s
 settled (after_name n) t s = with_vertex n (with_marks (Begins ∷ []) s)
 settled (group_name b n) t s = with_vertex n s
@@ -165,7 +165,7 @@ settled (attr_name of at n) t s = with_flag of at n s
 settled p t s = Ok s
 
 -- what a token itself says, where it fits
-abbrev pub noted : Place → Tok → Said → Said
+abbrev pub noted : Position → Tok → Said → Said
 noted at_statement open_brace s = with_marks (Begins ∷ []) s
 noted (after_name n) open_brace s = with_marks (Begins ∷ []) s
 noted (chain_name n) open_brace s = with_marks (Begins ∷ []) s
@@ -174,14 +174,14 @@ noted p (edge a) s = with_marks (Joined a ∷ []) s
 noted p t s = s
 
 -- the fault of a token that doesn't fit
-abbrev pub misfit : Place → ℕ → Fault
+abbrev pub misfit : Position → ℕ → Fault
 misfit at_start at = not_a_dag
 misfit p at = expected at
 
 -- ---- one token more
 
 pub data Turn : Type 0 where
-  goes_on : Place → Said → Turn
+  goes_on : Position → Said → Turn
   ends : Result Said Fault → Turn
 
 -- where no token stands, or an edge of another kind of graph
@@ -196,17 +196,17 @@ is_end end = true
 is_end t = false
 
 -- at the end of the text
-abbrev pub ended : Place → ℕ → Said → Turn
+abbrev pub ended : Position → ℕ → Said → Turn
 ended at_end at s = ends (Ok s)
 ended p at s = ends (Err (misfit p at))
 
 -- behind a token that fits, or the fault where it does not
-abbrev pub fitted : Place → ℕ → Tok → Option Place → Said → Turn
+abbrev pub fitted : Position → ℕ → Tok → Option Position → Said → Turn
 fitted p at t None s = ends (Err (misfit p at))
 fitted p at t (Some q) s = goes_on q (noted p t s)
 
 -- a token behind what the name before it has become
-abbrev pub taken : Place → ℕ → Tok → Result Said Fault → Turn
+abbrev pub taken : Position → ℕ → Tok → Result Said Fault → Turn
 taken p at t (Err e) = ends (Err e)
 taken p at t (Ok s) = if is_end t then ended p at s else fitted p at t (next p at t) s
 
@@ -216,5 +216,5 @@ judged (Some f) turn = ends (Err f)
 judged None turn = turn
 
 -- A token's own fault, then that of the name before it, then that of the grammar.
-unfoldable pub step : Place → Said → ℕ → Tok → Turn
+unfoldable pub step : Position → Said → ℕ → Tok → Turn
 step p s at t = judged (own_fault at t) (taken p at t (settled p t s))

@@ -6,6 +6,7 @@ pub mod Reading
 pub mod Views
 pub mod PlaceView
 pub mod FaultView
+pub mod FaultTexts
 pub mod SaidView
 pub mod Turns
 pub mod Syntax

@@ -5,8 +5,8 @@ use Rattle.dag_reader.specs.declared.marks.Arrow.{Arrow}
 use Rattle.dag_reader.specs.declared.marks.Arrow.TheVariants.{Right, Left, Both}
 use Rattle.dag_reader.specs.declared.marks.Role.{Role}
 use Rattle.dag_reader.specs.declared.marks.Role.TheVariants.{Exposure, Outcome, Adjusted, Latent}
-use Rattle.dag_reader.specs.declared.marks.Mark.{Mark}
-use Rattle.dag_reader.specs.declared.marks.Mark.TheVariants.{Begins, Joined, Member, HasRole}
+use Rattle.dag_reader.specs.declared.marks.Remark.{Remark}
+use Rattle.dag_reader.specs.declared.marks.Remark.TheVariants.{Begins, Joined, Member, HasRole}
 
 -- ---- edges
 
@@ -17,7 +17,7 @@ pub record Edge : Type 0 where
   pub right : ℕ
 
 -- the members of the group at the front, in the order in which they come
-abbrev pub members : List Mark → List ℕ
+abbrev pub members : List Remark → List ℕ
 members [] = []
 members (Begins ∷ ms) = []
 members (Joined a ∷ ms) = []
@@ -29,7 +29,7 @@ abbrev pub pairs : List ℕ → Arrow → List ℕ → List Edge
 pairs ls a rs = flat_map (λ l. map (λ r. record { left = l; arrow = a; right = r }) rs) ls
 
 -- the edges in the order of the text: each group with the one that an edge joins to it; `left` holds the members so far of the last group
-abbrev pub edges_behind : List ℕ → List Mark → List Edge
+abbrev pub edges_behind : List ℕ → List Remark → List Edge
 edges_behind left [] = []
 edges_behind left (Begins ∷ ms) = edges_behind [] ms
 edges_behind left (Joined a ∷ ms) = pairs left a (members ms) ++ edges_behind [] ms
@@ -37,7 +37,7 @@ edges_behind left (Member v ∷ ms) = edges_behind (left ++ v ∷ []) ms
 edges_behind left (HasRole r ∷ ms) = edges_behind left ms
 
 -- all edges in the order of the text
-abbrev pub edges_of : List Mark → List Edge
+abbrev pub edges_of : List Remark → List Edge
 edges_of marks = edges_behind [] marks
 
 -- an edge of a vertex to itself
@@ -45,7 +45,7 @@ abbrev pub is_self_loop : Edge → Bool
 is_self_loop e = e.left == e.right
 
 -- the first edge that joins a vertex to itself
-abbrev pub self_loop : List Mark → Option Edge
+abbrev pub self_loop : List Remark → Option Edge
 self_loop marks = find is_self_loop (edges_of marks)
 
 -- an edge with one arrowhead, from tail to head: `a <- b` is `b -> a`
@@ -57,11 +57,11 @@ abbrev pub both_of : Edge → Option (ℕ × ℕ)
 both_of e = elim e.arrow [ Right ↦ None | Left ↦ None | Both ↦ Some (e.left, e.right) ]
 
 -- the directed edges, from tail to head
-abbrev pub arrows_of : List Mark → List (ℕ × ℕ)
+abbrev pub arrows_of : List Remark → List (ℕ × ℕ)
 arrows_of marks = filter_map arrow_of (edges_of marks)
 
 -- the bidirected edges
-abbrev pub doubles_of : List Mark → List (ℕ × ℕ)
+abbrev pub doubles_of : List Remark → List (ℕ × ℕ)
 doubles_of marks = filter_map both_of (edges_of marks)
 
 -- ---- roles
@@ -74,7 +74,7 @@ same_role Latent Latent = true
 same_role r q = false
 
 -- each role with its vertex; `last` is the member before
-abbrev pub roles_behind : Option ℕ → List Mark → List (ℕ × Role)
+abbrev pub roles_behind : Option ℕ → List Remark → List (ℕ × Role)
 roles_behind last [] = []
 roles_behind last (Begins ∷ ms) = roles_behind last ms
 roles_behind last (Joined a ∷ ms) = roles_behind last ms
@@ -83,7 +83,7 @@ roles_behind None (HasRole r ∷ ms) = roles_behind None ms
 roles_behind (Some v) (HasRole r ∷ ms) = (v, r) ∷ roles_behind (Some v) ms
 
 -- all roles that are given
-abbrev pub roles_of : List Mark → List (ℕ × Role)
+abbrev pub roles_of : List Remark → List (ℕ × Role)
 roles_of marks = roles_behind None marks
 
 -- whether the role is given to the vertex

@@ -1,8 +1,8 @@
 -- A place without where its names lie in memory.
 use Rattle.std.specs.Prelude.{ℕ, List, Option, option_map}
-use Rattle.dag_reader.specs.Grammar.{Place, at_start, at_dag, at_title, at_statement, after_name, at_key_value, in_group, group_name, after_first, after_edge, chain_name, after_group, at_attrs, attr_name, at_attr_value, after_attr, after_comma, at_end}
-use Rattle.dag_reader.specs.declared.grammar.Place.TheVariants as places
-use Rattle.dag_reader.specs.declared.grammar.Place.{Place as CodePlace}
+use Rattle.dag_reader.specs.Grammar.{Position, at_start, at_dag, at_title, at_statement, after_name, at_key_value, in_group, group_name, after_first, after_edge, chain_name, after_group, at_attrs, attr_name, at_attr_value, after_attr, after_comma, at_end}
+use Rattle.dag_reader.specs.declared.grammar.Position.TheVariants as places
+use Rattle.dag_reader.specs.declared.grammar.Position.{Position as CodePlace}
 use Rattle.dag_reader.specs.declared.words.Word.{Word}
 
 -- the name, if there is one
@@ -10,7 +10,7 @@ abbrev pub name_view : Option Word → Option (List ℕ)
 name_view n = option_map (λ (w : Word). w.bytes.now) n
 
 -- the place
-abbrev pub place_view : CodePlace → Place
+abbrev pub place_view : CodePlace → Position
 place_view places.Start = at_start
 place_view places.Dag = at_dag
 place_view places.Title = at_title

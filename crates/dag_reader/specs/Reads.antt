@@ -8,7 +8,7 @@ use Rattle.mixed_graph.specs.Shown.{graph_of}
 use Rattle.mixed_graph.specs.Pairs.{joins, IsCycle}
 use Rattle.mixed_graph.specs.Built.{IsGraphOf}
 use Rattle.dag_reader.specs.declared.marks.Role.{Role}
-use Rattle.dag_reader.specs.declared.marks.Mark.{Mark}
+use Rattle.dag_reader.specs.declared.marks.Remark.{Remark}
 use Rattle.dag_reader.specs.declared.graph.ReadGraph.{ReadGraph}
 use Rattle.dag_reader.specs.declared.faults.GraphFault.{GraphFault}
 use Rattle.dag_reader.specs.declared.faults.GraphFault.TheVariants.{NotUtf8, Token, Expected, NotADag, EdgeKind, Flag, Selected, SelfLoop, TooMany, RoleClash, Cycle, NoMemory}
@@ -30,28 +30,28 @@ pub record Tells (s : Said) (g : ReadGraph) : Type 0 where
   pub roles : (r : Role) (v : ℕ) → is_marked g r v ≡ has_role (roles_of s.marks) r v
 
 -- no edge joins a vertex to itself
-abbrev pub HasNoLoop : List Mark → Type 0
+abbrev pub HasNoLoop : List Remark → Type 0
 HasNoLoop marks = self_loop marks ≡ None
 
 -- no vertex has two different roles
-abbrev pub HasNoClash : List Mark → Type 0
+abbrev pub HasNoClash : List Remark → Type 0
 HasNoClash marks = (v : ℕ) → HasTwo (has_role (roles_of marks)) v → ⊥
 
 -- the names of a directed cycle without a repeated vertex, which begins with its lowest member
-pub record IsNamedCycle (names : List (List ℕ)) (marks : List Mark) (cycle : List (List ℕ)) : Type 0 where
+pub record IsNamedCycle (names : List (List ℕ)) (marks : List Remark) (cycle : List (List ℕ)) : Type 0 where
   pub list : List ℕ
   pub count : ℕ
   pub is_cycle : IsCycle (joins (arrows_of marks)) list count
   pub named : cycle ≡ map (name_of names) (take count list)
 
 -- What such statements give: a self-loop, the first in the order of the text; else a clash of roles; else a cycle; else the graph.
-abbrev pub Gives : Said → Result ReadGraph GraphFault → Type 0
-Gives s (Ok g) = HasNoLoop s.marks × HasNoClash s.marks × Tells s g
-Gives s (Err (SelfLoop name)) = (e : Edge) × (self_loop s.marks ≡ Some e) × (name ≡ name_of s.names e.left)
-Gives s (Err (RoleClash name)) = HasNoLoop s.marks × (v : ℕ) × IsRoleClash (has_role (roles_of s.marks)) v × (name ≡ name_of s.names v)
-Gives s (Err (Cycle cycle)) = HasNoLoop s.marks × HasNoClash s.marks × IsNamedCycle s.names s.marks cycle.items
-Gives s (Err NoMemory) = Unit {0}
-Gives s (Err fault) = ⊥
+abbrev pub GivesGraph : Said → Result ReadGraph GraphFault → Type 0
+GivesGraph s (Ok g) = HasNoLoop s.marks × HasNoClash s.marks × Tells s g
+GivesGraph s (Err (SelfLoop name)) = (e : Edge) × (self_loop s.marks ≡ Some e) × (name ≡ name_of s.names e.left)
+GivesGraph s (Err (RoleClash name)) = HasNoLoop s.marks × (v : ℕ) × IsRoleClash (has_role (roles_of s.marks)) v × (name ≡ name_of s.names v)
+GivesGraph s (Err (Cycle cycle)) = HasNoLoop s.marks × HasNoClash s.marks × IsNamedCycle s.names s.marks cycle.items
+GivesGraph s (Err NoMemory) = Unit {0}
+GivesGraph s (Err fault) = ⊥
 
 -- The language of graph text, with its faults in their order: UTF-8; the text from left to right; what its statements give.
 abbrev pub Reads : List ℕ → Result ReadGraph GraphFault → Type 0
@@ -64,4 +64,4 @@ Reads text (Err (EdgeKind at)) = IsUtf8 text × Says text (Err (edge_kind at))
 Reads text (Err (Flag at)) = IsUtf8 text × Says text (Err (flag at))
 Reads text (Err (Selected name)) = IsUtf8 text × Says text (Err (selected name))
 Reads text (Err TooMany) = IsUtf8 text × Says text (Err too_many)
-Reads text result = IsUtf8 text × (s : Said) × Says text (Ok s) × Gives s result
+Reads text result = IsUtf8 text × (s : Said) × Says text (Ok s) × GivesGraph s result

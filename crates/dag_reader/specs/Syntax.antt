@@ -1,7 +1,7 @@
 -- The grammar of graph text: what a text is made of, how it is spelled, and what it says.
 use Rattle.std.specs.Prelude.{ℕ, Bool, false, List, [], ◌∷◌, Option, Some, None, codes, Result, Ok, Err}
 use Rattle.dag_reader.specs.declared.marks.Arrow.{Arrow}
-use Rattle.dag_reader.specs.declared.marks.Mark.TheVariants.{Begins, Joined}
+use Rattle.dag_reader.specs.declared.marks.Remark.TheVariants.{Begins, Joined}
 use Rattle.dag_reader.specs.Tokens.{Tok, open_brace, close_brace, open_bracket, close_bracket, semicolon, equals, comma, edge, name, value, end}
 use Rattle.dag_reader.specs.Grammar.{Fault, Said, nothing, with_marks, with_vertex, with_flag}
 

@@ -7,7 +7,7 @@ ghost use Rattle.dag_reader.specs.Builds.{AreEdgesOf, Builds, ChecksLoops, Check
 
 use crate::edges::{Edges, edges_in, has_loop, pairs_below, self_loop};
 use crate::faults::GraphFault;
-use crate::marks::Mark;
+use crate::marks::Remark;
 use crate::roles::{Roles, roles_in};
 use mixed_graph::{BuildFault, Cycle, Graph, Names, Text};
 use std::alloc::{AllocError, Global};
@@ -44,7 +44,7 @@ fn cycle_names(alloc: Global, names: &Names, cycle: &Cycle) -> Result<Vec<Text>,
 fn build_graph(
     alloc: Global,
     names: &Names,
-    marks: &[Mark],
+    marks: &[Remark],
     edges: &Edges,
 ) -> Result<Graph, GraphFault>
     requires inside { list_all (is_inside (length names.now)) marks.now ≡ true }
@@ -66,7 +66,7 @@ fn build_graph(
 fn check_loops(
     alloc: Global,
     names: &Names,
-    marks: &[Mark],
+    marks: &[Remark],
     edges: &Edges,
 ) -> Result<(), GraphFault>
     requires inside { list_all (is_inside (length names.now)) marks.now ≡ true }
@@ -84,7 +84,7 @@ fn check_loops(
 }
 
 /// The roles, where no vertex has two.
-fn check_roles(alloc: Global, names: &Names, marks: &[Mark]) -> Result<Roles, GraphFault>
+fn check_roles(alloc: Global, names: &Names, marks: &[Remark]) -> Result<Roles, GraphFault>
     requires { list_all (is_inside (length names.now)) marks.now ≡ true }
     ensures { ChecksRoles names.now marks.now result }
 {
@@ -97,7 +97,11 @@ fn check_roles(alloc: Global, names: &Names, marks: &[Mark]) -> Result<Roles, Gr
 }
 
 /// The graph and the roles that the marks say.
-pub fn marked_graph(alloc: Global, names: &Names, marks: &[Mark]) -> Result<MarkedGraph, GraphFault>
+pub fn marked_graph(
+    alloc: Global,
+    names: &Names,
+    marks: &[Remark],
+) -> Result<MarkedGraph, GraphFault>
     requires { list_all (is_inside (length names.now)) marks.now ≡ true }
     ensures { Marks names.now marks.now result }
 {

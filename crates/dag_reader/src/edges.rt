@@ -6,21 +6,21 @@ ghost use Rattle.dag_reader.specs.MarkEnds.{is_inside};
 ghost use Rattle.dag_reader.specs.Passes.{Edge, members, self_loop, arrows_of, doubles_of};
 ghost use Rattle.dag_reader.specs.Rows.{row_has, pairs_below};
 
-use crate::marks::{Arrow, Mark};
+use crate::marks::{Arrow, Remark};
 use mixed_graph::VSet;
 use std::alloc::{AllocError, Global};
 
 /// The members of the group at the front.
-fn group(marks: &[Mark]) -> VSet
+fn group(marks: &[Remark]) -> VSet
     requires { list_all (is_inside 64) marks.now ≡ true }
     ensures { (v : ℕ) → has result.bits v ≡ list_any (λ r. v == r) (members marks.now) }
 {
     let mut set = VSet::empty();
     for mark in marks {
         match *mark {
-            Mark::Begins | Mark::Joined(_) => return set,
-            Mark::Member(v) => set = set.union(VSet::one(v)),
-            Mark::HasRole(_) => {}
+            Remark::Begins | Remark::Joined(_) => return set,
+            Remark::Member(v) => set = set.union(VSet::one(v)),
+            Remark::HasRole(_) => {}
         }
     }
     set
@@ -40,7 +40,7 @@ fn first_in(left: &[u8], set: VSet) -> Option<u8>
 }
 
 /// The vertex of the first edge that joins a vertex to itself.
-pub fn self_loop(alloc: Global, marks: &[Mark]) -> Result<Option<u8>, AllocError>
+pub fn self_loop(alloc: Global, marks: &[Remark]) -> Result<Option<u8>, AllocError>
     requires { list_all (is_inside 64) marks.now ≡ true }
     ensures { IfOk result (λ r. r ≡ option_map (λ (e : Edge). e.left) (self_loop marks.now)) }
 {
@@ -48,15 +48,15 @@ pub fn self_loop(alloc: Global, marks: &[Mark]) -> Result<Option<u8>, AllocError
     let mut rest = marks;
     while let [mark, after @ ..] = rest {
         match *mark {
-            Mark::Begins => left.clear(),
-            Mark::Joined(_) => {
+            Remark::Begins => left.clear(),
+            Remark::Joined(_) => {
                 if let Some(v) = first_in(left.as_slice(), group(after)) {
                     return Ok(Some(v));
                 }
                 left.clear();
             }
-            Mark::Member(v) => left.push(v)?,
-            Mark::HasRole(_) => {}
+            Remark::Member(v) => left.push(v)?,
+            Remark::HasRole(_) => {}
         }
         rest = after;
     }
@@ -86,7 +86,7 @@ pub struct Edges {
 }
 
 /// The edges that the marks say.
-pub fn edges_in(marks: &[Mark]) -> Edges
+pub fn edges_in(marks: &[Remark]) -> Edges
     requires { list_all (is_inside 64) marks.now ≡ true }
     ensures arrows { (a b : ℕ) → row_has result.arrows a b ≡ joins (arrows_of marks.now) a b }
     ensures doubles { (a b : ℕ) → row_has result.doubles a b ≡ joins (doubles_of marks.now) a b }
@@ -97,8 +97,8 @@ pub fn edges_in(marks: &[Mark]) -> Edges
     let mut rest = marks;
     while let [mark, after @ ..] = rest {
         match *mark {
-            Mark::Begins => left = VSet::empty(),
-            Mark::Joined(arrow) => {
+            Remark::Begins => left = VSet::empty(),
+            Remark::Joined(arrow) => {
                 let right = group(after);
                 match arrow {
                     Arrow::Right => connect(&mut arrows, left, right),
@@ -107,8 +107,8 @@ pub fn edges_in(marks: &[Mark]) -> Edges
                 }
                 left = VSet::empty();
             }
-            Mark::Member(v) => left = left.union(VSet::one(v)),
-            Mark::HasRole(_) => {}
+            Remark::Member(v) => left = left.union(VSet::one(v)),
+            Remark::HasRole(_) => {}
         }
         rest = after;
     }

@@ -1,12 +1,12 @@
 ghost use Rattle.std.specs.Prelude.{◌≡◌, option_map};
-ghost use Rattle.dag_reader.specs.declared.faults.ReadError.TheVariants.{Memory};
+ghost use Rattle.dag_reader.specs.declared.faults.ReadFault.TheVariants.{Memory};
 ghost use Rattle.dag_reader.specs.declared.faults.GraphFault.TheVariants.{NoMemory};
 ghost use Rattle.dag_reader.specs.Grammar.{own_fault, misfit};
 ghost use Rattle.dag_reader.specs.Views.{view};
 ghost use Rattle.dag_reader.specs.PlaceView.{place_view};
 ghost use Rattle.dag_reader.specs.FaultView.{fault_view};
 
-use crate::grammar::Place;
+use crate::grammar::Position;
 use crate::tokens::Token;
 use mixed_graph::Text;
 use std::alloc::{AllocError, AllocFailed};
@@ -25,24 +25,24 @@ pub enum Fault<'a> {
 
 /// The same, or want of memory.
 #[derive(Clone, Copy, Debug)]
-pub enum ReadError<'a> {
+pub enum ReadFault<'a> {
     Memory,
     Fault(Fault<'a>),
 }
 
-impl<'a> From<AllocError> for ReadError<'a> {
+impl<'a> From<AllocError> for ReadFault<'a> {
     ghost from_gives = { λ _ e. e ≡ Memory };
 
     fn from(_: AllocError) -> Self {
-        ReadError::Memory
+        ReadFault::Memory
     }
 }
 
-impl<'a, T: Drop> From<AllocFailed<T>> for ReadError<'a> {
+impl<'a, T: Drop> From<AllocFailed<T>> for ReadFault<'a> {
     ghost from_gives = { λ _ e. e ≡ Memory };
 
     fn from(_: AllocFailed<T>) -> Self {
-        ReadError::Memory
+        ReadFault::Memory
     }
 }
 
@@ -58,11 +58,11 @@ pub fn own_fault<'a>(at: usize, token: Token<'a>) -> Option<Fault<'a>>
 }
 
 /// The fault of a token that doesn't fit.
-pub fn misfit<'a>(place: Place<'a>, at: usize) -> Fault<'a>
+pub fn misfit<'a>(place: Position<'a>, at: usize) -> Fault<'a>
     ensures { fault_view result ≡ misfit (place_view place.entry) at }
 {
     match place {
-        Place::Start => Fault::NotADag,
+        Position::Start => Fault::NotADag,
         _ => Fault::Expected(at),
     }
 }

@@ -9,7 +9,7 @@ use crate::words::Word;
 
 /// Where a reader is between two tokens.
 #[derive(Clone, Copy, Debug)]
-pub enum Place<'a> {
+pub enum Position<'a> {
     Start,
     /// Behind `dag`.
     Dag,
@@ -38,126 +38,126 @@ pub enum Place<'a> {
     End,
 }
 
-fn next_statement<'a>(token: Token<'a>) -> Option<Place<'a>>
+fn next_statement<'a>(token: Token<'a>) -> Option<Position<'a>>
     ensures { option_map place_view result ≡ next_statement (view token.entry) }
 {
     match token {
-        Token::Semicolon => Some(Place::Statement),
-        Token::Name(_, name) => Some(Place::AfterName(name)),
-        Token::OpenBrace => Some(Place::InGroup(true)),
-        Token::CloseBrace => Some(Place::End),
+        Token::Semicolon => Some(Position::Statement),
+        Token::Name(_, name) => Some(Position::AfterName(name)),
+        Token::OpenBrace => Some(Position::InGroup(true)),
+        Token::CloseBrace => Some(Position::End),
         _ => None,
     }
 }
 
-fn next_in_chain<'a>(token: Token<'a>) -> Option<Place<'a>>
+fn next_in_chain<'a>(token: Token<'a>) -> Option<Position<'a>>
     ensures { option_map place_view result ≡ next_in_chain (view token.entry) }
 {
     match token {
-        Token::Edge(_) => Some(Place::AfterEdge),
-        Token::OpenBracket => Some(Place::Attrs(None)),
+        Token::Edge(_) => Some(Position::AfterEdge),
+        Token::OpenBracket => Some(Position::Attrs(None)),
         _ => next_statement(token),
     }
 }
 
-fn next_after_name<'a>(name: Word<'a>, token: Token<'a>) -> Option<Place<'a>>
+fn next_after_name<'a>(name: Word<'a>, token: Token<'a>) -> Option<Position<'a>>
     ensures { option_map place_view result ≡ next_after_name name.entry.bytes.now (view token.entry) }
 {
     match token {
-        Token::Equals => Some(Place::KeyValue),
-        Token::Edge(_) => Some(Place::AfterEdge),
-        Token::OpenBracket => Some(Place::Attrs(Some(name))),
+        Token::Equals => Some(Position::KeyValue),
+        Token::Edge(_) => Some(Position::AfterEdge),
+        Token::OpenBracket => Some(Position::Attrs(Some(name))),
         _ => next_statement(token),
     }
 }
 
-fn next_in_group<'a>(begins: bool, token: Token<'a>) -> Option<Place<'a>>
+fn next_in_group<'a>(begins: bool, token: Token<'a>) -> Option<Position<'a>>
     ensures { option_map place_view result ≡ next_in_group begins (view token.entry) }
 {
     match token {
-        Token::Semicolon => Some(Place::InGroup(begins)),
-        Token::Name(_, name) => Some(Place::GroupName(begins, name)),
+        Token::Semicolon => Some(Position::InGroup(begins)),
+        Token::Name(_, name) => Some(Position::GroupName(begins, name)),
         Token::CloseBrace => Some(if begins {
-            Place::AfterFirst
+            Position::AfterFirst
         } else {
-            Place::AfterGroup
+            Position::AfterGroup
         }),
         _ => None,
     }
 }
 
-fn next_in_attrs<'a>(of: Option<Word<'a>>, at: usize, token: Token<'a>) -> Option<Place<'a>>
+fn next_in_attrs<'a>(of: Option<Word<'a>>, at: usize, token: Token<'a>) -> Option<Position<'a>>
     ensures { option_map place_view result ≡ next_in_attrs (name_view of.entry) at (view token.entry) }
 {
     match token {
-        Token::Name(_, name) => Some(Place::AttrName(of, at, name)),
-        Token::CloseBracket => Some(Place::Statement),
+        Token::Name(_, name) => Some(Position::AttrName(of, at, name)),
+        Token::CloseBracket => Some(Position::Statement),
         _ => None,
     }
 }
 
-fn next_after_attr<'a>(of: Option<Word<'a>>, at: usize, token: Token<'a>) -> Option<Place<'a>>
+fn next_after_attr<'a>(of: Option<Word<'a>>, at: usize, token: Token<'a>) -> Option<Position<'a>>
     ensures { option_map place_view result ≡ next_after_attr (name_view of.entry) at (view token.entry) }
 {
     match token {
-        Token::Comma => Some(Place::AfterComma(of)),
+        Token::Comma => Some(Position::AfterComma(of)),
         _ => next_in_attrs(of, at, token),
     }
 }
 
 /// The place behind a token that stands at `at`, where it fits.
-pub fn next<'a>(place: Place<'a>, at: usize, token: Token<'a>) -> Option<Place<'a>>
+pub fn next<'a>(place: Position<'a>, at: usize, token: Token<'a>) -> Option<Position<'a>>
     ensures { option_map place_view result ≡ next (place_view place.entry) at (view token.entry) }
 {
     match place {
-        Place::Start => match token {
+        Position::Start => match token {
             Token::Name(false, name) => if name.bytes == b"dag".as_slice() {
-                Some(Place::Dag)
+                Some(Position::Dag)
             } else {
                 None
             },
             _ => None,
         },
-        Place::Dag => match token {
-            Token::Name(_, _) => Some(Place::Title),
-            Token::OpenBrace => Some(Place::Statement),
+        Position::Dag => match token {
+            Token::Name(_, _) => Some(Position::Title),
+            Token::OpenBrace => Some(Position::Statement),
             _ => None,
         },
-        Place::Title => match token {
-            Token::OpenBrace => Some(Place::Statement),
+        Position::Title => match token {
+            Token::OpenBrace => Some(Position::Statement),
             _ => None,
         },
-        Place::Statement => next_statement(token),
-        Place::AfterName(name) => next_after_name(name, token),
-        Place::KeyValue => match token {
-            Token::Value => Some(Place::Statement),
+        Position::Statement => next_statement(token),
+        Position::AfterName(name) => next_after_name(name, token),
+        Position::KeyValue => match token {
+            Token::Value => Some(Position::Statement),
             _ => None,
         },
-        Place::InGroup(begins) | Place::GroupName(begins, _) => next_in_group(begins, token),
-        Place::AfterFirst => match token {
-            Token::Edge(_) => Some(Place::AfterEdge),
+        Position::InGroup(begins) | Position::GroupName(begins, _) => next_in_group(begins, token),
+        Position::AfterFirst => match token {
+            Token::Edge(_) => Some(Position::AfterEdge),
             _ => None,
         },
-        Place::AfterEdge => match token {
-            Token::Name(_, name) => Some(Place::ChainName(name)),
-            Token::OpenBrace => Some(Place::InGroup(false)),
+        Position::AfterEdge => match token {
+            Token::Name(_, name) => Some(Position::ChainName(name)),
+            Token::OpenBrace => Some(Position::InGroup(false)),
             _ => None,
         },
-        Place::ChainName(_) | Place::AfterGroup => next_in_chain(token),
-        Place::Attrs(of) => next_in_attrs(of, at, token),
-        Place::AttrName(of, _, _) => match token {
-            Token::Equals => Some(Place::AttrValue(of)),
+        Position::ChainName(_) | Position::AfterGroup => next_in_chain(token),
+        Position::Attrs(of) => next_in_attrs(of, at, token),
+        Position::AttrName(of, _, _) => match token {
+            Token::Equals => Some(Position::AttrValue(of)),
             _ => next_after_attr(of, at, token),
         },
-        Place::AttrValue(of) => match token {
-            Token::Value => Some(Place::AfterAttr(of)),
+        Position::AttrValue(of) => match token {
+            Token::Value => Some(Position::AfterAttr(of)),
             _ => None,
         },
-        Place::AfterAttr(of) => next_after_attr(of, at, token),
-        Place::AfterComma(of) => match token {
-            Token::Name(_, name) => Some(Place::AttrName(of, at, name)),
+        Position::AfterAttr(of) => next_after_attr(of, at, token),
+        Position::AfterComma(of) => match token {
+            Token::Name(_, name) => Some(Position::AttrName(of, at, name)),
             _ => None,
         },
-        Place::End => None,
+        Position::End => None,
     }
 }

@@ -5,6 +5,7 @@
 
 mod building;
 mod edges;
+mod fault_text;
 mod faults;
 mod grammar;
 mod graph;

@@ -17,7 +17,7 @@ pub enum Role {
 
 /// What a text says of its vertices, piece by piece.
 #[derive(Clone, Copy, Debug, PartialEq, Eq)]
-pub enum Mark {
+pub enum Remark {
     /// A group begins, which no edge joins to the one before.
     Begins,
     /// A group begins, which an edge joins to the one before.

@@ -1,11 +1,11 @@
 ghost use Rattle.std.specs.Prelude.{◌≡◌, true};
 ghost use Rattle.std.specs.Str.{is_utf8};
 ghost use Rattle.dag_reader.specs.SaidView.{said_by};
-ghost use Rattle.dag_reader.specs.Reads.{Gives, Reads};
-ghost use Rattle.dag_reader.specs.Builds.{IsNamed, Holds, Owns};
+ghost use Rattle.dag_reader.specs.Reads.{GivesGraph, Reads};
+ghost use Rattle.dag_reader.specs.Builds.{IsNamed, HoldsMarked, Owns};
 
 use crate::building::{MarkedGraph, marked_graph};
-use crate::faults::{Fault, GraphFault, ReadError};
+use crate::faults::{Fault, GraphFault, ReadFault};
 use crate::graph::ReadGraph;
 use crate::said::Statements;
 use crate::statements::read_statements;
@@ -15,7 +15,7 @@ use std::alloc::Global;
 /// The graph of these names.
 fn named_graph(names: Names, marked: MarkedGraph) -> ReadGraph
     requires { IsNamed names marked }
-    ensures { Holds result names marked }
+    ensures { HoldsMarked result names marked }
 {
     let MarkedGraph { graph, roles } = marked;
     ReadGraph {
@@ -30,7 +30,7 @@ fn named_graph(names: Names, marked: MarkedGraph) -> ReadGraph
 
 /// The graph that statements give.
 fn graph_from(alloc: Global, said: Statements) -> Result<ReadGraph, GraphFault>
-    ensures { Gives (said_by said) result }
+    ensures { GivesGraph (said_by said) result }
 {
     let Statements { names, marks, .. } = said;
     match marked_graph(alloc, &names, marks.as_slice()) {
@@ -40,21 +40,21 @@ fn graph_from(alloc: Global, said: Statements) -> Result<ReadGraph, GraphFault>
 }
 
 /// The fault with a copy of its name.
-fn owned(alloc: Global, error: ReadError<'_>) -> GraphFault
+fn owned(alloc: Global, error: ReadFault<'_>) -> GraphFault
     ensures { Owns error.entry result }
 {
     match error {
-        ReadError::Memory => GraphFault::NoMemory,
-        ReadError::Fault(Fault::Token(at)) => GraphFault::Token(at),
-        ReadError::Fault(Fault::Expected(at)) => GraphFault::Expected(at),
-        ReadError::Fault(Fault::NotADag) => GraphFault::NotADag,
-        ReadError::Fault(Fault::EdgeKind(at)) => GraphFault::EdgeKind(at),
-        ReadError::Fault(Fault::Flag(at)) => GraphFault::Flag(at),
-        ReadError::Fault(Fault::Selected(name)) => match Text::of(alloc, name) {
+        ReadFault::Memory => GraphFault::NoMemory,
+        ReadFault::Fault(Fault::Token(at)) => GraphFault::Token(at),
+        ReadFault::Fault(Fault::Expected(at)) => GraphFault::Expected(at),
+        ReadFault::Fault(Fault::NotADag) => GraphFault::NotADag,
+        ReadFault::Fault(Fault::EdgeKind(at)) => GraphFault::EdgeKind(at),
+        ReadFault::Fault(Fault::Flag(at)) => GraphFault::Flag(at),
+        ReadFault::Fault(Fault::Selected(name)) => match Text::of(alloc, name) {
             Ok(name) => GraphFault::Selected(name),
             Err(_) => GraphFault::NoMemory,
         },
-        ReadError::Fault(Fault::TooMany) => GraphFault::TooMany,
+        ReadFault::Fault(Fault::TooMany) => GraphFault::TooMany,
     }
 }
 

@@ -6,7 +6,7 @@ ghost use Rattle.dag_reader.specs.MarkEnds.{is_inside};
 ghost use Rattle.dag_reader.specs.Passes.{same_role, has_role, roles_of, HasTwo, IsRoleClash};
 ghost use Rattle.dag_reader.specs.RoleSets.{in_set};
 
-use crate::marks::{Mark, Role};
+use crate::marks::{Remark, Role};
 use mixed_graph::VSet;
 
 /// The vertices of each role.
@@ -72,7 +72,7 @@ impl Roles {
 }
 
 /// The roles that the marks give.
-pub fn roles_in(marks: &[Mark]) -> Roles
+pub fn roles_in(marks: &[Remark]) -> Roles
     requires { list_all (is_inside 64) marks.now ≡ true }
     ensures { (r : Role) (v : ℕ) → in_set result r v ≡ has_role (roles_of marks.now) r v }
 {
@@ -80,9 +80,9 @@ pub fn roles_in(marks: &[Mark]) -> Roles
     let mut last: Option<u8> = None;
     for mark in marks {
         match *mark {
-            Mark::Begins | Mark::Joined(_) => {}
-            Mark::Member(v) => last = Some(v),
-            Mark::HasRole(role) => if let Some(v) = last {
+            Remark::Begins | Remark::Joined(_) => {}
+            Remark::Member(v) => last = Some(v),
+            Remark::HasRole(role) => if let Some(v) = last {
                 roles = roles.with(role, v);
             },
         }

@@ -2,10 +2,10 @@ ghost use Rattle.std.specs.Prelude.{◌≡◌, ◌<◌, List, ℕ, [], ◌∷◌
 ghost use Rattle.std.specs.List.{list_all};
 ghost use Rattle.dag_reader.specs.MarkEnds.{is_inside};
 
-use crate::faults::{Fault, ReadError, misfit, own_fault};
-use crate::grammar::{Place, next};
+use crate::faults::{Fault, ReadFault, misfit, own_fault};
+use crate::grammar::{Position, next};
 use crate::guesses::NameGuesses;
-use crate::marks::{Mark, Role};
+use crate::marks::{Remark, Role};
 use crate::tokens::{Token, is_end};
 use crate::words::Word;
 use mixed_graph::{AddFault, Names};
@@ -15,7 +15,7 @@ use std::alloc::{AllocError, Global};
 #[derive(Drop)]
 pub struct Statements {
     pub names: Names,
-    pub marks: Vec<Mark>,
+    pub marks: Vec<Remark>,
     pub guesses: NameGuesses,
     pub ghost inside: { list_all (is_inside (length names)) marks.items ≡ true },
 }
@@ -38,7 +38,7 @@ impl Statements {
         }
     }
 
-    fn mark(&mut self, mark: Mark) -> Result<(), AllocError>
+    fn mark(&mut self, mark: Remark) -> Result<(), AllocError>
         requires { is_inside (length self.old.names) mark ≡ true }
         ensures { OnOk result (said_by self.new ≡ with_marks (mark ∷ []) (said_by self.old)) }
     {
@@ -46,22 +46,22 @@ impl Statements {
         Ok(())
     }
 
-    fn add_vertex<'a>(&mut self, name: Word<'a>) -> Result<(), ReadError<'a>>
+    fn add_vertex<'a>(&mut self, name: Word<'a>) -> Result<(), ReadFault<'a>>
         ensures { Leaves (with_vertex name.entry.bytes.now (said_by self.old)) (said_by self.new) result }
     {
         if let Some(index) = self.guesses.index(&self.names, name.bytes) {
-            self.mark(Mark::Member(index))?;
+            self.mark(Remark::Member(index))?;
             return Ok(());
         }
         match self.names.add(name.bytes) {
             Ok(index) => {
                 self.guesses.keep(name.bytes, index);
-                self.mark(Mark::Member(index))?;
+                self.mark(Remark::Member(index))?;
                 Ok(())
             }
             Err(AddFault::NotAName) => unreachable!(),
-            Err(AddFault::Full) => Err(ReadError::Fault(Fault::TooMany)),
-            Err(AddFault::NoMemory) => Err(ReadError::Memory),
+            Err(AddFault::Full) => Err(ReadFault::Fault(Fault::TooMany)),
+            Err(AddFault::NoMemory) => Err(ReadFault::Memory),
         }
     }
 
@@ -70,36 +70,36 @@ impl Statements {
         of: Option<Word<'a>>,
         at: usize,
         name: Word<'a>,
-    ) -> Result<(), ReadError<'a>>
+    ) -> Result<(), ReadFault<'a>>
         ensures { Leaves (with_flag (name_view of.entry) at name.entry.bytes.now (said_by self.old)) (said_by self.new) result }
     {
         let Some(vertex) = of else {
-            return Err(ReadError::Fault(Fault::Flag(at)));
+            return Err(ReadFault::Fault(Fault::Flag(at)));
         };
         if name.bytes == b"selected".as_slice() {
-            return Err(ReadError::Fault(Fault::Selected(vertex.bytes)));
+            return Err(ReadFault::Fault(Fault::Selected(vertex.bytes)));
         }
         let Some(role) = Role::named(name.bytes) else {
-            return Err(ReadError::Fault(Fault::Flag(at)));
+            return Err(ReadFault::Fault(Fault::Flag(at)));
         };
-        self.mark(Mark::HasRole(role))?;
+        self.mark(Remark::HasRole(role))?;
         Ok(())
     }
 
     /// What the name before a token is, which the token settles.
-    fn settle<'a>(&mut self, place: Place<'a>, token: Token<'a>) -> Result<(), ReadError<'a>>
+    fn settle<'a>(&mut self, place: Position<'a>, token: Token<'a>) -> Result<(), ReadFault<'a>>
         ensures { Leaves (settled (place_view place.entry) (view token.entry) (said_by self.old)) (said_by self.new) result }
     {
         match place {
-            Place::AfterName(name) => match token {
+            Position::AfterName(name) => match token {
                 Token::Equals => Ok(()),
                 _ => {
-                    self.mark(Mark::Begins)?;
+                    self.mark(Remark::Begins)?;
                     self.add_vertex(name)
                 }
             },
-            Place::GroupName(_, name) | Place::ChainName(name) => self.add_vertex(name),
-            Place::AttrName(of, at, name) => match token {
+            Position::GroupName(_, name) | Position::ChainName(name) => self.add_vertex(name),
+            Position::AttrName(of, at, name) => match token {
                 Token::Equals => Ok(()),
                 _ => self.add_flag(of, at, name),
             },
@@ -108,14 +108,16 @@ impl Statements {
     }
 
     /// What a token itself says.
-    fn note<'a>(&mut self, place: Place<'a>, token: Token<'a>) -> Result<(), AllocError>
+    fn note<'a>(&mut self, place: Position<'a>, token: Token<'a>) -> Result<(), AllocError>
         ensures { OnOk result (said_by self.new ≡ noted (place_view place.entry) (view token.entry) (said_by self.old)) }
     {
         match token {
-            Token::Edge(arrow) => self.mark(Mark::Joined(arrow)),
+            Token::Edge(arrow) => self.mark(Remark::Joined(arrow)),
             Token::OpenBrace => match place {
-                Place::Statement | Place::AfterName(_) | Place::ChainName(_) | Place::AfterGroup =>
-                    self.mark(Mark::Begins),
+                Position::Statement
+                | Position::AfterName(_)
+                | Position::ChainName(_)
+                | Position::AfterGroup => self.mark(Remark::Begins),
                 _ => Ok(()),
             },
             _ => Ok(()),
@@ -126,24 +128,24 @@ impl Statements {
     #[tactic(auto, unfolding(crate::specs::Grammar::step))]
     pub fn step<'a>(
         &mut self,
-        place: Place<'a>,
+        place: Position<'a>,
         at: usize,
         token: Token<'a>,
-    ) -> Result<Option<Place<'a>>, ReadError<'a>>
+    ) -> Result<Option<Position<'a>>, ReadFault<'a>>
         ensures { Turns (step (place_view place.entry) (said_by self.old) at (view token.entry)) (said_by self.new) result }
     {
         if let Some(fault) = own_fault(at, token) {
-            return Err(ReadError::Fault(fault));
+            return Err(ReadFault::Fault(fault));
         }
         self.settle(place, token)?;
         if is_end(token) {
             return match place {
-                Place::End => Ok(None),
-                _ => Err(ReadError::Fault(misfit(place, at))),
+                Position::End => Ok(None),
+                _ => Err(ReadFault::Fault(misfit(place, at))),
             };
         }
         let Some(after) = next(place, at, token) else {
-            return Err(ReadError::Fault(misfit(place, at)));
+            return Err(ReadFault::Fault(misfit(place, at)));
         };
         self.note(place, token)?;
         Ok(Some(after))

@@ -14,7 +14,7 @@ use Rattle.do_derivation.specs.declared.steps.Step.{Step}
 use Rattle.do_derivation.proofs.Lists.{joined_more, joined-nothing}
 use Rattle.identification.specs.Procedure.{Source, conditional, AreFactors}
 use Rattle.identification.specs.Derivations.{Lists, no_more, more, ArePlaceLists, universe, place_list, source_steps, in_order}
-use Rattle.district_factors.specs.declared.place.Place.{Place}
+use Rattle.district_factors.specs.declared.place.VertexFactor.{VertexFactor}
 use Rattle.district_factors.specs.Bodies.{IsPlaceOf}
 use Rattle.district_factors.specs.Parts.{lists_of}
 
@@ -56,7 +56,7 @@ module _ (g : MixedGraph) (order : List ℕ) (from : Source) (a t : ℕ) where
     placed = λ ls r. so_far.placed ls (lists_at p i ls lt (ArePlaceLists.skip out (subst (λ q. ArePlaceLists g from a t q (drop (i + 1) order) ls) is r)));
   }
 
-  pub placing_take : (p p' i : ℕ) (factors factors' : List Expr) (lists lists' : List (Vec Step)) (found : Place) → i < length order → has t (vertex i) ≡ true → p' ≡ join p (one (vertex i)) →
+  pub placing_take : (p p' i : ℕ) (factors factors' : List Expr) (lists lists' : List (Vec Step)) (found : VertexFactor) → i < length order → has t (vertex i) ≡ true → p' ≡ join p (one (vertex i)) →
       IsPlaceOf g from a t p (vertex i) found → factors' ≡ factors ++ found.term ∷ [] → lists' ≡ lists ++ found.steps ∷ [] → Placing g order from a t p i factors lists → Placing g order from a t p' (i + 1) factors' lists'
   placing_take p p' i factors factors' lists lists' found lt into is k more_factors more_lists so_far = record {
     factored = λ fs r. subst (AreFactors g from a t 0 order) (ap (λ e. joined (views factors) (tree e fs)) (sym k.term) ∙ sym (joined_more factors found.term fs) ∙ sym (ap (λ es. joined (views es) fs) more_factors))

@@ -6,13 +6,13 @@ use Rattle.prob_expr.specs.View.{view, views}
 use Rattle.do_derivation.specs.View.{steps_view}
 use Rattle.identification.specs.Procedure.{common, IsPillow, Source, conditional, AreFactors, IsBody}
 use Rattle.identification.specs.Derivations.{universe, source_steps, place_list, ArePlaceLists, AreBodySteps}
-use Rattle.district_factors.specs.declared.place.Place.{Place}
+use Rattle.district_factors.specs.declared.place.VertexFactor.{VertexFactor}
 use Rattle.district_factors.specs.declared.body.Places.{Places}
 use Rattle.district_factors.specs.declared.body.Body.{Body}
 use Rattle.district_factors.specs.Parts.{lists_of}
 
 -- the factor of v in the district t of a, and the steps to it, where p has the vertices before v
-pub record IsPlaceOf (g : MixedGraph) (from : Source) (a t p v : ℕ) (found : Place) : Type 0 where
+pub record IsPlaceOf (g : MixedGraph) (from : Source) (a t p v : ℕ) (found : VertexFactor) : Type 0 where
   pub m : ℕ
   pub pillow : IsPillow g (join (common a p) (one v)) v m
   pub term : view found.term ≡ conditional from a v m

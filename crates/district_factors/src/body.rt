@@ -12,7 +12,7 @@ ghost use Rattle.district_factors.specs.Parts.{source_of, lists_of};
 ghost use Rattle.district_factors.specs.Bodies.{ArePlaces, IsBodyOf};
 
 use crate::moves::{add_at, members_in};
-use crate::place::{Place, place_of};
+use crate::place::{VertexFactor, place_of};
 use crate::terms::{Source, as_one};
 use do_derivation::Step;
 use mixed_graph::{Graph, Order, VSet};
@@ -52,7 +52,7 @@ fn places_of(
     let mut before = VSet { bits: 0 };
     for v in order {
         if t.has(*v) {
-            let Place { term, steps } = place_of(alloc, g, from, a, t, before, *v)?;
+            let VertexFactor { term, steps } = place_of(alloc, g, from, a, t, before, *v)?;
             factors.push(term)?;
             lists.push(steps)?;
         }

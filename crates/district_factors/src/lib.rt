@@ -4,12 +4,12 @@
 #![tactic(auto)]
 
 mod body;
-mod kinds;
+mod factor;
 mod moves;
 mod place;
 mod rounds;
 mod sets;
 mod terms;
 
-pub use kinds::{Factor, FactorFault};
+pub use factor::{Factor, FactorFault};
 pub use rounds::{factor, factor_under};

@@ -19,7 +19,7 @@ use std::alloc::{AllocError, Global};
 
 /// The factor of a vertex, and the steps that make it of the vertex's term in the chain.
 #[derive(Drop)]
-pub struct Place {
+pub struct VertexFactor {
     pub term: Expr,
     pub steps: Vec<Step>,
 }
@@ -44,7 +44,7 @@ pub fn place_of(
     t: VSet,
     before: VSet,
     v: u8,
-) -> Result<Place, AllocError>
+) -> Result<VertexFactor, AllocError>
     requires vertex { v < g.now.n }
     requires within { Within g.now.n (has a.bits) }
     ensures { IfOk result (IsPlaceOf (graph_of g.now) (source_of from) a.bits t.bits before.bits v) }
@@ -55,5 +55,5 @@ pub fn place_of(
     let term = conditional(alloc, from, a, v, m)?;
     let rest = source_steps(alloc, from, a, v, m)?;
     let steps = place_steps(alloc, before, possible, a, t, m, rest)?;
-    Ok(Place { term, steps })
+    Ok(VertexFactor { term, steps })
 }

@@ -13,7 +13,7 @@ use Rattle.prob_expr.specs.View.{view}
 use Rattle.prob_expr.specs.declared.expr.Expr.{Expr}
 use Rattle.mixed_graph.proofs.MaskLaws.{filled_from}
 use Rattle.do_derivation.specs.Accepts.{Accepts, AcceptsNot, Define, DefinesNot, are_sets, sets_of, start_of}
-use Rattle.do_derivation.specs.Answers.{UnlessNoMemory, IsStopped}
+use Rattle.do_derivation.specs.Answers.{UnlessNoMemory, StopsAtStep}
 use Rattle.do_derivation.specs.Plans.{PlainDerivation}
 use Rattle.do_derivation.specs.Steps.{Makes, Refuses}
 use Rattle.do_derivation.specs.View.{step_view, lemma_view}
@@ -66,12 +66,12 @@ module _ (g : MixedGraph) (ls : List Lemma) (ds : List Expr) (sets : List VSet) 
     defs_here : map view (drop k ds) ≡ view d ∷ map view (drop (k + 1) ds)
     defs_here = at_drop_more (λ xs. map view xs) ds k d room ∙ ap (λ x. view x ∷ map view (drop (k + 1) ds)) (sym at)
 
-    pub lemma_fails : (why : CheckFault) → IsStopped g (masks_of sets) (step_view l.step) (start_of g.vertices l.set.bits) (view d) (Some (cap k)) (cap k) why → DefinesNot g [] 0 (map lemma_view ls) (map view ds) why
+    pub lemma_fails : (why : CheckFault) → StopsAtStep g (masks_of sets) (step_view l.step) (start_of g.vertices l.set.bits) (view d) (Some (cap k)) (cap k) why → DefinesNot g [] 0 (map lemma_view ls) (map view ds) why
     lemma_fails why h =
         left.fails why (subst (λ xs. DefinesNot g (masks_of sets) k xs (map view (drop k ds)) why) (sym lemmas_here)
         (subst (λ ys. DefinesNot g (masks_of sets) k (lemma_view l ∷ map lemma_view (drop (k + 1) ls)) ys why) (sym defs_here) (stopped h)))
       where
-        stopped : IsStopped g (masks_of sets) (step_view l.step) (start_of g.vertices l.set.bits) (view d) (Some (cap k)) (cap k) why
+        stopped : StopsAtStep g (masks_of sets) (step_view l.step) (start_of g.vertices l.set.bits) (view d) (Some (cap k)) (cap k) why
             → DefinesNot g (masks_of sets) k (lemma_view l ∷ map lemma_view (drop (k + 1) ls)) (view d ∷ map view (drop (k + 1) ds)) why
         stopped (inl r) = inl r
         stopped (inr r) = inr (inl r)
@@ -114,7 +114,7 @@ module _ (g : MixedGraph) (ls : List Lemma) (ds : List Expr) (sets : List VSet) 
 
 -- ---- the whole
 module _ (g : MixedGraph) (allowed : List ℕ) (t : PlainTarget) (f : PlainFormula) (d : PlainDerivation) (sets : List VSet) (same : masks_of sets ≡ sets_of d.lemmas) (define : Define g [] d.lemmas f.defs) where
-  pub main_fails : (why : CheckFault) → IsStopped g (masks_of sets) d.main (term_of t) f.main None (cap (length d.lemmas)) why → AcceptsNot g allowed t f d why
+  pub main_fails : (why : CheckFault) → StopsAtStep g (masks_of sets) d.main (term_of t) f.main None (cap (length d.lemmas)) why → AcceptsNot g allowed t f d why
   main_fails why (inl r) = inr (define, inl (subst (λ m. (number : ℕ) × (fault : StepFault) × Refuses g m d.main (term_of t) 0 number fault × (why ≡ Step (record { lemma = None; number = number }) fault)) same r))
   main_fails why (inr r) = inr (define, inr (inl (subst (λ m. (x : Tree) × Makes g m d.main (term_of t) x × (x ≡ f.main → ⊥) × (why ≡ EndDiffers (cap (length d.lemmas)))) same r)))
 

@@ -14,7 +14,7 @@ use Rattle.prob_expr.specs.Tree.{Tree, PlainFormula, PlainTarget, term_of}
 use Rattle.do_derivation.specs.Plans.{Plan, Plans, no_plans, plan, numbered, PlainLemma, PlainDerivation}
 use Rattle.do_derivation.specs.Shapes.{child, with_child}
 use Rattle.do_derivation.specs.Table.{Row, row}
-use Rattle.do_derivation.specs.Steps.{IsMade, IsRefused, Makes, MakesAll, Refuses, RefusesAny}
+use Rattle.do_derivation.specs.Steps.{IsMade, RowRefuses, Makes, MakesAll, Refuses, RefusesAny}
 use Rattle.do_derivation.specs.Accepts.{Accepts, AcceptsNot, Define, DefinesNot, EndsNot, start_of, sets_of}
 use Rattle.do_derivation.specs.Sound.{StepsAreExact, AcceptsOrNot, kind_of}
 use Rattle.do_derivation.specs.declared.faults.StepFault.{StepFault}
@@ -35,12 +35,12 @@ row_once g (Row.Refuse f) x y a b = absurd a
 row_once g (Row.Make e) x y a b = a ∙ sym b
 row_once g (Row.Ask rule x' y' z w e) x y a b = a.1 ∙ sym b.1
 
-row_either : (g : MixedGraph) (r : Row) (x : Tree) (f : StepFault) → IsMade g r x → IsRefused g r f → ⊥
+row_either : (g : MixedGraph) (r : Row) (x : Tree) (f : StepFault) → IsMade g r x → RowRefuses g r f → ⊥
 row_either g (Row.Refuse h) x f a b = a
 row_either g (Row.Make e) x f a b = b
 row_either g (Row.Ask rule x' y z w e) x f a b = holds_or_fails g rule (has x') (has y) (has z) (has w) b.0 a.0 b.1
 
-row_fault : (g : MixedGraph) (r : Row) (f h : StepFault) → IsRefused g r f → IsRefused g r h → kind_of f ≡ kind_of h
+row_fault : (g : MixedGraph) (r : Row) (f h : StepFault) → RowRefuses g r f → RowRefuses g r h → kind_of f ≡ kind_of h
 row_fault g (Row.Refuse x) f h a b = ap kind_of (a ∙ sym b)
 row_fault g (Row.Make e) f h a b = absurd a
 row_fault g (Row.Ask rule x' y z w e) f h a b = ap kind_of a.2 ∙ sym (ap kind_of b.2)

@@ -5,7 +5,7 @@ use Rattle.mixed_graph.specs.Bits.{has}
 use Rattle.finite_models.proofs.Bools.{and_first, and_second, either}
 use Rattle.do_rules.specs.Rules.{AreFourSets}
 use Rattle.mixed_graph.specs.Masks.{join, minus, one, is_empty, is_apart, is_inside, is_below}
-use Rattle.prob_expr.specs.Masks.{are_term_sets}
+use Rattle.prob_expr.specs.TermSets.{are_term_sets}
 use Rattle.prob_expr.specs.Terms.{is_term}
 use Rattle.mixed_graph.proofs.MaskLaws.{filled_from, not_empty, has_join, has_minus, has_none, has_one, apart_has, apart_from, inside_has, below_has, below_from}
 use Rattle.do_derivation.specs.Table.{is_new}

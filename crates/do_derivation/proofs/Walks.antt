@@ -11,7 +11,7 @@ use Rattle.prob_expr.specs.View.{view, views}
 use Rattle.prob_expr.specs.declared.expr.Expr.{Expr}
 use Rattle.do_derivation.specs.View.{numbers_of}
 use Rattle.do_derivation.specs.Shapes.{is_list_of, chained, joined, flat, has_product, picked, as_one, groups_of, times_in, each_below, all_of, grouped, is_grouping, unwrapped}
-use Rattle.do_derivation.specs.Steps.{IsMade, IsRefused}
+use Rattle.do_derivation.specs.Steps.{IsMade, RowRefuses}
 use Rattle.do_derivation.specs.Table.{if_made}
 use Rattle.do_derivation.specs.declared.faults.StepFault.TheVariants.{Grouping, Shape}
 use Rattle.do_derivation.proofs.Lists.{joined-nothing, joined_more, each_below_append, times_in_append, picked_some, count_views, views_append}
@@ -96,13 +96,13 @@ as_one_many (e ∷ f ∷ es) ne = refl
 
 -- ---- products
 module _ (g : MixedGraph) (l : List (List ℕ)) (e : Tree) (es : List Expr) (seen : e ≡ product (views es)) where
-  pub group_refused : is_grouping (length es) l ≡ false → IsRefused g (if_made (grouped l e) Grouping) Grouping
+  pub group_refused : is_grouping (length es) l ≡ false → RowRefuses g (if_made (grouped l e) Grouping) Grouping
   group_refused h = rw (seen, count_views es, h) refl
 
   pub group_made : is_grouping (length es) l ≡ true → (x : Tree) → x ≡ product (groups_of (views es) l) → IsMade g (if_made (grouped l e) Grouping) x
   group_made h x same = rw (seen, count_views es, h) same
 
-  pub unwrap_refused : has_product (views es) ≡ false → IsRefused g (if_made (unwrapped e) Shape) Shape
+  pub unwrap_refused : has_product (views es) ≡ false → RowRefuses g (if_made (unwrapped e) Shape) Shape
   unwrap_refused h = rw (seen, h) refl
 
   pub unwrap_made : has_product (views es) ≡ true → (x : Tree) → x ≡ product (flat (views es)) → IsMade g (if_made (unwrapped e) Shape) x

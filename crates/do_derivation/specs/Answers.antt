@@ -23,7 +23,7 @@ UnlessNoMemory DoLeft P = P
 UnlessNoMemory NoMemory P = Unit {0}
 
 -- the step is refused on e, or makes something else than d
-abbrev pub IsStopped : MixedGraph → List ℕ → Plan → (e d : Tree) → (lemma : Option ℕ) (end : ℕ) → CheckFault → Type 0
-IsStopped g lemmas p e d lemma end fault =
+abbrev pub StopsAtStep : MixedGraph → List ℕ → Plan → (e d : Tree) → (lemma : Option ℕ) (end : ℕ) → CheckFault → Type 0
+StopsAtStep g lemmas p e d lemma end fault =
     ((number : ℕ) × (why : StepFault) × Refuses g lemmas p e 0 number why × (fault ≡ Step (record { lemma = lemma; number = number }) why))
     ⊎ ((x : Tree) × Makes g lemmas p e x × (x ≡ d → ⊥) × (fault ≡ EndDiffers end))

@@ -8,7 +8,7 @@ use Rattle.prob_expr.specs.View.{view}
 use Rattle.prob_expr.specs.declared.expr.Expr.{Expr}
 use Rattle.do_derivation.specs.Plans.{Plan, Plans, numbered, numbered_all}
 use Rattle.do_derivation.specs.Shapes.{factor_at}
-use Rattle.do_derivation.specs.Steps.{IsMade, IsRefused, Makes, MakesAll, Refuses, RefusesAny}
+use Rattle.do_derivation.specs.Steps.{IsMade, RowRefuses, Makes, MakesAll, Refuses, RefusesAny}
 use Rattle.do_derivation.specs.Table.{Row}
 use Rattle.do_derivation.specs.declared.faults.Refusal.{Refusal}
 use Rattle.do_derivation.specs.declared.faults.Refusal.TheVariants.{Fault, NoMemory}
@@ -17,7 +17,7 @@ use Rattle.do_derivation.specs.declared.faults.StepFault.TheVariants.{NoPlace}
 -- the result of a move, by its row
 abbrev pub IsRow : MixedGraph → Row → Result Expr Refusal → Type 0
 IsRow g r (Ok x) = IsMade g r (view x)
-IsRow g r (Err (Fault f)) = IsRefused g r f
+IsRow g r (Err (Fault f)) = RowRefuses g r f
 IsRow g r (Err NoMemory) = Unit {0}
 
 -- the result of a step on e: the counter of nodes stands at `from` before it, and at `to` after it

@@ -19,10 +19,10 @@ IsMade g (Row.Make x) e = e ≡ x
 IsMade g (Row.Ask rule x y z w made) e = IsBlockedFor rule g (has x) (has y) (has z) (has w) × (e ≡ made)
 
 -- a row of the table has this fault
-abbrev pub IsRefused : MixedGraph → Row → StepFault → Type 0
-IsRefused g (Row.Refuse f) fault = fault ≡ f
-IsRefused g (Row.Make x) fault = ⊥
-IsRefused g (Row.Ask rule x y z w made) fault = (p : OpenPath) × IsOpenFor rule g (has x) (has y) (has z) (has w) p × (fault ≡ Unblocked p)
+abbrev pub RowRefuses : MixedGraph → Row → StepFault → Type 0
+RowRefuses g (Row.Refuse f) fault = fault ≡ f
+RowRefuses g (Row.Make x) fault = ⊥
+RowRefuses g (Row.Ask rule x y z w made) fault = (p : OpenPath) × IsOpenFor rule g (has x) (has y) (has z) (has w) p × (fault ≡ Unblocked p)
 
 -- the step makes e' of e, where the lemmas with these sets may be cited
 abbrev mutual
@@ -38,7 +38,7 @@ abbrev mutual
 -- The step is refused on e at the node `number` by that fault, where `before` nodes were counted before it. Nodes count from 1 in preorder, `Then` isn't counted, and a number that would pass the last of 32 bits is given as that.
 abbrev mutual
   pub Refuses : MixedGraph → List ℕ → Plan → Tree → (before number : ℕ) → StepFault → Type 0
-  Refuses g lemmas (Plan.Make move) e before number fault = (number ≡ cap (before + 1)) × IsRefused g (row g.vertices lemmas move e) fault
+  Refuses g lemmas (Plan.Make move) e before number fault = (number ≡ cap (before + 1)) × RowRefuses g (row g.vertices lemmas move e) fault
   Refuses g lemmas (Plan.At i p) e before number fault = MatchOption (child e i) ((number ≡ cap (before + 1)) × (fault ≡ NoPlace i)) (λ c. Refuses g lemmas p c (before + 1) number fault)
   Refuses g lemmas (Plan.Then ps) e before number fault = RefusesAny g lemmas ps e before number fault
 

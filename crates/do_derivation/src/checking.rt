@@ -8,7 +8,7 @@ ghost use Rattle.prob_expr.specs.Terms.{is_term, are_terms, is_allowed, is_do_fr
 ghost use Rattle.prob_expr.specs.Values.{EqualsEffect};
 ghost use Rattle.prob_expr.specs.View.{view, formula_view, target_view};
 ghost use Rattle.do_derivation.specs.Accepts.{Accepts, AcceptsNot, Define, DefinesNot, are_sets, sets_of, start_of};
-ghost use Rattle.do_derivation.specs.Answers.{IsApplyFault, UnlessNoMemory, IsStopped};
+ghost use Rattle.do_derivation.specs.Answers.{IsApplyFault, UnlessNoMemory, StopsAtStep};
 ghost use Rattle.do_derivation.specs.Steps.{Makes};
 ghost use Rattle.do_derivation.specs.View.{step_view, lemma_view, derivation_view};
 
@@ -69,7 +69,7 @@ fn run(
 ) -> Result<(), CheckFault>
     requires terms { are_terms g.now.n (view start) ≡ true }
     ensures made { OnOk result (Makes (graph_of g.now) (masks_of lemmas.now.items) (step_view step.now) (view start) (view end.now)) }
-    ensures fault { IfErr result (λ why. UnlessNoMemory why (IsStopped (graph_of g.now) (masks_of lemmas.now.items) (step_view step.now) (view start) (view end.now) lemma number why)) }
+    ensures fault { IfErr result (λ why. UnlessNoMemory why (StopsAtStep (graph_of g.now) (masks_of lemmas.now.items) (step_view step.now) (view start) (view end.now) lemma number why)) }
 {
     match apply(alloc, g, lemmas, step, start) {
         Ok(made) => {

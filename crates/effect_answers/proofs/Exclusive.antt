@@ -9,8 +9,8 @@ use Rattle.targets.specs.Targets.{EffectLists, AreEffectSets}
 use Rattle.targets.proofs.Effects.{effect_within_x, effect_within_y, effect_apart, effect_outcome}
 use Rattle.prob_expr.specs.Tree.{PlainFormula}
 use Rattle.do_derivation.specs.Plans.{PlainDerivation}
-use Rattle.hedge.specs.declared.kinds.Hedge.{Hedge}
-use Rattle.counter_models.specs.declared.kinds.CounterPair.{CounterPair}
+use Rattle.hedge.specs.declared.hedge.Hedge.{Hedge}
+use Rattle.counter_models.specs.declared.counter_pair.CounterPair.{CounterPair}
 use Rattle.identification.specs.Derivations.{IsDerived}
 use Rattle.identification.specs.Procedure.{IsTarget, IsUnidentified}
 use Rattle.identification_answers.proofs.Answered.{never_both, derived_is_identified}

@@ -9,7 +9,7 @@ use Rattle.targets.specs.declared.query.Sets.{Sets}
 use Rattle.targets.specs.Targets.{IsTargetFault}
 use Rattle.replies.specs.declared.outcome.Outcome.{Outcome}
 use Rattle.replies.specs.declared.outcome.Outcome.TheVariants.{Yes, No, Second}
-use Rattle.replies.specs.Observed.{observed_names, Holds}
+use Rattle.replies.specs.Observed.{observed_names, HoldsGraph}
 use Rattle.replies.specs.OneOutcome.{OneOutcome, IsAnswerOn}
 use Rattle.replies.proofs.OneGraph.{one_reading, one_observed_graph, same_observed_names, reads_either}
 use Rattle.replies.proofs.OneOutcome.{IsOneOf, one_of_three, one_on_graph}
@@ -18,7 +18,7 @@ use Rattle.equivalent_command.specs.Numbers.{HaveSameNames, on_names}
 use Rattle.equivalent_command.specs.Faults.{IsBidirectedFault, IsOtherName, in_first, in_second}
 use Rattle.equivalent_command.specs.Queries.{lists_on, AreAsked, IsListsFault}
 use Rattle.equivalent_command.specs.Requests.{Query}
-use Rattle.equivalent_command.specs.Answers.{IsAccepted, IsFirstFault, IsFirstRefusal, AreComparable, IsSame, IsDifferent, edge, collider, ComparedAnswer, ObservedFault, IsUnlike, IsSecondRefusal, too_long, faulty, HoldsAnswer, SecondAnswer, EquivalentAnswer}
+use Rattle.equivalent_command.specs.Answers.{IsAcceptedFirst, IsFirstGraphFault, IsFirstRefusal, AreComparable, IsSame, IsDifferent, edge, collider, ComparedAnswer, ObservedFault, IsUnlike, IsSecondRefusal, too_long, faulty, HoldsAnswer, SecondAnswer, EquivalentAnswer}
 
 both_ways : (b : Bool) → b ≡ true → b ≡ false → ⊥
 both_ways b e f = absurd (grind (arith, e, f))
@@ -37,14 +37,14 @@ lists_or_sets g h same None s f a b = a
 lists_or_sets g h same (Some q) None f a b = b
 lists_or_sets g h same (Some q) (Some s) f a b = no_fault_of _ q.y q.x f b.no_fault b.some_y b.some_x (subst (λ k. IsTargetFault k f) (sym (same_lists q g h same)) a)
 
-fault_or_accepted : (g h : ReadGraph) → AreSame g h → (l : Option Query) (s : Option Sets) (f : TargetFault) → IsFirstFault g l f → IsAccepted h l s → ⊥
-fault_or_accepted g h same l s f (IsFirstFault.listed is) a = lists_or_sets g h same l s f is a.asked
-fault_or_accepted g h same l s f (IsFirstFault.bidirected t asked is) a =
+fault_or_accepted : (g h : ReadGraph) → AreSame g h → (l : Option Query) (s : Option Sets) (f : TargetFault) → IsFirstGraphFault g l f → IsAcceptedFirst h l s → ⊥
+fault_or_accepted g h same l s f (IsFirstGraphFault.listed is) a = lists_or_sets g h same l s f is a.asked
+fault_or_accepted g h same l s f (IsFirstGraphFault.bidirected t asked is) a =
     let d = a.directed in
     arrows_or_not is.0 (observed_names g) f (subst HasArrowsAlone (sym (one_observed_graph g h same is.0 d.0 is.1 d.1)) d.2) is.2
 
 -- a first graph that is refused isn't accepted
-pub first_alone : (g h : ReadGraph) → AreSame g h → (l : Option Query) (s : Option Sets) (o : Outcome) (line : List ℕ) → IsFirstRefusal g l o line → IsAccepted h l s → ⊥
+pub first_alone : (g h : ReadGraph) → AreSame g h → (l : Option Query) (s : Option Sets) (o : Outcome) (line : List ℕ) → IsFirstRefusal g l o line → IsAcceptedFirst h l s → ⊥
 first_alone g h same l s o line r a = fault_or_accepted g h same l s r.fault r.is_fault a
 
 pub first_once : (bytes : List ℕ) (l : Option Query) → OneOutcome (IsAnswerOn bytes (λ g. IsFirstRefusal g l))
@@ -98,14 +98,14 @@ module _ (g g' h h' : ReadGraph) (s : AreSame g g') (t : AreSame h h') where
 
 module _ (g g' : ReadGraph) (s : AreSame g g') (second : List ℕ) (a b : Option Sets) (text line : List ℕ) where
   -- a second graph that is read isn't refused
-  read_or_refused : (h : ReadGraph) → Holds second h → IsSecondRefusal second line → ⊥
+  read_or_refused : (h : ReadGraph) → HoldsGraph second h → IsSecondRefusal second line → ⊥
   read_or_refused h is (too_long long at) = absurd (let small = is.small in omega (arith, small, long))
   read_or_refused h is (faulty fault short ne reads at) = reads_either second h fault is.reads ne reads
 
   yes_no : HoldsAnswer g a second Yes text → HoldsAnswer g' b second No line → ⊥
   yes_no x y = compared g g' x.0 y.0 s (one_reading second x.0 y.0 x.1 y.1) a b text line x.2 y.2
 
-  answered_or_refused : (o : Outcome) (h : ReadGraph) → Holds second h → ComparedAnswer g a h o text → SecondAnswer g' b second Second line → ⊥
+  answered_or_refused : (o : Outcome) (h : ReadGraph) → HoldsGraph second h → ComparedAnswer g a h o text → SecondAnswer g' b second Second line → ⊥
   answered_or_refused o h is c (inl r) = read_or_refused h is r
   answered_or_refused o h is c (inr y) = like g g' h y.0 s (one_reading second h y.0 is y.1) c.p c.q line c.comparable y.2
 

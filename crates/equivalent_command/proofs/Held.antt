@@ -7,16 +7,16 @@ use Rattle.targets.specs.declared.query.Sets.{Sets}
 use Rattle.replies.specs.declared.outcome.Outcome.{Outcome}
 use Rattle.replies.specs.declared.outcome.Outcome.TheVariants.{Yes, No, Second}
 use Rattle.replies.specs.declared.outcome.Reply.{Reply}
-use Rattle.replies.specs.Observed.{observed_names, IsObservedGraph, Holds}
+use Rattle.replies.specs.Observed.{observed_names, IsObservedGraph, HoldsGraph}
 use Rattle.markov_equivalence.specs.Skeletons.{HasArrowsAlone}
 use Rattle.equivalent_command.specs.Numbers.{HaveSameNames, on_names}
 use Rattle.equivalent_command.specs.Answers.{AreComparable, ComparisonAnswer, GraphsAnswer, SecondAnswer}
 
-held : (g : ReadGraph) (s : Option Sets) (h : ReadGraph) (second : List ℕ) (o : Outcome) (text : List ℕ) → Holds second h → GraphsAnswer g s h o text → SecondAnswer g s second o text
+held : (g : ReadGraph) (s : Option Sets) (h : ReadGraph) (second : List ℕ) (o : Outcome) (text : List ℕ) → HoldsGraph second h → GraphsAnswer g s h o text → SecondAnswer g s second o text
 held g s h second Second text a b = inr (h, a, b)
 held g s h second o text a b = (h, a, b)
 
-pub held_reply : {E : Type 0} (g : ReadGraph) (s : Option Sets) (h : ReadGraph) (second : List ℕ) (r : Result Reply E) → Holds second h
+pub held_reply : {E : Type 0} (g : ReadGraph) (s : Option Sets) (h : ReadGraph) (second : List ℕ) (r : Result Reply E) → HoldsGraph second h
     → IfOk r (λ p. GraphsAnswer g s h p.outcome p.text.items) → IfOk r (λ p. SecondAnswer g s second p.outcome p.text.items)
 held_reply g s h second (Ok p) a b = held g s h second p.outcome p.text.items a b
 held_reply g s h second (Err e) a b = b

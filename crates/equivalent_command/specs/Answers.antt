@@ -11,14 +11,16 @@ use Rattle.dag_reader.specs.declared.faults.GraphFault.TheVariants.{NoMemory}
 use Rattle.dag_reader.specs.Reads.{Reads}
 use Rattle.targets.specs.declared.fault.TargetFault.{TargetFault}
 use Rattle.targets.specs.declared.query.Sets.{Sets}
-use Rattle.fault_text.specs.Lines.{line_of, graph_fault_text, target_fault_text, size_text, second as of_second}
+use Rattle.name_text.specs.Lines.{line_of, second as of_second}
+use Rattle.dag_reader.specs.FaultTexts.{graph_fault_text, size_text}
+use Rattle.targets.specs.FaultTexts.{target_fault_text}
 use Rattle.markov_equivalence.specs.Skeletons.{HasArrowsAlone, AreEquivalent}
 use Rattle.markov_equivalence.specs.Comparisons.{IsEdgeDifference, IsColliderDifference, IsShown}
 use Rattle.markov_equivalence.specs.declared.comparison.Difference.{Difference}
 use Rattle.path_carry.specs.Separations.{HaveSameSeparations, IsOpenWithEndsOf}
 use Rattle.replies.specs.declared.outcome.Outcome.{Outcome}
 use Rattle.replies.specs.declared.outcome.Outcome.TheVariants.{Yes, No, Graph, Second}
-use Rattle.replies.specs.Observed.{observed_names, IsObservedGraph, Holds}
+use Rattle.replies.specs.Observed.{observed_names, IsObservedGraph, HoldsGraph}
 use Rattle.equivalent_command.specs.Numbers.{HaveSameNames, on_names}
 use Rattle.equivalent_command.specs.Faults.{IsBidirectedFault, IsNamesFault}
 use Rattle.equivalent_command.specs.Lines.{edge_text, collider_text, equivalent_text, separated_text, connected_text}
@@ -36,20 +38,20 @@ abbrev pub HasBidirected : ReadGraph → TargetFault → Type 0
 HasBidirected g f = (q : MixedGraph) × IsObservedGraph g q × IsBidirectedFault q (observed_names g) f
 
 -- the first graph is accepted: the lists name these sets, and its observed graph has no bidirected edge
-pub record IsAccepted (g : ReadGraph) (l : Option Query) (s : Option Sets) : Type 0 where
+pub record IsAcceptedFirst (g : ReadGraph) (l : Option Query) (s : Option Sets) : Type 0 where
   pub asked : AreAsked g l s
   pub directed : IsDirected g
 
 -- what is wrong with the first graph: a listed name is at fault, or a set is empty; or else the observed graph has a bidirected edge
-pub data IsFirstFault (g : ReadGraph) (l : Option Query) (f : TargetFault) : Type 0 where
-  listed : IsListsFault g l f → IsFirstFault g l f
-  bidirected : (s : Option Sets) → AreAsked g l s → HasBidirected g f → IsFirstFault g l f
+pub data IsFirstGraphFault (g : ReadGraph) (l : Option Query) (f : TargetFault) : Type 0 where
+  listed : IsListsFault g l f → IsFirstGraphFault g l f
+  bidirected : (s : Option Sets) → AreAsked g l s → HasBidirected g f → IsFirstGraphFault g l f
 
 -- the line of a first graph that is refused
 pub record IsFirstRefusal (g : ReadGraph) (l : Option Query) (o : Outcome) (line : List ℕ) : Type 0 where
   pub outcome : o ≡ Graph
   pub fault : TargetFault
-  pub is_fault : IsFirstFault g l fault
+  pub is_fault : IsFirstGraphFault g l fault
   pub prints : line ≡ line_of (target_fault_text fault)
 
 -- ---- for two graphs that are compared
@@ -137,7 +139,7 @@ pub data IsSecondRefusal (second line : List ℕ) : Type 0 where
 
 -- the bytes hold a graph, and this is the answer of the two
 abbrev pub HoldsAnswer : ReadGraph → Option Sets → List ℕ → Outcome → List ℕ → Type 0
-HoldsAnswer g s second o text = (h : ReadGraph) × Holds second h × GraphsAnswer g s h o text
+HoldsAnswer g s second o text = (h : ReadGraph) × HoldsGraph second h × GraphsAnswer g s h o text
 
 -- the answer for sets of a first graph that was accepted, and the bytes of a second graph's text
 abbrev pub SecondAnswer : ReadGraph → Option Sets → List ℕ → Outcome → List ℕ → Type 0
@@ -146,4 +148,4 @@ SecondAnswer g s second o text = HoldsAnswer g s second o text
 
 -- the answer of `equivalent` on a graph that was read and accepted, and the bytes of a second graph's text
 abbrev pub EquivalentAnswer : ReadGraph → Option Query → List ℕ → Outcome → List ℕ → Type 0
-EquivalentAnswer g l second o text = (s : Option Sets) × IsAccepted g l s × SecondAnswer g s second o text
+EquivalentAnswer g l second o text = (s : Option Sets) × IsAcceptedFirst g l s × SecondAnswer g s second o text

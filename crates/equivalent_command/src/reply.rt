@@ -7,14 +7,13 @@ ghost use Rattle.equivalent_command.specs.Queries.{AreBelow};
 ghost use Rattle.mixed_graph.specs.Shown.{graph_of};
 ghost use Rattle.markov_equivalence.specs.Skeletons.{HasArrowsAlone};
 ghost use Rattle.equivalent_command.specs.Numbers.{HaveSameNames, on_names};
-ghost use Rattle.equivalent_command.specs.Answers.{IsDirected, IsAccepted, SecondAnswer, ComparisonAnswer, GraphsAnswer, ObservedFault};
+ghost use Rattle.equivalent_command.specs.Answers.{IsDirected, IsAcceptedFirst, SecondAnswer, ComparisonAnswer, GraphsAnswer, ObservedFault};
 
 use crate::agreement::agreement_text;
 use crate::faults::{bidirected_fault, names_fault};
 use crate::numbers::graph_on;
 use crate::printing::{collider_text, edge_text};
-use dag_reader::{ReadGraph, read_graph};
-use fault_text::{second_graph_line, second_size_line, second_target_line};
+use dag_reader::{GraphFault, ReadGraph, read_graph};
 use latent_projection::{Observed, observed};
 use markov_equivalence::{Compared, compare};
 use mixed_graph::{Graph, Names};
@@ -29,7 +28,7 @@ pub fn equivalent_reply(
     sets: Option<Sets>,
     second: &[u8],
 ) -> Result<Reply, AllocError>
-    requires accepted { (query : Option AskedQuery) × IsAccepted graph.now query sets }
+    requires accepted { (query : Option AskedQuery) × IsAcceptedFirst graph.now query sets }
     requires small { length second.now ≤ 1048576 }
     ensures { IfOk result (λ r. SecondAnswer graph.now sets second.now r.outcome r.text.items) }
 {
@@ -37,7 +36,7 @@ pub fn equivalent_reply(
         Ok(other) => reply_to(alloc, graph, sets, &other),
         Err(fault) => Ok(Reply {
             outcome: Outcome::Second,
-            text: second_graph_line(alloc, &fault)?,
+            text: fault.second_line(alloc)?,
         }),
     }
 }
@@ -48,7 +47,7 @@ pub fn long_second_graph(alloc: Global) -> Result<Reply, AllocError>
 {
     Ok(Reply {
         outcome: Outcome::Second,
-        text: second_size_line(alloc)?,
+        text: GraphFault::second_size_line(alloc)?,
     })
 }
 
@@ -68,7 +67,7 @@ fn reply_to(
     match second_fault(alloc, &first.names, &second)? {
         Some(fault) => Ok(Reply {
             outcome: Outcome::Second,
-            text: second_target_line(alloc, &fault)?,
+            text: fault.second_line(alloc)?,
         }),
         None => compared_reply(alloc, &first, &second, sets),
     }

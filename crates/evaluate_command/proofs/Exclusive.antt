@@ -20,7 +20,7 @@ use Rattle.count_table.specs.Reading.{IsTableOf, layout_in}
 use Rattle.count_eval.specs.Evaluated.{formula_value}
 use Rattle.count_eval.specs.Programs.{cell_of}
 use Rattle.count_eval.specs.Stops.{Stop}
-use Rattle.count_answers.specs.Reads.{IsRead, IsRefused, too_long, faulty}
+use Rattle.count_answers.specs.Reads.{IsRead, AreRefusedCounts, too_long, faulty}
 use Rattle.replies.specs.declared.outcome.Outcome.{Outcome}
 use Rattle.replies.specs.declared.outcome.Outcome.TheVariants.{Yes, No, Graph, Second, Evaluation}
 use Rattle.replies.specs.Observed.{Names, observed_names}
@@ -100,7 +100,7 @@ module _ (e : PlainEffect) (bytes : List ℕ) (count : Option Field) where
   yes_stop false text line a b = all_or_stop _ _ _ a.0 b.0 text line a.1.reads b.1.reads a.2 b.2
 
   -- counts that are read aren't refused
-  read_or_refused : (t : Table) (line : List ℕ) → IsRead e.names (used_in e) count bytes t → IsRefused e.names (used_in e) count bytes line → ⊥
+  read_or_refused : (t : Table) (line : List ℕ) → IsRead e.names (used_in e) count bytes t → AreRefusedCounts e.names (used_in e) count bytes line → ⊥
   read_or_refused t line a (too_long long is) = absurd (omega (arith, a.small, long))
   read_or_refused t line a (faulty fault short ne at is) = none-some fault (sym a.fits ∙ at)
 

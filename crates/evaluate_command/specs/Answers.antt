@@ -7,7 +7,7 @@ use Rattle.finite_models.specs.Models.{FiniteModel, Fits, IsPositiveModel}
 use Rattle.dag_reader.specs.declared.graph.ReadGraph.{ReadGraph}
 use Rattle.prob_expr.specs.Values.{effect}
 use Rattle.id_recursion.specs.Answers.{effect_on}
-use Rattle.fault_text.specs.Lines.{line_of}
+use Rattle.name_text.specs.Lines.{line_of}
 use Rattle.replies.specs.declared.outcome.Outcome.{Outcome}
 use Rattle.replies.specs.declared.outcome.Outcome.TheVariants.{Yes, No, Graph, Second, Evaluation}
 use Rattle.replies.specs.Observed.{Names, observed_names, IsObservedGraph}
@@ -23,7 +23,7 @@ use Rattle.count_eval.specs.Answers.{CoversCounts}
 use Rattle.count_eval.specs.Laws.{IsMatched}
 use Rattle.count_eval.specs.Programs.{weights_in, is_used, cell_of}
 use Rattle.count_eval.specs.Stops.{Stop}
-use Rattle.count_answers.specs.Reads.{IsRead, IsRefused}
+use Rattle.count_answers.specs.Reads.{IsRead, AreRefusedCounts}
 use Rattle.evaluate_command.specs.Effects.{PlainEffect, Identifies, used_in}
 use Rattle.evaluate_command.specs.Cells.{CellValue, value_in, values_at, printed_cells}
 use Rattle.evaluate_command.specs.Lines.{sign_of, value_line, pinned_lines, stop_text}
@@ -84,7 +84,7 @@ AnswersTable is_exact e count bytes o text = (t : Table) × IsRead e.names (used
 -- the answer for an effect that has a formula: its values, the line of refused counts, or the line of the first printed cell without a value
 abbrev pub CountsAnswer : Bool → PlainEffect → Option Field → List ℕ → Outcome → List ℕ → Type 0
 CountsAnswer is_exact e count bytes Yes text = AnswersTable is_exact e count bytes Yes text
-CountsAnswer is_exact e count bytes Second line = IsRefused e.names (used_in e) count bytes line
+CountsAnswer is_exact e count bytes Second line = AreRefusedCounts e.names (used_in e) count bytes line
 CountsAnswer is_exact e count bytes Evaluation line = AnswersTable is_exact e count bytes Evaluation line
 CountsAnswer is_exact e count bytes o text = ⊥
 

@@ -3,7 +3,7 @@ use Rattle.std.specs.Prelude.{ℕ, ◌≡◌, List, ◌++◌, Err}
 use Rattle.fractions.specs.Fractions.{Fraction}
 use Rattle.quantity.specs.Kinds.{Pair, Kind}
 use Rattle.count_rows.specs.Rows.{Table}
-use Rattle.count_eval.specs.Answers.{IsFaultOf}
+use Rattle.count_eval.specs.Answers.{IsEvaluationFault}
 use Rattle.count_eval.specs.Programs.{is_used}
 use Rattle.count_eval.specs.Stops.{Stop}
 use Rattle.value_tables.specs.Preparations.{Preparation}
@@ -27,5 +27,5 @@ pub record Appends (kind : Kind) (covers : Pair → Fraction → Type 0) (sign :
 
 -- the fault is that of the first cell without a value; want of memory may come instead
 abbrev pub IsFailureOf : Kind → PlainEffect → Table → List (List ℕ) → Failure → Type 0
-IsFailureOf kind e t cells (Evaluation fault) = (s : Stop) × (values_at (value_in kind e t) cells ≡ Err s) × IsFaultOf (is_used t) fault s
+IsFailureOf kind e t cells (Evaluation fault) = (s : Stop) × (values_at (value_in kind e t) cells ≡ Err s) × IsEvaluationFault (is_used t) fault s
 IsFailureOf kind e t cells NoMemory = Unit {0}

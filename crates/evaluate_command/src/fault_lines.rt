@@ -3,8 +3,8 @@
 ghost use Rattle.std.specs.Prelude.{ℕ, ◌≡◌, ◌++◌, ◌<◌, ◌≤◌, All, length, OnOk, IfOk};
 ghost use Rattle.mixed_graph.specs.Bits.{has, members_below};
 ghost use Rattle.mixed_graph.specs.Sets.{Within};
-ghost use Rattle.fault_text.specs.Lines.{line_of};
-ghost use Rattle.count_eval.specs.Answers.{IsFaultOf};
+ghost use Rattle.name_text.specs.Lines.{line_of};
+ghost use Rattle.count_eval.specs.Answers.{IsEvaluationFault};
 ghost use Rattle.count_eval.specs.Programs.{is_used};
 ghost use Rattle.count_eval.specs.Stops.{Stop};
 ghost use Rattle.evaluate_command.specs.Lines.{place_text, stop_text};
@@ -43,7 +43,7 @@ fn push_fault(
 ) -> Result<(), AllocError>
     requires few { length names.now ≤ 64 }
     requires named { All (λ v. v < length names.now) counts.now.vertices }
-    ensures { OnOk result ((s : Stop) → IsFaultOf (is_used counts.now) fault.now s → out.new.items ≡ out.old.items ++ stop_text names.now counts.now s) }
+    ensures { OnOk result ((s : Stop) → IsEvaluationFault (is_used counts.now) fault.now s → out.new.items ≡ out.old.items ++ stop_text names.now counts.now s) }
 {
     match fault {
         EvalFault::NoSupport { cell, place } => {
@@ -73,7 +73,7 @@ pub fn fault_line(
 ) -> Result<Vec<u8>, AllocError>
     requires few { length names.now ≤ 64 }
     requires named { All (λ v. v < length names.now) counts.now.vertices }
-    ensures { IfOk result (λ line. (s : Stop) → IsFaultOf (is_used counts.now) fault.now s → line.items ≡ line_of (stop_text names.now counts.now s)) }
+    ensures { IfOk result (λ line. (s : Stop) → IsEvaluationFault (is_used counts.now) fault.now s → line.items ≡ line_of (stop_text names.now counts.now s)) }
 {
     let mut line = Vec::from_slice(alloc, b"causal: ")?;
     push_fault(alloc, &mut line, names, counts, fault)?;

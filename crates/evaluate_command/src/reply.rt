@@ -9,8 +9,8 @@ use crate::identified::Identified;
 use crate::lines::pinned_lines;
 use crate::mentioned::used_in;
 use crate::values::{Failure, push_cells, varied};
+use count_rows::CountFault;
 use count_table::{Counts, read_counts};
-use fault_text::{counts_line, counts_size_line};
 use quantity::{Bounds, Exact, Quantity};
 use replies::{Outcome, Reply};
 use std::alloc::{AllocError, Global};
@@ -35,7 +35,7 @@ pub fn evaluate_reply(
         Ok(counts) => table_reply(alloc, found, exact, &counts),
         Err(fault) => Ok(Reply {
             outcome: Outcome::Second,
-            text: counts_line(alloc, &fault)?,
+            text: fault.line(alloc)?,
         }),
     }
 }
@@ -46,7 +46,7 @@ pub fn long_counts(alloc: Global) -> Result<Reply, AllocError>
 {
     Ok(Reply {
         outcome: Outcome::Second,
-        text: counts_size_line(alloc)?,
+        text: CountFault::size_line(alloc)?,
     })
 }
 

@@ -4,7 +4,8 @@ use Rattle.std.specs.Prelude.{IfOk}
 use Rattle.mixed_graph.specs.Graphs.{MixedGraph}
 use Rattle.mixed_graph.specs.Masks.{one}
 use Rattle.targets.specs.declared.fault.TargetFault.TheVariants.{NotOneX}
-use Rattle.fault_text.specs.Lines.{line_of, target_fault_text}
+use Rattle.name_text.specs.Lines.{line_of}
+use Rattle.targets.specs.FaultTexts.{target_fault_text}
 use Rattle.replies.specs.declared.outcome.Reply.{Reply}
 use Rattle.replies.specs.declared.outcome.Outcome.TheVariants.{Graph}
 use Rattle.explain_call.specs.Formulas.{BackDoorFormula}

@@ -10,11 +10,12 @@ use Rattle.dag_reader.specs.Reads.{Reads}
 use Rattle.dag_reader.specs.declared.graph.ReadGraph.{ReadGraph}
 use Rattle.dag_reader.specs.declared.faults.GraphFault.{GraphFault}
 use Rattle.dag_reader.specs.declared.faults.GraphFault.TheVariants.{NoMemory}
-use Rattle.fault_text.specs.Lines.{line_of, graph_fault_text}
+use Rattle.name_text.specs.Lines.{line_of}
+use Rattle.dag_reader.specs.FaultTexts.{graph_fault_text}
 use Rattle.replies.specs.declared.outcome.Outcome.{Outcome}
 use Rattle.replies.specs.declared.outcome.Outcome.TheVariants.{Yes, No, Words, Graph, Second, Evaluation, Read, Write, Memory}
 use Rattle.replies.specs.declared.outcome.Reply.{Reply}
-use Rattle.replies.specs.Observed.{observed_names, IsObservedGraph, Holds}
+use Rattle.replies.specs.Observed.{observed_names, IsObservedGraph, HoldsGraph}
 use Rattle.explain_call.specs.Requests.{Request}
 use Rattle.explain_call.specs.Steps.{StepsIn, StepsAnswer}
 use Rattle.explain_call.specs.Answers.{GraphAnswer, faulty, FileAnswer}
@@ -49,7 +50,7 @@ module _ (graphs : Bool) (g : ReadGraph) (q : MixedGraph) (names : List (List �
   of_hedge small t h text reads prints = in_graph No text (inr (record { target = t; set = h; read = record { small = small; reads = reads }; prints = prints }))
 
 -- the answer on a graph that the bytes hold
-on_graph : (q : Request) (bytes second : List ℕ) (g : ReadGraph) → Holds bytes g → (o : Outcome) (text : List ℕ) → GraphAnswer q g second o text → FileAnswer q bytes second o text
+on_graph : (q : Request) (bytes second : List ℕ) (g : ReadGraph) → HoldsGraph bytes g → (o : Outcome) (text : List ℕ) → GraphAnswer q g second o text → FileAnswer q bytes second o text
 on_graph q bytes second g holds Yes text a = record { read = g; holds = holds; answer = a }
 on_graph q bytes second g holds No text a = record { read = g; holds = holds; answer = a }
 on_graph q bytes second g holds Graph text a = inr (record { read = g; holds = holds; answer = a })

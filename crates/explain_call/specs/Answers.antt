@@ -4,10 +4,11 @@ use Rattle.dag_reader.specs.Reads.{Reads}
 use Rattle.dag_reader.specs.declared.graph.ReadGraph.{ReadGraph}
 use Rattle.dag_reader.specs.declared.faults.GraphFault.{GraphFault}
 use Rattle.dag_reader.specs.declared.faults.GraphFault.TheVariants.{NoMemory}
-use Rattle.fault_text.specs.Lines.{line_of, graph_fault_text, size_text}
+use Rattle.name_text.specs.Lines.{line_of}
+use Rattle.dag_reader.specs.FaultTexts.{graph_fault_text, size_text}
 use Rattle.replies.specs.declared.outcome.Outcome.{Outcome}
 use Rattle.replies.specs.declared.outcome.Outcome.TheVariants.{Graph}
-use Rattle.replies.specs.Observed.{Holds}
+use Rattle.replies.specs.Observed.{HoldsGraph}
 use Rattle.explain_call.specs.Requests.{Request, steps, rule, formula}
 use Rattle.explain_call.specs.Steps.{StepsAnswer}
 use Rattle.explain_call.specs.RuleGraphs.{RuleGraphAnswer}
@@ -27,7 +28,7 @@ pub data IsGraphRefusal (bytes line : List ℕ) : Type 0 where
 -- the bytes hold a graph, on which this is the answer
 pub record IsOnGraph (q : Request) (bytes second : List ℕ) (o : Outcome) (text : List ℕ) : Type 0 where
   pub read : ReadGraph
-  pub holds : Holds bytes read
+  pub holds : HoldsGraph bytes read
   pub answer : GraphAnswer q read second o text
 
 -- the answer on the bytes of a file

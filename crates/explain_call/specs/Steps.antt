@@ -22,7 +22,7 @@ pub record IsExplained (graphs : Bool) (q : MixedGraph) (names : List (List ℕ)
   pub explains : Explains graphs q names target derivation text
 
 -- no: a move of the derivation is refused
-pub record IsStopped (q : MixedGraph) (names : List (List ℕ)) (bytes text : List ℕ) : Type 0 where
+pub record IsRefusedDerivation (q : MixedGraph) (names : List (List ℕ)) (bytes text : List ℕ) : Type 0 where
   pub target : PlainTarget
   pub main : PlainFormula
   pub derivation : PlainDerivation
@@ -41,7 +41,7 @@ pub record IsOfHedge (names : List (List ℕ)) (bytes text : List ℕ) : Type 0 
 -- the answer in the observed graph q of the one that was read
 abbrev pub StepsIn : Bool → MixedGraph → List (List ℕ) → List ℕ → Outcome → List ℕ → Type 0
 StepsIn graphs q names bytes Yes text = IsExplained graphs q names bytes text
-StepsIn graphs q names bytes No text = IsStopped q names bytes text ⊎ IsOfHedge names bytes text
+StepsIn graphs q names bytes No text = IsRefusedDerivation q names bytes text ⊎ IsOfHedge names bytes text
 StepsIn graphs q names bytes Second line = IsCertificateRefusal names bytes line
 StepsIn graphs q names bytes o text = ⊥
 

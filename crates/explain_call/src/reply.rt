@@ -1,5 +1,6 @@
 ghost use Rattle.std.specs.Prelude.{◌≡◌, IfOk, OnOk};
-ghost use Rattle.fault_text.specs.Lines.{line_of, graph_fault_text};
+ghost use Rattle.name_text.specs.Lines.{line_of};
+ghost use Rattle.dag_reader.specs.FaultTexts.{graph_fault_text};
 ghost use Rattle.explain_call.specs.Requests.{request_of};
 ghost use Rattle.explain_call.specs.Answers.{GraphAnswer, FileAnswer};
 
@@ -8,7 +9,6 @@ use crate::requests::Request;
 use crate::rule_graphs::rule_graph_reply;
 use crate::steps::steps_reply;
 use dag_reader::{GraphFault, ReadGraph, read_graph};
-use fault_text::{graph_line, size_line};
 use replies::{Outcome, Reply};
 use std::alloc::{AllocError, Global};
 
@@ -52,13 +52,9 @@ fn refuse_graph(alloc: Global, fault: &GraphFault) -> Result<Reply, AllocError>
     ensures line { IfOk result (λ r. r.text.items ≡ line_of (graph_fault_text fault.now)) }
     ensures fault { OnOk result (fault.now ≡ GraphFault.NoMemory → ⊥) }
 {
-    if let GraphFault::NoMemory = fault {
-        return Err(AllocError);
-    }
-    let text = graph_line(alloc, fault)?;
     Ok(Reply {
         outcome: Outcome::Graph,
-        text,
+        text: fault.line(alloc)?,
     })
 }
 
@@ -74,7 +70,7 @@ pub fn file_reply(
     if file.len() > MAX_GRAPH_BYTES {
         return Ok(Reply {
             outcome: Outcome::Graph,
-            text: size_line(alloc)?,
+            text: GraphFault::size_line(alloc)?,
         });
     }
     match read_graph(alloc, file) {

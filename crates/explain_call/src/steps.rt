@@ -6,8 +6,7 @@ ghost use Rattle.check_command.specs.Replies.{IsSoundTarget, IsSoundDerivation};
 ghost use Rattle.explain_call.specs.Steps.{StepsAnswer};
 ghost use Rattle.explain_call.specs.Told.{TellsSteps};
 
-use certificate::{Certificate, read_answer};
-use certificate_fault_text::{certificate_line, certificate_size_line};
+use certificate::{CertFault, Certificate, read_answer};
 use dag_reader::ReadGraph;
 use do_derivation::{ApplyFault, Derivation};
 use explaining::explain;
@@ -65,7 +64,7 @@ pub fn steps_reply(
     if certificate.len() > MAX_CERTIFICATE_BYTES {
         return Ok(Reply {
             outcome: Outcome::Second,
-            text: certificate_size_line(alloc)?,
+            text: CertFault::size_line(alloc)?,
         });
     }
     match read_answer(alloc, certificate, &seen.names) {
@@ -78,7 +77,7 @@ pub fn steps_reply(
         }),
         Err(fault) => Ok(Reply {
             outcome: Outcome::Second,
-            text: certificate_line(alloc, &fault)?,
+            text: fault.line(alloc)?,
         }),
     }
 }

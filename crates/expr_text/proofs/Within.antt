@@ -3,7 +3,7 @@ use Rattle.std.proofs.Common.{◌≡◌, ℕ, Bool, true, false, not, ◌&&◌, 
 use Rattle.mixed_graph.specs.Bits.{has}
 use Rattle.mixed_graph.specs.Sets.{Within}
 use Rattle.mixed_graph.specs.Masks.{is_empty, is_below, is_apart}
-use Rattle.prob_expr.specs.Masks.{are_term_sets}
+use Rattle.prob_expr.specs.TermSets.{are_term_sets}
 use Rattle.prob_expr.specs.Terms.{is_term}
 use Rattle.mixed_graph.proofs.MaskLaws.{below_has}
 

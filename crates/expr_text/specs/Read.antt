@@ -9,8 +9,8 @@ use Rattle.mixed_graph.specs.Names.{is_line_byte, is_named, index_of}
 use Rattle.name_text.specs.Printing.{is_white, is_plain_byte}
 use Rattle.mixed_graph.specs.Masks.{join, one}
 use Rattle.expr_text.specs.Bytes.{is_digit}
-use Rattle.expr_text.specs.declared.stop.Stop.{Stop}
-use Rattle.expr_text.specs.declared.stop.Stop.TheVariants.{Left, NoMemory}
+use Rattle.expr_text.specs.declared.stop.ReadStop.{ReadStop}
+use Rattle.expr_text.specs.declared.stop.ReadStop.TheVariants.{Left, NoMemory}
 
 infixl 10 ◌>>=◌
 -- what follows, where no fault came
@@ -24,12 +24,12 @@ when None absent present = absent
 when (Some x) absent present = present x
 
 -- What a function returned, seen by view, is what reading gives, unless memory ran out.
-abbrev pub Fails : {Y : Type 0} → Stop → Result Y ℕ → Type 0
+abbrev pub Fails : {Y : Type 0} → ReadStop → Result Y ℕ → Type 0
 Fails (Left n) read = read ≡ Err n
 Fails NoMemory read = Unit {0}
 
 -- the same of any answer
-abbrev pub Gives : {X Y : Type 0} → (X → Y) → Result X Stop → Result Y ℕ → Type 0
+abbrev pub Gives : {X Y : Type 0} → (X → Y) → Result X ReadStop → Result Y ℕ → Type 0
 Gives view (Ok x) read = read ≡ Ok (view x)
 Gives view (Err e) read = Fails e read
 

@@ -3,7 +3,7 @@ ghost use Rattle.prob_expr.specs.View.{view, formula_view};
 ghost use Rattle.expr_text.specs.Read.{Gives, next_is, expect, names_at, given_at, doing_at, conds_at, term_at, named_at, in_parentheses, operand_at, sum_at, factor_at, factor_step, repeat, factors_at, bottom_at, operands_at, expr_with, inner_of, expr_of, def_body, def_at, def_step, checked, formula_of};
 ghost use Rattle.expr_text.specs.Text.{Faults, Reads};
 
-use crate::stop::Stop;
+use crate::stop::ReadStop;
 use crate::tokens::{expect, names_at, next_is, number_at, trim};
 use mixed_graph::{Names, VSet};
 use prob_expr::{Expr, Formula, check};
@@ -15,7 +15,7 @@ fn given_at<'a>(
     names: &Names,
     doing: VSet,
     bytes: &'a [u8],
-) -> Result<((VSet, VSet), &'a [u8]), Stop>
+) -> Result<((VSet, VSet), &'a [u8]), ReadStop>
     ensures given { Gives (λ p. ((p.0.0.bits, p.0.1.bits), p.1.now)) result (given_at names.now doing.bits bytes.now) }
     ensures shorter { IfOk result (λ p. length p.1.now ≤ length bytes.now) }
 {
@@ -25,7 +25,7 @@ fn given_at<'a>(
 
 /// The names that are done, behind `do(`, and those that are given.
 #[tactic(auto, unfolding(crate::specs::Read::doing_at))]
-fn doing_at<'a>(names: &Names, bytes: &'a [u8]) -> Result<((VSet, VSet), &'a [u8]), Stop>
+fn doing_at<'a>(names: &Names, bytes: &'a [u8]) -> Result<((VSet, VSet), &'a [u8]), ReadStop>
     ensures doing { Gives (λ p. ((p.0.0.bits, p.0.1.bits), p.1.now)) result (doing_at names.now bytes.now) }
     ensures shorter { IfOk result (λ p. length p.1.now ≤ length bytes.now) }
 {
@@ -39,7 +39,7 @@ fn doing_at<'a>(names: &Names, bytes: &'a [u8]) -> Result<((VSet, VSet), &'a [u8
 
 /// What stands behind the bar of a term, where there is one.
 #[tactic(auto, unfolding(crate::specs::Read::conds_at))]
-fn conds_at<'a>(names: &Names, bytes: &'a [u8]) -> Result<((VSet, VSet), &'a [u8]), Stop>
+fn conds_at<'a>(names: &Names, bytes: &'a [u8]) -> Result<((VSet, VSet), &'a [u8]), ReadStop>
     ensures conds { Gives (λ p. ((p.0.0.bits, p.0.1.bits), p.1.now)) result (conds_at names.now bytes.now) }
     ensures shorter { IfOk result (λ p. length p.1.now ≤ length bytes.now) }
 {
@@ -54,7 +54,7 @@ fn conds_at<'a>(names: &Names, bytes: &'a [u8]) -> Result<((VSet, VSet), &'a [u8
 
 /// A term, behind `P(`.
 #[tactic(auto, unfolding(crate::specs::Read::term_at))]
-fn term_at<'a>(names: &Names, bytes: &'a [u8]) -> Result<(Expr, &'a [u8]), Stop>
+fn term_at<'a>(names: &Names, bytes: &'a [u8]) -> Result<(Expr, &'a [u8]), ReadStop>
     ensures term { Gives (λ p. (view p.0, p.1.now)) result (term_at names.now bytes.now) }
     ensures shorter { IfOk result (λ p. length p.1.now ≤ length bytes.now) }
 {
@@ -66,7 +66,7 @@ fn term_at<'a>(names: &Names, bytes: &'a [u8]) -> Result<(Expr, &'a [u8]), Stop>
 
 /// A definition's number, behind `q`.
 #[tactic(auto, unfolding(crate::specs::Read::named_at))]
-fn named_at(bytes: &[u8]) -> Result<(Expr, &[u8]), Stop>
+fn named_at(bytes: &[u8]) -> Result<(Expr, &[u8]), ReadStop>
     ensures named { Gives (λ p. (view p.0, p.1.now)) result (named_at bytes.now) }
     ensures shorter { IfOk result (λ p. length p.1.now ≤ length bytes.now) }
 {
@@ -82,7 +82,7 @@ fn in_parentheses<'a>(
     names: &Names,
     more: u32,
     bytes: &'a [u8],
-) -> Result<(Expr, &'a [u8]), Stop>
+) -> Result<(Expr, &'a [u8]), ReadStop>
     ensures parentheses { Gives (λ p. (view p.0, p.1.now)) result (in_parentheses (expr_with names.now (inner_of names.now more)) bytes.now) }
     ensures shorter { IfOk result (λ p. length p.1.now ≤ length bytes.now) }
 {
@@ -99,7 +99,7 @@ fn operand_at<'a>(
     names: &Names,
     more: u32,
     bytes: &'a [u8],
-) -> Result<(Expr, &'a [u8]), Stop>
+) -> Result<(Expr, &'a [u8]), ReadStop>
     ensures operand { Gives (λ p. (view p.0, p.1.now)) result (operand_at names.now (inner_of names.now more) bytes.now) }
     ensures shorter { IfOk result (λ p. length p.1.now ≤ length bytes.now) }
 {
@@ -110,10 +110,10 @@ fn operand_at<'a>(
         return named_at(rest);
     }
     let Some(rest) = next_is(b"(", bytes) else {
-        return Err(Stop::Left(trim(bytes).len()));
+        return Err(ReadStop::Left(trim(bytes).len()));
     };
     if more == 0 {
-        return Err(Stop::Left(trim(bytes).len()));
+        return Err(ReadStop::Left(trim(bytes).len()));
     }
     in_parentheses(alloc, names, more - 1, rest)
 }
@@ -126,7 +126,7 @@ fn sum_at<'a>(
     names: &Names,
     more: u32,
     bytes: &'a [u8],
-) -> Result<(Expr, &'a [u8]), Stop>
+) -> Result<(Expr, &'a [u8]), ReadStop>
     ensures sum { Gives (λ p. (view p.0, p.1.now)) result (sum_at names.now (expr_with names.now (inner_of names.now more)) bytes.now) }
     ensures shorter { IfOk result (λ p. length p.1.now ≤ length bytes.now) }
 {
@@ -147,7 +147,7 @@ fn factor_at<'a>(
     more: u32,
     factors: &mut Vec<Expr>,
     bytes: &'a [u8],
-) -> Result<&'a [u8], Stop>
+) -> Result<&'a [u8], ReadStop>
     ensures factor { Gives (λ r. (map view factors.new.items, r.now)) result (factor_at names.now (inner_of names.now more) (map view factors.old.items) bytes.now) }
     ensures shorter { IfOk result (λ r. length r.now ≤ length bytes.now) }
 {
@@ -164,7 +164,7 @@ fn more_factors<'a>(
     more: u32,
     factors: &mut Vec<Expr>,
     bytes: &'a [u8],
-) -> Result<&'a [u8], Stop>
+) -> Result<&'a [u8], ReadStop>
     ensures factors { Gives (λ r. (map view factors.new.items, r.now)) result (repeat (factor_step names.now (inner_of names.now more)) (length bytes.now) (map view factors.old.items) bytes.now) }
     ensures shorter { IfOk result (λ r. length r.now ≤ length bytes.now) }
 {
@@ -184,7 +184,7 @@ fn factors_at<'a>(
     more: u32,
     first: Expr,
     bytes: &'a [u8],
-) -> Result<(Expr, &'a [u8]), Stop>
+) -> Result<(Expr, &'a [u8]), ReadStop>
     ensures factors { Gives (λ p. (view p.0, p.1.now)) result (factors_at names.now (inner_of names.now more) (view first) bytes.now) }
     ensures shorter { IfOk result (λ p. length p.1.now ≤ length bytes.now) }
 {
@@ -204,7 +204,7 @@ fn bottom_at<'a>(
     more: u32,
     top: Expr,
     bytes: &'a [u8],
-) -> Result<(Expr, &'a [u8]), Stop>
+) -> Result<(Expr, &'a [u8]), ReadStop>
     ensures bottom { Gives (λ p. (view p.0, p.1.now)) result (bottom_at names.now (inner_of names.now more) (view top) bytes.now) }
     ensures shorter { IfOk result (λ p. length p.1.now ≤ length bytes.now) }
 {
@@ -222,7 +222,7 @@ fn operands_at<'a>(
     names: &Names,
     more: u32,
     bytes: &'a [u8],
-) -> Result<(Expr, &'a [u8]), Stop>
+) -> Result<(Expr, &'a [u8]), ReadStop>
     ensures operands { Gives (λ p. (view p.0, p.1.now)) result (operands_at names.now (inner_of names.now more) bytes.now) }
     ensures shorter { IfOk result (λ p. length p.1.now ≤ length bytes.now) }
 {
@@ -244,7 +244,7 @@ fn expr_at<'a>(
     names: &Names,
     more: u32,
     bytes: &'a [u8],
-) -> Result<(Expr, &'a [u8]), Stop>
+) -> Result<(Expr, &'a [u8]), ReadStop>
     ensures expr { Gives (λ p. (view p.0, p.1.now)) result (expr_with names.now (inner_of names.now more) bytes.now) }
     ensures shorter { IfOk result (λ p. length p.1.now ≤ length bytes.now) }
 {
@@ -252,7 +252,7 @@ fn expr_at<'a>(
         return operands_at(alloc, names, more, bytes);
     };
     if more == 0 {
-        return Err(Stop::Left(trim(bytes).len()));
+        return Err(ReadStop::Left(trim(bytes).len()));
     }
     sum_at(alloc, names, more - 1, rest)
 }
@@ -267,24 +267,24 @@ pub enum TextFault {
 }
 
 /// Where reading stopped.
-fn fault_at(text: &[u8], stop: Stop) -> TextFault
+fn fault_at(text: &[u8], stop: ReadStop) -> TextFault
     ensures { Faults text.now stop result }
 {
     match stop {
-        Stop::Left(left) => TextFault::Bad(text.len().saturating_sub(left)),
-        Stop::NoMemory => TextFault::NoMemory,
+        ReadStop::Left(left) => TextFault::Bad(text.len().saturating_sub(left)),
+        ReadStop::NoMemory => TextFault::NoMemory,
     }
 }
 
 /// One expression, and nothing else.
 #[tactic(auto, unfolding(crate::specs::Read::expr_of))]
-fn whole_expr(alloc: Global, names: &Names, text: &[u8]) -> Result<Expr, Stop>
+fn whole_expr(alloc: Global, names: &Names, text: &[u8]) -> Result<Expr, ReadStop>
     ensures { Gives (λ e. view e) result (expr_of names.now text.now) }
 {
     let (e, rest) = expr_at(alloc, names, 60, text)?;
     let rest = trim(rest);
     if !rest.is_empty() {
-        return Err(Stop::Left(rest.len()));
+        return Err(ReadStop::Left(rest.len()));
     }
     Ok(e)
 }
@@ -309,7 +309,7 @@ fn def_body<'a>(
     names: &Names,
     defs: &mut Vec<Expr>,
     bytes: &'a [u8],
-) -> Result<&'a [u8], Stop>
+) -> Result<&'a [u8], ReadStop>
     ensures body { Gives (λ r. (map view defs.new.items, r.now)) result (def_body names.now (map view defs.old.items) bytes.now) }
     ensures shorter { IfOk result (λ r. length r.now ≤ length bytes.now) }
 {
@@ -326,13 +326,13 @@ fn def_at<'a>(
     names: &Names,
     defs: &mut Vec<Expr>,
     bytes: &'a [u8],
-) -> Result<&'a [u8], Stop>
+) -> Result<&'a [u8], ReadStop>
     ensures def { Gives (λ r. (map view defs.new.items, r.now)) result (def_at names.now (map view defs.old.items) bytes.now) }
     ensures shorter { IfOk result (λ r. length r.now ≤ length bytes.now) }
 {
     let (k, rest) = number_at(bytes)?;
     if k as usize != defs.len() {
-        return Err(Stop::Left(trim(bytes).len()));
+        return Err(ReadStop::Left(trim(bytes).len()));
     }
     def_body(alloc, names, defs, rest)
 }
@@ -343,7 +343,7 @@ fn defs_at<'a>(
     names: &Names,
     defs: &mut Vec<Expr>,
     bytes: &'a [u8],
-) -> Result<&'a [u8], Stop>
+) -> Result<&'a [u8], ReadStop>
     ensures { Gives (λ r. (map view defs.new.items, r.now)) result (repeat (def_step names.now) (length bytes.now) (map view defs.old.items) bytes.now) }
 {
     let mut rest = bytes;
@@ -354,18 +354,18 @@ fn defs_at<'a>(
 }
 
 /// A formula that `check` accepts.
-fn checked(names: &Names, f: Formula) -> Result<Formula, Stop>
+fn checked(names: &Names, f: Formula) -> Result<Formula, ReadStop>
     ensures { Gives (λ f. formula_view f) result (checked (length names.now) (formula_view f)) }
 {
     match check(&f, names.count()) {
         Ok(()) => Ok(f),
-        Err(_) => Err(Stop::Left(0)),
+        Err(_) => Err(ReadStop::Left(0)),
     }
 }
 
 /// One expression, definitions, and nothing else.
 #[tactic(auto, unfolding(crate::specs::Read::formula_of))]
-fn whole_formula(alloc: Global, names: &Names, text: &[u8]) -> Result<Formula, Stop>
+fn whole_formula(alloc: Global, names: &Names, text: &[u8]) -> Result<Formula, ReadStop>
     ensures { Gives (λ f. formula_view f) result (formula_of names.now text.now) }
 {
     let (main, rest) = expr_at(alloc, names, 60, text)?;
@@ -373,7 +373,7 @@ fn whole_formula(alloc: Global, names: &Names, text: &[u8]) -> Result<Formula, S
     let rest = defs_at(alloc, names, &mut defs, rest)?;
     let rest = trim(rest);
     if !rest.is_empty() {
-        return Err(Stop::Left(rest.len()));
+        return Err(ReadStop::Left(rest.len()));
     }
     checked(names, Formula { defs, main })
 }

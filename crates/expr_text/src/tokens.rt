@@ -2,7 +2,7 @@ ghost use Rattle.std.specs.Prelude.{◌≡◌, ◌<◌, ◌≤◌, ◌+◌, ◌*
 ghost use Rattle.expr_text.specs.Read.{Gives, after, trim, next_is, expect, raw_name, bare, closed, with_vertex, name_at, name_step, repeat, names_at, number_of, is_number, number_in, number_at};
 
 use crate::bytes::{Class, run_len};
-use crate::stop::Stop;
+use crate::stop::ReadStop;
 use mixed_graph::{Names, VSet};
 use prob_expr::masks;
 
@@ -44,13 +44,13 @@ pub fn next_is<'a>(token: &[u8], bytes: &'a [u8]) -> Option<&'a [u8]>
 
 /// The bytes behind a token that has to be the next.
 #[tactic(auto, unfolding(crate::specs::Read::expect))]
-pub fn expect<'a>(token: &[u8], bytes: &'a [u8]) -> Result<&'a [u8], Stop>
+pub fn expect<'a>(token: &[u8], bytes: &'a [u8]) -> Result<&'a [u8], ReadStop>
     ensures expect { Gives (λ r. r.now) result (expect token.now bytes.now) }
     ensures shorter { IfOk result (λ r. length r.now + length token.now ≤ length bytes.now) }
 {
     match next_is(token, bytes) {
         Some(rest) => Ok(rest),
-        None => Err(Stop::Left(trim(bytes).len())),
+        None => Err(ReadStop::Left(trim(bytes).len())),
     }
 }
 
@@ -114,23 +114,23 @@ fn with_vertex(names: &Names, have: VSet, name: &[u8]) -> Option<VSet>
 
 /// The next name, beside the members before it.
 #[tactic(auto, unfolding(crate::specs::Read::name_at))]
-fn name_at<'a>(names: &Names, have: VSet, bytes: &'a [u8]) -> Result<(VSet, &'a [u8]), Stop>
+fn name_at<'a>(names: &Names, have: VSet, bytes: &'a [u8]) -> Result<(VSet, &'a [u8]), ReadStop>
     ensures name { Gives (λ p. (p.0.bits, p.1.now)) result (name_at names.now have.bits bytes.now) }
     ensures shorter { IfOk result (λ p. length p.1.now < length bytes.now) }
 {
     let front = trim(bytes);
     let Some((name, rest)) = raw_name(front) else {
-        return Err(Stop::Left(front.len()));
+        return Err(ReadStop::Left(front.len()));
     };
     match with_vertex(names, have, name) {
         Some(set) => Ok((set, rest)),
-        None => Err(Stop::Left(front.len())),
+        None => Err(ReadStop::Left(front.len())),
     }
 }
 
 /// The names of a set, in any order.
 #[tactic(auto, unfolding(crate::specs::Read::names_at))]
-pub fn names_at<'a>(names: &Names, bytes: &'a [u8]) -> Result<(VSet, &'a [u8]), Stop>
+pub fn names_at<'a>(names: &Names, bytes: &'a [u8]) -> Result<(VSet, &'a [u8]), ReadStop>
     ensures names { Gives (λ p. (p.0.bits, p.1.now)) result (names_at names.now bytes.now) }
     ensures shorter { IfOk result (λ p. length p.1.now < length bytes.now) }
 {
@@ -139,7 +139,7 @@ pub fn names_at<'a>(names: &Names, bytes: &'a [u8]) -> Result<(VSet, &'a [u8]), 
 }
 
 /// Names behind the first, each after a comma.
-fn more_names<'a>(names: &Names, first: VSet, bytes: &'a [u8]) -> Result<(VSet, &'a [u8]), Stop>
+fn more_names<'a>(names: &Names, first: VSet, bytes: &'a [u8]) -> Result<(VSet, &'a [u8]), ReadStop>
     ensures names { Gives (λ p. (p.0.bits, p.1.now)) result (repeat (name_step names.now) (length bytes.now) first.bits bytes.now) }
     ensures shorter { IfOk result (λ p. length p.1.now ≤ length bytes.now) }
 {
@@ -180,14 +180,14 @@ fn is_number(digits: &[u8]) -> bool
 
 /// The next number.
 #[tactic(auto, unfolding(crate::specs::Read::number_at))]
-pub fn number_at(bytes: &[u8]) -> Result<(u32, &[u8]), Stop>
+pub fn number_at(bytes: &[u8]) -> Result<(u32, &[u8]), ReadStop>
     ensures number { Gives (λ p. (p.0, p.1.now)) result (number_at bytes.now) }
     ensures shorter { IfOk result (λ p. length p.1.now ≤ length bytes.now) }
 {
     let front = trim(bytes);
     let (digits, rest) = front.split_at(run_len(Class::Digit, front));
     if !is_number(digits) {
-        return Err(Stop::Left(front.len()));
+        return Err(ReadStop::Left(front.len()));
     }
     Ok((number_of(digits) as u32, rest))
 }

@@ -13,8 +13,8 @@ use Rattle.finite_models.proofs.Following.{follows_of, follows_intervene}
 use Rattle.finite_models.proofs.Ranks.{with_rank}
 use Rattle.finite_models.proofs.Solutions.{solution_is, solution_within, agree_gives}
 use Rattle.finite_models.proofs.Numbering.{over-numbers, over-products, sum_below-ones, sum_below-le, sum_below-grows}
-use Rattle.finite_models.specs.declared.kinds.Model.{Model}
-use Rattle.finite_models.specs.declared.kinds.Cause.{Cause}
+use Rattle.finite_models.specs.declared.model.Model.{Model}
+use Rattle.finite_models.specs.declared.model.Cause.{Cause}
 
 -- the weight of a world where its solution agrees with s on the event, and 0 where it doesn't
 abbrev pub counted : MixedGraph → Model → (b a : ℕ → Bool) → (ℕ → ℕ) → ℕ → ℕ

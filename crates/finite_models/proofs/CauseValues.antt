@@ -7,7 +7,7 @@ use Rattle.finite_models.specs.Data.{weights_of}
 use Rattle.finite_models.specs.Worlds.{values_of, weight_sum, value_in_world, HaveWeight}
 use Rattle.finite_models.proofs.Numbering.{product_below-le, product_below-grows, term_le-sum}
 use Rattle.finite_models.proofs.Places.{weights_of-at}
-use Rattle.finite_models.specs.declared.kinds.Cause.{Cause}
+use Rattle.finite_models.specs.declared.model.Cause.{Cause}
 
 -- a cause at its place
 pub values_at : (causes : List Cause) (j : ℕ) (x : Cause) (n : ℕ) → j < length causes → x ≡ get_or causes j x → n ≡ length x.weights.items → n ≡ values_of causes j

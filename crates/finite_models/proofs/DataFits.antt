@@ -5,8 +5,8 @@ use Rattle.finite_models.specs.Data.{meaning, value_by}
 use Rattle.finite_models.specs.Laws.{SoundDataFits}
 use Rattle.mixed_graph.specs.Graphs.{MixedGraph}
 use Rattle.finite_models.proofs.DataReads.{reads_same, value_below}
-use Rattle.finite_models.specs.declared.kinds.Model.{Model}
-use Rattle.finite_models.specs.declared.kinds.Mechanism.{Mechanism}
+use Rattle.finite_models.specs.declared.model.Model.{Model}
+use Rattle.finite_models.specs.declared.model.Mechanism.{Mechanism}
 
 some_of : (xs : List Mechanism) (i : ℕ) → i < length xs → Mechanism
 some_of [] i lt = absurd (omega arith)

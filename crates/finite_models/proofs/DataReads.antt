@@ -8,10 +8,10 @@ use Rattle.finite_models.specs.Data.{weights_of, children_of, hedge_bit, carried
 use Rattle.finite_models.specs.Inputs.{MayRead, HasInputs, HasValues}
 use Rattle.finite_models.proofs.SumLaws.{sum_below-congr}
 use Rattle.finite_models.proofs.TableLaws.{table_reads, table_index-lt}
-use Rattle.finite_models.specs.declared.kinds.Model.{Model}
-use Rattle.finite_models.specs.declared.kinds.Part.{Part}
-use Rattle.finite_models.specs.declared.kinds.Mechanism.{Mechanism}
-use Rattle.finite_models.specs.declared.kinds.Mechanism.TheVariants.{Table, Parity}
+use Rattle.finite_models.specs.declared.model.Model.{Model}
+use Rattle.finite_models.specs.declared.model.Part.{Part}
+use Rattle.finite_models.specs.declared.model.Mechanism.{Mechanism}
+use Rattle.finite_models.specs.declared.model.Mechanism.TheVariants.{Table, Parity}
 
 cond_same : (b : Bool) (x y : ℕ) → (b ≡ true → x ≡ y) → cond b x 0 ≡ cond b y 0
 cond_same true x y e = e refl

@@ -5,13 +5,13 @@ use Rattle.mixed_graph.specs.Graphs.{MixedGraph}
 use Rattle.finite_models.specs.Sums.{sum_below}
 use Rattle.finite_models.specs.Data.{value_by, weights_of, children_of}
 use Rattle.finite_models.specs.Inputs.{HasInputs, HasValues, HasPartSize}
-use Rattle.finite_models.specs.Faults.{HasForm, IsSoundModel}
+use Rattle.finite_models.specs.Faults.{IsWellFormed, IsSoundModel}
 use Rattle.finite_models.specs.Laws.{FittingDataIsSound}
 use Rattle.finite_models.proofs.DataFits.{value_at}
 use Rattle.finite_models.proofs.Digits.{placed}
-use Rattle.finite_models.specs.declared.kinds.Model.{Model}
-use Rattle.finite_models.specs.declared.kinds.Mechanism.{Mechanism}
-use Rattle.finite_models.specs.declared.kinds.Mechanism.TheVariants.{Table, Parity}
+use Rattle.finite_models.specs.declared.model.Model.{Model}
+use Rattle.finite_models.specs.declared.model.Mechanism.{Mechanism}
+use Rattle.finite_models.specs.declared.model.Mechanism.TheVariants.{Table, Parity}
 
 some_value : (n : ℕ) (f : ℕ → ℕ) → 1 ≤ sum_below n f → 0 < n
 some_value zero f h = absurd (omega arith)
@@ -51,5 +51,5 @@ part_size : (size : ℕ) (k : Mechanism) → HasValues size k → HasPartSize si
 part_size size (Table outputs) h = tt
 part_size size (Parity a b) h = h
 
-pub form_of : (g : MixedGraph) (m : Model) → IsSoundModel g m → HasForm g m
+pub form_of : (g : MixedGraph) (m : Model) → IsSoundModel g m → IsWellFormed g m
 form_of g m s = record { inputs = s.inputs; part_sizes = λ v lt past. part_size (get_or m.sizes.items v 0) (get_or m.mechanisms.items v past) (s.values v lt past) }

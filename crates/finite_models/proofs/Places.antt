@@ -4,8 +4,8 @@ use Rattle.std.proofs.lemmas.List.{get_or-map}
 use Rattle.mixed_graph.specs.Graphs.{MixedGraph}
 use Rattle.finite_models.specs.Data.{weights_of, children_of}
 use Rattle.finite_models.specs.Sound.{IsSoundCause, IsSoundAt}
-use Rattle.finite_models.specs.declared.kinds.Model.{Model}
-use Rattle.finite_models.specs.declared.kinds.Cause.{Cause}
+use Rattle.finite_models.specs.declared.model.Model.{Model}
+use Rattle.finite_models.specs.declared.model.Cause.{Cause}
 
 pub weights_of-at : (causes : List Cause) (j : ℕ) (x : Cause) → j < length causes → x ≡ get_or causes j x → weights_of causes j ≡ x.weights.items
 weights_of-at causes j x lt is = get_or-map (λ c. c.weights.items) causes j x [] lt ∙ ap (λ c. c.weights.items) (sym is)

@@ -5,11 +5,11 @@ use Rattle.mixed_graph.specs.Graphs.{MixedGraph}
 use Rattle.finite_models.specs.Sums.{sum_below}
 use Rattle.finite_models.specs.Tables.{table_index, table_value}
 use Rattle.finite_models.specs.Models.{FiniteModel}
-use Rattle.finite_models.specs.declared.kinds.Model.{Model}
-use Rattle.finite_models.specs.declared.kinds.Cause.{Cause}
-use Rattle.finite_models.specs.declared.kinds.Part.{Part}
-use Rattle.finite_models.specs.declared.kinds.Mechanism.{Mechanism}
-use Rattle.finite_models.specs.declared.kinds.Mechanism.TheVariants.{Table, Parity}
+use Rattle.finite_models.specs.declared.model.Model.{Model}
+use Rattle.finite_models.specs.declared.model.Cause.{Cause}
+use Rattle.finite_models.specs.declared.model.Part.{Part}
+use Rattle.finite_models.specs.declared.model.Mechanism.{Mechanism}
+use Rattle.finite_models.specs.declared.model.Mechanism.TheVariants.{Table, Parity}
 
 -- the weights of cause j's values
 abbrev pub weights_of : List Cause → ℕ → List ℕ

@@ -3,9 +3,9 @@ use Rattle.std.specs.Prelude.{ℕ, ◌≡◌, ◌-◌, ◌^◌, min, length}
 use Rattle.mixed_graph.specs.Graphs.{MixedGraph}
 use Rattle.finite_models.specs.Sound.{IsSoundAt, IsFirstWrong, AllRight}
 use Rattle.finite_models.specs.Inputs.{HasInputsAt, HasValuesAt, HasPartSizeAt}
-use Rattle.finite_models.specs.declared.kinds.Model.{Model}
-use Rattle.finite_models.specs.declared.kinds.ModelFault.{ModelFault}
-use Rattle.finite_models.specs.declared.kinds.ModelFault.TheVariants.{Cause, Input, Value}
+use Rattle.finite_models.specs.declared.model.Model.{Model}
+use Rattle.finite_models.specs.declared.model.ModelFault.{ModelFault}
+use Rattle.finite_models.specs.declared.model.ModelFault.TheVariants.{Cause, Input, Value}
 
 -- each cause is sound, and each vertex reads what it may and has values below its size
 pub record IsSoundModel (g : MixedGraph) (m : Model) : Type 0 where
@@ -14,7 +14,7 @@ pub record IsSoundModel (g : MixedGraph) (m : Model) : Type 0 where
   pub values : AllRight g.vertices (HasValuesAt m)
 
 -- the mechanisms are written as they have to be: tables have an output for each place, parts read what they may, and their bits are those of the size
-pub record HasForm (g : MixedGraph) (m : Model) : Type 0 where
+pub record IsWellFormed (g : MixedGraph) (m : Model) : Type 0 where
   pub inputs : AllRight g.vertices (HasInputsAt g m)
   pub part_sizes : AllRight g.vertices (HasPartSizeAt m)
 
@@ -23,7 +23,7 @@ abbrev pub cap : ℕ → ℕ
 cap j = min j (2 ^ 32 - 1)
 
 -- the fault is there, at its lowest number, and no fault of a kind before it
-abbrev pub IsFirstFault : MixedGraph → Model → ModelFault → Type 0
-IsFirstFault g m (Cause c) = (j : ℕ) × IsFirstWrong (length m.causes.items) (IsSoundAt g m) j × (c ≡ cap j)
-IsFirstFault g m (Input v) = AllRight (length m.causes.items) (IsSoundAt g m) × IsFirstWrong g.vertices (HasInputsAt g m) v
-IsFirstFault g m (Value v) = AllRight (length m.causes.items) (IsSoundAt g m) × AllRight g.vertices (HasInputsAt g m) × IsFirstWrong g.vertices (HasValuesAt m) v
+abbrev pub IsFirstModelFault : MixedGraph → Model → ModelFault → Type 0
+IsFirstModelFault g m (Cause c) = (j : ℕ) × IsFirstWrong (length m.causes.items) (IsSoundAt g m) j × (c ≡ cap j)
+IsFirstModelFault g m (Input v) = AllRight (length m.causes.items) (IsSoundAt g m) × IsFirstWrong g.vertices (HasInputsAt g m) v
+IsFirstModelFault g m (Value v) = AllRight (length m.causes.items) (IsSoundAt g m) × AllRight g.vertices (HasInputsAt g m) × IsFirstWrong g.vertices (HasValuesAt m) v

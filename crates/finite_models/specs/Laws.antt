@@ -3,8 +3,8 @@ use Rattle.std.specs.Prelude.{ℕ, ◌≡◌, ◌<◌, ◌≤◌, Bool, false, E
 use Rattle.mixed_graph.specs.Graphs.{MixedGraph, IsMixedGraph}
 use Rattle.finite_models.specs.Models.{FiniteModel, Fits, IsAssignment, IsWorld, IsSolution, IsPositiveModel, solution, event_weight, intervene, weight_of, total}
 use Rattle.finite_models.specs.Data.{meaning}
-use Rattle.finite_models.specs.Faults.{IsSoundModel, HasForm}
-use Rattle.finite_models.specs.declared.kinds.Model.{Model}
+use Rattle.finite_models.specs.Faults.{IsSoundModel, IsWellFormed}
+use Rattle.finite_models.specs.declared.model.Model.{Model}
 
 -- the solution of a world under an intervention is a solution
 abbrev pub SolutionIsSolution : Type 0
@@ -41,4 +41,4 @@ SoundDataFits = (g : MixedGraph) (m : Model) → length m.sizes.items ≡ g.vert
 
 -- and data of the right form that means such a model is sound
 abbrev pub FittingDataIsSound : Type 0
-FittingDataIsSound = (g : MixedGraph) (m : Model) → length m.sizes.items ≡ g.vertices → length m.mechanisms.items ≡ g.vertices → HasForm g m → Fits g (meaning g m) → IsSoundModel g m
+FittingDataIsSound = (g : MixedGraph) (m : Model) → length m.sizes.items ≡ g.vertices → length m.mechanisms.items ≡ g.vertices → IsWellFormed g m → Fits g (meaning g m) → IsSoundModel g m

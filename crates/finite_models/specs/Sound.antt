@@ -5,18 +5,18 @@ use Rattle.mixed_graph.specs.Sets.{Within}
 use Rattle.mixed_graph.specs.Graphs.{MixedGraph}
 use Rattle.finite_models.specs.Sums.{sum_below}
 use Rattle.finite_models.specs.Data.{weights_of, children_of}
-use Rattle.finite_models.specs.declared.kinds.Model.{Model}
+use Rattle.finite_models.specs.declared.model.Model.{Model}
 
 -- any two members of the set are joined by a bidirected edge
-abbrev pub AreJoined : MixedGraph → ℕ → Type 0
-AreJoined g children = (u v : ℕ) → IsTrue (has children u) → IsTrue (has children v) → u ≢ v → IsTrue (g.both u v)
+abbrev pub AreAllJoined : MixedGraph → ℕ → Type 0
+AreAllJoined g children = (u v : ℕ) → IsTrue (has children u) → IsTrue (has children v) → u ≢ v → IsTrue (g.both u v)
 
 -- the weights have a positive sum, and the children are one vertex or vertices joined pairwise
 pub record IsSoundCause (g : MixedGraph) (weights : List ℕ) (children : ℕ) : Type 0 where
   pub positive : 1 ≤ sum_below (length weights) (λ i. slice_index weights i)
   pub child : (v : ℕ) × IsTrue (has children v)
   pub below : Within g.vertices (has children)
-  pub joined : AreJoined g children
+  pub joined : AreAllJoined g children
 
 -- cause j of the model is sound
 abbrev pub IsSoundAt : MixedGraph → Model → ℕ → Type 0

@@ -4,10 +4,10 @@ use Rattle.mixed_graph.specs.Graphs.{MixedGraph}
 use Rattle.finite_models.specs.Sums.{sum_below, product_below}
 use Rattle.finite_models.specs.Models.{Fits}
 use Rattle.finite_models.specs.Data.{weights_of, meaning}
-use Rattle.finite_models.specs.Faults.{HasForm}
-use Rattle.finite_models.specs.declared.kinds.Model.{Model}
-use Rattle.finite_models.specs.declared.kinds.Cause.{Cause}
-use Rattle.finite_models.specs.declared.kinds.Part.{Part}
+use Rattle.finite_models.specs.Faults.{IsWellFormed}
+use Rattle.finite_models.specs.declared.model.Model.{Model}
+use Rattle.finite_models.specs.declared.model.Cause.{Cause}
+use Rattle.finite_models.specs.declared.model.Part.{Part}
 
 -- the number of values of cause j
 abbrev pub values_of : List Cause → ℕ → ℕ
@@ -26,10 +26,10 @@ abbrev pub HaveWeight : List Cause → Type 0
 HaveWeight causes = (j : ℕ) → j < length causes → 1 ≤ weight_sum causes j
 
 -- the model is one that `check_model` accepts: as many sizes and mechanisms as vertices, the right form, and a meaning that fits the graph
-pub record IsAccepted (g : MixedGraph) (m : Model) : Type 0 where
+pub record IsAcceptedModel (g : MixedGraph) (m : Model) : Type 0 where
   pub sizes : length m.sizes.items ≡ g.vertices
   pub mechanisms : length m.mechanisms.items ≡ g.vertices
-  pub form : HasForm g m
+  pub form : IsWellFormed g m
   pub fits : Fits g (meaning g m)
 
 -- the causes that a part reads are there

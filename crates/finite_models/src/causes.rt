@@ -3,9 +3,9 @@ ghost use Rattle.mixed_graph.specs.Bits.{has};
 ghost use Rattle.mixed_graph.specs.Sets.{Within};
 ghost use Rattle.mixed_graph.specs.Shown.{graph_of};
 ghost use Rattle.finite_models.specs.Sums.{sum_below};
-ghost use Rattle.finite_models.specs.Sound.{AreJoined, IsSoundCause, IsSoundAt, IsFirstWrong, AllRight};
+ghost use Rattle.finite_models.specs.Sound.{AreAllJoined, IsSoundCause, IsSoundAt, IsFirstWrong, AllRight};
 
-use crate::kinds::{Cause, Model};
+use crate::model::{Cause, Model};
 use mixed_graph::{Graph, VSet};
 
 /// Whether the weights have a positive sum.
@@ -32,7 +32,7 @@ fn joins_others(g: &Graph, children: VSet, v: u8) -> bool
 
 /// Whether any two members are joined by a bidirected edge.
 fn are_joined(g: &Graph, children: VSet) -> bool
-    ensures { IsTrue result ↔ AreJoined (graph_of g.now) children.bits }
+    ensures { IsTrue result ↔ AreAllJoined (graph_of g.now) children.bits }
 {
     for v in 0..64u8 {
         if !joins_others(g, children, v) {

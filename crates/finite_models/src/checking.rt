@@ -2,11 +2,11 @@ ghost use Rattle.std.specs.Prelude.{◌≡◌, ℕ, ◌≤◌, ◌↔◌, IsOk, 
 ghost use Rattle.mixed_graph.specs.Shown.{graph_of};
 ghost use Rattle.finite_models.specs.Models.{Fits};
 ghost use Rattle.finite_models.specs.Data.{meaning};
-ghost use Rattle.finite_models.specs.Faults.{cap, HasForm, IsFirstFault};
+ghost use Rattle.finite_models.specs.Faults.{cap, IsWellFormed, IsFirstModelFault};
 
 use crate::causes::wrong_cause;
-use crate::kinds::{Model, ModelFault};
 use crate::mechanisms::{wrong_input, wrong_value};
+use crate::model::{Model, ModelFault};
 use mixed_graph::Graph;
 
 /// The number, or the last one of 32 bits where it would pass that.
@@ -25,8 +25,8 @@ pub fn check_model(g: &Graph, m: &Model) -> Result<(), ModelFault>
     requires sizes { length m.now.sizes.items ≡ g.now.n }
     requires mechanisms { length m.now.mechanisms.items ≡ g.now.n }
     requires positive { EachIndex m.now.sizes.items (λ v. 1 ≤ slice_index m.now.sizes.items v) }
-    ensures fits { IsOk result ↔ (HasForm (graph_of g.now) m.now × Fits (graph_of g.now) (meaning (graph_of g.now) m.now)) }
-    ensures fault { IfErr result (IsFirstFault (graph_of g.now) m.now) }
+    ensures fits { IsOk result ↔ (IsWellFormed (graph_of g.now) m.now × Fits (graph_of g.now) (meaning (graph_of g.now) m.now)) }
+    ensures fault { IfErr result (IsFirstModelFault (graph_of g.now) m.now) }
 {
     if let Some(j) = wrong_cause(g, m) {
         return Err(ModelFault::Cause(cap(j)));

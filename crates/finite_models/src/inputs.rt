@@ -5,7 +5,7 @@ ghost use Rattle.finite_models.specs.Data.{hedged, carries, has_hedge, has_carri
 ghost use Rattle.finite_models.specs.Inputs.{IsBitCause, MayRead, HedgeMayRead, CarriedMayRead, HasInputs, HasInputsAt};
 ghost use Rattle.finite_models.specs.Sound.{IsFirstWrong, AllRight};
 
-use crate::kinds::{Mechanism, Model, Part};
+use crate::model::{Mechanism, Model, Part};
 use mixed_graph::{Graph, VSet};
 
 /// Whether the mechanism has a hedge bit.

@@ -6,8 +6,8 @@
 mod causes;
 mod checking;
 mod inputs;
-mod kinds;
 mod mechanisms;
+mod model;
 mod outputs;
 mod parities;
 mod solving;
@@ -17,6 +17,6 @@ mod weighing;
 mod worlds;
 
 pub use checking::check_model;
-pub use kinds::{Cause, Mechanism, Model, ModelFault, Part, WeightFault};
+pub use model::{Cause, Mechanism, Model, ModelFault, Part, WeightFault};
 pub use theory::laws;
 pub use weighing::weight;

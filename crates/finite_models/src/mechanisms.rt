@@ -4,7 +4,7 @@ ghost use Rattle.finite_models.specs.Inputs.{HasInputs, HasInputsAt, HasValues, 
 ghost use Rattle.finite_models.specs.Sound.{IsFirstWrong, AllRight};
 
 use crate::inputs::{carried_may_read, hedge_may_read};
-use crate::kinds::{Mechanism, Model, Part};
+use crate::model::{Mechanism, Model, Part};
 use crate::tables::{are_below, has_table_length};
 use mixed_graph::Graph;
 

@@ -7,7 +7,7 @@ ghost use Rattle.finite_models.specs.Data.{children_of, place_in_table};
 ghost use Rattle.finite_models.specs.Inputs.{places_of};
 ghost use Rattle.finite_models.specs.Worlds.{values_of, value_in_world, HaveWeight};
 
-use crate::kinds::Model;
+use crate::model::Model;
 use mixed_graph::{Graph, VSet};
 
 /// The place with one more digit, where it is kept.

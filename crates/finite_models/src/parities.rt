@@ -5,7 +5,7 @@ ghost use Rattle.finite_models.specs.Data.{hedged, hedge_bit, carried_bit, part_
 ghost use Rattle.finite_models.specs.Worlds.{value_in_world, HaveWeight, HasCauses, HaveCauses};
 
 use crate::inputs::is_hedged;
-use crate::kinds::{Mechanism, Model, Part};
+use crate::model::{Mechanism, Model, Part};
 use crate::worlds::cause_value;
 use mixed_graph::VSet;
 

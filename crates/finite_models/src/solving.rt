@@ -4,16 +4,16 @@ ghost use Rattle.mixed_graph.specs.Orders.{IsOrder};
 ghost use Rattle.mixed_graph.specs.Shown.{graph_of};
 ghost use Rattle.finite_models.specs.Models.{IsAssignment, intervene, solution};
 ghost use Rattle.finite_models.specs.Data.{meaning};
-ghost use Rattle.finite_models.specs.Worlds.{value_in_world, IsAccepted};
+ghost use Rattle.finite_models.specs.Worlds.{value_in_world, IsAcceptedModel};
 
-use crate::kinds::{Mechanism, Model};
+use crate::model::{Mechanism, Model};
 use crate::outputs::output;
 use crate::parities::value_of_parts;
 use mixed_graph::{Graph, Order, VSet};
 
 /// The value that the mechanism of v gives in a world, where the vertices have these values.
 fn mechanism_value(g: &Graph, m: &Model, v: u8, world: usize, values: &[u32; 64]) -> u32
-    requires accepted { IsAccepted (graph_of g.now) m.now }
+    requires accepted { IsAcceptedModel (graph_of g.now) m.now }
     requires vertex { v < g.now.n }
     requires in_range { IsAssignment g.now.n (λ p. slice_index m.now.sizes.items p) (λ p. slice_index values.now p) }
     ensures { result ≡ (meaning (graph_of g.now) m.now).mechanism v (λ p. slice_index values.now p) (value_in_world m.now.causes.items world) }
@@ -33,7 +33,7 @@ pub fn solve(
     order: &Order,
     world: usize,
 ) -> [u32; 64]
-    requires accepted { IsAccepted (graph_of g.now) m.now }
+    requires accepted { IsAcceptedModel (graph_of g.now) m.now }
     requires order { IsOrder (graph_of g.now) order.now.list order.now.count }
     requires length { length at.now ≡ g.now.n }
     requires in_range { IsAssignment g.now.n (λ p. slice_index m.now.sizes.items p) (λ p. slice_index at.now p) }

@@ -5,7 +5,7 @@ ghost use Rattle.finite_models.specs.Tables.{radix_range};
 ghost use Rattle.finite_models.specs.Data.{children_of, weights_of};
 ghost use Rattle.finite_models.specs.Inputs.{places_of};
 
-use crate::kinds::Model;
+use crate::model::Model;
 use mixed_graph::{Graph, VSet};
 
 /// The range, times the base where it is kept, and at most the cap.

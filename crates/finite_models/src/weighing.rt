@@ -4,9 +4,9 @@ ghost use Rattle.mixed_graph.specs.Shown.{graph_of};
 ghost use Rattle.finite_models.specs.Sums.{product_below};
 ghost use Rattle.finite_models.specs.Models.{IsAssignment, agree, weight_of, world_count, total};
 ghost use Rattle.finite_models.specs.Data.{meaning};
-ghost use Rattle.finite_models.specs.Worlds.{values_of, weight_sum, IsAccepted};
+ghost use Rattle.finite_models.specs.Worlds.{values_of, weight_sum, IsAcceptedModel};
 
-use crate::kinds::{Model, WeightFault};
+use crate::model::{Model, WeightFault};
 use crate::solving::solve;
 use crate::worlds::{count_worlds, total_weight, world_weight};
 use mixed_graph::{Graph, VSet};
@@ -33,7 +33,7 @@ fn agreeing_weight(
     at: &[u32],
     worlds: usize,
 ) -> u128
-    requires accepted { IsAccepted (graph_of g.now) m.now }
+    requires accepted { IsAcceptedModel (graph_of g.now) m.now }
     requires length { length at.now ≡ g.now.n }
     requires in_range { IsAssignment g.now.n (λ v. slice_index m.now.sizes.items v) (λ v. slice_index at.now v) }
     requires worlds { worlds ≡ product_below (length m.now.causes.items) (values_of m.now.causes.items) }
@@ -63,7 +63,7 @@ pub fn weight(
     event: VSet,
     at: &[u32],
 ) -> Result<u128, WeightFault>
-    requires accepted { IsAccepted (graph_of g.now) m.now }
+    requires accepted { IsAcceptedModel (graph_of g.now) m.now }
     requires length { length at.now ≡ g.now.n }
     requires in_range { IsAssignment g.now.n (λ v. slice_index m.now.sizes.items v) (λ v. slice_index at.now v) }
     ensures sum { IfOk result (λ w. w ≡ weight_of (meaning (graph_of g.now) m.now) (has do_set.bits) (has event.bits) (λ v. slice_index at.now v)) }

@@ -3,7 +3,7 @@ ghost use Rattle.finite_models.specs.Sums.{sum_below, product_below};
 ghost use Rattle.finite_models.specs.Data.{weights_of};
 ghost use Rattle.finite_models.specs.Worlds.{values_of, weight_sum, value_in_world, HaveWeight};
 
-use crate::kinds::Model;
+use crate::model::Model;
 
 /// The number of worlds, at most one more than the limit.
 pub fn count_worlds(m: &Model) -> u128

@@ -1,6 +1,5 @@
 use case_rows::{bytes, flag, number, text};
 use dag_reader::{GraphFault, read_graph, write_graph};
-use fault_text::{graph_line, second_graph_line, second_size_line, size_line};
 use serde_json::Value;
 use std::alloc::{AllocError, Global};
 
@@ -13,7 +12,7 @@ pub(crate) fn told(alloc: Global, bytes: &[u8]) -> Option<String> {
 fn read_and_written(alloc: Global, text: &[u8]) -> Result<Vec<u8>, AllocError> {
     match read_graph(alloc, text) {
         Ok(graph) => write_graph(alloc, &graph),
-        Err(fault) => graph_line(alloc, &fault),
+        Err(fault) => fault.line(alloc),
     }
 }
 
@@ -46,9 +45,9 @@ pub(crate) fn prefixes_row(alloc: Global, row: &Value) -> Option<String> {
 /// The line of a token that isn't one.
 fn token_line(alloc: Global, at: usize, second: bool) -> Result<Vec<u8>, AllocError> {
     if second {
-        second_graph_line(alloc, &GraphFault::Token(at))
+        GraphFault::Token(at).second_line(alloc)
     } else {
-        graph_line(alloc, &GraphFault::Token(at))
+        GraphFault::Token(at).line(alloc)
     }
 }
 
@@ -60,8 +59,8 @@ pub(crate) fn graph_line_row(alloc: Global, row: &Value) -> Option<String> {
             let at = usize::try_from(number(row, "byte")).ok()?;
             token_line(alloc, at, second)
         }
-        "size" if second => second_size_line(alloc),
-        "size" => size_line(alloc),
+        "size" if second => GraphFault::second_size_line(alloc),
+        "size" => GraphFault::size_line(alloc),
         _ => return None,
     };
     told(alloc, &line.ok()?)

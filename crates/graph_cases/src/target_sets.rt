@@ -1,6 +1,5 @@
 use crate::graph_texts::told;
 use case_rows::{Members, flag, names, text, texts};
-use fault_text::{second_target_line, target_line};
 use mixed_graph::{Names, Text};
 use serde_json::Value;
 use std::alloc::Global;
@@ -28,9 +27,9 @@ fn sets_text(alloc: Global, sets: EffectSets) -> Option<String> {
 /// The line of a fault.
 fn line_text(alloc: Global, fault: &TargetFault, second: bool) -> Option<String> {
     let line = if second {
-        second_target_line(alloc, fault)
+        fault.second_line(alloc)
     } else {
-        target_line(alloc, fault)
+        fault.line(alloc)
     };
     told(alloc, &line.ok()?)
 }

@@ -4,7 +4,7 @@ use Rattle.std.proofs.lemmas.Bool.{cases_lt, and_parts, and_from, lt-ltb}
 use Rattle.mixed_graph.specs.Bits.{has}
 use Rattle.mixed_graph.specs.Graphs.{MixedGraph, IsMixedGraph, IsDirectedPath, IsAncestor, induced}
 use Rattle.mixed_graph.proofs.Masks.{has-above, some_in_meet}
-use Rattle.hedge.specs.declared.kinds.Hedge.{Hedge}
+use Rattle.hedge.specs.declared.hedge.Hedge.{Hedge}
 use Rattle.hedge.specs.Hedges.{outside, Meets, AreRightLinks}
 use Rattle.hedge.specs.Faults.{IsWrongLink}
 

@@ -8,7 +8,7 @@ use Rattle.mixed_graph.proofs.Members.{length-members-lt, length-members-more}
 use Rattle.districts.specs.Linked.{IsLinked, IsJoinedSet}
 use Rattle.districts.specs.Linked.IsLinked.{at, by}
 use Rattle.districts.proofs.Parts.{joined_by}
-use Rattle.hedge.specs.declared.kinds.Hedge.{Hedge}
+use Rattle.hedge.specs.declared.hedge.Hedge.{Hedge}
 use Rattle.hedge.specs.Hedges.{IsHedge, IsPlaced}
 use Rattle.hedge.specs.Shapes.{AreSetsOfHedge, FormHedge, HedgeHasSets, SetsFormHedge}
 

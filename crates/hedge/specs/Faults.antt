@@ -3,13 +3,13 @@ use Rattle.std.specs.Prelude.{◌≡◌, ℕ, ◌<◌, ◌⊎◌, false, IsTrue,
 use Rattle.mixed_graph.specs.Bits.{has}
 use Rattle.mixed_graph.specs.Sets.{Apart}
 use Rattle.mixed_graph.specs.Graphs.{MixedGraph}
-use Rattle.hedge.specs.declared.kinds.Hedge.{Hedge}
-use Rattle.hedge.specs.declared.kinds.HedgeFault.{HedgeFault}
-use Rattle.hedge.specs.declared.kinds.HedgeFault.TheVariants.{Sets, BigMissesX, SmallMeetsX, Choice, Link, Root}
+use Rattle.hedge.specs.declared.hedge.Hedge.{Hedge}
+use Rattle.hedge.specs.declared.hedge.HedgeFault.{HedgeFault}
+use Rattle.hedge.specs.declared.hedge.HedgeFault.TheVariants.{Sets, BigMissesX, SmallMeetsX, Choice, Link, Root}
 use Rattle.hedge.specs.Hedges.{Meets, AreHedgeSets, IsRightChoice, IsPlaced, IsRightPartner, AreRightLinks, Reaches}
 
 -- v is the lowest number of which P holds and Q doesn't
-pub record IsFirstWrong (P Q : ℕ → Type 0) (v : ℕ) : Type 0 where
+pub record IsLowestWrong (P Q : ℕ → Type 0) (v : ℕ) : Type 0 where
   pub among : P v
   pub wrong : Q v → ⊥
   pub before : (u : ℕ) → u < v → P u → Q u
@@ -41,9 +41,9 @@ AllInside h = (i : ℕ) → i < h.links.count → IsTrue (has h.big.bits (slice_
 
 -- the lowest member of big that isn't placed; where all are, 64 for an entry outside big; where none is, the lowest with a wrong partner
 abbrev pub IsWrongLink : MixedGraph → Hedge → ℕ → Type 0
-IsWrongLink g h v = IsFirstWrong (λ u. IsTrue (has h.big.bits u)) (IsPlaced h) v
+IsWrongLink g h v = IsLowestWrong (λ u. IsTrue (has h.big.bits u)) (IsPlaced h) v
     ⊎ ((AllPlaced h × HasStranger h × (v ≡ 64))
-    ⊎ (AllPlaced h × AllInside h × IsFirstWrong (IsLaterEntry h) (HasRightPartner g h) v))
+    ⊎ (AllPlaced h × AllInside h × IsLowestWrong (IsLaterEntry h) (HasRightPartner g h) v))
 
 -- the sets are right, and big meets x
 abbrev pub MeetsIn : MixedGraph → ℕ → Hedge → Type 0
@@ -58,10 +58,10 @@ abbrev pub ChoosesIn : MixedGraph → ℕ → Hedge → Type 0
 ChoosesIn g x h = IsOffIn g x h × ((v : ℕ) → v < 64 → IsRightChoice g h v)
 
 -- the fault that comes first, with the lowest vertex
-abbrev pub IsFirstFault : MixedGraph → (x y : ℕ) → Hedge → HedgeFault → Type 0
-IsFirstFault g x y h Sets = AreHedgeSets g h → ⊥
-IsFirstFault g x y h BigMissesX = AreHedgeSets g h × Apart (has h.big.bits) (has x)
-IsFirstFault g x y h SmallMeetsX = MeetsIn g x h × Meets (has h.small.bits) (has x)
-IsFirstFault g x y h (Choice v) = IsOffIn g x h × IsFirstWrong (λ u. u < 64) (IsRightChoice g h) v
-IsFirstFault g x y h (Link v) = ChoosesIn g x h × IsWrongLink g h v
-IsFirstFault g x y h (Root v) = ChoosesIn g x h × AreRightLinks g h × IsFirstWrong (λ u. IsTrue (has h.roots.bits u)) (Reaches g x y) v
+abbrev pub IsFirstHedgeFault : MixedGraph → (x y : ℕ) → Hedge → HedgeFault → Type 0
+IsFirstHedgeFault g x y h Sets = AreHedgeSets g h → ⊥
+IsFirstHedgeFault g x y h BigMissesX = AreHedgeSets g h × Apart (has h.big.bits) (has x)
+IsFirstHedgeFault g x y h SmallMeetsX = MeetsIn g x h × Meets (has h.small.bits) (has x)
+IsFirstHedgeFault g x y h (Choice v) = IsOffIn g x h × IsLowestWrong (λ u. u < 64) (IsRightChoice g h) v
+IsFirstHedgeFault g x y h (Link v) = ChoosesIn g x h × IsWrongLink g h v
+IsFirstHedgeFault g x y h (Root v) = ChoosesIn g x h × AreRightLinks g h × IsLowestWrong (λ u. IsTrue (has h.roots.bits u)) (Reaches g x y) v

@@ -4,7 +4,7 @@ use Rattle.mixed_graph.specs.Bits.{has, members_below}
 use Rattle.mixed_graph.specs.Sets.{Within, Apart}
 use Rattle.mixed_graph.specs.Graphs.{MixedGraph, IsAncestor, induced}
 use Rattle.districts.specs.Linked.{IsInside}
-use Rattle.hedge.specs.declared.kinds.Hedge.{Hedge}
+use Rattle.hedge.specs.declared.hedge.Hedge.{Hedge}
 
 -- the two sets have a member in common
 pub record Meets (s t : ℕ → Bool) : Type 0 where

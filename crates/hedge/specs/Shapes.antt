@@ -4,7 +4,7 @@ use Rattle.mixed_graph.specs.Bits.{has}
 use Rattle.mixed_graph.specs.Sets.{Within, Apart}
 use Rattle.mixed_graph.specs.Graphs.{MixedGraph, IsMixedGraph, IsAncestor, induced}
 use Rattle.districts.specs.Linked.{IsInside, IsJoinedSet}
-use Rattle.hedge.specs.declared.kinds.Hedge.{Hedge}
+use Rattle.hedge.specs.declared.hedge.Hedge.{Hedge}
 use Rattle.hedge.specs.Hedges.{Meets, Reaches, IsHedge}
 
 -- v has a child in the set

@@ -2,9 +2,9 @@ ghost use Rattle.std.specs.Prelude.{◌≡◌, ℕ, ◌<◌, ◌↔◌, ◌&&◌
 ghost use Rattle.mixed_graph.specs.Bits.{has};
 ghost use Rattle.mixed_graph.specs.Shown.{graph_of};
 ghost use Rattle.hedge.specs.Hedges.{IsRightChoice};
-ghost use Rattle.hedge.specs.Faults.{IsFirstWrong};
+ghost use Rattle.hedge.specs.Faults.{IsLowestWrong};
 
-use crate::kinds::Hedge;
+use crate::hedge::Hedge;
 use mixed_graph::{Graph, VSet};
 
 /// Where a vertex may lead: big, and small for a member of small.
@@ -34,7 +34,7 @@ fn chooses_right(g: &Graph, h: &Hedge, v: u8) -> bool
 
 /// The lowest vertex with a wrong choice, if there is one.
 pub fn wrong_choice(g: &Graph, h: &Hedge) -> Option<u8>
-    ensures wrong { IfSome result (IsFirstWrong (λ u. u < 64) (IsRightChoice (graph_of g.now) h.now)) }
+    ensures wrong { IfSome result (IsLowestWrong (λ u. u < 64) (IsRightChoice (graph_of g.now) h.now)) }
     ensures right { IfNone result ((v : ℕ) → v < 64 → IsRightChoice (graph_of g.now) h.now v) }
 {
     for v in 0..64u8 {

@@ -4,18 +4,11 @@ ghost use Rattle.mixed_graph.specs.Bits.{has};
 ghost use Rattle.mixed_graph.specs.Sets.{Within};
 ghost use Rattle.mixed_graph.specs.Shown.{graph_of};
 ghost use Rattle.hedge.specs.Hedges.{IsPlaced, IsRightPartner, AreRightLinks};
-ghost use Rattle.hedge.specs.Faults.{IsFirstWrong, IsLaterEntry, HasRightPartner, AllPlaced, HasStranger, AllInside, IsWrongLink};
+ghost use Rattle.hedge.specs.Faults.{IsLowestWrong, IsLaterEntry, HasRightPartner, AllPlaced, HasStranger, AllInside, IsWrongLink};
 
-use crate::kinds::Hedge;
+use crate::hedge::Hedge;
 use districts::Links;
-use mixed_graph::{Graph, VSet};
-
-/// Whether the set has this number.
-fn contains(s: VSet, v: u8) -> bool
-    ensures { result ≡ has s.bits v }
-{
-    v < 64 && s.has(v)
-}
+use mixed_graph::Graph;
 
 /// The first place of v among the entries, if there is one.
 fn place_of(links: &Links, v: u8) -> Option<usize>
@@ -61,7 +54,7 @@ fn is_placed(h: &Hedge, v: u8) -> bool
 /// The lowest member of big that isn't placed, if there is one.
 fn unplaced(h: &Hedge) -> Option<u8>
     requires { Within 64 (has h.now.big.bits) }
-    ensures wrong { IfSome result (IsFirstWrong (λ u. IsTrue (has h.now.big.bits u)) (IsPlaced h.now)) }
+    ensures wrong { IfSome result (IsLowestWrong (λ u. IsTrue (has h.now.big.bits u)) (IsPlaced h.now)) }
     ensures right { IfNone result (AllPlaced h.now) }
 {
     for v in 0..64u8 {
@@ -78,7 +71,7 @@ fn has_stranger(h: &Hedge) -> bool
     ensures none { OnFalse result (AllInside h.now) }
 {
     for i in 0..h.links.count as usize {
-        if !contains(h.big, h.links.found[i]) {
+        if !h.big.has(h.links.found[i]) {
             return true;
         }
     }
@@ -97,8 +90,8 @@ fn is_right_partner(g: &Graph, h: &Hedge, i: usize) -> bool
         Some(j) => j < i,
         None => false,
     };
-    let joined = contains(g.spouses(v), partner);
-    let leaves = h.small.has(v) && !contains(h.small, partner);
+    let joined = g.spouses(v).has(partner);
+    let leaves = h.small.has(v) && !h.small.has(partner);
     earlier && joined && !leaves
 }
 
@@ -120,7 +113,7 @@ fn wrong_partner(g: &Graph, h: &Hedge) -> Option<u8>
     requires low { Within 64 (has h.now.big.bits) }
     requires placed { AllPlaced h.now }
     requires inside { AllInside h.now }
-    ensures wrong { IfSome result (IsFirstWrong (IsLaterEntry h.now) (HasRightPartner (graph_of g.now) h.now)) }
+    ensures wrong { IfSome result (IsLowestWrong (IsLaterEntry h.now) (HasRightPartner (graph_of g.now) h.now)) }
     ensures right { IfNone result ((i : ℕ) → 0 < i → i < h.now.links.count → IsRightPartner (graph_of g.now) h.now i) }
 {
     for v in 0..64u8 {

@@ -4,11 +4,11 @@ ghost use Rattle.mixed_graph.specs.Sets.{Within};
 ghost use Rattle.mixed_graph.specs.Shown.{graph_of};
 ghost use Rattle.districts.specs.Linked.{IsInside};
 ghost use Rattle.hedge.specs.Hedges.{AreHedgeSets, Reaches, IsHedge};
-ghost use Rattle.hedge.specs.Faults.{IsFirstWrong, IsFirstFault};
+ghost use Rattle.hedge.specs.Faults.{IsLowestWrong, IsFirstHedgeFault};
 
 use crate::choices::wrong_choice;
 use crate::entries::wrong_link;
-use crate::kinds::{Hedge, HedgeFault};
+use crate::hedge::{Hedge, HedgeFault};
 use mixed_graph::{Graph, VSet};
 
 /// Whether each member of s is one of t.
@@ -32,7 +32,7 @@ fn has_sets(g: &Graph, h: &Hedge) -> bool
 /// The lowest root without a directed path to y outside x, if there is one.
 fn lost_root(g: &Graph, x: VSet, y: VSet, h: &Hedge) -> Option<u8>
     requires { Within g.now.n (has y.bits) }
-    ensures wrong { IfSome result (IsFirstWrong (λ u. IsTrue (has h.now.roots.bits u)) (Reaches (graph_of g.now) x.bits y.bits)) }
+    ensures wrong { IfSome result (IsLowestWrong (λ u. IsTrue (has h.now.roots.bits u)) (Reaches (graph_of g.now) x.bits y.bits)) }
     ensures right { IfNone result ((v : ℕ) → IsTrue (has h.now.roots.bits v) → Reaches (graph_of g.now) x.bits y.bits v) }
 {
     let free = VSet::below(g.n).difference(x);
@@ -48,7 +48,7 @@ fn lost_root(g: &Graph, x: VSet, y: VSet, h: &Hedge) -> Option<u8>
 pub fn holds(g: &Graph, x: VSet, y: VSet, h: &Hedge) -> Result<(), HedgeFault>
     requires { Within g.now.n (has y.bits) }
     ensures hedge { IsOk result ↔ IsHedge (graph_of g.now) x.bits y.bits h.now }
-    ensures fault { IfErr result (IsFirstFault (graph_of g.now) x.bits y.bits h.now) }
+    ensures fault { IfErr result (IsFirstHedgeFault (graph_of g.now) x.bits y.bits h.now) }
 {
     if !has_sets(g, h) {
         return Err(HedgeFault::Sets);

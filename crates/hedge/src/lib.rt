@@ -5,11 +5,11 @@
 
 mod choices;
 mod entries;
+mod hedge;
 mod holding;
-mod kinds;
 mod theory;
 
 pub use districts::{Choice, Districts, Links, child_choice, district_of, districts, links};
+pub use hedge::{Hedge, HedgeFault};
 pub use holding::holds;
-pub use kinds::{Hedge, HedgeFault};
 pub use theory::laws;

@@ -17,10 +17,10 @@ use Rattle.finite_models.specs.Data.{weights_of, children_of, meaning, value_by,
 use Rattle.finite_models.specs.Models.{FiniteModel, Fits, IsAssignment}
 use Rattle.finite_models.specs.Inputs.{places_of, HasInputs, HasPartSize}
 use Rattle.finite_models.specs.Tables.{radix, radix_range, table_value}
-use Rattle.finite_models.specs.Worlds.{values_of, IsAccepted}
-use Rattle.finite_models.specs.declared.kinds.Model.{Model}
-use Rattle.finite_models.specs.declared.kinds.Mechanism.{Mechanism}
-use Rattle.finite_models.specs.declared.kinds.Mechanism.TheVariants.{Table, Parity}
+use Rattle.finite_models.specs.Worlds.{values_of, IsAcceptedModel}
+use Rattle.finite_models.specs.declared.model.Model.{Model}
+use Rattle.finite_models.specs.declared.model.Mechanism.{Mechanism}
+use Rattle.finite_models.specs.declared.model.Mechanism.TheVariants.{Table, Parity}
 use Rattle.finite_models.proofs.Bools.{same_truth}
 use Rattle.finite_models.proofs.DataFits.{value_at}
 use Rattle.finite_models.proofs.Factors.{any_below_from, any_below_gives}
@@ -70,7 +70,7 @@ abbrev pub outputs_in : Mechanism → List ℕ
 outputs_in (Table outputs) = outputs.items
 outputs_in (Parity h c) = []
 
-module _ (g : MixedGraph) (ok : IsMixedGraph g) (l : ℕ → Bool) (m : Model) (accepted : IsAccepted g m) (sets : List VSet) (are : AreReached g l m.causes.items sets) where
+module _ (g : MixedGraph) (ok : IsMixedGraph g) (l : ℕ → Bool) (m : Model) (accepted : IsAcceptedModel g m) (sets : List VSet) (are : AreReached g l m.causes.items sets) where
   abbrev drawn : FiniteModel
   drawn = meaning g m
 
@@ -358,7 +358,7 @@ module _ (g : MixedGraph) (ok : IsMixedGraph g) (l : ℕ → Bool) (m : Model) (
       has_size n w (Table o) h = tt
       has_size n w (Parity a b) h = absurd h
 
-      pub is_accepted : IsAccepted q f
+      pub is_accepted : IsAcceptedModel q f
       is_accepted = record {
         sizes = d.sizes.long ∙ sym vertices_is;
         mechanisms = d.mechanisms.long ∙ sym vertices_is;

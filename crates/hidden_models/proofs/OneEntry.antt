@@ -8,8 +8,8 @@ use Rattle.latent_projection.specs.Projection.{IsProjection}
 use Rattle.finite_models.specs.Data.{meaning}
 use Rattle.finite_models.specs.Sums.{sum_below}
 use Rattle.finite_models.specs.Tables.{radix_range}
-use Rattle.finite_models.specs.Worlds.{values_of, IsAccepted}
-use Rattle.finite_models.specs.declared.kinds.Model.{Model}
+use Rattle.finite_models.specs.Worlds.{values_of, IsAcceptedModel}
+use Rattle.finite_models.specs.declared.model.Model.{Model}
 use Rattle.finite_models.proofs.Digits.{positive_range}
 use Rattle.hidden_models.specs.Digits.{digits}
 use Rattle.hidden_models.specs.Reaching.{mask_at}
@@ -27,7 +27,7 @@ some_value : (k : ℕ) (f : ℕ → ℕ) → 1 ≤ sum_below k f → 0 < k
 some_value zero f h = absurd (omega arith)
 some_value (suc k) f h = omega arith
 
-module _ (g : MixedGraph) (ok : IsMixedGraph g) (l : ℕ → Bool) (m : Model) (accepted : IsAccepted g m) (p : MixedGraph) (projects : IsProjection g l p) (sets : List VSet) (v : ℕ) where
+module _ (g : MixedGraph) (ok : IsMixedGraph g) (l : ℕ → Bool) (m : Model) (accepted : IsAcceptedModel g m) (p : MixedGraph) (projects : IsProjection g l p) (sets : List VSet) (v : ℕ) where
   size_positive : (k : ℕ) → k < p.vertices → 0 < get_or m.sizes.items k 0
   size_positive k kl = accepted.fits.positive_size k (subst (λ n. k < n) projects.vertices kl)
 

@@ -6,8 +6,8 @@ use Rattle.mixed_graph.specs.declared.sets.VSet.{VSet}
 use Rattle.latent_projection.specs.Projection.{IsProjection}
 use Rattle.latent_projection.specs.Renumbering.{observed_below}
 use Rattle.finite_models.specs.Sound.{IsFirstWrong, AllRight}
-use Rattle.finite_models.specs.Worlds.{IsAccepted}
-use Rattle.finite_models.specs.declared.kinds.Model.{Model}
+use Rattle.finite_models.specs.Worlds.{IsAcceptedModel}
+use Rattle.finite_models.specs.declared.model.Model.{Model}
 use Rattle.hidden_models.specs.Folded.{IsSmallEnough, IsFirstTooLarge}
 use Rattle.hidden_models.specs.Reaching.{AreReached}
 use Rattle.hidden_models.specs.Tables.{entries}
@@ -19,7 +19,7 @@ above x n h = elim (cases_lt n x) [
   | inr ge ↦ absurd (h ge)
 ]
 
-module _ (g : MixedGraph) (ok : IsMixedGraph g) (l : ℕ → Bool) (m : Model) (accepted : IsAccepted g m) (sets : List VSet) (are : AreReached g l m.causes.items sets) (p : MixedGraph) (projects : IsProjection g l p)
+module _ (g : MixedGraph) (ok : IsMixedGraph g) (l : ℕ → Bool) (m : Model) (accepted : IsAcceptedModel g m) (sets : List VSet) (are : AreReached g l m.causes.items sets) (p : MixedGraph) (projects : IsProjection g l p)
     (kept : List ℕ) (is : kept ≡ observed_below l g.vertices) where
   small_at : (k : ℕ) → k < length (observed_below l g.vertices) → entries p m sets (get_or kept k 0) ≤ 1048576 → IsSmallEnough g l m k
   small_at k kl h q observed r tells = subst (λ n. n ≤ 1048576) (sym (table_size_is g ok l m accepted sets are q observed p projects r tells k kl)) (subst (λ (xs : List ℕ). entries p m sets (get_or xs k 0) ≤ 1048576) is h)

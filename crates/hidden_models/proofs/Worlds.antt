@@ -3,7 +3,7 @@ use Rattle.std.proofs.Common.{ℕ, ◌<◌, Bool, not, List, length, arith}
 use Rattle.mixed_graph.specs.Graphs.{MixedGraph}
 use Rattle.finite_models.specs.Models.{FiniteModel, Fits, IsAssignment, intervene}
 use Rattle.finite_models.specs.Worlds.{values_of}
-use Rattle.finite_models.specs.declared.kinds.Cause.{Cause}
+use Rattle.finite_models.specs.declared.model.Cause.{Cause}
 use Rattle.finite_models.proofs.Following.{follows_of, follows_intervene}
 use Rattle.finite_models.proofs.Solutions.{solution_within}
 use Rattle.hidden_models.specs.Values.{IsWorldOf, filled}

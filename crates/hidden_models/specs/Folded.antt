@@ -7,10 +7,10 @@ use Rattle.latent_projection.specs.Renumbering.{observed_below, renumbered_set, 
 use Rattle.finite_models.specs.Data.{weights_of, children_of}
 use Rattle.finite_models.specs.Tables.{table_range}
 use Rattle.finite_models.specs.Worlds.{values_of}
-use Rattle.finite_models.specs.declared.kinds.Model.{Model}
-use Rattle.finite_models.specs.declared.kinds.Cause.{Cause}
-use Rattle.finite_models.specs.declared.kinds.Mechanism.{Mechanism}
-use Rattle.finite_models.specs.declared.kinds.Mechanism.TheVariants.{Table, Parity}
+use Rattle.finite_models.specs.declared.model.Model.{Model}
+use Rattle.finite_models.specs.declared.model.Cause.{Cause}
+use Rattle.finite_models.specs.declared.model.Mechanism.{Mechanism}
+use Rattle.finite_models.specs.declared.model.Mechanism.TheVariants.{Table, Parity}
 use Rattle.hidden_models.specs.Lists.{AreListed}
 use Rattle.hidden_models.specs.Reaching.{IsReachedFrom, mask_at}
 use Rattle.hidden_models.specs.Tables.{IsTableFor}

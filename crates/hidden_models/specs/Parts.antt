@@ -4,7 +4,7 @@ use Rattle.mixed_graph.specs.Graphs.{MixedGraph}
 use Rattle.mixed_graph.specs.Orders.{IsOrder}
 use Rattle.mixed_graph.specs.Shown.{graph_of}
 use Rattle.latent_projection.specs.Projection.{IsProjection}
-use Rattle.finite_models.specs.declared.kinds.Model.{Model}
+use Rattle.finite_models.specs.declared.model.Model.{Model}
 use Rattle.hidden_models.specs.Reaching.{AreReached}
 use Rattle.hidden_models.specs.declared.parts.Parts.{Parts}
 

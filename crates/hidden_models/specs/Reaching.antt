@@ -5,7 +5,7 @@ use Rattle.mixed_graph.specs.Graphs.{MixedGraph, IsDirectedPath}
 use Rattle.mixed_graph.specs.declared.sets.VSet.{VSet}
 use Rattle.latent_projection.specs.Projection.{AreBefore}
 use Rattle.finite_models.specs.Data.{children_of}
-use Rattle.finite_models.specs.declared.kinds.Cause.{Cause}
+use Rattle.finite_models.specs.declared.model.Cause.{Cause}
 use Rattle.hidden_models.specs.Lists.{AreListed}
 
 -- A member of s reaches the observed vertex v: it is v, or a directed path leads from it to v whose vertices before v are hidden.

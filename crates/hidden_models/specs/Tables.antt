@@ -7,9 +7,9 @@ use Rattle.finite_models.specs.Data.{meaning}
 use Rattle.finite_models.specs.Models.{FiniteModel}
 use Rattle.finite_models.specs.Tables.{radix_range}
 use Rattle.finite_models.specs.Worlds.{values_of}
-use Rattle.finite_models.specs.declared.kinds.Model.{Model}
-use Rattle.finite_models.specs.declared.kinds.Mechanism.{Mechanism}
-use Rattle.finite_models.specs.declared.kinds.Mechanism.TheVariants.{Table, Parity}
+use Rattle.finite_models.specs.declared.model.Model.{Model}
+use Rattle.finite_models.specs.declared.model.Mechanism.{Mechanism}
+use Rattle.finite_models.specs.declared.model.Mechanism.TheVariants.{Table, Parity}
 use Rattle.hidden_models.specs.Digits.{digits}
 use Rattle.hidden_models.specs.Reaching.{mask_at}
 use Rattle.hidden_models.specs.Values.{filled}

@@ -2,7 +2,7 @@
 use Rattle.std.specs.Prelude.{ℕ, ◌≡◌, Bool, not, List, length, slice_index}
 use Rattle.finite_models.specs.Models.{FiniteModel, IsAssignment, solution, intervene}
 use Rattle.finite_models.specs.Worlds.{values_of}
-use Rattle.finite_models.specs.declared.kinds.Cause.{Cause}
+use Rattle.finite_models.specs.declared.model.Cause.{Cause}
 
 -- a value of each cause
 pub record IsWorldOf (causes : List Cause) (world : List ℕ) : Type 0 where

@@ -1,7 +1,7 @@
 ghost use Rattle.std.specs.Prelude.{◌≡◌, ℕ, ◌<◌, ◌≤◌, IfOk, length};
 ghost use Rattle.mixed_graph.specs.Bits.{has};
 ghost use Rattle.mixed_graph.specs.Shown.{graph_of};
-ghost use Rattle.finite_models.specs.Worlds.{IsAccepted};
+ghost use Rattle.finite_models.specs.Worlds.{IsAcceptedModel};
 ghost use Rattle.hidden_models.specs.Parts.{AreParts};
 ghost use Rattle.hidden_models.specs.Tables.{entries, entry_at, AreEntries};
 
@@ -23,7 +23,7 @@ fn entry(
     v: u8,
     place: usize,
 ) -> Result<u32, AllocError>
-    requires accepted { IsAccepted (graph_of g.now) m.now }
+    requires accepted { IsAcceptedModel (graph_of g.now) m.now }
     requires parts { AreParts (graph_of g.now) (has latent.bits) m.now parts.now }
     requires vertex { v < g.now.n }
     requires small { entries (graph_of parts.now.projection) m.now parts.now.reached.items v ≤ 1048576 }
@@ -45,7 +45,7 @@ pub fn table(
     parts: &Parts,
     v: u8,
 ) -> Result<Vec<u32>, AllocError>
-    requires accepted { IsAccepted (graph_of g.now) m.now }
+    requires accepted { IsAcceptedModel (graph_of g.now) m.now }
     requires parts { AreParts (graph_of g.now) (has latent.bits) m.now parts.now }
     requires vertex { v < g.now.n }
     requires small { entries (graph_of parts.now.projection) m.now parts.now.reached.items v ≤ 1048576 }

@@ -4,7 +4,7 @@ ghost use Rattle.mixed_graph.specs.Orders.{IsOrder};
 ghost use Rattle.mixed_graph.specs.Shown.{graph_of};
 ghost use Rattle.finite_models.specs.Models.{IsAssignment};
 ghost use Rattle.finite_models.specs.Data.{meaning};
-ghost use Rattle.finite_models.specs.Worlds.{IsAccepted};
+ghost use Rattle.finite_models.specs.Worlds.{IsAcceptedModel};
 ghost use Rattle.hidden_models.specs.Values.{IsWorldOf, filled};
 
 use crate::evaluation::output;
@@ -14,7 +14,7 @@ use mixed_graph::{Graph, Order, VSet};
 
 /// The value that the mechanism of v gives in a world, where the vertices have these values.
 pub fn mechanism_value(g: &Graph, m: &Model, v: u8, world: &[usize], values: &[u32; 64]) -> u32
-    requires accepted { IsAccepted (graph_of g.now) m.now }
+    requires accepted { IsAcceptedModel (graph_of g.now) m.now }
     requires vertex { v < g.now.n }
     requires world { IsWorldOf m.now.causes.items world.now }
     requires in_range { IsAssignment g.now.n (λ p. slice_index m.now.sizes.items p) (λ p. slice_index values.now p) }
@@ -35,7 +35,7 @@ pub fn fill(
     at: &[u32; 64],
     world: &[usize],
 ) -> [u32; 64]
-    requires accepted { IsAccepted (graph_of g.now) m.now }
+    requires accepted { IsAcceptedModel (graph_of g.now) m.now }
     requires order { IsOrder (graph_of g.now) order.now.list order.now.count }
     requires world { IsWorldOf m.now.causes.items world.now }
     requires in_range { IsAssignment g.now.n (λ p. slice_index m.now.sizes.items p) (λ p. slice_index at.now p) }

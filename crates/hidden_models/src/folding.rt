@@ -5,7 +5,7 @@ ghost use Rattle.mixed_graph.specs.Shown.{graph_of};
 ghost use Rattle.latent_projection.specs.Renumbering.{observed_below, IsObserved};
 ghost use Rattle.finite_models.specs.Data.{meaning};
 ghost use Rattle.finite_models.specs.Sound.{IsFirstWrong, AllRight};
-ghost use Rattle.finite_models.specs.Worlds.{IsAccepted};
+ghost use Rattle.finite_models.specs.Worlds.{IsAcceptedModel};
 ghost use Rattle.hidden_theory.specs.Folding.{Folds};
 ghost use Rattle.hidden_models.specs.Folded.{IsCauseOf, AreFoldedCauses, IsTable, IsSmallEnough, IsFoldFault, IsFoldedData};
 ghost use Rattle.hidden_models.specs.Lists.{AreListed};
@@ -30,8 +30,8 @@ use std::alloc::{AllocError, Global};
 ///
 /// `TooLarge` where the table of an observed vertex would have more than 2^20 entries, the lowest such; `NoMemory` where memory was refused.
 pub fn fold_model(alloc: Global, g: &Graph, latent: VSet, m: &Model) -> Result<Model, FoldFault>
-    requires { IsAccepted (graph_of g.now) m.now }
-    ensures fits { IfOk result (λ f. (q : MixedGraph) → IsObserved (graph_of g.now) (has latent.bits) q → IsAccepted q f) }
+    requires { IsAcceptedModel (graph_of g.now) m.now }
+    ensures fits { IfOk result (λ f. (q : MixedGraph) → IsObserved (graph_of g.now) (has latent.bits) q → IsAcceptedModel q f) }
     ensures folds { IfOk result (λ f. (q : MixedGraph) → IsObserved (graph_of g.now) (has latent.bits) q → Folds (has latent.bits) (meaning (graph_of g.now) m.now) (meaning q f)) }
     ensures tables { IfOk result (λ f. All IsTable f.mechanisms.items) }
     ensures causes { IfOk result (λ f. AreFoldedCauses (graph_of g.now) (has latent.bits) m.now.causes.items f.causes.items) }
@@ -55,7 +55,7 @@ pub fn fold_model(alloc: Global, g: &Graph, latent: VSet, m: &Model) -> Result<M
 
 /// What folding needs of the graph.
 fn parts_of(alloc: Global, g: &Graph, latent: VSet, m: &Model) -> Result<Parts, AllocError>
-    requires { IsAccepted (graph_of g.now) m.now }
+    requires { IsAcceptedModel (graph_of g.now) m.now }
     ensures { IfOk result (AreParts (graph_of g.now) (has latent.bits) m.now) }
 {
     let reached = reached_sets(alloc, g, latent, &m.causes)?;
@@ -92,7 +92,7 @@ fn folded(
     parts: &Parts,
     kept: &[u8],
 ) -> Result<Model, AllocError>
-    requires accepted { IsAccepted (graph_of g.now) m.now }
+    requires accepted { IsAcceptedModel (graph_of g.now) m.now }
     requires parts { AreParts (graph_of g.now) (has latent.bits) m.now parts.now }
     requires vertices { kept.now ≡ observed_below (has latent.bits) g.now.n }
     requires small { AllRight (length kept.now) (λ k. entries (graph_of parts.now.projection) m.now parts.now.reached.items (slice_index kept.now k) ≤ 1048576) }
@@ -154,7 +154,7 @@ fn kept_tables(
     parts: &Parts,
     kept: &[u8],
 ) -> Result<Vec<Mechanism>, AllocError>
-    requires accepted { IsAccepted (graph_of g.now) m.now }
+    requires accepted { IsAcceptedModel (graph_of g.now) m.now }
     requires parts { AreParts (graph_of g.now) (has latent.bits) m.now parts.now }
     requires below { (k : ℕ) → k < length kept.now → slice_index kept.now k < g.now.n }
     requires small { AllRight (length kept.now) (λ k. entries (graph_of parts.now.projection) m.now parts.now.reached.items (slice_index kept.now k) ≤ 1048576) }

@@ -4,7 +4,7 @@ use Rattle.std.proofs.lemmas.Bool.{false_from_ne_true}
 use Rattle.mixed_graph.specs.Bits.{members_below}
 use Rattle.mixed_graph.specs.Graphs.{MixedGraph}
 use Rattle.finite_models.specs.Models.{FiniteModel, solution, intervene}
-use Rattle.latent_projection.specs.Projection.{IsLed, IsProjection}
+use Rattle.latent_projection.specs.Projection.{LeadsThrough, IsProjection}
 use Rattle.latent_projection.proofs.Treks.{Reaches, LeadsOn, ProjectsByTreks, clash}
 use Rattle.latent_projection.proofs.LatentPaths.{trek_of, path_of}
 
@@ -80,7 +80,7 @@ module _ (g p : MixedGraph) (l : ℕ → Bool) (is : IsProjection g l p) where
     false_from_ne_true (l b) (λ h. clash (p.both a b) e ((is.isolated b h).no_spouse a).1),
   )
 
-  leads : (a b : ℕ) → IsLed g l a b → LeadsOn g l a b
+  leads : (a b : ℕ) → LeadsThrough g l a b → LeadsOn g l a b
   leads a b r = record { next = r.next; first = r.path.0; rest = record { path = r.rest; leads = r.path.1; before = r.latent } }
 
   pub by_treks : ProjectsByTreks g l p

@@ -11,7 +11,7 @@ use Rattle.districts.specs.Spanning.{IsNextLink, AreLinks}
 use Rattle.districts.proofs.Trees.{place_of_taken, taken_own}
 use Rattle.hedge.specs.Hedges.{size_of, IsChildInside, IsRightChoice, IsPlaced, IsRightPartner, AreRightLinks, IsHedge}
 use Rattle.hedge.specs.Shapes.{AreSetsOfHedge}
-use Rattle.hedge.specs.declared.kinds.Hedge.{Hedge}
+use Rattle.hedge.specs.declared.hedge.Hedge.{Hedge}
 use Rattle.id_recursion.specs.Hedged.{IsHedgeOf}
 
 clash : (b : Bool) → b ≡ true → b ≡ false → ⊥

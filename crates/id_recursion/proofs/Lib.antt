@@ -1,6 +1,5 @@
 pub mod GatheredFactors
 pub mod HedgeData
-pub mod NoHedge
 pub mod Orders
 pub mod RightAnswers
 pub mod Roots

@@ -8,10 +8,9 @@ use Rattle.mixed_graph.specs.Sets.{Within, Apart}
 use Rattle.mixed_graph.proofs.Masks.{has-zero, some_member}
 use Rattle.fractions.specs.Fractions.{IsEqual}
 use Rattle.finite_models.specs.Agreement.{AgreeObserved}
+use Rattle.finite_models.specs.Data.{meaning}
 use Rattle.finite_models.specs.Models.{FiniteModel, Fits, IsPositiveModel, weight_of, total}
 use Rattle.parity_models.specs.Laws.{DifferAt}
-use Rattle.parity_models.specs.Pairs.{first_model, second_model}
-use Rattle.parity_models.proofs.Witness.{fit_one, fit_two, positive_one, positive_two, agree_observed, effects}
 use Rattle.prob_expr.specs.Check.{fault_in}
 use Rattle.mixed_graph.specs.Masks.{is_apart, is_below, is_empty}
 use Rattle.prob_expr.specs.Terms.{is_term, is_do_free}
@@ -30,19 +29,17 @@ use Rattle.identification.specs.Laws.{IsAcceptedFor}
 use Rattle.identification.specs.Procedure.{IsTarget, IsIdentified}
 use Rattle.identification_answers.specs.Names.{FormulaNamesOnly}
 use Rattle.hedge.specs.Hedges.{IsHedge}
-use Rattle.hedge.specs.declared.kinds.Hedge.{Hedge as HedgeData}
+use Rattle.hedge.specs.declared.hedge.Hedge.{Hedge as HedgeData}
 use Rattle.hedge.proofs.Shaping.{sets_form_hedge}
 use Rattle.counter_models.specs.Events.{AreCounterModels}
 use Rattle.counter_models.specs.Pairs.{IsPairOf}
-use Rattle.counter_models.specs.declared.kinds.CounterPair.{CounterPair}
+use Rattle.counter_models.specs.declared.counter_pair.CounterPair.{CounterPair}
 use Rattle.id_recursion.specs.Answers.{IsAnswerOf, IsRight, IfFormula, IfHedge, is_hedge, effect_on, AreShallowSteps, IsShallowFormula}
-use Rattle.id_recursion.specs.declared.kinds.Answer.{Answer}
-use Rattle.id_recursion.specs.declared.kinds.Answer.TheVariants.{Formula, Hedge}
+use Rattle.id_recursion.specs.declared.answer.Answer.{Answer}
+use Rattle.id_recursion.specs.declared.answer.Answer.TheVariants.{Formula, Hedge}
 use Rattle.identification_answers.proofs.Answered.{formula_names_ancestors, formula_is_formed, formula_is_shallow, derived_is_identified, derivation_is_accepted}
-use Rattle.counter_models.specs.Theory.{data_of}
-use Rattle.counter_models.proofs.Bridge.{whole}
 use Rattle.counter_models.proofs.Final.{counter}
-use Rattle.id_recursion.proofs.NoHedge.{kept_some}
+use Rattle.counter_models.proofs.HedgePair.{pair, is_pair}
 
 pub target_of : (g : MixedGraph) (x y : ℕ) → Within g.vertices (has x) → Within g.vertices (has y) → Apart (has x) (has y) → (v : ℕ) × IsTrue (has y v) → IsTarget g x y
 target_of g x y x_low y_low off some = record { x_low = x_low; y_low = y_low; off = λ u i j. clash (has y u) j (off u i); some = some.0; some_in = some.1 }
@@ -135,11 +132,10 @@ module _ (g : MixedGraph) (valid : IsMixedGraph g) (few : g.vertices ≤ 64) (x 
       differ.unequal (sym (ap₂ (λ p q. p * q) (top_of one s) (effect_is_over_total two (effect_on x y) s refl)) ∙ e.products ∙ ap₂ (λ p q. p * q) (top_of two s) (effect_is_over_total one (effect_on x y) s refl))
 
   never_both : (f : PlainFormula) (d : PlainDerivation) → IsDerived g x y f d → (h : HedgeData) → IsHedge g x y h → ⊥
-  never_both f d i h is = kept_some g valid few x y h is (λ kept carry are.
-      let w = whole g valid few x y h is off kept carry are in
-      let data' = data_of y h kept carry in
-      models_agree f d i (first_model g.vertices data') (second_model g.vertices data') (fit_one g valid (has x) data' w) (fit_two g valid (has x) data' w) (positive_one g valid (has x) data' w) (positive_two g valid (has x) data' w)
-      (agree_observed g valid (has x) data' w) (effects g valid (has x) data' w))
+  never_both f d i h is =
+      let two = pair g valid few x y h is in
+      let models = counter g valid few x y h is off two (is_pair g valid few x y h is) in
+      models_agree f d i (meaning g two.first) (meaning g two.second) models.first.fits models.second.fits models.first.positive models.second.positive models.observed models.effects
 
   pub exact : (a : Answer) → IsAnswerOf g x y a → IsTrue (is_hedge a) ↔ ((h : HedgeData) × IsHedge g x y h)
   exact (Formula f d) i = (λ t. absurd (grind (arith, t)), λ p. absurd (never_both (formula_view f) (derivation_view d) i p.0 p.1))

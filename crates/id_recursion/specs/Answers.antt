@@ -17,13 +17,13 @@ use Rattle.identification_answers.specs.Depth.{is_tree_within, are_defs_within}
 use Rattle.identification_answers.specs.Names.{FormulaNamesOnly}
 use Rattle.hedge.specs.Hedges.{IsHedge}
 use Rattle.hedge.specs.Shapes.{FormHedge}
-use Rattle.hedge.specs.declared.kinds.Hedge.{Hedge}
+use Rattle.hedge.specs.declared.hedge.Hedge.{Hedge}
 use Rattle.counter_models.specs.Events.{AreCounterModels}
 use Rattle.counter_models.specs.Pairs.{IsPairOf}
-use Rattle.counter_models.specs.declared.kinds.CounterPair.{CounterPair}
+use Rattle.counter_models.specs.declared.counter_pair.CounterPair.{CounterPair}
 use Rattle.id_recursion.specs.Hedged.{IsHedgeOf}
-use Rattle.id_recursion.specs.declared.kinds.Answer.{Answer}
-use Rattle.id_recursion.specs.declared.kinds.Answer.TheVariants as answers
+use Rattle.id_recursion.specs.declared.answer.Answer.{Answer}
+use Rattle.id_recursion.specs.declared.answer.Answer.TheVariants as answers
 
 -- the target P(y | do(x))
 abbrev pub effect_on : (x y : ℕ) → PlainTarget

@@ -9,13 +9,13 @@ use Rattle.do_derivation.specs.View.{lemma_view}
 use Rattle.identification.specs.Procedure.{AreFactored, StopsAt, product_of, sum_if}
 use Rattle.identification.specs.Derivations.{AreAllSteps, district_steps, main_steps}
 use Rattle.mixed_graph.specs.declared.sets.VSet.{VSet}
-use Rattle.district_factors.specs.declared.kinds.Factor.{Factor}
-use Rattle.district_factors.specs.declared.kinds.FactorFault.{FactorFault}
-use Rattle.district_factors.specs.declared.kinds.FactorFault.TheVariants as faults
+use Rattle.district_factors.specs.declared.factor.Factor.{Factor}
+use Rattle.district_factors.specs.declared.factor.FactorFault.{FactorFault}
+use Rattle.district_factors.specs.declared.factor.FactorFault.TheVariants as faults
 use Rattle.id_recursion.specs.Lists.{lists_view}
-use Rattle.id_recursion.specs.declared.kinds.Factors.{Factors}
-use Rattle.id_recursion.specs.declared.kinds.Stop.{Stop}
-use Rattle.id_recursion.specs.declared.kinds.Stop.TheVariants.{At, NoMemory}
+use Rattle.id_recursion.specs.declared.answer.Factors.{Factors}
+use Rattle.id_recursion.specs.declared.answer.Stop.{Stop}
+use Rattle.id_recursion.specs.declared.answer.Stop.TheVariants.{At, NoMemory}
 
 -- by this order of the vertices, the factors of these districts with their definitions, at most 64 for each, and the steps to them
 pub record AreFactorsOf (g : MixedGraph) (order : List ℕ) (districts : List ℕ) (f : Factors) : Type 0 where

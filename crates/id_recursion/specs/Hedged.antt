@@ -4,7 +4,7 @@ use Rattle.mixed_graph.specs.Bits.{has}
 use Rattle.mixed_graph.specs.Graphs.{MixedGraph}
 use Rattle.districts.specs.Nearest.{IsChoiceOf}
 use Rattle.districts.specs.Spanning.{AreLinks}
-use Rattle.hedge.specs.declared.kinds.Hedge.{Hedge}
+use Rattle.hedge.specs.declared.hedge.Hedge.{Hedge}
 use Rattle.identification_answers.specs.Laws.{AreRoots}
 
 -- The roots are the members of small without a child in small. A member of small chooses its nearest child toward the roots inside small, any other vertex that toward small inside big. The links go over small first, and then over big.

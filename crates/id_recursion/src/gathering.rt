@@ -10,7 +10,7 @@ ghost use Rattle.districts.specs.Listed.{first_masks};
 ghost use Rattle.do_derivation.specs.View.{listed};
 ghost use Rattle.id_recursion.specs.Factored.{AreFactorsOf, IsStopOf, AreWithMore, stop_for};
 
-use crate::kinds::{Factors, Stop};
+use crate::answer::{Factors, Stop};
 use district_factors::{Factor, FactorFault, factor};
 use districts::Districts;
 use mixed_graph::{Graph, Order, VSet};

@@ -7,7 +7,7 @@ ghost use Rattle.mixed_graph.specs.Orders.{IsOrder};
 ghost use Rattle.mixed_graph.specs.Sets.{Within, Apart};
 ghost use Rattle.mixed_graph.specs.Shown.{graph_of};
 ghost use Rattle.hedge.specs.Hedges.{IsHedge};
-ghost use Rattle.hedge.specs.declared.kinds.Hedge.{Hedge as HedgeData};
+ghost use Rattle.hedge.specs.declared.hedge.Hedge.{Hedge as HedgeData};
 ghost use Rattle.prob_expr.specs.Check.{fault_in};
 ghost use Rattle.mixed_graph.specs.Masks.{minus, all};
 ghost use Rattle.prob_expr.specs.Terms.{is_do_free};
@@ -25,8 +25,8 @@ ghost use Rattle.counter_models.specs.Pairs.{IsPairOf};
 ghost use Rattle.id_recursion.specs.Hedged.{IsHedgeOf};
 ghost use Rattle.id_recursion.specs.Answers.{IsAnswerOf, IsRight, IfFormula, IfHedge, is_hedge, effect_on, AreShallowSteps, IsShallowFormula};
 
+use crate::answer::{Answer, Stop};
 use crate::gathering::factors;
-use crate::kinds::{Answer, Stop};
 use crate::mains::composed;
 use crate::stops::stopped;
 use districts::districts;

@@ -5,18 +5,18 @@
 //! for further procedures over the same districts.
 #![tactic(auto)]
 
+mod answer;
 mod expressions;
 mod gathering;
 mod groups;
 mod homes;
 mod identifying;
-mod kinds;
 mod mains;
 mod pushing;
 mod stops;
 
+pub use answer::{Answer, Factors, Stop};
 pub use gathering::add_factor;
 pub use identifying::{ancestors_outside, identify, observed, order_of};
-pub use kinds::{Answer, Factors, Stop};
 pub use mains::assembled;
 pub use stops::hedge_of;

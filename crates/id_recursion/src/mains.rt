@@ -16,10 +16,10 @@ ghost use Rattle.identification.specs.Derivations.{unwrap_steps, district_steps,
 ghost use Rattle.id_recursion.specs.Lists.{onto, lists_view};
 ghost use Rattle.id_recursion.specs.Factored.{AreAssembled, AreFactorsOf};
 
+use crate::answer::Factors;
 use crate::expressions::{has_product, product_of, sum_if};
 use crate::groups::{in_order, push_groups};
 use crate::homes::home_lists;
-use crate::kinds::Factors;
 use crate::pushing::{push_at, push_each, push_with};
 use districts::Districts;
 use do_derivation::{Derivation, Step};

@@ -7,7 +7,7 @@ use Rattle.identification.proofs.Bools.{and_l, and_r, not_e}
 use Rattle.identification_answers.proofs.Formed.{IsFormed, AreFormed, AllFormed, IsFormedFormula}
 use Rattle.prob_expr.specs.Check.{cap, next_node, are_two, check_tree, check_trees, fault_in_defs, fault_in}
 use Rattle.mixed_graph.specs.Masks.{is_empty}
-use Rattle.prob_expr.specs.Masks.{are_term_sets}
+use Rattle.prob_expr.specs.TermSets.{are_term_sets}
 use Rattle.prob_expr.specs.Tree.{PlainFormula, Tree, Trees, named, no_trees, prob, product, quotient, sum, tree}
 
 two_of : (ts : Trees) → 2 ≤ count_factors ts → are_two ts ≡ true

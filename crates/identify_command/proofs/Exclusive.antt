@@ -5,7 +5,7 @@ use Rattle.dag_reader.specs.declared.graph.ReadGraph.{ReadGraph}
 use Rattle.dag_reader.specs.RoundTrip.{AreSame}
 use Rattle.targets.specs.declared.fault.TargetFault.{TargetFault}
 use Rattle.targets.specs.declared.fault.TargetFault.TheVariants.{EmptyX}
-use Rattle.targets.specs.Targets.{EffectLists, Lists, fault_in, IsFaultOf}
+use Rattle.targets.specs.Targets.{EffectLists, Lists, fault_in, IsFaultOfTarget}
 use Rattle.prob_expr.specs.Tree.{PlainTarget}
 use Rattle.identification.specs.Procedure.{IsUnidentified}
 use Rattle.conditional_theory.specs.Conditionals.{IsConditionalTarget}
@@ -56,7 +56,7 @@ one_target l t u s v =
     ∙ ap (λ (k : ℕ). target t.x k u.given) (one_set l.observed l.y t.y u.y s.set_y v.set_y)
     ∙ ap (λ (k : ℕ). target t.x t.y k) (one_set l.observed l.given t.given u.given s.set_given v.set_given)
 
-list_fault_of : (l : Lists) (f : TargetFault) → IsListFault l f → IsFaultOf (fault_in l) l.y some_list f
+list_fault_of : (l : Lists) (f : TargetFault) → IsListFault l f → IsFaultOfTarget (fault_in l) l.y some_list f
 list_fault_of l EmptyX h = absurd h
 list_fault_of l f h = h
 

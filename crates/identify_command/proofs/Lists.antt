@@ -8,7 +8,7 @@ use Rattle.prob_expr.specs.Tree.{PlainTarget}
 use Rattle.mixed_graph.proofs.MaskLaws.{has_none}
 use Rattle.targets.specs.declared.fault.TargetFault.{TargetFault}
 use Rattle.targets.specs.declared.fault.TargetFault.TheVariants.{Unknown, Latent, Twice, EmptyY, EmptyX, NotOneX, Bidirected, OtherNames, NoMemory}
-use Rattle.targets.specs.Targets.{NameFault, fault_in, IsNameFault, IsSetOf, Lists}
+use Rattle.targets.specs.Targets.{NameFault, fault_in, IsNameFault, IsListedSet, Lists}
 use Rattle.targets.proofs.Queries.{set_within}
 use Rattle.targets.proofs.RuleWalks.{behind, not_walked, sets_apart, some_in}
 use Rattle.dag_reader.specs.declared.graph.ReadGraph.{ReadGraph}
@@ -55,7 +55,7 @@ pub three_sets : (l : Lists) (n : ℕ) (t : PlainTarget) → length l.observed �
 three_sets l n t e s =
     let first = behind l.all l.observed (λ m. false) l.x (l.y ++ l.given) s.no_fault in
     let second = behind l.all l.observed (λ m. is_named l.x m) l.y l.given first.1 in
-    let within : (list : List (List ℕ)) (mask : ℕ) → IsSetOf l.observed list mask → Within n (has mask) =
+    let within : (list : List (List ℕ)) (mask : ℕ) → IsListedSet l.observed list mask → Within n (has mask) =
     λ list mask h. subst (λ k. Within k (has mask)) e (set_within l.observed list mask h) in record {
       x_within = within l.x t.x s.set_x;
       y_within = within l.y t.y s.set_y;

@@ -13,7 +13,7 @@ use Rattle.prob_expr.specs.Tree.{PlainTarget}
 use Rattle.mixed_graph.proofs.MaskLaws.{below_from, has_none}
 use Rattle.do_derivation.proofs.TermSets.{apart_back, term_test}
 use Rattle.hedge.specs.Hedges.{IsHedge}
-use Rattle.hedge.specs.declared.kinds.Hedge.{Hedge}
+use Rattle.hedge.specs.declared.hedge.Hedge.{Hedge}
 use Rattle.id_recursion.specs.Answers.{effect_on}
 use Rattle.certificate.specs.Plain.{hedge_view}
 use Rattle.certificate_writing.specs.Writable.{IsTargetWithin, IsBareTarget, IsHedgeWithin}

@@ -4,15 +4,16 @@ use Rattle.mixed_graph.specs.Graphs.{MixedGraph}
 use Rattle.dag_reader.specs.declared.graph.ReadGraph.{ReadGraph}
 use Rattle.targets.specs.declared.fault.TargetFault.{TargetFault}
 use Rattle.targets.specs.declared.fault.TargetFault.TheVariants.{EmptyX}
-use Rattle.targets.specs.Targets.{Lists, listed, fault_in, IsSetOf, IsTargetFault, IsFaultOrMemory}
-use Rattle.fault_text.specs.Lines.{line_of, target_fault_text}
+use Rattle.targets.specs.Targets.{Lists, listed, fault_in, IsListedSet, IsTargetFault, IsFaultOrMemory}
+use Rattle.name_text.specs.Lines.{line_of}
+use Rattle.targets.specs.FaultTexts.{target_fault_text}
 use Rattle.replies.specs.declared.outcome.Outcome.{Outcome}
 use Rattle.replies.specs.declared.outcome.Outcome.TheVariants.{Yes, No, Graph}
 use Rattle.replies.specs.Observed.{Names, observed_names, IsObservedGraph}
 use Rattle.prob_expr.specs.Tree.{PlainFormula, PlainTarget}
 use Rattle.do_derivation.specs.Plans.{PlainDerivation}
-use Rattle.hedge.specs.declared.kinds.Hedge.{Hedge}
-use Rattle.counter_models.specs.declared.kinds.CounterPair.{CounterPair}
+use Rattle.hedge.specs.declared.hedge.Hedge.{Hedge}
+use Rattle.counter_models.specs.declared.counter_pair.CounterPair.{CounterPair}
 use Rattle.id_recursion.specs.Answers.{effect_on}
 use Rattle.conditional_theory.specs.Conditionals.{IsConditionalBySteps}
 use Rattle.conditional_theory.specs.Laws.{IsRightGiven}
@@ -41,9 +42,9 @@ target_lists g x y given = record {
 pub record AreTargetSets (l : Lists) (t : PlainTarget) : Type 0 where
   pub no_fault : fault_in l ≡ None
   pub some_y : l.y ≡ [] → ⊥
-  pub set_x : IsSetOf l.observed l.x t.x
-  pub set_y : IsSetOf l.observed l.y t.y
-  pub set_given : IsSetOf l.observed l.given t.given
+  pub set_x : IsListedSet l.observed l.x t.x
+  pub set_y : IsListedSet l.observed l.y t.y
+  pub set_given : IsListedSet l.observed l.given t.given
 
 -- the fault of the lists of a target, for which an empty x is none
 abbrev pub IsListFault : Lists → TargetFault → Type 0

@@ -8,13 +8,13 @@ use Rattle.mixed_graph.specs.Graphs.{MixedGraph, IsMixedGraph}
 use Rattle.finite_models.specs.Data.{children_of, has_hedge, has_carried}
 use Rattle.finite_models.specs.Faults.{IsSoundModel}
 use Rattle.finite_models.specs.Inputs.{MayRead, HedgeMayRead, CarriedMayRead, HasInputs}
-use Rattle.finite_models.specs.declared.kinds.Cause.{Cause}
-use Rattle.finite_models.specs.declared.kinds.Model.{Model}
-use Rattle.finite_models.specs.declared.kinds.Part.{Part}
-use Rattle.finite_models.specs.declared.kinds.Mechanism.{Mechanism}
-use Rattle.finite_models.specs.declared.kinds.Mechanism.TheVariants.{Table, Parity}
+use Rattle.finite_models.specs.declared.model.Cause.{Cause}
+use Rattle.finite_models.specs.declared.model.Model.{Model}
+use Rattle.finite_models.specs.declared.model.Part.{Part}
+use Rattle.finite_models.specs.declared.model.Mechanism.{Mechanism}
+use Rattle.finite_models.specs.declared.model.Mechanism.TheVariants.{Table, Parity}
 use Rattle.hedge.specs.Hedges.{IsHedge}
-use Rattle.hedge.specs.declared.kinds.Hedge.{Hedge}
+use Rattle.hedge.specs.declared.hedge.Hedge.{Hedge}
 use Rattle.identify_text.specs.Below.{IsHedgeBelow, IsPartBelow, IsBitBelow, IsMechanismBelow, IsCauseBelow, IsModelBelow}
 
 pub hedge_below : (g : MixedGraph) (x y : ℕ) (h : Hedge) → g.vertices ≤ 64 → IsHedge g x y h → IsHedgeBelow g.vertices h

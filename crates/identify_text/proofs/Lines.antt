@@ -5,8 +5,8 @@ use Rattle.std.proofs.lemmas.List.{append_assoc}
 use Rattle.std.proofs.lemmas.List.Concat.{flat_map-append}
 use Rattle.std.proofs.lemmas.List.Folds.{flat_map-map}
 use Rattle.mixed_graph.specs.Bits.{has, members_below}
-use Rattle.finite_models.specs.declared.kinds.Cause.{Cause}
-use Rattle.finite_models.specs.declared.kinds.Mechanism.{Mechanism}
+use Rattle.finite_models.specs.declared.model.Cause.{Cause}
+use Rattle.finite_models.specs.declared.model.Mechanism.{Mechanism}
 use Rattle.identify_text.specs.declared.bits.Bit.{Bit}
 use Rattle.identify_text.specs.ModelLines.{added, bit_text, bits_of, sum_text, cause_line, cause_lines, mechanism_lines, vertex_lines}
 

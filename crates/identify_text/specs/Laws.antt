@@ -2,9 +2,9 @@
 use Rattle.std.specs.Prelude.{◌≡◌, ℕ, ◌≤◌, length}
 use Rattle.mixed_graph.specs.Graphs.{MixedGraph, IsMixedGraph}
 use Rattle.finite_models.specs.Faults.{IsSoundModel}
-use Rattle.finite_models.specs.declared.kinds.Model.{Model}
+use Rattle.finite_models.specs.declared.model.Model.{Model}
 use Rattle.hedge.specs.Hedges.{IsHedge}
-use Rattle.hedge.specs.declared.kinds.Hedge.{Hedge}
+use Rattle.hedge.specs.declared.hedge.Hedge.{Hedge}
 use Rattle.identify_text.specs.Below.{IsHedgeBelow, IsModelBelow}
 
 -- a hedge that holds is on the graph's vertices

@@ -5,10 +5,10 @@ use Rattle.mixed_graph.specs.Bits.{has, members_below}
 use Rattle.mixed_graph.specs.Names.{name_of}
 use Rattle.name_text.specs.Printing.{printed}
 use Rattle.answer_text.specs.Texts.{set_text}
-use Rattle.finite_models.specs.declared.kinds.Cause.{Cause}
-use Rattle.finite_models.specs.declared.kinds.Part.{Part}
-use Rattle.finite_models.specs.declared.kinds.Mechanism.{Mechanism}
-use Rattle.finite_models.specs.declared.kinds.Mechanism.TheVariants.{Table, Parity}
+use Rattle.finite_models.specs.declared.model.Cause.{Cause}
+use Rattle.finite_models.specs.declared.model.Part.{Part}
+use Rattle.finite_models.specs.declared.model.Mechanism.{Mechanism}
+use Rattle.finite_models.specs.declared.model.Mechanism.TheVariants.{Table, Parity}
 use Rattle.identify_text.specs.declared.bits.Bit.{Bit}
 use Rattle.identify_text.specs.declared.bits.Bit.TheVariants.{Hedge, Carried}
 

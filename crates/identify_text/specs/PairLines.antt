@@ -2,8 +2,8 @@
 use Rattle.std.specs.Prelude.{ℕ, ◌+◌, List, ◌++◌, codes, decimal}
 use Rattle.prob_expr.specs.Tree.{PlainTarget, term_of}
 use Rattle.expr_text.specs.Write.{text_of}
-use Rattle.hedge.specs.declared.kinds.Hedge.{Hedge}
-use Rattle.counter_models.specs.declared.kinds.CounterPair.{CounterPair}
+use Rattle.hedge.specs.declared.hedge.Hedge.{Hedge}
+use Rattle.counter_models.specs.declared.counter_pair.CounterPair.{CounterPair}
 use Rattle.identify_text.specs.declared.bits.Bit.TheVariants.{Carried}
 use Rattle.identify_text.specs.HedgeLines.{heading_text, choice_lines, link_lines}
 use Rattle.identify_text.specs.ModelLines.{bits_of, sum_text, cause_lines, vertex_lines}

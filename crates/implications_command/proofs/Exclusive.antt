@@ -12,7 +12,7 @@ use Rattle.dag_reader.specs.RoundTrip.{AreSame}
 use Rattle.word_forms.specs.Form.{Text}
 use Rattle.count_rows.specs.Records.{Field}
 use Rattle.count_rows.specs.Rows.{Table}
-use Rattle.count_answers.specs.Reads.{IsRead, IsRefused, too_long, faulty}
+use Rattle.count_answers.specs.Reads.{IsRead, AreRefusedCounts, too_long, faulty}
 use Rattle.replies.specs.declared.outcome.Outcome.{Outcome}
 use Rattle.replies.specs.declared.outcome.Outcome.TheVariants.{Yes, No, Graph, Second}
 use Rattle.replies.specs.OneOutcome.{OneOutcome, IsAnswerOn}
@@ -63,7 +63,7 @@ first_once bytes counts = one_of_three No Yes Graph (IsAnswerOn bytes (λ g. Fir
 -- ---- over the bytes of counts
 
 module _ (g h : ReadGraph) (s : AreSame g h) (p r : PlainPairs) (a : ArePairsOf g p) (b : ArePairsOf h r) (count : Option Field) (bytes : List ℕ) where
-  read_or_refused : (t : Table) (line : List ℕ) → IsRead p.names (used_in p.list) count bytes t → IsRefused p.names (used_in p.list) count bytes line → ⊥
+  read_or_refused : (t : Table) (line : List ℕ) → IsRead p.names (used_in p.list) count bytes t → AreRefusedCounts p.names (used_in p.list) count bytes line → ⊥
   read_or_refused t line x (too_long long is) = absurd (let small = x.small in omega (arith, small, long))
   read_or_refused t line x (faulty fault short ne at is) = none-some fault (sym x.fits ∙ at)
 
@@ -76,7 +76,7 @@ module _ (g h : ReadGraph) (s : AreSame g h) (p r : PlainPairs) (a : ArePairsOf 
 
   yes_or_second : (text line : List ℕ) → CountsAnswer p count bytes Yes text → CountsAnswer r count bytes Second line → ⊥
   yes_or_second text line x y = read_or_refused x.0 line x.1
-      (subst (λ (ns : List (List ℕ)). IsRefused ns (used_in p.list) count bytes line) same_names (subst (λ (u : ℕ). IsRefused r.names u count bytes line) same_used y))
+      (subst (λ (ns : List (List ℕ)). AreRefusedCounts ns (used_in p.list) count bytes line) same_names (subst (λ (u : ℕ). AreRefusedCounts r.names u count bytes line) same_used y))
 
 counts_among : (p : PlainPairs) (count : Option Field) (bytes : List ℕ) (o : Outcome) (text : List ℕ) → CountsAnswer p count bytes o text → IsOneOf Yes Second No o
 counts_among p count bytes Yes text h = inl refl

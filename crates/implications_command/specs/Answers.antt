@@ -10,7 +10,7 @@ use Rattle.replies.specs.declared.outcome.Outcome.TheVariants.{Yes, No, Second}
 use Rattle.replies.specs.Observed.{IsObservedGraph}
 use Rattle.count_rows.specs.Records.{Field}
 use Rattle.count_rows.specs.Rows.{Table}
-use Rattle.count_answers.specs.Reads.{IsRead, IsRefused}
+use Rattle.count_answers.specs.Reads.{IsRead, AreRefusedCounts}
 use Rattle.implications.specs.declared.pairs.Implication.{Implication}
 use Rattle.implications.specs.Separable.{IsSeparable}
 use Rattle.implied_differences.specs.declared.largest.Difference.{Difference}
@@ -74,7 +74,7 @@ ShowsDifferences p t text = AreMeasured p.names p.graph t p.list text
 -- the answer for pairs and the bytes of counts: the pairs with their differences over the table of the bytes, or the line of refused counts
 abbrev pub CountsAnswer : PlainPairs → Option Field → List ℕ → Outcome → List ℕ → Type 0
 CountsAnswer p count bytes Yes text = (t : Table) × IsRead p.names (used_in p.list) count bytes t × ShowsDifferences p t text
-CountsAnswer p count bytes Second line = IsRefused p.names (used_in p.list) count bytes line
+CountsAnswer p count bytes Second line = AreRefusedCounts p.names (used_in p.list) count bytes line
 CountsAnswer p count bytes o text = ⊥
 
 -- the answer on a graph that was read and has pairs, and the bytes of counts

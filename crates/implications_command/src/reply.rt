@@ -8,8 +8,8 @@ ghost use Rattle.implications_command.specs.Answers.{CountsAnswer, ShowsDifferen
 use crate::differences::difference_lines;
 use crate::pairs::Pairs;
 use crate::used::used_in;
+use count_rows::CountFault;
 use count_table::{Counts, read_counts};
-use fault_text::{counts_line, counts_size_line};
 use replies::{Outcome, Reply};
 use std::alloc::{AllocError, Global};
 
@@ -28,7 +28,7 @@ pub fn differences_reply(
         Ok(counts) => table_reply(alloc, pairs, &counts),
         Err(fault) => Ok(Reply {
             outcome: Outcome::Second,
-            text: counts_line(alloc, &fault)?,
+            text: fault.line(alloc)?,
         }),
     }
 }
@@ -39,7 +39,7 @@ pub fn long_counts(alloc: Global) -> Result<Reply, AllocError>
 {
     Ok(Reply {
         outcome: Outcome::Second,
-        text: counts_size_line(alloc)?,
+        text: CountFault::size_line(alloc)?,
     })
 }
 

@@ -2,7 +2,7 @@ ghost use Rattle.std.specs.Prelude.{◌≡◌, IfOk, IfErr};
 ghost use Rattle.mixed_graph.specs.Bits.{has};
 ghost use Rattle.mixed_graph.specs.Shown.{graph_of};
 ghost use Rattle.m_separation.specs.Walks.{IsSeparated, HasOpenWalk};
-ghost use Rattle.kept_graph.specs.Kept.{AreAskable, HoldsObserved, IsRefused, graph_in};
+ghost use Rattle.kept_graph.specs.Kept.{AreAskable, HoldsObserved, IsNoGraphText, graph_in};
 
 use crate::kept::KeptGraph;
 use crate::reading::{KeepFault, observed_graph};
@@ -28,7 +28,7 @@ impl KeptGraph {
     /// `Refused` where the bytes are no such text: `run` tells where and why.
     pub fn read(alloc: Global, text: &[u8]) -> Result<KeptGraph, KeepFault>
         ensures holds { IfOk result (λ k. HoldsObserved text.now (graph_in k)) }
-        ensures refused { IfErr result (λ f. f ≡ KeepFault.Refused → IsRefused text.now) }
+        ensures refused { IfErr result (λ f. f ≡ KeepFault.Refused → IsNoGraphText text.now) }
     {
         match observed_graph(alloc, text) {
             Ok(graph) => {

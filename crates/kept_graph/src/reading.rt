@@ -1,6 +1,6 @@
 ghost use Rattle.std.specs.Prelude.{◌≡◌, ◌↔◌, IsTrue, IfErr, IfOk};
 ghost use Rattle.mixed_graph.specs.Shown.{graph_of};
-ghost use Rattle.kept_graph.specs.Kept.{HoldsObserved, IsRefused};
+ghost use Rattle.kept_graph.specs.Kept.{HoldsObserved, IsNoGraphText};
 
 use dag_reader::{GraphFault, read_graph};
 use latent_projection::observed;
@@ -22,7 +22,7 @@ pub enum KeepFault {
 /// The observed graph of a graph text.
 pub fn observed_graph(alloc: Global, text: &[u8]) -> Result<Graph, KeepFault>
     ensures holds { IfOk result (λ g. HoldsObserved text.now (graph_of g)) }
-    ensures refused { IfErr result (λ f. f ≡ KeepFault.Refused → IsRefused text.now) }
+    ensures refused { IfErr result (λ f. f ≡ KeepFault.Refused → IsNoGraphText text.now) }
 {
     if text.len() > MAX_BYTES {
         return Err(KeepFault::Refused);

@@ -3,7 +3,7 @@ use Rattle.std.proofs.Common.{ℕ, ◌<◌, ◌≡◌, Bool, true, false, List, 
 use Rattle.std.proofs.lemmas.Bool.{false_from_ne_true}
 use Rattle.mixed_graph.specs.Graphs.{MixedGraph, IsMixedGraph, IsDirectedPath}
 use Rattle.mixed_graph.proofs.Paths.{end_below}
-use Rattle.latent_projection.specs.Projection.{IsLed, IsProjection}
+use Rattle.latent_projection.specs.Projection.{LeadsThrough, IsProjection}
 use Rattle.latent_projection.proofs.Treks.{IsTrek, fork, edge, clash}
 use Rattle.latent_projection.proofs.LatentPaths.{trek_of, path_of}
 
@@ -15,13 +15,13 @@ module _ (g p : MixedGraph) (l : ℕ → Bool) (ok : IsMixedGraph g) (is : IsPro
   head_observed : (a b : ℕ) → p.arrow a b ≡ true → l b ≡ false
   head_observed a b e = false_from_ne_true (l b) (λ h. clash (p.arrow a b) e ((is.isolated b h).no_parent a))
 
-  led : (a b : ℕ) → p.arrow a b ≡ true → IsLed g l a b
+  led : (a b : ℕ) → p.arrow a b ≡ true → LeadsThrough g l a b
   led a b e = (is.arrow a b (tail_observed a b e) (head_observed a b e)).0 e
 
   below : (a : ℕ) → a < g.vertices → a < p.vertices
   below a h = subst (λ n. a < n) (sym is.vertices) h
 
-  led_below : (a b : ℕ) → IsLed g l a b → b < g.vertices
+  led_below : (a b : ℕ) → LeadsThrough g l a b → b < g.vertices
   led_below a b r = end_below g ok.head_below r.next r.rest b (ok.head_below a r.next r.path.0) r.path.1
 
   joined : (a : ℕ) (xs : List ℕ) (b : ℕ) (ys : List ℕ) (c : ℕ) → IsDirectedPath g a xs b → IsDirectedPath g b ys c → IsDirectedPath g a (xs ++ ys) c

@@ -2,15 +2,15 @@
 use Rattle.std.proofs.Common.{ℕ, ◌≡◌, Bool, true}
 use Rattle.std.proofs.lemmas.Bool.{false_from_ne_true}
 use Rattle.mixed_graph.specs.Graphs.{MixedGraph}
-use Rattle.latent_projection.specs.Projection.{IsLed, IsProjection}
+use Rattle.latent_projection.specs.Projection.{LeadsThrough, IsProjection}
 use Rattle.latent_projection.proofs.Treks.{LeadsOn, ProjectsByTreks, clash}
 use Rattle.latent_projection.proofs.LatentPaths.{trek_of, path_of}
 
 module _ (g p : MixedGraph) (l : ℕ → Bool) (is : ProjectsByTreks g l p) where
-  led_of : (a b : ℕ) → LeadsOn g l a b → IsLed g l a b
+  led_of : (a b : ℕ) → LeadsOn g l a b → LeadsThrough g l a b
   led_of a b r = record { next = r.next; rest = r.rest.path; path = (r.first, r.rest.leads); latent = r.rest.before }
 
-  led_from : (a b : ℕ) → IsLed g l a b → LeadsOn g l a b
+  led_from : (a b : ℕ) → LeadsThrough g l a b → LeadsOn g l a b
   led_from a b r = record { next = r.next; first = r.path.0; rest = record { path = r.rest; leads = r.path.1; before = r.latent } }
 
   differ : (a b : ℕ) → p.both a b ≡ true → a ≡ b → ⊥

@@ -9,7 +9,7 @@ AreBefore l v [] = Unit {0}
 AreBefore l v (x ∷ xs) = IsTrue (l v) × AreBefore l x xs
 
 -- a directed path of at least two vertices leads from a to b, and its inner vertices are in l
-pub record IsLed (g : MixedGraph) (l : ℕ → Bool) (a b : ℕ) : Type 0 where
+pub record LeadsThrough (g : MixedGraph) (l : ℕ → Bool) (a b : ℕ) : Type 0 where
   pub next : ℕ
   pub rest : List ℕ
   pub path : IsDirectedPath g a (next ∷ rest) b
@@ -45,6 +45,6 @@ pub record IsIsolated (g : MixedGraph) (v : ℕ) : Type 0 where
 -- p is the latent projection of g, the members of l being latent; they stay as vertices without edges
 pub record IsProjection (g : MixedGraph) (l : ℕ → Bool) (p : MixedGraph) : Type 0 where
   pub vertices : p.vertices ≡ g.vertices
-  pub arrow : (a b : ℕ) → l a ≡ false → l b ≡ false → IsTrue (p.arrow a b) ↔ IsLed g l a b
+  pub arrow : (a b : ℕ) → l a ≡ false → l b ≡ false → IsTrue (p.arrow a b) ↔ LeadsThrough g l a b
   pub both : (a b : ℕ) → l a ≡ false → l b ≡ false → IsTrue (p.both a b) ↔ ((a ≢ b) × IsLatentPath g l a b)
   pub isolated : (v : ℕ) → IsTrue (l v) → IsIsolated p v

@@ -43,14 +43,10 @@ fn parents_of_later(k: &Graph, a: u8, b: u8) -> VSet
     let order = k.order();
     for i in 0..order.count as usize {
         if order.list[i] == a {
-            return VSet {
-                bits: k.parents[b as usize],
-            };
+            return k.parents(b);
         }
         if order.list[i] == b {
-            return VSet {
-                bits: k.parents[a as usize],
-            };
+            return k.parents(a);
         }
     }
     unreachable!()

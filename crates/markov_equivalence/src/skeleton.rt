@@ -10,12 +10,7 @@ pub fn neighbours(g: &Graph, a: u8) -> VSet
     requires { a < 64 }
     ensures { (v : ℕ) → has result.bits v ≡ is_adjacent (graph_of g.now) a v }
 {
-    let children = VSet {
-        bits: g.children[a as usize],
-    };
-    children.union(VSet {
-        bits: g.parents[a as usize],
-    })
+    g.children(a).union(g.parents(a))
 }
 
 /// The unshielded colliders between a and b.
@@ -24,13 +19,8 @@ pub fn colliders(g: &Graph, a: u8, b: u8) -> VSet
     requires b { b < 64 }
     ensures { (m : ℕ) → has result.bits m ≡ is_unshielded_collider (graph_of g.now) a m b }
 {
-    let children = VSet {
-        bits: g.children[a as usize],
-    };
-    children
-        .intersection(VSet {
-            bits: g.children[b as usize],
-        })
+    g.children(a)
+        .intersection(g.children(b))
         .only_if(!neighbours(g, a).has(b))
 }
 

@@ -12,6 +12,6 @@ pub record IsGraphOf (n : ℕ) (directed both : List (ℕ × ℕ)) (g : MixedGra
   pub spouses : (a b : ℕ) → g.both a b ≡ (joins both a b || joins both b a)
 
 -- the fault of such pairs: the first pair with equal ends, or, where there is none, a directed cycle
-abbrev pub IsFaultOf : List (ℕ × ℕ) → List (ℕ × ℕ) → BuildFault → Type 0
-IsFaultOf directed both (SelfLoop v) = first_loop directed both ≡ Some v
-IsFaultOf directed both (Cycle c) = (first_loop directed both ≡ None) × IsCycle (joins directed) c.list c.count
+abbrev pub IsBuildFault : List (ℕ × ℕ) → List (ℕ × ℕ) → BuildFault → Type 0
+IsBuildFault directed both (SelfLoop v) = first_loop directed both ≡ Some v
+IsBuildFault directed both (Cycle c) = (first_loop directed both ≡ None) × IsCycle (joins directed) c.list c.count

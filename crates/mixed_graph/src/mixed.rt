@@ -36,7 +36,7 @@ pub enum BuildFault {
 impl Graph {
     ghost use Rattle.mixed_graph.specs.Pairs.{first_loop};
     ghost use Rattle.mixed_graph.specs.Orders.{IsOrder};
-    ghost use Rattle.mixed_graph.specs.Built.{IsGraphOf, IsFaultOf};
+    ghost use Rattle.mixed_graph.specs.Built.{IsGraphOf, IsBuildFault};
     ghost use Rattle.mixed_graph.specs.Shown.{graph_of};
 
     /// The vertices u with u -> v.
@@ -116,7 +116,7 @@ impl Graph {
         requires both_ends { All (λ p. (p.0 < n) × (p.1 < n)) both.now }
         ensures graph { IfOk result (λ g. IsGraphOf n directed.now both.now (graph_of g)) }
         ensures no_loop { OnOk result (first_loop directed.now both.now ≡ None) }
-        ensures fault { IfErr result (λ f. IsFaultOf directed.now both.now f) }
+        ensures fault { IfErr result (λ f. IsBuildFault directed.now both.now f) }
     {
         if let Some(v) = loop_among(directed) {
             return Err(BuildFault::SelfLoop(v));

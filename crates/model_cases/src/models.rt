@@ -1,7 +1,7 @@
 ghost use Rattle.std.specs.Prelude.{◌≡◌, ◌<◌, IsTrue, length, slice_index};
 ghost use Rattle.mixed_graph.specs.Shown.{graph_of};
 ghost use Rattle.finite_models.specs.Models.{IsAssignment};
-ghost use Rattle.finite_models.specs.Worlds.{IsAccepted};
+ghost use Rattle.finite_models.specs.Worlds.{IsAcceptedModel};
 
 use case_rows::{flag, graph, list, number, numbers, set};
 use finite_models::{Cause, Mechanism, Model, ModelFault, Part, WeightFault, check_model, weight};
@@ -98,7 +98,7 @@ pub(crate) fn model_row(alloc: Global, row: &Value) -> Option<String> {
 
 /// Whether the model is accepted.
 pub(crate) fn is_accepted(g: &Graph, m: &Model) -> bool
-    ensures { IsTrue result → IsAccepted (graph_of g.now) m.now }
+    ensures { IsTrue result → IsAcceptedModel (graph_of g.now) m.now }
 {
     let n = g.n as usize;
     m.sizes.len() == n

@@ -30,9 +30,3 @@ is_plain (b ∷ bs) = list_all is_plain_byte (b ∷ bs) && not (b == 35)
 -- a name as it is printed: bare, or else between quotation marks
 abbrev pub printed : List ℕ → List ℕ
 printed name = if is_plain name then name else 34 ∷ name ++ 34 ∷ []
-
--- names as they are printed, with commas between them
-abbrev pub comma_text : List (List ℕ) → List ℕ
-comma_text [] = []
-comma_text (n ∷ []) = printed n
-comma_text (n ∷ m ∷ ns) = printed n ++ 44 ∷ comma_text (m ∷ ns)

@@ -1,12 +1,15 @@
-//! How names are printed: bare where they can be read back so, else between quotation marks.
+//! How names are printed: bare where they can be read back so, else between quotation marks; and the lines that say what is wrong.
 //!
-//! `push_name(&mut text, name)` writes one.
+//! `push_name(&mut text, name)` writes a name.
 #![tactic(auto)]
+
+mod lines;
 
 ghost use Rattle.std.specs.Prelude.{◌≡◌, ◌++◌, OnOk};
 ghost use Rattle.std.specs.List.{list_all};
 ghost use Rattle.name_text.specs.Printing.{is_white, is_edge_byte, is_sign, is_name_byte, is_plain_byte, is_plain, printed};
 
+pub use lines::{refusal_line, second_line, with_name, with_number};
 use std::alloc::AllocError;
 
 /// Whether the byte is white space of graph text: space, tab, carriage return or line feed.

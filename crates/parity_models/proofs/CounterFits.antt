@@ -7,7 +7,7 @@ use Rattle.finite_models.proofs.Indicators.{number}
 use Rattle.finite_models.proofs.Bools.{and_first, and_second}
 use Rattle.finite_models.proofs.SumLaws.{eqb-refl}
 use Rattle.parity_models.specs.Parities.{differ, bit, chosen}
-use Rattle.parity_models.specs.Links.{Link, at_vertex, is_end, AreJoined}
+use Rattle.parity_models.specs.Links.{Link, at_vertex, is_end, LinksAreEdges}
 use Rattle.parity_models.specs.Hedges.{ParityHedge, IsParityHedge, links_of, IsNumbered}
 use Rattle.parity_models.specs.Pairs.{value, hedge_bit, carried_bit, world_bit, at_second, chooses, first_bit, second_bit, carries, top_bit, first_mechanism, second_mechanism, counter_model, serves_of}
 use Rattle.parity_models.proofs.ParityLaws.{odd-congr}
@@ -43,7 +43,7 @@ two_ends g p u v sym' b ne e f = go (or_split (eqb u p.entry) (eqb u p.partner) 
     go (inr a) (inl c) = rw (eqb-true u p.partner a, eqb-true v p.entry c) (sym' p.entry p.partner b)
     go (inr a) (inr c) = absurd (ne (eqb-true u p.partner a ∙ sym (eqb-true v p.partner c)))
 
-ends_joined : (g : MixedGraph) → ((u v : ℕ) → g.both u v ≡ true → g.both v u ≡ true) → (k : ℕ) (r : List Link) (j u v : ℕ) → AreJoined g r → (u ≡ v → ⊥) → is_end k r j u ≡ true → is_end k r j v ≡ true → g.both u v ≡ true
+ends_joined : (g : MixedGraph) → ((u v : ℕ) → g.both u v ≡ true → g.both v u ≡ true) → (k : ℕ) (r : List Link) (j u v : ℕ) → LinksAreEdges g r → (u ≡ v → ⊥) → is_end k r j u ≡ true → is_end k r j v ≡ true → g.both u v ≡ true
 ends_joined g sym' k [] j u v h ne e f = absurd (grind (arith, e))
 ends_joined g sym' k (p ∷ r) j u v h ne e f = go (eqb j k) e f (ends_joined g sym' (suc k) r j u v h.1 ne)
   where
@@ -81,7 +81,7 @@ size_pos true false = omega arith
 size_pos false true = omega arith
 size_pos false false = omega arith
 
-module _ (g : MixedGraph) (x : ℕ → Bool) (d : ParityHedge) (ok : IsParityHedge g x d) (numbered : IsNumbered d) (is_graph : IsMixedGraph g) (inner_joined : AreJoined g d.inner) (outer_joined : AreJoined g d.outer) where
+module _ (g : MixedGraph) (x : ℕ → Bool) (d : ParityHedge) (ok : IsParityHedge g x d) (numbered : IsNumbered d) (is_graph : IsMixedGraph g) (inner_joined : LinksAreEdges g d.inner) (outer_joined : LinksAreEdges g d.outer) where
   -- the four ways in which a cause serves a vertex
   joined : (j u v : ℕ) → j < d.causes → serves_of d j u ≡ true → serves_of d j v ≡ true → (u ≡ v → ⊥) → g.both u v ≡ true
   joined j u v jl su sv ne = inner (or_split (is_end 0 d.inner j u) (is_end (length d.inner) d.outer j u || ((d.small u && eqb j (d.small_cause u)) || (d.kept u && eqb j (d.kept_cause u)))) su)

@@ -2,7 +2,7 @@
 use Rattle.std.proofs.Common.{ℕ, suc, ◌≡◌, ◌≤◌, Bool, true, false, cond, eqb, not, refl, sym, ap, ◌∙◌, ◌||◌, ◌&&◌, List, [], ◌∷◌, arith, ne_eqb, eqb-true}
 use Rattle.finite_models.proofs.SumLaws.{eqb-refl}
 use Rattle.parity_models.specs.Parities.{differ, odd_below}
-use Rattle.parity_models.specs.Links.{Link, at_vertex, is_entry, IsNoEntry, AreApart, AreOrdered, AreBelow}
+use Rattle.parity_models.specs.Links.{Link, at_vertex, is_entry, IsNoEntry, EndsDiffer, AreOrdered, AreBelow}
 use Rattle.parity_models.proofs.ParityLaws.{differ-comm, differ-false, differ-self, odd-congr, odd-differ, odd-one}
 
 -- what is left of the target d, the pairs being solved from the last to the first
@@ -37,7 +37,7 @@ one_more false true false a t h k = ap (differ a) (differ-false t)
 one_more false false c a t h k = ap (differ a) (differ-false t)
 
 -- V1: the bits at a vertex and what is left there make the target
-pub met : (k : ℕ) (r : List Link) (d : ℕ → Bool) (v : ℕ) → AreApart r → differ (at_vertex k r (bits k r d) v) (residual r d v) ≡ d v
+pub met : (k : ℕ) (r : List Link) (d : ℕ → Bool) (v : ℕ) → EndsDiffer r → differ (at_vertex k r (bits k r d) v) (residual r d v) ≡ d v
 met k [] d v h = refl
 met k (p ∷ r) d v h =
     ap (λ b. differ (differ (differ (eqb v p.entry) (eqb v p.partner) && b) (at_vertex (suc k) r (bits k (p ∷ r) d) v)) (residual (p ∷ r) d v)) (rw (eqb-refl k) refl)
@@ -71,7 +71,7 @@ moved true true t c h k = absurd (h refl refl)
 moved true false t c h k = rw (k refl) (sym (ap (differ c) (differ-false c) ∙ differ-self c))
 moved false p t c h k = refl
 
-pub kept_parity : (n : ℕ) (r : List Link) (d : ℕ → Bool) → AreApart r → AreBelow n r → odd_below n (residual r d) ≡ odd_below n d
+pub kept_parity : (n : ℕ) (r : List Link) (d : ℕ → Bool) → EndsDiffer r → AreBelow n r → odd_below n (residual r d) ≡ odd_below n d
 kept_parity n [] d h b = refl
 kept_parity n (p ∷ r) d h b =
     odd-congr n (residual (p ∷ r) d) (λ v. differ (residual r d v) (differ (eqb v p.entry && residual r d p.entry) (eqb v p.partner && residual r d p.entry)))

@@ -2,7 +2,7 @@
 use Rattle.std.specs.Prelude.{ℕ, ◌+◌, ◌-◌, ◌≡◌, ◌≢◌, ◌<◌, ◌≤◌, Bool, true, false, eqb, not, ◌&&◌, List, [], ◌∷◌, length}
 use Rattle.mixed_graph.specs.Graphs.{MixedGraph}
 use Rattle.parity_models.specs.Parities.{differ, odd_below}
-use Rattle.parity_models.specs.Links.{Link, is_entry, AreApart, AreOrdered, AreBelow, AreInside, AreRooted, AreJoined}
+use Rattle.parity_models.specs.Links.{Link, is_entry, EndsDiffer, AreOrdered, AreBelow, AreInside, AreRooted, LinksAreEdges}
 
 -- The sets big, small and roots of a hedge with the child that each member of big outside the roots chooses;
 -- `kept` are the vertices that carry the roots' bits to the target, each outside the target to the kept child `carry`;
@@ -76,7 +76,7 @@ pub record IsParityHedge (g : MixedGraph) (x : ℕ → Bool) (d : ParityHedge) :
 pub record IsTree (n : ℕ) (d : ParityHedge) : Type 0 where
   pub first : ℕ
   pub first_low : first < n
-  pub apart : AreApart d.inner
+  pub apart : EndsDiffer d.inner
   pub ordered : AreOrdered d.inner
   pub all : (v : ℕ) → d.small v ≡ true → v ≢ first → is_entry d.inner v ≡ true
   pub outer : AreOuter d d.outer
@@ -89,7 +89,7 @@ pub record IsNumbered (d : ParityHedge) : Type 0 where
   pub top_holder : (v : ℕ) → d.kept v ≡ true → holder (d.kept_cause v) ≡ v
   pub own_is : (v : ℕ) → d.small v ≡ true → is_own (d.small_cause v) ≡ true
   pub top_is : (v : ℕ) → d.kept v ≡ true → is_own (d.kept_cause v) ≡ false
-  pub apart : AreApart d.outer
+  pub apart : EndsDiffer d.outer
   pub ordered : AreOrdered d.outer
   pub listed : (v : ℕ) → outsider d v ≡ true → is_entry d.outer v ≡ true
 
@@ -100,6 +100,6 @@ pub record IsWholeHedge (g : MixedGraph) (x : ℕ → Bool) (d : ParityHedge) : 
   pub numbered : IsNumbered d
   -- no cause that is no link is without a vertex
   pub once : (j : ℕ) → links_of d ≤ j → j < d.causes → privates g.vertices d j ≡ true
-  pub inner_joined : AreJoined g d.inner
-  pub outer_joined : AreJoined g d.outer
+  pub inner_joined : LinksAreEdges g d.inner
+  pub outer_joined : LinksAreEdges g d.outer
   pub target_outside : (v : ℕ) → d.target v ≡ true → x v ≡ false

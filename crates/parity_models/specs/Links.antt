@@ -29,9 +29,9 @@ IsNoEntry [] v = Unit {0}
 IsNoEntry (p ∷ r) v = (v ≢ p.entry) × IsNoEntry r v
 
 -- the two ends of each link differ
-abbrev pub AreApart : List Link → Type 0
-AreApart [] = Unit {0}
-AreApart (p ∷ r) = (p.entry ≢ p.partner) × AreApart r
+abbrev pub EndsDiffer : List Link → Type 0
+EndsDiffer [] = Unit {0}
+EndsDiffer (p ∷ r) = (p.entry ≢ p.partner) × EndsDiffer r
 
 -- no partner is a later entry
 abbrev pub AreOrdered : List Link → Type 0
@@ -54,6 +54,6 @@ AreRooted S [] = Unit {0}
 AreRooted S (p ∷ r) = (S p.partner ≡ true) × AreRooted (λ v. S v || eqb v p.entry) r
 
 -- each link joins two ends of a bidirected edge
-abbrev pub AreJoined : MixedGraph → List Link → Type 0
-AreJoined g [] = Unit {0}
-AreJoined g (p ∷ r) = (g.both p.entry p.partner ≡ true) × AreJoined g r
+abbrev pub LinksAreEdges : MixedGraph → List Link → Type 0
+LinksAreEdges g [] = Unit {0}
+LinksAreEdges g (p ∷ r) = (g.both p.entry p.partner ≡ true) × LinksAreEdges g r

@@ -3,8 +3,8 @@ pub mod Fold
 pub mod Free
 pub mod Laws
 pub mod Listed
-pub mod Masks
 pub mod Same
+pub mod TermSets
 pub mod Terms
 pub mod Tree
 pub mod TreeCodes

@@ -1,7 +1,7 @@
 -- Terms: what their sets have to be, and which interventions stand in them.
 use Rattle.std.specs.Prelude.{ℕ, Bool, true, false, not, ◌&&◌, ◌||◌, eqb, List, [], ◌∷◌}
 use Rattle.mixed_graph.specs.Masks.{is_empty, is_below}
-use Rattle.prob_expr.specs.Masks.{are_term_sets}
+use Rattle.prob_expr.specs.TermSets.{are_term_sets}
 use Rattle.prob_expr.specs.Tree.{Tree, prob, sum, product, quotient, named, Trees, no_trees, tree, PlainFormula}
 
 -- a term's three sets are below n, no two of them meet, and the first isn't empty

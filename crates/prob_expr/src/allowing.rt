@@ -4,7 +4,6 @@ ghost use Rattle.prob_expr.specs.View.{view, views, formula_view};
 ghost use Rattle.prob_expr.specs.Terms.{is_listed, is_under, are_under, all_under, is_allowed, is_do_free};
 
 use crate::expr::{Expr, Formula};
-use crate::masks::is_empty;
 use mixed_graph::VSet;
 
 fn is_listed(b: VSet, allowed: &[VSet]) -> bool
@@ -23,7 +22,7 @@ fn is_under(e: &Expr, allowed: &[VSet]) -> bool
     ensures { result ≡ is_under (masks_of allowed.now) (view e.now) }
 {
     match e {
-        Expr::Prob { doing, .. } => is_empty(*doing) || is_listed(*doing, allowed),
+        Expr::Prob { doing, .. } => doing.is_empty() || is_listed(*doing, allowed),
         Expr::Sum { body, .. } => is_under(body, allowed),
         Expr::Product(factors) => are_under(factors, allowed),
         Expr::Quotient { top, bottom } => is_under(top, allowed) && is_under(bottom, allowed),

@@ -1,9 +1,10 @@
 ghost use Rattle.std.specs.Prelude.{◌≡◌, ◌≤◌, map};
+ghost use Rattle.prob_expr.specs.TermSets.{are_term_sets};
 ghost use Rattle.prob_expr.specs.View.{view, views, formula_view};
 ghost use Rattle.prob_expr.specs.Check.{next_node, cap, check_tree, check_trees, fault_of, fault_in, fault_in_defs};
 
 use crate::expr::{Expr, Formula, Place};
-use crate::masks::{are_term_sets, is_below, is_empty};
+use mixed_graph::VSet;
 
 /// What keeps a formula from being one.
 #[derive(Clone, Copy, Debug, PartialEq, Eq)]
@@ -14,6 +15,19 @@ pub enum ExprFault {
     Empty(Place),
     /// Definition k names itself or a later one; or main names one that isn't there, and k is the number of definitions.
     Forward(u32),
+}
+
+/// Whether the three sets are below n, and no two of them meet.
+pub fn are_term_sets(n: u32, of: VSet, doing: VSet, given: VSet) -> bool
+    requires { n ≤ 64 }
+    ensures { result ≡ are_term_sets n of.bits doing.bits given.bits }
+{
+    of.is_below(n)
+        && doing.is_below(n)
+        && given.is_below(n)
+        && of.is_apart(doing)
+        && of.is_apart(given)
+        && doing.is_apart(given)
 }
 
 // The number of the node after this one in preorder.
@@ -51,16 +65,16 @@ pub fn check_expr(
             if !are_term_sets(n, *of, *doing, *given) {
                 return Err(ExprFault::Sets(place));
             }
-            if is_empty(*of) {
+            if of.is_empty() {
                 return Err(ExprFault::Empty(place));
             }
             Ok(next_node(node))
         }
         Expr::Sum { over, body } => {
-            if !is_below(n, *over) {
+            if !over.is_below(n) {
                 return Err(ExprFault::Sets(place));
             }
-            if is_empty(*over) {
+            if over.is_empty() {
                 return Err(ExprFault::Empty(place));
             }
             check_expr(body, n, def, limit, next_node(node))

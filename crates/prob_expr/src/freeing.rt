@@ -4,7 +4,6 @@ ghost use Rattle.prob_expr.specs.View.{view, views, formula_view};
 ghost use Rattle.prob_expr.specs.Free.{free_in, free_in_any, free_in_defs, free_of};
 
 use crate::expr::{Expr, Formula};
-use crate::masks::{join, minus};
 use mixed_graph::VSet;
 use std::alloc::{AllocError, Global};
 
@@ -13,10 +12,10 @@ fn free_expr(e: &Expr, sets: &[VSet]) -> VSet
     ensures { result.bits ≡ free_in (masks_of sets.now) (view e.now) }
 {
     match e {
-        Expr::Prob { of, doing, given } => join(join(*of, *doing), *given),
-        Expr::Sum { over, body } => minus(free_expr(body, sets), *over),
+        Expr::Prob { of, doing, given } => of.union(*doing).union(*given),
+        Expr::Sum { over, body } => free_expr(body, sets).difference(*over),
         Expr::Product(factors) => free_factors(factors, sets),
-        Expr::Quotient { top, bottom } => join(free_expr(top, sets), free_expr(bottom, sets)),
+        Expr::Quotient { top, bottom } => free_expr(top, sets).union(free_expr(bottom, sets)),
         Expr::Named(k) => set_at(sets, *k),
     }
 }
@@ -27,7 +26,7 @@ fn set_at(sets: &[VSet], k: u32) -> VSet
 {
     match sets.get(k as usize) {
         Some(set) => *set,
-        None => VSet { bits: 0 },
+        None => VSet::EMPTY,
     }
 }
 
@@ -35,9 +34,9 @@ fn set_at(sets: &[VSet], k: u32) -> VSet
 fn free_factors(factors: &Vec<Expr>, sets: &[VSet]) -> VSet
     ensures { result.bits ≡ free_in_any (masks_of sets.now) (views factors.now.items) }
 {
-    let mut free = VSet { bits: 0 };
+    let mut free = VSet::EMPTY;
     for factor in factors {
-        free = join(free, free_expr(factor, sets));
+        free = free.union(free_expr(factor, sets));
     }
     free
 }

@@ -19,7 +19,7 @@ mod theory;
 mod visiting;
 
 pub use allowing::{is_allowed, is_do_free};
-pub use checking::{ExprFault, check, check_expr};
+pub use checking::{ExprFault, are_term_sets, check, check_expr};
 pub use comparing::is_same;
 pub use copying::copy_expr;
 pub use expr::{Expr, Formula, Place, Target};

@@ -4,7 +4,7 @@
 
 ghost use Rattle.std.specs.Prelude.{◌≡◌, ◌<◌, ◌≤◌};
 ghost use Rattle.mixed_graph.specs.Masks.{join, minus, one, all, is_empty, is_apart, is_inside, is_below};
-ghost use Rattle.prob_expr.specs.Masks.{are_term_sets};
+ghost use Rattle.prob_expr.specs.TermSets.{are_term_sets};
 
 use mixed_graph::VSet;
 

@@ -4,7 +4,7 @@ ghost use Rattle.mixed_graph.specs.Sets.{Within};
 ghost use Rattle.mixed_graph.specs.Shown.{graph_of};
 ghost use Rattle.proper_paths.specs.Proper.{IsBetween, IsBackDoorGraph};
 
-use mixed_graph::{Graph, VSet};
+use mixed_graph::{Graph, Rows, VSet};
 use surgery::{EdgeSet, cut_edges, cut_into};
 
 /// The vertices outside x that lie on a proper causal path from x to y.
@@ -23,7 +23,7 @@ pub fn proper_causal(g: &Graph, x: VSet, y: VSet) -> VSet
 }
 
 /// Row u holds `heads` where u is in `tails`; the other rows are empty.
-fn rows_from(tails: VSet, heads: VSet) -> [u64; 64]
+fn rows_from(tails: VSet, heads: VSet) -> Rows
     ensures { (u v : ℕ) → has (slice_index result u) v ≡ (has tails.bits u && has heads.bits v) }
 {
     let mut rows = [0u64; 64];

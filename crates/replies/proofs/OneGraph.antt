@@ -15,17 +15,17 @@ use Rattle.dag_reader.specs.declared.faults.GraphFault.TheVariants.{NotUtf8, Tok
 use Rattle.dag_reader.specs.Grammar.{Fault, Said, token, expected, not_a_dag, edge_kind, flag, selected, too_many}
 use Rattle.dag_reader.specs.Passes.{arrows_of}
 use Rattle.dag_reader.specs.Reading.{Says}
-use Rattle.dag_reader.specs.Reads.{Tells, Gives, Reads}
+use Rattle.dag_reader.specs.Reads.{Tells, GivesGraph, Reads}
 use Rattle.dag_reader.specs.RoundTrip.{AreSame}
 use Rattle.dag_reader.proofs.DrawnGraph.{no_cycle}
 use Rattle.dag_reader.proofs.OneAnswer.{one_answer}
 use Rattle.dag_reader.proofs.PairLists.{cycle_same}
-use Rattle.latent_projection.specs.Projection.{IsLed, IsProjection}
+use Rattle.latent_projection.specs.Projection.{LeadsThrough, IsProjection}
 use Rattle.latent_projection.specs.Renumbering.{IsObserved, renumbered, observed_below, names_at}
 use Rattle.latent_projection.proofs.KeptNames.{length-names_at}
 use Rattle.latent_projection.proofs.Numbering.{IsMixedGraph-renumbered}
 use Rattle.latent_projection.proofs.Projected.{IsMixedGraph-projection}
-use Rattle.replies.specs.Observed.{observed_names, IsObservedGraph, Holds}
+use Rattle.replies.specs.Observed.{observed_names, IsObservedGraph, HoldsGraph}
 
 -- ---- the observed graph
 
@@ -48,7 +48,7 @@ one_projection g l p q a b = same_as p q (a.vertices ∙ sym b.vertices) arrows 
       | inl e ↦ (a.isolated u e).no_child v ∙ sym ((b.isolated u e).no_child v)
       | inr e ↦ elim (cases_Bool (l v)) [
         | inl f ↦ (a.isolated v f).no_parent u ∙ sym ((b.isolated v f).no_parent u)
-        | inr f ↦ same_test (p.arrow u v) (q.arrow u v) (IsLed g l u v) (a.arrow u v e f) (b.arrow u v e f)
+        | inr f ↦ same_test (p.arrow u v) (q.arrow u v) (LeadsThrough g l u v) (a.arrow u v e f) (b.arrow u v e f)
       ]
     ]
 
@@ -110,13 +110,13 @@ no_first_fault : (text : List ℕ) (s : Said) (f : Fault) → Says text (Ok s) �
 no_first_fault text s f a b = let e : ◌≡◌ {A = Result Said Fault} (Err f) (Ok s) = one_answer text (Err f) (Ok s) b a in cc e
 
 -- bytes hold one graph at most
-pub one_reading : (bytes : List ℕ) (g h : ReadGraph) → Holds bytes g → Holds bytes h → AreSame g h
+pub one_reading : (bytes : List ℕ) (g h : ReadGraph) → HoldsGraph bytes g → HoldsGraph bytes h → AreSame g h
 one_reading bytes g h a b =
     let r = a.reads in let t = b.reads in
     same_told r.1 g h r.3.2 (subst (λ (s : Said). Tells s h) (one_said bytes r.1 t.1 r.2 t.2) t.3.2)
 
 -- statements that give a graph give no fault
-gives_either : (s : Said) (g : ReadGraph) (fault : GraphFault) → Gives s (Ok g) → (fault ≡ NoMemory → ⊥) → Gives s (Err fault) → ⊥
+gives_either : (s : Said) (g : ReadGraph) (fault : GraphFault) → GivesGraph s (Ok g) → (fault ≡ NoMemory → ⊥) → GivesGraph s (Err fault) → ⊥
 gives_either s g NoMemory a ne b = ne refl
 gives_either s g (SelfLoop n) a ne b = let none = a.0 in let some = b.1 in cc
 gives_either s g (RoleClash n) a ne b = a.1 b.1 b.2.two
@@ -125,8 +125,8 @@ gives_either s g (Cycle ns) a ne b =
     no_cycle (graph_of g.graph) c.list c.count a.2.acyclic (cycle_same (joins (arrows_of s.marks)) (graph_of g.graph).arrow c.list c.count (λ u v. sym (a.2.edges.arrows u v)) c.is_cycle)
 gives_either s g f a ne b = b
 
-told_either : (text : List ℕ) (g : ReadGraph) (fault : GraphFault) (s t : Said) → Says text (Ok s) → Gives s (Ok g) → (fault ≡ NoMemory → ⊥) → Says text (Ok t) → Gives t (Err fault) → ⊥
-told_either text g fault s t says a ne says_too b = gives_either s g fault a ne (subst (λ (u : Said). Gives u (Err fault)) (one_said text s t says says_too) b)
+told_either : (text : List ℕ) (g : ReadGraph) (fault : GraphFault) (s t : Said) → Says text (Ok s) → GivesGraph s (Ok g) → (fault ≡ NoMemory → ⊥) → Says text (Ok t) → GivesGraph t (Err fault) → ⊥
+told_either text g fault s t says a ne says_too b = gives_either s g fault a ne (subst (λ (u : Said). GivesGraph u (Err fault)) (one_said text s t says says_too) b)
 
 -- a text that is read as a graph has no fault
 pub reads_either : (text : List ℕ) (g : ReadGraph) (fault : GraphFault) → Reads text (Ok g) → (fault ≡ NoMemory → ⊥) → Reads text (Err fault) → ⊥

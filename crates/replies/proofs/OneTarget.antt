@@ -7,15 +7,15 @@ use Rattle.mixed_graph.specs.Sets.{Within}
 use Rattle.mixed_graph.proofs.Masks.{same_from_has, zero_from_empty}
 use Rattle.targets.specs.declared.fault.TargetFault.{TargetFault}
 use Rattle.targets.specs.declared.fault.TargetFault.TheVariants.{Unknown, Latent, Twice, EmptyY, EmptyX}
-use Rattle.targets.specs.Targets.{NameFault, unknown, latent, twice, IsSetOf, IsFaultOf, Lists, AreSets, EffectLists, effect_fault, AreEffectSets, IsEffectFault}
+use Rattle.targets.specs.Targets.{NameFault, unknown, latent, twice, IsListedSet, IsFaultOfTarget, Lists, AreSets, EffectLists, effect_fault, AreEffectSets, IsEffectFault}
 use Rattle.replies.specs.Observed.{IsTargetRefusal}
 
 -- a list names one set
-pub one_set : (observed list : List (List ℕ)) (a b : ℕ) → IsSetOf observed list a → IsSetOf observed list b → b ≡ a
+pub one_set : (observed list : List (List ℕ)) (a b : ℕ) → IsListedSet observed list a → IsListedSet observed list b → b ≡ a
 one_set observed list a b s t = same_from_has b a (λ v. t v ∙ sym (s v))
 
 -- where no name is at fault and neither list is empty there is no fault
-pub no_fault_of : (first : Option NameFault) (y x : List (List ℕ)) (f : TargetFault) → first ≡ None → (y ≡ [] → ⊥) → (x ≡ [] → ⊥) → IsFaultOf first y x f → ⊥
+pub no_fault_of : (first : Option NameFault) (y x : List (List ℕ)) (f : TargetFault) → first ≡ None → (y ≡ [] → ⊥) → (x ≡ [] → ⊥) → IsFaultOfTarget first y x f → ⊥
 no_fault_of first y x (Unknown t) none some_y some_x h = none-some (unknown t) (sym none ∙ h)
 no_fault_of first y x (Latent t) none some_y some_x h = none-some (latent t) (sym none ∙ h)
 no_fault_of first y x (Twice t) none some_y some_x h = none-some (twice t) (sym none ∙ h)
@@ -36,7 +36,7 @@ pub sets_refused : (l : Lists) (x y given : ℕ) (line : List ℕ) → AreSets l
 sets_refused l x y given line s r = no_fault_of _ l.y l.x r.fault s.no_fault s.some_y s.some_x r.is_fault
 
 -- an empty x is no fault of an effect
-effect_fault_of : (l : EffectLists) (f : TargetFault) → IsEffectFault l f → IsFaultOf (effect_fault l) l.y some_list f
+effect_fault_of : (l : EffectLists) (f : TargetFault) → IsEffectFault l f → IsFaultOfTarget (effect_fault l) l.y some_list f
 effect_fault_of l EmptyX h = absurd h
 effect_fault_of l f h = h
 

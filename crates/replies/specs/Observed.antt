@@ -8,7 +8,8 @@ use Rattle.dag_reader.specs.Reads.{Reads}
 use Rattle.latent_projection.specs.Renumbering.{IsObserved, observed_below, names_at}
 use Rattle.targets.specs.declared.fault.TargetFault.{TargetFault}
 use Rattle.targets.specs.Targets.{Lists, IsTargetFault}
-use Rattle.fault_text.specs.Lines.{line_of, target_fault_text}
+use Rattle.name_text.specs.Lines.{line_of}
+use Rattle.targets.specs.FaultTexts.{target_fault_text}
 
 -- the names of a list, where an option gives one
 abbrev pub Names : Type 0
@@ -23,7 +24,7 @@ abbrev pub IsObservedGraph : ReadGraph → MixedGraph → Type 0
 IsObservedGraph g q = IsObserved (graph_of g.graph) (has g.latent.bits) q
 
 -- the bytes are the text of this graph, and at most 1,048,576
-pub record Holds (bytes : List ℕ) (g : ReadGraph) : Type 0 where
+pub record HoldsGraph (bytes : List ℕ) (g : ReadGraph) : Type 0 where
   pub small : length bytes ≤ 1048576
   pub reads : Reads bytes (Ok g)
 

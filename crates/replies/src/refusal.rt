@@ -1,8 +1,8 @@
 ghost use Rattle.std.specs.Prelude.{◌≡◌, IfOk, OnOk};
-ghost use Rattle.fault_text.specs.Lines.{line_of, target_fault_text};
+ghost use Rattle.name_text.specs.Lines.{line_of};
+ghost use Rattle.targets.specs.FaultTexts.{target_fault_text};
 
 use crate::outcome::{Outcome, Reply};
-use fault_text::target_line;
 use std::alloc::{AllocError, Global};
 use targets::TargetFault;
 
@@ -12,12 +12,8 @@ pub fn refuse(alloc: Global, fault: &TargetFault) -> Result<Reply, AllocError>
     ensures line { IfOk result (λ r. r.text.items ≡ line_of (target_fault_text fault.now)) }
     ensures fault { OnOk result (fault.now ≡ TargetFault.NoMemory → ⊥) }
 {
-    if let TargetFault::NoMemory = fault {
-        return Err(AllocError);
-    }
-    let text = target_line(alloc, fault)?;
     Ok(Reply {
         outcome: Outcome::Graph,
-        text,
+        text: fault.line(alloc)?,
     })
 }

@@ -8,7 +8,8 @@ use Rattle.do_rules.specs.Rules.{IsBlockedFor, IsRuleFor, IsOpenFor}
 use Rattle.dag_reader.specs.declared.graph.ReadGraph.{ReadGraph}
 use Rattle.targets.specs.declared.fault.TargetFault.{TargetFault}
 use Rattle.targets.specs.Targets.{RuleLists, AreRuleSets, IsRuleFault}
-use Rattle.fault_text.specs.Lines.{line_of, target_fault_text}
+use Rattle.name_text.specs.Lines.{line_of}
+use Rattle.targets.specs.FaultTexts.{target_fault_text}
 use Rattle.replies.specs.declared.outcome.Outcome.{Outcome}
 use Rattle.replies.specs.declared.outcome.Outcome.TheVariants.{Yes, No, Graph}
 use Rattle.replies.specs.Lines.{open_text}

@@ -41,6 +41,6 @@ pub record AreAxes (axes : Axes) : Type 0 where
   pub few : product axes.sizes ≤ 2 ^ 20
 
 -- how axes are kept: with the number of cells
-pub record IsKept (kept : Axes) (cells : ℕ) : Type 0 where
+pub record AreKeptAxes (kept : Axes) (cells : ℕ) : Type 0 where
   pub axes : AreAxes kept
   pub count : cells ≡ product kept.sizes

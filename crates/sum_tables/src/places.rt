@@ -20,13 +20,13 @@ pub struct Places {
 }
 
 impl Model for Places {
-    ghost use Rattle.sum_tables.specs.Axes.{Axes, IsKept};
+    ghost use Rattle.sum_tables.specs.Axes.{Axes, AreKeptAxes};
 
     ghost Value = { Axes };
 
     ghost view = { λ s. record { vertices = s.vertices.items; sizes = s.sizes.items } };
 
-    ghost invariant = { λ s. IsKept (record { vertices = s.vertices.items; sizes = s.sizes.items }) s.count };
+    ghost invariant = { λ s. AreKeptAxes (record { vertices = s.vertices.items; sizes = s.sizes.items }) s.count };
 }
 
 impl Places {

@@ -5,13 +5,13 @@ ghost use Rattle.mixed_graph.specs.Shown.{graph_of};
 ghost use Rattle.surgery.specs.Cuts.{cut_into, cut_out, cut_edges};
 
 use crate::rows::{transposed, without};
-use mixed_graph::{Graph, VSet};
+use mixed_graph::{Graph, Rows, VSet};
 
 /// Edges of a graph: u -> v where bit v of `out[u]` is set, u <-> v where bit v of `both[u]` or bit u of `both[v]` is set.
 #[derive(Clone, Copy)]
 pub struct EdgeSet {
-    pub out: [u64; 64],
-    pub both: [u64; 64],
+    pub out: Rows,
+    pub both: Rows,
 }
 
 /// The graph without the edges that have an arrowhead at a member of x.

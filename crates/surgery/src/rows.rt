@@ -1,10 +1,10 @@
 ghost use Rattle.std.specs.Prelude.{◌≡◌, ℕ, ◌<◌, ◌&&◌, not, slice_index};
 ghost use Rattle.mixed_graph.specs.Bits.{has};
 
-use mixed_graph::VSet;
+use mixed_graph::{Rows, VSet};
 
 /// The numbers of the rows that have v.
-fn column(rows: &[u64; 64], v: u8) -> VSet
+fn column(rows: &Rows, v: u8) -> VSet
     requires { v < 64 }
     ensures { (u : ℕ) → has result.bits u ≡ has (slice_index rows.now u) v }
 {
@@ -17,7 +17,7 @@ fn column(rows: &[u64; 64], v: u8) -> VSet
 }
 
 /// The rows with row and place exchanged.
-pub fn transposed(rows: &[u64; 64]) -> [u64; 64]
+pub fn transposed(rows: &Rows) -> Rows
     ensures { (u v : ℕ) → has (slice_index result v) u ≡ has (slice_index rows.now u) v }
 {
     let mut out = [0u64; 64];
@@ -28,7 +28,7 @@ pub fn transposed(rows: &[u64; 64]) -> [u64; 64]
 }
 
 /// The members of each row that the row of `dropped` doesn't have.
-pub fn without(rows: &[u64; 64], dropped: &[u64; 64]) -> [u64; 64]
+pub fn without(rows: &Rows, dropped: &Rows) -> Rows
     ensures { (u v : ℕ) → has (slice_index result u) v ≡ (has (slice_index rows.now u) v && not (has (slice_index dropped.now u) v)) }
 {
     let mut out = [0u64; 64];

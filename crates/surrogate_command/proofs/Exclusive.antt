@@ -5,7 +5,7 @@ use Rattle.dag_reader.specs.declared.graph.ReadGraph.{ReadGraph}
 use Rattle.dag_reader.specs.RoundTrip.{AreSame}
 use Rattle.targets.specs.declared.fault.TargetFault.{TargetFault}
 use Rattle.targets.specs.declared.fault.TargetFault.TheVariants.{EmptyX}
-use Rattle.targets.specs.Targets.{IsFaultOf}
+use Rattle.targets.specs.Targets.{IsFaultOfTarget}
 use Rattle.surrogates.proofs.RightAnswers.{some_blocked}
 use Rattle.replies.specs.declared.outcome.Outcome.{Outcome}
 use Rattle.replies.specs.declared.outcome.Outcome.TheVariants.{Yes, No, Graph}
@@ -28,7 +28,7 @@ one_by_one observed (e ∷ es) [] ws s t = absurd s
 one_by_one observed (e ∷ es) (z ∷ zs) [] s t = absurd t
 one_by_one observed (e ∷ es) (z ∷ zs) (w ∷ ws) s t = ap (λ (k : ℕ). k ∷ ws) (one_set observed e z w s.0 t.0) ∙ ap (λ (ks : List ℕ). z ∷ ks) (one_by_one observed es zs ws s.1 t.1)
 
-surrogate_fault_of : (l : SurrogateLists) (f : TargetFault) → IsSurrogateFault l f → IsFaultOf (surrogate_fault l) l.effect.y some_list f
+surrogate_fault_of : (l : SurrogateLists) (f : TargetFault) → IsSurrogateFault l f → IsFaultOfTarget (surrogate_fault l) l.effect.y some_list f
 surrogate_fault_of l EmptyX h = absurd h
 surrogate_fault_of l f h = h
 

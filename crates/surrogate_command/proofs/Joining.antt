@@ -4,7 +4,7 @@ use Rattle.std.specs.List.{list_all}
 use Rattle.std.specs.Global.{Vec}
 use Rattle.word_lists.specs.Lists.{IsList}
 use Rattle.word_lists.specs.Views.{names_in}
-use Rattle.surrogate_command.specs.Experiments.{Lists, IsExperiment, AreJoined, AreExperiments, is_filled, AreFilled}
+use Rattle.surrogate_command.specs.Experiments.{Lists, IsExperiment, AreJoinedBySemicolons, AreExperiments, is_filled, AreFilled}
 use Rattle.surrogate_command.specs.Parts.{outside_after, IsCut}
 use Rattle.surrogate_command.proofs.Quotes.{closed, undivided, divided, same_part}
 
@@ -46,7 +46,7 @@ module _ (text : List ℕ) where
 -- the experiments behind the first: none, or those of what stands behind the cut
 abbrev pub AreOthers : Option (List ℕ) → Lists → Type 0
 AreOthers None others = others ≡ []
-AreOthers (Some rest) others = AreJoined rest others
+AreOthers (Some rest) others = AreJoinedBySemicolons rest others
 
 -- the lists of a text that is cut: the first part is the first of them
 pub record IsSplit (part : List ℕ) (rest : Option (List ℕ)) (lists : Lists) : Type 0 where
@@ -56,7 +56,7 @@ pub record IsSplit (part : List ℕ) (rest : Option (List ℕ)) (lists : Lists) 
   pub first : IsExperiment part names
   pub later : AreOthers rest others
 
-pub split : (text part : List ℕ) (rest : Option (List ℕ)) → IsCut text part rest → (lists : Lists) → AreJoined text lists → IsSplit part rest lists
+pub split : (text part : List ℕ) (rest : Option (List ℕ)) → IsCut text part rest → (lists : Lists) → AreJoinedBySemicolons text lists → IsSplit part rest lists
 split text part rest cut [] joined = absurd joined
 split text part None cut (names ∷ []) joined = record { names = names; others = []; are = refl; first = subst (λ t. IsExperiment t names) cut.0 joined; later = refl }
 split text part (Some rest) cut (names ∷ []) joined = absurd (let bad : None ≡ Some true = sym (divided text part rest cut.0 cut.1) ∙ closed text names joined in cc bad)
@@ -64,17 +64,17 @@ split text part None cut (names ∷ next ∷ others) joined =
     absurd (let bad : None ≡ Some cut.1.0 = sym (divided text joined.0 joined.1 joined.2 (closed joined.0 names joined.3)) ∙ ap (outside_after true) cut.0 ∙ cut.1.1 in cc bad)
 split text part (Some rest) cut (names ∷ next ∷ others) joined =
     let same = same_part true joined.0 part joined.1 rest (sym joined.2 ∙ cut.0) (closed joined.0 names joined.3) cut.1 in
-    record { names = names; others = next ∷ others; are = refl; first = subst (λ t. IsExperiment t names) same.0 joined.3; later = subst (λ t. AreJoined t (next ∷ others)) same.1 joined.4 }
+    record { names = names; others = next ∷ others; are = refl; first = subst (λ t. IsExperiment t names) same.0 joined.3; later = subst (λ t. AreJoinedBySemicolons t (next ∷ others)) same.1 joined.4 }
 
 -- one experiment before others
-pub joined_before : (text part rest : List ℕ) (names : List (List ℕ)) (lists : Lists) → text ≡ part ++ 59 ∷ rest → IsExperiment part names → AreJoined rest lists → AreJoined text (names ∷ lists)
+pub joined_before : (text part rest : List ℕ) (names : List (List ℕ)) (lists : Lists) → text ≡ part ++ 59 ∷ rest → IsExperiment part names → AreJoinedBySemicolons rest lists → AreJoinedBySemicolons text (names ∷ lists)
 joined_before text part rest names [] e is joined = absurd joined
 joined_before text part rest names (next ∷ others) e is joined = (part, rest, e, is, joined)
 
 -- what is read so far, and the text that is left
 pub record IsReading (text : List ℕ) (done : Lists) (left : List ℕ) : Type 0 where
-  pub sound : (lists : Lists) → AreJoined left lists → AreJoined text (done ++ lists)
-  pub whole : (lists : Lists) → AreJoined text lists → (more : Lists) × (lists ≡ done ++ more) × AreJoined left more
+  pub sound : (lists : Lists) → AreJoinedBySemicolons left lists → AreJoinedBySemicolons text (done ++ lists)
+  pub whole : (lists : Lists) → AreJoinedBySemicolons text lists → (more : Lists) × (lists ≡ done ++ more) × AreJoinedBySemicolons left more
 
 pub reading_none : (text : List ℕ) → IsReading text [] text
 reading_none text = record { sound = λ lists joined. joined; whole = λ lists joined. (lists, refl, joined) }
@@ -83,7 +83,7 @@ reading_none text = record { sound = λ lists joined. joined; whole = λ lists j
 pub reading_more : (text : List ℕ) (done : Lists) (left part rest : List ℕ) (names : List (List ℕ)) → IsCut left part (Some rest) → IsExperiment part names
     → ((other : List (List ℕ)) → IsExperiment part other → other ≡ names) → IsReading text done left → IsReading text (done ++ names ∷ []) rest
 reading_more text done left part rest names cut is only r = record {
-  sound = λ lists joined. subst (AreJoined text) (sym (append_assoc done (names ∷ []) lists)) (r.sound (names ∷ lists) (joined_before left part rest names lists cut.0 is joined));
+  sound = λ lists joined. subst (AreJoinedBySemicolons text) (sym (append_assoc done (names ∷ []) lists)) (r.sound (names ∷ lists) (joined_before left part rest names lists cut.0 is joined));
   whole = λ lists joined.
       let more = r.whole lists joined in let s = split left part (Some rest) cut more.0 more.2 in (
         s.others,
@@ -93,7 +93,7 @@ reading_more text done left part rest names cut is only r = record {
 }
 
 -- the last is read
-pub reading_last : (text : List ℕ) (done : Lists) (left part : List ℕ) (names : List (List ℕ)) → IsCut left part None → IsExperiment part names → IsReading text done left → AreJoined text (done ++ names ∷ [])
+pub reading_last : (text : List ℕ) (done : Lists) (left part : List ℕ) (names : List (List ℕ)) → IsCut left part None → IsExperiment part names → IsReading text done left → AreJoinedBySemicolons text (done ++ names ∷ [])
 reading_last text done left part names cut is r = r.sound (names ∷ []) (subst (λ t. IsExperiment t names) (sym cut.0) is)
 
 -- the part that comes next is no experiment
@@ -107,7 +107,7 @@ pub reading_full : (text : List ℕ) (done : Lists) (left : List ℕ) → length
 reading_full text done left full r lists are =
     let more = r.whole lists are.joined in some more.0 more.2 (ap (λ (l : Lists). length l) more.1 ∙ length-append done more.0)
   where
-    some : (more : Lists) → AreJoined left more → length lists ≡ length done + length more → ⊥
+    some : (more : Lists) → AreJoinedBySemicolons left more → length lists ≡ length done + length more → ⊥
     some [] joined e = joined
     some (m ∷ ms) joined e = let few = are.few in let e' : length lists ≡ length done + length (m ∷ ms) = e in absurd (omega arith)
 
@@ -116,7 +116,7 @@ reading_full text done left full r lists are =
 experiment_filled : (text : List ℕ) (names : List (List ℕ)) → IsExperiment text names → is_filled names ≡ true
 experiment_filled text names is = ap is_filled is.list.gives
 
-joined_filled : (text : List ℕ) (lists : Lists) → AreJoined text lists → list_all is_filled lists ≡ true
+joined_filled : (text : List ℕ) (lists : Lists) → AreJoinedBySemicolons text lists → list_all is_filled lists ≡ true
 joined_filled text [] joined = absurd joined
 joined_filled text (names ∷ []) joined = rw (experiment_filled text names joined) refl
 joined_filled text (names ∷ next ∷ others) joined = rw (experiment_filled joined.0 names joined.3) (joined_filled joined.1 (next ∷ others) joined.4)

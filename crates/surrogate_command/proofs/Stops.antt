@@ -4,8 +4,8 @@ use Rattle.mixed_graph.specs.Bits.{has}
 use Rattle.mixed_graph.specs.Graphs.{MixedGraph}
 use Rattle.mixed_graph.specs.Sets.{Within}
 use Rattle.mixed_graph.specs.declared.sets.VSet.{VSet}
-use Rattle.hedge.specs.declared.kinds.Hedge.{Hedge}
-use Rattle.counter_models.specs.declared.kinds.CounterPair.{CounterPair}
+use Rattle.hedge.specs.declared.hedge.Hedge.{Hedge}
+use Rattle.counter_models.specs.declared.counter_pair.CounterPair.{CounterPair}
 use Rattle.identify_text.specs.Below.{IsHedgeBelow}
 use Rattle.identify_text.proofs.Belows.{hedge_below}
 use Rattle.surrogates.specs.Answers.{IsStopShown}

@@ -9,7 +9,7 @@ use Rattle.mixed_graph.specs.Bits.{has}
 use Rattle.mixed_graph.specs.Names.{index_of}
 use Rattle.targets.specs.declared.fault.TargetFault.{TargetFault}
 use Rattle.targets.specs.declared.fault.TargetFault.TheVariants.{Unknown, Latent, Twice, EmptyY, EmptyX, NotOneX, Bidirected, OtherNames, NoMemory}
-use Rattle.targets.specs.Targets.{NameFault, or_fault, first_fault, walked_in, IsSetOf, IsNameFault, effect_fault}
+use Rattle.targets.specs.Targets.{NameFault, or_fault, first_fault, walked_in, IsListedSet, IsNameFault, effect_fault}
 use Rattle.targets.proofs.Walking.{same_first_fault, fault_first}
 use Rattle.surrogate_command.specs.Sets.{SurrogateLists, experiments_fault, surrogate_fault, AreExperimentSets, IsSurrogateFault, IsSurrogateFaultOrMemory}
 
@@ -27,7 +27,7 @@ walked_none all observed experiments = record { faults = refl; made = λ zs are.
 
 -- what is walked, where the next one has no fault
 pub walked_more : (all observed : List (List ℕ)) (experiments rest : List (List (List ℕ))) (done more : List ℕ) (e : List (List ℕ)) (z : ℕ) → more ≡ done ++ z ∷ []
-    → first_fault all observed (λ n. false) e ≡ None → IsSetOf observed e z → AreWalked all observed experiments done (e ∷ rest) → AreWalked all observed experiments more rest
+    → first_fault all observed (λ n. false) e ≡ None → IsListedSet observed e z → AreWalked all observed experiments done (e ∷ rest) → AreWalked all observed experiments more rest
 walked_more all observed experiments rest done more e z pushed none set w = record {
   faults = w.faults ∙ ap (λ o. or_fault o (experiments_fault all observed rest)) none;
   made = λ zs are. subst (AreExperimentSets observed experiments) (sym (ap (λ (ms : List ℕ). ms ++ zs) pushed ∙ append_assoc done (z ∷ []) zs)) (w.made (z ∷ zs) (set, are));

@@ -8,8 +8,8 @@ use Rattle.replies.specs.declared.outcome.Outcome.TheVariants.{Yes, No, Graph}
 use Rattle.replies.specs.Observed.{Names, IsObservedGraph}
 use Rattle.prob_expr.specs.Tree.{PlainFormula}
 use Rattle.do_derivation.specs.Plans.{PlainDerivation}
-use Rattle.hedge.specs.declared.kinds.Hedge.{Hedge}
-use Rattle.counter_models.specs.declared.kinds.CounterPair.{CounterPair}
+use Rattle.hedge.specs.declared.hedge.Hedge.{Hedge}
+use Rattle.counter_models.specs.declared.counter_pair.CounterPair.{CounterPair}
 use Rattle.identification.specs.Procedure.{IsIdentified}
 use Rattle.id_recursion.specs.Answers.{effect_on, IsRightHedge}
 use Rattle.identify_text.specs.Answers.{formula_answer}

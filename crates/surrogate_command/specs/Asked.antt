@@ -8,7 +8,8 @@ use Rattle.dag_reader.specs.declared.graph.ReadGraph.{ReadGraph}
 use Rattle.prob_expr.specs.Listed.{masks_of}
 use Rattle.do_derivation.specs.Accepts.{are_sets}
 use Rattle.targets.specs.declared.fault.TargetFault.{TargetFault}
-use Rattle.fault_text.specs.Lines.{line_of, target_fault_text}
+use Rattle.name_text.specs.Lines.{line_of}
+use Rattle.targets.specs.FaultTexts.{target_fault_text}
 use Rattle.replies.specs.declared.outcome.Outcome.TheVariants.{Graph}
 use Rattle.replies.specs.Observed.{Names, observed_names, IsObservedGraph}
 use Rattle.effect_answers.specs.Effects.{effect_lists}

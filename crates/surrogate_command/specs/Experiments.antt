@@ -23,14 +23,14 @@ pub record IsExperiment (text : List ℕ) (names : List (List ℕ)) : Type 0 whe
   pub undivided : list_all is_undivided (list.first ∷ list.more) ≡ true
 
 -- the text is one or more experiments joined by `;`
-abbrev pub AreJoined : List ℕ → Lists → Type 0
-AreJoined text [] = ⊥
-AreJoined text (names ∷ []) = IsExperiment text names
-AreJoined text (names ∷ next ∷ others) = (part rest : List ℕ) × (text ≡ part ++ 59 ∷ rest) × IsExperiment part names × AreJoined rest (next ∷ others)
+abbrev pub AreJoinedBySemicolons : List ℕ → Lists → Type 0
+AreJoinedBySemicolons text [] = ⊥
+AreJoinedBySemicolons text (names ∷ []) = IsExperiment text names
+AreJoinedBySemicolons text (names ∷ next ∷ others) = (part rest : List ℕ) × (text ≡ part ++ 59 ∷ rest) × IsExperiment part names × AreJoinedBySemicolons rest (next ∷ others)
 
 -- the text is one to eight experiments, with these names
 pub record AreExperiments (text : List ℕ) (lists : Lists) : Type 0 where
-  pub joined : AreJoined text lists
+  pub joined : AreJoinedBySemicolons text lists
   pub few : length lists ≤ 8
 
 -- the value is there, and is these experiments

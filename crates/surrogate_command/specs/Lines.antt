@@ -2,7 +2,7 @@
 use Rattle.std.specs.Prelude.{ℕ, List, ◌++◌, codes}
 use Rattle.answer_text.specs.Texts.{set_text}
 use Rattle.expr_text.specs.Write.{text_of}
-use Rattle.hedge.specs.declared.kinds.Hedge.{Hedge}
+use Rattle.hedge.specs.declared.hedge.Hedge.{Hedge}
 use Rattle.identify_text.specs.Answers.{effect}
 use Rattle.identify_text.specs.HedgeLines.{sets_line}
 

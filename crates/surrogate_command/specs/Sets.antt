@@ -2,7 +2,7 @@
 use Rattle.std.specs.Prelude.{ℕ, ◌≡◌, false, List, [], ◌∷◌, Option, None}
 use Rattle.targets.specs.declared.fault.TargetFault.{TargetFault}
 use Rattle.targets.specs.declared.fault.TargetFault.TheVariants.{EmptyX, NoMemory}
-use Rattle.targets.specs.Targets.{NameFault, first_fault, or_fault, IsSetOf, IsFaultOf, EffectLists, effect_fault, AreEffectSets}
+use Rattle.targets.specs.Targets.{NameFault, first_fault, or_fault, IsListedSet, IsFaultOfTarget, EffectLists, effect_fault, AreEffectSets}
 
 -- the lists of an effect, and one for each experiment
 pub record SurrogateLists : Type 0 where
@@ -27,7 +27,7 @@ abbrev pub AreExperimentSets : (observed : List (List ℕ)) → List (List (List
 AreExperimentSets observed [] [] = Unit {0}
 AreExperimentSets observed [] (z ∷ zs) = ⊥
 AreExperimentSets observed (e ∷ es) [] = ⊥
-AreExperimentSets observed (e ∷ es) (z ∷ zs) = IsSetOf observed e z × AreExperimentSets observed es zs
+AreExperimentSets observed (e ∷ es) (z ∷ zs) = IsListedSet observed e z × AreExperimentSets observed es zs
 
 -- the sets of an effect over experiments: no name is at fault, and y isn't empty
 pub record AreSurrogateSets (l : SurrogateLists) (x y : ℕ) (zs : List ℕ) : Type 0 where
@@ -38,7 +38,7 @@ pub record AreSurrogateSets (l : SurrogateLists) (x y : ℕ) (zs : List ℕ) : T
 -- the fault of the lists: the first name at fault; else y is empty
 abbrev pub IsSurrogateFault : SurrogateLists → TargetFault → Type 0
 IsSurrogateFault l EmptyX = ⊥
-IsSurrogateFault l f = IsFaultOf (surrogate_fault l) l.effect.y l.effect.x f
+IsSurrogateFault l f = IsFaultOfTarget (surrogate_fault l) l.effect.y l.effect.x f
 
 -- the fault of the lists; want of memory may stand in its place
 abbrev pub IsSurrogateFaultOrMemory : SurrogateLists → TargetFault → Type 0

@@ -14,16 +14,16 @@ use Rattle.do_derivation.specs.declared.steps.Lemma.{Lemma}
 use Rattle.do_derivation.specs.declared.steps.Step.{Step}
 use Rattle.do_derivation.proofs.Lists.{joined-nothing, joined_more}
 use Rattle.identification.specs.Derivations.{Lists, no_more, more}
-use Rattle.district_factors.specs.declared.kinds.Factor.{Factor}
-use Rattle.district_factors.specs.declared.kinds.FactorFault.{FactorFault}
-use Rattle.district_factors.specs.declared.kinds.FactorFault.TheVariants.{Stopped, NoMemory}
+use Rattle.district_factors.specs.declared.factor.Factor.{Factor}
+use Rattle.district_factors.specs.declared.factor.FactorFault.{FactorFault}
+use Rattle.district_factors.specs.declared.factor.FactorFault.TheVariants.{Stopped, NoMemory}
 use Rattle.id_recursion.specs.Factored.{AreWithMore}
 use Rattle.id_recursion.specs.Lists.{lists_onto, lists_view}
-use Rattle.id_recursion.specs.declared.kinds.Factors.{Factors}
+use Rattle.id_recursion.specs.declared.answer.Factors.{Factors}
 use Rattle.id_recursion.proofs.StepLists.{lists_more}
 use Rattle.surrogate_theory.specs.Surrogates.{AreDerivedWith, StopsWith}
 use Rattle.surrogates.specs.Gathered.{AreFactorsWith, IsStopWith, stop_for}
-use Rattle.surrogates.specs.Tries.{IsFirstTried, IsFirstFault}
+use Rattle.surrogates.specs.Tries.{IsFirstTried, IsBlockedFactor}
 
 -- the factors of the first districts
 pub record Gathered (g : MixedGraph) (zs first : List ℕ) (defs : List Expr) (lemmas : List Lemma) (values : List Expr) (lists : List (Vec Step)) : Type 0 where
@@ -73,7 +73,7 @@ module _ (g : MixedGraph) (zs first : List ℕ) (defs : List Expr) (lemmas : Lis
     counted = ap length k ∙ s.listed;
   }
 
-  pub stopped_here : (c : VSet) (rest : List ℕ) (fault : FactorFault) → IsFirstFault g zs c.bits fault → IsStopWith g zs (first ++ c.bits ∷ rest) (stop_for c fault)
+  pub stopped_here : (c : VSet) (rest : List ℕ) (fault : FactorFault) → IsBlockedFactor g zs c.bits fault → IsStopWith g zs (first ++ c.bits ∷ rest) (stop_for c fault)
   stopped_here c rest (Stopped big) is = s.stops (c.bits ∷ rest) c.bits big.bits (StopsWith.first is.0 is.1)
   stopped_here c rest NoMemory is = tt
 

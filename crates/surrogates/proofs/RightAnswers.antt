@@ -20,18 +20,18 @@ use Rattle.identification.proofs.Sets.{below, apart, not_empty}
 use Rattle.identification.specs.Procedure.{IsTarget, IsIdentified}
 use Rattle.counter_models.proofs.Final.{counter}
 use Rattle.counter_models.specs.Pairs.{IsPairOf}
-use Rattle.counter_models.specs.declared.kinds.CounterPair.{CounterPair}
+use Rattle.counter_models.specs.declared.counter_pair.CounterPair.{CounterPair}
 use Rattle.hedge.proofs.Shaping.{sets_form_hedge}
 use Rattle.hedge.specs.Hedges.{IsHedge}
-use Rattle.hedge.specs.declared.kinds.Hedge.{Hedge}
+use Rattle.hedge.specs.declared.hedge.Hedge.{Hedge}
 use Rattle.id_recursion.specs.Answers.{effect_on}
 use Rattle.id_recursion.specs.Hedged.{IsHedgeOf}
 use Rattle.surrogate_theory.proofs.Answered.{derived_is_surrogate, surrogate_is_accepted, surrogate_is_formed, stop_is_first_blocked, blocked_excludes_formula, one_surrogate, plain_comes_first}
 use Rattle.surrogate_theory.specs.Laws.{IsAcceptedWith}
 use Rattle.surrogate_theory.specs.Surrogates.{IsAmong, IsBlocked, IsFirstBlocked, IsFirstBlockedFor, IsStoppedWith, IsSurrogate, IsSurrogateBySteps, SomeBlocked}
 use Rattle.surrogates.specs.Answers.{IsAnswerWith, IsRightWith, IfFormula, IfStopped, IsStopShown, is_stopped}
-use Rattle.surrogates.specs.declared.kinds.Surrogate.{Surrogate}
-use Rattle.surrogates.specs.declared.kinds.Surrogate.TheVariants.{Formula, Stopped}
+use Rattle.surrogates.specs.declared.answer.Surrogate.{Surrogate}
+use Rattle.surrogates.specs.declared.answer.Surrogate.TheVariants.{Formula, Stopped}
 
 -- the first blocked one is among them, and blocked
 among_first : (g : MixedGraph) (zs : List ℕ) (c : ℕ) (cs : List ℕ) → IsFirstBlocked g zs c cs → IsAmong c cs

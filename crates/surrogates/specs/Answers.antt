@@ -10,14 +10,14 @@ use Rattle.do_derivation.specs.Accepts.{Accepts}
 use Rattle.do_derivation.specs.Plans.{PlainDerivation}
 use Rattle.do_derivation.specs.View.{derivation_view}
 use Rattle.hedge.specs.Hedges.{IsHedge}
-use Rattle.hedge.specs.declared.kinds.Hedge.{Hedge}
+use Rattle.hedge.specs.declared.hedge.Hedge.{Hedge}
 use Rattle.counter_models.specs.Pairs.{IsPairOf}
-use Rattle.counter_models.specs.declared.kinds.CounterPair.{CounterPair}
+use Rattle.counter_models.specs.declared.counter_pair.CounterPair.{CounterPair}
 use Rattle.id_recursion.specs.Answers.{effect_on, IsRightHedge}
 use Rattle.id_recursion.specs.Hedged.{IsHedgeOf}
 use Rattle.surrogate_theory.specs.Surrogates.{IsSurrogateBySteps, IsStoppedWith, IsFirstBlockedFor}
-use Rattle.surrogates.specs.declared.kinds.Surrogate.{Surrogate}
-use Rattle.surrogates.specs.declared.kinds.Surrogate.TheVariants as answers
+use Rattle.surrogates.specs.declared.answer.Surrogate.{Surrogate}
+use Rattle.surrogates.specs.declared.answer.Surrogate.TheVariants as answers
 
 -- each term of the formula is observed or under an experiment, the derivation turns P(y | do(x)) into it, and it equals the effect in each positive model of the graph, at each assignment
 pub record IsRightFormulaWith (g : MixedGraph) (zs : List ℕ) (x y : ℕ) (f : PlainFormula) (t : PlainDerivation) : Type 0 where

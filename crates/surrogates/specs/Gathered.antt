@@ -4,12 +4,12 @@ use Rattle.mixed_graph.specs.Graphs.{MixedGraph}
 use Rattle.mixed_graph.specs.declared.sets.VSet.{VSet}
 use Rattle.prob_expr.specs.View.{view, views}
 use Rattle.do_derivation.specs.View.{lemma_view}
-use Rattle.district_factors.specs.declared.kinds.FactorFault.{FactorFault}
-use Rattle.district_factors.specs.declared.kinds.FactorFault.TheVariants as faults
+use Rattle.district_factors.specs.declared.factor.FactorFault.{FactorFault}
+use Rattle.district_factors.specs.declared.factor.FactorFault.TheVariants as faults
 use Rattle.id_recursion.specs.Lists.{lists_view}
-use Rattle.id_recursion.specs.declared.kinds.Factors.{Factors}
-use Rattle.id_recursion.specs.declared.kinds.Stop.{Stop}
-use Rattle.id_recursion.specs.declared.kinds.Stop.TheVariants.{At, NoMemory}
+use Rattle.id_recursion.specs.declared.answer.Factors.{Factors}
+use Rattle.id_recursion.specs.declared.answer.Stop.{Stop}
+use Rattle.id_recursion.specs.declared.answer.Stop.TheVariants.{At, NoMemory}
 use Rattle.surrogate_theory.specs.Surrogates.{AreDerivedWith, StopsWith}
 
 -- the factors of these districts over the experiments, with their definitions and derivations

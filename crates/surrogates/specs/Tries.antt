@@ -4,9 +4,9 @@ use Rattle.mixed_graph.specs.Graphs.{MixedGraph}
 use Rattle.mixed_graph.specs.Masks.{is_apart}
 use Rattle.prob_expr.specs.View.{view}
 use Rattle.do_derivation.specs.View.{lemma_view, steps_view}
-use Rattle.district_factors.specs.declared.kinds.Factor.{Factor}
-use Rattle.district_factors.specs.declared.kinds.FactorFault.{FactorFault}
-use Rattle.district_factors.specs.declared.kinds.FactorFault.TheVariants.{Stopped, NoMemory}
+use Rattle.district_factors.specs.declared.factor.Factor.{Factor}
+use Rattle.district_factors.specs.declared.factor.FactorFault.{FactorFault}
+use Rattle.district_factors.specs.declared.factor.FactorFault.TheVariants.{Stopped, NoMemory}
 use Rattle.surrogate_theory.specs.Surrogates.{IsDerivedUnder, IsStoppedUnder, ComesFirst, AllStop}
 
 -- f is the factor of c under an intervention on z, with at most 64 definitions from number k on and with its derivation
@@ -50,6 +50,6 @@ abbrev pub IsFirstTried : MixedGraph → List ℕ → (c k : ℕ) → Factor →
 IsFirstTried g zs c k f = IsFirstOf g (0 ∷ zs) c k f
 
 -- c has no factor under any of them; without experiment it stops at big
-abbrev pub IsFirstFault : MixedGraph → List ℕ → (c : ℕ) → FactorFault → Type 0
-IsFirstFault g zs c (Stopped big) = IsStoppedUnder g 0 c big.bits × AllStop g c zs
-IsFirstFault g zs c NoMemory = Unit {0}
+abbrev pub IsBlockedFactor : MixedGraph → List ℕ → (c : ℕ) → FactorFault → Type 0
+IsBlockedFactor g zs c (Stopped big) = IsStoppedUnder g 0 c big.bits × AllStop g c zs
+IsBlockedFactor g zs c NoMemory = Unit {0}

@@ -12,8 +12,8 @@ ghost use Rattle.identification.specs.Procedure.{IsIdentified};
 ghost use Rattle.surrogate_theory.specs.Surrogates.{IsSurrogate, IsSurrogateBySteps, SomeBlocked};
 ghost use Rattle.surrogates.specs.Answers.{IsAnswerWith, IsRightWith, IfFormula, IfStopped, IsStopShown, is_stopped};
 
+use crate::answer::Surrogate;
 use crate::gathering::factors_with;
-use crate::kinds::Surrogate;
 use districts::districts;
 use id_recursion::{Stop, ancestors_outside, assembled, hedge_of, observed, order_of};
 use mixed_graph::{Graph, VSet};

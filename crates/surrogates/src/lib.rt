@@ -4,10 +4,10 @@
 //! `identify_with(alloc, &graph, x, y, &experiments)` gives the one or the other.
 #![tactic(auto)]
 
+mod answer;
 mod gathering;
 mod identifying;
-mod kinds;
 mod tries;
 
+pub use answer::Surrogate;
 pub use identifying::{are_experiments, identify_with};
-pub use kinds::Surrogate;

@@ -8,7 +8,7 @@ ghost use Rattle.districts.specs.Linked.{IsJoinedSet};
 ghost use Rattle.prob_expr.specs.Listed.{masks_of};
 ghost use Rattle.mixed_graph.specs.Masks.{is_apart};
 ghost use Rattle.surrogate_theory.specs.Surrogates.{IsStoppedUnder};
-ghost use Rattle.surrogates.specs.Tries.{IsTried, IsTryFault, IsAttempt, IsAttemptOf, IsFirstTried, IsFirstFault};
+ghost use Rattle.surrogates.specs.Tries.{IsTried, IsTryFault, IsAttempt, IsAttemptOf, IsFirstTried, IsBlockedFactor};
 
 use district_factors::{Factor, FactorFault, factor_under};
 use id_recursion::order_of;
@@ -112,7 +112,7 @@ fn after_stop(
     requires room { first + 64 < 2 ^ 32 }
     requires stopped { IsStoppedUnder (graph_of g.now) 0 c.bits big.bits }
     ensures tried { IfOk result (IsFirstTried (graph_of g.now) (masks_of experiments.now) c.bits first) }
-    ensures fault { IfErr result (IsFirstFault (graph_of g.now) (masks_of experiments.now) c.bits) }
+    ensures fault { IfErr result (IsBlockedFactor (graph_of g.now) (masks_of experiments.now) c.bits) }
 {
     let found = match attempt_each(alloc, g, experiments, c, first) {
         Ok(found) => found,
@@ -139,7 +139,7 @@ fn after_fault(
     requires room { first + 64 < 2 ^ 32 }
     requires fault { IsTryFault (graph_of g.now) 0 c.bits fault }
     ensures tried { IfOk result (IsFirstTried (graph_of g.now) (masks_of experiments.now) c.bits first) }
-    ensures fault { IfErr result (IsFirstFault (graph_of g.now) (masks_of experiments.now) c.bits) }
+    ensures fault { IfErr result (IsBlockedFactor (graph_of g.now) (masks_of experiments.now) c.bits) }
 {
     match fault {
         FactorFault::Stopped(big) => after_stop(alloc, g, experiments, c, first, big),
@@ -163,7 +163,7 @@ pub fn first_factor(
     requires joined { IsJoinedSet (graph_of g.now) c.bits }
     requires room { first + 64 < 2 ^ 32 }
     ensures tried { IfOk result (IsFirstTried (graph_of g.now) (masks_of experiments.now) c.bits first) }
-    ensures fault { IfErr result (IsFirstFault (graph_of g.now) (masks_of experiments.now) c.bits) }
+    ensures fault { IfErr result (IsBlockedFactor (graph_of g.now) (masks_of experiments.now) c.bits) }
 {
     match factor_without(alloc, g, VSet { bits: 0 }, c, first) {
         Ok(factor) => Ok(factor),

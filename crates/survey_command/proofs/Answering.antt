@@ -2,13 +2,13 @@
 use Rattle.std.proofs.Common.{ℕ, ◌≡◌, ◌↔◌, IsTrue, refl, subst}
 use Rattle.mixed_graph.specs.Graphs.{MixedGraph}
 use Rattle.hedge.specs.Hedges.{IsHedge}
-use Rattle.hedge.specs.declared.kinds.Hedge.{Hedge as HedgeData}
+use Rattle.hedge.specs.declared.hedge.Hedge.{Hedge as HedgeData}
 use Rattle.mixed_graph.specs.Masks.{one}
 use Rattle.prob_expr.specs.View.{formula_view}
 use Rattle.do_derivation.specs.View.{derivation_view}
 use Rattle.id_recursion.specs.Answers.{IsRight, is_hedge}
-use Rattle.id_recursion.specs.declared.kinds.Answer.{Answer}
-use Rattle.id_recursion.specs.declared.kinds.Answer.TheVariants.{Formula, Hedge}
+use Rattle.id_recursion.specs.declared.answer.Answer.{Answer}
+use Rattle.id_recursion.specs.declared.answer.Answer.TheVariants.{Formula, Hedge}
 use Rattle.survey_command.specs.Tallies.{IsAnswerFor}
 
 -- a hedge is answered exactly where there is one, and otherwise a right formula

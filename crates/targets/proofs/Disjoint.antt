@@ -5,7 +5,7 @@ use Rattle.std.proofs.lemmas.Bool.{and_right}
 use Rattle.mixed_graph.specs.Bits.{has}
 use Rattle.mixed_graph.specs.Sets.{Within, Apart}
 use Rattle.mixed_graph.proofs.Masks.{has-zero}
-use Rattle.targets.specs.Targets.{Lists, AreSets, RuleLists, AreRuleSets, IsSetOf}
+use Rattle.targets.specs.Targets.{Lists, AreSets, RuleLists, AreRuleSets, IsListedSet}
 use Rattle.targets.proofs.Queries.{set_within}
 use Rattle.targets.proofs.RuleWalks.{pairwise_apart}
 
@@ -27,11 +27,11 @@ pub record DisjointRuleSets (n x y z w : ℕ) : Type 0 where
   pub z_w : Apart (has z) (has w)
 
 -- a set of a list, among n vertices
-within : (observed list : List (List ℕ)) (n mask : ℕ) → length observed ≡ n → IsSetOf observed list mask → Within n (has mask)
+within : (observed list : List (List ℕ)) (n mask : ℕ) → length observed ≡ n → IsListedSet observed list mask → Within n (has mask)
 within observed list n mask e h = subst (λ k. Within k (has mask)) e (set_within observed list mask h)
 
 -- nothing is in the set of no name
-set_of_none : (observed : List (List ℕ)) → IsSetOf observed [] 0
+set_of_none : (observed : List (List ℕ)) → IsListedSet observed [] 0
 set_of_none observed v = has-zero v ∙ sym (and_right (nat_lt v (length observed)) false refl)
 
 pub disjoint_rule_sets : (l : RuleLists) (n y done z given : ℕ) → length l.observed ≡ n → AreRuleSets l y done z given → DisjointRuleSets n done y z given

@@ -5,7 +5,7 @@ use Rattle.mixed_graph.specs.Sets.{Within, Apart}
 use Rattle.mixed_graph.specs.Names.{is_named, index_of}
 use Rattle.targets.specs.declared.fault.TargetFault.{TargetFault}
 use Rattle.targets.specs.declared.fault.TargetFault.TheVariants.{Unknown, Latent, Twice, EmptyY, EmptyX, NotOneX, Bidirected, OtherNames, NoMemory}
-use Rattle.targets.specs.Targets.{NameFault, first_fault, walked_in, IsSetOf, IsNameFault, Lists, AreSets, EffectLists, effect_fault, AreEffectSets, IsEffectFaultOrMemory}
+use Rattle.targets.specs.Targets.{NameFault, first_fault, walked_in, IsListedSet, IsNameFault, Lists, AreSets, EffectLists, effect_fault, AreEffectSets, IsEffectFaultOrMemory}
 use Rattle.targets.proofs.Walking.{same_first_fault}
 use Rattle.targets.proofs.Queries.{set_within}
 use Rattle.targets.proofs.RuleWalks.{after_list, not_walked, behind, sets_apart, some_in}
@@ -16,7 +16,7 @@ pub effect_walked : (l : EffectLists) (empty : ℕ) → ((v : ℕ) → has empty
 effect_walked l empty none = same_first_fault l.all l.observed (λ n. false) (walked_in l.observed empty) (λ m h. sym (none (index_of l.observed m))) (l.x ++ l.y)
 
 -- the first list is without fault
-pub effect_after_x : (l : EffectLists) (empty x : ℕ) → ((v : ℕ) → has empty v ≡ false) → first_fault l.all l.observed (walked_in l.observed empty) l.x ≡ None → IsSetOf l.observed l.x x →
+pub effect_after_x : (l : EffectLists) (empty x : ℕ) → ((v : ℕ) → has empty v ≡ false) → first_fault l.all l.observed (walked_in l.observed empty) l.x ≡ None → IsListedSet l.observed l.x x →
     effect_fault l ≡ first_fault l.all l.observed (walked_in l.observed x) l.y
 effect_after_x l empty x none clear s =
     effect_walked l empty none ∙ after_list l.all l.observed empty x x l.x l.y clear s (λ v. sym (ap (λ b. b || has x v) (none v)))

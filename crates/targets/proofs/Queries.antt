@@ -8,7 +8,7 @@ use Rattle.mixed_graph.specs.Sets.{Within}
 use Rattle.mixed_graph.specs.Names.{is_named, index_of, name_of}
 use Rattle.targets.specs.declared.fault.TargetFault.{TargetFault}
 use Rattle.targets.specs.declared.fault.TargetFault.TheVariants.{Unknown, Latent, Twice, EmptyY, EmptyX, NotOneX, Bidirected, OtherNames, NoMemory}
-use Rattle.targets.specs.Targets.{NameFault, name_fault, or_fault, first_fault, walked_in, IsSetOf, IsNameFault, Lists, fault_in, IsFaultOrMemory}
+use Rattle.targets.specs.Targets.{NameFault, name_fault, or_fault, first_fault, walked_in, IsListedSet, IsNameFault, Lists, fault_in, IsFaultOrMemory}
 use Rattle.targets.proofs.Walking.{named_here, same_first_fault}
 
 or_fault_assoc : (a b c : Option NameFault) → or_fault (or_fault a b) c ≡ or_fault a (or_fault b c)
@@ -44,14 +44,14 @@ named_below (x ∷ xs) n h = go (bytes_eq n x) refl (named_below xs n)
     go false e later = let there : is_named xs n ≡ true = rw e at h in omega (arith, later there)
 
 -- whether an observed name is in the list, by the set of the list
-pub set_test : (observed list : List (List ℕ)) (mask : ℕ) → IsSetOf observed list mask → (m : List ℕ) → is_named observed m ≡ true → walked_in observed mask m ≡ is_named list m
+pub set_test : (observed list : List (List ℕ)) (mask : ℕ) → IsListedSet observed list mask → (m : List ℕ) → is_named observed m ≡ true → walked_in observed mask m ≡ is_named list m
 set_test observed list mask s m h =
     s (index_of observed m)
     ∙ ap (λ b. b && is_named list (name_of observed (index_of observed m))) (lt-ltb (index_of observed m) (length observed) (named_below observed m h))
     ∙ ap (is_named list) (named_here observed m h)
 
 -- a set of listed names is within the observed vertices
-pub set_within : (observed list : List (List ℕ)) (mask : ℕ) → IsSetOf observed list mask → Within (length observed) (has mask)
+pub set_within : (observed list : List (List ℕ)) (mask : ℕ) → IsListedSet observed list mask → Within (length observed) (has mask)
 set_within observed list mask s v h = ltb-true v (length observed) (front (nat_lt v (length observed)) (is_named list (name_of observed v)) (sym (s v) ∙ h))
   where
     front : (a b : Bool) → (a && b) ≡ true → a ≡ true
@@ -67,7 +67,7 @@ query_first l empty none =
     (same_first_fault l.all l.observed (λ n. false) (walked_in l.observed empty) (λ m h. sym (none (index_of l.observed m))) l.x)
 
 -- the second list, behind a first one without fault
-pub query_second : (l : Lists) (x : ℕ) → IsSetOf l.observed l.x x →
+pub query_second : (l : Lists) (x : ℕ) → IsListedSet l.observed l.x x →
     first_fault l.all l.observed (λ m. false || is_named l.x m) (l.y ++ l.given)
     ≡ or_fault (first_fault l.all l.observed (walked_in l.observed x) l.y) (first_fault l.all l.observed (λ m. is_named l.x m || is_named l.y m) l.given)
 query_second l x s =
@@ -76,7 +76,7 @@ query_second l x s =
     (same_first_fault l.all l.observed (λ m. false || is_named l.x m) (walked_in l.observed x) (λ m h. sym (set_test l.observed l.x x s m h)) l.y)
 
 -- the third list, behind two without fault
-pub query_third : (l : Lists) (x y both : ℕ) → IsSetOf l.observed l.x x → IsSetOf l.observed l.y y → ((v : ℕ) → has both v ≡ (has x v || has y v)) →
+pub query_third : (l : Lists) (x y both : ℕ) → IsListedSet l.observed l.x x → IsListedSet l.observed l.y y → ((v : ℕ) → has both v ≡ (has x v || has y v)) →
     first_fault l.all l.observed (λ m. is_named l.x m || is_named l.y m) l.given ≡ first_fault l.all l.observed (walked_in l.observed both) l.given
 query_third l x y both sx sy is = same_first_fault l.all l.observed (λ m. is_named l.x m || is_named l.y m) (walked_in l.observed both)
     (λ m h. joined (is_named l.x m) (is_named l.y m) (has x (index_of l.observed m)) (has y (index_of l.observed m)) _ (is (index_of l.observed m))
@@ -99,7 +99,7 @@ fault_of_query l o NoMemory e h = tt
 
 -- the first list is without fault: what is left of the query
 pub query_after_first : (l : Lists) (empty x : ℕ) → ((v : ℕ) → has empty v ≡ false) →
-    first_fault l.all l.observed (walked_in l.observed empty) l.x ≡ None → IsSetOf l.observed l.x x →
+    first_fault l.all l.observed (walked_in l.observed empty) l.x ≡ None → IsListedSet l.observed l.x x →
     fault_in l ≡ or_fault (first_fault l.all l.observed (walked_in l.observed x) l.y) (first_fault l.all l.observed (λ m. is_named l.x m || is_named l.y m) l.given)
 query_after_first l empty x none clear s =
     query_first l empty none
@@ -108,8 +108,8 @@ query_after_first l empty x none clear s =
 
 -- the first two lists are without fault: what is left of the query
 pub query_after_second : (l : Lists) (empty x y both : ℕ) → ((v : ℕ) → has empty v ≡ false) →
-    first_fault l.all l.observed (walked_in l.observed empty) l.x ≡ None → IsSetOf l.observed l.x x →
-    first_fault l.all l.observed (walked_in l.observed x) l.y ≡ None → IsSetOf l.observed l.y y → ((v : ℕ) → has both v ≡ (has x v || has y v)) →
+    first_fault l.all l.observed (walked_in l.observed empty) l.x ≡ None → IsListedSet l.observed l.x x →
+    first_fault l.all l.observed (walked_in l.observed x) l.y ≡ None → IsListedSet l.observed l.y y → ((v : ℕ) → has both v ≡ (has x v || has y v)) →
     fault_in l ≡ first_fault l.all l.observed (walked_in l.observed both) l.given
 query_after_second l empty x y both none clear_x sx clear_y sy is =
     query_after_first l empty x none clear_x sx

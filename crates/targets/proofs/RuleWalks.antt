@@ -10,13 +10,13 @@ use Rattle.mixed_graph.specs.Sets.{Apart}
 use Rattle.mixed_graph.specs.Names.{is_named, index_of, name_of}
 use Rattle.targets.specs.declared.fault.TargetFault.{TargetFault}
 use Rattle.targets.specs.declared.fault.TargetFault.TheVariants.{Unknown, Latent, Twice, EmptyY, EmptyX, NotOneX, Bidirected, OtherNames, NoMemory}
-use Rattle.targets.specs.Targets.{NameFault, name_fault, or_fault, first_fault, walked_in, IsSetOf, IsNameFault, RuleLists, rule_fault, AreRuleSets, IsRuleFaultOrMemory}
+use Rattle.targets.specs.Targets.{NameFault, name_fault, or_fault, first_fault, walked_in, IsListedSet, IsNameFault, RuleLists, rule_fault, AreRuleSets, IsRuleFaultOrMemory}
 use Rattle.targets.proofs.Walking.{same_first_fault, no_fault}
 use Rattle.targets.proofs.Queries.{first_fault-append, set_test}
 
 -- a list without fault: what is left is walked behind its set
 pub after_list : (all observed : List (List ℕ)) (before set now : ℕ) (list later : List (List ℕ)) →
-    first_fault all observed (walked_in observed before) list ≡ None → IsSetOf observed list set → ((v : ℕ) → has now v ≡ (has before v || has set v)) →
+    first_fault all observed (walked_in observed before) list ≡ None → IsListedSet observed list set → ((v : ℕ) → has now v ≡ (has before v || has set v)) →
     first_fault all observed (walked_in observed before) (list ++ later) ≡ first_fault all observed (walked_in observed now) later
 after_list all observed before set now list later clear s is =
     first_fault-append all observed (walked_in observed before) list later
@@ -31,7 +31,7 @@ from_none l empty none = same_first_fault l.all l.observed (λ n. false) (walked
     (λ m h. sym (none (index_of l.observed m))) (l.y ++ (l.done ++ (l.z ++ l.given)))
 
 -- the first list is without fault
-pub after_y : (l : RuleLists) (empty y : ℕ) → ((v : ℕ) → has empty v ≡ false) → first_fault l.all l.observed (walked_in l.observed empty) l.y ≡ None → IsSetOf l.observed l.y y →
+pub after_y : (l : RuleLists) (empty y : ℕ) → ((v : ℕ) → has empty v ≡ false) → first_fault l.all l.observed (walked_in l.observed empty) l.y ≡ None → IsListedSet l.observed l.y y →
     rule_fault l ≡ first_fault l.all l.observed (walked_in l.observed y) (l.done ++ (l.z ++ l.given))
 after_y l empty y none clear s =
     from_none l empty none
@@ -76,7 +76,7 @@ pub behind : (all observed : List (List ℕ)) (walked : List ℕ → Bool) (list
 behind all observed walked list later clear = neither _ _ (sym (first_fault-append all observed walked list later) ∙ clear)
 
 -- sets of lists of which no name stands in both are disjoint
-pub sets_apart : (observed a b : List (List ℕ)) (s t : ℕ) → IsSetOf observed a s → IsSetOf observed b t →
+pub sets_apart : (observed a b : List (List ℕ)) (s t : ℕ) → IsListedSet observed a s → IsListedSet observed b t →
     ((m : List ℕ) → is_named b m ≡ true → is_named a m ≡ false) → Apart (has s) (has t)
 sets_apart observed a b s t is_s is_t distinct v hs =
     is_t v ∙ go (nat_lt v (length observed)) (is_named a (name_of observed v)) (is_named b (name_of observed v)) (sym (is_s v) ∙ hs) (distinct (name_of observed v))
@@ -126,7 +126,7 @@ pairwise_apart l y done z given s =
 
 -- the set of a list that isn't empty has a member
 pub some_in : (all observed : List (List ℕ)) (walked : List ℕ → Bool) (list : List (List ℕ)) (mask : ℕ) → first_fault all observed walked list ≡ None →
-    (list ≡ [] → ⊥) → IsSetOf observed list mask → 0 < mask
+    (list ≡ [] → ⊥) → IsListedSet observed list mask → 0 < mask
 some_in all observed walked [] mask clear some s = absurd (some refl)
 some_in all observed walked (n ∷ ns) mask clear some s =
     let here = (no_fault all observed walked n (neither (name_fault all observed walked n) (first_fault all observed (λ k. walked k || bytes_eq k n) ns) clear).0).0 in

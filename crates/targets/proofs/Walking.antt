@@ -12,7 +12,7 @@ use Rattle.std.specs.Global.{Vec}
 use Rattle.mixed_graph.specs.Names.{texts}
 use Rattle.targets.specs.declared.fault.TargetFault.{TargetFault}
 use Rattle.targets.specs.declared.fault.TargetFault.TheVariants.{Unknown, Latent, Twice, EmptyY, EmptyX, NotOneX, Bidirected, OtherNames, NoMemory}
-use Rattle.targets.specs.Targets.{IsNameFault, NameFault, unknown, latent, twice, name_fault, or_fault, first_fault, walked_in, IsSetOf}
+use Rattle.targets.specs.Targets.{IsNameFault, NameFault, unknown, latent, twice, name_fault, or_fault, first_fault, walked_in, IsListedSet}
 
 same_from : (m n : List ℕ) → bytes_eq m n ≡ true → m ≡ n
 same_from m n = (bytes_eq-Decides m n).0
@@ -128,7 +128,7 @@ walking_more all observed are walked set now set' list rest n now_is set_is none
     joined s' false e b r p q = rw (p, q) refl
 
 -- the walk at its end
-pub walking_done : (all observed : List (List ℕ)) (walked set : ℕ) (list : List (List ℕ)) → IsWalking all observed walked set list [] → IsSetOf observed list set
+pub walking_done : (all observed : List (List ℕ)) (walked set : ℕ) (list : List (List ℕ)) → IsWalking all observed walked set list [] → IsListedSet observed list set
 walking_done all observed walked set list w v = elim (cases_Bool (nat_lt v (length observed))) [
   | inl b ↦ let m = w.made v (lt_from b) in ends (has set v) (is_named list (name_of observed v)) (nat_lt v (length observed)) b m
   | inr b ↦ outside (has set v) (is_named list (name_of observed v)) (nat_lt v (length observed)) b (λ h. lt-ltb v (length observed) (w.within v h))

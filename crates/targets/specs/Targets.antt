@@ -47,8 +47,8 @@ IsNameFault o (OtherNames t) = ⊥
 IsNameFault o NoMemory = Unit {0}
 
 -- the mask holds the observed vertices whose names are listed
-abbrev pub IsSetOf : List (List ℕ) → List (List ℕ) → ℕ → Type 0
-IsSetOf observed list mask = (v : ℕ) → has mask v ≡ (nat_lt v (length observed) && is_named list (name_of observed v))
+abbrev pub IsListedSet : List (List ℕ) → List (List ℕ) → ℕ → Type 0
+IsListedSet observed list mask = (v : ℕ) → has mask v ≡ (nat_lt v (length observed) && is_named list (name_of observed v))
 
 -- the lists of a query, with the names of the graph and those that are observed
 pub record Lists : Type 0 where
@@ -67,25 +67,25 @@ pub record AreSets (l : Lists) (x y given : ℕ) : Type 0 where
   pub no_fault : fault_in l ≡ None
   pub some_y : l.y ≡ [] → ⊥
   pub some_x : l.x ≡ [] → ⊥
-  pub set_x : IsSetOf l.observed l.x x
-  pub set_y : IsSetOf l.observed l.y y
-  pub set_given : IsSetOf l.observed l.given given
+  pub set_x : IsListedSet l.observed l.x x
+  pub set_y : IsListedSet l.observed l.y y
+  pub set_given : IsListedSet l.observed l.given given
 
 -- the fault is that of the first name at fault; else y is empty; else x is empty
-abbrev pub IsFaultOf : Option NameFault → (y x : List (List ℕ)) → TargetFault → Type 0
-IsFaultOf first y x (Unknown t) = first ≡ Some (unknown t)
-IsFaultOf first y x (Latent t) = first ≡ Some (latent t)
-IsFaultOf first y x (Twice t) = first ≡ Some (twice t)
-IsFaultOf first y x EmptyY = (first ≡ None) × (y ≡ [])
-IsFaultOf first y x EmptyX = (first ≡ None) × (y ≡ [] → ⊥) × (x ≡ [])
-IsFaultOf first y x NotOneX = ⊥
-IsFaultOf first y x (Bidirected a b) = ⊥
-IsFaultOf first y x (OtherNames t) = ⊥
-IsFaultOf first y x NoMemory = ⊥
+abbrev pub IsFaultOfTarget : Option NameFault → (y x : List (List ℕ)) → TargetFault → Type 0
+IsFaultOfTarget first y x (Unknown t) = first ≡ Some (unknown t)
+IsFaultOfTarget first y x (Latent t) = first ≡ Some (latent t)
+IsFaultOfTarget first y x (Twice t) = first ≡ Some (twice t)
+IsFaultOfTarget first y x EmptyY = (first ≡ None) × (y ≡ [])
+IsFaultOfTarget first y x EmptyX = (first ≡ None) × (y ≡ [] → ⊥) × (x ≡ [])
+IsFaultOfTarget first y x NotOneX = ⊥
+IsFaultOfTarget first y x (Bidirected a b) = ⊥
+IsFaultOfTarget first y x (OtherNames t) = ⊥
+IsFaultOfTarget first y x NoMemory = ⊥
 
 -- the fault of a query
 abbrev pub IsTargetFault : Lists → TargetFault → Type 0
-IsTargetFault l f = IsFaultOf (fault_in l) l.y l.x f
+IsTargetFault l f = IsFaultOfTarget (fault_in l) l.y l.x f
 
 -- the fault of a query; want of memory may stand in its place
 abbrev pub IsFaultOrMemory : Lists → TargetFault → Type 0
@@ -110,14 +110,14 @@ pub record AreRuleSets (l : RuleLists) (y done z given : ℕ) : Type 0 where
   pub no_fault : rule_fault l ≡ None
   pub some_y : l.y ≡ [] → ⊥
   pub some_z : l.z ≡ [] → ⊥
-  pub set_y : IsSetOf l.observed l.y y
-  pub set_done : IsSetOf l.observed l.done done
-  pub set_z : IsSetOf l.observed l.z z
-  pub set_given : IsSetOf l.observed l.given given
+  pub set_y : IsListedSet l.observed l.y y
+  pub set_done : IsListedSet l.observed l.done done
+  pub set_z : IsListedSet l.observed l.z z
+  pub set_given : IsListedSet l.observed l.given given
 
 -- the fault of the lists of a rule, where z stands in the place of x
 abbrev pub IsRuleFault : RuleLists → TargetFault → Type 0
-IsRuleFault l f = IsFaultOf (rule_fault l) l.y l.z f
+IsRuleFault l f = IsFaultOfTarget (rule_fault l) l.y l.z f
 
 -- the fault of the lists of a rule; want of memory may stand in its place
 abbrev pub IsRuleFaultOrMemory : RuleLists → TargetFault → Type 0
@@ -139,13 +139,13 @@ effect_fault l = first_fault l.all l.observed (λ n. false) (l.x ++ l.y)
 pub record AreEffectSets (l : EffectLists) (x y : ℕ) : Type 0 where
   pub no_fault : effect_fault l ≡ None
   pub some_y : l.y ≡ [] → ⊥
-  pub set_x : IsSetOf l.observed l.x x
-  pub set_y : IsSetOf l.observed l.y y
+  pub set_x : IsListedSet l.observed l.x x
+  pub set_y : IsListedSet l.observed l.y y
 
 -- the fault of the lists of an effect, for which an empty x is none
 abbrev pub IsEffectFault : EffectLists → TargetFault → Type 0
 IsEffectFault l EmptyX = ⊥
-IsEffectFault l f = IsFaultOf (effect_fault l) l.y l.x f
+IsEffectFault l f = IsFaultOfTarget (effect_fault l) l.y l.x f
 
 -- the fault of the lists of an effect; want of memory may stand in its place
 abbrev pub IsEffectFaultOrMemory : EffectLists → TargetFault → Type 0

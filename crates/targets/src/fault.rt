@@ -1,8 +1,12 @@
-ghost use Rattle.std.specs.Prelude.{Some};
+ghost use Rattle.std.specs.Prelude.{◌≡◌, ◌∷◌, ◌++◌, codes, Some, IfOk, OnOk};
+ghost use Rattle.name_text.specs.Printing.{printed};
+ghost use Rattle.name_text.specs.Lines.{line_of, second};
 ghost use Rattle.targets.specs.Targets.{IsNameFault, unknown, latent, twice};
+ghost use Rattle.targets.specs.FaultTexts.{target_fault_text};
 
 use mixed_graph::Text;
-use std::alloc::Global;
+use name_text::{push_name, refusal_line, second_line, with_name};
+use std::alloc::{AllocError, Global};
 
 /// What keeps listed names from being sets that a command works on.
 #[derive(Drop)]
@@ -25,6 +29,52 @@ pub enum TargetFault {
     OtherNames(Text),
     /// Memory was refused.
     NoMemory,
+}
+
+impl TargetFault {
+    /// The line that says what is wrong, as `causal: target fault 1: Z` with a line feed. The error is want of memory, which has no line.
+    pub fn line(&self, alloc: Global) -> Result<Vec<u8>, AllocError>
+        ensures line { IfOk result (λ v. v.items ≡ line_of (target_fault_text self.now)) }
+        ensures memory { OnOk result (self.now ≡ TargetFault.NoMemory → ⊥) }
+    {
+        refusal_line(alloc, &self.text(alloc)?)
+    }
+
+    /// The same of the names of the second of two graphs, as `causal: second target fault 8: Z`.
+    pub fn second_line(&self, alloc: Global) -> Result<Vec<u8>, AllocError>
+        ensures line { IfOk result (λ v. v.items ≡ line_of (second (target_fault_text self.now))) }
+        ensures memory { OnOk result (self.now ≡ TargetFault.NoMemory → ⊥) }
+    {
+        second_line(alloc, &self.text(alloc)?)
+    }
+
+    /// What is wrong.
+    fn text(&self, alloc: Global) -> Result<Vec<u8>, AllocError>
+        ensures text { IfOk result (λ v. v.items ≡ target_fault_text self.now) }
+        ensures memory { OnOk result (self.now ≡ TargetFault.NoMemory → ⊥) }
+    {
+        match self {
+            TargetFault::Unknown(name) => with_name(alloc, "target fault 1: ", name.bytes()),
+            TargetFault::Latent(name) => with_name(alloc, "target fault 2: ", name.bytes()),
+            TargetFault::Twice(name) => with_name(alloc, "target fault 3: ", name.bytes()),
+            TargetFault::EmptyY => Vec::from_slice(alloc, b"target fault 4"),
+            TargetFault::EmptyX => Vec::from_slice(alloc, b"target fault 5"),
+            TargetFault::NotOneX => Vec::from_slice(alloc, b"target fault 6"),
+            TargetFault::Bidirected(a, b) => edge_text(alloc, a, b),
+            TargetFault::OtherNames(name) => with_name(alloc, "target fault 8: ", name.bytes()),
+            TargetFault::NoMemory => Err(AllocError),
+        }
+    }
+}
+
+/// The text of the fault of a bidirected edge.
+fn edge_text(alloc: Global, a: &Text, b: &Text) -> Result<Vec<u8>, AllocError>
+    ensures { IfOk result (λ v. v.items ≡ codes "target fault 7: " ++ (printed a.now ++ 32 ∷ printed b.now)) }
+{
+    let mut text = with_name(alloc, "target fault 7: ", a.bytes())?;
+    text.push(b' ')?;
+    push_name(&mut text, b.bytes())?;
+    Ok(text)
 }
 
 /// A name isn't in the graph.

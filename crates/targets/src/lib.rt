@@ -6,7 +6,7 @@
 ghost use Rattle.std.specs.Prelude.{◌≡◌, ◌<◌, ℕ, IsTrue, false, true, length, IfOk, IfErr, OnOk, None, Some, ◌||◌};
 ghost use Rattle.mixed_graph.specs.Bits.{has};
 ghost use Rattle.mixed_graph.specs.Names.{AreNames, is_named, index_of, texts};
-ghost use Rattle.targets.specs.Targets.{first_fault, name_fault, IsSetOf, IsNameFault, walked_in};
+ghost use Rattle.targets.specs.Targets.{first_fault, name_fault, IsListedSet, IsNameFault, walked_in};
 
 mod fault;
 mod query;
@@ -31,7 +31,7 @@ pub fn walk(
     list: &[Vec<u8>],
 ) -> Result<VSet, TargetFault>
     ensures none { OnOk result (first_fault all.now observed.now (walked_in observed.now walked.bits) (texts list.now) ≡ None) }
-    ensures set { IfOk result (λ s. IsSetOf observed.now (texts list.now) s.bits) }
+    ensures set { IfOk result (λ s. IsListedSet observed.now (texts list.now) s.bits) }
     ensures fault { IfErr result (IsNameFault (first_fault all.now observed.now (walked_in observed.now walked.bits) (texts list.now))) }
 {
     let mut set = VSet::empty();

@@ -3,9 +3,7 @@
 use crate::fields::{add_text, names_in, text_in};
 use anyhow::{Context, Result, bail};
 use certificate::{CertFault, read_answer};
-use certificate_fault_text::{certificate_line, certificate_size_line};
-use count_rows::read_rows;
-use fault_text::{counts_line, counts_size_line};
+use count_rows::{CountFault, read_rows};
 use mixed_graph::{Names, VSet};
 use serde_json::Value;
 use std::alloc::Global;
@@ -26,7 +24,7 @@ fn add_certificate(alloc: Global, line: &mut Vec<u8>, names: &Names, text: &[u8]
     match read_answer(alloc, text, names) {
         Ok(_) => add_text(line, "read"),
         Err(fault) => {
-            let refused = certificate_line(alloc, &fault)?;
+            let refused = fault.line(alloc)?;
             line.extend_from_slice(&refused)?;
             Ok(())
         }
@@ -59,7 +57,7 @@ fn add_counts(alloc: Global, line: &mut Vec<u8>, names: &Names, text: &[u8]) -> 
     match read_rows(alloc, text, names, used, Some(b"count")) {
         Ok(_) => add_text(line, "read"),
         Err(fault) => {
-            let refused = counts_line(alloc, &fault)?;
+            let refused = fault.line(alloc)?;
             line.extend_from_slice(&refused)?;
             Ok(())
         }
@@ -87,12 +85,12 @@ pub(crate) fn add_answer(
 ) -> Result<()> {
     match text_in(case, "call")? {
         "certificate_size_line" => {
-            let size = certificate_size_line(alloc)?;
+            let size = CertFault::size_line(alloc)?;
             line.extend_from_slice(&size)?;
             Ok(())
         }
         "counts_size_line" => {
-            let size = counts_size_line(alloc)?;
+            let size = CountFault::size_line(alloc)?;
             line.extend_from_slice(&size)?;
             Ok(())
         }

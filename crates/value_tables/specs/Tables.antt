@@ -24,7 +24,7 @@ abbrev pub AreTables : {Q : Type 0} → (Q → Pair) → Kind → ℕ → Table 
 AreTables {Q} numbers kind n t ds tables = (k : ℕ) (x : DefinitionTable Q) → k < length tables → x ≡ get_or tables k x → IsTableOf numbers kind n t ds k x.places x.values.items
 
 -- what is kept with sums of a table of counts and with the tables of a formula's first definitions
-pub record AreKept {Q : Type 0} (numbers : Q → Pair) (kind : Kind) (n : ℕ) (t : Table) (f : PlainFormula) (summed : Table) (tables : List (DefinitionTable Q)) : Type 0 where
+pub record AreKeptTables {Q : Type 0} (numbers : Q → Pair) (kind : Kind) (n : ℕ) (t : Table) (f : PlainFormula) (summed : Table) (tables : List (DefinitionTable Q)) : Type 0 where
   pub evaluable : IsEvaluable n t f
   pub counts : AreCounts t
   pub sums : summed ≡ t
@@ -37,5 +37,5 @@ cells_of tables = sum_by (λ x. cells_over x.places) tables
 -- Tables of sums and of definitions, and the set of the used vertices. All tables together have at most 2^22 cells.
 pub record IsPrepared {Q : Type 0} (numbers : Q → Pair) (kind : Kind) (n : ℕ) (t : Table) (f : PlainFormula) (used : ℕ) (sums : Margins) (tables : List (DefinitionTable Q)) : Type 0 where
   pub members : members_below (has used) 64 ≡ t.vertices
-  pub kept : AreKept numbers kind n t f sums.table tables
+  pub kept : AreKeptTables numbers kind n t f sums.table tables
   pub few : cells_in sums + cells_of tables ≤ 2 ^ 22

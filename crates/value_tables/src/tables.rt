@@ -7,7 +7,7 @@ ghost use Rattle.count_eval.specs.Answers.{IsEvaluable};
 ghost use Rattle.count_eval.specs.Programs.{weights_in, is_used, cell_of, known};
 ghost use Rattle.sum_tables.specs.Axes.{axes_of, cells_over};
 ghost use Rattle.sum_tables.specs.Sums.{cells_in};
-ghost use Rattle.value_tables.specs.Tables.{IsTableOf, AreKept, cells_of};
+ghost use Rattle.value_tables.specs.Tables.{IsTableOf, AreKeptTables, cells_of};
 
 use crate::table::DefinitionTable;
 use crate::terms::add_terms;
@@ -37,7 +37,7 @@ pub(crate) struct Tables<'a, 'b, Q: Quantity> {
 impl<'a, 'b, Q: Quantity> Model for Tables<'a, 'b, Q> {
     ghost use Rattle.prob_expr.specs.View.{formula_view};
     ghost use Rattle.value_tables.specs.Preparations.{Preparation, coded_preparation};
-    ghost use Rattle.value_tables.specs.Tables.{AreKept};
+    ghost use Rattle.value_tables.specs.Tables.{AreKeptTables};
 
     ghost Value = { Preparation };
 
@@ -45,7 +45,7 @@ impl<'a, 'b, Q: Quantity> Model for Tables<'a, 'b, Q> {
 
     ghost view = { λ s. record { vertices = s.vertices; counts = s.counts.now; formula = formula_view s.formula.now } };
 
-    ghost invariant = { λ s. AreKept Q.numbers Q.kind s.vertices s.counts.now (formula_view s.formula.now) s.sums.now.table s.definitions.now };
+    ghost invariant = { λ s. AreKeptTables Q.numbers Q.kind s.vertices s.counts.now (formula_view s.formula.now) s.sums.now.table s.definitions.now };
 }
 
 impl<'a, 'b, Q: Quantity> Lookup<Q> for Tables<'a, 'b, Q> {
@@ -140,7 +140,7 @@ pub(crate) fn tables_of<'a, Q: Quantity>(
     requires sums { sums.old.table ≡ c.now }
     requires few { cells_in sums.old ≤ 2 ^ 22 }
     ensures table { sums.new.table ≡ c.now }
-    ensures kept { IfOk result (λ made. AreKept Q.numbers Q.kind n c.now (formula_view f.now) c.now made.tables.items) }
+    ensures kept { IfOk result (λ made. AreKeptTables Q.numbers Q.kind n c.now (formula_view f.now) c.now made.tables.items) }
     ensures cells { IfOk result (λ made. made.cells ≡ cells_of made.tables.items) }
     ensures few { IfOk result (λ made. cells_in sums.new + made.cells ≤ 2 ^ 22) }
 {

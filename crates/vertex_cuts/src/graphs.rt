@@ -4,7 +4,7 @@ ghost use Rattle.mixed_graph.specs.Sets.{Within};
 ghost use Rattle.vertex_cuts.specs.Frames.{IsFrame};
 ghost use Rattle.vertex_cuts.specs.Rows.{joins};
 
-use mixed_graph::VSet;
+use mixed_graph::{Rows, VSet};
 
 /// An undirected graph, two sets of its vertices that are to be cut apart, and the vertices that a cut may have.
 ///
@@ -12,7 +12,7 @@ use mixed_graph::VSet;
 #[derive(Drop)]
 pub struct CutGraph {
     pub n: u8,
-    pub near: [u64; 64],
+    pub near: Rows,
     pub allowed: VSet,
     pub x: VSet,
     pub y: VSet,

@@ -8,7 +8,7 @@ mod listing;
 mod places;
 mod steps;
 
-pub use floods::{beside, flood};
+pub use floods::beside;
 pub use graphs::CutGraph;
 pub use listing::{Listing, list_cuts};
 pub use steps::Steps;

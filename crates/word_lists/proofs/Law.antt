@@ -8,8 +8,8 @@ use Rattle.std.specs.List.{list_all}
 use Rattle.std.specs.Str.{bytes_eq}
 use Rattle.std.proofs.lemmas.Bool.Decides.{nat_tests}
 use Rattle.std.proofs.lemmas.Slice.Eq.{bytes_eq-Decides}
-use Rattle.word_lists.specs.declared.Place.{Place}
-use Rattle.word_lists.specs.declared.Place.TheVariants.{Due, Plain, Inside, Closed}
+use Rattle.word_lists.specs.declared.Position.{Position}
+use Rattle.word_lists.specs.declared.Position.TheVariants.{Due, Plain, Inside, Closed}
 use Rattle.word_lists.specs.Lists.{Item, bare, quoted, name_of, text_of, is_some_text, is_bare_byte, is_quoted_byte, is_item, more_text, list_text, IsItems, IsList}
 use Rattle.word_lists.specs.Walk.{Names, names_of, is_none, with_name, list_of}
 use Rattle.std.proofs.lemmas.List.{append-nil}
@@ -39,7 +39,7 @@ quoted_rest (b ∷ bs) name rest h =
     rw (not-true _ p.0) (quoted_rest bs (name ++ b ∷ []) rest p.1 ∙ ap (λ (n : List ℕ). names_of Inside n rest) (append_assoc name (b ∷ []) bs))
 
 -- where an item ends
-abbrev closing : Item → Place
+abbrev closing : Item → Position
 closing (bare name) = Plain
 closing (quoted name) = Closed
 
@@ -91,14 +91,14 @@ pub record Inner (name : List ℕ) (bytes : List ℕ) (names : Names) : Type 0 w
   pub good : list_all is_item items ≡ true
   pub gives : names ≡ (name ++ more) ∷ map name_of items
 
-abbrev pub Spelled : Place → List ℕ → List ℕ → Names → Type 0
+abbrev pub Spelled : Position → List ℕ → List ℕ → Names → Type 0
 Spelled Due name bytes names = is_none name ≡ true → IsItems bytes names
 Spelled Plain name bytes names = Tail name bytes names
 Spelled Inside name bytes names = Inner name bytes names
 Spelled Closed name bytes names = Rest name bytes names
 
 abbrev pub Spells : List ℕ → Type 0
-Spells bs = (p : Place) (n : List ℕ) (ns : Names) → names_of p n bs ≡ Some ns → Spelled p n bs ns
+Spells bs = (p : Position) (n : List ℕ) (ns : Names) → names_of p n bs ≡ Some ns → Spelled p n bs ns
 
 is_byte : (b c : ℕ) → (b == c) ≡ true → b ≡ c
 is_byte b c e = grind (arith, nat_tests)
@@ -118,7 +118,7 @@ some_text : (name : List ℕ) → is_none name ≡ false → is_some_text (name 
 some_text [] h = cc h
 some_text (b ∷ bs) h = refl
 
-no_bytes : (place : Place) (name : List ℕ) (names : Names) → names_of place name [] ≡ Some names → Spelled place name [] names
+no_bytes : (place : Position) (name : List ℕ) (names : Names) → names_of place name [] ≡ Some names → Spelled place name [] names
 unfolding names_of
 no_bytes Due name names h = cc h
 no_bytes Plain name names h = let is : names ≡ name ∷ [] = cc h in rest_tail name [] names (record { items = []; text = refl; good = refl; gives = is })

@@ -3,8 +3,8 @@ use Rattle.std.proofs.Common.{◌≡◌, ◌<◌, ◌≤◌, ◌+◌, ℕ, List,
 use Rattle.std.proofs.lemmas.List.{drop_all}
 use Rattle.std.specs.Prelude.{true, false}
 use Rattle.std.specs.Global.{Vec}
-use Rattle.word_lists.specs.declared.Place.{Place}
-use Rattle.word_lists.specs.declared.Place.TheVariants.{Due, Plain, Inside, Closed}
+use Rattle.word_lists.specs.declared.Position.{Position}
+use Rattle.word_lists.specs.declared.Position.TheVariants.{Due, Plain, Inside, Closed}
 use Rattle.word_lists.specs.declared.Next.{Next}
 use Rattle.word_lists.specs.declared.Next.TheVariants.{Take, Pass, End, Bad}
 use Rattle.word_lists.specs.Walk.{Names, names_of, next_of, is_none, after_byte, with_name, at_end, can_end}
@@ -19,11 +19,11 @@ byte_here bytes i b lt is = rw (add-one, drop-cons bytes i 0, is) refl
 pub no_byte : (bytes : List ℕ) (i : ℕ) → length bytes ≤ i → drop i bytes ≡ []
 no_byte bytes i le = drop_all i bytes le
 
-reads : (place : Place) (name : List ℕ) (b : ℕ) (bs : List ℕ) → names_of place name (b ∷ bs) ≡ after_byte (next_of place (is_none name) b) name b (λ p n. names_of p n bs)
+reads : (place : Position) (name : List ℕ) (b : ℕ) (bs : List ℕ) → names_of place name (b ∷ bs) ≡ after_byte (next_of place (is_none name) b) name b (λ p n. names_of p n bs)
 unfolding names_of
 reads place name b bs = refl
 
-finishes : (place : Place) (name : List ℕ) → names_of place name [] ≡ at_end place name
+finishes : (place : Position) (name : List ℕ) → names_of place name [] ≡ at_end place name
 unfolding names_of
 finishes place name = refl
 
@@ -31,14 +31,14 @@ push_name : (names : Names) (name : List ℕ) (o : Option Names) → prepend nam
 push_name names name None = refl
 push_name names name (Some more) = ap (λ (ws : Names). Some ws) (sym (append_assoc names (name ∷ []) more))
 
-module _ (names : Names) (place : Place) (name : List ℕ) (b : ℕ) (bytes rest : List ℕ) (all : Option Names) (so_far : all ≡ prepend names (names_of place name bytes)) (here : bytes ≡ b ∷ rest) where
+module _ (names : Names) (place : Position) (name : List ℕ) (b : ℕ) (bytes rest : List ℕ) (all : Option Names) (so_far : all ≡ prepend names (names_of place name bytes)) (here : bytes ≡ b ∷ rest) where
   step : (n : Next) → n ≡ next_of place (is_none name) b → all ≡ prepend names (after_byte n name b (λ p m. names_of p m rest))
   step n e = so_far ∙ ap (λ (o : Option Names). prepend names o) (ap (names_of place name) here ∙ (reads place name b rest ∙ ap (λ (t : Next). after_byte t name b (λ p m. names_of p m rest)) (sym e)))
 
-  pub takes : (p : Place) → Take p ≡ next_of place (is_none name) b → all ≡ prepend names (names_of p (name ++ b ∷ []) rest)
+  pub takes : (p : Position) → Take p ≡ next_of place (is_none name) b → all ≡ prepend names (names_of p (name ++ b ∷ []) rest)
   takes p e = step (Take p) e
 
-  pub passes : (p : Place) → Pass p ≡ next_of place (is_none name) b → all ≡ prepend names (names_of p name rest)
+  pub passes : (p : Position) → Pass p ≡ next_of place (is_none name) b → all ≡ prepend names (names_of p name rest)
   passes p e = step (Pass p) e
 
   pub ends_name : End ≡ next_of place (is_none name) b → all ≡ prepend (names ++ name ∷ []) (names_of Due [] rest)
@@ -47,16 +47,16 @@ module _ (names : Names) (place : Place) (name : List ℕ) (b : ℕ) (bytes rest
   pub stops : Bad ≡ next_of place (is_none name) b → all ≡ None
   stops e = step Bad e
 
-pub at_last : (names : Names) (place : Place) (name bytes : List ℕ) (all : Option Names) → all ≡ prepend names (names_of place name bytes) → bytes ≡ [] → all ≡ prepend names (at_end place name)
+pub at_last : (names : Names) (place : Position) (name bytes : List ℕ) (all : Option Names) → all ≡ prepend names (names_of place name bytes) → bytes ≡ [] → all ≡ prepend names (at_end place name)
 at_last names place name bytes all so_far none = so_far ∙ ap (λ (o : Option Names). prepend names o) (ap (names_of place name) none ∙ finishes place name)
 
-pub no_end : (p : Place) (name : List ℕ) → can_end p ≡ false → at_end p name ≡ None
+pub no_end : (p : Position) (name : List ℕ) → can_end p ≡ false → at_end p name ≡ None
 no_end Due name h = refl
 no_end Plain name h = cc h
 no_end Inside name h = refl
 no_end Closed name h = cc h
 
-pub an_end : (p : Place) (name : List ℕ) → can_end p ≡ true → at_end p name ≡ Some (name ∷ [])
+pub an_end : (p : Position) (name : List ℕ) → can_end p ≡ true → at_end p name ≡ Some (name ∷ [])
 an_end Due name h = cc h
 an_end Plain name h = refl
 an_end Inside name h = cc h

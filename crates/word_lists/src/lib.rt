@@ -15,7 +15,7 @@ use std::alloc::{AllocError, Global};
 
 // Where the reader of a list stands: an item is due, in an item, between quotes, or after quotes.
 #[derive(Clone, Copy)]
-enum Place {
+enum Position {
     Due,
     Plain,
     Inside,
@@ -25,37 +25,37 @@ enum Place {
 // What a byte does: it is one more of the item, it only moves, it ends the item, or it has no place.
 #[derive(Clone, Copy)]
 enum Next {
-    Take(Place),
-    Pass(Place),
+    Take(Position),
+    Pass(Position),
     End,
     Bad,
 }
 
 // What a byte does at a place, where there is nothing of an item yet or something.
-fn step(place: Place, is_none: bool, byte: u8) -> Next
+fn step(place: Position, is_none: bool, byte: u8) -> Next
     ensures { result ≡ next_of place is_none byte }
 {
     match place {
-        Place::Due => match byte {
-            b'"' => Next::Pass(Place::Inside),
+        Position::Due => match byte {
+            b'"' => Next::Pass(Position::Inside),
             b',' => Next::Bad,
-            _ => Next::Take(Place::Plain),
+            _ => Next::Take(Position::Plain),
         },
-        Place::Plain => match byte {
+        Position::Plain => match byte {
             b',' => Next::End,
             b'"' => Next::Bad,
-            _ => Next::Take(Place::Plain),
+            _ => Next::Take(Position::Plain),
         },
-        Place::Inside => {
+        Position::Inside => {
             if byte != b'"' {
-                return Next::Take(Place::Inside);
+                return Next::Take(Position::Inside);
             }
             if is_none {
                 return Next::Bad;
             }
-            Next::Pass(Place::Closed)
+            Next::Pass(Position::Closed)
         }
-        Place::Closed => {
+        Position::Closed => {
             if byte == b',' {
                 return Next::End;
             }
@@ -75,22 +75,22 @@ fn lacks(name: &[u8]) -> bool
 }
 
 // Whether an item may end here.
-fn ends(place: Place) -> bool
+fn ends(place: Position) -> bool
     ensures { result ≡ can_end place }
 {
     match place {
-        Place::Due | Place::Inside => false,
-        Place::Plain | Place::Closed => true,
+        Position::Due | Position::Inside => false,
+        Position::Plain | Position::Closed => true,
     }
 }
 
 // The names of items joined by commas, where the text is such.
 fn read_names(alloc: Global, text: &[u8]) -> Result<Option<Vec<Vec<u8>>>, AllocError>
-    ensures { IfOk result (λ o. option_map names_in o ≡ names_of Place.Due [] text.now) }
+    ensures { IfOk result (λ o. option_map names_in o ≡ names_of Position.Due [] text.now) }
 {
     let mut names: Vec<Vec<u8>> = Vec::new(alloc);
     let mut name: Vec<u8> = Vec::new(alloc);
-    let mut place = Place::Due;
+    let mut place = Position::Due;
     for byte in text {
         match step(place, lacks(&name), *byte) {
             Next::Take(after) => {
@@ -103,7 +103,7 @@ fn read_names(alloc: Global, text: &[u8]) -> Result<Option<Vec<Vec<u8>>>, AllocE
             Next::End => {
                 names.push(name)?;
                 name = Vec::new(alloc);
-                place = Place::Due;
+                place = Position::Due;
             }
             Next::Bad => {
                 return Ok(None);

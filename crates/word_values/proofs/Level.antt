@@ -12,7 +12,7 @@ use Rattle.word_forms.specs.Form.{Text, Row, Use, positional, apart, joined, fla
 use Rattle.word_values.proofs.Steps.{flag_built, entry_of, flag_entry, between, settles, settles_well, held}
 use Rattle.word_values.proofs.Uses.{Reads, Runs, runs, entries, same_at}
 use Rattle.word_forms.proofs.Names.{other_side, all_at, among_left, among_right}
-use Rattle.word_values.specs.Gives.{Gives}
+use Rattle.word_values.specs.GivesUses.{GivesUses}
 use Rattle.word_values.proofs.Counts.{Sound, Allowed, uses_fresh, differs, among_parts, among_joint}
 use Rattle.word_values.proofs.Finds.{row_by, kept_defaults, none_defaults, flag_default, adds_none, option_entry, flag_found, positional_found}
 use Rattle.std.specs.Cmp.Derive.{both_true}
@@ -97,7 +97,7 @@ module _ (row : Row) (s : Shape) (reads : Reads row s) (closes : Closes row s) (
       let by_id = same_at (arg_by_id s.rules) (λ y. Some (flag_built y)) row.flags x closes.flag_ids has in
       rw (e, flag_default x s.rules es by_id here)
 
-  pub gives : Gives row uses rows
+  pub gives : GivesUses row uses rows
   gives = record {
     options = λ x has. value_at x (value_of uses x) (among_left (value_names row) (positional_names row) x has) (option_row x has);
     flags = λ x has. flag_value x (has_flag uses x) refl has;

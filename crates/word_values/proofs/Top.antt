@@ -12,7 +12,7 @@ use Rattle.word_forms.specs.Form.{is_name}
 use Rattle.word_values.proofs.Steps.{rule_of_single, flag_built}
 use Rattle.word_values.proofs.Uses.{Reads, single_named, single_at, numbered}
 use Rattle.word_values.proofs.Counts.{Sound, n_named, allowed}
-use Rattle.word_values.specs.Gives.{Gives}
+use Rattle.word_values.specs.GivesUses.{GivesUses}
 use Rattle.word_values.proofs.Finds.{adds_none}
 use Rattle.word_values.proofs.Level.{Closes, gives, rows_are, passes}
 use Rattle.std.proofs.lemmas.List.{append-nil}
@@ -189,8 +189,8 @@ module _ (b : App) (leaf : Row → Shape) (free : TopIsFree b.top) (table : List
       ap (λ (w : Walk). entered b w.stopped) walks
       ∙ (ap (λ (o : Option Shape). option_map (λ s. rows_at s (flat_map spelled uses)) o) found ∙ ap (λ (x : Seen). Some (x.name, rows)) here)
 
-  pub gives_uses : Gives row uses rows
-  gives_uses = subst (λ (r : List Entry). Gives row uses r)
+  pub gives_uses : GivesUses row uses rows
+  gives_uses = subst (λ (r : List Entry). GivesUses row uses r)
       (sym (rows_are row (leaf row) (reads_of b leaf row here) (closes_of b leaf row here) (sound_of b leaf row here) uses (allowed row uses allows)))
       (gives row (leaf row) (reads_of b leaf row here) (closes_of b leaf row here) (sound_of b leaf row here) uses (allowed row uses allows))
 

@@ -7,7 +7,7 @@ use Rattle.word_values.specs.declared.values.Values.{Values}
 use Rattle.word_forms.specs.Form.{Text, Row, Use, is_among, is_allowed, value_names, positional_names, value_of, has_flag, word_of}
 
 -- what is found below the command are the values of the uses
-pub record Gives (row : Row) (uses : List Use) (rows : List Entry) : Type 0 where
+pub record GivesUses (row : Row) (uses : List Use) (rows : List Entry) : Type 0 where
   pub options : (x : Text) → is_among (value_names row) x ≡ true → first_of x rows ≡ value_of uses x
   pub flags : (x : Text) → is_among row.flags x ≡ true → one_of x rows ≡ Some (if has_flag uses x then codes "true" else codes "false")
   pub positionals : (n : Text) → is_among (positional_names row) n ≡ true → first_of n rows ≡ word_of row uses n
@@ -16,7 +16,7 @@ pub record Gives (row : Row) (uses : List Use) (rows : List Entry) : Type 0 wher
 pub record GivesCall (row : Row) (uses : List Use) (matches : ArgMatches) : Type 0 where
   pub rows : List Entry
   pub found : subcommand_rows_of matches ≡ Some (row.name, rows)
-  pub gives : Gives row uses rows
+  pub gives : GivesUses row uses rows
   pub allowed : is_allowed row uses ≡ true
 
 -- what the values of words hold

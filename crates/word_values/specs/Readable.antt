@@ -6,13 +6,13 @@ use Rattle.clap.specs.Simple.{is_simple, subcommand_of}
 use Rattle.clap.specs.Takes.{takes}
 use Rattle.word_forms.specs.Form.{Text, Row, Use, IsCall, is_clear}
 use Rattle.word_values.specs.App.{app_of_table}
-use Rattle.word_values.specs.Gives.{Gives}
+use Rattle.word_values.specs.GivesUses.{GivesUses}
 
 -- what `clap` finds in words of the form: their command, and below it the values of the uses
 pub record FindsValues (table : List Row) (words : List Text) (row : Row) (uses : List Use) : Type 0 where
   pub rows : List Entry
   pub found : subcommand_of (app_of_table table) words ≡ Some (row.name, rows)
-  pub gives : Gives row uses rows
+  pub gives : GivesUses row uses rows
 
 -- each row is clear, and `clap` takes all words of the form and finds their values
 pub record IsReadable (table : List Row) : Type 0 where

@@ -1,7 +1,7 @@
 use Rattle.std.proofs.Common.{◌≡◌, drop, []}
 use Rattle.word_lists.specs.Walk.{names_of}
 use Rattle.word_lists.specs.Views.{names_in}
-use Rattle.word_lists.specs.declared.Place.TheVariants.{Due}
+use Rattle.word_lists.specs.declared.Position.TheVariants.{Due}
 use Rattle.word_lists.proofs.Loop.{prepend}
 use Rattle.word_lists.proofs.read_names.Given as goal
 

@@ -1,22 +1,9 @@
-use Rattle.std.proofs.Common.{length, subst}
-use Rattle.mixed_graph.specs.Bits.{has}
-use Rattle.mixed_graph.specs.Sets.{Within}
+use Rattle.std.proofs.Common.{length}
 use Rattle.mixed_graph.specs.Shown.{graph_of}
 use Rattle.hedge.proofs.Shaping.{sets_form_hedge}
 use Rattle.prob_expr.specs.View.{target_view}
 use Rattle.check_command.proofs.Using.{x_within, y_within, sets_apart}
 use Rattle.check_command.proofs.hedge_data.accept.Goals as goal
-
-pub build-requires-clause-x_within : goal.build-requires-clause-x_within
-build-requires-clause-x_within c =
-    subst (λ n. Within n (has c.args.target.now.x.bits)) c.requires.named (x_within (length c.args.seen.now.names) (target_view c.args.target.now) c.requires.target)
-
-pub build-requires-clause-y_within : goal.build-requires-clause-y_within
-build-requires-clause-y_within c =
-    subst (λ n. Within n (has c.args.target.now.y.bits)) c.requires.named (y_within (length c.args.seen.now.names) (target_view c.args.target.now) c.requires.target)
-
-pub build-requires-clause-apart : goal.build-requires-clause-apart
-build-requires-clause-apart c = sets_apart (length c.args.seen.now.names) (target_view c.args.target.now) c.requires.target
 
 pub hedge_heading-requires-clause-x : goal.hedge_heading-requires-clause-x
 hedge_heading-requires-clause-x c = x_within (length c.args.seen.now.names) (target_view c.args.target.now) c.requires.target
@@ -29,11 +16,12 @@ returns c =
     let g = c.args.seen.now.graph in
     let t = c.args.target.now in
     let text = rw (c.deref.ensures.value, c.in_ok-heading.ensures) at c.in_ok-accepted_text.ensures in
+    let pair = c.laws.ensures.pairs (graph_of g) g.valid g.small t.x.bits t.y.bits c.args.hedge.now c.requires.hedge in
     record {
       forms = sets_form_hedge (graph_of g) t.x.bits t.y.bits c.args.hedge.now g.valid g.small c.requires.hedge;
       evidence = c.requires.hedge;
-      pair = c.in_ok-_pair._pair;
+      pair = pair.0;
       models = c.laws.ensures.counter (graph_of g) g.valid g.small t.x.bits t.y.bits c.args.hedge.now c.requires.hedge
-          (sets_apart (length c.args.seen.now.names) (target_view t) c.requires.target) c.in_ok-_pair._pair c.in_ok-_pair.ensures.pair;
+          (sets_apart (length c.args.seen.now.names) (target_view t) c.requires.target) pair.0 pair.1;
       prints = text;
     }

@@ -47,7 +47,7 @@ returns-in-Ok-Hedge c =
 
 pub returns : goal.returns
 returns c =
-    let line = c.in_ok-certificate_line-in-Err in
+    let line = c.in_ok-line-in-Err in
     faulty c.in-Err.fault c.requires line.ensures.memory
     (ap (λ n. certificate_in n c.args.certificate.now) (sym c.in_ok-seen.ensures.names) ∙ unread c.in-Err.fault (certificate_in c.in_ok-seen.seen.names c.args.certificate.now) c.in-Err.ensures line.ensures.memory)
     line.ensures.line

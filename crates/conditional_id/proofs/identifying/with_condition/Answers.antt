@@ -5,7 +5,7 @@ use Rattle.prob_expr.specs.View.{formula_view, target_view}
 use Rattle.do_derivation.specs.View.{derivation_view}
 use Rattle.identification.specs.Derivations.{IsDerived}
 use Rattle.hedge.specs.Hedges.{IsHedge}
-use Rattle.hedge.specs.declared.kinds.Hedge.{Hedge}
+use Rattle.hedge.specs.declared.hedge.Hedge.{Hedge}
 use Rattle.id_recursion.specs.Answers.{is_hedge, IfFormula}
 use Rattle.conditional_theory.proofs.Turning.{targeted}
 use Rattle.conditional_theory.specs.Conditionals.{IsConditionalTarget}

@@ -1,7 +1,7 @@
 use Rattle.std.proofs.Common.{◌↔◌, true, false, refl, sym, subst, [], IsTrue}
 use Rattle.mixed_graph.specs.Shown.{graph_of}
 use Rattle.hedge.specs.Hedges.{IsHedge}
-use Rattle.hedge.specs.declared.kinds.Hedge.{Hedge}
+use Rattle.hedge.specs.declared.hedge.Hedge.{Hedge}
 use Rattle.counter_models.specs.Pairs.{IsPairOf}
 use Rattle.identification.specs.Procedure.{IsUnidentified}
 use Rattle.id_recursion.specs.Answers.{effect_on, is_hedge, IfHedge, IsRight}

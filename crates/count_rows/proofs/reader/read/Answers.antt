@@ -14,4 +14,4 @@ returns-in-Ok-false c text before h =
 
 pub returns-in-Err : goal.returns-in-Err
 returns-in-Err c text before h =
-    rw (c.failed_step.ensures) (failed text before c.args.reader.now c.read_byte_record.new.self (fields_of c.read_byte_record.new.row) c.in-Err.error.kind h (c.in-Err.ensures.why h.ready))
+    rw (c.failed_read.ensures) (failed text before c.args.reader.now c.read_byte_record.new.self (fields_of c.read_byte_record.new.row) c.in-Err.error.kind h (c.in-Err.ensures.why h.ready))

@@ -2,7 +2,7 @@ use Rattle.std.proofs.Common.{◌≡◌, ◌∙◌, ◌+◌, sym, ap, refl, arit
 use Rattle.csv.specs.Records.{fields_of}
 use Rattle.count_rows.specs.declared.fault.CountFault.TheVariants.{NotCsv}
 use Rattle.count_rows.specs.Faults.{row_fault}
-use Rattle.count_rows.specs.Reader.{StepGives}
+use Rattle.count_rows.specs.Reader.{GivesNext}
 use Rattle.count_rows.specs.Tally.{layout_from}
 use Rattle.count_rows.proofs.RowFaults.{ended, row_refused, row_too_long, rows_fault-nil, rows_fault-last}
 use Rattle.count_rows.proofs.TallySteps.{holds-nil, length-replicate}
@@ -18,27 +18,27 @@ loop-number-init c =
     }
 
 pub returns-in-End : goal.returns-in-End
-unfolding StepGives
+unfolding GivesNext
 returns-in-End c text header h =
     let (rows, at, held, fine, number) = c.loop-number.invariant.so_far text header h in
     ended text header rows (layout_from c.args.columns.now) c.loop-number.tally c.finished.result (c.in-End.ensures text (header ∷ rows) at) fine held c.finished.ensures.ok c.finished.ensures.empty
 
 pub returns-in-OtherLength : goal.returns-in-OtherLength
-unfolding StepGives
+unfolding GivesNext
 returns-in-OtherLength c text header h n =
     let (rows, at, held, fine, number) = c.loop-number.invariant.so_far text header h in
     let (other, more, is, long) = c.in-OtherLength.ensures text (header ∷ rows) at in
     row_too_long text header rows more other (layout_from c.args.columns.now) is long fine ∙ ap (λ k. Some (NotCsv k)) (sym number)
 
 pub returns-in-Err : goal.returns-in-Err
-unfolding StepGives
+unfolding GivesNext
 returns-in-Err c text header h n =
     let (rows, at, held, fine, number) = c.loop-number.invariant.so_far text header h in
     let (read, long) = c.in-Record.ensures text (header ∷ rows) at in
     row_refused text header rows (fields_of c.read.new.into) c.read.new.reader (layout_from c.args.columns.now) c.in-Err.fault read long fine (c.in-Err.ensures.row rows held number n)
 
 pub loop-number-preserved : goal.loop-number-preserved
-unfolding StepGives
+unfolding GivesNext
 loop-number-preserved c = record {
   width = c.add.ensures.width ∙ c.loop-number.invariant.width;
   so_far = λ text header h.

@@ -1,5 +1,5 @@
 use Rattle.std.proofs.Common.{◌≡◌, ℕ, ◌<◌, get_or, length}
-use Rattle.finite_models.specs.declared.kinds.Mechanism.{Mechanism}
+use Rattle.finite_models.specs.declared.model.Mechanism.{Mechanism}
 use Rattle.counter_models.specs.Pairs.{IsMechanismOf, in_first}
 use Rattle.counter_models.proofs.mechanisms.first_mechanisms.Given as goal
 

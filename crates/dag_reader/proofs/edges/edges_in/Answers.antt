@@ -2,7 +2,7 @@ use Rattle.std.proofs.Common.{◌∙◌, ap}
 use Rattle.std.specs.Prelude.{◌||◌}
 use Rattle.mixed_graph.specs.Bits.{has}
 use Rattle.mixed_graph.proofs.PairMasks.{no_mask}
-use Rattle.dag_reader.specs.declared.marks.Mark.TheVariants.{Begins, Joined, Member}
+use Rattle.dag_reader.specs.declared.marks.Remark.TheVariants.{Begins, Joined, Member}
 use Rattle.dag_reader.proofs.EdgeRows.{begin, opened, at_begins, at_member, at_right, at_left, at_both}
 use Rattle.dag_reader.proofs.edges.edges_in.Goals as goal
 use Rattle.dag_reader.proofs.edges.edges_in.Goals.{in-Right, in-Left, in-Both}

@@ -8,7 +8,7 @@ use Rattle.prob_expr.specs.Listed.{masks_of}
 use Rattle.prob_expr.specs.Terms.{is_allowed}
 use Rattle.prob_expr.specs.View.{view, formula_view, target_view}
 use Rattle.do_derivation.specs.Accepts.{AcceptsNot}
-use Rattle.do_derivation.specs.Answers.{IsStopped}
+use Rattle.do_derivation.specs.Answers.{StopsAtStep}
 use Rattle.do_derivation.specs.Steps.{Makes}
 use Rattle.do_derivation.specs.View.{step_view, derivation_view}
 use Rattle.do_derivation.proofs.Accepted.{accepted_is_effect}
@@ -24,11 +24,11 @@ returns-in_err-run-clause-fault c =
     let count : c.cap.result ≡ cap (length (derivation_view c.args.d.now).lemmas) = c.cap.ensures ∙ ap cap (many ∙ sym (Defining.length_lemmas c.args.d.now.lemmas.items)) in
     rw (p.1, p.2)
     (Defining.unless_weaker c.in_err-run.field-0.0
-    (IsStopped (graph_of c.args.g.now) (masks_of c.in_ok-sets.sets.items) (step_view c.args.d.now.main) (view (Prob c.args.target.now.y c.args.target.now.x c.args.target.now.given)) (view c.args.f.now.main) None c.cap.result c.in_err-run.field-0.0)
+    (StopsAtStep (graph_of c.args.g.now) (masks_of c.in_ok-sets.sets.items) (step_view c.args.d.now.main) (view (Prob c.args.target.now.y c.args.target.now.x c.args.target.now.given)) (view c.args.f.now.main) None c.cap.result c.in_err-run.field-0.0)
     (AcceptsNot (graph_of c.args.g.now) (masks_of c.args.allowed.now) (target_view c.args.target.now) (formula_view c.args.f.now) (derivation_view c.args.d.now) c.in_err-run.field-0.0)
     (λ h. Defining.main_fails (graph_of c.args.g.now) (masks_of c.args.allowed.now) (target_view c.args.target.now) (formula_view c.args.f.now) (derivation_view c.args.d.now) c.in_ok-sets.sets.items c.in_ok-sets.ensures.sets c.in_ok-sets.ensures.define c.in_err-run.field-0.0
-    (subst (λ n. IsStopped (graph_of c.args.g.now) (masks_of c.in_ok-sets.sets.items) (step_view c.args.d.now.main) (term_of (target_view c.args.target.now)) (view c.args.f.now.main) None n c.in_err-run.field-0.0) count
-    (subst (λ e. IsStopped (graph_of c.args.g.now) (masks_of c.in_ok-sets.sets.items) (step_view c.args.d.now.main) e (view c.args.f.now.main) None c.cap.result c.in_err-run.field-0.0) term h)))
+    (subst (λ n. StopsAtStep (graph_of c.args.g.now) (masks_of c.in_ok-sets.sets.items) (step_view c.args.d.now.main) (term_of (target_view c.args.target.now)) (view c.args.f.now.main) None n c.in_err-run.field-0.0) count
+    (subst (λ e. StopsAtStep (graph_of c.args.g.now) (masks_of c.in_ok-sets.sets.items) (step_view c.args.d.now.main) e (view c.args.f.now.main) None c.cap.result c.in_err-run.field-0.0) term h)))
     c.in_err-run.ensures.fault)
 
 pub returns-then-is_allowed-clause-effect : goal.returns-then-is_allowed-clause-effect

@@ -10,7 +10,7 @@ use Rattle.prob_expr.specs.declared.expr.Expr.{Prob}
 use Rattle.prob_expr.specs.Terms.{are_terms}
 use Rattle.prob_expr.specs.View.{view}
 use Rattle.do_derivation.specs.Plans.{Move}
-use Rattle.do_derivation.specs.Steps.{IsMade, IsRefused}
+use Rattle.do_derivation.specs.Steps.{IsMade, RowRefuses}
 use Rattle.do_derivation.specs.Table.{row, is_part}
 use Rattle.do_derivation.specs.declared.faults.StepFault.TheVariants.{Sets, Unblocked}
 use Rattle.do_derivation.proofs.Asked.{asked_made, asked_refused}
@@ -41,7 +41,7 @@ returns-in-Err c =
     let seen = ap view c.in-Prob.is ∙ view-Prob c.in-Prob.of c.in-Prob.doing c.in-Prob.given in
     let asked : is_part c.args.z.bits c.in-Prob.given.bits ≡ true = search rules in
     record {
-      row = subst (λ e. IsRefused (graph_of c.args.g.now) (row c.args.g.now.n [] (Move.Rule2Do c.args.z.bits) e) (Unblocked c.in-Err.path)) (sym seen)
+      row = subst (λ e. RowRefuses (graph_of c.args.g.now) (row c.args.g.now.n [] (Move.Rule2Do c.args.z.bits) e) (Unblocked c.in-Err.path)) (sym seen)
           (asked_refused (graph_of c.args.g.now) Two (c.in-Prob.doing.bits) c.in-Prob.of.bits c.args.z.bits (minus c.in-Prob.given.bits c.args.z.bits) (prob c.in-Prob.of.bits (join c.in-Prob.doing.bits c.args.z.bits) (minus c.in-Prob.given.bits c.args.z.bits)) Sets
           (is_part c.args.z.bits c.in-Prob.given.bits) c.in-Err.path asked
           (subst (λ r. IsOpenFor Two (graph_of c.args.g.now) (has c.in-Prob.doing.bits) (has c.in-Prob.of.bits) (has c.args.z.bits) (has r) c.in-Err.path) c.minus-rest.ensures c.in-Err.ensures.open));

@@ -13,6 +13,6 @@ reply_to-requires-clause-below c = asked_below c.args.graph.now c.requires.accep
 pub returns-in-Ok : goal.returns-in-Ok
 returns-in-Ok c = held_reply c.args.graph.now c.args.sets c.in-Ok.other c.args.second.now c.reply_to.result (record { small = c.requires.small; reads = c.in-Ok.ensures }) c.reply_to.ensures
 
-pub returns-in_ok-second_graph_line-in-Err : goal.returns-in_ok-second_graph_line-in-Err
-returns-in_ok-second_graph_line-in-Err c = inl (faulty c.in-Err.fault c.requires.small c.in_ok-second_graph_line-in-Err.ensures.memory c.in-Err.ensures
-    c.in_ok-second_graph_line-in-Err.ensures.line)
+pub returns-in_ok-second_line-in-Err : goal.returns-in_ok-second_line-in-Err
+returns-in_ok-second_line-in-Err c = inl (faulty c.in-Err.fault c.requires.small c.in_ok-second_line-in-Err.ensures.memory c.in-Err.ensures
+    c.in_ok-second_line-in-Err.ensures.line)

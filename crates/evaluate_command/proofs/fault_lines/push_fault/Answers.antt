@@ -2,7 +2,7 @@ use Rattle.std.proofs.Common.{◌≡◌, ◌++◌, List, ℕ, Result, Ok, Err, c
 use Rattle.std.specs.Prelude.{OnOk}
 use Rattle.mixed_graph.specs.Bits.{has, members_below}
 use Rattle.finite_models.proofs.Members.{member_below}
-use Rattle.count_eval.specs.Answers.{IsFaultOf}
+use Rattle.count_eval.specs.Answers.{IsEvaluationFault}
 use Rattle.count_eval.specs.Programs.{is_used, cell_of}
 use Rattle.count_answers.specs.Lines.{assignments}
 use Rattle.evaluate_command.specs.Lines.{place_text}
@@ -17,14 +17,14 @@ on_ok (Err e) A B f h = h
 pub returns-in_ok-extend_from_slice-in-TooWide : goal.returns-in_ok-extend_from_slice-in-TooWide
 returns-in_ok-extend_from_slice-in-TooWide c = on_ok c.push_place-in-TooWide.result _ _ (λ e s is.
     let names = c.args.names.now in let t = c.args.counts.now in let place = c.in-TooWide.place in let old = c.args.out.now.items in
-    let why = subst (λ f. IsFaultOf (is_used t) f s) c.in-TooWide.is is in
+    let why = subst (λ f. IsEvaluationFault (is_used t) f s) c.in-TooWide.is is in
     e ∙ ap (λ x. x ++ place_text place.def place.node) c.in_ok-extend_from_slice-in-TooWide.ensures.items
     ∙ append_assoc old (codes "evaluation fault 2: ") (place_text place.def place.node) ∙ ap (λ x. old ++ x) (wide_text names t s place why.0 why.1)) c.push_place-in-TooWide.ensures
 
 pub returns-in_ok-extend_from_slice-in-TooFine : goal.returns-in_ok-extend_from_slice-in-TooFine
 returns-in_ok-extend_from_slice-in-TooFine c = on_ok c.push_place-in-TooFine.result _ _ (λ e s is.
     let names = c.args.names.now in let t = c.args.counts.now in let place = c.in-TooFine.place in let old = c.args.out.now.items in
-    let why = subst (λ f. IsFaultOf (is_used t) f s) c.in-TooFine.is is in
+    let why = subst (λ f. IsEvaluationFault (is_used t) f s) c.in-TooFine.is is in
     e ∙ ap (λ x. x ++ place_text place.def place.node) c.in_ok-extend_from_slice-in-TooFine.ensures.items
     ∙ append_assoc old (codes "evaluation fault 3: ") (place_text place.def place.node) ∙ ap (λ x. old ++ x) (fine_text names t s place why.0 why.1)) c.push_place-in-TooFine.ensures
 
@@ -36,7 +36,7 @@ pub returns-in_ok-extend_from_slice-in-NoSupport-2 : goal.returns-in_ok-extend_f
 returns-in_ok-extend_from_slice-in-NoSupport-2 c = on_ok c.push_assignments.result _ _ (λ h s is.
     let names = c.args.names.now in let t = c.args.counts.now in let place = c.in-NoSupport.place in let old = c.args.out.now.items in let cell = c.in-NoSupport.cell in
     let set = has c.used.result.bits in
-    let why = subst (λ f. IsFaultOf (is_used t) f s) c.in-NoSupport.is is in
+    let why = subst (λ f. IsEvaluationFault (is_used t) f s) c.in-NoSupport.is is in
     let texts = assignments names t (cell_of cell) (members_below set 64) in
     let last = h ∙ ap (λ (at : List ℕ). c.extend_from_slice-in-NoSupport.new.self.items ++ assignments names t (cell_of at) (members_below set 64)) c.entries.ensures.same in
     four old (codes "evaluation fault 1: ") (place_text place.def place.node) (codes " at ") texts _ _ _ _

@@ -37,6 +37,6 @@ returns-in-Ok-Hedge c =
 
 pub returns : goal.returns
 returns c =
-    let line = c.in_ok-certificate_line-in-Err in
+    let line = c.in_ok-line-in-Err in
     in_graph c.args.graphs c.args.graph.now (graph_of c.in_ok-seen.seen.graph) c.in_ok-seen.seen.names c.args.certificate.now c.in_ok-seen.ensures.graph c.in_ok-seen.ensures.names Second line.field-0.items
     (faulty c.in-Err.fault (search rules) line.ensures.memory (unread c.in-Err.fault (certificate_in c.in_ok-seen.seen.names c.args.certificate.now) c.in-Err.ensures line.ensures.memory) line.ensures.line)

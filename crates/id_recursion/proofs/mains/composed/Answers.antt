@@ -14,7 +14,7 @@ use Rattle.identification.specs.Procedure.{AreAncestorsIn, AreFactored}
 use Rattle.identification.specs.Derivations.{AreAllSteps, IsComposedWith}
 use Rattle.id_recursion.specs.Factored.{AreFactorsOf, AreAssembled}
 use Rattle.id_recursion.specs.Lists.{lists_view}
-use Rattle.id_recursion.specs.declared.kinds.Factors.{Factors}
+use Rattle.id_recursion.specs.declared.answer.Factors.{Factors}
 use Rattle.id_recursion.proofs.RightAnswers.{if_ok}
 use Rattle.id_recursion.proofs.mains.composed.Goals as goal
 

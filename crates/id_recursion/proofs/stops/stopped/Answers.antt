@@ -4,8 +4,8 @@ use Rattle.mixed_graph.proofs.Masks.{some_member}
 use Rattle.mixed_graph.specs.Graphs.{MixedGraph}
 use Rattle.mixed_graph.specs.Shown.{graph_of}
 use Rattle.mixed_graph.specs.declared.sets.VSet.{VSet}
-use Rattle.counter_models.specs.declared.kinds.CounterPair.{CounterPair}
-use Rattle.hedge.specs.declared.kinds.Hedge.{Hedge}
+use Rattle.counter_models.specs.declared.counter_pair.CounterPair.{CounterPair}
+use Rattle.hedge.specs.declared.hedge.Hedge.{Hedge}
 use Rattle.identification.specs.Procedure.{IsUnidentified}
 use Rattle.identification_answers.proofs.Answered.{stop_is_hedge}
 use Rattle.id_recursion.proofs.RightAnswers.{target_of}

@@ -6,8 +6,8 @@ use Rattle.prob_expr.proofs.freeing.+free_expr.Goals as goal
 
 pub free_factors-loop-factor-preserved : goal.free_factors-loop-factor-preserved
 free_factors-loop-factor-preserved t c =
-    free_step (masks_of c.args.sets.now) c.loop-factor.free.bits c.join-free.result.bits c.deref-factor-items.result.now c.loop-factor.factor-index c.factor-item.result (omega arith) c.factor-item.is
-    (c.join-free.ensures ∙ ap (λ x. join c.loop-factor.free.bits x) c.free_expr.ensures)
+    free_step (masks_of c.args.sets.now) c.loop-factor.free.bits c.union-free.result.bits c.deref-factor-items.result.now c.loop-factor.factor-index c.factor-item.result (omega arith) c.factor-item.is
+    (c.union-free.ensures.mask ∙ ap (λ x. join c.loop-factor.free.bits x) c.free_expr.ensures)
     ∙ c.loop-factor.invariant
 
 pub free_factors-returns : goal.free_factors-returns

@@ -1,7 +1,7 @@
 use Rattle.std.proofs.Common.{◌≡◌, ◌+◌, [], ◌∷◌, length, map, option_map, sym, ap, subst, ◌∙◌, arith, rules, length-append}
 use Rattle.std.proofs.lemmas.List.{length-map}
 use Rattle.word_lists.specs.Views.{names_in}
-use Rattle.surrogate_command.specs.Experiments.{AreJoined}
+use Rattle.surrogate_command.specs.Experiments.{AreJoinedBySemicolons}
 use Rattle.surrogate_command.specs.Parts.{IsCut}
 use Rattle.surrogate_command.specs.Views.{lists_in}
 use Rattle.surrogate_command.proofs.Joining.{reading_none, reading_more, reading_last, reading_stops, reading_full, reading_only, lists_pushed, IsReading}
@@ -25,7 +25,7 @@ returns-in-None-clause-some c =
     let count = c.loop.invariant.1 in let below = c.loop-test.true in
     let longer = ap length c.in_ok-push.ensures.items ∙ length-append c.loop.experiments.items (c.in-Some.names ∷ []) in
     record {
-      joined = subst (AreJoined c.args.text.now) (sym pushed) (reading_last c.args.text.now (lists_in c.loop.experiments) c.loop.left.now c.first_part.result.part.now (names_in c.in-Some.names) cut is c.loop.invariant.2);
+      joined = subst (AreJoinedBySemicolons c.args.text.now) (sym pushed) (reading_last c.args.text.now (lists_in c.loop.experiments) c.loop.left.now c.first_part.result.part.now (names_in c.in-Some.names) cut is c.loop.invariant.2);
       few = simp length-map (omega (arith, count, below, longer));
     }
 

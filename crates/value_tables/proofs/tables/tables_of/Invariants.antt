@@ -1,14 +1,14 @@
 use Rattle.std.proofs.Common.{◌≡◌, ◌≤◌, ◌+◌, ◌^◌, length}
 use Rattle.prob_expr.specs.View.{formula_view}
 use Rattle.sum_tables.specs.Sums.{cells_in}
-use Rattle.value_tables.specs.Tables.{AreKept, cells_of}
+use Rattle.value_tables.specs.Tables.{AreKeptTables, cells_of}
 use Rattle.value_tables.proofs.tables.tables_of.Given as goal
 
 abbrev pub invariant-loop-k : goal.invariant-loop-k
 invariant-loop-k g l = record {
   long : length l.tables.items ≡ l.k;
   table : l.sums.table ≡ l.c;
-  kept : AreKept g.Q.Quantity.numbers g.Q.Quantity.kind l.n l.c (formula_view l.f) l.c l.tables.items;
+  kept : AreKeptTables g.Q.Quantity.numbers g.Q.Quantity.kind l.n l.c (formula_view l.f) l.c l.tables.items;
   cells : l.cells ≡ cells_of l.tables.items;
   few : cells_in l.sums + l.cells ≤ 2 ^ 22;
 }

@@ -5,7 +5,7 @@ use Rattle.count_eval.specs.Programs.{cell_of}
 use Rattle.sum_tables.specs.Axes.{Axes, axes_of, place_at, cell_at}
 use Rattle.count_table.specs.Cells.{IsCell}
 use Rattle.value_tables.specs.Preparations.{Preparation}
-use Rattle.value_tables.specs.Tables.{AreKept}
+use Rattle.value_tables.specs.Tables.{AreKeptTables}
 use Rattle.value_tables.proofs.TableLaws.{IsRight, right_none, right_more, has_levels}
 use Rattle.value_tables.proofs.tables.Tables.table_of.Goals as goal
 
@@ -20,7 +20,7 @@ loop-place-init g c =
 pub value_of-value-requires-clause-levels : goal.value_of-value-requires-clause-levels
 value_of-value-requires-clause-levels g c =
     let p = c.args.self.now in let places = c.in_ok-places.places in
-    let kept = subst (λ (p : Preparation). AreKept g.Q.Quantity.numbers g.Q.Quantity.kind p.vertices p.counts p.formula c.self.inside.sums.now.table c.self.inside.definitions.now) c.self.view_is c.self.invariant in
+    let kept = subst (λ (p : Preparation). AreKeptTables g.Q.Quantity.numbers g.Q.Quantity.kind p.vertices p.counts p.formula c.self.inside.sums.now.table c.self.inside.definitions.now) c.self.view_is c.self.invariant in
     let over = c.in_ok-places.ensures ∙ ap (λ (p : Preparation). axes_of p.counts (has c.args.free.bits)) c.self.view_is in
     has_levels p.counts (has c.args.free.bits) places c.cell.result p.vertices over kept.counts kept.evaluable.below (omega (arith, kept.evaluable.few)) c.cell.ensures.cell c.cell.ensures.outside
 
@@ -28,7 +28,7 @@ pub loop-place-preserved : goal.loop-place-preserved
 loop-place-preserved g c =
     let p = c.args.self.now in let places = c.in_ok-places.places in let items = c.loop-place.values.items in let o = c.value_of-value.result in
     let mask = get_or (free_in_defs [] p.formula.defs) c.args.k 0 in
-    let kept = subst (λ (p : Preparation). AreKept g.Q.Quantity.numbers g.Q.Quantity.kind p.vertices p.counts p.formula c.self.inside.sums.now.table c.self.inside.definitions.now) c.self.view_is c.self.invariant in
+    let kept = subst (λ (p : Preparation). AreKeptTables g.Q.Quantity.numbers g.Q.Quantity.kind p.vertices p.counts p.formula c.self.inside.sums.now.table c.self.inside.definitions.now) c.self.view_is c.self.invariant in
     let over = c.in_ok-places.ensures ∙ ap (λ (p : Preparation). axes_of p.counts (has c.args.free.bits)) c.self.view_is ∙ ap (λ (m : ℕ). axes_of p.counts (has m)) c.requires.free in
     let cell = subst (λ (a : Axes). IsCell a.sizes (cell_at a (cell_of c.cell.result))) over c.cell.ensures.cell.cell in
     let at = subst (λ (a : Axes). place_at a (cell_of c.cell.result) ≡ c.loop-place.place) over c.cell.ensures.place ∙ sym c.loop-place.invariant.long in

@@ -1,11 +1,11 @@
--- What is wrong with a certificate, as a line says it.
+-- What is wrong with a certificate, in words.
 use Rattle.std.specs.Prelude.{ℕ, List, [], ◌++◌, codes}
 use Rattle.std.specs.Fmt.{decimal}
-use Rattle.fault_text.specs.Lines.{with_name}
+use Rattle.name_text.specs.Printing.{printed}
 use Rattle.certificate.specs.declared.fault.Key.{Key}
 use Rattle.certificate.specs.declared.fault.Key.TheVariants as key
 use Rattle.certificate.specs.declared.fault.CertFault.{CertFault}
-use Rattle.certificate.specs.declared.fault.CertFault.TheVariants as certificate
+use Rattle.certificate.specs.declared.fault.CertFault.TheVariants.{NotJson, Member, Version, TooDeep, Name, NoMemory}
 
 -- a key of certificates
 abbrev pub key_text : Key → List ℕ
@@ -25,23 +25,15 @@ key_text key.Choice = codes "choice"
 key_text key.Links = codes "links"
 key_text key.Extra = codes "extra"
 
--- the key at fault
-abbrev pub with_key : Key → List ℕ
-with_key k = codes ": " ++ key_text k
-
--- the number at fault
-abbrev pub with_number : ℕ → List ℕ
-with_number n = codes ": " ++ decimal n
-
--- what is wrong with a certificate; want of memory has no line
+-- the text of a fault; want of memory has none
 abbrev pub cert_fault_text : CertFault → List ℕ
-cert_fault_text certificate.NotJson = codes "certificate fault 1"
-cert_fault_text (certificate.Member k) = codes "certificate fault 2" ++ with_key k
-cert_fault_text (certificate.Version n) = codes "certificate fault 3" ++ with_number n
-cert_fault_text certificate.TooDeep = codes "certificate fault 4"
-cert_fault_text (certificate.Name name) = codes "certificate fault 5" ++ with_name name
-cert_fault_text certificate.NoMemory = []
+cert_fault_text NotJson = codes "certificate fault 1"
+cert_fault_text (Member k) = codes "certificate fault 2: " ++ key_text k
+cert_fault_text (Version n) = codes "certificate fault 3: " ++ decimal n
+cert_fault_text TooDeep = codes "certificate fault 4"
+cert_fault_text (Name name) = codes "certificate fault 5: " ++ printed name
+cert_fault_text NoMemory = []
 
--- what is wrong with a certificate of more than 67,108,864 bytes
+-- the text of what is wrong with more than 67,108,864 bytes
 abbrev pub cert_size_text : List ℕ
 cert_size_text = codes "certificate fault 6: over 67108864 bytes"
