@@ -1,6 +1,6 @@
 ghost use Rattle.std.specs.Prelude.{◌≡◌, List, IfOk, IsErrOf};
 ghost use Rattle.word_forms.specs.Form.{Use};
-ghost use Rattle.word_values.specs.GivesUses.{HoldsCall};
+ghost use Rattle.word_values.specs.Gives.{HoldsCall};
 ghost use Rattle.std.specs.Prelude.{◌≤◌, IfSome, option_map};
 ghost use Rattle.word_lists.specs.Views.{names_in};
 ghost use Rattle.adjust_command.specs.Queries.{query_of, query_for, HasRange};

@@ -4,7 +4,7 @@ use Rattle.std.specs.Prelude.{find}
 use Rattle.std.specs.Str.{bytes_eq}
 use Rattle.std.proofs.lemmas.Option.{same_Some}
 use Rattle.word_forms.specs.Form.{Text, Use}
-use Rattle.word_values.specs.GivesUses.{HoldsCall}
+use Rattle.word_values.specs.Gives.{HoldsCall}
 use Rattle.word_values.specs.declared.values.Values.{Values}
 use Rattle.causal_cli.specs.Commands.{all_commands, row_for, Request, command_of, IsRequest, AsksNothing}
 use Rattle.causal_cli.specs.declared.commands.Command.{Command}

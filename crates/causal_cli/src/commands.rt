@@ -3,7 +3,7 @@
 ghost use Rattle.std.specs.Prelude.{List, ◌≡◌, Some, IfOk, IsErrOf, map, option_map};
 ghost use Rattle.word_forms.specs.Form.{Use, row_named, HasForm, IsCall};
 ghost use Rattle.word_forms.specs.Views.{row_of, texts_of, uses_in};
-ghost use Rattle.word_values.specs.GivesUses.{HoldsCall};
+ghost use Rattle.word_values.specs.Gives.{HoldsCall};
 ghost use Rattle.word_values.specs.Readable.{IsReadable};
 ghost use Rattle.causal_cli.specs.Commands.{all_commands, row_for, table, command_of, IsRequest, AsksNothing, Asks, request_of};
 ghost use Rattle.causal_cli.specs.Commands as asked;

@@ -1,4 +1,5 @@
 pub mod TokenSteps
+pub mod LinkSteps
 pub mod Printed
 pub mod LawRun
 pub mod LawRead
@@ -10,6 +11,8 @@ pub mod DrawnSays
 pub mod DrawnPasses
 pub mod OneAnswer
 pub mod TextForm
+pub mod ByteKinds
+pub mod Fronts
 pub mod MarkLists
 pub mod KnownNames
 pub mod Loops

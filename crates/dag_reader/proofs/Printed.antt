@@ -18,7 +18,7 @@ and_true : (a b : Bool) → (a && b) ≡ true → (a ≡ true) × (b ≡ true)
 and_true true b h = (refl, h)
 and_true false b h = cc h
 
-not_true : (a : Bool) → not a ≡ true → a ≡ false
+pub not_true : (a : Bool) → not a ≡ true → a ≡ false
 not_true true h = cc h
 not_true false h = refl
 
@@ -82,7 +82,7 @@ list_all-plain (b ∷ bs) h =
     rw (here.0, list_all-plain bs both.1) refl
 
 -- it doesn't look like a comment
-no_comment : (b : ℕ) (bs : List ℕ) → (b == 47) ≡ false → (b == 35) ≡ false → name_token (b ∷ bs) ≡ name false (b ∷ bs)
+pub no_comment : (b : ℕ) (bs : List ℕ) → (b == 47) ≡ false → (b == 35) ≡ false → name_token (b ∷ bs) ≡ name false (b ∷ bs)
 no_comment b bs slash hash = rw (eq_swap b 47 slash, eq_swap b 35 hash) refl
 
 last_of : (a b c d e : Bool) → not (a || b || c || d || e) ≡ true → e ≡ false

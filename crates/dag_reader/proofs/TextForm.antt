@@ -62,6 +62,7 @@ run_high b h = grind (arith, nat_tests)
 
 -- A text is cut into two at the end of the run at its front.
 pub run_cut : (c : Class) (bs : List ℕ) → is_utf8 bs ≡ true → TwoTexts bs (prefix_len (in_class c) bs)
+run_cut classes.White bs utf8 = cut_low is_white bs (prefix_len is_white bs) white_low utf8 refl
 run_cut classes.Edge bs utf8 = cut_low is_edge_byte bs (prefix_len is_edge_byte bs) edge_low utf8 refl
 run_cut classes.Name bs utf8 = cut_high is_name_byte bs name_high utf8
 run_cut classes.Line bs utf8 = cut_high is_line_byte bs line_high utf8
@@ -72,6 +73,10 @@ pub behind_first : (bs : List ℕ) → is_utf8 bs ≡ true → 1 ≤ length bs �
 behind_first bs utf8 some low =
     subst (λ (l : List ℕ). is_utf8 l ≡ true) (sym (take_rest bs 1))
     (cut_at bs (0 + 1) utf8 (IsCharBoundary-after_ascii bs 0 (IsUtf8-from_is_utf8 bs utf8) (omega arith) low)).1
+
+-- the bytes behind a byte below 128 are a text
+pub behind_byte : (b : ℕ) (bs : List ℕ) → b < 128 → is_utf8 (b ∷ bs) ≡ true → is_utf8 bs ≡ true
+behind_byte b bs low utf8 = (cut_at (b ∷ bs) (0 + 1) utf8 (IsCharBoundary-after_ascii (b ∷ bs) 0 (IsUtf8-from_is_utf8 (b ∷ bs) utf8) (omega arith) low)).1
 
 -- ---- names
 
@@ -95,7 +100,7 @@ both_true : (a b : Bool) → (a && b) ≡ true → (a ≡ true) × (b ≡ true)
 both_true true b h = (refl, h)
 both_true false b h = cc h
 
-names_are_lines : (xs : List ℕ) → list_all is_name_byte xs ≡ true → list_all is_line_byte xs ≡ true
+pub names_are_lines : (xs : List ℕ) → list_all is_name_byte xs ≡ true → list_all is_line_byte xs ≡ true
 names_are_lines [] h = refl
 names_are_lines (x ∷ xs) h =
     let both = both_true (is_name_byte x) (list_all is_name_byte xs) h in

@@ -1,10 +1,10 @@
 -- One token more, and the token that ends the reading.
-use Rattle.std.proofs.Common.{◌≡◌, ℕ, Bool, List, [], ◌∷◌, Result, Ok, Err, refl, sym, subst}
+use Rattle.std.proofs.Common.{◌≡◌, ℕ, Bool, List, [], ◌∷◌, length, Result, Ok, Err, refl, sym, subst}
 use Rattle.dag_reader.specs.Tokens.{Tok, end, first, place_of, wants_value}
 use Rattle.dag_reader.specs.Grammar.{Fault, Said, Position, goes_on, ends, step, settled, taken, ended}
 use Rattle.dag_reader.specs.Grammar.{at_end}
 use Rattle.dag_reader.specs.Reading.{AreFirst, rest_says, RestSays, Says}
-use Rattle.dag_reader.specs.Turns.{TurnFails, ReadsStatements}
+use Rattle.dag_reader.specs.Turns.{FailsWith, TurnFails, ReadsStatements}
 use Rattle.dag_reader.specs.FaultView.{fault_view}
 use Rattle.dag_reader.specs.declared.said.Statements.{Statements}
 use Rattle.dag_reader.specs.declared.faults.ReadFault.{ReadFault}
@@ -48,3 +48,16 @@ pub step_failed : (text : List ℕ) (p : Position) (s new : Said) (at : ℕ) (t 
     → TurnFails e (step p s at t) → ((v : Result Said Fault) → step p s at t ≡ ends v → Says text v) → r ≡ Err e → ReadsStatements text r
 step_failed text p s new at t errors.Memory r fails all is = subst (ReadsStatements text) (sym is) tt
 step_failed text p s new at t (errors.Fault f) r fails all is = subst (ReadsStatements text) (sym is) (all (Err (fault_view f)) fails)
+
+-- what the rest says is what the text says, where no byte was taken
+pub nothing_taken : (text : List ℕ) (due now : Bool) (p : Position) (s : Said) (bytes rest : List ℕ) → now ≡ due → rest ≡ bytes
+    → ((r : Result Said Fault) → RestSays (length text) due p s bytes r → Says text r)
+    → (r : Result Said Fault) → RestSays (length text) now p s rest r → Says text r
+nothing_taken text due now p s bytes rest same here all r more =
+    all r (subst (λ (d : Bool). RestSays (length text) d p s bytes r) same (subst (λ (l : List ℕ). RestSays (length text) now p s l r) here more))
+
+-- the error that a change of what was said gave is that of the text
+pub change_failed : (text : List ℕ) (v : Result Said Fault) (e : ReadFault) (r : Result Statements ReadFault)
+    → FailsWith e v → ((f : Fault) → v ≡ Err f → Says text (Err f)) → r ≡ Err e → ReadsStatements text r
+change_failed text v errors.Memory r fails all is = subst (ReadsStatements text) (sym is) tt
+change_failed text v (errors.Fault f) r fails all is = subst (ReadsStatements text) (sym is) (all (fault_view f) fails)

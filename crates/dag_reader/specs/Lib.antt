@@ -18,3 +18,4 @@ pub mod Reads
 pub mod Builds
 pub mod Written
 pub mod RoundTrip
+pub mod Links

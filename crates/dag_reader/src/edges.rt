@@ -7,7 +7,7 @@ ghost use Rattle.dag_reader.specs.Passes.{Edge, members, self_loop, arrows_of, d
 ghost use Rattle.dag_reader.specs.Rows.{row_has, pairs_below};
 
 use crate::marks::{Arrow, Remark};
-use mixed_graph::VSet;
+use mixed_graph::{Rows, VSet};
 use std::alloc::{AllocError, Global};
 
 /// The members of the group at the front.
@@ -64,16 +64,13 @@ pub fn self_loop(alloc: Global, marks: &[Remark]) -> Result<Option<u8>, AllocErr
 }
 
 /// Joins each member of one set to each of another.
-fn connect(rows: &mut [u64; 64], from: VSet, to: VSet)
+fn connect(rows: &mut Rows, from: VSet, to: VSet)
     ensures { (a b : ℕ) → row_has rows.new a b ≡ (row_has rows.old a b || (has from.bits a && has to.bits b)) }
 {
     let mut rest = from;
     'members: while !rest.is_empty() {
         let v = rest.lowest();
-        let row = VSet {
-            bits: rows[v as usize],
-        };
-        rows[v as usize] = row.union(to).bits;
+        rows[v as usize] = VSet::row(rows, v).union(to).bits;
         rest = rest.difference(VSet::one(v));
     }
 }
@@ -81,8 +78,8 @@ fn connect(rows: &mut [u64; 64], from: VSet, to: VSet)
 /// The edges of each kind: row a holds each b with a -> b, or with a <-> b as it is written from the left.
 #[derive(Clone, Copy)]
 pub struct Edges {
-    pub arrows: [u64; 64],
-    pub doubles: [u64; 64],
+    pub arrows: Rows,
+    pub doubles: Rows,
 }
 
 /// The edges that the marks say.
@@ -120,12 +117,8 @@ pub fn has_loop(edges: &Edges) -> bool
     ensures { result ≡ false → (v : ℕ) → (row_has edges.now.arrows v v ≡ false) × (row_has edges.now.doubles v v ≡ false) }
 {
     for v in 0..64u8 {
-        let row = VSet {
-            bits: edges.arrows[v as usize],
-        };
-        let both = VSet {
-            bits: edges.doubles[v as usize],
-        };
+        let row = VSet::row(&edges.arrows, v);
+        let both = VSet::row(&edges.doubles, v);
         if row.union(both).has(v) {
             return true;
         }
@@ -147,16 +140,14 @@ fn push_row(out: &mut Vec<(u8, u8)>, a: u8, row: VSet) -> Result<(), AllocError>
 }
 
 /// The pairs of the rows, sorted.
-pub fn pairs_below(alloc: Global, n: u32, rows: &[u64; 64]) -> Result<Vec<(u8, u8)>, AllocError>
+pub fn pairs_below(alloc: Global, n: u32, rows: &Rows) -> Result<Vec<(u8, u8)>, AllocError>
     requires { n ≤ 64 }
     ensures { IfOk result (λ pairs. pairs.items ≡ pairs_below n (row_has rows.now)) }
 {
     let below = VSet::below(n);
     let mut out = Vec::new(alloc);
     for a in 0..n {
-        let row = VSet {
-            bits: rows[a as usize],
-        };
+        let row = VSet::row(rows, a as u8);
         push_row(&mut out, a as u8, row.intersection(below))?;
     }
     Ok(out)

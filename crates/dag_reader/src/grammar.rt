@@ -1,6 +1,7 @@
 ghost use Rattle.std.specs.Prelude.{◌≡◌, List, ℕ, [], ◌∷◌, Some, None, option_map};
 ghost use Rattle.dag_reader.specs.Tokens.{Tok};
 ghost use Rattle.dag_reader.specs.Grammar.{next_statement, next_in_chain, next_after_name, next_in_group, next_in_attrs, next_after_attr, next};
+ghost use Rattle.dag_reader.specs.Links.{begins_statement};
 ghost use Rattle.dag_reader.specs.Views.{view};
 ghost use Rattle.dag_reader.specs.PlaceView.{place_view, name_view};
 
@@ -160,4 +161,15 @@ pub fn next<'a>(place: Position<'a>, at: usize, token: Token<'a>) -> Option<Posi
         },
         Position::End => None,
     }
+}
+
+/// Whether a name that comes there begins a statement.
+#[inline(always)]
+pub fn begins_statement(place: Position<'_>) -> bool
+    ensures { result ≡ begins_statement (place_view place.entry) }
+{
+    matches!(
+        place,
+        Position::Statement | Position::AfterName(_) | Position::ChainName(_) | Position::AfterGroup
+    )
 }

@@ -18,6 +18,7 @@ impl NameGuesses {
     }
 
     /// The index of a name, where the guess is right.
+    #[inline(always)]
     pub fn index(&self, names: &Names, name: &[u8]) -> Option<u8>
         ensures { IfSome result (λ i. (is_named names.now name.now ≡ true) × (i ≡ index_of names.now name.now) × (i < length names.now)) }
     {

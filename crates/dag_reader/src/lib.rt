@@ -4,6 +4,7 @@
 #![tactic(auto)]
 
 mod building;
+mod bytes;
 mod edges;
 mod fault_text;
 mod faults;

@@ -5,7 +5,7 @@ ghost use Rattle.dag_reader.specs.MarkEnds.{is_inside};
 use crate::faults::{Fault, ReadFault, misfit, own_fault};
 use crate::grammar::{Position, next};
 use crate::guesses::NameGuesses;
-use crate::marks::{Remark, Role};
+use crate::marks::{Arrow, Remark, Role};
 use crate::tokens::{Token, is_end};
 use crate::words::Word;
 use mixed_graph::{AddFault, Names};
@@ -22,6 +22,7 @@ pub struct Statements {
 
 impl Statements {
     ghost use Rattle.dag_reader.specs.Grammar.{Said, nothing, with_marks, with_vertex, with_flag, settled, noted, step};
+    ghost use Rattle.dag_reader.specs.Links.{with_link};
     ghost use Rattle.dag_reader.specs.Views.{view};
     ghost use Rattle.dag_reader.specs.SaidView.{said_by};
     ghost use Rattle.dag_reader.specs.PlaceView.{name_view, place_view};
@@ -46,6 +47,7 @@ impl Statements {
         Ok(())
     }
 
+    #[inline(always)]
     fn add_vertex<'a>(&mut self, name: Word<'a>) -> Result<(), ReadFault<'a>>
         ensures { Leaves (with_vertex name.entry.bytes.now (said_by self.old)) (said_by self.new) result }
     {
@@ -53,6 +55,14 @@ impl Statements {
             self.mark(Remark::Member(index))?;
             return Ok(());
         }
+        self.look_up(name)
+    }
+
+    /// The same by the names themselves.
+    #[inline(never)]
+    fn look_up<'a>(&mut self, name: Word<'a>) -> Result<(), ReadFault<'a>>
+        ensures { Leaves (with_vertex name.entry.bytes.now (said_by self.old)) (said_by self.new) result }
+    {
         match self.names.add(name.bytes) {
             Ok(index) => {
                 self.guesses.keep(name.bytes, index);
@@ -87,6 +97,7 @@ impl Statements {
     }
 
     /// What the name before a token is, which the token settles.
+    #[inline(always)]
     fn settle<'a>(&mut self, place: Position<'a>, token: Token<'a>) -> Result<(), ReadFault<'a>>
         ensures { Leaves (settled (place_view place.entry) (view token.entry) (said_by self.old)) (said_by self.new) result }
     {
@@ -149,5 +160,22 @@ impl Statements {
         };
         self.note(place, token)?;
         Ok(Some(after))
+    }
+
+    /// A name that begins a statement, and the edge behind it.
+    #[inline(always)]
+    pub fn link<'a>(
+        &mut self,
+        place: Position<'a>,
+        left: Word<'a>,
+        arrow: Arrow,
+    ) -> Result<(), ReadFault<'a>>
+        ensures { Leaves (with_link (place_view place.entry) left.entry.bytes.now arrow (said_by self.old)) (said_by self.new) result }
+    {
+        self.settle(place, Token::Name(false, left))?;
+        self.mark(Remark::Begins)?;
+        self.add_vertex(left)?;
+        self.mark(Remark::Joined(arrow))?;
+        Ok(())
     }
 }

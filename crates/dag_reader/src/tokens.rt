@@ -1,21 +1,23 @@
-ghost use Rattle.std.specs.Prelude.{◌≡◌, ◌≢◌, ◌<◌, ◌≤◌, ◌-◌, ◌+◌, List, ℕ, [], ◌∷◌, Some, None, IsTrue, true, false, length, take, drop, IfOk, IfSome, option_map};
+ghost use Rattle.std.specs.Prelude.{◌≡◌, ◌≢◌, ◌<◌, ◌≤◌, ◌-◌, ◌+◌, ◌++◌, List, ℕ, [], ◌∷◌, Some, None, IsTrue, true, false, length, take, drop, IfOk, IfSome, IfNone, option_map};
 ghost use Rattle.std.specs.List.{prefix_len, list_all};
 ghost use Rattle.std.specs.Str.{is_utf8};
 ghost use Rattle.mixed_graph.specs.Names.{IsName};
 ghost use Rattle.name_text.specs.Printing.{is_white, is_edge_byte, is_sign, is_name_byte};
 ghost use Rattle.dag_reader.specs.Bytes.{in_class, is_run_byte};
 ghost use Rattle.mixed_graph.specs.Names.{is_line_byte};
-ghost use Rattle.dag_reader.specs.Tokens.{Tok, end, edge_token, name_token, quoted_name_token, sign_token, quoted_text, token_at, value_at, token_of, past_white, first, place_of, wants_value};
+ghost use Rattle.dag_reader.specs.Tokens.{Tok, end, edge, name, edge_token, name_token, quoted_name_token, sign_token, quoted_text, token_at, value_at, token_of, past_white, first, place_of, wants_value};
 ghost use Rattle.dag_reader.specs.Views.{view};
 ghost use Rattle.dag_reader.specs.Grammar.{is_end};
+ghost use Rattle.dag_reader.specs.Links.{IsLink, sign_of, ends_edge};
 
+use crate::bytes::{is_edge_byte, is_name_byte, is_white};
 use crate::marks::Arrow;
-use crate::words::Word;
-use name_text::{is_edge_byte, is_name_byte, is_white};
+use crate::words::{Link, Word};
 
 /// The classes of bytes of which runs are made.
 #[derive(Clone, Copy, Debug, PartialEq, Eq)]
 pub enum Class {
+    White,
     Edge,
     Name,
     Line,
@@ -49,6 +51,7 @@ fn is_in(class: Class, byte: u8) -> bool
     ensures { result ≡ in_class class byte }
 {
     match class {
+        Class::White => is_white(byte),
         Class::Edge => is_edge_byte(byte),
         Class::Name => is_name_byte(byte),
         Class::Line => !matches!(byte, b'"' | b'\r' | b'\n'),
@@ -72,24 +75,6 @@ fn run_len(class: Class, bytes: &[u8]) -> usize
     bytes.len()
 }
 
-/// What follows the white space at the front.
-#[inline(always)]
-fn past_white(bytes: &[u8]) -> &[u8]
-    requires { is_utf8 bytes.now ≡ true }
-    ensures rest { result.now ≡ past_white bytes.now }
-    ensures text { is_utf8 result.now ≡ true }
-    ensures within { length result.now ≤ length bytes.now }
-{
-    let mut rest = bytes;
-    while let [byte, after @ ..] = rest {
-        if !is_white(*byte) {
-            return rest;
-        }
-        rest = after;
-    }
-    rest
-}
-
 /// The run of the class at the front, and what follows it.
 #[inline(always)]
 fn split_run(class: Class, bytes: &[u8]) -> (&[u8], &[u8])
@@ -99,8 +84,21 @@ fn split_run(class: Class, bytes: &[u8]) -> (&[u8], &[u8])
     ensures passes { list_all (in_class class) result.0.now ≡ true }
     ensures text { is_utf8 result.0.now ≡ true }
     ensures after { is_utf8 result.1.now ≡ true }
+    ensures within { length result.1.now ≤ length bytes.now }
 {
     bytes.split_at(run_len(class, bytes))
+}
+
+/// What follows the white space at the front.
+#[inline(always)]
+fn past_white(bytes: &[u8]) -> &[u8]
+    requires { is_utf8 bytes.now ≡ true }
+    ensures rest { result.now ≡ past_white bytes.now }
+    ensures text { is_utf8 result.now ≡ true }
+    ensures within { length result.now ≤ length bytes.now }
+{
+    let (_, rest) = split_run(Class::White, bytes);
+    rest
 }
 
 fn edge(run: &[u8]) -> Token<'_>
@@ -238,6 +236,67 @@ fn token_of(value_due: bool, bytes: &[u8]) -> (Token<'_>, &[u8])
     token_at(*byte, rest, bytes)
 }
 
+/// The bare name at the front, behind white space, and what follows it; none of those that may look like a comment.
+#[inline(always)]
+fn name_first(bytes: &[u8]) -> Option<(Word<'_>, &[u8])>
+    requires { is_utf8 bytes.now ≡ true }
+    ensures token { IfSome result (λ p. first false bytes.now ≡ (name false p.0.bytes.now, p.1.now)) }
+    ensures shorter { IfSome result (λ p. length p.1.now < length bytes.now) }
+    ensures after { IfSome result (λ p. is_utf8 p.1.now ≡ true) }
+{
+    let (run, rest) = split_run(Class::Name, past_white(bytes));
+    let [byte, ..] = run else {
+        return None;
+    };
+    if *byte == b'/' {
+        return None;
+    }
+    if *byte == b'#' {
+        return None;
+    }
+    Some((Word { bytes: run }, rest))
+}
+
+/// The edge at the front, behind white space, and what follows it.
+#[inline(always)]
+fn edge_first(bytes: &[u8]) -> Option<(Arrow, &[u8])>
+    requires { is_utf8 bytes.now ≡ true }
+    ensures token { IfSome result (λ p. first false bytes.now ≡ (edge p.0, p.1.now)) }
+    ensures kept { IfSome result (λ p. length p.1.now ≤ length bytes.now) }
+    ensures after { IfSome result (λ p. is_utf8 p.1.now ≡ true) }
+{
+    let (arrow, rest) = arrow_at(past_white(bytes))?;
+    if ends_edge(rest) {
+        return Some((arrow, rest));
+    }
+    None
+}
+
+/// The arrow at the front, which may go on, and what follows it.
+#[inline(always)]
+fn arrow_at(bytes: &[u8]) -> Option<(Arrow, &[u8])>
+    ensures arrow { IfSome result (λ p. bytes.now ≡ sign_of p.0 ++ p.1.now) }
+    ensures kept { IfSome result (λ p. length p.1.now ≤ length bytes.now) }
+{
+    match bytes {
+        [b'-', b'>', rest @ ..] => Some((Arrow::Right, rest)),
+        [b'<', b'-', b'>', rest @ ..] => Some((Arrow::Both, rest)),
+        [b'<', b'-', rest @ ..] => Some((Arrow::Left, rest)),
+        _ => None,
+    }
+}
+
+/// Whether no byte of an edge is at the front.
+#[inline(always)]
+fn ends_edge(bytes: &[u8]) -> bool
+    ensures { result ≡ ends_edge bytes.now }
+{
+    match bytes {
+        [byte, ..] => !is_edge_byte(*byte),
+        [] => true,
+    }
+}
+
 /// Cuts a text into tokens.
 #[derive(Clone, Copy, Debug)]
 pub struct Lexer<'a> {
@@ -276,6 +335,26 @@ impl<'a> Lexer<'a> {
         self.rest = rest;
         self.value_due = matches!(token, Token::Equals);
         (at, token)
+    }
+
+    /// The edge between two bare names that comes next. Where there is none, nothing is taken.
+    #[inline(always)]
+    pub fn link(&mut self) -> Option<Link<'a>>
+        ensures link { IfSome result (λ l. IsLink self.old.rest.now l.left.bytes.now l.arrow l.right.bytes.now self.new.rest.now) }
+        ensures none { IfNone result (self.new.rest.now ≡ self.old.rest.now) }
+        ensures size { self.new.size ≡ self.old.size }
+        ensures due { self.new.value_due ≡ self.old.value_due }
+        ensures not_due { IfSome result (λ _. self.old.value_due ≡ false) }
+        ensures shorter { IfSome result (λ _. length self.new.rest.now < length self.old.rest.now) }
+    {
+        if self.value_due {
+            return None;
+        }
+        let (left, behind_left) = name_first(self.rest)?;
+        let (arrow, behind_edge) = edge_first(behind_left)?;
+        let (right, rest) = name_first(behind_edge)?;
+        self.rest = rest;
+        Some(Link { left, arrow, right })
     }
 }
 

@@ -1,8 +1,18 @@
 ghost use Rattle.mixed_graph.specs.Names.{IsName};
 
+use crate::marks::Arrow;
+
 /// A name where it stands in a text.
 #[derive(Clone, Copy, Debug)]
 pub struct Word<'a> {
     pub bytes: &'a [u8],
     pub ghost formed: { IsName bytes.now },
+}
+
+/// An edge between two bare names, where they stand in a text.
+#[derive(Clone, Copy, Debug)]
+pub struct Link<'a> {
+    pub left: Word<'a>,
+    pub arrow: Arrow,
+    pub right: Word<'a>,
 }

@@ -6,7 +6,7 @@ ghost use Rattle.dag_reader.specs.Written.{role_text, vertex_lines, edge_lines, 
 use crate::edges::pairs_below;
 use crate::graph::ReadGraph;
 use crate::marks::Role;
-use mixed_graph::{Names, VSet};
+use mixed_graph::{Names, Rows, VSet};
 use name_text::push_name;
 use std::alloc::{AllocError, Global};
 
@@ -100,16 +100,14 @@ fn roles_listed(alloc: Global, g: &ReadGraph) -> Result<Vec<Option<Role>>, Alloc
 }
 
 /// The rows without the bits at and below the diagonal.
-fn above(rows: &[u64; 64]) -> [u64; 64]
+fn above(rows: &Rows) -> Rows
     ensures { (a b : ℕ) → row_has result a b ≡ (row_has rows.now a b && nat_lt a b) }
 {
     let mut out = [0u64; 64];
     for v in 0..64u8 {
-        out[v as usize] = VSet {
-            bits: rows[v as usize],
-        }
-        .difference(VSet::below(v as u32 + 1))
-        .bits;
+        out[v as usize] = VSet::row(rows, v)
+            .difference(VSet::below(v as u32 + 1))
+            .bits;
     }
     out
 }

@@ -6,9 +6,9 @@ use Rattle.prob_expr.specs.View.{view}
 use Rattle.do_derivation.specs.View.{steps_view, lemma_view}
 use Rattle.identification.specs.Procedure.{AreAncestorsIn, Source, IsFactor, IsStopped}
 use Rattle.identification.specs.Derivations.{AreFactorSteps}
-use Rattle.district_factors.specs.declared.factor.Factor.{Factor}
-use Rattle.district_factors.specs.declared.factor.FactorFault.{FactorFault}
-use Rattle.district_factors.specs.declared.factor.FactorFault.TheVariants.{Stopped, NoMemory}
+use Rattle.district_factors.specs.declared.district_factor.Factor.{Factor}
+use Rattle.district_factors.specs.declared.district_factor.FactorFault.{FactorFault}
+use Rattle.district_factors.specs.declared.district_factor.FactorFault.TheVariants.{Stopped, NoMemory}
 
 -- f is the factor of c by this order, read from the distribution of the ancestors of c under an intervention on z, with its definitions from number k on and with its derivation
 pub record IsFactorUnder (g : MixedGraph) (order : List ℕ) (z c k : ℕ) (f : Factor) : Type 0 where

@@ -9,8 +9,8 @@ use Rattle.do_derivation.specs.View.{steps_view}
 use Rattle.identification.specs.Procedure.{AreAncestorsIn, Source, IsFactor, IsStopped}
 use Rattle.identification.specs.Derivations.{cut_steps, AreFactorSteps}
 use Rattle.district_factors.specs.declared.body.Body.{Body}
-use Rattle.district_factors.specs.declared.factor.FactorFault.{FactorFault}
-use Rattle.district_factors.specs.declared.factor.FactorFault.TheVariants.{Stopped, NoMemory}
+use Rattle.district_factors.specs.declared.district_factor.FactorFault.{FactorFault}
+use Rattle.district_factors.specs.declared.district_factor.FactorFault.TheVariants.{Stopped, NoMemory}
 use Rattle.district_factors.specs.declared.rounds.Round.{Round}
 use Rattle.district_factors.specs.declared.rounds.Round.TheVariants.{Done, Further}
 use Rattle.district_factors.specs.Bodies.{IsBodyOf}

@@ -4,12 +4,12 @@
 #![tactic(auto)]
 
 mod body;
-mod factor;
+mod district_factor;
 mod moves;
 mod place;
 mod rounds;
 mod sets;
 mod terms;
 
-pub use factor::{Factor, FactorFault};
+pub use district_factor::{Factor, FactorFault};
 pub use rounds::{factor, factor_under};

@@ -15,7 +15,7 @@ ghost use Rattle.district_factors.specs.Parts.{source_of};
 ghost use Rattle.district_factors.specs.Rounds.{IsSummed, IsRound, IsRoundFault};
 
 use crate::body::{Body, body_of};
-use crate::factor::{Factor, FactorFault};
+use crate::district_factor::{Factor, FactorFault};
 use crate::moves::cut_steps;
 use crate::sets::ancestors_in;
 use crate::terms::Source;

@@ -6,7 +6,7 @@ ghost use Rattle.equivalent_command.specs.Numbers.{AreAmong, HaveSameNames};
 ghost use Rattle.equivalent_command.specs.Faults.{IsFirstBidirected, IsBidirectedFault, IsFirstAlone, IsNamesFault};
 
 use latent_projection::Observed;
-use mixed_graph::{Graph, Names, Text, VSet};
+use mixed_graph::{Graph, Names, Text};
 use std::alloc::{AllocError, Global};
 use targets::TargetFault;
 
@@ -24,11 +24,12 @@ fn first_bidirected(g: &Graph) -> Option<Pair>
     ensures none { IfNone result (HasArrowsAlone (graph_of g.now)) }
 {
     for a in 0..g.n as u8 {
-        let row = VSet {
-            bits: g.spouses[a as usize],
-        };
-        if !row.is_empty() {
-            return Some(Pair { a, b: row.lowest() });
+        let spouses = g.spouses(a);
+        if !spouses.is_empty() {
+            return Some(Pair {
+                a,
+                b: spouses.lowest(),
+            });
         }
     }
     None

@@ -5,7 +5,7 @@ ghost use Rattle.mixed_graph.specs.Shown.{graph_of};
 ghost use Rattle.equivalent_command.specs.Numbers.{AreAmong, on_names};
 
 use latent_projection::Observed;
-use mixed_graph::{Graph, Names, VSet};
+use mixed_graph::{Graph, Names, Rows, VSet};
 
 /// Where the name of v stands among the others.
 fn place(names: &Names, others: &Names, v: u8) -> u8
@@ -47,7 +47,7 @@ fn members_at(places: &[u8; 64], n: u32, s: VSet) -> VSet
 }
 
 /// The rows on the numbers below n: row a is that of the place of a.
-fn rows_at(places: &[u8; 64], n: u32, rows: &[u64; 64]) -> [u64; 64]
+fn rows_at(places: &[u8; 64], n: u32, rows: &Rows) -> Rows
     requires size { n ≤ 64 }
     requires few { (k : ℕ) → slice_index places.now k < 64 }
     ensures { (a b : ℕ) → has (slice_index result a) b
@@ -55,9 +55,7 @@ fn rows_at(places: &[u8; 64], n: u32, rows: &[u64; 64]) -> [u64; 64]
 {
     let mut out = [0u64; 64];
     for a in 0..n as u8 {
-        let row = VSet {
-            bits: rows[places[a as usize] as usize],
-        };
+        let row = VSet::row(rows, places[a as usize]);
         out[a as usize] = members_at(places, n, row).bits;
     }
     out

@@ -1,6 +1,6 @@
 ghost use Rattle.std.specs.Prelude.{◌≡◌, true, false, IsTrue, List, Option, None, IfOk, IsErrOf, codes, option_map};
 ghost use Rattle.word_forms.specs.Form.{Use, is_among, value_names, value_of};
-ghost use Rattle.word_values.specs.GivesUses.{HoldsCall};
+ghost use Rattle.word_values.specs.Gives.{HoldsCall};
 ghost use Rattle.equivalent_command.specs.Requests.{Query as AskedQuery, equivalent_row, query_of, IsQuery};
 
 use request_values::{RequestFault, are_both_standard, names_or_empty, needed_names, needed_word};

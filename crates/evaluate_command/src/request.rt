@@ -1,6 +1,6 @@
 ghost use Rattle.std.specs.Prelude.{◌≡◌, List, IfOk, IsErrOf};
 ghost use Rattle.word_forms.specs.Form.{Use};
-ghost use Rattle.word_values.specs.GivesUses.{HoldsCall};
+ghost use Rattle.word_values.specs.Gives.{HoldsCall};
 ghost use Rattle.std.specs.Prelude.{option_map};
 
 use request_values::{RequestFault, are_both_standard, listed_names, needed_word};

@@ -3,7 +3,7 @@
 ghost use Rattle.std.specs.Prelude.{List, ◌≡◌, Some, None, IfOk, IsErrOf, map, option_map};
 ghost use Rattle.word_forms.specs.Form.{Text, Use, row_named, HasForm, IsCall, IsOnlyCall};
 ghost use Rattle.word_forms.specs.Views.{row_of, texts_of, uses_in};
-ghost use Rattle.word_values.specs.GivesUses.{HoldsCall};
+ghost use Rattle.word_values.specs.Gives.{HoldsCall};
 ghost use Rattle.word_values.specs.Readable.{IsReadable};
 ghost use Rattle.explain_call.specs.Requests.{row_for, table, kind_of, IsRequest, AsksNothing, Asks, request_of};
 ghost use Rattle.explain_call.specs.Requests as asked;

@@ -1,6 +1,6 @@
 ghost use Rattle.std.specs.Prelude.{◌≡◌, List, IfOk, IsErrOf};
 ghost use Rattle.word_forms.specs.Form.{Use};
-ghost use Rattle.word_values.specs.GivesUses.{HoldsCall};
+ghost use Rattle.word_values.specs.Gives.{HoldsCall};
 
 use request_values::{RequestFault, needed_word};
 use word_forms::Entry;

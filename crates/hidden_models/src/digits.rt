@@ -33,15 +33,13 @@ pub fn parent_values(p: &Graph, m: &Model, v: u8, number: usize) -> [u32; 64]
     requires positive { (k : ℕ) → k < p.now.n → 0 < slice_index m.now.sizes.items k }
     ensures { (k : ℕ) → slice_index result k ≡ digits p.now.n (λ k. (graph_of p.now).arrow k v) (λ k. slice_index m.now.sizes.items k) number k }
 {
-    let row = VSet {
-        bits: p.parents[v as usize],
-    };
+    let parents = p.parents(v);
     let n = m.sizes.len();
     let mut values = [0u32; 64];
     let mut rest = number;
     for i in 0..n {
         let k = n - 1 - i;
-        let kept = row.has(k as u8);
+        let kept = parents.has(k as u8);
         let base = m.sizes[k] as usize;
         values[k] = last_digit(rest, kept, base) as u32;
         rest = without_last(rest, kept, base);

@@ -9,7 +9,7 @@ ghost use Rattle.finite_models.specs.Worlds.{values_of};
 ghost use Rattle.hidden_models.specs.Values.{IsWorldOf};
 
 use finite_models::Model;
-use mixed_graph::{Graph, VSet};
+use mixed_graph::Graph;
 
 /// The place with one more digit, where it is kept.
 fn with_digit(place: usize, kept: bool, base: usize, digit: usize) -> usize
@@ -27,14 +27,12 @@ fn parents_place(g: &Graph, m: &Model, v: u8, values: &[u32; 64]) -> usize
     requires fits { radix_range g.now.n (λ p. (graph_of g.now).arrow p v) (λ p. slice_index m.now.sizes.items p) < 2 ^ 64 }
     ensures { result ≡ radix g.now.n (λ p. (graph_of g.now).arrow p v) (λ p. slice_index m.now.sizes.items p) (λ p. slice_index values.now p) }
 {
-    let row = VSet {
-        bits: g.parents[v as usize],
-    };
+    let parents = g.parents(v);
     let mut place = 0usize;
     for p in 0..m.sizes.len() {
         place = with_digit(
             place,
-            row.has(p as u8),
+            parents.has(p as u8),
             m.sizes[p] as usize,
             values[p] as usize,
         );

@@ -27,12 +27,10 @@ fn parents_range(p: &Graph, m: &Model, v: u8) -> u64
     requires sizes { length m.now.sizes.items ≡ p.now.n }
     ensures { result ≡ min (radix_range p.now.n (λ k. (graph_of p.now).arrow k v) (λ k. slice_index m.now.sizes.items k)) 1048577 }
 {
-    let row = VSet {
-        bits: p.parents[v as usize],
-    };
+    let parents = p.parents(v);
     let mut range = 1u64;
     for k in 0..m.sizes.len() {
-        range = widened(range, row.has(k as u8), m.sizes[k] as usize);
+        range = widened(range, parents.has(k as u8), m.sizes[k] as usize);
     }
     range
 }

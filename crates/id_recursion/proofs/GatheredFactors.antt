@@ -18,9 +18,9 @@ use Rattle.do_derivation.proofs.Lists.{joined-nothing, joined_more}
 use Rattle.identification.specs.Procedure.{Source, AreFactored, StopsAt}
 use Rattle.identification.specs.Derivations.{Lists, no_more, more, AreFactorSteps, AreAllSteps}
 use Rattle.district_factors.specs.Factors.{IsFactorOf, IsFactorFault}
-use Rattle.district_factors.specs.declared.factor.FactorFault.{FactorFault}
-use Rattle.district_factors.specs.declared.factor.FactorFault.TheVariants.{Stopped, NoMemory}
-use Rattle.district_factors.specs.declared.factor.Factor.{Factor}
+use Rattle.district_factors.specs.declared.district_factor.FactorFault.{FactorFault}
+use Rattle.district_factors.specs.declared.district_factor.FactorFault.TheVariants.{Stopped, NoMemory}
+use Rattle.district_factors.specs.declared.district_factor.Factor.{Factor}
 use Rattle.id_recursion.specs.Factored.{AreFactorsOf, IsStopOf, AreWithMore, stop_for}
 use Rattle.id_recursion.specs.Lists.{lists_onto, lists_view}
 use Rattle.id_recursion.specs.declared.answer.Factors.{Factors}

@@ -9,9 +9,9 @@ use Rattle.do_derivation.specs.View.{lemma_view}
 use Rattle.identification.specs.Procedure.{AreFactored, StopsAt, product_of, sum_if}
 use Rattle.identification.specs.Derivations.{AreAllSteps, district_steps, main_steps}
 use Rattle.mixed_graph.specs.declared.sets.VSet.{VSet}
-use Rattle.district_factors.specs.declared.factor.Factor.{Factor}
-use Rattle.district_factors.specs.declared.factor.FactorFault.{FactorFault}
-use Rattle.district_factors.specs.declared.factor.FactorFault.TheVariants as faults
+use Rattle.district_factors.specs.declared.district_factor.Factor.{Factor}
+use Rattle.district_factors.specs.declared.district_factor.FactorFault.{FactorFault}
+use Rattle.district_factors.specs.declared.district_factor.FactorFault.TheVariants as faults
 use Rattle.id_recursion.specs.Lists.{lists_view}
 use Rattle.id_recursion.specs.declared.answer.Factors.{Factors}
 use Rattle.id_recursion.specs.declared.answer.Stop.{Stop}

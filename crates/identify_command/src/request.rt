@@ -1,6 +1,6 @@
 ghost use Rattle.std.specs.Prelude.{◌≡◌, List, IfOk, IsErrOf};
 ghost use Rattle.word_forms.specs.Form.{Use};
-ghost use Rattle.word_values.specs.GivesUses.{HoldsCall};
+ghost use Rattle.word_values.specs.Gives.{HoldsCall};
 ghost use Rattle.std.specs.Prelude.{IfSome, IfNone};
 ghost use Rattle.identify_command.specs.Forms.{IsForm};
 ghost use Rattle.identify_command.specs.declared.form.Form as asked;

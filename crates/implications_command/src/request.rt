@@ -1,6 +1,6 @@
 ghost use Rattle.std.specs.Prelude.{◌≡◌, false, List, IfOk, IsErrOf, IsTrue, option_map};
 ghost use Rattle.word_forms.specs.Form.{Use};
-ghost use Rattle.word_values.specs.GivesUses.{HoldsCall};
+ghost use Rattle.word_values.specs.Gives.{HoldsCall};
 ghost use Rattle.implications_command.specs.Requests.{AreInputs};
 
 use request_values::{RequestFault, are_both_standard, needed_word};

@@ -1,9 +1,11 @@
 -- The names of the observed vertices.
-use Rattle.std.proofs.Common.{ℕ, zero, suc, ◌+◌, ◌<◌, ◌≤◌, ◌≡◌, Bool, true, false, ◌||◌, List, [], ◌∷◌, ◌++◌, length, get_or, Some, inl, inr, refl, sym, ap, ◌∙◌, subst, arith, add-one}
+use Rattle.std.proofs.Common.{ℕ, zero, suc, ◌+◌, ◌<◌, ◌≤◌, ◌≡◌, Bool, true, false, ◌||◌, List, [], ◌∷◌, ◌++◌, length, get_or, take, Some, inl, inr, refl, sym, ap, ◌∙◌, subst, arith, add-one}
 use Rattle.std.proofs.lemmas.Bool.{cases_Bool, false_from_ne_true, or_from}
 use Rattle.std.proofs.lemmas.List.{map-append, length-map}
 use Rattle.std.proofs.lemmas.List.Folds.{list_any-append}
-use Rattle.std.proofs.lemmas.Option.{get_or_from_slice_get}
+use Rattle.std.proofs.lemmas.List.{take_more}
+use Rattle.std.proofs.Math.Seq.{take-length}
+use Rattle.std.proofs.lemmas.Option.{get_or_from_slice_get, slice_get-get_or}
 use Rattle.std.proofs.lemmas.Slice.Eq.{bytes_eq-Decides}
 use Rattle.std.specs.Prelude.{slice_get}
 use Rattle.std.specs.List.{list_any}
@@ -48,3 +50,16 @@ not_named s (suc k) v names are le below =
           (or_from (bytes_eq (get_or names v []) (get_or names k [])) false (differ names k v are (omega arith) below) refl)
       | inr e ↦ ap (λ vs. is_named (names_at vs names) (get_or names v [])) (members-same s k e) ∙ before
     ])
+
+-- the names of the first k vertices, where all are listed
+first_names : (s : ℕ → Bool) → ((v : ℕ) → s v ≡ true) → (names : List (List ℕ)) (k : ℕ) → k ≤ length names → names_at (members_below s k) names ≡ take k names
+first_names s every names zero le = names_at-none s names
+first_names s every names (suc k) le =
+    let lt : k < length names = omega (arith, le) in
+    subst (λ n. names_at (members_below s n) names ≡ take n names) (add-one k)
+    (names_at-more s k names (get_or names k []) (every k) (slice_get-get_or names k [] lt)
+    ∙ ap (λ ns. ns ++ get_or names k [] ∷ []) (first_names s every names k (omega (arith, le))) ∙ sym (take_more names k [] lt))
+
+-- where all are listed, these are all names
+pub all_names : (s : ℕ → Bool) → ((v : ℕ) → s v ≡ true) → (names : List (List ℕ)) → names_at (members_below s (length names)) names ≡ names
+all_names s every names = first_names s every names (length names) (omega arith) ∙ take-length names

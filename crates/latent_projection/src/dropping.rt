@@ -45,11 +45,14 @@ fn observed_graph(graph: &Graph, latent: VSet) -> Graph
     drop_latent(&projection, latent)
 }
 
-/// The names of the observed vertices.
+/// The names of the observed vertices; without latent vertices all names.
 fn observed_names(alloc: Global, names: &Names, latent: VSet) -> Result<Names, AllocError>
     ensures { IfOk result (λ kept. kept ≡ names_at (observed_below (has latent.bits) (length names.now)) names.now) }
 {
     let n = names.count();
+    if latent.is_empty() {
+        return names.copy();
+    }
     let mut kept = Names::empty(alloc);
     for v in 0..n as u8 {
         if !latent.has(v) {

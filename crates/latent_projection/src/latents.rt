@@ -4,7 +4,7 @@ ghost use Rattle.mixed_graph.specs.Shown.{graph_of};
 ghost use Rattle.latent_projection.specs.Projection.{IsProjection};
 ghost use Rattle.latent_projection.specs.Removal.{without};
 
-use mixed_graph::{Graph, VSet};
+use mixed_graph::{Graph, Rows, VSet};
 
 /// The latent projection: a -> b where a directed path from a to b has only latent inner vertices,
 /// a <-> b where a path without colliders and with arrowheads at both ends has only latent inner vertices.
@@ -42,21 +42,17 @@ fn remove(g: &Graph, k: u8) -> Graph
 }
 
 /// The rows without k, where a row that holds k holds the row of k.
-fn arrows_past(rows: &[u64; 64], k: u8) -> [u64; 64]
+fn arrows_past(rows: &Rows, k: u8) -> Rows
     requires { k < 64 }
     ensures { (a b : ℕ) → has (slice_index result a) b
         ≡ (not (a == k) && (not (b == k) && (has (slice_index rows.now a) b
         || (has (slice_index rows.now a) k && has (slice_index rows.now k) b)))) }
 {
-    let next = VSet {
-        bits: rows[k as usize],
-    };
+    let next = VSet::row(rows, k);
     let gone = VSet::one(k);
     let mut out = [0u64; 64];
     for v in 0..64u8 {
-        let row = VSet {
-            bits: rows[v as usize],
-        };
+        let row = VSet::row(rows, v);
         out[v as usize] = row
             .union(next.only_if(row.has(k)))
             .difference(gone)
@@ -67,22 +63,16 @@ fn arrows_past(rows: &[u64; 64], k: u8) -> [u64; 64]
 }
 
 /// The bidirected edges without k: those that there are, and one for each path through k with arrowheads at both ends.
-fn spouses_past(g: &Graph, k: u8) -> [u64; 64]
+fn spouses_past(g: &Graph, k: u8) -> Rows
     requires { k < 64 }
     ensures { (a b : ℕ) → has (slice_index result a) b ≡ (without (graph_of g.now) k).both a b }
 {
     let gone = VSet::one(k);
-    let children = VSet {
-        bits: g.children[k as usize],
-    };
-    let headed = children.union(VSet {
-        bits: g.spouses[k as usize],
-    });
+    let children = g.children(k);
+    let headed = children.union(g.spouses(k));
     let mut out = [0u64; 64];
     for v in 0..64u8 {
-        let row = VSet {
-            bits: g.spouses[v as usize],
-        };
+        let row = g.spouses(v);
         let past = headed
             .only_if(children.has(v))
             .union(children.only_if(row.has(k)));

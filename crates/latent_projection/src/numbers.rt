@@ -3,7 +3,7 @@ ghost use Rattle.mixed_graph.specs.Bits.{has};
 ghost use Rattle.mixed_graph.specs.Shown.{graph_of};
 ghost use Rattle.latent_projection.specs.Renumbering.{observed_below, renumbered_set, renumbered};
 
-use mixed_graph::{Graph, VSet};
+use mixed_graph::{Graph, Rows, VSet};
 
 /// The set s of vertices below n in the numbers of the observed ones: k is a member where the observed vertex k is in s.
 pub fn renumber(latent: VSet, n: u32, s: VSet) -> VSet
@@ -30,7 +30,7 @@ fn count_observed(latent: VSet, n: u32) -> u32
 }
 
 /// The rows of the observed vertices, in the numbers of these.
-fn observed_rows(latent: VSet, n: u32, rows: &[u64; 64]) -> [u64; 64]
+fn observed_rows(latent: VSet, n: u32, rows: &Rows) -> Rows
     requires { n ≤ 64 }
     ensures { (a b : ℕ) → has (slice_index result a) b
         ≡ (nat_lt a (length (observed_below (has latent.bits) n))
@@ -41,10 +41,7 @@ fn observed_rows(latent: VSet, n: u32, rows: &[u64; 64]) -> [u64; 64]
     let mut place = 0usize;
     for v in 0..n as u8 {
         if !latent.has(v) {
-            let row = VSet {
-                bits: rows[v as usize],
-            };
-            out[place] = renumber(latent, n, row).bits;
+            out[place] = renumber(latent, n, VSet::row(rows, v)).bits;
             place += 1;
         }
     }

@@ -1,23 +1,22 @@
 -- Walks of colliders by a search along bidirected edges.
-use Rattle.std.proofs.Common.{◌≡◌, ℕ, Bool, true, false, ◌&&◌, ◌||◌, ◌==◌, inl, inr, refl, arith, subst}
+use Rattle.std.proofs.Common.{◌≡◌, ℕ, Bool, true, ◌&&◌, ◌||◌, ◌==◌, inl, inr, refl, arith, subst}
 use Rattle.std.proofs.lemmas.Bool.{cases_Bool, eqb-true, eq-eqb}
 use Rattle.mixed_graph.specs.Graphs.{MixedGraph}
-use Rattle.vertex_cuts.specs.Cuts.{Reached, start, step}
+use Rattle.mixed_graph.specs.Reached.{Reached}
 use Rattle.minimal_sets.specs.Moral.{Heads, by_arrow, by_both, on, Meets, heads, parent, beyond}
 
-pub heads_from : (g : MixedGraph) (A : ℕ → Bool) (u : ℕ) (first outer : ℕ → Bool) → ((v : ℕ) → first v ≡ ((g.arrow u v || g.both u v) && A v)) → ((c v : ℕ) → g.both c v ≡ true → outer v ≡ false → A v ≡ true)
-    → (v : ℕ) → Reached g.both first outer v → Heads g A u v
-heads_from g A u first outer is inside v (start e o) = elim (cases_Bool (g.arrow u v)) [
-  | inl a ↦ by_arrow a (let p = is v in grind arith)
-  | inr n ↦ by_both (let p = is v in grind arith) (let p = is v in grind arith)
-]
-heads_from g A u first outer is inside v (step {u = c} r a o) = on (heads_from g A u first outer is inside c r) a (inside c v a o)
+module _ (g : MixedGraph) (A : ℕ → Bool) (u : ℕ) (first : ℕ → Bool) (is : (v : ℕ) → first v ≡ (g.arrow u v || g.both u v)) where
+  pub heads_from : (v : ℕ) → Reached g.both first A v → Heads g A u v
+  heads_from v (Reached.start e i) = elim (cases_Bool (g.arrow u v)) [
+    | inl a ↦ by_arrow a i
+    | inr n ↦ by_both (let p = is v in grind arith) i
+  ]
+  heads_from v (Reached.next {u = c} r b i) = on (heads_from c r) b i
 
-pub heads_to : (g : MixedGraph) (A : ℕ → Bool) (u : ℕ) (first outer : ℕ → Bool) → ((v : ℕ) → first v ≡ ((g.arrow u v || g.both u v) && A v)) → ((v : ℕ) → A v ≡ true → outer v ≡ false)
-    → (v : ℕ) → Heads g A u v → Reached g.both first outer v
-heads_to g A u first outer is inside v (by_arrow a e) = start (let p = is v in grind arith) (inside v e)
-heads_to g A u first outer is inside v (by_both b e) = start (let p = is v in grind arith) (inside v e)
-heads_to g A u first outer is inside v (on {v = c} h b e) = step (heads_to g A u first outer is inside c h) b (inside v e)
+  pub heads_to : (v : ℕ) → Heads g A u v → Reached g.both first A v
+  heads_to v (by_arrow a i) = Reached.start (let p = is v in grind arith) i
+  heads_to v (by_both b i) = Reached.start (let p = is v in grind arith) i
+  heads_to v (on {v = c} h b i) = Reached.next (heads_to c h) b i
 
 module _ (g : MixedGraph) (A : ℕ → Bool) (u : ℕ) (H P M result : ℕ → Bool) (h_is : (v : ℕ) → H v ≡ true → Heads g A u v) (h_all : (v : ℕ) → Heads g A u v → H v ≡ true)
     (p_is : (w : ℕ) → P w ≡ (H w || (w == u))) (m_in : (v : ℕ) → M v ≡ true → A v ≡ true) (m_next : (v : ℕ) → M v ≡ true → (w : ℕ) × (P w ≡ true) × (g.arrow v w ≡ true))

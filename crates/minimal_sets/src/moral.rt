@@ -4,28 +4,22 @@ ghost use Rattle.mixed_graph.specs.Shown.{graph_of};
 ghost use Rattle.minimal_sets.specs.Moral.{Meets, IsNear};
 ghost use Rattle.vertex_cuts.specs.Rows.{joins};
 
-use mixed_graph::{Graph, VSet};
-use vertex_cuts::{beside, flood};
+use mixed_graph::{Graph, Rows, VSet, reached};
+use vertex_cuts::beside;
 
 /// The vertices to which a walk inside a set leads from u whose inner vertices are all colliders.
 fn meeting(g: &Graph, within: VSet, u: u8) -> VSet
     requires { u < 64 }
     ensures { (v : ℕ) → IsTrue (has result.bits v) ↔ Meets (graph_of g.now) (has within.bits) u v }
 {
-    let first = VSet {
-        bits: g.children[u as usize],
-    }
-    .union(VSet {
-        bits: g.spouses[u as usize],
-    })
-    .intersection(within);
-    let heads = flood(&g.spouses, first, VSet::below(g.n).difference(within));
+    let first = g.children(u).union(g.spouses(u));
+    let heads = reached(&g.spouses, first, within);
     let beyond = beside(&g.parents, heads.union(VSet::one(u)), within);
     heads.union(beyond).only_if(within.has(u))
 }
 
 /// The undirected graph that joins these.
-pub fn moral_rows(g: &Graph, within: VSet) -> [u64; 64]
+pub fn moral_rows(g: &Graph, within: VSet) -> Rows
     ensures { IsNear (graph_of g.now) (has within.bits) (joins result) }
 {
     let mut near = [0u64; 64];

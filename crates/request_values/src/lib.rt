@@ -3,7 +3,7 @@
 
 ghost use Rattle.std.specs.Prelude.{◌≡◌, ◌≤◌, ℕ, List, Option, Some, true, false, IfOk, IsErrOf, IsTrue, option_map};
 ghost use Rattle.word_forms.specs.Form.{Text, Row, Use, is_among, value_names, positional_names, value_of, word_of};
-ghost use Rattle.word_values.specs.GivesUses.{HoldsCall};
+ghost use Rattle.word_values.specs.Gives.{HoldsCall};
 ghost use Rattle.word_lists.specs.Views.{names_in};
 ghost use Rattle.request_values.specs.Values.{IsListed, IsListedOrEmpty, IsNeededList, IsNeededNumber, IsNumberOr, AreTwoInputs};
 

@@ -1,6 +1,6 @@
 ghost use Rattle.std.specs.Prelude.{◌≡◌, List, IfOk, IsErrOf};
 ghost use Rattle.word_forms.specs.Form.{Use};
-ghost use Rattle.word_values.specs.GivesUses.{HoldsCall};
+ghost use Rattle.word_values.specs.Gives.{HoldsCall};
 
 use do_rules::Rule;
 use request_values::{RequestFault, names_or_empty, needed_names, needed_number, needed_word};

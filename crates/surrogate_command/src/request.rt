@@ -1,6 +1,6 @@
 ghost use Rattle.std.specs.Prelude.{◌≡◌, ℕ, List, true, IfOk, IsErrOf};
 ghost use Rattle.word_forms.specs.Form.{Row, Use, is_among, value_names, value_of};
-ghost use Rattle.word_values.specs.GivesUses.{HoldsCall};
+ghost use Rattle.word_values.specs.Gives.{HoldsCall};
 ghost use Rattle.surrogate_command.specs.Experiments.{AreFilled, AreNeededExperiments, Lists};
 ghost use Rattle.surrogate_command.specs.Views.{lists_in};
 

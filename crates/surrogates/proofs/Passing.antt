@@ -8,9 +8,9 @@ use Rattle.mixed_graph.specs.declared.sets.VSet.{VSet}
 use Rattle.prob_expr.specs.Listed.{masks_of}
 use Rattle.mixed_graph.specs.Masks.{is_apart}
 use Rattle.prob_expr.specs.Terms.{is_listed}
-use Rattle.district_factors.specs.declared.factor.Factor.{Factor}
-use Rattle.district_factors.specs.declared.factor.FactorFault.{FactorFault}
-use Rattle.district_factors.specs.declared.factor.FactorFault.TheVariants.{Stopped, NoMemory}
+use Rattle.district_factors.specs.declared.district_factor.Factor.{Factor}
+use Rattle.district_factors.specs.declared.district_factor.FactorFault.{FactorFault}
+use Rattle.district_factors.specs.declared.district_factor.FactorFault.TheVariants.{Stopped, NoMemory}
 use Rattle.surrogate_theory.proofs.Rooms.{zero_apart}
 use Rattle.surrogate_theory.specs.Surrogates.{AllStop, ComesFirst, IsStoppedUnder}
 use Rattle.surrogates.specs.Tries.{AllPassed, IsAttempt, IsFirstOf, IsPassed, IsTried, IsTryFault}

@@ -3,9 +3,9 @@ use Rattle.std.proofs.Common.{ℕ, ◌≡◌, ◌≤◌, ◌==◌, true, List, l
 use Rattle.std.specs.Prelude.{IfOk, IfErr}
 use Rattle.districts.specs.Linked.{IsJoinedSet}
 use Rattle.district_factors.specs.Factors.{IsFactorUnder, IsFactorFault}
-use Rattle.district_factors.specs.declared.factor.Factor.{Factor}
-use Rattle.district_factors.specs.declared.factor.FactorFault.{FactorFault}
-use Rattle.district_factors.specs.declared.factor.FactorFault.TheVariants.{Stopped, NoMemory}
+use Rattle.district_factors.specs.declared.district_factor.Factor.{Factor}
+use Rattle.district_factors.specs.declared.district_factor.FactorFault.{FactorFault}
+use Rattle.district_factors.specs.declared.district_factor.FactorFault.TheVariants.{Stopped, NoMemory}
 use Rattle.do_derivation.specs.View.{lemma_view, steps_view}
 use Rattle.identification.specs.Derivations.{AreFactorSteps}
 use Rattle.identification.specs.Procedure.{AreAncestorsIn, IsFactor, IsStopped, Source}

@@ -4,8 +4,8 @@ use Rattle.mixed_graph.specs.Graphs.{MixedGraph}
 use Rattle.mixed_graph.specs.declared.sets.VSet.{VSet}
 use Rattle.prob_expr.specs.View.{view, views}
 use Rattle.do_derivation.specs.View.{lemma_view}
-use Rattle.district_factors.specs.declared.factor.FactorFault.{FactorFault}
-use Rattle.district_factors.specs.declared.factor.FactorFault.TheVariants as faults
+use Rattle.district_factors.specs.declared.district_factor.FactorFault.{FactorFault}
+use Rattle.district_factors.specs.declared.district_factor.FactorFault.TheVariants as faults
 use Rattle.id_recursion.specs.Lists.{lists_view}
 use Rattle.id_recursion.specs.declared.answer.Factors.{Factors}
 use Rattle.id_recursion.specs.declared.answer.Stop.{Stop}

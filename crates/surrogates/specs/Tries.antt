@@ -4,9 +4,9 @@ use Rattle.mixed_graph.specs.Graphs.{MixedGraph}
 use Rattle.mixed_graph.specs.Masks.{is_apart}
 use Rattle.prob_expr.specs.View.{view}
 use Rattle.do_derivation.specs.View.{lemma_view, steps_view}
-use Rattle.district_factors.specs.declared.factor.Factor.{Factor}
-use Rattle.district_factors.specs.declared.factor.FactorFault.{FactorFault}
-use Rattle.district_factors.specs.declared.factor.FactorFault.TheVariants.{Stopped, NoMemory}
+use Rattle.district_factors.specs.declared.district_factor.Factor.{Factor}
+use Rattle.district_factors.specs.declared.district_factor.FactorFault.{FactorFault}
+use Rattle.district_factors.specs.declared.district_factor.FactorFault.TheVariants.{Stopped, NoMemory}
 use Rattle.surrogate_theory.specs.Surrogates.{IsDerivedUnder, IsStoppedUnder, ComesFirst, AllStop}
 
 -- f is the factor of c under an intervention on z, with at most 64 definitions from number k on and with its derivation

@@ -12,7 +12,7 @@ use Rattle.word_forms.specs.Form.{Text, Row, Use, positional, apart, joined, fla
 use Rattle.word_values.proofs.Steps.{flag_built, entry_of, flag_entry, between, settles, settles_well, held}
 use Rattle.word_values.proofs.Uses.{Reads, Runs, runs, entries, same_at}
 use Rattle.word_forms.proofs.Names.{other_side, all_at, among_left, among_right}
-use Rattle.word_values.specs.GivesUses.{GivesUses}
+use Rattle.word_values.specs.Gives.{GivesUses}
 use Rattle.word_values.proofs.Counts.{Sound, Allowed, uses_fresh, differs, among_parts, among_joint}
 use Rattle.word_values.proofs.Finds.{row_by, kept_defaults, none_defaults, flag_default, adds_none, option_entry, flag_found, positional_found}
 use Rattle.std.specs.Cmp.Derive.{both_true}

@@ -13,7 +13,7 @@ use Rattle.clap.specs.declared.error.kind.ErrorKind.TheVariants.{OutOfMemory}
 use Rattle.clap.specs.declared.parser.matches.ArgMatches.{ArgMatches}
 use Rattle.word_forms.specs.Form.{Text, Row, Use, IsCall}
 use Rattle.word_values.specs.App.{app_of_table}
-use Rattle.word_values.specs.GivesUses.{GivesCall}
+use Rattle.word_values.specs.Gives.{GivesCall}
 use Rattle.word_values.specs.Readable.{IsReadable}
 use Rattle.word_values.proofs.Counts.{allowed}
 use Rattle.word_values.proofs.Level.{positional_given, option_given}

@@ -12,7 +12,7 @@ use Rattle.word_forms.specs.Form.{is_name}
 use Rattle.word_values.proofs.Steps.{rule_of_single, flag_built}
 use Rattle.word_values.proofs.Uses.{Reads, single_named, single_at, numbered}
 use Rattle.word_values.proofs.Counts.{Sound, n_named, allowed}
-use Rattle.word_values.specs.GivesUses.{GivesUses}
+use Rattle.word_values.specs.Gives.{GivesUses}
 use Rattle.word_values.proofs.Finds.{adds_none}
 use Rattle.word_values.proofs.Level.{Closes, gives, rows_are, passes}
 use Rattle.std.proofs.lemmas.List.{append-nil}

@@ -6,7 +6,7 @@ use Rattle.clap.specs.Simple.{is_simple, subcommand_of}
 use Rattle.clap.specs.Takes.{takes}
 use Rattle.word_forms.specs.Form.{Text, Row, Use, IsCall, is_clear}
 use Rattle.word_values.specs.App.{app_of_table}
-use Rattle.word_values.specs.GivesUses.{GivesUses}
+use Rattle.word_values.specs.Gives.{GivesUses}
 
 -- what `clap` finds in words of the form: their command, and below it the values of the uses
 pub record FindsValues (table : List Row) (words : List Text) (row : Row) (uses : List Use) : Type 0 where

@@ -6,7 +6,7 @@ ghost use Rattle.std.specs.Prelude.{◌≡◌, IfOk, IfSome, IfNone, map};
 ghost use Rattle.clap.specs.Values.{kind_of};
 ghost use Rattle.word_forms.specs.Form.{HasForm, IsCall, IsOnlyCall};
 ghost use Rattle.word_forms.specs.Views.{row_of, texts_of, uses_in};
-ghost use Rattle.word_values.specs.GivesUses.{HoldsCall};
+ghost use Rattle.word_values.specs.Gives.{HoldsCall};
 ghost use Rattle.word_values.specs.Readable.{IsReadable};
 
 mod program;

@@ -8,7 +8,7 @@ ghost use Rattle.clap.specs.declared.builder.command.Command.TheViews.{out-Comma
 ghost use Rattle.word_forms.specs.Form.{IsCall};
 ghost use Rattle.word_forms.specs.Views.{row_of, texts, texts_of, uses_in};
 ghost use Rattle.word_values.specs.App.{app_of_table, app_of_row, start, kind_rule};
-ghost use Rattle.word_values.specs.GivesUses.{GivesCall};
+ghost use Rattle.word_values.specs.Gives.{GivesCall};
 ghost use Rattle.word_values.specs.Readable.{IsReadable};
 
 use clap::error::ErrorKind;

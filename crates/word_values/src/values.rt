@@ -15,7 +15,7 @@ pub struct Values<'a> {
 }
 
 impl<'a> Values<'a> {
-    ghost use Rattle.word_values.specs.GivesUses.{HoldsCall};
+    ghost use Rattle.word_values.specs.Gives.{HoldsCall};
 
     // What was found for a name below the command.
     fn text(&self, name: &str) -> Option<&'a str>

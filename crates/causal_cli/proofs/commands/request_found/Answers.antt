@@ -1,7 +1,7 @@
 use Rattle.std.proofs.Common.{◌≡◌, sym, ap, ◌∙◌, subst, option_map}
 use Rattle.std.proofs.lemmas.Option.{same_Some}
 use Rattle.word_forms.specs.Views.{row_of}
-use Rattle.word_values.specs.GivesUses.{HoldsCall}
+use Rattle.word_values.specs.Gives.{HoldsCall}
 use Rattle.causal_cli.specs.Commands.{row_for}
 use Rattle.causal_cli.proofs.OneCommand.{nothing_asked}
 use Rattle.causal_cli.proofs.commands.request_found.Goals as goal

@@ -1,5 +1,5 @@
 use Rattle.std.proofs.Common.{◌≡◌, Err, ap, subst, rules}
-use Rattle.word_values.specs.GivesUses.{HoldsCall}
+use Rattle.word_values.specs.Gives.{HoldsCall}
 use Rattle.request_values.specs.declared.RequestFault.TheVariants.{NotUnderstood}
 use Rattle.causal_cli.specs.Commands.{row_for}
 use Rattle.causal_cli.specs.declared.commands.Command.TheVariants as command

@@ -10,7 +10,9 @@ past : (rows : List ℕ) (v : ℕ) → length rows ≤ v → row_has rows v v �
 past rows v over = ap (λ m. has m v) (get_or_past rows v 0 over) ∙ has-zero v
 
 pub loop-v-preserved : goal.loop-v-preserved
-loop-v-preserved c = below_more _ _ c.loop-v.invariant (sym (c.union.ensures.members c.loop-v.v) ∙ sym c.has.ensures ∙ c.if-has.false)
+loop-v-preserved c =
+    let here = c.union.ensures.members c.loop-v.v in
+    below_more _ _ c.loop-v.invariant (sym (rw (c.row-row.ensures, c.row-both.ensures) at here) ∙ sym c.has.ensures ∙ c.if-has.false)
 
 pub returns : goal.returns
 returns c = λ f v. elim (cases_lt v 64) [

@@ -7,11 +7,11 @@ use Rattle.dag_reader.specs.Reading.{RestSays, Says}
 use Rattle.dag_reader.proofs.statements.read_statements.Given as goal
 
 -- what the rest says is what the text says
-abbrev pub invariant-loop-said : goal.invariant-loop-said
-invariant-loop-said l = record {
+abbrev pub invariant-turns : goal.invariant-turns
+invariant-turns l = record {
   size : l.lexer.size ≡ length l.text;
   all : (r : Result Said Fault) → RestSays (length l.text) l.lexer.value_due (place_view l.place) (said_by l.said) l.lexer.rest.now r → Says l.text r;
 }
 
-abbrev pub decreases-loop-said : goal.decreases-loop-said
-decreases-loop-said l = length l.lexer.rest.now
+abbrev pub decreases-turns : goal.decreases-turns
+decreases-turns l = length l.lexer.rest.now

@@ -1,4 +1,4 @@
-use Rattle.std.proofs.Common.{◌≡◌, ◌&&◌, true, nat_lt, get_or, arith}
+use Rattle.std.proofs.Common.{◌≡◌, ◌∙◌, ap, ◌&&◌, true, nat_lt, get_or, arith}
 use Rattle.std.proofs.lemmas.Bool.{lt-ltb, le-ltb, and_left}
 use Rattle.mixed_graph.specs.Bits.{has}
 use Rattle.latent_projection.proofs.Rows.{no_row, row_more, rows_whole}
@@ -11,7 +11,8 @@ loop-a-init c = no_row _
 pub loop-a-preserved : goal.loop-a-preserved
 loop-a-preserved c = let size = c.requires.size in
     row_more (row_at c.args.places.now c.args.n c.args.rows.now) c.loop-a.a c.members_at.result.bits c.loop-a.out (omega (arith, size))
-    (λ b. let i : nat_lt c.loop-a.a c.args.n ≡ true = lt-ltb c.loop-a.a c.args.n (omega arith) in rw i (c.members_at.ensures b)) c.loop-a.invariant
+    (λ b. let i : nat_lt c.loop-a.a c.args.n ≡ true = lt-ltb c.loop-a.a c.args.n (omega arith) in
+    rw i (c.members_at.ensures b ∙ ap (λ m. nat_lt b c.args.n && has m (get_or c.args.places.now b 0)) c.row-row.ensures)) c.loop-a.invariant
 
 pub returns : goal.returns
 returns c = rows_whole (row_at c.args.places.now c.args.n c.args.rows.now) c.loop-a.a c.loop-a.out c.loop-a.invariant (λ a b h.

@@ -1,7 +1,7 @@
 use Rattle.std.proofs.Common.{◌≡◌, sym, ap, ◌∙◌, subst, option_map}
 use Rattle.std.proofs.lemmas.Option.{same_Some}
 use Rattle.word_forms.specs.Views.{row_of}
-use Rattle.word_values.specs.GivesUses.{HoldsCall}
+use Rattle.word_values.specs.Gives.{HoldsCall}
 use Rattle.explain_call.specs.Requests.{row_for}
 use Rattle.explain_call.proofs.OneKind.{nothing_asked}
 use Rattle.explain_call.proofs.requests.request_found.Goals as goal

@@ -13,5 +13,5 @@ with_digit-place-requires c =
     radix c.loop-p.p (λ p. (graph_of c.args.g.now).arrow p c.args.v) (λ p. get_or c.args.m.now.sizes.items p 0) (λ p. get_or c.args.values.now p 0) = omega (arith, c.loop-p.invariant) in
     fits_next c.args.g.now.n (λ p. (graph_of c.args.g.now).arrow p c.args.v) (λ p. get_or c.args.m.now.sizes.items p 0) (λ p. get_or c.args.values.now p 0)
     0 c.loop-p.p c.loop-p.place c.index.result.now (get_or c.args.values.now c.loop-p.p 0) _ c.has.result (let e = c.requires.sizes in omega arith)
-    c.requires.in_range top so_far (c.has.ensures ∙ c.args.g.now.agree c.loop-p.p c.args.v)
+    c.requires.in_range top so_far (c.has.ensures ∙ c.parents-parents.ensures.members c.loop-p.p)
     (get_or_read c.args.m.now.sizes.items c.loop-p.p _ lt c.index.ensures 0) refl

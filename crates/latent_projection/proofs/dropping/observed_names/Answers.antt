@@ -1,16 +1,23 @@
-use Rattle.std.proofs.Common.{ℕ, not, ap, ◌∙◌, ◌++◌, ◌∷◌, [], List, arith, sym, length}
+use Rattle.std.proofs.Common.{◌≡◌, ℕ, true, not, ap, subst, ◌∙◌, ◌++◌, ◌∷◌, [], List, arith, sym, length}
 use Rattle.std.proofs.lemmas.Bool.{not_from_true, not_from_false}
 use Rattle.std.proofs.lemmas.Option.{get_or_from_slice_get}
+use Rattle.std.specs.Prelude.{IfOk}
 use Rattle.mixed_graph.specs.Bits.{has}
+use Rattle.mixed_graph.proofs.Masks.{has-zero}
 use Rattle.mixed_graph.specs.Names.{is_named}
 use Rattle.mixed_graph.proofs.Members.{length-members-le}
 use Rattle.latent_projection.specs.Renumbering.{observed_below, names_at}
-use Rattle.latent_projection.proofs.KeptNames.{names_at-none, names_at-more, names_at-same, not_named, length-names_at}
+use Rattle.latent_projection.proofs.KeptNames.{names_at-none, names_at-more, names_at-same, not_named, length-names_at, all_names}
 use Rattle.latent_projection.proofs.dropping.observed_names.Goals as goal
 use Rattle.latent_projection.proofs.dropping.observed_names.Goals.{then-not-has+in_ok-put, else-not-has}
 
+pub returns-then-is_empty : goal.returns-then-is_empty
+returns-then-is_empty c =
+    let every : (v : ℕ) → not (has c.args.latent.bits v) ≡ true = λ v. ap not (ap (λ m. has m v) (c.is_empty.ensures.none.0 c.if-is_empty.true) ∙ has-zero v) in
+    subst (λ (l : List (List ℕ)). IfOk c.copy.result (λ kept. kept ≡ l)) (sym (all_names (λ v. not (has c.args.latent.bits v)) every c.args.names.now)) c.copy.ensures
+
 pub loop-v-init : goal.loop-v-init
-loop-v-init c = c.empty-kept.ensures.members ∙ sym (names_at-none (λ v. not (has c.args.latent.bits v)) c.args.names.now)
+loop-v-init c = c.empty-kept.ensures ∙ sym (names_at-none (λ v. not (has c.args.latent.bits v)) c.args.names.now)
 
 pub put-requires-clause-new : goal.put-requires-clause-new
 put-requires-clause-new c =

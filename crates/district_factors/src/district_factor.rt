@@ -1,5 +1,5 @@
 ghost use Rattle.std.specs.Prelude.{◌≡◌};
-ghost use Rattle.district_factors.specs.declared.factor.FactorFault.TheVariants.{NoMemory};
+ghost use Rattle.district_factors.specs.declared.district_factor.FactorFault.TheVariants.{NoMemory};
 
 use do_derivation::{Lemma, Step};
 use mixed_graph::VSet;

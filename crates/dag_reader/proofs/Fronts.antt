@@ -1,0 +1,77 @@
+-- A run of name bytes or an edge behind white space is the first token.
+use Rattle.std.proofs.Common.{◌≡◌, ◌≢◌, ◌<◌, ◌≤◌, ℕ, Bool, true, false, List, [], ◌∷◌, ◌++◌, length, take, drop, get_or, refl, sym, ap, ap₂, subst, ◌∙◌, arith, inl, inr}
+use Rattle.std.proofs.lemmas.Bool.{cases_Bool, ne_eqb}
+use Rattle.std.proofs.lemmas.Bool.Decides.{nat_tests}
+use Rattle.std.specs.Prelude.{cond, ◌==◌}
+use Rattle.std.specs.List.{prefix_len, list_all}
+use Rattle.std.specs.Str.{is_utf8}
+use Rattle.mixed_graph.specs.Names.{IsName}
+use Rattle.name_text.specs.Printing.{is_edge_byte, is_name_byte}
+use Rattle.dag_reader.specs.declared.marks.Arrow.{Arrow}
+use Rattle.dag_reader.specs.declared.marks.Arrow.TheVariants.{Right, Left, Both}
+use Rattle.dag_reader.specs.Tokens.{Tok, edge, name, edge_token, name_token, sign_token, run_at, token_of, past_white, first}
+use Rattle.dag_reader.specs.Links.{sign_of, ends_edge}
+use Rattle.dag_reader.proofs.TextForm.{names_are_lines, behind_byte}
+use Rattle.dag_reader.proofs.Printed.{Stops, run_is, no_comment, not_true}
+
+-- a run that isn't empty begins with a byte of its class
+begins : (p : ℕ → Bool) (b : ℕ) (bs run : List ℕ) → run ≡ take (prefix_len p (b ∷ bs)) (b ∷ bs) → 0 < length run → p b ≡ true
+begins p b bs run is some = elim (cases_Bool (p b)) [
+  | inl here ↦ here
+  | inr out ↦ absurd (let e : run ≡ [] = is ∙ rw out refl in let n = ap (λ (l : List ℕ). length l) e in omega (arith, n))
+]
+
+third : {A : Type 0} (a b c : Bool) (v w x o : A) → a ≡ false → b ≡ false → c ≡ true → cond a v (cond b w (cond c x o)) ≡ x
+third a b c v w x o ha hb hc = rw (ha, hb, hc) refl
+
+no_quote_in_name : (b : ℕ) → is_name_byte b ≡ true → ((b == 34) ≡ false) × (is_edge_byte b ≡ false)
+no_quote_in_name b h = (grind (arith, nat_tests), grind (arith, nat_tests))
+
+name_is_first : (here run rest : List ℕ) → run ≡ take (prefix_len is_name_byte here) here → rest ≡ drop (prefix_len is_name_byte here) here → 0 < length run
+    → token_of false here ≡ (name_token run, rest)
+name_is_first [] run rest is after some = absurd (let n = ap (λ (l : List ℕ). length l) is in omega (arith, n))
+name_is_first (b ∷ bs) run rest is after some =
+    let here = begins is_name_byte b bs run is some in
+    let other = no_quote_in_name b here in
+    third (b == 34) (is_edge_byte b) (is_name_byte b) _ _ (run_at is_name_byte name_token (b ∷ bs)) (sign_token b, bs) other.0 other.1 here
+    ∙ ap₂ (λ (l t : List ℕ). (name_token l, t)) (sym is) (sym after)
+
+no_comment_in : (run : List ℕ) → 0 < length run → get_or run 0 0 ≢ 47 → get_or run 0 0 ≢ 35 → name_token run ≡ name false run
+no_comment_in [] some slash hash = absurd (omega arith)
+no_comment_in (b ∷ bs) some slash hash = no_comment b bs (ne_eqb b 47 slash) (ne_eqb b 35 hash)
+
+-- a bare name that doesn't look like a comment
+pub bare_name_here : (bytes here run rest : List ℕ) → here ≡ past_white bytes → run ≡ take (prefix_len is_name_byte here) here
+    → rest ≡ drop (prefix_len is_name_byte here) here → 0 < length run → get_or run 0 0 ≢ 47 → get_or run 0 0 ≢ 35
+    → first false bytes ≡ (name false run, rest)
+unfolding first
+bare_name_here bytes here run rest behind is after some slash hash =
+    ap (token_of false) (sym behind) ∙ name_is_first here run rest is after some ∙ ap (λ t. (t, rest)) (no_comment_in run some slash hash)
+
+-- a run of name bytes that isn't empty
+pub name_of_run : (run : List ℕ) → 0 < length run → list_all is_name_byte run ≡ true → is_utf8 run ≡ true → IsName run
+name_of_run run some passes utf8 = record { utf8 = utf8; some = some; line = names_are_lines run passes }
+
+-- ---- edges
+
+stops : (rest : List ℕ) → ends_edge rest ≡ true → Stops is_edge_byte rest
+stops [] h = tt
+stops (b ∷ bs) h = not_true (is_edge_byte b) h
+
+sign_is_first : (a : Arrow) (rest : List ℕ) → ends_edge rest ≡ true → token_of false (sign_of a ++ rest) ≡ (edge a, rest)
+sign_is_first Right rest h = run_is is_edge_byte edge_token (45 ∷ 62 ∷ []) rest refl (stops rest h)
+sign_is_first Left rest h = run_is is_edge_byte edge_token (60 ∷ 45 ∷ []) rest refl (stops rest h)
+sign_is_first Both rest h = run_is is_edge_byte edge_token (60 ∷ 45 ∷ 62 ∷ []) rest refl (stops rest h)
+
+-- an edge
+pub edge_here : (bytes here rest : List ℕ) (a : Arrow) → here ≡ past_white bytes → here ≡ sign_of a ++ rest → ends_edge rest ≡ true
+    → first false bytes ≡ (edge a, rest)
+unfolding first
+edge_here bytes here rest a behind is h = ap (token_of false) (sym behind ∙ is) ∙ sign_is_first a rest h
+
+-- what follows an edge is a text
+pub behind_sign : (a : Arrow) (rest : List ℕ) → is_utf8 (sign_of a ++ rest) ≡ true → is_utf8 rest ≡ true
+behind_sign Right rest h = behind_byte 62 rest (omega arith) (behind_byte 45 (62 ∷ rest) (omega arith) h)
+behind_sign Left rest h = behind_byte 45 rest (omega arith) (behind_byte 60 (45 ∷ rest) (omega arith) h)
+behind_sign Both rest h =
+    behind_byte 62 rest (omega arith) (behind_byte 45 (62 ∷ rest) (omega arith) (behind_byte 60 (45 ∷ 62 ∷ rest) (omega arith) h))
