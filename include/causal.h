@@ -50,7 +50,8 @@ enum causal_status {
     CAUSAL_CUT_SHORT = 7,  /* memory was refused while the answer was stored: `out` has a front of it, `err` a line */
     CAUSAL_NO_MEMORY = 8,  /* memory was refused before; `err` has a line */
     CAUSAL_NOT_TEXT = 9,   /* a word isn't UTF-8; nothing is written */
-    CAUSAL_NO_WORDS = 10   /* there is no memory for the words; nothing is written */
+    CAUSAL_NO_WORDS = 10,  /* there is no memory for the words; nothing is written */
+    CAUSAL_NOT_KEPT = 11   /* causal_ask alone: the diagram isn't kept with these names; nothing is written */
 };
 
 /* Runs the command that the words name over the inputs, and gives its status.
@@ -119,24 +120,53 @@ uint8_t causal_explain(const uint8_t *bytes, size_t length,
                        uint8_t *err, size_t err_room,
                        causal_sizes *sizes);
 
-/* A diagram that was read, in memory of the caller: the observed graph, after hidden vertices are projected away. Its vertices
- * are numbered from 0, in the order in which `graph FILE --project` prints them. Row v of `parents`, `children` and `spouses`
- * has bit u set where u -> v, v -> u and u <-> v.
- *
- * All zeros are the diagram without a vertex: begin with `causal_graph graph = {0};`. Only causal_keep may change one. */
+/* A graph of at most 64 vertices, which are numbered from 0. Row v of `parents`, `children` and `spouses` has bit u set where
+ * u -> v, v -> u and u <-> v. */
 typedef struct causal_graph {
     uint32_t vertices;
     uint64_t parents[64], children[64], spouses[64];
 } causal_graph;
 
-/* Reads a graph text, and keeps its observed graph in `graph`. CAUSAL_GRAPH where the bytes are no graph text, over 1,048,576
- * bytes included (causal_run tells the fault); CAUSAL_NO_MEMORY where memory was refused. Then `graph` stays as it was. */
-uint8_t causal_keep(const uint8_t *text, size_t length, causal_graph *graph);
+/* A diagram that was read, in memory of the caller: as it was read, its vertices numbered in the order in which `graph FILE` prints
+ * them, with the sets of those that are marked; and its observed graph, after hidden vertices are projected away, numbered in the
+ * order in which `graph FILE --project` prints them. Bit v of a set is set where vertex v of `read` is marked so.
+ *
+ * All zeros are the diagram without a vertex: begin with `causal_diagram diagram = {0};`. Only causal_keep may change one. */
+typedef struct causal_diagram {
+    causal_graph observed, read;
+    uint64_t exposures, outcomes, adjusted, latent;
+} causal_diagram;
 
-/* Whether x and y are separated given a set, in a graph that was kept: CAUSAL_YES where no walk between them is open, CAUSAL_NO
- * where one is. Bit v of a set is set where vertex v is a member. CAUSAL_GRAPH where that can't be asked: a set has a member
- * that isn't a vertex, two have a common one, or x or y has none. It takes no memory. */
-uint8_t causal_separated(const causal_graph *graph, uint64_t x, uint64_t y, uint64_t given);
+/* Reads a graph text, and keeps its diagram in `diagram`. `names` receives the names of its vertices in order, each with a line feed
+ * behind it (no name has one in it), and `names_size` how many bytes these are: a room of as many bytes as the text has is enough.
+ * Where they have more bytes than the room, the room has the first of them. A caller who asks no more than causal_separated needs no
+ * names: `names` may be null, with no room.
+ *
+ * CAUSAL_GRAPH where the bytes are no graph text, over 1,048,576 bytes included (causal_run tells the fault); CAUSAL_NO_MEMORY where
+ * memory was refused. Then `diagram` and `names` stay as they were, and `names_size` is 0. */
+uint8_t causal_keep(const uint8_t *text, size_t length, causal_diagram *diagram,
+                    uint8_t *names, size_t names_room, size_t *names_size);
+
+/* Whether x and y are separated given a set, in the observed graph of a diagram that was kept: CAUSAL_YES where no walk between them
+ * is open, CAUSAL_NO where one is. Bit v of a set is set where vertex v of the observed graph is a member. CAUSAL_GRAPH where that
+ * can't be asked: a set has a member that isn't a vertex, two have a common one, or x or y has none. It takes no memory. */
+uint8_t causal_separated(const causal_diagram *diagram, uint64_t x, uint64_t y, uint64_t given);
+
+/* Runs the command that the words name on a diagram that was kept: the arguments behind `names_size` are those of causal_run, and what
+ * is answered is what the command answers on the text that was kept, with the same statuses and texts.
+ *
+ * names, names_size    the names that causal_keep wrote, all of them
+ *
+ * The diagram stands for the file of the command, whatever the words call it; another input of that name isn't it. A second input, as
+ * the certificate of `check`, is found among the inputs. CAUSAL_CUT_SHORT doesn't come. CAUSAL_NOT_KEPT says that the diagram isn't kept
+ * with these names; nothing is written then, and both sizes are 0. */
+uint8_t causal_ask(const causal_diagram *diagram, const uint8_t *names, size_t names_size,
+                   const uint8_t *bytes, size_t length,
+                   const causal_span *words, size_t word_count,
+                   const causal_input *inputs, size_t input_count,
+                   uint8_t *out, size_t out_room,
+                   uint8_t *err, size_t err_room,
+                   causal_sizes *sizes);
 
 #ifdef __cplusplus
 }

@@ -153,18 +153,68 @@ static void explained_more(void) {
 }
 
 static void kept(void) {
-    static const char text[] = "dag{A<-U->B B->C U [latent]}", other[] = "dag{A->}";
-    causal_graph graph = {0};
-    HOLDS(causal_separated(&graph, 1, 2, 0) == CAUSAL_GRAPH);
-    HOLDS(causal_keep((const uint8_t *)text, sizeof text - 1, &graph) == CAUSAL_YES && graph.vertices == 3);
-    HOLDS(graph.spouses[0] == 2 && graph.spouses[1] == 1 && graph.children[1] == 4 && graph.parents[2] == 2);
-    HOLDS(causal_separated(&graph, 1, 4, 2) == CAUSAL_YES && causal_separated(&graph, 1, 4, 0) == CAUSAL_NO);
+    static const char text[] = "dag{A<-U->B B->C U [latent]}", other[] = "dag{A->}", lines[] = "A\nU\nB\nC\n";
+    causal_diagram diagram = {0};
+    uint8_t names[64];
+    size_t size = 9;
+    HOLDS(causal_separated(&diagram, 1, 2, 0) == CAUSAL_GRAPH);
+    memset(names, '#', sizeof names);
+    HOLDS(causal_keep((const uint8_t *)text, sizeof text - 1, &diagram, names, sizeof names, &size) == CAUSAL_YES);
+    HOLDS(is_text(names, size, lines) && names[size] == '#');
+    const causal_graph *graph = &diagram.observed;
+    HOLDS(graph->vertices == 3 && diagram.read.vertices == 4 && diagram.latent == 2 && diagram.exposures == 0);
+    HOLDS(graph->spouses[0] == 2 && graph->spouses[1] == 1 && graph->children[1] == 4 && graph->parents[2] == 2);
+    HOLDS(diagram.read.children[1] == 5 && diagram.read.spouses[0] == 0);
+    HOLDS(causal_separated(&diagram, 1, 4, 2) == CAUSAL_YES && causal_separated(&diagram, 1, 4, 0) == CAUSAL_NO);
     /* sets that can't be asked: no x, one beyond the graph, two that meet */
-    HOLDS(causal_separated(&graph, 0, 4, 2) == CAUSAL_GRAPH && causal_separated(&graph, 1, 0, 2) == CAUSAL_GRAPH);
-    HOLDS(causal_separated(&graph, 1, 8, 0) == CAUSAL_GRAPH && causal_separated(&graph, 1, 4, 4) == CAUSAL_GRAPH);
+    HOLDS(causal_separated(&diagram, 0, 4, 2) == CAUSAL_GRAPH && causal_separated(&diagram, 1, 0, 2) == CAUSAL_GRAPH);
+    HOLDS(causal_separated(&diagram, 1, 8, 0) == CAUSAL_GRAPH && causal_separated(&diagram, 1, 4, 4) == CAUSAL_GRAPH);
     /* a text that is refused changes nothing */
-    HOLDS(causal_keep((const uint8_t *)other, sizeof other - 1, &graph) == CAUSAL_GRAPH && graph.vertices == 3);
-    HOLDS(causal_separated(&graph, 1, 4, 2) == CAUSAL_YES);
+    HOLDS(causal_keep((const uint8_t *)other, sizeof other - 1, &diagram, names, sizeof names, &size) == CAUSAL_GRAPH && size == 0);
+    HOLDS(graph->vertices == 3 && causal_separated(&diagram, 1, 4, 2) == CAUSAL_YES && memcmp(names, lines, sizeof lines - 1) == 0);
+    /* less room has the first bytes, and no room is none */
+    HOLDS(causal_keep((const uint8_t *)text, sizeof text - 1, &diagram, names, 1, &size) == CAUSAL_YES && size == sizeof lines - 1);
+    HOLDS(causal_keep((const uint8_t *)text, sizeof text - 1, &diagram, NULL, 0, &size) == CAUSAL_YES && size == sizeof lines - 1);
+}
+
+/* Asks a diagram that is kept by words with a blank between them, with a second input c; `fewer` leaves out bytes of its names. */
+static result ask_in(const char *text, size_t fewer, const char *line, const char *second) {
+    causal_diagram diagram = {0};
+    uint8_t names[256];
+    size_t size, end, count = 0;
+    HOLDS(causal_keep((const uint8_t *)text, strlen(text), &diagram, names, sizeof names, &size) == CAUSAL_YES);
+    char bytes[1024];
+    size_t length = strlen(line), at = (size_t)snprintf(bytes, sizeof bytes, "%s|%s|c", line, second);
+    causal_span words[16];
+    for (size_t start = 0; start <= length; start = end + 1) {
+        for (end = start; end < length && bytes[end] != ' '; end++) continue;
+        words[count++] = (causal_span){start, end};
+    }
+    causal_input inputs[] = {{{at - 1, at}, {length + 1, at - 2}}};
+    result r;
+    memset(&r, '#', sizeof r);
+    r.status = causal_ask(&diagram, names, size - fewer, (const uint8_t *)bytes, at, words, count, inputs, 1, r.out, 256, r.err, 256, &r.sizes);
+    return r;
+}
+
+static void asked(void) {
+    static const char fork[] = "dag{X [exposure] Y [outcome] X->Y X<-Z->Y}", bow[] = "dag{X->Y X<->Y}", hidden[] = "dag{A<-U->B B->C U [latent]}";
+    HOLDS(tells(ask_in(fork, 0, "identify any", ""), CAUSAL_YES, "P(Y|do(X)) = sum{Z} P(Z) * P(Y|X,Z)\n", ""));
+    HOLDS(tells(ask_in(fork, 0, "identify - --x X --y Y --given Z", ""), CAUSAL_YES, "P(Y|do(X),Z) = P(Y|X,Z)\n", ""));
+    HOLDS(tells(ask_in(fork, 0, "adjust g", ""), CAUSAL_YES, "{Z}\n", ""));
+    HOLDS(tells(ask_in(fork, 0, "adjust g --set {}", ""), CAUSAL_NO, "not admissible: {}\nopen: X <- Z -> Y\n", ""));
+    HOLDS(tells(ask_in(fork, 0, "adjust g --set Z --back-door", ""), CAUSAL_YES, "admissible: {Z}\nP(Y|do(X)) = sum{Z} P(Z) * P(Y|X,Z)\n", ""));
+    HOLDS(tells(ask_in(hidden, 0, "separate g --x A --y C --given B", ""), CAUSAL_YES, "separated: {A} from {C} given {B}\n", ""));
+    HOLDS(tells(ask_in(hidden, 0, "graph g", ""), CAUSAL_YES, "dag {\nA\nU [latent]\nB\nC\nU -> A\nU -> B\nB -> C\n}\n", ""));
+    HOLDS(tells(ask_in(bow, 0, "identify g --x X --y U", ""), CAUSAL_GRAPH, "", "causal: target fault 1: U\n"));
+    HOLDS(ask_in(bow, 0, "identify g --x X --y Y", "").status == CAUSAL_NO);
+    /* a second input is one of the inputs, and the diagram isn't */
+    HOLDS(tells(ask_in("dag{X->Y}", 0, "equivalent g c", "dag{X<-Y}"), CAUSAL_YES, "equivalent\n", ""));
+    HOLDS(tells(ask_in("dag{X->Y}", 0, "equivalent g g", "dag{X<-Y}"), CAUSAL_NO_INPUT, "", "causal: read failed\n"));
+    HOLDS(ask_in(bow, 0, "identify", "").status == CAUSAL_WORDS && ask_in(bow, 0, "survey --seed 1", "").status == CAUSAL_YES);
+    /* names that aren't those of the diagram */
+    HOLDS(tells(ask_in(bow, 1, "identify g --x X --y Y", ""), CAUSAL_NOT_KEPT, "", ""));
+    HOLDS(tells(ask_in(bow, 2, "identify g --x X --y Y", ""), CAUSAL_NOT_KEPT, "", ""));
 }
 
 static void *many(void *unused) {
@@ -190,6 +240,7 @@ int main(void) {
     explained();
     explained_more();
     kept();
+    asked();
     threads();
     puts("edges: all hold");
     return 0;

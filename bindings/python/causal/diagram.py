@@ -4,7 +4,7 @@ from __future__ import annotations
 from typing import TYPE_CHECKING, Any, Dict, Iterable, List, Mapping, Optional, Tuple, Union
 
 from causal import answers, formula
-from causal._library import KeptGraph, Text, as_bytes, ask
+from causal._library import KeptDiagram, Text, as_bytes, ask
 from causal.errors import RequestError
 from causal.formula import Formula, Hedge, HedgeSets
 from causal.names import Names, list_word, names_of
@@ -40,7 +40,7 @@ class Diagram:
     takes exposures x and outcomes y, those that are marked are meant unless others are given; latent vertices are projected away.
     Sets are given as one name or as several; `()` is the empty set.
 
-    `source` is the text as it was given, in bytes; it is what each question is asked of.
+    `source` is the text as it was given, in bytes; it is what each question is asked of. The library reads it once, and keeps it.
 
     >>> from causal import Diagram
     >>> diagram = Diagram("dag { T [exposure] R [outcome] S -> T -> R <- S }")
@@ -54,7 +54,7 @@ class Diagram:
         self.source = as_bytes(text)
         self._text = ask("graph", self.source)[1]
         self._content = answers.read_graph(self._text)
-        self._kept: Optional[KeptGraph] = None
+        self._kept: Optional[KeptDiagram] = None
 
     def __getstate__(self) -> Dict[str, Any]:
         # (what is kept for the library belongs to this process)
@@ -193,7 +193,7 @@ class Diagram:
         >>> Diagram("dag { U [latent] U -> X U -> Y X -> Y }").project().bidirected
         (('X', 'Y'),)
         """
-        return Diagram(ask("graph", self.source, "--project")[1])
+        return Diagram(self._ask("graph", "--project")[1])
 
     def to_networkx(self, mixed: bool = False) -> "networkx.DiGraph":
         """The diagram as a graph of networkx; marks are the attribute `role`.
@@ -247,12 +247,12 @@ class Diagram:
         not separated: {A} from {C} given {B}
         open: A -> B <- C
         """
-        return answers.read_separation(ask("separate", self.source, *options(x=x, y=y, given=given))[1])
+        return answers.read_separation(self._ask("separate", *options(x=x, y=y, given=given))[1])
 
     def is_separated(self, x: Names, y: Names, given: Names = ()) -> bool:
         """Whether x and y are separated given a set: `separated` without the path, for many questions about one diagram.
 
-        The diagram is read at the first question and kept; each further one takes some microseconds.
+        Each question takes some microseconds.
 
         >>> from causal import Diagram
         >>> chain = Diagram("dag { A -> B -> C }")
@@ -260,15 +260,19 @@ class Diagram:
         (True, False)
         """
         x, y, given = names_of(x), names_of(y), names_of(given)
-        if self._kept is None:
-            self._kept = KeptGraph(self.source, self._observed())
-        answer = self._kept.separated(x, y, given)
+        answer = self._keep().separated(x, y, given)
         return bool(self.separated(x, y, given)) if answer is None else answer
 
-    def _observed(self) -> Tuple[str, ...]:
-        """The observed vertices in order."""
-        roles = self._content.roles
-        return tuple(name for name in self._content.vertices if roles.get(name) != "latent")
+    def _keep(self) -> KeptDiagram:
+        """The diagram as the library keeps it, which reads the text at the first question."""
+        if self._kept is None:
+            roles = self._content.roles
+            self._kept = KeptDiagram(self.source, [name for name in self._content.vertices if roles.get(name) != "latent"])
+        return self._kept
+
+    def _ask(self, command: str, *words: Text, second: Optional[bytes] = None, levels: Any = None) -> Tuple[int, str]:
+        """Asks the diagram that is kept: see `ask`."""
+        return ask(command, self.source, *words, second=second, levels=levels, kept=self._keep())
 
     def rule(self, number: int, y: Names, z: Names, do: Names = (), given: Names = ()) -> answers.RuleAnswer:
         """Whether a rule of do-calculus applies: the answer counts as true where it does, and else has an open path.
@@ -280,7 +284,7 @@ class Diagram:
         rule 2 holds: P(M|do(X)) = P(M|X)
         """
         words = ["--rule", str(number), *options(y=y, z=z, do=do, given=given)]
-        return answers.read_rule(ask("rule", self.source, *words)[1])
+        return answers.read_rule(self._ask("rule", *words)[1])
 
     def identify(
         self, x: Optional[Names] = None, y: Optional[Names] = None, given: Optional[Names] = None
@@ -301,10 +305,10 @@ class Diagram:
         P(Y|do(X),Z) = P(Y|Z,X)
         """
         words = options(x=x, y=y, given=given)
-        status, text = ask("identify", self.source, *words)
+        status, text = self._ask("identify", *words)
 
         def ask_form(form: str) -> str:
-            return ask("identify", self.source, *words, form)[1].rstrip("\n")
+            return self._ask("identify", *words, form)[1].rstrip("\n")
 
         return formula.read_hedge(text, ask_form) if status == 1 else formula.read_formula(text, ask_form)
 
@@ -326,7 +330,7 @@ class Diagram:
         free {Z}
         """
         words = [*options(x=x, y=y), "--experiments", experiments_word(experiments)]
-        return read_surrogate(ask("surrogate", self.source, *words)[1])
+        return read_surrogate(self._ask("surrogate", *words)[1])
 
     def check(self, certificate: Union[Text, Formula, Hedge]) -> answers.Check:
         """Whether a certificate is accepted, whoever wrote it: the answer counts as true where it is.
@@ -341,7 +345,7 @@ class Diagram:
         text = certificate.certificate if isinstance(certificate, (Formula, Hedge)) else certificate
         if text is None:
             raise RequestError("this answer has no certificate: only those of identify have one")
-        return answers.read_check(ask("check", self.source, second=as_bytes(text))[1])
+        return answers.read_check(self._ask("check", second=as_bytes(text))[1])
 
     def adjustment_sets(
         self, x: Optional[Names] = None, y: Optional[Names] = None, most: Optional[int] = None
@@ -353,7 +357,7 @@ class Diagram:
         [('Z',)]
         """
         limit = [] if most is None else ["--most", str(most)]
-        return answers.read_sets(ask("adjust", self.source, *options(x=x, y=y), *limit)[1])
+        return answers.read_sets(self._ask("adjust", *options(x=x, y=y), *limit)[1])
 
     def adjusts(
         self, members: Names, x: Optional[Names] = None, y: Optional[Names] = None, back_door: bool = False
@@ -366,7 +370,7 @@ class Diagram:
         P(Y|do(X)) = sum{Z} P(Z) * P(Y|Z,X)
         """
         words = [*options(x=x, y=y, set=members), *(["--back-door"] if back_door else [])]
-        return answers.read_adjustment(ask("adjust", self.source, *words)[1])
+        return answers.read_adjustment(self._ask("adjust", *words)[1])
 
     def equivalent(
         self, other: "Diagram", x: Optional[Names] = None, y: Optional[Names] = None, given: Optional[Names] = None
@@ -385,7 +389,7 @@ class Diagram:
         open in the first: A -> B -> C
         open in the second: A <- B -> C
         """
-        return answers.read_equivalence(ask("equivalent", self.source, *options(x=x, y=y, given=given), second=other.source)[1])
+        return answers.read_equivalence(self._ask("equivalent", *options(x=x, y=y, given=given), second=other.source)[1])
 
     def implications(self, data: Optional[Data] = None, count: Optional[str] = None, *, missing: str = "error") -> Implications:
         """The testable implications: each pair of variables that some set separates, with one such set.

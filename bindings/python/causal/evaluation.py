@@ -4,7 +4,7 @@ from __future__ import annotations
 import random
 from typing import TYPE_CHECKING, Any, Dict, Mapping, Optional, Sequence, Tuple
 
-from causal._library import Text, ask
+from causal._library import Text
 from causal.bootstrap import Bootstrap, drawn
 from causal.diagram import options
 from causal.effects import Effects, Level, LevelOf, read_effects, split_levels
@@ -30,7 +30,7 @@ class Evaluation:
         answer = diagram.identify(x, y)
         if isinstance(answer, Hedge):
             raise NotIdentifiable(f"{answer.target} is not identifiable", place=answer)
-        self.source = diagram.source
+        self.diagram = diagram
         self.formula = answer
         # The variables that the formula reads, in the order of the vertices, as answers list them.
         self.used = tuple(name for name in diagram.vertices if name in answer.variables)
@@ -71,7 +71,7 @@ class Evaluation:
             return {name: level_of(name, level) for name, level in zip(self.used, split[0])} if split else None
 
         lists = options(x=self.formula.target.x, y=self.formula.target.y)
-        answer = ask("evaluate", self.source, *lists, *words, second=text, levels=cell)[1]
+        answer = self.diagram._ask("evaluate", *lists, *words, second=text, levels=cell)[1]
         return read_effects(answer, self.formula, level_of, dropped)
 
     def same_as_file(self, estimate: Effects, path: str, count: Optional[str]) -> None:

@@ -4,7 +4,7 @@ from __future__ import annotations
 from dataclasses import dataclass
 from typing import TYPE_CHECKING, Any, Dict, Iterator, List, Optional, Sequence, Tuple
 
-from causal._library import Text, ask
+from causal._library import Text
 from causal.effects import Level, LevelOf, split_levels
 from causal.errors import UnreadableAnswer
 from causal.names import Cursor, printed_name, printed_set
@@ -170,7 +170,7 @@ def read_implications(text: str, level_of: LevelOf = lambda name, level: level, 
 
 def implications_of(diagram: "Diagram", data: Optional[Data], count: Optional[str], missing: str) -> Implications:
     """The implications of a diagram, with their differences where there is data: see `Diagram.implications`."""
-    pairs = read_implications(ask("implications", diagram.source)[1])
+    pairs = read_implications(diagram._ask("implications")[1])
     if data is None or not pairs:
         return pairs
     path = path_of(data)
@@ -184,7 +184,7 @@ def implications_of(diagram: "Diagram", data: Optional[Data], count: Optional[st
 def _with_counts(
     diagram: "Diagram", pairs: Implications, text: bytes, words: Sequence[Text], level_of: LevelOf, dropped: int
 ) -> Implications:
-    found = read_implications(ask("implications", diagram.source, *words, second=text)[1], level_of, dropped)
+    found = read_implications(diagram._ask("implications", *words, second=text)[1], level_of, dropped)
     # (a level of a file may hold a line feed)
     if [(it.a, it.b, it.given) for it in found] != [(it.a, it.b, it.given) for it in pairs]:
         raise UnreadableAnswer("a level holds a line feed, so the answer can't be told apart; give a DataFrame instead of a path")

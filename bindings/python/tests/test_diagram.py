@@ -1,5 +1,6 @@
 """Diagrams: where they come from, what they are, and questions with odd names."""
 import copy
+import functools
 import os
 import pickle
 import subprocess
@@ -119,7 +120,44 @@ class OddNames(unittest.TestCase):
 
 
 class Kept(unittest.TestCase):
-    """A diagram that is asked for many separations."""
+    """A diagram whose text is read once."""
+
+    def test_answers_are_those_on_the_text(self):
+        for name in ("napkin.dag", "exported.dag", "hidden_cause.dag", "fork.dag"):
+            diagram = Diagram(read_example(name))
+            a, b = diagram.project().vertices[:2]
+            for words in (
+                ["graph", "g"],
+                ["graph", "g", "--project"],
+                ["identify", "g", "--x", a, "--y", b],
+                ["identify", "g", "--x", a, "--y", b, "--certificate"],
+                ["adjust", "g", "--x", a, "--y", b, "--most", "3"],
+                ["adjust", "g", "--x", a, "--y", b, "--set", "{}", "--back-door"],
+                ["separate", "g", "--x", a, "--y", b],
+                ["implications", "g"],
+                ["identify", "g", "--x", "no such name", "--y", b],
+                ["identify"],
+                ["identify", "g", "--depth", "3"],
+                ["check", "g", "c"],
+                ["equivalent", "g", "c"],
+            ):
+                with self.subTest(name=name, words=words):
+                    inputs = {"c": "dag { }"} if "c" in words else {}
+                    self.assertEqual(diagram._keep().run(words, inputs), causal.run(words, {"g": diagram.source, **inputs}))
+
+    def test_odd_names(self):
+        diagram = Diagram.from_edges(list(zip(ODD, ODD[1:])), vertices=ODD)
+        self.assertEqual(diagram._keep().run(["graph", "g"]).out.decode(), diagram.text)
+
+    def test_other_names_are_refused(self):
+        kept = Diagram("dag { A -> B }")._keep()
+        ask = kept._asked
+        kept._asked = functools.partial(ask.func, ask.args[0], b"A\n", 2)
+        with self.assertRaises(ValueError):
+            kept.run(["graph", "g"])
+
+    def test_the_empty_diagram(self):
+        self.assertEqual(Diagram("dag {}")._keep().run(["graph", "g"]).out, b"dag {\n}\n")
 
     def test_hidden_vertices_are_projected(self):
         diagram = Diagram("dag { A <- U -> B B -> C U [latent] }")

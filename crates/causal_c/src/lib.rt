@@ -1,18 +1,21 @@
 //! The top call for C, Python, R and a web page.
 #![tactic(auto)]
 
-ghost use Rattle.std.specs.Prelude.{◌≡◌, ◌≤◌, ◌⊎◌};
+ghost use Rattle.std.specs.Prelude.{◌≡◌, ◌≤◌, ◌⊎◌, List, ℕ};
 ghost use Rattle.mixed_graph.specs.Bits.{has};
 ghost use Rattle.m_separation.specs.Walks.{IsSeparated, HasOpenWalk};
-ghost use Rattle.kept_graph.specs.Kept.{AreAskable, HoldsObserved, IsNoGraphText, graph_in};
+ghost use Rattle.dag_reader.specs.declared.graph.ReadGraph.{ReadGraph};
+ghost use Rattle.kept_graph.specs.Kept.{AreAskable, IsKept, IsNoGraphText, Keeps, graph_in};
+ghost use Rattle.kept_call.specs.Asked.{Asked, HasKept};
 ghost use Rattle.spans.specs.Words.{AreTexts, IsNoText};
 ghost use Rattle.span_call.specs.Called.{Called, LacksInput, IsCutShort};
 ghost use Rattle.explain_call.specs.Calls.{Explained};
 
 use explain_call::explain_spans;
-use kept_graph::{KeepFault, KeptGraph, Separation};
+use kept_call::ask_kept;
+use kept_graph::{KeepFault, KeptDiagram, ReadDiagram, Separation};
 use mixed_graph::VSet;
-use span_call::{Sizes, run_spans};
+use span_call::{Sizes, run_spans, show};
 use spans::{Input, Span};
 use std::alloc::Global;
 
@@ -68,17 +71,29 @@ pub extern "C" fn causal_explain(
     explain_spans(alloc, bytes, words, inputs, out, err, sizes)
 }
 
-/// Keeps the observed graph of a graph text: 0; 3 where the bytes are no graph text; 8 where memory was refused. What was kept stays then.
+/// Keeps the diagram of a graph text, and shows its names: 0; 3 where the bytes are no graph text; 8 where memory was refused. What was
+/// kept stays then.
 #[unsafe(no_mangle)]
-pub extern "C" fn causal_keep(alloc: Global, text: &[u8], kept: &mut KeptGraph) -> u8
-    ensures holds { result ≡ 0 → HoldsObserved text.now (graph_in kept.new) }
+pub extern "C" fn causal_keep(
+    alloc: Global,
+    text: &[u8],
+    kept: &mut KeptDiagram,
+    names: &mut [u8],
+    size: &mut usize,
+) -> u8
+    ensures kept { result ≡ 0 → HasKept text.now kept.new names.old names.new size.new }
     ensures refused { result ≡ 3 → IsNoGraphText text.now }
     ensures known { (result ≡ 0) ⊎ ((result ≡ 3) ⊎ (result ≡ 8)) }
     ensures stays { 3 ≤ result → kept.new ≡ kept.old }
+    ensures names_stay { 3 ≤ result → names.new ≡ names.old }
+    ensures no_size { 3 ≤ result → size.new ≡ 0 }
 {
-    match KeptGraph::read(alloc, text) {
-        Ok(graph) => {
-            *kept = graph;
+    *size = 0;
+    match KeptDiagram::read(alloc, text) {
+        Ok(read) => {
+            let ReadDiagram { diagram, lines } = read;
+            *kept = diagram;
+            *size = show(&lines, names);
             0
         }
         Err(fault) => status_of(fault),
@@ -96,19 +111,47 @@ fn status_of(fault: KeepFault) -> u8
     }
 }
 
-/// Whether x and y are separated given a set in a graph that is kept: 0 or 1; 3 where that can't be asked of these sets.
+/// Whether x and y are separated given a set in a diagram that is kept: 0 or 1; 3 where that can't be asked of these sets.
 #[unsafe(no_mangle)]
-pub extern "C" fn causal_separated(kept: &KeptGraph, x: u64, y: u64, given: u64) -> u8
-    ensures apart { result ≡ 0 → IsSeparated (graph_in kept.now) (has x) (has y) (has given) }
-    ensures open { result ≡ 1 → HasOpenWalk (graph_in kept.now) (has x) (has y) (has given) }
-    ensures askable { result ≤ 1 → AreAskable kept.now.vertices x y given }
-    ensures refused { result ≡ 3 → AreAskable kept.now.vertices x y given → ⊥ }
+pub extern "C" fn causal_separated(kept: &KeptDiagram, x: u64, y: u64, given: u64) -> u8
+    ensures apart { result ≡ 0 → IsSeparated (graph_in kept.now.observed) (has x) (has y) (has given) }
+    ensures open { result ≡ 1 → HasOpenWalk (graph_in kept.now.observed) (has x) (has y) (has given) }
+    ensures askable { result ≤ 1 → AreAskable kept.now.observed.vertices x y given }
+    ensures refused { result ≡ 3 → AreAskable kept.now.observed.vertices x y given → ⊥ }
     ensures known { (result ≤ 1) ⊎ (result ≡ 3) }
 {
     let (x, y, given) = (VSet { bits: x }, VSet { bits: y }, VSet { bits: given });
-    match kept.separation(x, y, given) {
+    match kept.observed.separation(x, y, given) {
         Separation::Separated => 0,
         Separation::Open => 1,
         Separation::Refused => 3,
     }
+}
+
+/// Runs the words on a diagram that is kept, which stands for their file, shows what was written, and gives the status.
+#[unsafe(no_mangle)]
+pub extern "C" fn causal_ask(
+    alloc: Global,
+    kept: &KeptDiagram,
+    names: &[u8],
+    bytes: &[u8],
+    words: &[Span],
+    inputs: &[Input],
+    out: &mut [u8],
+    err: &mut [u8],
+    sizes: &mut Sizes,
+) -> u8
+    ensures asked { result ≤ 8 → (text : List ℕ) → IsKept text kept.now names.now
+        → Asked text bytes.now words.now inputs.now out.old out.new err.old err.new sizes.new result }
+    ensures known { result ≤ 11 }
+
+    // 9: a word is no text. 11: no diagram with these names is kept. Below 9 each word is a text. From 9 on nothing is written.
+    ensures not_text { result ≡ 9 → IsNoText bytes.now words.now }
+    ensures not_kept { result ≡ 11 → (g : ReadGraph) → Keeps kept.now names.now g → ⊥ }
+    ensures are_texts { result ≤ 8 → AreTexts bytes.now words.now }
+    ensures out_stays { 9 ≤ result → out.new ≡ out.old }
+    ensures err_stays { 9 ≤ result → err.new ≡ err.old }
+    ensures no_sizes { 9 ≤ result → sizes.new ≡ record { out = 0; err = 0 } }
+{
+    ask_kept(alloc, kept, names, bytes, words, inputs, out, err, sizes)
 }

@@ -20,7 +20,7 @@ held w bytes Graph text h = inr h
 held w bytes o text h = h
 
 -- what a request gives on the graph that the bytes hold
-given_on : (w : Request) (bytes : List ℕ) (g : ReadGraph) (f : First) → HoldsGraph bytes g → GivesOn w g f → GivesFirst w bytes f
+pub given_on : (w : Request) (bytes : List ℕ) (g : ReadGraph) (f : First) → HoldsGraph bytes g → GivesOn w g f → GivesFirst w bytes f
 given_on w bytes g (first.Replied reply) h a = held w bytes reply.outcome reply.text.items (record { graph = g; holds = h; answer = a })
 given_on w bytes g (first.Continues p) h a = (g, h, a)
 

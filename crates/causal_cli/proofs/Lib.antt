@@ -1,9 +1,9 @@
 mod Commands
-mod Definitions
+pub mod Definitions
 mod Deliveries
 mod ReadCounts
 mod NeverFails
-mod Answered
+pub mod Answered
 mod Readable
 mod OneCommand
 mod Spoken

@@ -47,7 +47,7 @@ pub fn answer<'a>(
 }
 
 /// What a request gives on a graph that was read.
-fn answer_on<'a>(
+pub fn answer_on<'a>(
     alloc: Global,
     request: GraphRequest<'a>,
     graph: ReadGraph,

@@ -1,10 +1,11 @@
 -- What a call that explains gives, over spans of bytes.
-use Rattle.std.specs.Prelude.{ℕ, ◌≡◌, Bool, List, [], nat_le, length, take, drop, min, if◌then◌else◌, codes}
+use Rattle.std.specs.Prelude.{ℕ, ◌≡◌, List, [], nat_le, if◌then◌else◌, codes}
 use Rattle.spans.specs.declared.Span.{Span}
 use Rattle.spans.specs.declared.Input.{Input}
 use Rattle.spans.specs.Words.{texts}
 use Rattle.replies.specs.Outcomes as outcomes
 use Rattle.span_call.specs.declared.Sizes.{Sizes}
+use Rattle.span_call.specs.Rooms.{ShowsText}
 use Rattle.explain_call.specs.declared.ending.Ending.{Ending}
 use Rattle.explain_call.specs.declared.ending.Ending.TheVariants.{Replied, NotUnderstood, NoInput, NoMemory}
 use Rattle.explain_call.specs.Ends.{Ends}
@@ -30,16 +31,10 @@ line_of NotUnderstood = codes "causal: words: steps, rule or adjust\n"
 line_of NoInput = codes "causal: read failed\n"
 line_of NoMemory = codes "causal: no memory\n"
 
--- a room shows the front of a text, or all of it, and stays as it was behind that
-pub record Shows (text before room : List ℕ) (size : ℕ) : Type 0 where
-  pub whole : size ≡ length text
-  pub front : take (min size (length room)) room ≡ take (min size (length room)) text
-  pub rest : drop (min size (length room)) room ≡ drop (min size (length room)) before
-
 -- the call ended as its words and inputs say, with this status, and the two rooms show what was written
 pub record Explained (bytes : List ℕ) (words : List Span) (inputs : List Input) (out_before out err_before err : List ℕ) (sizes : Sizes) (code : ℕ) : Type 0 where
   pub ending : Ending
   pub ends : Ends bytes (texts bytes words) inputs ending
   pub status : code ≡ code_of ending
-  pub shows_out : Shows (answer_of ending) out_before out sizes.out
-  pub shows_err : Shows (line_of ending) err_before err sizes.err
+  pub shows_out : ShowsText (answer_of ending) out_before out sizes.out
+  pub shows_err : ShowsText (line_of ending) err_before err sizes.err

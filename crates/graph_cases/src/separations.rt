@@ -1,5 +1,5 @@
 use case_rows::{Members, Path, graph, set, text};
-use kept_graph::KeptGraph;
+use kept_graph::KeptDiagram;
 use m_separation::{open_path, reach, separated};
 use mixed_graph::{Graph, VSet};
 use serde_json::Value;
@@ -31,10 +31,11 @@ pub(crate) fn separation_row(alloc: Global, row: &Value) -> Option<String> {
 /// What is answered of a separation in the observed graph of a text, where that is kept.
 pub(crate) fn kept_row(alloc: Global, row: &Value) -> Option<String> {
     let (x, y, given) = (set(row, "x"), set(row, "y"), set(row, "given"));
-    match KeptGraph::read(alloc, text(row, "text").as_bytes()) {
+    match KeptDiagram::read(alloc, text(row, "text").as_bytes()) {
         Ok(kept) => {
-            let answer = kept.separation(x, y, given);
-            let vertices = kept.vertices;
+            let graph = &kept.diagram.observed;
+            let answer = graph.separation(x, y, given);
+            let vertices = graph.vertices;
             format!(in alloc; "{vertices} vertices, {answer:?}\n").ok()
         }
         Err(fault) => format!(in alloc; "{fault:?}\n").ok(),

@@ -1,11 +1,13 @@
-ghost use Rattle.std.specs.Prelude.{◌≡◌, IfOk, IfErr};
+ghost use Rattle.std.specs.Prelude.{◌≡◌, IfOk, IsErrOf};
 ghost use Rattle.mixed_graph.specs.Bits.{has};
 ghost use Rattle.mixed_graph.specs.Shown.{graph_of};
 ghost use Rattle.m_separation.specs.Walks.{IsSeparated, HasOpenWalk};
-ghost use Rattle.kept_graph.specs.Kept.{AreAskable, HoldsObserved, IsNoGraphText, graph_in};
+ghost use Rattle.dag_reader.specs.declared.graph.ReadGraph.{ReadGraph as Read};
+ghost use Rattle.kept_graph.specs.Kept.{AreAskable, Keeps, graph_in};
 
-use crate::kept::KeptGraph;
-use crate::reading::{KeepFault, observed_graph};
+use crate::kept::{KeptDiagram, KeptGraph};
+use crate::naming::{NamesFault, names_on};
+use dag_reader::ReadGraph;
 use do_rules::are_three_sets;
 use m_separation::separated;
 use mixed_graph::{Graph, VSet};
@@ -23,27 +25,6 @@ pub enum Separation {
 }
 
 impl KeptGraph {
-    /// The observed graph of a graph text of at most 1,048,576 bytes.
-    ///
-    /// `Refused` where the bytes are no such text: `run` tells where and why.
-    pub fn read(alloc: Global, text: &[u8]) -> Result<KeptGraph, KeepFault>
-        ensures holds { IfOk result (λ k. HoldsObserved text.now (graph_in k)) }
-        ensures refused { IfErr result (λ f. f ≡ KeepFault.Refused → IsNoGraphText text.now) }
-    {
-        match observed_graph(alloc, text) {
-            Ok(graph) => {
-                let (parents, children, spouses) = (graph.parents, graph.children, graph.spouses);
-                Ok(KeptGraph {
-                    vertices: graph.n,
-                    parents,
-                    children,
-                    spouses,
-                })
-            }
-            Err(fault) => Err(fault),
-        }
-    }
-
     /// The graph that is kept.
     pub fn graph(&self) -> Graph
         ensures same { graph_of result ≡ graph_in self.now }
@@ -73,6 +54,34 @@ impl KeptGraph {
             Separation::Separated
         } else {
             Separation::Open
+        }
+    }
+}
+
+impl KeptDiagram {
+    /// The graph that was read, with its names, which stand on these lines, in order.
+    ///
+    /// `NotNames` where no graph with names on these lines is kept.
+    pub fn graph(&self, alloc: Global, lines: &[u8]) -> Result<ReadGraph, NamesFault>
+        ensures keeps { IfOk result (Keeps self.now lines.now) }
+        ensures refused { IsErrOf result NamesFault.NotNames → (g : Read) → Keeps self.now lines.now g → ⊥ }
+    {
+        match names_on(alloc, lines, self.read.vertices) {
+            Ok(names) => Ok(ReadGraph {
+                names,
+                graph: self.read.graph(),
+                exposures: VSet {
+                    bits: self.exposures,
+                },
+                outcomes: VSet {
+                    bits: self.outcomes,
+                },
+                adjusted: VSet {
+                    bits: self.adjusted,
+                },
+                latent: VSet { bits: self.latent },
+            }),
+            Err(fault) => Err(fault),
         }
     }
 }

@@ -1,5 +1,6 @@
 ghost use Rattle.std.specs.Prelude.{◌≡◌, ◌≤◌};
 ghost use Rattle.mixed_graph.specs.Graphs.{Agree, IsMixedGraph, graph_from};
+ghost use Rattle.dag_reader.specs.RoleSets.{AreRoleSets};
 
 /// An acyclic mixed graph on the vertices below `vertices`, at most 64, in memory of the caller.
 ///
@@ -15,4 +16,21 @@ pub struct KeptGraph {
     pub ghost small: { vertices ≤ 64 },
     pub ghost agree: { Agree parents children },
     pub ghost valid: { IsMixedGraph (graph_from vertices children spouses) },
+}
+
+/// A diagram that was read, in memory of the caller, without its names.
+///
+/// Bit v of a set is set where vertex v of the graph as it was read is marked so. All zeros are the diagram without a vertex.
+#[repr(C)]
+#[derive(Drop)]
+pub struct KeptDiagram {
+    /// The observed graph, whose vertices have numbers of their own.
+    pub observed: KeptGraph,
+    /// The graph as it was read.
+    pub read: KeptGraph,
+    pub exposures: u64,
+    pub outcomes: u64,
+    pub adjusted: u64,
+    pub latent: u64,
+    pub ghost marked: { AreRoleSets read.vertices exposures outcomes adjusted latent },
 }

@@ -1,12 +1,16 @@
-//! A diagram that is read once and asked many times: its observed graph, in the caller's memory.
+//! A diagram that is read once and asked many times, in the caller's memory: the graph as it was read, its observed graph, and its
+//! names as lines.
 //!
-//! `KeptGraph::read(alloc, text)` reads a graph text, and `kept.separation(x, y, given)` says whether two sets are separated.
+//! `KeptDiagram::read(alloc, text)` reads a graph text. `kept.observed.separation(x, y, given)` says whether two sets are separated,
+//! and `kept.graph(alloc, lines)` gives the graph that was read, with its names.
 #![tactic(auto)]
 
 mod asking;
 mod kept;
+mod naming;
 mod reading;
 
 pub use asking::Separation;
-pub use kept::KeptGraph;
-pub use reading::KeepFault;
+pub use kept::{KeptDiagram, KeptGraph};
+pub use naming::NamesFault;
+pub use reading::{KeepFault, ReadDiagram};

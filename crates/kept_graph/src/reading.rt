@@ -1,16 +1,19 @@
 ghost use Rattle.std.specs.Prelude.{◌≡◌, ◌↔◌, IsTrue, IfErr, IfOk};
 ghost use Rattle.mixed_graph.specs.Shown.{graph_of};
-ghost use Rattle.kept_graph.specs.Kept.{HoldsObserved, IsNoGraphText};
+ghost use Rattle.replies.specs.Observed.{IsObservedGraph};
+ghost use Rattle.kept_graph.specs.Kept.{graph_in, IsKept, IsNoGraphText, Keeps, lines_of};
 
-use dag_reader::{GraphFault, read_graph};
+use crate::kept::{KeptDiagram, KeptGraph};
+use crate::naming::lines;
+use dag_reader::{GraphFault, ReadGraph, read_graph};
 use latent_projection::observed;
 use mixed_graph::Graph;
-use std::alloc::Global;
+use std::alloc::{AllocError, Global};
 
 /// The most bytes that a graph text may have.
 const MAX_BYTES: usize = 1_048_576;
 
-/// Why there is no graph to keep.
+/// Why there is no diagram to keep.
 #[derive(Clone, Copy, Debug)]
 pub enum KeepFault {
     /// The bytes are no graph text.
@@ -19,24 +22,72 @@ pub enum KeepFault {
     NoMemory,
 }
 
-/// The observed graph of a graph text.
-pub fn observed_graph(alloc: Global, text: &[u8]) -> Result<Graph, KeepFault>
-    ensures holds { IfOk result (λ g. HoldsObserved text.now (graph_of g)) }
-    ensures refused { IfErr result (λ f. f ≡ KeepFault.Refused → IsNoGraphText text.now) }
-{
-    if text.len() > MAX_BYTES {
-        return Err(KeepFault::Refused);
-    }
-    match read_graph(alloc, text) {
-        Ok(read) => match observed(alloc, &read.names, &read.graph, read.latent) {
-            Ok(seen) => Ok(seen.graph),
-            Err(_) => Err(KeepFault::NoMemory),
-        },
-        Err(fault) => {
-            if is_memory(&fault) {
-                return Err(KeepFault::NoMemory);
+/// A diagram that was read, and its names.
+#[derive(Drop)]
+pub struct ReadDiagram {
+    pub diagram: KeptDiagram,
+    /// The name of each vertex in turn, with a line feed behind it.
+    pub lines: Vec<u8>,
+}
+
+impl KeptDiagram {
+    /// The diagram of a graph text of at most 1,048,576 bytes.
+    ///
+    /// `Refused` where the bytes are no such text: `run` tells where and why.
+    pub fn read(alloc: Global, text: &[u8]) -> Result<ReadDiagram, KeepFault>
+        ensures kept { IfOk result (λ d. IsKept text.now d.diagram d.lines.items) }
+        ensures refused { IfErr result (λ f. f ≡ KeepFault.Refused → IsNoGraphText text.now) }
+    {
+        if text.len() > MAX_BYTES {
+            return Err(KeepFault::Refused);
+        }
+        match read_graph(alloc, text) {
+            Ok(graph) => match keep(alloc, graph) {
+                Ok(diagram) => Ok(diagram),
+                Err(_) => Err(KeepFault::NoMemory),
+            },
+            Err(fault) => {
+                if is_memory(&fault) {
+                    return Err(KeepFault::NoMemory);
+                }
+                Err(KeepFault::Refused)
             }
-            Err(KeepFault::Refused)
+        }
+    }
+}
+
+/// Keeps a graph that was read.
+fn keep(alloc: Global, read: ReadGraph) -> Result<ReadDiagram, AllocError>
+    ensures keeps { IfOk result (λ d. Keeps d.diagram d.lines.items read) }
+    ensures observed { IfOk result (λ d. IsObservedGraph read (graph_in d.diagram.observed)) }
+{
+    let seen = observed(alloc, &read.names, &read.graph, read.latent)?;
+    let lines = lines(alloc, &read.names)?;
+    Ok(ReadDiagram {
+        diagram: KeptDiagram {
+            observed: KeptGraph::of(seen.graph),
+            read: KeptGraph::of(read.graph),
+            exposures: read.exposures.bits,
+            outcomes: read.outcomes.bits,
+            adjusted: read.adjusted.bits,
+            latent: read.latent.bits,
+        },
+        lines,
+    })
+}
+
+impl KeptGraph {
+    /// The graph in memory of the caller.
+    fn of(graph: Graph) -> KeptGraph
+        ensures same { graph_in result ≡ graph_of graph }
+        ensures vertices { result.vertices ≡ graph.n }
+    {
+        let (parents, children, spouses) = (graph.parents, graph.children, graph.spouses);
+        KeptGraph {
+            vertices: graph.n,
+            parents,
+            children,
+            spouses,
         }
     }
 }

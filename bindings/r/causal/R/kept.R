@@ -1,26 +1,28 @@
-# A diagram that is asked for many separations: the library keeps its observed graph, and each question takes microseconds.
+# A diagram that is asked many questions: the library reads its text once, and keeps it.
 
 # The last diagram that was asked. What is kept of it stays here, out of the reach of whoever has the diagram.
 last <- new.env(parent = emptyenv())
 
 is_separated <- function(diagram, x, y, given = character()) {
   diagram <- as_causal_diagram(diagram)
-  keep(diagram)
+  kept <- keep(diagram)
   sets <- list(places(x), places(y), places(given))
   # where that can't be asked, `separated` says why
-  if (anyNA(unlist(sets))) return(separated(diagram, x, y, given)$holds)
-  status <- .Call(call_separated, last$graph, sets[[1]], sets[[2]], sets[[3]])
+  if (is.null(kept) || anyNA(unlist(sets))) return(separated(diagram, x, y, given)$holds)
+  status <- .Call(call_separated, kept, sets[[1]], sets[[2]], sets[[3]])
   if (status > 1L) separated(diagram, x, y, given)$holds else status == 0L
 }
 
-# Has the library keep the diagram, unless it is the one that is kept.
+# What the library keeps of the diagram, which it reads unless it is the last one; NULL where its text is refused.
 keep <- function(diagram) {
-  if (identical(last$text, diagram$text)) return(invisible())
-  graph <- .Call(call_keep, as_bytes(diagram$text))
-  if (!is.raw(graph)) stop("the diagram wasn't kept: status ", graph)
-  last$names <- observed_names(diagram)
-  last$graph <- graph
-  last$text <- diagram$text
+  if (!identical(last$text, diagram$text)) {
+    kept <- .Call(call_keep, as_bytes(diagram$text))
+    if (!is.list(kept)) return(NULL)
+    last$names <- observed_names(diagram)
+    last$kept <- kept
+    last$text <- diagram$text
+  }
+  last$kept
 }
 
 # The observed vertices in order.

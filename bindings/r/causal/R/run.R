@@ -1,11 +1,14 @@
-# The call into the library. Everything that the package tells comes from here.
+# The calls into the library. Everything that the package tells comes from here.
 
-causal_run <- function(words, inputs = list()) {
+causal_run <- function(words, inputs = list()) run_on(words, inputs, NULL)
+
+# The same on a diagram that the library keeps, which stands for the file; NULL for none.
+run_on <- function(words, inputs, kept) {
   if (!is.character(words) || anyNA(words)) stop("`words` has to be a character vector without missing values")
   inputs <- as.list(inputs)
   names <- names(inputs)
   if (length(inputs) && (is.null(names) || anyNA(names))) stop("each input needs a name")
-  answer <- .Call(call_causal, enc2utf8(words), enc2utf8(as.character(names)), lapply(unname(inputs), as_bytes))
+  answer <- .Call(call_causal, enc2utf8(words), enc2utf8(as.character(names)), lapply(unname(inputs), as_bytes), kept)
   list(status = answer[[1]], out = as_text(answer[[2]]), err = as_text(answer[[3]]))
 }
 
@@ -29,7 +32,8 @@ as_text <- function(bytes) {
 # Asks a question about a diagram. `yes` tells whether the status is 0; the status 1 is the answer no. Any other status is an
 # error of the class `causal_fault`. A fault of a value over counts (5) is handed back where the caller wants it.
 ask <- function(command, diagram, words = character(), inputs = list(), hand_back = integer()) {
-  answer <- causal_run(c(command, "diagram", words), c(list(diagram = diagram$text), inputs))
+  kept <- if (inherits(diagram, "causal_diagram")) keep(diagram)
+  answer <- run_on(c(command, "diagram", words), c(if (is.null(kept)) list(diagram = diagram$text), inputs), kept)
   if (answer$status > 1 && !answer$status %in% hand_back) stop(causal_fault(answer, c(list(diagram = diagram$text), inputs)))
   answer$yes <- answer$status == 0
   answer$lines <- strsplit(answer$out, "\n", fixed = TRUE)[[1]]

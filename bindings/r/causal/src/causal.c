@@ -1,4 +1,4 @@
-/* Calls from R into the library: words and named inputs in, the status, the answer and the line out; and a graph that is kept. */
+/* Calls from R into the library: words and named inputs in, the status, the answer and the line out; and a diagram that is kept. */
 #include <string.h>
 #include <R.h>
 #include <Rinternals.h>
@@ -21,8 +21,11 @@ static SEXP raw_of(const uint8_t *bytes, size_t length) {
   return raw;
 }
 
-/* words and names: character vectors in UTF-8; contents: a list of raw vectors. */
-static SEXP call_causal(SEXP words, SEXP names, SEXP contents) {
+static const causal_diagram *diagram_in(SEXP kept) { return (const causal_diagram *)RAW(VECTOR_ELT(kept, 0)); }
+
+/* words and names: character vectors in UTF-8; contents: a list of raw vectors; kept: what call_keep gave, which stands for the file, or
+ * NULL. */
+static SEXP call_causal(SEXP words, SEXP names, SEXP contents, SEXP kept) {
   size_t word_count = (size_t)XLENGTH(words), input_count = (size_t)XLENGTH(names);
   size_t total = 1, used = 0;
   for (size_t i = 0; i < word_count; i++) total += strlen(CHAR(STRING_ELT(words, i)));
@@ -50,7 +53,13 @@ static SEXP call_causal(SEXP words, SEXP names, SEXP contents) {
   for (;;) {
     out = (uint8_t *)R_alloc(room, 1);
     err = (uint8_t *)R_alloc(room, 1);
-    status = causal_run(packed, used, spans, word_count, inputs, input_count, out, room, err, room, &sizes);
+    if (isNull(kept)) {
+      status = causal_run(packed, used, spans, word_count, inputs, input_count, out, room, err, room, &sizes);
+    } else {
+      SEXP lines = VECTOR_ELT(kept, 1);
+      status = causal_ask(diagram_in(kept), RAW(lines), (size_t)XLENGTH(lines), packed, used, spans, word_count, inputs, input_count, out,
+                          room, err, room, &sizes);
+    }
     size_t longest = sizes.out > sizes.err ? sizes.out : sizes.err;
     if (status > LAST_STATUS || longest <= room) break;
     room = longest;
@@ -65,13 +74,23 @@ static SEXP call_causal(SEXP words, SEXP names, SEXP contents) {
   return answer;
 }
 
-/* text: a raw vector. The observed graph that the library keeps of it, as a raw vector, or the status where it keeps none. */
+/* text: a raw vector. What the library keeps of it, as a list of two raw vectors, the diagram and its names, or the status where it keeps
+ * none. */
 static SEXP call_keep(SEXP text) {
-  SEXP kept = PROTECT(allocVector(RAWSXP, (R_xlen_t)sizeof(causal_graph)));
-  memset(RAW(kept), 0, sizeof(causal_graph));
-  int status = causal_keep(RAW(text), (size_t)XLENGTH(text), (causal_graph *)RAW(kept));
-  UNPROTECT(1);
-  return status == CAUSAL_YES ? kept : ScalarInteger(status);
+  size_t room = (size_t)XLENGTH(text), size = 0;
+  uint8_t *lines = (uint8_t *)R_alloc(room + 1, 1);
+  SEXP diagram = PROTECT(allocVector(RAWSXP, (R_xlen_t)sizeof(causal_diagram)));
+  memset(RAW(diagram), 0, sizeof(causal_diagram));
+  int status = causal_keep(RAW(text), room, (causal_diagram *)RAW(diagram), lines, room, &size);
+  if (status != CAUSAL_YES || size > room) {
+    UNPROTECT(1);
+    return ScalarInteger(status == CAUSAL_YES ? CAUSAL_NOT_KEPT : status);
+  }
+  SEXP kept = PROTECT(allocVector(VECSXP, 2));
+  SET_VECTOR_ELT(kept, 0, diagram);
+  SET_VECTOR_ELT(kept, 1, raw_of(lines, size));
+  UNPROTECT(2);
+  return kept;
 }
 
 /* The set of some vertices, counted from 1. */
@@ -83,10 +102,10 @@ static uint64_t set_of(SEXP places) {
 
 /* kept: what call_keep gave; x, y, given: integer vectors of vertices. The status of the library. */
 static SEXP call_separated(SEXP kept, SEXP x, SEXP y, SEXP given) {
-  return ScalarInteger(causal_separated((const causal_graph *)RAW(kept), set_of(x), set_of(y), set_of(given)));
+  return ScalarInteger(causal_separated(diagram_in(kept), set_of(x), set_of(y), set_of(given)));
 }
 
-static const R_CallMethodDef calls[] = {{"call_causal", (DL_FUNC)&call_causal, 3},
+static const R_CallMethodDef calls[] = {{"call_causal", (DL_FUNC)&call_causal, 4},
                                         {"call_keep", (DL_FUNC)&call_keep, 1},
                                         {"call_separated", (DL_FUNC)&call_separated, 4},
                                         {NULL, NULL, 0}};

@@ -1,0 +1,28 @@
+use Rattle.std.proofs.Common.{ap, Err}
+use Rattle.word_forms.specs.Views.{texts_of}
+use Rattle.survey_command.specs.Requests.{request_of}
+use Rattle.causal_cli.specs.declared.commands.Command.TheVariants.{Survey}
+use Rattle.kept_call.specs.Replies.{question}
+use Rattle.kept_call.proofs.Replying.{replied_words, not_understood, refused_memory}
+use Rattle.kept_call.proofs.reply.respond.Goals as goal
+
+pub returns-in-Ok-OnGraph : goal.returns-in-Ok-OnGraph
+returns-in-Ok-OnGraph c = λ diagram holds.
+    let asks = rw c.in-Ok-OnGraph.field-0-is at c.in-Ok-OnGraph.ensures.asks in
+    c.answer_graph.ensures (texts_of c.args.words.now) asks diagram holds
+
+pub returns-in-Ok : goal.returns-in-Ok
+returns-in-Ok c = λ diagram holds.
+    let asks = rw c.in-Ok-Survey.field-0-is at c.in-Ok-Survey.ensures.asks in
+    replied_words _ (Survey, request_of c.in-Ok-Survey.request) c.in-Ok.reply asks c.in-Ok.ensures
+
+pub returns-in-Err : goal.returns-in-Err
+returns-in-Err c = λ diagram holds. refused_memory _ c.bare.result c.bare.ensures
+
+pub returns-in-Err-NotUnderstood : goal.returns-in-Err-NotUnderstood
+returns-in-Err-NotUnderstood c = λ diagram holds.
+    not_understood _ c.bare-in-Err-NotUnderstood.result c.bare-in-Err-NotUnderstood.ensures
+    (c.in-Err-NotUnderstood.ensures.none (ap (λ f. Err f) c.in-Err-NotUnderstood.field-0-is))
+
+pub returns-in-Err-NoMemory : goal.returns-in-Err-NoMemory
+returns-in-Err-NoMemory c = λ diagram holds. refused_memory _ c.bare-in-Err-NoMemory.result c.bare-in-Err-NoMemory.ensures

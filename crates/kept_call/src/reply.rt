@@ -1,0 +1,132 @@
+// The reply to words on a diagram that is kept.
+
+ghost use Rattle.std.specs.Prelude.{◌≡◌, List, ℕ, IfOk, OnErr};
+ghost use Rattle.word_forms.specs.Form.{Text};
+ghost use Rattle.word_forms.specs.Views.{texts_of};
+ghost use Rattle.dag_reader.specs.declared.graph.ReadGraph.{ReadGraph as Read};
+ghost use Rattle.replies.specs.Observed.{HoldsGraph};
+ghost use Rattle.causal_cli.specs.Commands.{Asks, on_graph};
+ghost use Rattle.causal_cli.specs.Answers.{GivesSecond, IsAccepted};
+ghost use Rattle.kept_graph.specs.Kept.{IsKept, Keeps};
+ghost use Rattle.kept_call.specs.Replies.{Proceeds, RepliesWith, answer_of, line_of, question};
+
+use causal_cli::{
+    First, GraphRequest, Request, SecondInput, answer_on, line_of, long_reply, read_request,
+    second_reply,
+};
+use dag_reader::ReadGraph;
+use kept_graph::{KeptDiagram, NamesFault};
+use replies::{Outcome, Reply};
+use request_values::RequestFault;
+use spans::{Input, content_named};
+use std::alloc::{AllocError, Global};
+use survey_command::survey_reply;
+
+/// No graph with such names is kept.
+#[derive(Clone, Copy, Debug)]
+pub struct NotKept;
+
+/// The reply to words on a diagram that is kept with the names on these lines.
+pub fn reply_kept(
+    alloc: Global,
+    kept: &KeptDiagram,
+    lines: &[u8],
+    words: &[String],
+    bytes: &[u8],
+    inputs: &[Input],
+) -> Result<Reply, NotKept>
+    ensures replies { IfOk result (λ r. (diagram : List ℕ) → IsKept diagram kept.now lines.now → RepliesWith (question diagram (texts_of words.now) bytes.now inputs.now) r) }
+    ensures not_kept { OnErr result ((g : Read) → Keeps kept.now lines.now g → ⊥) }
+{
+    match kept.graph(alloc, lines) {
+        Ok(graph) => Ok(respond(alloc, graph, words, bytes, inputs)),
+        Err(NamesFault::NotNames) => Err(NotKept),
+        Err(NamesFault::NoMemory) => Ok(Reply::bare(alloc, Outcome::Memory)),
+    }
+}
+
+/// The reply to words on a graph that was read.
+fn respond(
+    alloc: Global,
+    graph: ReadGraph,
+    words: &[String],
+    bytes: &[u8],
+    inputs: &[Input],
+) -> Reply
+    ensures { (diagram : List ℕ) → HoldsGraph diagram graph → RepliesWith (question diagram (texts_of words.now) bytes.now inputs.now) result }
+{
+    match read_request(alloc, words) {
+        Ok(Request::OnGraph(request)) => answer_graph(alloc, request, graph, bytes, inputs),
+        Ok(Request::Survey(request)) => match survey_reply(alloc, request.seed) {
+            Ok(reply) => reply,
+            Err(_) => Reply::bare(alloc, Outcome::Memory),
+        },
+        Err(RequestFault::NotUnderstood) => Reply::bare(alloc, Outcome::Words),
+        Err(RequestFault::NoMemory) => Reply::bare(alloc, Outcome::Memory),
+    }
+}
+
+/// Answers a request on a graph that was read.
+fn answer_graph(
+    alloc: Global,
+    request: GraphRequest<'_>,
+    graph: ReadGraph,
+    bytes: &[u8],
+    inputs: &[Input],
+) -> Reply
+    ensures { (words : List Text) → Asks words (on_graph request.entry) → (diagram : List ℕ) → HoldsGraph diagram graph
+        → RepliesWith (question diagram words bytes.now inputs.now) result }
+{
+    match answer_on(alloc, request, graph) {
+        Ok(First::Replied(reply)) => reply,
+        Ok(First::Continues(input)) => proceed(alloc, &input, bytes, inputs),
+        Err(_) => Reply::bare(alloc, Outcome::Memory),
+    }
+}
+
+/// Finds the second input and answers on it.
+fn proceed(alloc: Global, input: &SecondInput<'_>, bytes: &[u8], inputs: &[Input]) -> Reply
+    requires { IsAccepted input.now }
+    ensures { Proceeds input.now bytes.now inputs.now result }
+{
+    let Some(other) = content_named(bytes, inputs, input.second()) else {
+        return Reply::bare(alloc, Outcome::Read);
+    };
+    match reply_on(alloc, input, other) {
+        Ok(reply) => reply,
+        Err(_) => Reply::bare(alloc, Outcome::Memory),
+    }
+}
+
+/// The reply on the bytes of the second input.
+fn reply_on(alloc: Global, input: &SecondInput<'_>, other: &[u8]) -> Result<Reply, AllocError>
+    requires { IsAccepted input.now }
+    ensures { IfOk result (GivesSecond input.now other.now) }
+{
+    if other.len() as u64 > input.limit() {
+        return long_reply(alloc, input);
+    }
+    second_reply(alloc, input, other)
+}
+
+/// What is written as an answer.
+pub fn answer_in(reply: &Reply) -> &[u8]
+    ensures { result.now ≡ answer_of reply.now }
+{
+    if reply.outcome.code() <= 1 {
+        reply.text.as_slice()
+    } else {
+        b""
+    }
+}
+
+/// What is written as a line.
+pub fn line_in(reply: &Reply) -> &[u8]
+    ensures { result.now ≡ line_of reply.now }
+{
+    if reply.outcome.code() <= 1 {
+        b""
+    } else {
+        line_of(reply)
+    }
+}
