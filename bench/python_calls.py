@@ -2,8 +2,8 @@
 """Times calls of the library from Python: `python_calls.py`, with bindings/python on the path of modules.
 
 It prints the time of one separation in process beside that of networkx on the same graphs and questions (where networkx is there),
-of one `identify`, and of importing the package. `is_separated` asks a diagram that is kept, `separated` reads the text each time and
-gives a path; networkx is timed with its graph at hand, and with making it of the edges first. Times are those of the processor, the
+of one `identify` on a diagram that is kept beside reading its text each time, and of importing the package. `is_separated` asks for
+yes or no, `separated` gives a path too, both of a diagram that is kept; networkx is timed with its graph at hand, and with making it of the edges first. Times are those of the processor, the
 least of nine rounds in which all take turns, so that other work on the machine counts for little.
 """
 import os
@@ -61,15 +61,15 @@ def separations(vertices, chance):
     def ask():
         return [diagram.is_separated(x, y, given) for x, y, given in questions]
 
-    def ask_anew():
+    def ask_path():
         return [bool(diagram.separated(x, y, given)) for x, y, given in questions]
 
     try:
         import networkx
     except ImportError:
         print("skipped: networkx: no networkx")
-        own, anew = [time / len(questions) for time in best(ask, ask_anew)]
-        print(f"{head}: {own:.1f} us, with a path and the text read anew {anew:.0f} us")
+        own, path = [time / len(questions) for time in best(ask, ask_path)]
+        print(f"{head}: {own:.1f} us, with a path {path:.0f} us")
         return
     name = "is_d_separator" if hasattr(networkx, "is_d_separator") else "d_separated"
     separated, graph = getattr(networkx, name), diagram.to_networkx()
@@ -85,11 +85,11 @@ def separations(vertices, chance):
             separated(made, {x}, {y}, set(given))
 
     answers = ask()
-    if not answers == ask_anew() == ask_networkx():
+    if not answers == ask_path() == ask_networkx():
         sys.exit("the answers differ")
-    own, anew, other, made = [time / len(questions) for time in best(ask, ask_anew, ask_networkx, make_and_ask)]
+    own, path, other, made = [time / len(questions) for time in best(ask, ask_path, ask_networkx, make_and_ask)]
     print(
-        f"{head}, {sum(answers)} of {len(questions)} separated: {own:.1f} us; with a path and the text read anew {anew:.0f} us; "
+        f"{head}, {sum(answers)} of {len(questions)} separated: {own:.1f} us; with a path {path:.0f} us; "
         f"networkx {networkx.__version__} {name}: {other:.0f} us ({other / own:.0f} times), with making its graph {made:.0f} us"
     )
 
@@ -100,6 +100,22 @@ def identifications():
         diagram = causal.Diagram.from_file(os.path.join(EXAMPLES, name))
         [own] = best(lambda: [diagram.identify() for _ in range(200)])
         print(f"identify {name}: {own / 200:.1f} us")
+
+
+def identifications_of_many(vertices, chance):
+    """Prints the time of one identification on a larger graph, kept and read each time, after both answered alike."""
+    source = random.Random(vertices)
+    edges = edges_of(vertices, chance, source)
+    diagram = causal.Diagram.from_edges(edges, vertices=[f"v{k}" for k in range(vertices)])
+    kept = diagram._keep()
+    for command, *options in (["identify"], ["adjust"], ["adjust", "--set", "v1,v2"]):
+        words = [command, "g", "--x", "v20", "--y", "v60", *options]
+        if kept.run(words) != causal.run(words, {"g": diagram.source}):
+            sys.exit("the answers differ")
+        own, anew = best(
+            lambda: [kept.run(words) for _ in range(50)], lambda: [causal.run(words, {"g": diagram.source}) for _ in range(50)]
+        )
+        print(f"{' '.join([command, *options])}, {vertices} vertices, {len(edges)} edges: kept {own / 50:.0f} us, read each time {anew / 50:.0f} us")
 
 
 def imports():
@@ -123,6 +139,7 @@ def main():
         for chance in (0.1, 3 / 16):
             separations(vertices, chance)
     identifications()
+    identifications_of_many(64, 0.3)
     imports()
 
 

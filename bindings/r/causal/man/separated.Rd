@@ -27,8 +27,7 @@ is_separated(diagram, x, y, given = character())
   Proved: a yes means that no walk from \code{x} to \code{y} is open given \code{given}, and that \code{x} and \code{y} are
   independent given it in every finite model that fits the diagram; a no comes with a path that is open.
 
-  \code{is_separated} gives \code{TRUE} or \code{FALSE} alone, for many questions about one diagram: the diagram that was asked
-  last is kept by the library, and isn't read again.
+  \code{is_separated} gives \code{TRUE} or \code{FALSE} alone, and so is the fastest for many questions about one diagram.
 }
 \value{
   A list of the class \code{causal_separation}: \code{holds}; the sets \code{x}, \code{y} and \code{given}; \code{path} with
