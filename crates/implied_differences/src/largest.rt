@@ -54,9 +54,9 @@ fn best_of(alloc: Global, c: &Counts, i: &Implication, l: &Layout) -> Result<Can
 /// The difference with the greatest absolute value, and its cell: of several the first, where the level of a is the
 /// slowest, then that of b, then those of the given vertices in index order.
 ///
-/// The levels are those of the table. The sums are walked once, a block of them for each cell of the given vertices, and
-/// each marginal is summed once. Where a model fits a graph with this implication and matches the counts, positive or not,
-/// the difference is 0.
+/// The levels are those of the table. The sums are walked in blocks, one for each cell of the given vertices; cell by cell
+/// only where a look at 64 blocks together leaves it open that one of their cells is further from 0 than those before.
+/// Where a model fits a graph with this implication and matches the counts, positive or not, the difference is 0.
 pub fn largest_difference(
     alloc: Global,
     c: &Counts,

@@ -7,6 +7,9 @@ use crate::candidates::Candidate;
 use crate::layout::Layout;
 use crate::strips::{add_cells, add_columns};
 
+/// With more levels of a, the columns' sums would cost more than the walk over blocks.
+const FEW: usize = 8;
+
 /// The number of levels that are looked at. Of two levels one is enough: the differences at the other are the same with
 /// the sign turned.
 fn levels_to_see(levels: usize) -> usize
@@ -123,6 +126,9 @@ pub fn strip_reaches(
     requires most { (j : ℕ) → j < width → slice_index sums.now j ≤ most }
     ensures no { OnFalse result ((x y : ℕ) → x < l.now.firsts → y < l.now.seconds → IsPassedAt cells.now l.now begins.now width number x y before.now) }
 {
+    if l.firsts > FEW {
+        return true;
+    }
     if most >= 1 << 32 {
         return true;
     }
