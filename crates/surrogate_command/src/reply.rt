@@ -94,6 +94,6 @@ fn effect_of(sets: &SurrogateSets) -> Target
     Target {
         x: sets.x,
         y: sets.y,
-        given: VSet { bits: 0 },
+        given: VSet::EMPTY,
     }
 }

@@ -18,7 +18,7 @@ member : (a p v s : ℕ) → s ≡ join (common a p) (one v) → IsTrue (has s v
 member a p v s is = ap (λ m. has m v) is ∙ has_join (common a p) (one v) v ∙ or_right _ _ (one-self v)
 
 pub pillow-m-requires-clause-within : goal.pillow-m-requires-clause-within
-pillow-m-requires-clause-within c = below c.args.g.now.n c.args.a.bits c.args.before.bits c.args.v c.join-near.result.bits (let a = c.join-near.ensures in let b = c.common.ensures in let d = c.one.ensures in cc) c.requires.vertex c.requires.within
+pillow-m-requires-clause-within c = below c.args.g.now.n c.args.a.bits c.args.before.bits c.args.v c.union-near.result.bits (let a = c.union-near.ensures.mask in let b = c.intersection.ensures.mask in let d = c.one.ensures.mask in cc) c.requires.vertex c.requires.within
 
 pub pillow-m-requires-clause-member : goal.pillow-m-requires-clause-member
-pillow-m-requires-clause-member c = member c.args.a.bits c.args.before.bits c.args.v c.join-near.result.bits (let a = c.join-near.ensures in let b = c.common.ensures in let d = c.one.ensures in cc)
+pillow-m-requires-clause-member c = member c.args.a.bits c.args.before.bits c.args.v c.union-near.result.bits (let a = c.union-near.ensures.mask in let b = c.intersection.ensures.mask in let d = c.one.ensures.mask in cc)
