@@ -2,9 +2,8 @@ use Rattle.std.proofs.Common.{◌≡◌, ◌<◌, ℕ, IsTrue, inl, inr, sym, ap
 use Rattle.std.proofs.lemmas.Bool.{and_parts, or_cases, or_right}
 use Rattle.mixed_graph.specs.Bits.{has}
 use Rattle.identification.proofs.Sets.{one-self, one-is}
-use Rattle.mixed_graph.specs.Masks.{join, one}
+use Rattle.mixed_graph.specs.Masks.{join, one, common}
 use Rattle.mixed_graph.proofs.MaskLaws.{has_join, has_meet}
-use Rattle.identification.specs.Procedure.{common}
 use Rattle.district_factors.proofs.place.place_of.Goals as goal
 
 -- the earlier members of a set below n, and a vertex below n

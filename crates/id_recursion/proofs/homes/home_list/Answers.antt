@@ -1,9 +1,8 @@
 use Rattle.std.proofs.Common.{◌≡◌, sym, ap, ◌∙◌}
-use Rattle.mixed_graph.specs.Masks.{minus}
+use Rattle.mixed_graph.specs.Masks.{minus, common}
 use Rattle.do_derivation.specs.Plans.{no_plans}
 use Rattle.do_derivation.specs.View.{step_view}
 use Rattle.do_derivation.specs.declared.steps.Step.{Rule2Do, Rule3In}
-use Rattle.identification.specs.Procedure.{common}
 use Rattle.identification.specs.Derivations.{with_set}
 use Rattle.id_recursion.specs.Lists.{onto}
 use Rattle.id_recursion.proofs.StepLists.{onto_nothing, home_is}
