@@ -7,3 +7,4 @@ pub mod Outcomes
 pub mod Ranges
 mod NoQueries
 pub mod Exclusive
+pub mod Lawful

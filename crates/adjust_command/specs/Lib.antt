@@ -3,3 +3,4 @@ pub mod Lines
 pub mod Faults
 pub mod Answers
 pub mod Requests
+pub mod Command

@@ -6,10 +6,12 @@ ghost use Rattle.do_rules.specs.Rules.{AreThreeSets};
 ghost use Rattle.word_lists.specs.Views.{names_in};
 ghost use Rattle.adjust_command.specs.Queries.{query_of, IsInRange};
 ghost use Rattle.adjust_command.specs.Answers.{set_of, SetsAnswer, AdjustAnswer};
+ghost use Rattle.adjust_command.specs.Requests.{request_of};
 
 use crate::criteria::{by_back_door, by_set};
 use crate::listing::list_sets;
 use crate::query::Query;
+use crate::request::Request;
 use dag_reader::ReadGraph;
 use latent_projection::{Observed, observed};
 use replies::{Reply, list_or, refuse};
@@ -22,6 +24,17 @@ use targets::{Sets, find_sets};
 /// A list that is missing is that of the exposures or of the outcomes. A listing gives at least one set and at
 /// most 10,000.
 pub fn adjust_reply(
+    alloc: Global,
+    graph: &ReadGraph,
+    request: Request<'_>,
+) -> Result<Reply, AllocError>
+    ensures { IfOk result (λ r. AdjustAnswer graph.now (request_of request.entry).x (request_of request.entry).y (request_of request.entry).query r.outcome r.text.items) }
+{
+    reply_for(alloc, graph, request.x, request.y, request.query)
+}
+
+/// The answer for lists and a query.
+fn reply_for(
     alloc: Global,
     graph: &ReadGraph,
     x: Option<Vec<Vec<u8>>>,

@@ -34,7 +34,7 @@ pub fn admissible_text(alloc: Global, names: &Names, sets: Sets) -> Result<Vec<u
     let effect = Target {
         x: sets.x,
         y: sets.y,
-        given: VSet { bits: 0 },
+        given: VSet::EMPTY,
     };
     let answer = formula_answer(alloc, &formula, &effect, names)?;
     let mut text = Vec::from_slice(alloc, b"admissible: ")?;

@@ -5,7 +5,6 @@ ghost use Rattle.prob_expr.specs.View.{view, views, formula_view};
 ghost use Rattle.adjustment.specs.Formulas.{adjusted_sum, adjustment_formula};
 
 use mixed_graph::VSet;
-use prob_expr::masks::{is_empty, join};
 use prob_expr::{Expr, Formula};
 use std::alloc::{AllocError, Global};
 
@@ -15,7 +14,7 @@ fn observed(of: VSet, given: VSet) -> Expr
 {
     Expr::Prob {
         of,
-        doing: VSet { bits: 0 },
+        doing: VSet::EMPTY,
         given,
     }
 }
@@ -25,8 +24,8 @@ fn factors(alloc: Global, x: VSet, y: VSet, z: VSet) -> Result<Vec<Expr>, AllocE
     ensures { IfOk result (λ v. views v.items ≡ tree (prob z.bits 0 0) (tree (prob y.bits 0 (join x.bits z.bits)) no_trees)) }
 {
     let mut factors = Vec::new(alloc);
-    factors.push(observed(z, VSet { bits: 0 }))?;
-    factors.push(observed(y, join(x, z)))?;
+    factors.push(observed(z, VSet::EMPTY))?;
+    factors.push(observed(y, x.union(z)))?;
     Ok(factors)
 }
 
@@ -48,7 +47,7 @@ fn adjusted_sum(alloc: Global, x: VSet, y: VSet, z: VSet) -> Result<Expr, AllocE
 pub fn formula_for(alloc: Global, x: VSet, y: VSet, z: VSet) -> Result<Formula, AllocError>
     ensures { IfOk result (λ f. formula_view f ≡ adjustment_formula x.bits y.bits z.bits) }
 {
-    if is_empty(z) {
+    if z.is_empty() {
         return Ok(Formula {
             defs: Vec::new(alloc),
             main: observed(y, x),

@@ -85,26 +85,28 @@ fn print_sums(rt: &impl Print, alloc: Global, rounds: u64) -> io::Result<()> {
 }
 
 /// The term P(of | given).
-fn term(of: u64, given: u64) -> Expr {
+fn term(of: VSet, given: VSet) -> Expr {
     Expr::Prob {
-        of: VSet { bits: of },
-        doing: VSet { bits: 0 },
-        given: VSet { bits: given },
+        of,
+        doing: VSet::EMPTY,
+        given,
     }
 }
 
 /// The front-door formula of X, M and Y: sum{M} P(M|X) * (sum{X} P(X) * P(Y|X,M)).
 fn front_door(alloc: Global) -> Result<Formula, AllocError> {
+    let (x, m, y) = (VSet::one(0), VSet::one(1), VSet::one(2));
+    let outcome = term(y, x.union(m));
     let inner = Expr::Sum {
-        over: VSet { bits: 1 },
+        over: x,
         body: Box::new(
             alloc,
-            Expr::Product(vec![in alloc; term(1, 0), term(4, 3)]?),
+            Expr::Product(vec![in alloc; term(x, VSet::EMPTY), outcome]?),
         )?,
     };
     let main = Expr::Sum {
-        over: VSet { bits: 2 },
-        body: Box::new(alloc, Expr::Product(vec![in alloc; term(2, 1), inner]?))?,
+        over: m,
+        body: Box::new(alloc, Expr::Product(vec![in alloc; term(m, x), inner]?))?,
     };
     Ok(Formula {
         defs: Vec::new(alloc),

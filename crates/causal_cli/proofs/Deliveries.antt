@@ -12,11 +12,11 @@ use Rattle.replies.specs.declared.outcome.Outcome.TheVariants.{Yes, No, Words, G
 use Rattle.replies.specs.Outcomes.{code_of, IsAnswered}
 use Rattle.replies.specs.declared.outcome.Reply.{Reply}
 use Rattle.causal_cli.specs.Commands.{Request, Asks, file_of}
-use Rattle.causal_cli.specs.Answers.{WordsAnswer, Defined, too_long, Continues, DefinedWith, second_in, limit_of, GivesSecond, IsLeftOf}
+use Rattle.causal_cli.specs.Answers.{WordsAnswer, Defined, too_long, Continues, DefinedWith, second_in, limit_of, GivesSecond, IsAnsweredWith, IsLeftOf}
 use Rattle.causal_cli.specs.Run.{Run, Answers, by_words, by_file, by_both, file as reads_file, second, Ends}
 use Rattle.causal_cli.specs.Ends.{FailedRead, Replied, RepliesWith, told_of, EndsWith, Delivers, written, unwritten, refused, IsTooLongLine, IsTooLong, Proceeds, replied, unread, no_memory}
 use Rattle.causal_cli.specs.declared.answer.SecondInput.{SecondInput}
-use Rattle.causal_cli.proofs.Answered.{words_answered, defined_answered, gives_answered, long_answered, named, continues, defined_with}
+use Rattle.causal_cli.proofs.Answered.{words_answered, defined_answered, long_answered, named, continues, defined_with}
 
 -- what holds of the bytes that were read holds of those that are held, where they are told
 pub told : (held : Option (List ℕ)) (items : List ℕ) (P : List ℕ → Type 0) → IfSome held (λ all. items ≡ all) → P items → IfSome held P
@@ -133,10 +133,10 @@ replied_too_long r w file f most reply names ef asks answer lacked long =
 pub long_second : (held : Text → Option (List ℕ)) (lacks : Text → Bool) (faults faults_after : Text → ℕ) (p : SecondInput) (name : Text) (limit : ℕ)
     (f : ReadError) (most : ℕ) (reply : Reply) → name ≡ second_in p → limit ≡ limit_of p → f ≡ TooLong most → AnswersAll (held name) limit (Err f) →
     (lacks name ≡ true → (let read : Result (Vec ℕ) ReadError = Err f in read ≡ Err Fault)) →
-    ((other : List ℕ) → limit_of p < length other → GivesSecond p other reply) → Proceeds held lacks faults faults_after p reply
-long_second held lacks faults faults_after p name limit f most reply en el ef answer lacked gives =
+    IsAnsweredWith p → ((other : List ℕ) → limit_of p < length other → GivesSecond p other reply) → Proceeds held lacks faults faults_after p reply
+long_second held lacks faults faults_after p name limit f most reply en el ef answer lacked only gives =
     let read = subst (λ n. AnswersAll (held n) (limit_of p) (Err (TooLong most))) en (subst (λ k. AnswersAll (held name) k (Err (TooLong most))) el (subst (λ k. AnswersAll (held name) limit (Err k)) ef answer)) in
-    replied (long_answered p reply gives) (subst (λ n. lacks n ≡ false) en (not_true (lacks name) (λ t. no_fault f most ef (lacked t))))
+    replied (long_answered p reply only gives) (subst (λ n. lacks n ≡ false) en (not_true (lacks name) (λ t. no_fault f most ef (lacked t))))
     (mapped (held (second_in p)) (λ other. (limit_of p) < length other) (λ other. GivesSecond p other reply) gives read.1)
 
 not_fault : (v : Vec ℕ) → (let r : Result (Vec ℕ) ReadError = Ok v in r ≡ Err Fault) → ⊥
@@ -146,9 +146,9 @@ not_fault v h = absurd (cc h)
 pub read_second : (held : Text → Option (List ℕ)) (lacks : Text → Bool) (faults faults_after : Text → ℕ) (p : SecondInput) (name : Text) (limit : ℕ)
     (v : Vec ℕ) (reply : Reply) → name ≡ second_in p → AnswersAll (held name) limit (Ok v) →
     (lacks name ≡ true → (let read : Result (Vec ℕ) ReadError = Ok v in read ≡ Err Fault)) →
-    GivesSecond p v.items reply → Proceeds held lacks faults faults_after p reply
-read_second held lacks faults faults_after p name limit v reply en answer lacked gives =
-    replied (gives_answered p v.items reply gives) (subst (λ n. lacks n ≡ false) en (not_true (lacks name) (λ t. not_fault v (lacked t))))
+    IsAnsweredWith p → GivesSecond p v.items reply → Proceeds held lacks faults faults_after p reply
+read_second held lacks faults faults_after p name limit v reply en answer lacked only gives =
+    replied (only v.items reply.outcome reply.text.items gives) (subst (λ n. lacks n ≡ false) en (not_true (lacks name) (λ t. not_fault v (lacked t))))
     (told (held (second_in p)) v.items (λ other. GivesSecond p other reply) (subst (λ n. IfSome (held n) (λ all. v.items ≡ all)) en answer.1) gives)
 
 -- ---- deliveries

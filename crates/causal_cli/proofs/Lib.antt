@@ -1,3 +1,4 @@
+mod Commands
 pub mod Definitions
 mod Deliveries
 mod ReadCounts
@@ -13,4 +14,4 @@ mod CheckedRuns
 mod OneRequest
 mod OneAnswer
 mod CompleteRuns
-mod GraphRequests
+mod CallAnswers

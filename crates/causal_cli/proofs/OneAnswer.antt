@@ -1,6 +1,6 @@
 -- A run whose inputs are told has one defined answer at most, as far as its outcome goes.
 use Rattle.std.proofs.Common.{◌≡◌, ◌⊎◌, ℕ, List, Option, Some, inl, inr, refl, sym, ap, ◌∙◌, subst, arith}
-use Rattle.std.proofs.lemmas.Option.{none-some, same_Some}
+use Rattle.std.proofs.lemmas.Option.{same_Some}
 use Rattle.std.specs.Prelude.{IfSome}
 use Rattle.word_forms.specs.Form.{Text}
 use Rattle.dag_reader.specs.declared.graph.ReadGraph.{ReadGraph}
@@ -10,65 +10,31 @@ use Rattle.replies.specs.declared.outcome.Outcome.TheVariants.{Graph}
 use Rattle.replies.specs.Observed.{HoldsGraph}
 use Rattle.replies.specs.OneOutcome.{OneOutcome, IsAnswerOn}
 use Rattle.replies.proofs.OneGraph.{one_reading, reads_either}
-use Rattle.graph_command.proofs.Exclusive.{graph_once}
-use Rattle.separate_command.proofs.Exclusive.{separate_once}
-use Rattle.rule_command.proofs.Exclusive.{rule_once}
-use Rattle.identify_command.proofs.Exclusive.{identify_once}
-use Rattle.check_command.proofs.Exclusive.{check_once}
-use Rattle.adjust_command.proofs.Exclusive.{adjust_once}
-use Rattle.evaluate_command.proofs.Exclusive.{evaluate_once}
-use Rattle.evaluate_command.proofs.Exclusive as evaluates
-use Rattle.equivalent_command.proofs.Exclusive.{equivalent_once}
-use Rattle.equivalent_command.proofs.Exclusive as compares
-use Rattle.implications_command.specs.Answers.{FirstAnswer}
-use Rattle.implications_command.proofs.Exclusive.{implications_once}
-use Rattle.implications_command.proofs.Exclusive as implies
-use Rattle.survey_command.proofs.Exclusive.{survey_once}
-use Rattle.surrogate_command.proofs.Exclusive.{surrogate_once}
-use Rattle.causal_cli.specs.Commands.{Request, file_of, second_of, Asks}
-use Rattle.causal_cli.specs.declared.commands.Command.TheVariants as command
+use Rattle.causal_cli.specs.Commands.{Request, of, file_of, second_of, Asks}
 use Rattle.causal_cli.specs.Answers.{WordsAnswer, GraphAnswer, NeedsSecond, SecondAnswer, IsGraphRefusal, too_long, faulty, HoldsAnswer, Defined, Continues, DefinedWith}
 use Rattle.causal_cli.specs.Run.{Run, AnswersFile, AnswersBoth, Answers, by_words, by_file, by_both, IsRead}
 use Rattle.causal_cli.specs.Complete.{IsTold}
+use Rattle.causal_cli.proofs.Commands.{lawful}
 use Rattle.causal_cli.proofs.OneRequest.{one_request}
 
 -- ---- what each command answers
 
 words_once : (w : Request) → OneOutcome (WordsAnswer w)
-words_once (command.Survey, q) = survey_once q.seed
-words_once w = λ o p text line a b. absurd a
+words_once (of c q) = (lawful c).words_once q
 
 -- a request that words alone answer has no file
 words_alone : (w : Request) (file : Text) (o : Outcome) (text : List ℕ) → WordsAnswer w o text → file_of w ≡ Some file → ⊥
-words_alone (command.Survey, q) file o text a names = none-some file names
-words_alone w file o text a names = a
+words_alone (of c q) file o text a names = (lawful c).no_file q o text a file names
 
 on_graph : (w : Request) (bytes : List ℕ) → OneOutcome (IsAnswerOn bytes (λ g. GraphAnswer w g))
-on_graph (command.Graph, q) bytes = graph_once bytes q.project
-on_graph (command.Separate, q) bytes = separate_once bytes q.x q.y q.given
-on_graph (command.Rule, q) bytes = rule_once bytes q.rule q.y q.done q.z q.given
-on_graph (command.Identify, q) bytes = identify_once bytes q.form q.x q.y q.given
-on_graph (command.Adjust, q) bytes = adjust_once bytes q.x q.y q.query
-on_graph (command.Evaluate, q) bytes = evaluates.first_once bytes q.x q.y
-on_graph (command.Equivalent, q) bytes = compares.first_once bytes q.query
-on_graph (command.Implications, q) bytes = implies.first_once bytes q.counts
-on_graph (command.Surrogate, q) bytes = surrogate_once bytes q.x q.y q.experiments
-on_graph w bytes = λ o p text line a b. absurd a.given
+on_graph (of c q) bytes = (lawful c).graph_once q bytes
 
 on_both : (w : Request) (bytes other : List ℕ) → OneOutcome (IsAnswerOn bytes (λ g. SecondAnswer w g other))
-on_both (command.Check, q) bytes other = check_once bytes other
-on_both (command.Evaluate, q) bytes other = evaluate_once bytes other q.exact q.x q.y q.count
-on_both (command.Equivalent, q) bytes other = equivalent_once bytes other q.query
-on_both (command.Implications, q) bytes other = implications_once bytes other q.count
-on_both w bytes other = λ o p text line a b. absurd a.given
+on_both (of c q) bytes other = (lawful c).both_once q bytes other
 
 -- a request that the file alone answers reads no second input
 file_alone : (w : Request) (second : Text) (g h : ReadGraph) → AreSame g h → second_of w ≡ Some second → (o : Outcome) (text : List ℕ) → GraphAnswer w g o text → NeedsSecond w h → ⊥
-file_alone (command.Check, q) second g h s names o text a n = a
-file_alone (command.Evaluate, q) second g h s names o text a n = evaluates.first_alone g h s q.x q.y o text n.0 a n.1
-file_alone (command.Equivalent, q) second g h s names o text a n = compares.first_alone g h s q.query n.0 o text a n.1
-file_alone (command.Implications, q) second g h s names o text a n = implies.first_alone g h s second o text n.0 (subst (λ (c : Option Text). FirstAnswer c g o text) names a) n.1
-file_alone w second g h s names o text a n = n
+file_alone (of c q) second g h s names o text a n = (lawful c).file_alone q second g h s names o text a n
 
 -- ---- what bytes answer
 

@@ -4,9 +4,7 @@ use Rattle.std.specs.Prelude.{find}
 use Rattle.std.specs.Str.{bytes_eq}
 use Rattle.std.proofs.lemmas.Option.{same_Some}
 use Rattle.word_forms.specs.Form.{Text, Use}
-use Rattle.word_values.specs.Gives.{HoldsCall}
-use Rattle.word_values.specs.declared.values.Values.{Values}
-use Rattle.causal_cli.specs.Commands.{all_commands, row_for, Request, command_of, IsRequest, AsksNothing}
+use Rattle.causal_cli.specs.Commands.{all_commands, row_for, Request, of, command_of, IsRequest, AsksNothing}
 use Rattle.causal_cli.specs.declared.commands.Command.{Command}
 use Rattle.causal_cli.specs.declared.commands.Command.TheVariants.{Graph}
 
@@ -22,10 +20,6 @@ by_its_name c = refl
 pub one_command : (c d : Command) → row_for c ≡ row_for d → c ≡ d
 one_command c d e = same_Some c d (sym (by_its_name c) ∙ ap (λ r. named r.name) e ∙ by_its_name d)
 
--- what is said of the command that stands there
-pub none_where : (c d : Command) (uses : List Use) (values : Values) → c ≡ d → (HoldsCall (row_for d) uses values → AsksNothing d uses) → HoldsCall (row_for c) uses values → AsksNothing c uses
-none_where c d uses values e f g = subst (λ k. AsksNothing k uses) (sym e) (f (subst (λ k. HoldsCall (row_for k) uses values) e g))
-
 -- where the uses ask a command for nothing, they ask for no request of its row
 pub nothing_asked : (c : Command) (uses : List Use) → AsksNothing c uses → (q : Request) → row_for (command_of q) ≡ row_for c → IsRequest uses q → ⊥
-nothing_asked c uses none q e = subst (λ k. AsksNothing k uses) (sym (one_command (command_of q) c e)) none q.1
+nothing_asked c uses none (of d q) e = (subst (λ k. AsksNothing k uses) (sym (one_command d c e)) none).nothing q

@@ -1,5 +1,5 @@
 -- The defined answer of a command: by its words alone, on the bytes of its file, or on those of both inputs; and what the code's values say of it.
-use Rattle.std.specs.Prelude.{ℕ, ◌≡◌, ◌<◌, ◌≤◌, ◌⊎◌, List, length, Option, Some, Err, option_map}
+use Rattle.std.specs.Prelude.{ℕ, ◌≡◌, ◌<◌, ◌≤◌, ◌⊎◌, List, length, Err}
 use Rattle.word_forms.specs.Form.{Text}
 use Rattle.dag_reader.specs.declared.graph.ReadGraph.{ReadGraph}
 use Rattle.dag_reader.specs.declared.faults.GraphFault.{GraphFault}
@@ -11,62 +11,29 @@ use Rattle.replies.specs.declared.outcome.Outcome.{Outcome}
 use Rattle.replies.specs.declared.outcome.Outcome.TheVariants.{Graph}
 use Rattle.replies.specs.declared.outcome.Reply.{Reply}
 use Rattle.replies.specs.Observed.{HoldsGraph}
-use Rattle.graph_command.specs.Answers.{GraphAnswer as TextAnswer}
-use Rattle.separate_command.specs.Answers.{SeparateAnswer}
-use Rattle.rule_command.specs.Answers.{RuleAnswer}
-use Rattle.identify_command.specs.Conditions.{IdentifyAnswerGiven}
-use Rattle.check_command.specs.Answers.{CheckAnswer}
-use Rattle.adjust_command.specs.Answers.{AdjustAnswer}
-use Rattle.evaluate_command.specs.Answers.{EvaluateFirst, EvaluateAnswer, CountsAnswer}
-use Rattle.evaluate_command.specs.Effects.{PlainEffect, effect_view, IsIdentified, Identifies}
-use Rattle.targets.specs.declared.query.Sets.{Sets}
-use Rattle.equivalent_command.specs.Answers.{IsAcceptedFirst as IsFirstAccepted, IsFirstRefusal, EquivalentAnswer, SecondAnswer as SecondGraphAnswer}
-use Rattle.equivalent_command.specs.Requests.{Query}
-use Rattle.implications_command.specs.Answers.{FirstAnswer as ImplicationsFirst, DifferencesAnswer, CountsAnswer as ImpliedAnswer}
-use Rattle.implications_command.specs.Pairs.{PlainPairs, pairs_view, ArePairs, ArePairsOf}
-use Rattle.survey_command.specs.Answers.{SurveyAnswer}
-use Rattle.surrogate_command.specs.Answers.{SurrogateAnswer}
-use Rattle.causal_cli.specs.Commands.{Request}
-use Rattle.causal_cli.specs.declared.commands.Command.TheVariants as command
+use Rattle.replies.specs.Outcomes.{IsAnswered}
+use Rattle.replies.specs.Command as forms
+use Rattle.causal_cli.specs.Commands.{form_of, Request, of, left_of}
 use Rattle.causal_cli.specs.Lines.{size_line}
 use Rattle.causal_cli.specs.declared.answer.SecondInput.{SecondInput}
-use Rattle.causal_cli.specs.declared.answer.SecondInput.TheVariants as input
 use Rattle.causal_cli.specs.declared.answer.First.{First}
 use Rattle.causal_cli.specs.declared.answer.First.TheVariants as first
 
 -- the answer of a command without an input
 abbrev pub WordsAnswer : Request → Outcome → List ℕ → Type 0
-WordsAnswer (command.Survey, q) o text = SurveyAnswer q.seed o text
-WordsAnswer w o text = ⊥
+WordsAnswer (of c q) o text = (form_of c).by_words q o text
 
 -- the answer of a command on a graph that was read, where its file alone decides
 abbrev pub GraphAnswer : Request → ReadGraph → Outcome → List ℕ → Type 0
-GraphAnswer (command.Graph, q) g o text = TextAnswer q.project g o text
-GraphAnswer (command.Separate, q) g o text = SeparateAnswer g q.x q.y q.given o text
-GraphAnswer (command.Rule, q) g o text = RuleAnswer q.rule g q.y q.done q.z q.given o text
-GraphAnswer (command.Identify, q) g o text = IdentifyAnswerGiven q.form g q.x q.y q.given o text
-GraphAnswer (command.Adjust, q) g o text = AdjustAnswer g q.x q.y q.query o text
-GraphAnswer (command.Evaluate, q) g o text = EvaluateFirst g q.x q.y o text
-GraphAnswer (command.Equivalent, q) g o text = IsFirstRefusal g q.query o text
-GraphAnswer (command.Implications, q) g o text = ImplicationsFirst q.counts g o text
-GraphAnswer (command.Surrogate, q) g o text = SurrogateAnswer g q.x q.y q.experiments o text
-GraphAnswer w g o text = ⊥
+GraphAnswer (of c q) g o text = (form_of c).by_graph q g o text
 
--- the graph is accepted, and the second input is read: counts where the lists name an effect that has a formula, or where some set separates two vertices
+-- the graph is accepted, and the second input is read
 abbrev pub NeedsSecond : Request → ReadGraph → Type 0
-NeedsSecond (command.Check, q) g = Unit {0}
-NeedsSecond (command.Evaluate, q) g = (e : PlainEffect) × Identifies g q.x q.y e
-NeedsSecond (command.Equivalent, q) g = (s : Option Sets) × IsFirstAccepted g q.query s
-NeedsSecond (command.Implications, q) g = (p : PlainPairs) × ArePairsOf g p
-NeedsSecond w g = ⊥
+NeedsSecond (of c q) g = (form_of c).continues q g
 
 -- the answer of a command on a graph that was read and the bytes of its second input
 abbrev pub SecondAnswer : Request → ReadGraph → List ℕ → Outcome → List ℕ → Type 0
-SecondAnswer (command.Check, q) g other o text = CheckAnswer g other o text
-SecondAnswer (command.Evaluate, q) g other o text = EvaluateAnswer q.exact g q.x q.y q.count other o text
-SecondAnswer (command.Equivalent, q) g other o text = EquivalentAnswer g q.query other o text
-SecondAnswer (command.Implications, q) g other o text = DifferencesAnswer g q.count other o text
-SecondAnswer w g other o text = ⊥
+SecondAnswer (of c q) g other o text = (form_of c).by_both q g other o text
 
 -- the bytes are no graph: they are too many, or their text has a fault
 pub data IsGraphRefusal (bytes line : List ℕ) : Type 0 where
@@ -97,41 +64,27 @@ DefinedWith w bytes other o text = (g : ReadGraph) × HoldsGraph bytes g × Need
 
 -- the name of the second input
 abbrev pub second_in : SecondInput → Text
-second_in (input.Check g certificate) = certificate.now
-second_in (input.Evaluate found counts count exact) = counts.now
-second_in (input.Equivalent g s second) = second.now
-second_in (input.Implications pairs counts count) = counts.now
+second_in p = (left_of p).second
 
 -- the most bytes of the second input
 abbrev pub limit_of : SecondInput → ℕ
-limit_of (input.Check g certificate) = 67108864
-limit_of (input.Evaluate found counts count exact) = 67108864
-limit_of (input.Equivalent g s second) = 1048576
-limit_of (input.Implications pairs counts count) = 67108864
+limit_of p = (left_of p).limit
 
--- what is kept is accepted
-abbrev pub IsAcceptedFirst : SecondInput → Type 0
-IsAcceptedFirst (input.Check g certificate) = Unit {0}
-IsAcceptedFirst (input.Evaluate found counts count exact) = IsIdentified (effect_view found)
-IsAcceptedFirst (input.Equivalent g s second) = (l : Option Query) × IsFirstAccepted g l s
-IsAcceptedFirst (input.Implications pairs counts count) = ArePairs (pairs_view pairs)
+-- what was kept is accepted
+abbrev pub IsAccepted : SecondInput → Type 0
+IsAccepted p = (left_of p).known
 
 -- the reply is the answer on these bytes of the second input
 abbrev pub GivesSecond : SecondInput → List ℕ → Reply → Type 0
-GivesSecond (input.Check g certificate) other reply = CheckAnswer g other reply.outcome reply.text.items
-GivesSecond (input.Evaluate found counts count exact) other reply =
-    CountsAnswer exact (effect_view found) (option_map (λ s. s.now) count) other reply.outcome reply.text.items
-GivesSecond (input.Equivalent g s second) other reply = SecondGraphAnswer g s other reply.outcome reply.text.items
-GivesSecond (input.Implications pairs counts count) other reply = ImpliedAnswer (pairs_view pairs) (option_map (λ s. s.now) count) other reply.outcome reply.text.items
+GivesSecond p other reply = (left_of p).answer other reply.outcome reply.text.items
+
+-- the answers on a second input are those that a command answers
+abbrev pub IsAnsweredWith : SecondInput → Type 0
+IsAnsweredWith p = (other : List ℕ) (o : Outcome) (text : List ℕ) → (left_of p).answer other o text → IsAnswered o
 
 -- what is left of a request on a graph that was read
 abbrev pub IsLeft : Request → ReadGraph → SecondInput → Type 0
-IsLeft (command.Check, q) g (input.Check kept certificate) = (certificate.now ≡ q.certificate) × (kept ≡ g)
-IsLeft (command.Evaluate, q) g (input.Evaluate found counts count exact) =
-    (counts.now ≡ q.counts) × (option_map (λ s. s.now) count ≡ q.count) × (exact ≡ q.exact) × Identifies g q.x q.y (effect_view found)
-IsLeft (command.Equivalent, q) g (input.Equivalent kept s second) = (second.now ≡ q.second) × (kept ≡ g) × IsFirstAccepted g q.query s
-IsLeft (command.Implications, q) g (input.Implications pairs counts count) = (q.counts ≡ Some counts.now) × (option_map (λ s. s.now) count ≡ q.count) × ArePairsOf g (pairs_view pairs)
-IsLeft w g p = ⊥
+IsLeft (of c q) g p = forms.IsLeft (form_of c) q g (left_of p)
 
 -- what a graph that was read gives: the answer on it, or what is left
 abbrev pub GivesOn : Request → ReadGraph → First → Type 0

@@ -1,23 +1,42 @@
--- The commands: of each its row of the table, its request with its inputs, and when words ask for it. What they say stands with each command.
-use Rattle.std.specs.Prelude.{◌≡◌, List, [], ◌∷◌, Option, Some, None, map}
+-- The commands: one list, and of each what it is, which stands in its own crate; when words ask for a request; and what the code's values stand for.
+use Rattle.std.specs.Prelude.{◌≡◌, List, [], ◌∷◌, Option, map, option_map}
 use Rattle.word_forms.specs.Form.{Text, Row, Use, IsCall}
+use Rattle.replies.specs.Command.{CommandForm, Remainder}
+use Rattle.replies.specs.Command as forms
+use Rattle.graph_command.specs.Command.{graph_command}
 use Rattle.graph_command.specs.Requests as of_graph
+use Rattle.separate_command.specs.Command.{separate_command}
 use Rattle.separate_command.specs.Requests as of_separate
+use Rattle.rule_command.specs.Command.{rule_command}
 use Rattle.rule_command.specs.Requests as of_rule
+use Rattle.identify_command.specs.Command.{identify_command}
 use Rattle.identify_command.specs.Requests as of_identify
+use Rattle.check_command.specs.Command.{check_command, check_left}
 use Rattle.check_command.specs.Requests as of_check
+use Rattle.adjust_command.specs.Command.{adjust_command}
 use Rattle.adjust_command.specs.Requests as of_adjust
+use Rattle.evaluate_command.specs.Command.{evaluate_command, evaluate_left}
 use Rattle.evaluate_command.specs.Requests as of_evaluate
+use Rattle.equivalent_command.specs.Command.{equivalent_command, equivalent_left}
 use Rattle.equivalent_command.specs.Requests as of_equivalent
+use Rattle.implications_command.specs.Command.{implications_command, implications_left}
 use Rattle.implications_command.specs.Requests as of_implications
+use Rattle.survey_command.specs.Command.{survey_command}
 use Rattle.survey_command.specs.Requests as of_survey
+use Rattle.surrogate_command.specs.Command.{surrogate_command}
 use Rattle.surrogate_command.specs.Requests as of_surrogate
+use Rattle.evaluate_command.specs.Effects.{effect_view}
+use Rattle.implications_command.specs.Pairs.{pairs_view}
 use Rattle.causal_cli.specs.declared.commands.Command.{Command}
 use Rattle.causal_cli.specs.declared.commands.Command.TheVariants as command
 use Rattle.causal_cli.specs.declared.commands.GraphRequest.{GraphRequest}
 use Rattle.causal_cli.specs.declared.commands.GraphRequest.TheVariants as code
 use Rattle.causal_cli.specs.declared.commands.Request.{Request as CodeRequest}
 use Rattle.causal_cli.specs.declared.commands.Request.TheVariants as request
+use Rattle.causal_cli.specs.declared.answer.SecondInput.{SecondInput}
+use Rattle.causal_cli.specs.declared.answer.SecondInput.TheVariants as input
+
+-- ---- each command
 
 -- all commands, in the order of the table
 abbrev pub all_commands : List Command
@@ -41,67 +60,45 @@ row_for command.Surrogate = of_surrogate.surrogate_row
 abbrev pub table : List Row
 table = map row_for all_commands
 
--- what a command is asked for
-abbrev pub RequestOf : Command → Type 0
-RequestOf command.Graph = of_graph.Request
-RequestOf command.Separate = of_separate.Request
-RequestOf command.Rule = of_rule.Request
-RequestOf command.Identify = of_identify.Request
-RequestOf command.Check = of_check.Request
-RequestOf command.Adjust = of_adjust.Request
-RequestOf command.Evaluate = of_evaluate.Request
-RequestOf command.Equivalent = of_equivalent.Request
-RequestOf command.Implications = of_implications.Request
-RequestOf command.Survey = of_survey.Request
-RequestOf command.Surrogate = of_surrogate.Request
+-- what a command is asked for, and what it answers
+abbrev pub form_of : Command → CommandForm
+form_of command.Graph = graph_command
+form_of command.Separate = separate_command
+form_of command.Rule = rule_command
+form_of command.Identify = identify_command
+form_of command.Check = check_command
+form_of command.Adjust = adjust_command
+form_of command.Evaluate = evaluate_command
+form_of command.Equivalent = equivalent_command
+form_of command.Implications = implications_command
+form_of command.Survey = survey_command
+form_of command.Surrogate = surrogate_command
+
+-- ---- what words ask for
 
 -- what words ask for: a command, and what it is asked for
-abbrev pub Request : Type 0
-Request = (c : Command) × RequestOf c
+pub data Request : Type 0 where
+  of : (c : Command) → (form_of c).Request → Request
 
 -- its command
 abbrev pub command_of : Request → Command
-command_of q = q.0
+command_of (of c q) = c
 
--- its file; a survey has none
+-- its file, where it has one
 abbrev pub file_of : Request → Option Text
-file_of (command.Graph, q) = Some q.file
-file_of (command.Separate, q) = Some q.file
-file_of (command.Rule, q) = Some q.file
-file_of (command.Identify, q) = Some q.file
-file_of (command.Check, q) = Some q.file
-file_of (command.Adjust, q) = Some q.file
-file_of (command.Evaluate, q) = Some q.file
-file_of (command.Equivalent, q) = Some q.file
-file_of (command.Implications, q) = Some q.file
-file_of (command.Survey, q) = None
-file_of (command.Surrogate, q) = Some q.file
+file_of (of c q) = (form_of c).file q
 
 -- its second input, where it has one
 abbrev pub second_of : Request → Option Text
-second_of (command.Check, q) = Some q.certificate
-second_of (command.Evaluate, q) = Some q.counts
-second_of (command.Equivalent, q) = Some q.second
-second_of (command.Implications, q) = q.counts
-second_of q = None
+second_of (of c q) = (form_of c).second q
 
 -- the uses of its command ask for it
 abbrev pub IsRequest : List Use → Request → Type 0
-IsRequest uses (command.Graph, q) = of_graph.IsRequest uses q
-IsRequest uses (command.Separate, q) = of_separate.IsRequest uses q
-IsRequest uses (command.Rule, q) = of_rule.IsRequest uses q
-IsRequest uses (command.Identify, q) = of_identify.IsRequest uses q
-IsRequest uses (command.Check, q) = of_check.IsRequest uses q
-IsRequest uses (command.Adjust, q) = of_adjust.IsRequest uses q
-IsRequest uses (command.Evaluate, q) = of_evaluate.IsRequest uses q
-IsRequest uses (command.Equivalent, q) = of_equivalent.IsRequest uses q
-IsRequest uses (command.Implications, q) = of_implications.IsRequest uses q
-IsRequest uses (command.Survey, q) = of_survey.IsRequest uses q
-IsRequest uses (command.Surrogate, q) = of_surrogate.IsRequest uses q
+IsRequest uses (of c q) = (form_of c).asks uses q
 
 -- the uses ask the command for nothing
 abbrev pub AsksNothing : Command → List Use → Type 0
-AsksNothing c uses = (q : RequestOf c) → IsRequest uses (c, q) → ⊥
+AsksNothing c uses = forms.AsksNothing (form_of c) uses
 
 -- the words ask for this: they are a call of its command, whose uses give the request
 pub record Asks (words : List Text) (q : Request) : Type 0 where
@@ -113,20 +110,29 @@ pub record Asks (words : List Text) (q : Request) : Type 0 where
 abbrev pub AskOnce : List Text → Type 0
 AskOnce words = (row other : Row) (uses others : List Use) → IsCall table words row uses → IsCall table words other others → (other ≡ row) × (others ≡ uses)
 
--- what the code's request on a graph stands for
-abbrev pub on_graph : GraphRequest → Request
-on_graph (code.Graph q) = (command.Graph, of_graph.request_of q)
-on_graph (code.Separate q) = (command.Separate, of_separate.request_of q)
-on_graph (code.Rule q) = (command.Rule, of_rule.request_of q)
-on_graph (code.Identify q) = (command.Identify, of_identify.request_of q)
-on_graph (code.Check q) = (command.Check, of_check.request_of q)
-on_graph (code.Adjust q) = (command.Adjust, of_adjust.request_of q)
-on_graph (code.Evaluate q) = (command.Evaluate, of_evaluate.request_of q)
-on_graph (code.Equivalent q) = (command.Equivalent, of_equivalent.request_of q)
-on_graph (code.Implications q) = (command.Implications, of_implications.request_of q)
-on_graph (code.Surrogate q) = (command.Surrogate, of_surrogate.request_of q)
+-- ---- what the code's values stand for
 
--- the same of any request
+-- a request on a graph
+abbrev pub on_graph : GraphRequest → Request
+on_graph (code.Graph q) = of command.Graph (of_graph.request_of q)
+on_graph (code.Separate q) = of command.Separate (of_separate.request_of q)
+on_graph (code.Rule q) = of command.Rule (of_rule.request_of q)
+on_graph (code.Identify q) = of command.Identify (of_identify.request_of q)
+on_graph (code.Check q) = of command.Check (of_check.request_of q)
+on_graph (code.Adjust q) = of command.Adjust (of_adjust.request_of q)
+on_graph (code.Evaluate q) = of command.Evaluate (of_evaluate.request_of q)
+on_graph (code.Equivalent q) = of command.Equivalent (of_equivalent.request_of q)
+on_graph (code.Implications q) = of command.Implications (of_implications.request_of q)
+on_graph (code.Surrogate q) = of command.Surrogate (of_surrogate.request_of q)
+
+-- a request
 abbrev pub request_of : CodeRequest → Request
 request_of (request.OnGraph q) = on_graph q
-request_of (request.Survey q) = (command.Survey, of_survey.request_of q)
+request_of (request.Survey q) = of command.Survey (of_survey.request_of q)
+
+-- what is left to answer
+abbrev pub left_of : SecondInput → Remainder
+left_of (input.Check g certificate) = check_left g certificate.now
+left_of (input.Evaluate found counts count exact) = evaluate_left (effect_view found) counts.now (option_map (λ s. s.now) count) exact
+left_of (input.Equivalent g sets second) = equivalent_left g sets second.now
+left_of (input.Implications pairs counts count) = implications_left (pairs_view pairs) counts.now (option_map (λ s. s.now) count)

@@ -88,22 +88,12 @@ pub fn answer_on<'a>(
             graph,
             certificate: asked.certificate,
         })),
-        GraphRequest::Adjust(asked) => Ok(First::Replied(adjust_reply(
-            alloc,
-            &graph,
-            asked.x,
-            asked.y,
-            asked.query,
-        )?)),
+        GraphRequest::Adjust(asked) => Ok(First::Replied(adjust_reply(alloc, &graph, asked)?)),
         GraphRequest::Evaluate(asked) => evaluate_over(alloc, &graph, asked),
         GraphRequest::Equivalent(asked) => compare_with(alloc, graph, asked),
         GraphRequest::Implications(asked) => list_implications(alloc, &graph, asked),
         GraphRequest::Surrogate(asked) => Ok(First::Replied(surrogate_reply(
-            alloc,
-            &graph,
-            asked.x,
-            asked.y,
-            asked.experiments,
+            alloc, &graph, asked,
         )?)),
     }
 }

@@ -7,7 +7,7 @@ ghost use Rattle.replies.specs.Outcomes.{code_of};
 ghost use Rattle.causal_cli.specs.Run.{Stream, Ended, Received, run_on, stream_of, reads_of, IsNotRead, IsReadAtMostOnce, ReadsAsAsked};
 ghost use Rattle.causal_cli.specs.Complete.{Complete};
 ghost use Rattle.causal_cli.specs.Commands.{Asks, on_graph};
-ghost use Rattle.causal_cli.specs.Answers.{IsAccepted, second_in};
+ghost use Rattle.causal_cli.specs.Answers.{IsAccepted, IsAnsweredWith, second_in};
 ghost use Rattle.causal_cli.specs.Headline.{Headline, HeadlineOfCheck};
 ghost use Rattle.causal_cli.specs.Drawn.{RightAsDrawn};
 ghost use Rattle.causal_cli.specs.Ends.{RepliesWith, EndsWith, IsTooLong, Delivers, Proceeds, text_of};
@@ -141,6 +141,7 @@ fn proceed<S: Shelf>(
     requires there { S.lacks shelf.now file.now ≡ false }
     requires small { length bytes.now ≤ 1048576 }
     requires accepted { IsAccepted input.now }
+    requires answered { IsAnsweredWith input.now }
     ensures proceeds { Proceeds (S.held shelf.old) (S.lacks shelf.old) (S.faults shelf.old) (S.faults shelf.new) input.now result }
     ensures only { (name : List ℕ) → name ≢ second_in input.now → IsNotRead (reads_of (S.reads shelf.old) (S.reads shelf.new) (S.given shelf.old) (S.given shelf.new)) name }
     ensures not_again { IsNotRead (reads_of (S.reads shelf.old) (S.reads shelf.new) (S.given shelf.old) (S.given shelf.new)) file.now }

@@ -108,7 +108,7 @@ fn lemma_items(alloc: Global, names: &Names, ds: &[Value]) -> Result<Lemma, Valu
     let [d, ds @ ..] = ds else {
         return Err(ValueFault::Form);
     };
-    let set = read_filled_set(alloc, names, VSet { bits: 0 }, d)?;
+    let set = read_filled_set(alloc, names, VSet::EMPTY, d)?;
     lemma_of(alloc, names, set, ds)
 }
 

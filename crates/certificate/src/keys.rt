@@ -17,7 +17,6 @@ use crate::hedges::{choice_in, links_in};
 use do_derivation::{Derivation, Lemma, Step};
 use hedge::{Choice, Hedge, Links};
 use mixed_graph::{Names, VSet};
-use prob_expr::masks::join;
 use prob_expr::{Expr, Formula, Target, check_expr};
 use serde_json::Value;
 use std::alloc::Global;
@@ -37,7 +36,7 @@ fn x_in(alloc: Global, names: &Names, d: &Value) -> Result<VSet, CertFault>
     ensures { Gives (λ s. s.bits) result (member_by keys.X (codes "x") (set_in names.now 0) (data_view d.now)) }
 {
     match d.get("x") {
-        Some(value) => at_key(Key::X, read_set(alloc, names, VSet { bits: 0 }, value)),
+        Some(value) => at_key(Key::X, read_set(alloc, names, VSet::EMPTY, value)),
         None => Err(CertFault::Member(Key::X)),
     }
 }
@@ -113,7 +112,7 @@ fn given_in(
     ensures { Gives (λ s. s.bits) result (given_in names.now version barred.bits (data_view d.now)) }
 {
     if version != 2 {
-        return Ok(VSet { bits: 0 });
+        return Ok(VSet::EMPTY);
     }
     match d.get("given") {
         Some(value) => at_key(Key::Given, read_filled_set(alloc, names, barred, value)),
@@ -128,7 +127,7 @@ pub fn target_in(alloc: Global, names: &Names, version: u64, d: &Value) -> Resul
 {
     let x = x_in(alloc, names, d)?;
     let y = y_in(alloc, names, x, d)?;
-    let given = given_in(alloc, names, version, join(x, y), d)?;
+    let given = given_in(alloc, names, version, x.union(y), d)?;
     Ok(Target { x, y, given })
 }
 
@@ -167,7 +166,7 @@ fn big_in(alloc: Global, names: &Names, d: &Value) -> Result<VSet, CertFault>
     ensures { Gives (λ s. s.bits) result (member_by keys.Big (codes "big") (set_in names.now 0) (data_view d.now)) }
 {
     match d.get("big") {
-        Some(value) => at_key(Key::Big, read_set(alloc, names, VSet { bits: 0 }, value)),
+        Some(value) => at_key(Key::Big, read_set(alloc, names, VSet::EMPTY, value)),
         None => Err(CertFault::Member(Key::Big)),
     }
 }
@@ -176,7 +175,7 @@ fn small_in(alloc: Global, names: &Names, d: &Value) -> Result<VSet, CertFault>
     ensures { Gives (λ s. s.bits) result (member_by keys.Small (codes "small") (set_in names.now 0) (data_view d.now)) }
 {
     match d.get("small") {
-        Some(value) => at_key(Key::Small, read_set(alloc, names, VSet { bits: 0 }, value)),
+        Some(value) => at_key(Key::Small, read_set(alloc, names, VSet::EMPTY, value)),
         None => Err(CertFault::Member(Key::Small)),
     }
 }
@@ -185,7 +184,7 @@ fn roots_in(alloc: Global, names: &Names, d: &Value) -> Result<VSet, CertFault>
     ensures { Gives (λ s. s.bits) result (member_by keys.Roots (codes "roots") (set_in names.now 0) (data_view d.now)) }
 {
     match d.get("roots") {
-        Some(value) => at_key(Key::Roots, read_set(alloc, names, VSet { bits: 0 }, value)),
+        Some(value) => at_key(Key::Roots, read_set(alloc, names, VSet::EMPTY, value)),
         None => Err(CertFault::Member(Key::Roots)),
     }
 }

@@ -17,7 +17,6 @@ use certificate::Certificate;
 use do_derivation::Derivation;
 use hedge::Hedge;
 use mixed_graph::{Names, VSet};
-use prob_expr::masks::is_empty;
 use prob_expr::{Formula, Target};
 use serde_json::{Map, Value};
 use std::alloc::{AllocError, Global};
@@ -27,7 +26,7 @@ use step_json::{set_value, step_value};
 fn version_of(given: VSet) -> u64
     ensures { result ≡ version_of given.bits }
 {
-    if is_empty(given) { 1 } else { 2 }
+    if given.is_empty() { 1 } else { 2 }
 }
 
 // The members of a target's object from `version` on.
@@ -90,7 +89,7 @@ fn given_members(
     ensures { IfOk result (λ m. members_view m.entries ≡ given_members names.now (target_view target.now) (derivation_view derivation.now)) }
 {
     let members = derivation_members(alloc, names, target, derivation)?;
-    if is_empty(target.given) {
+    if target.given.is_empty() {
         return Ok(members);
     }
     with(

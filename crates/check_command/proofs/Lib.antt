@@ -6,3 +6,4 @@ pub mod Using
 pub mod Outcomes
 mod OneHedge
 pub mod Exclusive
+pub mod Lawful

@@ -2,3 +2,4 @@ pub mod Answers
 pub mod Lines
 pub mod Replies
 pub mod Requests
+pub mod Command

@@ -10,7 +10,6 @@ ghost use Rattle.id_recursion.specs.Lists.{onto};
 use crate::copying::copy_step;
 use do_derivation::Step;
 use mixed_graph::VSet;
-use prob_expr::masks::is_empty;
 use prob_expr::{Expr, Formula, copy_expr};
 use std::alloc::{AllocError, Global};
 
@@ -18,7 +17,7 @@ use std::alloc::{AllocError, Global};
 pub fn divided(alloc: Global, y: VSet, left: VSet, joint: Formula) -> Result<Formula, AllocError>
     ensures { IfOk result (λ f. formula_view f ≡ divided y.bits left.bits (formula_view joint)) }
 {
-    if is_empty(left) {
+    if left.is_empty() {
         return Ok(joint);
     }
     let body = Box::new(alloc, copy_expr(alloc, &joint.main)?)?;
@@ -76,7 +75,7 @@ pub fn divided_steps(
     ensures { IfOk result (λ l. steps_view l.items ≡ onto moves.items (divided_steps y.bits left.bits (step_view joint))) }
 {
     let mut steps = moves;
-    if is_empty(left) {
+    if left.is_empty() {
         push_steps(&mut steps, joint)?;
         return Ok(steps);
     }

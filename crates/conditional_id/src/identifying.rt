@@ -30,7 +30,6 @@ use crate::turning::turned;
 use do_derivation::{Derivation, Step};
 use id_recursion::{Answer, identify};
 use mixed_graph::{Graph, VSet};
-use prob_expr::masks::{is_empty, join};
 use prob_expr::{Expr, Formula, Target};
 use std::alloc::{AllocError, Global};
 
@@ -58,7 +57,7 @@ fn observed_given(alloc: Global, y: VSet, given: VSet) -> (Formula, Derivation)
         defs: Vec::new(alloc),
         main: Expr::Prob {
             of: y,
-            doing: VSet { bits: 0 },
+            doing: VSet::EMPTY,
             given,
         },
     };
@@ -101,7 +100,7 @@ fn with_condition(alloc: Global, g: &Graph, t: Target) -> Result<Conditional, Al
 {
     let turned = turned(alloc, g, t.x, t.y, t.given)?;
     let doing = turned.doing;
-    let joint = join(t.y, turned.left);
+    let joint = t.y.union(turned.left);
     match identify(alloc, g, doing, joint)? {
         Answer::Formula(undivided, derivation) => {
             let (formula, derivation) = divided_answer(alloc, t.y, turned, undivided, derivation)?;
@@ -124,10 +123,10 @@ fn answer(alloc: Global, g: &Graph, t: Target) -> Result<Conditional, AllocError
     ensures answer { IfOk result (IsAnswerGiven (graph_of g.now) (target_view t)) }
     ensures exact { IfOk result (λ a. IsTrue (is_joint a) ↔ SomeJointHedge (graph_of g.now) (target_view t)) }
 {
-    if is_empty(t.given) {
+    if t.given.is_empty() {
         return without_condition(alloc, g, t.x, t.y);
     }
-    if is_empty(t.x) {
+    if t.x.is_empty() {
         let (formula, derivation) = observed_given(alloc, t.y, t.given);
         return Ok(Conditional::Formula(formula, derivation));
     }

@@ -11,7 +11,6 @@ use crate::answer::Turned;
 use do_derivation::Step;
 use do_rules::rule2;
 use mixed_graph::{Graph, VSet};
-use prob_expr::masks::{join, minus, one};
 use std::alloc::{AllocError, Global};
 
 /// Whether v is an observation in P(y | do(x), z) that rule 2 lets become an intervention.
@@ -24,8 +23,8 @@ fn turns(g: &Graph, x: VSet, y: VSet, z: VSet, v: u8) -> bool
     if !z.has(v) {
         return false;
     }
-    let alone = one(v);
-    match rule2(g, x, y, alone, minus(z, alone)) {
+    let alone = VSet::one(v);
+    match rule2(g, x, y, alone, z.difference(alone)) {
         Ok(()) => true,
         Err(_) => false,
     }
@@ -55,10 +54,10 @@ pub fn turned(alloc: Global, g: &Graph, x: VSet, y: VSet, given: VSet) -> Result
     let mut left = given;
     let mut steps = Vec::new(alloc);
     'moves: while let Some(v) = lowest_turning(g, doing, y, left) {
-        let alone = one(v);
+        let alone = VSet::one(v);
         steps.push(Step::Rule2Do(alone))?;
-        doing = join(doing, alone);
-        left = minus(left, alone);
+        doing = doing.union(alone);
+        left = left.difference(alone);
     }
     Ok(Turned { doing, left, steps })
 }

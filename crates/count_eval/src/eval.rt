@@ -15,7 +15,6 @@ use crate::lookup::Lookup;
 use crate::nodes::{next_node, node_behind};
 use mixed_graph::VSet;
 use prob_expr::Expr;
-use prob_expr::masks::join;
 use quantity::{Quantity, QuantityFault};
 
 /// The outcome of an operation at a node.
@@ -102,7 +101,7 @@ fn term<Q: Quantity, L: Lookup<Q>>(
             cell,
         });
     }
-    let top = lookup.sum(join(of, given), &cell);
+    let top = lookup.sum(of.union(given), &cell);
     Ok(Q::from_ratio(top, bottom))
 }
 

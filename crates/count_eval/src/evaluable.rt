@@ -8,7 +8,6 @@ ghost use Rattle.count_eval.specs.Uses.{HasLevel, uses_only, use_only, defs_use_
 
 use count_table::Counts;
 use mixed_graph::VSet;
-use prob_expr::masks::{is_below, is_inside};
 use prob_expr::{Expr, Formula, check, is_do_free};
 
 #[cycle(using)]
@@ -16,8 +15,8 @@ fn uses_only(e: &Expr, set: VSet) -> bool
     ensures { result ≡ uses_only set.bits (view e.now) }
 {
     match e {
-        Expr::Prob { of, given, .. } => is_inside(*of, set) && is_inside(*given, set),
-        Expr::Sum { over, body } => is_inside(*over, set) && uses_only(body, set),
+        Expr::Prob { of, given, .. } => of.is_inside(set) && given.is_inside(set),
+        Expr::Sum { over, body } => over.is_inside(set) && uses_only(body, set),
         Expr::Product(factors) => use_only(factors, set),
         Expr::Quotient { top, bottom } => uses_only(top, set) && uses_only(bottom, set),
         Expr::Named(_) => true,
@@ -71,7 +70,7 @@ pub fn is_evaluable(n: u32, f: &Formula, c: &Counts) -> bool
     if n > 64 {
         return false;
     }
-    if !is_below(n, used) {
+    if !used.is_below(n) {
         return false;
     }
     if check(f, n).is_err() {

@@ -28,7 +28,7 @@ pub enum CountFault {
 }
 
 impl CountFault {
-    /// The line that says what is wrong, as `causal: counts fault 4: row 7` with a line feed. The error is want of memory, which has no line.
+    /// The line that says what is wrong, as `causal: counts fault 2: X` with a line feed. The error is want of memory, which has no line.
     pub fn line(&self, alloc: Global) -> Result<Vec<u8>, AllocError>
         ensures line { IfOk result (λ v. v.items ≡ line_of (count_fault_text self.now)) }
         ensures memory { OnOk result (self.now ≡ CountFault.NoMemory → ⊥) }

@@ -1,10 +1,10 @@
 -- The factors of the vertices of a district, and that of the district, as the code gives them.
 use Rattle.std.specs.Prelude.{ℕ, ◌≡◌, List}
 use Rattle.mixed_graph.specs.Graphs.{MixedGraph}
-use Rattle.mixed_graph.specs.Masks.{join, one}
+use Rattle.mixed_graph.specs.Masks.{join, one, common}
 use Rattle.prob_expr.specs.View.{view, views}
 use Rattle.do_derivation.specs.View.{steps_view}
-use Rattle.identification.specs.Procedure.{common, IsPillow, Source, conditional, AreFactors, IsBody}
+use Rattle.identification.specs.Procedure.{IsPillow, Source, conditional, AreFactors, IsBody}
 use Rattle.identification.specs.Derivations.{universe, source_steps, place_list, ArePlaceLists, AreBodySteps}
 use Rattle.district_factors.specs.declared.place.VertexFactor.{VertexFactor}
 use Rattle.district_factors.specs.declared.body.Places.{Places}

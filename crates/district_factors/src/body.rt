@@ -17,7 +17,6 @@ use crate::terms::{Source, as_one};
 use do_derivation::Step;
 use mixed_graph::{Graph, Order, VSet};
 use prob_expr::Expr;
-use prob_expr::masks::{join, one};
 use std::alloc::{AllocError, Global};
 
 /// The factors of the members of a district in the order, and for each the steps to it.
@@ -49,14 +48,14 @@ fn places_of(
 {
     let mut factors = Vec::new(alloc);
     let mut lists = Vec::new(alloc);
-    let mut before = VSet { bits: 0 };
+    let mut before = VSet::EMPTY;
     for v in order {
         if t.has(*v) {
             let VertexFactor { term, steps } = place_of(alloc, g, from, a, t, before, *v)?;
             factors.push(term)?;
             lists.push(steps)?;
         }
-        before = join(before, one(*v));
+        before = before.union(VSet::one(*v));
     }
     Ok(Places { factors, lists })
 }

@@ -7,11 +7,9 @@ ghost use Rattle.do_derivation.specs.View.{listed, step_view, steps_view};
 ghost use Rattle.identification.specs.Derivations.{at_place, marginal_steps, source_steps, place_list, cut_steps, in_order};
 ghost use Rattle.district_factors.specs.Parts.{source_of, steps_then};
 
-use crate::sets::common;
 use crate::terms::Source;
 use do_derivation::Step;
 use mixed_graph::{Order, VSet};
-use prob_expr::masks::{is_empty, join, minus, one};
 use std::alloc::{AllocError, Global};
 
 /// The steps on the child of that number.
@@ -41,9 +39,9 @@ pub fn add_at(
 fn marginal_steps(alloc: Global, k: u32, a: VSet, u: VSet) -> Result<Vec<Step>, AllocError>
     ensures { IfOk result (λ s. steps_view s.items ≡ marginal_steps k a.bits u.bits) }
 {
-    let rest = minus(a, u);
+    let rest = a.difference(u);
     let cited = vec![in alloc; Step::Cite(k)]?;
-    if is_empty(rest) {
+    if rest.is_empty() {
         return Ok(cited);
     }
     let inner = at(alloc, 0, cited)?;
@@ -64,10 +62,14 @@ pub fn source_steps(
     match from {
         Source::Under(_) => Ok(Vec::new(alloc)),
         Source::Defined(k) => {
-            if is_empty(m) {
-                return marginal_steps(alloc, k, a, one(v));
+            if m.is_empty() {
+                return marginal_steps(alloc, k, a, VSet::one(v));
             }
-            let top = at(alloc, 0, marginal_steps(alloc, k, a, join(m, one(v)))?)?;
+            let top = at(
+                alloc,
+                0,
+                marginal_steps(alloc, k, a, m.union(VSet::one(v)))?,
+            )?;
             let bottom = at(alloc, 1, marginal_steps(alloc, k, a, m)?)?;
             Ok(vec![in alloc; Step::Split, top, bottom]?)
         }
@@ -78,7 +80,7 @@ pub fn source_steps(
 fn add(steps: &mut Vec<Step>, set: VSet, step: Step) -> Result<(), AllocError>
     ensures { OnOk result (steps.new.items ≡ steps.old.items ++ cond (is_empty set.bits) [] (step ∷ [])) }
 {
-    if is_empty(set) {
+    if set.is_empty() {
         return Ok(());
     }
     steps.push(step)?;
@@ -101,10 +103,10 @@ pub fn place_steps(
 ) -> Result<Vec<Step>, AllocError>
     ensures { IfOk result (λ s. steps_view s.items ≡ place_list before.bits universe.bits a.bits t.bits m.bits (steps_view rest.items)) }
 {
-    let earlier = common(a, before);
-    let acted = minus(earlier, t);
-    let idle = minus(minus(universe, t), acted);
-    let unneeded = minus(earlier, m);
+    let earlier = a.intersection(before);
+    let acted = earlier.difference(t);
+    let idle = universe.difference(t).difference(acted);
+    let unneeded = earlier.difference(m);
     let mut rest = rest;
     let mut steps = Vec::new(alloc);
     add(&mut steps, idle, Step::Rule3Out(idle))?;

@@ -9,12 +9,11 @@ ghost use Rattle.district_factors.specs.Parts.{source_of};
 ghost use Rattle.district_factors.specs.Bodies.{IsPlaceOf};
 
 use crate::moves::{place_steps, source_steps};
-use crate::sets::{common, pillow};
+use crate::sets::pillow;
 use crate::terms::{Source, conditional};
 use do_derivation::Step;
 use mixed_graph::{Graph, VSet};
 use prob_expr::Expr;
-use prob_expr::masks::{all, join, minus, one};
 use std::alloc::{AllocError, Global};
 
 /// The factor of a vertex, and the steps that make it of the vertex's term in the chain.
@@ -30,7 +29,7 @@ fn universe(n: u32, from: Source, a: VSet) -> VSet
     ensures { result.bits ≡ universe n (source_of from) a.bits }
 {
     match from {
-        Source::Under(z) => minus(all(n), z),
+        Source::Under(z) => VSet::below(n).difference(z),
         Source::Defined(_) => a,
     }
 }
@@ -50,7 +49,7 @@ pub fn place_of(
     ensures { IfOk result (IsPlaceOf (graph_of g.now) (source_of from) a.bits t.bits before.bits v) }
 {
     let possible = universe(g.n, from, a);
-    let near = join(common(a, before), one(v));
+    let near = a.intersection(before).union(VSet::one(v));
     let m = pillow(g, near, v);
     let term = conditional(alloc, from, a, v, m)?;
     let rest = source_steps(alloc, from, a, v, m)?;

@@ -23,7 +23,6 @@ use districts::district_of;
 use do_derivation::{Lemma, Step};
 use mixed_graph::{Graph, Order, VSet};
 use prob_expr::Expr;
-use prob_expr::masks::{all, minus};
 use std::alloc::{AllocError, Global};
 
 /// What one round comes to.
@@ -76,7 +75,7 @@ fn next_round(
         return Err(FactorFault::Stopped(t));
     }
     let body = body_of(alloc, g, order, from, a, t)?;
-    let body = summed(alloc, minus(t, leading), body)?;
+    let body = summed(alloc, t.difference(leading), body)?;
     if leading.bits == c.bits {
         return Ok(Round::Done(body));
     }
@@ -105,7 +104,7 @@ pub fn factor(
     ensures paired { IfOk result (λ f. length f.lemmas.items ≡ length f.defs.items) }
     ensures fault { IfErr result (IsFactorFault (graph_of g.now) c.bits) }
 {
-    factor_under(alloc, g, order, VSet { bits: 0 }, c, first)
+    factor_under(alloc, g, order, VSet::EMPTY, c, first)
 }
 
 /// The factor of a district of some set of vertices, its definitions from number `first` on, read
@@ -132,7 +131,7 @@ pub fn factor_under(
     ensures fault { IfErr result (IsFactorFault (graph_of g.now) c.bits) }
 {
     let vertices = &order.list[..order.count as usize];
-    let mut a = ancestors_in(g, all(g.n), c);
+    let mut a = ancestors_in(g, VSet::below(g.n), c);
     let mut from = Source::Under(z);
     let mut defs = Vec::new(alloc);
     let mut lemmas = Vec::new(alloc);

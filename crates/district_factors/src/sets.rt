@@ -5,19 +5,10 @@ ghost use Rattle.mixed_graph.specs.Bits.{has};
 ghost use Rattle.mixed_graph.specs.Sets.{Within};
 ghost use Rattle.mixed_graph.specs.Shown.{graph_of};
 ghost use Rattle.districts.specs.Linked.{IsSetOf};
-ghost use Rattle.identification.specs.Procedure.{common, AreAncestorsIn, IsParent, IsPillow};
+ghost use Rattle.identification.specs.Procedure.{AreAncestorsIn, IsParent, IsPillow};
 
 use districts::district_of;
 use mixed_graph::{Graph, VSet};
-
-/// The members of both sets.
-pub fn common(a: VSet, b: VSet) -> VSet
-    ensures { result.bits ≡ common a.bits b.bits }
-{
-    VSet {
-        bits: a.bits & b.bits,
-    }
-}
 
 /// The ancestors of s in the graph induced on `within`.
 pub fn ancestors_in(g: &Graph, within: VSet, s: VSet) -> VSet
@@ -33,10 +24,7 @@ fn parents_of(g: &Graph, set: VSet) -> VSet
 {
     let mut parents = VSet::empty();
     for v in 0..64u8 {
-        let row = VSet {
-            bits: g.parents[v as usize],
-        };
-        parents = parents.union(row.only_if(set.has(v)));
+        parents = parents.union(g.parents(v).only_if(set.has(v)));
     }
     parents
 }

@@ -8,7 +8,6 @@ ghost use Rattle.district_factors.specs.Parts.{source_of};
 
 use mixed_graph::VSet;
 use prob_expr::Expr;
-use prob_expr::masks::{is_empty, join, minus, one};
 use std::alloc::{AllocError, Global};
 
 /// The distribution that a factor is read from.
@@ -24,7 +23,7 @@ pub enum Source {
 pub fn sum_if(alloc: Global, over: VSet, body: Expr) -> Result<Expr, AllocError>
     ensures { IfOk result (λ e. view e ≡ sum_if over.bits (view body)) }
 {
-    if is_empty(over) {
+    if over.is_empty() {
         return Ok(body);
     }
     Ok(Expr::Sum {
@@ -37,7 +36,7 @@ pub fn sum_if(alloc: Global, over: VSet, body: Expr) -> Result<Expr, AllocError>
 fn marginal(alloc: Global, k: u32, a: VSet, u: VSet) -> Result<Expr, AllocError>
     ensures { IfOk result (λ e. view e ≡ marginal k a.bits u.bits) }
 {
-    sum_if(alloc, minus(a, u), Expr::Named(k))
+    sum_if(alloc, a.difference(u), Expr::Named(k))
 }
 
 /// P(v | m) in the source, which for a definition is a distribution of the set a.
@@ -47,15 +46,15 @@ pub fn conditional(alloc: Global, from: Source, a: VSet, v: u8, m: VSet) -> Resu
 {
     match from {
         Source::Under(doing) => Ok(Expr::Prob {
-            of: one(v),
+            of: VSet::one(v),
             doing,
             given: m,
         }),
         Source::Defined(k) => {
-            if is_empty(m) {
-                return marginal(alloc, k, a, one(v));
+            if m.is_empty() {
+                return marginal(alloc, k, a, VSet::one(v));
             }
-            let top = Box::new(alloc, marginal(alloc, k, a, join(m, one(v)))?)?;
+            let top = Box::new(alloc, marginal(alloc, k, a, m.union(VSet::one(v)))?)?;
             Ok(Expr::Quotient {
                 top,
                 bottom: Box::new(alloc, marginal(alloc, k, a, m)?)?,

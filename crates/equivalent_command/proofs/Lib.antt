@@ -5,3 +5,4 @@ pub mod Placing
 pub mod Queries
 pub mod Outcomes
 pub mod Exclusive
+pub mod Lawful

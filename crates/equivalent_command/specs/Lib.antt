@@ -5,3 +5,4 @@ pub mod Lines
 pub mod Numbers
 pub mod Queries
 pub mod Requests
+pub mod Command

@@ -90,12 +90,14 @@ fn read_query(alloc: Global, values: &Values<'_>) -> Result<Option<Query>, Reque
 }
 
 impl<'a> Request<'a> {
-    ghost use Rattle.equivalent_command.specs.Requests.{Request as Asked, request_of, IsRequest};
+    ghost use Rattle.replies.specs.Command.{AsksNothing};
+    ghost use Rattle.equivalent_command.specs.Command.{equivalent_command};
+    ghost use Rattle.equivalent_command.specs.Requests.{request_of, IsRequest};
 
     /// What the words ask for, exactly where their values are what they have to be.
     pub fn read(alloc: Global, values: &Values<'a>) -> Result<Self, RequestFault>
         ensures ok { (uses : List Use) → HoldsCall equivalent_row uses values.now → IfOk result (λ r. IsRequest uses (request_of r)) }
-        ensures none { (uses : List Use) → HoldsCall equivalent_row uses values.now → IsErrOf result RequestFault.NotUnderstood → (r : Asked) → IsRequest uses r → ⊥ }
+        ensures none { (uses : List Use) → HoldsCall equivalent_row uses values.now → IsErrOf result RequestFault.NotUnderstood → AsksNothing equivalent_command uses }
     {
         let file = match needed_word(values, "file") {
             Ok(file) => file,

@@ -7,3 +7,4 @@ pub mod Stops
 pub mod Evaluable
 pub mod Outcomes
 pub mod Exclusive
+pub mod Lawful

@@ -6,3 +6,4 @@ pub mod Answers
 pub mod Firsts
 pub mod Printing
 pub mod Requests
+pub mod Command

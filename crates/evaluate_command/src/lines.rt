@@ -13,7 +13,6 @@ use count_answers::{push_assignment, push_assignments};
 use count_table::Counts;
 use mixed_graph::{Names, VSet};
 use prob_expr::free;
-use prob_expr::masks::{is_empty, join, minus};
 use quantity::Quantity;
 use std::alloc::{AllocError, Global};
 
@@ -28,7 +27,7 @@ fn push_doing(
     requires entries { Within (length cell.now) (has found.now.sets.x.bits) }
     ensures { OnOk result (out.new.items ≡ out.old.items ++ doing_text (effect_view found.now) counts.now (cell_of cell.now)) }
 {
-    if is_empty(found.sets.x) {
+    if found.sets.x.is_empty() {
         return Ok(());
     }
     out.extend_from_slice(b"|do(")?;
@@ -109,7 +108,7 @@ pub fn pinned_lines(
     ensures { IfOk result (λ v. v.items ≡ pinned_lines (effect_view found.now) counts.now) }
 {
     let all = free(alloc, &found.formula)?;
-    let pinned = minus(all, join(found.sets.x, found.sets.y));
+    let pinned = all.difference(found.sets.x.union(found.sets.y));
     let mut text = Vec::new(alloc);
     for v in 0..64u8 {
         push_pinned(&mut text, &found.seen.names, counts, pinned, v)?;

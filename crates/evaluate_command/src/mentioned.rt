@@ -5,7 +5,6 @@ ghost use Rattle.evaluate_command.specs.Mentioned.{mentioned, mentioned_in, ment
 
 use crate::identified::Identified;
 use mixed_graph::VSet;
-use prob_expr::masks::join;
 use prob_expr::{Expr, Formula};
 
 /// The vertices that an expression names in a term or in a sum.
@@ -14,11 +13,11 @@ fn mentioned_in(e: &Expr) -> VSet
     ensures { result.bits ≡ mentioned_in (view e.now) }
 {
     match e {
-        Expr::Prob { of, doing, given } => join(join(*of, *doing), *given),
-        Expr::Sum { over, body } => join(*over, mentioned_in(body)),
+        Expr::Prob { of, doing, given } => of.union(*doing).union(*given),
+        Expr::Sum { over, body } => over.union(mentioned_in(body)),
         Expr::Product(factors) => mentioned_in_factors(factors),
-        Expr::Quotient { top, bottom } => join(mentioned_in(top), mentioned_in(bottom)),
-        Expr::Named(_) => VSet { bits: 0 },
+        Expr::Quotient { top, bottom } => mentioned_in(top).union(mentioned_in(bottom)),
+        Expr::Named(_) => VSet::EMPTY,
     }
 }
 
@@ -27,9 +26,9 @@ fn mentioned_in(e: &Expr) -> VSet
 fn mentioned_in_factors(factors: &Vec<Expr>) -> VSet
     ensures { result.bits ≡ mentioned_in_any (views factors.now.items) }
 {
-    let mut all = VSet { bits: 0 };
+    let mut all = VSet::EMPTY;
     for factor in factors {
-        all = join(all, mentioned_in(factor));
+        all = all.union(mentioned_in(factor));
     }
     all
 }
@@ -38,9 +37,9 @@ fn mentioned_in_factors(factors: &Vec<Expr>) -> VSet
 fn mentioned_in_defs(defs: &Vec<Expr>) -> VSet
     ensures { result.bits ≡ mentioned_in_defs (map view defs.now.items) }
 {
-    let mut all = VSet { bits: 0 };
+    let mut all = VSet::EMPTY;
     for def in defs {
-        all = join(all, mentioned_in(def));
+        all = all.union(mentioned_in(def));
     }
     all
 }
@@ -49,12 +48,12 @@ fn mentioned_in_defs(defs: &Vec<Expr>) -> VSet
 fn mentioned(f: &Formula) -> VSet
     ensures { result.bits ≡ mentioned (formula_view f.now) }
 {
-    join(mentioned_in_defs(&f.defs), mentioned_in(&f.main))
+    mentioned_in_defs(&f.defs).union(mentioned_in(&f.main))
 }
 
 /// The vertices whose levels are read: those that the formula names, with x and y.
 pub fn used_in(found: &Identified) -> VSet
     ensures { result.bits ≡ used_in (effect_view found.now) }
 {
-    join(mentioned(&found.formula), join(found.sets.x, found.sets.y))
+    mentioned(&found.formula).union(found.sets.x.union(found.sets.y))
 }

@@ -111,7 +111,7 @@ fn formula_latex(alloc: Global, names: &Names, sets: Sets) -> Result<Vec<u8>, Al
     let effect = Target {
         x: sets.x,
         y: sets.y,
-        given: VSet { bits: 0 },
+        given: VSet::EMPTY,
     };
     latex_answer(alloc, &formula, &effect, names)
 }

@@ -11,8 +11,6 @@ use latent_projection::{Observed, observed};
 use mixed_graph::{Graph, Names, VSet};
 use std::alloc::{AllocError, Global};
 
-const NONE: VSet = VSet { bits: 0 };
-
 /// The text of a graph whose vertices have no marks.
 fn graph_text(alloc: Global, names: Names, graph: Graph) -> Result<Vec<u8>, AllocError>
     requires { length names ≡ graph.n }
@@ -22,10 +20,10 @@ fn graph_text(alloc: Global, names: Names, graph: Graph) -> Result<Vec<u8>, Allo
     let unmarked = ReadGraph {
         names,
         graph,
-        exposures: NONE,
-        outcomes: NONE,
-        adjusted: NONE,
-        latent: NONE,
+        exposures: VSet::EMPTY,
+        outcomes: VSet::EMPTY,
+        adjusted: VSet::EMPTY,
+        latent: VSet::EMPTY,
     };
     write_graph(alloc, &unmarked)
 }
@@ -58,6 +56,6 @@ pub fn copy_names(alloc: Global, names: &Names, g: &Graph) -> Result<Names, Allo
     let Observed {
         names: copies,
         graph: _,
-    } = observed(alloc, names, g, NONE)?;
+    } = observed(alloc, names, g, VSet::EMPTY)?;
     Ok(copies)
 }

@@ -15,7 +15,6 @@ use crate::tracing::trace;
 use do_derivation::{ApplyFault, Derivation, Lemma, Step};
 use expr_text::write_expr;
 use mixed_graph::{Graph, Names, VSet};
-use prob_expr::masks::{all, minus};
 use prob_expr::{Expr, Target};
 use std::alloc::{AllocError, Global};
 
@@ -86,8 +85,8 @@ fn start_of(g: &Graph, set: VSet) -> Expr
 {
     Expr::Prob {
         of: set,
-        doing: minus(all(g.n), set),
-        given: VSet { bits: 0 },
+        doing: VSet::below(g.n).difference(set),
+        given: VSet::EMPTY,
     }
 }
 

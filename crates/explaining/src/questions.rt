@@ -9,7 +9,6 @@ use do_derivation::Step;
 use do_rules::Rule;
 use mixed_graph::VSet;
 use prob_expr::Expr;
-use prob_expr::masks::minus;
 
 /// A rule with its sets: whether y and z are separated in its graph, where `doing` is set and `given` is observed.
 #[derive(Clone, Copy)]
@@ -51,7 +50,7 @@ fn of_given(rule: Rule, z: VSet, e: &Expr) -> Option<Question>
             doing: question.doing,
             y: question.y,
             z,
-            given: minus(question.given, z),
+            given: question.given.difference(z),
         }),
     }
 }
@@ -64,7 +63,7 @@ fn of_doing(rule: Rule, z: VSet, e: &Expr) -> Option<Question>
         None => None,
         Some(question) => Some(Question {
             rule,
-            doing: minus(question.doing, z),
+            doing: question.doing.difference(z),
             y: question.y,
             z,
             given: question.given,

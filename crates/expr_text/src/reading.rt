@@ -33,7 +33,7 @@ fn doing_at<'a>(names: &Names, bytes: &'a [u8]) -> Result<((VSet, VSet), &'a [u8
     let rest = expect(b")", rest)?;
     match next_is(b",", rest) {
         Some(rest) => given_at(names, doing, rest),
-        None => Ok(((doing, VSet { bits: 0 }), rest)),
+        None => Ok(((doing, VSet::EMPTY), rest)),
     }
 }
 
@@ -44,11 +44,11 @@ fn conds_at<'a>(names: &Names, bytes: &'a [u8]) -> Result<((VSet, VSet), &'a [u8
     ensures shorter { IfOk result (λ p. length p.1.now ≤ length bytes.now) }
 {
     let Some(rest) = next_is(b"|", bytes) else {
-        return Ok(((VSet { bits: 0 }, VSet { bits: 0 }), bytes));
+        return Ok(((VSet::EMPTY, VSet::EMPTY), bytes));
     };
     match next_is(b"do(", rest) {
         Some(rest) => doing_at(names, rest),
-        None => given_at(names, VSet { bits: 0 }, rest),
+        None => given_at(names, VSet::EMPTY, rest),
     }
 }
 

@@ -4,7 +4,6 @@ ghost use Rattle.expr_text.specs.Read.{Gives, after, trim, next_is, expect, raw_
 use crate::bytes::{Class, run_len};
 use crate::stop::ReadStop;
 use mixed_graph::{Names, VSet};
-use prob_expr::masks;
 
 /// The bytes from the next token on.
 #[tactic(auto, unfolding(crate::specs::Read::trim))]
@@ -109,7 +108,7 @@ fn with_vertex(names: &Names, have: VSet, name: &[u8]) -> Option<VSet>
     if have.has(v) {
         return None;
     }
-    Some(masks::join(have, masks::one(v)))
+    Some(have.union(VSet::one(v)))
 }
 
 /// The next name, beside the members before it.
@@ -134,7 +133,7 @@ pub fn names_at<'a>(names: &Names, bytes: &'a [u8]) -> Result<(VSet, &'a [u8]), 
     ensures names { Gives (λ p. (p.0.bits, p.1.now)) result (names_at names.now bytes.now) }
     ensures shorter { IfOk result (λ p. length p.1.now < length bytes.now) }
 {
-    let (first, rest) = name_at(names, VSet { bits: 0 }, bytes)?;
+    let (first, rest) = name_at(names, VSet::EMPTY, bytes)?;
     more_names(names, first, rest)
 }
 

@@ -1,3 +1,4 @@
 mod Texts
 pub mod Outcomes
 pub mod Exclusive
+pub mod Lawful

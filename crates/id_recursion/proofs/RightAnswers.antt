@@ -1,21 +1,20 @@
 -- What the procedure answers is a right answer.
-use Rattle.std.proofs.Common.{ℕ, ◌*◌, ◌≡◌, ◌≢◌, ◌<◌, ◌≤◌, ◌↔◌, Bool, true, false, not, ◌&&◌, ◌||◌, refl, sym, ap, ap₂, subst, ◌∙◌, [], IsTrue, None, arith}
+use Rattle.std.proofs.Common.{ℕ, ◌*◌, ◌≡◌, ◌≤◌, ◌↔◌, Bool, true, false, ◌||◌, refl, sym, ap, ap₂, ◌∙◌, [], IsTrue, None, arith}
 use Rattle.std.specs.Prelude.{Result, Ok, Err, IfOk}
 use mathlib.Core.Path.{fun_ext}
 use Rattle.mixed_graph.specs.Bits.{has}
 use Rattle.mixed_graph.specs.Graphs.{MixedGraph, IsMixedGraph, IsAncestor}
 use Rattle.mixed_graph.specs.Sets.{Within, Apart}
-use Rattle.mixed_graph.proofs.Masks.{has-zero, some_member}
-use Rattle.fractions.specs.Fractions.{IsEqual}
+use Rattle.mixed_graph.proofs.Masks.{has-zero}
 use Rattle.finite_models.specs.Agreement.{AgreeObserved}
 use Rattle.finite_models.specs.Data.{meaning}
-use Rattle.finite_models.specs.Models.{FiniteModel, Fits, IsPositiveModel, weight_of, total}
+use Rattle.finite_models.specs.Models.{FiniteModel, Fits, IsPositiveModel, weight_of}
 use Rattle.parity_models.specs.Laws.{DifferAt}
 use Rattle.prob_expr.specs.Check.{fault_in}
 use Rattle.mixed_graph.specs.Masks.{is_apart, is_below, is_empty}
 use Rattle.prob_expr.specs.Terms.{is_term, is_do_free}
 use Rattle.prob_expr.specs.Tree.{PlainFormula}
-use Rattle.prob_expr.specs.Values.{effect, EqualsEffect}
+use Rattle.prob_expr.specs.Values.{EqualsEffect}
 use Rattle.prob_expr.specs.View.{formula_view}
 use Rattle.prob_expr.proofs.Observed.{effect_is_over_total, formula_fixes_effect}
 use Rattle.do_derivation.specs.Accepts.{Accepts}
@@ -32,14 +31,12 @@ use Rattle.hedge.specs.Hedges.{IsHedge}
 use Rattle.hedge.specs.declared.hedge.Hedge.{Hedge as HedgeData}
 use Rattle.hedge.proofs.Shaping.{sets_form_hedge}
 use Rattle.counter_models.specs.Events.{AreCounterModels}
-use Rattle.counter_models.specs.Pairs.{IsPairOf}
-use Rattle.counter_models.specs.declared.counter_pair.CounterPair.{CounterPair}
 use Rattle.id_recursion.specs.Answers.{IsAnswerOf, IsRight, IfFormula, IfHedge, is_hedge, effect_on, AreShallowSteps, IsShallowFormula}
 use Rattle.id_recursion.specs.declared.answer.Answer.{Answer}
 use Rattle.id_recursion.specs.declared.answer.Answer.TheVariants.{Formula, Hedge}
 use Rattle.identification_answers.proofs.Answered.{formula_names_ancestors, formula_is_formed, formula_is_shallow, derived_is_identified, derivation_is_accepted}
 use Rattle.counter_models.proofs.Final.{counter}
-use Rattle.counter_models.proofs.HedgePair.{pair, is_pair}
+use Rattle.counter_models.proofs.HedgePair.{pair as pair_of, is_pair}
 
 pub target_of : (g : MixedGraph) (x y : ℕ) → Within g.vertices (has x) → Within g.vertices (has y) → Apart (has x) (has y) → (v : ℕ) × IsTrue (has y v) → IsTarget g x y
 target_of g x y x_low y_low off some = record { x_low = x_low; y_low = y_low; off = λ u i j. clash (has y u) j (off u i); some = some.0; some_in = some.1 }
@@ -133,7 +130,7 @@ module _ (g : MixedGraph) (valid : IsMixedGraph g) (few : g.vertices ≤ 64) (x 
 
   never_both : (f : PlainFormula) (d : PlainDerivation) → IsDerived g x y f d → (h : HedgeData) → IsHedge g x y h → ⊥
   never_both f d i h is =
-      let two = pair g valid few x y h is in
+      let two = pair_of g valid few x y h is in
       let models = counter g valid few x y h is off two (is_pair g valid few x y h is) in
       models_agree f d i (meaning g two.first) (meaning g two.second) models.first.fits models.second.fits models.first.positive models.second.positive models.observed models.effects
 

@@ -11,11 +11,11 @@ use Rattle.do_derivation.specs.View.{step_view, steps_view}
 use Rattle.do_derivation.specs.declared.steps.Step.{Step, the_lemmas, At, Then, Rule2Do, Rule3In, Widen}
 use Rattle.do_derivation.proofs.StepViews.{step-Rule2Do, step-Rule3In, step-Widen}
 use Rattle.districts.specs.Listed.{first_masks}
-use Rattle.mixed_graph.specs.Masks.{minus, all, is_empty}
+use Rattle.mixed_graph.specs.Masks.{minus, all, is_empty, common}
 use Rattle.prob_expr.specs.Tree.{Trees, product}
 use Rattle.prob_expr.specs.View.{view, views}
 use Rattle.prob_expr.specs.declared.expr.Expr.{Expr}
-use Rattle.identification.specs.Procedure.{common, product_of}
+use Rattle.identification.specs.Procedure.{product_of}
 use Rattle.identification.specs.Derivations.{Lists, no_more, more, single, with_set, at_place, at_each, at_zero, in_order, two_or_more, unchain_steps, unwrap_steps, home_list, home_lists, group_steps, district_steps, main_steps}
 use Rattle.id_recursion.specs.Lists.{onto, lists_onto, lists_view}
 

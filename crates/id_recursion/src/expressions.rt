@@ -8,7 +8,6 @@ ghost use Rattle.identification.specs.Procedure.{sum_if, product_of};
 
 use mixed_graph::VSet;
 use prob_expr::Expr;
-use prob_expr::masks::is_empty;
 use std::alloc::{AllocError, Global};
 
 /// Whether a factor is a product.
@@ -83,7 +82,7 @@ pub fn product_of(alloc: Global, factors: Vec<Expr>) -> Result<Expr, AllocError>
 pub fn sum_if(alloc: Global, over: VSet, body: Expr) -> Result<Expr, AllocError>
     ensures { IfOk result (λ e. view e ≡ sum_if over.bits (view body)) }
 {
-    if is_empty(over) {
+    if over.is_empty() {
         return Ok(body);
     }
     let body = Box::new(alloc, body)?;

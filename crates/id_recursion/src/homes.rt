@@ -4,7 +4,6 @@ ghost use Rattle.std.specs.Prelude.{◌≡◌, ◌+◌, ℕ, ◌<◌, ◌≤◌,
 ghost use Rattle.mixed_graph.specs.Bits.{has};
 ghost use Rattle.districts.specs.Listed.{first_masks};
 ghost use Rattle.do_derivation.specs.View.{steps_view, listed};
-ghost use Rattle.identification.specs.Procedure.{common};
 ghost use Rattle.identification.specs.Derivations.{in_order, home, home_list, home_lists, Lists, more};
 ghost use Rattle.id_recursion.specs.Lists.{lists_onto, lists_view};
 
@@ -12,17 +11,7 @@ use crate::pushing::push_with;
 use districts::Districts;
 use do_derivation::Step;
 use mixed_graph::{Order, VSet};
-use prob_expr::masks::{join, minus, one};
 use std::alloc::{AllocError, Global};
-
-/// The members of both sets.
-fn common(a: VSet, b: VSet) -> VSet
-    ensures { result.bits ≡ common a.bits b.bits }
-{
-    VSet {
-        bits: a.bits & b.bits,
-    }
-}
 
 /// The first of the sets that has v; where none has it, the set without a member.
 fn home(parts: &Districts, v: u8) -> VSet
@@ -34,15 +23,15 @@ fn home(parts: &Districts, v: u8) -> VSet
             return *t;
         }
     }
-    VSet { bits: 0 }
+    VSet::EMPTY
 }
 
 /// From the term of a vertex in the chain of d to that in the chain of its district t, where `before` has the vertices before it.
 fn home_list(alloc: Global, d: VSet, t: VSet, before: VSet) -> Result<Vec<Step>, AllocError>
     ensures { IfOk result (λ l. steps_view l.items ≡ home_list d.bits t.bits before.bits) }
 {
-    let earlier = minus(common(d, before), t);
-    let later = minus(minus(d, t), earlier);
+    let earlier = d.intersection(before).difference(t);
+    let later = d.difference(t).difference(earlier);
     let mut out = Vec::new(alloc);
     push_with(&mut out, earlier, Step::Rule2Do(earlier))?;
     push_with(&mut out, later, Step::Rule3In(later))?;
@@ -82,10 +71,10 @@ pub fn home_lists(
     ensures few { IfOk result (λ l. length l.items ≤ 64) }
 {
     let mut lists = Vec::new(alloc);
-    let mut before = VSet { bits: 0 };
+    let mut before = VSet::EMPTY;
     for v in &order.list[..order.count as usize] {
         push_home(alloc, &mut lists, d, parts, before, *v)?;
-        before = join(before, one(*v));
+        before = before.union(VSet::one(*v));
     }
     Ok(lists)
 }

@@ -32,7 +32,6 @@ use crate::stops::stopped;
 use districts::districts;
 use do_derivation::{Derivation, Step};
 use mixed_graph::{Graph, Order, VSet};
-use prob_expr::masks::{all, is_empty, minus};
 use prob_expr::{Expr, Formula};
 use std::alloc::{AllocError, Global};
 
@@ -41,7 +40,7 @@ pub fn observed(alloc: Global, y: VSet) -> (Formula, Derivation)
     ensures formula { formula_view result.0 ≡ record { defs = []; main = prob y.bits 0 0 } }
     ensures derivation { derivation_view result.1 ≡ record { lemmas = []; main = Plan.Then no_plans } }
 {
-    let none = VSet { bits: 0 };
+    let none = VSet::EMPTY;
     let formula = Formula {
         defs: Vec::new(alloc),
         main: Expr::Prob {
@@ -62,7 +61,7 @@ pub fn ancestors_outside(g: &Graph, x: VSet, y: VSet) -> VSet
     requires { Within g.now.n (has y.bits) }
     ensures { AreAncestorsIn (graph_of g.now) (minus (all g.now.n) x.bits) y.bits result.bits }
 {
-    let free = minus(all(g.n), x);
+    let free = VSet::below(g.n).difference(x);
     g.induced(free).ancestors(y)
 }
 
@@ -84,7 +83,7 @@ fn answer(alloc: Global, g: &Graph, x: VSet, y: VSet) -> Result<Answer, AllocErr
     ensures few { IfOk result (λ a. IfFormula a (λ f d. length f.defs ≤ 4096)) }
 {
     let order = order_of(g);
-    if is_empty(x) {
+    if x.is_empty() {
         let (formula, derivation) = observed(alloc, y);
         return Ok(Answer::Formula(formula, derivation));
     }

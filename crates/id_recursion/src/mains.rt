@@ -25,7 +25,6 @@ use districts::Districts;
 use do_derivation::{Derivation, Step};
 use mixed_graph::{Graph, Order, VSet};
 use prob_expr::Formula;
-use prob_expr::masks::{all, is_empty, minus};
 use std::alloc::{AllocError, Global};
 
 /// Adds the step that opens products, where a factor is one.
@@ -82,12 +81,12 @@ fn main_steps(
     requires { n ≤ 64 }
     ensures { IfOk result (λ l. steps_view l.items ≡ main_steps n x.bits y.bits d.bits (steps_view rest.items)) }
 {
-    let others = minus(minus(all(n), x), d);
-    let further = minus(d, y);
+    let others = VSet::below(n).difference(x).difference(d);
+    let further = d.difference(y);
     let mut rest = rest;
     let mut out = Vec::new(alloc);
     push_with(&mut out, others, Step::Rule3In(others))?;
-    if is_empty(further) {
+    if further.is_empty() {
         out.append(&mut rest)?;
         return Ok(out);
     }
@@ -115,7 +114,7 @@ pub fn assembled(
     let rest = district_steps(alloc, order, d, parts, made.lists, opens)?;
     let steps = main_steps(alloc, g.n, x, y, d, rest)?;
     let body = product_of(alloc, made.values)?;
-    let main = sum_if(alloc, minus(d, y), body)?;
+    let main = sum_if(alloc, d.difference(y), body)?;
     let formula = Formula {
         defs: made.defs,
         main,

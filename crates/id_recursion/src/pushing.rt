@@ -9,14 +9,13 @@ ghost use Rattle.id_recursion.specs.Lists.{onto, lists_view};
 
 use do_derivation::Step;
 use mixed_graph::VSet;
-use prob_expr::masks::is_empty;
 use std::alloc::{AllocError, Global};
 
 /// Adds the step, left out where its set is empty.
 pub fn push_with(out: &mut Vec<Step>, z: VSet, step: Step) -> Result<(), AllocError>
     ensures { OnOk result ((rest : Plans) → onto out.new.items rest ≡ onto out.old.items (with_set z.bits (step_view step) rest)) }
 {
-    if is_empty(z) {
+    if z.is_empty() {
         return Ok(());
     }
     out.push(step)?;

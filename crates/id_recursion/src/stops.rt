@@ -25,10 +25,7 @@ fn roots_of(g: &Graph, set: VSet) -> VSet
 {
     let mut roots = set;
     for u in 0..64u8 {
-        let parents = VSet {
-            bits: g.parents[u as usize],
-        };
-        roots = roots.difference(parents.only_if(set.has(u)));
+        roots = roots.difference(g.parents(u).only_if(set.has(u)));
     }
     roots
 }

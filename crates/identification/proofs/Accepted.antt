@@ -25,11 +25,11 @@ use Rattle.identification.proofs.Separations.{actions_apart}
 use Rattle.identification.proofs.Sets.{all-below, all-is, empty-has, has-minus}
 use Rattle.identification.specs.Depth.{are_lemmas_within, are_plans_within}
 use Rattle.identification.specs.Procedure.AreFactored.{none, next}
-use Rattle.identification.specs.Procedure.{AreAncestorsIn, AreFactored, IsTarget, Source, common, product_of, sum_if}
+use Rattle.identification.specs.Procedure.{AreAncestorsIn, AreFactored, IsTarget, Source, product_of, sum_if}
 use Rattle.mixed_graph.proofs.Masks.{has-and, has-or, has-zero, same_from_has}
 use Rattle.mixed_graph.specs.Bits.{has}
 use Rattle.mixed_graph.specs.Graphs.{IsAncestor, IsMixedGraph, MixedGraph, induced}
-use Rattle.mixed_graph.specs.Masks.{all, is_below, is_empty, join, minus, one}
+use Rattle.mixed_graph.specs.Masks.{all, is_below, is_empty, join, minus, one, common}
 use Rattle.prob_expr.specs.Tree.{Tree, Trees, named, no_trees, prob, product, quotient, sum, tree}
 use Rattle.identification.specs.Derivations.{AreAllSteps, single, with_set, Lists, no_more, more, at_each, at_zero, in_order, home, home_list, home_lists, group_lists, unchain_steps, unchain_lists, unwrap_steps, main_steps}
 

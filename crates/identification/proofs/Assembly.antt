@@ -16,11 +16,11 @@ use Rattle.identification.proofs.Groups.{Among, count, IsPart, AreParts, part_am
 use Rattle.identification.proofs.Orders.{IsOrderFrom}
 use Rattle.identification.proofs.Separations.{IsPlace}
 use Rattle.identification.proofs.Sets.{apart, empty-has, has-minus, one-is}
-use Rattle.identification.specs.Procedure.{Source, common}
+use Rattle.identification.specs.Procedure.{Source}
 use Rattle.mixed_graph.proofs.Masks.{has-and, has-or, has-zero, same_from_has}
 use Rattle.mixed_graph.specs.Bits.{has}
 use Rattle.mixed_graph.specs.Graphs.{IsMixedGraph, MixedGraph}
-use Rattle.mixed_graph.specs.Masks.{all, is_apart, is_empty, join, minus, one}
+use Rattle.mixed_graph.specs.Masks.{all, is_apart, is_empty, join, minus, one, common}
 use Rattle.prob_expr.specs.Tree.{Tree, Trees, no_trees, prob, product, tree}
 use Rattle.identification.specs.Derivations.{more, in_order, home, home_list, home_lists, unchain_steps, unchain_lists}
 

@@ -16,11 +16,11 @@ use Rattle.identification.proofs.Separations.{IsPlace}
 use Rattle.identification.proofs.Sets.{all-below, all-is, empty-has, has-minus, one-is, one-self}
 use Rattle.identification.specs.Depth.{are_plans_within}
 use Rattle.identification.specs.Procedure.AreFactors.{none, skip, take}
-use Rattle.identification.specs.Procedure.{AreFactors, IsBody, IsParent, IsPillow, Source, common, conditional}
+use Rattle.identification.specs.Procedure.{AreFactors, IsBody, IsParent, IsPillow, Source, conditional}
 use Rattle.mixed_graph.proofs.Masks.{has-and, has-or, has-zero, same_from_has}
 use Rattle.mixed_graph.specs.Bits.{has}
 use Rattle.mixed_graph.specs.Graphs.{IsMixedGraph, MixedGraph, induced}
-use Rattle.mixed_graph.specs.Masks.{all, is_empty, join, minus, one}
+use Rattle.mixed_graph.specs.Masks.{all, is_empty, join, minus, one, common}
 use Rattle.prob_expr.specs.Tree.{Tree, Trees, no_trees, prob, product, tree}
 use Rattle.identification.specs.Derivations.{ArePlaceLists, AreBodySteps, Lists, no_more, more, in_order, universe, source_steps, place_list, body_steps}
 

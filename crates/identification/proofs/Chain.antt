@@ -10,11 +10,10 @@ use Rattle.identification.proofs.Bools.{and_l, and_r, both_true, clash, not_i, o
 use Rattle.identification.proofs.Places.{made_with, made_if, part, cut_three}
 use Rattle.identification.proofs.Separations.{IsPlace, later_not_above, later_removed, earlier_exchanged}
 use Rattle.identification.proofs.Sets.{all-is, apart, below, empty-has, has-minus, one-is}
-use Rattle.identification.specs.Procedure.{common}
 use Rattle.mixed_graph.proofs.Masks.{has-and, has-or, same_from_has}
 use Rattle.mixed_graph.specs.Bits.{has}
 use Rattle.mixed_graph.specs.Graphs.{IsMixedGraph, MixedGraph}
-use Rattle.mixed_graph.specs.Masks.{all, is_apart, is_below, is_empty, join, minus, one}
+use Rattle.mixed_graph.specs.Masks.{all, is_apart, is_below, is_empty, join, minus, one, common}
 use Rattle.prob_expr.specs.Tree.{prob}
 use Rattle.identification.specs.Derivations.{with_set}
 

@@ -9,11 +9,10 @@ use Rattle.finite_models.specs.Sums.{all_below}
 use Rattle.identification.proofs.Bools.{and_l, and_r, both_true, clash, decide, or_e, or_l, or_r}
 use Rattle.identification.proofs.Orders.{IsOrderFrom}
 use Rattle.identification.proofs.Sets.{all-is, one-is, one-self}
-use Rattle.identification.specs.Procedure.{common}
 use Rattle.mixed_graph.proofs.Masks.{has-and, has-or, has-zero, same_from_has}
 use Rattle.mixed_graph.specs.Bits.{has}
 use Rattle.mixed_graph.specs.Graphs.{IsMixedGraph, MixedGraph}
-use Rattle.mixed_graph.specs.Masks.{all, join, minus, one}
+use Rattle.mixed_graph.specs.Masks.{all, join, minus, one, common}
 use Rattle.prob_expr.specs.Tree.{Tree, Trees, no_trees, prob, tree}
 use Rattle.identification.specs.Derivations.{in_order, home, places, group_lists}
 

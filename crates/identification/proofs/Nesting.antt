@@ -3,8 +3,8 @@ use Rattle.std.proofs.Common.{ℕ, zero, suc, ◌≡◌, Bool, true, false, cond
 use Rattle.do_derivation.specs.Plans.{Move, PlainLemma, Plan, Plans, no_plans, plan}
 use Rattle.identification.proofs.Bools.{and_l, and_r, both_true}
 use Rattle.identification.specs.Depth.{are_lemmas_within, are_plans_within, is_plan_within}
-use Rattle.identification.specs.Procedure.{Source, common}
-use Rattle.mixed_graph.specs.Masks.{is_empty, join, minus, one}
+use Rattle.identification.specs.Procedure.{Source}
+use Rattle.mixed_graph.specs.Masks.{is_empty, join, minus, one, common}
 use Rattle.identification.specs.Derivations.{single, with_set, Lists, no_more, more, at_place, at_each, marginal_steps, source_steps, place_list}
 
 mutual

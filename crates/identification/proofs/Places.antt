@@ -12,11 +12,10 @@ use Rattle.do_rules.proofs.RuleGraphs.{asked_of_one, asked_of_two, asked_of_thre
 use Rattle.identification.proofs.Bools.{and_l, and_r, both_true, not_e, not_i, clash}
 use Rattle.identification.proofs.Separations.{IsPlace, later_not_above, later_removed, earlier_exchanged, rest_apart}
 use Rattle.identification.proofs.Sets.{all-is, empty-has, has-minus, inside, one-is}
-use Rattle.identification.specs.Procedure.{common}
 use Rattle.mixed_graph.proofs.Masks.{has-and, has-or, same_from_has}
 use Rattle.mixed_graph.specs.Bits.{has}
 use Rattle.mixed_graph.specs.Graphs.{IsAncestor, IsMixedGraph, MixedGraph}
-use Rattle.mixed_graph.specs.Masks.{all, is_empty, is_inside, join, minus, one}
+use Rattle.mixed_graph.specs.Masks.{all, is_empty, is_inside, join, minus, one, common}
 use Rattle.prob_expr.specs.Tree.{Tree, prob}
 use Rattle.surgery.specs.Cuts.{cut_into}
 use Rattle.identification.specs.Derivations.{with_set, place_list}

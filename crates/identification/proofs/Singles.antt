@@ -16,11 +16,11 @@ use Rattle.identification.proofs.Groups.{Among, count, home_is, homed, AreParts,
 use Rattle.identification.proofs.Orders.{IsOrderFrom}
 use Rattle.identification.proofs.Places.{made_if}
 use Rattle.identification.proofs.Sets.{one-is, one-self}
-use Rattle.identification.specs.Procedure.{common, product_of}
+use Rattle.identification.specs.Procedure.{product_of}
 use Rattle.mixed_graph.proofs.Masks.{has-and, has-zero, same_from_has}
 use Rattle.mixed_graph.specs.Bits.{has}
 use Rattle.mixed_graph.specs.Graphs.{IsMixedGraph, MixedGraph}
-use Rattle.mixed_graph.specs.Masks.{all, join, minus, one}
+use Rattle.mixed_graph.specs.Masks.{all, join, minus, one, common}
 use Rattle.prob_expr.specs.Tree.{Trees, prob, product, tree}
 use Rattle.identification.specs.Derivations.{single, Lists, at_each, in_order, home, home_lists, unwrap_steps}
 

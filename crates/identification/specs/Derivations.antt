@@ -4,11 +4,11 @@ use Rattle.mixed_graph.specs.Bits.{has}
 use Rattle.mixed_graph.specs.Graphs.{MixedGraph}
 use Rattle.mixed_graph.specs.Orders.{IsOrder}
 use Rattle.districts.specs.Linked.{IsDistrict}
-use Rattle.mixed_graph.specs.Masks.{join, minus, one, all, is_empty}
+use Rattle.mixed_graph.specs.Masks.{join, minus, one, all, is_empty, common}
 use Rattle.prob_expr.specs.Tree.{prob, Trees, PlainFormula}
 use Rattle.do_derivation.specs.Plans.{Move, Plan, Plans, no_plans, plan, PlainLemma, PlainDerivation}
 use Rattle.do_derivation.specs.Shapes.{has_product}
-use Rattle.identification.specs.Procedure.{common, AreAncestorsIn, IsPillow, Source, IsComposed}
+use Rattle.identification.specs.Procedure.{AreAncestorsIn, IsPillow, Source, IsComposed}
 
 -- ---- lists of steps
 

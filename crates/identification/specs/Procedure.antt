@@ -1,16 +1,12 @@
 -- The identification of an effect P(y | do(x)): the procedure ID of Shpitser and Pearl (2006), on the districts (c-components) of Tian and Pearl (2002).
-use Rattle.std.specs.Prelude.{ℕ, suc, ◌+◌, ◌≡◌, ◌≢◌, ◌<◌, ◌⊎◌, false, cond, List, [], ◌∷◌, ◌++◌, length, bit_and, ◌==◌, IsTrue}
+use Rattle.std.specs.Prelude.{ℕ, suc, ◌+◌, ◌≡◌, ◌≢◌, ◌<◌, ◌⊎◌, false, cond, List, [], ◌∷◌, ◌++◌, length, ◌==◌, IsTrue}
 use Rattle.mixed_graph.specs.Bits.{has}
 use Rattle.mixed_graph.specs.Graphs.{MixedGraph, IsAncestor, induced}
 use Rattle.mixed_graph.specs.Orders.{IsOrder}
 use Rattle.districts.specs.Linked.{IsLinked, IsSetOf, IsDistrict, AreDistricts}
-use Rattle.mixed_graph.specs.Masks.{join, minus, one, all, is_empty}
+use Rattle.mixed_graph.specs.Masks.{join, minus, one, all, is_empty, common}
 use Rattle.prob_expr.specs.Tree.{Tree, prob, sum, product, quotient, named, Trees, no_trees, tree, PlainFormula}
 use Rattle.do_derivation.specs.Shapes.{as_one, flat}
-
--- the members of both
-abbrev pub common : ℕ → ℕ → ℕ
-common a b = bit_and a b
 
 -- a is the set of the ancestors of s in the graph induced on u
 abbrev pub AreAncestorsIn : MixedGraph → (u s a : ℕ) → Type 0

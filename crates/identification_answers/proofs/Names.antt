@@ -12,12 +12,12 @@ use Rattle.identification.proofs.Groups.{AreParts, are_parts}
 use Rattle.identification.proofs.Orders.{IsOrderFrom}
 use Rattle.identification.proofs.Sets.{has-minus, one-is}
 use Rattle.identification.specs.Procedure.IsFactor.{whole, summed, further}
-use Rattle.identification.specs.Procedure.{AreAncestorsIn, AreFactored, AreFactors, IsBody, IsComposed, IsFactor, IsParent, IsPillow, IsTarget, Source, common, conditional, marginal, product_of, sum_if}
+use Rattle.identification.specs.Procedure.{AreAncestorsIn, AreFactored, AreFactors, IsBody, IsComposed, IsFactor, IsParent, IsPillow, IsTarget, Source, conditional, marginal, product_of, sum_if}
 use Rattle.identification_answers.specs.Names.{AllNameOnly, AreAll, EachNamesOnly, FormulaNamesOnly, NamesOnly}
 use Rattle.mixed_graph.proofs.Masks.{has-and, has-or, has-zero}
 use Rattle.mixed_graph.specs.Bits.{has}
 use Rattle.mixed_graph.specs.Graphs.{IsAncestor, IsDirectedPath, IsMixedGraph, MixedGraph, induced}
-use Rattle.mixed_graph.specs.Masks.{all, is_empty, join, minus, one}
+use Rattle.mixed_graph.specs.Masks.{all, is_empty, join, minus, one, common}
 use Rattle.prob_expr.specs.Tree.{PlainFormula, Tree, Trees, named, no_trees, prob, product, quotient, sum, tree}
 
 module _ (g : MixedGraph) (is_graph : IsMixedGraph g) (o : List ℕ) (order : IsOrderFrom g 0 o) (z : ℕ → Type 0) where

@@ -4,3 +4,4 @@ pub mod Within
 pub mod Writing
 pub mod Outcomes
 pub mod Exclusive
+pub mod Lawful

@@ -2,3 +2,4 @@ pub mod Answers
 pub mod Conditions
 pub mod Requests
 pub mod Forms
+pub mod Command

@@ -32,12 +32,14 @@ pub struct Request<'a> {
 }
 
 impl<'a> Request<'a> {
-    ghost use Rattle.identify_command.specs.Requests.{Request as Asked, identify_row, request_of, IsRequest};
+    ghost use Rattle.replies.specs.Command.{AsksNothing};
+    ghost use Rattle.identify_command.specs.Command.{identify_command};
+    ghost use Rattle.identify_command.specs.Requests.{identify_row, request_of, IsRequest};
 
     /// What the words ask for, exactly where their values are what they have to be.
     pub fn read(alloc: Global, values: &Values<'a>) -> Result<Self, RequestFault>
         ensures ok { (uses : List Use) → HoldsCall identify_row uses values.now → IfOk result (λ r. IsRequest uses (request_of r)) }
-        ensures none { (uses : List Use) → HoldsCall identify_row uses values.now → IsErrOf result RequestFault.NotUnderstood → (r : Asked) → IsRequest uses r → ⊥ }
+        ensures none { (uses : List Use) → HoldsCall identify_row uses values.now → IsErrOf result RequestFault.NotUnderstood → AsksNothing identify_command uses }
     {
         let certificate = values.flag("certificate");
         let latex = values.flag("latex");

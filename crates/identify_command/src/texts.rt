@@ -34,7 +34,7 @@ pub fn target_of(sets: EffectSets) -> Target
     Target {
         x: sets.x,
         y: sets.y,
-        given: VSet { bits: 0 },
+        given: VSet::EMPTY,
     }
 }
 

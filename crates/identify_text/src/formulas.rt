@@ -10,7 +10,6 @@ ghost use Rattle.identify_text.specs.Answers.{effect, free_beside, free_line, an
 use answer_text::{Notation, push_set};
 use expr_text::{formula_in, target_in, target_text};
 use mixed_graph::{Names, VSet};
-use prob_expr::masks::{is_empty, join, minus};
 use prob_expr::{Formula, Target, free};
 use std::alloc::{AllocError, Global};
 
@@ -23,7 +22,7 @@ fn effect(x: VSet, y: VSet) -> Target
     Target {
         x,
         y,
-        given: VSet { bits: 0 },
+        given: VSet::EMPTY,
     }
 }
 
@@ -41,7 +40,7 @@ fn push_free(out: &mut Vec<u8>, names: &Names, free: VSet) -> Result<(), AllocEr
     requires { Within (length names.now) (has free.bits) }
     ensures { OnOk result (out.new.items ≡ out.old.items ++ free_line names.now free.bits) }
 {
-    if is_empty(free) {
+    if free.is_empty() {
         return Ok(());
     }
     out.extend_from_slice(b"free ")?;
@@ -55,8 +54,8 @@ fn free_beside(alloc: Global, f: &Formula, target: &Target) -> Result<VSet, Allo
     ensures { IfOk result (λ s. s.bits ≡ free_beside (target_view target.now) (formula_view f.now)) }
 {
     let all = free(alloc, f)?;
-    let outside = minus(all, join(target.x, target.y));
-    Ok(minus(outside, target.given))
+    let outside = all.difference(target.x.union(target.y));
+    Ok(outside.difference(target.given))
 }
 
 /// A target's formula in a notation, and the line of the variables that are free outside its sets, which is plain in both.

@@ -5,3 +5,4 @@ mod Measuring
 pub mod Outcomes
 mod OneList
 pub mod Exclusive
+pub mod Lawful

@@ -5,3 +5,4 @@ pub mod Answers
 pub mod Firsts
 pub mod Printing
 pub mod Requests
+pub mod Command

@@ -4,14 +4,13 @@ ghost use Rattle.implications_command.specs.Used.{used_for, used_in};
 
 use implications::Implication;
 use mixed_graph::VSet;
-use prob_expr::masks::{join, one};
 
 /// The vertices of a pair, and those that are given.
 fn used_for(i: &Implication) -> VSet
     requires { IsNamed 64 i.now }
     ensures { result.bits ≡ used_for i.now }
 {
-    join(one(i.a), join(one(i.b), i.given))
+    VSet::one(i.a).union(VSet::one(i.b).union(i.given))
 }
 
 /// Those of all pairs.
@@ -19,9 +18,9 @@ pub fn used_in(list: &[Implication]) -> VSet
     requires { All (IsNamed 64) list.now }
     ensures { result.bits ≡ used_in list.now }
 {
-    let mut all = VSet { bits: 0 };
+    let mut all = VSet::EMPTY;
     for i in list {
-        all = join(all, used_for(i));
+        all = all.union(used_for(i));
     }
     all
 }

@@ -169,3 +169,10 @@ number_room a n m p q u lp lq lu few =
       times = omega (arith, less, few);
       number = omega (arith, less, few);
     }
+
+-- the number of given cells is at most that of all cells
+pub count_few : (a b n : ℕ) → 0 < a → 0 < b → a * b * n ≤ 1048576 → n ≤ 1048576
+count_few a b n p q few =
+    let one : 1 * 1 ≤ a * b = mul-le 1 1 a b (omega arith) (omega arith) in
+    let le : 1 * n ≤ a * b * n = mul-le 1 n (a * b) n (omega (arith, one)) (omega arith) in
+    omega (arith, le, few)

@@ -21,7 +21,7 @@ part-most (suc n) k f le = elim (cases_eq k (suc n)) [
   | inr ne ↦ (let ih = part-most n k f (omega (arith, ne)) in omega (arith, ih))
 ]
 
-sum-most : (n : ℕ) (f g : ℕ → ℕ) → ((k : ℕ) → k < n → f k ≤ g k) → sum_below n f ≤ sum_below n g
+pub sum-most : (n : ℕ) (f g : ℕ → ℕ) → ((k : ℕ) → k < n → f k ≤ g k) → sum_below n f ≤ sum_below n g
 sum-most zero f g h = omega arith
 sum-most (suc n) f g h = let a = sum-most n f g (λ k lt. h k (omega arith)) in let b = h n (omega arith) in omega (arith, a, b)
 

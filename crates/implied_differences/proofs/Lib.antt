@@ -3,7 +3,10 @@ pub mod AllSums
 pub mod Bases
 pub mod BlockSums
 pub mod Ending
+pub mod Pairs
 pub mod Parts
+pub mod Passing
+pub mod Quarters
 pub mod Spots
 pub mod UsedVertices
 pub mod Vanishing

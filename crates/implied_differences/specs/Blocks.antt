@@ -8,6 +8,7 @@ use Rattle.implications.specs.declared.pairs.Implication.{Implication}
 use Rattle.implied_differences.specs.Differences.{whole_of}
 use Rattle.implied_differences.specs.declared.candidates.Candidate.{Candidate}
 use Rattle.implied_differences.specs.declared.layout.Layout.{Layout}
+use Rattle.implied_differences.specs.Candidates.{IsOutOfReach}
 use Rattle.implied_differences.specs.Layouts.{IsStepped, base_of, gap_of}
 
 -- the sum of so many cells, one each `step` places
@@ -36,6 +37,12 @@ pub record IsBlock (cells : List ℕ) (l : Layout) (begin : ℕ) : Type 0 where
   pub inside : (x y : ℕ) → x < l.firsts → y < l.seconds → begin + x * l.first_step + y * l.second_step < length cells
   pub few : block_at cells l begin ≤ 10 ^ 15
 
+-- a block begins at each of so many places, and there is one
+pub record AreBegins (cells : List ℕ) (l : Layout) (begins : List ℕ) (width : ℕ) : Type 0 where
+  pub some : 0 < width
+  pub long : width ≤ length begins
+  pub each : (j : ℕ) → j < width → IsBlock cells l (slice_index begins j)
+
 -- N(b,W) for each level of b
 pub record AreColumns (cells : List ℕ) (l : Layout) (begin : ℕ) (columns : List ℕ) : Type 0 where
   pub long : length columns ≡ l.seconds
@@ -49,18 +56,27 @@ pub record AreBlocks (cells : List ℕ) (l : Layout) : Type 0 where
   pub small : (w : ℕ) → w < l.count → base_of l w ≤ 2 ^ 20
   pub each : (w : ℕ) → w < l.count → IsBlock cells l (base_of l w)
 
--- the two products at a cell, and its number in order
+-- N(a,b,W) N(W) at a cell
 abbrev pub left_at : List ℕ → Layout → ℕ → ℕ → ℕ → ℕ
 left_at cells l w x y = value_at cells l (base_of l w) x y * block_at cells l (base_of l w)
 
+-- N(a,W) N(b,W) there
 abbrev pub right_at : List ℕ → Layout → ℕ → ℕ → ℕ → ℕ
 right_at cells l w x y = row_at cells l (base_of l w) x * column_at cells l (base_of l w) y
 
+-- how far the two products are apart
 abbrev pub gap_at : List ℕ → Layout → ℕ → ℕ → ℕ → ℕ
 gap_at cells l w x y = abs_diff (left_at cells l w x y) (right_at cells l w x y)
 
+-- the number of a cell in order: its levels of a, of b and the number of the given vertices' cell as digits
 abbrev pub number_at : Layout → ℕ → ℕ → ℕ → ℕ
 number_at l w x y = (x * l.seconds + y) * l.count + w
+
+-- no cell at these levels is ahead, of so many blocks from number w on
+pub record IsPassedAt (cells : List ℕ) (l : Layout) (begins : List ℕ) (width w x y : ℕ) (c : Candidate) : Type 0 where
+  pub each : (j : ℕ) → j < width → IsOutOfReach c
+      (abs_diff (value_at cells l (slice_index begins j) x y * block_at cells l (slice_index begins j)) (row_at cells l (slice_index begins j) x * column_at cells l (slice_index begins j) y))
+      (number_at l (w + j) x y)
 
 -- the cell (u, p, q) is one, and comes before (w, x, y)
 pub record IsSeen (l : Layout) (w x y u p q : ℕ) : Type 0 where

@@ -48,5 +48,6 @@ pub record IsBaseWith (l : Layout) (b : Block) (p : ℕ) : Type 0 where
   pub between : b.between < l.between
   pub behind : b.behind < l.second_step
 
+-- the block is that of its number
 abbrev pub IsBase : Layout → Block → Type 0
 IsBase l b = (p : ℕ) × IsBaseWith l b p

@@ -1,10 +1,9 @@
-ghost use Rattle.std.specs.Prelude.{ℕ, ◌≡◌, ◌<◌, ◌≤◌, ◌+◌, ◌*◌, ◌^◌, IfOk, length, slice_index};
+ghost use Rattle.std.specs.Prelude.{ℕ, ◌≡◌, ◌<◌, ◌≤◌, ◌+◌, ◌*◌, ◌^◌, length, slice_index};
 ghost use Rattle.implied_differences.specs.Layouts.{base_of};
-ghost use Rattle.implied_differences.specs.Blocks.{strided, IsBlock, AreColumns, block_at, IsBest, AreBlocks};
+ghost use Rattle.implied_differences.specs.Blocks.{strided, IsBlock, AreColumns, block_at, IsBest};
 
 use crate::candidates::Candidate;
 use crate::layout::{Block, Layout};
-use std::alloc::{AllocError, Global};
 
 /// The sum of so many cells, one each `step` places.
 fn strided_sum(cells: &[u64], begin: usize, step: usize, count: usize) -> u64
@@ -77,7 +76,7 @@ fn best_in_row(
 }
 
 /// The best of what came before and of the cells of a block.
-fn best_in_block(
+pub fn best_in_block(
     cells: &[u64],
     l: &Layout,
     block: &Block,
@@ -99,19 +98,4 @@ fn best_in_block(
         best = best_in_row(cells, l, block, x, columns, given, best);
     }
     best
-}
-
-/// The best of all cells.
-pub fn best_in_blocks(alloc: Global, cells: &[u64], l: &Layout) -> Result<Candidate, AllocError>
-    requires { AreBlocks cells.now l.now }
-    ensures { IfOk result (λ best. IsBest cells.now l.now l.now.count 0 0 best) }
-{
-    let mut columns = vec![in alloc; 0; l.seconds]?;
-    let mut best = Candidate::none();
-    let mut block = Block::first();
-    'each: while block.number < l.count {
-        best = best_in_block(cells, l, &block, columns.as_mut_slice(), best);
-        block = block.next(l);
-    }
-    Ok(best)
 }

@@ -1,7 +1,7 @@
-ghost use Rattle.std.specs.Prelude.{◌≡◌, ◌≤◌, ◌*◌, ◌^◌};
+ghost use Rattle.std.specs.Prelude.{ℕ, ◌≡◌, ◌<◌, ◌≤◌, ◌*◌, ◌/◌, ◌^◌};
 ghost use Rattle.std.specs.Bool.{OnTrue, OnFalse};
 ghost use Rattle.std.specs.Int.{abs_diff};
-ghost use Rattle.implied_differences.specs.Candidates.{IsAhead, IsNotAhead};
+ghost use Rattle.implied_differences.specs.Candidates.{IsAhead, IsNotAhead, IsOutOfReach};
 
 /// Two products and how far they are apart, with the number of their cell in order.
 #[derive(Clone, Copy)]
@@ -71,5 +71,31 @@ impl Candidate {
             return false;
         }
         self.number < other.number
+    }
+    /// Whether a cell with at least this number may be ahead, where N(W) is at most `most`. Its products are no further
+    /// apart than a quarter of the square of N(W).
+    pub fn may_be_passed(&self, most: u64, number: usize) -> bool
+        requires { most ≤ 10 ^ 15 }
+        ensures no { OnFalse result (IsOutOfReach self.now (most * most / 4) number) }
+    {
+        let furthest = product(most, most) / 4;
+        if number < self.number {
+            return furthest >= self.distance;
+        }
+        furthest > self.distance
+    }
+    /// What the distance of a cell with at least this number has to reach for the cell to be ahead, or the greatest `u64`.
+    pub fn limit(&self, number: usize) -> u64
+        ensures { (furthest : ℕ) → furthest < result → IsOutOfReach self.now furthest number }
+    {
+        let limit = if number < self.number {
+            self.distance
+        } else {
+            self.distance.saturating_add(1)
+        };
+        if limit > u64::MAX as u128 {
+            return u64::MAX;
+        }
+        limit as u64
     }
 }

@@ -4,11 +4,11 @@ ghost use Rattle.implied_differences.specs.Laws.{IsZeroWhereMatched};
 ghost use Rattle.implied_differences.specs.Layouts.{IsLayoutOf};
 ghost use Rattle.implied_differences.specs.Blocks.{IsBestOf};
 
-use crate::blocks::best_in_blocks;
 use crate::candidates::Candidate;
 use crate::cells::cell_at;
 use crate::layout::{Layout, layout_of};
 use crate::sets::vertices_of;
+use crate::strips::best_in_strips;
 use count_table::Counts;
 use implications::Implication;
 use std::alloc::{AllocError, Global};
@@ -45,18 +45,18 @@ fn best_of(alloc: Global, c: &Counts, i: &Implication, l: &Layout) -> Result<Can
     let used = c.used();
     let whole = vertices_of(i);
     if used.difference(whole).is_empty() {
-        return best_in_blocks(alloc, c.cells(), l);
+        return best_in_strips(alloc, c.cells(), l);
     }
     let sums = SumTable::make(alloc, c, whole)?;
-    best_in_blocks(alloc, sums.sums(), l)
+    best_in_strips(alloc, sums.sums(), l)
 }
 
 /// The difference with the greatest absolute value, and its cell: of several the first, where the level of a is the
 /// slowest, then that of b, then those of the given vertices in index order.
 ///
-/// The levels are those of the table. The sums are walked once, a block of them for each cell of the given vertices, and
-/// each marginal is summed once. Where a model fits a graph with this implication and matches the counts, positive or not,
-/// the difference is 0.
+/// The levels are those of the table. The sums are walked in blocks, one for each cell of the given vertices; cell by cell
+/// only where a look at 64 blocks together leaves it open that one of their cells is further from 0 than those before.
+/// Where a model fits a graph with this implication and matches the counts, positive or not, the difference is 0.
 pub fn largest_difference(
     alloc: Global,
     c: &Counts,

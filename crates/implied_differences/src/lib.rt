@@ -8,8 +8,10 @@ mod candidates;
 mod cells;
 mod largest;
 mod layout;
+mod reaching;
 mod readable;
 mod sets;
+mod strips;
 mod theory;
 
 pub use largest::{Difference, largest_difference};

@@ -7,7 +7,7 @@ use Rattle.replies.specs.Outcomes.{IsAnswered}
 use Rattle.causal_cli.specs.Commands.{Request, Asks}
 use Rattle.causal_cli.specs.Answers.{WordsAnswer, Defined, IsLeftOf}
 use Rattle.causal_cli.specs.declared.answer.SecondInput.{SecondInput}
-use Rattle.causal_cli.proofs.Answered.{words_answered, defined_answered, gives_answered, named, continues, defined_with}
+use Rattle.causal_cli.proofs.Answered.{words_answered, defined_answered, named, continues, defined_with, answered_with}
 use Rattle.kept_call.specs.Replies.{Question, Answers, by_words, by_diagram, by_both, Replies, RepliesWith, Proceeds, replied, lacked, no_memory}
 
 settled : (q : Question) (o : Outcome) (text : List ℕ) → IsAnswered o → Answers q o text → Replies q o text
@@ -31,7 +31,7 @@ replied_diagram q w reply asks a =
 
 pub proceeded : (q : Question) (w : Request) (p : SecondInput) (reply : Reply) → Asks q.words w → IsLeftOf w q.diagram p → Proceeds p q.bytes q.inputs reply → RepliesWith q reply
 proceeded q w p reply asks left (replied other held gives) =
-    settled q reply.outcome reply.text.items (gives_answered p other reply gives)
+    settled q reply.outcome reply.text.items (answered_with w q.diagram p left other reply.outcome reply.text.items gives)
     (by_both (record { request = w; asks = asks; second = _; names_second = named w q.diagram p left; other = other; holds_second = held; defined = defined_with w q.diagram p other reply left gives }))
 proceeded q w p reply asks left (lacked read none) =
     subst (λ o. Replies q o reply.text.items) (sym read)

@@ -2,8 +2,7 @@ use crate::formulas::{formula, is_formula, shown};
 use case_rows::{Path, graph, names, set};
 use do_derivation::{CheckFault, Derivation, Step, StepFault, StepPlace, apply, check, check_with};
 use mixed_graph::{Graph, Names, VSet};
-use prob_expr::masks::{are_term_sets, is_empty};
-use prob_expr::{Expr, Formula, Target};
+use prob_expr::{Expr, Formula, Target, are_term_sets};
 use serde_json::Value;
 use std::alloc::Global;
 use step_json::read_step;
@@ -42,13 +41,13 @@ fn checked(
     main: Step,
 ) -> Option<Result<(), CheckFault>> {
     let given = VSet::empty();
-    if !are_term_sets(graph.n, y, x, given) || is_empty(y) {
+    if !are_term_sets(graph.n, y, x, given) || y.is_empty() {
         return None;
     }
     let target = Target { x, y, given };
     let lemmas = Vec::new(alloc);
     let d = Derivation { lemmas, main };
-    if is_empty(allowed) {
+    if allowed.is_empty() {
         return Some(check(alloc, graph, &target, f, &d));
     }
     Some(check_with(alloc, graph, &target, &[allowed], f, &d))

@@ -6,8 +6,7 @@ use district_factors::{Factor, FactorFault, factor};
 use districts::district_of;
 use do_derivation::{Lemma, Step, apply};
 use mixed_graph::{Graph, Names, VSet};
-use prob_expr::masks::{all, are_term_sets, is_empty, minus};
-use prob_expr::{Expr, Formula, is_same};
+use prob_expr::{Expr, Formula, are_term_sets, is_same};
 use serde_json::Value;
 use std::alloc::Global;
 
@@ -20,9 +19,9 @@ fn derives(
     step: &Step,
     end: &Expr,
 ) -> bool {
-    let doing = minus(all(graph.n), of);
+    let doing = VSet::below(graph.n).difference(of);
     let given = VSet::empty();
-    if !are_term_sets(graph.n, of, doing, given) || is_empty(of) {
+    if !are_term_sets(graph.n, of, doing, given) || of.is_empty() {
         return false;
     }
     match apply(alloc, graph, lemmas, step, Expr::Prob { of, doing, given }) {

@@ -14,7 +14,6 @@ mod copying;
 mod expr;
 pub mod folding;
 mod freeing;
-pub mod masks;
 mod theory;
 mod visiting;
 

@@ -3,3 +3,4 @@ pub mod Outcomes
 pub mod OneGraph
 pub mod OneTarget
 pub mod OneOutcome
+pub mod Commands

@@ -2,3 +2,4 @@ pub mod Observed
 pub mod Outcomes
 pub mod OneOutcome
 pub mod Lines
+pub mod Command

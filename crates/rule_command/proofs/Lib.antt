@@ -2,3 +2,4 @@ mod Sets
 mod Equations
 pub mod Outcomes
 pub mod Exclusive
+pub mod Lawful

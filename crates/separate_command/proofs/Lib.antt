@@ -1,3 +1,4 @@
 mod Sets
 pub mod Outcomes
 pub mod Exclusive
+pub mod Lawful

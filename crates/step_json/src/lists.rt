@@ -30,21 +30,16 @@ fn with_member(barred: VSet, set: VSet, v: u8) -> Result<VSet, ValueFault>
     requires { v < 64 }
     ensures { Gives (λ s. s.bits) result (with_member barred.bits set.bits v) }
 {
-    let taken = VSet {
-        bits: barred.bits | set.bits,
-    };
-    if taken.has(v) {
+    if barred.union(set).has(v) {
         return Err(ValueFault::Form);
     }
-    Ok(VSet {
-        bits: set.bits | 1 << v,
-    })
+    Ok(set.union(VSet::one(v)))
 }
 
 fn more_of_set(alloc: Global, names: &Names, barred: VSet, ds: &[Value]) -> Result<VSet, ValueFault>
     ensures { Gives (λ s. s.bits) result (more_of_set names.now barred.bits 0 0 (items_view ds.now)) }
 {
-    let mut set = VSet { bits: 0 };
+    let mut set = VSet::EMPTY;
     for (count, d) in ds.iter().enumerate() {
         if count >= 64 {
             return Err(ValueFault::Form);

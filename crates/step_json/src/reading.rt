@@ -53,7 +53,7 @@ fn with_set(alloc: Global, names: &Names, rule: SetRule, ds: &[Value]) -> Result
     let [d, ds @ ..] = ds else {
         return Err(ValueFault::Form);
     };
-    let set = read_set(alloc, names, VSet { bits: 0 }, d)?;
+    let set = read_set(alloc, names, VSet::EMPTY, d)?;
     if !is_end(ds) {
         return Err(ValueFault::Form);
     }

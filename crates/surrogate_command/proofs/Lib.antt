@@ -7,3 +7,4 @@ pub mod Answering
 pub mod Outcomes
 pub mod Exclusive
 pub mod OneWord
+pub mod Lawful

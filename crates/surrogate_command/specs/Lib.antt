@@ -6,3 +6,4 @@ pub mod Sets
 pub mod Asked
 pub mod Lines
 pub mod Answers
+pub mod Command

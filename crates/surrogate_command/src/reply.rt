@@ -9,9 +9,11 @@ ghost use Rattle.id_recursion.specs.Answers.{effect_on};
 ghost use Rattle.word_lists.specs.Views.{names_in};
 ghost use Rattle.surrogate_command.specs.Answers.{SurrogateAnswer, SetsAnswer};
 ghost use Rattle.surrogate_command.specs.Experiments.{AreFilled};
+ghost use Rattle.surrogate_command.specs.Requests.{request_of};
 ghost use Rattle.surrogate_command.specs.Views.{lists_in};
 
 use crate::effect::{Asked, asked_effect};
+use crate::request::Request;
 use crate::sets::SurrogateSets;
 use crate::texts::stop_answer;
 use dag_reader::ReadGraph;
@@ -28,6 +30,17 @@ use surrogates::{Surrogate, identify_with};
 ///
 /// A list that is missing is that of the exposures or of the outcomes. The only error is want of memory.
 pub fn surrogate_reply(
+    alloc: Global,
+    graph: &ReadGraph,
+    request: Request<'_>,
+) -> Result<Reply, AllocError>
+    ensures { IfOk result (λ r. SurrogateAnswer graph.now (request_of request.entry).x (request_of request.entry).y (request_of request.entry).experiments r.outcome r.text.items) }
+{
+    reply_for(alloc, graph, request.x, request.y, request.experiments)
+}
+
+/// The answer for lists and experiments.
+fn reply_for(
     alloc: Global,
     graph: &ReadGraph,
     x: Option<Vec<Vec<u8>>>,
@@ -81,6 +94,6 @@ fn effect_of(sets: &SurrogateSets) -> Target
     Target {
         x: sets.x,
         y: sets.y,
-        given: VSet { bits: 0 },
+        given: VSet::EMPTY,
     }
 }

@@ -31,12 +31,14 @@ pub struct Request<'a> {
 }
 
 impl<'a> Request<'a> {
-    ghost use Rattle.surrogate_command.specs.Requests.{Request as Asked, surrogate_row, request_of, IsRequest};
+    ghost use Rattle.replies.specs.Command.{AsksNothing};
+    ghost use Rattle.surrogate_command.specs.Command.{surrogate_command};
+    ghost use Rattle.surrogate_command.specs.Requests.{surrogate_row, request_of, IsRequest};
 
     /// What the words ask for, exactly where their values are what they have to be.
     pub fn read(alloc: Global, values: &Values<'a>) -> Result<Self, RequestFault>
         ensures ok { (uses : List Use) → HoldsCall surrogate_row uses values.now → IfOk result (λ r. IsRequest uses (request_of r)) }
-        ensures none { (uses : List Use) → HoldsCall surrogate_row uses values.now → IsErrOf result RequestFault.NotUnderstood → (r : Asked) → IsRequest uses r → ⊥ }
+        ensures none { (uses : List Use) → HoldsCall surrogate_row uses values.now → IsErrOf result RequestFault.NotUnderstood → AsksNothing surrogate_command uses }
     {
         let file = match needed_word(values, "file") {
             Ok(file) => file,

@@ -22,7 +22,7 @@ fn unfound(alloc: Global, names: &Names, x: VSet, y: VSet) -> Result<Vec<u8>, Al
     let target = Target {
         x,
         y,
-        given: VSet { bits: 0 },
+        given: VSet::EMPTY,
     };
     let mut text = target_text(alloc, &target, names)?;
     text.extend_from_slice(b" has no formula found from these experiments\n")?;

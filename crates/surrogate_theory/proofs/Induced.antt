@@ -6,11 +6,11 @@ use Rattle.do_derivation.specs.Plans.{PlainLemma, Plans}
 use Rattle.identification.proofs.Bools.{and_l, and_r, both_true, or_r, or_e}
 use Rattle.identification.proofs.Sets.{one-self, one-is}
 use Rattle.identification.specs.Derivations.{AreBodySteps, AreFactorSteps, ArePlaceLists, Lists}
-use Rattle.identification.specs.Procedure.{common, AreAncestorsIn, AreFactors, IsBody, IsFactor, IsParent, IsPillow, IsStopped, Source}
+use Rattle.identification.specs.Procedure.{AreAncestorsIn, AreFactors, IsBody, IsFactor, IsParent, IsPillow, IsStopped, Source}
 use Rattle.mixed_graph.proofs.Masks.{has-and, has-or}
 use Rattle.mixed_graph.specs.Bits.{has}
 use Rattle.mixed_graph.specs.Graphs.{IsAncestor, IsDirectedPath, IsMixedGraph, MixedGraph, induced}
-use Rattle.mixed_graph.specs.Masks.{join, one}
+use Rattle.mixed_graph.specs.Masks.{join, one, common}
 use Rattle.prob_expr.specs.Tree.{Tree, Trees}
 
 module _ (g : MixedGraph) (room : ℕ) where

@@ -17,7 +17,6 @@ use crate::gathering::factors_with;
 use districts::districts;
 use id_recursion::{Stop, ancestors_outside, assembled, hedge_of, observed, order_of};
 use mixed_graph::{Graph, VSet};
-use prob_expr::masks::{is_below, is_empty};
 use std::alloc::{AllocError, Global};
 
 /// Whether there are at most eight experiments, each on some vertices of the graph.
@@ -36,10 +35,10 @@ fn are_sets(n: u32, sets: &[VSet]) -> bool
     ensures { result ≡ are_sets n (masks_of sets.now) }
 {
     for set in sets {
-        if !is_below(n, *set) {
+        if !set.is_below(n) {
             return false;
         }
-        if is_empty(*set) {
+        if set.is_empty() {
             return false;
         }
     }
@@ -61,7 +60,7 @@ fn answer(
     ensures { IfOk result (IsAnswerWith (graph_of g.now) (masks_of experiments.now) x.bits y.bits) }
 {
     let order = order_of(g);
-    if is_empty(x) {
+    if x.is_empty() {
         let (formula, derivation) = observed(alloc, y);
         return Ok(Surrogate::Formula(formula, derivation));
     }

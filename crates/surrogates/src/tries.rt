@@ -13,7 +13,6 @@ ghost use Rattle.surrogates.specs.Tries.{IsTried, IsTryFault, IsAttempt, IsAttem
 use district_factors::{Factor, FactorFault, factor_under};
 use id_recursion::order_of;
 use mixed_graph::{Graph, VSet};
-use prob_expr::masks::{all, is_apart, minus};
 use std::alloc::{AllocError, Global};
 
 /// The factor of c, read from the distribution under an intervention on z, in the graph without z.
@@ -32,7 +31,7 @@ fn factor_without(
     ensures tried { IfOk result (IsTried (graph_of g.now) z.bits c.bits first) }
     ensures fault { IfErr result (IsTryFault (graph_of g.now) z.bits c.bits) }
 {
-    let rest = g.induced(minus(all(g.n), z));
+    let rest = g.induced(VSet::below(g.n).difference(z));
     let order = order_of(&rest);
     factor_under(alloc, &rest, &order, z, c, first)
 }
@@ -61,7 +60,7 @@ fn attempt(
     requires room { first + 64 < 2 ^ 32 }
     ensures { IfOk result (IsAttempt (graph_of g.now) z.bits c.bits first) }
 {
-    if !is_apart(z, c) {
+    if !z.is_apart(c) {
         return Ok(None);
     }
     match factor_without(alloc, g, z, c, first) {
@@ -165,7 +164,7 @@ pub fn first_factor(
     ensures tried { IfOk result (IsFirstTried (graph_of g.now) (masks_of experiments.now) c.bits first) }
     ensures fault { IfErr result (IsBlockedFactor (graph_of g.now) (masks_of experiments.now) c.bits) }
 {
-    match factor_without(alloc, g, VSet { bits: 0 }, c, first) {
+    match factor_without(alloc, g, VSet::EMPTY, c, first) {
         Ok(factor) => Ok(factor),
         Err(fault) => after_fault(alloc, g, experiments, c, first, fault),
     }

@@ -4,3 +4,4 @@ mod Surveying
 mod Tallying
 pub mod Outcomes
 pub mod Exclusive
+pub mod Lawful

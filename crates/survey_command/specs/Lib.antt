@@ -1,3 +1,4 @@
 pub mod Answers
 pub mod Tallies
 pub mod Requests
+pub mod Command

@@ -23,12 +23,14 @@ pub struct Request {
 }
 
 impl Request {
-    ghost use Rattle.survey_command.specs.Requests.{Request as Asked, survey_row, request_of, IsRequest};
+    ghost use Rattle.replies.specs.Command.{AsksNothing};
+    ghost use Rattle.survey_command.specs.Command.{survey_command};
+    ghost use Rattle.survey_command.specs.Requests.{survey_row, request_of, IsRequest};
 
     /// What the words ask for, exactly where their values are what they have to be.
     pub fn read(values: &Values<'_>) -> Result<Self, RequestFault>
         ensures ok { (uses : List Use) → HoldsCall survey_row uses values.now → IfOk result (λ r. IsRequest uses (request_of r)) }
-        ensures none { (uses : List Use) → HoldsCall survey_row uses values.now → IsErrOf result RequestFault.NotUnderstood → (r : Asked) → IsRequest uses r → ⊥ }
+        ensures none { (uses : List Use) → HoldsCall survey_row uses values.now → IsErrOf result RequestFault.NotUnderstood → AsksNothing survey_command uses }
     {
         let seed = match number_word(values, "number", 0, u64::MAX) {
             Ok(seed) => seed,

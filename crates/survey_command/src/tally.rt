@@ -3,8 +3,7 @@ ghost use Rattle.mixed_graph.specs.Shown.{graph_of};
 ghost use Rattle.survey_command.specs.Tallies.{IsAnswerFor};
 
 use id_recursion::{Answer, identify};
-use mixed_graph::Graph;
-use prob_expr::masks::one;
+use mixed_graph::{Graph, VSet};
 use std::alloc::{AllocError, Global};
 
 /// How many effects have a formula, and how many have a hedge.
@@ -96,8 +95,8 @@ fn is_hedged(alloc: Global, g: &Graph, a: u8, b: u8) -> Result<bool, AllocError>
     requires differ { a ≢ b }
     ensures { IfOk result (IsAnswerFor (graph_of g.now) a b) }
 {
-    let x = one(a);
-    let y = one(b);
+    let x = VSet::one(a);
+    let y = VSet::one(b);
     let answer = identify(alloc, g, x, y)?;
     match answer {
         Answer::Formula(_, _) => Ok(false),

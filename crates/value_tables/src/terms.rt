@@ -2,7 +2,6 @@ ghost use Rattle.std.specs.Prelude.{◌≡◌, ◌≤◌};
 ghost use Rattle.sum_tables.specs.Sums.{cells_in};
 
 use mixed_graph::VSet;
-use prob_expr::masks::join;
 use prob_expr::{Expr, Formula};
 use std::alloc::{AllocError, Global};
 use sum_tables::SumTables;
@@ -20,7 +19,7 @@ pub(crate) fn add_terms(
     ensures most { cells_in sums.old ≤ most → cells_in sums.new ≤ most }
 {
     match e {
-        Expr::Prob { of, given, .. } => add_both(sums, alloc, join(*of, *given), *given, most),
+        Expr::Prob { of, given, .. } => add_both(sums, alloc, of.union(*given), *given, most),
         Expr::Sum { body, .. } => add_terms(sums, alloc, body, most),
         Expr::Product(factors) => add_factors(sums, alloc, factors, most),
         Expr::Quotient { top, bottom } => {

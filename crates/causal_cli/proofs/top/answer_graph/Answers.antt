@@ -1,6 +1,6 @@
 use Rattle.std.proofs.Common.{Err, ap}
 use Rattle.causal_cli.specs.Commands.{on_graph}
-use Rattle.causal_cli.proofs.Answered.{accepted}
+use Rattle.causal_cli.proofs.Answered.{accepted, answered_with}
 use Rattle.causal_cli.proofs.Deliveries.{failed_file, replied_file, proceeded, replied_too_long, not_true}
 use Rattle.causal_cli.proofs.ReadCounts.{file_read, both_read}
 use Rattle.causal_cli.proofs.top.answer_graph.Goals as goal
@@ -61,3 +61,8 @@ pub proceed-requires-clause-accepted : goal.proceed-requires-clause-accepted
 proceed-requires-clause-accepted g c =
     let gives = rw (c.deref.ensures.value, c.in-Ok-Continues.field-0-is) at c.in-Ok-Continues.ensures in
     accepted (on_graph c.args.request) c.in-Ok.bytes.items c.in-Ok-Continues.input gives
+
+pub proceed-requires-clause-answered : goal.proceed-requires-clause-answered
+proceed-requires-clause-answered g c =
+    let gives = rw (c.deref.ensures.value, c.in-Ok-Continues.field-0-is) at c.in-Ok-Continues.ensures in
+    answered_with (on_graph c.args.request) c.in-Ok.bytes.items c.in-Ok-Continues.input gives

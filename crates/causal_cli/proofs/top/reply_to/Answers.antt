@@ -1,6 +1,7 @@
 use Rattle.std.proofs.Common.{refl, ap, Err}
 use Rattle.word_forms.specs.Views.{texts_of}
 use Rattle.survey_command.specs.Requests.{request_of}
+use Rattle.causal_cli.specs.Commands.{of}
 use Rattle.causal_cli.specs.declared.commands.Command.TheVariants.{Survey}
 use Rattle.causal_cli.proofs.Deliveries.{replied_words, not_understood}
 use Rattle.causal_cli.proofs.ReadCounts.{nothing_read}
@@ -19,7 +20,7 @@ returns-in-Ok-OnGraph-clause-reads g c =
 pub returns-in-Ok-clause-replies : goal.returns-in-Ok-clause-replies
 returns-in-Ok-clause-replies g c = λ out.
     let asks = rw c.in-Ok-Survey.field-0-is at c.in-Ok-Survey.ensures.asks in
-    replied_words _ (Survey, request_of c.in-Ok-Survey.request) c.in-Ok.reply asks c.in-Ok.ensures
+    replied_words _ (of Survey (request_of c.in-Ok-Survey.request)) c.in-Ok.reply asks c.in-Ok.ensures
 
 pub returns-in-Ok-clause-reads : goal.returns-in-Ok-clause-reads
 returns-in-Ok-clause-reads g c = λ out. nothing_read _ _ refl refl

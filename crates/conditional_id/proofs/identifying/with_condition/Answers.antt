@@ -11,32 +11,32 @@ use Rattle.conditional_theory.proofs.Turning.{targeted}
 use Rattle.conditional_theory.specs.Conditionals.{IsConditionalTarget}
 use Rattle.conditional_id.proofs.Found.{exact_for, given_formula, joint_sets, some_positive}
 use Rattle.conditional_id.proofs.identifying.with_condition.Goals as goal
-use Rattle.conditional_id.proofs.identifying.with_condition.Goals.{After-join-joint}
+use Rattle.conditional_id.proofs.identifying.with_condition.Goals.{After-union-joint}
 
 -- the joint effect's sets
-sets : (c : After-join-joint) → IsConditionalTarget (graph_of c.args.g.now) (targeted c.in_ok-turned.turned.doing.bits c.join-joint.result.bits 0)
+sets : (c : After-union-joint) → IsConditionalTarget (graph_of c.args.g.now) (targeted c.in_ok-turned.turned.doing.bits c.union-joint.result.bits 0)
 sets c = joint_sets (graph_of c.args.g.now) c.args.t.x.bits c.args.t.y.bits c.args.t.given.bits c.requires.sets
-    (some_member c.args.t.y.bits (λ z. absurd (let p = c.requires.some in omega (arith, p, z))) (omega arith)) c.in_ok-turned.turned c.in_ok-turned.ensures c.join-joint.result.bits c.join-joint.ensures
+    (some_member c.args.t.y.bits (λ z. absurd (let p = c.requires.some in omega (arith, p, z))) (omega arith)) c.in_ok-turned.turned c.in_ok-turned.ensures c.union-joint.result.bits c.union-joint.ensures.mask
 
 pub identify-requires-clause-x_within : goal.identify-requires-clause-x_within
-identify-requires-clause-x_within c = (sets (goal.at.identify-requires-clause-x_within c).After-join-joint).sets.x_within
+identify-requires-clause-x_within c = (sets (goal.at.identify-requires-clause-x_within c).After-union-joint).sets.x_within
 
 pub identify-requires-clause-y_within : goal.identify-requires-clause-y_within
-identify-requires-clause-y_within c = (sets (goal.at.identify-requires-clause-y_within c).After-join-joint).sets.y_within
+identify-requires-clause-y_within c = (sets (goal.at.identify-requires-clause-y_within c).After-union-joint).sets.y_within
 
 pub identify-requires-clause-apart : goal.identify-requires-clause-apart
-identify-requires-clause-apart c = (sets (goal.at.identify-requires-clause-apart c).After-join-joint).sets.x_y
+identify-requires-clause-apart c = (sets (goal.at.identify-requires-clause-apart c).After-union-joint).sets.x_y
 
 pub identify-requires-clause-some : goal.identify-requires-clause-some
-identify-requires-clause-some c = some_positive (graph_of c.args.g.now) (targeted c.in_ok-turned.turned.doing.bits c.join-joint.result.bits 0) (sets (goal.at.identify-requires-clause-some c).After-join-joint)
+identify-requires-clause-some c = some_positive (graph_of c.args.g.now) (targeted c.in_ok-turned.turned.doing.bits c.union-joint.result.bits 0) (sets (goal.at.identify-requires-clause-some c).After-union-joint)
 
 pub returns-in_ok-formula-in-Formula-clause-answer : goal.returns-in_ok-formula-in-Formula-clause-answer
 returns-in_ok-formula-in-Formula-clause-answer c =
     let g = graph_of c.args.g.now in
     let r = c.in_ok-turned.turned in
     let m = c.in_ok-turned.ensures in
-    let w = c.join-joint.result.bits in
-    given_formula g (target_view c.args.t) c.requires.given c.requires.doing r.doing.bits r.left.bits m.moved m.turned w c.join-joint.ensures (formula_view c.in-Formula.undivided) (derivation_view c.in-Formula.derivation)
+    let w = c.union-joint.result.bits in
+    given_formula g (target_view c.args.t) c.requires.given c.requires.doing r.doing.bits r.left.bits m.moved m.turned w c.union-joint.ensures.mask (formula_view c.in-Formula.undivided) (derivation_view c.in-Formula.derivation)
     (subst (λ a. IfFormula a (IsDerived g r.doing.bits w)) c.in-Formula.is c.in_ok-undivided.ensures.derived) (subst (λ a. IfFormula a (λ f d. length f.defs ≤ 4096)) c.in-Formula.is c.in_ok-undivided.ensures.few)
     _ _ c.in_ok-formula-in-Formula.ensures.formula (c.in_ok-formula-in-Formula.ensures.derivation m.moved m.steps)
 
@@ -45,8 +45,8 @@ returns-in_ok-formula-in-Formula-clause-exact c =
     let g = graph_of c.args.g.now in
     let r = c.in_ok-turned.turned in
     let m = c.in_ok-turned.ensures in
-    let w = c.join-joint.result.bits in
-    exact_for g (target_view c.args.t) r.doing.bits r.left.bits m.moved (inr (c.requires.doing, m.turned)) w c.join-joint.ensures false
+    let w = c.union-joint.result.bits in
+    exact_for g (target_view c.args.t) r.doing.bits r.left.bits m.moved (inr (c.requires.doing, m.turned)) w c.union-joint.ensures.mask false
     (subst (λ a. IsTrue (is_hedge a) ↔ ((h : Hedge) × IsHedge g r.doing.bits w h)) c.in-Formula.is c.in_ok-undivided.ensures.exact)
 
 pub returns-in-Hedge-clause-exact : goal.returns-in-Hedge-clause-exact
@@ -54,6 +54,6 @@ returns-in-Hedge-clause-exact c =
     let g = graph_of c.args.g.now in
     let r = c.in_ok-turned.turned in
     let m = c.in_ok-turned.ensures in
-    let w = c.join-joint.result.bits in
-    exact_for g (target_view c.args.t) r.doing.bits r.left.bits m.moved (inr (c.requires.doing, m.turned)) w c.join-joint.ensures true
+    let w = c.union-joint.result.bits in
+    exact_for g (target_view c.args.t) r.doing.bits r.left.bits m.moved (inr (c.requires.doing, m.turned)) w c.union-joint.ensures.mask true
     (subst (λ a. IsTrue (is_hedge a) ↔ ((h : Hedge) × IsHedge g r.doing.bits w h)) c.in-Hedge.is c.in_ok-undivided.ensures.exact)

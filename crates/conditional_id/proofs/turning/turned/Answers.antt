@@ -21,11 +21,11 @@ one-alone-requires c =
 pub moves-smaller : goal.moves-smaller
 moves-smaller c =
     let z = c.moves.left.bits in
-    subst (λ w. w < z) (sym (c.minus-left.ensures ∙ ap (minus z) c.one-alone.ensures)) (move_smaller z c.in-Some.v c.in-Some.ensures.member)
+    subst (λ w. w < z) (sym (c.difference-left.ensures.mask ∙ ap (minus z) c.one-alone.ensures.mask)) (move_smaller z c.in-Some.v c.in-Some.ensures.member)
 
 pub moves-preserved : goal.moves-preserved
-moves-preserved c = moving_more (graph_of c.args.g.now) c.args.y.bits c.args.x.bits c.args.given.bits c.moves.doing.bits c.moves.left.bits c.in-Some.v c.moves.steps.items c.one-alone.result c.one-alone.ensures
-    c.moves.invariant c.in-Some.ensures c.join-doing.result.bits c.minus-left.result.bits _ c.join-doing.ensures c.minus-left.ensures c.in_ok-push.ensures.items
+moves-preserved c = moving_more (graph_of c.args.g.now) c.args.y.bits c.args.x.bits c.args.given.bits c.moves.doing.bits c.moves.left.bits c.in-Some.v c.moves.steps.items c.one-alone.result c.one-alone.ensures.mask
+    c.moves.invariant c.in-Some.ensures c.union-doing.result.bits c.difference-left.result.bits _ c.union-doing.ensures.mask c.difference-left.ensures.mask c.in_ok-push.ensures.items
 
 pub returns : goal.returns
 returns c = moving_all (graph_of c.args.g.now) c.args.y.bits c.args.x.bits c.args.given.bits _ c.moves.invariant c.in_default.ensures

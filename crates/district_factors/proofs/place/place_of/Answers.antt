@@ -2,9 +2,8 @@ use Rattle.std.proofs.Common.{◌≡◌, ◌<◌, ℕ, IsTrue, inl, inr, sym, ap
 use Rattle.std.proofs.lemmas.Bool.{and_parts, or_cases, or_right}
 use Rattle.mixed_graph.specs.Bits.{has}
 use Rattle.identification.proofs.Sets.{one-self, one-is}
-use Rattle.mixed_graph.specs.Masks.{join, one}
+use Rattle.mixed_graph.specs.Masks.{join, one, common}
 use Rattle.mixed_graph.proofs.MaskLaws.{has_join, has_meet}
-use Rattle.identification.specs.Procedure.{common}
 use Rattle.district_factors.proofs.place.place_of.Goals as goal
 
 -- the earlier members of a set below n, and a vertex below n
@@ -18,7 +17,7 @@ member : (a p v s : ℕ) → s ≡ join (common a p) (one v) → IsTrue (has s v
 member a p v s is = ap (λ m. has m v) is ∙ has_join (common a p) (one v) v ∙ or_right _ _ (one-self v)
 
 pub pillow-m-requires-clause-within : goal.pillow-m-requires-clause-within
-pillow-m-requires-clause-within c = below c.args.g.now.n c.args.a.bits c.args.before.bits c.args.v c.join-near.result.bits (let a = c.join-near.ensures in let b = c.common.ensures in let d = c.one.ensures in cc) c.requires.vertex c.requires.within
+pillow-m-requires-clause-within c = below c.args.g.now.n c.args.a.bits c.args.before.bits c.args.v c.union-near.result.bits (let a = c.union-near.ensures.mask in let b = c.intersection.ensures.mask in let d = c.one.ensures.mask in cc) c.requires.vertex c.requires.within
 
 pub pillow-m-requires-clause-member : goal.pillow-m-requires-clause-member
-pillow-m-requires-clause-member c = member c.args.a.bits c.args.before.bits c.args.v c.join-near.result.bits (let a = c.join-near.ensures in let b = c.common.ensures in let d = c.one.ensures in cc)
+pillow-m-requires-clause-member c = member c.args.a.bits c.args.before.bits c.args.v c.union-near.result.bits (let a = c.union-near.ensures.mask in let b = c.intersection.ensures.mask in let d = c.one.ensures.mask in cc)

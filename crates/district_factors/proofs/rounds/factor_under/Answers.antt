@@ -18,8 +18,8 @@ rounds-init c =
     let no_lemmas = c.new-lemmas.ensures.items in
     let few = length-members-le (has c.ancestors_in-a.result.bits) 64 in
     record {
-      within = ancestors_below (graph_of c.args.g.now) c.args.c.bits c.all.result.bits c.ancestors_in-a.result.bits c.ancestors_in-a.ensures;
-      inside = ancestors_hold (graph_of c.args.g.now) c.args.c.bits c.all.result.bits c.ancestors_in-a.result.bits c.ancestors_in-a.ensures c.requires.within;
+      within = ancestors_below (graph_of c.args.g.now) c.args.c.bits c.below.result.bits c.ancestors_in-a.result.bits c.ancestors_in-a.ensures;
+      inside = ancestors_hold (graph_of c.args.g.now) c.args.c.bits c.below.result.bits c.ancestors_in-a.result.bits c.ancestors_in-a.ensures c.requires.within;
       number = omega (arith, ap length no_defs);
       few = omega (arith, ap length no_defs, few);
       paired = ap length no_lemmas ∙ sym (ap length no_defs);
@@ -36,7 +36,7 @@ returns-in-Done-clause-factor c =
     c.rounds.defs.items c.rounds.lemmas.items c.in-Done.field-0 d c.rounds.invariant.reaching in
     record {
       a = c.ancestors_in-a.result.bits;
-      ancestors = subst (λ u. AreAncestorsIn (graph_of c.args.g.now) u c.args.c.bits c.ancestors_in-a.result.bits) c.all.ensures c.ancestors_in-a.ensures;
+      ancestors = subst (λ u. AreAncestorsIn (graph_of c.args.g.now) u c.args.c.bits c.ancestors_in-a.result.bits) c.below.ensures.mask c.ancestors_in-a.ensures;
       factor = r.0;
       steps = r.1;
     }

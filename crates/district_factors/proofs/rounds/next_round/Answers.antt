@@ -28,7 +28,7 @@ returns-then-leading-t-clause-fault c = IsStopped.here (district (goal.at.return
 pub returns-then-leading-c-clause-round : goal.returns-then-leading-c-clause-round
 returns-then-leading-c-clause-round c = done_summed (graph_of c.args.g.now) c.args.order.now c.args.c.bits c.args.a.bits (source_of c.args.from) c.district_of-t.result.bits c.ancestors_in-leading.result.bits
     c.in_ok-body.body c.in_ok-body-2.body (district (goal.at.returns-then-leading-c-clause-round c).After-district_of-t) c.if-t-c.false c.ancestors_in-leading.ensures c.if-leading-c.true c.in_ok-body.ensures
-    (subst (λ z. IsSummed z c.in_ok-body.body c.in_ok-body-2.body) c.minus.ensures c.in_ok-body-2.ensures)
+    (subst (λ z. IsSummed z c.in_ok-body.body c.in_ok-body-2.body) c.difference.ensures.mask c.in_ok-body-2.ensures)
 
 pub returns-clause-round : goal.returns-clause-round
 returns-clause-round c = record {
@@ -40,5 +40,5 @@ returns-clause-round c = record {
   more = c.if-leading-c.false;
   whole = c.in_ok-body.body;
   is_whole = c.in_ok-body.ensures;
-  is_summed = subst (λ z. IsSummed z c.in_ok-body.body c.in_ok-body-2.body) c.minus.ensures c.in_ok-body-2.ensures;
+  is_summed = subst (λ z. IsSummed z c.in_ok-body.body c.in_ok-body-2.body) c.difference.ensures.mask c.in_ok-body-2.ensures;
 }

@@ -10,7 +10,9 @@ loop-v-init c = λ u. (λ i. absurd (let e = c.empty-parents.ensures.members u i
 
 -- what the row of c adds
 added : (c : After-union-parents) → (u : ℕ) → has c.only_if.result.bits u ≡ (has c.args.set.bits c.loop-v.v && has (get_or c.args.g.now.children u 0) c.loop-v.v)
-added c u = c.only_if.ensures u ∙ (let e = c.has.ensures in let a = c.args.g.now.agree u c.loop-v.v in cc)
+added c u =
+    let row : has c.parents.result.bits u ≡ has (get_or c.args.g.now.children u 0) c.loop-v.v = c.parents.ensures.members u in
+    c.only_if.ensures u ∙ (let e = c.has.ensures in cc)
 
 pub loop-v-preserved : goal.loop-v-preserved
 loop-v-preserved c = λ u. (

@@ -5,8 +5,8 @@ use Rattle.evaluate_command.proofs.mentioned.+mention.Goals as goal
 
 pub mentioned_in_factors-loop-factor-preserved : goal.mentioned_in_factors-loop-factor-preserved
 mentioned_in_factors-loop-factor-preserved t c =
-    factors_step c.loop-factor.all.bits c.join-all.result.bits c.deref-factor-items.result.now c.loop-factor.factor-index c.factor-item.result (omega arith) c.factor-item.is
-    (c.join-all.ensures ∙ ap (λ x. join c.loop-factor.all.bits x) c.mentioned_in.ensures)
+    factors_step c.loop-factor.all.bits c.union-all.result.bits c.deref-factor-items.result.now c.loop-factor.factor-index c.factor-item.result (omega arith) c.factor-item.is
+    (c.union-all.ensures.mask ∙ ap (λ x. join c.loop-factor.all.bits x) c.mentioned_in.ensures)
     ∙ c.loop-factor.invariant
 
 pub mentioned_in_factors-returns : goal.mentioned_in_factors-returns

@@ -5,8 +5,8 @@ use Rattle.evaluate_command.proofs.mentioned.mentioned_in_defs.Goals as goal
 
 pub loop-def-preserved : goal.loop-def-preserved
 loop-def-preserved c =
-    defs_step c.loop-def.all.bits c.join-all.result.bits c.deref-def-items.result.now c.loop-def.def-index c.def-item.result (omega arith) c.def-item.is
-    (c.join-all.ensures ∙ ap (λ x. join c.loop-def.all.bits x) c.mentioned_in.ensures)
+    defs_step c.loop-def.all.bits c.union-all.result.bits c.deref-def-items.result.now c.loop-def.def-index c.def-item.result (omega arith) c.def-item.is
+    (c.union-all.ensures.mask ∙ ap (λ x. join c.loop-def.all.bits x) c.mentioned_in.ensures)
     ∙ c.loop-def.invariant
 
 pub returns : goal.returns

@@ -13,3 +13,8 @@ pub returns-in_err-read-in-Formula-clause-none : goal.returns-in_err-read-in-For
 returns-in_err-read-in-Formula-clause-none c = λ uses g e.
     let same : c.in_err-read-in-Formula.field-0.0 ≡ NotUnderstood = search rules in
     none_where c.args.kind kind.Formula uses c.args.values.now c.in-Formula.is (λ h. c.in_err-read-in-Formula.ensures.none uses h (ap (λ f. Err f) same)) g
+
+pub returns-in_err-read-in-Rule-clause-none : goal.returns-in_err-read-in-Rule-clause-none
+returns-in_err-read-in-Rule-clause-none c = λ uses g e.
+    let same : c.in_err-read-in-Rule.field-0.0 ≡ NotUnderstood = search rules in
+    none_where c.args.kind kind.Rule uses c.args.values.now c.in-Rule.is (λ h. (c.in_err-read-in-Rule.ensures.none uses h (ap (λ f. Err f) same)).nothing) g

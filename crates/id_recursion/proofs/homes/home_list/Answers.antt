@@ -1,9 +1,8 @@
 use Rattle.std.proofs.Common.{◌≡◌, sym, ap, ◌∙◌}
-use Rattle.mixed_graph.specs.Masks.{minus}
+use Rattle.mixed_graph.specs.Masks.{minus, common}
 use Rattle.do_derivation.specs.Plans.{no_plans}
 use Rattle.do_derivation.specs.View.{step_view}
 use Rattle.do_derivation.specs.declared.steps.Step.{Rule2Do, Rule3In}
-use Rattle.identification.specs.Procedure.{common}
 use Rattle.identification.specs.Derivations.{with_set}
 use Rattle.id_recursion.specs.Lists.{onto}
 use Rattle.id_recursion.proofs.StepLists.{onto_nothing, home_is}
@@ -13,10 +12,10 @@ pub returns : goal.returns
 returns c =
     let d = c.args.d.bits in
     let t = c.args.t.bits in
-    let e = c.minus-earlier.result in
-    let f = c.minus-later.result in
-    let early : e.bits ≡ minus (common d c.args.before.bits) t = c.minus-earlier.ensures ∙ ap (λ z. minus z t) c.common.ensures in
-    let late : f.bits ≡ minus (minus d t) (minus (common d c.args.before.bits) t) = c.minus-later.ensures ∙ ap (λ z. minus z e.bits) c.minus.ensures ∙ ap (minus (minus d t)) early in
+    let e = c.difference-earlier.result in
+    let f = c.difference-later.result in
+    let early : e.bits ≡ minus (common d c.args.before.bits) t = c.difference-earlier.ensures.mask ∙ ap (λ z. minus z t) c.intersection.ensures.mask in
+    let late : f.bits ≡ minus (minus d t) (minus (common d c.args.before.bits) t) = c.difference-later.ensures.mask ∙ ap (λ z. minus z e.bits) c.difference.ensures.mask ∙ ap (minus (minus d t)) early in
     sym (onto_nothing c.push_with-2.new.out.items) ∙ c.in_ok-push_with-2.ensures no_plans
     ∙ c.in_ok-push_with.ensures (with_set f.bits (step_view (Rule3In f)) no_plans)
     ∙ ap (λ l. onto l (with_set e.bits (step_view (Rule2Do e)) (with_set f.bits (step_view (Rule3In f)) no_plans))) c.new-out.ensures.items

@@ -17,7 +17,7 @@ pub returns-then-is_empty-clause-answer : goal.returns-then-is_empty-clause-answ
 returns-then-is_empty-clause-answer c = record {
   order = listed c.order_of-order.result;
   is_order = ordered (goal.at.returns-then-is_empty-clause-answer c).After-order_of-order;
-  answer = inl (eqb-true c.args.x.bits 0 (sym c.is_empty.ensures ∙ c.if-is_empty.true), c.observed-formula.ensures.formula, c.observed-formula.ensures.derivation);
+  answer = inl (eqb-true c.args.x.bits 0 (sym c.is_empty.ensures.mask ∙ c.if-is_empty.true), c.observed-formula.ensures.formula, c.observed-formula.ensures.derivation);
 }
 
 pub composed-requires-clause-districts : goal.composed-requires-clause-districts
@@ -44,7 +44,7 @@ pub returns-in_ok-formula-in-Ok-clause-answer : goal.returns-in_ok-formula-in-Ok
 returns-in_ok-formula-in-Ok-clause-answer c = record {
   order = listed c.order_of-order.result;
   is_order = ordered (goal.at.returns-in_ok-formula-in-Ok-clause-answer c).After-order_of-order;
-  answer = inr (λ z. absurd (let e = c.is_empty.ensures in let f = c.if-is_empty.false in grind (arith, z, e, f)), c.in_ok-formula-in-Ok.ensures.composed);
+  answer = inr (λ z. absurd (let e = c.is_empty.ensures.mask in let f = c.if-is_empty.false in grind (arith, z, e, f)), c.in_ok-formula-in-Ok.ensures.composed);
 }
 
 pub returns-in_ok-formula-in-Ok-clause-few : goal.returns-in_ok-formula-in-Ok-clause-few

@@ -10,27 +10,27 @@ use Rattle.id_recursion.proofs.mains.main_steps.Goals as goal
 
 pub returns-then-is_empty : goal.returns-then-is_empty
 returns-then-is_empty c =
-    let o = c.minus-others.result in
-    let f = c.minus-further.result in
+    let o = c.difference-others.result in
+    let f = c.difference-further.result in
     let rest = steps_view c.args.rest.items in
     let set : o.bits ≡ minus (minus (all c.args.n) c.args.x.bits) c.args.d.bits =
-    c.minus-others.ensures ∙ ap (λ z. minus z c.args.d.bits) (c.minus.ensures ∙ ap (λ z. minus z c.args.x.bits) c.all.ensures) in
-    let none : is_empty f.bits ≡ true = sym c.is_empty.ensures ∙ c.if-is_empty.true in
+    c.difference-others.ensures.mask ∙ ap (λ z. minus z c.args.d.bits) (c.difference.ensures.mask ∙ ap (λ z. minus z c.args.x.bits) c.below.ensures.mask) in
+    let none : is_empty f.bits ≡ true = sym c.is_empty.ensures.mask ∙ c.if-is_empty.true in
     sym (onto_nothing c.append.new.self.items) ∙ ap (λ l. onto l no_plans) c.in_ok-append.ensures.items
     ∙ onto_append c.push_with.new.out.items c.args.rest.items no_plans ∙ ap (onto c.push_with.new.out.items) (onto_nothing c.args.rest.items)
     ∙ c.in_ok-push_with.ensures rest ∙ ap (λ l. onto l (with_set o.bits (step_view (Rule3In o)) rest)) c.new-out.ensures.items
-    ∙ main_flat c.args.n c.args.x.bits c.args.y.bits c.args.d.bits o f rest set c.minus-further.ensures none
+    ∙ main_flat c.args.n c.args.x.bits c.args.y.bits c.args.d.bits o f rest set c.difference-further.ensures.mask none
 
 pub returns : goal.returns
 returns c =
-    let o = c.minus-others.result in
-    let f = c.minus-further.result in
+    let o = c.difference-others.result in
+    let f = c.difference-further.result in
     let rest = steps_view c.args.rest.items in
     let inner = at_place 0 rest no_plans in
     let set : o.bits ≡ minus (minus (all c.args.n) c.args.x.bits) c.args.d.bits =
-    c.minus-others.ensures ∙ ap (λ z. minus z c.args.d.bits) (c.minus.ensures ∙ ap (λ z. minus z c.args.x.bits) c.all.ensures) in
-    let some : is_empty f.bits ≡ false = sym c.is_empty.ensures ∙ c.if-is_empty.false in
+    c.difference-others.ensures.mask ∙ ap (λ z. minus z c.args.d.bits) (c.difference.ensures.mask ∙ ap (λ z. minus z c.args.x.bits) c.below.ensures.mask) in
+    let some : is_empty f.bits ≡ false = sym c.is_empty.ensures.mask ∙ c.if-is_empty.false in
     sym (onto_nothing c.push_at.new.out.items) ∙ c.in_ok-push_at.ensures no_plans
     ∙ ap (λ l. onto l inner) c.in_ok-push.ensures.items ∙ onto_more c.push_with.new.out.items (Widen f) inner
     ∙ c.in_ok-push_with.ensures (plan (step_view (Widen f)) inner) ∙ ap (λ l. onto l (with_set o.bits (step_view (Rule3In o)) (plan (step_view (Widen f)) inner))) c.new-out.ensures.items
-    ∙ main_wide c.args.n c.args.x.bits c.args.y.bits c.args.d.bits o f rest set c.minus-further.ensures some
+    ∙ main_wide c.args.n c.args.x.bits c.args.y.bits c.args.d.bits o f rest set c.difference-further.ensures.mask some

@@ -9,7 +9,7 @@ loop-u-init c = roots_none (graph_of c.args.g.now) c.args.set.bits
 
 pub loop-u-preserved : goal.loop-u-preserved
 loop-u-preserved c = roots_more (graph_of c.args.g.now) c.args.set.bits c.loop-u.roots.bits c.difference-roots.result.bits c.loop-u.u
-    (λ v. c.difference-roots.ensures.members v ∙ ap (λ b. has c.loop-u.roots.bits v && not b) (c.only_if.ensures v ∙ ap₂ (λ p q. p && q) c.has.ensures (c.args.g.now.agree v c.loop-u.u)))
+    (λ v. c.difference-roots.ensures.members v ∙ ap (λ b. has c.loop-u.roots.bits v && not b) (c.only_if.ensures v ∙ ap₂ (λ p q. p && q) c.has.ensures (c.parents.ensures.members v)))
     c.loop-u.invariant
 
 pub returns : goal.returns

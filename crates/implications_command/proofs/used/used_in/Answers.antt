@@ -5,8 +5,8 @@ use Rattle.implications_command.proofs.used.used_in.Goals as goal
 
 pub loop-i-preserved : goal.loop-i-preserved
 loop-i-preserved c =
-    used_step c.loop-i.all.bits c.join-all.result.bits c.args.list.now c.loop-i.i-index _ (omega arith)
-    (c.join-all.ensures ∙ ap (λ x. join c.loop-i.all.bits x) c.used_for.ensures)
+    used_step c.loop-i.all.bits c.union-all.result.bits c.args.list.now c.loop-i.i-index _ (omega arith)
+    (c.union-all.ensures.mask ∙ ap (λ x. join c.loop-i.all.bits x) c.used_for.ensures)
     ∙ c.loop-i.invariant
 
 pub returns : goal.returns

@@ -2,7 +2,7 @@ use Rattle.std.proofs.Common.{ap, Err}
 use Rattle.word_forms.specs.Views.{texts_of}
 use Rattle.survey_command.specs.Requests.{request_of}
 use Rattle.causal_cli.specs.declared.commands.Command.TheVariants.{Survey}
-use Rattle.kept_call.specs.Replies.{question}
+use Rattle.causal_cli.specs.Commands.{of}
 use Rattle.kept_call.proofs.Replying.{replied_words, not_understood, refused_memory}
 use Rattle.kept_call.proofs.reply.respond.Goals as goal
 
@@ -14,7 +14,7 @@ returns-in-Ok-OnGraph c = λ diagram holds.
 pub returns-in-Ok : goal.returns-in-Ok
 returns-in-Ok c = λ diagram holds.
     let asks = rw c.in-Ok-Survey.field-0-is at c.in-Ok-Survey.ensures.asks in
-    replied_words _ (Survey, request_of c.in-Ok-Survey.request) c.in-Ok.reply asks c.in-Ok.ensures
+    replied_words _ (of Survey (request_of c.in-Ok-Survey.request)) c.in-Ok.reply asks c.in-Ok.ensures
 
 pub returns-in-Err : goal.returns-in-Err
 returns-in-Err c = λ diagram holds. refused_memory _ c.bare.result c.bare.ensures

@@ -34,7 +34,7 @@ pub returns-then-is_empty : goal.returns-then-is_empty
 returns-then-is_empty c = record {
   order = listed c.order_of-order.result;
   is_order = ordered (goal.at.returns-then-is_empty c).After-order_of-order;
-  answer = inl (eqb-true c.args.x.bits 0 (sym c.is_empty.ensures ∙ c.if-is_empty.true), c.observed-formula.ensures.formula, c.observed-formula.ensures.derivation);
+  answer = inl (eqb-true c.args.x.bits 0 (sym c.is_empty.ensures.mask ∙ c.if-is_empty.true), c.observed-formula.ensures.formula, c.observed-formula.ensures.derivation);
 }
 
 pub assembled-requires-clause-counted : goal.assembled-requires-clause-counted
@@ -45,7 +45,7 @@ returns-in_ok-formula-in-Ok c = record {
   order = listed c.order_of-order.result;
   is_order = ordered (goal.at.returns-in_ok-formula-in-Ok c).After-order_of-order;
   answer = inr (
-    λ z. absurd (let e = c.is_empty.ensures in let f = c.if-is_empty.false in grind (arith, z, e, f)),
+    λ z. absurd (let e = c.is_empty.ensures.mask in let f = c.if-is_empty.false in grind (arith, z, e, f)),
     by_steps (graph_of c.args.g.now) (masks_of c.args.experiments.now) (listed c.order_of-order.result) (first_masks c.districts-parts.result.sets c.districts-parts.result.count) c.args.x.bits c.args.y.bits c.ancestors_outside-d.result.bits c.in-Ok.made
         c.ancestors_outside-d.ensures (are_districts (goal.at.returns-in_ok-formula-in-Ok c).After-districts-parts (ordered (goal.at.returns-in_ok-formula-in-Ok c).After-order_of-order)) c.in-Ok.ensures _ _ c.in_ok-formula-in-Ok.ensures,
   );

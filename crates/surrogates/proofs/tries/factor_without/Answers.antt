@@ -13,7 +13,7 @@ use Rattle.surrogates.proofs.tries.factor_without.Goals.{After-order_of-order, A
 
 -- the graph at hand is the one without z
 same : (c : After-induced-rest) → graph_of c.induced-rest.result ≡ without (graph_of c.args.g.now) c.args.z.bits
-same c = c.induced-rest.ensures ∙ ap (λ m. induced (graph_of c.args.g.now) (has m)) (c.minus.ensures ∙ ap (λ a. minus a c.args.z.bits) c.all.ensures)
+same c = c.induced-rest.ensures ∙ ap (λ m. induced (graph_of c.args.g.now) (has m)) (c.difference.ensures.mask ∙ ap (λ a. minus a c.args.z.bits) c.below.ensures.mask)
 
 ordered : (c : After-order_of-order) → IsOrder (graph_of c.induced-rest.result) (listed c.order_of-order.result) (length (listed c.order_of-order.result))
 ordered c = listed_order (graph_of c.induced-rest.result) c.order_of-order.result.list c.order_of-order.result.count (let i = c.order_of-order.result.in_range in let f = c.order_of-order.ensures.full in omega (arith, i, f)) c.order_of-order.ensures.order

@@ -8,30 +8,42 @@ use Rattle.adjust_command.proofs.NoQueries.{no_query}
 use Rattle.adjust_command.proofs.request.Request.read.Goals as goal
 
 pub returns-in-Err-clause-none : goal.returns-in-Err-clause-none
-returns-in-Err-clause-none c = λ uses g e r is.
-    let same : c.in-Err.fault ≡ NotUnderstood = cc e in c.in-Err.ensures.none adjust_row uses g refl (ap (λ f. Err f) same) r.file is.file
+returns-in-Err-clause-none c = λ uses g e. record {
+  nothing = λ r is.
+      let same : c.in-Err.fault ≡ NotUnderstood = cc e in c.in-Err.ensures.none adjust_row uses g refl (ap (λ f. Err f) same) r.file is.file;
+}
 
 pub returns-in-Err-number_or-clause-none : goal.returns-in-Err-number_or-clause-none
-returns-in-Err-number_or-clause-none c = λ uses g e r is.
-    let same : c.in-Err-number_or.fault ≡ NotUnderstood = cc e in c.in-Err-number_or.ensures.none adjust_row uses g refl (ap (λ f. Err f) same) is.most is.is_most
+returns-in-Err-number_or-clause-none c = λ uses g e. record {
+  nothing = λ r is.
+      let same : c.in-Err-number_or.fault ≡ NotUnderstood = cc e in c.in-Err-number_or.ensures.none adjust_row uses g refl (ap (λ f. Err f) same) is.most is.is_most;
+}
 
 pub returns-in-Err-listed_names-clause-none : goal.returns-in-Err-listed_names-clause-none
-returns-in-Err-listed_names-clause-none c = λ uses g e r is.
-    let same : c.in-Err-listed_names.fault ≡ NotUnderstood = cc e in c.in-Err-listed_names.ensures.none adjust_row uses g refl (ap (λ f. Err f) same) is.set is.is_set
+returns-in-Err-listed_names-clause-none c = λ uses g e. record {
+  nothing = λ r is.
+      let same : c.in-Err-listed_names.fault ≡ NotUnderstood = cc e in c.in-Err-listed_names.ensures.none adjust_row uses g refl (ap (λ f. Err f) same) is.set is.is_set;
+}
 
 pub returns-in-Err-listed_names-2-clause-none : goal.returns-in-Err-listed_names-2-clause-none
-returns-in-Err-listed_names-2-clause-none c = λ uses g e r is.
-    let same : c.in-Err-listed_names-2.fault ≡ NotUnderstood = cc e in c.in-Err-listed_names-2.ensures.none adjust_row uses g refl (ap (λ f. Err f) same) r.x is.x
+returns-in-Err-listed_names-2-clause-none c = λ uses g e. record {
+  nothing = λ r is.
+      let same : c.in-Err-listed_names-2.fault ≡ NotUnderstood = cc e in c.in-Err-listed_names-2.ensures.none adjust_row uses g refl (ap (λ f. Err f) same) r.x is.x;
+}
 
 pub returns-in-Err-listed_names-3-clause-none : goal.returns-in-Err-listed_names-3-clause-none
-returns-in-Err-listed_names-3-clause-none c = λ uses g e r is.
-    let same : c.in-Err-listed_names-3.fault ≡ NotUnderstood = cc e in c.in-Err-listed_names-3.ensures.none adjust_row uses g refl (ap (λ f. Err f) same) r.y is.y
+returns-in-Err-listed_names-3-clause-none c = λ uses g e. record {
+  nothing = λ r is.
+      let same : c.in-Err-listed_names-3.fault ≡ NotUnderstood = cc e in c.in-Err-listed_names-3.ensures.none adjust_row uses g refl (ap (λ f. Err f) same) r.y is.y;
+}
 
 pub returns-in_default-clause-none : goal.returns-in_default-clause-none
-returns-in_default-clause-none c = λ uses g e r is.
-    no_query (value_of uses (codes "set")) (option_map names_in c.in-Ok-listed_names.set) is.set c.flag-back_door.result c.in-Ok-number_or.most is.most r.query
-    (c.in-Ok-listed_names.ensures.ok adjust_row uses g refl) is.is_set c.in_default.ensures.query
-    (subst (λ b. query_for is.set b is.most ≡ Some r.query) (sym (c.flag-back_door.ensures adjust_row uses g refl)) is.is_query)
+returns-in_default-clause-none c = λ uses g e. record {
+  nothing = λ r is.
+      no_query (value_of uses (codes "set")) (option_map names_in c.in-Ok-listed_names.set) is.set c.flag-back_door.result c.in-Ok-number_or.most is.most r.query
+      (c.in-Ok-listed_names.ensures.ok adjust_row uses g refl) is.is_set c.in_default.ensures.query
+      (subst (λ b. query_for is.set b is.most ≡ Some r.query) (sym (c.flag-back_door.ensures adjust_row uses g refl)) is.is_query);
+}
 
 pub returns-clause-ok : goal.returns-clause-ok
 returns-clause-ok c = λ uses g. record {

@@ -10,14 +10,18 @@ same_inputs file f counts k count n p q r h =
     subst (λ x. AreInputs x k n) (same_Some file f p) (subst (λ y. AreInputs file y n) q (subst (λ z. AreInputs file counts z) r h))
 
 pub returns-in-Err-clause-none : goal.returns-in-Err-clause-none
-returns-in-Err-clause-none c = λ uses g e r is.
-    let same : c.in-Err.fault ≡ NotUnderstood = cc e in c.in-Err.ensures.none implications_row uses g refl (ap (λ f. Err f) same) r.file is.file
+returns-in-Err-clause-none c = λ uses g e. record {
+  nothing = λ r is.
+      let same : c.in-Err.fault ≡ NotUnderstood = cc e in c.in-Err.ensures.none implications_row uses g refl (ap (λ f. Err f) same) r.file is.file;
+}
 
 pub returns-then-not-are_inputs-clause-none : goal.returns-then-not-are_inputs-clause-none
-returns-then-not-are_inputs-clause-none c = λ uses g e r is.
-    c.are_inputs.ensures.no c.if-not-are_inputs.true
-    (same_inputs r.file _ r.counts _ r.count _ (sym is.file ∙ c.in-Ok.ensures.ok implications_row uses g refl)
-    (sym is.counts ∙ sym (c.word-counts.ensures implications_row uses g refl)) (sym is.count ∙ sym (c.bytes_of-count.ensures ∙ c.option.ensures implications_row uses g refl)) is.inputs)
+returns-then-not-are_inputs-clause-none c = λ uses g e. record {
+  nothing = λ r is.
+      c.are_inputs.ensures.no c.if-not-are_inputs.true
+      (same_inputs r.file _ r.counts _ r.count _ (sym is.file ∙ c.in-Ok.ensures.ok implications_row uses g refl)
+      (sym is.counts ∙ sym (c.word-counts.ensures implications_row uses g refl)) (sym is.count ∙ sym (c.bytes_of-count.ensures ∙ c.option.ensures implications_row uses g refl)) is.inputs);
+}
 
 pub returns-clause-ok : goal.returns-clause-ok
 returns-clause-ok c = λ uses g. record {

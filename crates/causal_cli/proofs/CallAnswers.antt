@@ -1,0 +1,58 @@
+-- What a run answers whose words are a call of one command.
+use Rattle.std.proofs.Common.{◌≡◌, ℕ, List, Option, Some, sym, subst}
+use Rattle.std.proofs.lemmas.Option.{same_Some}
+use Rattle.std.specs.Prelude.{IfSome}
+use Rattle.word_forms.specs.Form.{Text, Use, IsCall}
+use Rattle.replies.specs.declared.outcome.Outcome.{Outcome}
+use Rattle.causal_cli.specs.Answers.{WordsAnswer, Defined, DefinedWith}
+use Rattle.causal_cli.specs.Commands.{form_of, table, row_for, Request, of, command_of, file_of, second_of, IsRequest, Asks}
+use Rattle.causal_cli.specs.Run.{Run, Answers, by_words, by_file, by_both}
+use Rattle.causal_cli.specs.declared.commands.Command.{Command}
+use Rattle.causal_cli.proofs.CompleteRuns.{words_ask_once}
+use Rattle.causal_cli.proofs.Deliveries.{mapped}
+use Rattle.causal_cli.proofs.OneCommand.{one_command}
+
+-- the answer to the request of a command that these uses ask for: by the words alone, on the bytes of its file, or on those of both inputs
+pub data CallAnswer (r : Run) (c : Command) (uses : List Use) (o : Outcome) (text : List ℕ) : Type 0 where
+  on_words : (q : (form_of c).Request) → IsRequest uses (of c q) → WordsAnswer (of c q) o text → CallAnswer r c uses o text
+  on_file : (q : (form_of c).Request) → IsRequest uses (of c q) → (file : Text) → file_of (of c q) ≡ Some file → IfSome (r.held file) (λ bytes. Defined (of c q) bytes o text) → CallAnswer r c uses o text
+  on_both : (q : (form_of c).Request) → IsRequest uses (of c q) → (file second : Text) → file_of (of c q) ≡ Some file → second_of (of c q) ≡ Some second
+      → IfSome (r.held file) (λ bytes. IfSome (r.held second) (λ other. DefinedWith (of c q) bytes other o text)) → CallAnswer r c uses o text
+
+module _ (r : Run) (c : Command) (uses : List Use) (call : IsCall table r.words (row_for c) uses) where
+  -- a request that the words ask for is one of this command, by the same uses
+  is_of : (w : Request) → Asks r.words w → command_of w ≡ c
+  is_of w a = one_command (command_of w) c (words_ask_once r.words (row_for c) (row_for (command_of w)) uses a.uses call a.call).0
+
+  by_them : (w : Request) → Asks r.words w → IsRequest uses w
+  by_them w a = subst (λ us. IsRequest us w) (words_ask_once r.words (row_for c) (row_for (command_of w)) uses a.uses call a.call).1 a.asks
+
+module _ (r : Run) (c : Command) (uses : List Use) (o : Outcome) (text : List ℕ) where
+  for_words : (w : Request) → command_of w ≡ c → IsRequest uses w → WordsAnswer w o text → CallAnswer r c uses o text
+  for_words (of d q) e is answer = subst (λ (k : Command). CallAnswer r k uses o text) e (on_words q is answer)
+
+  for_file : (w : Request) → command_of w ≡ c → IsRequest uses w → (file : Text) → file_of w ≡ Some file → IfSome (r.held file) (λ bytes. Defined w bytes o text) → CallAnswer r c uses o text
+  for_file (of d q) e is file names defined = subst (λ (k : Command). CallAnswer r k uses o text) e (on_file q is file names defined)
+
+  for_both : (w : Request) → command_of w ≡ c → IsRequest uses w → (file second : Text) → file_of w ≡ Some file → second_of w ≡ Some second
+      → IfSome (r.held file) (λ bytes. IfSome (r.held second) (λ other. DefinedWith w bytes other o text)) → CallAnswer r c uses o text
+  for_both (of d q) e is file second names names_second defined = subst (λ (k : Command). CallAnswer r k uses o text) e (on_both q is file second names names_second defined)
+
+pub call_answer : (r : Run) (c : Command) (uses : List Use) → IsCall table r.words (row_for c) uses → (o : Outcome) (text : List ℕ) → Answers r o text → CallAnswer r c uses o text
+call_answer r c uses call o text (by_words a) = for_words r c uses o text a.request (is_of r c uses call a.request a.asks) (by_them r c uses call a.request a.asks) a.answer
+call_answer r c uses call o text (by_file a) = for_file r c uses o text a.request (is_of r c uses call a.request a.asks) (by_them r c uses call a.request a.asks) a.file a.names_it a.defined
+call_answer r c uses call o text (by_both a) =
+    for_both r c uses o text a.request (is_of r c uses call a.request a.asks) (by_them r c uses call a.request a.asks) a.file a.second a.names_it a.names_second a.defined
+
+-- ---- what is held under a name
+
+-- the bytes under the name that a request gives, and what follows of them
+pub under_name : (held : Text → Option (List ℕ)) (name file : Text) (P Q : List ℕ → Type 0) → ((bytes : List ℕ) → P bytes → Q bytes) → Some name ≡ Some file → IfSome (held file) P → IfSome (held name) Q
+under_name held name file P Q f e h = mapped (held name) P Q f (subst (λ n. IfSome (held n) P) (sym (same_Some name file e)) h)
+
+-- the same of two names
+pub under_names : (held : Text → Option (List ℕ)) (name file other second : Text) (P Q : List ℕ → List ℕ → Type 0) → ((bytes more : List ℕ) → P bytes more → Q bytes more)
+    → Some name ≡ Some file → Some other ≡ Some second → IfSome (held file) (λ bytes. IfSome (held second) (λ more. P bytes more)) → IfSome (held name) (λ bytes. IfSome (held other) (λ more. Q bytes more))
+under_names held name file other second P Q f e g h =
+    under_name held name file (λ bytes. IfSome (held second) (λ more. P bytes more)) (λ bytes. IfSome (held other) (λ more. Q bytes more))
+    (λ bytes k. under_name held other second (λ more. P bytes more) (λ more. Q bytes more) (f bytes) g k) e h

@@ -1,0 +1,33 @@
+-- The command's words ask for one request, and its answers have one outcome.
+use Rattle.std.proofs.Common.{◌≡◌, Bool, true, false, List, sym, ◌∙◌}
+use Rattle.std.specs.Prelude.{codes}
+use Rattle.std.proofs.lemmas.Option.{same_Some}
+use Rattle.word_forms.specs.Form.{Use, value_of, has_flag}
+use Rattle.request_values.proofs.OneValue.{one_listed}
+use Rattle.identify_command.specs.declared.form.Form.{Form}
+use Rattle.identify_command.specs.Forms.{IsForm}
+use Rattle.replies.proofs.Commands.{IsLawful, lawful_on_file}
+use Rattle.identify_command.specs.Requests.{Request, IsRequest}
+use Rattle.identify_command.specs.Command.{identify_command}
+use Rattle.identify_command.proofs.Outcomes.{given_answered}
+use Rattle.identify_command.proofs.Exclusive.{identify_once}
+
+one_form : (certificate latex : Bool) (f h : Form) → IsForm certificate latex f → IsForm certificate latex h → h ≡ f
+one_form false false f h a b = b ∙ sym a
+one_form true false f h a b = b ∙ sym a
+one_form false true f h a b = b ∙ sym a
+one_form true true f h a b = absurd a
+
+-- the uses ask for one request
+one_request : (uses : List Use) (q r : Request) → IsRequest uses q → IsRequest uses r → r ≡ q
+one_request uses q r a b = λ i. record {
+  file = same_Some r.file q.file (sym b.file ∙ a.file) i;
+  x = one_listed (value_of uses (codes "x")) q.x r.x a.x b.x i;
+  y = one_listed (value_of uses (codes "y")) q.y r.y a.y b.y i;
+  given = one_listed (value_of uses (codes "given")) q.given r.given a.given b.given i;
+  form = one_form (has_flag uses (codes "certificate")) (has_flag uses (codes "latex")) q.form r.form a.form b.form i;
+}
+
+-- what holds of each command holds of it
+pub identify_lawful : IsLawful identify_command
+identify_lawful = lawful_on_file one_request (λ q g. given_answered q.form g q.x q.y q.given) (λ q bytes. identify_once bytes q.form q.x q.y q.given)

@@ -1,0 +1,8 @@
+-- The command `surrogate`.
+use Rattle.replies.specs.Command.{CommandForm, on_file}
+use Rattle.surrogate_command.specs.Answers.{SurrogateAnswer}
+use Rattle.surrogate_command.specs.Requests.{Request, IsRequest}
+
+-- its request and its answers
+abbrev pub surrogate_command : CommandForm
+surrogate_command = on_file Request IsRequest (λ q. q.file) (λ q g. SurrogateAnswer g q.x q.y q.experiments)
