@@ -3,7 +3,7 @@ use Rattle.word_forms.specs.Views.{texts_of}
 use Rattle.survey_command.specs.Requests.{request_of}
 use Rattle.causal_cli.specs.declared.commands.Command.TheVariants.{Survey}
 use Rattle.causal_cli.specs.Commands.{of}
-use Rattle.kept_call.proofs.Replying.{replied_words, not_understood, refused_memory}
+use Rattle.kept_call.proofs.Replying.{replied_words, not_understood}
 use Rattle.kept_call.proofs.reply.respond.Goals as goal
 
 pub returns-in-Ok-OnGraph : goal.returns-in-Ok-OnGraph
@@ -16,13 +16,7 @@ returns-in-Ok c = λ diagram holds.
     let asks = rw c.in-Ok-Survey.field-0-is at c.in-Ok-Survey.ensures.asks in
     replied_words _ (of Survey (request_of c.in-Ok-Survey.request)) c.in-Ok.reply asks c.in-Ok.ensures
 
-pub returns-in-Err : goal.returns-in-Err
-returns-in-Err c = λ diagram holds. refused_memory _ c.bare.result c.bare.ensures
-
 pub returns-in-Err-NotUnderstood : goal.returns-in-Err-NotUnderstood
 returns-in-Err-NotUnderstood c = λ diagram holds.
     not_understood _ c.bare-in-Err-NotUnderstood.result c.bare-in-Err-NotUnderstood.ensures
     (c.in-Err-NotUnderstood.ensures.none (ap (λ f. Err f) c.in-Err-NotUnderstood.field-0-is))
-
-pub returns-in-Err-NoMemory : goal.returns-in-Err-NoMemory
-returns-in-Err-NoMemory c = λ diagram holds. refused_memory _ c.bare-in-Err-NoMemory.result c.bare-in-Err-NoMemory.ensures
