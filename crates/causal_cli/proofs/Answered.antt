@@ -11,7 +11,7 @@ use Rattle.replies.proofs.Outcomes.{answered}
 use Rattle.causal_cli.specs.Commands.{Request, of, second_of}
 use Rattle.causal_cli.specs.Answers.{WordsAnswer, GraphAnswer, Defined, Continues, DefinedWith, second_in, limit_of, IsAccepted, GivesSecond, IsAnsweredWith, IsLeft, IsLeftOf}
 use Rattle.causal_cli.specs.declared.answer.SecondInput.{SecondInput}
-use Rattle.causal_cli.proofs.Commands.{lawful}
+use Rattle.causal_cli.proofs.EachCommand.{lawful}
 
 pub words_answered : (w : Request) (o : Outcome) (text : List ℕ) → WordsAnswer w o text → IsAnswered o
 words_answered (of c q) o text h = (lawful c).words_answered q o text h

@@ -1,4 +1,4 @@
-mod Commands
+mod EachCommand
 pub mod Definitions
 mod Deliveries
 mod ReadCounts

@@ -14,7 +14,7 @@ use Rattle.causal_cli.specs.Commands.{Request, of, file_of, second_of, Asks}
 use Rattle.causal_cli.specs.Answers.{WordsAnswer, GraphAnswer, NeedsSecond, SecondAnswer, IsGraphRefusal, too_long, faulty, HoldsAnswer, Defined, Continues, DefinedWith}
 use Rattle.causal_cli.specs.Run.{Run, AnswersFile, AnswersBoth, Answers, by_words, by_file, by_both, IsRead}
 use Rattle.causal_cli.specs.Complete.{IsTold}
-use Rattle.causal_cli.proofs.Commands.{lawful}
+use Rattle.causal_cli.proofs.EachCommand.{lawful}
 use Rattle.causal_cli.proofs.OneRequest.{one_request}
 
 -- ---- what each command answers

@@ -4,7 +4,7 @@ use Rattle.word_forms.specs.Form.{Text, Use}
 use Rattle.word_forms.proofs.Exact.{one_call}
 use Rattle.causal_cli.specs.Commands.{form_of, table, row_for, Request, of, command_of, IsRequest, Asks}
 use Rattle.causal_cli.specs.declared.commands.Command.{Command}
-use Rattle.causal_cli.proofs.Commands.{lawful}
+use Rattle.causal_cli.proofs.EachCommand.{lawful}
 use Rattle.causal_cli.proofs.OneCommand.{one_command}
 
 -- the uses of a command ask for one request
