@@ -211,7 +211,7 @@ static void asked(void) {
     /* a second input is one of the inputs, and the diagram isn't */
     HOLDS(tells(ask_in("dag{X->Y}", 0, "equivalent g c", "dag{X<-Y}"), CAUSAL_YES, "equivalent\n", ""));
     HOLDS(tells(ask_in("dag{X->Y}", 0, "equivalent g g", "dag{X<-Y}"), CAUSAL_NO_INPUT, "", "causal: read failed\n"));
-    HOLDS(ask_in(bow, 0, "identify", "").status == CAUSAL_WORDS && ask_in(bow, 0, "survey --seed 1", "").status == CAUSAL_YES);
+    HOLDS(ask_in(bow, 0, "identify", "").status == CAUSAL_WORDS && ask_in(bow, 0, "survey 1", "").status == CAUSAL_YES);
     /* names that aren't those of the diagram */
     HOLDS(tells(ask_in(bow, 1, "identify g --x X --y Y", ""), CAUSAL_NOT_KEPT, "", ""));
     HOLDS(tells(ask_in(bow, 2, "identify g --x X --y Y", ""), CAUSAL_NOT_KEPT, "", ""));

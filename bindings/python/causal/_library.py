@@ -135,7 +135,7 @@ class KeptDiagram:
     >>> chain.separated(["A"], ["C"], ["B"]), chain.separated(["A"], ["C"], []), chain.separated(["A"], ["D"], [])
     (True, False, None)
     >>> chain.run(["identify", "chain", "--x", "A", "--y", "C"]).out
-    b'P(C|do(A)) = P(C|A)\\n'
+    b'P(C|do(A)) = sum{B} P(B|A) * P(C|B)\\n'
     """
 
     # As `causal_diagram` in include/causal.h. A graph is a number of 32 bits, as many unused, and three rows of 64 numbers of 64 bits.

@@ -1,7 +1,7 @@
 """Implications, experiments and conditions: the words that are asked, and the answers that are read.
 
 The library's own answers are compared with the worked cases, and the examples of the docstrings run it; here a stand-in for the
-call answers, so that words and answers of any kind can be tried.
+call on a kept diagram answers, so that words and answers of any kind can be tried.
 """
 import unittest
 from unittest import mock
@@ -13,7 +13,6 @@ from causal.formula import Term, read_hedge
 from causal.implications import read_implications
 from causal.surrogates import experiments_word, read_surrogate
 
-run = _library.run
 CHAIN = "dag { A <- B -> C }"
 ROWS = b"A,B,C,count\n0,0,0,4\n0,0,1,2\n1,0,0,2\n1,0,1,1\n0,1,0,1\n0,1,1,3\n1,1,0,2\n1,1,1,1\n"
 NOT_IDENTIFIED = (
@@ -26,16 +25,13 @@ STOPPED = "P(Y|do(X)) has no formula found from these experiments\ndistrict {Y}\
 
 
 class Library:
-    """A stand-in for the call: it notes the words and the inputs, and gives the answers in turn; other commands go to the library."""
+    """A stand-in for the call on a kept diagram: it notes the words and the inputs, and gives the answers in turn."""
 
-    def __init__(self, commands, *replies):
-        self.commands, self.replies, self.calls = commands, list(replies), []
+    def __init__(self, *replies):
+        self.replies, self.calls = list(replies), []
 
     def __call__(self, words, inputs=None):
-        words = list(words)
-        if words[0] not in self.commands:
-            return run(words, inputs)
-        self.calls.append((words, inputs))
+        self.calls.append((list(words), inputs))
         status, out, err = self.replies.pop(0)
         return _library.Reply(status, out.encode(), err.encode())
 
@@ -44,9 +40,9 @@ class Library:
         return [words for words, _ in self.calls]
 
 
-def answering(*replies, commands=("implications", "surrogate", "identify")):
-    library = Library(commands, *[reply if isinstance(reply, tuple) else (0, reply, "") for reply in replies])
-    return mock.patch.object(_library, "run", library)
+def answering(*replies):
+    library = Library(*[reply if isinstance(reply, tuple) else (0, reply, "") for reply in replies])
+    return mock.patch.object(_library.KeptDiagram, "run", library)
 
 
 class ImplicationsOfADiagram(unittest.TestCase):
@@ -57,7 +53,8 @@ class ImplicationsOfADiagram(unittest.TestCase):
     def test_pairs(self):
         with answering(self.PAIR) as library:
             found = Diagram(CHAIN).implications()
-        self.assertEqual(library.words, [["implications", "diagram"]])
+        # The diagram stands for the file, so it isn't an input.
+        self.assertEqual(library.calls, [(["implications", "diagram"], {})])
         self.assertEqual([(it.a, it.b, it.given, it.difference) for it in found], [("A", "C", ("B",), None)])
         self.assertEqual(f"{found}\n", self.PAIR)
         self.assertEqual(found.variables, ("A", "C", "B"))
@@ -92,7 +89,7 @@ class ImplicationsOfADiagram(unittest.TestCase):
             with mock.patch("causal.implications.read_bytes", lambda path: ROWS):
                 found = Diagram(CHAIN).implications("rows.csv", "count")
         self.assertEqual(library.words[1], ["implications", "diagram", "second", "--count=count"])
-        self.assertEqual(library.calls[1][1]["second"], ROWS)
+        self.assertEqual(library.calls[1][1], {"second": ROWS})
         self.assertEqual(found[0].difference.cell, {"A": "0", "C": "0", "B": "1"})
 
     def test_refused_counts(self):
