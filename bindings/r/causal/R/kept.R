@@ -15,14 +15,13 @@ is_separated <- function(diagram, x, y, given = character()) {
 
 # What the library keeps of the diagram, which it reads unless it is the last one; NULL where its text is refused.
 keep <- function(diagram) {
-  if (!identical(last$text, diagram$text)) {
+  if (!identical(last$diagram$text, diagram$text)) {
     kept <- .Call(call_keep, as_bytes(diagram$text))
     if (!is.list(kept)) return(NULL)
-    last$names <- observed_names(diagram)
-    last$kept <- kept
-    last$text <- diagram$text
+    # at one go, so that an interrupt can't leave the one's text with the other's answers
+    last$diagram <- list(text = diagram$text, names = observed_names(diagram), kept = kept)
   }
-  last$kept
+  last$diagram$kept
 }
 
 # The observed vertices in order.
@@ -30,6 +29,6 @@ observed_names <- function(diagram) diagram$vertices$name[diagram$vertices$role 
 
 # The places of names among the observed vertices; NA where one has none or is named twice.
 places <- function(names) {
-  found <- match(enc2utf8(as.character(names)), last$names)
+  found <- match(enc2utf8(as.character(names)), last$diagram$names)
   if (anyDuplicated(found)) NA_integer_ else found
 }

@@ -9,6 +9,7 @@ run_on <- function(words, inputs, kept) {
   names <- names(inputs)
   if (length(inputs) && (is.null(names) || anyNA(names))) stop("each input needs a name")
   answer <- .Call(call_causal, enc2utf8(words), enc2utf8(as.character(names)), lapply(unname(inputs), as_bytes), kept)
+  if (answer[[1]] == 11L) stop("what is kept of the diagram isn't what the library kept")
   list(status = answer[[1]], out = as_text(answer[[2]]), err = as_text(answer[[3]]))
 }
 

@@ -47,8 +47,8 @@ as_causal_diagram(x, ...)
   \code{latent}. Names with spaces, commas or other marks stand between double quotes. Attributes such as \code{pos="1,2"}
   are read and dropped. A graph has at most 64 names and a text at most 1048576 bytes.
 
-  The library reads a text at the first question about it, and keeps the diagram that was asked last: further questions about
-  it don't read it again. What is answered is the same.
+  The library keeps the diagram that was asked last: the first question about a diagram reads its text, and further questions
+  about it don't read it again. What is answered is the same.
 
   Names are Unicode; text in another encoding that R knows is converted. No name has a double quote or a line feed in it.
 }

@@ -8,8 +8,9 @@
   \item{inputs}{a list named by the files that the words speak of, with texts or raw vectors; the first of a name counts.}
 }
 \details{
-  Text is handed over in UTF-8. This is the one call into the library. What is proved is the relation between the words, the
-  inputs, the status, the answer and the line.
+  Text is handed over in UTF-8. Each call reads its inputs anew. The other functions of the package ask the same words of a
+  diagram that the library keeps; what is answered is the same. What is proved is the relation between the words, the inputs,
+  the status, the answer and the line.
 }
 \value{
   A list with \code{status} (0 yes, 1 no, 2 the words aren't understood, 3 the graph or the target is refused, 4 the second input

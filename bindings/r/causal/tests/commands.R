@@ -3,17 +3,19 @@
 library(causal)
 same <- function(a, b) stopifnot(identical(a, b))
 refused <- function(call) inherits(try(call, silent = TRUE), "try-error")
-run <- causal_run
+run <- getFromNamespace("run_on", "causal")
 asked <- list()
 told <- list()
-stand_in <- function(words, inputs = list()) {
-  if (words[1] == "graph") return(run(words, inputs))
+stand_in <- function(words, inputs, kept) {
+  if (words[1] == "graph") return(run(words, inputs, kept))
+  # the diagram is the one that is kept, and no input
+  stopifnot(is.list(kept), words[2] == "diagram", !"diagram" %in% names(inputs))
   asked[[length(asked) + 1]] <<- list(words = words, inputs = inputs)
   answer <- told[[1]]
   told <<- told[-1]
   answer
 }
-utils::assignInNamespace("causal_run", stand_in, "causal")
+utils::assignInNamespace("run_on", stand_in, "causal")
 answering <- function(...) {
   asked <<- list()
   told <<- lapply(list(...), function(it) if (is.list(it)) it else list(status = 0L, out = paste0(it, "\n"), err = ""))
@@ -25,6 +27,7 @@ refusal <- function(line) list(status = 4L, out = "", err = paste0(line, "\n"))
 answering("A from C given {B}\nA from \"d e\" given {}")
 pairs <- implications("dag { A <- B -> C \"d e\" }")
 same(asked[[1]]$words, c("implications", "diagram"))
+same(length(asked[[1]]$inputs), 0L)
 same(pairs$a, c("A", "A"))
 same(pairs$b, c("C", "d e"))
 same(pairs$given, list("B", character()))
@@ -43,6 +46,7 @@ answering(lacks("A"), lacks("B"), lacks("C"), refusal("causal: counts fault 7"),
 found <- implications("dag { A <- B -> C }", data, count = "n", missing = "drop")
 same(asked[[5]]$words, c("implications", "diagram", "counts", "--count=n"))
 same(asked[[6]]$words, c("implications", "diagram", "counts", "--count", "count"))
+same(names(asked[[6]]$inputs), "counts")
 same(strsplit(asked[[6]]$inputs$counts, "\n")[[1]], c("\"A\",\"B\",\"C\",\"count\"", "1,1,1,0", "2,2,2,0", "2,2,1,4", "1,1,1,3", "2,1,2,2"))
 same(found$exact, "-123456789012345678901")
 stopifnot(abs(found$difference + 123456789012345678901) < 1e5)
