@@ -120,7 +120,7 @@ pub extern "C" fn causal_separated(kept: &KeptDiagram, x: u64, y: u64, given: u6
     ensures refused { result ≡ 3 → AreAskable kept.now.observed.vertices x y given → ⊥ }
     ensures known { (result ≤ 1) ⊎ (result ≡ 3) }
 {
-    let (x, y, given) = (VSet { bits: x }, VSet { bits: y }, VSet { bits: given });
+    let (x, y, given) = (VSet::of_bits(x), VSet::of_bits(y), VSet::of_bits(given));
     match kept.observed.separation(x, y, given) {
         Separation::Separated => 0,
         Separation::Open => 1,

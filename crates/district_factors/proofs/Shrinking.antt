@@ -1,10 +1,10 @@
 -- Sets that shrink from round to round.
 use Rattle.std.proofs.Common.{◌≡◌, ◌≢◌, ℕ, zero, suc, ◌^◌, ◌<◌, ◌≤◌, Bool, true, false, not, ◌&&◌, ◌==◌, List, [], ◌∷◌, length, IsTrue, inl, inr, refl, sym, ap, ◌∙◌, subst, arith, ltb-true}
-use Rattle.std.proofs.lemmas.Bool.{cases_eq, cases_lt, eqb-true, and_parts}
+use Rattle.std.proofs.lemmas.Bool.{cases_eq, eqb-true, and_parts}
 use Rattle.mixed_graph.specs.Bits.{has, members_below}
 use Rattle.mixed_graph.specs.Graphs.{MixedGraph, IsMixedGraph, IsDirectedPath, induced}
 use Rattle.mixed_graph.specs.Sets.{Within}
-use Rattle.mixed_graph.proofs.Masks.{has-pow, has-above, has-zero, same_from_has, some_member, le_from_subset}
+use Rattle.mixed_graph.proofs.Masks.{has-pow, below_64, has-zero, same_from_has, some_member, le_from_subset}
 use Rattle.mixed_graph.proofs.Members.{one_if, length-members-suc, length-members-zero, length-members-none}
 use Rattle.mixed_graph.specs.Masks.{minus}
 use Rattle.mixed_graph.proofs.MaskLaws.{has_minus, below_from}
@@ -38,9 +38,6 @@ members_lt s t (suc k) v lt h out into = elim (cases_eq v k) [
       omega (arith, length-members-suc s k, length-members-suc t k, a, b, members_le s t k h)
   | inr d ↦ omega (arith, length-members-suc s k, length-members-suc t k, fewer_bits (s k) (t k) (h k), members_lt s t k v (omega arith) h out into)
 ]
-
-below_64 : (m v : ℕ) → m < 2 ^ 64 → IsTrue (has m v) → v < 64
-below_64 m v fits i = elim (cases_lt v 64) [ inl l ↦ l | inr ge ↦ absurd (let e = has-above m v fits ge in cc) ]
 
 -- a set of vertices fits 64 bits
 pub fits_64 : (n a : ℕ) → n ≤ 64 → Within n (has a) → a < 2 ^ 64

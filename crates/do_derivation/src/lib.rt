@@ -5,6 +5,7 @@
 
 mod applying;
 mod checking;
+mod factors;
 mod faults;
 mod product_moves;
 mod rule_moves;
@@ -13,6 +14,7 @@ mod steps;
 mod term_moves;
 
 pub use checking::{apply, check, check_with};
+pub use factors::{flat, has_product};
 pub use faults::{ApplyFault, CheckFault, StepFault, StepPlace};
 pub use sound::laws;
 pub use steps::{Derivation, Lemma, Step};

@@ -4,11 +4,12 @@ ghost use Rattle.finite_models.specs.Sums.{all_below};
 ghost use Rattle.prob_expr.specs.Tree.{prob, product, no_trees, tree};
 ghost use Rattle.prob_expr.specs.View.{view, views};
 ghost use Rattle.do_derivation.specs.Plans.{Move};
-ghost use Rattle.do_derivation.specs.Shapes.{gathered, unchained, is_grouping, none_empty, each_below, times_in, all_of, picked, as_one, groups_of, has_product, flat, joined};
+ghost use Rattle.do_derivation.specs.Shapes.{gathered, unchained, is_grouping, none_empty, each_below, times_in, all_of, picked, as_one, groups_of};
 ghost use Rattle.do_derivation.specs.Table.{row};
 ghost use Rattle.do_derivation.specs.View.{numbers_of};
 ghost use Rattle.do_derivation.specs.Applied.{IsRow};
 
+use crate::factors::{flat, has_product};
 use crate::faults::{Refusal, StepFault};
 use mixed_graph::{Graph, VSet};
 use prob_expr::{Expr, copy_expr};
@@ -211,58 +212,6 @@ pub fn group(alloc: Global, g: &Graph, groups: &Vec<Vec<u32>>, e: Expr) -> Resul
         Ok(made) => Ok(Expr::Product(made)),
         Err(_) => Err(Refusal::NoMemory),
     }
-}
-
-fn has_product(factors: &Vec<Expr>) -> bool
-    ensures { result ≡ has_product (views factors.now.items) }
-{
-    for factor in factors {
-        if let Expr::Product(_) = factor {
-            return true;
-        }
-    }
-    false
-}
-
-fn is_product(e: &Expr) -> bool
-    ensures { result ≡ has_product (tree (view e.now) no_trees) }
-{
-    matches!(e, Expr::Product(_))
-}
-
-// The factors of a product.
-fn factors_of(e: Expr) -> Vec<Expr>
-    requires { has_product (tree (view e) no_trees) ≡ true }
-    ensures { view e ≡ product (views result.items) }
-{
-    match e {
-        Expr::Product(factors) => factors,
-        _ => unreachable!(),
-    }
-}
-
-// Puts the factors of a product, or another factor, behind the others.
-fn push_flat(made: &mut Vec<Expr>, factor: Expr) -> Result<(), AllocError>
-    ensures { OnOk result (views made.new.items ≡ joined (views made.old.items) (flat (tree (view factor) no_trees))) }
-{
-    if is_product(&factor) {
-        made.append(&mut factors_of(factor))?;
-    } else {
-        made.push(factor)?;
-    }
-    Ok(())
-}
-
-// The factors, each product replaced by its own.
-#[tactic(auto, using(crate::proofs::Lists::flat_more))]
-fn flat(alloc: Global, factors: Vec<Expr>) -> Result<Vec<Expr>, AllocError>
-    ensures { IfOk result (λ made. views made.items ≡ flat (views factors.items)) }
-{
-    let mut made = Vec::with_capacity(alloc, factors.len())?;
-    for factor in factors {
-        push_flat(&mut made, factor)?;
-    }
-    Ok(made)
 }
 
 /// A product whose factors that are products are opened.

@@ -3,7 +3,7 @@ use Rattle.std.proofs.Common.{◌≡◌, ℕ, ◌<◌, ◌^◌, Bool, cond, List
 use Rattle.mixed_graph.specs.Names.{name_of}
 use Rattle.name_text.specs.Printing.{printed}
 use Rattle.mixed_graph.specs.Bits.{has, members_below}
-use Rattle.finite_models.proofs.Members.{member_below}
+use Rattle.mixed_graph.proofs.Masks.{below_64}
 use Rattle.prob_expr.specs.declared.expr.Place.{Place}
 use Rattle.quantity.specs.declared.fault.QuantityFault.TheVariants.{ZeroBelow, TooWide, TooFine}
 use Rattle.count_rows.specs.Rows.{Table}
@@ -50,4 +50,4 @@ support_text_is names t s place cell used why is at table vertices =
 
 -- the members of a set that are all low
 pub members_low : (n m : ℕ) (vs : List ℕ) → m < 2 ^ 64 → members_below (has m) 64 ≡ vs → All (λ v. v < n) vs → (v : ℕ) → IsTrue (has m v) → v < n
-members_low n m vs fits is low v h = member_of_all (λ u. u < n) (has m) 64 (subst (λ (us : List ℕ). All (λ u. u < n) us) (sym is) low) v (member_below m v fits h) h
+members_low n m vs fits is low v h = member_of_all (λ u. u < n) (has m) 64 (subst (λ (us : List ℕ). All (λ u. u < n) us) (sym is) low) v (below_64 m v fits h) h

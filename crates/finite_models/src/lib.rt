@@ -17,6 +17,9 @@ mod weighing;
 mod worlds;
 
 pub use checking::check_model;
+pub use inputs::is_hedged;
 pub use model::{Cause, Mechanism, Model, ModelFault, Part, WeightFault};
+pub use outputs::{parents_place, with_digit};
+pub use parities::{carried_parity, hedge_parity};
 pub use theory::laws;
 pub use weighing::weight;

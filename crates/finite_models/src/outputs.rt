@@ -11,7 +11,7 @@ use crate::model::Model;
 use mixed_graph::{Graph, VSet};
 
 /// The place with one more digit, where it is kept.
-fn with_digit(place: usize, kept: bool, base: usize, digit: usize) -> usize
+pub fn with_digit(place: usize, kept: bool, base: usize, digit: usize) -> usize
     requires { cond kept (place * base + digit) place < 2 ^ 64 }
     ensures { result ≡ cond kept (place * base + digit) place }
 {
@@ -19,7 +19,7 @@ fn with_digit(place: usize, kept: bool, base: usize, digit: usize) -> usize
 }
 
 /// The number that the values of the parents of v write.
-fn parents_place(g: &Graph, m: &Model, v: u8, values: &[u32; 64]) -> usize
+pub fn parents_place(g: &Graph, m: &Model, v: u8, values: &[u32; 64]) -> usize
     requires vertex { v < 64 }
     requires sizes { length m.now.sizes.items ≡ g.now.n }
     requires in_range { IsAssignment g.now.n (λ p. slice_index m.now.sizes.items p) (λ p. slice_index values.now p) }

@@ -10,7 +10,7 @@ use crate::worlds::cause_value;
 use mixed_graph::VSet;
 
 /// The parity of the members' hedge bits.
-fn hedge_parity(n: u32, values: &[u32; 64], members: VSet) -> u32
+pub fn hedge_parity(n: u32, values: &[u32; 64], members: VSet) -> u32
     requires { n ≤ 64 }
     ensures { result ≡ sum_below n (λ k. cond (has members.bits k) (hedge_bit (slice_index values.now k)) 0) % 2 }
 {
@@ -31,7 +31,7 @@ fn carried_in(k: &Mechanism, value: u32) -> u32
 }
 
 /// The parity of the members' carried bits.
-fn carried_parity(m: &Model, values: &[u32; 64], members: VSet) -> u32
+pub fn carried_parity(m: &Model, values: &[u32; 64], members: VSet) -> u32
     requires { length m.now.mechanisms.items ≤ 64 }
     ensures { result ≡ sum_below (length m.now.mechanisms.items) (λ k. cond (has members.bits k) (carried_bit m.now.mechanisms.items k (slice_index values.now k)) 0) % 2 }
 {

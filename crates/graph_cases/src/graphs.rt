@@ -86,7 +86,7 @@ pub(crate) fn names_row(alloc: Global, row: &Value) -> Option<String> {
 }
 
 /// The edges between a vertex and a set, named from that vertex.
-fn edges_at(v: u8, ends: VSet) -> [u64; 64]
+fn edges_at(v: u8, ends: VSet) -> mixed_graph::Rows
     requires { v < 64 }
 {
     let mut rows = [0u64; 64];

@@ -1,15 +1,12 @@
 -- Directed paths inside sets that agree on the vertices.
 use Rattle.std.proofs.Common.{◌≡◌, ℕ, ◌<◌, ◌^◌, Bool, not, ◌&&◌, nat_lt, List, [], ◌∷◌, IsTrue, inl, inr, sym, ap, ◌∙◌}
-use Rattle.std.proofs.lemmas.Bool.{cases_lt, and_parts, and_from, lt-ltb}
+use Rattle.std.proofs.lemmas.Bool.{and_parts, and_from, lt-ltb}
 use Rattle.mixed_graph.specs.Bits.{has}
 use Rattle.mixed_graph.specs.Graphs.{MixedGraph, IsMixedGraph, IsDirectedPath, IsAncestor, induced}
-use Rattle.mixed_graph.proofs.Masks.{has-above, some_in_meet}
+use Rattle.mixed_graph.proofs.Masks.{some_in_meet}
 use Rattle.hedge.specs.declared.hedge.Hedge.{Hedge}
 use Rattle.hedge.specs.Hedges.{outside, Meets, AreRightLinks}
 use Rattle.hedge.specs.Faults.{IsWrongLink}
-
-pub below_64 : (m v : ℕ) → m < 2 ^ 64 → IsTrue (has m v) → v < 64
-below_64 m v fits i = elim (cases_lt v 64) [ inl l ↦ l | inr ge ↦ absurd (let e = has-above m v fits ge in cc) ]
 
 path_same : (g : MixedGraph) (valid : IsMixedGraph g) (s t : ℕ → Bool) → ((u : ℕ) → u < g.vertices → s u ≡ t u) → (v : ℕ) (path : List ℕ) (u : ℕ) →
     IsDirectedPath (induced g s) v path u → IsDirectedPath (induced g t) v path u

@@ -1,4 +1,4 @@
-ghost use Rattle.std.specs.Prelude.{◌≡◌, ℕ, ◌+◌, ◌*◌, ◌^◌, ◌<◌, ◌≤◌, cond, length, slice_index};
+ghost use Rattle.std.specs.Prelude.{◌≡◌, ℕ, ◌+◌, ◌*◌, ◌^◌, ◌<◌, length, slice_index};
 ghost use Rattle.mixed_graph.specs.Bits.{has};
 ghost use Rattle.mixed_graph.specs.Shown.{graph_of};
 ghost use Rattle.finite_models.specs.Models.{IsAssignment};
@@ -8,37 +8,8 @@ ghost use Rattle.finite_models.specs.Inputs.{places_of};
 ghost use Rattle.finite_models.specs.Worlds.{values_of};
 ghost use Rattle.hidden_models.specs.Values.{IsWorldOf};
 
-use finite_models::Model;
+use finite_models::{Model, parents_place, with_digit};
 use mixed_graph::Graph;
-
-/// The place with one more digit, where it is kept.
-fn with_digit(place: usize, kept: bool, base: usize, digit: usize) -> usize
-    requires { cond kept (place * base + digit) place < 2 ^ 64 }
-    ensures { result ≡ cond kept (place * base + digit) place }
-{
-    if kept { place * base + digit } else { place }
-}
-
-/// The number that the values of the parents of v write.
-fn parents_place(g: &Graph, m: &Model, v: u8, values: &[u32; 64]) -> usize
-    requires vertex { v < 64 }
-    requires sizes { length m.now.sizes.items ≡ g.now.n }
-    requires in_range { IsAssignment g.now.n (λ p. slice_index m.now.sizes.items p) (λ p. slice_index values.now p) }
-    requires fits { radix_range g.now.n (λ p. (graph_of g.now).arrow p v) (λ p. slice_index m.now.sizes.items p) < 2 ^ 64 }
-    ensures { result ≡ radix g.now.n (λ p. (graph_of g.now).arrow p v) (λ p. slice_index m.now.sizes.items p) (λ p. slice_index values.now p) }
-{
-    let parents = g.parents(v);
-    let mut place = 0usize;
-    for p in 0..m.sizes.len() {
-        place = with_digit(
-            place,
-            parents.has(p as u8),
-            m.sizes[p] as usize,
-            values[p] as usize,
-        );
-    }
-    place
-}
 
 /// The number that a world's values of the causes of v write after this start.
 fn causes_place(m: &Model, v: u8, world: &[usize], start: usize) -> usize

@@ -1,57 +1,9 @@
-ghost use Rattle.std.specs.Prelude.{◌≡◌, ℕ, ◌/◌, ◌%◌, ◌<◌, ◌≤◌, EachIndex, cond, map, sum, length, slice_index};
-ghost use Rattle.mixed_graph.specs.Bits.{has};
-ghost use Rattle.finite_models.specs.Sums.{sum_below};
-ghost use Rattle.finite_models.specs.Data.{hedged, hedge_bit, carried_bit, part_bit, parity_value};
+ghost use Rattle.std.specs.Prelude.{◌≡◌, ◌%◌, ◌<◌, ◌≤◌, EachIndex, map, sum, length, slice_index};
+ghost use Rattle.finite_models.specs.Data.{part_bit, parity_value};
 ghost use Rattle.finite_models.specs.Worlds.{HasCauses, HaveCauses};
 ghost use Rattle.hidden_models.specs.Values.{IsWorldOf};
 
-use finite_models::{Mechanism, Model, Part};
-use mixed_graph::VSet;
-
-/// Whether the mechanism has a hedge bit.
-fn is_hedged(k: &Mechanism) -> bool
-    ensures { result ≡ hedged k.now }
-{
-    match k {
-        Mechanism::Table { .. } => false,
-        Mechanism::Parity { hedge, .. } => hedge.is_some(),
-    }
-}
-
-/// The parity of the members' hedge bits.
-fn hedge_parity(n: u32, values: &[u32; 64], members: VSet) -> u32
-    requires { n ≤ 64 }
-    ensures { result ≡ sum_below n (λ k. cond (has members.bits k) (hedge_bit (slice_index values.now k)) 0) % 2 }
-{
-    let mut parity = 0;
-    for v in 0..n as u8 {
-        if members.has(v) {
-            parity = (parity + values[v as usize] % 2) % 2;
-        }
-    }
-    parity
-}
-
-/// The carried bit in a value of a vertex with this mechanism.
-fn carried_in(k: &Mechanism, value: u32) -> u32
-    ensures { result ≡ cond (hedged k.now) (value / 2) value }
-{
-    if is_hedged(k) { value / 2 } else { value }
-}
-
-/// The parity of the members' carried bits.
-fn carried_parity(m: &Model, values: &[u32; 64], members: VSet) -> u32
-    requires { length m.now.mechanisms.items ≤ 64 }
-    ensures { result ≡ sum_below (length m.now.mechanisms.items) (λ k. cond (has members.bits k) (carried_bit m.now.mechanisms.items k (slice_index values.now k)) 0) % 2 }
-{
-    let mut parity = 0;
-    for v in 0..m.mechanisms.len() {
-        if members.has(v as u8) {
-            parity = (parity + carried_in(&m.mechanisms[v], values[v]) % 2) % 2;
-        }
-    }
-    parity
-}
+use finite_models::{Model, Part, carried_parity, hedge_parity};
 
 /// The parity of the causes' values in a world.
 fn cause_parity(world: &[usize], causes: &[u32]) -> u32

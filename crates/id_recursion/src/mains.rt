@@ -17,12 +17,12 @@ ghost use Rattle.id_recursion.specs.Lists.{onto, lists_view};
 ghost use Rattle.id_recursion.specs.Factored.{AreAssembled, AreFactorsOf};
 
 use crate::answer::Factors;
-use crate::expressions::{has_product, product_of, sum_if};
+use crate::expressions::{product_of, sum_if};
 use crate::groups::{in_order, push_groups};
 use crate::homes::home_lists;
 use crate::pushing::{push_at, push_each, push_with};
 use districts::Districts;
-use do_derivation::{Derivation, Step};
+use do_derivation::{Derivation, Step, has_product};
 use mixed_graph::{Graph, Order, VSet};
 use prob_expr::Formula;
 use std::alloc::{AllocError, Global};

@@ -70,16 +70,10 @@ impl KeptDiagram {
             Ok(names) => Ok(ReadGraph {
                 names,
                 graph: self.read.graph(),
-                exposures: VSet {
-                    bits: self.exposures,
-                },
-                outcomes: VSet {
-                    bits: self.outcomes,
-                },
-                adjusted: VSet {
-                    bits: self.adjusted,
-                },
-                latent: VSet { bits: self.latent },
+                exposures: VSet::of_bits(self.exposures),
+                outcomes: VSet::of_bits(self.outcomes),
+                adjusted: VSet::of_bits(self.adjusted),
+                latent: VSet::of_bits(self.latent),
             }),
             Err(fault) => Err(fault),
         }

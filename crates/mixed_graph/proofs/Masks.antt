@@ -38,6 +38,10 @@ pub has-above : (m v : ℕ) → m < 2 ^ 64 → 64 ≤ v → has m v ≡ false
 unfolding has
 has-above m v fits above = ap (λ t. t == 1) (bit_at_above m 64 v fits above)
 
+-- a member of a mask of 64 bits is below 64
+pub below_64 : (m v : ℕ) → m < 2 ^ 64 → IsTrue (has m v) → v < 64
+below_64 m v fits i = elim (cases_lt v 64) [ inl l ↦ l | inr ge ↦ absurd (let e = has-above m v fits ge in cc) ]
+
 pub has-pow : (k v : ℕ) → has (2 ^ k) v ≡ (v == k)
 unfolding has
 has-pow k v = elim (cases_eq v k) [

@@ -2,11 +2,13 @@ ghost use Rattle.std.specs.Prelude.{◌≡◌, ℕ, ◌<◌, ◌&&◌, ◌||◌,
 ghost use Rattle.mixed_graph.specs.Bits.{has};
 ghost use Rattle.mixed_graph.specs.Graphs.{Agree};
 
+use mixed_graph::Rows;
+
 /// Pairs of vertices: row a of `heads` holds the vertices b, and row b of `tails` the vertices a, of the pairs (a, b).
 #[derive(Clone, Copy)]
 pub struct Edges {
-    pub heads: [u64; 64],
-    pub tails: [u64; 64],
+    pub heads: Rows,
+    pub tails: Rows,
     pub ghost agree: { Agree tails heads },
 }
 

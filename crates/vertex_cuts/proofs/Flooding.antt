@@ -1,9 +1,8 @@
 -- What is reached outside a set is what is reached inside all other vertices.
 use Rattle.std.proofs.Common.{◌≡◌, ℕ, ◌^◌, ◌<◌, Bool, true, false, not, ◌&&◌, nat_lt, inl, inr, arith}
-use Rattle.std.proofs.lemmas.Bool.{cases_lt, lt-ltb}
+use Rattle.std.proofs.lemmas.Bool.{lt-ltb}
 use Rattle.mixed_graph.specs.Bits.{has}
 use Rattle.mixed_graph.specs.Reached as inside
-use Rattle.mixed_graph.proofs.Masks.{has-above}
 use Rattle.vertex_cuts.specs.Cuts.{Reached, start, step}
 
 module _ (near : ℕ → ℕ → Bool) (from avoid within : ℕ → Bool) (within_is : (v : ℕ) → within v ≡ (nat_lt v 64 && not (avoid v))) where
@@ -18,9 +17,3 @@ module _ (near : ℕ → ℕ → Bool) (from avoid within : ℕ → Bool) (withi
     pub reached_inside : (v : ℕ) → Reached near from avoid v → inside.Reached near from within v
     reached_inside v (start i o) = inside.Reached.start i (kept v (from_below v i) o)
     reached_inside v (step {u = u} r a o) = inside.Reached.next (reached_inside u r) a (kept v (near_below u v a) o)
-
-pub below_64 : (m : ℕ) → m < 2 ^ 64 → (v : ℕ) → has m v ≡ true → v < 64
-below_64 m fits v h = elim (cases_lt v 64) [
-  | inl l ↦ l
-  | inr g ↦ absurd (let e = has-above m v fits g in grind (arith, e, h))
-]

@@ -1,8 +1,7 @@
 use Rattle.std.proofs.Common.{◌∙◌, arith, ap, ◌&&◌, not}
 use Rattle.mixed_graph.specs.Bits.{has}
-use Rattle.mixed_graph.proofs.Masks.{has-zero}
+use Rattle.mixed_graph.proofs.Masks.{below_64, has-zero}
 use Rattle.mixed_graph.proofs.Searches.{Step, searching_none, searching_more, searching_smaller}
-use Rattle.finite_models.proofs.Members.{member_below}
 use Rattle.counter_models.proofs.Following.{choosing, choosing_low, reached_from, held_by_reached}
 use Rattle.counter_models.proofs.carrying.followed.Goals as goal
 use Rattle.counter_models.proofs.carrying.followed.Goals.{After-union-front}
@@ -18,7 +17,7 @@ step_of c = record {
 }
 
 pub loop-front-init : goal.loop-front-init
-loop-front-init c = (searching_none (choosing c.args.choice.now.next) c.args.roots.bits (λ v i. member_below c.args.roots.bits v (omega arith) i), omega arith, omega arith)
+loop-front-init c = (searching_none (choosing c.args.choice.now.next) c.args.roots.bits (λ v i. below_64 c.args.roots.bits v (omega arith) i), omega arith, omega arith)
 
 pub loop-front-preserved : goal.loop-front-preserved
 loop-front-preserved c = (

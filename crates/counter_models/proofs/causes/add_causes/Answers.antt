@@ -1,5 +1,5 @@
 use Rattle.std.proofs.Common.{◌≡◌, ◌∙◌, sym, ap, arith}
-use Rattle.finite_models.proofs.Members.{member_below}
+use Rattle.mixed_graph.proofs.Masks.{below_64}
 use Rattle.counter_models.proofs.Lists.{adding-none, adding-same, adding-more}
 use Rattle.counter_models.proofs.causes.add_causes.Goals as goal
 use Rattle.counter_models.proofs.causes.add_causes.Goals.{then-has+in_ok-vec+in_ok-push, else-has}
@@ -15,4 +15,4 @@ loop-v-preserved c = elim c.if-has.branch [
 ]
 
 pub returns-clause-fresh : goal.returns-clause-fresh
-returns-clause-fresh c = λ v i. let h : c.loop-v.v ≡ 64 = omega arith in c.loop-v.invariant.fresh v (let m = member_below c.args.set.bits v (omega arith) i in omega arith) i
+returns-clause-fresh c = λ v i. let h : c.loop-v.v ≡ 64 = omega arith in c.loop-v.invariant.fresh v (let m = below_64 c.args.set.bits v (omega arith) i in omega arith) i

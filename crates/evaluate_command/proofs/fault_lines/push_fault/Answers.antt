@@ -1,7 +1,7 @@
 use Rattle.std.proofs.Common.{◌≡◌, ◌++◌, List, ℕ, Result, Ok, Err, codes, sym, ap, subst, ◌∙◌, arith, append_assoc}
 use Rattle.std.specs.Prelude.{OnOk}
 use Rattle.mixed_graph.specs.Bits.{has, members_below}
-use Rattle.finite_models.proofs.Members.{member_below}
+use Rattle.mixed_graph.proofs.Masks.{below_64}
 use Rattle.count_eval.specs.Answers.{IsEvaluationFault}
 use Rattle.count_eval.specs.Programs.{is_used, cell_of}
 use Rattle.count_answers.specs.Lines.{assignments}
@@ -48,4 +48,4 @@ push_assignments-requires-clause-named c =
     members_low _ c.used.result.bits c.args.counts.now.vertices (omega arith) c.used.ensures.members c.requires.named
 
 pub push_assignments-requires-clause-entries : goal.push_assignments-requires-clause-entries
-push_assignments-requires-clause-entries c = λ v h. (let lt = member_below c.used.result.bits v (omega arith) h in let n = c.entries.ensures.long in omega (arith, lt, n))
+push_assignments-requires-clause-entries c = λ v h. (let lt = below_64 c.used.result.bits v (omega arith) h in let n = c.entries.ensures.long in omega (arith, lt, n))

@@ -1,5 +1,5 @@
 use Rattle.std.proofs.Common.{get_or, arith}
-use Rattle.hedge.proofs.Reaching.{below_64}
+use Rattle.mixed_graph.proofs.Masks.{below_64}
 use Rattle.hedge.proofs.entries.is_right_partner.Goals as goal
 
 pub spouses-requires : goal.spouses-requires

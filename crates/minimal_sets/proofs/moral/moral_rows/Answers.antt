@@ -2,9 +2,8 @@ use Rattle.std.proofs.Common.{◌≡◌, false, get_or, length-set, sym, ap, ◌
 use Rattle.std.proofs.lemmas.Bool.{cases_eq, cases_lt}
 use Rattle.std.proofs.lemmas.List.{get_or-set_same, get_or-set_other, get_or_past}
 use Rattle.mixed_graph.specs.Bits.{has}
-use Rattle.mixed_graph.proofs.Masks.{has-zero}
+use Rattle.mixed_graph.proofs.Masks.{below_64, has-zero}
 use Rattle.mixed_graph.specs.Shown.{graph_of}
-use Rattle.vertex_cuts.proofs.Flooding.{below_64}
 use Rattle.minimal_sets.proofs.Meetings.{meets_inside}
 use Rattle.minimal_sets.proofs.moral.moral_rows.Goals as goal
 
@@ -25,5 +24,5 @@ returns c = record {
     | inl l ↦ (c.rows.invariant.1 u v (let f = c.rows-test.false in omega arith)).0 e
     | inr ge ↦ absurd (let z : has (get_or c.rows.near u 0) v ≡ false = ap (λ m. has m v) (get_or_past c.rows.near u 0 (let n = c.rows.invariant.0 in omega arith)) ∙ has-zero v in grind (arith, z, e))
   ];
-  complete = λ u v m. (c.rows.invariant.1 u v (let l = below_64 c.args.within.bits (omega arith) u (meets_inside (graph_of c.args.g.now) (has c.args.within.bits) u v m) in let f = c.rows-test.false in omega arith)).1 m;
+  complete = λ u v m. (c.rows.invariant.1 u v (let l = below_64 c.args.within.bits u (omega arith) (meets_inside (graph_of c.args.g.now) (has c.args.within.bits) u v m) in let f = c.rows-test.false in omega arith)).1 m;
 }

@@ -1,7 +1,8 @@
 use Rattle.std.proofs.Common.{◌≡◌, ℕ, ◌∙◌, arith, ap, get_or, nat_lt, ◌&&◌, not}
 use Rattle.mixed_graph.specs.Bits.{has}
 use Rattle.vertex_cuts.specs.Rows.{joins}
-use Rattle.vertex_cuts.proofs.Flooding.{reached_outside, reached_inside, below_64}
+use Rattle.vertex_cuts.proofs.Flooding.{reached_outside, reached_inside}
+use Rattle.mixed_graph.proofs.Masks.{below_64}
 use Rattle.vertex_cuts.proofs.floods.flood.Goals as goal
 use Rattle.vertex_cuts.proofs.floods.flood.Goals.{After-difference}
 
@@ -12,5 +13,5 @@ pub returns : goal.returns
 returns c = let w = within_is (goal.at.returns c).After-difference in λ v. (
   λ i. reached_outside (joins c.args.near.now) (has c.args.from.bits) (has c.args.avoid.bits) (has c.difference.result.bits) w v ((c.reached.ensures v).0 i),
   λ r. (c.reached.ensures v).1 (reached_inside (joins c.args.near.now) (has c.args.from.bits) (has c.args.avoid.bits) (has c.difference.result.bits) w
-      (below_64 c.args.from.bits (omega arith)) (λ u z j. below_64 (get_or c.args.near.now u 0) (c.fits-near u) z j) v r),
+      (λ u. below_64 c.args.from.bits u (omega arith)) (λ u z. below_64 (get_or c.args.near.now u 0) z (c.fits-near u)) v r),
 )

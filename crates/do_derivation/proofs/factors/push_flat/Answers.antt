@@ -4,7 +4,7 @@ use Rattle.prob_expr.specs.View.{view, views}
 use Rattle.do_derivation.specs.Shapes.{joined, has_product}
 use Rattle.do_derivation.proofs.Lists
 use Rattle.do_derivation.proofs.Walks
-use Rattle.id_recursion.proofs.expressions.push_flat.Goals as goal
+use Rattle.do_derivation.proofs.factors.push_flat.Goals as goal
 
 pub returns-in_ok-append : goal.returns-in_ok-append
 returns-in_ok-append c = ap views c.in_ok-append.ensures.items ∙ Walks.flat_product c.args.made.now.items c.factors_of.result.items (view c.args.factor) c.factors_of.ensures

@@ -1,7 +1,0 @@
-use Rattle.std.proofs.Common.{◌≡◌}
-use Rattle.prob_expr.specs.View.{views}
-use Rattle.do_derivation.specs.Shapes.{flat}
-use Rattle.do_derivation.proofs.product_moves.flat.Given as goal
-
-abbrev pub invariant-loop-factor : goal.invariant-loop-factor
-invariant-loop-factor l = views l.made.items ≡ flat (views l.yielded)

@@ -1,8 +1,0 @@
-use Rattle.std.proofs.Common.{◌≡◌, ◌%◌, cond, get_or}
-use Rattle.mixed_graph.specs.Bits.{has}
-use Rattle.finite_models.specs.Sums.{sum_below}
-use Rattle.finite_models.specs.Data.{carried_bit}
-use Rattle.hidden_models.proofs.parities.carried_parity.Given as goal
-
-abbrev pub invariant-loop-v : goal.invariant-loop-v
-invariant-loop-v l = l.parity ≡ sum_below l.v (λ k. cond (has l.members.bits k) (carried_bit l.m.mechanisms.items k (get_or l.values k 0)) 0) % 2
