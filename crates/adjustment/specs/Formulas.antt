@@ -1,5 +1,5 @@
 -- The adjustment formula (Pearl, Causality, section 3.3).
-use Rattle.std.specs.Prelude.{ℕ, [], cond}
+use Rattle.std.specs.Prelude.{ℕ, [], if◌then◌else◌}
 use Rattle.mixed_graph.specs.Masks.{join, is_empty}
 use Rattle.prob_expr.specs.Tree.{Tree, prob, sum, product, no_trees, tree, PlainFormula, PlainTarget}
 
@@ -9,7 +9,7 @@ adjusted_sum x y z = sum z (product (tree (prob z 0 0) (tree (prob y 0 (join x z
 
 -- that sum, and P(y | x) for an empty z
 abbrev pub adjustment_formula : (x y z : ℕ) → PlainFormula
-adjustment_formula x y z = record { defs = []; main = cond (is_empty z) (prob y 0 x) (adjusted_sum x y z) }
+adjustment_formula x y z = record { defs = []; main = if is_empty z then prob y 0 x else adjusted_sum x y z }
 
 -- the effect P(y | do(x))
 abbrev pub effect_on : (x y : ℕ) → PlainTarget

@@ -1,5 +1,5 @@
 -- Effects under a condition, P(y | do(x), given) (Shpitser and Pearl 2006): observations turn into interventions as long as rule 2 lets them; then the joint effect of the rest is identified, and divided.
-use Rattle.std.specs.Prelude.{ℕ, ◌≡◌, ◌≢◌, ◌<◌, ◌⊎◌, cond, List, [], ◌∷◌, IsTrue}
+use Rattle.std.specs.Prelude.{ℕ, ◌≡◌, ◌≢◌, ◌<◌, ◌⊎◌, List, [], ◌∷◌, IsTrue, if◌then◌else◌}
 use Rattle.mixed_graph.specs.Bits.{has}
 use Rattle.mixed_graph.specs.Graphs.{MixedGraph}
 use Rattle.finite_models.specs.Models.{FiniteModel, Fits, IsAssignment, IsPositiveModel}
@@ -38,7 +38,7 @@ IsTurned g t x' z' vs = ((t.x ≡ 0) × (x' ≡ t.x) × (z' ≡ t.given) × (vs 
 
 -- the formula of the joint effect of y and z', divided by its sum over y where an observation is left
 abbrev pub divided : (y z' : ℕ) → PlainFormula → PlainFormula
-divided y z' f = cond (is_empty z') f (record { defs = f.defs; main = quotient f.main (sum y f.main) })
+divided y z' f = if is_empty z' then f else (record { defs = f.defs; main = quotient f.main (sum y f.main) })
 
 -- the formula from that of the joint effect of y and the observations that are left, by the turned interventions
 pub record IsDivided (g : MixedGraph) (t : PlainTarget) (f : PlainFormula) : Type 0 where
@@ -75,8 +75,8 @@ summed_steps y p = plan (Plan.Make (Move.Widen y)) (single (Plan.At 0 p))
 
 -- From P(y | do(x'), z') to the divided formula, where `p` makes that of the joint effect: the same steps where no observation is left. Else the term is split into the joint effect of y and z' and that of z'; y is put in there, and p makes either part.
 abbrev pub divided_steps : (y z' : ℕ) → Plan → Plans
-divided_steps y z' p = cond (is_empty z') (steps_of p)
-    (plan (Plan.Make Move.Split) (plan (Plan.At 0 p) (single (Plan.At 1 (Plan.Then (summed_steps y p))))))
+divided_steps y z' p = if is_empty z' then steps_of p
+    else (plan (Plan.Make Move.Split) (plan (Plan.At 0 p) (single (Plan.At 1 (Plan.Then (summed_steps y p))))))
 
 -- the derivation from one of the joint formula, where these vertices moved
 abbrev pub divided_derivation : List ℕ → (y z' : ℕ) → PlainDerivation → PlainDerivation

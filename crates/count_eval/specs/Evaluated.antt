@@ -1,5 +1,5 @@
 -- The value of a formula in a kind of quantity, or the first node that has none.
-use Rattle.std.specs.Prelude.{ℕ, suc, ◌||◌, cond, eqb, List, [], ◌∷◌, Option, Some, None, Result, Ok, Err}
+use Rattle.std.specs.Prelude.{ℕ, suc, ◌||◌, if◌then◌else◌, ◌==◌, List, [], ◌∷◌, Option, Some, None, Result, Ok, Err}
 use Rattle.mixed_graph.specs.Bits.{has}
 use Rattle.prob_expr.specs.Tree.{Tree, prob, sum, product, quotient, named, Trees, no_trees, tree, PlainFormula}
 use Rattle.prob_expr.specs.Check.{cap, next_node}
@@ -25,7 +25,7 @@ abbrev mutual
 -- P(a | c) at s
 abbrev pub term_outcome : Kind → Weights → Option ℕ → ℕ → (a b c : ℕ) → (ℕ → ℕ) → Result Pair Stop
 term_outcome k w d i a b c s =
-    cond (eqb (w.weight (has b) (has c) s) 0) (Err (stop ZeroBelow d i s)) (Ok (k.from_ratio (w.weight (has b) (λ v. has a v || has c v) s) (w.weight (has b) (has c) s)))
+    if w.weight (has b) (has c) s == 0 then Err (stop ZeroBelow d i s) else (Ok (k.from_ratio (w.weight (has b) (λ v. has a v || has c v) s) (w.weight (has b) (has c) s)))
 
 -- The expression's value at s, where its root is node i of definition d, and q gives the values of the definitions.
 abbrev mutual
@@ -47,7 +47,7 @@ abbrev mutual
 -- the values of the definitions from number n on, behind the values q of those before
 abbrev pub evaluated_from : Kind → Weights → (ℕ → (ℕ → ℕ) → Result Pair Stop) → ℕ → List Tree → ℕ → (ℕ → ℕ) → Result Pair Stop
 evaluated_from k w q n [] = q
-evaluated_from k w q n (e ∷ es) = evaluated_from k w (λ j s. cond (eqb j n) (evaluated k w q (Some (cap n)) 0 e s) (q j s)) (suc n) es
+evaluated_from k w q n (e ∷ es) = evaluated_from k w (λ j s. if j == n then evaluated k w q (Some (cap n)) 0 e s else q j s) (suc n) es
 
 -- the value of a formula at s: of main, over the values of the definitions
 abbrev pub formula_value : Kind → Weights → PlainFormula → (ℕ → ℕ) → Result Pair Stop

@@ -1,5 +1,5 @@
 -- Running through levels, with what there is so far.
-use Rattle.std.specs.Prelude.{ℕ, zero, suc, Bool, cond, Option, Some, None, Result, Ok}
+use Rattle.std.specs.Prelude.{ℕ, zero, suc, Bool, if◌then◌else◌, Option, Some, None, Result, Ok}
 use Rattle.finite_models.specs.Sums.{set_at}
 use Rattle.quantity.specs.declared.fault.QuantityFault.{QuantityFault}
 use Rattle.quantity.specs.Kinds.{Pair}
@@ -23,7 +23,7 @@ each_level (suc n) f so_far = after (each_level n f so_far) (f n)
 abbrev pub each_cell : (ℕ → Bool) → (ℕ → ℕ) → ℕ → ℕ → ((ℕ → ℕ) → Option Pair → Result (Option Pair) Stop) → (ℕ → ℕ) → Option Pair → Result (Option Pair) Stop
 each_cell U size zero v f s so_far = f s so_far
 each_cell U size (suc k) v f s so_far =
-    cond (U v) (each_level (size v) (λ x. each_cell U size k (suc v) f (set_at s v x)) so_far) (each_cell U size k (suc v) f s so_far)
+    if U v then (each_level (size v) (λ x. each_cell U size k (suc v) f (set_at s v x)) so_far) else each_cell U size k (suc v) f s so_far
 
 -- an empty sum or product has that value
 abbrev pub whole : Pair → Option Pair → Result Pair Stop

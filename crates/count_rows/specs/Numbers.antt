@@ -1,5 +1,5 @@
 -- The numbers in a column of counts.
-use Rattle.std.specs.Prelude.{ℕ, ◌+◌, ◌*◌, ◌-◌, ◌^◌, List, [], ◌∷◌, Bool, ◌&&◌, cond, nat_le, Option, Some, None}
+use Rattle.std.specs.Prelude.{ℕ, ◌+◌, ◌*◌, ◌-◌, ◌^◌, List, [], ◌∷◌, Bool, ◌&&◌, if◌then◌else◌, nat_le, Option, Some, None}
 use Rattle.std.specs.List.{list_all}
 
 -- the most that the counts of a table may come to
@@ -18,4 +18,4 @@ value_after n (b ∷ bs) = value_after (10 * n + (b - 48)) bs
 -- the value of one or more decimal digits, up to 10 ^ 15
 abbrev pub count_in : List ℕ → Option ℕ
 count_in [] = None
-count_in (b ∷ bs) = cond (list_all is_digit (b ∷ bs) && nat_le (value_after 0 (b ∷ bs)) most_counted) (Some (value_after 0 (b ∷ bs))) None
+count_in (b ∷ bs) = if list_all is_digit (b ∷ bs) && nat_le (value_after 0 (b ∷ bs)) most_counted then (Some (value_after 0 (b ∷ bs))) else None

@@ -1,5 +1,5 @@
 -- That two models show an effect not to be identifiable: they agree on observations, and differ under the intervention.
-use Rattle.std.specs.Prelude.{◌≡◌, ℕ, ◌+◌, ◌*◌, ◌%◌, ◌^◌, ◌==◌, ◌≤◌, cond, slice_index}
+use Rattle.std.specs.Prelude.{◌≡◌, ℕ, ◌+◌, ◌*◌, ◌%◌, ◌^◌, ◌==◌, ◌≤◌, if◌then◌else◌, slice_index}
 use Rattle.mixed_graph.specs.Bits.{has}
 use Rattle.mixed_graph.specs.Sets.{Apart}
 use Rattle.mixed_graph.specs.Graphs.{MixedGraph, IsMixedGraph}
@@ -17,12 +17,12 @@ use Rattle.counter_models.specs.declared.counter_pair.CounterPair.{CounterPair}
 
 -- the sum of the carried bits of the event's members, where the vertices have the values s
 abbrev pub carried_sum : MixedGraph → Model → (event : ℕ) → (ℕ → ℕ) → ℕ
-carried_sum g m event s = sum_below g.vertices (λ v. cond (has event v) (carried_bit m.mechanisms.items v (s v)) 0)
+carried_sum g m event s = sum_below g.vertices (λ v. if has event v then carried_bit m.mechanisms.items v (s v) else 0)
 
 -- the weight of the worlds whose solution under do(x) at a has an even sum of the carried bits of the event's members
 abbrev pub even_weight : MixedGraph → Model → (x event : ℕ) → (ℕ → ℕ) → ℕ
 even_weight g m x event a = sum_worlds (meaning g m)
-    (λ u. cond (carried_sum g m event (solution (intervene (meaning g m) (has x) a) u) % 2 == 0) (world_weight (meaning g m) u) 0)
+    (λ u. if carried_sum g m event (solution (intervene (meaning g m) (has x) a) u) % 2 == 0 then world_weight (meaning g m) u else 0)
 
 -- the model is accepted by the check of models, fits the graph and is positive
 pub record IsProperModel (g : MixedGraph) (m : Model) : Type 0 where

@@ -1,5 +1,5 @@
 -- The two models that a hedge gives, as data.
-use Rattle.std.specs.Prelude.{◌≡◌, ℕ, suc, ◌+◌, ◌-◌, ◌<◌, Bool, true, false, cond, ◌==◌, ◌&&◌, ◌||◌, Option, Some, None, List, [], ◌∷◌, ◌++◌, IsTrue, length, get_or, slice_index}
+use Rattle.std.specs.Prelude.{◌≡◌, ℕ, suc, ◌+◌, ◌-◌, ◌<◌, Bool, true, false, if◌then◌else◌, ◌==◌, ◌&&◌, ◌||◌, Option, Some, None, List, [], ◌∷◌, ◌++◌, IsTrue, length, get_or, slice_index}
 use Rattle.mixed_graph.specs.Bits.{has, members_below}
 use Rattle.mixed_graph.specs.Graphs.{MixedGraph}
 use Rattle.finite_models.specs.Data.{weights_of, children_of}
@@ -61,7 +61,7 @@ pub record IsHedgePart (h : Hedge) (s v : ℕ) (p : Part) : Type 0 where
   pub hedges : (u : ℕ) → has p.hedge_of.bits u ≡ (has s u && (slice_index h.choice.next u == v))
   pub carrieds : (u : ℕ) → has p.carried_of.bits u ≡ false
   pub own : p.own_hedge ≡ false
-  pub causes : p.causes.items ≡ link_causes h s v ++ cond (has h.small.bits v) (small_cause h v ∷ []) []
+  pub causes : p.causes.items ≡ link_causes h s v ++ (if has h.small.bits v then (small_cause h v ∷ []) else [])
 
 -- the carried bit of v: its own hedge bit where it is a root, the kept vertices that carry to it, and its cause
 pub record IsCarriedPart (h : Hedge) (kept : ℕ) (carry : List ℕ) (v : ℕ) (p : Part) : Type 0 where
@@ -84,7 +84,7 @@ IsMechanismOf h kept carry s v (Parity a b) = IsPartWhere (has h.big.bits v) (Is
 
 -- 4 values with both bits, 2 with one, 1 with none
 abbrev pub size_at : Hedge → (kept v : ℕ) → ℕ
-size_at h kept v = cond (has h.big.bits v) (cond (has kept v) 4 2) (cond (has kept v) 2 1)
+size_at h kept v = if has h.big.bits v then (if has kept v then 4 else 2) else (if has kept v then 2 else 1)
 
 -- the model in which the hedge bit of each v comes from the set `sources v`
 pub record IsModelOf (g : MixedGraph) (h : Hedge) (kept : ℕ) (carry : List ℕ) (sources : ℕ → ℕ) (m : Model) : Type 0 where
@@ -101,7 +101,7 @@ in_first h v = h.big.bits
 
 -- in the second those of members of small come from small alone
 abbrev pub in_second : Hedge → ℕ → ℕ
-in_second h v = cond (has h.small.bits v) h.small.bits h.big.bits
+in_second h v = if has h.small.bits v then h.small.bits else h.big.bits
 
 -- the two models of a hedge for the effect of x on y
 pub record IsPairOf (g : MixedGraph) (x y : ℕ) (h : Hedge) (pair : CounterPair) : Type 0 where

@@ -1,5 +1,5 @@
 -- What the moves on products and sums make, and of which expressions: `None` where they have no result.
-use Rattle.std.specs.Prelude.{ℕ, zero, suc, ◌+◌, Bool, true, false, not, ◌&&◌, cond, eqb, ltb, leb, List, [], ◌∷◌, ◌++◌, length, Option, Some, None}
+use Rattle.std.specs.Prelude.{ℕ, zero, suc, ◌+◌, Bool, true, false, not, ◌&&◌, if◌then◌else◌, ◌==◌, ltb, leb, List, [], ◌∷◌, ◌++◌, length, Option, Some, None}
 use Rattle.mixed_graph.specs.Bits.{has}
 use Rattle.finite_models.specs.Sums.{all_below}
 use Rattle.mixed_graph.specs.Masks.{join, minus, one, is_empty, is_apart, is_inside}
@@ -18,7 +18,7 @@ chained b c (v ∷ rest) = tree (prob (one v) b c) (chained b (join c (one v)) r
 -- The sets a' of terms P(a' | do(b), c and a and the earlier ones), apart from a and from each other, together with a: `None` for other factors.
 abbrev pub gathered : (a b c : ℕ) → Trees → Option ℕ
 gathered a b c no_trees = Some a
-gathered a b c (tree (prob a' b' c') ts) = cond (is_apart a' a && (eqb b' b && eqb c' (join c a))) (gathered (join a a') b c ts) None
+gathered a b c (tree (prob a' b' c') ts) = if is_apart a' a && (b' == b && c' == join c a) then gathered (join a a') b c ts else None
 gathered a b c (tree (sum u e) ts) = None
 gathered a b c (tree (product es) ts) = None
 gathered a b c (tree (quotient p q) ts) = None
@@ -79,7 +79,7 @@ all_of (l ∷ rest) = l ++ all_of rest
 -- how often i stands in the list
 abbrev pub times_in : ℕ → List ℕ → ℕ
 times_in i [] = 0
-times_in i (j ∷ rest) = cond (eqb i j) 1 0 + times_in i rest
+times_in i (j ∷ rest) = (if i == j then 1 else 0) + times_in i rest
 
 -- each number is below m
 abbrev pub each_below : ℕ → List ℕ → Bool
@@ -94,16 +94,16 @@ none_empty ((i ∷ l) ∷ rest) = none_empty rest
 
 -- two lists or more, none empty, which together hold each number below m once and no other
 abbrev pub is_grouping : ℕ → List (List ℕ) → Bool
-is_grouping m l = leb 2 (length l) && (none_empty l && (each_below m (all_of l) && all_below m (λ i. eqb (times_in i (all_of l)) 1)))
+is_grouping m l = leb 2 (length l) && (none_empty l && (each_below m (all_of l) && all_below m (λ i. times_in i (all_of l) == 1)))
 
 -- the product of the groups of a product's factors
 abbrev pub grouped : List (List ℕ) → Tree → Option Tree
-grouped l (product ts) = cond (is_grouping (count_factors ts) l) (Some (product (groups_of ts l))) None
+grouped l (product ts) = if is_grouping (count_factors ts) l then Some (product (groups_of ts l)) else None
 grouped l _ = None
 
 -- the term without the vertices over which it is summed: some of its first set and not all
 abbrev pub narrowed : Tree → Option Tree
-narrowed (sum u (prob a b c)) = cond (is_inside u a && not (eqb u a)) (Some (prob (minus a u) b c)) None
+narrowed (sum u (prob a b c)) = if is_inside u a && not (u == a) then Some (prob (minus a u) b c) else None
 narrowed _ = None
 
 -- some factor is a product
@@ -123,7 +123,7 @@ flat (tree (named k) ts) = tree (named k) (flat ts)
 
 -- a product some factor of which is one, opened
 abbrev pub unwrapped : Tree → Option Tree
-unwrapped (product ts) = cond (has_product ts) (Some (product (flat ts))) None
+unwrapped (product ts) = if has_product ts then Some (product (flat ts)) else None
 unwrapped _ = None
 
 -- the child of that number: a sum has 0, a quotient 0 (top) and 1 (bottom), a product its factors

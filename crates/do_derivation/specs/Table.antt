@@ -1,5 +1,5 @@
 -- The table of the moves: under which conditions each makes which expression, and the fault that refuses it otherwise.
-use Rattle.std.specs.Prelude.{ℕ, Bool, not, ◌&&◌, cond, eqb, ltb, leb, List, length, get_or, Option, Some, None}
+use Rattle.std.specs.Prelude.{ℕ, Bool, not, ◌&&◌, if◌then◌else◌, ◌==◌, ltb, leb, List, length, get_or, Option, Some, None}
 use Rattle.do_rules.specs.declared.rules.Rule.{Rule}
 use Rattle.do_rules.specs.declared.rules.Rule.TheVariants.{One, Two, Three}
 use Rattle.mixed_graph.specs.Masks.{join, minus, all, is_empty, is_apart, is_inside, is_below}
@@ -25,7 +25,7 @@ on_term f (named k) = Row.Refuse NotATerm
 
 -- the row where the condition holds, else the refusal
 abbrev pub if_so : Bool → Row → StepFault → Row
-if_so holds row fault = cond holds row (Row.Refuse fault)
+if_so holds row fault = if holds then row else Row.Refuse fault
 
 -- what was made, else the refusal
 abbrev pub if_made : Option Tree → StepFault → Row
@@ -56,6 +56,6 @@ row n lemmas Move.Narrow e = if_made (narrowed e) Shape
 row n lemmas Move.Split e = on_term (λ a b c. if_so (not (is_empty c)) (Row.Make (quotient (prob (join a c) b 0) (prob c b 0))) Sets) e
 row n lemmas (Move.Cite k) e =
     if_so (ltb k (length lemmas))
-    (on_term (λ a b c. if_so (eqb a (get_or lemmas k 0) && (eqb b (minus (all n) (get_or lemmas k 0)) && is_empty c)) (Row.Make (named k)) Shape) e)
+    (on_term (λ a b c. if_so (a == get_or lemmas k 0 && (b == minus (all n) (get_or lemmas k 0) && is_empty c)) (Row.Make (named k)) Shape) e)
     (NoLemma k)
 row n lemmas Move.Unwrap e = if_made (unwrapped e) Shape

@@ -1,5 +1,5 @@
 -- Models as data, and the models that they mean.
-use Rattle.std.specs.Prelude.{ℕ, ◌+◌, ◌*◌, ◌%◌, ◌/◌, Bool, true, false, cond, List, [], Option, Some, None, map, get_or, length, slice_index, sum}
+use Rattle.std.specs.Prelude.{ℕ, ◌+◌, ◌*◌, ◌%◌, ◌/◌, Bool, true, false, if◌then◌else◌, List, [], Option, Some, None, map, get_or, length, slice_index, sum}
 use Rattle.mixed_graph.specs.Bits.{has}
 use Rattle.mixed_graph.specs.Graphs.{MixedGraph}
 use Rattle.finite_models.specs.Sums.{sum_below}
@@ -45,13 +45,13 @@ hedge_bit x = x % 2
 
 -- the carried bit in the value x of vertex v: the second where v has a hedge bit, or the only one
 abbrev pub carried_bit : List Mechanism → ℕ → ℕ → ℕ
-carried_bit mechanisms v x = cond (has_hedge mechanisms v) (x / 2) x
+carried_bit mechanisms v x = if has_hedge mechanisms v then x / 2 else x
 
 -- the bit of a part where the n vertices have the values s, the hidden causes the values u, and the vertex the hedge bit `own`
 abbrev pub part_bit : ℕ → List Mechanism → (s u : ℕ → ℕ) → ℕ → Part → ℕ
-part_bit n mechanisms s u own p = (sum_below n (λ k. cond (has p.hedge_of.bits k) (hedge_bit (s k)) 0)
-    + sum_below n (λ k. cond (has p.carried_of.bits k) (carried_bit mechanisms k (s k)) 0)
-    + cond p.own_hedge own 0 + sum (map u p.causes.items)) % 2
+part_bit n mechanisms s u own p = (sum_below n (λ k. if has p.hedge_of.bits k then hedge_bit (s k) else 0)
+    + sum_below n (λ k. if has p.carried_of.bits k then carried_bit mechanisms k (s k) else 0)
+    + (if p.own_hedge then own else 0) + sum (map u p.causes.items)) % 2
 
 -- the value of a vertex with these two parts
 abbrev pub parity_value : ℕ → List Mechanism → (s u : ℕ → ℕ) → Option Part → Option Part → ℕ

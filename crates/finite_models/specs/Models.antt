@@ -1,5 +1,5 @@
 -- Finite causal models with hidden causes of whole-number weights (Pearl, Causality, chapters 1 and 3).
-use Rattle.std.specs.Prelude.{ℕ, zero, suc, ◌≡◌, ◌≢◌, ◌<◌, ◌≤◌, Bool, true, cond, eqb, ◌&&◌, ◌||◌, not, IsTrue}
+use Rattle.std.specs.Prelude.{ℕ, zero, suc, ◌≡◌, ◌≢◌, ◌<◌, ◌≤◌, Bool, true, if◌then◌else◌, ◌==◌, ◌&&◌, ◌||◌, not, IsTrue}
 use Rattle.mixed_graph.specs.Graphs.{MixedGraph}
 use Rattle.fractions.specs.Fractions.{Fraction, over}
 use Rattle.finite_models.specs.Sums.{sum_below, product_below, sum_over, all_below}
@@ -70,15 +70,15 @@ solution m u = rounds m m.vertices u
 
 -- the first n values of s and t agree on the set a
 abbrev pub agree : ℕ → (ℕ → Bool) → (ℕ → ℕ) → (ℕ → ℕ) → Bool
-agree n a s t = all_below n (λ v. cond (a v) (eqb (s v) (t v)) true)
+agree n a s t = all_below n (λ v. if a v then (s v == t v) else true)
 
 -- the weight of the event that the vertices of a have the values s: the sum of the weights of the worlds whose solution agrees with s on a
 abbrev pub event_weight : FiniteModel → (ℕ → Bool) → (ℕ → ℕ) → ℕ
-event_weight m a s = sum_worlds m (λ u. cond (agree m.vertices a (solution m u) s) (world_weight m u) 0)
+event_weight m a s = sum_worlds m (λ u. if agree m.vertices a (solution m u) s then world_weight m u else 0)
 
 -- the model under the intervention do(b) at s (Pearl's submodel): the vertices of b have the values s, and no cause serves them
 abbrev pub intervene : FiniteModel → (ℕ → Bool) → (ℕ → ℕ) → FiniteModel
-intervene m b s = record m { serves = λ j v. m.serves j v && not (b v); mechanism = λ v t u. cond (b v) (s v) (m.mechanism v t u) }
+intervene m b s = record m { serves = λ j v. m.serves j v && not (b v); mechanism = λ v t u. if b v then s v else m.mechanism v t u }
 
 -- the weight of the event a under do(b), both at s
 abbrev pub weight_of : FiniteModel → (ℕ → Bool) → (ℕ → Bool) → (ℕ → ℕ) → ℕ

@@ -1,5 +1,5 @@
 -- Finite sums and products of natural numbers, and sums over the points of a finite box.
-use Rattle.std.specs.Prelude.{ℕ, zero, suc, ◌+◌, ◌*◌, Bool, true, cond, eqb, ◌&&◌}
+use Rattle.std.specs.Prelude.{ℕ, zero, suc, ◌+◌, ◌*◌, Bool, true, if◌then◌else◌, ◌==◌, ◌&&◌}
 
 -- f 0 + .. + f (k - 1)
 abbrev pub sum_below : ℕ → (ℕ → ℕ) → ℕ
@@ -18,9 +18,9 @@ all_below (suc k) p = all_below k p && p k
 
 -- the point b with x in place of its coordinate i
 abbrev pub set_at : (ℕ → ℕ) → ℕ → ℕ → ℕ → ℕ
-set_at b i x k = cond (eqb k i) x (b k)
+set_at b i x k = if k == i then x else b k
 
 -- the sum of f over all points that differ from b at most in the coordinates i below n with u i, such a coordinate ranging below s i
 abbrev pub sum_over : (ℕ → Bool) → (ℕ → ℕ) → ℕ → ((ℕ → ℕ) → ℕ) → (ℕ → ℕ) → ℕ
 sum_over u s zero f b = f b
-sum_over u s (suc n) f b = cond (u n) (sum_below (s n) (λ x. sum_over u s n f (set_at b n x))) (sum_over u s n f b)
+sum_over u s (suc n) f b = if u n then (sum_below (s n) (λ x. sum_over u s n f (set_at b n x))) else sum_over u s n f b

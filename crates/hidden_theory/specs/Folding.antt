@@ -1,5 +1,5 @@
 -- A model of a diagram with hidden vertices, and the models of its observed graph that give every observed probability the same value.
-use Rattle.std.specs.Prelude.{ℕ, ◌*◌, ◌≡◌, ◌<◌, ◌≤◌, Bool, true, false, not, ◌&&◌, cond, length, slice_index}
+use Rattle.std.specs.Prelude.{ℕ, ◌*◌, ◌≡◌, ◌<◌, ◌≤◌, Bool, true, false, not, ◌&&◌, if◌then◌else◌, length, slice_index}
 use Rattle.mixed_graph.specs.Bits.{has}
 use Rattle.mixed_graph.specs.Sets.{Apart}
 use Rattle.fractions.specs.Fractions.{Fraction}
@@ -22,7 +22,7 @@ set_before l a v = not (l v) && a (new_number l v)
 
 -- values of the observed vertices in their old numbers, a hidden vertex having its first value
 abbrev pub values_before : (ℕ → Bool) → (ℕ → ℕ) → ℕ → ℕ
-values_before l s v = cond (not (l v)) (s (new_number l v)) 0
+values_before l s v = if not (l v) then s (new_number l v) else 0
 
 -- m' has the observed vertices of m in their new numbers with the same sizes, and every event of observed vertices has, under every intervention on observed vertices, the same probability in both.
 pub record Folds (l : ℕ → Bool) (m m' : FiniteModel) : Type 0 where

@@ -1,5 +1,5 @@
 -- The derivation of the formula that the identification procedure answers: the steps of the do-calculus that turn P(y | do(x)) into it.
-use Rattle.std.specs.Prelude.{ℕ, suc, ◌+◌, ◌≡◌, ◌≢◌, ◌⊎◌, Bool, true, false, ◌||◌, cond, List, [], ◌∷◌, ◌++◌, length, IsTrue}
+use Rattle.std.specs.Prelude.{ℕ, suc, ◌+◌, ◌≡◌, ◌≢◌, ◌⊎◌, Bool, true, false, ◌||◌, List, [], ◌∷◌, ◌++◌, length, IsTrue, if◌then◌else◌}
 use Rattle.mixed_graph.specs.Bits.{has}
 use Rattle.mixed_graph.specs.Graphs.{MixedGraph}
 use Rattle.mixed_graph.specs.Orders.{IsOrder}
@@ -18,7 +18,7 @@ single s = plan s no_plans
 
 -- a step is left out where its set is empty
 abbrev pub with_set : ℕ → Plan → Plans → Plans
-with_set z s rest = cond (is_empty z) rest (plan s rest)
+with_set z s rest = if is_empty z then rest else plan s rest
 
 -- one list of steps for each factor of a product
 pub data Lists : Type 0 where
@@ -42,7 +42,7 @@ at_zero l = at_place 0 l no_plans
 -- the members of t in the order
 abbrev pub in_order : ℕ → List ℕ → List ℕ
 in_order t [] = []
-in_order t (v ∷ o) = cond (has t v) (v ∷ in_order t o) (in_order t o)
+in_order t (v ∷ o) = if has t v then (v ∷ in_order t o) else in_order t o
 
 -- ---- the steps of a body: from P(t | do(all others)) to the product of the factors of t
 
@@ -53,13 +53,13 @@ universe n (Source.Defined k) a = a
 
 -- definition k, of the set a, summed down to u
 abbrev pub marginal_steps : (k a u : ℕ) → Plans
-marginal_steps k a u = cond (is_empty (minus a u)) (single (Plan.Make (Move.Cite k))) (plan (Plan.Make (Move.Widen (minus a u))) (single (Plan.At 0 (Plan.Then (single (Plan.Make (Move.Cite k)))))))
+marginal_steps k a u = if is_empty (minus a u) then single (Plan.Make (Move.Cite k)) else plan (Plan.Make (Move.Widen (minus a u))) (single (Plan.At 0 (Plan.Then (single (Plan.Make (Move.Cite k))))))
 
 -- P(v | m) read from a definition: the quotient of two sums of it
 abbrev pub source_steps : Source → (a v m : ℕ) → Plans
 source_steps (Source.Under z) a v m = no_plans
-source_steps (Source.Defined k) a v m = cond (is_empty m) (marginal_steps k a (one v))
-    (plan (Plan.Make Move.Split) (plan (Plan.At 0 (Plan.Then (marginal_steps k a (join m (one v))))) (single (Plan.At 1 (Plan.Then (marginal_steps k a m))))))
+source_steps (Source.Defined k) a v m = if is_empty m then marginal_steps k a (one v)
+    else (plan (Plan.Make Move.Split) (plan (Plan.At 0 (Plan.Then (marginal_steps k a (join m (one v))))) (single (Plan.At 1 (Plan.Then (marginal_steps k a m))))))
 
 -- The rules at the term of one vertex of t, where p has the vertices before it, u is the universe and m the pillow: rule 3 drops the actions on what comes later or lies
 -- outside a, rule 2 makes those on earlier members of a outside t observations, and rule 1 drops what isn't in the pillow.
@@ -112,7 +112,7 @@ pub data AreAllSteps (g : MixedGraph) (order : List ℕ) : (k : ℕ) → List �
 -- the first of the sets that has v
 abbrev pub home : List ℕ → ℕ → ℕ
 home [] v = 0
-home (t ∷ ts) v = cond (has t v) t (home ts v)
+home (t ∷ ts) v = if has t v then t else home ts v
 
 -- from the term of a vertex in the chain of d to that in the chain of its district t, where p has the vertices before it
 abbrev pub home_list : (d t p : ℕ) → Plans
@@ -121,12 +121,12 @@ home_list d t p = with_set (minus (common d p) t) (Plan.Make (Move.Rule2Do (minu
 -- one such list for each member of d in the order, where p has the vertices before the list
 abbrev pub home_lists : (d : ℕ) → List ℕ → (p : ℕ) → List ℕ → Lists
 home_lists d ts p [] = no_more
-home_lists d ts p (v ∷ o) = cond (has d v) (more (home_list d (home ts v) p) (home_lists d ts (join p (one v)) o)) (home_lists d ts (join p (one v)) o)
+home_lists d ts p (v ∷ o) = if has d v then more (home_list d (home ts v) p) (home_lists d ts (join p (one v)) o) else home_lists d ts (join p (one v)) o
 
 -- the places of the members of t in the list, counted from i
 abbrev pub places : ℕ → ℕ → List ℕ → List ℕ
 places t i [] = []
-places t i (v ∷ l) = cond (has t v) (i ∷ places t (suc i) l) (places t (suc i) l)
+places t i (v ∷ l) = if has t v then (i ∷ places t (suc i) l) else places t (suc i) l
 
 -- the places of the members of each district
 abbrev pub group_lists : List ℕ → List ℕ → List (List ℕ)
@@ -146,7 +146,7 @@ unchain_lists (t ∷ ts) l = more (unchain_steps (in_order t l)) (unchain_lists 
 
 -- factors that are products are opened
 abbrev pub unwrap_steps : Trees → Plans
-unwrap_steps fs = cond (has_product fs) (single (Plan.Make Move.Unwrap)) no_plans
+unwrap_steps fs = if has_product fs then single (Plan.Make Move.Unwrap) else no_plans
 
 -- the list has two entries or more
 abbrev pub two_or_more : List ℕ → Bool
@@ -161,7 +161,7 @@ has_pair order (t ∷ ts) = two_or_more (in_order t order) || has_pair order ts
 
 -- where some district has two members, the factors of each district become one term
 abbrev pub group_steps : (order chain : List ℕ) → List ℕ → Plans → Plans
-group_steps order chain ts rest = cond (has_pair order ts) (plan (Plan.Make (Move.Group (group_lists ts chain))) (at_each 0 (unchain_lists ts chain) rest)) rest
+group_steps order chain ts rest = if has_pair order ts then plan (Plan.Make (Move.Group (group_lists ts chain))) (at_each 0 (unchain_lists ts chain) rest) else rest
 
 -- One district: its list. Several: the chain of d, each vertex to its district, one term for each district, and then the list of each.
 abbrev pub district_steps : List ℕ → (d : ℕ) → List ℕ → Lists → Trees → Plans
@@ -173,7 +173,7 @@ district_steps order d (t ∷ s ∷ ts) ls fs = plan (Plan.Make (Move.Chain (in_
 
 -- rule 3 puts in the actions that change nothing in y, and the sum over d outside y holds the rest
 abbrev pub main_steps : (n x y d : ℕ) → Plans → Plans
-main_steps n x y d rest = with_set (minus (minus (all n) x) d) (Plan.Make (Move.Rule3In (minus (minus (all n) x) d))) (cond (is_empty (minus d y)) rest (plan (Plan.Make (Move.Widen (minus d y))) (at_zero rest)))
+main_steps n x y d rest = with_set (minus (minus (all n) x) d) (Plan.Make (Move.Rule3In (minus (minus (all n) x) d))) (if is_empty (minus d y) then rest else plan (Plan.Make (Move.Widen (minus d y))) (at_zero rest))
 
 -- by this order the composed formula has that derivation
 pub record IsComposedWith (g : MixedGraph) (order : List ℕ) (x y : ℕ) (f : PlainFormula) (d : PlainDerivation) : Type 0 where

@@ -1,5 +1,5 @@
 -- The identification of an effect P(y | do(x)): the procedure ID of Shpitser and Pearl (2006), on the districts (c-components) of Tian and Pearl (2002).
-use Rattle.std.specs.Prelude.{ℕ, suc, ◌+◌, ◌≡◌, ◌≢◌, ◌<◌, ◌⊎◌, false, cond, List, [], ◌∷◌, ◌++◌, length, ◌==◌, IsTrue}
+use Rattle.std.specs.Prelude.{ℕ, suc, ◌+◌, ◌≡◌, ◌≢◌, ◌<◌, ◌⊎◌, false, if◌then◌else◌, List, [], ◌∷◌, ◌++◌, length, ◌==◌, IsTrue}
 use Rattle.mixed_graph.specs.Bits.{has}
 use Rattle.mixed_graph.specs.Graphs.{MixedGraph, IsAncestor, induced}
 use Rattle.mixed_graph.specs.Orders.{IsOrder}
@@ -33,7 +33,7 @@ pub data Source : Type 0 where
 
 -- the sum over a set, where it isn't empty
 abbrev pub sum_if : ℕ → Tree → Tree
-sum_if s e = cond (is_empty s) e (sum s e)
+sum_if s e = if is_empty s then e else sum s e
 
 -- definition k, a distribution of the set a, summed down to u
 abbrev pub marginal : (k a u : ℕ) → Tree
@@ -42,7 +42,7 @@ marginal k a u = sum_if (minus a u) (named k)
 -- P(v | m) in the source: a term, or a quotient of two sums of a definition
 abbrev pub conditional : Source → (a v m : ℕ) → Tree
 conditional (Source.Under z) a v m = prob (one v) z m
-conditional (Source.Defined k) a v m = cond (is_empty m) (marginal k a (one v)) (quotient (marginal k a (join m (one v))) (marginal k a m))
+conditional (Source.Defined k) a v m = if is_empty m then marginal k a (one v) else quotient (marginal k a (join m (one v))) (marginal k a m)
 
 -- The factors P(v | pillow of v) of the members of t, in the order; p has the vertices before the list. The pillow is that in the members of a up to v.
 pub data AreFactors (g : MixedGraph) (from : Source) (a t : ℕ) : ℕ → List ℕ → Trees → Type 0 where

@@ -1,5 +1,5 @@
 -- The lines of a model whose vertices are parities: its causes, and the bits of its vertices.
-use Rattle.std.specs.Prelude.{ℕ, ◌+◌, cond, List, [], ◌∷◌, ◌++◌, Option, Some, None, map, codes, decimal}
+use Rattle.std.specs.Prelude.{ℕ, ◌+◌, if◌then◌else◌, List, [], ◌∷◌, ◌++◌, Option, Some, None, map, codes, decimal}
 use Rattle.std.specs.List.{flat_map, join_by}
 use Rattle.mixed_graph.specs.Bits.{has, members_below}
 use Rattle.mixed_graph.specs.Names.{name_of}
@@ -53,7 +53,7 @@ cause_text j = codes "c" ++ decimal j
 
 -- what a bit of vertex v is the parity of: v's own hedge bit, hedge bits, carried bits, and causes
 abbrev pub terms_of : List (List ℕ) → ℕ → Part → List (List ℕ)
-terms_of names v p = cond p.own_hedge (bit_text names Hedge v ∷ []) []
+terms_of names v p = if p.own_hedge then (bit_text names Hedge v ∷ []) else []
     ++ (bits_of names Hedge p.hedge_of.bits ++ (bits_of names Carried p.carried_of.bits ++ map cause_text p.causes.items))
 
 -- each term behind ` + `

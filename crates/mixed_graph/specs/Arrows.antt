@@ -1,5 +1,5 @@
 -- Words for the search of a cycle, inside this crate.
-use Rattle.std.specs.Prelude.{◌≡◌, ℕ, ◌+◌, ◌-◌, ◌<◌, ◌≤◌, Bool, false, List, [], ◌∷◌, IsTrue, slice_index, cond, nat_lt}
+use Rattle.std.specs.Prelude.{◌≡◌, ℕ, ◌+◌, ◌-◌, ◌<◌, ◌≤◌, Bool, false, List, [], ◌∷◌, IsTrue, slice_index, if◌then◌else◌, nat_lt}
 use Rattle.mixed_graph.specs.Bits.{has}
 use Rattle.mixed_graph.specs.Graphs.{MixedGraph, graph_from}
 
@@ -38,4 +38,4 @@ pub record IsLasso (arrow : ℕ → ℕ → Bool) (list : List ℕ) (count back 
 
 -- place i of the entries from `back` to `count`, counted from p on and round
 abbrev pub turn : ℕ → ℕ → ℕ → ℕ → ℕ
-turn back count p i = cond (nat_lt (p + i) count) (p + i) (p + i - (count - back))
+turn back count p i = if nat_lt (p + i) count then (p + i) else (p + i - (count - back))

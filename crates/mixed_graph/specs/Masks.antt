@@ -1,5 +1,5 @@
 -- Sets of vertices as masks: the sets of plain trees. `has mask v` says whether v is a member.
-use Rattle.std.specs.Prelude.{ℕ, ◌-◌, ◌^◌, Bool, eqb, ltb, bit_and, bit_or, bit_xor}
+use Rattle.std.specs.Prelude.{ℕ, ◌-◌, ◌^◌, Bool, ◌==◌, ltb, bit_and, bit_or, bit_xor}
 
 -- the members of either
 abbrev pub join : ℕ → ℕ → ℕ
@@ -23,15 +23,15 @@ all n = 2 ^ n - 1
 
 -- the set has no member
 abbrev pub is_empty : ℕ → Bool
-is_empty a = eqb a 0
+is_empty a = a == 0
 
 -- no vertex is a member of both
 abbrev pub is_apart : ℕ → ℕ → Bool
-is_apart a b = eqb (bit_and a b) 0
+is_apart a b = bit_and a b == 0
 
 -- each member of a is one of b
 abbrev pub is_inside : ℕ → ℕ → Bool
-is_inside a b = eqb (bit_and a b) a
+is_inside a b = bit_and a b == a
 
 -- each member is below n
 abbrev pub is_below : ℕ → ℕ → Bool

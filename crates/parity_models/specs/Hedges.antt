@@ -1,5 +1,5 @@
 -- The data of a hedge from which two models are made, and what it keeps (Shpitser and Pearl; Tian and Pearl).
-use Rattle.std.specs.Prelude.{ℕ, ◌+◌, ◌-◌, ◌≡◌, ◌≢◌, ◌<◌, ◌≤◌, Bool, true, false, eqb, not, ◌&&◌, List, [], ◌∷◌, length}
+use Rattle.std.specs.Prelude.{ℕ, ◌+◌, ◌-◌, ◌≡◌, ◌≢◌, ◌<◌, ◌≤◌, Bool, true, false, ◌==◌, not, ◌&&◌, List, [], ◌∷◌, length}
 use Rattle.mixed_graph.specs.Graphs.{MixedGraph}
 use Rattle.parity_models.specs.Parities.{differ, odd_below}
 use Rattle.parity_models.specs.Links.{Link, is_entry, EndsDiffer, AreOrdered, AreBelow, AreInside, AreRooted, LinksAreEdges}
@@ -35,7 +35,7 @@ outsider d u = d.big u && not (d.small u)
 
 -- whether cause j is the cause of an odd number of members of small and kept vertices
 abbrev pub privates : ℕ → ParityHedge → ℕ → Bool
-privates n d j = differ (odd_below n (λ v. d.small v && eqb j (d.small_cause v))) (odd_below n (λ v. d.kept v && eqb j (d.kept_cause v)))
+privates n d j = differ (odd_below n (λ v. d.small v && j == d.small_cause v)) (odd_below n (λ v. d.kept v && j == d.kept_cause v))
 
 -- each link: the entry is in big outside small, the partner in big
 abbrev pub AreOuter : ParityHedge → List Link → Type 0

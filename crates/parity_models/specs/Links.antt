@@ -1,5 +1,5 @@
 -- Lists of links, each of which joins an entry to a partner.
-use Rattle.std.specs.Prelude.{ℕ, suc, ◌≡◌, ◌≢◌, ◌<◌, Bool, true, false, cond, eqb, ◌&&◌, ◌||◌, List, [], ◌∷◌}
+use Rattle.std.specs.Prelude.{ℕ, suc, ◌≡◌, ◌≢◌, ◌<◌, Bool, true, false, if◌then◌else◌, ◌==◌, ◌&&◌, ◌||◌, List, [], ◌∷◌}
 use Rattle.mixed_graph.specs.Graphs.{MixedGraph}
 use Rattle.parity_models.specs.Parities.{differ}
 
@@ -11,17 +11,17 @@ pub record Link : Type 0 where
 -- the parity of the bits x of the links with the end v; the first link has the number k
 abbrev pub at_vertex : ℕ → List Link → (ℕ → Bool) → ℕ → Bool
 at_vertex k [] x v = false
-at_vertex k (p ∷ r) x v = differ (differ (eqb v p.entry) (eqb v p.partner) && x k) (at_vertex (suc k) r x v)
+at_vertex k (p ∷ r) x v = differ (differ (v == p.entry) (v == p.partner) && x k) (at_vertex (suc k) r x v)
 
 -- v is an end of the link with the number j
 abbrev pub is_end : ℕ → List Link → ℕ → ℕ → Bool
 is_end k [] j v = false
-is_end k (p ∷ r) j v = cond (eqb j k) (eqb v p.entry || eqb v p.partner) (is_end (suc k) r j v)
+is_end k (p ∷ r) j v = if j == k then (v == p.entry || v == p.partner) else is_end (suc k) r j v
 
 -- v is an entry
 abbrev pub is_entry : List Link → ℕ → Bool
 is_entry [] v = false
-is_entry (p ∷ r) v = eqb v p.entry || is_entry r v
+is_entry (p ∷ r) v = v == p.entry || is_entry r v
 
 -- v is no entry
 abbrev pub IsNoEntry : List Link → ℕ → Type 0
@@ -51,7 +51,7 @@ AreInside G (p ∷ r) = (G p.entry ≡ true) × (G p.partner ≡ true) × AreIns
 -- the partner of each link is in S or an earlier entry
 abbrev pub AreRooted : (ℕ → Bool) → List Link → Type 0
 AreRooted S [] = Unit {0}
-AreRooted S (p ∷ r) = (S p.partner ≡ true) × AreRooted (λ v. S v || eqb v p.entry) r
+AreRooted S (p ∷ r) = (S p.partner ≡ true) × AreRooted (λ v. S v || v == p.entry) r
 
 -- each link joins two ends of a bidirected edge
 abbrev pub LinksAreEdges : MixedGraph → List Link → Type 0

@@ -1,5 +1,5 @@
 -- The two models that the data of a hedge gives, and the event that tells them apart.
-use Rattle.std.specs.Prelude.{ℕ, ◌+◌, ◌*◌, ◌/◌, ◌%◌, Bool, true, false, cond, eqb, ltb, not, ◌&&◌, ◌||◌, length}
+use Rattle.std.specs.Prelude.{ℕ, ◌+◌, ◌*◌, ◌/◌, ◌%◌, Bool, true, false, if◌then◌else◌, ◌==◌, ltb, not, ◌&&◌, ◌||◌, length}
 use Rattle.finite_models.specs.Sums.{sum_over}
 use Rattle.finite_models.specs.Models.{FiniteModel, solution, intervene, world_weight}
 use Rattle.parity_models.specs.Parities.{differ, odd_below, bit, chosen}
@@ -8,9 +8,9 @@ use Rattle.parity_models.specs.Hedges.{ParityHedge, links_of}
 
 -- the value of a vertex with a hedge bit, where a, and a carried bit, where b
 abbrev pub value : (a b h k : Bool) → ℕ
-value true true h k = cond h 1 0 + 2 * cond k 1 0
-value true false h k = cond h 1 0
-value false true h k = cond k 1 0
+value true true h k = (if h then 1 else 0) + 2 * (if k then 1 else 0)
+value true false h k = if h then 1 else 0
+value false true h k = if k then 1 else 0
 value false false h k = 0
 
 -- the hedge bit of v where the vertices have the values s: the first of two, or the only one
@@ -19,7 +19,7 @@ hedge_bit d s v = bit (s v % 2)
 
 -- the carried bit: the second where v has a hedge bit, or the only one
 abbrev pub carried_bit : ParityHedge → (ℕ → ℕ) → ℕ → Bool
-carried_bit d s v = cond (d.big v) (bit (s v / 2)) (bit (s v))
+carried_bit d s v = if d.big v then (bit (s v / 2)) else bit (s v)
 
 -- the bit of cause j in the world u
 abbrev pub world_bit : (ℕ → ℕ) → ℕ → Bool
@@ -43,7 +43,7 @@ first_bit n d s u v = differ (chosen n (chooses d d.big) d.choice (hedge_bit d s
 
 -- in the second: for v in small, the bits of the members of small that chose it, and its causes inside small
 abbrev pub second_bit : ℕ → ParityHedge → (ℕ → ℕ) → (ℕ → ℕ) → ℕ → Bool
-second_bit n d s u v = cond (d.small v) (differ (chosen n (chooses d d.small) d.choice (hedge_bit d s) v) (at_second d (world_bit u) v)) (first_bit n d s u v)
+second_bit n d s u v = if d.small v then differ (chosen n (chooses d d.small) d.choice (hedge_bit d s) v) (at_second d (world_bit u) v) else first_bit n d s u v
 
 -- the kept vertices that carry further
 abbrev pub carries : ParityHedge → ℕ → Bool
@@ -63,15 +63,15 @@ second_mechanism n d v s u = value (d.big v) (d.kept v) (second_bit n d s u v) (
 
 -- links have the weights 1 1, the other causes 3 1
 abbrev pub cause_weight : ParityHedge → ℕ → ℕ → ℕ
-cause_weight d j i = cond (ltb j (links_of d)) 1 (cond (eqb i 0) 3 1)
+cause_weight d j i = if ltb j (links_of d) then 1 else (if i == 0 then 3 else 1)
 
 -- a link serves its ends, the other causes their vertex
 abbrev pub serves_of : ParityHedge → ℕ → ℕ → Bool
-serves_of d j v = is_end 0 d.inner j v || (is_end (length d.inner) d.outer j v || ((d.small v && eqb j (d.small_cause v)) || (d.kept v && eqb j (d.kept_cause v))))
+serves_of d j v = is_end 0 d.inner j v || (is_end (length d.inner) d.outer j v || ((d.small v && j == d.small_cause v) || (d.kept v && j == d.kept_cause v)))
 
 -- 4 values with both bits, 2 with one, 1 with none
 abbrev pub size_of : ParityHedge → ℕ → ℕ
-size_of d v = cond (d.big v) (cond (d.kept v) 4 2) (cond (d.kept v) 2 1)
+size_of d v = if d.big v then (if d.kept v then 4 else 2) else (if d.kept v then 2 else 1)
 
 -- a model with these mechanisms
 abbrev pub counter_model : ℕ → ParityHedge → (ℕ → ℕ → Bool) → (ℕ → (ℕ → ℕ) → (ℕ → ℕ) → ℕ) → FiniteModel
@@ -99,4 +99,4 @@ event_odd n d s = odd_below n (λ v. (d.kept v && d.target v) && carried_bit d s
 
 -- the weight of the worlds whose solution under do(x) at a has an even sum of them
 abbrev pub event_even : FiniteModel → ParityHedge → (ℕ → Bool) → (ℕ → ℕ) → ℕ
-event_even m d x a = sum_over (λ j. true) m.values m.causes (λ u. world_weight m u * cond (not (event_odd m.vertices d (solution (intervene m x a) u))) 1 0) (λ j. 0)
+event_even m d x a = sum_over (λ j. true) m.values m.causes (λ u. world_weight m u * (if not (event_odd m.vertices d (solution (intervene m x a) u)) then 1 else 0)) (λ j. 0)

@@ -1,5 +1,5 @@
 -- Terms: what their sets have to be, and which interventions stand in them.
-use Rattle.std.specs.Prelude.{ℕ, Bool, true, false, not, ◌&&◌, ◌||◌, eqb, List, [], ◌∷◌}
+use Rattle.std.specs.Prelude.{ℕ, Bool, true, false, not, ◌&&◌, ◌||◌, ◌==◌, List, [], ◌∷◌}
 use Rattle.mixed_graph.specs.Masks.{is_empty, is_below}
 use Rattle.prob_expr.specs.TermSets.{are_term_sets}
 use Rattle.prob_expr.specs.Tree.{Tree, prob, sum, product, quotient, named, Trees, no_trees, tree, PlainFormula}
@@ -24,7 +24,7 @@ abbrev mutual
 -- the set is one of the list
 abbrev pub is_listed : ℕ → List ℕ → Bool
 is_listed b [] = false
-is_listed b (a ∷ rest) = eqb b a || is_listed b rest
+is_listed b (a ∷ rest) = b == a || is_listed b rest
 
 abbrev mutual
   -- the intervention of each term is empty, or one of the allowed ones

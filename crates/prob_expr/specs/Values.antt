@@ -1,5 +1,5 @@
 -- The value of an expression at an assignment: in a model, or over any other weights of events.
-use Rattle.std.specs.Prelude.{ℕ, zero, suc, Bool, ◌||◌, cond, eqb, List, [], ◌∷◌}
+use Rattle.std.specs.Prelude.{ℕ, zero, suc, Bool, ◌||◌, if◌then◌else◌, ◌==◌, List, [], ◌∷◌}
 use Rattle.mixed_graph.specs.Bits.{has}
 use Rattle.mixed_graph.specs.Graphs.{MixedGraph}
 use Rattle.fractions.specs.Fractions.{Fraction, over, IsEqual, add_below, mul, div}
@@ -10,7 +10,7 @@ use Rattle.prob_expr.specs.Tree.{Tree, prob, sum, product, quotient, named, Tree
 -- the sum of f over all points that differ from b at most in the coordinates i below n with u i, such a coordinate ranging below s i
 abbrev pub add_over : (ℕ → Bool) → (ℕ → ℕ) → ℕ → ((ℕ → ℕ) → Fraction) → (ℕ → ℕ) → Fraction
 add_over u s zero f b = f b
-add_over u s (suc n) f b = cond (u n) (add_below (s n) (λ x. add_over u s n f (set_at b n x))) (add_over u s n f b)
+add_over u s (suc n) f b = if u n then (add_below (s n) (λ x. add_over u s n f (set_at b n x))) else add_over u s n f b
 
 -- What values are taken over: `weight b a s` is the weight of the event that the vertices of a have their values in s, where those of b are set to theirs.
 pub record Weights : Type 0 where
@@ -42,7 +42,7 @@ abbrev mutual
 -- the values of the definitions from number k on, where those before it have the values q: each has its value from the earlier ones
 abbrev pub values_from : Weights → (ℕ → (ℕ → ℕ) → Fraction) → ℕ → List Tree → ℕ → (ℕ → ℕ) → Fraction
 values_from w q k [] = q
-values_from w q k (d ∷ ds) = values_from w (λ j s. cond (eqb j k) (value w q d s) (q j s)) (suc k) ds
+values_from w q k (d ∷ ds) = values_from w (λ j s. if j == k then value w q d s else q j s) (suc k) ds
 
 -- the value of a formula; a number without a definition has the value 1
 abbrev pub value_of : Weights → PlainFormula → (ℕ → ℕ) → Fraction
