@@ -9,7 +9,6 @@ pub mod Digits
 pub mod Factors
 pub mod Following
 pub mod Indicators
-pub mod Members
 pub mod Numbering
 pub mod Places
 pub mod Positive
