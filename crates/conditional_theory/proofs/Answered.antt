@@ -39,6 +39,7 @@ divided_from g t f d i = record {
   is = i.formula;
 }
 
+-- a formula that comes with a derivation under the condition is the formula that is stated for it
 pub derived_is_conditional : DerivedIsConditional
 derived_is_conditional g t f d (inl c) = inl (c.0, derived_is_identified g t.x t.y f d c.1)
 derived_is_conditional g t f d (inr (inl c)) = inr (inl (c.0, c.1, c.2))
@@ -197,24 +198,29 @@ module _ (g : MixedGraph) (ok : IsMixedGraph g) (t : PlainTarget) (k : IsConditi
 pub conditional_is_derived : ConditionalIsDerived
 conditional_is_derived g ok t k f i = has_derivation g ok t k f i
 
+-- the formula under a condition has no fault and no intervention, is derived, and equals the effect
 pub conditional_is_right : ConditionalIsRight
 conditional_is_right g ok t k f d i = right g ok t k f d i
 
+-- the formula under a condition and its derivation nest little, for any number of vertices
 pub conditional_is_shallow : ConditionalIsShallow
 conditional_is_shallow g ok t k f d i = shallow g ok t k f d i
 
 pub divided_is_accepted : DividedIsAccepted
 divided_is_accepted g t k x' z' vs turned joint d a = divided_accepted g t k x' z' vs turned joint d a
 
+-- the effect given observations is that of the turned sets, in each positive model that fits the graph
 pub turned_is_same : TurnedIsSame
 turned_is_same g ok t k x' z' vs c = same_effect g ok t k x' z' vs c
 
+-- the turned sets, with the observations that are left joined to y, are a target without a condition
 pub turned_is_target : TurnedIsTarget
 turned_is_target g t k x' z' vs c = joint_target g x' t.y z' (turned_sets g t k x' z' vs c)
 
 pub joint_has_hedge : JointHasHedge
 joint_has_hedge g ok t k x' z' vs c small big roots u r = stop_is_hedge g ok x' (join t.y z') small big roots (turned_pair g ok t k x' z' vs c) u r
 
+-- where identification of the joint effect stops, the effect under the condition has no formula
 pub joint_excludes_formula : JointExcludesFormula
 joint_excludes_formula g ok t k x' z' vs c small big u f i = excluded g ok t k x' z' vs c small big u f i
 

@@ -28,6 +28,7 @@ use Rattle.mixed_graph.specs.Masks.{is_empty, join}
 use Rattle.prob_expr.specs.Terms.{all_under, is_do_free, is_under}
 use Rattle.prob_expr.specs.Tree.{PlainFormula, PlainTarget, Tree, prob, quotient, sum}
 
+-- a set joined with the empty set is that set
 pub join-zero : (a : ℕ) → join a 0 ≡ a
 join-zero a = same_from_has (join a 0) a (λ u. has-or a 0 u ∙ rw (has-zero u) (bools (has a u)))
   where
@@ -147,6 +148,7 @@ divided_flat y z f h = go (is_empty z)
     go true = flat_more 8 f.main eight
     go false = both_true (is_tree_within 8 f.main) (is_tree_within 7 f.main) eight h
 
+-- the divided formula has the definitions of the joint one
 pub divided_defs : (y z : ℕ) (f : PlainFormula) → (divided y z f).defs ≡ f.defs
 divided_defs y z f = go (is_empty z)
   where

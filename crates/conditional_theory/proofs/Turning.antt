@@ -19,6 +19,7 @@ use Rattle.mixed_graph.specs.Masks.{is_empty, join, minus, one}
 use Rattle.prob_expr.specs.Terms.{is_term}
 use Rattle.prob_expr.specs.Tree.{PlainTarget, Tree, prob}
 
+-- the target P(y | do(x), z)
 abbrev pub targeted : (x y z : ℕ) → PlainTarget
 targeted x y z = record { x = x; y = y; given = z }
 

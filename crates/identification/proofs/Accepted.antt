@@ -33,6 +33,7 @@ use Rattle.mixed_graph.specs.Masks.{all, is_below, is_empty, join, minus, one, c
 use Rattle.prob_expr.specs.Tree.{Tree, Trees, named, no_trees, prob, product, quotient, sum, tree}
 use Rattle.identification.specs.Derivations.{AreAllSteps, single, with_set, Lists, no_more, more, at_each, at_zero, in_order, home, home_list, home_lists, group_lists, unchain_steps, unchain_lists, unwrap_steps, main_steps}
 
+-- two lists of sets below n that aren't empty make one such list
 pub are_sets-append : (n : ℕ) (a b : List ℕ) → are_sets n a ≡ true → are_sets n b ≡ true → are_sets n (a ++ b) ≡ true
 are_sets-append n [] b h k = k
 are_sets-append n (x ∷ a) b h k = both_true (is_below n x && not (is_empty x)) (are_sets n (a ++ b)) (and_l (is_below n x && not (is_empty x)) (are_sets n a) h) (are_sets-append n a b (and_r (is_below n x && not (is_empty x)) (are_sets n a) h) k)
@@ -259,12 +260,15 @@ module _ (g : MixedGraph) (is_graph : IsMixedGraph g) (o : List ℕ) (order : Is
   pub d_free : (u : ℕ) → has d u ≡ true → has (minus (all g.vertices) x) u ≡ true
   d_free u e = ancestors_in g is_graph o order y (minus (all g.vertices) x) y_free u (is_d.sound u e)
 
+  -- the members of d are vertices of the graph
   pub d_low : (u : ℕ) → has d u ≡ true → u < g.vertices
   d_low u e = all-below g.vertices u (and_l (has (all g.vertices) u) (not (has x u)) (rw (has-minus (all g.vertices) x u) at (d_free u e)))
 
+  -- no member of d is in x
   pub d_off : (u : ℕ) → has d u ≡ true → has x u ≡ false
   d_off u e = not_e (has x u) (and_r (has (all g.vertices) u) (not (has x u)) (rw (has-minus (all g.vertices) x u) at (d_free u e)))
 
+  -- each member of y is in d, as its own ancestor
   pub y_in : (u : ℕ) → has y u ≡ true → has d u ≡ true
   y_in u e = is_d.complete u (record { vertex = tgt.y_low u e; path = []; end = u; leads = refl; inside = e })
 
@@ -283,6 +287,7 @@ module _ (g : MixedGraph) (is_graph : IsMixedGraph g) (o : List ℕ) (order : Is
       bools : (v x d : Bool) → (x ≡ true → v ≡ true) → (d ≡ true → x ≡ false) → (x || ((v && not x) && not d)) ≡ (v && not d)
       bools v x d h1 h2 = grind (arith, h1, h2)
 
+  -- a parent outside x of a member of d is in d
   pub d_closed : (p u : ℕ) → g.arrow p u ≡ true → has x p ≡ false → has d u ≡ true → has d p ≡ true
   d_closed p u b n i = let r = is_d.sound u i in is_d.complete p (record {
     vertex = is_graph.tail_below p u b;
@@ -316,6 +321,7 @@ module _ (g : MixedGraph) (is_graph : IsMixedGraph g) (o : List ℕ) (order : Is
   abbrev summed_out : ℕ
   summed_out = minus d y
 
+  -- from P(y | do(x)) to the sum over d outside y of what the rest makes of P(d | do(all others))
   pub main_made : (ls : List ℕ) (rest : Plans) (e : Tree) → MakesAll g ls rest (prob d (minus (all g.vertices) d) 0) e → MakesAll g ls (main_steps g.vertices x y d rest) (prob y x 0) (sum_if summed_out e)
   main_made ls rest e h = made_with g ls others (Plan.Make (Move.Rule3In others)) (cond (is_empty summed_out) rest (plan (Plan.Make (Move.Widen summed_out)) (at_zero rest))) (prob y x 0) (prob y (minus (all g.vertices) d) 0) (sum_if summed_out e) no_act (act ls) (go (is_empty summed_out) refl)
     where
@@ -341,6 +347,7 @@ module _ (g : MixedGraph) (is_graph : IsMixedGraph g) (o : List ℕ) (order : Is
         sum_at g ls rest summed_out (prob d (minus (all g.vertices) d) 0) e h,
       )
 
+  -- the steps of main nest at most 13 deep where the rest of them nests at most 11
   pub main_deep : (rest : Plans) → are_plans_within 11 rest ≡ true → are_plans_within 13 (main_steps g.vertices x y d rest) ≡ true
   main_deep rest h = with_deep 13 others (Plan.Make (Move.Rule3In others)) (cond (is_empty summed_out) rest (plan (Plan.Make (Move.Widen summed_out)) (at_zero rest))) refl (go (is_empty summed_out))
     where

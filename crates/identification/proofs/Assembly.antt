@@ -155,14 +155,17 @@ pub cited_two : (ls : List ℕ) (k : ℕ) (a b : List PlainLemma) → AllCited l
 cited_two ls k [] b h = (tt, subst (λ z. AllCited ls z b) (omega arith) h)
 cited_two ls k (x ∷ a) b h = let r = cited_two ls (suc k) a b h.1 in ((h.0, r.0), subst (λ z. AllCited ls z b) (omega arith) r.1)
 
+-- the sets of two joined lists of lemmas are those of the first and then those of the second
 pub sets-append : (a b : List PlainLemma) → sets_of (a ++ b) ≡ sets_of a ++ sets_of b
 sets-append [] b = refl
 sets-append (x ∷ a) b = ap (λ z. x.set ∷ z) (sets-append a b)
 
+-- there are as many sets as lemmas
 pub length-sets : (a : List PlainLemma) → length (sets_of a) ≡ length a
 length-sets [] = refl
 length-sets (x ∷ a) = ap suc (length-sets a)
 
+-- lemmas that make definitions, and more lemmas after those that make more, make all of them in one list
 pub define-two : (g : MixedGraph) (before : List ℕ) (a b : List PlainLemma) (ds es : List Tree) → Define g before a ds → Define g (before ++ sets_of a) b es → Define g before (a ++ b) (ds ++ es)
 define-two g before [] b [] es h k = subst (λ z. Define g z b es) (append-nil before) k
   where
@@ -182,6 +185,7 @@ nth_cited [] x post k e = subst (λ k. IsCited (x ∷ post) (Source.Defined k) x
 nth_cited (y ∷ ys) x post zero e = absurd (omega (arith, e))
 nth_cited (y ∷ ys) x post (suc k) e = let r : IsCited (ys ++ (x ∷ post)) (Source.Defined k) x = nth_cited ys x post k (omega (arith, e)) in let l : k < length (ys ++ (x ∷ post)) = r.0 in (omega (arith, l), r.1)
 
+-- where k sets come first and then those of the lemmas, the lemmas may be cited from number k on
 pub all_cited : (pre : List ℕ) (a : List PlainLemma) (k : ℕ) → length pre ≡ k → AllCited (pre ++ sets_of a) k a
 all_cited pre [] k e = tt
 all_cited pre (x ∷ a) k e = (nth_cited pre x.set (sets_of a) k e, subst (λ z. AllCited z (suc k) a) (regroup pre) (all_cited (pre ++ (x.set ∷ [])) a (suc k) (let l : length (pre ++ (x.set ∷ [])) ≡ length pre + 1 = length-append pre (x.set ∷ []) in omega (arith, l, e))))

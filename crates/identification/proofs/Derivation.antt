@@ -39,6 +39,7 @@ are_single g o d (t ∷ ts) h p e = let q = or_false (two_or_more (in_order t o)
     ((λ u v iu iv. at_most_one (in_order t o) q.0 u v (among_in_order t u o iu (h u (p.0.t_in u iu))) (among_in_order t v o iv (h v (p.0.t_in v iv)))), are_single g o d ts h p.1 q.1)
 
 module _ (g : MixedGraph) (is_graph : IsMixedGraph g) (o : List ℕ) (order : IsOrderFrom g 0 o) (d : ℕ) (low : (u : ℕ) → has d u ≡ true → u < g.vertices) (some : ℕ) (some_in : has d some ≡ true) where
+  -- from P(d | do(all others)) to the product of its districts' factors, where each list makes its factor
   pub districts_made : (ls ts : List ℕ) (xs : Lists) (fs : Trees) → AreDistricts g d 0 o ts → EachMade g ls xs (starts g.vertices ts) fs → MakesAll g ls (district_steps o d ts xs fs) (prob d (minus (all g.vertices) d) 0) (product_of fs)
   districts_made ls [] xs fs r h = rest_made g is_graph o order d low some some_in ls [] xs fs r h
   districts_made ls (t ∷ []) xs fs r h = rest_made g is_graph o order d low some some_in ls (t ∷ []) xs fs r h
@@ -50,6 +51,7 @@ module _ (g : MixedGraph) (is_graph : IsMixedGraph g) (o : List ℕ) (order : Is
       go false e = single_made g is_graph o order d low some some_in ls t s ts xs fs
           (are_single g o d (t ∷ s ∷ ts) (λ u i. in_list g 0 u o order (low u i) (has-zero u)) (are_parts g is_graph d 0 o (t ∷ s ∷ ts) r) e) r h
 
+  -- the steps on d nest at most 11 deep where those of each factor nest at most 9
   pub districts_deep : (ts : List ℕ) (xs : Lists) (fs : Trees) → are_lists_to 9 xs ≡ true → are_plans_within 11 (district_steps o d ts xs fs) ≡ true
   districts_deep [] xs fs h = refl
   districts_deep (t ∷ []) xs fs h = rest_deep g is_graph o order d low some some_in (t ∷ []) xs fs h
@@ -68,6 +70,7 @@ module _ (g : MixedGraph) (is_graph : IsMixedGraph g) (o : List ℕ) (order : Is
     pub by : IsComposedWith g o x y f derivation
     pub accepted : IsAcceptedFor g x y f derivation
 
+  -- the composed formula has a derivation by the same order, and it is accepted
   pub procedure : Derived
   procedure = record {
     derivation = record { lemmas = w.lemmas; main = Plan.Then (main_steps g.vertices x y made.d rest) };

@@ -52,6 +52,7 @@ at_end (y ∷ ys) zero x e = absurd (omega (arith, e))
 at_end (y ∷ ys) (suc k) x e = let r : IsCited (ys ++ (x ∷ [])) (Source.Defined k) x = at_end ys k x (omega (arith, e)) in let l : k < length (ys ++ (x ∷ [])) = r.0 in (omega (arith, l), r.1)
 
 module _ (g : MixedGraph) (is_graph : IsMixedGraph g) (o : List ℕ) (order : IsOrderFrom g 0 o) where
+  -- the district of c in a is a place for a body where a holds what leads to it from the universe
   pub site_of : (from : Source) (a c t : ℕ) → IsStage g from a c → IsDistrict g a c t → IsSite g from a t
   site_of from a c t s d = record {
     low = s.low;
@@ -66,6 +67,7 @@ module _ (g : MixedGraph) (is_graph : IsMixedGraph g) (o : List ℕ) (order : Is
       inside u (at e) = s.c_in u e
       inside u (by i b r) = i
 
+  -- the ancestors of c in the graph induced on t lie in t, where c does
   pub ancestors_in : (c t : ℕ) → ((u : ℕ) → has c u ≡ true → has t u ≡ true) → (u : ℕ) → IsAncestor (induced g (has t)) (has c) u → has t u ≡ true
   ancestors_in c t within u r = go u r.path r.leads
     where
@@ -73,6 +75,7 @@ module _ (g : MixedGraph) (is_graph : IsMixedGraph g) (o : List ℕ) (order : Is
       go u [] p = within u (rw p r.inside)
       go u (x ∷ xs) p = and_l (has t u) (has t x) (and_r (g.arrow u x) (has t u && has t x) p.0)
 
+  -- the next stage: c lies in its ancestors in its district t, which are the set of a definition
   pub stage_of : (from : Source) (a c t a2 k : ℕ) → IsStage g from a c → IsDistrict g a c t → AreAncestorsIn g t c a2 → IsStage g (Source.Defined k) a2 c
   stage_of from a c t a2 k s d n = record {
     low = λ u e. s.low u ((site_of from a c t s d).t_in u (ancestors_in c t (λ w i. d.complete w (at i)) u (n.sound u e)));
@@ -82,6 +85,7 @@ module _ (g : MixedGraph) (is_graph : IsMixedGraph g) (o : List ℕ) (order : Is
     some_in = s.some_in;
   }
 
+  -- something is left of t without a, where a lies in t and isn't t
   pub not_all : (t a : ℕ) → ((u : ℕ) → has a u ≡ true → has t u ≡ true) → (a ≡ t → ⊥) → is_empty (minus t a) ≡ false
   not_all t a within ne = go (decide (is_empty (minus t a)))
     where
@@ -176,6 +180,7 @@ module _ (g : MixedGraph) (is_graph : IsMixedGraph g) (o : List ℕ) (order : Is
     pub define : (before : List ℕ) → length before ≡ k → IsCited before from a → Define g before lemmas ds
     pub made : (ls : List ℕ) → IsCited ls from a → AllCited ls k lemmas → MakesAll g ls steps (prob c (minus (all g.vertices) c) 0) e
 
+  -- each factor has lemmas and steps that make it from P(c | do(all others)) and nest little
   pub factored : (c a : ℕ) (from : Source) (k : ℕ) (ds : List Tree) (e : Tree) → IsHeld g.vertices room from a → IsStage g from a c → IsFactor g r c a from k ds e → Factored c a from k ds e
   factored c a from k _ e h s (whole d q) = let b = body_made g is_graph room from a c h (site_of g is_graph o order from a c c s d) r e ordered q in
       record { lemmas = []; steps = b.steps; are = AreFactorSteps.whole d b.are; same = refl; deep = steps_more 8 b.steps (steps_more 7 b.steps b.deep); lemmas_deep = refl; sets = refl; define = λ before q i. tt; made = λ ls i j. b.made ls i }

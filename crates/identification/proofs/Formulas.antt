@@ -19,6 +19,7 @@ pub accepted_by : (g : MixedGraph) → IsMixedGraph g → (o : List ℕ) → IsO
 accepted_by g ok o order x y tgt f (inr t) = let p = procedure g ok o order x y tgt f t.1 in (p.derivation, inr (t.0, p.by), p.accepted)
 accepted_by g ok o order x y tgt f (inl t) = (record { lemmas = []; main = Plan.Then no_plans }, inl (t.0, t.1, refl), observed_accepted g x y f (record { lemmas = []; main = Plan.Then no_plans }) t.0 t.1 refl)
 
+-- the formula of identification has its derivation, which is accepted, also where x is empty
 pub formula_is_accepted : FormulaIsAccepted
 formula_is_accepted g ok x y tgt f i = let r = accepted_by g ok i.order (order_of g i.order i.is_order) x y tgt f i.answer in
     (r.0, record { order = i.order; is_order = i.is_order; answer = r.1 }, r.2)

@@ -15,6 +15,7 @@ module _ (ok : List ℕ) where
   IsOk (Source.Under z) = (is_empty z || is_listed z ok) ≡ true
   IsOk (Source.Defined k) = Unit {0}
 
+  -- a sum has only the listed interventions where its summand does
   pub free_sum : (s : ℕ) (e : Tree) → is_under ok e ≡ true → is_under ok (sum_if s e) ≡ true
   free_sum s e h = go (is_empty s)
     where
@@ -43,12 +44,14 @@ module _ (ok : List ℕ) where
   free_body : (g : MixedGraph) (o : List ℕ) (from : Source) (a t : ℕ) (e : Tree) → IsOk from → IsBody g o from a t e → is_under ok e ≡ true
   free_body g o from a t e h b = rw b.is (free_one b.factors (free_factors g from a t 0 o b.factors h b.are))
 
+  -- a factor and its definitions have only listed interventions where that is so of its source
   pub free_of : (g : MixedGraph) (o : List ℕ) (c a : ℕ) (from : Source) (k : ℕ) (ds : List Tree) (e : Tree) → IsOk from → IsFactor g o c a from k ds e → (all_under ok ds ≡ true) × (is_under ok e ≡ true)
   free_of g o c a from k _ e w (whole d b) = (refl, free_body g o from a c e w b)
   free_of g o c a from k _ _ w (summed {t = t} {e = e} d ne n b) = (refl, free_body g o from a t e w b)
   free_of g o c a from k _ e w (further {t = t} {a2 = a2} {b = x} {ds = ds} d ne n q r b next) = let h = free_of g o c a2 (Source.Defined k) (suc k) ds e tt next in
       (both_true (is_under ok x) (all_under ok ds) (free_body g o from a t x w b) h.0, h.1)
 
+  -- where the trees of two lists have only the listed interventions, so do those of the joined list
   pub all_under-append : (ds es : List Tree) → all_under ok ds ≡ true → all_under ok es ≡ true → all_under ok (ds ++ es) ≡ true
   all_under-append [] es h k = k
   all_under-append (d ∷ ds) es h k = both_true (is_under ok d) (all_under ok (ds ++ es)) (and_l (is_under ok d) (all_under ok ds) h) (all_under-append ds es (and_r (is_under ok d) (all_under ok ds) h) k)
@@ -70,6 +73,7 @@ module _ (ok : List ℕ) where
   free_flat (tree (quotient p q) fs) h = both_true (is_under ok (quotient p q)) (are_under ok (flat fs)) (and_l (is_under ok (quotient p q)) (are_under ok fs) h) (free_flat fs (and_r (is_under ok (quotient p q)) (are_under ok fs) h))
   free_flat (tree (named k) fs) h = free_flat fs h
 
+  -- a product has only the listed interventions where each of its factors does
   pub free_product : (fs : Trees) → are_under ok fs ≡ true → is_under ok (product_of fs) ≡ true
   free_product no_trees h = refl
   free_product (tree e no_trees) h = and_l (is_under ok e) true h

@@ -10,6 +10,7 @@ pub record IsKept (g : MixedGraph) (X Y W : ℕ → Bool) (R : Bool → ℕ → 
   pub first : (v : ℕ) (m : Mark) (u : ℕ) → X v ≡ true → IsJoined g v m u → R (heads_second m) u
   pub next : (h : Bool) (v : ℕ) (m : Mark) (u : ℕ) → R h v → IsPassed g W v h (heads_first m) → IsJoined g v m u → R (heads_second m) u
   pub final : (h : Bool) (u : ℕ) → R h u → Y u ≡ true → W u ≡ false → ⊥
+  -- no vertex is both in X and in Y
   pub apart : (v : ℕ) → X v ≡ true → Y v ≡ true → ⊥
 
 module _ (g : MixedGraph) (X Y W : ℕ → Bool) (R : Bool → ℕ → Type 0) (k : IsKept g X Y W R) where

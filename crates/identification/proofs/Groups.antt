@@ -19,6 +19,7 @@ use Rattle.identification.specs.Derivations.{in_order, home, places, group_lists
 add-zero_left : (n : ℕ) → 0 + n ≡ n
 add-zero_left n = omega arith
 
+-- v is an entry of the list
 abbrev pub Among : ℕ → List ℕ → Type 0
 Among v [] = ⊥
 Among v (w ∷ o) = (v ≡ w) ⊎ Among v o
@@ -34,10 +35,12 @@ pub record IsPart (g : MixedGraph) (d t : ℕ) : Type 0 where
   pub some : ℕ
   pub some_in : has t some ≡ true
 
+-- each set of the list is a part of d
 abbrev pub AreParts : MixedGraph → ℕ → List ℕ → Type 0
 AreParts g d [] = Unit {0}
 AreParts g d (t ∷ ts) = IsPart g d t × AreParts g d ts
 
+-- an entry of a list of parts of d is a part of d
 pub part_among : (g : MixedGraph) (d t : ℕ) (ts : List ℕ) → AreParts g d ts → Among t ts → IsPart g d t
 part_among g d t (s ∷ ts) h (inl e) = rw e h.0
 part_among g d t (s ∷ ts) h (inr m) = part_among g d t ts h.1 m
@@ -94,6 +97,7 @@ module _ (g : MixedGraph) (is_graph : IsMixedGraph g) (d : ℕ) where
       go (inl s) = or_l (has seen w) (has t w) (shut u w b s j)
       go (inr s) = or_r (has seen w) (has t w) (k.t_closed u w b s j)
 
+  -- each district of d is a part: inside d, not empty, and closed under the bidirected edges within d
   pub are_parts : (seen : ℕ) (o ts : List ℕ) → AreDistricts g d seen o ts → AreParts g d ts
   are_parts seen _ _ none = tt
   are_parts seen _ _ (skip {o = o} {ts = ts} q r) = are_parts seen o ts r
@@ -129,9 +133,11 @@ module _ (g : MixedGraph) (is_graph : IsMixedGraph g) (d : ℕ) where
           other (inr m) = m
           other (inl q) = absurd (clash (has t v) (k.complete v (at (one-self v))) (rw q at e))
 
+  -- a vertex of d that the order has is in exactly one of the districts of d
   pub once : (o ts : List ℕ) → AreDistricts g d 0 o ts → (u : ℕ) → has d u ≡ true → Among u o → count ts u ≡ 1
   once o ts r u i m = each_once 0 o ts r (λ u w b e j. absurd (clash (has 0 u) e (has-zero u))) u i (has-zero u) m
 
+-- an order of the vertices outside p has each vertex that isn't in p
 pub in_list : (g : MixedGraph) (p u : ℕ) (o : List ℕ) → IsOrderFrom g p o → u < g.vertices → has p u ≡ false → Among u o
 in_list g p u [] order l n = absurd (clash (has p u) (rw order (all-is g.vertices u l)) n)
 in_list g p u (v ∷ o) order l n = go (decide (eqb u v)) (λ q. in_list g (join p (one v)) u o order.3 l q)

@@ -8,12 +8,14 @@ use Rattle.mixed_graph.specs.Masks.{is_empty, join, minus, one, common}
 use Rattle.identification.specs.Derivations.{single, with_set, Lists, no_more, more, at_place, at_each, marginal_steps, source_steps, place_list}
 
 mutual
+  -- a step that nests at most d deep nests at most d + 1 deep
   pub step_more : (d : ℕ) (s : Plan) → is_plan_within d s ≡ true → is_plan_within (suc d) s ≡ true
   step_more zero s h = absurd (grind (arith, h))
   step_more (suc d) (Plan.At i s) h = step_more d s h
   step_more (suc d) (Plan.Then l) h = steps_more d l h
   step_more (suc d) (Plan.Make m) h = refl
 
+  -- a list of steps that nests at most d deep nests at most d + 1 deep
   pub steps_more : (d : ℕ) (l : Plans) → are_plans_within d l ≡ true → are_plans_within (suc d) l ≡ true
   steps_more d no_plans h = refl
   steps_more d (plan s l) h = both_true (is_plan_within (suc d) s) (are_plans_within (suc d) l) (step_more d s (and_l (is_plan_within d s) (are_plans_within d l) h)) (steps_more d l (and_r (is_plan_within d s) (are_plans_within d l) h))
@@ -46,6 +48,7 @@ place_deep p u a t m from v = with_deep 5 (minus (minus u t) (minus (common a p)
     (with_deep 5 (minus (common a p) t) (Plan.Make (Move.Rule2See (minus (common a p) t))) (with_set (minus (common a p) m) (Plan.Make (Move.Rule1Out (minus (common a p) m))) (source_steps from a v m)) refl
     (with_deep 5 (minus (common a p) m) (Plan.Make (Move.Rule1Out (minus (common a p) m))) (source_steps from a v m) refl (source_deep from a v m)))
 
+-- the steps of each list nest at most d deep
 abbrev pub are_lists_to : ℕ → Lists → Bool
 are_lists_to d no_more = true
 are_lists_to d (more l ls) = are_plans_within d l && are_lists_to d ls
@@ -58,6 +61,7 @@ pub each_at : (d i : ℕ) (ls : Lists) (rest : Plans) → are_lists_to d ls ≡ 
 each_at d i no_more rest h k = k
 each_at d i (more l ls) rest h k = place_at d i l (at_each (suc i) ls rest) (and_l (are_plans_within d l) (are_lists_to d ls) h) (each_at d (suc i) ls rest (and_r (are_plans_within d l) (are_lists_to d ls) h) k)
 
+-- two lists of lemmas whose steps nest at most d deep make one such list
 pub lemmas_append : (d : ℕ) (a b : List PlainLemma) → are_lemmas_within d a ≡ true → are_lemmas_within d b ≡ true → are_lemmas_within d (a ++ b) ≡ true
 lemmas_append d [] b h k = k
 lemmas_append d (l ∷ a) b h k = both_true (is_plan_within d l.plan) (are_lemmas_within d (a ++ b)) (and_l (is_plan_within d l.plan) (are_lemmas_within d a) h) (lemmas_append d a b (and_r (is_plan_within d l.plan) (are_lemmas_within d a) h) k)

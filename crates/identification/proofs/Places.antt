@@ -27,6 +27,7 @@ made_with g ls z s l e m e' skip step rest = go (is_empty z) refl
     go true q = rw (skip q) at rest
     go false q = (m, step q, rest)
 
+-- a row whose condition holds has the result that it has without the condition
 pub made_if : (g : MixedGraph) (ok : Bool) (r : Row) (fault : StepFault) (e : Tree) → ok ≡ true → IsMade g r e → IsMade g (if_so ok r fault) e
 made_if g true r fault e q h = h
 made_if g false r fault e q h = absurd (grind (arith, q))
@@ -35,6 +36,7 @@ made_if g false r fault e q h = absurd (grind (arith, q))
 pub cut_three : (g : MixedGraph) (x z w : ℕ) → ((v : ℕ) → has z v ≡ true → IsAncestor (cut_into g (has x)) (has w) v → ⊥) → IsFarPart g (has x) (has z) (has w) (has z)
 cut_three g x z w none = record { inside = λ v e. e; no_ancestor = none; complete = λ v e n. absurd (clash (has z v) e n) }
 
+-- a set that isn't empty and lies in b passes as a part of b
 pub part : (z b : ℕ) → is_empty z ≡ false → ((v : ℕ) → has z v ≡ true → has b v ≡ true) → is_part z b ≡ true
 part z b e h = both_true (not (is_empty z)) (is_inside z b) (not_i (is_empty z) e) (inside z b h)
 

@@ -8,6 +8,7 @@ use Rattle.mixed_graph.proofs.Masks.{below_two, has-and, has-zero, has-pow, has-
 use Rattle.mixed_graph.specs.Bits.{has}
 use Rattle.mixed_graph.specs.Masks.{minus, one, all, is_empty, is_apart, is_inside, is_below}
 
+-- the members of a difference are those of the first set that aren't in the second
 pub has-minus : (a b v : ℕ) → has (minus a b) v ≡ (has a v && not (has b v))
 unfolding has
 has-minus a b v = rw (bit_at_xor a (bit_and a b) v, bit_at_and a b v) (go (bit_at a v) (bit_at-lt a v) (bit_at b v) (bit_at-lt b v))
@@ -17,18 +18,23 @@ has-minus a b v = rw (bit_at_xor a (bit_and a b) v, bit_at_and a b v) (go (bit_a
         (below_two (λ y. eqb ((0 + min 0 y) % 2) 1 ≡ (eqb 0 1 && not (eqb y 1))) refl refl)
         (below_two (λ y. eqb ((1 + min 1 y) % 2) 1 ≡ (eqb 1 1 && not (eqb y 1))) refl refl)
 
+-- v is a member of the set of v alone
 pub one-self : (v : ℕ) → has (one v) v ≡ true
 one-self v = has-pow v v ∙ eq-eqb v v refl
 
+-- the set of v alone has no other member
 pub one-is : (v u : ℕ) → has (one v) u ≡ true → u ≡ v
 one-is v u e = eqb-true u v (sym (has-pow v u) ∙ e)
 
+-- each number below n is a member of the set of all n vertices
 pub all-is : (n v : ℕ) → v < n → has (all n) v ≡ true
 all-is n v l = has-ones n v ∙ grind (arith, l)
 
+-- each member of the set of all n vertices is below n
 pub all-below : (n v : ℕ) → has (all n) v ≡ true → v < n
 all-below n v e = let l : nat_lt v n ≡ true = sym (has-ones n v) ∙ e in grind (arith, l)
 
+-- a set with a member isn't empty
 pub not_empty : (a v : ℕ) → has a v ≡ true → is_empty a ≡ false
 not_empty a v e = go (decide (eqb a 0))
   where
@@ -36,6 +42,7 @@ not_empty a v e = go (decide (eqb a 0))
     go (inr s) = s
     go (inl s) = absurd (clash (has a v) e (rw (eqb-true a 0 s) (has-zero v)))
 
+-- an empty set has no member
 pub empty-has : (a v : ℕ) → is_empty a ≡ true → has a v ≡ false
 empty-has a v s = rw (eqb-true a 0 s) (has-zero v)
 
@@ -48,6 +55,7 @@ meet_inside a b h = same_from_has (bit_and a b) a (λ v. has-and a b v ∙ bools
 pub inside : (a b : ℕ) → ((v : ℕ) → has a v ≡ true → has b v ≡ true) → is_inside a b ≡ true
 inside a b h = eq-eqb (bit_and a b) a (meet_inside a b h)
 
+-- the test for disjoint sets says yes where no vertex is in both
 pub apart : (a b : ℕ) → ((v : ℕ) → has a v ≡ true → has b v ≡ true → ⊥) → is_apart a b ≡ true
 apart a b h = eq-eqb (bit_and a b) 0 (zero_from_empty (bit_and a b) (λ v. has-and a b v ∙ bools (has a v) (has b v) (h v)))
   where
@@ -56,6 +64,7 @@ apart a b h = eq-eqb (bit_and a b) 0 (zero_from_empty (bit_and a b) (λ v. has-a
     bools true false k = refl
     bools false y k = refl
 
+-- the test for a set below n says yes where each member is below n
 pub below : (n a : ℕ) → ((v : ℕ) → has a v ≡ true → v < n) → is_below n a ≡ true
 below n a h = let l : bit_and a (2 ^ n - 1) ≤ 2 ^ n - 1 = and_le_r a (2 ^ n - 1) in let e : bit_and a (2 ^ n - 1) ≡ a = meet_inside a (2 ^ n - 1) (λ v i. all-is n v (h v i)) in
     let p : zero < 2 ^ n = pow_pos n in let q : a < 2 ^ n = omega (arith, l, e, p) in grind (arith, q)

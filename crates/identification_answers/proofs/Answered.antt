@@ -35,6 +35,7 @@ observed_term g x y t = is_term_from g.vertices y 0 0 (below g.vertices y t.y_lo
     off : (a : ℕ) → is_apart a 0 ≡ true
     off a = apart a 0 (λ v e i. clash (has 0 v) i (has-zero v))
 
+-- the formula names only ancestors of y
 pub formula_names_ancestors : FormulaNamesAncestors
 formula_names_ancestors g ok x y tgt f i = go i.answer
   where
@@ -43,6 +44,7 @@ formula_names_ancestors g ok x y tgt f i = go i.answer
     go (inl t) = subst (FormulaNamesOnly (IsAncestor g (has y))) (sym t.1)
         (tt, (λ u e. record { vertex = tgt.y_low u e; path = []; end = u; leads = refl; inside = e }, λ u e. absurd (clash (has 0 u) e (has-zero u)), λ u e. absurd (clash (has 0 u) e (has-zero u))))
 
+-- the check of formulas finds no fault in the formula
 pub formula_is_formed : FormulaIsFormed
 formula_is_formed g ok x y tgt f i = no_fault g.vertices f (go i.answer)
   where
@@ -50,6 +52,7 @@ formula_is_formed g ok x y tgt f i = no_fault g.vertices f (go i.answer)
     go (inr t) = composed_formed g ok i.order (order_of g i.order i.is_order) x y tgt f t.1
     go (inl t) = subst (IsFormedFormula g.vertices) (sym t.1) (tt, observed_term g x y tgt)
 
+-- the formula nests at most 7 deep in main and 5 in a definition, for any number of vertices
 pub formula_is_shallow : FormulaIsShallow
 formula_is_shallow g x y f i = go i.answer
   where
@@ -57,6 +60,7 @@ formula_is_shallow g x y f i = go i.answer
     go (inr t) = tree_flat g i.order x y f t.1
     go (inl t) = subst (λ f. (are_defs_within 5 f.defs ≡ true) × (is_tree_within 7 f.main ≡ true)) (sym t.1) (refl, refl)
 
+-- P(y | do(x)) has at most one formula of the procedure
 pub one_formula : OneFormula
 one_formula g x y f h i j = go i.answer (subst (λ o. IsIdentifiedBy g o x y h) (one_order g j.order i.order j.is_order i.is_order) j.answer)
   where
@@ -66,6 +70,7 @@ one_formula g x y f h i j = go i.answer (subst (λ o. IsIdentifiedBy g o x y h) 
     go (inr s) (inl t) = absurd (s.0 t.0)
     go (inr s) (inr t) = tree_one g i.order x y f h s.1 t.1
 
+-- a formula that comes with the procedure's derivation is the formula of the procedure
 pub derived_is_identified : DerivedIsIdentified
 derived_is_identified g x y f d i = record { order = i.order; is_order = i.is_order; answer = go i.answer }
   where
@@ -73,6 +78,7 @@ derived_is_identified g x y f d i = record { order = i.order; is_order = i.is_or
     go (inl s) = inl (s.0, s.1)
     go (inr s) = inr (s.0, s.1.composed)
 
+-- P(y | do(x)) has at most one derivation of the procedure
 pub one_derivation : OneDerivation
 one_derivation g x y f h d e i j = go i.answer (subst (λ o. IsDerivedBy g o x y h e) (one_order g j.order i.order j.is_order i.is_order) j.answer)
   where
@@ -82,6 +88,7 @@ one_derivation g x y f h d e i j = go i.answer (subst (λ o. IsDerivedBy g o x y
     go (inr s) (inl t) = absurd (s.0 t.0)
     go (inr s) (inr t) = derivation_one g i.order x y f h d e s.1 t.1
 
+-- the procedure's derivation is accepted for P(y | do(x)) and its formula
 pub derivation_is_accepted : DerivationIsAccepted
 derivation_is_accepted g ok x y tgt f d i = go i.answer
   where
@@ -103,6 +110,7 @@ where_stopped : (g : MixedGraph) (o : List ℕ) (k : ℕ) (cs : List ℕ) (small
 where_stopped g o _ _ _ big (StopsAt.first {a = a} n s) = record { a = a; among = inl refl; stops = s }
 where_stopped g o _ _ small big (StopsAt.after {k = k} {cs = cs} {ds = ds} n f r) = let q = where_stopped g o (k + length ds) cs small big r in record { a = q.a; among = inr q.among; stops = q.stops }
 
+-- where the procedure stops, its two sets with the roots of the smaller one are a hedge for the effect of x on y
 pub stop_is_hedge : StopIsHedge
 stop_is_hedge g ok x y small big roots tgt i r = let u = i.stop in let q = where_stopped g i.order 0 u.districts small big u.stops in
     hedge g ok i.order (order_of g i.order i.is_order) x y tgt u.d u.is_d small (part_among g u.d small u.districts (are_parts g ok u.d 0 i.order u.districts u.are_districts) q.among)
@@ -114,6 +122,7 @@ stop_meets g ok x y small big tgt i = let u = i.stop in let q = where_stopped g 
     meets g ok i.order (order_of g i.order i.is_order) x y tgt u.d u.is_d small (part_among g u.d small u.districts (are_parts g ok u.d 0 i.order u.districts u.are_districts) q.among)
     (home_of g u.d 0 i.order u.districts small u.are_districts q.among) q.a big q.stops
 
+-- the procedure doesn't both make a formula and stop
 pub never_both : NeverBoth
 never_both g ok x y small big tgt f i j = go i.answer
   where

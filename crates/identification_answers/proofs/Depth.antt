@@ -10,6 +10,7 @@ use Rattle.mixed_graph.specs.Masks.{is_empty, join, minus, one}
 use Rattle.prob_expr.specs.Tree.{PlainFormula, Tree, Trees, named, no_trees, prob, product, quotient, sum, tree}
 
 mutual
+  -- a tree of at most d nodes in depth has at most d + 1
   pub flat_more : (d : ℕ) (e : Tree) → is_tree_within d e ≡ true → is_tree_within (suc d) e ≡ true
   flat_more zero e h = absurd (grind (arith, h))
   flat_more (suc d) (prob a b c) h = refl

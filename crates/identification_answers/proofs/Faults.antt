@@ -31,5 +31,6 @@ defs_right : (n k : ℕ) (ds : List Tree) → AllFormed n k ds → fault_in_defs
 defs_right n k [] h = refl
 defs_right n k (d ∷ ds) h = rw (checked n k (Some (cap k)) d 0 h.0).1 (defs_right n (k + 1) ds (subst (λ j. AllFormed n j ds) (omega arith) h.1))
 
+-- the check finds no fault in a formula whose definitions and main have their form
 pub no_fault : (n : ℕ) (f : PlainFormula) → IsFormedFormula n f → fault_in n f ≡ None
 no_fault n f h = rw (defs_right n 0 f.defs h.0, (checked n (length f.defs) None f.main 0 h.1).1) refl

@@ -21,6 +21,7 @@ use Rattle.prob_expr.specs.Tree.{PlainFormula, Tree, Trees, named, no_trees, pro
 
 -- Terms are terms below n, sums are over something below n, products have two factors at least, and definitions below k are named.
 abbrev mutual
+  -- the tree has this form, with vertices below n and definitions below k
   pub IsFormed : (n k : ℕ) → Tree → Type 0
   IsFormed n k (prob a b c) = is_term n a b c ≡ true
   IsFormed n k (sum u e) = (is_below n u ≡ true) × (is_empty u ≡ false) × IsFormed n k e
@@ -28,6 +29,7 @@ abbrev mutual
   IsFormed n k (quotient p q) = IsFormed n k p × IsFormed n k q
   IsFormed n k (named j) = j < k
 
+  -- each tree of the list has this form
   pub AreFormed : (n k : ℕ) → Trees → Type 0
   AreFormed n k no_trees = Unit {0}
   AreFormed n k (tree e fs) = IsFormed n k e × AreFormed n k fs
@@ -37,6 +39,7 @@ abbrev pub AllFormed : (n k : ℕ) → List Tree → Type 0
 AllFormed n k [] = Unit {0}
 AllFormed n k (d ∷ ds) = IsFormed n k d × AllFormed n (suc k) ds
 
+-- each definition has its form and names earlier ones, and main has its form and names any of them
 abbrev pub IsFormedFormula : ℕ → PlainFormula → Type 0
 IsFormedFormula n f = AllFormed n 0 f.defs × IsFormed n (length f.defs) f.main
 
@@ -45,6 +48,7 @@ is_term_from n a b c h1 h2 h3 h4 h5 h6 h7 = rw (h1, h2, h3, h4, h5, h6, h7) refl
 
 -- ---- definitions added above do no harm
 mutual
+  -- a tree that may name the definitions below j keeps its form where it may name more
   pub formed_more : (n j k : ℕ) (e : Tree) → j ≤ k → IsFormed n j e → IsFormed n k e
   formed_more n j k (prob a b c) le h = h
   formed_more n j k (sum u e) le h = (h.0, h.1, formed_more n j k e le h.2)
@@ -52,6 +56,7 @@ mutual
   formed_more n j k (quotient p q) le h = (formed_more n j k p le h.0, formed_more n j k q le h.1)
   formed_more n j k (named i) le h = omega (arith, h, le)
 
+  -- so do the trees of a list
   pub formed_more_each : (n j k : ℕ) (fs : Trees) → j ≤ k → AreFormed n j fs → AreFormed n k fs
   formed_more_each n j k no_trees le h = tt
   formed_more_each n j k (tree e fs) le h = (formed_more n j k e le h.0, formed_more_each n j k fs le h.1)
@@ -64,6 +69,7 @@ module _ (g : MixedGraph) (is_graph : IsMixedGraph g) (o : List ℕ) (order : Is
   n : ℕ
   n = g.vertices
 
+  -- a sum over vertices of the graph has its form where its summand does
   pub sum_formed : (s k : ℕ) (e : Tree) → ((u : ℕ) → has s u ≡ true → u < g.vertices) → IsFormed g.vertices k e → IsFormed g.vertices k (sum_if s e)
   sum_formed s k e low h = go (is_empty s) refl
     where
@@ -113,6 +119,7 @@ module _ (g : MixedGraph) (is_graph : IsMixedGraph g) (o : List ℕ) (order : Is
       (λ q. none_listed from a t 0 o (subst (AreFactors g from a t 0 o) q b.are) s.some s.some_in (in_list g 0 s.some o order (s.low s.some (s.t_in s.some s.some_in)) (has-zero s.some)))
       (factors_formed from k a t 0 o b.factors i s.low s.t_in b.are))
 
+  -- the definitions of a factor and its expression have their form, and definitions name earlier ones
   pub factor_all : (c a : ℕ) (from : Source) (k : ℕ) (ds : List Tree) (e : Tree) → IsEarlier g.vertices a from k → IsStage g from a c → IsFactor g o c a from k ds e → AllFormed g.vertices k ds × IsFormed g.vertices (k + length ds) e
   factor_all c a from k _ e i s (whole d b) = (tt, formed_more g.vertices k (k + 0) e (omega arith) (body_formed from k a c e i (site_of g is_graph o order from a c c s d) b))
   factor_all c a from k _ _ i s (summed {t = t} {e = e} d ne m b) = let q : IsSite g from a t = site_of g is_graph o order from a c t s d in
@@ -130,6 +137,7 @@ module _ (g : MixedGraph) (is_graph : IsMixedGraph g) (o : List ℕ) (order : Is
         formed_more g.vertices (suc k + length ds) (k + suc (length ds)) e (omega arith) r.1,
       )
 
+  -- definitions from number k on, and more after those, have their form as one list
   pub all_append : (k : ℕ) (ds es : List Tree) → AllFormed g.vertices k ds → AllFormed g.vertices (k + length ds) es → AllFormed g.vertices k (ds ++ es)
   all_append k [] es h w = subst (λ z. AllFormed g.vertices z es) (omega arith) w
   all_append k (d ∷ ds) es h w = (h.0, all_append (suc k) ds es h.1 (subst (λ z. AllFormed g.vertices z es) (omega arith) w))
@@ -166,6 +174,7 @@ module _ (g : MixedGraph) (is_graph : IsMixedGraph g) (o : List ℕ) (order : Is
   count-flat k (tree (quotient p q) fs) h = let r : count_factors fs ≤ count_factors (flat fs) = count-flat k fs h.1 in omega (arith, r)
   count-flat k (tree (named j) fs) h = let r : count_factors fs ≤ count_factors (flat fs) = count-flat k fs h.1 in omega (arith, r)
 
+  -- the product of one factor or more has its form where each factor does
   pub product_formed : (k : ℕ) (fs : Trees) → (fs ≡ no_trees → ⊥) → AreFormed g.vertices k fs → IsFormed g.vertices k (product_of fs)
   product_formed k no_trees ne h = absurd (ne refl)
   product_formed k (tree e no_trees) ne h = h.0
@@ -178,6 +187,7 @@ module _ (g : MixedGraph) (is_graph : IsMixedGraph g) (o : List ℕ) (order : Is
   some_in : has made.d tgt.some ≡ true
   some_in = made.is_d.complete tgt.some (record { vertex = tgt.y_low tgt.some tgt.some_in; path = []; end = tgt.some; leads = refl; inside = tgt.some_in })
 
+  -- the composed formula has its form
   pub composed_formed : IsFormedFormula g.vertices f
   composed_formed = let h = districts_formed g is_graph o order made.d 0 made.districts f.defs made.factors (d_low g is_graph o order x y tgt made.d made.is_d) (are_parts g is_graph made.d 0 o made.districts made.are_districts) made.are_factored in (
     h.0,

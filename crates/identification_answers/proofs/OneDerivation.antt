@@ -27,6 +27,7 @@ module _ (g : MixedGraph) (o : List ℕ) where
     pub lemmas : ls ≡ ms
     pub steps : l ≡ m
 
+  -- a factor has at most one list of lemmas and one list of steps
   pub factor_one : (c a : ℕ) (from : Source) (k : ℕ) (ls : List PlainLemma) (l : Plans) (ms : List PlainLemma) (m : Plans) → AreFactorSteps g o c a from k ls l → AreFactorSteps g o c a from k ms m → Same ls l ms m
   factor_one c a from k _ l _ m (whole d b) (whole d2 b2) = record { lemmas = refl; steps = body_one from a c l m b b2 }
   factor_one c a from k _ l _ _ (whole d b) (summed {t = t} d2 ne n b2) = absurd (ne (one_set t c _ d2 d))

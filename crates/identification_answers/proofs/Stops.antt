@@ -183,6 +183,7 @@ pub record IsHome (g : MixedGraph) (d t : ℕ) : Type 0 where
   pub in_d : has d vertex ≡ true
   pub district : IsDistrict g d (one vertex) t
 
+-- each entry of the list of the districts of d is the district of a vertex of d
 pub home_of : (g : MixedGraph) (d seen : ℕ) (o ts : List ℕ) (t : ℕ) → AreDistricts g d seen o ts → Among t ts → IsHome g d t
 home_of g d seen _ _ t AreDistricts.none m = absurd m
 home_of g d seen _ _ t (AreDistricts.skip {o = o} {ts = ts} q r) m = home_of g d seen o ts t r m
@@ -284,6 +285,7 @@ module _ (g : MixedGraph) (is_graph : IsMixedGraph g) (o : List ℕ) (order : Is
     some_root = root_from g is_graph c 0 o (λ u e. d_low g is_graph o order x y tgt d is_d u (k.t_in u e)) (λ w u b i. absurd (clash (has 0 u) i (has-zero u))) order
         (not_empty (minus c 0) k.some (has-minus c 0 k.some ∙ rw (k.some_in, has-zero k.some) refl))
 
+    -- the district c and the larger t where its factor stops are the sets of a hedge for the effect of x on y
     pub hedge : AreSetsOfHedge g x y t c roots
     hedge = record {
       low = t_low;

@@ -12,6 +12,7 @@ use Rattle.mixed_graph.specs.Graphs.{MixedGraph}
 use Rattle.mixed_graph.specs.Masks.{join, minus, one}
 use Rattle.prob_expr.specs.Tree.{PlainFormula, Tree, Trees, sum, tree}
 
+-- masks of the same vertices are the same number
 pub one_set : (a b : ℕ) (P : ℕ → Type 0) → IsSetOf a P → IsSetOf b P → a ≡ b
 one_set a b P h k = same_from_has a b (λ v. go (has a v) (has b v) (λ e. k.complete v (h.sound v e)) (λ e. h.complete v (k.sound v e)))
   where
@@ -34,6 +35,7 @@ module _ (g : MixedGraph) (o : List ℕ) where
     pub defs : ds ≡ es
     pub main : e ≡ f
 
+  -- a factor has at most one list of definitions and one expression
   pub factor_one : (c a : ℕ) (from : Source) (k : ℕ) (ds : List Tree) (e : Tree) (es : List Tree) (f : Tree) → IsFactor g o c a from k ds e → IsFactor g o c a from k es f → Same ds e es f
   factor_one c a from k _ e _ f (whole d b) (whole d2 b2) = record { defs = refl; main = body_one from a c e f b b2 }
   factor_one c a from k _ e _ _ (whole d b) (summed {t = t} d2 ne n b2) = absurd (ne (one_set t c _ d2 d))
@@ -59,6 +61,7 @@ module _ (g : MixedGraph) (o : List ℕ) where
   made_or_stopped c a from k _ e big (further {t = t} {a2 = a2} {ds = ds} d ne n m q b r) (later {t = t2} {a2 = a3} d2 ne2 n2 m2 q2 r2) =
       made_or_stopped c a2 (Source.Defined k) (suc k) ds e big r (subst (λ z. IsStopped g c z big) (one_set a3 a2 _ n2 (subst (λ x. AreAncestorsIn g x c a2) (one_set t t2 _ d d2) n)) r2)
 
+  -- a factor stops at no more than one set
   pub stopped_one : (c a big big2 : ℕ) → IsStopped g c a big → IsStopped g c a big2 → big ≡ big2
   stopped_one c a big big2 (here d ne n) (here d2 ne2 n2) = one_set big big2 _ d d2
   stopped_one c a big big2 (here d ne n) (later {t = t} {a2 = a2} d2 ne2 n2 m q r) = absurd (m (one_set a2 t _ n2 (subst (λ x. AreAncestorsIn g x c x) (one_set big t _ d d2) n)))
@@ -66,6 +69,7 @@ module _ (g : MixedGraph) (o : List ℕ) where
   stopped_one c a big big2 (later {t = t} {a2 = a2} d ne n m q r) (later {t = t2} {a2 = a3} d2 ne2 n2 m2 q2 r2) =
       stopped_one c a2 big big2 r (subst (λ z. IsStopped g c z big2) (one_set a3 a2 _ n2 (subst (λ x. AreAncestorsIn g x c a2) (one_set t t2 _ d d2) n)) r2)
 
+  -- an order gives one list of districts
   pub districts_one : (d seen : ℕ) (o2 ts us : List ℕ) → AreDistricts g d seen o2 ts → AreDistricts g d seen o2 us → ts ≡ us
   districts_one d seen _ _ _ AreDistricts.none AreDistricts.none = refl
   districts_one d seen _ _ _ (AreDistricts.skip {o = o2} {ts = ts} q r) (AreDistricts.skip {ts = us} q2 r2) = districts_one d seen o2 ts us r r2

@@ -22,6 +22,7 @@ factors_of : (g : MixedGraph) (zs : List ℕ) (k : ℕ) (cs : List ℕ) (ds : Li
 factors_of g zs k _ _ _ _ _ AreDerivedWith.none = AreFactoredWith.none
 factors_of g zs k _ _ _ _ _ (AreDerivedWith.next {cs = cs} {ds = ds} {es = es} {fs = fs} {more_ls = ls} {lists = lists} h t r) = AreFactoredWith.next h t.made (factors_of g zs (k + length ds) cs es fs ls lists r)
 
+-- a formula that comes with a derivation over experiments is the formula of the procedure over experiments
 pub derived_is_surrogate : DerivedIsSurrogate
 derived_is_surrogate g zs x y f t s = record { order = s.order; is_order = s.is_order; answer = go s.answer }
   where
@@ -41,6 +42,7 @@ derived_is_surrogate g zs x y f t s = record { order = s.order; is_order = s.is_
       },
     )
 
+-- the derivation over experiments is accepted, with terms observed or under one of the experiments
 pub surrogate_is_accepted : SurrogateIsAccepted
 surrogate_is_accepted g ok zs sets x y tgt f t s = go s.answer
   where
@@ -48,6 +50,7 @@ surrogate_is_accepted g ok zs sets x y tgt f t s = go s.answer
     go (inl e) = observed_with g zs x y f t e.0 e.1 e.2
     go (inr c) = accepted g ok s.order (order_of g s.order s.is_order) zs sets x y tgt f t c.1
 
+-- the check of formulas finds no fault in the formula over experiments
 pub surrogate_is_formed : SurrogateIsFormed
 surrogate_is_formed g ok zs sets x y tgt f s = go s.answer
   where
@@ -55,20 +58,25 @@ surrogate_is_formed g ok zs sets x y tgt f s = go s.answer
     go (inl e) = formula_is_formed g ok x y tgt f (record { order = s.order; is_order = s.is_order; answer = inl e })
     go (inr c) = no_fault g.vertices f (composed_formed g ok s.order (order_of g s.order s.is_order) zs sets x y tgt f c.1)
 
+-- where the procedure over experiments stops, there is a hedge for the effect of x on y
 pub stop_has_hedge : StopHasHedge
 stop_has_hedge g ok zs x y small big roots tgt s are = own_hedge g ok zs x y small big roots tgt s are
 
+-- the procedure over experiments stops at the first blocked district
 pub stop_is_first_blocked : StopIsFirstBlocked
 stop_is_first_blocked g ok zs x y small big roots tgt s are = record { order = s.order; is_order = s.is_order; d = s.d; is_d = s.is_d; districts = s.districts; are_districts = s.are_districts; first = first_blocked g ok zs x y small big roots tgt s are }
 
+-- where some district is blocked, there is no formula over experiments
 pub blocked_excludes_formula : BlockedExcludesFormula
 blocked_excludes_formula g ok zs x y tgt b f s = blocked_none g ok zs x y b f s
 
+-- P(y | do(x)) has at most one formula over the same experiments
 pub one_surrogate : OneSurrogate
 one_surrogate g zs x y f h s t = surrogate_one g x y zs f h s t
 
 pub one_stop_with : OneStopWith
 one_stop_with g zs x y small big small2 big2 s t = stop_same g x y zs small big small2 big2 s t
 
+-- an effect identified from observations has the same formula over any experiments
 pub plain_comes_first : PlainComesFirst
 plain_comes_first g ok zs x y f i = plain_first g ok zs x y f i

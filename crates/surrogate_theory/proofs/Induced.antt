@@ -42,6 +42,7 @@ module _ (g : MixedGraph) (room : ℕ) where
     link_end u (at e) = s_in u e
     link_end u (by i b r) = a_in u i
 
+    -- a chain of bidirected edges within sets inside the room is one in the graph induced on the room
     pub link_in : (u : ℕ) → IsLinked g a s u → IsLinked (induced g (has room)) a s u
     link_in u (at e) = at e
     link_in u (by {v = v} i b r) = by i (both_true (g.both u v) (has room u && has room v) b (both_true (has room u) (has room v) (a_in u i) (link_end v r))) (link_in v r)

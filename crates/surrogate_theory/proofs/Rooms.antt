@@ -51,6 +51,7 @@ module _ (g : MixedGraph) (ok : IsMixedGraph g) (z c : ℕ) (off : is_apart z c 
       go true q = absurd (clash (has c u) e (apart_has z c u off q))
       go false q = q
 
+  -- c lies among the vertices outside the experiment z
   pub c_room : (u : ℕ) → has c u ≡ true → has (minus (all g.vertices) z) u ≡ true
   c_room u e = has-minus (all g.vertices) z u ∙ both_true (has (all g.vertices) u) (not (has z u)) (all-is g.vertices u (c_low u e)) (not_i (has z u) (off_z u e))
 
