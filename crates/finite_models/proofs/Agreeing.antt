@@ -85,6 +85,7 @@ taken_solved list values i x t lt e h p taken = elim (cases_eq p (get_or list i 
     along : IsTrue (taken_by list (i + 1) p) → IsTrue (taken_by list (suc i) p)
     along t = let s : i + 1 ≡ suc i = omega arith in rw s at t
 
+-- values below their sizes stay so when one is set to a value below its size
 pub kept_in_range : (values sizes : List ℕ) (n v x : ℕ) → x < get_or sizes v 0 → ((p : ℕ) → p < n → get_or values p 0 < get_or sizes p 0) → v < length values → (p : ℕ) → p < n → get_or (set values v x) p 0 < get_or sizes p 0
 kept_in_range values sizes n v x lt h l p pl = elim (cases_eq p v) [
   | inl same ↦ rw (same, get_or-set_same values v x 0 l) lt

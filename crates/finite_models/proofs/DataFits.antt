@@ -12,9 +12,11 @@ some_of : (xs : List Mechanism) (i : ℕ) → i < length xs → Mechanism
 some_of [] i lt = absurd (omega arith)
 some_of (x ∷ xs) i lt = x
 
+-- a vertex's mechanism in the model that the data means gives the value by its entry in the list
 pub value_at : (g : MixedGraph) (m : Model) (v : ℕ) (d : Mechanism) → v < length m.mechanisms.items → (s u : ℕ → ℕ) → (meaning g m).mechanism v s u ≡ value_by g m v s u (get_or m.mechanisms.items v d)
 value_at g m v d lt s u = get_or-map (value_by g m v s u) m.mechanisms.items v d 0 lt
 
+-- sound data, with a positive size and a mechanism for each vertex, means a model that fits the graph
 pub data_fits : SoundDataFits
 data_fits g m sizes mechanisms positive sound = record {
   vertices = refl;

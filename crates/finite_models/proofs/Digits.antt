@@ -83,6 +83,7 @@ positive_product : (x y : ℕ) → 0 < x → 0 < y → 0 < x * y
 positive_product x zero h k = absurd (omega arith)
 positive_product x (suc y) h k = let e : x * suc y ≡ x * y + x = omega arith in omega arith
 
+-- with positive bases the range is positive
 pub positive_range : (n : ℕ) (p : ℕ → Bool) (b : ℕ → ℕ) → ((k : ℕ) → k < n → 0 < b k) → 0 < radix_range n p b
 positive_range zero p b pos = omega arith
 positive_range (suc n) p b pos = more (p n) (radix_range n p b) (b n) (positive_range n p b (λ k h. pos k (omega arith))) (pos n (omega arith))

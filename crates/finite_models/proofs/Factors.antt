@@ -8,10 +8,12 @@ use Rattle.finite_models.proofs.Indicators.{number, number-all, cond-number, mat
 use Rattle.finite_models.proofs.SumLaws.{over-congr, over-congr_within, over-swap, over-mul}
 use Rattle.finite_models.proofs.Solutions.{IsRanked, IsClosed, agree-obeys, solution_within}
 
+-- p 0 || .. || p (k - 1)
 abbrev pub any_below : ℕ → (ℕ → Bool) → Bool
 any_below zero p = false
 any_below (suc k) p = any_below k p || p k
 
+-- one number below k of which p holds is enough
 pub any_below_from : (k : ℕ) (p : ℕ → Bool) (i : ℕ) → i < k → p i ≡ true → any_below k p ≡ true
 any_below_from zero p i lt e = absurd (omega arith)
 any_below_from (suc k) p i lt e = go (eqb i k) refl (λ l. any_below_from k p i l e)
@@ -28,6 +30,7 @@ any_below_from (suc k) p i lt e = go (eqb i k) refl (λ l. any_below_from k p i 
     go true same h = right (any_below k p) (p k) (rw (sym (eqb-true i k same)) e)
     go false ne h = left (any_below k p) (p k) (h (let d : i ≡ k → ⊥ = λ s. absurd (grind (arith, s, ne)) in omega arith))
 
+-- where p holds of any number below k, there is one of which it does
 pub any_below_gives : (k : ℕ) (p : ℕ → Bool) → any_below k p ≡ true → (i : ℕ) × (i < k) × (p i ≡ true)
 any_below_gives zero p e = absurd (grind (arith, e))
 any_below_gives (suc k) p e = go (any_below k p) (p k) refl refl e (any_below_gives k p)
@@ -41,6 +44,7 @@ any_below_gives (suc k) p e = go (any_below k p) (p k) refl refl e (any_below_gi
 abbrev pub check : FiniteModel → Bool → ℕ → (ℕ → ℕ) → (ℕ → ℕ) → ℕ
 check m b v s u = number (cond b (eqb (s v) (m.mechanism v s u)) true)
 
+-- 1 where each vertex of S has in s the value that its mechanism gives at s, and 0 elsewhere
 abbrev pub checks : FiniteModel → (ℕ → Bool) → (ℕ → ℕ) → (ℕ → ℕ) → ℕ
 checks m S s u = product_below m.vertices (λ v. check m (S v) v s u)
 
@@ -48,10 +52,12 @@ checks m S s u = product_below m.vertices (λ v. check m (S v) v s u)
 abbrev pub factor : FiniteModel → (ℕ → Bool) → (ℕ → Bool) → (ℕ → Bool) → (ℕ → ℕ) → (ℕ → ℕ) → ℕ
 factor m J S K s u = product_below m.causes (λ j. cond (J j) (m.weight j (u j)) 1) * checks m (λ v. S v && K v) s u
 
+-- the factor of the vertices of S in K, summed over the values of the causes in J
 abbrev pub group : FiniteModel → (ℕ → Bool) → (ℕ → Bool) → (ℕ → Bool) → (ℕ → ℕ) → ℕ
 group m J S K s = sum_over J m.values m.causes (factor m J S K s) (λ j. 0)
 
 module _ (g : MixedGraph) (m : FiniteModel) (rank : ℕ → ℕ) (ranked : IsRanked g rank) (follows : Follows g m) where
+  -- an event's weight is the sum of the worlds' weights, each times its solution's agreement with s
   pub weight_by_matches : (A : ℕ → Bool) (s : ℕ → ℕ) → event_weight m A s ≡ sum_over (λ j. true) m.values m.causes (λ u. world_weight m u * matches m.vertices A (solution m u) s) (λ j. 0)
   weight_by_matches A s =
       over-congr (λ j. true) m.values m.causes (λ u. cond (agree m.vertices A (solution m u) s) (world_weight m u) 0) (λ u. world_weight m u * matches m.vertices A (solution m u) s) (λ j. 0)

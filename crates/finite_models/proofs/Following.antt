@@ -13,6 +13,7 @@ pub record Follows (g : MixedGraph) (m : FiniteModel) : Type 0 where
   pub below : (v : ℕ) → v < m.vertices → (s u : ℕ → ℕ) → IsAssignment m.vertices m.size s → IsWorld m u → m.mechanism v s u < m.size v
   pub positive_size : (v : ℕ) → v < m.vertices → 0 < m.size v
 
+-- a model that fits the graph follows it
 pub follows_of : (g : MixedGraph) (m : FiniteModel) → Fits g m → Follows g m
 follows_of g m fit = record { vertices = fit.vertices; joined = fit.joined; reads = fit.reads; below = fit.below; positive_size = fit.positive_size }
 

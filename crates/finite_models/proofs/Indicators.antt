@@ -5,6 +5,7 @@ use Rattle.finite_models.specs.Models.{agree}
 use Rattle.finite_models.proofs.Bools.{and_first, and_second}
 use Rattle.finite_models.proofs.SumLaws.{sum_below-congr, sum_below-mul, product_below-congr, along, along-congr, over-mul-right, set_at-other, set_at-same}
 
+-- a test as a number: 1 where it holds, 0 where it doesn't
 abbrev pub number : Bool → ℕ
 number b = cond b 1 0
 
@@ -12,14 +13,17 @@ pub number-and : (p q : Bool) → number (p && q) ≡ number p * number q
 number-and true q = omega arith
 number-and false q = omega arith
 
+-- n where the test holds, and 0 elsewhere, is n times the test's number
 pub cond-number : (p : Bool) (n : ℕ) → cond p n 0 ≡ n * number p
 cond-number true n = omega arith
 cond-number false n = omega arith
 
+-- the number of a conjunction is the product of its tests' numbers
 pub number-all : (k : ℕ) (p : ℕ → Bool) → number (all_below k p) ≡ product_below k (λ i. number (p i))
 number-all zero p = refl
 number-all (suc k) p = number-and (all_below k p) (p k) ∙ ap (λ n. n * number (p k)) (number-all k p)
 
+-- what holds of all numbers below k holds of each
 pub all_below_each : (k : ℕ) (p : ℕ → Bool) → all_below k p ≡ true → (i : ℕ) → i < k → p i ≡ true
 all_below_each zero p e i lt = absurd (omega arith)
 all_below_each (suc k) p e i lt = go (eqb i k) refl (all_below_each k p (and_first (all_below k p) (p k) e) i)
@@ -28,6 +32,7 @@ all_below_each (suc k) p e i lt = go (eqb i k) refl (all_below_each k p (and_fir
     go true same h = rw (eqb-true i k same) (and_second (all_below k p) (p k) e)
     go false ne h = h (let d : i ≡ k → ⊥ = λ s. absurd (grind (arith, s, ne)) in omega arith)
 
+-- what holds of each number below k holds of all
 pub all_below_from : (k : ℕ) (p : ℕ → Bool) → ((i : ℕ) → i < k → p i ≡ true) → all_below k p ≡ true
 all_below_from zero p h = refl
 all_below_from (suc k) p h = rw (all_below_from k p (λ i lt. h i (omega arith)), h k (omega arith)) refl
@@ -57,9 +62,11 @@ cond_from false b h = refl
 abbrev pub match_at : Bool → (ℕ → ℕ) → (ℕ → ℕ) → ℕ → ℕ
 match_at a t c v = number (cond a (eqb (t v) (c v)) true)
 
+-- 1 where the first n values of t and c agree on a, and 0 elsewhere
 abbrev pub matches : ℕ → (ℕ → Bool) → (ℕ → ℕ) → (ℕ → ℕ) → ℕ
 matches n a t c = product_below n (λ v. match_at (a v) t c v)
 
+-- agreement as a number is the product of the agreements at each vertex
 pub agree-matches : (n : ℕ) (a : ℕ → Bool) (t c : ℕ → ℕ) → number (agree n a t c) ≡ matches n a t c
 agree-matches n a t c = number-all n (λ v. cond (a v) (eqb (t v) (c v)) true)
 

@@ -7,9 +7,11 @@ use Rattle.finite_models.specs.Sound.{IsSoundCause, IsSoundAt}
 use Rattle.finite_models.specs.declared.model.Model.{Model}
 use Rattle.finite_models.specs.declared.model.Cause.{Cause}
 
+-- the weights at a place are those of the cause that stands there
 pub weights_of-at : (causes : List Cause) (j : ℕ) (x : Cause) → j < length causes → x ≡ get_or causes j x → weights_of causes j ≡ x.weights.items
 weights_of-at causes j x lt is = get_or-map (λ c. c.weights.items) causes j x [] lt ∙ ap (λ c. c.weights.items) (sym is)
 
+-- the children at a place are those of the cause that stands there
 pub children_of-at : (causes : List Cause) (j : ℕ) (x : Cause) → j < length causes → x ≡ get_or causes j x → children_of causes j ≡ x.children.bits
 children_of-at causes j x lt is = get_or-map (λ c. c.children.bits) causes j x 0 lt ∙ ap (λ c. c.children.bits) (sym is)
 

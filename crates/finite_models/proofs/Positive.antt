@@ -45,6 +45,7 @@ module _ (g : MixedGraph) (m : FiniteModel) (rank : ℕ → ℕ) (ranked : IsRan
       (solution_is g (intervene m B s) rank ranked (follows_intervene g m B s within follows) u)
       (obeyed u (λ w wl. agree_gives m.vertices (λ v. true) (solution m u) s e w wl refl) B) v il)))
 
+  -- in a positive model each event has weight at least 1 under each intervention
   pub positive_each : IsPositiveModel m → (B C : ℕ → Bool) → 1 ≤ weight_of m B C s
   positive_each pos B C = omega (arith, pos s within, weight_le B C)
 

@@ -26,6 +26,7 @@ module _ (g : MixedGraph) (m : FiniteModel) (follows : Follows g m) where
   rounds_within u zero h v b = follows.positive_size v b
   rounds_within u (suc k) h v b = follows.below v b (rounds m k u) u (rounds_within u k h) h
 
+  -- the values of a world's solution are below the sizes
   pub solution_within : (u : ℕ → ℕ) → IsAssignment m.causes m.values u → IsAssignment m.vertices m.size (solution m u)
   solution_within u h = rounds_within u m.vertices h
 
@@ -41,6 +42,7 @@ module _ (g : MixedGraph) (m : FiniteModel) (rank : ℕ → ℕ) (ranked : IsRan
       (λ p e. let r = ranked.rises p v e in rounds_stable u k p (parent_below p v e) (omega arith) j (omega arith))
       (λ i il s. refl)
 
+  -- the values after as many rounds as there are vertices are a solution
   pub solution_is : (u : ℕ → ℕ) → IsSolution m u (solution m u)
   solution_is u v b = let r : rank v < m.vertices = rw follows.vertices (ranked.low v (rw (sym follows.vertices) b)) in
       rounds_stable u m.vertices v b r (suc m.vertices) (omega arith)
@@ -79,15 +81,19 @@ module _ (g : MixedGraph) (m : FiniteModel) (rank : ℕ → ℕ) (ranked : IsRan
   unique_at u s t a b (suc k) v il lt =
       a v il ∙ follows.reads v il s t u u (λ p e. let r = ranked.rises p v e in unique_at u s t a b k p (parent_below p v e) (omega arith)) (λ j jl q. refl) ∙ sym (b v il)
 
+  -- two solutions of a world agree at each vertex
   pub unique : (u s t : ℕ → ℕ) → IsSolution m u s → IsSolution m u t → (v : ℕ) → v < m.vertices → s v ≡ t v
   unique u s t a b v il = unique_at u s t a b (suc (rank v)) v il (omega arith)
 
+-- where x and s agree on a, each vertex of a has one value in both
 pub agree_gives : (n : ℕ) (a : ℕ → Bool) (x s : ℕ → ℕ) → agree n a x s ≡ true → (v : ℕ) → v < n → a v ≡ true → x v ≡ s v
 agree_gives n a x s e v il i = eqb-true (x v) (s v) (cond_gives (a v) (eqb (x v) (s v)) (all_below_each n (λ v. cond (a v) (eqb (x v) (s v)) true) e v il) i)
 
+-- where each vertex of a has one value in x and s, they agree on a
 pub agree_from : (n : ℕ) (a : ℕ → Bool) (x s : ℕ → ℕ) → ((v : ℕ) → v < n → a v ≡ true → x v ≡ s v) → agree n a x s ≡ true
 agree_from n a x s h = all_below_from n (λ v. cond (a v) (eqb (x v) (s v)) true) (λ v il. cond_from (a v) (eqb (x v) (s v)) (λ i. eq-eqb (x v) (s v) (h v il i)))
 
+-- x agrees with s on a exactly where y does on b, if each of the two agreements gives the other
 pub agree_same : (n : ℕ) (a b : ℕ → Bool) (x y s : ℕ → ℕ)
     → (((v : ℕ) → v < n → a v ≡ true → x v ≡ s v) → ((v : ℕ) → v < n → b v ≡ true → y v ≡ s v))
     → (((v : ℕ) → v < n → b v ≡ true → y v ≡ s v) → ((v : ℕ) → v < n → a v ≡ true → x v ≡ s v)) → agree n a x s ≡ agree n b y s

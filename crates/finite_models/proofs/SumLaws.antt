@@ -3,6 +3,7 @@ use Rattle.std.proofs.Common.{ℕ, zero, suc, ◌+◌, ◌*◌, ◌≡◌, ◌<�
 use mathlib.Core.Path.{fun_ext}
 use Rattle.finite_models.specs.Sums.{sum_below, product_below, set_at, sum_over}
 
+-- sums of equal terms are equal
 pub sum_below-congr : (k : ℕ) (f g : ℕ → ℕ) → ((i : ℕ) → i < k → f i ≡ g i) → sum_below k f ≡ sum_below k g
 sum_below-congr zero f g h = refl
 sum_below-congr (suc k) f g h = omega (arith, sum_below-congr k f g (λ i lt. h i (omega arith)), h k (omega arith))
@@ -28,6 +29,7 @@ pub product_below-congr : (k : ℕ) (f g : ℕ → ℕ) → ((i : ℕ) → i < k
 product_below-congr zero f g h = refl
 product_below-congr (suc k) f g h = ap (λ n. n * f k) (product_below-congr k f g (λ i lt. h i (omega arith))) ∙ ap (λ n. product_below k g * n) (h k (omega arith))
 
+-- the product of all f i * g i is the product of the f i times the product of the g i
 pub product_below-mul : (k : ℕ) (f g : ℕ → ℕ) → product_below k (λ i. f i * g i) ≡ product_below k f * product_below k g
 product_below-mul zero f g = omega arith
 product_below-mul (suc k) f g = ap (λ n. n * (f k * g k)) (product_below-mul k f g) ∙ omega arith
@@ -36,9 +38,11 @@ product_below-mul (suc k) f g = ap (λ n. n * (f k * g k)) (product_below-mul k 
 pub eqb-refl : (n : ℕ) → eqb n n ≡ true
 eqb-refl n = search rules
 
+-- the coordinate that was set has its new value
 pub set_at-same : (b : ℕ → ℕ) (i x : ℕ) → set_at b i x i ≡ x
 set_at-same b i x = rw (eqb-refl i) refl
 
+-- each other coordinate keeps its value
 pub set_at-other : (b : ℕ → ℕ) (i x k : ℕ) → (k ≡ i → ⊥) → set_at b i x k ≡ b k
 set_at-other b i x k ne = let e : eqb k i ≡ false = ne_eqb k i ne in rw e refl
 
@@ -51,6 +55,7 @@ set_at-swap_at b i j x y k ne = go (eqb k i) (eqb k j) refl refl
     go false true e f = rw (e, f) refl
     go false false e f = rw (e, f) refl
 
+-- two different coordinates may be set in either order
 pub set_at-swap : (b : ℕ → ℕ) (i j x y : ℕ) → (i ≡ j → ⊥) → set_at (set_at b i x) j y ≡ set_at (set_at b j y) i x
 set_at-swap b i j x y ne = fun_ext (λ k. set_at-swap_at b i j x y k ne)
 
@@ -66,6 +71,7 @@ weaken n U F h b i x lt e = h b i x (omega arith) e
 abbrev pub along : Bool → ℕ → ℕ → ((ℕ → ℕ) → ℕ) → (ℕ → ℕ) → ℕ
 along p k i F b = cond p (sum_below k (λ x. F (set_at b i x))) (F b)
 
+-- functions that are equal at all points have equal sums along a coordinate
 pub along-congr : (p : Bool) (k i : ℕ) (F G : (ℕ → ℕ) → ℕ) (b : ℕ → ℕ) → ((c : ℕ → ℕ) → F c ≡ G c) → along p k i F b ≡ along p k i G b
 along-congr p k i F G b h = ap (λ H. along p k i H b) (fun_ext h)
 
@@ -93,9 +99,11 @@ along-ignores true k i F b j y ne h =
 along-ignores false k i F b j y ne h = h b
 
 module _ (U : ℕ → Bool) (s : ℕ → ℕ) where
+  -- functions that are equal at all points have equal sums over a box
   pub over-congr : (n : ℕ) (F G : (ℕ → ℕ) → ℕ) (b : ℕ → ℕ) → ((c : ℕ → ℕ) → F c ≡ G c) → sum_over U s n F b ≡ sum_over U s n G b
   over-congr n F G b h = ap (λ H. sum_over U s n H b) (fun_ext h)
 
+  -- a factor that doesn't depend on the coordinates summed over comes outside
   pub over-mul : (n : ℕ) (F G : (ℕ → ℕ) → ℕ) (b : ℕ → ℕ) → Ignores n U F → sum_over U s n (λ c. F c * G c) b ≡ F b * sum_over U s n G b
   over-mul zero F G b h = refl
   over-mul (suc n) F G b h =
@@ -131,6 +139,7 @@ join-along true true k i F b d = absurd (d refl refl)
 join-along true false k i F b d = refl
 join-along false q k i F b d = refl
 
+-- a sum over two disjoint sets of coordinates is the sum over the first of the sum over the second
 pub over-join : (U V : ℕ → Bool) (s : ℕ → ℕ) (n : ℕ) (F : (ℕ → ℕ) → ℕ) (b : ℕ → ℕ) → ((i : ℕ) → U i ≡ true → V i ≡ true → ⊥) → sum_over (λ i. U i || V i) s n F b ≡ sum_over U s n (sum_over V s n F) b
 over-join U V s zero F b d = refl
 over-join U V s (suc n) F b d =

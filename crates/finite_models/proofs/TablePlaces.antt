@@ -36,6 +36,7 @@ place_below n p b u start k le h =
     below : (s r x y : ℕ) → r < x → x ≤ y → s * x + r < (s + 1) * y
     below s r x y lt le = grind arith
 
+-- with the next digit, a place is below whatever is above the full range after the start
 pub fits_next : (n : ℕ) (p : ℕ → Bool) (b u : ℕ → ℕ) (start k place base digit top : ℕ) (kept : Bool) → k < n → ((i : ℕ) → i < n → u i < b i) → (start + 1) * radix_range n p b < top
     → place ≡ start * radix_range k p b + radix k p b u → kept ≡ p k → base ≡ b k → digit ≡ u k → cond kept (place * base + digit) place < top
 fits_next n p b u start k place base digit top kept lt h t e f g i =

@@ -5,6 +5,7 @@ use Rattle.fractions.specs.Fractions.{Fraction, over, IsEqual, IsPositive, add, 
 
 -- ---- equality
 
+-- a fraction that isn't over 0 is equal to itself
 pub equal_refl : (f : Fraction) → 1 ≤ f.bottom → IsEqual f f
 equal_refl f le = record { left_bottom = le; right_bottom = le; products = refl }
 
@@ -12,6 +13,7 @@ equal_refl f le = record { left_bottom = le; right_bottom = le; products = refl 
 pub equal_same : (f g : Fraction) → 1 ≤ f.bottom → f.top ≡ g.top → f.bottom ≡ g.bottom → IsEqual f g
 equal_same f g le e h = record { left_bottom = le; right_bottom = (omega arith); products = ap₂ (λ a b. a * b) e (sym h) }
 
+-- equality holds in either direction
 pub equal_sym : (f g : Fraction) → IsEqual f g → IsEqual g f
 equal_sym f g e = record { left_bottom = e.right_bottom; right_bottom = e.left_bottom; products = sym e.products }
 
@@ -21,6 +23,7 @@ trans_numbers a b c d e f p q =
     ∙ (let r : (c * b) * f ≡ (c * f) * b = omega arith in r) ∙ ap (λ n. n * b) q
     ∙ (let r : (e * d) * b ≡ d * (e * b) = omega arith in r)
 
+-- what is equal to an equal fraction is equal
 pub equal_trans : (f g h : Fraction) → IsEqual f g → IsEqual g h → IsEqual f h
 equal_trans f g h p q = record {
   left_bottom = p.left_bottom;
@@ -44,6 +47,7 @@ mul_numbers a b c d a' b' c' d' p q =
     (let r : (a * c) * (b' * d') ≡ (a * b') * (c * d') = omega arith in r) ∙ ap (λ n. n * (c * d')) p ∙ ap (λ n. (a' * b) * n) q
     ∙ (let r : (a' * b) * (c' * d) ≡ (a' * c') * (b * d) = omega arith in r)
 
+-- equal factors have equal products
 pub mul_equal : (f f' g g' : Fraction) → IsEqual f f' → IsEqual g g' → IsEqual (mul f g) (mul f' g')
 mul_equal f f' g g' p q = record {
   left_bottom = mul-pos p.left_bottom q.left_bottom;
@@ -64,6 +68,7 @@ positive_left (suc a) b c d e lc ld = omega arith
 pub equal_positive : (f g : Fraction) → 1 ≤ f.top → IsEqual f g → 1 ≤ g.top
 equal_positive f g le e = positive_left g.top f.bottom f.top g.bottom (sym e.products) le e.right_bottom
 
+-- equal fractions, divided by equal ones that aren't 0, are equal
 pub div_equal : (f f' g g' : Fraction) → 1 ≤ g.top → IsEqual f f' → IsEqual g g' → IsEqual (div f g) (div f' g')
 div_equal f f' g g' le p q = record {
   left_bottom = mul-pos p.left_bottom le;
@@ -87,6 +92,7 @@ add_equal f f' g g' p q = record {
 pub mul_positive : (f g : Fraction) → IsPositive f → IsPositive g → IsPositive (mul f g)
 mul_positive f g p q = record { top = mul-pos p.top q.top; bottom = mul-pos p.bottom q.bottom }
 
+-- a number above 0, divided by one above 0, is above 0
 pub div_positive : (f g : Fraction) → IsPositive f → IsPositive g → IsPositive (div f g)
 div_positive f g p q = record { top = mul-pos p.top q.bottom; bottom = mul-pos p.bottom q.top }
 
@@ -109,9 +115,11 @@ add-zero f = ap₂ over (let r : f.top * 1 + 0 * f.bottom ≡ f.top = omega arit
 pub mul_comm : (f g : Fraction) → mul f g ≡ mul g f
 mul_comm f g = ap₂ over (let r : f.top * g.top ≡ g.top * f.top = omega arith in r) (let r : f.bottom * g.bottom ≡ g.bottom * f.bottom = omega arith in r)
 
+-- f * (g * h) is (f * g) * h, as a pair of numbers
 pub mul_assoc : (f g h : Fraction) → mul f (mul g h) ≡ mul (mul f g) h
 mul_assoc f g h = ap₂ over (let r : f.top * (g.top * h.top) ≡ (f.top * g.top) * h.top = omega arith in r) (let r : f.bottom * (g.bottom * h.bottom) ≡ (f.bottom * g.bottom) * h.bottom = omega arith in r)
 
+-- f * 1 / 1 is f, as a pair of numbers
 pub mul-one : (f : Fraction) → mul f (over 1 1) ≡ f
 mul-one f = ap₂ over (let r : f.top * 1 ≡ f.top = omega arith in r) (let r : f.bottom * 1 ≡ f.bottom = omega arith in r)
 
@@ -154,6 +162,7 @@ add_below_whole (suc k) d f n total le none more h =
       products = whole_numbers a.top a.bottom (f k).top (f k).bottom (total k) (n k) d before.products last.products ∙ ap (λ t. t * (a.bottom * (f k).bottom)) (sym (more k));
     }
 
+-- the sum of one or more numbers above 0 is above 0
 pub add_below_positive : (k : ℕ) (f : ℕ → Fraction) → 1 ≤ k → ((i : ℕ) → i < k → IsPositive (f i)) → IsPositive (add_below k f)
 add_below_positive zero f le h = absurd (omega arith)
 add_below_positive (suc zero) f le h = record { top = (let t = (h 0 (omega arith)).top in omega (arith, t)); bottom = (let t = (h 0 (omega arith)).bottom in omega (arith, t)) }

@@ -40,6 +40,7 @@ compare_greater p q xs ys h = let e : nat_lt p q ≡ false = le-ltb p q (omega a
 pub compare_same : (p q : ℕ) (xs ys : List ℕ) → p ≡ q → slice_cmp nat_cmp (p ∷ xs) (q ∷ ys) ≡ slice_cmp nat_cmp xs ys
 compare_same p q xs ys h = let e : nat_lt p q ≡ false = le-ltb p q (omega arith) in let d : (p == q) ≡ true = eq-eqb p q h in rw (e, d) refl
 
+-- the list of the members of the mask 0 is empty
 pub members-empty : (m : ℕ) → m ≡ 0 → members_below (has m) 64 ≡ []
 members-empty m e = members-none (has m) 64 (λ u _. rw e (has-zero u))
 
@@ -50,10 +51,12 @@ below_least m v least u lt = elim (cases_Bool (has m u)) [ inl i ↦ absurd (ome
 pub members-lowest : (m v : ℕ) → v < 64 → IsTrue (has m v) → ((u : ℕ) → IsTrue (has m u) → v ≤ u) → (rest : List ℕ) × (members_below (has m) 64 ≡ v ∷ rest)
 members-lowest m v h i least = (members_below (λ u. has m u && not (u == v)) 64, members-first (has m) (λ u. has m u && not (u == v)) v 64 h i (below_least m v least) (λ u. refl))
 
+-- the list of the members is the lowest, and then the members of the mask without it
 pub members-without : (m m' v : ℕ) → v < 64 → IsTrue (has m v) → ((u : ℕ) → IsTrue (has m u) → v ≤ u) → ((u : ℕ) → has m' u ≡ (has m u && not (u == v))) →
     members_below (has m) 64 ≡ v ∷ members_below (has m') 64
 members-without m m' v h i least is = members-first (has m) (has m') v 64 h i (below_least m v least) is
 
+-- the list of the members of a mask of 64 bits that isn't 0 has a first entry
 pub members-some : (m : ℕ) → (m ≡ 0 → ⊥) → m < 2 ^ 64 → (v : ℕ) × (rest : List ℕ) × (members_below (has m) 64 ≡ v ∷ rest)
 members-some m full fits = let pos : 0 < m = omega arith in
     let k = members-lowest m (trailing_zeros w64 m) (lowest_below m pos fits) (has-lowest m pos fits) (λ u i. lowest_le m u pos fits i) in (trailing_zeros w64 m, k.0, k.1)

@@ -5,6 +5,7 @@ use Rattle.std.proofs.lemmas.Nat.{one_shl, and_le_r}
 use Rattle.std.proofs.lemmas.Bool.{and_parts, cases_order, cases_eq, cases_lt, eq-eqb, ne_eqb, eqb-true, lt-ltb, le-ltb}
 use Rattle.mixed_graph.specs.Bits.{has}
 
+-- what holds of 0 and of 1 holds of each number below 2
 pub below_two : (P : ℕ → Type 0) → P 0 → P 1 → (n : ℕ) → n < 2 → P n
 below_two P z o zero h = z
 below_two P z o (suc zero) h = o
@@ -14,15 +15,18 @@ both_below_two : (P : ℕ → ℕ → Type 0) → P 0 0 → P 0 1 → P 1 0 → 
 both_below_two P zz zo oz oo a b h k =
     below_two (λ x. P x b) (below_two (P 0) zz zo b k) (below_two (P 1) oz oo b k) a h
 
+-- the mask 0 has no member
 pub has-zero : (v : ℕ) → has 0 v ≡ false
 unfolding has
 has-zero v = ap (λ t. t == 1) (bit_at-zero v)
 
+-- the bitwise or has the members of either mask
 pub has-or : (a b v : ℕ) → has (bit_or a b) v ≡ (has a v || has b v)
 unfolding has
 has-or a b v = ap (λ t. t == 1) (bit_at_or a b v)
     ∙ both_below_two (λ x y. (max x y == 1) ≡ ((x == 1) || (y == 1))) refl refl refl refl (bit_at a v) (bit_at b v) (bit_at-lt a v) (bit_at-lt b v)
 
+-- the bitwise and has the members of both masks
 pub has-and : (a b v : ℕ) → has (bit_and a b) v ≡ (has a v && has b v)
 unfolding has
 has-and a b v = ap (λ t. t == 1) (bit_at_and a b v)
@@ -34,6 +38,7 @@ unfolding has
 has-not m v fits below = ap (λ t. t == 1) (bit_at_not w64 m v fits below)
     ∙ below_two (λ x. (1 - x == 1) ≡ not (x == 1)) refl refl (bit_at m v) (bit_at-lt m v)
 
+-- a mask of 64 bits has no member from 64 on
 pub has-above : (m v : ℕ) → m < 2 ^ 64 → 64 ≤ v → has m v ≡ false
 unfolding has
 has-above m v fits above = ap (λ t. t == 1) (bit_at_above m 64 v fits above)
@@ -42,6 +47,7 @@ has-above m v fits above = ap (λ t. t == 1) (bit_at_above m 64 v fits above)
 pub below_64 : (m v : ℕ) → m < 2 ^ 64 → IsTrue (has m v) → v < 64
 below_64 m v fits i = elim (cases_lt v 64) [ inl l ↦ l | inr ge ↦ absurd (let e = has-above m v fits ge in cc) ]
 
+-- 2 ^ k has the member k alone
 pub has-pow : (k v : ℕ) → has (2 ^ k) v ≡ (v == k)
 unfolding has
 has-pow k v = elim (cases_eq v k) [
@@ -52,6 +58,7 @@ has-pow k v = elim (cases_eq v k) [
 pub has-one_shl : (k v : ℕ) → k < 64 → has (1 * 2 ^ k % 2 ^ 64) v ≡ (v == k)
 has-one_shl k v h = ap (λ m. has m v) (one_shl k 64 h) ∙ has-pow k v
 
+-- 2 ^ k - 1 has all numbers below k as members, and no other
 pub has-ones : (k v : ℕ) → has (2 ^ k - 1) v ≡ nat_lt v k
 unfolding has
 has-ones k v = elim (cases_lt v k) [
@@ -92,9 +99,11 @@ lowest_le m v p q h = elim (cases_lt v (trailing_zeros w64 m)) [
   | inr ge ↦ ge
 ]
 
+-- the lowest member of a mask of 64 bits that isn't 0 is below 64
 pub lowest_below : (m : ℕ) → 0 < m → m < 2 ^ 64 → trailing_zeros w64 m < 64
 lowest_below m p q = (bit_at-trailing_zeros w64 m p q).0
 
+-- masks with the same members are equal
 pub same_from_has : (a b : ℕ) → ((v : ℕ) → has a v ≡ has b v) → a ≡ b
 unfolding has
 same_from_has a b h = same_from_bits a b (λ v.
@@ -135,6 +144,7 @@ some_member m p q = let pos : 0 < m = omega arith in (trailing_zeros w64 m, has-
 pub apart_from_meet : (meet a b : ℕ) → ((v : ℕ) → has meet v ≡ (has a v && has b v)) → meet ≡ 0 → (v : ℕ) → IsTrue (has a v) → has b v ≡ false
 apart_from_meet meet a b is zero' v h = let e = is v in let z : has meet v ≡ false = rw zero' (has-zero v) in grind arith
 
+-- a meet that isn't 0 has a member, and it is one of both masks
 pub some_in_meet : (meet a b : ℕ) → ((v : ℕ) → has meet v ≡ (has a v && has b v)) → (meet ≡ 0 → ⊥) → meet < 2 ^ 64 → (v : ℕ) × IsTrue (has a v) × IsTrue (has b v)
 some_in_meet meet a b is full fits =
     let m = some_member meet full fits in let e = sym (is m.0) ∙ m.1 in

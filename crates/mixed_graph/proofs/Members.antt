@@ -2,6 +2,7 @@ use Rattle.std.proofs.Common.{◌≡◌, ℕ, zero, suc, ◌+◌, ◌<◌, ◌�
 use Rattle.std.proofs.lemmas.Bool.{cases_Bool, cases_eq, cases_lt, eq-eqb, ne_eqb}
 use Rattle.mixed_graph.specs.Bits.{members_below}
 
+-- 1 where the test holds, 0 where it doesn't
 abbrev pub one_if : Bool → ℕ
 one_if b = cond b 1 0
 
@@ -14,6 +15,7 @@ pub length-members-suc : (s : ℕ → Bool) (k : ℕ) → length (members_below 
 unfolding members_below
 length-members-suc s k = length-append (members_below s k) (cond (s k) (k ∷ []) []) ∙ ap (λ n. length (members_below s k) + n) (length_one (s k) k)
 
+-- no member is below 0
 pub length-members-zero : (s : ℕ → Bool) → length (members_below s zero) ≡ 0
 unfolding members_below
 length-members-zero s = refl
@@ -22,6 +24,7 @@ one_le : (b : Bool) → one_if b ≤ 1
 one_le true = omega arith
 one_le false = omega arith
 
+-- at most k members are below k
 pub length-members-le : (s : ℕ → Bool) (k : ℕ) → length (members_below s k) ≤ k
 length-members-le s zero = omega (arith, length-members-zero s)
 length-members-le s (suc k) = omega (arith, length-members-suc s k, length-members-le s k, one_le (s k))
@@ -58,6 +61,7 @@ length-members-more s t v (suc k) h out is = elim (cases_eq v k) [
       omega (arith, length-members-suc s k, length-members-suc t k, c', length-members-more s t v k (omega arith) out is)
 ]
 
+-- an empty set has 0 members below k
 pub length-members-none : (s : ℕ → Bool) (k : ℕ) → ((u : ℕ) → s u ≡ false) → length (members_below s k) ≡ 0
 length-members-none s zero h = length-members-zero s
 length-members-none s (suc k) h = let e : one_if (s k) ≡ 0 = ap one_if (h k) in omega (arith, length-members-suc s k, length-members-none s k h, e)

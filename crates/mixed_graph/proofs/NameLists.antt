@@ -18,10 +18,12 @@ use Rattle.std.proofs.lemmas.List.Elements.{All-append, All-from_get_or}
 use Rattle.std.proofs.lemmas.Slice.Eq.{bytes_eq-Decides}
 use Rattle.mixed_graph.specs.Names.{texts, index_of, is_named, IsName, AreNames}
 
+-- a test holds of one of the texts exactly where a kept name has a text of which it holds
 pub list_any-texts : (p : List ℕ → Bool) (ks : List (Vec ℕ)) → list_any p (texts ks) ≡ list_any (λ (k : Vec ℕ). p k.items) ks
 list_any-texts p [] = refl
 list_any-texts p (k ∷ ks) = ap (λ b. p k.items || b) (list_any-texts p ks)
 
+-- the first text of which a test holds has the index of the first kept name with such a text
 pub position_or_len-texts : (p : List ℕ → Bool) (ks : List (Vec ℕ)) → position_or_len p (texts ks) ≡ position_or_len (λ (k : Vec ℕ). p k.items) ks
 position_or_len-texts p [] = refl
 position_or_len-texts p (k ∷ ks) = ap (λ n. cond (not (p k.items)) (1 + n) 0) (position_or_len-texts p ks)
@@ -50,6 +52,7 @@ texts-insert ks owned n is absent =
     let new : list_any (λ (k : Vec ℕ). bytes_eq owned.items k.items) ks ≡ false = rw is (sym (list_any-texts (bytes_eq n) ks) ∙ absent) in
     rw (new, map-append, is) refl
 
+-- the index of a name that isn't there is the number of names
 pub index_of-new : (ks : List (Vec ℕ)) (names : List (List ℕ)) (n : List ℕ) → texts ks ≡ names → false ≡ list_any (bytes_eq n) (texts ks) → length ks ≡ index_of names n
 index_of-new ks names n is absent =
     let same : length (texts ks) ≡ length ks = simp length-map in

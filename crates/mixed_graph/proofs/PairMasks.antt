@@ -35,9 +35,11 @@ blank n i = elim (cases_lt i n) [
   | inr h ↦ get_or_past (replicate n 0) i 0 (simp length-replicate h)
 ]
 
+-- in 64 rows that are all 0, no row has a member
 pub no_mask : (a b : ℕ) → has (get_or (replicate 64 0) a 0) b ≡ false
 no_mask a b = ap (λ x. has x b) (blank 64 a) ∙ has-zero b
 
+-- two tests hold together in either order
 pub and_swap : (x y : Bool) → (x && y) ≡ (y && x)
 and_swap true true = refl
 and_swap true false = refl

@@ -23,6 +23,7 @@ pub record Step (g : MixedGraph) (v found front rest fresh found' front' : ℕ) 
 or_l : (x y : Bool) → x ≡ true → (x || y) ≡ true
 or_l x y e = rw e refl
 
+-- a search begins with the start as what is found and as what is still to be looked at
 pub searching_none : (g : MixedGraph) (start : ℕ) → ((v : ℕ) → IsTrue (has start v) → v < g.vertices) → Searching g start start start
 searching_none g start within = record {
   started = λ v h. h;
@@ -33,6 +34,7 @@ searching_none g start within = record {
 
 module _ (g : MixedGraph) (below : (u v : ℕ) → IsTrue (g.arrow u v) → u < g.vertices) (start v found front rest fresh found' front' : ℕ)
     (step : Step g v found front rest fresh found' front') where
+  -- a step of the search keeps what is true of its sets
   pub searching_more : Searching g start found front → Searching g start found' front'
   searching_more s = record {
     started = λ u h. step.found_is u ∙ or_l _ _ (s.started u h);
