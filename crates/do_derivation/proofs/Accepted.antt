@@ -81,9 +81,11 @@ module _ (g : MixedGraph) (ok : IsMixedGraph g) (m : FiniteModel) (fit : Fits g 
       let kept = Keeps.step_kept g ok m fit positive q defs.0 (sets_of d.lemmas) defs.1 d.main (prob t.y t.x t.given) f.main (term_from g.vertices t.y t.x t.given whole, term_filled g.vertices t.y t.x t.given whole) a.main in
       equal_sym (effect m t s) (value_of (weights_of m) f s) (Keeps.kept_same g ok m fit positive q defs.0 (sets_of d.lemmas) defs.1 (prob t.y t.x t.given) f.main kept s w)
 
+-- the formula of an accepted derivation is the effect, its terms under the allowed interventions
 pub accepted_is_effect : AcceptedIsEffect
 accepted_is_effect = λ g ok allowed t f d whole a. (a.listed, λ m fit positive s w. accepted_equal g ok m fit positive allowed t f d whole a s w)
 
+-- a step keeps the value at each assignment, in each positive model that fits the graph
 pub step_keeps_value : StepKeepsValue
 step_keeps_value = λ g ok lemmas p e e' terms made m fit positive q have s w.
     Keeps.kept_same g ok m fit positive q have.positive lemmas have.cited e e' (Keeps.step_kept g ok m fit positive q have.positive lemmas have.cited p e e' (terms_of g.vertices e terms) made) s w

@@ -10,6 +10,7 @@ use Rattle.prob_expr.specs.Values.{weights_of, value, product_value}
 use Rattle.prob_expr.proofs.ValueLaws.{IsSame, value_positive, product_positive, sum_same, top_same, bottom_same}
 use Rattle.do_derivation.specs.Shapes.{child, with_child, factor_at, with_factor}
 
+-- equal options hold equal values
 pub some_is : {A : Type 0} (x y : A) → Some x ≡ Some y → x ≡ y
 some_is {A} x y e = ap (λ o. or_else o) e
   where

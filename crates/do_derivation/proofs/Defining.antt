@@ -30,6 +30,7 @@ unless_weaker (EndDiffers k) P Q f p = f p
 unless_weaker DoLeft P Q f p = f p
 unless_weaker NoMemory P Q f p = tt
 
+-- where the lemmas' sets are below n and not empty, what a lemma starts from is a term
 pub start_is_term : (n : ℕ) (ls : List Lemma) (k : ℕ) (l : Lemma) → are_sets n (sets_of (map lemma_view ls)) ≡ true → k < length ls → l ≡ get_or ls k l → are_terms n (start_of n l.set.bits) ≡ true
 start_is_term n [] k l h lt is = absurd (omega arith)
 start_is_term n (x ∷ ls) zero l h lt is =

@@ -25,6 +25,7 @@ use Rattle.do_derivation.specs.declared.faults.CheckFault.{CheckFault}
 not_open : (g : MixedGraph) (x y w : ℕ → Bool) (p : OpenPath) → IsSeparated g x y w → IsOpenPath g x y w p.vertices p.marks p.count → ⊥
 not_open g x y w p h o = h (slice_index p.vertices 0) (steps_from p.vertices p.marks 0 (p.count - 1)) o.walk
 
+-- no path is open in a rule's graph where what the rule asks holds
 pub holds_or_fails : (g : MixedGraph) (rule : Rule) (x y z w : ℕ → Bool) (p : OpenPath) → IsBlockedFor rule g x y z w → IsOpenFor rule g x y z w p → ⊥
 holds_or_fails g rule x y z w p h f =
     not_open h.graph y z (λ v. x v || w v) p h.separated
@@ -108,6 +109,7 @@ defines_either g before k (l ∷ ls) (d ∷ ds) fault a (inl b) = either_made g 
 defines_either g before k (l ∷ ls) (d ∷ ds) fault a (inr (inl b)) = b.2 (made_once g before l.plan (start_of g.vertices l.set) b.0 d b.1 a.0)
 defines_either g before k (l ∷ ls) (d ∷ ds) fault a (inr (inr b)) = defines_either g (before ++ (l.set ∷ [])) (k + 1) ls ds fault a.1 b.1
 
+-- an accepted derivation has no first fault
 pub accepts_either : (g : MixedGraph) (allowed : List ℕ) (t : PlainTarget) (f : PlainFormula) (d : PlainDerivation) (fault : CheckFault) → Accepts g allowed t f d → AcceptsNot g allowed t f d fault → ⊥
 accepts_either g allowed t f d fault a (inl b) = defines_either g [] 0 d.lemmas f.defs fault a.define b
 accepts_either g allowed t f d fault a (inr b) = ends b.1

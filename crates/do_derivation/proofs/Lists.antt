@@ -19,6 +19,7 @@ joined-nothing (tree t ts) = ap (λ us. tree t us) (joined-nothing ts)
 pub joined_nothing : (ts us : Trees) → joined ts no_trees ≡ us → ts ≡ us
 joined_nothing ts us e = sym (joined-nothing ts) ∙ e
 
+-- a factor at the end of a list may as well stand at the front of what follows it
 pub joined_more : (es : List Expr) (e : Expr) (ts : Trees) → joined (views (es ++ e ∷ [])) ts ≡ joined (views es) (tree (view e) ts)
 joined_more [] e ts = refl
 joined_more (x ∷ es) e ts = ap (λ us. tree (view x) us) (joined_more es e ts)

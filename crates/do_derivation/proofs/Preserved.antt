@@ -36,6 +36,7 @@ single_positive : (n : ℕ) → IsPositiveModel (single n)
 single_positive n s w =
     subst (λ b. 1 ≤ cond b 1 0) (sym (agree_from n (λ v. true) (solution (single n) (λ j. 0)) s (λ v lt e. all_zero n n (λ j. 0) v ∙ (let l = w v lt in omega (arith, l))))) (omega arith)
 
+-- all terms of what a step makes are terms, where those of what it is made of are
 pub step_keeps_terms : StepKeepsTerms
 step_keeps_terms = λ g ok lemmas p e e' terms made.
     let m = single g.vertices in

@@ -45,12 +45,15 @@ four_sets n a b z c t k = record {
   z_w = k.apart_given;
 }
 
+-- a member of a union is in the first set or in the second
 pub join_cases : (a b v : ℕ) (C : Type 0) → has (join a b) v ≡ true → (has a v ≡ true → C) → (has b v ≡ true → C) → C
 join_cases a b v C e f h = either (has a v) (has b v) C (sym (has_join a b v) ∙ e) f h
 
+-- what is in neither of two sets is not in their union
 pub join_false : (a b v : ℕ) → has a v ≡ false → has b v ≡ false → has (join a b) v ≡ false
 join_false a b v e f = has_join a b v ∙ or_from (has a v) (has b v) e f
 
+-- what is in a difference is in its first set
 pub minus_left : (a b v : ℕ) → has (minus a b) v ≡ true → has a v ≡ true
 minus_left a b v e = and_first (has a v) (not (has b v)) (sym (has_minus a b v) ∙ e)
 
@@ -82,9 +85,11 @@ term_sets n a b c e =
       doing_given = λ v. apart_has b c v (and_second (is_apart a c) (is_apart b c) ac_bc);
     }
 
+-- sets that pass the test of a term are below n and pairwise disjoint
 pub term_from : (n a b c : ℕ) → is_term n a b c ≡ true → IsTerm n a b c
 term_from n a b c e = term_sets n a b c (and_first (are_term_sets n a b c) (not (is_empty a)) e)
 
+-- the first set of a term is not empty
 pub term_filled : (n a b c : ℕ) → is_term n a b c ≡ true → a ≡ 0 → ⊥
 term_filled n a b c e = filled_from a (and_second (are_term_sets n a b c) (not (is_empty a)) e)
 
@@ -97,6 +102,7 @@ term_test n a b c t full =
     (and_from (is_apart a b) (is_apart a c && is_apart b c) (apart_from a b t.of_doing) (and_from (is_apart a c) (is_apart b c) (apart_from a c t.of_given) (apart_from b c t.doing_given))))
     (not_empty a full)
 
+-- a set that passes the test of a new one is below n and disjoint from the term's three sets
 pub new_from : (n z a b c : ℕ) → is_new n z a b c ≡ true → IsNew n z a b c
 new_from n z a b c e =
     let r₁ = and_second (not (is_empty z)) (is_below n z && (is_apart z a && (is_apart z b && is_apart z c))) e in

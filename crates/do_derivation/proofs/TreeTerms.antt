@@ -66,6 +66,7 @@ chained_terms n (v ∷ o) a b c e t = (
   chained_terms n o (minus a (one v)) b (join c (one v)) (and_second (has a v) (is_list_of o (minus a (one v))) e) (chain_on n a b c v t (and_first (has a v) (is_list_of o (minus a (one v))) e)),
 )
 
+-- where all terms of an expression are terms, so are those of each child
 pub child_terms : (n : ℕ) (e : Tree) (i : ℕ) (c : Tree) → child e i ≡ Some c → AreTerms n e → AreTerms n c
 child_terms n (prob x y z) i c h t = absurd (none-some c h)
 child_terms n (sum u e) zero c h t = subst (λ x. AreTerms n x) (some_is e c h) t.1
@@ -91,6 +92,7 @@ with_child_terms n (named k) i c t r = tt
 
 -- ---- as tests
 mutual
+  -- all terms of an expression that passes the test are terms
   pub terms_of : (n : ℕ) (e : Tree) → are_terms n e ≡ true → AreTerms n e
   terms_of n (prob a b c) h = (term_from n a b c h, term_filled n a b c h)
   terms_of n (sum u e) h = ((λ v. below_has n u v (and_first (is_below n u) (are_terms n e) h)), terms_of n e (and_second (is_below n u) (are_terms n e) h))
@@ -103,6 +105,7 @@ mutual
   terms_of_each n (tree e ts) h = (terms_of n e (and_first (are_terms n e) (are_terms_each n ts) h), terms_of_each n ts (and_second (are_terms n e) (are_terms_each n ts) h))
 
 mutual
+  -- an expression all of whose terms are terms passes the test
   pub terms_test : (n : ℕ) (e : Tree) → AreTerms n e → are_terms n e ≡ true
   terms_test n (prob a b c) t = term_test n a b c t.0 t.1
   terms_test n (sum u e) t = and_from (is_below n u) (are_terms n e) (below_from n u t.0) (terms_test n e t.1)

@@ -12,6 +12,7 @@ use Rattle.finite_models.proofs.Solutions.{IsRanked}
 abbrev pub hold : FiniteModel → (ℕ → Bool) → (ℕ → ℕ) → FiniteModel
 hold m z s = record m { mechanism = λ v t u. m.mechanism v (λ p. cond (z p) (s p) (t p)) u }
 
+-- a rank that rises along the arrows still does so without the edges into x
 pub ranked_into : (g : MixedGraph) (x : ℕ → Bool) (rank : ℕ → ℕ) → IsRanked g rank → IsRanked (cut_into g x) rank
 ranked_into g x rank k = record {
   tail_below = λ u v e. k.tail_below u v (and_first (g.arrow u v) (not (x v)) e);

@@ -24,6 +24,7 @@ apart_from_both : (s x w : ℕ → Bool) → Apart x s → Apart s w → (v : �
 apart_from_both s x w xs sw v e = or_from (x v) (w v) (flipped x s xs v e) (sw v e)
 
 module _ (g : MixedGraph) (ok : IsMixedGraph g) where
+  -- sets that w separates are independent given w, in each model that fits the graph
   pub independent_holds : (x y w : ℕ → Bool) → AreThreeSets g.vertices x y w → IsSeparated g x y w → AreIndependent g x y w
   independent_holds x y w sets sep m fit s =
       with_rank g ok (event_weight m (λ v. x v || (y v || w v)) s * event_weight m w s) (event_weight m (λ v. x v || w v) s * event_weight m (λ v. y v || w v) s)

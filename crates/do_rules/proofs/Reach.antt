@@ -148,6 +148,7 @@ module _ (g : MixedGraph) (X Y W : ℕ → Bool) where
         go (inl i) = record { steps = step m v ∷ r; ends = y; last_outside = w; walk = (j, k); passed = q; ready = ready i (heads_first m) tail }
         go (inr o) = at_end o (X a.end) (Y a.end) refl refl a.inside
 
+    -- where W separates X and Y, a walk whose inner vertices are passed leads from each linked vertex to Y
     pub reach : (v : ℕ) → Linked g S W Y v → Comes v
     reach v (here e) = record { steps = []; ends = e; last_outside = y_out v e; walk = tt; passed = tt; ready = y_out v e }
     reach u (by_both {v = v} su b l) = let c = reach v l in

@@ -77,6 +77,7 @@ above x d b le h = omega (arith, product b d le)
     product zero d le = absurd (omega arith)
     product (suc b) d le = omega arith
 
+-- a positive factor can be cancelled
 pub scaled : (x y b : ℕ) → 1 ≤ b → b * x ≡ b * y → x ≡ y
 scaled x y b le h = stable x y (λ differ. up (λ lt. above x (y - suc x) b le (h ∙ ap (λ n. b * n) (omega arith))) (λ lt. above y (x - suc y) b le (sym h ∙ ap (λ n. b * n) (omega arith))) differ)
   where

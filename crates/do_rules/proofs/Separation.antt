@@ -25,6 +25,7 @@ module _ (g : MixedGraph) (m : FiniteModel) (rank : ℕ → ℕ) (is_graph : IsM
   unfolding Above
   above_parent p v a r = record { vertex = is_graph.tail_below p v a; path = v ∷ r.path; end = r.end; leads = (a, r.leads); inside = r.inside }
 
+  -- sets that W separates are independent given W, in a model that follows the graph
   pub separated_independent : (s : ℕ → ℕ) → event_weight m (λ v. X v || (Y v || W v)) s * event_weight m W s ≡ event_weight m (λ v. X v || W v) s * event_weight m (λ v. Y v || W v) s
   unfolding Above
   separated_independent s =

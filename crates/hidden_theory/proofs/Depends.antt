@@ -24,6 +24,7 @@ module _ (g : MixedGraph) (m : FiniteModel) (ok : IsMixedGraph g) (fit : Follows
       (λ h. agree_from m.vertices a' (solution (intervene m b' t) u) t (λ v vl e. let f : a v ≡ true = same_a v vl ∙ e in sym (same_round u m.vertices v vl) ∙ agree_gives m.vertices a (solution (intervene m b s) u) s h v vl f ∙ at_a v vl f))
       (λ h. agree_from m.vertices a (solution (intervene m b s) u) s (λ v vl e. same_round u m.vertices v vl ∙ agree_gives m.vertices a' (solution (intervene m b' t) u) t h v vl (sym (same_a v vl) ∙ e) ∙ sym (at_a v vl e)))
 
+  -- sets with the same vertices, and assignments that agree on them, give one weight
   pub weight_depends : weight_of m b a s ≡ weight_of m b' a' t
   weight_depends = over-congr (λ j. true) m.values m.causes
       (λ u. cond (agree m.vertices a (solution (intervene m b s) u) s) (world_weight m u) 0) (λ u. cond (agree m.vertices a' (solution (intervene m b' t) u) t) (world_weight m u) 0) (λ j. 0)

@@ -67,6 +67,7 @@ module _ (g : MixedGraph) (ok : IsMixedGraph g) (l : ℕ → Bool) (q : MixedGra
   same_value : (s : ℕ → ℕ) (k : ℕ) → k < m'.vertices → values_after l m.vertices (values_before l s) k ≡ s k
   same_value s k kl = let w = member_is (λ v. not (l v)) m.vertices k (below k kl) in rw (w.inside, w.place) refl
 
+  -- an event of observed vertices is as probable in what folds a model, under every intervention on them
   pub drawn_weight : (b a : ℕ → Bool) (s : ℕ → ℕ) → IsAssignment m'.vertices m'.size s
       → weight_of m (set_before l b) (set_before l a) (values_before l s) * total m' ≡ weight_of m' b a s * total m
   drawn_weight b a s hs =
@@ -131,6 +132,7 @@ module _ (g : MixedGraph) (ok : IsMixedGraph g) (l : ℕ → Bool) (q : MixedGra
         (term_alike (drawn_weights l m) (weights_of m') (sym folds.vertices) drawn_sizes drawn_some (total m) (total m') (mul-pos (total_positive g m fit) (total_positive q m' fit'))
         drawn_positive (λ b a c hc. drawn_weight b a c (into c hc)) t.y t.x t.given (values_after l m.vertices s) (after_drawn s hs)).equal)
 
+-- what folds a model that is positive on the observed vertices is positive
 pub folded_is_positive : FoldedIsPositive
 folded_is_positive = λ g ok l q is m m' fit fit' folds observed. folded_positive g ok l q is m m' fit fit' folds observed
 
@@ -140,9 +142,11 @@ folded_keeps_weights = λ g ok l q is m m' fit fit' folds b a s hs. drawn_weight
 pub folded_keeps_values : FoldedKeepsValues
 folded_keeps_values = λ g ok l q is m m' fit fit' folds observed f s hs. keeps_value g ok l q is m m' fit fit' folds observed f s hs
 
+-- each effect among observed vertices has one value in an observed-positive model and what folds it
 pub folded_keeps_effects : FoldedKeepsEffects
 folded_keeps_effects = λ g ok l q is m m' fit fit' folds observed t s hs. keeps_effect g ok l q is m m' fit fit' folds observed t s hs
 
+-- a formula right in every positive model of the observed graph is right in the diagram as drawn
 pub right_as_drawn : RightAsDrawn
 right_as_drawn = λ g ok l q is t f right m fit observed s hs.
     let h = each_has_folded g ok l q is m fit in

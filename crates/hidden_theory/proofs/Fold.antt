@@ -60,6 +60,7 @@ module _ (g p : MixedGraph) (l : ℕ → Bool) (m : FiniteModel) (r : ℕ → �
       go ih true e h = rw e (fit.below v vl (rounds (intervene m (λ v. not (l v)) s) k u) u ih hu)
       go ih false e h = rw e (rw e at h)
 
+  -- with the hidden mechanisms put into the observed ones, a model follows the latent projection
   pub fold_follows : Follows p (fold m l r)
   fold_follows = record {
     vertices = fit.vertices ∙ sym is.vertices;

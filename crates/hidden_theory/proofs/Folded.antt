@@ -33,6 +33,7 @@ module _ (g p : MixedGraph) (l : ℕ → Bool) (m : FiniteModel) (r : ℕ → �
   p_tail : (a b : ℕ) → p.arrow a b ≡ true → not (l a) ≡ true
   p_tail a b e = not_from_false (l a) ((by_treks g p l is).tail_observed a b e)
 
+  -- the folded model fits the observed graph
   pub by_fits : Fits (renumbered p (observed_below l m.vertices)) (folded_by m l r j)
   by_fits = fits_kept p (fold m l r) (λ v. not (l v)) j p_ok p_fit p_tail keeps fit.positive_weight
 
@@ -69,6 +70,7 @@ module _ (g p : MixedGraph) (l : ℕ → Bool) (m : FiniteModel) (r : ℕ → �
   same_value : (s : ℕ → ℕ) (v : ℕ) → v < m.vertices → l v ≡ false → s v ≡ values_in (λ v. not (l v)) (values_after l m.vertices s) v
   same_value s v vl e = let o : not (l v) ≡ true = not_from_false (l v) e in rw o (ap s (sym (member_position (λ v. not (l v)) m.vertices v vl o)))
 
+  -- the folded model gives each event of observed vertices its probability, under every intervention on them
   pub by_folds : Folds l m (folded_by m l r j)
   by_folds = record {
     vertices = refl;

@@ -83,6 +83,7 @@ module _ (g p : MixedGraph) (l : ℕ → Bool) (is : IsProjection g l p) where
   leads : (a b : ℕ) → LeadsThrough g l a b → LeadsOn g l a b
   leads a b r = record { next = r.next; first = r.path.0; rest = record { path = r.rest; leads = r.path.1; before = r.latent } }
 
+  -- the edges of a latent projection are the latent directed paths and the treks of the graph
   pub by_treks : ProjectsByTreks g l p
   by_treks = record {
     vertices = is.vertices;

@@ -11,6 +11,7 @@ use Rattle.latent_projection.proofs.Numbering.{members-more, members-same, at_pl
 use Rattle.hidden_theory.proofs.Folding.{position, member}
 
 module _ (j : ℕ → Bool) where
+  -- the members below k + 1 are one more than those below k where k is a member, else as many
   pub position_suc : (k : ℕ) → position j (suc k) ≡ cond (j k) (suc (position j k)) (position j k)
   position_suc k = length-members-suc j k ∙ go (j k) (position j k)
     where
@@ -18,6 +19,7 @@ module _ (j : ℕ → Bool) where
       go true p = omega arith
       go false p = omega arith
 
+  -- the new number of a member below n is below the number of such members
   pub position_lt : (i n : ℕ) → i < n → j i ≡ true → position j i < position j n
   position_lt i n lt e = (at_place j n i lt e).below
 
@@ -30,6 +32,7 @@ module _ (j : ℕ → Bool) where
     pub inside : j (member j n i) ≡ true
     pub place : position j (member j n i) ≡ i
 
+  -- each number below the number of members is the new number of one of them
   pub member_is : (n i : ℕ) → i < position j n → IsMember n i
   member_is zero i lt = absurd (omega (arith, length-members-zero j))
   member_is (suc n) i lt = go (cases_lt i (position j n)) (j n) refl (λ l. member_is n i l)

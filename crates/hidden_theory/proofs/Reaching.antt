@@ -27,6 +27,7 @@ reached g l m j v = not (l v) && any_below g.vertices (λ c. m.serves j c && rea
 abbrev pub reaches_some : MixedGraph → (ℕ → Bool) → FiniteModel → ℕ → Bool
 reaches_some g l m j = any_below g.vertices (λ v. reached g l m j v)
 
+-- a bit whose negation is true is false
 pub observed_of : (b : Bool) → not b ≡ true → b ≡ false
 observed_of true e = absurd (grind (arith, e))
 observed_of false e = refl
@@ -74,12 +75,14 @@ module _ (g : MixedGraph) (l : ℕ → Bool) (ok : IsMixedGraph g) where
     observed : (j v : ℕ) → reached g l m j v ≡ true → l v ≡ false
     observed j v e = observed_of (l v) (and_first (not (l v)) (any_below g.vertices (λ c. m.serves j c && reaches_in g l g.vertices c v)) e)
 
+    -- what a cause reaches is a vertex of the graph
     pub reached_below : (j v : ℕ) → reached g l m j v ≡ true → v < g.vertices
     reached_below j v e =
         let w = child_of j v e in
         let r = way_of g.vertices w.0 v (and_second (m.serves j w.0) (reaches_in g l g.vertices w.0 v) w.2) in
         end_below g ok.head_below w.0 r.path v w.1 r.leads
 
+    -- what is computed is exactly which observed vertices a cause reaches
     pub tells_reached : TellsReached g l m (reached g l m)
     tells_reached = record {
       observed = observed;
@@ -100,6 +103,7 @@ module _ (g : MixedGraph) (l : ℕ → Bool) (ok : IsMixedGraph g) where
         go zero h = absurd (omega arith)
         go (suc k) h = omega arith
 
+    -- in the folded model the causes that serve an observed vertex are those that reach one
     pub keeps_causes : KeepsCauses (fold m l (reached g l m)) (λ v. not (l v)) (reaches_some g l m)
     keeps_causes = record {
       idle = λ i v il e. false_from_ne_true (reached g l m i v) (λ h. clash (reaches_some g l m i) (any_below_from g.vertices (reached g l m i) v (reached_below i v h) h) e);

@@ -22,5 +22,6 @@ box_positive values w (suc n) b h =
     omega (arith, e, f, times (sum_over (λ j. true) values n (λ u. product_below n (λ j. w j (u j))) (set_at b n x)) (w n (set_at b n x n)) (box_positive values w n (set_at b n x) (λ j jl. h j (omega arith))))) in
     omega (arith, le, h n (omega arith))
 
+-- the weights of all worlds of a model that fits a graph have a positive sum
 pub total_positive : (g : MixedGraph) (m : FiniteModel) → Fits g m → 1 ≤ total m
 total_positive g m fit = box_positive m.values m.weight m.causes (λ j. 0) fit.positive_weight

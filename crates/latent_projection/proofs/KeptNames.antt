@@ -15,10 +15,12 @@ use Rattle.mixed_graph.specs.Names.{AreNames, is_named}
 use Rattle.latent_projection.specs.Renumbering.{names_at}
 use Rattle.latent_projection.proofs.Numbering.{members-more, members-same}
 
+-- no vertex is below 0, so no name is listed
 pub names_at-none : (s : ℕ → Bool) (names : List (List ℕ)) → names_at (members_below s 0) names ≡ []
 unfolding members_below
 names_at-none s names = refl
 
+-- one more member puts its name at the end of the list
 pub names_at-more : (s : ℕ → Bool) (v : ℕ) (names : List (List ℕ)) (name : List ℕ) → s v ≡ true → slice_get names v ≡ Some name
     → names_at (members_below s (v + 1)) names ≡ names_at (members_below s v) names ++ name ∷ []
 names_at-more s v names name e at =
@@ -28,6 +30,7 @@ names_at-more s v names name e at =
 pub names_at-same : (s : ℕ → Bool) (v : ℕ) (names : List (List ℕ)) → s v ≡ false → names_at (members_below s (v + 1)) names ≡ names_at (members_below s v) names
 names_at-same s v names e = ap (λ vs. names_at vs names) (members-same s v e)
 
+-- as many names are listed as vertices
 pub length-names_at : (vs : List ℕ) (names : List (List ℕ)) → length (names_at vs names) ≡ length vs
 length-names_at vs names = simp length-map refl
 

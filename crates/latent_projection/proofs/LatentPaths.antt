@@ -31,6 +31,7 @@ module _ (g : MixedGraph) (l : ℕ → Bool) where
       go Into j q z f d = f j q z
       go Both j q z f d = edge v t.to j (longer g l v w a p.0 e x) (d q)
 
+  -- a latent path gives a trek between its ends
   pub trek_of : (a b : ℕ) → IsLatentPath g l a b → IsTrek g l a b
   trek_of a b x = go x.first.mark x.walk.0 x.head_first x.latent x.head_last
     where
@@ -156,6 +157,7 @@ module _ (g : MixedGraph) (l : ℕ → Bool) where
   avoided a b o ne h v [] s p = ((λ q. ne (sym q ∙ s)), tt)
   avoided a b o ne h v (t ∷ r) s p = ((λ q. clash (l v) p.0 (rw (sym q) at o)), avoided a b o ne (heads_second t.mark) t.to r s p.2)
 
+  -- a trek between two different observed vertices gives a latent path
   pub path_of : (a b : ℕ) → l a ≡ false → l b ≡ false → (a ≡ b → ⊥) → IsTrek g l a b → IsLatentPath g l a b
   path_of a b oa ob ne t = go (headed a b oa ob t)
     where

@@ -15,6 +15,7 @@ pub members-more : (s : ℕ → Bool) (k : ℕ) → s k ≡ true → members_bel
 unfolding members_below
 members-more s k e = ap (members_below s) (add-one k) ∙ ap (λ b. members_below s k ++ cond b (k ∷ []) []) e
 
+-- a number that is no member leaves the list of members as it was
 pub members-same : (s : ℕ → Bool) (k : ℕ) → s k ≡ false → members_below s (k + 1) ≡ members_below s k
 unfolding members_below
 members-same s k e = ap (members_below s) (add-one k) ∙ ap (λ b. members_below s k ++ cond b (k ∷ []) []) e ∙ append-nil (members_below s k)
@@ -31,6 +32,7 @@ at_place_more s n v true e r = record {
 }
 at_place_more s n v false e r = record { below = rw (members-same s n e) r.below; entry = rw (members-same s n e) r.entry }
 
+-- a member stands in the list of members behind those below it
 pub at_place : (s : ℕ → Bool) (n v : ℕ) → v < n → s v ≡ true → IsAtPlace s n v
 at_place s zero v h e = absurd (omega arith)
 at_place s (suc n) v h e = subst (λ k. IsAtPlace s k v) (add-one n) (elim (cases_eq v n) [
@@ -121,6 +123,7 @@ module _ (p : MixedGraph) (vs : List ℕ) where
   old_path v [] t q = ap (λ k. get_or vs k 0) q
   old_path v (x ∷ xs) t q = ((edge_of p.arrow v x q.0).2, old_path x xs t q.1)
 
+  -- a mixed graph, restricted to listed vertices and numbered anew, is a mixed graph
   pub IsMixedGraph-renumbered : IsMixedGraph p → IsMixedGraph (renumbered p vs)
   IsMixedGraph-renumbered ok = record {
     tail_below = λ a b e. (edge_of p.arrow a b e).0;

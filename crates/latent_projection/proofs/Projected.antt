@@ -86,6 +86,7 @@ module _ (g p : MixedGraph) (l : ℕ → Bool) (ok : IsMixedGraph g) (is : IsPro
   not_joined_to_itself : (v : ℕ) → p.both v v ≡ false
   not_joined_to_itself v = false_from_ne_true (p.both v v) (λ e. (joined_by v v e).differ refl)
 
+  -- the latent projection of a mixed graph is a mixed graph
   pub IsMixedGraph-projection : IsMixedGraph p
   IsMixedGraph-projection = record {
     tail_below = λ a b e. let r = led a b e in below a (ok.tail_below a r.next r.path.0);

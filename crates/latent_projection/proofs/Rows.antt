@@ -12,6 +12,7 @@ pub record AreRows (f : ℕ → ℕ → Bool) (i : ℕ) (m : List ℕ) : Type 0 
   pub rest : (a : ℕ) → i ≤ a → get_or m a 0 ≡ 0
   pub size : length m ≡ 64
 
+-- at the start all 64 rows are empty
 pub no_row : (f : ℕ → ℕ → Bool) → AreRows f 0 (replicate 64 0)
 no_row f = record {
   made = λ a b h. absurd (omega arith);
@@ -19,6 +20,7 @@ no_row f = record {
   size = length-replicate {A = ℕ} 64 0;
 }
 
+-- where row i is set to what f says of i, one more row holds what f says
 pub row_more : (f : ℕ → ℕ → Bool) (i x : ℕ) (m : List ℕ) → i < 64 → ((b : ℕ) → has x b ≡ f i b) → AreRows f i m → AreRows f (i + 1) (set m i x)
 row_more f i x m below is r = record {
   made = λ a b h. elim (cases_eq a i) [

@@ -4,12 +4,15 @@ use Rattle.std.proofs.lemmas.Bool.{both_ways, and_parts}
 use Rattle.mixed_graph.specs.Graphs.{MixedGraph, IsDirectedPath}
 use Rattle.latent_projection.specs.Projection.{AreBefore}
 
+-- no bit is both true and false
 pub clash : {A : Type 0} (b : Bool) → b ≡ true → b ≡ false → A
 clash b p q = absurd (both_ways b q p)
 
+-- the first side of a true conjunction is true
 pub left_true : (p q : Bool) → (p && q) ≡ true → p ≡ true
 left_true p q e = (and_parts p q e).0
 
+-- the second side of a true conjunction is true
 pub right_true : (p q : Bool) → (p && q) ≡ true → q ≡ true
 right_true p q e = (and_parts p q e).1
 
@@ -42,6 +45,7 @@ pub record ProjectsByTreks (g : MixedGraph) (l : ℕ → Bool) (p : MixedGraph) 
   pub head_observed : (a b : ℕ) → p.arrow a b ≡ true → l b ≡ false
   pub both_observed : (a b : ℕ) → p.both a b ≡ true → (l a ≡ false) × (l b ≡ false)
 
+-- a vertex reaches itself, by the path of no arrows
 pub here : (g : MixedGraph) (l : ℕ → Bool) (v : ℕ) → Reaches g l v v
 here g l v = record { path = []; leads = refl; before = tt }
 

@@ -35,6 +35,7 @@ pushed n m A f w low =
     at v true e = rw (odd-one m (f v) w (low v e)) refl
     at v false e = rw e refl
 
+-- where f gives j for no member of A, it gives j for an even number of them
 pub odd_none : (n : ℕ) (A : ℕ → Bool) (f : ℕ → ℕ) (j : ℕ) → ((v : ℕ) → A v ≡ true → f v ≡ j → ⊥) → odd_below n (λ v. A v && eqb j (f v)) ≡ false
 odd_none n A f j h = odd-congr n (λ v. A v && eqb j (f v)) (λ v. false) (λ v lt. false_from_ne_true (A v && eqb j (f v)) (λ e. h v (and_first (A v) (eqb j (f v)) e) (sym (eqb-true j (f v) (and_second (A v) (eqb j (f v)) e))))) ∙ odd-false n
 

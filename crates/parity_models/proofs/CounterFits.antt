@@ -13,14 +13,17 @@ use Rattle.parity_models.specs.Pairs.{value, hedge_bit, carried_bit, world_bit, 
 use Rattle.parity_models.proofs.ParityLaws.{odd-congr}
 use Rattle.parity_models.proofs.Truths.{not_true}
 
+-- one side of a true disjunction is true
 pub or_split : (p q : Bool) → (p || q) ≡ true → (p ≡ true) ⊎ (q ≡ true)
 or_split true q e = inl refl
 or_split false q e = inr e
 
+-- a disjunction is true where its first side is
 pub or_first : (p q : Bool) → p ≡ true → (p || q) ≡ true
 or_first true q e = refl
 or_first false q e = absurd (grind (arith, e))
 
+-- a disjunction is true where its second side is
 pub or_second : (p q : Bool) → q ≡ true → (p || q) ≡ true
 or_second true q e = refl
 or_second false q e = e

@@ -2,6 +2,7 @@
 use Rattle.std.proofs.Common.{ℕ, zero, suc, ◌≡◌, ◌<◌, ◌≤◌, Bool, true, false, eqb, refl, sym, ap, ◌∙◌, ◌&&◌, arith, ne_eqb, eqb-true}
 use Rattle.parity_models.specs.Parities.{differ, odd_below}
 
+-- exclusive or with false changes no bit
 pub differ-false : (a : Bool) → differ a false ≡ a
 differ-false true = refl
 differ-false false = refl
@@ -12,6 +13,7 @@ differ-comm true false = refl
 differ-comm false true = refl
 differ-comm false false = refl
 
+-- exclusive or may be bracketed either way
 pub differ-assoc : (a b c : Bool) → differ (differ a b) c ≡ differ a (differ b c)
 differ-assoc true true true = refl
 differ-assoc true true false = refl
@@ -25,6 +27,7 @@ differ-self false = refl
 pub differ-swap : (a b c d : Bool) → differ (differ a b) (differ c d) ≡ differ (differ a c) (differ b d)
 differ-swap a b c d = differ-assoc a b (differ c d) ∙ ap (differ a) (sym (differ-assoc b c d) ∙ ap (λ r. differ r d) (differ-comm b c) ∙ differ-assoc c b d) ∙ sym (differ-assoc a c (differ b d))
 
+-- bits that are equal below n have one parity
 pub odd-congr : (n : ℕ) (p q : ℕ → Bool) → ((i : ℕ) → i < n → p i ≡ q i) → odd_below n p ≡ odd_below n q
 odd-congr zero p q h = refl
 odd-congr (suc n) p q h = ap (λ r. differ r (p n)) (odd-congr n p q (λ i lt. h i (omega arith))) ∙ ap (differ (odd_below n q)) (h n (omega arith))
@@ -49,6 +52,7 @@ odd-and n false p = odd-false n
 pub odd-none : (n k : ℕ) (p : ℕ → Bool) → n ≤ k → odd_below n (λ i. eqb i k && p i) ≡ false
 odd-none n k p le = odd-congr n (λ i. eqb i k && p i) (λ i. false) (λ i lt. rw (ne_eqb i k (omega arith)) refl) ∙ odd-false n
 
+-- the parity of the one bit k is that bit
 pub odd-one : (n k : ℕ) (p : ℕ → Bool) → k < n → odd_below n (λ i. eqb i k && p i) ≡ p k
 odd-one zero k p lt = absurd (omega arith)
 odd-one (suc n) k p lt = go (eqb n k) refl (λ l. odd-one n k p l)

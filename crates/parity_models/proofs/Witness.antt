@@ -47,9 +47,11 @@ module _ (g : MixedGraph) (is_graph : IsMixedGraph g) (x : ℕ → Bool) (d : Pa
   follows_two : Follows g Two
   follows_two = second_fits g x d ok.hedge ok.numbered is_graph ok.inner_joined ok.outer_joined
 
+  -- the first model fits the graph
   pub fit_one : Fits g One
   fit_one = fits_of g x d ok (first_mechanism g.vertices d) follows_one
 
+  -- the second model fits the graph
   pub fit_two : Fits g Two
   fit_two = fits_of g x d ok (second_mechanism g.vertices d) follows_two
 
@@ -57,9 +59,11 @@ module _ (g : MixedGraph) (is_graph : IsMixedGraph g) (x : ℕ → Bool) (d : Pa
   observed s = with_rank g is_graph (event_weight One (λ v. true) s) (event_weight Two (λ v. true) s)
       (λ rank ranked. observations_agree g x d ok.hedge ok.tree is_graph s rank ranked (serves_of d) follows_one follows_two)
 
+  -- the two models give each observation the same probability
   pub agree_observed : AgreeObserved One Two
   agree_observed = record { vertices = refl; sizes = λ v lt. refl; weights = λ s within. ap (λ r. r * total Two) (observed s) }
 
+  -- the second model gives each assignment a positive weight
   pub positive_two : IsPositiveModel Two
   positive_two s within = from (event_weight Two (λ v. true) s)
       (with_rank g is_graph (1 - event_weight Two (λ v. true) s) 0
@@ -71,14 +75,17 @@ module _ (g : MixedGraph) (is_graph : IsMixedGraph g) (x : ℕ → Bool) (d : Pa
       to : (e : ℕ) → 1 ≤ e → 1 - e ≡ 0
       to e h = omega arith
 
+  -- the first model gives each assignment a positive weight
   pub positive_one : IsPositiveModel One
   positive_one s within = rw (observed s) (positive_two s within)
 
   module _ (a : ℕ → ℕ) (within : IsAssignment g.vertices (size_of d) a) where
+    -- under do(x) the carried bits in the target have an even sum with probability 1 / 2 in the first model
     pub half : 2 * event_even One d x a ≡ total One
     half = with_rank g is_graph (2 * event_even One d x a) (total One)
         (λ rank ranked. first_event g x d ok.hedge rank is_graph ranked (serves_of d) a within follows_one ∙ sym (total_whole g.vertices d (serves_of d) (first_mechanism g.vertices d)))
 
+    -- and with probability 1 / 2 + 1 / 2 ^ (noise + 1) in the second
     pub more : 2 ^ (noise_of d + 1) * event_even Two d x a ≡ (2 ^ noise_of d + 1) * total Two
     more = with_rank g is_graph (2 ^ (noise_of d + 1) * event_even Two d x a) ((2 ^ noise_of d + 1) * total Two)
         (λ rank ranked. stated (links_of d) (noise_of d) (event_even Two d x a) (total Two) (total_powers g.vertices d (serves_of d) (second_mechanism g.vertices d) ok.hedge.links_low)
@@ -135,6 +142,7 @@ module _ (g : MixedGraph) (is_graph : IsMixedGraph g) (x : ℕ → Bool) (d : Pa
   unfolding differ_at
   effects_each a within = (differ_at a within, λ v e. (found a within).same v (λ l t. not_both (x v) e (ok.target_outside v t)))
 
+  -- the effects of x on the target differ at some assignment
   pub effects : DifferAt One Two x d.target
   effects = differ_at (λ v. 0) (λ v lt. positive (d.big v) (d.kept v))
     where

@@ -154,6 +154,7 @@ pub all_ask_any : (ds : List Tree) → AllAskFor (λ v. true) ds
 all_ask_any [] = tt
 all_ask_any (d ∷ ds) = (asks_any d, all_ask_any ds)
 
+-- an effect of which nothing is given is over the weight of all worlds
 pub effect_is_over_total : EffectIsOverTotal
 effect_is_over_total = λ m t s none.
     weight-none (intervene m (has t.x) s) (has t.given) s (λ v. ap (λ n. has n v) none ∙ has_none v)
@@ -203,6 +204,7 @@ module _ (g : MixedGraph) (ok : IsMixedGraph g) (m₁ m₂ : FiniteModel) (f₁ 
 pub observed_fixes_value : ObservedFixesValue
 observed_fixes_value = λ g ok m₁ m₂ f₁ f₂ p₁ p₂ agreed f u s il. same_value g ok m₁ m₂ f₁ f₂ p₁ p₂ agreed f u s il
 
+-- an effect that a formula without interventions equals is one in positive models that agree on what is observed
 pub formula_fixes_effect : FormulaFixesEffect
 formula_fixes_effect = λ g ok t f free h m₁ m₂ f₁ f₂ p₁ p₂ agreed s il.
     let il₂ : IsAssignment m₂.vertices m₂.size s = assignment_in_second g ok m₁ m₂ f₁ f₂ p₁ p₂ agreed s il in

@@ -7,6 +7,7 @@ use Rattle.prob_expr.specs.View.{view, views}
 use Rattle.prob_expr.specs.Check.{are_two}
 use Rattle.prob_expr.specs.declared.expr.Expr.{Expr, Product, the_lemmas}
 
+-- the tree of a product is the product of its factors' trees
 pub view-Product : (v : Vec Expr Global) → view (Product v) ≡ product (views v.items)
 view-Product v = search (rules, the_lemmas)
 
@@ -24,5 +25,6 @@ many_factors (e ∷ f ∷ es) h = refl
 pub views_more : (es : List Expr) (i : ℕ) (e : Expr) → i < length es → e ≡ get_or es i e → views (drop i es) ≡ tree (view e) (views (drop (i + 1) es))
 views_more es i e lt is = at_drop_more views es i e lt ∙ ap (λ x. tree (view x) (views (drop (i + 1) es))) (sym is)
 
+-- from a number past the last factor on there is none
 pub none_after : (es : List Expr) (i : ℕ) → length es ≤ i → views (drop i es) ≡ no_trees
 none_after es i le = at_drop_all views es i le
