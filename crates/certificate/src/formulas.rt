@@ -10,7 +10,7 @@ use crate::sizes::is_end;
 use do_derivation::Lemma;
 use expr_text::{TextFault, read_expr};
 use mixed_graph::{Names, VSet};
-use prob_expr::{Expr, check_expr};
+use prob_expr::{Expr, cap, check_expr};
 use serde_json::Value;
 use std::alloc::Global;
 use step_json::{ValueFault, read_filled_set, read_step};
@@ -46,16 +46,6 @@ pub fn main_in(alloc: Global, names: &Names, d: &Value) -> Result<Expr, ValueFau
 {
     let e = expr_in(alloc, names, d)?;
     sound(names, None, 1 << 32, e)
-}
-
-fn cap(k: usize) -> u32
-    ensures { result ≡ cap k }
-{
-    if k < u32::MAX as usize {
-        k as u32
-    } else {
-        u32::MAX
-    }
 }
 
 // Definition k, which names those before it alone.

@@ -5,4 +5,3 @@ pub mod LevelLists
 pub mod HeaderSteps
 pub mod TallySteps
 pub mod RowFaults
-pub mod MemberLists

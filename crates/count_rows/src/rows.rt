@@ -4,7 +4,7 @@ ghost use Rattle.csv.specs.Records.{fields_of};
 ghost use Rattle.mixed_graph.specs.Names.{name_of, index_of};
 ghost use Rattle.count_rows.specs.Records.{Record, records_of, header_of, rows_of, layout_of};
 ghost use Rattle.count_rows.specs.Faults.{name_fault, header_fault, rows_fault, empty_fault, or_else, records_fault, used_names, IsExpectedFault};
-ghost use Rattle.mixed_graph.specs.Bits.{has, members_below};
+ghost use Rattle.mixed_graph.specs.Bits.{has};
 ghost use Rattle.mixed_graph.specs.Sets.{Within};
 ghost use Rattle.count_rows.specs.Reader.{HasRead};
 ghost use Rattle.count_rows.specs.Tally.{layout_from, HoldsRecords};
@@ -15,7 +15,7 @@ use crate::reader::{NextRecord, open, read};
 use crate::tally::{Columns, Tally};
 use csv::{ByteRecord, Reader};
 use mixed_graph::{Names, VSet};
-use std::alloc::{AllocError, Global};
+use std::alloc::Global;
 
 /// Where the records have the used vertices and the counts.
 fn layout(
@@ -122,19 +122,6 @@ fn read_rows_of(
     read_rows_under(alloc, &mut reader, &columns)
 }
 
-/// The members of a set, in ascending order.
-fn members(alloc: Global, set: VSet) -> Result<Vec<u8>, AllocError>
-    ensures { IfOk result (λ list. list.items ≡ members_below (has set.bits) 64) }
-{
-    let mut list = Vec::new(alloc);
-    for v in 0..64 {
-        if set.has(v) {
-            list.push(v)?;
-        }
-    }
-    Ok(list)
-}
-
 /// Reads the rows of a text of CSV: the levels of the vertices, and each record as a row.
 ///
 /// The first record is the header, whose fields name the columns; a text without a record has a header without fields.
@@ -154,7 +141,7 @@ pub fn read_rows(
     ensures fit { IfOk result (λ t. records_fault (records_of text.now) (used_names names.now used.bits) (option_map (λ s. s.now) count_column.entry) ≡ None) }
     ensures fault { IfErr result (IsExpectedFault (records_fault (records_of text.now) (used_names names.now used.bits) (option_map (λ s. s.now) count_column.entry))) }
 {
-    let Ok(vertices) = members(alloc, used) else {
+    let Ok(vertices) = used.members(alloc) else {
         return Err(CountFault::NoMemory);
     };
     read_rows_of(alloc, text, names, vertices.as_slice(), count_column)

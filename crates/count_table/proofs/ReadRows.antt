@@ -20,7 +20,7 @@ use Rattle.count_rows.specs.Faults.{or_else, header_fault, row_fault, rows_fault
 use Rattle.count_rows.specs.Levels.{AreLevels}
 use Rattle.count_rows.specs.Tally.{HoldsRecords}
 use Rattle.count_rows.proofs.LevelLists.{is_named-with_name, is_named-with_name_self}
-use Rattle.count_rows.proofs.MemberLists.{members-pos}
+use Rattle.mixed_graph.proofs.MemberLists.{members-pos}
 use Rattle.count_table.specs.Cells.{IsCell, cells_of, sizes_of, rows_from, count_at}
 use Rattle.count_table.specs.Codes.{code_of_cell}
 use Rattle.count_table.specs.Tables.{AreRows, IsKeptTable}

@@ -1,5 +1,5 @@
 ghost use Rattle.std.specs.Prelude.{ℕ, ◌≡◌, ◌<◌, ◌≤◌, ◌^◌, None, IfOk, IfErr, length, option_map};
-ghost use Rattle.mixed_graph.specs.Bits.{has, members_below};
+ghost use Rattle.mixed_graph.specs.Bits.{has};
 ghost use Rattle.mixed_graph.specs.Sets.{Within};
 ghost use Rattle.count_rows.specs.Records.{Record, Layout};
 ghost use Rattle.count_rows.specs.Faults.{IsExpectedFault};
@@ -10,20 +10,7 @@ use crate::codes::codes_of;
 use crate::counts::Counts;
 use count_rows::{CountFault, Tally, read_rows};
 use mixed_graph::{Names, VSet};
-use std::alloc::{AllocError, Global};
-
-/// The members of a set, in ascending order.
-fn members(alloc: Global, set: VSet) -> Result<Vec<u8>, AllocError>
-    ensures { IfOk result (λ list. list.items ≡ members_below (has set.bits) 64) }
-{
-    let mut list = Vec::new(alloc);
-    for v in 0..64 {
-        if set.has(v) {
-            list.push(v)?;
-        }
-    }
-    Ok(list)
-}
+use std::alloc::Global;
 
 /// Reads a table of counts from a text of CSV.
 ///
@@ -44,7 +31,7 @@ pub fn read_counts(
     ensures fit { IfOk result (λ c. text_fault text.now names.now used.bits (option_map (λ s. s.now) count_column.entry) ≡ None) }
     ensures fault { IfErr result (IsExpectedFault (text_fault text.now names.now used.bits (option_map (λ s. s.now) count_column.entry))) }
 {
-    let Ok(vertices) = members(alloc, used) else {
+    let Ok(vertices) = used.members(alloc) else {
         return Err(CountFault::NoMemory);
     };
     let tally = match read_rows(alloc, text, names, used, count_column) {

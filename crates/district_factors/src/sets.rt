@@ -4,8 +4,7 @@ ghost use Rattle.std.specs.Prelude.{◌≡◌, ◌<◌, ℕ, IsTrue};
 ghost use Rattle.mixed_graph.specs.Bits.{has};
 ghost use Rattle.mixed_graph.specs.Sets.{Within};
 ghost use Rattle.mixed_graph.specs.Shown.{graph_of};
-ghost use Rattle.districts.specs.Linked.{IsSetOf};
-ghost use Rattle.identification.specs.Procedure.{AreAncestorsIn, IsParent, IsPillow};
+ghost use Rattle.identification.specs.Procedure.{AreAncestorsIn, IsPillow};
 
 use districts::district_of;
 use mixed_graph::{Graph, VSet};
@@ -18,17 +17,6 @@ pub fn ancestors_in(g: &Graph, within: VSet, s: VSet) -> VSet
     g.induced(within).ancestors(s)
 }
 
-/// The parents of the members of a set.
-fn parents_of(g: &Graph, set: VSet) -> VSet
-    ensures { IsSetOf result.bits (IsParent (graph_of g.now) (λ v. IsTrue (has set.bits v))) }
-{
-    let mut parents = VSet::empty();
-    for v in 0..64u8 {
-        parents = parents.union(g.parents(v).only_if(set.has(v)));
-    }
-    parents
-}
-
 /// The pillow of v in s: its district in s and the parents in s of that district, without v.
 pub fn pillow(g: &Graph, s: VSet, v: u8) -> VSet
     requires within { Within g.now.n (has s.bits) }
@@ -37,6 +25,6 @@ pub fn pillow(g: &Graph, s: VSet, v: u8) -> VSet
     ensures { IsPillow (graph_of g.now) s.bits v result.bits }
 {
     let near = district_of(g, s, v);
-    let above = parents_of(g, near).intersection(s);
+    let above = g.parents_of(near).intersection(s);
     near.union(above).difference(VSet::one(v))
 }

@@ -6,14 +6,7 @@ ghost use Rattle.districts.specs.Spanning.{IsLowest};
 ghost use Rattle.districts.specs.Nearest.{IsChoiceOf};
 
 use crate::lists::Choice;
-use mixed_graph::{Graph, VSet, joined};
-
-/// The vertices with a child in the set.
-fn parents_of(g: &Graph, set: VSet) -> VSet
-    ensures { (u : ℕ) → IsTrue (has result.bits u) ↔ ((c : ℕ) × IsTrue (has set.bits c) × IsTrue ((graph_of g.now).arrow u c)) }
-{
-    joined(&g.parents, set)
-}
+use mixed_graph::{Graph, VSet};
 
 /// Writes the lowest child in `goal` for each member of `fresh`.
 fn choose_children(g: &Graph, next: &mut [u8; 64], fresh: VSet, goal: VSet)
@@ -39,7 +32,7 @@ pub fn child_choice(g: &Graph, within: VSet, toward: VSet) -> Choice
     let mut front = toward;
     'levels: while front.bits != 0 {
         let goal = front.intersection(within);
-        let fresh = parents_of(g, goal).intersection(within).difference(seen);
+        let fresh = g.parents_of(goal).intersection(within).difference(seen);
         choose_children(g, &mut next, fresh, goal);
         seen = seen.union(fresh);
         front = fresh;

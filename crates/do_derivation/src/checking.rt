@@ -16,18 +16,8 @@ use crate::applying::apply_step;
 use crate::faults::{ApplyFault, CheckFault, Refusal, StepPlace};
 use crate::steps::{Derivation, Lemma, Step};
 use mixed_graph::{Graph, VSet};
-use prob_expr::{Expr, Formula, Target, is_allowed, is_same};
+use prob_expr::{Expr, Formula, Target, cap, is_allowed, is_same};
 use std::alloc::Global;
-
-fn cap(k: usize) -> u32
-    ensures { result ≡ cap k }
-{
-    if k < u32::MAX as usize {
-        k as u32
-    } else {
-        u32::MAX
-    }
-}
 
 /// What a step makes of an expression, where the lemmas with these sets may be cited.
 ///

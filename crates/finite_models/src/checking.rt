@@ -10,7 +10,7 @@ use crate::model::{Model, ModelFault};
 use mixed_graph::Graph;
 
 /// The number, or the last one of 32 bits where it would pass that.
-fn cap(j: usize) -> u32
+pub fn cap(j: usize) -> u32
     ensures { result ≡ cap j }
 {
     if j < u32::MAX as usize {

@@ -16,7 +16,7 @@ mod theory;
 mod weighing;
 mod worlds;
 
-pub use checking::check_model;
+pub use checking::{cap, check_model};
 pub use inputs::is_hedged;
 pub use model::{Cause, Mechanism, Model, ModelFault, Part, WeightFault};
 pub use outputs::{parents_place, with_digit};

@@ -7,7 +7,7 @@ ghost use Rattle.mixed_graph.specs.Graphs.{IsMixedGraph, graph_from, Agree, IsAn
 use crate::cycles::{childless, cycle_of, stuck, walk_back};
 use crate::lists::{Cycle, Order};
 use crate::pairs::{heads, loop_among, neighbours, tails};
-use crate::rows::{Rows, reached};
+use crate::rows::{Rows, joined, reached};
 use crate::sets::VSet;
 
 /// An acyclic mixed graph on the vertices below `n`, at most 64.
@@ -87,6 +87,13 @@ impl Graph {
         ensures { (v : ℕ) → IsTrue (has result.bits v) ↔ IsDescendant (graph_of self.now) (has s.bits) v }
     {
         closure(self.n, &self.children, s)
+    }
+
+    /// The vertices with a child in s.
+    pub fn parents_of(&self, s: VSet) -> VSet
+        ensures { (u : ℕ) → IsTrue (has result.bits u) ↔ ((c : ℕ) × IsTrue (has s.bits c) × IsTrue ((graph_of self.now).arrow u c)) }
+    {
+        joined(&self.parents, s)
     }
 
     /// The topological order that takes, each time, the vertex of lowest index whose parents are all taken.

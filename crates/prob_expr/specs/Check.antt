@@ -3,6 +3,7 @@ use Rattle.std.specs.Prelude.{ℕ, ◌+◌, ◌-◌, ◌^◌, min, Bool, true, f
 use Rattle.prob_expr.specs.Tree.{Tree, prob, sum, product, quotient, named, Trees, no_trees, tree, PlainFormula}
 use Rattle.mixed_graph.specs.Masks.{is_empty, is_below}
 use Rattle.prob_expr.specs.TermSets.{are_term_sets}
+pub use Rattle.finite_models.specs.Faults.{cap}
 use Rattle.prob_expr.specs.declared.checking.ExprFault.{ExprFault}
 use Rattle.prob_expr.specs.declared.checking.ExprFault.TheVariants.{Sets, Empty, Forward}
 
@@ -11,10 +12,6 @@ infixl 10 ◌>>=◌
 abbrev pub ◌>>=◌ : {A B : Type 0} → Result A ExprFault → (A → Result B ExprFault) → Result B ExprFault
 (Ok x) >>= f = f x
 (Err e) >>= f = Err e
-
--- a number that would pass the last of 32 bits is given as that
-abbrev pub cap : ℕ → ℕ
-cap k = min k (2 ^ 32 - 1)
 
 -- the node after this one in preorder
 abbrev pub next_node : ℕ → ℕ

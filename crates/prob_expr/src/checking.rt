@@ -4,6 +4,7 @@ ghost use Rattle.prob_expr.specs.View.{view, views, formula_view};
 ghost use Rattle.prob_expr.specs.Check.{next_node, cap, check_tree, check_trees, fault_of, fault_in, fault_in_defs};
 
 use crate::expr::{Expr, Formula, Place};
+use finite_models::cap;
 use mixed_graph::VSet;
 
 /// What keeps a formula from being one.
@@ -35,16 +36,6 @@ fn next_node(node: u32) -> u32
     ensures { result ≡ next_node node }
 {
     node.saturating_add(1)
-}
-
-fn cap(k: usize) -> u32
-    ensures { result ≡ cap k }
-{
-    if k < u32::MAX as usize {
-        k as u32
-    } else {
-        u32::MAX
-    }
 }
 
 /// Checks an expression that begins at a node of definition `def` and may name the definitions below `limit`: the number of the node behind it, or the first fault in preorder.

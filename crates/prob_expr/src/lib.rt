@@ -22,6 +22,7 @@ pub use checking::{ExprFault, are_term_sets, check, check_expr};
 pub use comparing::is_same;
 pub use copying::copy_expr;
 pub use expr::{Expr, Formula, Place, Target};
+pub use finite_models::cap;
 pub use freeing::{free, free_sets};
 pub use theory::laws;
 pub use visiting::Fold;

@@ -1,28 +1,16 @@
 -- The members of a set below a number that grows.
-use Rattle.std.proofs.Common.{◌≡◌, ℕ, zero, suc, ◌+◌, ◌<◌, Bool, true, false, cond, ◌&&◌, ltb, List, [], ◌∷◌, ◌++◌, inl, inr, drop, get_or, length, refl, sym, ap, ◌∙◌, append-nil, arith, ltb-true, lt-ltb}
+use Rattle.std.proofs.Common.{◌≡◌, ℕ, zero, suc, ◌+◌, ◌<◌, Bool, true, false, cond, ◌&&◌, ltb, List, [], ◌∷◌, ◌++◌, inl, inr, drop, get_or, length, refl, sym, ap, ◌∙◌, arith, ltb-true, lt-ltb}
 use Rattle.std.proofs.lemmas.Bool.{cases_lt, false≢true}
 use Rattle.std.proofs.lemmas.List.{at_drop_more}
 use Rattle.mixed_graph.specs.Bits.{has, members_below}
 use Rattle.mixed_graph.specs.Masks.{is_below}
+use Rattle.mixed_graph.proofs.MemberLists.{members-nil}
 use Rattle.step_json.specs.Laws.{are_below}
 use Rattle.step_json.proofs.SetsBack.{not_above}
-
-pub members_none : (s : ℕ → Bool) → members_below s 0 ≡ []
-unfolding members_below
-members_none s = refl
 
 members_suc : (s : ℕ → Bool) (k : ℕ) → members_below s (suc k) ≡ members_below s k ++ cond (s k) (k ∷ []) []
 unfolding members_below
 members_suc s k = refl
-
-members_more : (s : ℕ → Bool) (k : ℕ) → members_below s (k + 1) ≡ members_below s k ++ cond (s k) (k ∷ []) []
-members_more s k = let e : k + 1 ≡ suc k = omega arith in rw e (members_suc s k)
-
-pub members_in : (s : ℕ → Bool) (k : ℕ) → s k ≡ true → members_below s (k + 1) ≡ members_below s k ++ k ∷ []
-members_in s k h = members_more s k ∙ ap (λ b. members_below s k ++ cond b (k ∷ []) []) h
-
-pub members_out : (s : ℕ → Bool) (k : ℕ) → s k ≡ false → members_below s (k + 1) ≡ members_below s k
-members_out s k h = members_more s k ∙ ap (λ b. members_below s k ++ cond b (k ∷ []) []) h ∙ append-nil (members_below s k)
 
 all_and : (n : ℕ) (vs us : List ℕ) → are_below n vs ≡ true → are_below n us ≡ true → are_below n (vs ++ us) ≡ true
 all_and n [] us a b = b
@@ -39,7 +27,7 @@ one_inside n set k within true h =
     ap (λ b. b && true) (lt-ltb k n below)
 
 inside_below : (n set k : ℕ) → is_below n set ≡ true → are_below n (members_below (has set) k) ≡ true
-inside_below n set zero within = ap (are_below n) (members_none (has set))
+inside_below n set zero within = ap (are_below n) (sym (members-nil (has set)))
 inside_below n set (suc k) within =
     ap (are_below n) (members_suc (has set) k)
     ∙ all_and n (members_below (has set) k) (cond (has set k) (k ∷ []) []) (inside_below n set k within) (one_inside n set k within (has set k) refl)

@@ -1,5 +1,4 @@
 ghost use Rattle.std.specs.Prelude.{◌≡◌, ◌<◌, ◌++◌, ◌∷◌, [], true, length, codes, take, IfOk};
-ghost use Rattle.mixed_graph.specs.Bits.{has, members_below};
 ghost use Rattle.mixed_graph.specs.Names.{name_of};
 ghost use Rattle.mixed_graph.specs.Masks.{is_below};
 ghost use Rattle.serde_json.specs.Data.{string, array, number, unsigned, item, no_items};
@@ -39,27 +38,13 @@ fn names_value(alloc: Global, names: &Names, vertices: &[u8]) -> Result<Value, A
     Ok(Value::Array(all))
 }
 
-// The members of a set, in ascending order.
-#[tactic(auto, using(crate::proofs::Growing::members_none))]
-fn members(alloc: Global, set: VSet) -> Result<Vec<u8>, AllocError>
-    ensures { IfOk result (λ v. v.items ≡ members_below (has set.bits) 64) }
-{
-    let mut all = Vec::new(alloc);
-    for v in 0..64 {
-        if set.has(v) {
-            all.push(v)?;
-        }
-    }
-    Ok(all)
-}
-
 /// The value of a set: the list of its names, in index order.
 #[tactic(auto, using(crate::proofs::Growing::members_inside))]
 pub fn set_value(alloc: Global, names: &Names, set: VSet) -> Result<Value, AllocError>
     requires { is_below (length names.now) set.bits ≡ true }
     ensures { IfOk result (λ d. view d ≡ set_value names.now set.bits) }
 {
-    let list = members(alloc, set)?;
+    let list = set.members(alloc)?;
     names_value(alloc, names, list.as_slice())
 }
 

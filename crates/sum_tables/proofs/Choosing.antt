@@ -10,7 +10,7 @@ use Rattle.std.proofs.lemmas.List.Elements.{All-map, All-filter}
 use Rattle.mixed_graph.specs.Bits.{members_below}
 use Rattle.count_rows.specs.Records.{Field, product}
 use Rattle.count_rows.specs.Rows.{Table}
-use Rattle.count_rows.proofs.MemberLists.{members-nil, members-in, members-out}
+use Rattle.mixed_graph.proofs.MemberLists.{members-nil, members-in, members-out}
 use Rattle.count_table.specs.Cells.{sizes_of}
 use Rattle.count_table.specs.Tables.{levels_in, AreCounts}
 use Rattle.count_table.proofs.CountsLaws.{levels_in-at}

@@ -1,6 +1,6 @@
 use Rattle.std.proofs.Common.{◌≡◌, ◌∙◌, length, arith}
 use Rattle.mixed_graph.specs.Bits.{has, members_below}
-use Rattle.count_rows.proofs.MemberLists.{members-all, members-pos}
+use Rattle.mixed_graph.proofs.MemberLists.{members-all, members-pos}
 use Rattle.count_rows.proofs.rows.read_rows.Goals as goal
 
 pub read_rows_of-requires : goal.read_rows_of-requires

@@ -1,8 +1,0 @@
-use Rattle.std.proofs.Common.{sym, ◌∙◌}
-use Rattle.districts.proofs.nearest.parents_of.Goals as goal
-
-pub returns : goal.returns
-returns c = λ u. (
-  λ i. (let s = (c.joined.ensures u).0 i in (s.0, s.1, sym (c.args.g.now.agree u s.0) ∙ s.2)),
-  λ s. (c.joined.ensures u).1 (s.0, s.1, c.args.g.now.agree u s.0 ∙ s.2),
-)
