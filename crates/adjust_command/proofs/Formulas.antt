@@ -79,5 +79,6 @@ module _ (n x y z : ℕ) (s : AreThreeSets n (has x) (has y) (has z)) (some : y 
   formula_cases true e = ap fault_of (term_sound n y 0 x 0 of_x some)
   formula_cases false e = ap fault_of (sum_sound e)
 
+  -- the adjustment formula has no fault
   pub formula_sound : fault_in n (adjustment_formula x y z) ≡ None
   formula_sound = formula_cases (is_empty z) refl

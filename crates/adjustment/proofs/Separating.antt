@@ -81,6 +81,7 @@ module _ (g : MixedGraph) (ok : IsMixedGraph g) (X Y : ℕ → Bool) (within : W
       }) in
       not_both (X v && B s.to) (and_from (X v) (B s.to) x b) (not-true (X v && B s.to) (and_parts (g.arrow v s.to) (not (X v && B s.to)) a).1)
 
+  -- an admissible z apart from x separates x and y once the proper causal paths lose their first edges
   pub separated_from : Apart X Z → IsAdmissible g X Y Z → IsSeparated (cut_arrows g (firsts X B)) X Y Z
   separated_from x_out k v r o =
       let h = cut_arrows g (firsts X B) in
@@ -93,6 +94,7 @@ module _ (g : MixedGraph) (ok : IsMixedGraph g) (X Y : ℕ → Bool) (within : W
       (open_more g (firsts X B) X Y Z p.first p.steps
       (record { vertex = within p.first p.begins; begins = p.begins; ends = y; first_outside = x_out p.first p.begins; last_outside = rw p.ends q.1.last_outside; walk = p.walk; passed = p.passed }))
 
+  -- z is admissible if no member is excluded and it separates x and y in that graph
   pub admissible_from : IsClearOf (IsExcluded g X Y) Z → IsSeparated (cut_arrows g (firsts X B)) X Y Z → IsAdmissible g X Y Z
   admissible_from clear sep = record {
     clear = clear;

@@ -20,6 +20,7 @@ module _ (g : MixedGraph) (E : ℕ → ℕ → Bool) where
     symmetric = k.symmetric;
   }
 
+  -- a mixed graph stays one without some of its arrows
   pub graph_arrows : IsMixedGraph g → IsMixedGraph (cut_arrows g E)
   graph_arrows k = graph_of_fewer (cut_arrows g E) g (fewer_arrows k) k
 

@@ -13,6 +13,7 @@ use Rattle.causal_cli.specs.Answers.{WordsAnswer, GraphAnswer, Defined, Continue
 use Rattle.causal_cli.specs.declared.answer.SecondInput.{SecondInput}
 use Rattle.causal_cli.proofs.EachCommand.{lawful}
 
+-- what the words alone decide has an outcome that commands answer
 pub words_answered : (w : Request) (o : Outcome) (text : List ℕ) → WordsAnswer w o text → IsAnswered o
 words_answered (of c q) o text h = (lawful c).words_answered q o text h
 

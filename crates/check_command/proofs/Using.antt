@@ -55,6 +55,7 @@ told (checks.EndDiffers k) P h other = h
 told checks.DoLeft P h other = h
 told checks.NoMemory P h other = absurd (other refl)
 
+-- a fault other than want of memory is the one that reading gives
 pub unread : {A : Type 0} (fault : CertFault) (read : Result A CertFault) → Fails fault read → (fault ≡ NoMemory → ⊥) → read ≡ Err fault
 unread NotJson read h other = h
 unread (Member k) read h other = h

@@ -45,6 +45,7 @@ part : (b : Bool) (n : ℕ) → cond b n 0 ≤ n
 part true n = omega arith
 part false n = omega arith
 
+-- the rows that agree count no more than all rows
 pub counted_small : (vs : List ℕ) (rows : List Row) (a : ℕ → Bool) (at : ℕ → ℕ) → counted vs rows a at ≤ total rows
 counted_small vs [] a at = omega arith
 counted_small vs (r ∷ rows) a at =

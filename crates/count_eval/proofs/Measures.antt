@@ -64,6 +64,7 @@ known_from k w (d ∷ ds) q n (suc j) (suc limit) e s lt il at =
     ∙ known_from k w ds q' (suc n) j limit e s (omega arith) (omega arith) at
     ∙ ap (λ m. evaluated k w (evaluated_from k w q' (suc n) (take j ds)) (Some (cap m)) 0 e s) (let r : suc n + j ≡ n + suc j = omega arith in r)
 
+-- a known definition has the value of its expression over the definitions before it
 pub known_at : (k : Kind) (w : Weights) (ds : List Tree) (j limit : ℕ) (e : Tree) (s : ℕ → ℕ) → j < limit → j < length ds → e ≡ get_or ds j e
     → known k w ds limit j s ≡ evaluated k w (known k w ds j) (Some (cap j)) 0 e s
 known_at k w ds j limit e s lt il at =
@@ -71,6 +72,7 @@ known_at k w ds j limit e s lt il at =
     ∙ known_from k w ds (λ j t. Ok (k.from_ratio 1 1)) 0 j limit e s lt il at
     ∙ ap (λ m. evaluated k w (known k w ds j) (Some (cap m)) 0 e s) (let r : 0 + j ≡ j = omega arith in r)
 
+-- an entry of what f makes of a list is what f makes of the entry, past the end too
 pub get_or-map : {A B : Type 0} (f : A → B) (xs : List A) (i : ℕ) (d : A) → get_or (map f xs) i (f d) ≡ f (get_or xs i d)
 get_or-map f [] i d = refl
 get_or-map f (x ∷ xs) zero d = refl

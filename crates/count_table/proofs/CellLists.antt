@@ -11,6 +11,7 @@ use Rattle.count_table.specs.Cells.{cells_of, place_of, IsCell}
 pub below_product : (x n p r : ℕ) → x < n → r < p → x * p + r < n * p
 below_product x n p r h k = let m : suc x * p ≤ n * p = mul-le-mul_right p (let q : suc x ≤ n = omega arith in q) in omega (arith, m)
 
+-- the place of a cell is below the number of cells
 pub place_of-lt : (ns xs : List ℕ) → IsCell ns xs → place_of ns xs < product ns
 unfolding place_of
 place_of-lt [] [] h = omega arith
@@ -29,6 +30,7 @@ length-fronted cells a (suc n) =
     let more = length-fronted cells (a + 1) n in
     length-append (map (λ (cell : List ℕ). a ∷ cell) cells) (fronted cells (a + 1) n) ∙ omega (arith, one, more)
 
+-- there are as many cells as the numbers of levels multiply to
 pub length-cells_of : (ns : List ℕ) → length (cells_of ns) ≡ product ns
 unfolding cells_of
 length-cells_of [] = refl

@@ -46,6 +46,7 @@ count_fits cells i t levels lt pos e =
 
 -- ---- the place of a cell
 
+-- a cell has one number for each vertex
 pub IsCell-length : (ns xs : List ℕ) → IsCell ns xs → length xs ≡ length ns
 IsCell-length [] [] h = refl
 IsCell-length [] (x ∷ xs) h = absurd h

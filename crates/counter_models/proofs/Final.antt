@@ -154,6 +154,7 @@ module _ (g : MixedGraph) (graph : IsMixedGraph g) (few : g.vertices ≤ 64) (x 
         unequal = λ q. e.unequal (sym (ap₂ (λ p r. p * r) (one_same (has x) (has y) e.at back) t_two) ∙ q ∙ ap₂ (λ p r. p * r) (two_same (has x) (has y) e.at (first_to_second e.at back)) t_one);
       }
 
+  -- the two models of a hedge agree on what is observed and differ in the effect of x on y
   pub counter : AreCounterModels g x y pair
   unfolding differ
   counter = record {

@@ -225,6 +225,7 @@ module _ (g : MixedGraph) (graph : IsMixedGraph g) (few : g.vertices ≤ 64) (x 
   unfolding carry
   choice = record { next = carry; in_range = carry_low g graph few x y h.roots.bits hedge.roots }
 
+  -- the two models of a hedge for the effect of x on y, with the event in which they differ
   pub pair : CounterPair
   pair = record {
     first = model g few h kept carry (in_first h);
@@ -247,6 +248,7 @@ module _ (g : MixedGraph) (graph : IsMixedGraph g) (few : g.vertices ≤ 64) (x 
       go true i = big_low u (hedge.sets.small_inside u i)
       go false i = big_low u i
 
+  -- these are the two models of the hedge
   pub is_pair : IsPairOf g x y h pair
   unfolding pair choice
   is_pair = record {

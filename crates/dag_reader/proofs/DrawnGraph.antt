@@ -251,6 +251,7 @@ cycle_path g list count c (suc k) i h =
     let p = cycle_path g list count c k (i + 1) (omega arith) in
     (get_or list (i + 1) 0, p.0 ∷ p.1, (c.next i (omega arith), p.2))
 
+-- an acyclic graph has no cycle of arrows
 pub no_cycle : (g : MixedGraph) (list : List ℕ) (count : ℕ) → IsAcyclic g → IsCycle g.arrow list count → ⊥
 no_cycle g list count free c =
     let some = c.nonempty in

@@ -34,6 +34,7 @@ one_rest size due p s (t ∷ ts) (u ∷ us) bytes r v a b h k =
     same_turn (step p s t.0 t.1) (λ q w. rest_says q w ts) (λ q w. rest_says q w us) r v h same
     (λ q w m n. one_rest size (wants_value t.1) q w ts us a.0 r v a.3 cut m n)
 
+-- a text says one thing at most
 pub one_answer : (text : List ℕ) (r v : Result Said Fault) → Says text r → Says text v → r ≡ v
 one_answer text r v a b = one_rest (length text) false at_start nothing a.tokens b.tokens text r v a.cut b.cut a.says b.says
 

@@ -358,6 +358,7 @@ graph_same n m ds bs ds' bs' g size d b is = record {
     either : (p q : Bool) {r s : Bool} → p ≡ r → q ≡ s → (p || q) ≡ (r || s)
     either p q h k = rw (h, k) refl
 
+-- relations that are the same have the same cycles
 pub cycle_same : (p q : ℕ → ℕ → Bool) (list : List ℕ) (count : ℕ) → ((a b : ℕ) → p a b ≡ q a b) → IsCycle p list count → IsCycle q list count
 cycle_same p q list count is c = record {
   nonempty = c.nonempty;

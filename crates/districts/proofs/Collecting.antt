@@ -84,6 +84,7 @@ IsNext-same g s t v e k = record {
   lowest = λ u lt f. let p = k.lowest u lt (sym (e u) ∙ f) in (p.0, p.1, e p.0 ∙ p.2);
 }
 
+-- the first entries of an array, if they are the graph's order, are so as a list too
 pub order_of_entries : (g : MixedGraph) (list : List ℕ) (count : ℕ) → IsOrder g list count → IsOrder g (entries list count) (length (entries list count))
 order_of_entries g list count o = subst (IsOrder g (entries list count)) (sym (length-entries list count)) (record {
   size = o.size;

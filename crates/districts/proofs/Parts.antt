@@ -18,6 +18,7 @@ module _ (g : MixedGraph) (valid : IsMixedGraph g) where
   reached_from_linked a s inside v (at i) = Reached.start i (inside v i)
   reached_from_linked a s inside v (by {v = w} i b r) = Reached.next (reached_from_linked a s inside w r) (valid.symmetric v w b) i
 
+  -- what bidirected edges inside a link to a part of a is in a
   pub link_in : (a s : ℕ → Bool) (u : ℕ) → ((w : ℕ) → IsTrue (s w) → IsTrue (a w)) → IsLinked g a s u → IsTrue (a u)
   link_in a s u h (at e) = h u e
   link_in a s u h (by j b r) = j

@@ -11,6 +11,7 @@ use Rattle.districts.specs.Linked.{IsLinked, IsJoinedSet, IsInside}
 use Rattle.districts.specs.Linked.IsLinked.{at, by}
 use Rattle.districts.specs.Spanning.{IsLowest, IsJoinedTo, IsNextOf, IsNextLink, IsEarliest, AreLinks}
 
+-- where the negation of a test is true the test is false
 pub not_true : (b : Bool) → not b ≡ true → b ≡ false
 not_true true e = absurd (cc)
 not_true false e = refl
@@ -23,6 +24,7 @@ place_of_taken list (suc n) u t = elim (or_cases (taken_by list n u) (u == get_o
   | inr e ↦ (n, omega arith, sym (eqb-true u (get_or list n 0) e))
 ]
 
+-- each of the first n entries is among the first n
 pub taken_own : (list : List ℕ) (n i : ℕ) → i < n → IsTrue (taken_by list n (get_or list i 0))
 taken_own list zero i h = absurd (omega arith)
 taken_own list (suc n) i h = elim (cases_eq i n) [

@@ -8,6 +8,7 @@ use Rattle.targets.specs.Targets.{EffectLists, IsEffectFault, IsEffectFaultOrMem
 abbrev pub lists_of : (all observed x y : List (List ℕ)) → EffectLists
 lists_of all observed x y = record { all = all; observed = observed; x = x; y = y }
 
+-- the lists of an effect are equal where each of them is
 pub same_lists : (all o o' x x' y y' : List (List ℕ)) → o ≡ o' → x ≡ x' → y ≡ y' → lists_of all o x y ≡ lists_of all o' x' y'
 same_lists all o o' x x' y y' e f h = ap (λ (t : List (List ℕ)). lists_of all t x y) e ∙ ap (λ (t : List (List ℕ)). lists_of all o' t y) f ∙ ap (λ (t : List (List ℕ)). lists_of all o' x' t) h
 

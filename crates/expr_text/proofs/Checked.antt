@@ -75,13 +75,16 @@ no_fault : (r : Checked) → fault_of r ≡ None → (j : ℕ) × (r ≡ Ok j)
 no_fault (Ok j) h = (j, refl)
 no_fault (Err e) h = absurd cc
 
+-- where two have no first fault, neither has a fault
 pub neither : (a b : Option ExprFault) → or_else a b ≡ None → (a ≡ None) × (b ≡ None)
 neither None b h = (refl, h)
 neither (Some e) b h = absurd cc
 
+-- an expression that the check finds no fault in is sound
 pub sound_from : (n : ℕ) (def : Option ℕ) (limit : ℕ) (t : Tree) → fault_of (check_tree n def limit t 0) ≡ None → is_sound n t ≡ true
 sound_from n def limit t h = let f = no_fault (check_tree n def limit t 0) h in sound_tree n def limit t 0 f.0 f.1
 
+-- it names definitions by numbers of 32 bits, where it may name 2 ^ 32 at most
 pub numbered_from : (n : ℕ) (def : Option ℕ) (limit : ℕ) (t : Tree) → limit ≤ 2 ^ 32 → fault_of (check_tree n def limit t 0) ≡ None → is_numbered t ≡ true
 numbered_from n def limit t le h = let f = no_fault (check_tree n def limit t 0) h in numbered_tree n def limit t 0 f.0 le f.1
 
@@ -91,11 +94,13 @@ all_sound_from n k (d ∷ ds) h =
     let parts = neither (fault_of (check_tree n (Some (cap k)) k d 0)) (fault_in_defs n (k + 1) ds) h in
     both (is_sound n d) (all_sound n ds) (sound_from n (Some (cap k)) k d parts.0) (all_sound_from n (k + 1) ds parts.1)
 
+-- the main expression of a formula without a fault is sound
 pub main_is_sound : (n : ℕ) (f : PlainFormula) → fault_in n f ≡ None → is_sound n f.main ≡ true
 main_is_sound n f h =
     let parts = neither (fault_in_defs n 0 f.defs) (fault_of (check_tree n None (length f.defs) f.main 0)) h in
     sound_from n None (length f.defs) f.main parts.1
 
+-- so is each of its definitions
 pub defs_are_sound : (n : ℕ) (f : PlainFormula) → fault_in n f ≡ None → all_sound n f.defs ≡ true
 defs_are_sound n f h =
     let parts = neither (fault_in_defs n 0 f.defs) (fault_of (check_tree n None (length f.defs) f.main 0)) h in

@@ -273,6 +273,7 @@ mutual
   each_back names are no_trees = tt
   each_back names are (tree t ts) = (expr_back names are t, each_back names are ts)
 
+-- the text of a sound expression is read as that expression, where parentheses and sums nest 60 deep at most
 pub reads_back : ReadsBack
 unfolding expr_of trim
 reads_back names t are sound numbered nests =

@@ -7,6 +7,7 @@ use Rattle.prob_expr.specs.TermSets.{are_term_sets}
 use Rattle.prob_expr.specs.Terms.{is_term}
 use Rattle.mixed_graph.proofs.MaskLaws.{below_has}
 
+-- where a conjunction is true both parts are
 pub and_true : (a b : Bool) → (a && b) ≡ true → (a ≡ true) × (b ≡ true)
 and_true true b h = (refl, h)
 and_true false b h = cc h
@@ -29,11 +30,14 @@ term_parts n a b c h =
     let lbc = and_true (is_below n b) (is_below n c) la.1 in
     record { first = la.0; second = lbc.0; third = lbc.1; some = parts.1 }
 
+-- the first set of a term on n vertices has vertices below n alone
 pub first_within : (n a b c : ℕ) → is_term n a b c ≡ true → Within n (has a)
 first_within n a b c h = below_within n a (term_parts n a b c h).first
 
+-- so has its second set
 pub second_within : (n a b c : ℕ) → is_term n a b c ≡ true → Within n (has b)
 second_within n a b c h = below_within n b (term_parts n a b c h).second
 
+-- and its third
 pub third_within : (n a b c : ℕ) → is_term n a b c ≡ true → Within n (has c)
 third_within n a b c h = below_within n c (term_parts n a b c h).third

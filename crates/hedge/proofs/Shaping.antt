@@ -157,5 +157,6 @@ forms g x y big small roots s = record {
   reaches = s.reaches;
 }
 
+-- the sets of a hedge form one as the textbook has it
 pub sets_form_hedge : SetsFormHedge
 sets_form_hedge g x y h valid small hedge = forms g x y h.big.bits h.small.bits h.roots.bits (hedge_has_sets g x y h valid small hedge)

@@ -101,18 +101,23 @@ gathered_next g order first next old new c k f s n e is few paired w =
 
 -- ---- the sets of districts, as the loop goes over them
 module _ (sets : List VSet) (n i : ℕ) (lt : i < length (take n sets)) where
+  -- the mask at place i is that of the set at place i
   pub set_at : get_or (first_masks sets n) i 0 ≡ (get_or (take n sets) i (record { bits = 0 })).bits
   set_at = ap (λ l. get_or l i 0) (masks_taken sets n) ∙ get_or-map (λ (s : VSet). s.bits) (take n sets) i (record { bits = 0 }) 0 lt
 
+  -- there are as many masks as sets, so place i is one of a mask too
   pub set_in : i < length (first_masks sets n)
   set_in = subst (λ k. i < k) (sym (ap length (masks_taken sets n) ∙ length-map (take n sets) (λ (s : VSet). s.bits))) lt
 
+  -- the masks are those before place i, the one there and those behind it
   pub sets_split : first_masks sets n ≡ map (λ (s : VSet). s.bits) (take i (take n sets)) ++ (get_or (take n sets) i (record { bits = 0 })).bits ∷ map (λ (s : VSet). s.bits) (drop (i + 1) (take n sets))
   sets_split = masks_taken sets n ∙ ap (map (λ (s : VSet). s.bits)) (sym (take-append-drop i (take n sets))) ∙ map-append (λ (s : VSet). s.bits) (take i (take n sets)) (drop i (take n sets))
       ∙ ap (λ r. map (λ (s : VSet). s.bits) (take i (take n sets)) ++ r) (at_drop_more (λ l. map (λ (s : VSet). s.bits) l) (take n sets) i (record { bits = 0 }) lt)
 
+  -- the masks up to place i are those before it and the one there
   pub sets_more : map (λ (s : VSet). s.bits) (take (i + 1) (take n sets)) ≡ map (λ (s : VSet). s.bits) (take i (take n sets)) ++ (get_or (take n sets) i (record { bits = 0 })).bits ∷ []
   sets_more = map_more (λ (s : VSet). s.bits) (take n sets) i (record { bits = 0 }) lt
 
+-- from the end of the sets on, the masks before place i are all
 pub sets_all : (sets : List VSet) (n i : ℕ) → length (take n sets) ≤ i → map (λ (s : VSet). s.bits) (take i (take n sets)) ≡ first_masks sets n
 sets_all sets n i le = ap (map (λ (s : VSet). s.bits)) (sym (append-nil (take i (take n sets))) ∙ ap (λ r. take i (take n sets) ++ r) (sym (at_drop_all (λ l. l) (take n sets) i le)) ∙ take-append-drop i (take n sets)) ∙ sym (masks_taken sets n)

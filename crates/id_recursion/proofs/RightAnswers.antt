@@ -38,6 +38,7 @@ use Rattle.identification_answers.proofs.Answered.{formula_names_ancestors, form
 use Rattle.counter_models.proofs.Final.{counter}
 use Rattle.counter_models.proofs.HedgePair.{pair as pair_of, is_pair}
 
+-- sets of vertices without a common member ask for an effect, where y has a member
 pub target_of : (g : MixedGraph) (x y : ℕ) → Within g.vertices (has x) → Within g.vertices (has y) → Apart (has x) (has y) → (v : ℕ) × IsTrue (has y v) → IsTarget g x y
 target_of g x y x_low y_low off some = record { x_low = x_low; y_low = y_low; off = λ u i j. clash (has y u) j (off u i); some = some.0; some_in = some.1 }
 

@@ -19,24 +19,30 @@ use Rattle.identification.specs.Procedure.{product_of}
 use Rattle.identification.specs.Derivations.{Lists, no_more, more, single, with_set, at_place, at_each, at_zero, in_order, two_or_more, unchain_steps, unwrap_steps, home_list, home_lists, group_steps, district_steps, main_steps}
 use Rattle.id_recursion.specs.Lists.{onto, lists_onto, lists_view}
 
+-- a step at a place is seen as the plan of that step, at the same place
 pub step-At : (i : ℕ) (b : Box Step) → step_view (At i b) ≡ Plan.At i (step_view b.value)
 step-At i b = search (rules, the_lemmas)
 
+-- steps one after the other are seen as their plans one after the other
 pub step-Then : (l : Vec Step) → step_view (Then l) ≡ Plan.Then (steps_view l.items)
 step-Then l = search (rules, the_lemmas)
 
+-- a step behind the others stands in front of the rest
 pub onto_more : (l : List Step) (s : Step) (rest : Plans) → onto (l ++ s ∷ []) rest ≡ onto l (plan (step_view s) rest)
 onto_more [] s rest = refl
 onto_more (t ∷ l) s rest = ap (λ p. plan (step_view t) p) (onto_more l s rest)
 
+-- two lists of steps before the rest are the first before what the second and the rest give
 pub onto_append : (l m : List Step) (rest : Plans) → onto (l ++ m) rest ≡ onto l (onto m rest)
 onto_append [] m rest = refl
 onto_append (t ∷ l) m rest = ap (λ p. plan (step_view t) p) (onto_append l m rest)
 
+-- steps with nothing behind them are the plans of the steps alone
 pub onto_nothing : (l : List Step) → onto l no_plans ≡ steps_view l
 onto_nothing [] = refl
 onto_nothing (t ∷ l) = ap (λ p. plan (step_view t) p) (onto_nothing l)
 
+-- a list of steps behind the others stands in front of the rest
 pub lists_more : (ls : List (Vec Step)) (l : Vec Step) (rest : Lists) → lists_onto (ls ++ l ∷ []) rest ≡ lists_onto ls (more (steps_view l.items) rest)
 lists_more [] l rest = refl
 lists_more (k ∷ ls) l rest = ap (λ r. more (steps_view k.items) r) (lists_more ls l rest)

@@ -17,6 +17,7 @@ use Rattle.hedge.specs.Hedges.{IsHedge}
 use Rattle.hedge.specs.declared.hedge.Hedge.{Hedge}
 use Rattle.identify_text.specs.Below.{IsHedgeBelow, IsPartBelow, IsBitBelow, IsMechanismBelow, IsCauseBelow, IsModelBelow}
 
+-- the sets, the choices and the links of a hedge are of the graph's vertices
 pub hedge_below : (g : MixedGraph) (x y : ℕ) (h : Hedge) → g.vertices ≤ 64 → IsHedge g x y h → IsHedgeBelow g.vertices h
 hedge_below g x y h few hedge = record {
   big = hedge.sets.low;

@@ -13,6 +13,7 @@ pub sum_below-le : (n : ℕ) (f g : ℕ → ℕ) → ((i : ℕ) → f i ≤ g i)
 sum_below-le zero f g h = omega arith
 sum_below-le (suc n) f g h = let a = sum_below-le n f g h in let b = h n in omega (arith, a, b)
 
+-- a sum over n + k terms is that of the first n and that of the k behind them
 pub sum_below-add : (n k : ℕ) (f : ℕ → ℕ) → sum_below (n + k) f ≡ sum_below n f + sum_below k (λ i. f (n + i))
 sum_below-add n zero f = ap (λ m. sum_below m f) (let r : n + 0 ≡ n = omega arith in r) ∙ omega arith
 sum_below-add n (suc k) f = ap (λ m. sum_below m f) (let r : n + suc k ≡ suc (n + k) = omega arith in r) ∙ (let a = sum_below-add n k f in omega (arith, a))
@@ -88,6 +89,7 @@ lanes_matched at mask want counts codes lx lk room =
     (λ i lt. ap (λ k. cond (eqb (bit_and k mask) want) (get_or xs i 0) 0) (get_or-chunk at 8 codes i 0 lt)
     ∙ ap (λ x. cond (eqb (bit_and (get_or codes (at + i) 0) mask) want) x 0) (get_or-chunk at 8 counts i 0 lt))
 
+-- the sum over the first n places of a list is the sum of its first n numbers
 pub index_sum : (n : ℕ) (xs : List ℕ) → n ≤ length xs → sum_below n (λ i. get_or xs i 0) ≡ sum (take n xs)
 index_sum zero xs le = refl
 index_sum (suc n) xs le =

@@ -33,6 +33,7 @@ pub passed_from_start : (g : MixedGraph) (w : ℕ → Bool) (v : ℕ) (r : List 
 passed_from_start g w v [] out p = tt
 passed_from_start g w v (s ∷ r) out p = (out, p)
 
+-- where a walk passes at its first vertex and all later ones, it passes at its inner ones
 pub passed_inside : (g : MixedGraph) (w : ℕ → Bool) (h : Bool) (v : ℕ) (r : List Step) → ArePassedFrom g w h v r → ArePassed g w r
 passed_inside g w h v [] p = tt
 passed_inside g w h v (s ∷ r) p = p.1

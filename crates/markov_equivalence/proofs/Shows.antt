@@ -15,6 +15,7 @@ no_loop g valid a = elim (cases_Bool (g.arrow a a)) [
   | inr e ↦ e
 ]
 
+-- an arrow joins a and b exactly where one joins b and a
 pub turned : (g : MixedGraph) (a b : ℕ) → is_adjacent g a b ≡ is_adjacent g b a
 turned g a b = grind arith
 

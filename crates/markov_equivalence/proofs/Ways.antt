@@ -6,6 +6,7 @@ use Rattle.m_separation.specs.declared.marks.Mark.TheVariants.{Out, Into, Both}
 use Rattle.m_separation.specs.Walks.{Step, IsJoined, IsWalk, last, heads_first, heads_second, IsPassed, ArePassedFrom, ArePassed, HasOpenWalk, IsSeparated}
 use Rattle.markov_equivalence.specs.Skeletons.{HasArrowsAlone}
 
+-- no test is both true and false
 pub clash : {A : Type 0} (b : Bool) → b ≡ true → b ≡ false → A
 clash b p q = absurd (grind (arith, p, q))
 
@@ -21,14 +22,17 @@ pub data Way (g : MixedGraph) (w : ℕ → Bool) (e : ℕ) : Bool → ℕ → Ty
   into : (h : Bool) {u v : ℕ} → g.arrow v u ≡ true → Met g w h u → Way g w e false v → Way g w e h u
 
 module _ (g : MixedGraph) (w : ℕ → Bool) where
+  -- from a vertex outside w a walk passes at its first vertex too, if it does at its inner ones
   pub passed_first : (v : ℕ) (r : List Step) → w v ≡ false → ArePassed g w r → ArePassedFrom g w false v r
   passed_first v [] o p = tt
   passed_first v (s ∷ r) o p = (o, p)
 
+  -- a walk that passes from its first vertex on passes at its inner ones
   pub passed_rest : (v : ℕ) (r : List Step) → ArePassedFrom g w false v r → ArePassed g w r
   passed_rest v [] p = tt
   passed_rest v (s ∷ r) p = p.1
 
+  -- where no edge is bidirected, a walk that passes and ends outside w is an open way
   pub to_way : HasArrowsAlone g → (h : Bool) (u : ℕ) (r : List Step) → IsWalk g u r → ArePassedFrom g w h u r → w (last u r) ≡ false → Way g w (last u r) h u
   to_way none h u [] k p o = stop refl o
   to_way none h u (s ∷ r) k p o = go s.mark h k.0 p.0 (to_way none (heads_second s.mark) s.to r k.1 p.1 o)
@@ -47,6 +51,7 @@ module _ (g : MixedGraph) (w : ℕ → Bool) where
     pub ends : last u steps ≡ e
     pub outside : w e ≡ false
 
+  -- an open way is a walk that passes and ends outside w
   pub from_way : (e : ℕ) (h : Bool) (u : ℕ) → Way g w e h u → Walked e h u
   from_way e h u (stop s o) = record { steps = []; walk = tt; passed = tt; ends = s; outside = rw (sym s) o }
   from_way e h u (out {v = v} a o x) = go h (from_way e true v x)

@@ -9,7 +9,7 @@ use Rattle.mixed_graph.proofs.Masks.{has-lowest, lowest_below}
 use Rattle.std.proofs.Common.{w64}
 use Rattle.std.specs.Int.{trailing_zeros}
 
--- no member is below 0
+-- a set has no members below 0
 pub members-nil : (s : ℕ → Bool) → ◌≡◌ {A = List ℕ} [] (members_below s 0)
 unfolding members_below
 members-nil s = refl

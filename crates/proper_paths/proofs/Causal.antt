@@ -95,6 +95,7 @@ module _ (g : MixedGraph) (is_graph : IsMixedGraph g) where
     head_below u v a = is_graph.head_below u v (and_parts (g.arrow u v) (not (X v)) a).0
 
     module _ (within : Within g.vertices X) where
+      -- a vertex on a proper causal path descends from x without the arrows into x too
       pub below_from : (v : ℕ) → IsBetween g X Y v → IsDescendant (cut_into g X) X v
       below_from v b = let k = before v b.first b.steps b.proper.walk b.causal b.proper.outside b.on in
           record { vertex = end_below (cut_into g X) head_below b.first k.0 v (within b.first b.proper.begins) k.1; path = k.0; start = b.first; leads = k.1; inside = b.proper.begins }

@@ -17,6 +17,7 @@ cut_arrows g e = record g { arrow = λ u v. g.arrow u v && not (e u v) }
 abbrev pub firsts : (x b : ℕ → Bool) → ℕ → ℕ → Bool
 firsts x b u v = x u && b v
 
+-- a walk's first vertex lies on it
 pub on_here : (v : ℕ) (r : List Step) → IsOn v v r
 on_here v [] = refl
 on_here v (s ∷ r) = inl refl

@@ -22,6 +22,7 @@ pub record IsLawful (c : CommandForm) : Type 0 where
   pub file_alone : (q : c.Request) (second : Text) (g h : ReadGraph) → AreSame g h → c.second q ≡ Some second → (o : Outcome) (text : List ℕ) → c.by_graph q g o text → c.continues q h → ⊥
 
 module _ {Request : Type 0} {asks : List Use → Request → Type 0} (one : (uses : List Use) (q r : Request) → asks uses q → asks uses r → r ≡ q) where
+  -- a command without an input is lawful if its answers have one outcome, which is one that commands answer
   pub lawful_on_words : {answer : Request → Outcome → List ℕ → Type 0} → ((q : Request) (o : Outcome) (text : List ℕ) → answer q o text → IsAnswered o) → ((q : Request) → OneOutcome (answer q))
       → IsLawful (on_words Request asks answer)
   lawful_on_words answered once = record {
@@ -36,6 +37,7 @@ module _ {Request : Type 0} {asks : List Use → Request → Type 0} (one : (use
     file_alone = λ q second g h s names o text a n. n;
   }
 
+  -- so is a command on the graph of a file, if that is true for the bytes of each file
   pub lawful_on_file : {file : Request → Text} {answer : Request → ReadGraph → Outcome → List ℕ → Type 0} → ((q : Request) (g : ReadGraph) (o : Outcome) (text : List ℕ) → answer q g o text → IsAnswered o)
       → ((q : Request) (bytes : List ℕ) → OneOutcome (IsAnswerOn bytes (λ g. answer q g))) → IsLawful (on_file Request asks file answer)
   lawful_on_file answered once = record {

@@ -27,6 +27,7 @@ no_fault_of first y x f none some_y some_x h = h
 pub some_list : List (List ℕ)
 some_list = [] ∷ []
 
+-- this list isn't empty
 pub is_some_list : some_list ≡ [] → ⊥
 unfolding some_list
 is_some_list e = cc e

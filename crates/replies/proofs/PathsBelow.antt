@@ -17,6 +17,7 @@ steps_below g valid vertices marks i (suc k) below walk (suc j) h =
     let e : i + suc j ≡ i + 1 + j = omega arith in
     rw e (steps_below g valid vertices marks (i + 1) k next walk.1 j (omega arith))
 
+-- the vertices of an open path are vertices of the graph
 pub path_below : (g : MixedGraph) → IsMixedGraph g → (x y w : ℕ → Bool) (vertices : List ℕ) (marks : List Mark) (count : ℕ) →
     IsOpenPath g x y w vertices marks count → (i : ℕ) → i < count → slice_index vertices i < g.vertices
 path_below g valid x y w vertices marks count p i h =

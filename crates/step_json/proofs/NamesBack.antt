@@ -37,6 +37,7 @@ index_back names v are lt = place_is names v lt (λ i h. are.distinct i v [] h l
 is_there : (names : List (List ℕ)) (v : ℕ) → AreNames names → v < length names → is_named names (name_of names v) ≡ true
 is_there names v are lt = named_by (bytes_eq (name_of names v)) names (is_named names (name_of names v)) refl (omega (arith, index_back names v are lt))
 
+-- the name of a vertex is read as that vertex
 pub vertex_back : (names : List (List ℕ)) (v : ℕ) → AreNames names → v < length names → vertex_of names (name_of names v) ≡ Ok v
 vertex_back names v are lt =
     ap (λ b. cond b (Ok (index_of names (name_of names v))) (Err (Name (name_of names v)))) (is_there names v are lt)

@@ -5,6 +5,7 @@ use Rattle.serde_json.specs.Data.{Data, Items, no_items, item}
 use Rattle.serde_json.specs.View.{view, items_view, items_of}
 use Rattle.serde_json.specs.declared.value.Value.{Value}
 
+-- these items, and then the rest
 abbrev pub before : List Data → Items → Items
 before [] rest = rest
 before (d ∷ ds) rest = item d (before ds rest)

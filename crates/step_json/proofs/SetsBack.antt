@@ -143,6 +143,7 @@ runs_to : (names : List (List ℕ)) (barred set k : ℕ) → AreNames names → 
 runs_to names barred set zero are within apart le = none_yet names barred set
 runs_to names barred set (suc k) are within apart le = step_in_set names barred set k are within apart (omega arith) (has set k) refl (runs_to names barred set k are within apart (omega arith))
 
+-- the value of a set of vertices, none of them barred, is read as that set
 pub set_reads_back : SetReadsBack
 unfolding set_in
 set_reads_back names barred set are within apart =

@@ -11,6 +11,7 @@ strings_flat : (ts : List (List ℕ)) → items_depth (strings ts) ≡ 0
 strings_flat [] = refl
 strings_flat (t ∷ ts) = omega (arith, strings_flat ts)
 
+-- a list of names has depth 1
 pub names_flat : (names : List (List ℕ)) (vs : List ℕ) → depth (names_value names vs) ≡ 1
 names_flat names vs = omega (arith, strings_flat (map (name_of names) vs))
 
@@ -51,5 +52,6 @@ mutual
   deep_each names no_plans = omega arith
   deep_each names (plan p ps) = omega (arith, deep names p, deep_each names ps)
 
+-- the value of a step is at most one deeper than twice what the steps in it nest
 pub step_nests : StepNests
 step_nests names p = deep names p

@@ -202,5 +202,6 @@ mutual
         ap (plan p) e.2,
       )
 
+-- the value of a step is read as that step, where steps nest 60 deep at most
 pub step_reads_back : StepReadsBack
 step_reads_back names p are within fits nest = step_back names are p 60 within fits nest

@@ -16,6 +16,7 @@ use Rattle.count_table.proofs.CellLists.{place_of-lt, cell_at_place}
 regroup : (a b c d : ℕ) → a * (b * c) + (d * c) ≡ (a * b + d) * c
 regroup a b c d = grind arith
 
+-- a cell in two parts: the place of the first, times the number of second parts, plus the place of the second
 pub place_of-append : (ms ns xs ys : List ℕ) → IsCell ms xs → place_of (ms ++ ns) (xs ++ ys) ≡ place_of ms xs * product ns + place_of ns ys
 unfolding place_of
 place_of-append [] ns [] ys h = omega arith
@@ -35,12 +36,14 @@ place_of-append (m ∷ ms) ns (x ∷ xs) ys h =
     product_split [] bs = omega arith
     product_split (a ∷ cs) bs = ap (λ k. a * k) (product_split cs bs) ∙ assoc a (product cs) (product bs)
 
+-- a cell behind a cell is a cell over the vertices of both
 pub IsCell-append : (ms ns xs ys : List ℕ) → IsCell ms xs → IsCell ns ys → IsCell (ms ++ ns) (xs ++ ys)
 IsCell-append [] ns [] ys h k = k
 IsCell-append [] ns (x ∷ xs) ys h k = absurd h
 IsCell-append (m ∷ ms) ns [] ys h k = absurd h
 IsCell-append (m ∷ ms) ns (x ∷ xs) ys h k = (h.0, IsCell-append ms ns xs ys h.1 k)
 
+-- a cell over two lists of vertices parts into a cell over each
 pub IsCell-split : (ms ns xs ys : List ℕ) → length xs ≡ length ms → IsCell (ms ++ ns) (xs ++ ys) → IsCell ms xs × IsCell ns ys
 IsCell-split [] ns [] ys e h = (tt, h)
 IsCell-split [] ns (x ∷ xs) ys e h = absurd (omega arith)
@@ -70,6 +73,7 @@ some_factor : (n p j : ℕ) → j < n * p → 0 < p
 some_factor n zero j lt = absurd (let e : n * zero ≡ 0 = omega arith in omega (arith, lt, e))
 some_factor n (suc p) j lt = omega arith
 
+-- each number below the number of cells is the place of a cell
 pub cell_with : (ns : List ℕ) (j : ℕ) → j < product ns → (xs : List ℕ) × HasPlace ns j xs
 unfolding place_of
 cell_with [] j lt = ([], record { cell = tt; place = omega arith })

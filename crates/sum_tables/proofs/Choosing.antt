@@ -26,6 +26,7 @@ size_in t v = length (levels_in t.vertices t.levels v)
 pub size-at : (t : Table) → AreCounts t → (i : ℕ) → i < length t.vertices → size_in t (get_or t.vertices i 0) ≡ length (get_or t.levels i [])
 size-at t are i lt = ap (λ (ys : List Field). length ys) (levels_in-at t.vertices t.levels i are.ascending lt are.matched)
 
+-- each vertex of a table has a level
 pub sizes-pos : (t : Table) → AreCounts t → All (λ v. 0 < size_in t v) t.vertices
 sizes-pos t are i d lt =
     let matched = are.matched in

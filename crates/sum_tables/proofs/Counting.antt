@@ -17,9 +17,11 @@ is_among (x ∷ xs) u = eqb u x || is_among xs u
 abbrev pub put_level : (ℕ → ℕ) → ℕ → ℕ → ℕ → ℕ
 put_level at v a u = cond (eqb u v) a (at u)
 
+-- an assignment that is given a level of v has that level of v
 pub put-same : (at : ℕ → ℕ) (v a : ℕ) → put_level at v a v ≡ a
 put-same at v a = ap (λ b. cond b a (at v)) (eq-eqb v v refl)
 
+-- an assignment that is given a level of v keeps those of the other vertices
 pub put-other : (at : ℕ → ℕ) (v a u : ℕ) → u ≢ v → put_level at v a u ≡ at u
 put-other at v a u ne = ap (λ b. cond b a (at u)) (ne_eqb u v ne)
 
@@ -58,6 +60,7 @@ agrees-alike (v ∷ vs) (x ∷ xs) s t at bt h k =
     ∙ ap (λ n. (not (t v) || eqb x n) && agrees vs xs s at) (All-head (λ u. at u ≡ bt u) v vs k)
     ∙ ap (λ b. (not (t v) || eqb x (bt v)) && b) (agrees-alike vs xs s t at bt (All-tail (λ u. s u ≡ t u) v vs h) (All-tail (λ u. at u ≡ bt u) v vs k))
 
+-- sets with the same members among the table's vertices count the same rows
 pub counted-alike : (vs : List ℕ) (rows : List Row) (s t : ℕ → Bool) (at : ℕ → ℕ) → All (λ u. s u ≡ t u) vs → counted vs rows s at ≡ counted vs rows t at
 counted-alike vs [] s t at h = refl
 counted-alike vs (r ∷ rows) s t at h =
@@ -119,6 +122,7 @@ agrees-with (u ∷ us) (x ∷ xs) s t at v a (suc i) h apart lt long e =
 
 -- ---- sums over the levels of a vertex
 
+-- sums over equal terms are equal
 pub sum-same : (n : ℕ) (f g : ℕ → ℕ) → ((i : ℕ) → i < n → f i ≡ g i) → sum_below n f ≡ sum_below n g
 sum-same zero f g h = refl
 sum-same (suc n) f g h = let a = sum-same n f g (λ i lt. h i (omega arith)) in let b = h n (omega arith) in omega (arith, a, b)

@@ -32,6 +32,7 @@ later xs i lt h j d less =
 
 -- ---- products
 
+-- a product of positive numbers is positive
 pub product-pos : (ns : List ℕ) → All (λ n. 0 < n) ns → 0 < product ns
 product-pos [] h = omega arith
 product-pos (n ∷ ns) h =
@@ -41,6 +42,7 @@ product-pos (n ∷ ns) h =
 regroup : (a b c : ℕ) → a * (b * c) ≡ (a * b) * c
 regroup a b c = grind arith
 
+-- the product of two lists, one behind the other, is the product of their products
 pub product-append : (ms ns : List ℕ) → product (ms ++ ns) ≡ product ms * product ns
 product-append [] ns = omega arith
 product-append (m ∷ ms) ns = ap (λ k. m * k) (product-append ms ns) ∙ regroup m (product ms) (product ns)

@@ -55,6 +55,7 @@ pub record AreSumsOver (t : Table) (us sums : List ℕ) : Type 0 where
   pub each : (at : ℕ → ℕ) → IsCell (map (size_in t) us) (map at us) → get_or sums (place_of (map (size_in t) us) (map at us)) 0 ≡ counted t.vertices t.rows (is_among us) at
   pub total : sum sums ≡ total t.rows
 
+-- each number of a list is among its numbers
 pub among-self : (vs : List ℕ) → All (λ v. is_among vs v ≡ true) vs
 among-self [] = All-nil (λ v. is_among [] v ≡ true)
 among-self (v ∷ vs) =
@@ -96,6 +97,7 @@ counts-are t counts are e = record {
   total = ap sum e ∙ sum-map (λ (r : Row). r.count) t.rows;
 }
 
+-- each row of a table has one of the levels of the vertex at place i
 pub row-levels : (t : Table) → AreCounts t → (i : ℕ) → i < length t.vertices → All (HasLevel (length t.vertices) i (size_in t (get_or t.vertices i 0))) t.rows
 row-levels t are i lt j d less =
     let many = row-count t are in

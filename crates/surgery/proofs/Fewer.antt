@@ -15,6 +15,7 @@ pub path_of_fewer : (h g : MixedGraph) → HasFewer h g → (v : ℕ) (path : Li
 path_of_fewer h g less v [] t p = p
 path_of_fewer h g less v (x ∷ rest) t p = (less.arrows v x p.0, path_of_fewer h g less x rest t p.1)
 
+-- a mixed graph stays one with fewer edges
 pub graph_of_fewer : (h g : MixedGraph) → HasFewer h g → IsMixedGraph g → IsMixedGraph h
 graph_of_fewer h g less k = record {
   tail_below = λ u v e. subst (λ n. u < n) less.vertices (k.tail_below u v (less.arrows u v e));
@@ -46,5 +47,6 @@ fewer_out g z k = record {
 pub graph_into : (g : MixedGraph) (x : ℕ → Bool) → IsMixedGraph g → IsMixedGraph (cut_into g x)
 graph_into g x k = graph_of_fewer (cut_into g x) g (fewer_into g x k) k
 
+-- a mixed graph stays one without the arrows out of z
 pub graph_out : (g : MixedGraph) (z : ℕ → Bool) → IsMixedGraph g → IsMixedGraph (cut_out g z)
 graph_out g z k = graph_of_fewer (cut_out g z) g (fewer_out g z k) k

@@ -42,6 +42,7 @@ blocked_first : (g : MixedGraph) (zs : List ℕ) (c : ℕ) (cs : List ℕ) → I
 blocked_first g zs c _ (IsFirstBlocked.here b) = b
 blocked_first g zs c _ (IsFirstBlocked.after {cs = cs} n r) = blocked_first g zs c cs r
 
+-- where a district is the first that is blocked, some district is
 pub some_blocked : (g : MixedGraph) (zs : List ℕ) (x y c : ℕ) → IsFirstBlockedFor g zs x y c → SomeBlocked g zs x y
 some_blocked g zs x y c f = record {
   district = c;

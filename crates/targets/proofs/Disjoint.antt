@@ -34,6 +34,7 @@ within observed list n mask e h = subst (λ k. Within k (has mask)) e (set_withi
 set_of_none : (observed : List (List ℕ)) → IsListedSet observed [] 0
 set_of_none observed v = has-zero v ∙ sym (and_right (nat_lt v (length observed)) false refl)
 
+-- the sets of a rule are within n, and no two of them meet
 pub disjoint_rule_sets : (l : RuleLists) (n y done z given : ℕ) → length l.observed ≡ n → AreRuleSets l y done z given → DisjointRuleSets n done y z given
 disjoint_rule_sets l n y done z given e s =
     let a = pairwise_apart l y done z given s in record {

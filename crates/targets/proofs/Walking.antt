@@ -64,6 +64,7 @@ same_name_fault all observed s t same n = elim (cases_Bool (is_named all n)) [
   | inr a ↦ rw a refl
 ]
 
+-- tests that agree on the observed names lead to the same first fault
 pub same_first_fault : (all observed : List (List ℕ)) (s t : List ℕ → Bool) → ((m : List ℕ) → is_named observed m ≡ true → s m ≡ t m) →
     (ns : List (List ℕ)) → first_fault all observed s ns ≡ first_fault all observed t ns
 same_first_fault all observed s t same [] = refl

@@ -15,6 +15,7 @@ abbrev pub without : (ℕ → Bool) → ℕ → ℕ → Bool
 without z v w = z w && not (eqb w v)
 
 module _ (near : ℕ → ℕ → Bool) where
+  -- what is reached outside z isn't in z
   pub outside : (s z : ℕ → Bool) (v : ℕ) → Reached near s z v → z v ≡ false
   outside s z v (start e o) = o
   outside s z v (step r a o) = o

@@ -8,6 +8,7 @@ use Rattle.word_forms.specs.Form.{Text, is_among}
 use Rattle.std.proofs.Math.Bool.{or-true}
 use Rattle.std.proofs.lemmas.Bool.{not-true}
 
+-- what is true of all names is true of each that is among them
 pub all_at : (p : Text → Bool) (names : List Text) (x : Text) → list_all p names ≡ true → is_among names x ≡ true → p x ≡ true
 all_at p [] x e h = cc h
 all_at p (y ∷ ys) x e h = go (bytes_eq y x) refl (all_at p ys x (both (p y) _ e).1)
@@ -24,9 +25,11 @@ pub among_append : (xs ys : List Text) (x : Text) → is_among (xs ++ ys) x ≡ 
 among_append [] ys x = refl
 among_append (z ∷ zs) ys x = ap (λ (b : Bool). bytes_eq z x || b) (among_append zs ys x) ∙ or_assoc (bytes_eq z x) (is_among zs x) (is_among ys x)
 
+-- what is among the first names is among both lists together
 pub among_left : (xs ys : List Text) (x : Text) → is_among xs x ≡ true → is_among (xs ++ ys) x ≡ true
 among_left xs ys x h = among_append xs ys x ∙ rw h
 
+-- what is among the second names is among both lists together
 pub among_right : (xs ys : List Text) (x : Text) → is_among ys x ≡ true → is_among (xs ++ ys) x ≡ true
 among_right xs ys x h = among_append xs ys x ∙ rw h (or-true (is_among xs x))
 

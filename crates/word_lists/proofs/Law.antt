@@ -219,6 +219,7 @@ read_is_list text names h = go (bytes_eq text (codes "{}")) refl
     go true e = let k : Some [] ≡ Some names = rw e at h in let none : names ≡ [] = cc k in inl ((bytes_eq-Decides text (codes "{}")).0 e, none)
     go false e = inr (λ s. let k = (bytes_eq-Decides text (codes "{}")).1 s in cc (k, e), spelled text Due [] names (rw e at h) refl)
 
+-- a text that is a list of names is read as those names
 pub list_is_read : (text : List ℕ) (names : Names) → IsList text names → list_of text ≡ Some names
 list_is_read text names is = go (bytes_eq text (codes "{}")) refl
   where

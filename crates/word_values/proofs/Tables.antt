@@ -22,6 +22,7 @@ module _ (table : List Row) (clear : list_all is_clear table ≡ true) (simple :
     (all : map (seen (above table) (leaf table)) table ≡ map (wanted (leaf table)) table)
     (takes_by : (words : List Text) → takes (app_of_table table) words ≡ built_takes (above table) nothing_held words)
     (command_by : (words : List Text) → subcommand_of (app_of_table table) words ≡ entered (above table) (stop_after (above table).top.rules (names_of (above table)) words)) where
+  -- each row is clear, and `clap` takes all words of the form and finds their values
   pub readable : IsReadable table
   readable = record {
     clear = clear;
