@@ -9,7 +9,11 @@ use Rattle.id_recursion.proofs.gathering.factors.Goals as goal
 use Rattle.id_recursion.proofs.gathering.factors.Goals.{After-factor-found, After-len}
 
 pub loop-c-init : goal.loop-c-init
-loop-c-init c = let no = c.no_factors-made.ensures in gathered_none (Derives (graph_of c.args.g.now) (listed c.args.order.now)) (StopsAt (graph_of c.args.g.now) (listed c.args.order.now)) c.no_factors-made.result no.defs no.lemmas no.values no.lists
+loop-c-init c =
+    let g = graph_of c.args.g.now in
+    let order = listed c.args.order.now in
+    let no = c.no_factors-made.ensures in
+    gathered_none (Derives g order) (StopsAt g order) c.no_factors-made.result no.defs no.lemmas no.values no.lists
 
 -- the set at hand is a district
 district : (c : After-len) → IsMaximalJoined (graph_of c.args.g.now) c.args.d.bits (get_or (take c.args.parts.now.count c.args.parts.now.sets) c.loop-c.c-index (record { bits = 0 })).bits
@@ -35,16 +39,23 @@ goes_on c = let is = c.factor-found.ensures in factor_goes_on (graph_of c.args.g
 
 pub returns-in-Err : goal.returns-in-Err
 returns-in-Err c =
+    let g = graph_of c.args.g.now in
+    let order = listed c.args.order.now in
     let after = (goal.at.returns-in-Err c).After-factor-found in
-    turn_stop (Derives (graph_of c.args.g.now) (listed c.args.order.now)) (StopsAt (graph_of c.args.g.now) (listed c.args.order.now)) c.args.parts.now.sets c.args.parts.now.count c.loop-c.c-index c.loop-c.made c.loop-c.invariant
+    turn_stop (Derives g order) (StopsAt g order) c.args.parts.now.sets c.args.parts.now.count c.loop-c.c-index c.loop-c.made c.loop-c.invariant
     c.loop-c-test.true c.len.result c.factor-found.result c.in-Err.stop (counted after) (goes_on after) c.in-Err.ensures.stop
 
 pub loop-c-preserved : goal.loop-c-preserved
 loop-c-preserved c =
+    let g = graph_of c.args.g.now in
+    let order = listed c.args.order.now in
     let after = (goal.at.loop-c-preserved c).After-factor-found in
-    turn_next (Derives (graph_of c.args.g.now) (listed c.args.order.now)) (StopsAt (graph_of c.args.g.now) (listed c.args.order.now)) c.args.parts.now.sets c.args.parts.now.count c.loop-c.c-index c.loop-c.made c.loop-c.invariant
+    turn_next (Derives g order) (StopsAt g order) c.args.parts.now.sets c.args.parts.now.count c.loop-c.c-index c.loop-c.made c.loop-c.invariant
     c.loop-c-test.true c.add_found.new.made c.len.result c.factor-found.result (counted after) (goes_on after) c.in-Ok.ensures.added
 
 pub returns : goal.returns
-returns c = factors_of (graph_of c.args.g.now) (listed c.args.order.now) (first_masks c.args.parts.now.sets c.args.parts.now.count) c.loop-c.made
-    (turn_end (Derives (graph_of c.args.g.now) (listed c.args.order.now)) (StopsAt (graph_of c.args.g.now) (listed c.args.order.now)) c.args.parts.now.sets c.args.parts.now.count c.loop-c.c-index c.loop-c.made c.loop-c.invariant c.loop-c-test.false)
+returns c =
+    let g = graph_of c.args.g.now in
+    let order = listed c.args.order.now in
+    factors_of g order (first_masks c.args.parts.now.sets c.args.parts.now.count) c.loop-c.made
+    (turn_end (Derives g order) (StopsAt g order) c.args.parts.now.sets c.args.parts.now.count c.loop-c.c-index c.loop-c.made c.loop-c.invariant c.loop-c-test.false)

@@ -66,9 +66,10 @@ returns-in_ok-formula-in-Ok-clause-few c =
 
 pub hedge_of-requires-clause-hedge : goal.hedge_of-requires-clause-hedge
 hedge_of-requires-clause-hedge c =
-    let stop = stop_at (goal.at.hedge_of-requires-clause-hedge c).After-districts-parts (ordered (goal.at.hedge_of-requires-clause-hedge c).After-order_of-order) c.in-Err-At.small.bits c.in-Err-At.big.bits (rw c.in-Err-At.field-0-is at c.in-Err-At.ensures) in
+    let here = goal.at.hedge_of-requires-clause-hedge c in
+    let stop = stop_at here.After-districts-parts (ordered here.After-order_of-order) c.in-Err-At.small.bits c.in-Err-At.big.bits (rw c.in-Err-At.field-0-is at c.in-Err-At.ensures) in
     let u : (roots : ℕ) → AreRoots (graph_of c.args.g.now) c.in-Err-At.small.bits roots → AreSetsOfHedge (graph_of c.args.g.now) c.args.x.bits c.args.y.bits c.in-Err-At.big.bits c.in-Err-At.small.bits roots =
-    λ roots r. stop_is_hedge (graph_of c.args.g.now) c.args.g.now.valid c.args.x.bits c.args.y.bits c.in-Err-At.small.bits c.in-Err-At.big.bits roots (target (goal.at.hedge_of-requires-clause-hedge c).After-order_of-order) stop r in
+    λ roots r. stop_is_hedge (graph_of c.args.g.now) c.args.g.now.valid c.args.x.bits c.args.y.bits c.in-Err-At.small.bits c.in-Err-At.big.bits roots (target here.After-order_of-order) stop r in
     rw (c.in-Err-At.small-is, c.in-Err-At.big-is) u
 
 pub returns-in_ok-hedge-in-Err-At-clause-answer : goal.returns-in_ok-hedge-in-Err-At-clause-answer
