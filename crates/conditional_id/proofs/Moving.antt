@@ -11,8 +11,8 @@ use Rattle.do_derivation.specs.Plans.{Move, Plan, Plans, plan}
 use Rattle.do_derivation.specs.declared.steps.Step.{Rule2Do, Step}
 use Rattle.do_rules.specs.Rules.{AreFourSets, AreThreeSets, IsBlockedFor, IsOpenFor}
 use Rattle.do_rules.specs.declared.rules.Rule.TheVariants.{Two}
-use Rattle.id_recursion.proofs.StepLists.{onto_more}
-use Rattle.id_recursion.specs.Lists.{onto}
+use Rattle.district_factors.proofs.Steps.{onto_more}
+use Rattle.district_factors.specs.Lists.{onto}
 use Rattle.identification.proofs.Bools.{and_l, clash, not_e, and_r}
 use Rattle.identification.proofs.Sets.{has-minus, one-is, one-self, smaller}
 use Rattle.m_separation.specs.declared.paths.OpenPath.{OpenPath}

@@ -10,7 +10,7 @@ use Rattle.do_derivation.specs.Plans.{PlainDerivation}
 use Rattle.identification.specs.Procedure.{AreAncestorsIn, AreFactored}
 use Rattle.identification.specs.Derivations.{AreAllSteps, IsComposedWith}
 use Rattle.id_recursion.specs.Factored.{AreFactorsOf, AreAssembled}
-use Rattle.id_recursion.specs.Lists.{lists_view}
+use Rattle.district_factors.specs.Lists.{lists_view}
 use Rattle.id_recursion.specs.declared.answer.Factors.{Factors}
 
 pub with_steps : (g : MixedGraph) (order ts : List ℕ) (x y d : ℕ) (made : Factors) → AreAncestorsIn g (minus (all g.vertices) x) y d → AreDistricts g d 0 order ts → AreFactorsOf g order ts made

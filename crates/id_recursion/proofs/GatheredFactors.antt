@@ -19,10 +19,11 @@ use Rattle.district_factors.specs.declared.district_factor.FactorFault.{FactorFa
 use Rattle.district_factors.specs.declared.district_factor.FactorFault.TheVariants as faults
 use Rattle.district_factors.specs.declared.district_factor.Factor.{Factor}
 use Rattle.id_recursion.specs.Factored.{AreFactorsOf, IsAdded, IsStopBy, IsStopFor, AreWithMore}
-use Rattle.id_recursion.specs.Lists.{lists_onto, lists_view}
+use Rattle.district_factors.specs.Lists.{lists_onto, lists_view}
 use Rattle.id_recursion.specs.declared.answer.Factors.{Factors}
 use Rattle.id_recursion.specs.declared.answer.Stop.{Stop}
-use Rattle.id_recursion.proofs.StepLists.{masks_taken, lists_more}
+use Rattle.district_factors.proofs.Steps.{lists_more}
+use Rattle.id_recursion.proofs.StepLists.{masks_taken}
 
 -- Of a procedure: `derives` says which definitions from a number on, values, lemmas and lists of steps the districts have, and `stops` where it stops at them.
 

@@ -12,7 +12,7 @@ use Rattle.mixed_graph.specs.declared.sets.VSet.{VSet}
 use Rattle.district_factors.specs.declared.district_factor.Factor.{Factor}
 use Rattle.district_factors.specs.declared.district_factor.FactorFault.{FactorFault}
 use Rattle.district_factors.specs.declared.district_factor.FactorFault.TheVariants as faults
-use Rattle.id_recursion.specs.Lists.{lists_view}
+use Rattle.district_factors.specs.Lists.{lists_view}
 use Rattle.id_recursion.specs.declared.answer.Factors.{Factors}
 use Rattle.id_recursion.specs.declared.answer.Stop.{Stop}
 use Rattle.id_recursion.specs.declared.answer.Stop.TheVariants.{At, NoMemory}

@@ -12,7 +12,6 @@ mod groups;
 mod homes;
 mod identifying;
 mod mains;
-mod pushing;
 mod stops;
 
 pub use answer::{Answer, Factors, Stop};

@@ -10,14 +10,14 @@ ghost use Rattle.do_derivation.specs.Plans.{Plans, no_plans};
 ghost use Rattle.do_derivation.specs.Shapes.{has_product};
 ghost use Rattle.do_derivation.specs.View.{steps_view, listed, derivation_view};
 ghost use Rattle.identification.specs.Derivations.{unwrap_steps, district_steps, main_steps};
-ghost use Rattle.id_recursion.specs.Lists.{onto, lists_view};
+ghost use Rattle.district_factors.specs.Lists.{onto, lists_view};
 ghost use Rattle.id_recursion.specs.Factored.{AreAssembled};
 
 use crate::answer::Factors;
-use crate::expressions::{product_of, sum_if};
+use crate::expressions::product_of;
 use crate::groups::{in_order, push_groups};
 use crate::homes::home_lists;
-use crate::pushing::{push_at, push_each, push_with};
+use district_factors::{push_at, push_each, push_with, sum_if};
 use districts::Districts;
 use do_derivation::{Derivation, Step, has_product};
 use mixed_graph::{Graph, Order, VSet};

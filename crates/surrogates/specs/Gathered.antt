@@ -4,7 +4,7 @@ use Rattle.mixed_graph.specs.Graphs.{MixedGraph}
 use Rattle.prob_expr.specs.View.{view, views}
 use Rattle.do_derivation.specs.View.{lemma_view}
 use Rattle.id_recursion.specs.Factored.{IsStopBy}
-use Rattle.id_recursion.specs.Lists.{lists_view}
+use Rattle.district_factors.specs.Lists.{lists_view}
 use Rattle.id_recursion.specs.declared.answer.Factors.{Factors}
 use Rattle.id_recursion.specs.declared.answer.Stop.{Stop}
 use Rattle.surrogate_theory.specs.Surrogates.{AreDerivedWith, StopsWith}
