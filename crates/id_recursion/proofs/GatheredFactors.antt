@@ -25,10 +25,16 @@ use Rattle.id_recursion.specs.declared.answer.Stop.{Stop}
 use Rattle.district_factors.proofs.Steps.{lists_more}
 use Rattle.id_recursion.proofs.StepLists.{masks_taken}
 
--- Of a procedure: `derives` says which definitions from a number on, values, lemmas and lists of steps the districts have, and `stops` where it stops at them.
+-- what a procedure gives for districts: the number of the first definition, the districts, definitions, values, lemmas and lists of steps
+abbrev pub Factoring : Type 1
+Factoring = ℕ → List ℕ → List Tree → Trees → List PlainLemma → Lists → Type 0
+
+-- where it stops: the number of the first definition, the districts, small and big
+abbrev pub Stopping : Type 1
+Stopping = ℕ → List ℕ → ℕ → ℕ → Type 0
 
 -- the factors of the first districts
-pub record Gathered (derives : ℕ → List ℕ → List Tree → Trees → List PlainLemma → Lists → Type 0) (stops : ℕ → List ℕ → ℕ → ℕ → Type 0) (first : List ℕ) (made : Factors) : Type 0 where
+pub record Gathered (derives : Factoring) (stops : Stopping) (first : List ℕ) (made : Factors) : Type 0 where
   pub few : length made.defs.items ≤ 64 * length first
   pub listed : length made.lists.items ≡ length first
   pub derived : (ts : List ℕ) (es : List Tree) (fs : Trees) (ls : List PlainLemma) (rest : Lists) → derives (length made.defs.items) ts es fs ls rest
@@ -36,14 +42,14 @@ pub record Gathered (derives : ℕ → List ℕ → List Tree → Trees → List
   pub stopped : (ts : List ℕ) (small big : ℕ) → stops (length made.defs.items) ts small big → stops 0 (first ++ ts) small big
 
 -- what further districts give goes on behind the factor f of c
-pub record Continues (derives : ℕ → List ℕ → List Tree → Trees → List PlainLemma → Lists → Type 0) (stops : ℕ → List ℕ → ℕ → ℕ → Type 0) (c k : ℕ) (f : Factor) : Type 0 where
+pub record Continues (derives : Factoring) (stops : Stopping) (c k : ℕ) (f : Factor) : Type 0 where
   pub few : length f.defs.items ≤ 64
   pub derived : (ts : List ℕ) (es : List Tree) (fs : Trees) (ls : List PlainLemma) (rest : Lists) → derives (k + length f.defs.items) ts es fs ls rest
       → derives k (c ∷ ts) (map view f.defs.items ++ es) (tree (view f.value) fs) (map lemma_view f.lemmas.items ++ ls) (more (steps_view f.steps.items) rest)
   pub stopped : (ts : List ℕ) (small big : ℕ) → stops (k + length f.defs.items) ts small big → stops k (c ∷ ts) small big
 
 -- a factor of c was found behind which further districts go on, or the procedure stops at c
-abbrev pub GoesOn : (ℕ → List ℕ → List Tree → Trees → List PlainLemma → Lists → Type 0) → (ℕ → List ℕ → ℕ → ℕ → Type 0) → (c k : ℕ) → Result Factor FactorFault → Type 0
+abbrev pub GoesOn : Factoring → Stopping → (c k : ℕ) → Result Factor FactorFault → Type 0
 GoesOn derives stops c k (Ok f) = Continues derives stops c k f
 GoesOn derives stops c k (Err (faults.Stopped big)) = (ts : List ℕ) → stops k (c ∷ ts) c big.bits
 GoesOn derives stops c k (Err faults.NoMemory) = Unit {0}
@@ -53,7 +59,7 @@ same_for : (P : List ℕ → List Tree → Trees → List PlainLemma → Lists �
 same_for P {ts = ts} {us = us} {es = es} {ds = ds} {fs = fs} {vs = vs} {ls = ls} {ks = ks} {xs = xs} {ys = ys} a b c d e h =
     subst (λ z. P z es fs ls xs) (sym a) (subst (λ z. P us z fs ls xs) (sym b) (subst (λ z. P us ds z ls xs) (sym c) (subst (λ z. P us ds vs z xs) (sym d) (subst (λ z. P us ds vs ks z) (sym e) h))))
 
-module _ (derives : ℕ → List ℕ → List Tree → Trees → List PlainLemma → Lists → Type 0) (stops : ℕ → List ℕ → ℕ → ℕ → Type 0) where
+module _ (derives : Factoring) (stops : Stopping) where
   pub gathered_none : (made : Factors) → made.defs.items ≡ [] → made.lemmas.items ≡ [] → made.values.items ≡ [] → made.lists.items ≡ [] → Gathered derives stops [] made
   gathered_none made d l v s = record {
     few = (let n = ap length d in omega (arith, n));
@@ -132,7 +138,7 @@ module _ (sets : List VSet) (n i : ℕ) (lt : i < length (take n sets)) where
 pub sets_all : (sets : List VSet) (n i : ℕ) → length (take n sets) ≤ i → map (λ (s : VSet). s.bits) (take i (take n sets)) ≡ first_masks sets n
 sets_all sets n i le = ap (map (λ (s : VSet). s.bits)) (sym (append-nil (take i (take n sets))) ∙ ap (λ r. take i (take n sets) ++ r) (sym (at_drop_all (λ l. l) (take n sets) i le)) ∙ take-append-drop i (take n sets)) ∙ sym (masks_taken sets n)
 
-module _ (derives : ℕ → List ℕ → List Tree → Trees → List PlainLemma → Lists → Type 0) (stops : ℕ → List ℕ → ℕ → ℕ → Type 0) (sets : List VSet) (n i : ℕ) (old : Factors)
+module _ (derives : Factoring) (stops : Stopping) (sets : List VSet) (n i : ℕ) (old : Factors)
     (s : Gathered derives stops (map (λ (v : VSet). v.bits) (take i (take n sets))) old) where
   -- the factor of the set at place i is added
   pub turn_next : i < length (take n sets) → (new : Factors) (k : ℕ) (found : Result Factor FactorFault) → k ≡ length old.defs.items → GoesOn derives stops (get_or (take n sets) i (record { bits = 0 })).bits k found → IsAdded found old new
