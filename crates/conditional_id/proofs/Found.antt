@@ -1,9 +1,9 @@
 -- What is found, from what identification answers for the joint effect.
-use Rattle.std.proofs.Common.{ℕ, ◌≡◌, ◌≢◌, ◌<◌, ◌≤◌, ◌↔◌, Bool, refl, sym, subst, ◌∙◌, ap, inl, inr, List, [], length, IsTrue}
+use Rattle.std.proofs.Common.{ℕ, ◌^◌, ◌≡◌, ◌≢◌, ◌<◌, ◌≤◌, ◌↔◌, refl, sym, subst, ◌∙◌, ap, inl, inr, List, [], length, IsTrue, arith}
 use Rattle.std.proofs.lemmas.Bool.{cases_eq}
 use Rattle.mixed_graph.specs.Bits.{has}
 use Rattle.mixed_graph.specs.Graphs.{MixedGraph}
-use Rattle.mixed_graph.proofs.Masks.{has-zero, positive_from_has}
+use Rattle.mixed_graph.proofs.Masks.{has-zero, positive_from_has, some_member}
 use Rattle.do_rules.specs.Rules.{AreThreeSets}
 use Rattle.mixed_graph.specs.Masks.{join}
 use Rattle.prob_expr.specs.Tree.{PlainFormula, PlainTarget}
@@ -12,8 +12,10 @@ use Rattle.identification.proofs.Bools.{clash}
 use Rattle.identification.specs.Derivations.{IsDerived}
 use Rattle.hedge.specs.Hedges.{IsHedge}
 use Rattle.hedge.specs.declared.hedge.Hedge.{Hedge}
+use Rattle.id_recursion.specs.Answers.{effect_on, is_hedge}
+use Rattle.id_recursion.specs.declared.answer.Answer.{Answer}
 use Rattle.conditional_theory.proofs.Answered.{one_turned}
-use Rattle.conditional_theory.proofs.Dividing.{divided_defs}
+use Rattle.conditional_theory.proofs.Dividing.{divided_defs, join-zero}
 use Rattle.conditional_theory.proofs.Turning.{joint_target, targeted, turned_target}
 use Rattle.conditional_theory.specs.Conditionals.AreTurned.{still}
 use Rattle.conditional_theory.specs.Conditionals.{AreTurned, IsConditionalBySteps, IsConditionalTarget, IsTurned, divided, divided_derivation}
@@ -28,25 +30,35 @@ turned_none g t e = elim (cases_eq t.x 0) [
   | inr s ↦ inr (s, subst (λ w. AreTurned g t.y t.x w t.x 0 []) (sym e) (still (λ v i n. clash (has 0 v) i (has-zero v))))
 ]
 
+-- sets of vertices without a common member are a target, where y isn't empty
+pub target_with : (g : MixedGraph) (x y z : ℕ) → AreThreeSets g.vertices (has x) (has y) (has z) → 0 < y → y < 2 ^ 64 → IsConditionalTarget g (targeted x y z)
+target_with g x y z sets some fits = record { sets = sets; some = some_member y (λ e. absurd (omega (arith, e, some))) fits }
+
 -- the sets of the joint effect
-pub joint_sets : (g : MixedGraph) (x y z : ℕ) → AreThreeSets g.vertices (has x) (has y) (has z) → (v : ℕ) × IsTrue (has y v) → (r : Turned) → AreMoved g y x z r → (w : ℕ) → w ≡ join y r.left.bits
-    → IsConditionalTarget g (targeted r.doing.bits w 0)
-joint_sets g x y z sets some r m w e = subst (λ u. IsConditionalTarget g (targeted r.doing.bits u 0)) (sym e)
-    (joint_target g r.doing.bits y r.left.bits (turned_target g y x z r.doing.bits r.left.bits m.moved m.turned (record { sets = sets; some = some })))
+pub joint_sets : (g : MixedGraph) (x y z : ℕ) → IsConditionalTarget g (targeted x y z) → (r : Turned) → AreMoved g y x z r → (w : ℕ) → w ≡ join y r.left.bits → IsConditionalTarget g (targeted r.doing.bits w 0)
+joint_sets g x y z k r m w e = subst (λ u. IsConditionalTarget g (targeted r.doing.bits u 0)) (sym e)
+    (joint_target g r.doing.bits y r.left.bits (turned_target g y x z r.doing.bits r.left.bits m.moved m.turned k))
 
 pub some_positive : (g : MixedGraph) (t : PlainTarget) → IsConditionalTarget g t → 0 < t.y
 some_positive g t k = positive_from_has t.y k.some.0 k.some.1
 
--- a hedge for the joint effect is one for some turned sets
-pub exact_for : (g : MixedGraph) (t : PlainTarget) (x' z' : ℕ) (vs : List ℕ) → IsTurned g t x' z' vs → (w : ℕ) → w ≡ join t.y z' → (b : Bool) → IsTrue b ↔ ((h : Hedge) × IsHedge g x' w h) → IsTrue b ↔ SomeJointHedge g t
-exact_for g t x' z' vs turned w e b exact = (λ i. found (exact.0 i), λ s. exact.1 (back s))
+-- a hedge is answered for the joint effect exactly where there is one for some turned sets
+pub exact_for : (g : MixedGraph) (t : PlainTarget) (x' z' : ℕ) (vs : List ℕ) → IsTurned g t x' z' vs → (w : ℕ) → w ≡ join t.y z' → (a b : Answer) → a ≡ b → IsTrue (is_hedge a) ↔ ((h : Hedge) × IsHedge g x' w h) → IsTrue (is_hedge b) ↔ SomeJointHedge g t
+exact_for g t x' z' vs turned w e a b same exact = (λ i. found (of_b.0 i), λ s. of_b.1 (back s))
   where
+    of_b : IsTrue (is_hedge b) ↔ ((h : Hedge) × IsHedge g x' w h)
+    of_b = subst (λ c. IsTrue (is_hedge c) ↔ ((h : Hedge) × IsHedge g x' w h)) same exact
+
     found : (h : Hedge) × IsHedge g x' w h → SomeJointHedge g t
     found p = record { doing = x'; left = z'; moved = vs; turned = turned; hedge = p.0; is_hedge = subst (λ u. IsHedge g x' u p.0) e p.1 }
 
     back : SomeJointHedge g t → (h : Hedge) × IsHedge g x' w h
     back s = let o = one_turned g t s.doing s.left x' z' s.moved vs s.turned turned in
         (s.hedge, subst (λ u. IsHedge g u w s.hedge) o.0 (subst (λ u. IsHedge g s.doing u s.hedge) (ap (join t.y) o.1 ∙ sym e) s.is_hedge))
+
+-- the same where nothing is given
+pub exact_plain : (g : MixedGraph) (x y : ℕ) (a b : Answer) → a ≡ b → IsTrue (is_hedge a) ↔ ((h : Hedge) × IsHedge g x y h) → IsTrue (is_hedge b) ↔ SomeJointHedge g (effect_on x y)
+exact_plain g x y a b same exact = exact_for g (effect_on x y) x 0 [] (turned_none g (effect_on x y) refl) y (sym (join-zero y)) a b same exact
 
 -- the divided formula, from that of the joint effect
 pub given_formula : (g : MixedGraph) (t : PlainTarget) → t.given ≢ 0 → t.x ≢ 0 → (x' z' : ℕ) (vs : List ℕ) → AreTurned g t.y t.x t.given x' z' vs → (w : ℕ) → w ≡ join t.y z' → (joint : PlainFormula) (e : PlainDerivation)

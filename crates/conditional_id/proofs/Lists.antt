@@ -6,8 +6,8 @@ use Rattle.do_derivation.proofs.StepViews.{step-Split, step-Widen}
 use Rattle.do_derivation.specs.Plans.{Move, Plan, no_plans, plan}
 use Rattle.do_derivation.specs.View.{step_view, steps_view}
 use Rattle.do_derivation.specs.declared.steps.Step.{At, Split, Step, Then, Widen}
-use Rattle.id_recursion.proofs.StepLists.{onto_append, onto_more, onto_nothing, step-At, step-Then}
-use Rattle.id_recursion.specs.Lists.{onto}
+use Rattle.district_factors.proofs.Steps.{onto_append, onto_more, onto_nothing, step-At, step-Then}
+use Rattle.district_factors.specs.Lists.{onto}
 use Rattle.identification.specs.Derivations.{single}
 use Rattle.mixed_graph.specs.declared.sets.VSet.{VSet}
 use Rattle.mixed_graph.specs.Masks.{is_empty}

@@ -11,8 +11,8 @@ use Rattle.do_derivation.specs.Plans.{Move, Plan, Plans, plan}
 use Rattle.do_derivation.specs.declared.steps.Step.{Rule2Do, Step}
 use Rattle.do_rules.specs.Rules.{AreFourSets, AreThreeSets, IsBlockedFor, IsOpenFor}
 use Rattle.do_rules.specs.declared.rules.Rule.TheVariants.{Two}
-use Rattle.id_recursion.proofs.StepLists.{onto_more}
-use Rattle.id_recursion.specs.Lists.{onto}
+use Rattle.district_factors.proofs.Steps.{onto_more}
+use Rattle.district_factors.specs.Lists.{onto}
 use Rattle.identification.proofs.Bools.{and_l, clash, not_e, and_r}
 use Rattle.identification.proofs.Sets.{has-minus, one-is, one-self, smaller}
 use Rattle.m_separation.specs.declared.paths.OpenPath.{OpenPath}
@@ -86,8 +86,8 @@ pub record Moving (g : MixedGraph) (y x z x1 z1 : ℕ) (steps : List Step) : Typ
   pub are : (rest : Plans) → onto steps rest ≡ turned_steps done rest
   pub target : IsConditionalTarget g (targeted x1 y z1)
 
-pub moving_none : (g : MixedGraph) (y x z : ℕ) → AreThreeSets g.vertices (has x) (has y) (has z) → (v : ℕ) × IsTrue (has y v) → (steps : List Step) → steps ≡ [] → Moving g y x z x z steps
-moving_none g y x z sets some steps e = record { done = []; moves = λ x' z' vs t. t; are = λ rest. ap (λ l. onto l rest) e; target = record { sets = sets; some = some } }
+pub moving_none : (g : MixedGraph) (y x z : ℕ) → IsConditionalTarget g (targeted x y z) → (steps : List Step) → steps ≡ [] → Moving g y x z x z steps
+moving_none g y x z k steps e = record { done = []; moves = λ x' z' vs t. t; are = λ rest. ap (λ l. onto l rest) e; target = k }
 
 moving_one : (g : MixedGraph) (y x z x1 z1 v : ℕ) (steps : List Step) (alone : VSet) → alone.bits ≡ one v → Moving g y x z x1 z1 steps → IsLowestTurning g x1 y z1 v
     → Moving g y x z (join x1 (one v)) (minus z1 (one v)) (steps ++ Rule2Do alone ∷ [])

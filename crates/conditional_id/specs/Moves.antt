@@ -3,7 +3,7 @@ use Rattle.std.specs.Prelude.{ℕ, ◌≡◌, ◌<◌, List, IsTrue}
 use Rattle.mixed_graph.specs.Bits.{has}
 use Rattle.mixed_graph.specs.Graphs.{MixedGraph}
 use Rattle.do_derivation.specs.Plans.{Plans}
-use Rattle.id_recursion.specs.Lists.{onto}
+use Rattle.district_factors.specs.Lists.{onto}
 use Rattle.conditional_theory.specs.Conditionals.{IsTurning, AreTurned, turned_steps}
 use Rattle.conditional_id.specs.declared.answer.Turned.{Turned}
 

@@ -5,7 +5,7 @@ ghost use Rattle.prob_expr.specs.View.{formula_view};
 ghost use Rattle.do_derivation.specs.Plans.{Plan, Plans, plan};
 ghost use Rattle.do_derivation.specs.View.{step_view, steps_view};
 ghost use Rattle.conditional_theory.specs.Conditionals.{divided, divided_steps, steps_of, summed_steps};
-ghost use Rattle.id_recursion.specs.Lists.{onto};
+ghost use Rattle.district_factors.specs.Lists.{onto};
 
 use crate::copying::copy_step;
 use do_derivation::Step;

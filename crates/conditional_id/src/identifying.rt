@@ -19,7 +19,7 @@ ghost use Rattle.identification.specs.Derivations.{IsDerived};
 ghost use Rattle.identification_answers.specs.Names.{FormulaNamesOnly};
 ghost use Rattle.counter_models.specs.Events.{AreCounterModels};
 ghost use Rattle.id_recursion.specs.Answers.{effect_on};
-ghost use Rattle.id_recursion.specs.Lists.{onto};
+ghost use Rattle.district_factors.specs.Lists.{onto};
 ghost use Rattle.conditional_theory.specs.Conditionals.{divided, divided_derivation, turned_steps, IsConditionalTarget, IsConditional, IsConditionalBySteps};
 ghost use Rattle.conditional_theory.specs.Laws.{IsShallowGiven};
 ghost use Rattle.conditional_id.specs.Answers.{IsAnswerGiven, IsRight, IsJointEffect, IsJointShown, SomeJointHedge, IfFormula, IfJoint, is_joint};

@@ -16,25 +16,13 @@ use Rattle.identification.specs.Procedure.{Source, conditional, AreFactors}
 use Rattle.identification.specs.Derivations.{Lists, no_more, more, ArePlaceLists, universe, place_list, source_steps, in_order}
 use Rattle.district_factors.specs.declared.place.VertexFactor.{VertexFactor}
 use Rattle.district_factors.specs.Bodies.{IsPlaceOf}
-use Rattle.district_factors.specs.Parts.{lists_of}
-
--- the lists of both in turn
-abbrev pub both_lists : Lists → Lists → Lists
-both_lists no_more rest = rest
-both_lists (more l ls) rest = more l (both_lists ls rest)
-
-both-nothing : (ls : Lists) → both_lists ls no_more ≡ ls
-both-nothing no_more = refl
-both-nothing (more l ls) = ap (more l) (both-nothing ls)
-
-both_more : (lists : List (Vec Step)) (l : Vec Step) (rest : Lists) → both_lists (lists_of (lists ++ l ∷ [])) rest ≡ both_lists (lists_of lists) (more (steps_view l.items) rest)
-both_more [] l rest = refl
-both_more (x ∷ lists) l rest = ap (more (steps_view x.items)) (both_more lists l rest)
+use Rattle.district_factors.specs.Lists.{lists_onto, lists_view}
+use Rattle.district_factors.proofs.Steps.{lists_more}
 
 -- whatever are the factors and lists of the vertices from place i on completes those made to all
 pub record Placing (g : MixedGraph) (order : List ℕ) (from : Source) (a t p i : ℕ) (factors : List Expr) (lists : List (Vec Step)) : Type 0 where
   pub factored : (fs : Trees) → AreFactors g from a t p (drop i order) fs → AreFactors g from a t 0 order (joined (views factors) fs)
-  pub placed : (ls : Lists) → ArePlaceLists g from a t p (drop i order) ls → ArePlaceLists g from a t 0 order (both_lists (lists_of lists) ls)
+  pub placed : (ls : Lists) → ArePlaceLists g from a t p (drop i order) ls → ArePlaceLists g from a t 0 order (lists_onto lists ls)
 
 module _ (g : MixedGraph) (order : List ℕ) (from : Source) (a t : ℕ) where
   abbrev vertex : ℕ → ℕ
@@ -61,7 +49,7 @@ module _ (g : MixedGraph) (order : List ℕ) (from : Source) (a t : ℕ) where
   placing_take p p' i factors factors' lists lists' found lt into is k more_factors more_lists so_far = record {
     factored = λ fs r. subst (AreFactors g from a t 0 order) (ap (λ e. joined (views factors) (tree e fs)) (sym k.term) ∙ sym (joined_more factors found.term fs) ∙ sym (ap (λ es. joined (views es) fs) more_factors))
         (so_far.factored (tree (conditional from a (vertex i) k.m) fs) (factors_at p i _ lt (AreFactors.take into k.pillow (subst (λ q. AreFactors g from a t q (drop (i + 1) order) fs) is r))));
-    placed = λ ls r. subst (ArePlaceLists g from a t 0 order) (ap (λ l. both_lists (lists_of lists) (more l ls)) (sym k.steps) ∙ sym (both_more lists found.steps ls) ∙ sym (ap (λ l. both_lists (lists_of l) ls) more_lists))
+    placed = λ ls r. subst (ArePlaceLists g from a t 0 order) (ap (λ l. lists_onto lists (more l ls)) (sym k.steps) ∙ sym (lists_more lists found.steps ls) ∙ sym (ap (λ l. lists_onto l ls) more_lists))
         (so_far.placed (more (place_list p (universe g.vertices from a) a t k.m (source_steps from a (vertex i) k.m)) ls)
         (lists_at p i _ lt (ArePlaceLists.take into k.pillow (subst (λ q. ArePlaceLists g from a t q (drop (i + 1) order) ls) is r))));
   }
@@ -70,16 +58,15 @@ module _ (g : MixedGraph) (order : List ℕ) (from : Source) (a t : ℕ) where
   placing_factors p i factors lists le so_far = subst (AreFactors g from a t 0 order) (joined-nothing (views factors))
       (so_far.factored no_trees (subst (λ (o : List ℕ). AreFactors g from a t p o no_trees) (sym (at_drop_all (λ o. o) order i le)) AreFactors.none))
 
-  pub placing_lists : (p i : ℕ) (factors : List Expr) (lists : List (Vec Step)) → length order ≤ i → Placing g order from a t p i factors lists → ArePlaceLists g from a t 0 order (lists_of lists)
-  placing_lists p i factors lists le so_far = subst (ArePlaceLists g from a t 0 order) (both-nothing (lists_of lists))
-      (so_far.placed no_more (subst (λ (o : List ℕ). ArePlaceLists g from a t p o no_more) (sym (at_drop_all (λ o. o) order i le)) ArePlaceLists.none))
+  pub placing_lists : (p i : ℕ) (factors : List Expr) (lists : List (Vec Step)) → length order ≤ i → Placing g order from a t p i factors lists → ArePlaceLists g from a t 0 order (lists_view lists)
+  placing_lists p i factors lists le so_far = so_far.placed no_more (subst (λ (o : List ℕ). ArePlaceLists g from a t p o no_more) (sym (at_drop_all (λ o. o) order i le)) ArePlaceLists.none)
 
 -- how many lists there are
 abbrev pub count_lists : Lists → ℕ
 count_lists no_more = 0
 count_lists (more l ls) = suc (count_lists ls)
 
-pub count_lists_of : (lists : List (Vec Step)) → count_lists (lists_of lists) ≡ length lists
+pub count_lists_of : (lists : List (Vec Step)) → count_lists (lists_view lists) ≡ length lists
 count_lists_of [] = refl
 count_lists_of (l ∷ lists) = ap suc (count_lists_of lists)
 

@@ -9,7 +9,7 @@ use Rattle.identification.specs.Derivations.{universe, source_steps, place_list,
 use Rattle.district_factors.specs.declared.place.VertexFactor.{VertexFactor}
 use Rattle.district_factors.specs.declared.body.Places.{Places}
 use Rattle.district_factors.specs.declared.body.Body.{Body}
-use Rattle.district_factors.specs.Parts.{lists_of}
+use Rattle.district_factors.specs.Lists.{lists_view}
 
 -- the factor of v in the district t of a, and the steps to it, where p has the vertices before v
 pub record IsPlaceOf (g : MixedGraph) (from : Source) (a t p v : ℕ) (found : VertexFactor) : Type 0 where
@@ -21,7 +21,7 @@ pub record IsPlaceOf (g : MixedGraph) (from : Source) (a t p v : ℕ) (found : V
 -- the factors of the members of the district t of a, and for each the steps to it
 pub record ArePlaces (g : MixedGraph) (order : List ℕ) (from : Source) (a t : ℕ) (found : Places) : Type 0 where
   pub factors : AreFactors g from a t 0 order (views found.factors.items)
-  pub lists : ArePlaceLists g from a t 0 order (lists_of found.lists.items)
+  pub lists : ArePlaceLists g from a t 0 order (lists_view found.lists.items)
 
 -- the factor of the district t of a, and its steps
 pub record IsBodyOf (g : MixedGraph) (order : List ℕ) (from : Source) (a t : ℕ) (found : Body) : Type 0 where

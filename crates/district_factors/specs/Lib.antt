@@ -1,4 +1,5 @@
 pub mod Bodies
 pub mod Factors
+pub mod Lists
 pub mod Parts
 pub mod Rounds

@@ -8,13 +8,15 @@ ghost use Rattle.mixed_graph.specs.Shown.{graph_of};
 ghost use Rattle.do_derivation.specs.Plans.{no_plans, plan};
 ghost use Rattle.do_derivation.specs.View.{listed, step_view, steps_view};
 ghost use Rattle.identification.specs.Derivations.{at_each, body_steps};
-ghost use Rattle.district_factors.specs.Parts.{source_of, lists_of};
+ghost use Rattle.district_factors.specs.Lists.{lists_view};
+ghost use Rattle.district_factors.specs.Parts.{source_of};
 ghost use Rattle.district_factors.specs.Bodies.{ArePlaces, IsBodyOf};
 
-use crate::moves::{add_at, members_in};
+use crate::moves::members_in;
 use crate::place::{VertexFactor, place_of};
-use crate::terms::{Source, as_one};
-use do_derivation::Step;
+use crate::pushing::push_each;
+use crate::terms::Source;
+use do_derivation::{Step, as_one};
 use mixed_graph::{Graph, Order, VSet};
 use prob_expr::Expr;
 use std::alloc::{AllocError, Global};
@@ -63,21 +65,17 @@ fn places_of(
 /// The first step, and then each list at its factor.
 fn at_each(alloc: Global, first: Step, lists: Vec<Vec<Step>>) -> Result<Vec<Step>, AllocError>
     requires { length lists.items ≤ 64 }
-    ensures { IfOk result (λ s. steps_view s.items ≡ plan (step_view first) (at_each 0 (lists_of lists.items) no_plans)) }
+    ensures { IfOk result (λ s. steps_view s.items ≡ plan (step_view first) (at_each 0 (lists_view lists.items) no_plans)) }
 {
     let mut steps = vec![in alloc; first]?;
-    let mut i = 0;
-    for list in lists {
-        add_at(alloc, &mut steps, i, list)?;
-        i += 1;
-    }
+    push_each(alloc, &mut steps, lists)?;
     Ok(steps)
 }
 
 /// One member: its list; several: the chain, and each list at its factor.
 fn body_steps(alloc: Global, members: Order, lists: Vec<Vec<Step>>) -> Result<Vec<Step>, AllocError>
     requires { length lists.items ≡ members.count }
-    ensures { IfOk result (λ s. steps_view s.items ≡ body_steps (listed members) (lists_of lists.items)) }
+    ensures { IfOk result (λ s. steps_view s.items ≡ body_steps (listed members) (lists_view lists.items)) }
 {
     let mut lists = lists;
     if lists.len() > 1 {

@@ -1,39 +1,15 @@
 //! The steps that make the expressions of a factor.
 
-ghost use Rattle.std.specs.Prelude.{◌≡◌, ◌<◌, ◌≤◌, ◌++◌, [], ◌∷◌, All, cond, length, IfOk, OnOk};
-ghost use Rattle.mixed_graph.specs.Masks.{is_empty};
-ghost use Rattle.do_derivation.specs.Plans.{Plan, Plans};
-ghost use Rattle.do_derivation.specs.View.{listed, step_view, steps_view};
-ghost use Rattle.identification.specs.Derivations.{at_place, marginal_steps, source_steps, place_list, cut_steps, in_order};
-ghost use Rattle.district_factors.specs.Parts.{source_of, steps_then};
+ghost use Rattle.std.specs.Prelude.{◌≡◌, ◌<◌, ◌≤◌, All, length, IfOk};
+ghost use Rattle.do_derivation.specs.View.{listed, steps_view};
+ghost use Rattle.identification.specs.Derivations.{marginal_steps, source_steps, place_list, cut_steps, in_order};
+ghost use Rattle.district_factors.specs.Parts.{source_of};
 
+use crate::pushing::{at, push_at, push_with};
 use crate::terms::Source;
 use do_derivation::Step;
 use mixed_graph::{Order, VSet};
 use std::alloc::{AllocError, Global};
-
-/// The steps on the child of that number.
-fn at(alloc: Global, child: u32, steps: Vec<Step>) -> Result<Step, AllocError>
-    ensures { IfOk result (λ s. step_view s ≡ Plan.At child (Plan.Then (steps_view steps.items))) }
-{
-    Ok(Step::At(child, Box::new(alloc, Step::Then(steps))?))
-}
-
-/// Adds a list of steps at a factor, where it isn't empty.
-pub fn add_at(
-    alloc: Global,
-    steps: &mut Vec<Step>,
-    factor: u32,
-    list: Vec<Step>,
-) -> Result<(), AllocError>
-    ensures { OnOk result ((rest : Plans) → steps_then steps.new.items rest ≡ steps_then steps.old.items (at_place factor (steps_view list.items) rest)) }
-{
-    if list.is_empty() {
-        return Ok(());
-    }
-    steps.push(at(alloc, factor, list)?)?;
-    Ok(())
-}
 
 /// From P(u | do(all others)) to definition k, of the set a, summed down to u.
 fn marginal_steps(alloc: Global, k: u32, a: VSet, u: VSet) -> Result<Vec<Step>, AllocError>
@@ -76,17 +52,6 @@ pub fn source_steps(
     }
 }
 
-/// Adds a step, where its set isn't empty.
-fn add(steps: &mut Vec<Step>, set: VSet, step: Step) -> Result<(), AllocError>
-    ensures { OnOk result (steps.new.items ≡ steps.old.items ++ cond (is_empty set.bits) [] (step ∷ [])) }
-{
-    if set.is_empty() {
-        return Ok(());
-    }
-    steps.push(step)?;
-    Ok(())
-}
-
 /// The rules at the term of one vertex of the district t of a, where `before` has the vertices
 /// before it and m is its pillow, and then the rest.
 ///
@@ -109,9 +74,9 @@ pub fn place_steps(
     let unneeded = earlier.difference(m);
     let mut rest = rest;
     let mut steps = Vec::new(alloc);
-    add(&mut steps, idle, Step::Rule3Out(idle))?;
-    add(&mut steps, acted, Step::Rule2See(acted))?;
-    add(&mut steps, unneeded, Step::Rule1Out(unneeded))?;
+    push_with(&mut steps, idle, Step::Rule3Out(idle))?;
+    push_with(&mut steps, acted, Step::Rule2See(acted))?;
+    push_with(&mut steps, unneeded, Step::Rule1Out(unneeded))?;
     steps.append(&mut rest)?;
     Ok(steps)
 }
@@ -121,7 +86,7 @@ pub fn cut_steps(alloc: Global, over: VSet, inner: Vec<Step>) -> Result<Vec<Step
     ensures { IfOk result (λ s. steps_view s.items ≡ cut_steps over.bits (steps_view inner.items)) }
 {
     let mut steps = vec![in alloc; Step::Rule3Out(over), Step::Widen(over)]?;
-    add_at(alloc, &mut steps, 0, inner)?;
+    push_at(alloc, &mut steps, 0, inner)?;
     Ok(steps)
 }
 
@@ -129,7 +94,8 @@ pub fn cut_steps(alloc: Global, over: VSet, inner: Vec<Step>) -> Result<Vec<Step
 pub fn members_in(order: &[u8], t: VSet) -> Order
     requires long { length order.now ≤ 64 }
     requires low { All (λ v. v < 64) order.now }
-    ensures { listed result ≡ in_order t.bits order.now }
+    ensures members { listed result ≡ in_order t.bits order.now }
+    ensures count { length (listed result) ≡ result.count }
 {
     let mut list = [0u8; 64];
     let mut count = 0usize;

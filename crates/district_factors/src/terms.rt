@@ -1,8 +1,7 @@
 //! The expressions of which a factor is made.
 
 ghost use Rattle.std.specs.Prelude.{◌≡◌, ◌<◌, IfOk};
-ghost use Rattle.prob_expr.specs.View.{view, views};
-ghost use Rattle.do_derivation.specs.Shapes.{as_one};
+ghost use Rattle.prob_expr.specs.View.{view};
 ghost use Rattle.identification.specs.Procedure.{sum_if, marginal, conditional};
 ghost use Rattle.district_factors.specs.Parts.{source_of};
 
@@ -60,19 +59,5 @@ pub fn conditional(alloc: Global, from: Source, a: VSet, v: u8, m: VSet) -> Resu
                 bottom: Box::new(alloc, marginal(alloc, k, a, m)?)?,
             })
         }
-    }
-}
-
-/// One factor as it is, several as a product.
-pub fn as_one(factors: Vec<Expr>) -> Expr
-    ensures { view result ≡ as_one (views factors.items) }
-{
-    let mut factors = factors;
-    if factors.len() != 1 {
-        return Expr::Product(factors);
-    }
-    match factors.pop() {
-        Some(factor) => factor,
-        None => unreachable!(),
     }
 }

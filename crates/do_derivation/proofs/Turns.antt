@@ -28,6 +28,11 @@ row_applied g lemmas m e from to (Ok x) count h = (h, omega (arith, count))
 row_applied g lemmas m e from to (Err (Fault f)) count h = (count, h)
 row_applied g lemmas m e from to (Err NoMemory) count h = tt
 
+-- a step that is one move makes what its move makes
+pub moved : (g : MixedGraph) (lemmas : List ℕ) (e : Tree) (from to : ℕ) (made result : Result Expr Refusal) {s t : Step} {m : Move} → s ≡ t → step_view t ≡ Plan.Make m
+    → ((g : MixedGraph) (lemmas : List ℕ) (m : Move) (e : Tree) → IsRow g (row g.vertices lemmas m e) made → IsApplied g lemmas (Plan.Make m) e from to result) → IsRow g (row g.vertices lemmas m e) made → IsApplied g lemmas (step_view s) e from to result
+moved g lemmas e from to made result {m = m} is seen counted h = subst (λ p. IsApplied g lemmas p e from to result) (sym (ap step_view is ∙ seen)) (counted g lemmas m e h)
+
 pub cap-cap : (a b : ℕ) → cap (cap a + b) ≡ cap (a + b)
 cap-cap a b = omega arith
 

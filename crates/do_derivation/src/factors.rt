@@ -1,7 +1,7 @@
 ghost use Rattle.std.specs.Prelude.{◌≡◌, true, IfOk, OnOk};
 ghost use Rattle.prob_expr.specs.Tree.{product, no_trees, tree};
 ghost use Rattle.prob_expr.specs.View.{view, views};
-ghost use Rattle.do_derivation.specs.Shapes.{has_product, flat, joined};
+ghost use Rattle.do_derivation.specs.Shapes.{has_product, flat, joined, as_one};
 
 use prob_expr::Expr;
 use std::alloc::{AllocError, Global};
@@ -33,6 +33,20 @@ fn factors_of(e: Expr) -> Vec<Expr>
     match e {
         Expr::Product(factors) => factors,
         _ => unreachable!(),
+    }
+}
+
+/// One factor as it is, several as a product.
+pub fn as_one(factors: Vec<Expr>) -> Expr
+    ensures { view result ≡ as_one (views factors.items) }
+{
+    let mut factors = factors;
+    if factors.len() != 1 {
+        return Expr::Product(factors);
+    }
+    match factors.pop() {
+        Some(factor) => factor,
+        None => unreachable!(),
     }
 }
 

@@ -14,7 +14,7 @@ mod steps;
 mod term_moves;
 
 pub use checking::{apply, check, check_with};
-pub use factors::{flat, has_product};
+pub use factors::{as_one, flat, has_product};
 pub use faults::{ApplyFault, CheckFault, StepFault, StepPlace};
 pub use sound::laws;
 pub use steps::{Derivation, Lemma, Step};

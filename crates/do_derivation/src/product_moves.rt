@@ -4,12 +4,12 @@ ghost use Rattle.finite_models.specs.Sums.{all_below};
 ghost use Rattle.prob_expr.specs.Tree.{prob, product, no_trees, tree};
 ghost use Rattle.prob_expr.specs.View.{view, views};
 ghost use Rattle.do_derivation.specs.Plans.{Move};
-ghost use Rattle.do_derivation.specs.Shapes.{gathered, unchained, is_grouping, none_empty, each_below, times_in, all_of, picked, as_one, groups_of};
+ghost use Rattle.do_derivation.specs.Shapes.{gathered, unchained, is_grouping, none_empty, each_below, times_in, all_of, picked, groups_of};
 ghost use Rattle.do_derivation.specs.Table.{row};
 ghost use Rattle.do_derivation.specs.View.{numbers_of};
 ghost use Rattle.do_derivation.specs.Applied.{IsRow};
 
-use crate::factors::{flat, has_product};
+use crate::factors::{as_one, flat, has_product};
 use crate::faults::{Refusal, StepFault};
 use mixed_graph::{Graph, VSet};
 use prob_expr::{Expr, copy_expr};
@@ -164,20 +164,6 @@ fn picked(alloc: Global, factors: &Vec<Expr>, numbers: &Vec<u32>) -> Result<Vec<
         made.push(copy_expr(alloc, &factors[*i as usize])?)?;
     }
     Ok(made)
-}
-
-// One factor as it is, several as a product.
-fn as_one(factors: Vec<Expr>) -> Expr
-    ensures { view result ≡ as_one (views factors.items) }
-{
-    let mut factors = factors;
-    if factors.len() != 1 {
-        return Expr::Product(factors);
-    }
-    match factors.pop() {
-        Some(factor) => factor,
-        None => unreachable!(),
-    }
 }
 
 // Each group of factors as one.

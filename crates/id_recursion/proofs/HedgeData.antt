@@ -32,52 +32,49 @@ module _ (g : MixedGraph) (valid : IsMixedGraph g) (few : g.vertices ≤ 64) (x 
   abbrev entry : ℕ → ℕ
   entry i = get_or h.links.found i 0
 
+  abbrev child : ℕ → ℕ
+  child v = get_or h.choice.next v 0
+
   -- ---- choices
   root_out : (v : ℕ) → has h.small.bits v ≡ false → has h.roots.bits v ≡ false
   root_out v o = elim (cases_Bool (has h.roots.bits v)) [ inl t ↦ absurd (clash (has h.small.bits v) (sets.roots_inside v t) o) | inr f ↦ f ]
 
-  inner_child : (v : ℕ) → v < 64 → has h.small.bits v ≡ true → has h.roots.bits v ≡ false → IsChildInside g h v (get_or h.choice.next v 0)
-  inner_child v lt i o = go (is.inner v lt i)
-    where
-      go : IsChoiceOf g (has h.small.bits) (has h.roots.bits) v (get_or h.choice.next v 0) → IsChildInside g h v (get_or h.choice.next v 0)
-      go (inr c) = absurd (c.0 (record { member = i; outside = o; reaches = sets.small_reaches v i }))
-      go (inl c) =
-          let a = and_parts (g.arrow v (get_or h.choice.next v 0)) (has h.small.bits v && has h.small.bits (get_or h.choice.next v 0)) c.1.arrow in
-          let b = and_parts (has h.small.bits v) (has h.small.bits (get_or h.choice.next v 0)) a.1 in
-          record { arrow = a.0; in_big = sets.small_inside (get_or h.choice.next v 0) b.1; in_small = λ _. b.1 }
+  -- a vertex that leads to a set chooses a child on the way to it
+  on_the_way : (s r : ℕ → Bool) (v : ℕ) → Leads g s r v → IsChoiceOf g s r v (child v) → IsTrue (g.arrow v (child v)) × IsTrue (s (child v))
+  on_the_way s r v leads (inr c) = absurd (c.0 leads)
+  on_the_way s r v leads (inl c) =
+      let a = and_parts (g.arrow v (child v)) (s v && s (child v)) c.1.arrow in
+      (a.0, (and_parts (s v) (s (child v)) a.1).1)
 
-  outer_child : (v : ℕ) → v < 64 → has h.big.bits v ≡ true → has h.small.bits v ≡ false → IsChildInside g h v (get_or h.choice.next v 0)
-  outer_child v lt i o = go (is.outer v lt o)
-    where
-      go : IsChoiceOf g (has h.big.bits) (has h.small.bits) v (get_or h.choice.next v 0) → IsChildInside g h v (get_or h.choice.next v 0)
-      go (inr c) = absurd (c.0 (record { member = i; outside = o; reaches = sets.big_reaches v i }))
-      go (inl c) =
-          let a = and_parts (g.arrow v (get_or h.choice.next v 0)) (has h.big.bits v && has h.big.bits (get_or h.choice.next v 0)) c.1.arrow in
-          let b = and_parts (has h.big.bits v) (has h.big.bits (get_or h.choice.next v 0)) a.1 in
-          record { arrow = a.0; in_big = b.1; in_small = λ s. absurd (clash (has h.small.bits v) s o) }
+  inner_child : (v : ℕ) → v < 64 → has h.small.bits v ≡ true → has h.roots.bits v ≡ false → IsChildInside g h v (child v)
+  inner_child v lt i o =
+      let a = on_the_way (has h.small.bits) (has h.roots.bits) v (record { member = i; outside = o; reaches = sets.small_reaches v i }) (is.inner v lt i) in
+      record { arrow = a.0; in_big = sets.small_inside (child v) a.1; in_small = λ _. a.1 }
 
-  inner_none : (v : ℕ) → v < 64 → has h.small.bits v ≡ true → has h.roots.bits v ≡ true → get_or h.choice.next v 0 ≡ 64
-  inner_none v lt i r = go (is.inner v lt i)
-    where
-      go : IsChoiceOf g (has h.small.bits) (has h.roots.bits) v (get_or h.choice.next v 0) → get_or h.choice.next v 0 ≡ 64
-      go (inl c) = absurd (clash (has h.roots.bits v) r c.0.outside)
-      go (inr c) = c.1
+  outer_child : (v : ℕ) → v < 64 → has h.big.bits v ≡ true → has h.small.bits v ≡ false → IsChildInside g h v (child v)
+  outer_child v lt i o =
+      let a = on_the_way (has h.big.bits) (has h.small.bits) v (record { member = i; outside = o; reaches = sets.big_reaches v i }) (is.outer v lt o) in
+      record { arrow = a.0; in_big = a.1; in_small = λ s. absurd (clash (has h.small.bits v) s o) }
 
-  outer_none : (v : ℕ) → v < 64 → has h.small.bits v ≡ false → has h.big.bits v ≡ false → get_or h.choice.next v 0 ≡ 64
-  outer_none v lt o b = go (is.outer v lt o)
-    where
-      go : IsChoiceOf g (has h.big.bits) (has h.small.bits) v (get_or h.choice.next v 0) → get_or h.choice.next v 0 ≡ 64
-      go (inl c) = absurd (clash (has h.big.bits v) c.0.member b)
-      go (inr c) = c.1
+  -- any other vertex chooses none
+  off_the_way : (s r : ℕ → Bool) (v : ℕ) → (Leads g s r v → ⊥) → IsChoiceOf g s r v (child v) → child v ≡ 64
+  off_the_way s r v no (inl c) = absurd (no c.0)
+  off_the_way s r v no (inr c) = c.1
+
+  inner_none : (v : ℕ) → v < 64 → has h.small.bits v ≡ true → has h.roots.bits v ≡ true → child v ≡ 64
+  inner_none v lt i r = off_the_way (has h.small.bits) (has h.roots.bits) v (λ l. clash (has h.roots.bits v) r l.outside) (is.inner v lt i)
+
+  outer_none : (v : ℕ) → v < 64 → has h.small.bits v ≡ false → has h.big.bits v ≡ false → child v ≡ 64
+  outer_none v lt o b = off_the_way (has h.big.bits) (has h.small.bits) v (λ l. clash (has h.big.bits v) l.member b) (is.outer v lt o)
 
   right_choice : (v : ℕ) → v < 64 → IsRightChoice g h v
   right_choice v lt = record { chosen = λ i o. chosen i o (cases_Bool (has h.small.bits v)); none = λ n. none n (cases_Bool (has h.small.bits v)) }
     where
-      chosen : has h.big.bits v ≡ true → has h.roots.bits v ≡ false → (has h.small.bits v ≡ true) ⊎ (has h.small.bits v ≡ false) → IsChildInside g h v (get_or h.choice.next v 0)
+      chosen : has h.big.bits v ≡ true → has h.roots.bits v ≡ false → (has h.small.bits v ≡ true) ⊎ (has h.small.bits v ≡ false) → IsChildInside g h v (child v)
       chosen i o (inl s) = inner_child v lt s o
       chosen i o (inr s) = outer_child v lt i s
 
-      none : (has h.big.bits v ≡ false) ⊎ (has h.roots.bits v ≡ true) → (has h.small.bits v ≡ true) ⊎ (has h.small.bits v ≡ false) → get_or h.choice.next v 0 ≡ 64
+      none : (has h.big.bits v ≡ false) ⊎ (has h.roots.bits v ≡ true) → (has h.small.bits v ≡ true) ⊎ (has h.small.bits v ≡ false) → child v ≡ 64
       none (inl b) (inl s) = absurd (clash (has h.big.bits v) (sets.small_inside v s) b)
       none (inl b) (inr s) = outer_none v lt s b
       none (inr r) (inl s) = inner_none v lt s r

@@ -1,3 +1,4 @@
+pub mod Assembled
 pub mod GatheredFactors
 pub mod HedgeData
 pub mod Orders

@@ -1,37 +1,35 @@
 -- What the procedure answers is a right answer.
-use Rattle.std.proofs.Common.{ℕ, ◌*◌, ◌≡◌, ◌≤◌, ◌↔◌, Bool, true, false, ◌||◌, refl, sym, ap, ap₂, ◌∙◌, [], IsTrue, None, arith}
+use Rattle.std.proofs.Common.{ℕ, ◌*◌, ◌^◌, ◌≡◌, ◌<◌, ◌≤◌, ◌↔◌, Bool, true, false, ◌||◌, refl, sym, ap, ap₂, subst, ◌∙◌, List, [], length, IsTrue, arith}
 use Rattle.std.specs.Prelude.{Result, Ok, Err, IfOk}
 use mathlib.Core.Path.{fun_ext}
 use Rattle.mixed_graph.specs.Bits.{has}
-use Rattle.mixed_graph.specs.Graphs.{MixedGraph, IsMixedGraph, IsAncestor}
+use Rattle.mixed_graph.specs.Graphs.{MixedGraph, IsMixedGraph}
+use Rattle.mixed_graph.specs.Orders.{IsOrder}
 use Rattle.mixed_graph.specs.Sets.{Within, Apart}
-use Rattle.mixed_graph.proofs.Masks.{has-zero}
+use Rattle.mixed_graph.specs.declared.sets.VSet.{VSet}
+use Rattle.mixed_graph.proofs.Masks.{has-zero, some_member}
+use Rattle.districts.specs.Linked.{AreDistricts}
 use Rattle.finite_models.specs.Agreement.{AgreeObserved}
 use Rattle.finite_models.specs.Data.{meaning}
 use Rattle.finite_models.specs.Models.{FiniteModel, Fits, IsPositiveModel, weight_of}
 use Rattle.parity_models.specs.Laws.{DifferAt}
-use Rattle.prob_expr.specs.Check.{fault_in}
-use Rattle.mixed_graph.specs.Masks.{is_apart, is_below, is_empty}
-use Rattle.prob_expr.specs.Terms.{is_term, is_do_free}
+use Rattle.mixed_graph.specs.Masks.{all, is_apart, is_below, is_empty, minus}
+use Rattle.prob_expr.specs.Terms.{is_term}
 use Rattle.prob_expr.specs.Tree.{PlainFormula}
-use Rattle.prob_expr.specs.Values.{EqualsEffect}
 use Rattle.prob_expr.specs.View.{formula_view}
 use Rattle.prob_expr.proofs.Observed.{effect_is_over_total, formula_fixes_effect}
-use Rattle.do_derivation.specs.Accepts.{Accepts}
 use Rattle.do_derivation.specs.Plans.{PlainDerivation}
 use Rattle.do_derivation.specs.View.{derivation_view}
 use Rattle.do_derivation.proofs.Accepted.{accepted_is_effect}
 use Rattle.identification.proofs.Bools.{both_true, clash, not_i}
 use Rattle.identification.proofs.Sets.{below, apart, not_empty}
 use Rattle.identification.specs.Derivations.{IsDerived}
-use Rattle.identification.specs.Laws.{IsAcceptedFor}
-use Rattle.identification.specs.Procedure.{IsTarget, IsIdentified}
-use Rattle.identification_answers.specs.Names.{FormulaNamesOnly}
+use Rattle.identification.specs.Procedure.{AreAncestorsIn, IsTarget, IsUnidentified, StopsAt}
 use Rattle.hedge.specs.Hedges.{IsHedge}
 use Rattle.hedge.specs.declared.hedge.Hedge.{Hedge as HedgeData}
 use Rattle.hedge.proofs.Shaping.{sets_form_hedge}
-use Rattle.counter_models.specs.Events.{AreCounterModels}
-use Rattle.id_recursion.specs.Answers.{IsAnswerOf, IsRight, IfFormula, IfHedge, is_hedge, effect_on, AreShallowSteps, IsShallowFormula}
+use Rattle.counter_models.specs.declared.counter_pair.CounterPair.{CounterPair}
+use Rattle.id_recursion.specs.Answers.{IsAnswerOf, IsRight, IsRightFormula, IfFormula, IfHedge, is_hedge, effect_on, AreShallowSteps, IsShallowFormula}
 use Rattle.id_recursion.specs.declared.answer.Answer.{Answer}
 use Rattle.id_recursion.specs.declared.answer.Answer.TheVariants.{Formula, Hedge}
 use Rattle.identification_answers.proofs.Answered.{formula_names_ancestors, formula_is_formed, formula_is_shallow, derived_is_identified, derivation_is_accepted}
@@ -42,79 +40,76 @@ use Rattle.counter_models.proofs.HedgePair.{pair as pair_of, is_pair}
 pub target_of : (g : MixedGraph) (x y : ℕ) → Within g.vertices (has x) → Within g.vertices (has y) → Apart (has x) (has y) → (v : ℕ) × IsTrue (has y v) → IsTarget g x y
 target_of g x y x_low y_low off some = record { x_low = x_low; y_low = y_low; off = λ u i j. clash (has y u) j (off u i); some = some.0; some_in = some.1 }
 
+-- the same where y isn't empty
+pub target_from : (g : MixedGraph) (x y : ℕ) → Within g.vertices (has x) → Within g.vertices (has y) → Apart (has x) (has y) → 0 < y → y < 2 ^ 64 → IsTarget g x y
+target_from g x y x_low y_low off some fits = target_of g x y x_low y_low off (some_member y (λ e. absurd (omega (arith, e, some))) fits)
+
+-- the sets of a target are those of a term
+pub target_term : (g : MixedGraph) (x y : ℕ) → IsTarget g x y → is_term g.vertices y x 0 ≡ true
+target_term g x y target = both_true _ _ (both_true _ _ (both_true _ _ (below g.vertices y target.y_low) (both_true _ _ (below g.vertices x target.x_low) zero_low))
+    (both_true _ _ (apart y x (λ v i j. target.off v j i)) (both_true _ _ (zero_apart y) (zero_apart x)))) (not_i (is_empty y) (not_empty y target.some target.some_in))
+  where
+    zero_low : is_below g.vertices 0 ≡ true
+    zero_low = below g.vertices 0 (λ v e. absurd (clash (has 0 v) e (has-zero v)))
+
+    zero_apart : (a : ℕ) → is_apart a 0 ≡ true
+    zero_apart a = apart a 0 (λ v e i. clash (has 0 v) i (has-zero v))
+
 -- what is true of each answer is true of the answer
 pub if_ok : {A E : Type 0} (r : Result A E) (P Q : A → Type 0) → ((a : A) → P a → Q a) → IfOk r P → IfOk r Q
 if_ok (Ok a) P Q h p = h a p
 if_ok (Err e) P Q h p = p
 
+-- what is true of each formula with its derivation is true of the answer
+pub if_formula : {E : Type 0} (g : MixedGraph) (x y : ℕ) (r : Result Answer E) (P : PlainFormula → PlainDerivation → Type 0) → ((f : PlainFormula) (d : PlainDerivation) → IsDerived g x y f d → P f d)
+    → IfOk r (IsAnswerOf g x y) → IfOk r (λ a. IfFormula a P)
+if_formula g x y r P holds found = if_ok r (IsAnswerOf g x y) (λ a. IfFormula a P) each found
+  where
+    each : (a : Answer) → IsAnswerOf g x y a → IfFormula a P
+    each (Formula f d) i = holds (formula_view f) (derivation_view d) i
+    each (Hedge h pair) i = tt
+
+-- what is true of each hedge with its two models is true of the answer
+pub if_hedge : {E : Type 0} (g : MixedGraph) (x y : ℕ) (r : Result Answer E) (P : HedgeData → CounterPair → Type 0) → ((h : HedgeData) (pair : CounterPair) → IsAnswerOf g x y (Hedge h pair) → P h pair)
+    → IfOk r (IsAnswerOf g x y) → IfOk r (λ a. IfHedge a P)
+if_hedge g x y r P holds found = if_ok r (IsAnswerOf g x y) (λ a. IfHedge a P) each found
+  where
+    each : (a : Answer) → IsAnswerOf g x y a → IfHedge a P
+    each (Formula f d) i = tt
+    each (Hedge h pair) i = holds h pair i
+
+-- the formula and its derivation nest little
+pub shallow_steps : (g : MixedGraph) → IsMixedGraph g → (x y : ℕ) → IsTarget g x y → (f : PlainFormula) (d : PlainDerivation) → IsDerived g x y f d → AreShallowSteps d
+shallow_steps g valid x y target f d i = let k = derivation_is_accepted g valid x y target f d i in record { main = k.main_deep; lemmas = k.lemmas_deep }
+
+pub shallow_formula : (g : MixedGraph) (x y : ℕ) (f : PlainFormula) (d : PlainDerivation) → IsDerived g x y f d → IsShallowFormula f
+shallow_formula g x y f d i = let k = formula_is_shallow g x y f (derived_is_identified g x y f d i) in record { main = k.1; defs = k.0 }
+
+-- where the factor of a district stops, so does the procedure
+pub unidentified : (g : MixedGraph) (order ts : List ℕ) (x y d small big : ℕ) → IsOrder g order (length order) → AreAncestorsIn g (minus (all g.vertices) x) y d → AreDistricts g d 0 order ts → StopsAt g order 0 ts small big → IsUnidentified g x y small big
+unidentified g order ts x y d small big is_order is_d districts stops = record { order = order; is_order = is_order; stop = record { d = d; is_d = is_d; districts = ts; are_districts = districts; stops = stops } }
+
+-- the same of a hedge of these sets
+pub unidentified_at : (g : MixedGraph) (x y : ℕ) (small big : VSet) (h : HedgeData) → h.small ≡ small → h.big ≡ big → IsUnidentified g x y small.bits big.bits → IsUnidentified g x y h.small.bits h.big.bits
+unidentified_at g x y small big h s b u = subst (λ (z : VSet). IsUnidentified g x y z.bits h.big.bits) (sym s) (subst (λ (z : VSet). IsUnidentified g x y small.bits z.bits) (sym b) u)
+
+-- a formula with its derivation is right
+pub right_formula : (g : MixedGraph) → IsMixedGraph g → (x y : ℕ) → IsTarget g x y → (f : PlainFormula) (d : PlainDerivation) → IsDerived g x y f d → IsRightFormula g x y f d
+right_formula g valid x y target f d i =
+    let is = derived_is_identified g x y f d i in
+    let a = derivation_is_accepted g valid x y target f d i in
+    record {
+      formed = formula_is_formed g valid x y target f is;
+      do_free = a.accepted.listed;
+      names = formula_names_ancestors g valid x y target f is;
+      accepted = a.accepted;
+      effect = (accepted_is_effect g valid [] (effect_on x y) f d (target_term g x y target) a.accepted).1;
+    }
+
 module _ (g : MixedGraph) (valid : IsMixedGraph g) (few : g.vertices ≤ 64) (x y : ℕ) (target : IsTarget g x y) (off : Apart (has x) (has y)) where
-  zero_low : is_below g.vertices 0 ≡ true
-  zero_low = below g.vertices 0 (λ v e. absurd (clash (has 0 v) e (has-zero v)))
-
-  zero_apart : (a : ℕ) → is_apart a 0 ≡ true
-  zero_apart a = apart a 0 (λ v e i. clash (has 0 v) i (has-zero v))
-
-  term : is_term g.vertices y x 0 ≡ true
-  term = both_true _ _ (both_true _ _ (both_true _ _ (below g.vertices y target.y_low) (both_true _ _ (below g.vertices x target.x_low) zero_low))
-      (both_true _ _ (apart y x (λ v i j. target.off v j i)) (both_true _ _ (zero_apart y) (zero_apart x)))) (not_i (is_empty y) (not_empty y target.some target.some_in))
-
-  accepted_of : (f : PlainFormula) (d : PlainDerivation) → IsDerived g x y f d → IsAcceptedFor g x y f d
-  accepted_of f d i = derivation_is_accepted g valid x y target f d i
-
-  effect_of : (f : PlainFormula) (d : PlainDerivation) → IsDerived g x y f d → EqualsEffect g (effect_on x y) f
-  effect_of f d i = (accepted_is_effect g valid [] (effect_on x y) f d term (accepted_of f d i).accepted).1
-
-  identified : (f : PlainFormula) (d : PlainDerivation) → IsDerived g x y f d → IsIdentified g x y f
-  identified f d i = derived_is_identified g x y f d i
-
   pub right : (a : Answer) → IsAnswerOf g x y a → IsRight g x y a
-  right (Formula f d) i =
-      let is = identified (formula_view f) (derivation_view d) i in
-      let a = accepted_of (formula_view f) (derivation_view d) i in
-      record {
-        formed = formula_is_formed g valid x y target (formula_view f) is;
-        do_free = a.accepted.listed;
-        names = formula_names_ancestors g valid x y target (formula_view f) is;
-        accepted = a.accepted;
-        effect = effect_of (formula_view f) (derivation_view d) i;
-      }
+  right (Formula f d) i = right_formula g valid x y target (formula_view f) (derivation_view d) i
   right (Hedge h pair) i = record { hedge = sets_form_hedge g x y h valid few i.2; counter = counter g valid few x y h i.2 off pair i.3 }
-
-  pub derived : (a : Answer) → IsAnswerOf g x y a → IfFormula a (IsDerived g x y)
-  derived (Formula f d) i = i
-  derived (Hedge h pair) i = tt
-
-  pub accepted : (a : Answer) → IsAnswerOf g x y a → IfFormula a (Accepts g [] (effect_on x y))
-  accepted (Formula f d) i = (accepted_of (formula_view f) (derivation_view d) i).accepted
-  accepted (Hedge h pair) i = tt
-
-  pub formed : (a : Answer) → IsAnswerOf g x y a → IfFormula a (λ f d. fault_in g.vertices f ≡ None)
-  formed (Formula f d) i = formula_is_formed g valid x y target (formula_view f) (identified (formula_view f) (derivation_view d) i)
-  formed (Hedge h pair) i = tt
-
-  pub do_free : (a : Answer) → IsAnswerOf g x y a → IfFormula a (λ f d. is_do_free f ≡ true)
-  do_free (Formula f d) i = (accepted_of (formula_view f) (derivation_view d) i).accepted.listed
-  do_free (Hedge h pair) i = tt
-
-  pub names : (a : Answer) → IsAnswerOf g x y a → IfFormula a (λ f d. FormulaNamesOnly (IsAncestor g (has y)) f)
-  names (Formula f d) i = formula_names_ancestors g valid x y target (formula_view f) (identified (formula_view f) (derivation_view d) i)
-  names (Hedge h pair) i = tt
-
-  pub equals : (a : Answer) → IsAnswerOf g x y a → IfFormula a (λ f d. EqualsEffect g (effect_on x y) f)
-  equals (Formula f d) i = effect_of (formula_view f) (derivation_view d) i
-  equals (Hedge h pair) i = tt
-
-  pub shallow_steps : (a : Answer) → IsAnswerOf g x y a → IfFormula a (λ f d. AreShallowSteps d)
-  shallow_steps (Formula f d) i = let k = accepted_of (formula_view f) (derivation_view d) i in record { main = k.main_deep; lemmas = k.lemmas_deep }
-  shallow_steps (Hedge h pair) i = tt
-
-  pub shallow_formula : (a : Answer) → IsAnswerOf g x y a → IfFormula a (λ f d. IsShallowFormula f)
-  shallow_formula (Formula f d) i = let k = formula_is_shallow g x y (formula_view f) (identified (formula_view f) (derivation_view d) i) in record { main = k.1; defs = k.0 }
-  shallow_formula (Hedge h pair) i = tt
-
-  pub counters : (a : Answer) → IsAnswerOf g x y a → IfHedge a (λ h pair. AreCounterModels g x y pair)
-  counters (Formula f d) i = tt
-  counters (Hedge h pair) i = counter g valid few x y h i.2 off pair i.3
 
   -- ---- a formula and two such models never exist together
   top_of : (m : FiniteModel) (s : ℕ → ℕ) → weight_of m (has x) (λ v. has y v || has 0 v) s ≡ weight_of m (has x) (has y) s
@@ -126,7 +121,8 @@ module _ (g : MixedGraph) (valid : IsMixedGraph g) (few : g.vertices ≤ 64) (x 
   models_agree : (f : PlainFormula) (d : PlainDerivation) → IsDerived g x y f d → (one two : FiniteModel) → Fits g one → Fits g two → IsPositiveModel one → IsPositiveModel two → AgreeObserved one two → DifferAt one two (has x) (has y) → ⊥
   models_agree f d i one two fit_first fit_second pos_first pos_second same differ =
       let s = differ.at in
-      let e = formula_fixes_effect g valid (effect_on x y) f (accepted_of f d i).accepted.listed (effect_of f d i) one two fit_first fit_second pos_first pos_second same s differ.within in
+      let is = right_formula g valid x y target f d i in
+      let e = formula_fixes_effect g valid (effect_on x y) f is.do_free is.effect one two fit_first fit_second pos_first pos_second same s differ.within in
       differ.unequal (sym (ap₂ (λ p q. p * q) (top_of one s) (effect_is_over_total two (effect_on x y) s refl)) ∙ e.products ∙ ap₂ (λ p q. p * q) (top_of two s) (effect_is_over_total one (effect_on x y) s refl))
 
   never_both : (f : PlainFormula) (d : PlainDerivation) → IsDerived g x y f d → (h : HedgeData) → IsHedge g x y h → ⊥

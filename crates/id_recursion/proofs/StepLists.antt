@@ -1,14 +1,14 @@
--- Lists of steps that grow at their end, read with what comes after them.
-use Rattle.std.proofs.Common.{ℕ, suc, ◌+◌, ◌≡◌, ◌<◌, ◌≤◌, Bool, true, false, cond, leb, refl, sym, ap, ap₂, ◌∙◌, List, [], ◌∷◌, ◌++◌, length, take, map, All, rules, arith, le-leb}
+-- The districts, the orders and the steps of main, as derivations have them.
+use Rattle.std.proofs.Common.{ℕ, suc, ◌≡◌, ◌≤◌, Bool, true, false, cond, leb, refl, sym, ap, ap₂, ◌∙◌, List, [], ◌∷◌, length, take, map, All, arith, le-leb}
 use Rattle.std.proofs.lemmas.List.{take-map}
 use Rattle.std.proofs.lemmas.List.Elements.{All-nil, All-cons}
 use Rattle.mixed_graph.specs.Bits.{has}
-use Rattle.std.specs.Global.{Vec, Box}
+use Rattle.std.specs.Global.{Vec}
 use Rattle.mixed_graph.specs.declared.sets.VSet.{VSet}
 use Rattle.do_derivation.specs.Plans.{Move, Plan, Plans, no_plans, plan}
 use Rattle.do_derivation.specs.Shapes.{flat}
 use Rattle.do_derivation.specs.View.{step_view, steps_view}
-use Rattle.do_derivation.specs.declared.steps.Step.{Step, the_lemmas, At, Then, Rule2Do, Rule3In, Widen}
+use Rattle.do_derivation.specs.declared.steps.Step.{Step, Rule2Do, Rule3In, Widen}
 use Rattle.do_derivation.proofs.StepViews.{step-Rule2Do, step-Rule3In, step-Widen}
 use Rattle.districts.specs.Listed.{first_masks}
 use Rattle.mixed_graph.specs.Masks.{minus, all, is_empty, common}
@@ -16,48 +16,8 @@ use Rattle.prob_expr.specs.Tree.{Trees, product}
 use Rattle.prob_expr.specs.View.{view, views}
 use Rattle.prob_expr.specs.declared.expr.Expr.{Expr}
 use Rattle.identification.specs.Procedure.{product_of}
-use Rattle.identification.specs.Derivations.{Lists, no_more, more, single, with_set, at_place, at_each, at_zero, in_order, two_or_more, unchain_steps, unwrap_steps, home_list, home_lists, group_steps, district_steps, main_steps}
-use Rattle.id_recursion.specs.Lists.{onto, lists_onto, lists_view}
-
--- a step at a place is seen as the plan of that step, at the same place
-pub step-At : (i : ℕ) (b : Box Step) → step_view (At i b) ≡ Plan.At i (step_view b.value)
-step-At i b = search (rules, the_lemmas)
-
--- steps one after the other are seen as their plans one after the other
-pub step-Then : (l : Vec Step) → step_view (Then l) ≡ Plan.Then (steps_view l.items)
-step-Then l = search (rules, the_lemmas)
-
--- a step behind the others stands in front of the rest
-pub onto_more : (l : List Step) (s : Step) (rest : Plans) → onto (l ++ s ∷ []) rest ≡ onto l (plan (step_view s) rest)
-onto_more [] s rest = refl
-onto_more (t ∷ l) s rest = ap (λ p. plan (step_view t) p) (onto_more l s rest)
-
--- two lists of steps before the rest are the first before what the second and the rest give
-pub onto_append : (l m : List Step) (rest : Plans) → onto (l ++ m) rest ≡ onto l (onto m rest)
-onto_append [] m rest = refl
-onto_append (t ∷ l) m rest = ap (λ p. plan (step_view t) p) (onto_append l m rest)
-
--- steps with nothing behind them are the plans of the steps alone
-pub onto_nothing : (l : List Step) → onto l no_plans ≡ steps_view l
-onto_nothing [] = refl
-onto_nothing (t ∷ l) = ap (λ p. plan (step_view t) p) (onto_nothing l)
-
--- a list of steps behind the others stands in front of the rest
-pub lists_more : (ls : List (Vec Step)) (l : Vec Step) (rest : Lists) → lists_onto (ls ++ l ∷ []) rest ≡ lists_onto ls (more (steps_view l.items) rest)
-lists_more [] l rest = refl
-lists_more (k ∷ ls) l rest = ap (λ r. more (steps_view k.items) r) (lists_more ls l rest)
-
--- a further list stands at the place that its number gives
-pub at_each_more : (ls : List (Vec Step)) (l : Vec Step) (i : ℕ) (rest : Plans)
-    → at_each i (lists_view (ls ++ l ∷ [])) rest ≡ at_each i (lists_view ls) (at_place (i + length ls) (steps_view l.items) rest)
-at_each_more [] l i rest = ap (λ k. at_place k (steps_view l.items) rest) {x = i} {y = i + length (let e : List (Vec Step) = [] in e)} (omega arith)
-at_each_more (k ∷ ls) l i rest =
-    ap (λ p. at_place i (steps_view k.items) p) (at_each_more ls l (suc i) rest ∙ ap (λ n. at_each (suc i) (lists_view ls) (at_place n (steps_view l.items) rest)) (omega arith))
-
--- a list that isn't empty stands at its place
-pub at_place_there : (i : ℕ) (l : List Step) (rest : Plans) → (length l ≡ 0 → ⊥) → at_place i (steps_view l) rest ≡ plan (Plan.At i (Plan.Then (steps_view l))) rest
-at_place_there i [] rest some = absurd (some refl)
-at_place_there i (s ∷ l) rest some = refl
+use Rattle.identification.specs.Derivations.{Lists, single, with_set, at_place, at_each, at_zero, in_order, two_or_more, unchain_steps, unwrap_steps, home_list, home_lists, group_steps, district_steps, main_steps}
+use Rattle.district_factors.specs.Lists.{lists_view}
 
 -- ---- the sets of districts
 pub masks_taken : (sets : List VSet) (n : ℕ) → first_masks sets n ≡ map (λ (s : VSet). s.bits) (take n sets)

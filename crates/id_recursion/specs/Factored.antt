@@ -1,5 +1,5 @@
 -- What the factors of the districts have to be, and where one stops.
-use Rattle.std.specs.Prelude.{ℕ, ◌≡◌, ◌≤◌, ◌*◌, List, [], ◌∷◌, ◌++◌, length, map}
+use Rattle.std.specs.Prelude.{ℕ, ◌≡◌, ◌≤◌, ◌*◌, List, [], ◌∷◌, ◌++◌, length, map, Result, Ok, Err}
 use Rattle.mixed_graph.specs.Graphs.{MixedGraph}
 use Rattle.mixed_graph.specs.Masks.{minus}
 use Rattle.prob_expr.specs.Tree.{PlainFormula}
@@ -12,7 +12,7 @@ use Rattle.mixed_graph.specs.declared.sets.VSet.{VSet}
 use Rattle.district_factors.specs.declared.district_factor.Factor.{Factor}
 use Rattle.district_factors.specs.declared.district_factor.FactorFault.{FactorFault}
 use Rattle.district_factors.specs.declared.district_factor.FactorFault.TheVariants as faults
-use Rattle.id_recursion.specs.Lists.{lists_view}
+use Rattle.district_factors.specs.Lists.{lists_view}
 use Rattle.id_recursion.specs.declared.answer.Factors.{Factors}
 use Rattle.id_recursion.specs.declared.answer.Stop.{Stop}
 use Rattle.id_recursion.specs.declared.answer.Stop.TheVariants.{At, NoMemory}
@@ -24,10 +24,14 @@ pub record AreFactorsOf (g : MixedGraph) (order : List ℕ) (districts : List �
   pub counted : length f.lists.items ≡ length districts
   pub few : length f.defs.items ≤ 64 * length districts
 
+-- the district at which a procedure stops, and where, by its relation: number of the first definition, districts, small and big
+abbrev pub IsStopBy : (ℕ → List ℕ → ℕ → ℕ → Type 0) → (districts : List ℕ) → Stop → Type 0
+IsStopBy stops districts (At small big) = stops 0 districts small.bits big.bits
+IsStopBy stops districts NoMemory = Unit {0}
+
 -- the first district whose factor stops, and where
 abbrev pub IsStopOf : MixedGraph → (order : List ℕ) → (districts : List ℕ) → Stop → Type 0
-IsStopOf g order districts (At small big) = StopsAt g order 0 districts small.bits big.bits
-IsStopOf g order districts NoMemory = Unit {0}
+IsStopOf g order districts stop = IsStopBy (StopsAt g order) districts stop
 
 -- the factor of one more district behind the others
 pub record AreWithMore (old : Factors) (more : Factor) (new : Factors) : Type 0 where
@@ -40,6 +44,16 @@ pub record AreWithMore (old : Factors) (more : Factor) (new : Factors) : Type 0 
 abbrev pub stop_for : VSet → FactorFault → Stop
 stop_for c (faults.Stopped big) = At c big
 stop_for c faults.NoMemory = NoMemory
+
+-- the factor that was found stands behind the others
+abbrev pub IsAdded : Result Factor FactorFault → (old new : Factors) → Type 0
+IsAdded (Ok more) old new = AreWithMore old more new
+IsAdded (Err fault) old new = ⊥
+
+-- why it doesn't: want of memory, or what was found for c is a fault
+abbrev pub IsStopFor : VSet → Result Factor FactorFault → Stop → Type 0
+IsStopFor c (Ok more) stop = stop ≡ NoMemory
+IsStopFor c (Err fault) stop = stop ≡ stop_for c fault
 
 -- The formula of these factors of the districts, with d the ancestors of y once x is left out: their product, summed down to y. Its derivation goes to each district, and then by the steps of each.
 pub record AreAssembled (n : ℕ) (order districts : List ℕ) (x y d : ℕ) (made : Factors) (f : PlainFormula) (t : PlainDerivation) : Type 0 where

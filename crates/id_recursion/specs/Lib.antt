@@ -1,4 +1,3 @@
 pub mod Answers
 pub mod Factored
 pub mod Hedged
-pub mod Lists

@@ -1,11 +1,10 @@
-//! The expression of main: the product of the factors, summed down to the effect.
+//! The product of the factors of the districts.
 
 ghost use Rattle.std.specs.Prelude.{◌≡◌, IfOk};
 ghost use Rattle.prob_expr.specs.View.{view, views};
-ghost use Rattle.identification.specs.Procedure.{sum_if, product_of};
+ghost use Rattle.identification.specs.Procedure.{product_of};
 
 use do_derivation::flat;
-use mixed_graph::VSet;
 use prob_expr::Expr;
 use std::alloc::{AllocError, Global};
 
@@ -21,15 +20,4 @@ pub fn product_of(alloc: Global, factors: Vec<Expr>) -> Result<Expr, AllocError>
         Some(factor) => Ok(factor),
         None => unreachable!(),
     }
-}
-
-/// The sum over a set, where it isn't empty.
-pub fn sum_if(alloc: Global, over: VSet, body: Expr) -> Result<Expr, AllocError>
-    ensures { IfOk result (λ e. view e ≡ sum_if over.bits (view body)) }
-{
-    if over.is_empty() {
-        return Ok(body);
-    }
-    let body = Box::new(alloc, body)?;
-    Ok(Expr::Sum { over, body })
 }

@@ -1,6 +1,6 @@
 //! The factors of all districts, one after the other, until one stops.
 
-ghost use Rattle.std.specs.Prelude.{◌≡◌, ◌+◌, ◌*◌, ◌<◌, ◌^◌, ℕ, IsTrue, OnOk, MatchResult, ◌++◌, [], ◌∷◌, length, All};
+ghost use Rattle.std.specs.Prelude.{◌≡◌, ◌+◌, ◌*◌, ◌<◌, ◌^◌, ℕ, IsTrue, IfErr, OnOk, MatchResult, ◌++◌, [], ◌∷◌, length, All};
 ghost use Rattle.mixed_graph.specs.Bits.{has};
 ghost use Rattle.mixed_graph.specs.Orders.{IsOrder};
 ghost use Rattle.mixed_graph.specs.Sets.{Within};
@@ -8,7 +8,7 @@ ghost use Rattle.mixed_graph.specs.Shown.{graph_of};
 ghost use Rattle.districts.specs.Linked.{IsMaximalJoined};
 ghost use Rattle.districts.specs.Listed.{first_masks};
 ghost use Rattle.do_derivation.specs.View.{listed};
-ghost use Rattle.id_recursion.specs.Factored.{AreFactorsOf, IsStopOf, AreWithMore, stop_for};
+ghost use Rattle.id_recursion.specs.Factored.{AreFactorsOf, IsStopOf, IsAdded, IsStopFor, AreWithMore, stop_for};
 
 use crate::answer::{Factors, Stop};
 use district_factors::{Factor, FactorFault, factor};
@@ -16,8 +16,23 @@ use districts::Districts;
 use mixed_graph::{Graph, Order, VSet};
 use std::alloc::{AllocError, Global};
 
+/// No factor yet.
+pub fn no_factors(alloc: Global) -> Factors
+    ensures defs { result.defs.items ≡ [] }
+    ensures lemmas { result.lemmas.items ≡ [] }
+    ensures values { result.values.items ≡ [] }
+    ensures lists { result.lists.items ≡ [] }
+{
+    Factors {
+        defs: Vec::new(alloc),
+        lemmas: Vec::new(alloc),
+        values: Vec::new(alloc),
+        lists: Vec::new(alloc),
+    }
+}
+
 /// Adds the factor of one more district.
-pub fn add_factor(made: &mut Factors, more: Factor) -> Result<(), AllocError>
+fn add_factor(made: &mut Factors, more: Factor) -> Result<(), AllocError>
     ensures { OnOk result (AreWithMore made.old more made.new) }
 {
     let Factor {
@@ -45,6 +60,20 @@ fn stop_for(c: VSet, fault: FactorFault) -> Stop
     }
 }
 
+/// Adds the factor of c, where one was found; else says why there are no factors.
+pub fn add_found(made: &mut Factors, c: VSet, found: Result<Factor, FactorFault>) -> Result<(), Stop>
+    ensures added { OnOk result (IsAdded found made.old made.new) }
+    ensures stop { IfErr result (IsStopFor c found) }
+{
+    match found {
+        Ok(more) => match add_factor(made, more) {
+            Ok(()) => Ok(()),
+            Err(_) => Err(Stop::NoMemory),
+        },
+        Err(fault) => Err(stop_for(c, fault)),
+    }
+}
+
 /// The factors of the districts of d in turn; or the first district whose factor stops.
 pub fn factors(
     alloc: Global,
@@ -59,20 +88,12 @@ pub fn factors(
     ensures { MatchResult result (AreFactorsOf (graph_of g.now) (listed order.now) (first_masks parts.now.sets parts.now.count))
         (IsStopOf (graph_of g.now) (listed order.now) (first_masks parts.now.sets parts.now.count)) }
 {
-    let mut made = Factors {
-        defs: Vec::new(alloc),
-        lemmas: Vec::new(alloc),
-        values: Vec::new(alloc),
-        lists: Vec::new(alloc),
-    };
+    let mut made = no_factors(alloc);
     for c in &parts.sets[..parts.count as usize] {
-        let more = match factor(alloc, g, order, *c, made.defs.len() as u32) {
-            Ok(more) => more,
-            Err(fault) => return Err(stop_for(*c, fault)),
-        };
-        match add_factor(&mut made, more) {
+        let found = factor(alloc, g, order, *c, made.defs.len() as u32);
+        match add_found(&mut made, *c, found) {
             Ok(()) => {}
-            Err(_) => return Err(Stop::NoMemory),
+            Err(stop) => return Err(stop),
         }
     }
     Ok(made)

@@ -5,9 +5,9 @@ ghost use Rattle.districts.specs.Listed.{first_masks};
 ghost use Rattle.do_derivation.specs.Plans.{Plans};
 ghost use Rattle.do_derivation.specs.View.{steps_view, listed, numbers_of};
 ghost use Rattle.identification.specs.Derivations.{in_order, places, group_lists, two_or_more, has_pair, unchain_steps, unchain_lists, group_steps};
-ghost use Rattle.id_recursion.specs.Lists.{onto, lists_view};
+ghost use Rattle.district_factors.specs.Lists.{onto, lists_view};
 
-use crate::pushing::push_each;
+use district_factors::{members_in, push_each};
 use districts::Districts;
 use do_derivation::Step;
 use mixed_graph::{Order, VSet};
@@ -19,18 +19,7 @@ pub fn in_order(order: &Order, t: VSet) -> Order
     ensures members { listed result ≡ in_order t.bits (listed order.now) }
     ensures count { length (listed result) ≡ result.count }
 {
-    let mut list = [0u8; 64];
-    let mut count = 0usize;
-    for v in &order.list[..order.count as usize] {
-        if t.has(*v) {
-            list[count] = *v;
-            count += 1;
-        }
-    }
-    Order {
-        list,
-        count: count as u32,
-    }
+    members_in(&order.list[..order.count as usize], t)
 }
 
 /// Whether t has two members in the order.

@@ -5,9 +5,9 @@ ghost use Rattle.mixed_graph.specs.Bits.{has};
 ghost use Rattle.districts.specs.Listed.{first_masks};
 ghost use Rattle.do_derivation.specs.View.{steps_view, listed};
 ghost use Rattle.identification.specs.Derivations.{in_order, home, home_list, home_lists, Lists, more};
-ghost use Rattle.id_recursion.specs.Lists.{lists_onto, lists_view};
+ghost use Rattle.district_factors.specs.Lists.{lists_onto, lists_view};
 
-use crate::pushing::push_with;
+use district_factors::push_with;
 use districts::Districts;
 use do_derivation::Step;
 use mixed_graph::{Order, VSet};

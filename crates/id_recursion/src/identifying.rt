@@ -27,8 +27,8 @@ ghost use Rattle.id_recursion.specs.Answers.{IsAnswerOf, IsRight, IfFormula, IfH
 
 use crate::answer::{Answer, Stop};
 use crate::gathering::factors;
-use crate::mains::composed;
-use crate::stops::stopped;
+use crate::mains::assembled;
+use crate::stops::hedge_of;
 use districts::districts;
 use do_derivation::{Derivation, Step};
 use mixed_graph::{Graph, Order, VSet};
@@ -91,11 +91,11 @@ fn answer(alloc: Global, g: &Graph, x: VSet, y: VSet) -> Result<Answer, AllocErr
     let parts = districts(g, d);
     match factors(alloc, g, &order, d, &parts) {
         Ok(made) => {
-            let (formula, derivation) = composed(alloc, g, x, y, d, &order, &parts, made)?;
+            let (formula, derivation) = assembled(alloc, g, x, y, d, &order, &parts, made)?;
             Ok(Answer::Formula(formula, derivation))
         }
         Err(Stop::At { small, big }) => {
-            let (hedge, pair) = stopped(alloc, g, x, y, small, big)?;
+            let (hedge, pair) = hedge_of(alloc, g, x, y, small, big)?;
             Ok(Answer::Hedge(hedge, pair))
         }
         Err(Stop::NoMemory) => Err(AllocError),

@@ -12,11 +12,10 @@ mod groups;
 mod homes;
 mod identifying;
 mod mains;
-mod pushing;
 mod stops;
 
 pub use answer::{Answer, Factors, Stop};
-pub use gathering::add_factor;
+pub use gathering::{add_found, no_factors};
 pub use identifying::{ancestors_outside, identify, observed, order_of};
 pub use mains::assembled;
 pub use stops::hedge_of;

@@ -1,26 +1,23 @@
 //! The steps of main, from P(y | do(x)) to the formula's main expression.
 
-ghost use Rattle.std.specs.Prelude.{◌≡◌, ℕ, ◌*◌, ◌<◌, ◌≤◌, IfOk, OnOk, length, All};
+ghost use Rattle.std.specs.Prelude.{◌≡◌, ℕ, ◌<◌, ◌≤◌, IfOk, OnOk, length, All};
 ghost use Rattle.mixed_graph.specs.Orders.{IsOrder};
 ghost use Rattle.mixed_graph.specs.Shown.{graph_of};
-ghost use Rattle.districts.specs.Linked.{AreDistricts};
 ghost use Rattle.districts.specs.Listed.{first_masks};
-ghost use Rattle.mixed_graph.specs.Masks.{minus, all};
 ghost use Rattle.prob_expr.specs.Tree.{Trees};
 ghost use Rattle.prob_expr.specs.View.{formula_view};
 ghost use Rattle.do_derivation.specs.Plans.{Plans, no_plans};
 ghost use Rattle.do_derivation.specs.Shapes.{has_product};
 ghost use Rattle.do_derivation.specs.View.{steps_view, listed, derivation_view};
-ghost use Rattle.identification.specs.Procedure.{AreAncestorsIn};
-ghost use Rattle.identification.specs.Derivations.{unwrap_steps, district_steps, main_steps, IsComposedWith};
-ghost use Rattle.id_recursion.specs.Lists.{onto, lists_view};
-ghost use Rattle.id_recursion.specs.Factored.{AreAssembled, AreFactorsOf};
+ghost use Rattle.identification.specs.Derivations.{unwrap_steps, district_steps, main_steps};
+ghost use Rattle.district_factors.specs.Lists.{onto, lists_view};
+ghost use Rattle.id_recursion.specs.Factored.{AreAssembled};
 
 use crate::answer::Factors;
-use crate::expressions::{product_of, sum_if};
+use crate::expressions::product_of;
 use crate::groups::{in_order, push_groups};
 use crate::homes::home_lists;
-use crate::pushing::{push_at, push_each, push_with};
+use district_factors::{push_at, push_each, push_with, sum_if};
 use districts::Districts;
 use do_derivation::{Derivation, Step, has_product};
 use mixed_graph::{Graph, Order, VSet};
@@ -124,25 +121,4 @@ pub fn assembled(
         main: Step::Then(steps),
     };
     Ok((formula, derivation))
-}
-
-/// The formula with its derivation, where d are the ancestors of y once x is left out, and these the factors of its districts.
-pub fn composed(
-    alloc: Global,
-    g: &Graph,
-    x: VSet,
-    y: VSet,
-    d: VSet,
-    order: &Order,
-    parts: &Districts,
-    made: Factors,
-) -> Result<(Formula, Derivation), AllocError>
-    requires order { IsOrder (graph_of g.now) order.now.list order.now.count }
-    requires ancestors { AreAncestorsIn (graph_of g.now) (minus (all g.now.n) x.bits) y.bits d.bits }
-    requires districts { AreDistricts (graph_of g.now) d.bits 0 (listed order.now) (first_masks parts.now.sets parts.now.count) }
-    requires factors { AreFactorsOf (graph_of g.now) (listed order.now) (first_masks parts.now.sets parts.now.count) made }
-    ensures composed { IfOk result (λ p. IsComposedWith (graph_of g.now) (listed order.now) x.bits y.bits (formula_view p.0) (derivation_view p.1)) }
-    ensures few { IfOk result (λ p. length (formula_view p.0).defs ≤ 64 * length (first_masks parts.now.sets parts.now.count)) }
-{
-    assembled(alloc, g, x, y, d, order, parts, made)
 }

@@ -8,7 +8,6 @@ ghost use Rattle.districts.specs.Linked.{IsInside, IsJoinedSet};
 ghost use Rattle.districts.specs.Nearest.{IsChoiceOf};
 ghost use Rattle.hedge.specs.Hedges.{IsHedge};
 ghost use Rattle.hedge.specs.Shapes.{AreSetsOfHedge};
-ghost use Rattle.identification.specs.Procedure.{IsUnidentified};
 ghost use Rattle.identification_answers.specs.Laws.{AreRoots};
 ghost use Rattle.counter_models.specs.Pairs.{IsPairOf};
 ghost use Rattle.id_recursion.specs.Hedged.{IsHedgeOf};
@@ -105,26 +104,4 @@ pub fn hedge_of(
     let hedge = hedge_at(g, small, big, roots);
     let pair = build(alloc, g, x, y, &hedge)?;
     Ok((hedge, pair))
-}
-
-/// The hedge for the effect of x on y at which the procedure stops, and its two models.
-pub fn stopped(
-    alloc: Global,
-    g: &Graph,
-    x: VSet,
-    y: VSet,
-    small: VSet,
-    big: VSet,
-) -> Result<(Hedge, CounterPair), AllocError>
-    requires x_within { Within g.now.n (has x.bits) }
-    requires y_within { Within g.now.n (has y.bits) }
-    requires apart { Apart (has x.bits) (has y.bits) }
-    requires some { 0 < y.bits }
-    requires stop { IsUnidentified (graph_of g.now) x.bits y.bits small.bits big.bits }
-    ensures stop { IfOk result (λ p. IsUnidentified (graph_of g.now) x.bits y.bits p.0.small.bits p.0.big.bits) }
-    ensures data { IfOk result (λ p. IsHedgeOf (graph_of g.now) p.0) }
-    ensures hedge { IfOk result (λ p. IsHedge (graph_of g.now) x.bits y.bits p.0) }
-    ensures pair { IfOk result (λ p. IsPairOf (graph_of g.now) x.bits y.bits p.0 p.1) }
-{
-    hedge_of(alloc, g, x, y, small, big)
 }

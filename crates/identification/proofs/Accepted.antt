@@ -17,7 +17,7 @@ use Rattle.identification.proofs.Body.{order_in}
 use Rattle.identification.proofs.Bools.{and_l, and_r, both_true, clash, not_e, not_i}
 use Rattle.identification.proofs.Chain.{new_set}
 use Rattle.identification.proofs.Factor.{IsStage, Factored, factored, AllCited, sum_at, ancestors_in}
-use Rattle.identification.proofs.Groups.{Among, count, IsPart, AreParts, are_parts, once, in_list, homed, by_district, is_grouped, groups_are, count-homed, once_at, EachOnce, each_listed, among_in_order}
+use Rattle.identification.proofs.Groups.{Among, count, IsPart, AreParts, are_parts, once, in_list, homed, by_district, is_grouped, groups_are, count-homed, once_at, EachOnce, each_listed, among_in_order, common-none}
 use Rattle.identification.proofs.Nesting.{steps_more, with_deep, place_at, each_at, are_lists_to, lemmas_append}
 use Rattle.identification.proofs.Orders.{IsOrderFrom}
 use Rattle.identification.proofs.Places.{made_if, cut_three, made_with}
@@ -178,6 +178,32 @@ module _ (g : MixedGraph) (is_graph : IsMixedGraph g) (o : List ℕ) (order : Is
       after : Plans
       after = plan (Plan.Make (Move.Group (group_lists (t ∷ s ∷ ts) (in_order d o)))) (at_each 0 (unchain_lists (t ∷ s ∷ ts) (in_order d o)) (at_each 0 xs (unwrap_steps fs)))
 
+  -- from P(d | do(the rest)) to the chain of d, with each vertex at its district
+  pub chain_made : (ls : List ℕ) (t s : ℕ) (ts : List ℕ) (rest : Plans) (e : Tree) → AreDistricts g d 0 o (t ∷ s ∷ ts) → MakesAll g ls rest (product (homed g.vertices (t ∷ s ∷ ts) 0 (in_order d o))) e
+      → MakesAll g ls (plan (Plan.Make (Move.Chain (in_order d o))) (at_each 0 (home_lists d (t ∷ s ∷ ts) 0 o) rest)) (prob d (minus (all g.vertices) d) 0) e
+  chain_made ls t s ts rest e r h = (
+    product (chained outer 0 l),
+    made_if g (leb 2 (length l) && is_list_of l d) (Row.Make (product (chained outer 0 l))) BadOrder (product (chained outer 0 l))
+        (both_true (leb 2 (length l)) (is_list_of l d) (le-leb 2 (length l) (two_long t s ts l parts (λ u i. among_in_order d u o i (in_all u i)) each)) (listed g is_graph o order d low d d_part)) refl,
+    each_made g ls (home_lists d all_ts 0 o) (chained outer 0 l) (homed g.vertices all_ts 0 l) rest e
+        (each_homed g is_graph o order d low ls all_ts 0 0 0 o parts (λ u i m. once g is_graph d o all_ts r u i m) (common-none d) (common-none d) (λ w u b i. absurd (clash (has 0 u) i (has-zero u))) order) h,
+  )
+    where
+      all_ts : List ℕ
+      all_ts = t ∷ s ∷ ts
+
+      outer : ℕ
+      outer = minus (all g.vertices) d
+
+      l : List ℕ
+      l = in_order d o
+
+      parts : AreParts g d (t ∷ s ∷ ts)
+      parts = are_parts g is_graph d 0 o (t ∷ s ∷ ts) r
+
+      each : EachOnce (t ∷ s ∷ ts) (in_order d o)
+      each = each_listed d (t ∷ s ∷ ts) o (λ u i m. once g is_graph d o (t ∷ s ∷ ts) r u i m)
+
   -- from P(d | do(the rest)) to the product of the factors
   pub rest_made : (ls ts : List ℕ) (xs : Lists) (fs : Trees) → AreDistricts g d 0 o ts → EachMade g ls xs (starts g.vertices ts) fs → MakesAll g ls (rest_steps o d ts xs fs) (prob d (minus (all g.vertices) d) 0) (product_of fs)
   rest_made ls [] xs fs r h = absurd (let c : 0 ≡ 1 = once g is_graph d o [] r some some_in (in_all some some_in) in omega (arith, c))
@@ -203,47 +229,29 @@ module _ (g : MixedGraph) (is_graph : IsMixedGraph g) (o : List ℕ) (order : Is
   rest_made ls (t ∷ []) (more l (more l2 xs)) (tree e fs) r h = absurd h.1
   rest_made ls (t ∷ []) (more l (more l2 xs)) no_trees r h = absurd h
   rest_made ls (t ∷ []) no_more fs r h = absurd h
-  rest_made ls (t ∷ s ∷ ts) xs fs r h = (
-    product (chained outer 0 l),
-    made_if g (leb 2 (length l) && is_list_of l d) (Row.Make (product (chained outer 0 l))) BadOrder (product (chained outer 0 l))
-        (both_true (leb 2 (length l)) (is_list_of l d) (le-leb 2 (length l) (two_long t s ts l parts (λ u i. among_in_order d u o i (in_all u i)) each)) (listed g is_graph o order d low d d_part)) refl,
-    each_made g ls (home_lists d all_ts 0 o) (chained outer 0 l) (homed g.vertices all_ts 0 l) after_homes (product_of fs)
-        (each_homed g is_graph o order d low ls all_ts 0 0 0 o parts (λ u i m. once g is_graph d o all_ts r u i m) zero_common zero_common (λ w u b i. absurd (clash (has 0 u) i (has-zero u))) order) (
-          product (by_district g.vertices all_ts l),
-          made_option g (grouped (group_lists all_ts l) (product (homed g.vertices all_ts 0 l))) (product (by_district g.vertices all_ts l)) Grouping
-              (if_true (is_grouping (count_factors (homed g.vertices all_ts 0 l)) (group_lists all_ts l)) (product (groups_of (homed g.vertices all_ts 0 l) (group_lists all_ts l)))
-              (subst (λ z. is_grouping z (group_lists all_ts l) ≡ true) (sym (count-homed g.vertices all_ts 0 l))
-              (is_grouped g d all_ts l parts (λ u i. among_in_order d u o i (in_all u i)) (λ i q. once_at all_ts l i each q) (omega arith)))
-              ∙ ap (λ z. Some (product z)) (groups_are g.vertices all_ts l each)),
-          each_made g ls (unchain_lists all_ts l) (by_district g.vertices all_ts l) (starts g.vertices all_ts) (at_each 0 xs (unwrap_steps fs)) (product_of fs) (each_unchained g is_graph o order d low ls all_ts parts)
-              (each_made g ls xs (starts g.vertices all_ts) fs (unwrap_steps fs) (product_of fs) h
-              (subst (λ z. MakesAll g ls (unwrap_steps fs) (product fs) z) (sym (product_is ls xs t s ts fs h)) (unwrap_made g ls fs))),
-        ),
+  rest_made ls (t ∷ s ∷ ts) xs fs r h = chain_made ls t s ts after_homes (product_of fs) r (
+    product (by_district g.vertices all_ts l),
+    made_option g (grouped (group_lists all_ts l) (product (homed g.vertices all_ts 0 l))) (product (by_district g.vertices all_ts l)) Grouping
+        (if_true (is_grouping (count_factors (homed g.vertices all_ts 0 l)) (group_lists all_ts l)) (product (groups_of (homed g.vertices all_ts 0 l) (group_lists all_ts l)))
+        (subst (λ z. is_grouping z (group_lists all_ts l) ≡ true) (sym (count-homed g.vertices all_ts 0 l))
+        (is_grouped g d all_ts l parts (λ u i. among_in_order d u o i (in_all u i)) (λ i q. once_at all_ts l i each q) (omega arith)))
+        ∙ ap (λ z. Some (product z)) (groups_are g.vertices all_ts l each)),
+    each_made g ls (unchain_lists all_ts l) (by_district g.vertices all_ts l) (starts g.vertices all_ts) (at_each 0 xs (unwrap_steps fs)) (product_of fs) (each_unchained g is_graph o order d low ls all_ts parts)
+        (each_made g ls xs (starts g.vertices all_ts) fs (unwrap_steps fs) (product_of fs) h
+        (subst (λ z. MakesAll g ls (unwrap_steps fs) (product fs) z) (sym (product_is ls xs t s ts fs h)) (unwrap_made g ls fs))),
   )
     where
       all_ts : List ℕ
       all_ts = t ∷ s ∷ ts
 
-      outer : ℕ
-      outer = minus (all g.vertices) d
-
       l : List ℕ
       l = in_order d o
 
-      parts : AreParts g d (t ∷ s ∷ ts)
-      parts = are_parts g is_graph d 0 o (t ∷ s ∷ ts) r
+      parts : AreParts g d all_ts
+      parts = are_parts g is_graph d 0 o all_ts r
 
-      each : EachOnce (t ∷ s ∷ ts) (in_order d o)
-      each = each_listed d (t ∷ s ∷ ts) o (λ u i m. once g is_graph d o (t ∷ s ∷ ts) r u i m)
-
-      zero_common : 0 ≡ common d 0
-      zero_common = same_from_has 0 (common d 0) (λ u. sym (has-and d 0 u ∙ rw (has-zero u) (bools (has d u))) ∙ has-zero-refl u)
-        where
-          bools : (x : Bool) → (x && false) ≡ false
-          bools x = grind arith
-
-          has-zero-refl : (u : ℕ) → has (common d 0) u ≡ has (common d 0) u
-          has-zero-refl u = refl
+      each : EachOnce all_ts l
+      each = each_listed d all_ts o (λ u i m. once g is_graph d o all_ts r u i m)
 
       after_homes : Plans
       after_homes = plan (Plan.Make (Move.Group (group_lists (t ∷ s ∷ ts) (in_order d o)))) (at_each 0 (unchain_lists (t ∷ s ∷ ts) (in_order d o)) (at_each 0 xs (unwrap_steps fs)))

@@ -8,14 +8,14 @@ use Rattle.do_derivation.specs.Steps.{IsMade, Makes, MakesAll}
 use Rattle.do_derivation.specs.Table.{if_made}
 use Rattle.do_derivation.specs.declared.faults.StepFault.TheVariants.{Shape}
 use Rattle.identification.proofs.Bodies.{IsCited, EachMade}
-use Rattle.identification.proofs.Body.{is_list, IsSite, order_in}
+use Rattle.identification.proofs.Body.{is_list, IsSite, HoldsParents, next_parents, order_in}
 use Rattle.identification.proofs.Bools.{and_l, and_r, both_true, clash, decide, not_e, or_e, or_l}
 use Rattle.identification.proofs.Chain.{home_made}
 use Rattle.identification.proofs.Factor.{AllCited}
 use Rattle.identification.proofs.Groups.{Among, count, IsPart, AreParts, part_among, home_among, homed, by_district, in_order-in, common-in, common-out}
 use Rattle.identification.proofs.Orders.{IsOrderFrom}
 use Rattle.identification.proofs.Separations.{IsPlace}
-use Rattle.identification.proofs.Sets.{apart, empty-has, has-minus, one-is}
+use Rattle.identification.proofs.Sets.{alone, apart, empty-has, has-minus, one-is}
 use Rattle.identification.specs.Procedure.{Source}
 use Rattle.mixed_graph.proofs.Masks.{has-and, has-or, has-zero, same_from_has}
 use Rattle.mixed_graph.specs.Bits.{has}
@@ -67,14 +67,7 @@ gathered_is b a t w (v ∷ l) same e within = pass (is_apart (one v) a && (eqb b
 module _ (g : MixedGraph) (ls : List ℕ) where
   unchain_made : (t b : ℕ) (l : List ℕ) → is_list_of l t ≡ true → (u : ℕ) → has t u ≡ true → MakesAll g ls (unchain_steps l) (as_one (chained b 0 l)) (prob t b 0)
   unchain_made t b [] e u i = absurd (clash (has t u) i (empty-has t u e))
-  unchain_made t b (v ∷ []) e u i = ap (λ z. prob z b 0) (same_from_has t (one v) (λ w. go w (decide (has (one v) w))))
-    where
-      go : (w : ℕ) → (has (one v) w ≡ true) ⊎ (has (one v) w ≡ false) → has t w ≡ has (one v) w
-      go w (inl q) = rw (q, one-is v w q) (and_l (has t v) (is_empty (minus t (one v))) e)
-      go w (inr q) = let z : (has t w && not (has (one v) w)) ≡ false = sym (has-minus t (one v) w) ∙ empty-has (minus t (one v)) w (and_r (has t v) (is_empty (minus t (one v))) e) in rw q (bools (has t w) (has (one v) w) z q)
-        where
-          bools : (x y : Bool) → (x && not y) ≡ false → y ≡ false → x ≡ false
-          bools x y h1 h2 = grind (arith, h1, h2)
+  unchain_made t b (v ∷ []) e u i = ap (λ z. prob z b 0) (alone t v e)
   unchain_made t b (v ∷ w ∷ l) e u i = (
     prob t b 0,
     subst (λ z. Makes g ls (Plan.Make Move.Unchain) (product (chained b 0 (v ∷ w ∷ l))) z) refl
@@ -105,10 +98,7 @@ module _ (g : MixedGraph) (is_graph : IsMixedGraph g) (o : List ℕ) (order : Is
   each_unchained ls [] h = tt
   each_unchained ls (t ∷ ts) h = (unchain_made g ls t (minus (all g.vertices) t) (in_order t (in_order d o)) (subst (λ z. is_list_of z t ≡ true) (sym (in_order-in d t o h.0.t_in)) (listed t h.0)) h.0.some h.0.some_in, each_unchained ls ts h.1)
 
-  HoldsParents : ℕ → Type 0
-  HoldsParents p = (w u : ℕ) → g.arrow w u ≡ true → has p u ≡ true → has p w ≡ true
-
-  homed_one : (ls ts : List ℕ) (p q v w : ℕ) → AreParts g d ts → count ts v ≡ 1 → w ≡ common d p → q ≡ common d p → ((w u : ℕ) → g.arrow w u ≡ true → has p u ≡ true → has p w ≡ true) → has p v ≡ false → ((u : ℕ) → g.arrow u v ≡ true → has p u ≡ true)
+  homed_one : (ls ts : List ℕ) (p q v w : ℕ) → AreParts g d ts → count ts v ≡ 1 → w ≡ common d p → q ≡ common d p → HoldsParents g p → has p v ≡ false → ((u : ℕ) → g.arrow u v ≡ true → has p u ≡ true)
       → MakesAll g ls (home_list d (home ts v) p) (prob (one v) (minus (all g.vertices) d) w) (prob (one v) (minus (all g.vertices) (home ts v)) (common (home ts v) q))
   homed_one ls ts p q v w parts c ew eq hp nv pv = subst (λ z. MakesAll g ls (home_list d t p) (prob (one v) (minus (all g.vertices) d) z) (prob (one v) (minus (all g.vertices) t) (common t q))) (sym ew)
       (subst (λ z. MakesAll g ls (home_list d t p) (prob (one v) (minus (all g.vertices) d) (common d p)) (prob (one v) (minus (all g.vertices) t) z)) alike
@@ -129,19 +119,12 @@ module _ (g : MixedGraph) (is_graph : IsMixedGraph g) (o : List ℕ) (order : Is
           bools : (x y z : Bool) → (x ≡ true → y ≡ true) → (x && z) ≡ (x && (y && z))
           bools x y z h = grind (arith, h)
 
-  pub each_homed : (ls ts : List ℕ) (p q w : ℕ) (o2 : List ℕ) → AreParts g d ts → ((u : ℕ) → has d u ≡ true → Among u o2 → count ts u ≡ 1) → w ≡ common d p → q ≡ common d p → ((w u : ℕ) → g.arrow w u ≡ true → has p u ≡ true → has p w ≡ true) → IsOrderFrom g p o2
+  pub each_homed : (ls ts : List ℕ) (p q w : ℕ) (o2 : List ℕ) → AreParts g d ts → ((u : ℕ) → has d u ≡ true → Among u o2 → count ts u ≡ 1) → w ≡ common d p → q ≡ common d p → HoldsParents g p → IsOrderFrom g p o2
       → EachMade g ls (home_lists d ts p o2) (chained (minus (all g.vertices) d) w (in_order d o2)) (homed g.vertices ts q (in_order d o2))
   each_homed ls ts p q w [] parts c ew eq hp ord = tt
   each_homed ls ts p q w (v ∷ o2) parts c ew eq hp ord = go (has d v) refl
-      (λ w q ew eq. each_homed ls ts (join p (one v)) q w o2 parts (λ u i m. c u i (inr m)) ew eq more_parents ord.3)
+      (λ w q ew eq. each_homed ls ts (join p (one v)) q w o2 parts (λ u i m. c u i (inr m)) ew eq (next_parents g p v hp ord.2) ord.3)
     where
-      more_parents : (w u : ℕ) → g.arrow w u ≡ true → has (join p (one v)) u ≡ true → has (join p (one v)) w ≡ true
-      more_parents w u b i = has-or p (one v) w ∙ or_l (has p w) (has (one v) w) (pick (or_e (has p u) (has (one v) u) (rw (has-or p (one v) u) at i)))
-        where
-          pick : (has p u ≡ true) ⊎ (has (one v) u ≡ true) → has p w ≡ true
-          pick (inl i) = hp w u b i
-          pick (inr i) = ord.2 w (rw (one-is v u i) at b)
-
       go : (b : Bool) → has d v ≡ b → ((w q : ℕ) → w ≡ common d (join p (one v)) → q ≡ common d (join p (one v)) → EachMade g ls (home_lists d ts (join p (one v)) o2) (chained (minus (all g.vertices) d) w (in_order d o2)) (homed g.vertices ts q (in_order d o2)))
           → EachMade g ls (cond b (more (home_list d (home ts v) p) (home_lists d ts (join p (one v)) o2)) (home_lists d ts (join p (one v)) o2)) (chained (minus (all g.vertices) d) w (cond b (v ∷ in_order d o2) (in_order d o2))) (homed g.vertices ts q (cond b (v ∷ in_order d o2) (in_order d o2)))
       go true e f = (

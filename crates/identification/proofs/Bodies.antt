@@ -122,7 +122,8 @@ EachMade g ls no_more no_trees no_trees = Unit {0}
 EachMade g ls (more l xs) (tree e es) (tree f fs) = MakesAll g ls l e f × EachMade g ls xs es fs
 EachMade g ls _ _ _ = ⊥
 
-factor-joined : (pre : Trees) (e : Tree) (fs : Trees) → factor_at (joined pre (tree e fs)) (count_factors pre) ≡ Some e
+-- the factor behind others, by its number
+pub factor-joined : (pre : Trees) (e : Tree) (fs : Trees) → factor_at (joined pre (tree e fs)) (count_factors pre) ≡ Some e
 factor-joined no_trees e fs = refl
 factor-joined (tree x pre) e fs = factor-joined pre e fs
 
@@ -130,16 +131,17 @@ with-joined : (pre : Trees) (e x : Tree) (fs : Trees) → with_factor (joined pr
 with-joined no_trees e x fs = refl
 with-joined (tree y pre) e x fs = ap (tree y) (with-joined pre e x fs)
 
-snoc : (pre : Trees) (x : Tree) → Trees
+-- one more factor behind the others
+pub snoc : (pre : Trees) (x : Tree) → Trees
 snoc no_trees x = tree x no_trees
 snoc (tree y pre) x = tree y (snoc pre x)
 
-joined-snoc : (pre : Trees) (x : Tree) (fs : Trees) → joined (snoc pre x) fs ≡ joined pre (tree x fs)
+pub joined-snoc : (pre : Trees) (x : Tree) (fs : Trees) → joined (snoc pre x) fs ≡ joined pre (tree x fs)
 unfolding snoc
 joined-snoc no_trees x fs = refl
 joined-snoc (tree y pre) x fs = ap (tree y) (joined-snoc pre x fs)
 
-count-snoc : (pre : Trees) (x : Tree) → count_factors (snoc pre x) ≡ suc (count_factors pre)
+pub count-snoc : (pre : Trees) (x : Tree) → count_factors (snoc pre x) ≡ suc (count_factors pre)
 unfolding snoc
 count-snoc no_trees x = refl
 count-snoc (tree y pre) x = ap suc (count-snoc pre x)

@@ -231,17 +231,7 @@ module _ (g : MixedGraph) (is_graph : IsMixedGraph g) (room : ℕ) (from : Sourc
 
   body_from : (ls : List ℕ) (b : ℕ) (l : List ℕ) (xs : Lists) (fs : Trees) → is_list_of l t ≡ true → EachMade g ls xs (chained b 0 l) fs → MakesAll g ls (body_steps l xs) (prob t b 0) (as_one fs)
   body_from ls b [] xs fs e h = absurd (clash (has t site.some) site.some_in (empty-has t site.some e))
-  body_from ls b (v ∷ []) (more l no_more) (tree f no_trees) e h = subst (λ z. MakesAll g ls l (prob z b 0) f) (sym same) h.0
-    where
-      same : t ≡ one v
-      same = same_from_has t (one v) (λ u. go u (decide (has (one v) u)))
-        where
-          go : (u : ℕ) → (has (one v) u ≡ true) ⊎ (has (one v) u ≡ false) → has t u ≡ has (one v) u
-          go u (inl q) = rw (q, one-is v u q) (and_l (has t v) (is_empty (minus t (one v))) e)
-          go u (inr q) = let z : (has t u && not (has (one v) u)) ≡ false = sym (has-minus t (one v) u) ∙ empty-has (minus t (one v)) u (and_r (has t v) (is_empty (minus t (one v))) e) in rw q (bools (has t u) (has (one v) u) z q)
-            where
-              bools : (x y : Bool) → (x && not y) ≡ false → y ≡ false → x ≡ false
-              bools x y h1 h2 = grind (arith, h1, h2)
+  body_from ls b (v ∷ []) (more l no_more) (tree f no_trees) e h = subst (λ z. MakesAll g ls l (prob z b 0) f) (sym (alone t v e)) h.0
   body_from ls b (v ∷ []) (more l no_more) no_trees e h = absurd h
   body_from ls b (v ∷ []) (more l no_more) (tree f (tree f2 fs)) e h = absurd h.1
   body_from ls b (v ∷ []) (more l (more l2 xs)) no_trees e h = absurd h

@@ -6,6 +6,7 @@ use Rattle.districts.specs.Linked.IsLinked.{at, by}
 use Rattle.districts.specs.Linked.{AreDistricts, IsDistrict, IsLinked}
 use Rattle.do_derivation.specs.Shapes.{all_of, as_one, chained, count_factors, each_below, factor_at, groups_of, is_grouping, joined, none_empty, or_nothing, picked, times_in}
 use Rattle.finite_models.specs.Sums.{all_below}
+use Rattle.identification.proofs.Bodies.{count-snoc, factor-joined, joined-snoc, snoc}
 use Rattle.identification.proofs.Bools.{and_l, and_r, both_true, clash, decide, or_e, or_l, or_r}
 use Rattle.identification.proofs.Orders.{IsOrderFrom}
 use Rattle.identification.proofs.Sets.{all-is, one-is, one-self}
@@ -248,23 +249,12 @@ is_grouped g d ts l p h c two = both_true (leb 2 (length (group_lists ts l))) (n
     (all_true (length l) (λ i. eqb (times_in i (all_of (group_lists ts l))) 1) (λ i q. eq-eqb (times_in i (all_of (group_lists ts l))) 1 (groups-times i ts l q ∙ c i q)))))
 
 -- ---- what the groups are
-fact : (pre : Trees) (e : Tree) (fs : Trees) → factor_at (joined pre (tree e fs)) (count_factors pre) ≡ Some e
-fact no_trees e fs = refl
-fact (tree x pre) e fs = fact pre e fs
-
-snoc : Trees → Tree → Trees
-snoc no_trees x = tree x no_trees
-snoc (tree y pre) x = tree y (snoc pre x)
-
-joined-snoc : (pre : Trees) (x : Tree) (fs : Trees) → joined (snoc pre x) fs ≡ joined pre (tree x fs)
-unfolding snoc
-joined-snoc no_trees x fs = refl
-joined-snoc (tree y pre) x fs = ap (tree y) (joined-snoc pre x fs)
-
-count-snoc : (pre : Trees) (x : Tree) → count_factors (snoc pre x) ≡ suc (count_factors pre)
-unfolding snoc
-count-snoc no_trees x = refl
-count-snoc (tree y pre) x = ap suc (count-snoc pre x)
+-- no vertex is in common with the empty set
+pub common-none : (d : ℕ) → 0 ≡ common d 0
+common-none d = same_from_has 0 (common d 0) (λ u. has-zero u ∙ sym (has-and d 0 u ∙ rw (has-zero u) (bools (has d u))))
+  where
+    bools : (x : Bool) → (x && false) ≡ false
+    bools x = grind arith
 
 pub common-in : (t q v : ℕ) → has t v ≡ true → join (common t q) (one v) ≡ common t (join q (one v))
 common-in t q v i = same_from_has (join (common t q) (one v)) (common t (join q (one v))) (λ u. (has-or (common t q) (one v) u ∙ ap (λ b. b || has (one v) u) (has-and t q u)) ∙
@@ -307,7 +297,7 @@ picked-from n t ts (v ∷ l) pre q m c = go (has t v) refl
 
     go : (b : Bool) → has t v ≡ b → picked (joined pre (homed n ts q (v ∷ l))) (places t (suc (count_factors pre)) l) ≡ chained (minus (all n) t) (common t (join q (one v))) (in_order t l)
         → picked (joined pre (homed n ts q (v ∷ l))) (cond b (count_factors pre ∷ places t (suc (count_factors pre)) l) (places t (suc (count_factors pre)) l)) ≡ chained (minus (all n) t) (common t q) (cond b (v ∷ in_order t l) (in_order t l))
-    go true e r = ap₂ tree (ap or_nothing (fact pre x (homed n ts (join q (one v)) l)) ∙ ap (λ z. prob (one v) (minus (all n) z) (common z q)) (home_is t v ts c.0 m e))
+    go true e r = ap₂ tree (ap or_nothing (factor-joined pre x (homed n ts (join q (one v)) l)) ∙ ap (λ z. prob (one v) (minus (all n) z) (common z q)) (home_is t v ts c.0 m e))
         (r ∙ ap (λ w. chained (minus (all n) t) w (in_order t l)) (sym (common-in t q v e)))
     go false e r = r ∙ ap (λ w. chained (minus (all n) t) w (in_order t l)) (common-out t q v e)
 

@@ -3,7 +3,7 @@ use Rattle.std.proofs.Common.{ℕ, zero, ◌+◌, ◌-◌, ◌^◌, ◌≡◌, �
 use Rattle.std.specs.Int.{bit_at}
 use Rattle.std.proofs.lemmas.Nat.Bits.{bit_at-lt, bit_at_and, bit_at_xor}
 use Rattle.std.proofs.lemmas.Nat.{and_le_r, pow_pos}
-use Rattle.identification.proofs.Bools.{clash, decide}
+use Rattle.identification.proofs.Bools.{and_l, and_r, clash, decide}
 use Rattle.mixed_graph.proofs.Masks.{below_two, has-and, has-zero, has-pow, has-ones, same_from_has, zero_from_empty}
 use Rattle.mixed_graph.specs.Bits.{has}
 use Rattle.mixed_graph.specs.Masks.{minus, one, all, is_empty, is_apart, is_inside, is_below}
@@ -45,6 +45,17 @@ not_empty a v e = go (decide (eqb a 0))
 -- an empty set has no member
 pub empty-has : (a v : ℕ) → is_empty a ≡ true → has a v ≡ false
 empty-has a v s = rw (eqb-true a 0 s) (has-zero v)
+
+-- a set without a further member than v is that of v alone
+pub alone : (t v : ℕ) → (has t v && is_empty (minus t (one v))) ≡ true → t ≡ one v
+alone t v e = same_from_has t (one v) (λ u. go u (decide (has (one v) u)))
+  where
+    go : (u : ℕ) → (has (one v) u ≡ true) ⊎ (has (one v) u ≡ false) → has t u ≡ has (one v) u
+    go u (inl q) = rw (q, one-is v u q) (and_l (has t v) (is_empty (minus t (one v))) e)
+    go u (inr q) = let z : (has t u && not (has (one v) u)) ≡ false = sym (has-minus t (one v) u) ∙ empty-has (minus t (one v)) u (and_r (has t v) (is_empty (minus t (one v))) e) in rw q (bools (has t u) (has (one v) u) z q)
+      where
+        bools : (x y : Bool) → (x && not y) ≡ false → y ≡ false → x ≡ false
+        bools x y h1 h2 = grind (arith, h1, h2)
 
 meet_inside : (a b : ℕ) → ((v : ℕ) → has a v ≡ true → has b v ≡ true) → bit_and a b ≡ a
 meet_inside a b h = same_from_has (bit_and a b) a (λ v. has-and a b v ∙ bools (has a v) (has b v) (h v))

@@ -7,12 +7,12 @@ use Rattle.do_derivation.specs.Shapes.{chained, is_list_of}
 use Rattle.do_derivation.specs.Steps.{MakesAll}
 use Rattle.do_derivation.specs.Table.{Row}
 use Rattle.do_derivation.specs.declared.faults.StepFault.TheVariants.{BadOrder}
-use Rattle.identification.proofs.Accepted.{unwrap_made, product_is, two_long, in_all, d_part}
-use Rattle.identification.proofs.Assembly.{starts, listed, each_homed}
+use Rattle.identification.proofs.Accepted.{unwrap_made, product_is, in_all, chain_made}
+use Rattle.identification.proofs.Assembly.{starts}
 use Rattle.identification.proofs.Bodies.{EachMade, each_made}
 use Rattle.identification.proofs.Body.{in_order-take, in_order-skip}
 use Rattle.identification.proofs.Bools.{and_r, both_true, clash}
-use Rattle.identification.proofs.Groups.{Among, count, home_is, homed, AreParts, are_parts, once, EachOnce, each_listed, among_in_order, common-in, common-out}
+use Rattle.identification.proofs.Groups.{Among, count, home_is, homed, AreParts, are_parts, once, EachOnce, each_listed, among_in_order, common-in, common-none, common-out}
 use Rattle.identification.proofs.Orders.{IsOrderFrom}
 use Rattle.identification.proofs.Places.{made_if}
 use Rattle.identification.proofs.Sets.{one-is, one-self}
@@ -80,33 +80,8 @@ module _ (g : MixedGraph) (is_graph : IsMixedGraph g) (o : List ℕ) (order : Is
   -- from P(d | do(the rest)) to the product of the factors, without a grouping
   pub single_made : (ls : List ℕ) (t s : ℕ) (ts : List ℕ) (xs : Lists) (fs : Trees) → AreSingle (t ∷ s ∷ ts) → AreDistricts g d 0 o (t ∷ s ∷ ts) → EachMade g ls xs (starts g.vertices (t ∷ s ∷ ts)) fs
       → MakesAll g ls (plan (Plan.Make (Move.Chain (in_order d o))) (at_each 0 (home_lists d (t ∷ s ∷ ts) 0 o) (at_each 0 xs (unwrap_steps fs)))) (prob d (minus (all g.vertices) d) 0) (product_of fs)
-  single_made ls t s ts xs fs single r h = (
-    product (chained outer 0 l),
-    made_if g (leb 2 (length l) && is_list_of l d) (Row.Make (product (chained outer 0 l))) BadOrder (product (chained outer 0 l))
-        (both_true (leb 2 (length l)) (is_list_of l d) (le-leb 2 (length l) (two_long g is_graph o order d low some some_in t s ts l parts (λ u i. among_in_order d u o i (in_all g is_graph o order d low some some_in u i)) each))
-        (listed g is_graph o order d low d (d_part g is_graph o order d low some some_in))) refl,
-    each_made g ls (home_lists d (t ∷ s ∷ ts) 0 o) (chained outer 0 l) (homed g.vertices (t ∷ s ∷ ts) 0 l) (at_each 0 xs (unwrap_steps fs)) (product_of fs)
-        (each_homed g is_graph o order d low ls (t ∷ s ∷ ts) 0 0 0 o parts (λ u i m. once g is_graph d o (t ∷ s ∷ ts) r u i m) zero_common zero_common (λ w u b i. absurd (clash (has 0 u) i (has-zero u))) order)
-        (subst (λ z. MakesAll g ls (at_each 0 xs (unwrap_steps fs)) (product z) (product_of fs))
-        (sym (singles_same g is_graph d (t ∷ s ∷ ts) (λ u i. once g is_graph d o (t ∷ s ∷ ts) r u i (in_all g is_graph o order d low some some_in u i)) 0 0 0 o (t ∷ s ∷ ts) r order zero_common zero_common (λ z m. m) single))
-        (each_made g ls xs (starts g.vertices (t ∷ s ∷ ts)) fs (unwrap_steps fs) (product_of fs) h
-        (subst (λ z. MakesAll g ls (unwrap_steps fs) (product fs) z) (sym (product_is g is_graph o order d low some some_in ls xs t s ts fs h)) (unwrap_made g ls fs)))),
-  )
-    where
-      outer : ℕ
-      outer = minus (all g.vertices) d
-
-      l : List ℕ
-      l = in_order d o
-
-      parts : AreParts g d (t ∷ s ∷ ts)
-      parts = are_parts g is_graph d 0 o (t ∷ s ∷ ts) r
-
-      each : EachOnce (t ∷ s ∷ ts) (in_order d o)
-      each = each_listed d (t ∷ s ∷ ts) o (λ u i m. once g is_graph d o (t ∷ s ∷ ts) r u i m)
-
-      zero_common : 0 ≡ common d 0
-      zero_common = same_from_has 0 (common d 0) (λ u. has-zero u ∙ sym (has-and d 0 u ∙ rw (has-zero u) (bools (has d u))))
-        where
-          bools : (x : Bool) → (x && false) ≡ false
-          bools x = grind arith
+  single_made ls t s ts xs fs single r h = chain_made g is_graph o order d low some some_in ls t s ts (at_each 0 xs (unwrap_steps fs)) (product_of fs) r
+      (subst (λ z. MakesAll g ls (at_each 0 xs (unwrap_steps fs)) (product z) (product_of fs))
+      (sym (singles_same g is_graph d (t ∷ s ∷ ts) (λ u i. once g is_graph d o (t ∷ s ∷ ts) r u i (in_all g is_graph o order d low some some_in u i)) 0 0 0 o (t ∷ s ∷ ts) r order (common-none d) (common-none d) (λ z m. m) single))
+      (each_made g ls xs (starts g.vertices (t ∷ s ∷ ts)) fs (unwrap_steps fs) (product_of fs) h
+      (subst (λ z. MakesAll g ls (unwrap_steps fs) (product fs) z) (sym (product_is g is_graph o order d low some some_in ls xs t s ts fs h)) (unwrap_made g ls fs))))

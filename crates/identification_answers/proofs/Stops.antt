@@ -6,7 +6,8 @@ use Rattle.hedge.specs.Hedges.{Meets, Reaches, outside}
 use Rattle.hedge.specs.Shapes.{LeadsInto, AreSetsOfHedge}
 use Rattle.identification.proofs.Accepted.{d_low, d_off, d_closed}
 use Rattle.identification_answers.specs.Laws.{AreRoots}
-use Rattle.identification.proofs.Bools.{and_l, and_r, both_true, clash, or_e, or_l}
+use Rattle.identification.proofs.Body.{HoldsParents, next_parents}
+use Rattle.identification.proofs.Bools.{and_l, and_r, both_true, clash, or_e}
 use Rattle.identification.proofs.Groups.{Among, IsPart}
 use Rattle.identification.proofs.Orders.{IsOrderFrom}
 use Rattle.identification.proofs.Sets.{all-is, empty-has, has-minus, not_empty, one-is, one-self}
@@ -84,21 +85,14 @@ module _ (g : MixedGraph) (is_graph : IsMixedGraph g) where
     pub inside : has c vertex ≡ true
     pub last : (u : ℕ) → g.arrow vertex u ≡ true → has c u ≡ true → ⊥
 
-  root_from : (c p : ℕ) (o : List ℕ) → ((u : ℕ) → has c u ≡ true → u < g.vertices) → ((w u : ℕ) → g.arrow w u ≡ true → has p u ≡ true → has p w ≡ true) → IsOrderFrom g p o → is_empty (minus c p) ≡ false → Root c
+  root_from : (c p : ℕ) (o : List ℕ) → ((u : ℕ) → has c u ≡ true → u < g.vertices) → HoldsParents g p → IsOrderFrom g p o → is_empty (minus c p) ≡ false → Root c
   root_from c p [] low h order ne = absurd (clash (is_empty (minus c p)) (eq-eqb (minus c p) 0 (same_from_has (minus c p) 0 (λ u. has-minus c p u ∙ (go u (has c u) refl ∙ sym (has-zero u))))) ne)
     where
       go : (u : ℕ) (b : Bool) → has c u ≡ b → (b && not (has p u)) ≡ false
       go u true e = rw (order, all-is g.vertices u (low u e)) refl
       go u false e = refl
-  root_from c p (v ∷ o) low h order ne = go (is_empty (minus c (join p (one v)))) refl (λ q. root_from c (join p (one v)) o low more order.3 q)
+  root_from c p (v ∷ o) low h order ne = go (is_empty (minus c (join p (one v)))) refl (λ q. root_from c (join p (one v)) o low (next_parents g p v h order.2) order.3 q)
     where
-      more : (w u : ℕ) → g.arrow w u ≡ true → has (join p (one v)) u ≡ true → has (join p (one v)) w ≡ true
-      more w u b i = has-or p (one v) w ∙ or_l (has p w) (has (one v) w) (pick (or_e (has p u) (has (one v) u) (rw (has-or p (one v) u) at i)))
-        where
-          pick : (has p u ≡ true) ⊎ (has (one v) u ≡ true) → has p w ≡ true
-          pick (inl i) = h w u b i
-          pick (inr i) = order.2 w (rw (one-is v u i) at b)
-
       go : (b : Bool) → is_empty (minus c (join p (one v))) ≡ b → (is_empty (minus c (join p (one v))) ≡ false → Root c) → Root c
       go false q f = f q
       go true q f = record { vertex = v; inside = in_c (has c v) refl; last = none }
@@ -129,18 +123,11 @@ module _ (g : MixedGraph) (is_graph : IsMixedGraph g) where
               pick (inr s) = clash (has p v) (order.2 v (rw (one-is v u s) at a)) order.1
 
   -- from each member of c a directed path inside c leads to one without a child in c
-  reaches_from : (c r p : ℕ) (o : List ℕ) → ((u : ℕ) → has c u ≡ true → has r u ≡ false → LeadsInto g c u) → ((w u : ℕ) → g.arrow w u ≡ true → has p u ≡ true → has p w ≡ true) → IsOrderFrom g p o
+  reaches_from : (c r p : ℕ) (o : List ℕ) → ((u : ℕ) → has c u ≡ true → has r u ≡ false → LeadsInto g c u) → HoldsParents g p → IsOrderFrom g p o
       → (u : ℕ) → u < g.vertices → has c u ≡ true → has p u ≡ false → IsAncestor (induced g (has c)) (has r) u
   reaches_from c r p [] lead h order u l i n = absurd (clash (has p u) (rw order (all-is g.vertices u l)) n)
-  reaches_from c r p (v ∷ o) lead h order u l i n = go (eqb u v) refl (λ w lw iw nw. reaches_from c r (join p (one v)) o lead more order.3 w lw iw nw)
+  reaches_from c r p (v ∷ o) lead h order u l i n = go (eqb u v) refl (λ w lw iw nw. reaches_from c r (join p (one v)) o lead (next_parents g p v h order.2) order.3 w lw iw nw)
     where
-      more : (w u : ℕ) → g.arrow w u ≡ true → has (join p (one v)) u ≡ true → has (join p (one v)) w ≡ true
-      more w u b i = has-or p (one v) w ∙ or_l (has p w) (has (one v) w) (pick (or_e (has p u) (has (one v) u) (rw (has-or p (one v) u) at i)))
-        where
-          pick : (has p u ≡ true) ⊎ (has (one v) u ≡ true) → has p w ≡ true
-          pick (inl i) = h w u b i
-          pick (inr i) = order.2 w (rw (one-is v u i) at b)
-
       out : (w : ℕ) → has p w ≡ false → (w ≡ v → ⊥) → has (join p (one v)) w ≡ false
       out w q ne = has-or p (one v) w ∙ rw q (other (has (one v) w) refl)
         where

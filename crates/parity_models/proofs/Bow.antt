@@ -1,5 +1,5 @@
 -- The bow graph X -> Y, X <-> Y: its hedge meets the conditions, and the weights of its two models are computed from the definitions.
-use Rattle.std.proofs.Common.{ℕ, zero, suc, ◌≡◌, ◌<◌, ◌≤◌, Bool, true, false, cond, eqb, not, refl, sym, ◌&&◌, ◌||◌, [], ◌∷◌, arith, eqb-true}
+use Rattle.std.proofs.Common.{ℕ, zero, suc, ◌≡◌, ◌<◌, ◌≤◌, Bool, true, false, cond, eqb, not, refl, sym, ◌&&◌, ◌||◌, List, [], ◌∷◌, map, arith, eqb-true}
 use Rattle.mixed_graph.specs.Graphs.{MixedGraph}
 use Rattle.finite_models.specs.Models.{FiniteModel, weight_of, total}
 use Rattle.parity_models.specs.Hedges.{ParityHedge, IsParityHedge, IsTree, IsNumbered, IsWholeHedge, links_of, privates}
@@ -37,29 +37,15 @@ x v = eqb v 0
 abbrev y : ℕ → Bool
 y v = eqb v 1
 
-first_0 : weight_of first x y (at 0) ≡ 12
-first_0 = refl
+-- the weight of each value of Y under the intervention that sets X to 0
+abbrev weights : FiniteModel → List ℕ
+weights m = map (λ i. weight_of m x y (at i)) (0 ∷ 1 ∷ 2 ∷ 3 ∷ [])
 
-first_1 : weight_of first x y (at 1) ≡ 4
-first_1 = refl
+first_weights : weights first ≡ 12 ∷ 4 ∷ 4 ∷ 12 ∷ []
+first_weights = refl
 
-first_2 : weight_of first x y (at 2) ≡ 4
-first_2 = refl
-
-first_3 : weight_of first x y (at 3) ≡ 12
-first_3 = refl
-
-second_0 : weight_of second x y (at 0) ≡ 18
-second_0 = refl
-
-second_1 : weight_of second x y (at 1) ≡ 2
-second_1 = refl
-
-second_2 : weight_of second x y (at 2) ≡ 6
-second_2 = refl
-
-second_3 : weight_of second x y (at 3) ≡ 6
-second_3 = refl
+second_weights : weights second ≡ 18 ∷ 2 ∷ 6 ∷ 6 ∷ []
+second_weights = refl
 
 both_9 : weight_of first (λ v. false) (λ v. true) (at 0) ≡ 9
 both_9 = refl

@@ -63,41 +63,42 @@ module _ (g : MixedGraph) (x : ℕ → Bool) (d : ParityHedge) (ok : IsParityHed
       right true false false = refl
       right false q b = refl
 
+  -- ---- a model whose mechanisms give the hedge's bit by h
+  module _ (mechanism : ℕ → (ℕ → ℕ) → (ℕ → ℕ) → ℕ) (h : (ℕ → ℕ) → (ℕ → ℕ) → ℕ → Bool) (is : (v : ℕ) (s u : ℕ → ℕ) → mechanism v s u ≡ value (d.big v) (d.kept v) (h s u v) (top_bit g.vertices d s u (h s u v) v))
+      (within : IsAssignment g.vertices (λ v. cond (d.big v) (cond (d.kept v) 4 2) (cond (d.kept v) 2 1)) a) (fit : Follows g (counter_model g.vertices d serves mechanism)) where
+    abbrev solved : (ℕ → ℕ) → ℕ → ℕ
+    solved u = solution (intervene (counter_model g.vertices d serves mechanism) x a) u
+
+    abbrev top : (ℕ → ℕ) → ℕ → Bool
+    top u v = top_bit g.vertices d (solved u) u (h (solved u) u v) v
+
+    sol_at : (u : ℕ → ℕ) (v : ℕ) → v < g.vertices → solved u v ≡ cond (x v) (a v) (mechanism v (solved u) u)
+    sol_at u v lt = solution_is g (intervene (counter_model g.vertices d serves mechanism) x a) rank ranked (follows_intervene g (counter_model g.vertices d serves mechanism) x a within fit) u v lt
+
+    outside_at : (u : ℕ → ℕ) (v : ℕ) → v < g.vertices → x v ≡ false → solved u v ≡ value (d.big v) (d.kept v) (h (solved u) u v) (top u v)
+    outside_at u v lt o = sol_at u v lt ∙ cond_false (x v) (a v) (mechanism v (solved u) u) o ∙ is v (solved u) u
+
+    hedge_equation : (u : ℕ → ℕ) (v : ℕ) → v < g.vertices → d.big v ≡ true → x v ≡ false → hedge_bit d (solved u) v ≡ h (solved u) u v
+    hedge_equation u v lt b o =
+        ap (λ r. bit (r % 2)) (outside_at u v lt o) ∙ ap (λ r. bit (value r (d.kept v) (h (solved u) u v) (top u v) % 2)) b ∙ hedge_of (d.kept v) (h (solved u) u v) (top u v)
+
+    carried_equation : (u : ℕ → ℕ) (v : ℕ) → v < g.vertices → d.kept v ≡ true → carried_bit d (solved u) v
+        ≡ differ (chosen g.vertices (carries d) d.carry (carried_bit d (solved u)) v) (differ (d.roots v && hedge_bit d (solved u) v) (world_bit u (d.kept_cause v)))
+    carried_equation u v lt k =
+        ap (λ r. cond (d.big v) (bit (r / 2)) (bit r)) (outside_at u v lt (ok.kept_outside v k))
+        ∙ ap (λ r. cond (d.big v) (bit (value (d.big v) r (h (solved u) u v) (top u v) / 2)) (bit (value (d.big v) r (h (solved u) u v) (top u v)))) k
+        ∙ carried_of (d.big v) (h (solved u) u v) (top u v)
+        ∙ ap (λ r. differ (chosen g.vertices (carries d) d.carry (carried_bit d (solved u)) v) (differ r (world_bit u (d.kept_cause v))))
+        (own (d.roots v) (λ r. sym (hedge_equation u v lt (ok.small_big v (ok.roots_small v r)) (ok.kept_outside v k))))
+      where
+        own : (r : Bool) → (r ≡ true → h (solved u) u v ≡ hedge_bit d (solved u) v) → (r && h (solved u) u v) ≡ (r && hedge_bit d (solved u) v)
+        own true e = e refl
+        own false e = refl
+
   -- ---- the first model
   module _ (within : IsAssignment g.vertices (λ v. cond (d.big v) (cond (d.kept v) 4 2) (cond (d.kept v) 2 1)) a) (fit : Follows g (counter_model g.vertices d serves (first_mechanism g.vertices d))) where
     abbrev M1 : FiniteModel
     M1 = counter_model g.vertices d serves (first_mechanism g.vertices d)
-
-    sol_at : (u : ℕ → ℕ) (v : ℕ) → v < g.vertices → solution (intervene M1 x a) u v
-        ≡ cond (x v) (a v) (first_mechanism g.vertices d v (solution (intervene M1 x a) u) u)
-    sol_at u v lt = solution_is g (intervene M1 x a) rank ranked
-        (follows_intervene g M1 x a within fit) u v lt
-
-    outside_at : (u : ℕ → ℕ) (v : ℕ) → v < g.vertices → x v ≡ false → solution (intervene M1 x a) u v ≡ first_mechanism g.vertices d v (solution (intervene M1 x a) u) u
-    outside_at u v lt o = sol_at u v lt ∙ cond_false (x v) (a v) (first_mechanism g.vertices d v (solution (intervene M1 x a) u) u) o
-
-    hedge_equation : (u : ℕ → ℕ) (v : ℕ) → v < g.vertices → d.big v ≡ true → x v ≡ false → hedge_bit d (solution (intervene M1 x a) u) v ≡ first_bit g.vertices d (solution (intervene M1 x a) u) u v
-    hedge_equation u v lt b o =
-        ap (λ r. bit (r % 2)) (outside_at u v lt o)
-        ∙ ap (λ r. bit (value r (d.kept v) (first_bit g.vertices d (solution (intervene M1 x a) u) u v) (top_bit g.vertices d (solution (intervene M1 x a) u) u (first_bit g.vertices d (solution (intervene M1 x a) u) u v) v) % 2)) b
-        ∙ hedge_of (d.kept v) (first_bit g.vertices d (solution (intervene M1 x a) u) u v) (top_bit g.vertices d (solution (intervene M1 x a) u) u (first_bit g.vertices d (solution (intervene M1 x a) u) u v) v)
-
-    carried_equation : (u : ℕ → ℕ) (v : ℕ) → v < g.vertices → d.kept v ≡ true → carried_bit d (solution (intervene M1 x a) u) v
-        ≡ differ (chosen g.vertices (carries d) d.carry (carried_bit d (solution (intervene M1 x a) u)) v) (differ (d.roots v && hedge_bit d (solution (intervene M1 x a) u) v) (world_bit u (d.kept_cause v)))
-    carried_equation u v lt k =
-        ap (λ r. cond (d.big v) (bit (r / 2)) (bit r)) (outside_at u v lt (ok.kept_outside v k))
-        ∙ ap (λ r. cond (d.big v) (bit (value (d.big v) r h1 (top_bit g.vertices d (solution (intervene M1 x a) u) u h1 v) / 2)) (bit (value (d.big v) r h1 (top_bit g.vertices d (solution (intervene M1 x a) u) u h1 v)))) k
-        ∙ carried_of (d.big v) h1 (top_bit g.vertices d (solution (intervene M1 x a) u) u h1 v)
-        ∙ ap (λ r. differ (chosen g.vertices (carries d) d.carry (carried_bit d (solution (intervene M1 x a) u)) v) (differ r (world_bit u (d.kept_cause v))))
-        (own (d.roots v) (λ r. sym (hedge_equation u v lt (ok.small_big v (ok.roots_small v r)) (ok.kept_outside v k))))
-      where
-        h1 : Bool
-        h1 = first_bit g.vertices d (solution (intervene M1 x a) u) u v
-
-        own : (r : Bool) → (r ≡ true → first_bit g.vertices d (solution (intervene M1 x a) u) u v ≡ hedge_bit d (solution (intervene M1 x a) u) v)
-            → (r && first_bit g.vertices d (solution (intervene M1 x a) u) u v) ≡ (r && hedge_bit d (solution (intervene M1 x a) u) v)
-        own true h = h refl
-        own false h = refl
 
     -- all causes of the event's parity, for a test of the good vertices
     abbrev all_causes : (ℕ → Bool) → ℕ → Bool
@@ -109,9 +110,9 @@ module _ (g : MixedGraph) (x : ℕ → Bool) (d : ParityHedge) (ok : IsParityHed
     event_parity : (G : ℕ → Bool) → ((v : ℕ) → G v ≡ true → Good d x v) → ((v : ℕ) → v < g.vertices → Good d x v → G v ≡ true) → (u : ℕ → ℕ)
         → event_odd g.vertices d (solution (intervene M1 x a) u) ≡ differ (odd_below d.causes (λ j. all_causes G j && bit (u j))) (constant G)
     event_parity G sound complete u =
-        carried_sum g x d ok rank ranked.rises ranked.low is_graph.tail_below is_graph.head_below (solution (intervene M1 x a) u) u (carried_equation u)
+        carried_sum g x d ok rank ranked.rises ranked.low is_graph.tail_below is_graph.head_below (solution (intervene M1 x a) u) u (carried_equation (first_mechanism g.vertices d) (first_bit g.vertices d) (λ w s r. refl) within fit u)
         ∙ ap (λ r. differ r (odd_below g.vertices (λ v. d.kept v && world_bit u (d.kept_cause v))))
-        (first_roots g x d ok rank ranked.rises ranked.low is_graph.tail_below is_graph.head_below G sound (λ v b. complete v (ok.big_low v b)) (λ v e. complete v (ok.big_low v (ok.small_big v e)) (small_good g x d ok rank ranked.rises ranked.low is_graph.tail_below is_graph.head_below g.vertices v e (omega arith) (ok.big_low v (ok.small_big v e)))) (solution (intervene M1 x a) u) u a (hedge_equation u) (λ v lt e. sol_at u v lt ∙ cond_true (x v) (a v) (first_mechanism g.vertices d v (solution (intervene M1 x a) u) u) e))
+        (first_roots g x d ok rank ranked.rises ranked.low is_graph.tail_below is_graph.head_below G sound (λ v b. complete v (ok.big_low v b)) (λ v e. complete v (ok.big_low v (ok.small_big v e)) (small_good g x d ok rank ranked.rises ranked.low is_graph.tail_below is_graph.head_below g.vertices v e (omega arith) (ok.big_low v (ok.small_big v e)))) (solution (intervene M1 x a) u) u a (hedge_equation (first_mechanism g.vertices d) (first_bit g.vertices d) (λ w s r. refl) within fit u) (λ v lt e. sol_at (first_mechanism g.vertices d) (first_bit g.vertices d) (λ w s r. refl) within fit u v lt ∙ cond_true (x v) (a v) (first_mechanism g.vertices d v (solution (intervene M1 x a) u) u) e))
         ∙ shuffle (constant G) (crossing (length d.inner) d.outer G (world_bit u)) (odd_below g.vertices (λ v. d.small v && world_bit u (d.small_cause v))) (odd_below g.vertices (λ v. d.kept v && world_bit u (d.kept_cause v)))
         ∙ ap (λ r. differ r (constant G))
         (ap₂ differ (crossing_by_causes d.causes (length d.inner) d.outer G (world_bit u) ok.links_low) (privates_sum u)
@@ -185,43 +186,15 @@ module _ (g : MixedGraph) (x : ℕ → Bool) (d : ParityHedge) (ok : IsParityHed
     abbrev M2 : FiniteModel
     M2 = counter_model g.vertices d serves (second_mechanism g.vertices d)
 
-    outside_at2 : (u : ℕ → ℕ) (v : ℕ) → v < g.vertices → x v ≡ false → solution (intervene M2 x a) u v ≡ second_mechanism g.vertices d v (solution (intervene M2 x a) u) u
-    outside_at2 u v lt o =
-        solution_is g (intervene M2 x a) rank ranked (follows_intervene g M2 x a within fit) u v lt
-        ∙ cond_false (x v) (a v) (second_mechanism g.vertices d v (solution (intervene M2 x a) u) u) o
-
-    hedge_equation2 : (u : ℕ → ℕ) (v : ℕ) → v < g.vertices → d.big v ≡ true → x v ≡ false → hedge_bit d (solution (intervene M2 x a) u) v ≡ second_bit g.vertices d (solution (intervene M2 x a) u) u v
-    hedge_equation2 u v lt b o =
-        ap (λ r. bit (r % 2)) (outside_at2 u v lt o)
-        ∙ ap (λ r. bit (value r (d.kept v) (second_bit g.vertices d (solution (intervene M2 x a) u) u v) (top_bit g.vertices d (solution (intervene M2 x a) u) u (second_bit g.vertices d (solution (intervene M2 x a) u) u v) v) % 2)) b
-        ∙ hedge_of (d.kept v) (second_bit g.vertices d (solution (intervene M2 x a) u) u v) (top_bit g.vertices d (solution (intervene M2 x a) u) u (second_bit g.vertices d (solution (intervene M2 x a) u) u v) v)
-
     small_equation2 : (u : ℕ → ℕ) (v : ℕ) → v < g.vertices → d.small v ≡ true → hedge_bit d (solution (intervene M2 x a) u) v
         ≡ differ (chosen g.vertices (chooses d d.small) d.choice (hedge_bit d (solution (intervene M2 x a) u)) v) (at_second d (world_bit u) v)
     small_equation2 u v lt e =
-        hedge_equation2 u v lt (ok.small_big v e) (ok.small_outside v e)
+        hedge_equation (second_mechanism g.vertices d) (second_bit g.vertices d) (λ w s r. refl) within fit u v lt (ok.small_big v e) (ok.small_outside v e)
         ∙ cond_true (d.small v) (differ (chosen g.vertices (chooses d d.small) d.choice (hedge_bit d (solution (intervene M2 x a) u)) v) (at_second d (world_bit u) v)) (first_bit g.vertices d (solution (intervene M2 x a) u) u v) e
-
-    carried_equation2 : (u : ℕ → ℕ) (v : ℕ) → v < g.vertices → d.kept v ≡ true → carried_bit d (solution (intervene M2 x a) u) v
-        ≡ differ (chosen g.vertices (carries d) d.carry (carried_bit d (solution (intervene M2 x a) u)) v) (differ (d.roots v && hedge_bit d (solution (intervene M2 x a) u) v) (world_bit u (d.kept_cause v)))
-    carried_equation2 u v lt k =
-        ap (λ r. cond (d.big v) (bit (r / 2)) (bit r)) (outside_at2 u v lt (ok.kept_outside v k))
-        ∙ ap (λ r. cond (d.big v) (bit (value (d.big v) r h2 (top_bit g.vertices d (solution (intervene M2 x a) u) u h2 v) / 2)) (bit (value (d.big v) r h2 (top_bit g.vertices d (solution (intervene M2 x a) u) u h2 v)))) k
-        ∙ carried_of (d.big v) h2 (top_bit g.vertices d (solution (intervene M2 x a) u) u h2 v)
-        ∙ ap (λ r. differ (chosen g.vertices (carries d) d.carry (carried_bit d (solution (intervene M2 x a) u)) v) (differ r (world_bit u (d.kept_cause v))))
-        (own (d.roots v) (λ r. sym (hedge_equation2 u v lt (ok.small_big v (ok.roots_small v r)) (ok.kept_outside v k))))
-      where
-        h2 : Bool
-        h2 = second_bit g.vertices d (solution (intervene M2 x a) u) u v
-
-        own : (r : Bool) → (r ≡ true → second_bit g.vertices d (solution (intervene M2 x a) u) u v ≡ hedge_bit d (solution (intervene M2 x a) u) v)
-            → (r && second_bit g.vertices d (solution (intervene M2 x a) u) u v) ≡ (r && hedge_bit d (solution (intervene M2 x a) u) v)
-        own true h = h refl
-        own false h = refl
 
     event_parity2 : (u : ℕ → ℕ) → event_odd g.vertices d (solution (intervene M2 x a) u) ≡ odd_below d.causes (λ j. privates g.vertices d j && bit (u j))
     event_parity2 u =
-        carried_sum g x d ok rank ranked.rises ranked.low is_graph.tail_below is_graph.head_below (solution (intervene M2 x a) u) u (carried_equation2 u)
+        carried_sum g x d ok rank ranked.rises ranked.low is_graph.tail_below is_graph.head_below (solution (intervene M2 x a) u) u (carried_equation (second_mechanism g.vertices d) (second_bit g.vertices d) (λ w s r. refl) within fit u)
         ∙ ap (λ r. differ r (odd_below g.vertices (λ v. d.kept v && world_bit u (d.kept_cause v))))
         (second_roots g x d ok rank ranked.rises ranked.low is_graph.tail_below is_graph.head_below (solution (intervene M2 x a) u) u (small_equation2 u))
         ∙ privates_sum u

@@ -146,31 +146,45 @@ module _ (g : MixedGraph) (room : ℕ) where
   body_steps_out : (o : List ℕ) (from : Source) (a t : ℕ) (l : Plans) → ((u : ℕ) → has a u ≡ true → has room u ≡ true) → ((u : ℕ) → has t u ≡ true → has a u ≡ true) → AreBodySteps (induced g (has room)) o from a t l → AreBodySteps g o from a t l
   body_steps_out o from a t l ha ht b = record { lists = b.lists; are = places_out from a t 0 o b.lists ha ht b.are; is = b.is }
 
+  -- the district t of c in a, and its part a2 that leads to c, as they are in the graph
+  record IsStage (c a t a2 : ℕ) : Type 0 where
+    district : IsDistrict g a c t
+    above : AreAncestorsIn g t c a2
+    inside : (u : ℕ) → has t u ≡ true → has a u ≡ true
+    in_room : (u : ℕ) → has a2 u ≡ true → has room u ≡ true
+    holds : (u : ℕ) → has c u ≡ true → has a2 u ≡ true
+
   module _ (o : List ℕ) (c : ℕ) (c_low : (u : ℕ) → has c u ≡ true → u < g.vertices) where
+    stage : (a t a2 : ℕ) → ((u : ℕ) → has a u ≡ true → has room u ≡ true) → ((u : ℕ) → has c u ≡ true → has a u ≡ true) → IsDistrict (induced g (has room)) a c t → AreAncestorsIn (induced g (has room)) t c a2 → IsStage c a t a2
+    stage a t a2 ha hc d n =
+        let ht = inside_of (induced g (has room)) a c t hc d in
+        record {
+          district = district_out a c t ha hc d;
+          above = above_out t c a2 (λ u i. ha u (ht u i)) n;
+          inside = ht;
+          in_room = λ u i. ha u (ht u (above_inside (induced g (has room)) t c a2 (λ w j. d.complete w (at j)) n u i));
+          holds = λ u i. n.complete u (record { vertex = c_low u i; path = []; end = u; leads = refl; inside = i });
+        }
+
     pub factor_out : (a : ℕ) (from : Source) (k : ℕ) (ds : List Tree) (e : Tree) → ((u : ℕ) → has a u ≡ true → has room u ≡ true) → ((u : ℕ) → has c u ≡ true → has a u ≡ true)
         → IsFactor (induced g (has room)) o c a from k ds e → IsFactor g o c a from k ds e
     factor_out a from k _ e ha hc (IsFactor.whole d b) = IsFactor.whole (district_out a c c ha hc d) (body_out o from a c e ha hc b)
-    factor_out a from k _ _ ha hc (IsFactor.summed {t = t} {e = e} d ne n b) = let ht = inside_of (induced g (has room)) a c t hc d in
-        IsFactor.summed (district_out a c t ha hc d) ne (above_out t c c (λ u i. ha u (ht u i)) n) (body_out o from a t e ha ht b)
-    factor_out a from k _ e ha hc (IsFactor.further {t = t} {a2 = a2} {b = x} {ds = ds} d ne n m q b next) = let ht = inside_of (induced g (has room)) a c t hc d in
-        let h2 = above_inside (induced g (has room)) t c a2 (λ u i. d.complete u (at i)) n in
-        IsFactor.further (district_out a c t ha hc d) ne (above_out t c a2 (λ u i. ha u (ht u i)) n) m q (body_out o from a t x ha ht b)
-        (factor_out a2 (Source.Defined k) (suc k) ds e (λ u i. ha u (ht u (h2 u i))) (λ u i. n.complete u (record { vertex = c_low u i; path = []; end = u; leads = refl; inside = i })) next)
+    factor_out a from k _ _ ha hc (IsFactor.summed {t = t} {e = e} d ne n b) = let s = stage a t c ha hc d n in IsFactor.summed s.district ne s.above (body_out o from a t e ha s.inside b)
+    factor_out a from k _ e ha hc (IsFactor.further {t = t} {a2 = a2} {b = x} {ds = ds} d ne n m q b next) =
+        let s = stage a t a2 ha hc d n in
+        IsFactor.further s.district ne s.above m q (body_out o from a t x ha s.inside b) (factor_out a2 (Source.Defined k) (suc k) ds e s.in_room s.holds next)
 
     pub steps_out : (a : ℕ) (from : Source) (k : ℕ) (ls : List PlainLemma) (l : Plans) → ((u : ℕ) → has a u ≡ true → has room u ≡ true) → ((u : ℕ) → has c u ≡ true → has a u ≡ true)
         → AreFactorSteps (induced g (has room)) o c a from k ls l → AreFactorSteps g o c a from k ls l
     steps_out a from k _ l ha hc (AreFactorSteps.whole d b) = AreFactorSteps.whole (district_out a c c ha hc d) (body_steps_out o from a c l ha hc b)
-    steps_out a from k _ _ ha hc (AreFactorSteps.summed {t = t} {l = l} d ne n b) = let ht = inside_of (induced g (has room)) a c t hc d in
-        AreFactorSteps.summed (district_out a c t ha hc d) ne (above_out t c c (λ u i. ha u (ht u i)) n) (body_steps_out o from a t l ha ht b)
-    steps_out a from k _ l ha hc (AreFactorSteps.further {t = t} {a2 = a2} {b = x} {ls = ls} d ne n m q b next) = let ht = inside_of (induced g (has room)) a c t hc d in
-        let h2 = above_inside (induced g (has room)) t c a2 (λ u i. d.complete u (at i)) n in
-        AreFactorSteps.further (district_out a c t ha hc d) ne (above_out t c a2 (λ u i. ha u (ht u i)) n) m q (body_steps_out o from a t x ha ht b)
-        (steps_out a2 (Source.Defined k) (suc k) ls l (λ u i. ha u (ht u (h2 u i))) (λ u i. n.complete u (record { vertex = c_low u i; path = []; end = u; leads = refl; inside = i })) next)
+    steps_out a from k _ _ ha hc (AreFactorSteps.summed {t = t} {l = l} d ne n b) = let s = stage a t c ha hc d n in AreFactorSteps.summed s.district ne s.above (body_steps_out o from a t l ha s.inside b)
+    steps_out a from k _ l ha hc (AreFactorSteps.further {t = t} {a2 = a2} {b = x} {ls = ls} d ne n m q b next) =
+        let s = stage a t a2 ha hc d n in
+        AreFactorSteps.further s.district ne s.above m q (body_steps_out o from a t x ha s.inside b) (steps_out a2 (Source.Defined k) (suc k) ls l s.in_room s.holds next)
 
     -- a stop in the graph induced on the room is one in the graph
     pub stopped_out : (a big : ℕ) → ((u : ℕ) → has a u ≡ true → has room u ≡ true) → ((u : ℕ) → has c u ≡ true → has a u ≡ true) → IsStopped (induced g (has room)) c a big → IsStopped g c a big
-    stopped_out a big ha hc (IsStopped.here d ne n) = IsStopped.here (district_out a c big ha hc d) ne (above_out big c big (λ u i. ha u (inside_of (induced g (has room)) a c big hc d u i)) n)
-    stopped_out a big ha hc (IsStopped.later {t = t} {a2 = a2} d ne n m q r) = let ht = inside_of (induced g (has room)) a c t hc d in
-        let h2 = above_inside (induced g (has room)) t c a2 (λ u i. d.complete u (at i)) n in
-        IsStopped.later (district_out a c t ha hc d) ne (above_out t c a2 (λ u i. ha u (ht u i)) n) m q
-        (stopped_out a2 big (λ u i. ha u (ht u (h2 u i))) (λ u i. n.complete u (record { vertex = c_low u i; path = []; end = u; leads = refl; inside = i })) r)
+    stopped_out a big ha hc (IsStopped.here d ne n) = let s = stage a big big ha hc d n in IsStopped.here s.district ne s.above
+    stopped_out a big ha hc (IsStopped.later {t = t} {a2 = a2} d ne n m q r) =
+        let s = stage a t a2 ha hc d n in
+        IsStopped.later s.district ne s.above m q (stopped_out a2 big s.in_room s.holds r)

@@ -9,7 +9,7 @@ use Rattle.do_derivation.specs.Plans.{PlainDerivation}
 use Rattle.do_derivation.specs.View.{lemma_view}
 use Rattle.identification.specs.Procedure.{AreAncestorsIn}
 use Rattle.id_recursion.specs.Factored.{AreAssembled}
-use Rattle.id_recursion.specs.Lists.{lists_view}
+use Rattle.district_factors.specs.Lists.{lists_view}
 use Rattle.id_recursion.specs.declared.answer.Factors.{Factors}
 use Rattle.surrogate_theory.specs.Surrogates.{AreDerivedWith, IsComposedBySteps}
 use Rattle.surrogates.specs.Gathered.{AreFactorsWith}

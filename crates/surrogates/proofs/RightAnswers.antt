@@ -1,22 +1,17 @@
 -- What the procedure over experiments answers is a right answer.
-use Rattle.std.proofs.Common.{ℕ, ◌≡◌, ◌≤◌, ◌↔◌, Bool, true, false, ◌&&◌, inl, inr, refl, sym, ap, subst, ◌∙◌, List, [], ◌∷◌, length, IsTrue, None, not, arith}
-use Rattle.std.specs.Prelude.{Result, Ok, Err, IfOk}
+use Rattle.std.proofs.Common.{ℕ, ◌≡◌, ◌≤◌, ◌↔◌, true, false, inl, inr, refl, sym, subst, List, IsTrue}
+use Rattle.std.specs.Prelude.{Result, IfOk}
 use Rattle.mixed_graph.specs.Bits.{has}
 use Rattle.mixed_graph.specs.Graphs.{MixedGraph, IsMixedGraph}
 use Rattle.mixed_graph.specs.Sets.{Apart}
 use Rattle.mixed_graph.specs.declared.sets.VSet.{VSet}
-use Rattle.mixed_graph.proofs.Masks.{has-zero}
-use Rattle.prob_expr.specs.Check.{fault_in}
-use Rattle.mixed_graph.specs.Masks.{is_apart, is_below, is_empty}
-use Rattle.prob_expr.specs.Terms.{is_term}
 use Rattle.prob_expr.specs.Tree.{PlainFormula}
 use Rattle.prob_expr.specs.View.{formula_view}
 use Rattle.do_derivation.specs.Accepts.{are_sets}
 use Rattle.do_derivation.specs.Plans.{PlainDerivation}
 use Rattle.do_derivation.specs.View.{derivation_view}
 use Rattle.do_derivation.proofs.Accepted.{accepted_is_effect}
-use Rattle.identification.proofs.Bools.{both_true, clash, not_i}
-use Rattle.identification.proofs.Sets.{below, apart, not_empty}
+use Rattle.identification.proofs.Bools.{clash}
 use Rattle.identification.specs.Procedure.{IsTarget, IsIdentified}
 use Rattle.counter_models.proofs.Final.{counter}
 use Rattle.counter_models.specs.Pairs.{IsPairOf}
@@ -24,11 +19,11 @@ use Rattle.counter_models.specs.declared.counter_pair.CounterPair.{CounterPair}
 use Rattle.hedge.proofs.Shaping.{sets_form_hedge}
 use Rattle.hedge.specs.Hedges.{IsHedge}
 use Rattle.hedge.specs.declared.hedge.Hedge.{Hedge}
+use Rattle.id_recursion.proofs.RightAnswers.{if_ok, target_term}
 use Rattle.id_recursion.specs.Answers.{effect_on}
 use Rattle.id_recursion.specs.Hedged.{IsHedgeOf}
-use Rattle.surrogate_theory.proofs.Answered.{derived_is_surrogate, surrogate_is_accepted, surrogate_is_formed, stop_is_first_blocked, blocked_excludes_formula, one_surrogate, plain_comes_first}
-use Rattle.surrogate_theory.specs.Laws.{IsAcceptedWith}
-use Rattle.surrogate_theory.specs.Surrogates.{IsAmong, IsBlocked, IsFirstBlocked, IsFirstBlockedFor, IsStoppedWith, IsSurrogate, IsSurrogateBySteps, SomeBlocked}
+use Rattle.surrogate_theory.proofs.Answered.{derived_is_surrogate, surrogate_is_accepted, stop_is_first_blocked, blocked_excludes_formula, one_surrogate, plain_comes_first}
+use Rattle.surrogate_theory.specs.Surrogates.{IsAmong, IsBlocked, IsFirstBlocked, IsFirstBlockedFor, IsStoppedWith, IsSurrogateBySteps, SomeBlocked}
 use Rattle.surrogates.specs.Answers.{IsAnswerWith, IsRightWith, IfFormula, IfStopped, IsStopShown, is_stopped}
 use Rattle.surrogates.specs.declared.answer.Surrogate.{Surrogate}
 use Rattle.surrogates.specs.declared.answer.Surrogate.TheVariants.{Formula, Stopped}
@@ -62,45 +57,30 @@ stop_shown g valid zs x y tgt small big stop h pair s b made is models = record 
   models = models;
 }
 
+-- what is true of each formula with its derivation is true of the answer
+pub if_formula : {E : Type 0} (g : MixedGraph) (zs : List ℕ) (x y : ℕ) (r : Result Surrogate E) (P : PlainFormula → PlainDerivation → Type 0) → ((f : PlainFormula) (t : PlainDerivation) → IsSurrogateBySteps g zs x y f t → P f t)
+    → IfOk r (IsAnswerWith g zs x y) → IfOk r (λ a. IfFormula a P)
+if_formula g zs x y r P holds found = if_ok r (IsAnswerWith g zs x y) (λ a. IfFormula a P) each found
+  where
+    each : (a : Surrogate) → IsAnswerWith g zs x y a → IfFormula a P
+    each (Formula f t) i = holds (formula_view f) (derivation_view t) i
+    each (Stopped district h pair) i = tt
+
+-- a district that is answered is the one at which the procedure stops
+pub stopped : (g : MixedGraph) (zs : List ℕ) (x y : ℕ) (a : Surrogate) → IsAnswerWith g zs x y a → IfStopped a (IsStopShown g zs x y)
+stopped g zs x y (Formula f t) i = tt
+stopped g zs x y (Stopped district h pair) i = i
+
 module _ (g : MixedGraph) (valid : IsMixedGraph g) (few : g.vertices ≤ 64) (x y : ℕ) (target : IsTarget g x y) (off : Apart (has x) (has y)) (zs : List ℕ) (sets : are_sets g.vertices zs ≡ true) where
-  zero_low : is_below g.vertices 0 ≡ true
-  zero_low = below g.vertices 0 (λ v e. absurd (clash (has 0 v) e (has-zero v)))
-
-  none_apart : (a : ℕ) → is_apart a 0 ≡ true
-  none_apart a = apart a 0 (λ v e i. clash (has 0 v) i (has-zero v))
-
-  term : is_term g.vertices y x 0 ≡ true
-  term = both_true _ _ (both_true _ _ (both_true _ _ (below g.vertices y target.y_low) (both_true _ _ (below g.vertices x target.x_low) zero_low))
-      (both_true _ _ (apart y x (λ v i j. target.off v j i)) (both_true _ _ (none_apart y) (none_apart x)))) (not_i (is_empty y) (not_empty y target.some target.some_in))
-
-  accepted_of : (f : PlainFormula) (t : PlainDerivation) → IsSurrogateBySteps g zs x y f t → IsAcceptedWith g zs x y f t
-  accepted_of f t i = surrogate_is_accepted g valid zs sets x y target f t i
-
   pub right : (a : Surrogate) → IsAnswerWith g zs x y a → IsRightWith g zs x y a
-  right (Formula f t) i = let a = (accepted_of (formula_view f) (derivation_view t) i).accepted in
-      record { allowed = a.listed; accepted = a; effect = (accepted_is_effect g valid zs (effect_on x y) (formula_view f) (derivation_view t) term a).1 }
+  right (Formula f t) i = let a = (surrogate_is_accepted g valid zs sets x y target (formula_view f) (derivation_view t) i).accepted in
+      record { allowed = a.listed; accepted = a; effect = (accepted_is_effect g valid zs (effect_on x y) (formula_view f) (derivation_view t) (target_term g x y target) a).1 }
   right (Stopped district h pair) i = record { hedge = sets_form_hedge g x y h valid few i.hedge; counter = counter g valid few x y h i.hedge off pair i.models }
 
   pub exact : (a : Surrogate) → IsAnswerWith g zs x y a → IsTrue (is_stopped a) ↔ SomeBlocked g zs x y
   exact (Formula f t) i = (λ e. absurd (clash false e refl), λ b. absurd (blocked_excludes_formula g valid zs x y target b (formula_view f) (derived_is_surrogate g zs x y (formula_view f) (derivation_view t) i)))
   exact (Stopped district h pair) i = (λ e. some_blocked g zs x y district.bits i.first, λ b. refl)
 
-  pub formula : (a : Surrogate) → IsAnswerWith g zs x y a → IfFormula a (λ f t. IsSurrogate g zs x y f)
-  formula (Formula f t) i = derived_is_surrogate g zs x y (formula_view f) (derivation_view t) i
-  formula (Stopped district h pair) i = tt
-
-  pub derived : (a : Surrogate) → IsAnswerWith g zs x y a → IfFormula a (IsSurrogateBySteps g zs x y)
-  derived (Formula f t) i = i
-  derived (Stopped district h pair) i = tt
-
-  pub formed : (a : Surrogate) → IsAnswerWith g zs x y a → IfFormula a (λ f t. fault_in g.vertices f ≡ None)
-  formed (Formula f t) i = surrogate_is_formed g valid zs sets x y target (formula_view f) (derived_is_surrogate g zs x y (formula_view f) (derivation_view t) i)
-  formed (Stopped district h pair) i = tt
-
   pub plain : (f : PlainFormula) → IsIdentified g x y f → (a : Surrogate) → IsAnswerWith g zs x y a → (is_stopped a ≡ true → ⊥) × IfFormula a (λ h t. h ≡ f)
   plain f s (Formula h t) i = (λ e. clash false e refl, one_surrogate g zs x y (formula_view h) f (derived_is_surrogate g zs x y (formula_view h) (derivation_view t) i) (plain_comes_first g valid zs x y f s))
   plain f s (Stopped district h pair) i = absurd (blocked_excludes_formula g valid zs x y target (some_blocked g zs x y district.bits i.first) f (plain_comes_first g valid zs x y f s))
-
-  pub stopped : (a : Surrogate) → IsAnswerWith g zs x y a → IfStopped a (IsStopShown g zs x y)
-  stopped (Formula f t) i = tt
-  stopped (Stopped district h pair) i = i

@@ -1,13 +1,23 @@
 -- The factor of a district under one experiment after the other, as the code gives it.
-use Rattle.std.specs.Prelude.{ℕ, ◌≡◌, ◌≤◌, ◌⊎◌, false, List, [], ◌∷◌, length, map, Option, Some, None, IsTrue}
+use Rattle.std.specs.Prelude.{ℕ, ◌≡◌, ◌+◌, ◌^◌, ◌<◌, ◌≤◌, ◌⊎◌, false, List, [], ◌∷◌, length, map, Option, Some, None, IsTrue}
+use Rattle.mixed_graph.specs.Bits.{has}
 use Rattle.mixed_graph.specs.Graphs.{MixedGraph}
 use Rattle.mixed_graph.specs.Masks.{is_apart}
+use Rattle.mixed_graph.specs.Sets.{Within}
+use Rattle.districts.specs.Linked.{IsJoinedSet}
 use Rattle.prob_expr.specs.View.{view}
 use Rattle.do_derivation.specs.View.{lemma_view, steps_view}
 use Rattle.district_factors.specs.declared.district_factor.Factor.{Factor}
 use Rattle.district_factors.specs.declared.district_factor.FactorFault.{FactorFault}
 use Rattle.district_factors.specs.declared.district_factor.FactorFault.TheVariants.{Stopped, NoMemory}
 use Rattle.surrogate_theory.specs.Surrogates.{IsDerivedUnder, IsStoppedUnder, ComesFirst, AllStop}
+
+-- c is a joined set of vertices, and there are numbers for 64 definitions from k on
+pub record IsDistrictFrom (g : MixedGraph) (c k : ℕ) : Type 0 where
+  pub within : Within g.vertices (has c)
+  pub some : (v : ℕ) × IsTrue (has c v)
+  pub joined : IsJoinedSet g c
+  pub room : k + 64 < 2 ^ 32
 
 -- f is the factor of c under an intervention on z, with at most 64 definitions from number k on and with its derivation
 pub record IsTried (g : MixedGraph) (z c k : ℕ) (f : Factor) : Type 0 where

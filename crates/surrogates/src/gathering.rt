@@ -7,24 +7,13 @@ ghost use Rattle.mixed_graph.specs.Shown.{graph_of};
 ghost use Rattle.districts.specs.Linked.{IsMaximalJoined};
 ghost use Rattle.districts.specs.Listed.{first_masks};
 ghost use Rattle.prob_expr.specs.Listed.{masks_of};
-ghost use Rattle.surrogates.specs.Gathered.{AreFactorsWith, IsStopWith, stop_for};
+ghost use Rattle.surrogates.specs.Gathered.{AreFactorsWith, IsStopWith};
 
 use crate::tries::first_factor;
-use district_factors::FactorFault;
 use districts::Districts;
-use id_recursion::{Factors, Stop, add_factor};
+use id_recursion::{Factors, Stop, add_found, no_factors};
 use mixed_graph::{Graph, VSet};
 use std::alloc::Global;
-
-/// Why there are no factors where that of c has this fault.
-fn stop_for(c: VSet, fault: FactorFault) -> Stop
-    ensures { result ≡ stop_for c fault }
-{
-    match fault {
-        FactorFault::Stopped(big) => Stop::At { small: c, big },
-        FactorFault::NoMemory => Stop::NoMemory,
-    }
-}
 
 /// The factors of the districts of d in turn; or the first district all of whose tries stop.
 pub fn factors_with(
@@ -39,20 +28,12 @@ pub fn factors_with(
     ensures { MatchResult result (AreFactorsWith (graph_of g.now) (masks_of experiments.now) (first_masks parts.now.sets parts.now.count))
         (IsStopWith (graph_of g.now) (masks_of experiments.now) (first_masks parts.now.sets parts.now.count)) }
 {
-    let mut made = Factors {
-        defs: Vec::new(alloc),
-        lemmas: Vec::new(alloc),
-        values: Vec::new(alloc),
-        lists: Vec::new(alloc),
-    };
+    let mut made = no_factors(alloc);
     for c in &parts.sets[..parts.count as usize] {
-        let more = match first_factor(alloc, g, experiments, *c, made.defs.len() as u32) {
-            Ok(more) => more,
-            Err(fault) => return Err(stop_for(*c, fault)),
-        };
-        match add_factor(&mut made, more) {
+        let found = first_factor(alloc, g, experiments, *c, made.defs.len() as u32);
+        match add_found(&mut made, *c, found) {
             Ok(()) => {}
-            Err(_) => return Err(Stop::NoMemory),
+            Err(stop) => return Err(stop),
         }
     }
     Ok(made)

@@ -8,7 +8,7 @@ ghost use Rattle.districts.specs.Linked.{IsJoinedSet};
 ghost use Rattle.prob_expr.specs.Listed.{masks_of};
 ghost use Rattle.mixed_graph.specs.Masks.{is_apart};
 ghost use Rattle.surrogate_theory.specs.Surrogates.{IsStoppedUnder};
-ghost use Rattle.surrogates.specs.Tries.{IsTried, IsTryFault, IsAttempt, IsAttemptOf, IsFirstTried, IsBlockedFactor};
+ghost use Rattle.surrogates.specs.Tries.{IsDistrictFrom, IsTried, IsTryFault, IsAttempt, IsAttemptOf, IsFirstTried, IsBlockedFactor};
 
 use district_factors::{Factor, FactorFault, factor_under};
 use id_recursion::order_of;
@@ -24,10 +24,7 @@ fn factor_without(
     first: u32,
 ) -> Result<Factor, FactorFault>
     requires apart { is_apart z.bits c.bits ≡ true }
-    requires within { Within g.now.n (has c.bits) }
-    requires some { (v : ℕ) × IsTrue (has c.bits v) }
-    requires joined { IsJoinedSet (graph_of g.now) c.bits }
-    requires room { first + 64 < 2 ^ 32 }
+    requires district { IsDistrictFrom (graph_of g.now) c.bits first }
     ensures tried { IfOk result (IsTried (graph_of g.now) z.bits c.bits first) }
     ensures fault { IfErr result (IsTryFault (graph_of g.now) z.bits c.bits) }
 {
@@ -54,10 +51,7 @@ fn attempt(
     c: VSet,
     first: u32,
 ) -> Result<Option<Factor>, AllocError>
-    requires within { Within g.now.n (has c.bits) }
-    requires some { (v : ℕ) × IsTrue (has c.bits v) }
-    requires joined { IsJoinedSet (graph_of g.now) c.bits }
-    requires room { first + 64 < 2 ^ 32 }
+    requires district { IsDistrictFrom (graph_of g.now) c.bits first }
     ensures { IfOk result (IsAttempt (graph_of g.now) z.bits c.bits first) }
 {
     if !z.is_apart(c) {
@@ -77,10 +71,7 @@ fn attempt_each(
     c: VSet,
     first: u32,
 ) -> Result<Option<Factor>, AllocError>
-    requires within { Within g.now.n (has c.bits) }
-    requires some { (v : ℕ) × IsTrue (has c.bits v) }
-    requires joined { IsJoinedSet (graph_of g.now) c.bits }
-    requires room { first + 64 < 2 ^ 32 }
+    requires district { IsDistrictFrom (graph_of g.now) c.bits first }
     ensures { IfOk result (IsAttemptOf (graph_of g.now) (masks_of experiments.now) c.bits first) }
 {
     for z in experiments {
@@ -105,10 +96,7 @@ fn after_stop(
     first: u32,
     big: VSet,
 ) -> Result<Factor, FactorFault>
-    requires within { Within g.now.n (has c.bits) }
-    requires some { (v : ℕ) × IsTrue (has c.bits v) }
-    requires joined { IsJoinedSet (graph_of g.now) c.bits }
-    requires room { first + 64 < 2 ^ 32 }
+    requires district { IsDistrictFrom (graph_of g.now) c.bits first }
     requires stopped { IsStoppedUnder (graph_of g.now) 0 c.bits big.bits }
     ensures tried { IfOk result (IsFirstTried (graph_of g.now) (masks_of experiments.now) c.bits first) }
     ensures fault { IfErr result (IsBlockedFactor (graph_of g.now) (masks_of experiments.now) c.bits) }
@@ -120,29 +108,6 @@ fn after_stop(
     match found {
         Some(factor) => Ok(factor),
         None => Err(FactorFault::Stopped(big)),
-    }
-}
-
-/// The same, where without experiment it has this fault.
-fn after_fault(
-    alloc: Global,
-    g: &Graph,
-    experiments: &[VSet],
-    c: VSet,
-    first: u32,
-    fault: FactorFault,
-) -> Result<Factor, FactorFault>
-    requires within { Within g.now.n (has c.bits) }
-    requires some { (v : ℕ) × IsTrue (has c.bits v) }
-    requires joined { IsJoinedSet (graph_of g.now) c.bits }
-    requires room { first + 64 < 2 ^ 32 }
-    requires fault { IsTryFault (graph_of g.now) 0 c.bits fault }
-    ensures tried { IfOk result (IsFirstTried (graph_of g.now) (masks_of experiments.now) c.bits first) }
-    ensures fault { IfErr result (IsBlockedFactor (graph_of g.now) (masks_of experiments.now) c.bits) }
-{
-    match fault {
-        FactorFault::Stopped(big) => after_stop(alloc, g, experiments, c, first, big),
-        FactorFault::NoMemory => Err(FactorFault::NoMemory),
     }
 }
 
@@ -166,6 +131,7 @@ pub fn first_factor(
 {
     match factor_without(alloc, g, VSet::EMPTY, c, first) {
         Ok(factor) => Ok(factor),
-        Err(fault) => after_fault(alloc, g, experiments, c, first, fault),
+        Err(FactorFault::Stopped(big)) => after_stop(alloc, g, experiments, c, first, big),
+        Err(FactorFault::NoMemory) => Err(FactorFault::NoMemory),
     }
 }

@@ -3,8 +3,8 @@ use Rattle.do_derivation.specs.Plans.{Plan, no_plans, plan}
 use Rattle.do_derivation.specs.View.{step_view}
 use Rattle.do_derivation.specs.declared.steps.Step.{Split, Then}
 use Rattle.identification.specs.Derivations.{single}
-use Rattle.id_recursion.specs.Lists.{onto}
-use Rattle.id_recursion.proofs.StepLists.{onto_more, onto_nothing}
+use Rattle.district_factors.specs.Lists.{onto}
+use Rattle.district_factors.proofs.Steps.{onto_more, onto_nothing}
 use Rattle.conditional_theory.specs.Conditionals.{summed_steps}
 use Rattle.conditional_id.proofs.Lists.{parted, whole_steps}
 use Rattle.conditional_id.proofs.dividing.divided_steps.Goals as goal

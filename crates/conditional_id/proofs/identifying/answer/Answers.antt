@@ -1,10 +1,15 @@
 use Rattle.std.proofs.Common.{false, refl, sym, ◌∙◌, eqb-true, arith}
-use Rattle.mixed_graph.proofs.Masks.{some_member}
 use Rattle.mixed_graph.specs.Shown.{graph_of}
 use Rattle.prob_expr.specs.View.{target_view}
 use Rattle.identification.proofs.Bools.{clash}
+use Rattle.conditional_theory.specs.Conditionals.{IsConditionalTarget}
+use Rattle.conditional_id.proofs.Found.{target_with}
 use Rattle.conditional_id.proofs.RightAnswers.{no_joint_hedge}
 use Rattle.conditional_id.proofs.identifying.answer.Goals as goal
+use Rattle.conditional_id.proofs.identifying.answer.Goals.{After-is_empty}
+
+target : (c : After-is_empty) → IsConditionalTarget (graph_of c.args.g.now) (target_view c.args.t)
+target c = target_with (graph_of c.args.g.now) c.args.t.x.bits c.args.t.y.bits c.args.t.given.bits c.requires.sets c.requires.some (omega arith)
 
 pub returns-then-is_empty-2-clause-exact : goal.returns-then-is_empty-2-clause-exact
 returns-then-is_empty-2-clause-exact c = (
@@ -13,10 +18,10 @@ returns-then-is_empty-2-clause-exact c = (
 )
 
 pub returns-then-is_empty-clause-target : goal.returns-then-is_empty-clause-target
-returns-then-is_empty-clause-target c = record { sets = c.requires.sets; some = some_member c.args.t.y.bits (λ z. absurd (let p = c.requires.some in omega (arith, p, z))) (omega arith) }
+returns-then-is_empty-clause-target c = target (goal.at.returns-then-is_empty-clause-target c).After-is_empty
 
 pub returns-then-is_empty-2-clause-target : goal.returns-then-is_empty-2-clause-target
-returns-then-is_empty-2-clause-target c = record { sets = c.requires.sets; some = some_member c.args.t.y.bits (λ z. absurd (let p = c.requires.some in omega (arith, p, z))) (omega arith) }
+returns-then-is_empty-2-clause-target c = target (goal.at.returns-then-is_empty-2-clause-target c).After-is_empty
 
 pub returns-clause-target : goal.returns-clause-target
-returns-clause-target c = record { sets = c.requires.sets; some = some_member c.args.t.y.bits (λ z. absurd (let p = c.requires.some in omega (arith, p, z))) (omega arith) }
+returns-clause-target c = target (goal.at.returns-clause-target c).After-is_empty

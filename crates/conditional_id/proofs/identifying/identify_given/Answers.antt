@@ -1,66 +1,34 @@
 use Rattle.mixed_graph.specs.Shown.{graph_of}
 use Rattle.prob_expr.specs.View.{target_view}
 use Rattle.id_recursion.proofs.RightAnswers.{if_ok}
+use Rattle.conditional_theory.proofs.Answered.{conditional_is_right, conditional_is_shallow, derived_is_conditional}
 use Rattle.conditional_id.specs.Answers.{IsAnswerGiven}
-use Rattle.conditional_id.proofs.RightAnswers.{right, formula, derived, plain, accepted, formed, do_free, names, equals, shallow, few, joint, shown, plain_joint, counters}
+use Rattle.conditional_id.proofs.RightAnswers.{right, joint_effect, plain_of, plain_sets, if_formula, if_joint}
 use Rattle.conditional_id.proofs.identifying.identify_given.Goals as goal
 
-pub returns-clause-right : goal.returns-clause-right
-returns-clause-right c = if_ok c.answer.result (IsAnswerGiven (graph_of c.args.g.now) (target_view c.args.t.now)) _
-    (right (graph_of c.args.g.now) c.args.g.now.valid (target_view c.args.t.now) c.answer.ensures.target) c.answer.ensures.answer
-
-pub returns-clause-formula : goal.returns-clause-formula
-returns-clause-formula c = if_ok c.answer.result (IsAnswerGiven (graph_of c.args.g.now) (target_view c.args.t.now)) _
-    (formula (graph_of c.args.g.now) c.args.g.now.valid (target_view c.args.t.now) c.answer.ensures.target) c.answer.ensures.answer
-
-pub returns-clause-derived : goal.returns-clause-derived
-returns-clause-derived c = if_ok c.answer.result (IsAnswerGiven (graph_of c.args.g.now) (target_view c.args.t.now)) _
-    (derived (graph_of c.args.g.now) c.args.g.now.valid (target_view c.args.t.now) c.answer.ensures.target) c.answer.ensures.answer
-
-pub returns-clause-plain : goal.returns-clause-plain
-returns-clause-plain c = λ e. if_ok c.answer.result (IsAnswerGiven (graph_of c.args.g.now) (target_view c.args.t.now)) _
-    (plain (graph_of c.args.g.now) c.args.g.now.valid (target_view c.args.t.now) c.answer.ensures.target e) c.answer.ensures.answer
-
-pub returns-clause-accepted : goal.returns-clause-accepted
-returns-clause-accepted c = if_ok c.answer.result (IsAnswerGiven (graph_of c.args.g.now) (target_view c.args.t.now)) _
-    (accepted (graph_of c.args.g.now) c.args.g.now.valid (target_view c.args.t.now) c.answer.ensures.target) c.answer.ensures.answer
-
-pub returns-clause-formed : goal.returns-clause-formed
-returns-clause-formed c = if_ok c.answer.result (IsAnswerGiven (graph_of c.args.g.now) (target_view c.args.t.now)) _
-    (formed (graph_of c.args.g.now) c.args.g.now.valid (target_view c.args.t.now) c.answer.ensures.target) c.answer.ensures.answer
-
-pub returns-clause-do_free : goal.returns-clause-do_free
-returns-clause-do_free c = if_ok c.answer.result (IsAnswerGiven (graph_of c.args.g.now) (target_view c.args.t.now)) _
-    (do_free (graph_of c.args.g.now) c.args.g.now.valid (target_view c.args.t.now) c.answer.ensures.target) c.answer.ensures.answer
-
-pub returns-clause-names : goal.returns-clause-names
-returns-clause-names c = if_ok c.answer.result (IsAnswerGiven (graph_of c.args.g.now) (target_view c.args.t.now)) _
-    (names (graph_of c.args.g.now) c.args.g.now.valid (target_view c.args.t.now) c.answer.ensures.target) c.answer.ensures.answer
-
-pub returns-clause-effect : goal.returns-clause-effect
-returns-clause-effect c = if_ok c.answer.result (IsAnswerGiven (graph_of c.args.g.now) (target_view c.args.t.now)) _
-    (equals (graph_of c.args.g.now) c.args.g.now.valid (target_view c.args.t.now) c.answer.ensures.target) c.answer.ensures.answer
-
-pub returns-clause-shallow : goal.returns-clause-shallow
-returns-clause-shallow c = if_ok c.answer.result (IsAnswerGiven (graph_of c.args.g.now) (target_view c.args.t.now)) _
-    (shallow (graph_of c.args.g.now) c.args.g.now.valid (target_view c.args.t.now) c.answer.ensures.target) c.answer.ensures.answer
-
-pub returns-clause-few : goal.returns-clause-few
-returns-clause-few c = if_ok c.answer.result (IsAnswerGiven (graph_of c.args.g.now) (target_view c.args.t.now)) _
-    (few (graph_of c.args.g.now) c.args.g.now.valid (target_view c.args.t.now) c.answer.ensures.target) c.answer.ensures.answer
-
-pub returns-clause-joint : goal.returns-clause-joint
-returns-clause-joint c = if_ok c.answer.result (IsAnswerGiven (graph_of c.args.g.now) (target_view c.args.t.now)) _
-    (joint (graph_of c.args.g.now) c.args.g.now.valid (target_view c.args.t.now) c.answer.ensures.target) c.answer.ensures.answer
-
-pub returns-clause-shown : goal.returns-clause-shown
-returns-clause-shown c = if_ok c.answer.result (IsAnswerGiven (graph_of c.args.g.now) (target_view c.args.t.now)) _
-    (shown (graph_of c.args.g.now) c.args.g.now.valid (target_view c.args.t.now) c.answer.ensures.target) c.answer.ensures.answer
-
-pub returns-clause-plain_joint : goal.returns-clause-plain_joint
-returns-clause-plain_joint c = λ e. if_ok c.answer.result (IsAnswerGiven (graph_of c.args.g.now) (target_view c.args.t.now)) _
-    (plain_joint (graph_of c.args.g.now) c.args.g.now.valid (target_view c.args.t.now) c.answer.ensures.target e) c.answer.ensures.answer
-
-pub returns-clause-counter : goal.returns-clause-counter
-returns-clause-counter c = if_ok c.answer.result (IsAnswerGiven (graph_of c.args.g.now) (target_view c.args.t.now)) _
-    (counters (graph_of c.args.g.now) c.args.g.now.valid (target_view c.args.t.now) c.answer.ensures.target) c.answer.ensures.answer
+pub returns : goal.returns
+returns c =
+    let g = graph_of c.args.g.now in
+    let valid = c.args.g.now.valid in
+    let t = target_view c.args.t.now in
+    let k = c.answer.ensures.target in
+    let r = c.answer.result in
+    let found = c.answer.ensures.answer in
+    record {
+      right = if_ok r (IsAnswerGiven g t) _ (right g valid t k) found;
+      exact = c.answer.ensures.exact;
+      formula = if_formula g t r _ (λ f d i few. derived_is_conditional g t f d i) found;
+      derived = if_formula g t r _ (λ f d i few. i) found;
+      plain = λ e. if_formula g t r _ (λ f d i few. plain_of g t e f d i) found;
+      accepted = if_formula g t r _ (λ f d i few. (conditional_is_right g valid t k f d i).accepted) found;
+      formed = if_formula g t r _ (λ f d i few. (conditional_is_right g valid t k f d i).formed) found;
+      do_free = if_formula g t r _ (λ f d i few. (conditional_is_right g valid t k f d i).do_free) found;
+      names = if_formula g t r _ (λ f d i few. (conditional_is_right g valid t k f d i).names) found;
+      effect = if_formula g t r _ (λ f d i few. (conditional_is_right g valid t k f d i).effect) found;
+      shallow = if_formula g t r _ (λ f d i few. conditional_is_shallow g valid t k f d i) found;
+      few = if_formula g t r _ (λ f d i few. few) found;
+      joint = if_joint g t r _ (λ x y h pair i is. joint_effect g valid t k x y h pair i) found;
+      shown = if_joint g t r _ (λ x y h pair i is. i) found;
+      plain_joint = λ e. if_joint g t r _ (λ x y h pair i is. plain_sets g t e x y h pair i) found;
+      counter = if_joint g t r _ (λ x y h pair i is. is.counter) found;
+    }

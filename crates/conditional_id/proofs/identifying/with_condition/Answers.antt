@@ -1,22 +1,19 @@
-use Rattle.std.proofs.Common.{◌≤◌, ◌↔◌, true, false, subst, inr, length, IsTrue, arith}
+use Rattle.std.proofs.Common.{◌≤◌, subst, inr, length, arith}
 use Rattle.mixed_graph.specs.Shown.{graph_of}
-use Rattle.mixed_graph.proofs.Masks.{some_member}
 use Rattle.prob_expr.specs.View.{formula_view, target_view}
 use Rattle.do_derivation.specs.View.{derivation_view}
 use Rattle.identification.specs.Derivations.{IsDerived}
-use Rattle.hedge.specs.Hedges.{IsHedge}
-use Rattle.hedge.specs.declared.hedge.Hedge.{Hedge}
-use Rattle.id_recursion.specs.Answers.{is_hedge, IfFormula}
+use Rattle.id_recursion.specs.Answers.{IfFormula}
 use Rattle.conditional_theory.proofs.Turning.{targeted}
 use Rattle.conditional_theory.specs.Conditionals.{IsConditionalTarget}
-use Rattle.conditional_id.proofs.Found.{exact_for, given_formula, joint_sets, some_positive}
+use Rattle.conditional_id.proofs.Found.{exact_for, given_formula, joint_sets, some_positive, target_with}
 use Rattle.conditional_id.proofs.identifying.with_condition.Goals as goal
 use Rattle.conditional_id.proofs.identifying.with_condition.Goals.{After-union-joint}
 
 -- the joint effect's sets
 sets : (c : After-union-joint) → IsConditionalTarget (graph_of c.args.g.now) (targeted c.in_ok-turned.turned.doing.bits c.union-joint.result.bits 0)
-sets c = joint_sets (graph_of c.args.g.now) c.args.t.x.bits c.args.t.y.bits c.args.t.given.bits c.requires.sets
-    (some_member c.args.t.y.bits (λ z. absurd (let p = c.requires.some in omega (arith, p, z))) (omega arith)) c.in_ok-turned.turned c.in_ok-turned.ensures c.union-joint.result.bits c.union-joint.ensures.mask
+sets c = joint_sets (graph_of c.args.g.now) c.args.t.x.bits c.args.t.y.bits c.args.t.given.bits
+    (target_with (graph_of c.args.g.now) c.args.t.x.bits c.args.t.y.bits c.args.t.given.bits c.requires.sets c.requires.some (omega arith)) c.in_ok-turned.turned c.in_ok-turned.ensures c.union-joint.result.bits c.union-joint.ensures.mask
 
 pub identify-requires-clause-x_within : goal.identify-requires-clause-x_within
 identify-requires-clause-x_within c = (sets (goal.at.identify-requires-clause-x_within c).After-union-joint).sets.x_within
@@ -42,18 +39,12 @@ returns-in_ok-formula-in-Formula-clause-answer c =
 
 pub returns-in_ok-formula-in-Formula-clause-exact : goal.returns-in_ok-formula-in-Formula-clause-exact
 returns-in_ok-formula-in-Formula-clause-exact c =
-    let g = graph_of c.args.g.now in
     let r = c.in_ok-turned.turned in
     let m = c.in_ok-turned.ensures in
-    let w = c.union-joint.result.bits in
-    exact_for g (target_view c.args.t) r.doing.bits r.left.bits m.moved (inr (c.requires.doing, m.turned)) w c.union-joint.ensures.mask false
-    (subst (λ a. IsTrue (is_hedge a) ↔ ((h : Hedge) × IsHedge g r.doing.bits w h)) c.in-Formula.is c.in_ok-undivided.ensures.exact)
+    exact_for (graph_of c.args.g.now) (target_view c.args.t) r.doing.bits r.left.bits m.moved (inr (c.requires.doing, m.turned)) c.union-joint.result.bits c.union-joint.ensures.mask _ _ c.in-Formula.is c.in_ok-undivided.ensures.exact
 
 pub returns-in-Hedge-clause-exact : goal.returns-in-Hedge-clause-exact
 returns-in-Hedge-clause-exact c =
-    let g = graph_of c.args.g.now in
     let r = c.in_ok-turned.turned in
     let m = c.in_ok-turned.ensures in
-    let w = c.union-joint.result.bits in
-    exact_for g (target_view c.args.t) r.doing.bits r.left.bits m.moved (inr (c.requires.doing, m.turned)) w c.union-joint.ensures.mask true
-    (subst (λ a. IsTrue (is_hedge a) ↔ ((h : Hedge) × IsHedge g r.doing.bits w h)) c.in-Hedge.is c.in_ok-undivided.ensures.exact)
+    exact_for (graph_of c.args.g.now) (target_view c.args.t) r.doing.bits r.left.bits m.moved (inr (c.requires.doing, m.turned)) c.union-joint.result.bits c.union-joint.ensures.mask _ _ c.in-Hedge.is c.in_ok-undivided.ensures.exact

@@ -1,22 +1,16 @@
-use Rattle.std.proofs.Common.{◌↔◌, true, false, refl, sym, subst, [], IsTrue}
+use Rattle.std.proofs.Common.{refl, sym, subst, []}
 use Rattle.mixed_graph.specs.Shown.{graph_of}
 use Rattle.hedge.specs.Hedges.{IsHedge}
-use Rattle.hedge.specs.declared.hedge.Hedge.{Hedge}
 use Rattle.counter_models.specs.Pairs.{IsPairOf}
 use Rattle.identification.specs.Procedure.{IsUnidentified}
-use Rattle.id_recursion.specs.Answers.{effect_on, is_hedge, IfHedge, IsRight}
+use Rattle.id_recursion.specs.Answers.{effect_on, IfHedge, IsRight}
 use Rattle.id_recursion.specs.Hedged.{IsHedgeOf}
 use Rattle.conditional_theory.proofs.Dividing.{join-zero}
-use Rattle.conditional_id.proofs.Found.{exact_for, turned_none}
+use Rattle.conditional_id.proofs.Found.{exact_plain, turned_none}
 use Rattle.conditional_id.proofs.identifying.without_condition.Goals as goal
 
 pub returns-in-Formula-clause-exact : goal.returns-in-Formula-clause-exact
-returns-in-Formula-clause-exact c =
-    let g = graph_of c.args.g.now in
-    let x = c.args.x.bits in
-    let y = c.args.y.bits in
-    exact_for g (effect_on x y) x 0 [] (turned_none g (effect_on x y) refl) y (sym (join-zero y)) false
-    (subst (λ a. IsTrue (is_hedge a) ↔ ((h : Hedge) × IsHedge g x y h)) c.in-Formula.is c.in_ok-formula.ensures.exact)
+returns-in-Formula-clause-exact c = exact_plain (graph_of c.args.g.now) c.args.x.bits c.args.y.bits _ _ c.in-Formula.is c.in_ok-formula.ensures.exact
 
 pub returns-in-Hedge-clause-answer : goal.returns-in-Hedge-clause-answer
 returns-in-Hedge-clause-answer c =
@@ -37,9 +31,4 @@ returns-in-Hedge-clause-answer c =
     )
 
 pub returns-in-Hedge-clause-exact : goal.returns-in-Hedge-clause-exact
-returns-in-Hedge-clause-exact c =
-    let g = graph_of c.args.g.now in
-    let x = c.args.x.bits in
-    let y = c.args.y.bits in
-    exact_for g (effect_on x y) x 0 [] (turned_none g (effect_on x y) refl) y (sym (join-zero y)) true
-    (subst (λ a. IsTrue (is_hedge a) ↔ ((h : Hedge) × IsHedge g x y h)) c.in-Hedge.is c.in_ok-formula.ensures.exact)
+returns-in-Hedge-clause-exact c = exact_plain (graph_of c.args.g.now) c.args.x.bits c.args.y.bits _ _ c.in-Hedge.is c.in_ok-formula.ensures.exact

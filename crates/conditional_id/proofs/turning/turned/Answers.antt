@@ -1,13 +1,13 @@
 use Rattle.std.proofs.Common.{◌<◌, sym, subst, ap, ◌∙◌, arith}
 use Rattle.mixed_graph.specs.Shown.{graph_of}
-use Rattle.mixed_graph.proofs.Masks.{some_member}
 use Rattle.mixed_graph.specs.Masks.{minus}
+use Rattle.conditional_id.proofs.Found.{target_with}
 use Rattle.conditional_id.proofs.Moving.{move_smaller, moving_all, moving_more, moving_none}
 use Rattle.conditional_id.proofs.turning.turned.Goals as goal
 
 pub moves-init : goal.moves-init
-moves-init c = moving_none (graph_of c.args.g.now) c.args.y.bits c.args.x.bits c.args.given.bits c.requires.sets
-    (some_member c.args.y.bits (λ z. absurd (let p = c.requires.some in omega (arith, p, z))) (omega arith)) c.new-steps.result.items c.new-steps.ensures.items
+moves-init c = moving_none (graph_of c.args.g.now) c.args.y.bits c.args.x.bits c.args.given.bits
+    (target_with (graph_of c.args.g.now) c.args.x.bits c.args.y.bits c.args.given.bits c.requires.sets c.requires.some (omega arith)) c.new-steps.result.items c.new-steps.ensures.items
 
 pub lowest_turning-requires-clause-sets : goal.lowest_turning-requires-clause-sets
 lowest_turning-requires-clause-sets c = c.moves.invariant.target.sets

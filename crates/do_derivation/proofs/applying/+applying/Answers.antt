@@ -1,13 +1,11 @@
-use Rattle.std.proofs.Common.{◌≡◌, Some, refl, sym, subst, ap, ◌∙◌, rules, arith}
+use Rattle.std.proofs.Common.{◌≡◌, Some, refl, ap, ◌∙◌, rules, arith}
 use Rattle.mixed_graph.specs.Shown.{graph_of}
 use Rattle.prob_expr.specs.Listed.{masks_of}
 use Rattle.prob_expr.specs.Tree.{sum, quotient}
 use Rattle.prob_expr.specs.View.{view, views}
 use Rattle.prob_expr.proofs.Views.{view-Product}
-use Rattle.do_derivation.specs.Applied.{IsApplied}
-use Rattle.do_derivation.specs.Plans.{Move}
 use Rattle.do_derivation.specs.Shapes.{child}
-use Rattle.do_derivation.specs.View.{step_view, listed, numbers_of}
+use Rattle.do_derivation.specs.View.{step_view}
 use Rattle.do_derivation.proofs.StepViews
 use Rattle.do_derivation.proofs.Turns
 use Rattle.do_derivation.proofs.Views.{view-Sum, view-Quotient}
@@ -54,99 +52,43 @@ apply_factor-apply_step-requires t c =
     (search rules, Turns.factor_terms c.args.g.now.n (views c.args.factors.items) c.args.i (view c.take_factor-child.result) c.requires.terms c.take_factor-child.ensures.taken)
 
 pub apply_step-returns-in-Rule1In : goal.apply_step-returns-in-Rule1In
-apply_step-returns-in-Rule1In t c =
-    record {
-      applied = subst (λ p. IsApplied (graph_of c.args.g.now) (masks_of c.args.lemmas.now) p (view c.args.e) c.args.count.now c.counted.new.count c.counted.result) (sym (ap step_view c.in-Rule1In.is ∙ StepViews.step-Rule1In c.in-Rule1In.z))
-          (c.counted.ensures (graph_of c.args.g.now) (masks_of c.args.lemmas.now) (Move.Rule1In c.in-Rule1In.z.bits) (view c.args.e) c.rule1_in.ensures.row);
-    }
+apply_step-returns-in-Rule1In t c = record { applied = Turns.moved (graph_of c.args.g.now) (masks_of c.args.lemmas.now) (view c.args.e) c.args.count.now c.counted.new.count c.rule1_in.result c.counted.result c.in-Rule1In.is (StepViews.step-Rule1In c.in-Rule1In.z) c.counted.ensures c.rule1_in.ensures.row }
 
 pub apply_step-returns-in-Rule1Out : goal.apply_step-returns-in-Rule1Out
-apply_step-returns-in-Rule1Out t c =
-    record {
-      applied = subst (λ p. IsApplied (graph_of c.args.g.now) (masks_of c.args.lemmas.now) p (view c.args.e) c.args.count.now c.counted-in-Rule1Out.new.count c.counted-in-Rule1Out.result) (sym (ap step_view c.in-Rule1Out.is ∙ StepViews.step-Rule1Out c.in-Rule1Out.z))
-          (c.counted-in-Rule1Out.ensures (graph_of c.args.g.now) (masks_of c.args.lemmas.now) (Move.Rule1Out c.in-Rule1Out.z.bits) (view c.args.e) c.rule1_out.ensures.row);
-    }
+apply_step-returns-in-Rule1Out t c = record { applied = Turns.moved (graph_of c.args.g.now) (masks_of c.args.lemmas.now) (view c.args.e) c.args.count.now c.counted-in-Rule1Out.new.count c.rule1_out.result c.counted-in-Rule1Out.result c.in-Rule1Out.is (StepViews.step-Rule1Out c.in-Rule1Out.z) c.counted-in-Rule1Out.ensures c.rule1_out.ensures.row }
 
 pub apply_step-returns-in-Rule2See : goal.apply_step-returns-in-Rule2See
-apply_step-returns-in-Rule2See t c =
-    record {
-      applied = subst (λ p. IsApplied (graph_of c.args.g.now) (masks_of c.args.lemmas.now) p (view c.args.e) c.args.count.now c.counted-in-Rule2See.new.count c.counted-in-Rule2See.result) (sym (ap step_view c.in-Rule2See.is ∙ StepViews.step-Rule2See c.in-Rule2See.z))
-          (c.counted-in-Rule2See.ensures (graph_of c.args.g.now) (masks_of c.args.lemmas.now) (Move.Rule2See c.in-Rule2See.z.bits) (view c.args.e) c.rule2_see.ensures.row);
-    }
+apply_step-returns-in-Rule2See t c = record { applied = Turns.moved (graph_of c.args.g.now) (masks_of c.args.lemmas.now) (view c.args.e) c.args.count.now c.counted-in-Rule2See.new.count c.rule2_see.result c.counted-in-Rule2See.result c.in-Rule2See.is (StepViews.step-Rule2See c.in-Rule2See.z) c.counted-in-Rule2See.ensures c.rule2_see.ensures.row }
 
 pub apply_step-returns-in-Rule2Do : goal.apply_step-returns-in-Rule2Do
-apply_step-returns-in-Rule2Do t c =
-    record {
-      applied = subst (λ p. IsApplied (graph_of c.args.g.now) (masks_of c.args.lemmas.now) p (view c.args.e) c.args.count.now c.counted-in-Rule2Do.new.count c.counted-in-Rule2Do.result) (sym (ap step_view c.in-Rule2Do.is ∙ StepViews.step-Rule2Do c.in-Rule2Do.z))
-          (c.counted-in-Rule2Do.ensures (graph_of c.args.g.now) (masks_of c.args.lemmas.now) (Move.Rule2Do c.in-Rule2Do.z.bits) (view c.args.e) c.rule2_do.ensures.row);
-    }
+apply_step-returns-in-Rule2Do t c = record { applied = Turns.moved (graph_of c.args.g.now) (masks_of c.args.lemmas.now) (view c.args.e) c.args.count.now c.counted-in-Rule2Do.new.count c.rule2_do.result c.counted-in-Rule2Do.result c.in-Rule2Do.is (StepViews.step-Rule2Do c.in-Rule2Do.z) c.counted-in-Rule2Do.ensures c.rule2_do.ensures.row }
 
 pub apply_step-returns-in-Rule3In : goal.apply_step-returns-in-Rule3In
-apply_step-returns-in-Rule3In t c =
-    record {
-      applied = subst (λ p. IsApplied (graph_of c.args.g.now) (masks_of c.args.lemmas.now) p (view c.args.e) c.args.count.now c.counted-in-Rule3In.new.count c.counted-in-Rule3In.result) (sym (ap step_view c.in-Rule3In.is ∙ StepViews.step-Rule3In c.in-Rule3In.z))
-          (c.counted-in-Rule3In.ensures (graph_of c.args.g.now) (masks_of c.args.lemmas.now) (Move.Rule3In c.in-Rule3In.z.bits) (view c.args.e) c.rule3_in.ensures.row);
-    }
+apply_step-returns-in-Rule3In t c = record { applied = Turns.moved (graph_of c.args.g.now) (masks_of c.args.lemmas.now) (view c.args.e) c.args.count.now c.counted-in-Rule3In.new.count c.rule3_in.result c.counted-in-Rule3In.result c.in-Rule3In.is (StepViews.step-Rule3In c.in-Rule3In.z) c.counted-in-Rule3In.ensures c.rule3_in.ensures.row }
 
 pub apply_step-returns-in-Rule3Out : goal.apply_step-returns-in-Rule3Out
-apply_step-returns-in-Rule3Out t c =
-    record {
-      applied = subst (λ p. IsApplied (graph_of c.args.g.now) (masks_of c.args.lemmas.now) p (view c.args.e) c.args.count.now c.counted-in-Rule3Out.new.count c.counted-in-Rule3Out.result) (sym (ap step_view c.in-Rule3Out.is ∙ StepViews.step-Rule3Out c.in-Rule3Out.z))
-          (c.counted-in-Rule3Out.ensures (graph_of c.args.g.now) (masks_of c.args.lemmas.now) (Move.Rule3Out c.in-Rule3Out.z.bits) (view c.args.e) c.rule3_out.ensures.row);
-    }
+apply_step-returns-in-Rule3Out t c = record { applied = Turns.moved (graph_of c.args.g.now) (masks_of c.args.lemmas.now) (view c.args.e) c.args.count.now c.counted-in-Rule3Out.new.count c.rule3_out.result c.counted-in-Rule3Out.result c.in-Rule3Out.is (StepViews.step-Rule3Out c.in-Rule3Out.z) c.counted-in-Rule3Out.ensures c.rule3_out.ensures.row }
 
 pub apply_step-returns-in-Chain : goal.apply_step-returns-in-Chain
-apply_step-returns-in-Chain t c =
-    record {
-      applied = subst (λ p. IsApplied (graph_of c.args.g.now) (masks_of c.args.lemmas.now) p (view c.args.e) c.args.count.now c.counted-in-Chain.new.count c.counted-in-Chain.result) (sym (ap step_view c.in-Chain.is ∙ StepViews.step-Chain c.in-Chain.order))
-          (c.counted-in-Chain.ensures (graph_of c.args.g.now) (masks_of c.args.lemmas.now) (Move.Chain (listed c.in-Chain.order)) (view c.args.e) c.chain.ensures.row);
-    }
+apply_step-returns-in-Chain t c = record { applied = Turns.moved (graph_of c.args.g.now) (masks_of c.args.lemmas.now) (view c.args.e) c.args.count.now c.counted-in-Chain.new.count c.chain.result c.counted-in-Chain.result c.in-Chain.is (StepViews.step-Chain c.in-Chain.order) c.counted-in-Chain.ensures c.chain.ensures.row }
 
 pub apply_step-returns-in-Unchain : goal.apply_step-returns-in-Unchain
-apply_step-returns-in-Unchain t c =
-    record {
-      applied = subst (λ p. IsApplied (graph_of c.args.g.now) (masks_of c.args.lemmas.now) p (view c.args.e) c.args.count.now c.counted-in-Unchain.new.count c.counted-in-Unchain.result) (sym (ap step_view c.in-Unchain.is ∙ StepViews.step-Unchain))
-          (c.counted-in-Unchain.ensures (graph_of c.args.g.now) (masks_of c.args.lemmas.now) (Move.Unchain) (view c.args.e) c.unchain.ensures.row);
-    }
+apply_step-returns-in-Unchain t c = record { applied = Turns.moved (graph_of c.args.g.now) (masks_of c.args.lemmas.now) (view c.args.e) c.args.count.now c.counted-in-Unchain.new.count c.unchain.result c.counted-in-Unchain.result c.in-Unchain.is StepViews.step-Unchain c.counted-in-Unchain.ensures c.unchain.ensures.row }
 
 pub apply_step-returns-in-Group : goal.apply_step-returns-in-Group
-apply_step-returns-in-Group t c =
-    record {
-      applied = subst (λ p. IsApplied (graph_of c.args.g.now) (masks_of c.args.lemmas.now) p (view c.args.e) c.args.count.now c.counted-in-Group.new.count c.counted-in-Group.result) (sym (ap step_view c.in-Group.is ∙ StepViews.step-Group c.in-Group.groups))
-          (c.counted-in-Group.ensures (graph_of c.args.g.now) (masks_of c.args.lemmas.now) (Move.Group (numbers_of c.in-Group.groups.items)) (view c.args.e) c.group.ensures.row);
-    }
+apply_step-returns-in-Group t c = record { applied = Turns.moved (graph_of c.args.g.now) (masks_of c.args.lemmas.now) (view c.args.e) c.args.count.now c.counted-in-Group.new.count c.group.result c.counted-in-Group.result c.in-Group.is (StepViews.step-Group c.in-Group.groups) c.counted-in-Group.ensures c.group.ensures.row }
 
 pub apply_step-returns-in-Widen : goal.apply_step-returns-in-Widen
-apply_step-returns-in-Widen t c =
-    record {
-      applied = subst (λ p. IsApplied (graph_of c.args.g.now) (masks_of c.args.lemmas.now) p (view c.args.e) c.args.count.now c.counted-in-Widen.new.count c.counted-in-Widen.result) (sym (ap step_view c.in-Widen.is ∙ StepViews.step-Widen c.in-Widen.u))
-          (c.counted-in-Widen.ensures (graph_of c.args.g.now) (masks_of c.args.lemmas.now) (Move.Widen c.in-Widen.u.bits) (view c.args.e) c.widen.ensures.row);
-    }
+apply_step-returns-in-Widen t c = record { applied = Turns.moved (graph_of c.args.g.now) (masks_of c.args.lemmas.now) (view c.args.e) c.args.count.now c.counted-in-Widen.new.count c.widen.result c.counted-in-Widen.result c.in-Widen.is (StepViews.step-Widen c.in-Widen.u) c.counted-in-Widen.ensures c.widen.ensures.row }
 
 pub apply_step-returns-in-Narrow : goal.apply_step-returns-in-Narrow
-apply_step-returns-in-Narrow t c =
-    record {
-      applied = subst (λ p. IsApplied (graph_of c.args.g.now) (masks_of c.args.lemmas.now) p (view c.args.e) c.args.count.now c.counted-in-Narrow.new.count c.counted-in-Narrow.result) (sym (ap step_view c.in-Narrow.is ∙ StepViews.step-Narrow))
-          (c.counted-in-Narrow.ensures (graph_of c.args.g.now) (masks_of c.args.lemmas.now) (Move.Narrow) (view c.args.e) c.narrow.ensures.row);
-    }
+apply_step-returns-in-Narrow t c = record { applied = Turns.moved (graph_of c.args.g.now) (masks_of c.args.lemmas.now) (view c.args.e) c.args.count.now c.counted-in-Narrow.new.count c.narrow.result c.counted-in-Narrow.result c.in-Narrow.is StepViews.step-Narrow c.counted-in-Narrow.ensures c.narrow.ensures.row }
 
 pub apply_step-returns-in-Split : goal.apply_step-returns-in-Split
-apply_step-returns-in-Split t c =
-    record {
-      applied = subst (λ p. IsApplied (graph_of c.args.g.now) (masks_of c.args.lemmas.now) p (view c.args.e) c.args.count.now c.counted-in-Split.new.count c.counted-in-Split.result) (sym (ap step_view c.in-Split.is ∙ StepViews.step-Split))
-          (c.counted-in-Split.ensures (graph_of c.args.g.now) (masks_of c.args.lemmas.now) (Move.Split) (view c.args.e) c.split.ensures.row);
-    }
+apply_step-returns-in-Split t c = record { applied = Turns.moved (graph_of c.args.g.now) (masks_of c.args.lemmas.now) (view c.args.e) c.args.count.now c.counted-in-Split.new.count c.split.result c.counted-in-Split.result c.in-Split.is StepViews.step-Split c.counted-in-Split.ensures c.split.ensures.row }
 
 pub apply_step-returns-in-Cite : goal.apply_step-returns-in-Cite
-apply_step-returns-in-Cite t c =
-    record {
-      applied = subst (λ p. IsApplied (graph_of c.args.g.now) (masks_of c.args.lemmas.now) p (view c.args.e) c.args.count.now c.counted-in-Cite.new.count c.counted-in-Cite.result) (sym (ap step_view c.in-Cite.is ∙ StepViews.step-Cite c.in-Cite.k))
-          (c.counted-in-Cite.ensures (graph_of c.args.g.now) (masks_of c.args.lemmas.now) (Move.Cite c.in-Cite.k) (view c.args.e) c.cite.ensures.row);
-    }
+apply_step-returns-in-Cite t c = record { applied = Turns.moved (graph_of c.args.g.now) (masks_of c.args.lemmas.now) (view c.args.e) c.args.count.now c.counted-in-Cite.new.count c.cite.result c.counted-in-Cite.result c.in-Cite.is (StepViews.step-Cite c.in-Cite.k) c.counted-in-Cite.ensures c.cite.ensures.row }
 
 pub apply_step-returns-in-Unwrap : goal.apply_step-returns-in-Unwrap
-apply_step-returns-in-Unwrap t c =
-    record {
-      applied = subst (λ p. IsApplied (graph_of c.args.g.now) (masks_of c.args.lemmas.now) p (view c.args.e) c.args.count.now c.counted-in-Unwrap.new.count c.counted-in-Unwrap.result) (sym (ap step_view c.in-Unwrap.is ∙ StepViews.step-Unwrap))
-          (c.counted-in-Unwrap.ensures (graph_of c.args.g.now) (masks_of c.args.lemmas.now) (Move.Unwrap) (view c.args.e) c.unwrap.ensures.row);
-    }
+apply_step-returns-in-Unwrap t c = record { applied = Turns.moved (graph_of c.args.g.now) (masks_of c.args.lemmas.now) (view c.args.e) c.args.count.now c.counted-in-Unwrap.new.count c.unwrap.result c.counted-in-Unwrap.result c.in-Unwrap.is StepViews.step-Unwrap c.counted-in-Unwrap.ensures c.unwrap.ensures.row }

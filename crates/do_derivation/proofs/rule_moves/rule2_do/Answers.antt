@@ -7,22 +7,17 @@ use Rattle.do_rules.specs.declared.rules.Rule.TheVariants.{Two}
 use Rattle.mixed_graph.specs.Masks.{join, minus}
 use Rattle.prob_expr.specs.Tree.{prob}
 use Rattle.prob_expr.specs.declared.expr.Expr.{Prob}
-use Rattle.prob_expr.specs.Terms.{are_terms}
 use Rattle.prob_expr.specs.View.{view}
 use Rattle.do_derivation.specs.Plans.{Move}
 use Rattle.do_derivation.specs.Steps.{IsMade, RowRefuses}
 use Rattle.do_derivation.specs.Table.{row, is_part}
 use Rattle.do_derivation.specs.declared.faults.StepFault.TheVariants.{Sets, Unblocked}
 use Rattle.do_derivation.proofs.Asked.{asked_made, asked_refused}
-use Rattle.do_derivation.proofs.Views.{view-Prob, given_four_sets}
+use Rattle.do_derivation.proofs.Views.{view-Prob, given_sets}
 use Rattle.do_derivation.proofs.rule_moves.rule2_do.Goals as goal
 
 pub rule2-requires-clause-sets : goal.rule2-requires-clause-sets
-rule2-requires-clause-sets c =
-    let seen = ap view c.in-Prob.is ∙ view-Prob c.in-Prob.of c.in-Prob.doing c.in-Prob.given in
-    let asked : is_part c.args.z.bits c.in-Prob.given.bits ≡ true = search rules in
-    let sets = given_four_sets c.args.g.now.n c.in-Prob.of.bits c.in-Prob.doing.bits c.in-Prob.given.bits c.args.z.bits (subst (λ x. are_terms c.args.g.now.n x ≡ true) seen c.requires.terms) asked in
-    rw c.difference-rest.ensures.mask sets
+rule2-requires-clause-sets c = given_sets c.args.g.now.n c.args.e c.in-Prob.of c.in-Prob.doing c.in-Prob.given c.args.z c.difference-rest.result.bits c.in-Prob.is c.requires.terms (search rules) c.difference-rest.ensures.mask
 
 pub returns-in-Ok : goal.returns-in-Ok
 returns-in-Ok c =

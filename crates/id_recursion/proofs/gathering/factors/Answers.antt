@@ -1,56 +1,61 @@
-use Rattle.std.proofs.Common.{◌<◌, ◌≤◌, get_or, take, drop, ◌+◌, map, length, refl, sym, subst, arith}
+use Rattle.std.proofs.Common.{◌≡◌, get_or, length, take, arith}
 use Rattle.mixed_graph.specs.Shown.{graph_of}
-use Rattle.mixed_graph.specs.declared.sets.VSet.{VSet}
 use Rattle.districts.specs.Linked.{IsMaximalJoined}
+use Rattle.districts.specs.Listed.{first_masks}
 use Rattle.do_derivation.specs.View.{listed}
-use Rattle.id_recursion.specs.Factored.{AreFactorsOf, IsStopOf, stop_for}
-use Rattle.id_recursion.proofs.GatheredFactors.{gathered_all, gathered_next, stopped_here, sets_all, set_at, set_in, sets_split, sets_more}
+use Rattle.identification.specs.Procedure.{StopsAt}
+use Rattle.id_recursion.proofs.GatheredFactors.{Derives, GoesOn, district_at, factor_goes_on, factors_of, gathered_none, turn_end, turn_next, turn_stop}
 use Rattle.id_recursion.proofs.gathering.factors.Goals as goal
-use Rattle.id_recursion.proofs.gathering.factors.Goals.{After-len}
+use Rattle.id_recursion.proofs.gathering.factors.Goals.{After-factor-found, After-len}
+
+pub loop-c-init : goal.loop-c-init
+loop-c-init c =
+    let g = graph_of c.args.g.now in
+    let order = listed c.args.order.now in
+    let no = c.no_factors-made.ensures in
+    gathered_none (Derives g order) (StopsAt g order) c.no_factors-made.result no.defs no.lemmas no.values no.lists
 
 -- the set at hand is a district
-maximal : (c : After-len) → IsMaximalJoined (graph_of c.args.g.now) c.args.d.bits (get_or (take c.args.parts.now.count c.args.parts.now.sets) c.loop-c.c-index (record { bits = 0 })).bits
-maximal c =
-    let sets = c.args.parts.now.sets in
-    let n = c.args.parts.now.count in
-    let lt : c.loop-c.c-index < length (take n sets) = c.loop-c-test.true in
-    subst (IsMaximalJoined (graph_of c.args.g.now) c.args.d.bits) (set_at sets n c.loop-c.c-index lt) (c.requires.districts c.loop-c.c-index 0 (set_in sets n c.loop-c.c-index lt))
+district : (c : After-len) → IsMaximalJoined (graph_of c.args.g.now) c.args.d.bits (get_or (take c.args.parts.now.count c.args.parts.now.sets) c.loop-c.c-index (record { bits = 0 })).bits
+district c = district_at c.args.parts.now.sets c.args.parts.now.count c.loop-c.c-index c.loop-c-test.true (graph_of c.args.g.now) c.args.d.bits c.requires.districts
 
-pub factor-requires-clause-within : goal.factor-requires-clause-within
-factor-requires-clause-within c = λ v i. c.requires.within v ((maximal (goal.at.factor-requires-clause-within c).After-len).inside v i)
+pub factor-found-requires-clause-within : goal.factor-found-requires-clause-within
+factor-found-requires-clause-within c = λ v i. c.requires.within v ((district (goal.at.factor-found-requires-clause-within c).After-len).inside v i)
 
-pub factor-requires-clause-some : goal.factor-requires-clause-some
-factor-requires-clause-some c = (maximal (goal.at.factor-requires-clause-some c).After-len).some
+pub factor-found-requires-clause-some : goal.factor-found-requires-clause-some
+factor-found-requires-clause-some c = (district (goal.at.factor-found-requires-clause-some c).After-len).some
 
-pub factor-requires-clause-joined : goal.factor-requires-clause-joined
-factor-requires-clause-joined c = (maximal (goal.at.factor-requires-clause-joined c).After-len).joined
+pub factor-found-requires-clause-joined : goal.factor-found-requires-clause-joined
+factor-found-requires-clause-joined c = (district (goal.at.factor-found-requires-clause-joined c).After-len).joined
+
+-- what was found for it
+counted : (c : After-factor-found) → c.len.result ≡ length c.loop-c.made.defs.items
+counted c = let e = c.len.ensures in let o = c.loop-c.made.defs.ok in omega (arith, e, o)
+
+goes_on : (c : After-factor-found) → GoesOn (Derives (graph_of c.args.g.now) (listed c.args.order.now)) (StopsAt (graph_of c.args.g.now) (listed c.args.order.now))
+    (get_or (take c.args.parts.now.count c.args.parts.now.sets) c.loop-c.c-index (record { bits = 0 })).bits c.len.result c.factor-found.result
+goes_on c = let is = c.factor-found.ensures in factor_goes_on (graph_of c.args.g.now) (listed c.args.order.now) (get_or (take c.args.parts.now.count c.args.parts.now.sets) c.loop-c.c-index (record { bits = 0 })).bits c.len.result c.factor-found.result
+    is.factor is.few is.paired is.fault
 
 pub returns-in-Err : goal.returns-in-Err
 returns-in-Err c =
-    let sets = c.args.parts.now.sets in
-    let n = c.args.parts.now.count in
-    let lt : c.loop-c.c-index < length (take n sets) = c.loop-c-test.true in
     let g = graph_of c.args.g.now in
     let order = listed c.args.order.now in
-    let set : VSet = get_or (take n sets) c.loop-c.c-index (record { bits = 0 }) in
-    subst (IsStopOf g order _) (sym c.stop_for.ensures)
-    (subst (λ ts. IsStopOf g order ts (stop_for set c.in-Err.fault)) (sym (sets_split sets n c.loop-c.c-index lt))
-    (stopped_here g order (map (λ (s : VSet). s.bits) (take c.loop-c.c-index (take n sets))) c.loop-c.made.defs.items c.loop-c.made.lemmas.items c.loop-c.made.values.items c.loop-c.made.lists.items c.loop-c.invariant
-    set (map (λ (s : VSet). s.bits) (drop (c.loop-c.c-index + 1) (take n sets))) c.in-Err.fault c.in-Err.ensures.fault))
+    let after = (goal.at.returns-in-Err c).After-factor-found in
+    turn_stop (Derives g order) (StopsAt g order) c.args.parts.now.sets c.args.parts.now.count c.loop-c.c-index c.loop-c.made c.loop-c.invariant
+    c.loop-c-test.true c.len.result c.factor-found.result c.in-Err.stop (counted after) (goes_on after) c.in-Err.ensures.stop
 
 pub loop-c-preserved : goal.loop-c-preserved
 loop-c-preserved c =
-    let sets = c.args.parts.now.sets in
-    let n = c.args.parts.now.count in
-    let lt : c.loop-c.c-index < length (take n sets) = c.loop-c-test.true in
-    gathered_next (graph_of c.args.g.now) (listed c.args.order.now) (map (λ (s : VSet). s.bits) (take c.loop-c.c-index (take n sets))) _ c.loop-c.made c.add_factor.new.made _ c.len.result c.in-Ok.more
-    c.loop-c.invariant (sets_more sets n c.loop-c.c-index lt) (let e = c.len.ensures in let o = c.loop-c.made.defs.ok in omega (arith, e, o)) c.in-Ok.ensures.factor c.in-Ok.ensures.few c.in-Ok.ensures.paired c.in-Ok-add_factor.ensures
+    let g = graph_of c.args.g.now in
+    let order = listed c.args.order.now in
+    let after = (goal.at.loop-c-preserved c).After-factor-found in
+    turn_next (Derives g order) (StopsAt g order) c.args.parts.now.sets c.args.parts.now.count c.loop-c.c-index c.loop-c.made c.loop-c.invariant
+    c.loop-c-test.true c.add_found.new.made c.len.result c.factor-found.result (counted after) (goes_on after) c.in-Ok.ensures.added
 
 pub returns : goal.returns
 returns c =
-    let sets = c.args.parts.now.sets in
-    let n = c.args.parts.now.count in
-    let le : length (take n sets) ≤ c.loop-c.c-index = c.loop-c-test.false in
-    subst (λ ts. AreFactorsOf (graph_of c.args.g.now) (listed c.args.order.now) ts c.loop-c.made) (sets_all sets n c.loop-c.c-index le)
-    (gathered_all (graph_of c.args.g.now) (listed c.args.order.now) (map (λ (s : VSet). s.bits) (take c.loop-c.c-index (take n sets))) c.loop-c.made.defs.items c.loop-c.made.lemmas.items c.loop-c.made.values.items c.loop-c.made.lists.items
-    c.loop-c.invariant c.loop-c.made refl refl refl refl)
+    let g = graph_of c.args.g.now in
+    let order = listed c.args.order.now in
+    factors_of g order (first_masks c.args.parts.now.sets c.args.parts.now.count) c.loop-c.made
+    (turn_end (Derives g order) (StopsAt g order) c.args.parts.now.sets c.args.parts.now.count c.loop-c.c-index c.loop-c.made c.loop-c.invariant c.loop-c-test.false)

@@ -1,6 +1,5 @@
-use Rattle.std.proofs.Common.{refl, arith}
-use Rattle.mixed_graph.proofs.PairMasks.{blank}
+use Rattle.std.proofs.Common.{length-take, arith}
 use Rattle.id_recursion.proofs.groups.in_order.Goals as goal
 
-pub loop-v-init : goal.loop-v-init
-loop-v-init c = record { made = refl; few = omega arith; sized = refl; blank = λ i _. blank 64 i }
+pub members_in-requires-clause-long : goal.members_in-requires-clause-long
+members_in-requires-clause-long c = (let n = length-take c.args.order.now.count c.args.order.now.list in let few = c.args.order.now.in_range in omega (arith, n, few))

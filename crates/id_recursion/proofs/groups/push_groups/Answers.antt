@@ -5,8 +5,8 @@ use Rattle.do_derivation.specs.View.{listed}
 use Rattle.do_derivation.specs.declared.steps.Step.{Group}
 use Rattle.do_derivation.proofs.StepViews.{step-Group}
 use Rattle.identification.specs.Derivations.{at_each, group_lists, unchain_lists, has_pair}
-use Rattle.id_recursion.specs.Lists.{onto, lists_view}
-use Rattle.id_recursion.proofs.StepLists.{onto_more}
+use Rattle.district_factors.specs.Lists.{onto, lists_view}
+use Rattle.district_factors.proofs.Steps.{onto_more}
 use Rattle.id_recursion.proofs.groups.push_groups.Goals as goal
 
 pub returns : goal.returns

@@ -3,8 +3,9 @@ use Rattle.std.proofs.lemmas.List.{at_drop_more, at_drop_all}
 use Rattle.mixed_graph.specs.declared.sets.VSet.{VSet}
 use Rattle.do_derivation.specs.View.{listed}
 use Rattle.identification.specs.Derivations.{more, unchain_lists}
-use Rattle.id_recursion.specs.Lists.{lists_onto}
-use Rattle.id_recursion.proofs.StepLists.{masks_taken, lists_more}
+use Rattle.district_factors.specs.Lists.{lists_onto}
+use Rattle.district_factors.proofs.Steps.{lists_more}
+use Rattle.id_recursion.proofs.StepLists.{masks_taken}
 use Rattle.id_recursion.proofs.groups.unchain_lists.Goals as goal
 
 pub loop-t-preserved : goal.loop-t-preserved

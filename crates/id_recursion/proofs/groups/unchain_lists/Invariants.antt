@@ -2,7 +2,7 @@ use Rattle.std.proofs.Common.{◌≡◌, length, drop, map}
 use Rattle.mixed_graph.specs.declared.sets.VSet.{VSet}
 use Rattle.do_derivation.specs.View.{listed}
 use Rattle.identification.specs.Derivations.{unchain_lists}
-use Rattle.id_recursion.specs.Lists.{lists_onto}
+use Rattle.district_factors.specs.Lists.{lists_onto}
 use Rattle.id_recursion.proofs.groups.unchain_lists.Given as goal
 
 abbrev pub invariant-loop-t : goal.invariant-loop-t

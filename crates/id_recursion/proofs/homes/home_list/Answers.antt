@@ -4,8 +4,9 @@ use Rattle.do_derivation.specs.Plans.{no_plans}
 use Rattle.do_derivation.specs.View.{step_view}
 use Rattle.do_derivation.specs.declared.steps.Step.{Rule2Do, Rule3In}
 use Rattle.identification.specs.Derivations.{with_set}
-use Rattle.id_recursion.specs.Lists.{onto}
-use Rattle.id_recursion.proofs.StepLists.{onto_nothing, home_is}
+use Rattle.district_factors.specs.Lists.{onto}
+use Rattle.district_factors.proofs.Steps.{onto_nothing, onto_with}
+use Rattle.id_recursion.proofs.StepLists.{home_is}
 use Rattle.id_recursion.proofs.homes.home_list.Goals as goal
 
 pub returns : goal.returns
@@ -16,7 +17,7 @@ returns c =
     let f = c.difference-later.result in
     let early : e.bits ≡ minus (common d c.args.before.bits) t = c.difference-earlier.ensures.mask ∙ ap (λ z. minus z t) c.intersection.ensures.mask in
     let late : f.bits ≡ minus (minus d t) (minus (common d c.args.before.bits) t) = c.difference-later.ensures.mask ∙ ap (λ z. minus z e.bits) c.difference.ensures.mask ∙ ap (minus (minus d t)) early in
-    sym (onto_nothing c.push_with-2.new.out.items) ∙ c.in_ok-push_with-2.ensures no_plans
-    ∙ c.in_ok-push_with.ensures (with_set f.bits (step_view (Rule3In f)) no_plans)
+    sym (onto_nothing c.push_with-2.new.out.items) ∙ onto_with c.push_with-2.new.out.items c.push_with.new.out.items f.bits (Rule3In f) c.in_ok-push_with-2.ensures no_plans
+    ∙ onto_with c.push_with.new.out.items c.new-out.result.items e.bits (Rule2Do e) c.in_ok-push_with.ensures (with_set f.bits (step_view (Rule3In f)) no_plans)
     ∙ ap (λ l. onto l (with_set e.bits (step_view (Rule2Do e)) (with_set f.bits (step_view (Rule3In f)) no_plans))) c.new-out.ensures.items
     ∙ home_is d t c.args.before.bits e f early late

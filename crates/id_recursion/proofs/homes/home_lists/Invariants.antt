@@ -1,7 +1,7 @@
 use Rattle.std.proofs.Common.{◌≡◌, ◌≤◌, length, drop}
 use Rattle.districts.specs.Listed.{first_masks}
 use Rattle.identification.specs.Derivations.{home_lists}
-use Rattle.id_recursion.specs.Lists.{lists_onto}
+use Rattle.district_factors.specs.Lists.{lists_onto}
 use Rattle.id_recursion.proofs.homes.home_lists.Given as goal
 
 abbrev pub invariant-loop-v : goal.invariant-loop-v

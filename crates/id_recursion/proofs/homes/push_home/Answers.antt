@@ -2,8 +2,8 @@ use Rattle.std.proofs.Common.{◌≡◌, true, cond, sym, ap, ◌∙◌, arith}
 use Rattle.mixed_graph.specs.Bits.{has}
 use Rattle.districts.specs.Listed.{first_masks}
 use Rattle.identification.specs.Derivations.{more, home, home_list}
-use Rattle.id_recursion.specs.Lists.{lists_onto}
-use Rattle.id_recursion.proofs.StepLists.{lists_more}
+use Rattle.district_factors.specs.Lists.{lists_onto}
+use Rattle.district_factors.proofs.Steps.{lists_more}
 use Rattle.id_recursion.proofs.homes.push_home.Goals as goal
 
 pub returns-clause-list : goal.returns-clause-list

@@ -1,51 +1,36 @@
-use Rattle.std.proofs.Common.{◌≡◌, ◌^◌, ◌<◌, arith}
+use Rattle.std.proofs.Common.{arith}
 use Rattle.mixed_graph.specs.Shown.{graph_of}
-use Rattle.mixed_graph.proofs.Masks.{some_member}
-use Rattle.identification.specs.Procedure.{IsTarget}
+use Rattle.counter_models.proofs.Final.{counter}
 use Rattle.id_recursion.specs.Answers.{IsAnswerOf}
-use Rattle.id_recursion.proofs.RightAnswers.{target_of, if_ok, right, exact, derived, accepted, formed, do_free, names, equals, shallow_steps, shallow_formula, counters}
+use Rattle.id_recursion.proofs.RightAnswers.{target_from, if_ok, if_formula, if_hedge, right, right_formula, exact, shallow_steps, shallow_formula}
 use Rattle.id_recursion.proofs.identifying.identify.Goals as goal
-use Rattle.id_recursion.proofs.identifying.identify.Goals.{After-answer}
 
-target : (c : After-answer) → IsTarget (graph_of c.args.g.now) c.args.x.bits c.args.y.bits
-target c = target_of (graph_of c.args.g.now) c.args.x.bits c.args.y.bits c.requires.x_within c.requires.y_within c.requires.apart (some_member c.args.y.bits (λ z. absurd (let p = c.requires.some in omega (arith, p, z))) (omega arith))
-
-pub returns-clause-right : goal.returns-clause-right
-returns-clause-right c = if_ok c.answer.result (IsAnswerOf (graph_of c.args.g.now) c.args.x.bits c.args.y.bits) _
-    (right (graph_of c.args.g.now) c.args.g.now.valid c.args.g.now.small c.args.x.bits c.args.y.bits (target (goal.at.returns-clause-right c).After-answer) c.requires.apart) c.answer.ensures.answer
-
-pub returns-clause-exact : goal.returns-clause-exact
-returns-clause-exact c = if_ok c.answer.result (IsAnswerOf (graph_of c.args.g.now) c.args.x.bits c.args.y.bits) _
-    (exact (graph_of c.args.g.now) c.args.g.now.valid c.args.g.now.small c.args.x.bits c.args.y.bits (target (goal.at.returns-clause-exact c).After-answer) c.requires.apart) c.answer.ensures.answer
-
-pub returns-clause-accepted : goal.returns-clause-accepted
-returns-clause-accepted c = if_ok c.answer.result (IsAnswerOf (graph_of c.args.g.now) c.args.x.bits c.args.y.bits) _
-    (accepted (graph_of c.args.g.now) c.args.g.now.valid c.args.g.now.small c.args.x.bits c.args.y.bits (target (goal.at.returns-clause-accepted c).After-answer) c.requires.apart) c.answer.ensures.answer
-
-pub returns-clause-formed : goal.returns-clause-formed
-returns-clause-formed c = if_ok c.answer.result (IsAnswerOf (graph_of c.args.g.now) c.args.x.bits c.args.y.bits) _
-    (formed (graph_of c.args.g.now) c.args.g.now.valid c.args.g.now.small c.args.x.bits c.args.y.bits (target (goal.at.returns-clause-formed c).After-answer) c.requires.apart) c.answer.ensures.answer
-
-pub returns-clause-do_free : goal.returns-clause-do_free
-returns-clause-do_free c = if_ok c.answer.result (IsAnswerOf (graph_of c.args.g.now) c.args.x.bits c.args.y.bits) _
-    (do_free (graph_of c.args.g.now) c.args.g.now.valid c.args.g.now.small c.args.x.bits c.args.y.bits (target (goal.at.returns-clause-do_free c).After-answer) c.requires.apart) c.answer.ensures.answer
-
-pub returns-clause-names : goal.returns-clause-names
-returns-clause-names c = if_ok c.answer.result (IsAnswerOf (graph_of c.args.g.now) c.args.x.bits c.args.y.bits) _
-    (names (graph_of c.args.g.now) c.args.g.now.valid c.args.g.now.small c.args.x.bits c.args.y.bits (target (goal.at.returns-clause-names c).After-answer) c.requires.apart) c.answer.ensures.answer
-
-pub returns-clause-effect : goal.returns-clause-effect
-returns-clause-effect c = if_ok c.answer.result (IsAnswerOf (graph_of c.args.g.now) c.args.x.bits c.args.y.bits) _
-    (equals (graph_of c.args.g.now) c.args.g.now.valid c.args.g.now.small c.args.x.bits c.args.y.bits (target (goal.at.returns-clause-effect c).After-answer) c.requires.apart) c.answer.ensures.answer
-
-pub returns-clause-shallow_steps : goal.returns-clause-shallow_steps
-returns-clause-shallow_steps c = if_ok c.answer.result (IsAnswerOf (graph_of c.args.g.now) c.args.x.bits c.args.y.bits) _
-    (shallow_steps (graph_of c.args.g.now) c.args.g.now.valid c.args.g.now.small c.args.x.bits c.args.y.bits (target (goal.at.returns-clause-shallow_steps c).After-answer) c.requires.apart) c.answer.ensures.answer
-
-pub returns-clause-shallow_formula : goal.returns-clause-shallow_formula
-returns-clause-shallow_formula c = if_ok c.answer.result (IsAnswerOf (graph_of c.args.g.now) c.args.x.bits c.args.y.bits) _
-    (shallow_formula (graph_of c.args.g.now) c.args.g.now.valid c.args.g.now.small c.args.x.bits c.args.y.bits (target (goal.at.returns-clause-shallow_formula c).After-answer) c.requires.apart) c.answer.ensures.answer
-
-pub returns-clause-counter : goal.returns-clause-counter
-returns-clause-counter c = if_ok c.answer.result (IsAnswerOf (graph_of c.args.g.now) c.args.x.bits c.args.y.bits) _
-    (counters (graph_of c.args.g.now) c.args.g.now.valid c.args.g.now.small c.args.x.bits c.args.y.bits (target (goal.at.returns-clause-counter c).After-answer) c.requires.apart) c.answer.ensures.answer
+pub returns : goal.returns
+returns c =
+    let g = graph_of c.args.g.now in
+    let valid = c.args.g.now.valid in
+    let small = c.args.g.now.small in
+    let x = c.args.x.bits in
+    let y = c.args.y.bits in
+    let off = c.requires.apart in
+    let target = target_from g x c.args.y.bits c.requires.x_within c.requires.y_within off c.requires.some (omega arith) in
+    let r = c.answer.result in
+    let found = c.answer.ensures.answer in
+    record {
+      right = if_ok r (IsAnswerOf g x y) _ (right g valid small x y target off) found;
+      exact = if_ok r (IsAnswerOf g x y) _ (exact g valid small x y target off) found;
+      derived = if_formula g x y r _ (λ f d i. i) found;
+      accepted = if_formula g x y r _ (λ f d i. (right_formula g valid x y target f d i).accepted) found;
+      formed = if_formula g x y r _ (λ f d i. (right_formula g valid x y target f d i).formed) found;
+      do_free = if_formula g x y r _ (λ f d i. (right_formula g valid x y target f d i).do_free) found;
+      names = if_formula g x y r _ (λ f d i. (right_formula g valid x y target f d i).names) found;
+      effect = if_formula g x y r _ (λ f d i. (right_formula g valid x y target f d i).effect) found;
+      shallow_steps = if_formula g x y r _ (λ f d i. shallow_steps g valid x y target f d i) found;
+      shallow_formula = if_formula g x y r _ (λ f d i. shallow_formula g x y f d i) found;
+      few = c.answer.ensures.few;
+      stop = if_hedge g x y r _ (λ h pair i. i.0) found;
+      hedge = if_hedge g x y r _ (λ h pair i. i.2) found;
+      data = if_hedge g x y r _ (λ h pair i. i.1) found;
+      pair = if_hedge g x y r _ (λ h pair i. i.3) found;
+      counter = if_hedge g x y r _ (λ h pair i. counter g valid small x y h i.2 off pair i.3) found;
+    }

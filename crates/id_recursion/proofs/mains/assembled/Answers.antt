@@ -4,7 +4,7 @@ use Rattle.prob_expr.specs.View.{view, views}
 use Rattle.do_derivation.specs.Plans.{Plan}
 use Rattle.identification.specs.Procedure.{sum_if}
 use Rattle.identification.specs.Derivations.{main_steps}
-use Rattle.id_recursion.proofs.StepLists.{step-Then}
+use Rattle.district_factors.proofs.Steps.{step-Then}
 use Rattle.id_recursion.proofs.mains.assembled.Goals as goal
 
 pub returns : goal.returns

@@ -5,8 +5,9 @@ use Rattle.do_derivation.specs.View.{listed}
 use Rattle.do_derivation.specs.declared.steps.Step.{Chain}
 use Rattle.do_derivation.proofs.StepViews.{step-Chain}
 use Rattle.identification.specs.Derivations.{at_each, in_order, home_lists, group_steps, unwrap_steps}
-use Rattle.id_recursion.specs.Lists.{onto, lists_view}
-use Rattle.id_recursion.proofs.StepLists.{in_order_all, onto_more, more_districts}
+use Rattle.district_factors.specs.Lists.{onto, lists_view}
+use Rattle.district_factors.proofs.Steps.{onto_more}
+use Rattle.id_recursion.proofs.StepLists.{in_order_all, more_districts}
 use Rattle.id_recursion.proofs.mains.district_steps.Goals as goal
 
 pub push_groups-requires-clause-chain : goal.push_groups-requires-clause-chain

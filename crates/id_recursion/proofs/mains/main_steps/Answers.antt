@@ -4,8 +4,9 @@ use Rattle.do_derivation.specs.Plans.{no_plans, plan}
 use Rattle.do_derivation.specs.View.{step_view, steps_view}
 use Rattle.do_derivation.specs.declared.steps.Step.{Rule3In, Widen}
 use Rattle.identification.specs.Derivations.{with_set, at_place}
-use Rattle.id_recursion.specs.Lists.{onto}
-use Rattle.id_recursion.proofs.StepLists.{onto_nothing, onto_append, onto_more, main_flat, main_wide}
+use Rattle.district_factors.specs.Lists.{onto}
+use Rattle.district_factors.proofs.Steps.{onto_nothing, onto_append, onto_more, onto_with}
+use Rattle.id_recursion.proofs.StepLists.{main_flat, main_wide}
 use Rattle.id_recursion.proofs.mains.main_steps.Goals as goal
 
 pub returns-then-is_empty : goal.returns-then-is_empty
@@ -18,7 +19,7 @@ returns-then-is_empty c =
     let none : is_empty f.bits ≡ true = sym c.is_empty.ensures.mask ∙ c.if-is_empty.true in
     sym (onto_nothing c.append.new.self.items) ∙ ap (λ l. onto l no_plans) c.in_ok-append.ensures.items
     ∙ onto_append c.push_with.new.out.items c.args.rest.items no_plans ∙ ap (onto c.push_with.new.out.items) (onto_nothing c.args.rest.items)
-    ∙ c.in_ok-push_with.ensures rest ∙ ap (λ l. onto l (with_set o.bits (step_view (Rule3In o)) rest)) c.new-out.ensures.items
+    ∙ onto_with c.push_with.new.out.items c.new-out.result.items o.bits (Rule3In o) c.in_ok-push_with.ensures rest ∙ ap (λ l. onto l (with_set o.bits (step_view (Rule3In o)) rest)) c.new-out.ensures.items
     ∙ main_flat c.args.n c.args.x.bits c.args.y.bits c.args.d.bits o f rest set c.difference-further.ensures.mask none
 
 pub returns : goal.returns
@@ -32,5 +33,5 @@ returns c =
     let some : is_empty f.bits ≡ false = sym c.is_empty.ensures.mask ∙ c.if-is_empty.false in
     sym (onto_nothing c.push_at.new.out.items) ∙ c.in_ok-push_at.ensures no_plans
     ∙ ap (λ l. onto l inner) c.in_ok-push.ensures.items ∙ onto_more c.push_with.new.out.items (Widen f) inner
-    ∙ c.in_ok-push_with.ensures (plan (step_view (Widen f)) inner) ∙ ap (λ l. onto l (with_set o.bits (step_view (Rule3In o)) (plan (step_view (Widen f)) inner))) c.new-out.ensures.items
+    ∙ onto_with c.push_with.new.out.items c.new-out.result.items o.bits (Rule3In o) c.in_ok-push_with.ensures (plan (step_view (Widen f)) inner) ∙ ap (λ l. onto l (with_set o.bits (step_view (Rule3In o)) (plan (step_view (Widen f)) inner))) c.new-out.ensures.items
     ∙ main_wide c.args.n c.args.x.bits c.args.y.bits c.args.d.bits o f rest set c.difference-further.ensures.mask some

@@ -3,8 +3,8 @@ use Rattle.do_derivation.specs.Plans.{Move, Plan, no_plans, plan}
 use Rattle.do_derivation.specs.declared.steps.Step.{Unwrap}
 use Rattle.do_derivation.proofs.StepViews.{step-Unwrap}
 use Rattle.identification.specs.Derivations.{single}
-use Rattle.id_recursion.specs.Lists.{onto}
-use Rattle.id_recursion.proofs.StepLists.{onto_more, onto_nothing}
+use Rattle.district_factors.specs.Lists.{onto}
+use Rattle.district_factors.proofs.Steps.{onto_more, onto_nothing}
 use Rattle.id_recursion.proofs.mains.push_unwrap.Goals as goal
 
 pub returns-then-not-opens : goal.returns-then-not-opens

@@ -1,57 +1,62 @@
-use Rattle.std.proofs.Common.{◌<◌, ◌≤◌, get_or, take, drop, ◌+◌, map, length, refl, sym, subst, arith}
+use Rattle.std.proofs.Common.{◌≡◌, get_or, length, take, arith}
 use Rattle.mixed_graph.specs.Shown.{graph_of}
-use Rattle.mixed_graph.specs.declared.sets.VSet.{VSet}
 use Rattle.districts.specs.Linked.{IsMaximalJoined}
+use Rattle.districts.specs.Listed.{first_masks}
 use Rattle.prob_expr.specs.Listed.{masks_of}
-use Rattle.id_recursion.proofs.GatheredFactors.{sets_all, set_at, set_in, sets_split, sets_more}
-use Rattle.surrogates.specs.Gathered.{AreFactorsWith, IsStopWith, stop_for}
-use Rattle.surrogates.proofs.GatheredWith.{gathered_all, gathered_next, stopped_here}
+use Rattle.id_recursion.proofs.GatheredFactors.{GoesOn, district_at, gathered_none, turn_end, turn_next, turn_stop}
+use Rattle.surrogate_theory.specs.Surrogates.{AreDerivedWith, StopsWith}
+use Rattle.surrogates.proofs.GatheredWith.{factors_of, tried_goes_on}
 use Rattle.surrogates.proofs.gathering.factors_with.Goals as goal
-use Rattle.surrogates.proofs.gathering.factors_with.Goals.{After-len}
+use Rattle.surrogates.proofs.gathering.factors_with.Goals.{After-first_factor-found, After-len}
+
+pub loop-c-init : goal.loop-c-init
+loop-c-init c =
+    let g = graph_of c.args.g.now in
+    let zs = masks_of c.args.experiments.now in
+    let no = c.no_factors-made.ensures in
+    gathered_none (AreDerivedWith g zs) (StopsWith g zs) c.no_factors-made.result no.defs no.lemmas no.values no.lists
 
 -- the set at hand is a district
-maximal : (c : After-len) → IsMaximalJoined (graph_of c.args.g.now) c.args.d.bits (get_or (take c.args.parts.now.count c.args.parts.now.sets) c.loop-c.c-index (record { bits = 0 })).bits
-maximal c =
-    let sets = c.args.parts.now.sets in
-    let n = c.args.parts.now.count in
-    let lt : c.loop-c.c-index < length (take n sets) = c.loop-c-test.true in
-    subst (IsMaximalJoined (graph_of c.args.g.now) c.args.d.bits) (set_at sets n c.loop-c.c-index lt) (c.requires.districts c.loop-c.c-index 0 (set_in sets n c.loop-c.c-index lt))
+district : (c : After-len) → IsMaximalJoined (graph_of c.args.g.now) c.args.d.bits (get_or (take c.args.parts.now.count c.args.parts.now.sets) c.loop-c.c-index (record { bits = 0 })).bits
+district c = district_at c.args.parts.now.sets c.args.parts.now.count c.loop-c.c-index c.loop-c-test.true (graph_of c.args.g.now) c.args.d.bits c.requires.districts
 
-pub first_factor-requires-clause-within : goal.first_factor-requires-clause-within
-first_factor-requires-clause-within c = λ v i. c.requires.within v ((maximal (goal.at.first_factor-requires-clause-within c).After-len).inside v i)
+pub first_factor-found-requires-clause-within : goal.first_factor-found-requires-clause-within
+first_factor-found-requires-clause-within c = λ v i. c.requires.within v ((district (goal.at.first_factor-found-requires-clause-within c).After-len).inside v i)
 
-pub first_factor-requires-clause-some : goal.first_factor-requires-clause-some
-first_factor-requires-clause-some c = (maximal (goal.at.first_factor-requires-clause-some c).After-len).some
+pub first_factor-found-requires-clause-some : goal.first_factor-found-requires-clause-some
+first_factor-found-requires-clause-some c = (district (goal.at.first_factor-found-requires-clause-some c).After-len).some
 
-pub first_factor-requires-clause-joined : goal.first_factor-requires-clause-joined
-first_factor-requires-clause-joined c = (maximal (goal.at.first_factor-requires-clause-joined c).After-len).joined
+pub first_factor-found-requires-clause-joined : goal.first_factor-found-requires-clause-joined
+first_factor-found-requires-clause-joined c = (district (goal.at.first_factor-found-requires-clause-joined c).After-len).joined
+
+-- what was found for it
+counted : (c : After-first_factor-found) → c.len.result ≡ length c.loop-c.made.defs.items
+counted c = let e = c.len.ensures in let o = c.loop-c.made.defs.ok in omega (arith, e, o)
+
+goes_on : (c : After-first_factor-found) → GoesOn (AreDerivedWith (graph_of c.args.g.now) (masks_of c.args.experiments.now)) (StopsWith (graph_of c.args.g.now) (masks_of c.args.experiments.now))
+    (get_or (take c.args.parts.now.count c.args.parts.now.sets) c.loop-c.c-index (record { bits = 0 })).bits c.len.result c.first_factor-found.result
+goes_on c = tried_goes_on (graph_of c.args.g.now) (masks_of c.args.experiments.now) (get_or (take c.args.parts.now.count c.args.parts.now.sets) c.loop-c.c-index (record { bits = 0 })).bits c.len.result c.first_factor-found.result
+    c.first_factor-found.ensures.tried c.first_factor-found.ensures.fault
 
 pub returns-in-Err : goal.returns-in-Err
 returns-in-Err c =
-    let sets = c.args.parts.now.sets in
-    let n = c.args.parts.now.count in
-    let lt : c.loop-c.c-index < length (take n sets) = c.loop-c-test.true in
     let g = graph_of c.args.g.now in
     let zs = masks_of c.args.experiments.now in
-    let set : VSet = get_or (take n sets) c.loop-c.c-index (record { bits = 0 }) in
-    subst (IsStopWith g zs _) (sym c.stop_for.ensures)
-    (subst (λ ts. IsStopWith g zs ts (stop_for set c.in-Err.fault)) (sym (sets_split sets n c.loop-c.c-index lt))
-    (stopped_here g zs (map (λ (s : VSet). s.bits) (take c.loop-c.c-index (take n sets))) c.loop-c.made.defs.items c.loop-c.made.lemmas.items c.loop-c.made.values.items c.loop-c.made.lists.items c.loop-c.invariant
-    set (map (λ (s : VSet). s.bits) (drop (c.loop-c.c-index + 1) (take n sets))) c.in-Err.fault c.in-Err.ensures.fault))
+    let after = (goal.at.returns-in-Err c).After-first_factor-found in
+    turn_stop (AreDerivedWith g zs) (StopsWith g zs) c.args.parts.now.sets c.args.parts.now.count c.loop-c.c-index c.loop-c.made c.loop-c.invariant
+    c.loop-c-test.true c.len.result c.first_factor-found.result c.in-Err.stop (counted after) (goes_on after) c.in-Err.ensures.stop
 
 pub loop-c-preserved : goal.loop-c-preserved
 loop-c-preserved c =
-    let sets = c.args.parts.now.sets in
-    let n = c.args.parts.now.count in
-    let lt : c.loop-c.c-index < length (take n sets) = c.loop-c-test.true in
-    gathered_next (graph_of c.args.g.now) (masks_of c.args.experiments.now) (map (λ (s : VSet). s.bits) (take c.loop-c.c-index (take n sets))) _ c.loop-c.made c.add_factor.new.made _ c.len.result c.in-Ok.more
-    c.loop-c.invariant (sets_more sets n c.loop-c.c-index lt) (let e = c.len.ensures in let o = c.loop-c.made.defs.ok in omega (arith, e, o)) c.in-Ok.ensures.tried c.in-Ok-add_factor.ensures
+    let g = graph_of c.args.g.now in
+    let zs = masks_of c.args.experiments.now in
+    let after = (goal.at.loop-c-preserved c).After-first_factor-found in
+    turn_next (AreDerivedWith g zs) (StopsWith g zs) c.args.parts.now.sets c.args.parts.now.count c.loop-c.c-index c.loop-c.made c.loop-c.invariant
+    c.loop-c-test.true c.add_found.new.made c.len.result c.first_factor-found.result (counted after) (goes_on after) c.in-Ok.ensures.added
 
 pub returns : goal.returns
 returns c =
-    let sets = c.args.parts.now.sets in
-    let n = c.args.parts.now.count in
-    let le : length (take n sets) ≤ c.loop-c.c-index = c.loop-c-test.false in
-    subst (λ ts. AreFactorsWith (graph_of c.args.g.now) (masks_of c.args.experiments.now) ts c.loop-c.made) (sets_all sets n c.loop-c.c-index le)
-    (gathered_all (graph_of c.args.g.now) (masks_of c.args.experiments.now) (map (λ (s : VSet). s.bits) (take c.loop-c.c-index (take n sets))) c.loop-c.made.defs.items c.loop-c.made.lemmas.items c.loop-c.made.values.items c.loop-c.made.lists.items
-    c.loop-c.invariant c.loop-c.made refl refl refl refl)
+    let g = graph_of c.args.g.now in
+    let zs = masks_of c.args.experiments.now in
+    factors_of g zs (first_masks c.args.parts.now.sets c.args.parts.now.count) c.loop-c.made
+    (turn_end (AreDerivedWith g zs) (StopsWith g zs) c.args.parts.now.sets c.args.parts.now.count c.loop-c.c-index c.loop-c.made c.loop-c.invariant c.loop-c-test.false)

@@ -1,5 +1,4 @@
 use Rattle.std.proofs.Common.{ℕ, ◌≡◌, ◌≢◌, ◌≤◌, ◌^◌, ◌<◌, true, false, eqb-true, inl, inr, sym, subst, ◌∙◌, length, arith}
-use Rattle.mixed_graph.proofs.Masks.{some_member}
 use Rattle.mixed_graph.specs.Orders.{IsOrder}
 use Rattle.mixed_graph.specs.Shown.{graph_of}
 use Rattle.mixed_graph.specs.declared.sets.VSet.{VSet}
@@ -8,12 +7,12 @@ use Rattle.districts.specs.Listed.{first_masks}
 use Rattle.prob_expr.specs.Listed.{masks_of}
 use Rattle.do_derivation.specs.View.{listed}
 use Rattle.id_recursion.proofs.Orders.{listed_order, districts_by}
-use Rattle.id_recursion.proofs.RightAnswers.{target_of}
+use Rattle.id_recursion.proofs.RightAnswers.{target_from}
 use Rattle.hedge.specs.Shapes.{AreSetsOfHedge}
 use Rattle.identification.specs.Procedure.{IsTarget}
 use Rattle.identification_answers.specs.Laws.{AreRoots}
 use Rattle.surrogate_theory.proofs.Answered.{stop_has_hedge}
-use Rattle.surrogate_theory.specs.Surrogates.{IsStoppedWith}
+use Rattle.surrogate_theory.specs.Surrogates.{IsStoppedWith, StopsWith}
 use Rattle.surrogates.specs.Answers.{IsStopShown}
 use Rattle.surrogates.proofs.Assembled.{by_steps}
 use Rattle.surrogates.proofs.RightAnswers.{stop_shown}
@@ -24,11 +23,24 @@ ordered : (c : After-order_of-order) → IsOrder (graph_of c.args.g.now) (listed
 ordered c = listed_order (graph_of c.args.g.now) c.order_of-order.result.list c.order_of-order.result.count (let i = c.order_of-order.result.in_range in let f = c.order_of-order.ensures.full in omega (arith, i, f)) c.order_of-order.ensures.order
 
 target : (c : After-order_of-order) → IsTarget (graph_of c.args.g.now) c.args.x.bits c.args.y.bits
-target c = target_of (graph_of c.args.g.now) c.args.x.bits c.args.y.bits c.requires.x_within c.requires.y_within c.requires.apart (some_member c.args.y.bits (λ z. absurd (let p = c.requires.some in omega (arith, p, z))) (omega arith))
+target c = target_from (graph_of c.args.g.now) c.args.x.bits c.args.y.bits c.requires.x_within c.requires.y_within c.requires.apart c.requires.some (omega arith)
 
 are_districts : (c : After-districts-parts) → IsOrder (graph_of c.args.g.now) (listed c.order_of-order.result) (length (listed c.order_of-order.result)) → AreDistricts (graph_of c.args.g.now) c.ancestors_outside-d.result.bits 0 (listed c.order_of-order.result) (first_masks c.districts-parts.result.sets c.districts-parts.result.count)
 are_districts c is = districts_by (graph_of c.args.g.now) c.ancestors_outside-d.result.bits (listed c.order_of-order.result) (first_masks c.districts-parts.result.sets c.districts-parts.result.count)
     is c.districts-parts.ensures.districts
+
+stop_at : (c : After-districts-parts) → IsOrder (graph_of c.args.g.now) (listed c.order_of-order.result) (length (listed c.order_of-order.result)) → (small big : ℕ)
+    → StopsWith (graph_of c.args.g.now) (masks_of c.args.experiments.now) 0 (first_masks c.districts-parts.result.sets c.districts-parts.result.count) small big
+    → IsStoppedWith (graph_of c.args.g.now) (masks_of c.args.experiments.now) c.args.x.bits c.args.y.bits small big
+stop_at c is small big stops = record {
+  order = listed c.order_of-order.result;
+  is_order = is;
+  d = c.ancestors_outside-d.result.bits;
+  is_d = c.ancestors_outside-d.ensures;
+  districts = first_masks c.districts-parts.result.sets c.districts-parts.result.count;
+  are_districts = are_districts c is;
+  stops = stops;
+}
 
 pub returns-then-is_empty : goal.returns-then-is_empty
 returns-then-is_empty c = record {
@@ -53,32 +65,17 @@ returns-in_ok-formula-in-Ok c = record {
 
 pub hedge_of-requires-clause-hedge : goal.hedge_of-requires-clause-hedge
 hedge_of-requires-clause-hedge c =
-    let stop : IsStoppedWith (graph_of c.args.g.now) (masks_of c.args.experiments.now) c.args.x.bits c.args.y.bits c.in-Err-At.small.bits c.in-Err-At.big.bits = record {
-      order = listed c.order_of-order.result;
-      is_order = ordered (goal.at.hedge_of-requires-clause-hedge c).After-order_of-order;
-      d = c.ancestors_outside-d.result.bits;
-      is_d = c.ancestors_outside-d.ensures;
-      districts = first_masks c.districts-parts.result.sets c.districts-parts.result.count;
-      are_districts = are_districts (goal.at.hedge_of-requires-clause-hedge c).After-districts-parts (ordered (goal.at.hedge_of-requires-clause-hedge c).After-order_of-order);
-      stops = rw c.in-Err-At.field-0-is at c.in-Err-At.ensures;
-    } in
+    let here = goal.at.hedge_of-requires-clause-hedge c in
+    let stop = stop_at here.After-districts-parts (ordered here.After-order_of-order) c.in-Err-At.small.bits c.in-Err-At.big.bits (rw c.in-Err-At.field-0-is at c.in-Err-At.ensures) in
     let u : (roots : ℕ) → AreRoots (graph_of c.args.g.now) c.in-Err-At.small.bits roots → AreSetsOfHedge (graph_of c.args.g.now) c.args.x.bits c.args.y.bits c.in-Err-At.big.bits c.in-Err-At.small.bits roots =
-    λ roots r. stop_has_hedge (graph_of c.args.g.now) c.args.g.now.valid (masks_of c.args.experiments.now) c.args.x.bits c.args.y.bits c.in-Err-At.small.bits c.in-Err-At.big.bits roots
-    (target (goal.at.hedge_of-requires-clause-hedge c).After-order_of-order) stop r in
+    λ roots r. stop_has_hedge (graph_of c.args.g.now) c.args.g.now.valid (masks_of c.args.experiments.now) c.args.x.bits c.args.y.bits c.in-Err-At.small.bits c.in-Err-At.big.bits roots (target here.After-order_of-order) stop r in
     rw (c.in-Err-At.small-is, c.in-Err-At.big-is) u
 
 pub returns-in_ok-hedge-in-Err-At : goal.returns-in_ok-hedge-in-Err-At
 returns-in_ok-hedge-in-Err-At c =
-    let stop : IsStoppedWith (graph_of c.args.g.now) (masks_of c.args.experiments.now) c.args.x.bits c.args.y.bits c.in-Err-At.small.bits c.in-Err-At.big.bits = record {
-      order = listed c.order_of-order.result;
-      is_order = ordered (goal.at.returns-in_ok-hedge-in-Err-At c).After-order_of-order;
-      d = c.ancestors_outside-d.result.bits;
-      is_d = c.ancestors_outside-d.ensures;
-      districts = first_masks c.districts-parts.result.sets c.districts-parts.result.count;
-      are_districts = are_districts (goal.at.returns-in_ok-hedge-in-Err-At c).After-districts-parts (ordered (goal.at.returns-in_ok-hedge-in-Err-At c).After-order_of-order);
-      stops = rw c.in-Err-At.field-0-is at c.in-Err-At.ensures;
-    } in
+    let here = goal.at.returns-in_ok-hedge-in-Err-At c in
+    let stop = stop_at here.After-districts-parts (ordered here.After-order_of-order) c.in-Err-At.small.bits c.in-Err-At.big.bits (rw c.in-Err-At.field-0-is at c.in-Err-At.ensures) in
+    let is = c.in_ok-hedge-in-Err-At.ensures in
     subst (λ (w : VSet). IsStopShown (graph_of c.args.g.now) (masks_of c.args.experiments.now) c.args.x.bits c.args.y.bits w c.in_ok-hedge-in-Err-At.hedge c.in_ok-hedge-in-Err-At.pair) (sym c.in-Err-At.small-is)
-    (stop_shown (graph_of c.args.g.now) c.args.g.now.valid (masks_of c.args.experiments.now) c.args.x.bits c.args.y.bits (target (goal.at.returns-in_ok-hedge-in-Err-At c).After-order_of-order) c.in-Err-At.small c.in-Err-At.big stop
-    c.in_ok-hedge-in-Err-At.hedge c.in_ok-hedge-in-Err-At.pair
-    (c.in_ok-hedge-in-Err-At.ensures.small ∙ c.in-Err-At.small-is) (c.in_ok-hedge-in-Err-At.ensures.big ∙ c.in-Err-At.big-is) c.in_ok-hedge-in-Err-At.ensures.data c.in_ok-hedge-in-Err-At.ensures.hedge c.in_ok-hedge-in-Err-At.ensures.pair)
+    (stop_shown (graph_of c.args.g.now) c.args.g.now.valid (masks_of c.args.experiments.now) c.args.x.bits c.args.y.bits (target here.After-order_of-order) c.in-Err-At.small c.in-Err-At.big stop
+    c.in_ok-hedge-in-Err-At.hedge c.in_ok-hedge-in-Err-At.pair (is.small ∙ c.in-Err-At.small-is) (is.big ∙ c.in-Err-At.big-is) is.data is.hedge is.pair)

@@ -19,18 +19,18 @@ ordered : (c : After-order_of-order) → IsOrder (graph_of c.induced-rest.result
 ordered c = listed_order (graph_of c.induced-rest.result) c.order_of-order.result.list c.order_of-order.result.count (let i = c.order_of-order.result.in_range in let f = c.order_of-order.ensures.full in omega (arith, i, f)) c.order_of-order.ensures.order
 
 pub factor_under-requires-clause-within : goal.factor_under-requires-clause-within
-factor_under-requires-clause-within c = low_in (graph_of c.args.g.now) c.args.g.now.valid c.args.z.bits c.args.c.bits c.requires.apart c.requires.within (graph_of c.induced-rest.result)
+factor_under-requires-clause-within c = low_in (graph_of c.args.g.now) c.args.g.now.valid c.args.z.bits c.args.c.bits c.requires.apart c.requires.district.within (graph_of c.induced-rest.result)
     (same (goal.at.factor_under-requires-clause-within c).After-induced-rest)
 
 pub factor_under-requires-clause-joined : goal.factor_under-requires-clause-joined
-factor_under-requires-clause-joined c = joined_in (graph_of c.args.g.now) c.args.g.now.valid c.args.z.bits c.args.c.bits c.requires.apart c.requires.within (graph_of c.induced-rest.result)
-    (same (goal.at.factor_under-requires-clause-joined c).After-induced-rest) c.requires.joined
+factor_under-requires-clause-joined c = joined_in (graph_of c.args.g.now) c.args.g.now.valid c.args.z.bits c.args.c.bits c.requires.apart c.requires.district.within (graph_of c.induced-rest.result)
+    (same (goal.at.factor_under-requires-clause-joined c).After-induced-rest) c.requires.district.joined
 
 pub returns-clause-tried : goal.returns-clause-tried
-returns-clause-tried c = tried_ok (graph_of c.args.g.now) c.args.g.now.valid c.args.z.bits c.args.c.bits c.requires.apart c.requires.within (graph_of c.induced-rest.result)
+returns-clause-tried c = tried_ok (graph_of c.args.g.now) c.args.g.now.valid c.args.z.bits c.args.c.bits c.requires.apart c.requires.district.within (graph_of c.induced-rest.result)
     (same (goal.at.returns-clause-tried c).After-induced-rest) (listed c.order_of-order.result) (ordered (goal.at.returns-clause-tried c).After-order_of-order) c.args.first c.factor_under.result
     c.factor_under.ensures.factor c.factor_under.ensures.few c.factor_under.ensures.paired
 
 pub returns-clause-fault : goal.returns-clause-fault
-returns-clause-fault c = tried_err (graph_of c.args.g.now) c.args.g.now.valid c.args.z.bits c.args.c.bits c.requires.apart c.requires.within (graph_of c.induced-rest.result)
+returns-clause-fault c = tried_err (graph_of c.args.g.now) c.args.g.now.valid c.args.z.bits c.args.c.bits c.requires.apart c.requires.district.within (graph_of c.induced-rest.result)
     (same (goal.at.returns-clause-fault c).After-induced-rest) c.factor_under.result c.factor_under.ensures.fault

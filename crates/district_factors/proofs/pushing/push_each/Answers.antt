@@ -1,9 +1,9 @@
 use Rattle.std.proofs.Common.{[], ◌∷◌, length-append, sym, ap, ◌∙◌, arith}
 use Rattle.do_derivation.specs.View.{steps_view}
 use Rattle.identification.specs.Derivations.{at_place, at_each}
-use Rattle.id_recursion.specs.Lists.{onto, lists_view}
-use Rattle.id_recursion.proofs.StepLists.{at_each_more}
-use Rattle.id_recursion.proofs.pushing.push_each.Goals as goal
+use Rattle.district_factors.specs.Lists.{onto, lists_view}
+use Rattle.district_factors.proofs.Steps.{at_each_more}
+use Rattle.district_factors.proofs.pushing.push_each.Goals as goal
 
 pub loop-list-preserved : goal.loop-list-preserved
 loop-list-preserved c =

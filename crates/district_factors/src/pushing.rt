@@ -1,19 +1,26 @@
 //! Lists of steps, built from the front.
 
-ghost use Rattle.std.specs.Prelude.{◌≡◌, ℕ, ◌≤◌, OnOk, length, cond};
+ghost use Rattle.std.specs.Prelude.{◌≡◌, ℕ, ◌≤◌, ◌++◌, [], ◌∷◌, if◌then◌else◌, IfOk, OnOk, length};
 ghost use Rattle.mixed_graph.specs.Masks.{is_empty};
-ghost use Rattle.do_derivation.specs.Plans.{Plans};
+ghost use Rattle.do_derivation.specs.Plans.{Plan, Plans};
 ghost use Rattle.do_derivation.specs.View.{step_view, steps_view};
-ghost use Rattle.identification.specs.Derivations.{with_set, at_place, at_each};
-ghost use Rattle.id_recursion.specs.Lists.{onto, lists_view};
+ghost use Rattle.identification.specs.Derivations.{at_place, at_each};
+ghost use Rattle.district_factors.specs.Lists.{onto, lists_view};
 
 use do_derivation::Step;
 use mixed_graph::VSet;
 use std::alloc::{AllocError, Global};
 
+/// The steps on the child of that number.
+pub fn at(alloc: Global, child: u32, steps: Vec<Step>) -> Result<Step, AllocError>
+    ensures { IfOk result (λ s. step_view s ≡ Plan.At child (Plan.Then (steps_view steps.items))) }
+{
+    Ok(Step::At(child, Box::new(alloc, Step::Then(steps))?))
+}
+
 /// Adds the step, left out where its set is empty.
 pub fn push_with(out: &mut Vec<Step>, z: VSet, step: Step) -> Result<(), AllocError>
-    ensures { OnOk result ((rest : Plans) → onto out.new.items rest ≡ onto out.old.items (with_set z.bits (step_view step) rest)) }
+    ensures { OnOk result (out.new.items ≡ out.old.items ++ (if is_empty z.bits then [] else (step ∷ []))) }
 {
     if z.is_empty() {
         return Ok(());
@@ -34,8 +41,7 @@ pub fn push_at(
     if list.is_empty() {
         return Ok(());
     }
-    let inner = Box::new(alloc, Step::Then(list))?;
-    out.push(Step::At(i, inner))?;
+    out.push(at(alloc, i, list)?)?;
     Ok(())
 }
 

@@ -1,8 +1,8 @@
 use Rattle.std.proofs.Common.{◌≡◌, ◌≤◌, ◌+◌, length}
 use Rattle.do_derivation.specs.Plans.{Plans}
 use Rattle.identification.specs.Derivations.{at_each}
-use Rattle.id_recursion.specs.Lists.{onto, lists_view}
-use Rattle.id_recursion.proofs.pushing.push_each.Given as goal
+use Rattle.district_factors.specs.Lists.{onto, lists_view}
+use Rattle.district_factors.proofs.pushing.push_each.Given as goal
 
 abbrev pub invariant-loop-list : goal.invariant-loop-list
 invariant-loop-list l = record {
