@@ -74,10 +74,8 @@ pub fn value_at<Q: Quantity, L: Lookup<Q>>(
         Expr::Prob { of, doing, given } => term(scope, *of, *doing, *given, at),
         Expr::Sum { over, body } => {
             let sum = Summing { at, over: *over };
-            whole(
-                Q::from_ratio(0, 1),
-                cells_from(scope, sum, body, 0, at.cell, None),
-            )
+            let total = cells_from(scope, sum, body, 0, at.cell, None);
+            whole(Q::from_ratio(0, 1), total)
         }
         Expr::Product(factors) => whole(Q::from_ratio(1, 1), factors_from(scope, factors, at)),
         Expr::Quotient { top, bottom } => {
@@ -94,9 +92,7 @@ pub fn value_at<Q: Quantity, L: Lookup<Q>>(
             }
             let def = Some(*k);
             let root = Spot { def, node: 0, cell };
-            let defs = scope.defs;
-            let place = *k as usize;
-            value_at(scope, &defs[place], root)
+            value_at(scope, &scope.defs[*k as usize], root)
         }
     }
 }
@@ -120,9 +116,10 @@ fn cells_from<Q: Quantity, L: Lookup<Q>>(
     ensures { seen_more Q.numbers result ≡ cells_from Q.kind (weights_in scope.now.n (L.counts scope.now.lookup.now)) (map view scope.now.defs.now) sum (view body.now) v cell (seen_so_far Q.numbers so_far) }
 {
     if u32::from(v) >= scope.n {
-        let node = next_node(sum.at.node);
-        let q: Q = value_at(scope, body, Spot { node, cell, ..sum.at })?;
-        return join_more(Joint::Adding, so_far, q, sum.at);
+        let at = sum.at;
+        let node = next_node(at.node);
+        let q: Q = value_at(scope, body, Spot { node, cell, ..at })?;
+        return join_more(Joint::Adding, so_far, q, at);
     }
     if !sum.over.has(v) {
         return cells_from(scope, sum, body, v + 1, cell, so_far);

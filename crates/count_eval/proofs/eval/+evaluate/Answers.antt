@@ -1,6 +1,5 @@
-use Rattle.std.proofs.Common.{◌≡◌, ◌+◌, ◌<◌, ◌≤◌, ◌∙◌, ap, sym, subst, arith, rules, map, drop, Some, None, true, false}
+use Rattle.std.proofs.Common.{◌≡◌, ◌+◌, ◌<◌, ◌≤◌, ◌∙◌, ap, sym, subst, arith, rules, map, drop, Some, None}
 use Rattle.std.proofs.lemmas.List.{length-map}
-use Rattle.mixed_graph.specs.Bits.{has}
 use Rattle.prob_expr.specs.View.{view, views}
 use Rattle.prob_expr.specs.Check.{cap}
 use Rattle.prob_expr.proofs.Views.{views_more}
@@ -25,9 +24,9 @@ pub value_at-returns-in-Sum : goal.value_at-returns-in-Sum
 value_at-returns-in-Sum g t c =
     let k = g.Q.Quantity.kind in let w = weights_in c.args.scope.now.n (g.L.Lookup.counts c.args.scope.now.lookup.now) in let ds = map view c.args.scope.now.defs.now in
     let e = ap view c.in-Sum.is ∙ Variants.view-Sum c.in-Sum.over c.in-Sum.body in
-    c.whole.ensures ∙ ap (λ x. after (seen_more g.Q.Quantity.numbers c.cells_from.result) (whole x)) c.from_ratio.ensures
+    c.whole.ensures ∙ ap (λ x. after (seen_more g.Q.Quantity.numbers c.cells_from-total.result) (whole x)) c.from_ratio.ensures
     ∙ ap (λ x. after x (whole (k.from_ratio 0 1)))
-    (c.cells_from.ensures ∙ ap (λ b. cells_from k w ds (record { at = c.args.at; over = c.in-Sum.over }) (view b) 0 c.args.at.cell None) c.deref.ensures)
+    (c.cells_from-total.ensures ∙ ap (λ b. cells_from k w ds (record { at = c.args.at; over = c.in-Sum.over }) (view b) 0 c.args.at.cell None) c.deref.ensures)
     ∙ CellSteps.sum_is k w ds c.args.at c.in-Sum.over (view c.in-Sum.body.value)
     ∙ ap (value_at k w ds c.args.at) (sym e)
 
@@ -46,9 +45,9 @@ value_at-returns-in_ok-b-in-Quotient g t c =
 pub value_at-value_at-requires-in-Named : goal.value_at-value_at-requires-in-Named
 value_at-value_at-requires-in-Named g t c =
     let defs = c.args.scope.now.defs.now in let limit = limit_of (map view defs) c.args.at.def in let j = c.in-Named.k in
-    let used = is_used (g.L.Lookup.counts c.args.scope.now.lookup.now) in let e = view c.index-defs-place.result in
+    let used = is_used (g.L.Lookup.counts c.args.scope.now.lookup.now) in let e = view c.index-scope-k.result in
     let below : j < limit = subst (IsBelow limit) (ap view c.in-Named.is ∙ Variants.view-Named j) c.requires.below in
-    let named = Measures.named_at defs j c.index-defs-place.result (omega (arith, below, c.requires.limit)) c.index-defs-place.is in
+    let named = Measures.named_at defs j c.index-scope-k.result (omega (arith, below, c.requires.limit)) c.index-scope-k.is in
     let own : IsBelow j e = subst (λ n. IsBelow n e) (omega arith) (Measures.ordered_at 0 j (map view defs) e c.requires.scope.ordered named.within named.is) in
     let asked : IsUsed used e = Measures.used_at used j (map view defs) e c.requires.scope.used named.within named.is in
     let less = Measures.before_at j limit (map view defs) e below named.within named.is in
@@ -58,11 +57,12 @@ pub value_at-returns-in_default : goal.value_at-returns-in_default
 value_at-returns-in_default g t c =
     let defs = c.args.scope.now.defs.now in let ds = map view defs in let limit = limit_of ds c.args.at.def in let j = c.in-Named.k in
     let k = g.Q.Quantity.kind in let w = weights_in c.args.scope.now.n (g.L.Lookup.counts c.args.scope.now.lookup.now) in
-    let s = cell_of c.args.at.cell in let r = view c.index-defs-place.result in
+    let s = cell_of c.args.at.cell in let r = view c.index-scope-k.result in
     let e = ap view c.in-Named.is ∙ Variants.view-Named j in
     let below : j < limit = subst (IsBelow limit) e c.requires.below in
-    let named = Measures.named_at defs j c.index-defs-place.result (omega (arith, below, c.requires.limit)) c.index-defs-place.is in
-    c.value_at-in-Named.ensures ∙ ap (λ m. evaluated k w (known k w ds j) (Some m) 0 r s) (let same : j ≡ cap j = omega arith in same)
+    let named = Measures.named_at defs j c.index-scope-k.result (omega (arith, below, c.requires.limit)) c.index-scope-k.is in
+    c.value_at-in-Named.ensures ∙ ap (λ d. value_at k w ds (record { def = Some j; node = 0; cell = c.args.at.cell }) (view d)) (sym c.index-scope-k.is)
+    ∙ ap (λ m. evaluated k w (known k w ds j) (Some m) 0 r s) (let same : j ≡ cap j = omega arith in same)
     ∙ sym (Measures.known_at k w ds j limit r s below named.within named.is)
     ∙ ap (value_at k w ds c.args.at) (sym e)
 
@@ -81,13 +81,13 @@ pub cells_from-returns-then-not-has : goal.cells_from-returns-then-not-has
 cells_from-returns-then-not-has g t c =
     let w = weights_in c.args.scope.now.n (g.L.Lookup.counts c.args.scope.now.lookup.now) in
     c.cells_from.ensures
-    ∙ CellSteps.skip g.Q.Quantity.kind w (map view c.args.scope.now.defs.now) c.args.sum (view c.args.body.now) c.args.v c.args.cell (omega (arith, c.from.ensures, c.if-from-n.false))
+    ∙ CellSteps.skip g.Q.Quantity.kind w (map view c.args.scope.now.defs.now) c.args.sum (view c.args.body.now) c.args.v c.args.cell (omega (arith, c.from.ensures, c.if-from-scope.false))
     (sym c.has.ensures ∙ c.if-not-has.true) (seen_so_far g.Q.Quantity.numbers c.args.so_far)
 
 pub cells_from-returns-in-Err : goal.cells_from-returns-in-Err
 cells_from-returns-in-Err g t c =
     let w = weights_in c.args.scope.now.n (g.L.Lookup.counts c.args.scope.now.lookup.now) in let numbers = g.Q.Quantity.numbers in
-    let low : c.args.v < c.args.scope.now.n = omega (arith, c.from.ensures, c.if-from-n.false) in
+    let low : c.args.v < c.args.scope.now.n = omega (arith, c.from.ensures, c.if-from-scope.false) in
     CellSteps.loop_err g.Q.Quantity.kind w (map view c.args.scope.now.defs.now) c.args.sum (view c.args.body.now) c.args.v c.args.cell low (omega (arith, low, c.requires.scope.few))
     (sym c.has.ensures ∙ c.if-not-has.false) (seen_so_far numbers c.args.so_far) (seen_so_far numbers c.loop-x.total) c.loop-x.x (seen_more numbers c.cells_from-in-loop-x.result) (stop_of c.in-Err.failure)
     (omega (arith, c.levels-x-end.ensures, c.loop-x-test.true)) c.loop-x.invariant c.cells_from-in-loop-x.ensures (ap (seen_more numbers) (sym c.in-Err.is))
@@ -103,7 +103,7 @@ pub cells_from-returns : goal.cells_from-returns
 cells_from-returns g t c =
     let w = weights_in c.args.scope.now.n (g.L.Lookup.counts c.args.scope.now.lookup.now) in let numbers = g.Q.Quantity.numbers in
     let ds = map view c.args.scope.now.defs.now in let e = view c.args.body.now in let o = seen_so_far numbers c.args.so_far in
-    let low : c.args.v < c.args.scope.now.n = omega (arith, c.from.ensures, c.if-from-n.false) in
+    let low : c.args.v < c.args.scope.now.n = omega (arith, c.from.ensures, c.if-from-scope.false) in
     let end : w.size c.args.v ≡ c.loop-x.x = omega (arith, c.levels-x-end.ensures, c.loop-x-test.false, c.loop-x.auto.x-end) in
     CellSteps.loop_done g.Q.Quantity.kind w ds c.args.sum e c.args.v c.args.cell low (omega (arith, low, c.requires.scope.few)) (sym c.has.ensures ∙ c.if-not-has.false) o (seen_so_far numbers c.loop-x.total)
     (ap (λ n. each_level n (CellSteps.level_at g.Q.Quantity.kind w ds c.args.sum e c.args.v c.args.cell) o) end ∙ c.loop-x.invariant)
