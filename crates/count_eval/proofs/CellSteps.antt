@@ -1,46 +1,46 @@
 -- Steps of the evaluator, over plain variables.
-use Rattle.std.proofs.Common.{ℕ, zero, suc, ◌+◌, ◌≡◌, ◌<◌, ◌≤◌, Bool, true, false, cond, eqb, eq-eqb, refl, sym, ap, ap₂, ◌∙◌, subst, arith, Option, None, Result, Ok, Err, List, length, get_or, set, replicate, get_or-set_same, get_or-set_other, eqb-true}
+use Rattle.std.proofs.Common.{ℕ, zero, suc, ◌+◌, ◌-◌, ◌≡◌, ◌<◌, ◌≤◌, Bool, true, false, cond, eqb, eq-eqb, refl, sym, ap, ap₂, ◌∙◌, subst, arith, Option, None, Result, Ok, Err, List, length, get_or, set, replicate, get_or-set_same, get_or-set_other, eqb-true}
 use mathlib.Core.Path.{fun_ext}
 use Rattle.finite_models.specs.Sums.{set_at}
 use Rattle.mixed_graph.specs.Bits.{has}
+use Rattle.mixed_graph.specs.declared.sets.VSet.{VSet}
 use Rattle.prob_expr.specs.Tree.{Tree, sum, quotient}
 use Rattle.prob_expr.specs.Values.{Weights}
 use Rattle.prob_expr.specs.Check.{next_node}
 use Rattle.quantity.specs.Kinds.{Pair, Kind}
+use Rattle.count_eval.specs.declared.eval.Summing.{Summing}
+use Rattle.count_eval.specs.declared.spot.Spot.{Spot}
 use Rattle.count_eval.specs.Stops.{Stop, after, placed}
-use Rattle.count_eval.specs.Steps.{one_more, each_level, each_cell, whole}
-use Rattle.count_eval.specs.Evaluated.{node_behind, evaluated}
+use Rattle.count_eval.specs.Steps.{each_level, each_cell, whole}
+use Rattle.count_eval.specs.Evaluated.{node_behind}
 use Rattle.count_eval.specs.Programs.{cell_of}
+use Rattle.count_eval.specs.Spots.{value_at, cell_added, cells_from}
 
-module _ (k : Kind) (w : Weights) (q : ℕ → (ℕ → ℕ) → Result Pair Stop) (d : Option ℕ) (i : ℕ) (s : ℕ → ℕ) where
-  abbrev pub body_at : Tree → (ℕ → ℕ) → Option Pair → Result (Option Pair) Stop
-  body_at e t = one_more k.add d i s (evaluated k w q d (next_node i) e t)
+module _ (k : Kind) (w : Weights) (ds : List Tree) (at : Spot) where
+  -- the value of a sum, by its body at all cells
+  pub sum_is : (over : VSet) (e : Tree) → after (cells_from k w ds (record { at = at; over = over }) e 0 at.cell None) (whole (k.from_ratio 0 1)) ≡ value_at k w ds at (sum over.bits e)
+  sum_is over e =
+      ap (λ n. after (each_cell (has over.bits) w.size n 0 (cell_added k w ds at e) (cell_of at.cell) None) (whole (k.from_ratio 0 1))) (let r : w.vertices - 0 ≡ w.vertices = omega arith in r)
 
-  pub sum_gives : (u : ℕ) (e : Tree) (n : ℕ) → n ≡ w.vertices → (r : Result (Option Pair) Stop) → r ≡ each_cell (has u) w.size n 0 (body_at e) s None → after r (whole (k.from_ratio 0 1)) ≡ evaluated k w q d i (sum u e) s
-  sum_gives u e n en r er = ap (λ x. after x (whole (k.from_ratio 0 1))) (er ∙ ap (λ m. each_cell (has u) w.size m 0 (body_at e) s None) en)
+  -- the value of a quotient, by those of its parts
+  pub quotient_is : (x y : Tree) (a b : Pair) (first second : ℕ) → first ≡ next_node at.node → second ≡ node_behind x first
+      → Ok a ≡ value_at k w ds (record at { node = first }) x → Ok b ≡ value_at k w ds (record at { node = second }) y → placed at.def at.node (cell_of at.cell) (k.div a b) ≡ value_at k w ds at (quotient x y)
+  quotient_is x y a b first second ef es ea eb =
+      ap₂ (λ u v. after u (λ a'. after v (λ b'. placed at.def at.node (cell_of at.cell) (k.div a' b')))) (ea ∙ ap (λ i. value_at k w ds (record at { node = i }) x) ef)
+      (eb ∙ ap (λ i. value_at k w ds (record at { node = i }) y) (es ∙ ap (node_behind x) ef))
 
-  pub quotient_gives : (x y : Tree) (a b : Pair) (n : ℕ) → Ok a ≡ evaluated k w q d (next_node i) x s → n ≡ node_behind x (next_node i) → Ok b ≡ evaluated k w q d n y s → placed d i s (k.div a b) ≡ evaluated k w q d i (quotient x y) s
-  quotient_gives x y a b n ea en eb =
-      ap₂ (λ u v. after u (λ a'. after v (λ b'. placed d i s (k.div a' b')))) ea (eb ∙ ap (λ m. evaluated k w q d m y s) en)
+module _ (U : ℕ → Bool) (size : ℕ → ℕ) (f : (ℕ → ℕ) → Option Pair → Result (Option Pair) Stop) (n m v : ℕ) (s : ℕ → ℕ) (o : Option Pair) (en : n ≡ suc m) where
+  abbrev next_free : Bool → Result (Option Pair) Stop
+  next_free p = cond p (each_level (size v) (λ x. each_cell U size m (suc v) f (set_at s v x)) o) (each_cell U size m (suc v) f s o)
 
-module _ (U : ℕ → Bool) (size : ℕ → ℕ) (f : (ℕ → ℕ) → Option Pair → Result (Option Pair) Stop) where
-  abbrev pub level_at : ℕ → ℕ → (ℕ → ℕ) → ℕ → Option Pair → Result (Option Pair) Stop
-  level_at m v s x = each_cell U size m (v + 1) f (set_at s v x)
+  next_is : (p : Bool) → U v ≡ p → next_free p ≡ each_cell U size n v f s o
+  next_is p e = sym (ap next_free e) ∙ ap (λ j. each_cell U size j v f s o) (sym en)
 
-  pub skip : (n m v : ℕ) (s : ℕ → ℕ) (o : Option Pair) → n ≡ suc m → U v ≡ false → each_cell U size m (v + 1) f s o ≡ each_cell U size n v f s o
-  skip n m v s o en shut =
-      ap (λ j. each_cell U size m j f s o) (let r : v + 1 ≡ suc v = omega arith in r)
-      ∙ sym (ap (λ p. cond p (each_level (size v) (λ x. each_cell U size m (suc v) f (set_at s v x)) o) (each_cell U size m (suc v) f s o)) shut)
-      ∙ ap (λ j. each_cell U size j v f s o) (sym en)
+  skipped : U v ≡ false → each_cell U size m (v + 1) f s o ≡ each_cell U size n v f s o
+  skipped shut = ap (λ j. each_cell U size m j f s o) (let r : v + 1 ≡ suc v = omega arith in r) ∙ next_is false shut
 
-  pub spread : (n m v : ℕ) (s : ℕ → ℕ) (o : Option Pair) → n ≡ suc m → U v ≡ true → each_level (size v) (level_at m v s) o ≡ each_cell U size n v f s o
-  spread n m v s o en free =
-      ap (λ j. each_level (size v) (λ x. each_cell U size m j f (set_at s v x)) o) (let r : v + 1 ≡ suc v = omega arith in r)
-      ∙ sym (ap (λ p. cond p (each_level (size v) (λ x. each_cell U size m (suc v) f (set_at s v x)) o) (each_cell U size m (suc v) f s o)) free)
-      ∙ ap (λ j. each_cell U size j v f s o) (sym en)
-
-  pub last : (n v : ℕ) (s : ℕ → ℕ) (o : Option Pair) → n ≡ 0 → f s o ≡ each_cell U size n v f s o
-  last n v s o e = ap (λ j. each_cell U size j v f s o) (sym e)
+  spread : U v ≡ true → each_level (size v) (λ x. each_cell U size m (v + 1) f (set_at s v x)) o ≡ each_cell U size n v f s o
+  spread free = ap (λ j. each_level (size v) (λ x. each_cell U size m j f (set_at s v x)) o) (let r : v + 1 ≡ suc v = omega arith in r) ∙ next_is true free
 
 false_true : false ≡ true → ⊥
 false_true e = cc
@@ -67,15 +67,34 @@ cell_of-set cell v x lt = fun_ext (λ j. go j (eqb j v) refl)
     go j true e = ap (λ m. get_or (set cell v x) m 0) (eqb-true j v e) ∙ get_or-set_same cell v x 0 lt
     go j false e = get_or-set_other cell v j x 0 (differ j e)
 
-module _ (U : ℕ → Bool) (size : ℕ → ℕ) (f : (ℕ → ℕ) → Option Pair → Result (Option Pair) Stop) (n m v : ℕ) (s : ℕ → ℕ) (o : Option Pair) (en : n ≡ suc m) (free : U v ≡ true) where
-  pub loop_err : (p : Option Pair) (x : ℕ) (r : Result (Option Pair) Stop) (e : Stop) → x < size v → each_level x (level_at U size f m v s) o ≡ Ok p → r ≡ each_cell U size m (v + 1) f (set_at s v x) p → Err e ≡ r
-      → Err e ≡ each_cell U size n v f s o
-  loop_err p x r e lt before er ee =
-      stays (level_at U size f m v s) o e (x + 1) (size v) (omega arith) (ee ∙ sym (one_level (level_at U size f m v s) o p x r before er))
-      ∙ spread U size f n m v s o en free
+module _ (k : Kind) (w : Weights) (ds : List Tree) (summing : Summing) (e : Tree) (v : ℕ) (cell : List ℕ) where
+  -- the cells at a level of the vertex v
+  abbrev pub level_at : ℕ → Option Pair → Result (Option Pair) Stop
+  level_at x so_far = cells_from k w ds summing e (v + 1) (set cell v x) so_far
 
-  pub loop_done : (p : Option Pair) → each_level (size v) (level_at U size f m v s) o ≡ Ok p → Ok p ≡ each_cell U size n v f s o
-  loop_done p e = sym e ∙ spread U size f n m v s o en free
+  module _ (low : v < w.vertices) where
+    count_more : w.vertices - v ≡ suc (w.vertices - (v + 1))
+    count_more = omega arith
+
+    -- a vertex that isn't summed over is passed
+    pub skip : has summing.over.bits v ≡ false → (o : Option Pair) → cells_from k w ds summing e (v + 1) cell o ≡ cells_from k w ds summing e v cell o
+    skip shut o = skipped (has summing.over.bits) w.size (cell_added k w ds summing.at e) (w.vertices - v) (w.vertices - (v + 1)) v (cell_of cell) o count_more shut
+
+    module _ (long : v < length cell) (free : has summing.over.bits v ≡ true) (o : Option Pair) where
+      all_levels : each_level (w.size v) level_at o ≡ cells_from k w ds summing e v cell o
+      all_levels =
+          let U = has summing.over.bits in let f = cell_added k w ds summing.at e in let m = w.vertices - (v + 1) in
+          ap (λ (step : ℕ → Option Pair → Result (Option Pair) Stop). each_level (w.size v) step o) (fun_ext (λ x. ap (λ (s : ℕ → ℕ). each_cell U w.size m (v + 1) f s) (cell_of-set cell v x long)))
+          ∙ spread U w.size f (w.vertices - v) m v (cell_of cell) o count_more free
+
+      -- a level without a value ends the run
+      pub loop_err : (p : Option Pair) (x : ℕ) (r : Result (Option Pair) Stop) (stop : Stop) → x < w.size v → each_level x level_at o ≡ Ok p → r ≡ level_at x p → Err stop ≡ r → Err stop ≡ cells_from k w ds summing e v cell o
+      loop_err p x r stop lt before er ee =
+          stays level_at o stop (x + 1) (w.size v) (omega arith) (ee ∙ sym (one_level level_at o p x r before er)) ∙ all_levels
+
+      -- what there is after all levels
+      pub loop_done : (p : Option Pair) → each_level (w.size v) level_at o ≡ Ok p → Ok p ≡ cells_from k w ds summing e v cell o
+      loop_done p e = sym e ∙ all_levels
 
 -- a cell of zeros
 pub zeros : (n u : ℕ) → get_or {A = ℕ} (replicate {A = ℕ} n 0) u 0 ≡ 0

@@ -1,6 +1,7 @@
 -- Fewer rows agree on more vertices.
 use Rattle.std.proofs.Common.{ℕ, ◌≡◌, ◌≢◌, ◌≤◌, Bool, true, false, cond, not, ◌||◌, eqb, ne_eqb, List, [], ◌∷◌, Option, Result, Ok, Err, refl, sym, ap, ap₂, subst, ◌∙◌, arith}
 use mathlib.Core.Path.{fun_ext}
+use Rattle.std.proofs.lemmas.Bool.{and_from, or_right}
 use Rattle.std.proofs.lemmas.List.Sums.{sum_by-cons}
 use Rattle.mixed_graph.specs.Bits.{has}
 use Rattle.finite_models.proofs.Bools.{and_first, and_second}
@@ -11,7 +12,6 @@ use Rattle.mixed_graph.proofs.MaskLaws.{has_join}
 use Rattle.count_rows.specs.Rows.{Row, agrees, counted}
 use Rattle.count_table.specs.Cells.{total}
 use Rattle.count_eval.specs.Stops.{Stop, stop}
-use Rattle.count_eval.proofs.Covered.{both_true}
 
 asked : (p q e : Bool) → (q ≡ true → p ≡ true) → (not p || e) ≡ true → (not q || e) ≡ true
 asked p false e h k = refl
@@ -21,7 +21,7 @@ agrees_shrinks : (vs cell : List ℕ) (a b : ℕ → Bool) (at : ℕ → ℕ) �
 agrees_shrinks [] cell a b at h k = refl
 agrees_shrinks (v ∷ vs) [] a b at h k = refl
 agrees_shrinks (v ∷ vs) (x ∷ xs) a b at h k =
-    both_true (not (b v) || eqb x (at v)) (agrees vs xs b at)
+    and_from (not (b v) || eqb x (at v)) (agrees vs xs b at)
     (asked (a v) (b v) (eqb x (at v)) (h v) (and_first (not (a v) || eqb x (at v)) (agrees vs xs a at) k))
     (agrees_shrinks vs xs a b at h (and_second (not (a v) || eqb x (at v)) (agrees vs xs a at) k))
 
@@ -63,8 +63,4 @@ term_is k d i s a c W p n ep en some =
     ∙ ap₂ (λ x y. Ok (k.from_ratio x y)) (ap W (sym (fun_ext (λ v. has_join a c v))) ∙ sym ep) (sym en))
 
 pub given_joined : (a c v : ℕ) → has c v ≡ true → has (join a c) v ≡ true
-given_joined a c v e = has_join a c v ∙ ap (λ (b : Bool). has a v || b) e ∙ either_true (has a v)
-  where
-    either_true : (b : Bool) → (b || true) ≡ true
-    either_true true = refl
-    either_true false = refl
+given_joined a c v e = has_join a c v ∙ or_right (has a v) (has c v) e

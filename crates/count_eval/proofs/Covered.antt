@@ -1,5 +1,6 @@
 -- A value in a lawful kind of quantity covers the true value.
 use Rattle.std.proofs.Common.{ℕ, zero, suc, ◌+◌, ◌*◌, ◌≡◌, ◌≢◌, ◌≤◌, Bool, true, false, cond, not, ◌&&◌, ◌||◌, eqb, refl, sym, ap, ap₂, ◌∙◌, subst, arith, ne_eqb, mul-pos, Option, Some, None, Result, Ok, Err, List, [], ◌∷◌}
+use Rattle.std.proofs.lemmas.Bool.{and_from, and_left, and_right}
 use Rattle.finite_models.specs.Sums.{set_at, all_below}
 use Rattle.mixed_graph.specs.Bits.{has}
 use Rattle.prob_expr.specs.Tree.{Tree, prob, sum, product, quotient, named, Trees, no_trees, tree, PlainFormula}
@@ -50,29 +51,11 @@ and_assoc false b c = refl
 true_and : (a : Bool) → (true && a) ≡ a
 true_and a = refl
 
-down_add : (U : ℕ → Bool) (s : ℕ → ℕ) (n : ℕ) (F : (ℕ → ℕ) → Fraction) (b : ℕ → ℕ) → Orders.down add (over 0 1) U s n F b ≡ add_over U s n F b
-down_add U s zero F b = refl
-down_add U s (suc n) F b = go (U n) (s n) (λ c. down_add U s n F c)
-  where
-    below : (k : ℕ) (f g : ℕ → Fraction) → ((x : ℕ) → f x ≡ g x) → Orders.big add (over 0 1) k f ≡ add_below k g
-    below zero f g h = refl
-    below (suc k) f g h = ap₂ add (below k f g h) (h k)
+pub down_add : (U : ℕ → Bool) (s : ℕ → ℕ) (n : ℕ) (F : (ℕ → ℕ) → Fraction) (b : ℕ → ℕ) → Orders.down add (over 0 1) U s n F b ≡ add_over U s n F b
+down_add = Orders.down_is add (over 0 1) add_below (λ f. refl) (λ k f. refl) add_over (λ U s F b. refl) (λ U s n F b. refl)
 
-    go : (p : Bool) (k : ℕ) → ((c : ℕ → ℕ) → Orders.down add (over 0 1) U s n F c ≡ add_over U s n F c) → cond p (Orders.big add (over 0 1) k (λ x. Orders.down add (over 0 1) U s n F (set_at b n x))) (Orders.down add (over 0 1) U s n F b) ≡ cond p (add_below k (λ x. add_over U s n F (set_at b n x))) (add_over U s n F b)
-    go true k ih = below k (λ x. Orders.down add (over 0 1) U s n F (set_at b n x)) (λ x. add_over U s n F (set_at b n x)) (λ x. ih (set_at b n x))
-    go false k ih = ih b
-
-down_all : (U : ℕ → Bool) (s : ℕ → ℕ) (n : ℕ) (F : (ℕ → ℕ) → Bool) (b : ℕ → ℕ) → Orders.down (λ x y. x && y) true U s n F b ≡ all_over U s n F b
-down_all U s zero F b = refl
-down_all U s (suc n) F b = go (U n) (s n) (λ c. down_all U s n F c)
-  where
-    below : (k : ℕ) (f g : ℕ → Bool) → ((x : ℕ) → f x ≡ g x) → Orders.big (λ x y. x && y) true k f ≡ all_below k g
-    below zero f g h = refl
-    below (suc k) f g h = ap₂ (λ x y. x && y) (below k f g h) (h k)
-
-    go : (p : Bool) (k : ℕ) → ((c : ℕ → ℕ) → Orders.down (λ x y. x && y) true U s n F c ≡ all_over U s n F c) → cond p (Orders.big (λ x y. x && y) true k (λ x. Orders.down (λ x y. x && y) true U s n F (set_at b n x))) (Orders.down (λ x y. x && y) true U s n F b) ≡ cond p (all_below k (λ x. all_over U s n F (set_at b n x))) (all_over U s n F b)
-    go true k ih = below k (λ x. Orders.down (λ x y. x && y) true U s n F (set_at b n x)) (λ x. all_over U s n F (set_at b n x)) (λ x. ih (set_at b n x))
-    go false k ih = ih b
+pub down_all : (U : ℕ → Bool) (s : ℕ → ℕ) (n : ℕ) (F : (ℕ → ℕ) → Bool) (b : ℕ → ℕ) → Orders.down (λ x y. x && y) true U s n F b ≡ all_over U s n F b
+down_all = Orders.down_is (λ x y. x && y) true all_below (λ f. refl) (λ k f. refl) all_over (λ U s F b. refl) (λ U s n F b. refl)
 
 -- ---- a result against the true value f, which is there where h holds
 pub record Good (covers : Pair → Fraction → Type 0) (h : Bool) (f : Fraction) (r : Result Pair Stop) : Type 0 where
@@ -87,15 +70,6 @@ Holds covers Z (Some c) f = covers c f
 pub record Joins (covers : Pair → Fraction → Type 0) (Z : Fraction → Type 0) (h : Bool) (f : Fraction) (r : Result (Option Pair) Stop) : Type 0 where
   pub found : (o : Option Pair) → r ≡ Ok o → (h ≡ true) × Holds covers Z o f
   pub none : (e : Stop) → r ≡ Err e → e.why ≡ ZeroBelow → h ≡ false
-
-left_false : (a b : Bool) → a ≡ false → (a && b) ≡ false
-left_false a b e = ap (λ x. x && b) e
-
-right_false : (a b : Bool) → a ≡ true → b ≡ false → (a && b) ≡ false
-right_false a b e f = ap₂ (λ x y. x && y) e f
-
-pub both_true : (a b : Bool) → a ≡ true → b ≡ true → (a && b) ≡ true
-both_true a b e f = ap₂ (λ x y. x && y) e f
 
 module _ (covers : Pair → Fraction → Type 0) (Z : Fraction → Type 0) (op : Pair → Pair → Result Pair QuantityFault) (join : Fraction → Fraction → Fraction) (one : Fraction)
     (assoc : (f g h : Fraction) → join f (join g h) ≡ join (join f g) h) (unit : (f : Fraction) → join f one ≡ f)
@@ -138,12 +112,12 @@ module _ (covers : Pair → Fraction → Type 0) (Z : Fraction → Type 0) (op :
   combine hA hB f A B (Ok o) step j next =
       let k = j.found o refl in let m = next o k.1 in
       record {
-        found = λ o' e. let p = m.found o' e in (both_true hA hB k.0 p.0, subst (λ x. Holds covers Z o' x) (sym (assoc f A B)) p.1);
-        none = λ e' e why. right_false hA hB k.0 (m.none e' e why);
+        found = λ o' e. let p = m.found o' e in (and_from hA hB k.0 p.0, subst (λ x. Holds covers Z o' x) (sym (assoc f A B)) p.1);
+        none = λ e' e why. and_right hA hB (m.none e' e why);
       }
   combine hA hB f A B (Err x) step j next = record {
     found = λ o' e. absurd (cc);
-    none = λ e' e why. left_false hA hB (j.none e' (ap (λ y. Err y) (let k : x ≡ e' = cc in k)) why);
+    none = λ e' e why. and_left hA hB (j.none e' (ap (λ y. Err y) (let k : x ≡ e' = cc in k)) why);
   }
 
   level_good : (n : ℕ) (F : ℕ → Fraction) (H : ℕ → Bool) (step : ℕ → Option Pair → Result (Option Pair) Stop)
@@ -238,18 +212,18 @@ module _ (kind : Kind) (covers : Pair → Fraction → Type 0) (law : IsLawful k
       → Good covers (hx && (hy && not (eqb g.top 0))) (div f g) (after rx (λ a. after ry (λ b. placed d i s (kind.div a b))))
   quotient_good d i s hx hy f g (Err x) ry gx gy = record {
     found = λ c e. absurd (cc);
-    none = λ e' e why. left_false hx (hy && not (eqb g.top 0)) (gx.none e' (ap (λ y. Err y) (let k : x ≡ e' = cc in k)) why);
+    none = λ e' e why. and_left hx (hy && not (eqb g.top 0)) (gx.none e' (ap (λ y. Err y) (let k : x ≡ e' = cc in k)) why);
   }
   quotient_good d i s hx hy f g (Ok a) (Err x) gx gy = record {
     found = λ c e. absurd (cc);
-    none = λ e' e why. right_false hx (hy && not (eqb g.top 0)) (gx.found a refl).0 (left_false hy (not (eqb g.top 0)) (gy.none e' (ap (λ y. Err y) (let k : x ≡ e' = cc in k)) why));
+    none = λ e' e why. and_right hx (hy && not (eqb g.top 0)) (and_left hy (not (eqb g.top 0)) (gy.none e' (ap (λ y. Err y) (let k : x ≡ e' = cc in k)) why));
   }
   quotient_good d i s hx hy f g (Ok a) (Ok b) gx gy = go (kind.div a b) refl (gx.found a refl) (gy.found b refl)
     where
       go : (r : Result Pair QuantityFault) → kind.div a b ≡ r → (hx ≡ true) × covers a f → (hy ≡ true) × covers b g → Good covers (hx && (hy && not (eqb g.top 0))) (div f g) (placed d i s r)
       go (Ok x) e ka kb = record {
         found = λ c e'. (
-          both_true hx (hy && not (eqb g.top 0)) ka.0 (both_true hy (not (eqb g.top 0)) kb.0
+          and_from hx (hy && not (eqb g.top 0)) ka.0 (and_from hy (not (eqb g.top 0)) kb.0
               (ap not (eqb_not g.top (λ z. absurd (differ (sym e ∙ (law.div_zero a b f g ka.1 kb.1).1 z)))))),
           subst (λ y. covers y (div f g)) (let m : x ≡ c = cc in m) (law.keeps.div a b x f g ka.1 kb.1 e),
         );
@@ -260,7 +234,7 @@ module _ (kind : Kind) (covers : Pair → Fraction → Type 0) (law : IsLawful k
           differ h = cc
       go (Err x) e ka kb = record {
         found = λ c e'. absurd (cc);
-        none = λ e' e'' why. right_false hx (hy && not (eqb g.top 0)) ka.0 (right_false hy (not (eqb g.top 0)) kb.0
+        none = λ e' e'' why. and_right hx (hy && not (eqb g.top 0)) (and_right hy (not (eqb g.top 0))
             (ap not (eqb_of g.top ((law.div_zero a b f g ka.1 kb.1).0 (e ∙ ap (λ y. Err y) (ap (λ (y : Stop). y.why) (let m : stop x d i s ≡ e' = cc in m) ∙ why))))));
       }
 

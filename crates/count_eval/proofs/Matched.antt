@@ -1,6 +1,7 @@
 -- In a matching positive model a formula has a value over the counts, and it is the model's.
 use Rattle.std.proofs.Common.{ℕ, zero, suc, ◌*◌, ◌≡◌, ◌<◌, ◌≤◌, Bool, true, false, cond, not, ◌&&◌, ◌||◌, eqb, refl, sym, ap, ap₂, ◌∙◌, subst, arith, ne_eqb, mul-pos, List, [], ◌∷◌}
 use mathlib.Core.Path.{fun_ext}
+use Rattle.std.proofs.lemmas.Bool.{and_from}
 use Rattle.mixed_graph.specs.Graphs.{MixedGraph, IsMixedGraph}
 use Rattle.finite_models.specs.Sums.{set_at, all_below}
 use Rattle.finite_models.specs.Models.{FiniteModel, Fits, IsAssignment, IsPositiveModel, weight_of, total}
@@ -8,7 +9,7 @@ use Rattle.mixed_graph.specs.Bits.{has}
 use Rattle.mixed_graph.specs.Masks.{is_empty}
 use Rattle.prob_expr.specs.Tree.{Tree, prob, sum, product, quotient, named, Trees, no_trees, tree, PlainFormula}
 use Rattle.prob_expr.specs.Terms.{is_under, are_under, all_under, is_listed, is_do_free}
-use Rattle.fractions.specs.Fractions.{Fraction, over, IsEqual, add, mul, div, add_below}
+use Rattle.fractions.specs.Fractions.{Fraction, over, IsEqual, add, mul, div}
 use Rattle.prob_expr.specs.Values.{add_over, Weights, weights_of, value, product_value, values_from, value_of}
 use Rattle.finite_models.proofs.Bools.{and_first, and_second, either}
 use Rattle.mixed_graph.proofs.MaskLaws.{empty_has}
@@ -22,44 +23,27 @@ use Rattle.prob_expr.proofs.Observed
 use Rattle.prob_expr.proofs.ValueLaws.{values_are_positive}
 use Rattle.count_eval.specs.Supported.{all_over, has_value, have_values, supported_from}
 use Rattle.count_eval.specs.Laws.{is_supported, IsUsed, AreUsed, AllUsed, MatchedHasValue}
-use Rattle.count_eval.proofs.Covered.{both_true}
+use Rattle.count_eval.proofs.Covered.{down_add, down_all}
+use Rattle.count_eval.proofs.Orders
 
 -- ---- sizes of vertices that aren't summed don't matter
 module _ (w : Weights) (size : ℕ → ℕ) (used : ℕ → Bool) (sizes : (v : ℕ) → v < w.vertices → used v ≡ true → w.size v ≡ size v) where
   abbrev resized : Weights
   resized = record w { size = size }
 
-  same_add : (U : ℕ → Bool) → ((v : ℕ) → U v ≡ true → used v ≡ true) → (n : ℕ) → n ≤ w.vertices → (F G : (ℕ → ℕ) → Fraction) → ((c : ℕ → ℕ) → F c ≡ G c) → (b : ℕ → ℕ) → add_over U w.size n F b ≡ add_over U size n G b
-  same_add U us zero le F G h b = h b
-  same_add U us (suc n) le F G h b = go (U n) refl (λ c. same_add U us n (omega arith) F G h c)
-    where
-      below : (k : ℕ) (f g : ℕ → Fraction) → ((x : ℕ) → f x ≡ g x) → add_below k f ≡ add_below k g
-      below zero f g h = refl
-      below (suc k) f g h = ap₂ add (below k f g h) (h k)
+  same_add : (U : ℕ → Bool) → ((v : ℕ) → U v ≡ true → used v ≡ true) → (F G : (ℕ → ℕ) → Fraction) → ((c : ℕ → ℕ) → F c ≡ G c) → (b : ℕ → ℕ) → add_over U w.size w.vertices F b ≡ add_over U size w.vertices G b
+  same_add U us F G h b =
+      sym (down_add U w.size w.vertices F b) ∙ Orders.same_down add (over 0 1) U w.size size w.vertices (λ v lt u. sizes v lt (us v u)) F G h b ∙ down_add U size w.vertices G b
 
-      go : (p : Bool) → U n ≡ p → ((c : ℕ → ℕ) → add_over U w.size n F c ≡ add_over U size n G c)
-          → cond p (add_below (w.size n) (λ x. add_over U w.size n F (set_at b n x))) (add_over U w.size n F b) ≡ cond p (add_below (size n) (λ x. add_over U size n G (set_at b n x))) (add_over U size n G b)
-      go true e ih = ap (λ k. add_below k (λ x. add_over U w.size n F (set_at b n x))) (sizes n (omega arith) (us n e)) ∙ below (size n) (λ x. add_over U w.size n F (set_at b n x)) (λ x. add_over U size n G (set_at b n x)) (λ x. ih (set_at b n x))
-      go false e ih = ih b
-
-  same_all : (U : ℕ → Bool) → ((v : ℕ) → U v ≡ true → used v ≡ true) → (n : ℕ) → n ≤ w.vertices → (F G : (ℕ → ℕ) → Bool) → ((c : ℕ → ℕ) → F c ≡ G c) → (b : ℕ → ℕ) → all_over U w.size n F b ≡ all_over U size n G b
-  same_all U us zero le F G h b = h b
-  same_all U us (suc n) le F G h b = go (U n) refl (λ c. same_all U us n (omega arith) F G h c)
-    where
-      below : (k : ℕ) (f g : ℕ → Bool) → ((x : ℕ) → f x ≡ g x) → all_below k f ≡ all_below k g
-      below zero f g h = refl
-      below (suc k) f g h = ap₂ (λ x y. x && y) (below k f g h) (h k)
-
-      go : (p : Bool) → U n ≡ p → ((c : ℕ → ℕ) → all_over U w.size n F c ≡ all_over U size n G c)
-          → cond p (all_below (w.size n) (λ x. all_over U w.size n F (set_at b n x))) (all_over U w.size n F b) ≡ cond p (all_below (size n) (λ x. all_over U size n G (set_at b n x))) (all_over U size n G b)
-      go true e ih = ap (λ k. all_below k (λ x. all_over U w.size n F (set_at b n x))) (sizes n (omega arith) (us n e)) ∙ below (size n) (λ x. all_over U w.size n F (set_at b n x)) (λ x. all_over U size n G (set_at b n x)) (λ x. ih (set_at b n x))
-      go false e ih = ih b
+  same_all : (U : ℕ → Bool) → ((v : ℕ) → U v ≡ true → used v ≡ true) → (F G : (ℕ → ℕ) → Bool) → ((c : ℕ → ℕ) → F c ≡ G c) → (b : ℕ → ℕ) → all_over U w.size w.vertices F b ≡ all_over U size w.vertices G b
+  same_all U us F G h b =
+      sym (down_all U w.size w.vertices F b) ∙ Orders.same_down (λ x y. x && y) true U w.size size w.vertices (λ v lt u. sizes v lt (us v u)) F G h b ∙ down_all U size w.vertices G b
 
   module _ (q q' : ℕ → (ℕ → ℕ) → Fraction) (h h' : ℕ → (ℕ → ℕ) → Bool) (eq : (j : ℕ) (t : ℕ → ℕ) → q j t ≡ q' j t) (eh : (j : ℕ) (t : ℕ → ℕ) → h j t ≡ h' j t) where
     mutual
       same_value : (e : Tree) → IsUsed used e → (s : ℕ → ℕ) → value w q e s ≡ value resized q' e s
       same_value (prob a b c) u s = refl
-      same_value (sum v e) u s = same_add (has v) u.0 w.vertices (omega arith) (value w q e) (value resized q' e) (λ c. same_value e u.1 c) s
+      same_value (sum v e) u s = same_add (has v) u.0 (value w q e) (value resized q' e) (λ c. same_value e u.1 c) s
       same_value (product fs) u s = same_product fs u s
       same_value (quotient x y) u s = ap₂ div (same_value x u.0 s) (same_value y u.1 s)
       same_value (named k) u s = eq k s
@@ -71,7 +55,7 @@ module _ (w : Weights) (size : ℕ → ℕ) (used : ℕ → Bool) (sizes : (v : 
     mutual
       same_has : (e : Tree) → IsUsed used e → (s : ℕ → ℕ) → has_value w q h e s ≡ has_value resized q' h' e s
       same_has (prob a b c) u s = refl
-      same_has (sum v e) u s = same_all (has v) u.0 w.vertices (omega arith) (has_value w q h e) (has_value resized q' h' e) (λ c. same_has e u.1 c) s
+      same_has (sum v e) u s = same_all (has v) u.0 (has_value w q h e) (has_value resized q' h' e) (λ c. same_has e u.1 c) s
       same_has (product fs) u s = same_have fs u s
       same_has (quotient x y) u s = ap₂ (λ a b. a && b) (same_has x u.0 s) (ap₂ (λ a (f : Fraction). a && not (eqb f.top 0)) (same_has y u.1 s) (same_value y u.1 s))
       same_has (named k) u s = eh k s
@@ -122,7 +106,7 @@ module _ (w : Weights) (used : ℕ → Bool) (some : (v : ℕ) → v < w.vertice
     where
       below : (m : ℕ) (f : ℕ → Bool) → ((x : ℕ) → x < m → f x ≡ true) → all_below m f ≡ true
       below zero f g = refl
-      below (suc m) f g = both_true (all_below m f) (f m) (below m f (λ x lt. g x (omega arith))) (g m (omega arith))
+      below (suc m) f g = and_from (all_below m f) (f m) (below m f (λ x lt. g x (omega arith))) (g m (omega arith))
 
       go : (p : Bool) → ((c : ℕ → ℕ) → IsAssignment w.vertices w.size c → all_over U w.size n F c ≡ true) → cond p (all_below (w.size n) (λ x. all_over U w.size n F (set_at b n x))) (all_over U w.size n F b) ≡ true
       go true ih = below (w.size n) (λ x. all_over U w.size n F (set_at b n x)) (λ x lt. ih (set_at b n x) (assignment_set w.vertices w.size b n x lt k))
@@ -152,7 +136,7 @@ module _ (w : Weights) (used : ℕ → Bool) (some : (v : ℕ) → v < w.vertice
           let a = sure x (and_first (is_under [] x) (is_under [] y) d) u.0 s k in
           let b = sure y (and_second (is_under [] x) (is_under [] y) d) u.1 s k in
           record {
-            has = both_true (has_value w q h x s) (has_value w q h y s && not (eqb (value w q y s).top 0)) a.has (both_true (has_value w q h y s) (not (eqb (value w q y s).top 0)) b.has (not_zero (value w q y s).top b.positive.top));
+            has = and_from (has_value w q h x s) (has_value w q h y s && not (eqb (value w q y s).top 0)) a.has (and_from (has_value w q h y s) (not (eqb (value w q y s).top 0)) b.has (not_zero (value w q y s).top b.positive.top));
             positive = div_positive (value w q x s) (value w q y s) a.positive b.positive;
           }
       sure (named j) d u s k = each_named j s k
@@ -163,7 +147,7 @@ module _ (w : Weights) (used : ℕ → Bool) (some : (v : ℕ) → v < w.vertice
           let a = sure e (and_first (is_under [] e) (are_under [] fs) d) u.0 s k in
           let b = sure_each fs (and_second (is_under [] e) (are_under [] fs) d) u.1 s k in
           record {
-            has = both_true (has_value w q h e s) (have_values w q h fs s) a.has b.has;
+            has = and_from (has_value w q h e s) (have_values w q h fs s) a.has b.has;
             positive = mul_positive (value w q e s) (product_value w q fs s) a.positive b.positive;
           }
 

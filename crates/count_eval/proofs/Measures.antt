@@ -1,7 +1,10 @@
 -- What the definitions below a limit weigh, and what they are.
 use Rattle.std.proofs.Common.{ℕ, zero, suc, ◌+◌, ◌*◌, ◌≡◌, ◌<◌, ◌≤◌, Bool, true, cond, eqb, ne_eqb, refl, sym, ap, ap₂, ◌∙◌, subst, arith, List, [], ◌∷◌, map, take, length, get_or, Some, Result, Ok}
+use Rattle.std.proofs.lemmas.List.{get_or_default, length-map}
 use Rattle.prob_expr.specs.Tree.{Tree, prob, sum, product, quotient, named, Trees, no_trees, tree}
 use Rattle.prob_expr.specs.Values.{Weights}
+use Rattle.prob_expr.specs.View.{view}
+use Rattle.prob_expr.specs.declared.expr.Expr.{Expr}
 use Rattle.quantity.specs.Kinds.{Pair, Kind}
 use Rattle.count_eval.specs.Stops.{Stop}
 use Rattle.count_eval.specs.Evaluated.{evaluated, evaluated_from}
@@ -78,19 +81,17 @@ get_or-map f [] i d = refl
 get_or-map f (x ∷ xs) zero d = refl
 get_or-map f (x ∷ xs) (suc i) d = get_or-map f xs i d
 
-pub length_map : {A B : Type 0} (f : A → B) (xs : List A) → length (map f xs) ≡ length xs
-length_map f [] = refl
-length_map f (x ∷ xs) = let r = length_map f xs in omega (arith, r)
-
--- an element that is there is found whatever stands for those that aren't
-pub get_or-any : {A : Type 0} (xs : List A) (i : ℕ) (d e : A) → i < length xs → get_or xs i d ≡ get_or xs i e
-get_or-any [] i d e lt = absurd (omega arith)
-get_or-any (x ∷ xs) zero d e lt = refl
-get_or-any (x ∷ xs) (suc i) d e lt = get_or-any xs i d e (omega arith)
-
 -- a definition has the same value among those below any limit above it
 pub known_below : (k : Kind) (w : Weights) (ds : List Tree) (j limit : ℕ) (s : ℕ → ℕ) → j < limit → limit ≤ length ds → known k w ds limit j s ≡ known k w ds (length ds) j s
 known_below k w ds j limit s lt le =
     let e = get_or ds j (named 0) in
-    let at = get_or-any ds j (named 0) e (omega arith) in
+    let at = get_or_default ds j (named 0) e (omega arith) in
     known_at k w ds j limit e s lt (omega arith) at ∙ sym (known_at k w ds j (length ds) e s (omega arith) (omega arith) at)
+
+-- the tree of a definition, at its place among all
+pub record IsNamed (ds : List Tree) (j : ℕ) (e : Tree) : Type 0 where
+  pub within : j < length ds
+  pub is : e ≡ get_or ds j e
+
+pub named_at : (defs : List Expr) (j : ℕ) (e : Expr) → j < length defs → e ≡ get_or defs j e → IsNamed (map view defs) j (view e)
+named_at defs j e lt is = let long = length-map defs view in record { within = omega (arith, long); is = ap view is ∙ sym (get_or-map view defs j e) }

@@ -1,11 +1,14 @@
 -- What the evaluator gives for main is the formula's value, and what it covers.
-use Rattle.std.proofs.Common.{ℕ, ◌≡◌, ◌≢◌, ◌≤◌, Bool, cond, ◌∙◌, ap, sym, arith, List, length, take, get_or, None, Result, Ok, Err}
+use Rattle.std.proofs.Common.{ℕ, ◌≡◌, ◌≢◌, ◌≤◌, Bool, cond, ◌∙◌, ap, sym, arith, List, length, map, get_or, None, Result, Ok, Err}
 use Rattle.std.proofs.Math.Seq.{take-length}
 use Rattle.std.proofs.lemmas.Bool.{false≢true}
 use mathlib.Core.Path.{fun_ext}
 use Rattle.fractions.specs.Fractions.{Fraction}
 use Rattle.mixed_graph.specs.Bits.{has, members_below}
 use Rattle.prob_expr.specs.Tree.{PlainFormula, Tree}
+use Rattle.prob_expr.specs.View.{view, formula_view}
+use Rattle.prob_expr.specs.declared.expr.Expr.{Expr}
+use Rattle.prob_expr.specs.declared.expr.Formula.{Formula}
 use Rattle.prob_expr.specs.Values.{Weights, weights_of, value_of}
 use Rattle.quantity.specs.Kinds.{Pair, Kind}
 use Rattle.quantity.specs.Lawful.{IsLawful}
@@ -16,18 +19,21 @@ use Rattle.count_eval.specs.declared.failure.EvalFault.{EvalFault}
 use Rattle.count_eval.specs.declared.failure.EvalFault.TheVariants.{NoSupport, TooWide, TooFine, NoMemory}
 use Rattle.count_eval.specs.Stops.{Stop}
 use Rattle.count_eval.specs.Evaluated.{evaluated, evaluated_from, formula_value}
-use Rattle.count_eval.specs.Programs.{weights_in, is_used, known}
+use Rattle.count_eval.specs.Programs.{weights_in, is_used, cell_of}
+use Rattle.count_eval.specs.Spots.{value_at}
 use Rattle.count_eval.specs.Answers.{IsEvaluable, IsEvaluationFault, CoversCounts, CoversMatches, DeniesMatches}
 use Rattle.count_eval.proofs.Covered.{formula_good}
 use Rattle.count_eval.proofs.Matched.{matched_has_value}
 use Rattle.count_eval.proofs.Used.{used_is}
 
 -- main's value over all definitions is the formula's
-pub whole_value : (k : Kind) (w : Weights) (f : PlainFormula) (limit : ℕ) (s t : ℕ → ℕ) (o : Result Pair Stop) → limit ≡ length f.defs → ((v : ℕ) → s v ≡ t v)
-    → o ≡ evaluated k w (known k w f.defs limit) None 0 f.main s → formula_value k w f t ≡ o
-whole_value k w f limit s t o e same h =
-    sym (h ∙ ap (λ (ds : List Tree). evaluated k w (evaluated_from k w (λ j t. Ok (k.from_ratio 1 1)) 0 ds) None 0 f.main s) (ap (λ m. take m f.defs) e ∙ take-length f.defs)
-    ∙ ap (formula_value k w f) (fun_ext same))
+pub main_value : (k : Kind) (w : Weights) (f : Formula) (defs : List Expr) (cell : List ℕ) (s : ℕ → ℕ) (o : Result Pair Stop) → defs ≡ f.defs.items → ((v : ℕ) → cell_of cell v ≡ s v)
+    → o ≡ value_at k w (map view defs) (record { def = None; node = 0; cell = cell }) (view f.main) → formula_value k w (formula_view f) s ≡ o
+main_value k w f defs cell s o e same h =
+    let ds = map view f.defs.items in
+    sym (h ∙ ap (λ (l : List Expr). value_at k w (map view l) (record { def = None; node = 0; cell = cell }) (view f.main)) e
+    ∙ ap (λ (l : List Tree). evaluated k w (evaluated_from k w (λ j t. Ok (k.from_ratio 1 1)) 0 l) None 0 (view f.main) (cell_of cell)) (take-length ds)
+    ∙ ap (formula_value k w (formula_view f)) (fun_ext same))
 
 -- the cell as an array has the levels that the cell has
 pub levels_kept : (t : Table) (of : ℕ → Bool) (at cell : List ℕ) → length at ≤ length cell → ((v : ℕ) → get_or cell v 0 ≡ get_or at v 0) → HasLevels t of at → HasLevels t of cell

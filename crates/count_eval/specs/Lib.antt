@@ -6,3 +6,4 @@ pub mod Laws
 pub mod Programs
 pub mod Answers
 pub mod Uses
+pub mod Spots

@@ -23,7 +23,7 @@ cell_of cell v = slice_index cell v
 
 -- a failure as a stop
 abbrev pub stop_of : Failure → Stop
-stop_of f = record { why = f.why; def = f.def; node = f.node; cell = cell_of f.cell }
+stop_of f = record { why = f.why; def = f.at.def; node = f.at.node; cell = cell_of f.at.cell }
 
 -- an outcome, seen as numbers
 abbrev pub seen : {Q : Type 0} → (Q → Pair) → Result Q Failure → Result Pair Stop

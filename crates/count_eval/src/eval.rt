@@ -1,169 +1,98 @@
-ghost use Rattle.std.specs.Prelude.{ℕ, ◌≡◌, ◌<◌, ◌≤◌, ◌-◌, map, length, true, None};
+ghost use Rattle.std.specs.Prelude.{ℕ, ◌≡◌, ◌≤◌, map, length, true, None};
 ghost use Rattle.mixed_graph.specs.Bits.{has};
-ghost use Rattle.quantity.specs.Kinds.{gives};
 ghost use Rattle.prob_expr.specs.View.{view, views};
 ghost use Rattle.prob_expr.specs.Check.{next_node as node_next};
 ghost use Rattle.count_table.specs.Tables.{AreCounts, HasLevels};
-ghost use Rattle.count_eval.specs.Steps.{each_cell, one_more, joined, whole as whole_of};
-ghost use Rattle.count_eval.specs.Stops.{after, placed};
-ghost use Rattle.count_eval.specs.Evaluated.{term_outcome, evaluated, factors_evaluated};
-ghost use Rattle.count_eval.specs.Laws.{IsUsed, AreUsed, AllUsed};
-ghost use Rattle.count_eval.specs.Programs.{weights_in, is_used, cell_of, seen, seen_so_far, seen_more, known, AreValues, IsBelow, AreBelow, AreOrdered};
+ghost use Rattle.count_eval.specs.Evaluated.{term_outcome};
+ghost use Rattle.count_eval.specs.Laws.{IsUsed, AreUsed};
+ghost use Rattle.count_eval.specs.Programs.{weights_in, is_used, cell_of, seen, seen_so_far, seen_more, IsBelow, AreBelow};
+ghost use Rattle.count_eval.specs.Spots.{IsScope, limit_of, value_at, cells_from, factors_from};
 
 use crate::failure::Failure;
+use crate::joining::{Joint, join_more, outcome, whole};
 use crate::lookup::Lookup;
 use crate::nodes::{next_node, node_behind};
+use crate::spot::Spot;
 use mixed_graph::VSet;
 use prob_expr::Expr;
 use quantity::{Quantity, QuantityFault};
 
-/// The outcome of an operation at a node.
-fn outcome<Q: Quantity>(
-    r: Result<Q, QuantityFault>,
-    def: Option<u32>,
-    node: u32,
-    cell: [u32; 64],
-) -> Result<Q, Failure>
-    ensures { seen Q.numbers result ≡ placed def node (cell_of cell) (gives Q.numbers r) }
-{
-    match r {
-        Ok(q) => Ok(q),
-        Err(why) => Err(Failure {
-            why,
-            def,
-            node,
-            cell,
-        }),
-    }
+/// What an evaluation is over: where it looks up, the number of vertices, and the definitions.
+#[derive(Drop)]
+pub struct Scope<'a, L> {
+    pub lookup: &'a L,
+    pub n: u32,
+    pub defs: &'a [Expr],
 }
 
-/// What there is so far, and one more.
-fn add_more<Q: Quantity>(
-    so_far: Option<Q>,
-    q: Q,
-    def: Option<u32>,
-    node: u32,
-    cell: [u32; 64],
-) -> Result<Option<Q>, Failure>
-    ensures { seen_more Q.numbers result ≡ joined Q.kind.add def node (cell_of cell) (seen_so_far Q.numbers so_far) (Q.numbers q) }
-{
-    match so_far {
-        None => Ok(Some(q)),
-        Some(a) => {
-            let sum = outcome(a.add(&q), def, node, cell)?;
-            Ok(Some(sum))
-        }
-    }
-}
-
-/// What there is so far, times one more.
-fn multiply_more<Q: Quantity>(
-    so_far: Option<Q>,
-    q: Q,
-    def: Option<u32>,
-    node: u32,
-    cell: [u32; 64],
-) -> Result<Option<Q>, Failure>
-    ensures { seen_more Q.numbers result ≡ joined Q.kind.mul def node (cell_of cell) (seen_so_far Q.numbers so_far) (Q.numbers q) }
-{
-    match so_far {
-        None => Ok(Some(q)),
-        Some(a) => {
-            let product = outcome(a.mul(&q), def, node, cell)?;
-            Ok(Some(product))
-        }
-    }
+/// A sum: where it stands, and the vertices that it runs through.
+#[derive(Clone, Copy)]
+pub struct Summing {
+    pub at: Spot,
+    pub over: VSet,
 }
 
 /// The value of a term.
 fn term<Q: Quantity, L: Lookup<Q>>(
-    lookup: &L,
-    n: u32,
+    scope: &Scope<L>,
     of: VSet,
     doing: VSet,
     given: VSet,
-    def: Option<u32>,
-    node: u32,
-    cell: [u32; 64],
+    at: Spot,
 ) -> Result<Q, Failure>
-    requires table { AreCounts (L.counts lookup.now) }
-    requires of { (v : ℕ) → has of.bits v ≡ true → is_used (L.counts lookup.now) v ≡ true }
-    requires given { (v : ℕ) → has given.bits v ≡ true → is_used (L.counts lookup.now) v ≡ true }
-    requires levels { HasLevels (L.counts lookup.now) (is_used (L.counts lookup.now)) cell }
-    ensures { seen Q.numbers result ≡ term_outcome Q.kind (weights_in n (L.counts lookup.now)) def node of.bits doing.bits given.bits (cell_of cell) }
+    requires table { AreCounts (L.counts scope.now.lookup.now) }
+    requires of { (v : ℕ) → has of.bits v ≡ true → is_used (L.counts scope.now.lookup.now) v ≡ true }
+    requires given { (v : ℕ) → has given.bits v ≡ true → is_used (L.counts scope.now.lookup.now) v ≡ true }
+    requires levels { HasLevels (L.counts scope.now.lookup.now) (is_used (L.counts scope.now.lookup.now)) at.cell }
+    ensures { seen Q.numbers result ≡ term_outcome Q.kind (weights_in scope.now.n (L.counts scope.now.lookup.now)) at.def at.node of.bits doing.bits given.bits (cell_of at.cell) }
 {
-    let bottom = lookup.sum(given, &cell);
+    let cell = at.cell;
+    let bottom = scope.lookup.sum(given, &cell);
     if bottom == 0 {
-        return Err(Failure {
-            why: QuantityFault::ZeroBelow,
-            def,
-            node,
-            cell,
-        });
+        let why = QuantityFault::ZeroBelow;
+        return Err(Failure { why, at });
     }
-    let top = lookup.sum(of.union(given), &cell);
+    let top = scope.lookup.sum(of.union(given), &cell);
     Ok(Q::from_ratio(top, bottom))
 }
 
-/// What there is in the end: an empty sum or product has the given value.
-fn whole<Q: Quantity>(empty: Q, so_far: Result<Option<Q>, Failure>) -> Result<Q, Failure>
-    ensures { seen Q.numbers result ≡ after (seen_more Q.numbers so_far) (whole_of (Q.numbers empty)) }
-{
-    match so_far {
-        Ok(Some(q)) => Ok(q),
-        Ok(None) => Ok(empty),
-        Err(fault) => Err(fault),
-    }
-}
-
-/// The expression's value at a cell, where its root is that node of that definition. It may name the definitions below the limit.
+/// The value of an expression whose root is there. It may name the definitions before its own, and the main expression all.
 #[cycle(evaluate)]
 pub fn value_at<Q: Quantity, L: Lookup<Q>>(
-    lookup: &L,
-    n: u32,
-    defs: &[Expr],
-    limit: usize,
+    scope: &Scope<L>,
     e: &Expr,
-    def: Option<u32>,
-    node: u32,
-    cell: [u32; 64],
+    at: Spot,
 ) -> Result<Q, Failure>
-    requires few { n ≤ 64 }
-    requires limit { limit ≤ length defs.now }
-    requires below { IsBelow limit (view e.now) }
-    requires ordered { AreOrdered 0 (map view defs.now) }
-    requires used { IsUsed (is_used (L.counts lookup.now)) (view e.now) }
-    requires all_used { AllUsed (is_used (L.counts lookup.now)) (map view defs.now) }
-    requires table { AreCounts (L.counts lookup.now) }
-    requires held { AreValues Q.kind (weights_in n (L.counts lookup.now)) (map view defs.now) (L.holds lookup.now) }
-    requires levels { HasLevels (L.counts lookup.now) (is_used (L.counts lookup.now)) cell }
-    ensures { seen Q.numbers result ≡ evaluated Q.kind (weights_in n (L.counts lookup.now)) (known Q.kind (weights_in n (L.counts lookup.now)) (map view defs.now) limit) def node (view e.now) (cell_of cell) }
+    requires scope { IsScope Q.kind scope.now.n (L.counts scope.now.lookup.now) (map view scope.now.defs.now) (L.holds scope.now.lookup.now) }
+    requires limit { limit_of (map view scope.now.defs.now) at.def ≤ length scope.now.defs.now }
+    requires below { IsBelow (limit_of (map view scope.now.defs.now) at.def) (view e.now) }
+    requires used { IsUsed (is_used (L.counts scope.now.lookup.now)) (view e.now) }
+    requires levels { HasLevels (L.counts scope.now.lookup.now) (is_used (L.counts scope.now.lookup.now)) at.cell }
+    ensures { seen Q.numbers result ≡ value_at Q.kind (weights_in scope.now.n (L.counts scope.now.lookup.now)) (map view scope.now.defs.now) at (view e.now) }
 {
     match e {
-        Expr::Prob { of, doing, given } => term(lookup, n, *of, *doing, *given, def, node, cell),
-        Expr::Sum { over, body } => whole(
-            Q::from_ratio(0, 1),
-            cells_from(
-                lookup, n, defs, limit, body, def, node, cell, *over, 0, cell, None,
-            ),
-        ),
-        Expr::Product(factors) => whole(
-            Q::from_ratio(1, 1),
-            factors_from(lookup, n, defs, limit, factors, def, node, cell),
-        ),
+        Expr::Prob { of, doing, given } => term(scope, *of, *doing, *given, at),
+        Expr::Sum { over, body } => {
+            let sum = Summing { at, over: *over };
+            let total = cells_from(scope, sum, body, 0, at.cell, None);
+            whole(Q::from_ratio(0, 1), total)
+        }
+        Expr::Product(factors) => whole(Q::from_ratio(1, 1), factors_from(scope, factors, at)),
         Expr::Quotient { top, bottom } => {
-            let first = next_node(node);
-            let a: Q = value_at(lookup, n, defs, limit, top, def, first, cell)?;
+            let first = next_node(at.node);
+            let a: Q = value_at(scope, top, Spot { node: first, ..at })?;
             let second = node_behind(top, first);
-            let b: Q = value_at(lookup, n, defs, limit, bottom, def, second, cell)?;
-            outcome(a.div(&b), def, node, cell)
+            let b: Q = value_at(scope, bottom, Spot { node: second, ..at })?;
+            outcome(a.div(&b), at)
         }
         Expr::Named(k) => {
-            if let Some(q) = lookup.definition(*k, &cell) {
+            let cell = at.cell;
+            if let Some(q) = scope.lookup.definition(*k, &cell) {
                 return Ok(q);
             }
-            let place = *k as usize;
-            value_at(lookup, n, defs, place, &defs[place], Some(*k), 0, cell)
+            let def = Some(*k);
+            let root = Spot { def, node: 0, cell };
+            value_at(scope, &scope.defs[*k as usize], root)
         }
     }
 }
@@ -171,110 +100,66 @@ pub fn value_at<Q: Quantity, L: Lookup<Q>>(
 /// What there is so far, with the body at all cells that differ from `cell` in the summed vertices from v on.
 #[cycle(evaluate)]
 fn cells_from<Q: Quantity, L: Lookup<Q>>(
-    lookup: &L,
-    n: u32,
-    defs: &[Expr],
-    limit: usize,
+    scope: &Scope<L>,
+    sum: Summing,
     body: &Expr,
-    def: Option<u32>,
-    node: u32,
-    at: [u32; 64],
-    over: VSet,
     v: u8,
     cell: [u32; 64],
     so_far: Option<Q>,
 ) -> Result<Option<Q>, Failure>
-    requires few { n ≤ 64 }
-    requires limit { limit ≤ length defs.now }
-    requires below { IsBelow limit (view body.now) }
-    requires ordered { AreOrdered 0 (map view defs.now) }
-    requires used { IsUsed (is_used (L.counts lookup.now)) (view body.now) }
-    requires all_used { AllUsed (is_used (L.counts lookup.now)) (map view defs.now) }
-    requires table { AreCounts (L.counts lookup.now) }
-    requires held { AreValues Q.kind (weights_in n (L.counts lookup.now)) (map view defs.now) (L.holds lookup.now) }
-    requires levels { HasLevels (L.counts lookup.now) (is_used (L.counts lookup.now)) cell }
-    requires vertex { v ≤ n }
-    ensures { seen_more Q.numbers result ≡ each_cell (has over.bits) (weights_in n (L.counts lookup.now)).size (n - v) v
-        (λ t. one_more Q.kind.add def node (cell_of at) (evaluated Q.kind (weights_in n (L.counts lookup.now)) (known Q.kind (weights_in n (L.counts lookup.now)) (map view defs.now) limit) def (node_next node) (view body.now) t))
-        (cell_of cell) (seen_so_far Q.numbers so_far) }
+    requires scope { IsScope Q.kind scope.now.n (L.counts scope.now.lookup.now) (map view scope.now.defs.now) (L.holds scope.now.lookup.now) }
+    requires limit { limit_of (map view scope.now.defs.now) sum.at.def ≤ length scope.now.defs.now }
+    requires below { IsBelow (limit_of (map view scope.now.defs.now) sum.at.def) (view body.now) }
+    requires used { IsUsed (is_used (L.counts scope.now.lookup.now)) (view body.now) }
+    requires levels { HasLevels (L.counts scope.now.lookup.now) (is_used (L.counts scope.now.lookup.now)) cell }
+    requires vertex { v ≤ scope.now.n }
+    ensures { seen_more Q.numbers result ≡ cells_from Q.kind (weights_in scope.now.n (L.counts scope.now.lookup.now)) (map view scope.now.defs.now) sum (view body.now) v cell (seen_so_far Q.numbers so_far) }
 {
-    if u32::from(v) >= n {
-        let q: Q = value_at(lookup, n, defs, limit, body, def, next_node(node), cell)?;
-        return add_more(so_far, q, def, node, at);
+    if u32::from(v) >= scope.n {
+        let at = sum.at;
+        let node = next_node(at.node);
+        let q: Q = value_at(scope, body, Spot { node, cell, ..at })?;
+        return join_more(Joint::Adding, so_far, q, at);
     }
-    if !over.has(v) {
-        return cells_from(
-            lookup,
-            n,
-            defs,
-            limit,
-            body,
-            def,
-            node,
-            at,
-            over,
-            v + 1,
-            cell,
-            so_far,
-        );
+    if !sum.over.has(v) {
+        return cells_from(scope, sum, body, v + 1, cell, so_far);
     }
-    let mut sum = so_far;
-    for x in 0..lookup.levels(v) {
+    let mut total = so_far;
+    for x in 0..scope.lookup.levels(v) {
         let mut inner = cell;
         inner[v as usize] = x;
-        match cells_from(
-            lookup,
-            n,
-            defs,
-            limit,
-            body,
-            def,
-            node,
-            at,
-            over,
-            v + 1,
-            inner,
-            sum,
-        ) {
+        match cells_from(scope, sum, body, v + 1, inner, total) {
             Ok(more) => {
-                sum = more;
+                total = more;
             }
-            Err(fault) => {
-                return Err(fault);
+            Err(failure) => {
+                return Err(failure);
             }
         }
     }
-    Ok(sum)
+    Ok(total)
 }
 
 /// The product of the factors, or none where there are none.
 #[cycle(evaluate)]
 fn factors_from<Q: Quantity, L: Lookup<Q>>(
-    lookup: &L,
-    n: u32,
-    defs: &[Expr],
-    limit: usize,
+    scope: &Scope<L>,
     factors: &Vec<Expr>,
-    def: Option<u32>,
-    node: u32,
-    cell: [u32; 64],
+    at: Spot,
 ) -> Result<Option<Q>, Failure>
-    requires few { n ≤ 64 }
-    requires limit { limit ≤ length defs.now }
-    requires below { AreBelow limit (views factors.now.items) }
-    requires ordered { AreOrdered 0 (map view defs.now) }
-    requires used { AreUsed (is_used (L.counts lookup.now)) (views factors.now.items) }
-    requires all_used { AllUsed (is_used (L.counts lookup.now)) (map view defs.now) }
-    requires table { AreCounts (L.counts lookup.now) }
-    requires held { AreValues Q.kind (weights_in n (L.counts lookup.now)) (map view defs.now) (L.holds lookup.now) }
-    requires levels { HasLevels (L.counts lookup.now) (is_used (L.counts lookup.now)) cell }
-    ensures { seen_more Q.numbers result ≡ factors_evaluated Q.kind (weights_in n (L.counts lookup.now)) (known Q.kind (weights_in n (L.counts lookup.now)) (map view defs.now) limit) def node (node_next node) (views factors.now.items) (cell_of cell) None }
+    requires scope { IsScope Q.kind scope.now.n (L.counts scope.now.lookup.now) (map view scope.now.defs.now) (L.holds scope.now.lookup.now) }
+    requires limit { limit_of (map view scope.now.defs.now) at.def ≤ length scope.now.defs.now }
+    requires below { AreBelow (limit_of (map view scope.now.defs.now) at.def) (views factors.now.items) }
+    requires used { AreUsed (is_used (L.counts scope.now.lookup.now)) (views factors.now.items) }
+    requires levels { HasLevels (L.counts scope.now.lookup.now) (is_used (L.counts scope.now.lookup.now)) at.cell }
+    ensures { seen_more Q.numbers result ≡ factors_from Q.kind (weights_in scope.now.n (L.counts scope.now.lookup.now)) (map view scope.now.defs.now) at (node_next at.node) (views factors.now.items) None }
 {
     let mut so_far: Option<Q> = None;
-    let mut next = next_node(node);
+    let mut next = next_node(at.node);
     for factor in factors {
-        let q: Q = value_at(lookup, n, defs, limit, factor, def, next, cell)?;
-        so_far = multiply_more(so_far, q, def, node, cell)?;
+        let inner = Spot { node: next, ..at };
+        let q: Q = value_at(scope, factor, inner)?;
+        so_far = join_more(Joint::Multiplying, so_far, q, at)?;
         next = node_behind(factor, next);
     }
     Ok(so_far)

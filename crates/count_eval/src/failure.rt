@@ -1,13 +1,12 @@
+use crate::spot::Spot;
 use prob_expr::Place;
 use quantity::QuantityFault;
 
-/// The first node without a value: its definition or none for main, its number in preorder, and the cell there.
+/// The first node without a value, and why it has none.
 #[derive(Clone, Copy)]
 pub struct Failure {
     pub why: QuantityFault,
-    pub def: Option<u32>,
-    pub node: u32,
-    pub cell: [u32; 64],
+    pub at: Spot,
 }
 
 /// Why a formula has no value at a cell: the first node, in the order of evaluation, at which there is none.

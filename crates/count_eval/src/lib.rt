@@ -6,15 +6,18 @@ ghost use Rattle.count_eval.specs.Laws.{EachIsCovered, MatchedHasValue, MatchedI
 mod eval;
 mod evaluable;
 mod failure;
+mod joining;
 mod lookup;
 mod nodes;
+mod spot;
 mod values;
 
-pub use eval::value_at;
+pub use eval::{Scope, value_at};
 pub use evaluable::{is_cell, is_evaluable};
 pub use failure::{EvalFault, Failure};
 pub use lookup::Lookup;
 use quantity::Quantity;
+pub use spot::Spot;
 pub use values::{value_by, value_by_nodes};
 
 /// What the values have to do with fractions, and with models.

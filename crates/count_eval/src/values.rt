@@ -6,9 +6,10 @@ ghost use Rattle.count_eval.specs.Evaluated.{formula_value};
 ghost use Rattle.count_eval.specs.Programs.{weights_in, is_used, cell_of, stop_of, AreValues};
 ghost use Rattle.count_eval.specs.Answers.{IsEvaluable, IsEvaluationFault, Answers, CoversCounts, CoversMatches, DeniesMatches};
 
-use crate::eval::value_at;
+use crate::eval::{Scope, value_at};
 use crate::failure::{EvalFault, Failure};
 use crate::lookup::Lookup;
+use crate::spot::Spot;
 use count_table::Counts;
 use mixed_graph::VSet;
 use prob_expr::{Formula, Place};
@@ -44,12 +45,12 @@ fn fault_of(used: VSet, failure: Failure) -> EvalFault
     ensures { IsEvaluationFault (has used.bits) result (stop_of failure) }
 {
     let place = Place {
-        def: failure.def,
-        node: failure.node,
+        def: failure.at.def,
+        node: failure.at.node,
     };
     match failure.why {
         QuantityFault::ZeroBelow => EvalFault::NoSupport {
-            cell: cell_within(used, failure.cell),
+            cell: cell_within(used, failure.at.cell),
             place,
         },
         QuantityFault::TooWide => EvalFault::TooWide { place },
@@ -77,8 +78,17 @@ pub fn value_by<Q: Quantity, L: Lookup<Q>>(
     ensures support { IfErr result (DeniesMatches n (L.counts lookup.now) (cell_of at.now)) }
     ensures memory { IfErr result (λ e. e ≢ EvalFault.NoMemory) }
 {
-    let cell = array_of(at);
-    match value_at(lookup, n, &f.defs, f.defs.len(), &f.main, None, 0, cell) {
+    let scope = Scope {
+        lookup,
+        n,
+        defs: &f.defs,
+    };
+    let root = Spot {
+        def: None,
+        node: 0,
+        cell: array_of(at),
+    };
+    match value_at(&scope, &f.main, root) {
         Ok(q) => Ok(q),
         Err(failure) => Err(fault_of(used, failure)),
     }

@@ -1,4 +1,4 @@
-ghost use Rattle.std.specs.Prelude.{ℕ, ◌≡◌, ◌<◌, ◌≤◌, ◌+◌, ◌*◌, ◌^◌, All, IsTrue, IfOk, length, map, slice_index, if◌then◌else◌};
+ghost use Rattle.std.specs.Prelude.{ℕ, ◌≡◌, ◌<◌, ◌≤◌, ◌+◌, ◌-◌, ◌*◌, ◌^◌, All, IsTrue, IfOk, length, map, slice_index, if◌then◌else◌};
 ghost use Rattle.std.specs.List.{flat_map, range_with_len};
 ghost use Rattle.mixed_graph.specs.Bits.{has};
 ghost use Rattle.count_rows.specs.Records.{cell_count};
@@ -52,11 +52,12 @@ pub fn codes_of(alloc: Global, levels: &[Levels]) -> Result<Vec<u64>, AllocError
     Ok(codes)
 }
 
-/// The number, or 0.
-fn only_if(number: u64, keep: bool) -> u64
-    ensures { result ≡ (if keep then number else 0) }
+/// The highest number in the field of a vertex: one less than its room where it is in the set, else 0.
+fn highest_in(of: VSet, v: u8, room: u64) -> u64
+    requires some { 0 < room }
+    ensures { result ≡ (if has of.bits v then room - 1 else 0) }
 {
-    if keep { number } else { 0 }
+    if of.has(v) { room - 1 } else { 0 }
 }
 
 /// All bits of the fields of the vertices of a set.
@@ -72,7 +73,7 @@ pub fn mask_over(vertices: &[u8], levels: &[Levels], of: VSet) -> u64
     while i > 0 {
         i -= 1;
         let room = room_for(levels[i].count());
-        mask = mask * room + only_if(room - 1, of.has(vertices[i]));
+        mask = mask * room + highest_in(of, vertices[i], room);
     }
     mask
 }

@@ -1,8 +1,8 @@
 -- Sums of counts at assignments that agree, and how large they are.
 use Rattle.std.proofs.Common.{ℕ, ◌+◌, ◌*◌, ◌≡◌, ◌<◌, ◌≤◌, Bool, true, false, cond, not, ◌&&◌, ◌||◌, ◌==◌, List, [], ◌∷◌, length, map, All, refl, sym, ap, ◌∙◌, inl, inr, ◌⊎◌, arith}
 use Rattle.std.specs.List.{filter}
-use Rattle.std.proofs.lemmas.Bool.{or_cases, eqb-true}
-use Rattle.std.proofs.lemmas.List.Elements.{All-nil, All-cons, All-head, All-tail, All-weaker, All-map}
+use Rattle.std.proofs.lemmas.Bool.{or_cases, or_left, or_right, eqb-true}
+use Rattle.std.proofs.lemmas.List.Elements.{All-head, All-tail, All-weaker, All-map}
 use Rattle.std.proofs.lemmas.List.Sums.{sum_by-cons}
 use Rattle.std.proofs.lemmas.Nat.{mul-le}
 use Rattle.mixed_graph.specs.Bits.{has}
@@ -10,6 +10,7 @@ use Rattle.count_rows.specs.Records.{Field, product}
 use Rattle.count_rows.specs.Rows.{Row, Table, agrees, counted}
 use Rattle.count_table.specs.Tables.{levels_in, AreCounts}
 use Rattle.count_eval.proofs.CountedLaws.{counted_small}
+use Rattle.sum_tables.proofs.CellLevels.{filter-holds}
 use Rattle.sum_tables.proofs.Lists.{product-pos}
 use Rattle.implications.specs.declared.pairs.Implication.{Implication}
 use Rattle.implications.specs.Separable.{only}
@@ -33,14 +34,6 @@ counted-same vs (r ∷ rows) of at at' h =
     ∙ ap (λ (b : Bool). cond b r.count 0 + counted vs rows of at) (agrees-same vs r.cell of at at' h)
     ∙ ap (λ n. cond (agrees vs r.cell of at') r.count 0 + n) (counted-same vs rows of at at' h)
     ∙ sym (sum_by-cons (λ (q : Row). cond (agrees vs q.cell of at') q.count 0) r rows)
-
-filter-holds : (P : ℕ → Type 0) (p : ℕ → Bool) (vs : List ℕ) → All P (filter p vs) → All (λ u. p u ≡ true → P u) vs
-filter-holds P p [] h = All-nil (λ u. p u ≡ true → P u)
-filter-holds P p (v ∷ vs) h = step (p v) refl h (λ k. filter-holds P p vs k)
-  where
-    step : (b : Bool) → p v ≡ b → All P (cond b (v ∷ filter p vs) (filter p vs)) → (All P (filter p vs) → All (λ u. p u ≡ true → P u) vs) → All (λ u. p u ≡ true → P u) (v ∷ vs)
-    step true e k rest = All-cons (λ u. p u ≡ true → P u) v vs (λ _. All-head P v (filter p vs) k) (rest (All-tail P v (filter p vs) k))
-    step false e k rest = All-cons (λ u. p u ≡ true → P u) v vs (λ member. absurd (cc (e, member))) (rest k)
 
 -- what holds of a, b and the given vertices among some holds of each of these in the three
 pub whole_holds : (i : Implication) (P : ℕ → Type 0) (vs : List ℕ) → All P (i.a ∷ i.b ∷ filter (has i.given.bits) vs) → All (λ v. whole_of i v ≡ true → P v) vs
@@ -67,27 +60,16 @@ whole_holds i P vs h = All-weaker (λ v. has i.given.bits v ≡ true → P v) (�
         go (inr f) = later (or_cases (only i.b v) (has i.given.bits v) f)
 
 pub given_inside : (i : Implication) (v : ℕ) → has i.given.bits v ≡ true → whole_of i v ≡ true
-given_inside i v e = go (only i.a v) (only i.b v) (has i.given.bits v) e
-  where
-    go : (x y z : Bool) → z ≡ true → (x || (y || z)) ≡ true
-    go true y z e = refl
-    go false true z e = refl
-    go false false z e = e
+given_inside i v e = or_right (only i.a v) (only i.b v || has i.given.bits v) (or_right (only i.b v) (has i.given.bits v) e)
 
 pub first_inside : (i : Implication) (v : ℕ) → first_of_pair i v ≡ true → whole_of i v ≡ true
-first_inside i v e = go (only i.a v) (only i.b v) (has i.given.bits v) e
-  where
-    go : (x y z : Bool) → (x || z) ≡ true → (x || (y || z)) ≡ true
-    go true y z e = refl
-    go false true z e = refl
-    go false false z e = e
+first_inside i v e = elim (or_cases (only i.a v) (has i.given.bits v) e) [
+  | inl f ↦ or_left (only i.a v) (only i.b v || has i.given.bits v) f
+  | inr f ↦ given_inside i v f
+]
 
 pub second_inside : (i : Implication) (v : ℕ) → second_of_pair i v ≡ true → whole_of i v ≡ true
-second_inside i v e = go (only i.a v) (only i.b v) (has i.given.bits v) e
-  where
-    go : (x y z : Bool) → (y || z) ≡ true → (x || (y || z)) ≡ true
-    go true y z e = refl
-    go false y z e = e
+second_inside i v e = or_right (only i.a v) (only i.b v || has i.given.bits v) e
 
 module _ (t : Table) (i : Implication) (s s' : ℕ → ℕ) (h : All (λ v. whole_of i v ≡ true → s v ≡ s' v) t.vertices) where
   part : (of : ℕ → Bool) → ((v : ℕ) → of v ≡ true → whole_of i v ≡ true) → counted t.vertices t.rows of s ≡ counted t.vertices t.rows of s'

@@ -4,7 +4,10 @@ use Rattle.std.proofs.lemmas.Bool.{cases_eq}
 use Rattle.lane_sums.specs.Sums.{sum_below}
 use Rattle.sum_tables.proofs.Counting.{sum-same}
 use Rattle.implied_differences.specs.declared.layout.Layout.{Layout}
-use Rattle.implied_differences.specs.Blocks.{strided, value_at, row_at, column_at, block_at, IsBlock, AreColumns}
+use Rattle.implied_differences.specs.declared.layout.Line.{Line}
+use Rattle.implied_differences.specs.Layouts.{row_of, column_of}
+use Rattle.implied_differences.specs.Blocks.{strided, line_at, value_at, row_at, column_at, block_at, IsBlock, AreBegins, AreColumns}
+use Rattle.implied_differences.proofs.Numbers.{through}
 
 -- each term is at most the sum, and so is each sum of the first ones
 pub term-most : (n : ℕ) (f : ℕ → ℕ) (k : ℕ) → k < n → f k ≤ sum_below n f
@@ -28,22 +31,13 @@ sum-most (suc n) f g h = let a = sum-most n f g (λ k lt. h k (omega arith)) in 
 module _ (cells : List ℕ) (l : Layout) (begin : ℕ) (b : IsBlock cells l begin) where
   pub column_few : (y : ℕ) → y < l.seconds → column_at cells l begin y ≤ 1000000000000000
   column_few y lt = through (column_at cells l begin y) (block_at cells l begin) 1000000000000000 (term-most l.seconds (λ z. column_at cells l begin z) y lt) b.few
-    where
-      through : (x y z : ℕ) → x ≤ y → y ≤ z → x ≤ z
-      through x y z p q = omega arith
 
   pub value_few : (x y : ℕ) → x < l.firsts → y < l.seconds → value_at cells l begin x y ≤ 1000000000000000
   value_few x y lx ly = through (value_at cells l begin x y) (column_at cells l begin y) 1000000000000000 (term-most l.firsts (λ z. value_at cells l begin z y) x lx) (column_few y ly)
-    where
-      through : (x y z : ℕ) → x ≤ y → y ≤ z → x ≤ z
-      through x y z p q = omega arith
 
   pub row_few : (x : ℕ) → x < l.firsts → row_at cells l begin x ≤ 1000000000000000
   row_few x lx = through (row_at cells l begin x) (block_at cells l begin) 1000000000000000
       (sum-most l.seconds (λ y. value_at cells l begin x y) (λ y. column_at cells l begin y) (λ y ly. term-most l.firsts (λ z. value_at cells l begin z y) x lx)) b.few
-    where
-      through : (x y z : ℕ) → x ≤ y → y ≤ z → x ≤ z
-      through x y z p q = omega arith
 
   -- the columns' sum is the block's
   pub columns-total : (columns : List ℕ) → AreColumns cells l begin columns → strided columns 0 1 l.seconds ≡ block_at cells l begin
@@ -57,16 +51,39 @@ pub record AreColumnsTo (cells : List ℕ) (l : Layout) (begin x : ℕ) (columns
   pub long : length columns ≡ l.seconds
   pub each : (y : ℕ) → y < l.seconds → get_or columns y 0 ≡ sum_below x (λ z. value_at cells l begin z y)
 
-pub columns_more : (cells : List ℕ) (l : Layout) (begin x : ℕ) (old new : List ℕ) → AreColumnsTo cells l begin x old → length new ≡ length old
-    → ((k : ℕ) → k < length old → get_or new k 0 ≡ get_or old k 0 + get_or cells (begin + x * l.first_step + k * l.second_step) 0) → AreColumnsTo cells l begin (x + 1) new
-columns_more cells l begin x old new h same added = record {
-  long = same ∙ h.long;
-  each = λ y lt. added y (subst (λ n. y < n) (sym h.long) lt) ∙ ap (λ n. n + value_at cells l begin x y) (h.each y lt) ∙ one x (λ z. value_at cells l begin z y);
-}
-  where
-    one : (n : ℕ) (f : ℕ → ℕ) → sum_below n f + f n ≡ sum_below (n + 1) f
-    one n f = ap (λ k. sum_below k f) (let e : suc n ≡ n + 1 = omega arith in e)
+-- one term more
+pub sum-next : (n : ℕ) (f : ℕ → ℕ) → sum_below n f + f n ≡ sum_below (n + 1) f
+sum-next n f = ap (λ k. sum_below k f) (let e : suc n ≡ n + 1 = omega arith in e)
 
--- a cell of a row inside the table
-pub row_inside : (cells : List ℕ) (l : Layout) (begin x : ℕ) → IsBlock cells l begin → x < l.firsts → (k : ℕ) → k < l.seconds → begin + x * l.first_step + k * l.second_step < length cells
-row_inside cells l begin x b lx k lk = b.inside x k lx lk
+-- ---- lines of cells
+
+-- the sum of a row
+pub row_line : (cells : List ℕ) (l : Layout) (begin x : ℕ) (line : Line) → line ≡ row_of l x → line_at cells line begin ≡ row_at cells l begin x
+row_line cells l begin x line e = ap (λ (n : Line). line_at cells n begin) e
+
+-- the sum of a column
+pub column_line : (cells : List ℕ) (l : Layout) (begin y : ℕ) (line : Line) → line ≡ column_of l y → line_at cells line begin ≡ column_at cells l begin y
+column_line cells l begin y line e =
+    ap (λ (n : Line). line_at cells n begin) e
+    ∙ sum-same l.firsts (λ k. get_or cells (begin + y * l.second_step + k * l.first_step) 0) (λ x. value_at cells l begin x y)
+    (λ k lt. ap (λ n. get_or cells n 0) (let r : begin + y * l.second_step + k * l.first_step ≡ begin + k * l.first_step + y * l.second_step = omega arith in r))
+
+module _ (cells : List ℕ) (l : Layout) (begins : List ℕ) (width : ℕ) (h : AreBegins cells l begins width) where
+  abbrev IsInside : Line → Type 0
+  IsInside line = (j k : ℕ) → j < width → k < line.count → get_or begins j 0 + (line.offset + k * line.step) < length cells
+
+  -- each row of each block is inside the table
+  pub row_inside : (x : ℕ) → x < l.firsts → (line : Line) → line ≡ row_of l x → IsInside line
+  row_inside x lx line e = subst IsInside (sym e) (λ j k lj lk. let inside = (h.each j lj).inside x k lx lk in omega (arith, inside))
+
+  -- and so is each column
+  pub column_inside : (y : ℕ) → y < l.seconds → (line : Line) → line ≡ column_of l y → IsInside line
+  column_inside y ly line e = subst IsInside (sym e) (λ j k lj lk. let inside = (h.each j lj).inside k y lk ly in omega (arith, inside))
+
+  -- a row's offset is inside the table
+  pub row_offset : (x : ℕ) → x < l.firsts → x * l.first_step < length cells
+  row_offset x lx = let b = h.each 0 h.some in let inside = b.inside x 0 lx b.some in omega (arith, inside)
+
+  -- and so is a column's
+  pub column_offset : (y : ℕ) → y < l.seconds → 0 < l.firsts → y * l.second_step < length cells
+  column_offset y ly some = let inside = (h.each 0 h.some).inside 0 y some ly in omega (arith, inside)

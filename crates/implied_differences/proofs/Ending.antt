@@ -16,24 +16,13 @@ use Rattle.implied_differences.specs.Blocks.{left_at, right_at, gap_at, number_a
 use Rattle.implied_differences.proofs.Agreeing.{left_most, right_most}
 use Rattle.implied_differences.proofs.Bases.{same_digits, two_digits}
 use Rattle.implied_differences.proofs.Spots.{IsCellIn, given_place, left_is, right_is, distance_is, numbered, first_below, second_below, given_below, assignment}
+use Rattle.implied_differences.proofs.Visiting.{seen_before}
 use Rattle.implied_differences.proofs.Walking.{cells_are, a_level, b_level}
 
 module _ (t : Table) (are : AreCounts t) (i : Implication) (r : IsReadable t i) (l : Layout) (h : IsLayoutOf t i l) (c : Candidate) (b : IsBestOf t i l c) where
   seen : (s : ℕ → ℕ) → IsCellIn t are i r l h s → IsSeen l l.count 0 0 (given_place t are i r l h s) (s i.a) (s i.b)
-  seen s cell = record {
-    first = first_below t are i r l h s cell;
-    second = second_below t are i r l h s cell;
-    given = given_below t are i r l h s cell;
-    block = most (given_place t are i r l h s) l.count (given_below t are i r l h s cell);
-    row = λ e. absurd (same (given_place t are i r l h s) l.count e (given_below t are i r l h s cell));
-    column = λ e _. absurd (same (given_place t are i r l h s) l.count e (given_below t are i r l h s cell));
-  }
-    where
-      most : (m n : ℕ) → m < n → m ≤ n
-      most m n lt = omega arith
-
-      same : (m n : ℕ) → m ≡ n → m < n → ⊥
-      same m n e lt = omega arith
+  seen s cell =
+      seen_before l l.count (given_place t are i r l h s) (s i.a) (s i.b) (given_below t are i r l h s cell) (first_below t are i r l h s cell) (second_below t are i r l h s cell) (given_below t are i r l h s cell)
 
   -- the number is that of a cell
   total : l.firsts * l.seconds * l.count ≡ cells_over (axes_in t i)

@@ -1,3 +1,4 @@
+pub mod Numbers
 pub mod Agreeing
 pub mod AllSums
 pub mod Bases

@@ -8,6 +8,7 @@ use Rattle.implied_differences.specs.declared.layout.Layout.{Layout}
 use Rattle.implied_differences.specs.Candidates.{IsOutOfReach}
 use Rattle.implied_differences.specs.Blocks.{value_at, row_at, column_at, block_at, number_at, IsPassedAt}
 use Rattle.implied_differences.proofs.BlockSums.{term-most, sum-most}
+use Rattle.implied_differences.proofs.Numbers.{through, below_through}
 
 -- the distance at the levels x and y of a block
 abbrev pub gap_in : List ℕ → Layout → ℕ → ℕ → ℕ → ℕ
@@ -67,22 +68,22 @@ module _ (cells : List ℕ) (l : Layout) (begin : ℕ) where
 
   pub value_most : (x y : ℕ) → x < l.firsts → y < l.seconds → value_at cells l begin x y ≤ block_at cells l begin
   value_most x y lx ly = through (value_at cells l begin x y) (column_at cells l begin y) (block_at cells l begin) (term-most l.firsts (λ z. value_at cells l begin z y) x lx) (column_most y ly)
-    where
-      through : (x y z : ℕ) → x ≤ y → y ≤ z → x ≤ z
-      through x y z p q = omega arith
 
   pub row_most : (x : ℕ) → x < l.firsts → row_at cells l begin x ≤ block_at cells l begin
   row_most x lx = sum-most l.seconds (λ y. value_at cells l begin x y) (λ y. column_at cells l begin y) (λ y ly. term-most l.firsts (λ z. value_at cells l begin z y) x lx)
+
+first : (y n : ℕ) → y ≡ 0 → n ≡ 1 → y < n
+first y n e f = omega arith
+
+one : (y n : ℕ) → y < n → n ≡ 2 → (y ≡ 0 → ⊥) → y ≡ 1
+one y n lt e nz = omega (arith, nz)
 
 module _ (cells : List ℕ) (l : Layout) (begins : List ℕ) (width w : ℕ) (c : Candidate) where
   pub out_alike : (g h m n : ℕ) → h ≡ g → m ≤ n → IsOutOfReach c g m → IsOutOfReach c h n
   out_alike g h m n e le out = record {
     distance = subst (λ k. k ≤ c.distance) (sym e) out.distance;
-    number = λ lt. subst (λ k. k < c.distance) (sym e) (out.number (below m n c.number le lt));
+    number = λ lt. subst (λ k. k < c.distance) (sym e) (out.number (below_through m n c.number le lt));
   }
-    where
-      below : (x y z : ℕ) → x ≤ y → y < z → x < z
-      below x y z p q = omega arith
 
   -- where the first level of b is passed, so is the second of two
   pub passed_second : (x : ℕ) → l.seconds ≡ 2 → IsPassedAt cells l begins width w x 0 c → IsPassedAt cells l begins width w x 1 c
@@ -114,12 +115,6 @@ module _ (cells : List ℕ) (l : Layout) (begins : List ℕ) (width w : ℕ) (c 
     ]
     | inr ne ↦ h y (subst (λ n. y < n) (sym (other ne)) lt)
   ]
-    where
-      first : (y n : ℕ) → y ≡ 0 → n ≡ 1 → y < n
-      first y n e f = omega arith
-
-      one : (y n : ℕ) → y < n → n ≡ 2 → (y ≡ 0 → ⊥) → y ≡ 1
-      one y n lt e nz = omega (arith, nz)
 
   pub firsts_passed : (seen : ℕ) → (l.firsts ≡ 2 → seen ≡ 1) → ((l.firsts ≡ 2 → ⊥) → seen ≡ l.firsts) → ((x : ℕ) → x < seen → (y : ℕ) → y < l.seconds → IsPassedAt cells l begins width w x y c)
       → (x y : ℕ) → x < l.firsts → y < l.seconds → IsPassedAt cells l begins width w x y c
@@ -130,12 +125,6 @@ module _ (cells : List ℕ) (l : Layout) (begins : List ℕ) (width w : ℕ) (c 
     ]
     | inr ne ↦ h x (subst (λ n. x < n) (sym (other ne)) lt) y ly
   ]
-    where
-      first : (y n : ℕ) → y ≡ 0 → n ≡ 1 → y < n
-      first y n e f = omega arith
-
-      one : (y n : ℕ) → y < n → n ≡ 2 → (y ≡ 0 → ⊥) → y ≡ 1
-      one y n lt e nz = omega (arith, nz)
 
 -- a level that is looked at is one
 pub seen_below : (n seen k : ℕ) → (n ≡ 2 → seen ≡ 1) → ((n ≡ 2 → ⊥) → seen ≡ n) → k < seen → k < n

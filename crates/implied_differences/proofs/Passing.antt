@@ -5,8 +5,10 @@ use Rattle.implied_differences.specs.declared.layout.Layout.{Layout}
 use Rattle.implied_differences.specs.Candidates.{IsOutOfReach}
 use Rattle.implied_differences.specs.Layouts.{base_of}
 use Rattle.implied_differences.specs.Blocks.{block_at, gap_at, number_at, IsPassedAt, IsSeen, IsBest}
+use Rattle.implied_differences.proofs.Numbers.{through, below_through}
 use Rattle.implied_differences.proofs.Pairs.{gap_in}
 use Rattle.implied_differences.proofs.Quarters.{gap_quarter, gap_most}
+use Rattle.implied_differences.proofs.Visiting.{seen_before}
 
 module _ (cells : List ℕ) (l : Layout) (w n : ℕ) (c : Candidate) where
   -- no cell of the n blocks from the wth on is ahead
@@ -25,22 +27,6 @@ module _ (cells : List ℕ) (l : Layout) (w n : ℕ) (c : Candidate) where
 
       lower : (u v p q : ℕ) → u ≤ v → (u ≡ v → p ≤ 0) → (u ≡ v → p ≡ 0 → q < 0) → u < v
       lower u v p q le row column = let no = at_end u v p q row column in omega (arith, le, no)
-
-  earlier : (u p q : ℕ) → u < w → p < l.firsts → q < l.seconds → u < l.count → IsSeen l w 0 0 u p q
-  earlier u p q lt lp lq lu = record {
-    first = lp;
-    second = lq;
-    given = lu;
-    block = most u w lt;
-    row = λ e. absurd (same u w e lt);
-    column = λ e _. absurd (same u w e lt);
-  }
-    where
-      most : (m n : ℕ) → m < n → m ≤ n
-      most m n lt = omega arith
-
-      same : (m n : ℕ) → m ≡ n → m < n → ⊥
-      same m n e lt = omega arith
 
   split : (u : ℕ) → u < w + n → (u < w) ⊎ ((j : ℕ) × (j < n) × (w + j ≡ u))
   split u lt = elim (either u w) [
@@ -66,11 +52,11 @@ module _ (cells : List ℕ) (l : Layout) (w n : ℕ) (c : Candidate) where
   }
     where
       greatest : (u p q : ℕ) → IsSeen l (w + n) 0 0 u p q → (u < w) ⊎ ((j : ℕ) × (j < n) × (w + j ≡ u)) → gap_at cells l u p q ≤ c.distance
-      greatest u p q s (inl lt) = b.greatest u p q (earlier u p q lt s.first s.second s.given)
+      greatest u p q s (inl lt) = b.greatest u p q (seen_before l w u p q lt s.first s.second s.given)
       greatest u p q s (inr (j, lt, e)) = subst (λ v. gap_at cells l v p q ≤ c.distance) e (h.greatest j p q lt s.first s.second)
 
       least : (u p q : ℕ) → IsSeen l (w + n) 0 0 u p q → (u < w) ⊎ ((j : ℕ) × (j < n) × (w + j ≡ u)) → number_at l u p q < c.number → gap_at cells l u p q < c.distance
-      least u p q s (inl lt) less = b.least u p q (earlier u p q lt s.first s.second s.given) less
+      least u p q s (inl lt) less = b.least u p q (seen_before l w u p q lt s.first s.second s.given) less
       least u p q s (inr (j, lt, e)) less =
           subst (λ v. gap_at cells l v p q < c.distance) e (h.least j p q lt s.first s.second (subst (λ v. number_at l v p q < c.number) (sym e) less))
 
@@ -81,12 +67,6 @@ sums_passed cells l w n most c sums out = record {
   least = λ j p q lt lp lq less. below_through (gap_at cells l (w + j) p q) (most * most / 4) c.distance (near j p q lt lp lq) (out.number (lower j p q less));
 }
   where
-    through : (x y z : ℕ) → x ≤ y → y ≤ z → x ≤ z
-    through x y z p q = omega arith
-
-    below_through : (x y z : ℕ) → x ≤ y → y < z → x < z
-    below_through x y z p q = omega arith
-
     near : (j p q : ℕ) → j < n → p < l.firsts → q < l.seconds → gap_at cells l (w + j) p q ≤ most * most / 4
     near j p q lt lp lq =
         let begin = base_of l (w + j) in

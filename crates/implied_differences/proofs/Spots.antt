@@ -43,6 +43,12 @@ index_of (u ∷ us) (ys ∷ levels) v lt = elim (eqb_tells u v) [
       (suc j, (omega arith, is))
 ]
 
+or_swap : (x y : Bool) → (x || y) ≡ (y || x)
+or_swap true true = refl
+or_swap true false = refl
+or_swap false true = refl
+or_swap false false = refl
+
 -- ---- cells of lists of vertices
 
 module _ (f s : ℕ → ℕ) where
@@ -296,33 +302,16 @@ module _ (t : Table) (are : AreCounts t) (i : Implication) (r : IsReadable t i) 
       where
         turn : (x y z : Bool) → (x || (y || z)) ≡ ((x || z) || y)
         turn true y z = refl
-        turn false true true = refl
-        turn false true false = refl
-        turn false false true = refl
-        turn false false false = refl
+        turn false y z = or_swap y z
 
     with_a : IsWith (whole_of i) (second_of_pair i) i.a
     with_a = record {
-      with = λ u. turn (only i.a u) (only i.b u) (has i.given.bits u);
+      with = λ u. or_swap (only i.a u) (only i.b u || has i.given.bits u);
       without = ap (λ b. b || has i.given.bits i.a) (ne_eqb i.a i.b a_not_b) ∙ r.a_apart;
     }
-      where
-        turn : (x y z : Bool) → (x || (y || z)) ≡ ((y || z) || x)
-        turn true true z = refl
-        turn true false true = refl
-        turn true false false = refl
-        turn false true z = refl
-        turn false false true = refl
-        turn false false false = refl
 
     given_with_b : IsWith (second_of_pair i) (has i.given.bits) i.b
-    given_with_b = record { with = λ u. turn (only i.b u) (has i.given.bits u); without = r.b_apart }
-      where
-        turn : (y z : Bool) → (y || z) ≡ (z || y)
-        turn true true = refl
-        turn true false = refl
-        turn false true = refl
-        turn false false = refl
+    given_with_b = record { with = λ u. or_swap (only i.b u) (has i.given.bits u); without = r.b_apart }
 
     over_b : (of without : ℕ → Bool) → IsWith of without i.b → (s : ℕ → ℕ) → counted t.vertices t.rows without s ≡ sum_below (size_in t i.b) (λ y. counted t.vertices t.rows of (put_level s i.b y))
     over_b of without w s = sym (counted-over t.vertices t.rows of without s i.b b_at.0 (size_in t i.b) w are.ascending b_at.1.0 b_at.1.1

@@ -8,9 +8,9 @@ use Rattle.count_rows.specs.Rows.{Table}
 use Rattle.count_table.specs.Tables.{AreCounts}
 use Rattle.count_eval.specs.Programs.{is_used}
 use Rattle.sum_tables.proofs.Choosing.{size_in, sizes-pos, members_hold}
+use Rattle.sum_tables.proofs.CellLevels.{levels_hold}
 use Rattle.implications.specs.declared.pairs.Implication.{Implication}
 use Rattle.implied_differences.specs.Differences.{whole_of, IsReadable}
-use Rattle.implied_differences.proofs.Walking.{levels_hold}
 
 pub all_members : (P : ℕ → Type 0) (s : ℕ → Bool) (k : ℕ) → ((v : ℕ) → s v ≡ true → P v) → All P (members_below s k)
 unfolding members_below

@@ -6,18 +6,27 @@ use Rattle.implied_differences.specs.declared.candidates.Candidate.{Candidate}
 use Rattle.implied_differences.specs.declared.layout.Layout.{Layout}
 use Rattle.implied_differences.specs.Candidates.{IsAhead, IsNotAhead}
 use Rattle.implied_differences.specs.Blocks.{gap_at, number_at, IsSeen, IsOf, IsBest}
-
-through : (x y z : ℕ) → x ≤ y → y ≤ z → x ≤ z
-through x y z p q = omega arith
-
-below_through : (x y z : ℕ) → x ≤ y → y < z → x < z
-below_through x y z p q = omega arith
+use Rattle.implied_differences.proofs.Numbers.{through, below_through}
 
 at_most : (x y : ℕ) → x ≡ y → x ≤ y
 at_most x y e = omega arith
 
 not_below_self : (x y : ℕ) → x ≡ y → x < y → ⊥
 not_below_self x y e lt = omega arith
+
+-- each cell of an earlier block comes before a block's first one
+pub seen_before : (l : Layout) (w u p q : ℕ) → u < w → p < l.firsts → q < l.seconds → u < l.count → IsSeen l w 0 0 u p q
+seen_before l w u p q lt lp lq lu = record {
+  first = lp;
+  second = lq;
+  given = lu;
+  block = most u w lt;
+  row = λ e. absurd (not_below_self u w e lt);
+  column = λ e _. absurd (not_below_self u w e lt);
+}
+  where
+    most : (m n : ℕ) → m < n → m ≤ n
+    most m n lt = omega arith
 
 module _ (cells : List ℕ) (l : Layout) where
   none_seen : (u p q : ℕ) → IsSeen l 0 0 0 u p q → ⊥

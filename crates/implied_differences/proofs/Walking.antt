@@ -1,33 +1,20 @@
 -- The cell of a number.
-use Rattle.std.proofs.Common.{ℕ, zero, suc, ◌+◌, ◌*◌, ◌/◌, ◌%◌, ◌≡◌, ◌≢◌, ◌<◌, true, cond, ◌||◌, List, [], ◌∷◌, length, get_or, All, refl, sym, ap, ap₂, subst, ◌∙◌, inl, inr, arith}
+use Rattle.std.proofs.Common.{ℕ, zero, suc, ◌+◌, ◌*◌, ◌/◌, ◌%◌, ◌≡◌, ◌≢◌, ◌<◌, true, ◌||◌, List, ◌∷◌, length, get_or, All, refl, sym, ap, ap₂, subst, ◌∙◌, arith}
 use Rattle.std.specs.List.{filter}
 use Rattle.std.proofs.lemmas.Bool.{or_left, or_right, eq-eqb, ltb-true}
-use Rattle.std.proofs.lemmas.Bool.Decides.{eqb_tells}
 use Rattle.std.proofs.lemmas.List.Elements.{All-cons, All-head, All-tail}
 use Rattle.std.proofs.lemmas.Nat.{div_below}
 use Rattle.mixed_graph.specs.Bits.{has}
-use Rattle.count_rows.specs.Records.{Field}
 use Rattle.count_rows.specs.Rows.{Table}
 use Rattle.count_table.specs.Cells.{place_of}
-use Rattle.count_table.specs.Tables.{levels_in, AreCounts}
+use Rattle.count_table.specs.Tables.{AreCounts}
 use Rattle.count_eval.specs.Programs.{cell_of}
 use Rattle.sum_tables.specs.Axes.{Axes, axes_of, HasCell, place_at, cells_over}
-use Rattle.sum_tables.proofs.CellLevels.{outside_of}
+use Rattle.sum_tables.proofs.CellLevels.{levels_hold, outside_of}
 use Rattle.sum_tables.proofs.Choosing.{size_in}
 use Rattle.implications.specs.declared.pairs.Implication.{Implication}
 use Rattle.implications.specs.Separable.{only}
 use Rattle.implied_differences.specs.Differences.{whole_of, IsReadable, axes_in}
-
--- what holds of all used vertices holds of one that has a level
-pub levels_hold : (Q : ℕ → Type 0) (vs : List ℕ) (levels : List (List Field)) (v : ℕ) → All Q vs → 0 < length (levels_in vs levels v) → Q v
-levels_hold Q [] levels v h lt = absurd (omega arith)
-levels_hold Q (u ∷ us) [] v h lt = absurd (omega arith)
-levels_hold Q (u ∷ us) (ys ∷ levels) v h lt = elim (eqb_tells u v) [
-  | inl same ↦ subst Q same.1 (All-head Q u us h)
-  | inr other ↦
-      let e = ap (λ b. length (cond b ys (levels_in us levels v))) other.0 in
-      levels_hold Q us levels v (All-tail Q u us h) (omega (arith, lt, e))
-]
 
 module _ (t : Table) (are : AreCounts t) (i : Implication) (r : IsReadable t i) where
   level_of : (v : ℕ) → whole_of i v ≡ true → 0 < size_in t v

@@ -8,7 +8,7 @@ use Rattle.count_rows.specs.Rows.{Table}
 use Rattle.count_table.specs.Cells.{IsCell}
 use Rattle.count_table.specs.Tables.{AreCounts}
 use Rattle.count_eval.specs.Programs.{cell_of}
-use Rattle.sum_tables.proofs.CellLevels.{outside_of}
+use Rattle.sum_tables.proofs.CellLevels.{levels_hold, outside_of}
 use Rattle.sum_tables.proofs.Choosing.{size_in}
 use Rattle.implications.specs.declared.pairs.Implication.{Implication}
 use Rattle.implications.specs.Separable.{only}
@@ -17,7 +17,6 @@ use Rattle.implied_differences.specs.Differences.{whole_of, IsReadable, axes_in,
 use Rattle.implied_differences.specs.Laws.{IsZeroWhereMatched}
 use Rattle.implied_differences.proofs.Agreeing.{whole_holds}
 use Rattle.implied_differences.proofs.Vanishing.{matched_differences_vanish}
-use Rattle.implied_differences.proofs.Walking.{levels_hold}
 
 cell-levels : (f at : ℕ → ℕ) (vs : List ℕ) → IsCell (map f vs) (map at vs) → All (λ v. at v < f v) vs
 cell-levels f at [] h = All-nil (λ v. at v < f v)

@@ -8,12 +8,17 @@ use Rattle.implications.specs.declared.pairs.Implication.{Implication}
 use Rattle.implied_differences.specs.Differences.{whole_of}
 use Rattle.implied_differences.specs.declared.candidates.Candidate.{Candidate}
 use Rattle.implied_differences.specs.declared.layout.Layout.{Layout}
+use Rattle.implied_differences.specs.declared.layout.Line.{Line}
 use Rattle.implied_differences.specs.Candidates.{IsOutOfReach}
 use Rattle.implied_differences.specs.Layouts.{IsStepped, base_of, gap_of}
 
 -- the sum of so many cells, one each `step` places
 abbrev pub strided : List ℕ → ℕ → ℕ → ℕ → ℕ
 strided cells begin step count = sum_below count (λ k. slice_index cells (begin + k * step))
+
+-- the sum of a line of cells, in the block that begins there
+abbrev pub line_at : List ℕ → Line → ℕ → ℕ
+line_at cells line begin = strided cells (begin + line.offset) line.step line.count
 
 -- N(a,b,W) in the block that begins there, at the levels x of a and y of b
 abbrev pub value_at : List ℕ → Layout → ℕ → ℕ → ℕ → ℕ
@@ -42,6 +47,12 @@ pub record AreBegins (cells : List ℕ) (l : Layout) (begins : List ℕ) (width 
   pub some : 0 < width
   pub long : width ≤ length begins
   pub each : (j : ℕ) → j < width → IsBlock cells l (slice_index begins j)
+
+-- the blocks' sums are at hand
+pub record IsStrip (cells : List ℕ) (l : Layout) (begins sums : List ℕ) (width : ℕ) : Type 0 where
+  pub blocks : AreBegins cells l begins width
+  pub long : width ≤ length sums
+  pub sums : (j : ℕ) → j < width → slice_index sums j ≡ block_at cells l (slice_index begins j)
 
 -- N(b,W) for each level of b
 pub record AreColumns (cells : List ℕ) (l : Layout) (begin : ℕ) (columns : List ℕ) : Type 0 where

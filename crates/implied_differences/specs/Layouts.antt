@@ -7,6 +7,7 @@ use Rattle.sum_tables.specs.Axes.{axes_of, cells_over}
 use Rattle.implications.specs.declared.pairs.Implication.{Implication}
 use Rattle.implied_differences.specs.declared.layout.Block.{Block}
 use Rattle.implied_differences.specs.declared.layout.Layout.{Layout}
+use Rattle.implied_differences.specs.declared.layout.Line.{Line}
 
 -- the given vertices between the two
 abbrev pub between_pair : Implication → ℕ → Bool
@@ -24,6 +25,14 @@ pub record IsLayoutOf (t : Table) (i : Implication) (l : Layout) : Type 0 where
   pub second_step : l.second_step ≡ cells_over (axes_of t (behind_pair i))
   pub first_step : l.first_step ≡ l.between * (l.seconds * l.second_step)
   pub count : l.count ≡ cells_over (axes_of t (has i.given.bits))
+
+-- the cells of a block at a level of a
+abbrev pub row_of : Layout → ℕ → Line
+row_of l x = record { offset = x * l.first_step; step = l.second_step; count = l.seconds }
+
+-- those at a level of b
+abbrev pub column_of : Layout → ℕ → Line
+column_of l y = record { offset = y * l.second_step; step = l.first_step; count = l.firsts }
 
 -- nothing is empty, and the larger step is what the vertices behind the first make
 pub record IsStepped (l : Layout) : Type 0 where

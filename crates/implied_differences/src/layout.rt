@@ -2,7 +2,8 @@ ghost use Rattle.std.specs.Prelude.{ℕ, ◌≡◌, ◌<◌, ◌≤◌, ◌+◌,
 ghost use Rattle.mixed_graph.specs.Bits.{has};
 ghost use Rattle.sum_tables.specs.Axes.{axes_of, cells_over};
 ghost use Rattle.implied_differences.specs.Differences.{IsReadable};
-ghost use Rattle.implied_differences.specs.Layouts.{between_pair, behind_pair, IsLayoutOf, IsStepped, IsBase, gap_of};
+ghost use Rattle.implied_differences.specs.Blocks.{number_at};
+ghost use Rattle.implied_differences.specs.Layouts.{between_pair, behind_pair, IsLayoutOf, IsStepped, IsBase, gap_of, row_of, column_of};
 
 use count_table::Counts;
 use implications::Implication;
@@ -28,6 +29,59 @@ pub struct Layout {
     pub between: usize,
     /// The number of cells of all given vertices.
     pub count: usize,
+}
+
+/// Cells of a block, so many, at one distance from each other. The first is so far behind where the block begins.
+#[derive(Clone, Copy)]
+pub struct Line {
+    pub offset: usize,
+    pub step: usize,
+    pub count: usize,
+}
+
+impl Layout {
+    /// The cells at a level of the first vertex.
+    pub fn row_cells(&self, x: usize) -> Line
+        requires { x * self.now.first_step < 2 ^ 64 }
+        ensures { result ≡ row_of self.now x }
+    {
+        Line {
+            offset: x * self.first_step,
+            step: self.second_step,
+            count: self.seconds,
+        }
+    }
+
+    /// The cells at a level of the second vertex.
+    pub fn column_cells(&self, y: usize) -> Line
+        requires { y * self.now.second_step < 2 ^ 64 }
+        ensures { result ≡ column_of self.now y }
+    {
+        Line {
+            offset: y * self.second_step,
+            step: self.first_step,
+            count: self.firsts,
+        }
+    }
+
+    /// The number of a cell in order: its levels of the two and the number of the given vertices' cell as digits.
+    pub fn number(&self, x: usize, y: usize, given: usize) -> usize
+        requires first { x < self.now.firsts }
+        requires second { y < self.now.seconds }
+        requires given { given < self.now.count }
+        requires few { self.now.firsts * self.now.seconds * self.now.count ≤ 2 ^ 20 }
+        ensures { result ≡ number_at self.now given x y }
+    {
+        let pair = x * self.seconds + y;
+        pair * self.count + given
+    }
+}
+
+/// The sums over the vertices of an implication, and how they are laid out.
+#[derive(Clone, Copy)]
+pub struct BlockTable<'a> {
+    pub cells: &'a [u64],
+    pub layout: &'a Layout,
 }
 
 /// The given vertices between the two.
@@ -142,4 +196,17 @@ impl Block {
             behind: 0,
         }
     }
+}
+
+/// Blocks that are looked at together.
+#[derive(Clone, Copy)]
+pub struct Strip<'a> {
+    /// The first one.
+    pub first: Block,
+    /// How many there are.
+    pub width: usize,
+    /// Where each begins.
+    pub begins: &'a [usize],
+    /// N(W) of each.
+    pub sums: &'a [u64],
 }

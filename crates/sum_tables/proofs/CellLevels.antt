@@ -20,7 +20,7 @@ has_cell t of at h = record {
 }
 
 -- what holds of all used vertices holds of one that has a level
-levels_hold : (Q : ℕ → Type 0) (vs : List ℕ) (levels : List (List Field)) (v : ℕ) → All Q vs → 0 < length (levels_in vs levels v) → Q v
+pub levels_hold : (Q : ℕ → Type 0) (vs : List ℕ) (levels : List (List Field)) (v : ℕ) → All Q vs → 0 < length (levels_in vs levels v) → Q v
 levels_hold Q [] levels v h lt = absurd (omega arith)
 levels_hold Q (u ∷ us) [] v h lt = absurd (omega arith)
 levels_hold Q (u ∷ us) (ys ∷ levels) v h lt = elim (eqb_tells u v) [
@@ -30,7 +30,8 @@ levels_hold Q (u ∷ us) (ys ∷ levels) v h lt = elim (eqb_tells u v) [
       levels_hold Q us levels v (All-tail Q u us h) (omega (arith, lt, e))
 ]
 
-filter-holds : (P : ℕ → Type 0) (p : ℕ → Bool) (vs : List ℕ) → All P (filter p vs) → All (λ u. p u ≡ true → P u) vs
+-- what holds of the members of a list that pass a test holds of each of its members that passes
+pub filter-holds : (P : ℕ → Type 0) (p : ℕ → Bool) (vs : List ℕ) → All P (filter p vs) → All (λ u. p u ≡ true → P u) vs
 filter-holds P p [] h = All-nil (λ u. p u ≡ true → P u)
 filter-holds P p (v ∷ vs) h = step (p v) refl h (λ k. filter-holds P p vs k)
   where

@@ -1,6 +1,8 @@
 -- The value of an expression depends on its free vertices alone, as far as they are used.
-use Rattle.std.proofs.Common.{ℕ, zero, suc, ◌+◌, ◌≡◌, ◌<◌, Bool, true, false, cond, eqb, eqb-true, not, ◌&&◌, ◌||◌, refl, sym, ap, ap₂, ◌∙◌, arith, Option, Some, None, Result, Ok, Err, List, [], ◌∷◌, ◌++◌, length, take, get_or}
+use Rattle.std.proofs.Common.{ℕ, zero, suc, ◌+◌, ◌≡◌, ◌<◌, Bool, true, false, cond, eqb, eqb-true, not, ◌&&◌, ◌||◌, refl, sym, ap, ap₂, ◌∙◌, inl, inr, arith, Option, Some, None, Result, Ok, Err, List, [], ◌∷◌, ◌++◌, length, take, get_or}
 use Rattle.std.proofs.Math.Seq.{take-length}
+use Rattle.std.proofs.lemmas.Bool.{and_parts, cases_lt, or_left, or_right}
+use Rattle.std.proofs.lemmas.List.{get_or_append_left, get_or_past, get_or_push, length_push}
 use Rattle.finite_models.specs.Sums.{set_at}
 use Rattle.finite_models.proofs.Bools.{either}
 use Rattle.mixed_graph.specs.Bits.{has}
@@ -89,22 +91,11 @@ module _ (U : ℕ → Bool) (size : ℕ → ℕ) (a : ℕ → Bool) (f f' : (ℕ
 abbrev used_of : (ℕ → Bool) → ℕ → ℕ → Bool
 used_of used mask v = has mask v && used v
 
-both_parts : (p q : Bool) → (p && q) ≡ true → (p ≡ true) × (q ≡ true)
-both_parts true q e = (refl, e)
-both_parts false q e = absurd (bad e)
-  where
-    bad : false ≡ true → ⊥
-    bad e = cc
-
-or_true : (p : Bool) → (p || true) ≡ true
-or_true true = refl
-or_true false = refl
-
 first : (used : ℕ → Bool) (a b : ℕ) (s t : ℕ → ℕ) → AgreeWithin used (join a b) s t → AgreeWithin used a s t
-first used a b s t h v e = h v (has_join a b v ∙ ap (λ p. p || has b v) e)
+first used a b s t h v e = h v (has_join a b v ∙ or_left (has a v) (has b v) e)
 
 second : (used : ℕ → Bool) (a b : ℕ) (s t : ℕ → ℕ) → AgreeWithin used (join a b) s t → AgreeWithin used b s t
-second used a b s t h v e = h v (has_join a b v ∙ ap (λ p. has a v || p) e ∙ or_true (has a v))
+second used a b s t h v e = h v (has_join a b v ∙ or_right (has a v) (has b v) e)
 
 kept_by : (p u : Bool) → p ≡ true → (u ≡ true → ⊥) → (p && not u) ≡ true
 kept_by p true e no_u = absurd (no_u refl)
@@ -137,7 +128,7 @@ module _ (k : Kind) (w : Weights) (used : ℕ → Bool) (low : (v : ℕ) → use
           (local (has b) (λ v. has a v || has c v) s t (λ v e. either (has a v) (has c v) (s v ≡ t v) e (on_a v) (on_c v)))
       one_value (sum u e) asked d i s t h =
           let at_first : (x : ℕ) → used_of used (free_in sets e) x ≡ true → (has u x ≡ true → x < 0) → s x ≡ t x = λ x ax ux.
-          let parts = both_parts (has (free_in sets e) x) (used x) ax in
+          let parts = and_parts (has (free_in sets e) x) (used x) ax in
           h x (has_minus (free_in sets e) u x ∙ kept_by (has (free_in sets e) x) (has u x) parts.0 (λ m. let lt = ux m in absurd (omega (arith, lt)))) parts.1
           in
           found_after (each_cell (has u) w.size w.vertices 0 (body_of d i e s) s None) (each_cell (has u) w.size w.vertices 0 (body_of d i e t) t None)
@@ -164,19 +155,11 @@ module _ (k : Kind) (w : Weights) (used : ℕ → Bool) (low : (v : ℕ) → use
           (found_after (evaluated k w q d j e s) (evaluated k w q d j e t) (joined k.mul d i s o) (joined k.mul d i t o) (one_value e asked.0 d j s t (first used (free_in sets e) (free_in_any sets ts) s t h)) (λ c. found_joined k.mul d i s t o c))
           (λ o'. one_product ts asked.1 d i (node_behind e j) s t (second used (free_in sets e) (free_in_any sets ts) s t h) o')
 
-  get_last : (sets : List ℕ) (x : ℕ) → get_or (sets ++ x ∷ []) (length sets) 0 ≡ x
-  get_last [] x = refl
-  get_last (y ∷ sets) x = get_last sets x
-
   get_other : (sets : List ℕ) (x j : ℕ) → (j ≡ length sets → ⊥) → get_or (sets ++ x ∷ []) j 0 ≡ get_or sets j 0
-  get_other [] x zero ne = absurd (ne refl)
-  get_other [] x (suc j) ne = refl
-  get_other (y ∷ sets) x zero ne = refl
-  get_other (y ∷ sets) x (suc j) ne = get_other sets x j (λ e. ne (ap suc e))
-
-  length_more : (sets : List ℕ) (x : ℕ) → length (sets ++ x ∷ []) ≡ suc (length sets)
-  length_more [] x = refl
-  length_more (y ∷ sets) x = ap suc (length_more sets x)
+  get_other sets x j ne = elim (cases_lt j (length sets)) [
+    | inl lt ↦ get_or_append_left sets (x ∷ []) 0 j lt
+    | inr le ↦ get_or_past (sets ++ x ∷ []) j 0 (let long = length_push sets x in omega (arith, long, le, ne)) ∙ sym (get_or_past sets j 0 le)
+  ]
 
   next_read : (q : ℕ → (ℕ → ℕ) → Result Pair Stop) (sets : List ℕ) (n : ℕ) → n ≡ length sets → (d : Tree) → IsUsed used d → AreRead q sets
       → AreRead (λ j s. cond (eqb j n) (evaluated k w q (Some (cap n)) 0 d s) (q j s)) (sets ++ free_in sets d ∷ [])
@@ -184,13 +167,13 @@ module _ (k : Kind) (w : Weights) (used : ℕ → Bool) (low : (v : ℕ) → use
     where
       go : (p : Bool) → eqb j n ≡ p → found (cond p (evaluated k w q (Some (cap n)) 0 d s) (q j s)) ≡ found (cond p (evaluated k w q (Some (cap n)) 0 d t) (q j t))
       go true e = one_value q sets h d asked (Some (cap n)) 0 s t
-          (λ v z. ag v (ap (λ x. has x v) (ap (λ i. get_or (sets ++ free_in sets d ∷ []) i 0) (eqb-true j n e ∙ long) ∙ get_last sets (free_in sets d)) ∙ z))
+          (λ v z. ag v (ap (λ x. has x v) (get_or_push sets (free_in sets d) 0 j (sym (eqb-true j n e ∙ long))) ∙ z))
       go false e = h j s t (λ v z. ag v (ap (λ x. has x v) (get_other sets (free_in sets d) j (λ same. absurd (grind (arith, same, e, long)))) ∙ z))
 
   definitions_read : (ds : List Tree) (n : ℕ) (q : ℕ → (ℕ → ℕ) → Result Pair Stop) (sets : List ℕ) → n ≡ length sets → AllUsed used ds → AreRead q sets → AreRead (evaluated_from k w q n ds) (free_in_defs sets ds)
   definitions_read [] n q sets e asked h = h
   definitions_read (d ∷ ds) n q sets e asked h =
-      definitions_read ds (suc n) (λ j s. cond (eqb j n) (evaluated k w q (Some (cap n)) 0 d s) (q j s)) (sets ++ free_in sets d ∷ []) (ap suc e ∙ sym (length_more sets (free_in sets d))) asked.1
+      definitions_read ds (suc n) (λ j s. cond (eqb j n) (evaluated k w q (Some (cap n)) 0 d s) (q j s)) (sets ++ free_in sets d ∷ []) (let long = length_push sets (free_in sets d) in omega (arith, e, long)) asked.1
       (next_read q sets n e d asked.0 h)
 
   -- where two cells agree on a definition's used free vertices, it has one value, or none

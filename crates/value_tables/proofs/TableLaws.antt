@@ -4,11 +4,13 @@ use mathlib.Core.Path.{fun_ext}
 use Rattle.std.specs.Prelude.{IfSome, sum_by}
 use Rattle.std.specs.List.{filter}
 use Rattle.std.proofs.lemmas.Bool.{lt-ltb, ltb-true, ltb-false}
-use Rattle.std.proofs.lemmas.List.{get_or_append_left, length-map}
+use Rattle.std.proofs.lemmas.List.{get_or_append_left, get_or-map, length-map}
 use Rattle.std.proofs.lemmas.List.Elements.{All-filter, All-cons}
 use Rattle.mixed_graph.specs.Bits.{has}
 use Rattle.mixed_graph.specs.declared.sets.VSet.{VSet}
 use Rattle.prob_expr.specs.Tree.{Tree}
+use Rattle.prob_expr.specs.View.{view}
+use Rattle.prob_expr.specs.declared.expr.Expr.{Expr}
 use Rattle.prob_expr.specs.Free.{free_in, free_in_defs}
 use Rattle.prob_expr.specs.Values.{Weights}
 use Rattle.quantity.specs.Kinds.{Pair, Kind}
@@ -18,7 +20,7 @@ use Rattle.count_table.specs.Tables.{AreCounts, HasLevels}
 use Rattle.prob_expr.specs.Check.{cap}
 use Rattle.count_eval.specs.Stops.{Stop}
 use Rattle.count_eval.specs.Evaluated.{evaluated}
-use Rattle.count_eval.proofs.Measures.{known_at, get_or-map, get_or-any}
+use Rattle.count_eval.proofs.Measures.{known_at}
 use Rattle.count_eval.specs.Programs.{weights_in, is_used, known}
 use Rattle.count_eval.specs.Laws.{AllUsed}
 use Rattle.count_eval.proofs.Used.{among, with_levels}
@@ -204,11 +206,18 @@ tables_none {Q} numbers kind n t ds tables none k y lt is = absurd (let long = a
 
 -- the set of a definition, as one of the list of masks
 pub set_at : (sets : List VSet) (defs : List ℕ) (k : ℕ) (set : VSet) → map (λ (s : VSet). s.bits) sets ≡ defs → k < length sets → set ≡ get_or sets k set → set.bits ≡ get_or defs k 0
-set_at sets defs k set same lt is =
-    let long = length-map sets (λ (s : VSet). s.bits) in
-    ap (λ (s : VSet). s.bits) is ∙ sym (get_or-map (λ (s : VSet). s.bits) sets k set) ∙ get_or-any (map (λ (s : VSet). s.bits) sets) k set.bits 0 (omega (arith, long, lt)) ∙ ap (λ (l : List ℕ). get_or l k 0) same
+set_at sets defs k set same lt is = ap (λ (s : VSet). s.bits) is ∙ sym (get_or-map (λ (s : VSet). s.bits) sets k set 0 lt) ∙ ap (λ (l : List ℕ). get_or l k 0) same
 
 -- there is a set for each definition
 pub length-free : (sets : List ℕ) (ds : List Tree) → length (free_in_defs sets ds) ≡ length sets + length ds
 length-free sets [] = omega arith
 length-free sets (d ∷ ds) = let r = length-free (sets ++ free_in sets d ∷ []) ds in let one = length-append sets (free_in sets d ∷ []) in omega (arith, r, one)
+
+-- the sets that are made of definitions are as many
+pub free_count : (sets : List VSet) (defs : List Expr) → map (λ (s : VSet). s.bits) sets ≡ free_in_defs [] (map view defs) → length sets ≡ length defs
+free_count sets defs e =
+    let same = ap (λ (l : List ℕ). length l) e in
+    let masks = length-map sets (λ (s : VSet). s.bits) in
+    let all = length-free [] (map view defs) in
+    let trees = length-map defs view in
+    omega (arith, same, masks, all, trees)

@@ -11,7 +11,7 @@ ghost use Rattle.value_tables.specs.Tables.{IsTableOf, AreKeptTables, cells_of};
 
 use crate::table::DefinitionTable;
 use crate::terms::add_terms;
-use count_eval::{Lookup, value_at};
+use count_eval::{Lookup, Scope, Spot, value_at};
 use count_table::Counts;
 use mixed_graph::VSet;
 use prob_expr::{Formula, free_sets};
@@ -77,17 +77,17 @@ impl<'a, 'b, Q: Quantity> Tables<'a, 'b, Q> {
         ensures { IfSome result (λ q. known Q.kind (weights_in self.now.vertices self.now.counts) self.now.formula.defs (length self.now.formula.defs) k (cell_of cell) ≡ Ok (Q.numbers q)) }
     {
         let defs = self.formula.defs.as_slice();
-        let limit = k as usize;
-        match value_at(
-            self,
-            self.vertices,
+        let scope = Scope {
+            lookup: self,
+            n: self.vertices,
             defs,
-            limit,
-            &defs[limit],
-            Some(k),
-            0,
+        };
+        let root = Spot {
+            def: Some(k),
+            node: 0,
             cell,
-        ) {
+        };
+        match value_at(&scope, &defs[k as usize], root) {
             Ok(q) => Some(q),
             Err(_) => None,
         }

@@ -19,7 +19,10 @@ pub(crate) fn add_terms(
     ensures most { cells_in sums.old ≤ most → cells_in sums.new ≤ most }
 {
     match e {
-        Expr::Prob { of, given, .. } => add_both(sums, alloc, of.union(*given), *given, most),
+        Expr::Prob { of, given, .. } => {
+            add_one(sums, alloc, *given, most)?;
+            add_one(sums, alloc, of.union(*given), most)
+        }
         Expr::Sum { body, .. } => add_terms(sums, alloc, body, most),
         Expr::Product(factors) => add_factors(sums, alloc, factors, most),
         Expr::Quotient { top, bottom } => {
@@ -44,21 +47,6 @@ fn add_factors(
         add_terms(sums, alloc, factor, most)?;
     }
     Ok(())
-}
-
-/// The sums over the two sets of a term.
-fn add_both(
-    sums: &mut SumTables,
-    alloc: Global,
-    all: VSet,
-    given: VSet,
-    most: usize,
-) -> Result<(), AllocError>
-    ensures table { sums.new.table ≡ sums.old.table }
-    ensures most { cells_in sums.old ≤ most → cells_in sums.new ≤ most }
-{
-    add_one(sums, alloc, given, most)?;
-    add_one(sums, alloc, all, most)
 }
 
 /// The sums over a set, if there is room.

@@ -3,7 +3,6 @@ use Rattle.std.specs.Int.{abs_diff}
 use Rattle.std.proofs.lemmas.Bool.{OnTrue_at, OnFalse_at}
 use Rattle.implied_differences.specs.declared.candidates.Candidate.{Candidate}
 use Rattle.implied_differences.specs.Blocks.{value_at, row_at, column_at, block_at, IsOf, IsBest}
-use Rattle.implied_differences.proofs.Bases.{number_room}
 use Rattle.implied_differences.proofs.BlockSums.{value_few, column_few, row_few}
 use Rattle.implied_differences.proofs.Visiting.{best_next, best_stay}
 use Rattle.implied_differences.proofs.blocks.best_in_row.Goals as goal
@@ -17,49 +16,25 @@ overflow_add-row c = let less = c.requires.block.inside c.args.x 0 c.requires.fi
 
 pub strided_sum-first-requires-clause-room : goal.strided_sum-first-requires-clause-room
 strided_sum-first-requires-clause-room c =
-    let few = row_few c.args.cells.now c.args.l.now c.args.block.now.begin c.requires.block c.args.x c.requires.first in
+    let few = row_few c.args.table.now.cells.now c.args.table.now.layout.now c.args.block.now.begin c.requires.block c.args.x c.requires.first in
     omega (arith, few)
 
-pub overflow_mul-number : goal.overflow_mul-number
-overflow_mul-number c =
-    let room = number_room c.args.l.now.firsts c.args.l.now.seconds c.args.l.now.count c.args.x c.loop-y.y c.args.block.now.number c.requires.first (omega arith) c.requires.number c.requires.few in
-    let fits = room.product in
-    omega (arith, fits)
-
-pub overflow_add-number : goal.overflow_add-number
-overflow_add-number c =
-    let room = number_room c.args.l.now.firsts c.args.l.now.seconds c.args.l.now.count c.args.x c.loop-y.y c.args.block.now.number c.requires.first (omega arith) c.requires.number c.requires.few in
-    let fits = room.sum in
-    omega (arith, fits)
-
-pub overflow_mul-number-in-loop-y : goal.overflow_mul-number-in-loop-y
-overflow_mul-number-in-loop-y c =
-    let room = number_room c.args.l.now.firsts c.args.l.now.seconds c.args.l.now.count c.args.x c.loop-y.y c.args.block.now.number c.requires.first (omega arith) c.requires.number c.requires.few in
-    let fits = room.times in
-    omega (arith, fits)
-
-pub overflow_add-number-in-loop-y : goal.overflow_add-number-in-loop-y
-overflow_add-number-in-loop-y c =
-    let room = number_room c.args.l.now.firsts c.args.l.now.seconds c.args.l.now.count c.args.x c.loop-y.y c.args.block.now.number c.requires.first (omega arith) c.requires.number c.requires.few in
-    let fits = room.number in
-    omega (arith, fits)
-
 pub new-here-requires-clause-whole : goal.new-here-requires-clause-whole
-new-here-requires-clause-whole c = value_few c.args.cells.now c.args.l.now c.args.block.now.begin c.requires.block c.args.x c.loop-y.y c.requires.first (omega arith)
+new-here-requires-clause-whole c = value_few c.args.table.now.cells.now c.args.table.now.layout.now c.args.block.now.begin c.requires.block c.args.x c.loop-y.y c.requires.first (omega arith)
 
 pub new-here-requires-clause-first : goal.new-here-requires-clause-first
 new-here-requires-clause-first c =
-    subst (λ n. n ≤ 1000000000000000) (sym c.strided_sum-first.ensures) (row_few c.args.cells.now c.args.l.now c.args.block.now.begin c.requires.block c.args.x c.requires.first)
+    subst (λ n. n ≤ 1000000000000000) (sym c.strided_sum-first.ensures) (row_few c.args.table.now.cells.now c.args.table.now.layout.now c.args.block.now.begin c.requires.block c.args.x c.requires.first)
 
 pub new-here-requires-clause-second : goal.new-here-requires-clause-second
 new-here-requires-clause-second c =
-    let lt : c.loop-y.y < c.args.l.now.seconds = omega arith in
-    subst (λ n. n ≤ 1000000000000000) (sym (c.requires.columns.each c.loop-y.y lt)) (column_few c.args.cells.now c.args.l.now c.args.block.now.begin c.requires.block c.loop-y.y lt)
+    let lt : c.loop-y.y < c.args.table.now.layout.now.seconds = omega arith in
+    subst (λ n. n ≤ 1000000000000000) (sym (c.requires.columns.each c.loop-y.y lt)) (column_few c.args.table.now.cells.now c.args.table.now.layout.now c.args.block.now.begin c.requires.block c.loop-y.y lt)
 
 pub loop-y-preserved : goal.loop-y-preserved
 loop-y-preserved c =
-    let cells = c.args.cells.now in
-    let l = c.args.l.now in
+    let cells = c.args.table.now.cells.now in
+    let l = c.args.table.now.layout.now in
     let x = c.args.x in
     let y = c.loop-y.y in
     let w = c.args.block.now.number in
@@ -71,7 +46,7 @@ loop-y-preserved c =
       given = c.requires.number;
       left = c.new-here.ensures.left ∙ ap (λ n. value_at cells l c.args.block.now.begin x y * n) c.requires.given ∙ ap (λ b. value_at cells l b x y * block_at cells l b) c.requires.base;
       right = c.new-here.ensures.right ∙ ap₂ (λ m n. m * n) c.strided_sum-first.ensures (c.requires.columns.each y lt) ∙ ap (λ b. row_at cells l b x * column_at cells l b y) c.requires.base;
-      number = c.new-here.ensures.number;
+      number = c.new-here.ensures.number ∙ c.number-number.ensures;
     } in
     let apart = c.new-here.ensures.distance ∙ sym (ap₂ abs_diff c.new-here.ensures.left c.new-here.ensures.right) in
     elim c.if-is_ahead.branch [

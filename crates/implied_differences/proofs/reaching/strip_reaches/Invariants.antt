@@ -11,4 +11,4 @@ pub record ArePassedTo (cells : List ℕ) (l : Layout) (begins : List ℕ) (widt
   pub each : (x : ℕ) → x < k → (y : ℕ) → y < l.seconds → IsPassedAt cells l begins width w x y c
 
 abbrev pub invariant-loop-x : goal.invariant-loop-x
-invariant-loop-x l = ArePassedTo l.cells l.l l.begins l.width l.number l.before l.fn.rows l.rows l.fn.columns l.columns l.x
+invariant-loop-x l = ArePassedTo l.table.cells.now l.table.layout.now l.strip.begins.now l.strip.width l.strip.first.number l.before l.fn.rows l.rows l.fn.columns l.columns l.x

@@ -14,4 +14,4 @@ pub record IsWalkedTo (cells : List ℕ) (l : Layout) (block next : Block) (colu
   pub best : IsBest cells l next.number 0 0 so_far
 
 abbrev pub invariant-loop : goal.invariant-loop
-invariant-loop l = IsWalkedTo l.cells l.l l.block l.next l.columns l.best l.counter
+invariant-loop l = IsWalkedTo l.table.cells.now l.table.layout.now l.block l.next l.columns l.best l.counter

@@ -18,7 +18,7 @@ pub record IsWalked (cells : List ℕ) (l : Layout) (block : Block) (places tota
   pub best : IsBest cells l block.number 0 0 so_far
 
 abbrev pub invariant-strips : goal.invariant-strips
-invariant-strips l = IsWalked l.cells l.l l.block l.begins l.sums l.rows l.across l.columns l.best
+invariant-strips l = IsWalked l.table.cells.now l.table.layout.now l.block l.begins l.sums l.rows l.across l.columns l.best
 
 abbrev pub decreases-strips : goal.decreases-strips
-decreases-strips l = l.l.count - l.block.number
+decreases-strips l = l.table.layout.now.count - l.block.number

@@ -10,4 +10,4 @@ pub record AreSummedTo (old now cells : List ℕ) (l : Layout) (begins : List �
   pub each : (j : ℕ) → j < width → get_or now j 0 ≡ sum_below y (λ z. column_at cells l (get_or begins j 0) z)
 
 abbrev pub invariant-loop-y : goal.invariant-loop-y
-invariant-loop-y l = AreSummedTo l.fn.sums l.sums l.cells l.l l.begins l.width l.y
+invariant-loop-y l = AreSummedTo l.fn.sums l.sums l.table.cells.now l.table.layout.now l.begins l.width l.y

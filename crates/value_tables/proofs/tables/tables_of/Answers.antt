@@ -2,33 +2,26 @@ use Rattle.std.proofs.Common.{ℕ, ◌-◌, ◌≤◌, ◌∙◌, List, [], ◌�
 use Rattle.std.specs.Prelude.{IfSome}
 use Rattle.std.proofs.lemmas.List.{length-map}
 use Rattle.std.proofs.lemmas.List.Sums.{sum_by-cons, sum_by-append}
-use Rattle.mixed_graph.specs.declared.sets.VSet.{VSet}
 use Rattle.sum_tables.specs.Axes.{cells_over}
 use Rattle.prob_expr.specs.View.{view, formula_view}
 use Rattle.prob_expr.specs.declared.expr.Expr.{Expr}
 use Rattle.value_tables.specs.Tables.{IsTableOf, AreTables, cells_of}
 use Rattle.value_tables.specs.declared.table.DefinitionTable.{DefinitionTable}
-use Rattle.value_tables.proofs.TableLaws.{length-free, tables_more}
+use Rattle.value_tables.proofs.TableLaws.{free_count, tables_more}
 use Rattle.value_tables.proofs.tables.tables_of.Goals as goal
 
 pub table_of-requires-clause-definition : goal.table_of-requires-clause-definition
 table_of-requires-clause-definition g c =
-    let sets = c.in_ok-free.free.items in
-    let same = ap (λ (l : List ℕ). length l) c.in_ok-free.ensures in
-    let masks = length-map sets (λ (s : VSet). s.bits) in
-    let all = length-free [] (map view c.deref.result.now) in
+    let many = free_count c.in_ok-free.free.items c.deref.result.now c.in_ok-free.ensures in
+    let trees = length-map c.deref.result.now view in
     let whole = ap (λ (l : List Expr). length (map view l)) c.deref.ensures.value in
-    omega (arith, same, masks, all, whole, c.min-k-end.ensures, c.len.ensures, c.loop-k-test.true, c.loop-k.auto.k-end)
+    omega (arith, many, trees, whole, c.min-k-end.ensures, c.len.ensures, c.loop-k-test.true, c.loop-k.auto.k-end)
 
 pub index-requires : goal.index-requires
 index-requires g c =
-    let sets = c.in_ok-free.free.items in
-    let same = ap (λ (l : List ℕ). length l) c.in_ok-free.ensures in
-    let masks = length-map sets (λ (s : VSet). s.bits) in
-    let all = length-free [] (map view c.deref.result.now) in
-    let each = length-map c.deref.result.now view in
+    let many = free_count c.in_ok-free.free.items c.deref.result.now c.in_ok-free.ensures in
     let whole = ap (λ (l : List Expr). length l) c.deref.ensures.value in
-    omega (arith, same, masks, all, each, whole, c.deref.ensures.len, c.min-k-end.ensures, c.len.ensures, c.loop-k-test.true)
+    omega (arith, many, whole, c.deref.ensures.len, c.min-k-end.ensures, c.len.ensures, c.loop-k-test.true)
 
 pub loop-k-preserved : goal.loop-k-preserved
 loop-k-preserved g c =
