@@ -9,7 +9,8 @@ use Rattle.replies.specs.declared.outcome.Outcome.{Outcome}
 use Rattle.replies.specs.declared.outcome.Outcome.TheVariants.{Graph}
 use Rattle.replies.specs.Observed.{HoldsGraph}
 use Rattle.replies.specs.OneOutcome.{OneOutcome, IsAnswerOn}
-use Rattle.replies.proofs.OneGraph.{one_reading, reads_either}
+use Rattle.dag_reader.proofs.OneReading.{reads_either}
+use Rattle.replies.proofs.OneGraph.{one_reading}
 use Rattle.causal_cli.specs.Commands.{Request, of, file_of, second_of, Asks}
 use Rattle.causal_cli.specs.Answers.{WordsAnswer, GraphAnswer, NeedsSecond, SecondAnswer, IsGraphRefusal, too_long, faulty, HoldsAnswer, Defined, Continues, DefinedWith}
 use Rattle.causal_cli.specs.Run.{Run, AnswersFile, AnswersBoth, Answers, by_words, by_file, by_both, IsRead}

@@ -1,41 +1,23 @@
 -- Levels in order of first appearance.
-use Rattle.std.proofs.Common.{◌≡◌, ℕ, zero, suc, ◌+◌, ◌<◌, ◌^◌, Bool, true, false, cond, ◌||◌, not, List, [], ◌∷◌, ◌++◌, length, length-append, inl, inr, get_or, refl, ap, sym, ◌∙◌, arith}
-use Rattle.std.specs.Prelude.{map, fold}
+use Rattle.std.proofs.Common.{◌≡◌, ℕ, ◌+◌, ◌<◌, ◌^◌, Bool, true, false, cond, ◌||◌, not, List, [], ◌∷◌, ◌++◌, length, length-append, inl, inr, get_or, refl, ap, sym, ◌∙◌, arith}
+use Rattle.std.specs.Prelude.{◌≢◌, map, fold}
 use Rattle.std.specs.Str.{bytes_eq}
-use Rattle.std.proofs.Math.Seq.{get_or-append_seam}
-use Rattle.std.proofs.lemmas.Bool.{or_parts, cases_lt, cases_Bool}
-use Rattle.std.proofs.lemmas.List.{get_or_append_left, map-append}
+use Rattle.std.proofs.Math.Bool.{or-true}
+use Rattle.std.proofs.lemmas.Bool.{or_parts, cases_Bool}
+use Rattle.std.proofs.lemmas.List.{map-append}
+use Rattle.std.proofs.lemmas.List.Folds.{list_any-append, list_any_at}
+use Rattle.std.proofs.lemmas.List.Quantifiers.{all_pairs_push}
 use Rattle.std.proofs.lemmas.Slice.Eq.{bytes_eq-Decides}
 use Rattle.mixed_graph.specs.Names.{index_of, is_named, with_name}
 use Rattle.count_rows.specs.Levels.{AreLevels}
 use Rattle.count_rows.specs.Records.{Record, field_in, levels_at}
 
-bytes_eq-from : (xs ys : List ℕ) → xs ≡ ys → bytes_eq xs ys ≡ true
-bytes_eq-from xs ys e = (bytes_eq-Decides xs ys).1 e
-
--- a level that isn't there differs from each that is
-named_not : (names : List (List ℕ)) (name : List ℕ) (i : ℕ) (d : List ℕ) → is_named names name ≡ false → i < length names → get_or names i d ≡ name → ⊥
-named_not [] name i d out below e = absurd (omega arith)
-named_not (x ∷ names) name zero d out below e =
-    let same : bytes_eq name x ≡ true = bytes_eq-from name x (sym e) in
-    let p = or_parts (bytes_eq name x) (is_named names name) out in let q = p.0 in cc
-named_not (x ∷ names) name (suc i) d out below e =
-    named_not names name i d (or_parts (bytes_eq name x) (is_named names name) out).1 (omega arith) e
-
 -- levels with a new one behind them are levels
 pub AreLevels-append : (names : List (List ℕ)) (name : List ℕ) → AreLevels names → is_named names name ≡ false → length names + 1 < 2 ^ 32 → AreLevels (names ++ name ∷ [])
 AreLevels-append names name s new room = record {
   few = let e = length-append names (name ∷ []) in omega (arith, e);
-  distinct = λ i j d lt below same.
-      let e = length-append names (name ∷ []) in
-      elim (cases_lt j (length names)) [
-        | inl inside ↦ s.distinct i j d lt inside
-            (sym (get_or_append_left names (name ∷ []) d i (omega (arith, inside))) ∙ same ∙ get_or_append_left names (name ∷ []) d j inside)
-        | inr past ↦
-            let at : j ≡ length names = omega (arith, e, past) in
-            let here : get_or (names ++ name ∷ []) j d ≡ name = ap (λ k. get_or (names ++ name ∷ []) k d) at ∙ get_or-append_seam names name [] d in
-            named_not names name i d new (omega (arith, at)) (sym (get_or_append_left names (name ∷ []) d i (omega (arith, at))) ∙ same ∙ here)
-      ];
+  distinct = all_pairs_push (λ (a : List ℕ) (b : List ℕ). a ≢ b) names name s.distinct (λ k d below same.
+      let there : is_named names name ≡ true = list_any_at (bytes_eq name) names k d below ((bytes_eq-Decides name (get_or names k d)).1 (sym same)) in cc (there, new));
 }
 
 -- one record more
@@ -60,6 +42,7 @@ index_of-append (y ∷ names) more x h = elim (cases_Bool (bytes_eq x y)) [
   | inr other ↦ ap (λ n. cond (not (bytes_eq x y)) (1 + n) 0) (index_of-append names more x (let e : (bytes_eq x y || is_named names x) ≡ is_named names x = ap (λ b. b || is_named names x) other in sym e ∙ h))
 ]
 
+-- and so it does where another is added
 pub index_of-with_name : (names : List (List ℕ)) (new x : List ℕ) → is_named names x ≡ true → index_of (with_name names new) x ≡ index_of names x
 index_of-with_name names new x h = elim (cases_Bool (is_named names new)) [
   | inl there ↦ ap (λ b. index_of (cond b names (names ++ new ∷ [])) x) there
@@ -67,19 +50,10 @@ index_of-with_name names new x h = elim (cases_Bool (is_named names new)) [
 ]
 
 is_named-append : (names more : List (List ℕ)) (x : List ℕ) → is_named names x ≡ true → is_named (names ++ more) x ≡ true
-is_named-append [] more x h = absurd (cc h)
-is_named-append (y ∷ names) more x h = elim (cases_Bool (bytes_eq x y)) [
-  | inl same ↦ ap (λ b. b || is_named (names ++ more) x) same
-  | inr other ↦ ap (λ b. b || is_named (names ++ more) x) other ∙ is_named-append names more x (let e : (bytes_eq x y || is_named names x) ≡ is_named names x = ap (λ b. b || is_named names x) other in sym e ∙ h)
-]
+is_named-append names more x h = list_any-append (bytes_eq x) names more ∙ ap (λ b. b || is_named more x) h
 
 is_named-last : (names : List (List ℕ)) (x : List ℕ) → is_named (names ++ x ∷ []) x ≡ true
-is_named-last [] x = ap (λ b. b || false) (bytes_eq-from x x refl)
-is_named-last (y ∷ names) x = ap (λ b. bytes_eq x y || b) (is_named-last names x) ∙ either (bytes_eq x y)
-  where
-    either : (b : Bool) → (b || true) ≡ true
-    either true = refl
-    either false = refl
+is_named-last names x = list_any-append (bytes_eq x) names (x ∷ []) ∙ ap (λ b. is_named names x || (b || false)) ((bytes_eq-Decides x x).1 refl) ∙ or-true (is_named names x)
 
 -- what was there is still there
 pub is_named-with_name : (names : List (List ℕ)) (new x : List ℕ) → is_named names x ≡ true → is_named (with_name names new) x ≡ true
@@ -96,7 +70,7 @@ is_named-with_name_self names x = elim (cases_Bool (is_named names x)) [
 ]
 
 index_of-last : (names : List (List ℕ)) (x : List ℕ) → is_named names x ≡ false → index_of (names ++ x ∷ []) x ≡ index_of names x
-index_of-last [] x h = here (bytes_eq x x) _ _ (bytes_eq-from x x refl)
+index_of-last [] x h = here (bytes_eq x x) _ _ ((bytes_eq-Decides x x).1 refl)
 index_of-last (y ∷ names) x h =
     let p = or_parts (bytes_eq x y) (is_named names x) h in
     ap (λ n. cond (not (bytes_eq x y)) (1 + n) 0) (index_of-last names x p.1)

@@ -25,4 +25,5 @@ pub mod WholeAnswers
 pub mod WrittenLines
 pub mod DrawnUtf8
 pub mod DrawnGraph
+pub mod OneReading
 pub mod ReadBack

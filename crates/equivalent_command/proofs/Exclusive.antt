@@ -11,7 +11,8 @@ use Rattle.replies.specs.declared.outcome.Outcome.{Outcome}
 use Rattle.replies.specs.declared.outcome.Outcome.TheVariants.{Yes, No, Second}
 use Rattle.replies.specs.Observed.{observed_names, HoldsGraph}
 use Rattle.replies.specs.OneOutcome.{OneOutcome, IsAnswerOn}
-use Rattle.replies.proofs.OneGraph.{one_reading, one_observed_graph, same_observed_names, reads_either}
+use Rattle.dag_reader.proofs.OneReading.{reads_either}
+use Rattle.replies.proofs.OneGraph.{one_reading, one_observed_graph, same_observed_names}
 use Rattle.replies.proofs.OneOutcome.{IsOneOf, one_of_three, one_on_graph}
 use Rattle.replies.proofs.OneTarget.{no_fault_of}
 use Rattle.equivalent_command.specs.Numbers.{HaveSameNames, on_names}

@@ -1,21 +1,20 @@
 -- What is told of a rule for which a step asks: its question, and the graph in which it is asked.
 use Rattle.std.specs.Prelude.{ℕ, ◌≡◌, Bool, true, false, List, [], ◌++◌, Option, Some, None, MatchOption, codes}
+use Rattle.std.specs.Fmt.{decimal}
 use Rattle.mixed_graph.specs.Graphs.{MixedGraph}
 use Rattle.answer_text.specs.Texts.{set_text}
 use Rattle.prob_expr.specs.Tree.{Tree}
+use Rattle.do_rules.specs.Rules.{number_of}
 use Rattle.do_rules.specs.declared.rules.Rule.{Rule}
-use Rattle.do_rules.specs.declared.rules.Rule.TheVariants.{One, Two, Three}
 use Rattle.do_derivation.specs.Plans.{Plan}
 use Rattle.do_derivation.specs.Shapes.{child}
 use Rattle.do_derivation.specs.Table.{Row, row}
 use Rattle.explaining.specs.Graphs.{IsRuleGraphText}
 use Rattle.explaining.specs.Questions.{Asked}
 
--- the rule
+-- `rule 2`
 abbrev pub rule_text : Rule → List ℕ
-rule_text One = codes "rule 1"
-rule_text Two = codes "rule 2"
-rule_text Three = codes "rule 3"
+rule_text rule = codes "rule " ++ decimal (number_of rule)
 
 -- `rule 2 y {Y} z {X} do {} given {Z}` on a line
 abbrev pub question_line : List (List ℕ) → Rule → (doing y z given : ℕ) → List ℕ

@@ -46,11 +46,8 @@ fn of_given(rule: Rule, z: VSet, e: &Expr) -> Option<Question>
     match beside(rule, z, e) {
         None => None,
         Some(question) => Some(Question {
-            rule,
-            doing: question.doing,
-            y: question.y,
-            z,
             given: question.given.difference(z),
+            ..question
         }),
     }
 }
@@ -62,11 +59,8 @@ fn of_doing(rule: Rule, z: VSet, e: &Expr) -> Option<Question>
     match beside(rule, z, e) {
         None => None,
         Some(question) => Some(Question {
-            rule,
             doing: question.doing.difference(z),
-            y: question.y,
-            z,
-            given: question.given,
+            ..question
         }),
     }
 }

@@ -5,25 +5,14 @@ ghost use Rattle.mixed_graph.specs.Sets.{Within};
 ghost use Rattle.mixed_graph.specs.Shown.{graph_of};
 ghost use Rattle.answer_text.specs.Texts.{set_text};
 ghost use Rattle.explaining.specs.Questions.{asked_of, IsBelow};
-ghost use Rattle.explaining.specs.Told.{rule_text, question_line, TellsQuestion, TellsAsked};
+ghost use Rattle.explaining.specs.Told.{question_line, TellsQuestion, TellsAsked};
 
 use crate::graphs::{copy_names, rule_graph_text};
 use crate::questions::Question;
 use answer_text::push_set;
-use do_rules::Rule;
 use mixed_graph::{Graph, Names, VSet};
+use name_text::with_number;
 use std::alloc::{AllocError, Global};
-
-/// The text of a rule.
-fn rule_text(rule: Rule) -> &'static [u8]
-    ensures { result.now ≡ rule_text rule }
-{
-    match rule {
-        Rule::One => b"rule 1",
-        Rule::Two => b"rule 2",
-        Rule::Three => b"rule 3",
-    }
-}
 
 /// Appends a set behind its word.
 fn push_named_set(
@@ -45,7 +34,7 @@ fn question_line(alloc: Global, names: &Names, q: &Question) -> Result<Vec<u8>, 
     requires { IsBelow (length names.now) (asked_of q.now) }
     ensures { IfOk result (λ v. v.items ≡ question_line names.now q.now.rule q.now.doing.bits q.now.y.bits q.now.z.bits q.now.given.bits) }
 {
-    let mut text = Vec::from_slice(alloc, rule_text(q.rule))?;
+    let mut text = with_number(alloc, "rule ", u64::from(q.rule.number()))?;
     push_named_set(&mut text, b" y ", names, q.y)?;
     push_named_set(&mut text, b" z ", names, q.z)?;
     push_named_set(&mut text, b" do ", names, q.doing)?;

@@ -1,4 +1,5 @@
 pub mod Answers
+pub mod Named
 pub mod Lines
 pub mod Requests
 pub mod Command

@@ -1,15 +1,9 @@
 -- What is printed for an answer of `rule`.
 use Rattle.std.specs.Prelude.{ℕ, Bool, List, [], ◌∷◌, ◌++◌, codes}
+use Rattle.std.specs.Fmt.{decimal}
 use Rattle.answer_text.specs.Texts.{term_text}
-use Rattle.do_rules.specs.Rules.{Side, left_of, right_of}
+use Rattle.do_rules.specs.Rules.{Side, left_of, right_of, number_of}
 use Rattle.do_rules.specs.declared.rules.Rule.{Rule}
-use Rattle.do_rules.specs.declared.rules.Rule.TheVariants.{One, Two, Three}
-
--- the digit of a rule
-abbrev pub digit_text : Rule → List ℕ
-digit_text One = codes "1"
-digit_text Two = codes "2"
-digit_text Three = codes "3"
 
 -- a side of a rule, as P(y|do(x),z,w)
 abbrev pub side_text : List (List ℕ) → Side → List ℕ
@@ -21,8 +15,8 @@ equation_text r names x y z w = side_text names (left_of r x y z w) ++ (codes " 
 
 -- the answer where a rule holds
 abbrev pub rule_holds_text : Rule → List (List ℕ) → (x y z w : ℕ → Bool) → List ℕ
-rule_holds_text r names x y z w = codes "rule " ++ (digit_text r ++ (codes " holds: " ++ (equation_text r names x y z w ++ 10 ∷ [])))
+rule_holds_text r names x y z w = codes "rule " ++ (decimal (number_of r) ++ (codes " holds: " ++ (equation_text r names x y z w ++ 10 ∷ [])))
 
 -- the answer where a path is open
 abbrev pub rule_fails_text : Rule → List (List ℕ) → (x y z w : ℕ → Bool) → List ℕ → List ℕ
-rule_fails_text r names x y z w open_line = codes "rule " ++ (digit_text r ++ (codes " does not hold: " ++ (equation_text r names x y z w ++ (10 ∷ open_line))))
+rule_fails_text r names x y z w open_line = codes "rule " ++ (decimal (number_of r) ++ (codes " does not hold: " ++ (equation_text r names x y z w ++ (10 ∷ open_line))))

@@ -3,12 +3,13 @@ ghost use Rattle.mixed_graph.specs.Bits.{has};
 ghost use Rattle.mixed_graph.specs.Sets.{Within};
 ghost use Rattle.answer_text.specs.Texts.{term_text};
 ghost use Rattle.replies.specs.Lines.{open_text};
-ghost use Rattle.rule_command.specs.Lines.{digit_text, equation_text, rule_holds_text, rule_fails_text};
+ghost use Rattle.rule_command.specs.Lines.{equation_text, rule_holds_text, rule_fails_text};
 
 use answer_text::{Term, push_term};
 use do_rules::Rule;
 use m_separation::OpenPath;
 use mixed_graph::Names;
+use name_text::with_number;
 use replies::push_open;
 use std::alloc::{AllocError, Global};
 use targets::RuleSets;
@@ -26,8 +27,7 @@ pub fn rule_holds_text(
     requires given { Within (length names.now) (has sets.given.bits) }
     ensures { IfOk result (λ v. v.items ≡ rule_holds_text rule names.now (has sets.done.bits) (has sets.y.bits) (has sets.z.bits) (has sets.given.bits)) }
 {
-    let mut text = Vec::from_slice(alloc, b"rule ")?;
-    text.extend_from_slice(digit(rule))?;
+    let mut text = with_number(alloc, "rule ", u64::from(rule.number()))?;
     text.extend_from_slice(b" holds: ")?;
     push_equation(&mut text, names, rule, sets)?;
     text.push(b'\n')?;
@@ -52,24 +52,12 @@ pub fn rule_fails_text(
     ensures { IfOk result (λ v. v.items ≡ rule_fails_text rule names.now (has sets.done.bits) (has sets.y.bits) (has sets.z.bits) (has sets.given.bits)
         (open_text names.now path.now.vertices path.now.marks path.now.count)) }
 {
-    let mut text = Vec::from_slice(alloc, b"rule ")?;
-    text.extend_from_slice(digit(rule))?;
+    let mut text = with_number(alloc, "rule ", u64::from(rule.number()))?;
     text.extend_from_slice(b" does not hold: ")?;
     push_equation(&mut text, names, rule, sets)?;
     text.push(b'\n')?;
     push_open(&mut text, names, path)?;
     Ok(text)
-}
-
-/// The digit of a rule.
-fn digit(rule: Rule) -> &'static [u8]
-    ensures { result.now ≡ digit_text rule }
-{
-    match rule {
-        Rule::One => b"1",
-        Rule::Two => b"2",
-        Rule::Three => b"3",
-    }
 }
 
 /// Appends both sides of a rule.
@@ -85,51 +73,23 @@ fn push_equation(
     requires given { Within (length names.now) (has sets.given.bits) }
     ensures { OnOk result (out.new.items ≡ out.old.items ++ equation_text rule names.now (has sets.done.bits) (has sets.y.bits) (has sets.z.bits) (has sets.given.bits)) }
 {
-    let x_z = sets.done.union(sets.z);
-    let z_w = sets.z.union(sets.given);
+    let plain = Term {
+        of: sets.y,
+        doing: sets.done,
+        given: sets.given,
+    };
+    let z_done = Term {
+        doing: sets.done.union(sets.z),
+        ..plain
+    };
+    let z_seen = Term {
+        given: sets.z.union(sets.given),
+        ..plain
+    };
     match rule {
-        Rule::One => push_sides(
-            out,
-            names,
-            Term {
-                of: sets.y,
-                doing: sets.done,
-                given: z_w,
-            },
-            Term {
-                of: sets.y,
-                doing: sets.done,
-                given: sets.given,
-            },
-        ),
-        Rule::Two => push_sides(
-            out,
-            names,
-            Term {
-                of: sets.y,
-                doing: x_z,
-                given: sets.given,
-            },
-            Term {
-                of: sets.y,
-                doing: sets.done,
-                given: z_w,
-            },
-        ),
-        Rule::Three => push_sides(
-            out,
-            names,
-            Term {
-                of: sets.y,
-                doing: x_z,
-                given: sets.given,
-            },
-            Term {
-                of: sets.y,
-                doing: sets.done,
-                given: sets.given,
-            },
-        ),
+        Rule::One => push_sides(out, names, z_seen, plain),
+        Rule::Two => push_sides(out, names, z_done, z_seen),
+        Rule::Three => push_sides(out, names, z_done, plain),
     }
 }
 

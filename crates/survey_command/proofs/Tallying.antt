@@ -95,11 +95,15 @@ row_more g a k t new v ne row answer f h =
     by_hedge false = let e = row.hedges in omega (arith, e)
 
 -- a row has at most as many effects of each kind as vertices below k
-pub row_few : (g : MixedGraph) (a k : ℕ) (t : Tally) → IsRowTally g a k t → (t.formulas ≤ k) × (t.hedges ≤ k)
+row_few : (g : MixedGraph) (a k : ℕ) (t : Tally) → IsRowTally g a k t → (t.formulas ≤ k) × (t.hedges ≤ k)
 row_few g a k t row =
     let f = length-members-le (λ b. not (a == b) && not (row.is_hedged b)) k in
     let h = length-members-le (λ b. not (a == b) && row.is_hedged b) k in
     let ef = row.formulas in let eh = row.hedges in (omega (arith, f, ef), omega (arith, h, eh))
+
+-- so one more fits
+pub row_room : (g : MixedGraph) (a k : ℕ) (t : Tally) → g.vertices ≤ 64 → k < g.vertices → IsRowTally g a k t → (t.formulas < 64) × (t.hedges < 64)
+row_room g a k t small lt row = let few = row_few g a k t row in let f = few.0 in let h = few.1 in (omega (arith, f, small, lt), omega (arith, h, small, lt))
 
 -- no row yet
 pub tally_none : (g : MixedGraph) (t : Tally) → t.formulas ≡ 0 → t.hedges ≡ 0 → IsTally g 0 t
@@ -151,7 +155,7 @@ tally_more g k t row new before now f h =
     }
 
 -- k rows have at most n effects of each kind in each row
-pub tally_few : (g : MixedGraph) (k : ℕ) (t : Tally) → IsTally g k t → (t.formulas ≤ g.vertices * k) × (t.hedges ≤ g.vertices * k)
+tally_few : (g : MixedGraph) (k : ℕ) (t : Tally) → IsTally g k t → (t.formulas ≤ g.vertices * k) × (t.hedges ≤ g.vertices * k)
 tally_few g k t tally =
     let f = pairs_from_le g.vertices (λ a b. not (a == b) && not (tally.is_hedged a b)) k in
     let h = pairs_from_le g.vertices (λ a b. not (a == b) && tally.is_hedged a b) k in
@@ -162,6 +166,12 @@ pub at_next : (P : ℕ → Type 0) (k : ℕ) → P (suc k) → P (k + 1)
 at_next P k p = let e : suc k ≡ k + 1 = omega arith in subst P e p
 
 -- at most 64 rows of at most 64 make at most 4,096
-pub few_more : (n k x y : ℕ) → n ≤ 64 → k < n → x ≤ n * k → y ≤ n → x + y ≤ 4096
+few_more : (n k x y : ℕ) → n ≤ 64 → k < n → x ≤ n * k → y ≤ n → x + y ≤ 4096
 few_more n k x y small lt low row =
     let all : n * (k + 1) ≤ 64 * 64 = let next : k + 1 ≤ 64 = omega (arith, small, lt) in mul-le-mul small next in omega (arith, all, low, row)
+
+-- so a row more fits
+pub tally_room : (g : MixedGraph) (k : ℕ) (t row : Tally) → g.vertices ≤ 64 → k < g.vertices → IsTally g k t → IsRowTally g k g.vertices row → (t.formulas + row.formulas ≤ 4096) × (t.hedges + row.hedges ≤ 4096)
+tally_room g k t row small lt before now =
+    let few = tally_few g k t before in let more = row_few g k g.vertices row now in
+    (few_more g.vertices k t.formulas row.formulas small lt few.0 more.0, few_more g.vertices k t.hedges row.hedges small lt few.1 more.1)

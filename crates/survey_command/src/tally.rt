@@ -1,5 +1,6 @@
 ghost use Rattle.std.specs.Prelude.{◌≡◌, ◌≢◌, ◌<◌, ◌≤◌, ◌+◌, IfOk, if◌then◌else◌};
 ghost use Rattle.mixed_graph.specs.Shown.{graph_of};
+ghost use Rattle.id_recursion.specs.Answers.{is_hedge};
 ghost use Rattle.survey_command.specs.Tallies.{IsAnswerFor};
 
 use id_recursion::{Answer, identify};
@@ -38,8 +39,8 @@ impl Tally {
             if a == b {
                 continue;
             }
-            let hedged = is_hedged(alloc, g, a, b)?;
-            tally = tally.with(hedged);
+            let answer = answer_for(alloc, g, a, b)?;
+            tally = tally.with(&answer);
         }
         Ok(tally)
     }
@@ -55,22 +56,22 @@ impl Tally {
         }
     }
 
-    /// One effect more.
-    fn with(self, hedged: bool) -> Tally
+    /// One effect more, with its answer.
+    fn with(self, answer: &Answer) -> Tally
         requires formulas { self.formulas < 64 }
         requires hedges { self.hedges < 64 }
-        ensures formulas { result.formulas ≡ (if hedged then self.formulas else self.formulas + 1) }
-        ensures hedges { result.hedges ≡ (if hedged then self.hedges + 1 else self.hedges) }
+        ensures formulas { result.formulas ≡ (if is_hedge answer.now then self.formulas else self.formulas + 1) }
+        ensures hedges { result.hedges ≡ (if is_hedge answer.now then self.hedges + 1 else self.hedges) }
     {
-        if hedged {
-            return Tally {
-                formulas: self.formulas,
+        match answer {
+            Answer::Formula(_, _) => Tally {
+                formulas: self.formulas + 1,
+                ..self
+            },
+            Answer::Hedge(_, _) => Tally {
                 hedges: self.hedges + 1,
-            };
-        }
-        Tally {
-            formulas: self.formulas + 1,
-            hedges: self.hedges,
+                ..self
+            },
         }
     }
 
@@ -88,18 +89,14 @@ impl Tally {
     }
 }
 
-/// Whether the effect of a on b has a hedge.
-fn is_hedged(alloc: Global, g: &Graph, a: u8, b: u8) -> Result<bool, AllocError>
+/// The answer for the effect of a on b.
+fn answer_for(alloc: Global, g: &Graph, a: u8, b: u8) -> Result<Answer, AllocError>
     requires first { a < g.now.n }
     requires second { b < g.now.n }
     requires differ { a ≢ b }
-    ensures { IfOk result (IsAnswerFor (graph_of g.now) a b) }
+    ensures { IfOk result (λ w. IsAnswerFor (graph_of g.now) a b (is_hedge w)) }
 {
     let x = VSet::one(a);
     let y = VSet::one(b);
-    let answer = identify(alloc, g, x, y)?;
-    match answer {
-        Answer::Formula(_, _) => Ok(false),
-        Answer::Hedge(_, _) => Ok(true),
-    }
+    identify(alloc, g, x, y)
 }

@@ -14,6 +14,7 @@ use Rattle.word_forms.specs.Views.{call_of, call_by, only_complete, row_of, uses
 use Rattle.word_forms.proofs.Law.{read_back, spells, Spells}
 use Rattle.std.specs.Cmp.Derive.{both_true}
 
+-- the words are this call, or have no form
 abbrev pub Says : List Row → List Text → Option (Row × List Use) → Type 0
 Says table words None = HasForm table words → ⊥
 Says table words (Some p) = IsCall table words p.0 p.1
@@ -74,6 +75,7 @@ module _ (table : List Row) (clear : list_all is_clear table ≡ true) (name : T
   with_name None e = λ h. let v : None ≡ Some h.0 = sym e ∙ same_row h.0 h.1 h.2 in cc v
   with_name (Some row) e = with_row row (uses_of row None words) e refl
 
+-- what the steps read is what the words are
 pub says : (table : List Row) → list_all is_clear table ≡ true → (words : List Text) → Says table words (call_of table words)
 says table clear [] = λ h. let bad = h.2.spelling in cc bad
 says table clear (name ∷ words) = with_name table clear name words (row_named table name) refl

@@ -111,14 +111,17 @@ long_again (a ∷ word) p h = first (a == 45) refl
 
 -- ---- what a step says
 
+-- an option that waits is one of the row
 abbrev pub Waits : Row → Option Text → Type 0
 Waits row None = Unit {0}
 Waits row (Some x) = is_among (value_names row) x ≡ true
 
+-- the words with that of the option that waits
 abbrev pub started : Option Text → List Text → List Text
 started None words = words
 started (Some x) words = long x ∷ words
 
+-- what a step says: the use that the words spell, which the row allows, or the option that now waits
 abbrev pub Steps : Row → Option Text → Text → Step → Type 0
 Steps row waiting word (used u) = (spelled u ≡ started waiting (word ∷ [])) × (fits row u ≡ true)
 Steps row waiting word (waits x) = (waiting ≡ None) × (long x ≡ word) × (is_among (value_names row) x ≡ true)
@@ -155,6 +158,7 @@ word_steps row None word h = go (is_positional word) refl
 
 -- ---- all the words
 
+-- the uses, where there are any, spell the words, and the row allows them
 abbrev pub Spells : Row → List Text → Option (List Use) → Type 0
 Spells row words None = Unit {0}
 Spells row words (Some us) = (flat_map spelled us ≡ words) × (list_all (fits row) us ≡ true)
@@ -165,6 +169,7 @@ one_more row waiting word words u None e f h = tt
 one_more row None word words u (Some us) e f h = (rw (e) (ap (λ (ws : List Text). word ∷ ws) h.0), both_true f h.1)
 one_more row (Some x) word words u (Some us) e f h = (rw (e) (ap (λ (ws : List Text). long x ∷ word ∷ ws) h.0), both_true f h.1)
 
+-- what is read of words spells them
 pub spells : (row : Row) (words : List Text) (waiting : Option Text) → Waits row waiting → Spells row (started waiting words) (uses_of row waiting words)
 unfolding uses_of
 spells row [] None h = (refl, refl)

@@ -68,12 +68,14 @@ list_read item items h = let p = both (is_item item) _ h in item_read item (more
 
 -- ---- what is read is spelled
 
+-- behind a name that ended: further items, each behind a comma
 pub record Rest (name : List ℕ) (bytes : List ℕ) (names : Names) : Type 0 where
   pub items : List Item
   pub text : bytes ≡ more_text items
   pub good : list_all is_item items ≡ true
   pub gives : names ≡ name ∷ map name_of items
 
+-- inside a bare name: the rest of it, and further items
 pub record Tail (name : List ℕ) (bytes : List ℕ) (names : Names) : Type 0 where
   pub more : List ℕ
   pub items : List Item
@@ -82,6 +84,7 @@ pub record Tail (name : List ℕ) (bytes : List ℕ) (names : Names) : Type 0 wh
   pub good : list_all is_item items ≡ true
   pub gives : names ≡ (name ++ more) ∷ map name_of items
 
+-- inside a quoted name: the rest of it, the quote, and further items
 pub record Inner (name : List ℕ) (bytes : List ℕ) (names : Names) : Type 0 where
   pub more : List ℕ
   pub items : List Item
@@ -91,12 +94,14 @@ pub record Inner (name : List ℕ) (bytes : List ℕ) (names : Names) : Type 0 w
   pub good : list_all is_item items ≡ true
   pub gives : names ≡ (name ++ more) ∷ map name_of items
 
+-- what the bytes spell from a place on
 abbrev pub Spelled : Position → List ℕ → List ℕ → Names → Type 0
 Spelled Due name bytes names = is_none name ≡ true → IsItems bytes names
 Spelled Plain name bytes names = Tail name bytes names
 Spelled Inside name bytes names = Inner name bytes names
 Spelled Closed name bytes names = Rest name bytes names
 
+-- names that are read of the bytes are spelled by them, wherever the reading stands
 abbrev pub Spells : List ℕ → Type 0
 Spells bs = (p : Position) (n : List ℕ) (ns : Names) → names_of p n bs ≡ Some ns → Spelled p n bs ns
 
@@ -198,6 +203,7 @@ unfolding names_of
 closed b bs name names true e h ih = subst (λ (n : ℕ). Rest name (n ∷ bs) names) (sym (is_byte b 44 e)) (comma name bs names (names_of Due [] bs) refl (rw e at h) ih)
 closed b bs name names false e h ih = let bad : None ≡ Some names = rw e at h in cc bad
 
+-- so it is of all bytes
 pub spelled : (bytes : List ℕ) → Spells bytes
 spelled [] p n ns h = no_bytes p n ns h
 spelled (b ∷ bs) Due n ns h = due b bs n ns (b == 34) (b == 44) refl refl h (spelled bs)

@@ -9,6 +9,7 @@ use Rattle.word_forms.specs.declared.Entry.{Entry}
 use Rattle.word_values.specs.App.{shape_of_row, app_of_row, rules_of_row, positional_rule, extra_rule, needed_rule, option_rule, flag_rule}
 use Rattle.std.proofs.lemmas.List.{append-nil}
 
+-- the command with these arguments behind its own
 abbrev pub with_rules : App → List Rule → App
 with_rules a rules = on_top (λ s. record s { rules = s.rules ++ rules }) a
 

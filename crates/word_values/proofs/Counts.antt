@@ -18,6 +18,7 @@ use Rattle.std.proofs.lemmas.Bool.{not-true}
 abbrev pub n_in : Text → List Entry → ℕ
 n_in id es = counts (λ e. bytes_eq e.id id) es
 
+-- how many names are this one
 abbrev pub n_named : Text → List Text → ℕ
 n_named id names = counts (λ n. bytes_eq n id) names
 
@@ -81,13 +82,13 @@ pub among_joint : (xs ys : List Text) (x : Text) → is_among xs x ≡ false →
 among_joint [] ys x h k = k
 among_joint (z ∷ zs) ys x h k = let p = or_false (bytes_eq z x) _ h in rw (p.0) (among_joint zs ys x p.1 k)
 
--- ---- a row's own tests
-
+-- no positional is an option or a flag, each positional has its own name, and no option is a flag
 pub record Sound (row : Row) : Type 0 where
   pub apart_names : list_all (λ n. not (is_among (value_names row ++ row.flags) n)) (positional_names row) ≡ true
   pub once : list_all (λ n. n_named n (positional_names row) == 1) (positional_names row) ≡ true
   pub apart_flags : list_all (λ x. not (is_among row.flags x)) (value_names row) ≡ true
 
+-- what uses keep that the row allows
 pub record Allowed (row : Row) (uses : List Use) : Type 0 where
   pub fit : list_all (fits row) uses ≡ true
   pub least : length row.positionals ≤ length (words_in uses)

@@ -16,6 +16,7 @@ use Rattle.word_values.proofs.Counts.{differs}
 use Rattle.std.proofs.Math.Bool.{or-true}
 use Rattle.std.proofs.lemmas.Bool.{not-true}
 
+-- the row of an id
 abbrev pub row_by : Text → List Entry → Option Entry
 row_by id rows = find (λ r. bytes_eq r.id id) rows
 
@@ -116,24 +117,24 @@ flag_default f (a ∷ rules) rows at h = go (bytes_eq a.id f) refl (flag_default
 
 -- ---- the entries of uses
 
+-- an entry before others: it is that of its own name, and the others are those of any other
+entry_first : (x y v : Text) (es : List Entry) (o : Option Text) → row_by x es ≡ option_map (entry_of x) o → row_by x (entry_of y v ∷ es) ≡ option_map (entry_of x) (if bytes_eq y x then Some v else o)
+entry_first x y v es o next = go (bytes_eq y x) refl
+  where
+    go : (t : Bool) → bytes_eq y x ≡ t → row_by x (entry_of y v ∷ es) ≡ option_map (entry_of x) (if bytes_eq y x then Some v else o)
+    go true e = rw e (ap (λ z. Some (entry_of z v)) ((bytes_eq-Decides y x).0 e))
+    go false e = rw e next
+
 pub option_entry : (row : Row) (x : Text) (names : List Text) (uses : List Use) → list_all (fits row) uses ≡ true → is_among names x ≡ false → is_among row.flags x ≡ false
     → row_by x (entries names uses) ≡ option_map (entry_of x) (value_of uses x)
 option_entry row x names [] fit a b = refl
 option_entry row x [] (positional w ∷ uses) fit a b = option_entry row x [] uses (both (is_positional w) _ fit).1 a b
 option_entry row x (n ∷ names) (positional w ∷ uses) fit a b =
     let p = or_false (bytes_eq n x) _ a in rw (p.0) (option_entry row x names uses (both (is_positional w) _ fit).1 p.1 b)
-option_entry row x names (apart y v ∷ uses) fit a b = go (bytes_eq y x) refl (option_entry row x names uses (both (is_among (value_names row) y && is_value v) _ fit).1 a b)
-  where
-    go : (t : Bool) → bytes_eq y x ≡ t → row_by x (entries names uses) ≡ option_map (entry_of x) (value_of uses x)
-        → row_by x (entry_of y v ∷ entries names uses) ≡ option_map (entry_of x) (if bytes_eq y x then Some v else value_of uses x)
-    go true e next = rw e (ap (λ z. Some (entry_of z v)) ((bytes_eq-Decides y x).0 e))
-    go false e next = rw e next
-option_entry row x names (joined y v ∷ uses) fit a b = go (bytes_eq y x) refl (option_entry row x names uses (both (is_among (value_names row) y && is_value v) _ fit).1 a b)
-  where
-    go : (t : Bool) → bytes_eq y x ≡ t → row_by x (entries names uses) ≡ option_map (entry_of x) (value_of uses x)
-        → row_by x (entry_of y v ∷ entries names uses) ≡ option_map (entry_of x) (if bytes_eq y x then Some v else value_of uses x)
-    go true e next = rw e (ap (λ z. Some (entry_of z v)) ((bytes_eq-Decides y x).0 e))
-    go false e next = rw e next
+option_entry row x names (apart y v ∷ uses) fit a b =
+    entry_first x y v (entries names uses) (value_of uses x) (option_entry row x names uses (both (is_among (value_names row) y && is_value v) _ fit).1 a b)
+option_entry row x names (joined y v ∷ uses) fit a b =
+    entry_first x y v (entries names uses) (value_of uses x) (option_entry row x names uses (both (is_among (value_names row) y && is_value v) _ fit).1 a b)
 option_entry row x names (flag y ∷ uses) fit a b =
     let f = both (is_among row.flags y) _ fit in rw (differs row.flags y x b f.0) (option_entry row x names uses f.1 a b)
 
@@ -161,12 +162,8 @@ pub positional_found : (row : Row) (x : Text) (names : List Text) (uses : List U
 positional_found row x [] [] fit a b = refl
 positional_found row x (n ∷ names) [] fit a b = refl
 positional_found row x [] (positional w ∷ uses) fit a b = positional_found row x [] uses (both (is_positional w) _ fit).1 a b
-positional_found row x (n ∷ names) (positional w ∷ uses) fit a b = go (bytes_eq n x) refl (positional_found row x names uses (both (is_positional w) _ fit).1 a b)
-  where
-    go : (t : Bool) → bytes_eq n x ≡ t → row_by x (entries names uses) ≡ option_map (entry_of x) (word_at names (words_in uses) x)
-        → row_by x (entry_of n w ∷ entries names uses) ≡ option_map (entry_of x) (if bytes_eq n x then Some w else word_at names (words_in uses) x)
-    go true e next = rw e (ap (λ z. Some (entry_of z w)) ((bytes_eq-Decides n x).0 e))
-    go false e next = rw e next
+positional_found row x (n ∷ names) (positional w ∷ uses) fit a b =
+    entry_first x n w (entries names uses) (word_at names (words_in uses) x) (positional_found row x names uses (both (is_positional w) _ fit).1 a b)
 positional_found row x names (apart y v ∷ uses) fit a b =
     let f = both (is_among (value_names row) y && is_value v) _ fit in
     rw (differs (value_names row) y x a (both (is_among (value_names row) y) _ f.0).0) (positional_found row x names uses f.1 a b)

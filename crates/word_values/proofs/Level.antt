@@ -10,7 +10,7 @@ use Rattle.clap.specs.Takes.{is_given, level_passes, default_passes, is_valid, s
 use Rattle.clap.proofs.WalkLemmas.{both}
 use Rattle.word_forms.specs.Form.{Text, Row, Use, positional, apart, joined, flag, spelled, fits, is_among, is_value, is_positional, value_names, positional_names, words_in, times, value_of, has_flag, word_at}
 use Rattle.word_values.proofs.Steps.{flag_built, entry_of, flag_entry, between, settles, settles_well, held}
-use Rattle.word_values.proofs.Uses.{Reads, Runs, runs, entries, same_at}
+use Rattle.word_values.proofs.Uses.{Lookups, Reads, Runs, runs, entries, same_at}
 use Rattle.word_forms.proofs.Names.{other_side, all_at, among_left, among_right}
 use Rattle.word_values.specs.Gives.{GivesUses}
 use Rattle.word_values.proofs.Counts.{Sound, Allowed, uses_fresh, differs, among_parts, among_joint}
@@ -19,8 +19,7 @@ use Rattle.std.specs.Cmp.Derive.{both_true}
 use Rattle.std.proofs.Math.Bool.{or-true}
 use Rattle.std.proofs.lemmas.Bool.{not-true}
 
--- ---- the rest of what clap asks of a command
-
+-- the rest of what clap asks of a command
 pub record Closes (row : Row) (s : Shape) : Type 0 where
   pub defaults : list_all default_passes s.rules ≡ true
   pub help : s.arg_required_else_help ≡ false
@@ -32,23 +31,26 @@ pub record Closes (row : Row) (s : Shape) : Type 0 where
 
 -- ---- what stands where
 
+-- an option before others: its value is there where its name is used
+given_first : (x y v : Text) (uses : List Use) → 1 ≤ (if bytes_eq y x then 1 else 0) + times uses x → (1 ≤ times uses x → is_some (value_of uses x) ≡ true)
+    → is_some (if bytes_eq y x then Some v else value_of uses x) ≡ true
+given_first x y v uses h next = go (bytes_eq y x) refl
+  where
+    go : (t : Bool) → bytes_eq y x ≡ t → is_some (if bytes_eq y x then Some v else value_of uses x) ≡ true
+    go true e = rw e
+    go false e = rw e (next (let k : 1 ≤ 0 + times uses x = rw e at h in omega arith))
+
+-- an option that is used has a value
 pub option_given : (row : Row) (x : Text) (uses : List Use) → list_all (fits row) uses ≡ true → is_among row.flags x ≡ false → 1 ≤ times uses x → is_some (value_of uses x) ≡ true
 option_given row x [] fit a h = absurd (omega arith)
 option_given row x (positional w ∷ uses) fit a h = option_given row x uses (both (is_positional w) _ fit).1 a (omega arith)
-option_given row x (apart y v ∷ uses) fit a h = go (bytes_eq y x) refl (option_given row x uses (both (is_among (value_names row) y && is_value v) _ fit).1 a)
-  where
-    go : (t : Bool) → bytes_eq y x ≡ t → (1 ≤ times uses x → is_some (value_of uses x) ≡ true) → is_some (if bytes_eq y x then Some v else value_of uses x) ≡ true
-    go true e next = rw e
-    go false e next = rw e (next (let k : 1 ≤ 0 + times uses x = rw e at h in omega arith))
-option_given row x (joined y v ∷ uses) fit a h = go (bytes_eq y x) refl (option_given row x uses (both (is_among (value_names row) y && is_value v) _ fit).1 a)
-  where
-    go : (t : Bool) → bytes_eq y x ≡ t → (1 ≤ times uses x → is_some (value_of uses x) ≡ true) → is_some (if bytes_eq y x then Some v else value_of uses x) ≡ true
-    go true e next = rw e
-    go false e next = rw e (next (let k : 1 ≤ 0 + times uses x = rw e at h in omega arith))
+option_given row x (apart y v ∷ uses) fit a h = given_first x y v uses h (option_given row x uses (both (is_among (value_names row) y && is_value v) _ fit).1 a)
+option_given row x (joined y v ∷ uses) fit a h = given_first x y v uses h (option_given row x uses (both (is_among (value_names row) y && is_value v) _ fit).1 a)
 option_given row x (flag y ∷ uses) fit a h =
     let f = both (is_among row.flags y) _ fit in
     option_given row x uses f.1 a (let k : 1 ≤ 0 + times uses x = rw (differs row.flags y x a f.0) at h in omega arith)
 
+-- a positional without brackets has a word where there are enough
 pub positional_given : (ps extra words : List Text) (x : Text) → is_among ps x ≡ true → length ps ≤ length words → is_some (word_at (ps ++ extra) words x) ≡ true
 positional_given [] extra words x a h = cc a
 positional_given (p ∷ ps) extra [] x a h = absurd (omega arith)
@@ -142,14 +144,14 @@ module _ (row : Row) (s : Shape) (reads : Reads row s) (closes : Closes row s) (
   -- ---- the walk
 
   run : Runs s (between 1 None []) (flat_map spelled uses) es
-  run = runs row s reads uses 1 None [] (positional_names row) tt a.fit (let k = a.most in omega (arith, length-append row.positionals row.extra)) reads.places reads.place_ids (uses_fresh row uses sound a)
+  run = runs row s reads uses 1 None [] (positional_names row) tt a.fit (let k = a.most in omega (arith, length-append row.positionals row.extra)) (ap (λ (l : Lookups). l.places) reads) (ap (λ (l : Lookups). l.place_ids) reads) (uses_fresh row uses sound a)
 
   pub rows_are : rows_after s.rules [] (flat_map spelled uses) ≡ rows
   rows_are = ap (λ (w : Walk). finished s.rules w.held) run.walk ∙ ap (λ (r : List Entry). fold with_default r s.rules) (settles s.rules run.pending run.before run.known ∙ run.total)
 
   settled_well : settle_passes s.rules s.args_override_self (walk s.rules [] nothing_held (flat_map spelled uses)).held ≡ true
   settled_well = ap (λ (w : Walk). settle_passes s.rules s.args_override_self w.held) run.walk
-      ∙ (ap (λ (b : Bool). settle_passes s.rules b (held run.pending run.before)) reads.again ∙ settles_well s.rules run.pending run.before run.known)
+      ∙ (ap (λ (b : Bool). settle_passes s.rules b (held run.pending run.before)) (ap (λ (l : Lookups). l.again) reads) ∙ settles_well s.rules run.pending run.before run.known)
 
   valid_rows : is_valid s rows false ≡ true
   valid_rows = rw (closes.help, closes.subcommand, closes.free, all_given s.rules closes.required) (or-true (s.subcommand_negates_reqs && false))

@@ -23,6 +23,7 @@ pub record Single : Type 0 where
   pub index : Option ℕ
   pub required : Bool
 
+-- the argument with one value
 abbrev pub rule_of_single : Single → Rule
 rule_of_single s = record (new_rule s.id) {
   long = s.long;
@@ -33,6 +34,7 @@ rule_of_single s = record (new_rule s.id) {
   parser = Some vp.String;
 }
 
+-- the flag
 abbrev pub flag_built : Text → Rule
 flag_built f = record (new_rule f) {
   long = Some f;
@@ -43,9 +45,11 @@ flag_built f = record (new_rule f) {
   parser = Some vp.Bool;
 }
 
+-- the entry of a value
 abbrev pub entry_of : Text → Text → Entry
 entry_of id v = record { id = id; values = v ∷ []; count = None; source = Some CommandLine; reading = reading_of vp.String }
 
+-- the entry of a flag that is there
 abbrev pub flag_entry : Text → Entry
 flag_entry id = record { id = id; values = codes "true" ∷ []; count = None; source = Some CommandLine; reading = reading_of vp.Bool }
 
@@ -53,13 +57,16 @@ flag_entry id = record { id = id; values = codes "true" ∷ []; count = None; so
 abbrev pub Pending : Type 0
 Pending = Option (Single × Text)
 
+-- it as texts: the name and the word
 abbrev pub pending_texts : Pending → Option (Text × List Text)
 pending_texts None = None
 pending_texts (Some q) = Some (q.0.id, q.1 ∷ [])
 
+-- what a state holds: its rows, and what is pending
 abbrev pub held : Pending → List Entry → Held
 held p rows = record { rows = rows; pending = pending_texts p; skip = 0 }
 
+-- a state between uses, at the positional with this number
 abbrev pub between : ℕ → Pending → List Entry → Walk
 between k p rows = record { held = held p rows; waiting = idle; position = k; is_trailing = false; stopped = None }
 
@@ -68,6 +75,7 @@ abbrev pub settle : Pending → List Entry → List Entry
 settle None rows = rows
 settle (Some q) rows = rows ++ entry_of q.0.id q.1 ∷ []
 
+-- what is pending is an argument of the command, and has no row yet
 abbrev pub Known : List Rule → Pending → List Entry → Type 0
 Known rules None rows = Unit {0}
 Known rules (Some q) rows = (arg_by_id rules q.0.id ≡ Some (rule_of_single q.0)) × (has_row q.0.id rows ≡ false)

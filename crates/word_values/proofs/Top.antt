@@ -1,16 +1,15 @@
 -- A program of one level of commands on words of the form.
-use Rattle.std.proofs.Common.{◌≡◌, ◌==◌, ◌||◌, ℕ, Bool, true, false, not, List, [], ◌∷◌, ◌++◌, map, Option, Some, option_map, is_some, refl, sym, ap, ◌∙◌, subst, append_assoc}
+use Rattle.std.proofs.Common.{◌≡◌, ◌==◌, ◌||◌, Bool, true, false, not, List, [], ◌∷◌, ◌++◌, map, Option, Some, option_map, is_some, refl, sym, ap, ◌∙◌, subst, append_assoc}
 use Rattle.std.specs.Prelude.{fold, codes, find}
 use Rattle.std.specs.Str.{bytes_eq}
 use Rattle.std.specs.List.{list_all, flat_map}
 use Rattle.std.specs.Option.{option_map_or}
-use Rattle.clap.specs.Walk.{Row as Entry, Rule, Names, Walk, walk, walk_from, walked, idle, subcommand_met, nothing_held, rows_after, finished, answers_to, arg_by_id, arg_by_long, arg_by_index, stop_after}
+use Rattle.clap.specs.Walk.{Row as Entry, Rule, Names, Walk, walk, walk_from, walked, idle, subcommand_met, nothing_held, rows_after, finished, answers_to, arg_by_id, stop_after}
 use Rattle.clap.specs.Simple.{App, Shape, names_of, label_of, entered, rows_at}
 use Rattle.clap.specs.Takes.{walk_passes, level_passes, default_passes, is_valid, built_takes, entered_passes, settle_passes}
 use Rattle.word_forms.specs.Form.{Text, Row, Use, spelled, is_among, value_names, positional_names, row_named, is_allowed}
-use Rattle.word_forms.specs.Form.{is_name}
-use Rattle.word_values.proofs.Steps.{rule_of_single, flag_built}
-use Rattle.word_values.proofs.Uses.{Reads, single_named, single_at, numbered}
+use Rattle.word_values.proofs.Steps.{flag_built}
+use Rattle.word_values.proofs.Uses.{Lookups, lookups, wanted_lookups, Reads}
 use Rattle.word_values.proofs.Counts.{Sound, n_named, allowed}
 use Rattle.word_values.specs.Gives.{GivesUses}
 use Rattle.word_values.proofs.Finds.{adds_none}
@@ -18,18 +17,11 @@ use Rattle.word_values.proofs.Level.{Closes, gives, rows_are, passes}
 use Rattle.std.proofs.lemmas.List.{append-nil}
 use Rattle.std.specs.Cmp.Derive.{both_true}
 
--- ---- what clap makes of a row, as data that computes at a table that is written out
-
+-- what clap makes of a row, as data that computes at a table that is written out
 pub record Seen : Type 0 where
   pub name : Text
-  pub again : Bool
-  pub names : Bool
-  pub longs : List (Option Rule)
-  pub ids : List (Option Rule)
-  pub flags : List (Option Rule)
+  pub lookups : Lookups
   pub flag_ids : List (Option Rule)
-  pub places : List (Option Rule)
-  pub place_ids : List (Option Rule)
   pub defaults : Bool
   pub help : Bool
   pub subcommand : Bool
@@ -43,17 +35,12 @@ pub record Seen : Type 0 where
   pub met : Option Text
   pub found : Option Shape
 
+-- what it makes of a row, whose command in the program is the leaf
 abbrev pub seen : App → (Row → Shape) → Row → Seen
 seen b leaf row = let s = leaf row in record {
   name = s.name;
-  again = s.args_override_self;
-  names = list_all is_name (value_names row ++ row.flags);
-  longs = map (arg_by_long s.rules) (value_names row);
-  ids = map (arg_by_id s.rules) (value_names row);
-  flags = map (arg_by_long s.rules) row.flags;
+  lookups = lookups row s;
   flag_ids = map (arg_by_id s.rules) row.flags;
-  places = map (λ (q : ℕ × Text). arg_by_index s.rules q.0) (numbered 1 (positional_names row));
-  place_ids = map (λ (q : ℕ × Text). arg_by_id s.rules q.1) (numbered 1 (positional_names row));
   defaults = list_all default_passes s.rules;
   help = s.arg_required_else_help;
   subcommand = s.subcommand_required;
@@ -68,17 +55,12 @@ seen b leaf row = let s = leaf row in record {
   found = find (λ t. answers_to row.name (label_of t)) b.subs;
 }
 
+-- what it is to make of it
 abbrev pub wanted : (Row → Shape) → Row → Seen
 wanted leaf row = record {
   name = row.name;
-  again = false;
-  names = true;
-  longs = map (λ x. Some (rule_of_single (single_named row x))) (value_names row);
-  ids = map (λ x. Some (rule_of_single (single_named row x))) (value_names row);
-  flags = map (λ x. Some (flag_built x)) row.flags;
+  lookups = wanted_lookups row;
   flag_ids = map (λ x. Some (flag_built x)) row.flags;
-  places = map (λ q. Some (rule_of_single (single_at row q))) (numbered 1 (positional_names row));
-  place_ids = map (λ q. Some (rule_of_single (single_at row q))) (numbered 1 (positional_names row));
   defaults = true;
   help = false;
   subcommand = false;
@@ -95,15 +77,7 @@ wanted leaf row = record {
 
 module _ (b : App) (leaf : Row → Shape) (row : Row) (e : seen b leaf row ≡ wanted leaf row) where
   pub reads_of : Reads row (leaf row)
-  reads_of = record {
-    again = ap (λ (x : Seen). x.again) e;
-    names = ap (λ (x : Seen). x.names) e;
-    longs = ap (λ (x : Seen). x.longs) e;
-    ids = ap (λ (x : Seen). x.ids) e;
-    flags = ap (λ (x : Seen). x.flags) e;
-    places = ap (λ (x : Seen). x.places) e;
-    place_ids = ap (λ (x : Seen). x.place_ids) e;
-  }
+  reads_of = ap (λ (x : Seen). x.lookups) e
 
   pub closes_of : Closes row (leaf row)
   closes_of = record {

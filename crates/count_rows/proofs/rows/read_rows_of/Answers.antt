@@ -23,31 +23,18 @@ returns-in-Err-clause-fault c n =
     bad_header (records_of c.args.text.now) (fields_of c.read.new.into) (map (name_of c.args.names.now) c.args.vertices.now) (option_map {T = Bor (List ℕ)} {U = List ℕ} (λ s. s.now) c.args.count_column) c.in-Err.fault
     (header_first c.args.text.now (fields_of c.read.new.into) c.read.new.reader read) (c.in-Err.ensures.fault n)
 
-pub returns-clause-rows : goal.returns-clause-rows
+pub returns : goal.returns
 unfolding GivesNext
-returns-clause-rows c =
+returns c =
     let (read, width) = c.in-Record.ensures c.args.text.now [] c.open-reader.ensures in
     let at = header_first c.args.text.now (fields_of c.read.new.into) c.read.new.reader read in
     let used = map (name_of c.args.names.now) c.args.vertices.now in
     let count = option_map {T = Bor (List ℕ)} {U = List ℕ} (λ s. s.now) c.args.count_column in
     let layout : layout_from c.in-Ok.columns ≡ layout_of (header_of (records_of c.args.text.now)) used count = c.in-Ok.ensures.layout ∙ ap (λ (h : Record). layout_of h used count) (sym at) in
-    ok_both c.read_rows_under.result _ _ (λ (t : Tally) h. subst (λ (l : Layout). HoldsRecords l (rows_of (records_of c.args.text.now)) t) layout h.0)
-    (when_ok c.read_rows_under.result _ _ (c.read_rows_under.ensures c.args.text.now (fields_of c.read.new.into) read))
-
-pub returns-clause-fit : goal.returns-clause-fit
-unfolding GivesNext
-returns-clause-fit c =
-    let (read, width) = c.in-Record.ensures c.args.text.now [] c.open-reader.ensures in
-    let at = header_first c.args.text.now (fields_of c.read.new.into) c.read.new.reader read in
-    let good = good_header (records_of c.args.text.now) (fields_of c.read.new.into) (map (name_of c.args.names.now) c.args.vertices.now) (option_map {T = Bor (List ℕ)} {U = List ℕ} (λ s. s.now) c.args.count_column) (layout_from c.in-Ok.columns) at c.in-Ok.ensures.fit c.in-Ok.ensures.layout in
-    ok_both c.read_rows_under.result _ _ (λ (t : Tally) h. good ∙ h.1)
-    (when_ok c.read_rows_under.result _ _ (c.read_rows_under.ensures c.args.text.now (fields_of c.read.new.into) read))
-
-pub returns-clause-fault : goal.returns-clause-fault
-unfolding GivesNext
-returns-clause-fault c =
-    let (read, width) = c.in-Record.ensures c.args.text.now [] c.open-reader.ensures in
-    let at = header_first c.args.text.now (fields_of c.read.new.into) c.read.new.reader read in
-    let good = good_header (records_of c.args.text.now) (fields_of c.read.new.into) (map (name_of c.args.names.now) c.args.vertices.now) (option_map {T = Bor (List ℕ)} {U = List ℕ} (λ s. s.now) c.args.count_column) (layout_from c.in-Ok.columns) at c.in-Ok.ensures.fit c.in-Ok.ensures.layout in
-    err_both c.read_rows_under.result _ _ (λ (f : CountFault) h. λ n. good ∙ h n)
-    (when_err c.read_rows_under.result _ _ (c.read_rows_under.ensures c.args.text.now (fields_of c.read.new.into) read))
+    let good = good_header (records_of c.args.text.now) (fields_of c.read.new.into) used count (layout_from c.in-Ok.columns) at c.in-Ok.ensures.fit c.in-Ok.ensures.layout in
+    let rows = c.read_rows_under.ensures c.args.text.now (fields_of c.read.new.into) read in
+    record {
+      rows = ok_both c.read_rows_under.result _ _ (λ (t : Tally) h. subst (λ (l : Layout). HoldsRecords l (rows_of (records_of c.args.text.now)) t) layout h.0) (when_ok c.read_rows_under.result _ _ rows);
+      fit = ok_both c.read_rows_under.result _ _ (λ (t : Tally) h. good ∙ h.1) (when_ok c.read_rows_under.result _ _ rows);
+      fault = err_both c.read_rows_under.result _ _ (λ (f : CountFault) h. λ n. good ∙ h n) (when_err c.read_rows_under.result _ _ rows);
+    }

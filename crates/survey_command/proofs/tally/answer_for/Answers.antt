@@ -5,7 +5,7 @@ use Rattle.mixed_graph.specs.Shown.{graph_of}
 use Rattle.mixed_graph.specs.Masks.{one}
 use Rattle.survey_command.proofs.Answering.{answered_of}
 use Rattle.survey_command.proofs.OneSets.{within_one, apart_one, some_one}
-use Rattle.survey_command.proofs.tally.is_hedged.Goals as goal
+use Rattle.survey_command.proofs.tally.answer_for.Goals as goal
 
 pub identify-requires-clause-x_within : goal.identify-requires-clause-x_within
 identify-requires-clause-x_within c = subst (λ m. Within c.args.g.now.n (has m)) (sym c.one-x.ensures.mask) (within_one c.args.g.now.n c.args.a c.requires.first)
@@ -20,10 +20,5 @@ identify-requires-clause-apart c =
 pub identify-requires-clause-some : goal.identify-requires-clause-some
 identify-requires-clause-some c = subst (λ m. 0 < m) (sym c.one-y.ensures.mask) (some_one c.args.b)
 
-pub returns-in-Formula : goal.returns-in-Formula
-returns-in-Formula c = answered_of (graph_of c.args.g.now) c.args.a c.args.b c.one-x.result.bits c.one-y.result.bits _ _ c.one-x.ensures.mask c.one-y.ensures.mask c.in-Formula.is
-    c.in_ok-answer.ensures.right c.in_ok-answer.ensures.exact
-
 pub returns : goal.returns
-returns c = answered_of (graph_of c.args.g.now) c.args.a c.args.b c.one-x.result.bits c.one-y.result.bits _ _ c.one-x.ensures.mask c.one-y.ensures.mask c.in-Hedge.is
-    c.in_ok-answer.ensures.right c.in_ok-answer.ensures.exact
+returns c = answered_of (graph_of c.args.g.now) c.args.a c.args.b c.one-x.result.bits c.one-y.result.bits c.identify.result c.one-x.ensures.mask c.one-y.ensures.mask c.identify.ensures.right c.identify.ensures.exact
