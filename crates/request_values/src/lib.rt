@@ -95,6 +95,23 @@ pub fn needed_names(
     }
 }
 
+/// The number that a text is, in its range, where there is a text.
+fn number_of(text: Option<&str>, low: u64, high: u64) -> Result<u64, RequestFault>
+    ensures ok { IfOk result (λ n. IsNeededNumber (option_map (λ s. s.now) text.entry) low high n) }
+    ensures none { IsErrOf result RequestFault.NotUnderstood → (n : ℕ) → IsNeededNumber (option_map (λ s. s.now) text.entry) low high n → ⊥ }
+    ensures low { IfOk result (λ n. low ≤ n) }
+    ensures high { IfOk result (λ n. n ≤ high) }
+    ensures memory { IsErrOf result RequestFault.NoMemory → ⊥ }
+{
+    match text {
+        None => Err(RequestFault::NotUnderstood),
+        Some(text) => match read_number(text, low, high) {
+            Some(number) => Ok(number),
+            None => Err(RequestFault::NotUnderstood),
+        },
+    }
+}
+
 /// The number that the value of an option is, in its range.
 pub fn needed_number(
     values: &Values<'_>,
@@ -108,13 +125,7 @@ pub fn needed_number(
     ensures low { IfOk result (λ n. low ≤ n) }
     ensures high { IfOk result (λ n. n ≤ high) }
 {
-    match values.option(name) {
-        None => Err(RequestFault::NotUnderstood),
-        Some(text) => match read_number(text, low, high) {
-            Some(number) => Ok(number),
-            None => Err(RequestFault::NotUnderstood),
-        },
-    }
+    number_of(values.option(name), low, high)
 }
 
 /// The number that the word of a positional is, in its range.
@@ -129,13 +140,7 @@ pub fn number_word(
         → (n : ℕ) → IsNeededNumber (word_of row uses name.now) low high n → ⊥ }
     ensures memory { IsErrOf result RequestFault.NoMemory → ⊥ }
 {
-    match values.word(name) {
-        None => Err(RequestFault::NotUnderstood),
-        Some(text) => match read_number(text, low, high) {
-            Some(number) => Ok(number),
-            None => Err(RequestFault::NotUnderstood),
-        },
-    }
+    number_of(values.word(name), low, high)
 }
 
 /// The number that the value of an option is, in its range; the default where it isn't given.
@@ -156,10 +161,7 @@ pub fn number_or(
 {
     match values.option(name) {
         None => Ok(default),
-        Some(text) => match read_number(text, low, high) {
-            Some(number) => Ok(number),
-            None => Err(RequestFault::NotUnderstood),
-        },
+        Some(text) => number_of(Some(text), low, high),
     }
 }
 
