@@ -6,7 +6,7 @@ ghost use Rattle.word_lists.specs.Views.{names_in};
 ghost use Rattle.adjust_command.specs.Queries.{query_of, query_for, HasRange};
 
 use crate::query::Query;
-use request_values::{RequestFault, listed_names, needed_word, number_or};
+use request_values::{RequestFault, Subject, listed_names, number_or};
 use std::alloc::Global;
 use word_forms::Entry;
 use word_values::Values;
@@ -41,29 +41,12 @@ impl<'a> Request<'a> {
         ensures ok { (uses : List Use) → HoldsCall adjust_row uses values.now → IfOk result (λ r. IsRequest uses (request_of r)) }
         ensures none { (uses : List Use) → HoldsCall adjust_row uses values.now → IsErrOf result RequestFault.NotUnderstood → AsksNothing adjust_command uses }
     {
-        let file = match needed_word(values, "file") {
-            Ok(file) => file,
-            Err(fault) => return Err(fault),
-        };
-        let most = match number_or(values, "most", 100, 1, 10_000) {
-            Ok(most) => most,
-            Err(fault) => return Err(fault),
-        };
+        let Subject { file, x, y } = Subject::read(alloc, values)?;
+        let most = number_or(values, "most", 100, 1, 10_000)?;
         let back_door = values.flag("back-door");
-        let set = match listed_names(alloc, values, "set") {
-            Ok(set) => set,
-            Err(fault) => return Err(fault),
-        };
+        let set = listed_names(alloc, values, "set")?;
         let Some(query) = query_from(set, back_door, most as u32) else {
             return Err(RequestFault::NotUnderstood);
-        };
-        let x = match listed_names(alloc, values, "x") {
-            Ok(x) => x,
-            Err(fault) => return Err(fault),
-        };
-        let y = match listed_names(alloc, values, "y") {
-            Ok(y) => y,
-            Err(fault) => return Err(fault),
         };
         Ok(Request { file, x, y, query })
     }

@@ -2,7 +2,7 @@ ghost use Rattle.std.specs.Prelude.{◌≡◌, List, IfOk, IsErrOf};
 ghost use Rattle.word_forms.specs.Form.{Use};
 ghost use Rattle.word_values.specs.Gives.{HoldsCall};
 
-use request_values::{RequestFault, are_both_standard, needed_word};
+use request_values::{RequestFault, needed_word, second_input};
 use word_forms::Entry;
 use word_values::Values;
 
@@ -33,17 +33,8 @@ impl<'a> Request<'a> {
         ensures ok { (uses : List Use) → HoldsCall check_row uses values.now → IfOk result (λ r. IsRequest uses (request_of r)) }
         ensures none { (uses : List Use) → HoldsCall check_row uses values.now → IsErrOf result RequestFault.NotUnderstood → AsksNothing check_command uses }
     {
-        let file = match needed_word(values, "file") {
-            Ok(file) => file,
-            Err(fault) => return Err(fault),
-        };
-        let certificate = match needed_word(values, "certificate") {
-            Ok(certificate) => certificate,
-            Err(fault) => return Err(fault),
-        };
-        if are_both_standard(file, certificate) {
-            return Err(RequestFault::NotUnderstood);
-        }
+        let file = needed_word(values, "file")?;
+        let certificate = second_input(values, file, "certificate")?;
         Ok(Request { file, certificate })
     }
 }

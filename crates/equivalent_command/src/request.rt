@@ -3,7 +3,7 @@ ghost use Rattle.word_forms.specs.Form.{Use, is_among, value_names, value_of};
 ghost use Rattle.word_values.specs.Gives.{HoldsCall};
 ghost use Rattle.equivalent_command.specs.Requests.{Query as AskedQuery, equivalent_row, query_of, IsQuery};
 
-use request_values::{RequestFault, are_both_standard, names_or_empty, needed_names, needed_word};
+use request_values::{RequestFault, names_or_empty, needed_names, needed_word, second_input};
 use std::alloc::Global;
 use word_forms::Entry;
 use word_values::Values;
@@ -74,18 +74,9 @@ fn read_query(alloc: Global, values: &Values<'_>) -> Result<Option<Query>, Reque
     if has_no_list(values) {
         return Ok(None);
     }
-    let x = match needed_names(alloc, values, "x") {
-        Ok(x) => x,
-        Err(fault) => return Err(fault),
-    };
-    let y = match needed_names(alloc, values, "y") {
-        Ok(y) => y,
-        Err(fault) => return Err(fault),
-    };
-    let given = match names_or_empty(alloc, values, "given") {
-        Ok(given) => given,
-        Err(fault) => return Err(fault),
-    };
+    let x = needed_names(alloc, values, "x")?;
+    let y = needed_names(alloc, values, "y")?;
+    let given = names_or_empty(alloc, values, "given")?;
     Ok(Some(Query { x, y, given }))
 }
 
@@ -99,21 +90,9 @@ impl<'a> Request<'a> {
         ensures ok { (uses : List Use) → HoldsCall equivalent_row uses values.now → IfOk result (λ r. IsRequest uses (request_of r)) }
         ensures none { (uses : List Use) → HoldsCall equivalent_row uses values.now → IsErrOf result RequestFault.NotUnderstood → AsksNothing equivalent_command uses }
     {
-        let file = match needed_word(values, "file") {
-            Ok(file) => file,
-            Err(fault) => return Err(fault),
-        };
-        let second = match needed_word(values, "second") {
-            Ok(second) => second,
-            Err(fault) => return Err(fault),
-        };
-        if are_both_standard(file, second) {
-            return Err(RequestFault::NotUnderstood);
-        }
-        let query = match read_query(alloc, values) {
-            Ok(query) => query,
-            Err(fault) => return Err(fault),
-        };
+        let file = needed_word(values, "file")?;
+        let second = second_input(values, file, "second")?;
+        let query = read_query(alloc, values)?;
         Ok(Request {
             file,
             second,

@@ -1,9 +1,8 @@
 ghost use Rattle.std.specs.Prelude.{◌≡◌, List, IfOk, IsErrOf};
 ghost use Rattle.word_forms.specs.Form.{Use};
 ghost use Rattle.word_values.specs.Gives.{HoldsCall};
-ghost use Rattle.std.specs.Prelude.{option_map};
 
-use request_values::{RequestFault, are_both_standard, listed_names, needed_word};
+use request_values::{RequestFault, Subject, second_input, value_bytes};
 use std::alloc::Global;
 use word_forms::Entry;
 use word_values::Values;
@@ -39,26 +38,9 @@ impl<'a> Request<'a> {
         ensures ok { (uses : List Use) → HoldsCall evaluate_row uses values.now → IfOk result (λ r. IsRequest uses (request_of r)) }
         ensures none { (uses : List Use) → HoldsCall evaluate_row uses values.now → IsErrOf result RequestFault.NotUnderstood → AsksNothing evaluate_command uses }
     {
-        let file = match needed_word(values, "file") {
-            Ok(file) => file,
-            Err(fault) => return Err(fault),
-        };
-        let counts = match needed_word(values, "counts") {
-            Ok(counts) => counts,
-            Err(fault) => return Err(fault),
-        };
-        if are_both_standard(file, counts) {
-            return Err(RequestFault::NotUnderstood);
-        }
-        let x = match listed_names(alloc, values, "x") {
-            Ok(x) => x,
-            Err(fault) => return Err(fault),
-        };
-        let y = match listed_names(alloc, values, "y") {
-            Ok(y) => y,
-            Err(fault) => return Err(fault),
-        };
-        let count = bytes_of(values.option("count"));
+        let Subject { file, x, y } = Subject::read(alloc, values)?;
+        let counts = second_input(values, file, "counts")?;
+        let count = value_bytes(values, "count");
         let exact = values.flag("exact");
         Ok(Request {
             file,
@@ -68,15 +50,5 @@ impl<'a> Request<'a> {
             count,
             exact,
         })
-    }
-}
-
-/// The bytes of a text, where it is given.
-fn bytes_of<'a>(text: Option<&'a str>) -> Option<&'a [u8]>
-    ensures { option_map (λ s. s.now) result ≡ option_map (λ s. s.now) text.entry }
-{
-    match text {
-        Some(text) => Some(text.as_bytes()),
-        None => None,
     }
 }

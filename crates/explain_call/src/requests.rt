@@ -8,7 +8,7 @@ ghost use Rattle.word_values.specs.Readable.{IsReadable};
 ghost use Rattle.explain_call.specs.Requests.{row_for, table, kind_of, IsRequest, AsksNothing, Asks, request_of};
 ghost use Rattle.explain_call.specs.Requests as asked;
 
-use request_values::{RequestFault, listed_names, needed_names, needed_word};
+use request_values::{RequestFault, Subject, needed_names, needed_word};
 use std::alloc::Global;
 use word_forms::Entry;
 use word_values::{Values, Words, read_words};
@@ -59,14 +59,8 @@ impl<'a> StepsRequest<'a> {
         ensures ok { (uses : List Use) → HoldsCall steps_row uses values.now → IfOk result (λ r. IsSteps uses (steps_of r)) }
         ensures none { (uses : List Use) → HoldsCall steps_row uses values.now → IsErrOf result RequestFault.NotUnderstood → (r : AskedSteps) → IsSteps uses r → ⊥ }
     {
-        let file = match needed_word(values, "file") {
-            Ok(file) => file,
-            Err(fault) => return Err(fault),
-        };
-        let certificate = match needed_word(values, "certificate") {
-            Ok(certificate) => certificate,
-            Err(fault) => return Err(fault),
-        };
+        let file = needed_word(values, "file")?;
+        let certificate = needed_word(values, "certificate")?;
         let graphs = values.flag("graphs");
         Ok(StepsRequest {
             file,
@@ -94,22 +88,8 @@ impl<'a> FormulaRequest<'a> {
         ensures ok { (uses : List Use) → HoldsCall formula_row uses values.now → IfOk result (λ r. IsFormula uses (formula_of r)) }
         ensures none { (uses : List Use) → HoldsCall formula_row uses values.now → IsErrOf result RequestFault.NotUnderstood → (r : AskedFormula) → IsFormula uses r → ⊥ }
     {
-        let file = match needed_word(values, "file") {
-            Ok(file) => file,
-            Err(fault) => return Err(fault),
-        };
-        let set = match needed_names(alloc, values, "set") {
-            Ok(set) => set,
-            Err(fault) => return Err(fault),
-        };
-        let x = match listed_names(alloc, values, "x") {
-            Ok(x) => x,
-            Err(fault) => return Err(fault),
-        };
-        let y = match listed_names(alloc, values, "y") {
-            Ok(y) => y,
-            Err(fault) => return Err(fault),
-        };
+        let Subject { file, x, y } = Subject::read(alloc, values)?;
+        let set = needed_names(alloc, values, "set")?;
         let back_door = values.flag("back-door");
         Ok(FormulaRequest {
             file,

@@ -33,10 +33,7 @@ impl<'a> Request<'a> {
         ensures ok { (uses : List Use) → HoldsCall graph_row uses values.now → IfOk result (λ r. IsRequest uses (request_of r)) }
         ensures none { (uses : List Use) → HoldsCall graph_row uses values.now → IsErrOf result RequestFault.NotUnderstood → AsksNothing graph_command uses }
     {
-        let file = match needed_word(values, "file") {
-            Ok(file) => file,
-            Err(fault) => return Err(fault),
-        };
+        let file = needed_word(values, "file")?;
         let project = values.flag("project");
         Ok(Request { file, project })
     }

@@ -6,7 +6,7 @@ ghost use Rattle.identify_command.specs.Forms.{IsForm};
 ghost use Rattle.identify_command.specs.declared.form.Form as asked;
 
 use crate::form::Form;
-use request_values::{RequestFault, listed_names, needed_word};
+use request_values::{RequestFault, Subject, listed_names};
 use std::alloc::Global;
 use word_forms::Entry;
 use word_values::Values;
@@ -46,22 +46,8 @@ impl<'a> Request<'a> {
         let Some(form) = read_form(certificate, latex) else {
             return Err(RequestFault::NotUnderstood);
         };
-        let file = match needed_word(values, "file") {
-            Ok(file) => file,
-            Err(fault) => return Err(fault),
-        };
-        let x = match listed_names(alloc, values, "x") {
-            Ok(x) => x,
-            Err(fault) => return Err(fault),
-        };
-        let y = match listed_names(alloc, values, "y") {
-            Ok(y) => y,
-            Err(fault) => return Err(fault),
-        };
-        let given = match listed_names(alloc, values, "given") {
-            Ok(given) => given,
-            Err(fault) => return Err(fault),
-        };
+        let Subject { file, x, y } = Subject::read(alloc, values)?;
+        let given = listed_names(alloc, values, "given")?;
         Ok(Request {
             file,
             x,

@@ -3,7 +3,7 @@ ghost use Rattle.word_forms.specs.Form.{Use};
 ghost use Rattle.word_values.specs.Gives.{HoldsCall};
 ghost use Rattle.implications_command.specs.Requests.{AreInputs};
 
-use request_values::{RequestFault, are_both_standard, needed_word};
+use request_values::{RequestFault, are_both_standard, needed_word, value_bytes};
 use word_forms::Entry;
 use word_values::Values;
 
@@ -35,12 +35,9 @@ impl<'a> Request<'a> {
         ensures ok { (uses : List Use) → HoldsCall implications_row uses values.now → IfOk result (λ r. IsRequest uses (request_of r)) }
         ensures none { (uses : List Use) → HoldsCall implications_row uses values.now → IsErrOf result RequestFault.NotUnderstood → AsksNothing implications_command uses }
     {
-        let file = match needed_word(values, "file") {
-            Ok(file) => file,
-            Err(fault) => return Err(fault),
-        };
+        let file = needed_word(values, "file")?;
         let counts = values.word("counts");
-        let count = bytes_of(values.option("count"));
+        let count = value_bytes(values, "count");
         if !are_inputs(file, counts, count) {
             return Err(RequestFault::NotUnderstood);
         }
@@ -60,15 +57,5 @@ fn are_inputs(file: &str, counts: Option<&str>, count: Option<&[u8]>) -> bool
     match counts {
         Some(counts) => !are_both_standard(file, counts),
         None => count.is_none(),
-    }
-}
-
-/// The bytes of a text, where it is given.
-fn bytes_of<'a>(text: Option<&'a str>) -> Option<&'a [u8]>
-    ensures { option_map (λ s. s.now) result ≡ option_map (λ s. s.now) text.entry }
-{
-    match text {
-        Some(text) => Some(text.as_bytes()),
-        None => None,
     }
 }

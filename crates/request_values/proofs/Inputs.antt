@@ -1,11 +1,13 @@
--- Two inputs that are both standard input are those of no request.
+-- Two inputs stay two where a word of them is named again.
 use Rattle.std.proofs.Common.{◌≡◌, ◌∙◌, Option, Some, sym, subst}
+use Rattle.std.proofs.lemmas.Option.{same_Some}
 use Rattle.word_forms.specs.Form.{Text}
 use Rattle.request_values.specs.Values.{AreTwoInputs}
 
-same_word : (o : Option Text) (a b : Text) → o ≡ Some a → o ≡ Some b → b ≡ a
-same_word o a b p q = let e : Some b ≡ Some a = sym q ∙ p in cc e
+-- where the same value is the file, the two are two inputs with it
+pub with_file : (o : Option Text) (f file second : Text) → o ≡ Some f → o ≡ Some file → AreTwoInputs f second → AreTwoInputs file second
+with_file o f file second p q = subst (λ x. AreTwoInputs x second) (same_Some f file (sym p ∙ q))
 
--- where two words aren't two inputs, the words that the same options hold aren't either
-pub not_two : (o p : Option Text) (f s file second : Text) → o ≡ Some f → p ≡ Some s → o ≡ Some file → p ≡ Some second → (AreTwoInputs f s → ⊥) → AreTwoInputs file second → ⊥
-not_two o p f s file second a b c d never two = never (subst (λ x. AreTwoInputs x s) (same_word o f file a c) (subst (λ y. AreTwoInputs file y) (same_word p s second b d) two))
+-- so where the same value is the second input
+pub with_second : (o : Option Text) (file s second : Text) → o ≡ Some s → o ≡ Some second → AreTwoInputs file s → AreTwoInputs file second
+with_second o file s second p q = subst (λ y. AreTwoInputs file y) (same_Some s second (sym p ∙ q))

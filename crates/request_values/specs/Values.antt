@@ -1,6 +1,6 @@
 -- What the values of words give a request.
-use Rattle.std.specs.Prelude.{ℕ, ◌≡◌, List, [], Option, Some, None, codes}
-use Rattle.word_forms.specs.Form.{Text}
+use Rattle.std.specs.Prelude.{ℕ, ◌≡◌, true, List, [], Option, Some, None, codes}
+use Rattle.word_forms.specs.Form.{Text, Row, Use, is_among, positional_names, value_names, word_of, value_of}
 use Rattle.word_lists.specs.Lists.{IsList}
 use Rattle.word_lists.specs.Numbers.{IsNumber}
 
@@ -34,3 +34,13 @@ IsNumberOr default (Some text) low high number = IsNumber text low high number
 -- the two inputs aren't both standard input
 abbrev pub AreTwoInputs : Text → Text → Type 0
 AreTwoInputs file second = file ≡ codes "-" → second ≡ codes "-" → ⊥
+
+-- the row has the positional and the two options of a subject
+abbrev pub HasSubject : Row → Type 0
+HasSubject row = (is_among (positional_names row) (codes "file") ≡ true) × (is_among (value_names row) (codes "x") ≡ true) × (is_among (value_names row) (codes "y") ≡ true)
+
+-- the uses name what a question is about: the file, and the lists x and y where they are given
+pub record IsSubject (row : Row) (uses : List Use) (file : Text) (x y : Option (List (List ℕ))) : Type 0 where
+  pub is_file : word_of row uses (codes "file") ≡ Some file
+  pub is_x : IsListed (value_of uses (codes "x")) x
+  pub is_y : IsListed (value_of uses (codes "y")) y

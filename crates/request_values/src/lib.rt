@@ -4,8 +4,9 @@
 ghost use Rattle.std.specs.Prelude.{◌≡◌, ◌≤◌, ℕ, List, Option, Some, true, false, IfOk, IsErrOf, IsTrue, option_map};
 ghost use Rattle.word_forms.specs.Form.{Text, Row, Use, is_among, value_names, positional_names, value_of, word_of};
 ghost use Rattle.word_values.specs.Gives.{HoldsCall};
+ghost use Rattle.word_lists.specs.Lists.{IsList};
 ghost use Rattle.word_lists.specs.Views.{names_in};
-ghost use Rattle.request_values.specs.Values.{IsListed, IsListedOrEmpty, IsNeededList, IsNeededNumber, IsNumberOr, AreTwoInputs};
+ghost use Rattle.request_values.specs.Values.{IsListed, IsListedOrEmpty, IsNeededList, IsNeededNumber, IsNumberOr, AreTwoInputs, HasSubject, IsSubject};
 
 use std::alloc::Global;
 use word_lists::{read_list, read_number};
@@ -33,6 +34,18 @@ pub fn needed_word<'a>(values: &Values<'a>, name: &str) -> Result<&'a str, Reque
     }
 }
 
+/// The names that a text lists.
+fn names_of(alloc: Global, text: &str) -> Result<Vec<Vec<u8>>, RequestFault>
+    ensures ok { IfOk result (λ names. IsList text.now (names_in names)) }
+    ensures none { IsErrOf result RequestFault.NotUnderstood → (names : List (List ℕ)) → IsList text.now names → ⊥ }
+{
+    match read_list(alloc, text) {
+        Ok(Some(names)) => Ok(names),
+        Ok(None) => Err(RequestFault::NotUnderstood),
+        Err(_) => Err(RequestFault::NoMemory),
+    }
+}
+
 /// The names that the value of an option lists, where it is given.
 pub fn listed_names(
     alloc: Global,
@@ -43,14 +56,11 @@ pub fn listed_names(
     ensures none { (row : Row) (uses : List Use) → HoldsCall row uses values.now → is_among (value_names row) name.now ≡ true → IsErrOf result RequestFault.NotUnderstood
         → (names : Option (List (List ℕ))) → IsListed (value_of uses name.now) names → ⊥ }
 {
-    match values.option(name) {
-        None => Ok(None),
-        Some(text) => match read_list(alloc, text) {
-            Ok(Some(names)) => Ok(Some(names)),
-            Ok(None) => Err(RequestFault::NotUnderstood),
-            Err(_) => Err(RequestFault::NoMemory),
-        },
-    }
+    let Some(text) = values.option(name) else {
+        return Ok(None);
+    };
+    let names = names_of(alloc, text)?;
+    Ok(Some(names))
 }
 
 /// The names that the value of an option lists; none where it isn't given.
@@ -65,11 +75,7 @@ pub fn names_or_empty(
 {
     match values.option(name) {
         None => Ok(Vec::new(alloc)),
-        Some(text) => match read_list(alloc, text) {
-            Ok(Some(names)) => Ok(names),
-            Ok(None) => Err(RequestFault::NotUnderstood),
-            Err(_) => Err(RequestFault::NoMemory),
-        },
+        Some(text) => names_of(alloc, text),
     }
 }
 
@@ -85,10 +91,23 @@ pub fn needed_names(
 {
     match values.option(name) {
         None => Err(RequestFault::NotUnderstood),
-        Some(text) => match read_list(alloc, text) {
-            Ok(Some(names)) => Ok(names),
-            Ok(None) => Err(RequestFault::NotUnderstood),
-            Err(_) => Err(RequestFault::NoMemory),
+        Some(text) => names_of(alloc, text),
+    }
+}
+
+/// The number that a text is, in its range, where there is a text.
+fn number_of(text: Option<&str>, low: u64, high: u64) -> Result<u64, RequestFault>
+    ensures ok { IfOk result (λ n. IsNeededNumber (option_map (λ s. s.now) text.entry) low high n) }
+    ensures none { IsErrOf result RequestFault.NotUnderstood → (n : ℕ) → IsNeededNumber (option_map (λ s. s.now) text.entry) low high n → ⊥ }
+    ensures low { IfOk result (λ n. low ≤ n) }
+    ensures high { IfOk result (λ n. n ≤ high) }
+    ensures memory { IsErrOf result RequestFault.NoMemory → ⊥ }
+{
+    match text {
+        None => Err(RequestFault::NotUnderstood),
+        Some(text) => match read_number(text, low, high) {
+            Some(number) => Ok(number),
+            None => Err(RequestFault::NotUnderstood),
         },
     }
 }
@@ -106,13 +125,7 @@ pub fn needed_number(
     ensures low { IfOk result (λ n. low ≤ n) }
     ensures high { IfOk result (λ n. n ≤ high) }
 {
-    match values.option(name) {
-        None => Err(RequestFault::NotUnderstood),
-        Some(text) => match read_number(text, low, high) {
-            Some(number) => Ok(number),
-            None => Err(RequestFault::NotUnderstood),
-        },
-    }
+    number_of(values.option(name), low, high)
 }
 
 /// The number that the word of a positional is, in its range.
@@ -127,13 +140,7 @@ pub fn number_word(
         → (n : ℕ) → IsNeededNumber (word_of row uses name.now) low high n → ⊥ }
     ensures memory { IsErrOf result RequestFault.NoMemory → ⊥ }
 {
-    match values.word(name) {
-        None => Err(RequestFault::NotUnderstood),
-        Some(text) => match read_number(text, low, high) {
-            Some(number) => Ok(number),
-            None => Err(RequestFault::NotUnderstood),
-        },
-    }
+    number_of(values.word(name), low, high)
 }
 
 /// The number that the value of an option is, in its range; the default where it isn't given.
@@ -154,10 +161,7 @@ pub fn number_or(
 {
     match values.option(name) {
         None => Ok(default),
-        Some(text) => match read_number(text, low, high) {
-            Some(number) => Ok(number),
-            None => Err(RequestFault::NotUnderstood),
-        },
+        Some(text) => number_of(Some(text), low, high),
     }
 }
 
@@ -167,4 +171,55 @@ pub fn are_both_standard(file: &str, second: &str) -> bool
     ensures no { result ≡ false → AreTwoInputs file.now second.now }
 {
     file == "-" && second == "-"
+}
+
+/// The word of a second input, which isn't standard input where the file is.
+pub fn second_input<'a>(
+    values: &Values<'a>,
+    file: &str,
+    name: &str,
+) -> Result<&'a str, RequestFault>
+    ensures ok { (row : Row) (uses : List Use) → HoldsCall row uses values.now → is_among (positional_names row) name.now ≡ true → IfOk result (λ s. word_of row uses name.now ≡ Some s.now) }
+    ensures inputs { IfOk result (λ s. AreTwoInputs file.now s.now) }
+    ensures none { (row : Row) (uses : List Use) → HoldsCall row uses values.now → is_among (positional_names row) name.now ≡ true → IsErrOf result RequestFault.NotUnderstood
+        → (text : Text) → word_of row uses name.now ≡ Some text → AreTwoInputs file.now text → ⊥ }
+    ensures memory { IsErrOf result RequestFault.NoMemory → ⊥ }
+{
+    let second = needed_word(values, name)?;
+    if are_both_standard(file, second) {
+        return Err(RequestFault::NotUnderstood);
+    }
+    Ok(second)
+}
+
+/// The bytes of the value of an option, where it is given.
+pub fn value_bytes<'a>(values: &Values<'a>, name: &str) -> Option<&'a [u8]>
+    ensures { (row : Row) (uses : List Use) → HoldsCall row uses values.now → is_among (value_names row) name.now ≡ true → option_map (λ s. s.now) result ≡ value_of uses name.now }
+{
+    match values.option(name) {
+        Some(text) => Some(text.as_bytes()),
+        None => None,
+    }
+}
+
+/// What a question is about: the file, and the lists x and y where they are given.
+#[derive(Drop)]
+pub struct Subject<'a> {
+    pub file: &'a str,
+    pub x: Option<Vec<Vec<u8>>>,
+    pub y: Option<Vec<Vec<u8>>>,
+}
+
+impl<'a> Subject<'a> {
+    /// The subject that the words name, exactly where their values are what they have to be.
+    pub fn read(alloc: Global, values: &Values<'a>) -> Result<Self, RequestFault>
+        ensures ok { (row : Row) (uses : List Use) → HoldsCall row uses values.now → HasSubject row → IfOk result (λ s. IsSubject row uses s.file.now (option_map names_in s.x) (option_map names_in s.y)) }
+        ensures none { (row : Row) (uses : List Use) → HoldsCall row uses values.now → HasSubject row → IsErrOf result RequestFault.NotUnderstood
+            → (file : Text) (x y : Option (List (List ℕ))) → IsSubject row uses file x y → ⊥ }
+    {
+        let file = needed_word(values, "file")?;
+        let x = listed_names(alloc, values, "x")?;
+        let y = listed_names(alloc, values, "y")?;
+        Ok(Subject { file, x, y })
+    }
 }

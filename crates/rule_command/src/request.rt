@@ -39,30 +39,12 @@ impl<'a> Request<'a> {
         ensures ok { (uses : List Use) → HoldsCall rule_row uses values.now → IfOk result (λ r. IsRequest uses (request_of r)) }
         ensures none { (uses : List Use) → HoldsCall rule_row uses values.now → IsErrOf result RequestFault.NotUnderstood → AsksNothing rule_command uses }
     {
-        let file = match needed_word(values, "file") {
-            Ok(file) => file,
-            Err(fault) => return Err(fault),
-        };
-        let number = match needed_number(values, "rule", 1, 3) {
-            Ok(number) => number,
-            Err(fault) => return Err(fault),
-        };
-        let y = match needed_names(alloc, values, "y") {
-            Ok(y) => y,
-            Err(fault) => return Err(fault),
-        };
-        let done = match names_or_empty(alloc, values, "do") {
-            Ok(done) => done,
-            Err(fault) => return Err(fault),
-        };
-        let z = match needed_names(alloc, values, "z") {
-            Ok(z) => z,
-            Err(fault) => return Err(fault),
-        };
-        let given = match names_or_empty(alloc, values, "given") {
-            Ok(given) => given,
-            Err(fault) => return Err(fault),
-        };
+        let file = needed_word(values, "file")?;
+        let number = needed_number(values, "rule", 1, 3)?;
+        let y = needed_names(alloc, values, "y")?;
+        let done = names_or_empty(alloc, values, "do")?;
+        let z = needed_names(alloc, values, "z")?;
+        let given = names_or_empty(alloc, values, "given")?;
         Ok(Request {
             file,
             rule: Rule::of(number),

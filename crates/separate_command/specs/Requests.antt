@@ -1,6 +1,6 @@
 -- What `separate` is asked for.
-use Rattle.std.specs.Prelude.{◌≡◌, Bool, List, Option, Some, [], ◌∷◌, codes, option_map}
-use Rattle.word_forms.specs.Form.{Text, Row, Use, word_of, value_of, has_flag}
+use Rattle.std.specs.Prelude.{◌≡◌, List, Some, [], ◌∷◌, codes, option_map}
+use Rattle.word_forms.specs.Form.{Text, Row, Use, word_of, value_of}
 use Rattle.request_values.specs.Values as values
 use Rattle.replies.specs.Observed.{Names}
 use Rattle.word_lists.specs.Views.{names_in}

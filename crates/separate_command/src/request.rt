@@ -2,7 +2,7 @@ ghost use Rattle.std.specs.Prelude.{◌≡◌, List, IfOk, IsErrOf};
 ghost use Rattle.word_forms.specs.Form.{Use};
 ghost use Rattle.word_values.specs.Gives.{HoldsCall};
 
-use request_values::{RequestFault, listed_names, needed_word};
+use request_values::{RequestFault, Subject, listed_names};
 use std::alloc::Global;
 use word_forms::Entry;
 use word_values::Values;
@@ -36,22 +36,8 @@ impl<'a> Request<'a> {
         ensures ok { (uses : List Use) → HoldsCall separate_row uses values.now → IfOk result (λ r. IsRequest uses (request_of r)) }
         ensures none { (uses : List Use) → HoldsCall separate_row uses values.now → IsErrOf result RequestFault.NotUnderstood → AsksNothing separate_command uses }
     {
-        let file = match needed_word(values, "file") {
-            Ok(file) => file,
-            Err(fault) => return Err(fault),
-        };
-        let x = match listed_names(alloc, values, "x") {
-            Ok(x) => x,
-            Err(fault) => return Err(fault),
-        };
-        let y = match listed_names(alloc, values, "y") {
-            Ok(y) => y,
-            Err(fault) => return Err(fault),
-        };
-        let given = match listed_names(alloc, values, "given") {
-            Ok(given) => given,
-            Err(fault) => return Err(fault),
-        };
+        let Subject { file, x, y } = Subject::read(alloc, values)?;
+        let given = listed_names(alloc, values, "given")?;
         Ok(Request { file, x, y, given })
     }
 }

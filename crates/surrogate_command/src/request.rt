@@ -5,7 +5,7 @@ ghost use Rattle.surrogate_command.specs.Experiments.{AreFilled, AreNeededExperi
 ghost use Rattle.surrogate_command.specs.Views.{lists_in};
 
 use crate::experiments::read_experiments;
-use request_values::{RequestFault, listed_names, needed_word};
+use request_values::{RequestFault, Subject};
 use std::alloc::Global;
 use word_forms::Entry;
 use word_values::Values;
@@ -40,22 +40,8 @@ impl<'a> Request<'a> {
         ensures ok { (uses : List Use) → HoldsCall surrogate_row uses values.now → IfOk result (λ r. IsRequest uses (request_of r)) }
         ensures none { (uses : List Use) → HoldsCall surrogate_row uses values.now → IsErrOf result RequestFault.NotUnderstood → AsksNothing surrogate_command uses }
     {
-        let file = match needed_word(values, "file") {
-            Ok(file) => file,
-            Err(fault) => return Err(fault),
-        };
-        let x = match listed_names(alloc, values, "x") {
-            Ok(x) => x,
-            Err(fault) => return Err(fault),
-        };
-        let y = match listed_names(alloc, values, "y") {
-            Ok(y) => y,
-            Err(fault) => return Err(fault),
-        };
-        let experiments = match needed_experiments(alloc, values, "experiments") {
-            Ok(experiments) => experiments,
-            Err(fault) => return Err(fault),
-        };
+        let Subject { file, x, y } = Subject::read(alloc, values)?;
+        let experiments = needed_experiments(alloc, values, "experiments")?;
         Ok(Request {
             file,
             x,

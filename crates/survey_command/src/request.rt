@@ -32,10 +32,7 @@ impl Request {
         ensures ok { (uses : List Use) → HoldsCall survey_row uses values.now → IfOk result (λ r. IsRequest uses (request_of r)) }
         ensures none { (uses : List Use) → HoldsCall survey_row uses values.now → IsErrOf result RequestFault.NotUnderstood → AsksNothing survey_command uses }
     {
-        let seed = match number_word(values, "number", 0, u64::MAX) {
-            Ok(seed) => seed,
-            Err(fault) => return Err(fault),
-        };
+        let seed = number_word(values, "number", 0, u64::MAX)?;
         Ok(Request { seed })
     }
 }

@@ -1,18 +1,15 @@
-use Rattle.std.proofs.Common.{Option, Some, None, sym, subst, ap, map}
+use Rattle.std.proofs.Common.{Some, None, sym, subst, rules}
 use Rattle.word_lists.specs.Views.{names_in}
 use Rattle.request_values.specs.Values.{IsListed}
 use Rattle.request_values.proofs.Found.{not_listed}
 use Rattle.request_values.proofs.listed_names.Goals as goal
 
-pub returns-in-None-clause-ok : goal.returns-in-None-clause-ok
-returns-in-None-clause-ok c = λ row uses g known. subst (λ o. IsListed o None) (c.in-None.ensures row uses g known) tt
+pub returns-in_default-clause-ok : goal.returns-in_default-clause-ok
+returns-in_default-clause-ok c = λ row uses g known. subst (λ o. IsListed o None) (c.in_default.ensures row uses g known) tt
 
-pub returns-in-Ok-Some-clause-ok : goal.returns-in-Ok-Some-clause-ok
-returns-in-Ok-Some-clause-ok c = λ row uses g known.
-    let list = rw c.in-Ok-Some.field-0-is at c.in-Ok-Some.ensures.list in
-    subst (λ o. IsListed o (Some (names_in c.in-Ok-Some.names))) (c.in-Some.ensures row uses g known) list
+pub returns-in_err-names-clause-none : goal.returns-in_err-names-clause-none
+returns-in_err-names-clause-none c = λ row uses g known e names h.
+    not_listed c.in-Some.text.now (c.in_err-names.ensures.none (search rules)) names (subst (λ o. IsListed o names) (sym (c.in-Some.ensures row uses g known)) h)
 
-pub returns-in-Ok-None-clause-none : goal.returns-in-Ok-None-clause-none
-returns-in-Ok-None-clause-none c = λ row uses g known e names h.
-    let none = rw c.in-Ok-None.field-0-is at c.in-Ok-None.ensures.none in
-    not_listed c.in-Some.text.now none names (subst (λ o. IsListed o names) (sym (c.in-Some.ensures row uses g known)) h)
+pub returns-clause-ok : goal.returns-clause-ok
+returns-clause-ok c = λ row uses g known. subst (λ o. IsListed o (Some (names_in c.in_ok-names.names))) (c.in-Some.ensures row uses g known) c.in_ok-names.ensures.ok

@@ -1,14 +1,10 @@
 use Rattle.std.proofs.Common.{sym, subst}
+use Rattle.std.specs.Prelude.{IfOk}
 use Rattle.request_values.specs.Values.{IsNeededNumber}
 use Rattle.request_values.proofs.needed_number.Goals as goal
 
-pub returns-in-None-clause-none : goal.returns-in-None-clause-none
-returns-in-None-clause-none c = λ row uses g known e n h. subst (λ o. IsNeededNumber o c.args.low c.args.high n) (sym (c.in-None.ensures row uses g known)) h
+pub returns-clause-ok : goal.returns-clause-ok
+returns-clause-ok c = λ row uses g known. subst (λ o. IfOk c.number_of.result (IsNeededNumber o c.args.low c.args.high)) (c.option.ensures row uses g known) c.number_of.ensures.ok
 
-pub returns-in-Some-read_number-clause-ok : goal.returns-in-Some-read_number-clause-ok
-returns-in-Some-read_number-clause-ok c = λ row uses g known.
-    subst (λ o. IsNeededNumber o c.args.low c.args.high c.in-Some-read_number.number) (c.in-Some.ensures row uses g known) c.in-Some-read_number.ensures.number
-
-pub returns-in-None-read_number-clause-none : goal.returns-in-None-read_number-clause-none
-returns-in-None-read_number-clause-none c = λ row uses g known e n h.
-    c.in-None-read_number.ensures.none n (subst (λ o. IsNeededNumber o c.args.low c.args.high n) (sym (c.in-Some.ensures row uses g known)) h)
+pub returns-clause-none : goal.returns-clause-none
+returns-clause-none c = λ row uses g known e n h. c.number_of.ensures.none e n (subst (λ o. IsNeededNumber o c.args.low c.args.high n) (sym (c.option.ensures row uses g known)) h)
