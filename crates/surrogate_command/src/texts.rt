@@ -3,12 +3,12 @@
 ghost use Rattle.std.specs.Prelude.{◌≡◌, ◌++◌, OnOk, IfOk, length};
 ghost use Rattle.mixed_graph.specs.Bits.{has};
 ghost use Rattle.mixed_graph.specs.Sets.{Within};
-ghost use Rattle.identify_text.specs.HedgeLines.{sets_line};
 ghost use Rattle.surrogate_command.specs.Lines.{unfound_line, district_line, stop_answer};
 
 use answer_text::push_set;
 use expr_text::target_text;
 use hedge::Hedge;
+use identify_text::push_hedge_sets;
 use mixed_graph::{Names, VSet};
 use prob_expr::Target;
 use std::alloc::{AllocError, Global};
@@ -40,23 +40,6 @@ fn push_district(out: &mut Vec<u8>, names: &Names, district: VSet) -> Result<(),
     Ok(())
 }
 
-/// Appends the line of a hedge's sets.
-fn push_sets(out: &mut Vec<u8>, names: &Names, h: &Hedge) -> Result<(), AllocError>
-    requires big { Within (length names.now) (has h.now.big.bits) }
-    requires small { Within (length names.now) (has h.now.small.bits) }
-    requires roots { Within (length names.now) (has h.now.roots.bits) }
-    ensures { OnOk result (out.new.items ≡ out.old.items ++ sets_line names.now h.now) }
-{
-    out.extend_from_slice(b"hedge ")?;
-    push_set(out, names, h.big)?;
-    out.extend_from_slice(b" over ")?;
-    push_set(out, names, h.small)?;
-    out.extend_from_slice(b" with roots ")?;
-    push_set(out, names, h.roots)?;
-    out.push(b'\n')?;
-    Ok(())
-}
-
 /// The text of a stop: that no formula is found, the district, and the hedge's sets.
 ///
 /// Each line ends with a line feed.
@@ -78,6 +61,6 @@ pub fn stop_answer(
 {
     let mut text = unfound(alloc, names, x, y)?;
     push_district(&mut text, names, district)?;
-    push_sets(&mut text, names, h)?;
+    push_hedge_sets(&mut text, names, h)?;
     Ok(text)
 }
