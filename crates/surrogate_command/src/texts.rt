@@ -6,11 +6,9 @@ ghost use Rattle.mixed_graph.specs.Sets.{Within};
 ghost use Rattle.surrogate_command.specs.Lines.{unfound_line, district_line, stop_answer};
 
 use answer_text::push_set;
-use expr_text::target_text;
 use hedge::Hedge;
-use identify_text::push_hedge_sets;
+use identify_text::{effect_text, push_hedge_sets};
 use mixed_graph::{Names, VSet};
-use prob_expr::Target;
 use std::alloc::{AllocError, Global};
 
 /// The line that no formula is found.
@@ -19,12 +17,7 @@ fn unfound(alloc: Global, names: &Names, x: VSet, y: VSet) -> Result<Vec<u8>, Al
     requires y { Within (length names.now) (has y.bits) }
     ensures { IfOk result (λ v. v.items ≡ unfound_line names.now x.bits y.bits) }
 {
-    let target = Target {
-        x,
-        y,
-        given: VSet::EMPTY,
-    };
-    let mut text = target_text(alloc, &target, names)?;
+    let mut text = effect_text(alloc, x, y, names)?;
     text.extend_from_slice(b" has no formula found from these experiments\n")?;
     Ok(text)
 }
