@@ -11,11 +11,7 @@ use mixed_graph::{Names, VSet};
 use std::alloc::{AllocError, Global};
 
 /// Appends the line of a hedge's sets.
-pub fn push_hedge_sets(
-    out: &mut Vec<u8>,
-    names: &Names,
-    h: &Hedge,
-) -> Result<(), AllocError>
+pub fn push_hedge_sets(out: &mut Vec<u8>, names: &Names, h: &Hedge) -> Result<(), AllocError>
     requires big { Within (length names.now) (has h.now.big.bits) }
     requires small { Within (length names.now) (has h.now.small.bits) }
     requires roots { Within (length names.now) (has h.now.roots.bits) }

@@ -14,7 +14,7 @@ use Rattle.effect_answers.proofs.effect.asked_effect.Goals as goal
 pub returns-in-Ok : goal.returns-in-Ok
 returns-in-Ok c =
     let g = c.args.graph.now in let asked = c.in_ok-seen.ensures in
-    let lists = effect_lists_of g.names c.in_ok-seen.seen.names (texts c.deref.result.now) (texts c.deref-2.result.now) in
+    let lists = effect_lists_of g.names c.in_ok-seen.field-0.seen.names (texts c.deref.result.now) (texts c.deref-2.result.now) in
     let same = same_effect_lists g.names _ _ _ _ _ _ asked.names (ap texts c.deref.ensures.value ∙ asked.x) (ap texts c.deref-2.ensures.value ∙ asked.y) in
     let x = c.in-Ok.sets.x.bits in let y = c.in-Ok.sets.y.bits in
     record {
@@ -35,7 +35,7 @@ returns-in_ok-refuse-in-Err c =
     let same = same_effect_lists g.names _ _ _ _ _ _ asked.names (ap texts c.deref.ensures.value ∙ asked.x) (ap texts c.deref-2.ensures.value ∙ asked.y) in (
       c.in_ok-refuse-in-Err.ensures.outcome,
       (
-        graph_of c.in_ok-seen.seen.graph,
+        graph_of c.in_ok-seen.field-0.seen.graph,
         asked.graph,
         record {
           fault = c.in-Err.fault;

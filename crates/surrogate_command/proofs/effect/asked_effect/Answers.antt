@@ -23,12 +23,12 @@ with_experiments experiments e = record { effect = e; experiments = experiments 
 pub returns-in-Ok : goal.returns-in-Ok
 returns-in-Ok c =
     let g = c.args.graph.now in let experiments = map names_in c.args.experiments.now in
-    let lists = lists_of g.names c.in_ok-seen.seen.names (texts c.deref.result.now) (texts c.deref-2.result.now) experiments in
+    let lists = lists_of g.names c.in_ok-seen.field-0.seen.names (texts c.deref.result.now) (texts c.deref-2.result.now) experiments in
     let same_effect = same_effect_lists g.names _ _ _ _ _ _ c.in_ok-seen.ensures.names (ap texts c.deref.ensures.value ∙ c.in_ok-seen.ensures.x) (ap texts c.deref-2.ensures.value ∙ c.in_ok-seen.ensures.y) in
     let same = ap (with_experiments experiments) same_effect in
     let x = c.in-Ok.sets.x.bits in let y = c.in-Ok.sets.y.bits in let zs = masks_of c.in-Ok.sets.experiments.items in
     let sets = c.in-Ok.ensures.sets in
-    let count = one_set_each c.in_ok-seen.seen.names experiments zs sets.experiments in
+    let count = one_set_each c.in_ok-seen.field-0.seen.names experiments zs sets.experiments in
     let few = simp length-map at c.requires.few in
     record {
       graph = c.in_ok-seen.ensures.graph;
@@ -40,7 +40,7 @@ returns-in-Ok c =
       apart = effect_apart lists.effect x y sets.effect;
       some = effect_outcome lists.effect x y sets.effect;
       few = (let items = simp length-map at count in omega (arith, items, few));
-      are_sets = sets_filled g.names c.in_ok-seen.seen.names c.in_ok-seen.seen.graph.n c.in_ok-seen.ensures.named experiments c.requires.filled
+      are_sets = sets_filled g.names c.in_ok-seen.field-0.seen.names c.in_ok-seen.field-0.seen.graph.n c.in_ok-seen.ensures.named experiments c.requires.filled
           (sym (after_effect lists sets.effect.no_fault) ∙ sets.no_fault) zs sets.experiments;
     }
 
@@ -51,7 +51,7 @@ returns-in_ok-refuse-in-Err c =
     let same = ap (with_experiments experiments) same_effect in (
       c.in_ok-refuse-in-Err.ensures.outcome,
       (
-        graph_of c.in_ok-seen.seen.graph,
+        graph_of c.in_ok-seen.field-0.seen.graph,
         c.in_ok-seen.ensures.graph,
         record {
           fault = c.in-Err.fault;
