@@ -25,7 +25,7 @@ use Rattle.replies.proofs.OneGraph.{observed_named}
 use Rattle.replies.proofs.OneOutcome.{IsOneOf, one_of_three, one_for_lists}
 use Rattle.replies.proofs.OneTarget.{sets_refused, same_three}
 use Rattle.adjust_command.specs.Queries.{Query, by_set, by_back_door, listing}
-use Rattle.adjust_command.specs.Answers.{ShowsAdmissible, ShowsFault, ShowsBackDoorSet, ShowsBackDoorFault, ShowsSets, ShowsNone, SetsAnswer, adjust_lists, IsAnswerOfSets, ListsAnswer, AdjustAnswer}
+use Rattle.adjust_command.specs.Answers.{texts_of, ShowsAdmissible, ShowsFault, ShowsBackDoorSet, ShowsBackDoorFault, ShowsSets, ShowsNone, SetsAnswer, adjust_lists, IsAnswerOfSets, ListsAnswer, AdjustAnswer}
 use Rattle.adjust_command.proofs.Lists.{three_sets}
 
 -- two vertices with one mask are the same
@@ -33,7 +33,7 @@ same_one : (v w : ℕ) → one v ≡ one w → v ≡ w
 same_one v w e = eqb-true v w (sym (has-pow w v) ∙ sym (ap (λ (m : ℕ). has m v) e) ∙ has-pow v v ∙ eq-eqb v v refl)
 
 module _ (q : MixedGraph) (names : List (List ℕ)) where
-  admissible_or_not : (x y z : ℕ) (text line : List ℕ) → ShowsAdmissible q names x y z text → ShowsFault q names x y z line → ⊥
+  admissible_or_not : (x y z : ℕ) (text line : List ℕ) → ShowsAdmissible q (texts_of names) x y z text → ShowsFault q (texts_of names) x y z line → ⊥
   admissible_or_not x y z text line a b = go b.fault b.breaks
     where
       go : (f : AdjFault) → IsAdjustmentFault q (has x) (has y) (has z) f → ⊥
@@ -48,7 +48,7 @@ module _ (q : MixedGraph) (names : List (List ℕ)) where
       a.blocked (steps_of p) (subst (λ (u : ℕ). IsPath u (steps_of p)) at h.1.open_path.path) h.1.begins
       (subst (λ (u : ℕ). IsOpenWalk q (λ k. k == v) (has y) (has z) u (steps_of p)) at walk)
 
-  back_door_or_not : (x y z : ℕ) (text line : List ℕ) → ShowsBackDoorSet q names x y z text → ShowsBackDoorFault q names x y z line → ⊥
+  back_door_or_not : (x y z : ℕ) (text line : List ℕ) → ShowsBackDoorSet q (texts_of names) x y z text → ShowsBackDoorFault q (texts_of names) x y z line → ⊥
   back_door_or_not x y z text line a b = meets_or_not a.v y z b.fault a.meets
       (subst (λ (v : ℕ). IsBackDoorFault q v (has y) (has z) b.fault) (same_one b.v a.v (sym b.exposure ∙ a.exposure)) b.breaks)
 

@@ -1,5 +1,6 @@
 pub mod Formulas
 pub mod Paths
+pub mod Verdicts
 pub mod Exposures
 pub mod Minimal
 pub mod Lists

@@ -8,11 +8,11 @@ use Rattle.replies.specs.declared.outcome.Outcome.TheVariants.{Words, Read, Writ
 use Rattle.replies.specs.Outcomes.{IsAnswered}
 use Rattle.replies.proofs.Outcomes.{answered}
 use Rattle.adjust_command.specs.Queries.{Query, by_set, by_back_door, listing}
-use Rattle.adjust_command.specs.Answers.{SetAnswer, BackDoorAnswer, ListingAnswer, SetsAnswer, adjust_lists, IsAnswerOfSets, AdjustAnswer}
+use Rattle.adjust_command.specs.Answers.{texts_of, SetAnswer, BackDoorAnswer, ListingAnswer, SetsAnswer, adjust_lists, IsAnswerOfSets, AdjustAnswer}
 
 sets_answered : (query : Query) (q : MixedGraph) (names : List (List ℕ)) (x y z : ℕ) (o : Outcome) (text : List ℕ) → SetsAnswer query q names x y z o text → IsAnswered o
-sets_answered (by_set set) q names x y z o text = answered (λ k. SetAnswer q names x y z k text) (λ h. h) (λ h. h) (λ h. h) (λ h. h) o
-sets_answered (by_back_door set) q names x y z o text = answered (λ k. BackDoorAnswer q names x y z k text) (λ h. h) (λ h. h) (λ h. h) (λ h. h) o
+sets_answered (by_set set) q names x y z o text = answered (λ k. SetAnswer q (texts_of names) x y z k text) (λ h. h) (λ h. h) (λ h. h) (λ h. h) o
+sets_answered (by_back_door set) q names x y z o text = answered (λ k. BackDoorAnswer q (texts_of names) x y z k text) (λ h. h) (λ h. h) (λ h. h) (λ h. h) o
 sets_answered (listing most) q names x y z o text = answered (λ k. ListingAnswer q names x y most k text) (λ h. h) (λ h. h) (λ h. h) (λ h. h) o
 
 pub adjust_answered : (g : ReadGraph) (x y : Names) (query : Query) (o : Outcome) (text : List ℕ) → AdjustAnswer g x y query o text → IsAnswered o

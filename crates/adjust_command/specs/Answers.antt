@@ -1,17 +1,17 @@
 -- The answer of `adjust`: whether a set may be adjusted for to compute the effect of x on y, or the minimal such sets, in the observed graph of the one that was read.
-use Rattle.std.specs.Prelude.{ℕ, ◌≡◌, ◌⊎◌, Bool, List, [], All, codes}
+use Rattle.std.specs.Prelude.{ℕ, ◌≡◌, Bool, true, false, List, [], All, codes}
 use Rattle.mixed_graph.specs.Bits.{has}
 use Rattle.mixed_graph.specs.Graphs.{MixedGraph}
 use Rattle.mixed_graph.specs.declared.sets.VSet.{VSet}
 use Rattle.dag_reader.specs.declared.graph.ReadGraph.{ReadGraph}
 use Rattle.do_rules.specs.Rules.{AreThreeSets}
 use Rattle.targets.specs.declared.fault.TargetFault.TheVariants.{NotOneX}
-use Rattle.targets.specs.Targets.{listed, Lists, AreSets}
+use Rattle.targets.specs.Targets.{Lists}
 use Rattle.name_text.specs.Lines.{line_of}
 use Rattle.targets.specs.FaultTexts.{target_fault_text}
 use Rattle.replies.specs.declared.outcome.Outcome.{Outcome}
 use Rattle.replies.specs.declared.outcome.Outcome.TheVariants.{Yes, No, Graph}
-use Rattle.replies.specs.Observed.{Names, observed_names, IsObservedGraph, IsTargetRefusal}
+use Rattle.replies.specs.Observed.{Names, IsObservedGraph, query_lists, IsOfThreeSets, AnswerForSets}
 use Rattle.mixed_graph.specs.Masks.{one}
 use Rattle.prob_expr.specs.Values.{EqualsEffect}
 use Rattle.adjustment.specs.declared.criteria.AdjFault.{AdjFault}
@@ -25,39 +25,48 @@ use Rattle.adjust_command.specs.Lines.{admissible_text, not_admissible_text, lis
 
 -- ---- answers for sets of the observed graph q
 
+-- what is printed for a set by a criterion: where the set meets it, and where this breaks it
+pub record SetTexts : Type 0 where
+  pub meets : (x y z : ℕ) → List ℕ
+  pub breaks : (z : ℕ) → AdjFault → List ℕ
+
+-- the texts of this command
+abbrev pub texts_of : List (List ℕ) → SetTexts
+texts_of names = record { meets = admissible_text names; breaks = not_admissible_text names }
+
 -- Yes: z meets the adjustment criterion, its formula equals P(y | do(x)) in each positive model that fits q, and the text shows it
-pub record ShowsAdmissible (q : MixedGraph) (names : List (List ℕ)) (x y z : ℕ) (text : List ℕ) : Type 0 where
+pub record ShowsAdmissible (q : MixedGraph) (texts : SetTexts) (x y z : ℕ) (text : List ℕ) : Type 0 where
   pub admissible : IsAdmissible q (has x) (has y) (has z)
   pub effect : EqualsEffect q (effect_on x y) (adjustment_formula x y z)
-  pub prints : text ≡ admissible_text names x y z
+  pub prints : text ≡ texts.meets x y z
 
--- No: this breaks the adjustment criterion for z, and the text shows it
-pub record ShowsFault (q : MixedGraph) (names : List (List ℕ)) (x y z : ℕ) (text : List ℕ) : Type 0 where
+-- No: this breaks the adjustment criterion for z, and the text says so
+pub record ShowsFault (q : MixedGraph) (texts : SetTexts) (x y z : ℕ) (text : List ℕ) : Type 0 where
   pub fault : AdjFault
   pub breaks : IsAdjustmentFault q (has x) (has y) (has z) fault
-  pub prints : text ≡ not_admissible_text names z fault
+  pub prints : text ≡ texts.breaks z fault
 
 -- the answer for a set by the adjustment criterion
-abbrev pub SetAnswer : MixedGraph → List (List ℕ) → (x y z : ℕ) → Outcome → List ℕ → Type 0
-SetAnswer q names x y z Yes text = ShowsAdmissible q names x y z text
-SetAnswer q names x y z No text = ShowsFault q names x y z text
-SetAnswer q names x y z o text = ⊥
+abbrev pub SetAnswer : MixedGraph → SetTexts → (x y z : ℕ) → Outcome → List ℕ → Type 0
+SetAnswer q texts x y z Yes text = ShowsAdmissible q texts x y z text
+SetAnswer q texts x y z No text = ShowsFault q texts x y z text
+SetAnswer q texts x y z o text = ⊥
 
 -- Yes: v is the one exposure, for which z meets the back-door criterion; its formula equals P(y | do(v)) in each positive model that fits q, and the text shows it
-pub record ShowsBackDoorSet (q : MixedGraph) (names : List (List ℕ)) (x y z : ℕ) (text : List ℕ) : Type 0 where
+pub record ShowsBackDoorSet (q : MixedGraph) (texts : SetTexts) (x y z : ℕ) (text : List ℕ) : Type 0 where
   pub v : ℕ
   pub exposure : x ≡ one v
   pub meets : IsBackDoorSet q v (has y) (has z)
   pub effect : EqualsEffect q (effect_on x y) (adjustment_formula x y z)
-  pub prints : text ≡ admissible_text names x y z
+  pub prints : text ≡ texts.meets x y z
 
--- No: v is the one exposure, this breaks the back-door criterion for z, and the text shows it
-pub record ShowsBackDoorFault (q : MixedGraph) (names : List (List ℕ)) (x y z : ℕ) (text : List ℕ) : Type 0 where
+-- No: v is the one exposure, this breaks the back-door criterion for z, and the text says so
+pub record ShowsBackDoorFault (q : MixedGraph) (texts : SetTexts) (x y z : ℕ) (text : List ℕ) : Type 0 where
   pub v : ℕ
   pub exposure : x ≡ one v
   pub fault : AdjFault
   pub breaks : IsBackDoorFault q v (has y) (has z) fault
-  pub prints : text ≡ not_admissible_text names z fault
+  pub prints : text ≡ texts.breaks z fault
 
 -- refused: the exposures aren't one vertex, and the line says so
 pub record ShowsNotOne (x : ℕ) (line : List ℕ) : Type 0 where
@@ -65,11 +74,16 @@ pub record ShowsNotOne (x : ℕ) (line : List ℕ) : Type 0 where
   pub prints : line ≡ line_of (target_fault_text NotOneX)
 
 -- the answer for a set by the back-door criterion
-abbrev pub BackDoorAnswer : MixedGraph → List (List ℕ) → (x y z : ℕ) → Outcome → List ℕ → Type 0
-BackDoorAnswer q names x y z Yes text = ShowsBackDoorSet q names x y z text
-BackDoorAnswer q names x y z No text = ShowsBackDoorFault q names x y z text
-BackDoorAnswer q names x y z Graph text = ShowsNotOne x text
-BackDoorAnswer q names x y z o text = ⊥
+abbrev pub BackDoorAnswer : MixedGraph → SetTexts → (x y z : ℕ) → Outcome → List ℕ → Type 0
+BackDoorAnswer q texts x y z Yes text = ShowsBackDoorSet q texts x y z text
+BackDoorAnswer q texts x y z No text = ShowsBackDoorFault q texts x y z text
+BackDoorAnswer q texts x y z Graph text = ShowsNotOne x text
+BackDoorAnswer q texts x y z o text = ⊥
+
+-- the answer for a set by one of the two criteria
+abbrev pub CriterionAnswer : (back_door : Bool) → MixedGraph → SetTexts → (x y z : ℕ) → Outcome → List ℕ → Type 0
+CriterionAnswer false q texts x y z o text = SetAnswer q texts x y z o text
+CriterionAnswer true q texts x y z o text = BackDoorAnswer q texts x y z o text
 
 -- Yes: these are the minimal admissible sets, of which there is one or more: all of them, or `most` where there are more; the formula of each equals P(y | do(x)) in each
 -- positive model that fits q, and the text shows them
@@ -94,8 +108,8 @@ ListingAnswer q names x y most o text = ⊥
 
 -- the answer to a query
 abbrev pub SetsAnswer : Query → MixedGraph → List (List ℕ) → (x y z : ℕ) → Outcome → List ℕ → Type 0
-SetsAnswer (by_set set) q names x y z o text = SetAnswer q names x y z o text
-SetsAnswer (by_back_door set) q names x y z o text = BackDoorAnswer q names x y z o text
+SetsAnswer (by_set set) q names x y z o text = CriterionAnswer false q (texts_of names) x y z o text
+SetsAnswer (by_back_door set) q names x y z o text = CriterionAnswer true q (texts_of names) x y z o text
 SetsAnswer (listing most) q names x y z o text = ListingAnswer q names x y most o text
 
 -- ---- answers on a graph that was read
@@ -108,26 +122,15 @@ set_of (listing most) = []
 
 -- the lists of a query: those that are given, or else the exposures and the outcomes; and the set
 abbrev pub adjust_lists : ReadGraph → Names → Names → Query → Lists
-adjust_lists g x y query = record {
-  all = g.names;
-  observed = observed_names g;
-  x = listed g.names g.exposures.bits x;
-  y = listed g.names g.outcomes.bits y;
-  given = set_of query;
-}
+adjust_lists g x y query = query_lists g x y (set_of query)
 
--- the lists name these sets, for which the answer is given
-pub record IsAnswerOfSets (query : Query) (q : MixedGraph) (l : Lists) (o : Outcome) (text : List ℕ) : Type 0 where
-  pub x : ℕ
-  pub y : ℕ
-  pub z : ℕ
-  pub sets : AreSets l x y z
-  pub answer : SetsAnswer query q l.observed x y z o text
+-- the lists name three sets, for which the answer is given
+abbrev pub IsAnswerOfSets : Query → MixedGraph → Lists → Outcome → List ℕ → Type 0
+IsAnswerOfSets query q l o text = IsOfThreeSets l (λ x y z. SetsAnswer query q l.observed x y z o text)
 
 -- the answer for lists of names
 abbrev pub ListsAnswer : Query → MixedGraph → Lists → Outcome → List ℕ → Type 0
-ListsAnswer query q l Graph text = IsTargetRefusal l text ⊎ IsAnswerOfSets query q l Graph text
-ListsAnswer query q l o text = IsAnswerOfSets query q l o text
+ListsAnswer query q l o text = AnswerForSets l (SetsAnswer query q l.observed) o text
 
 -- the answer on a graph that was read, in its observed graph
 abbrev pub AdjustAnswer : ReadGraph → Names → Names → Query → Outcome → List ℕ → Type 0

@@ -1,6 +1,7 @@
 pub mod Queries
 pub mod Lines
 pub mod Faults
+pub mod Verdicts
 pub mod Answers
 pub mod Requests
 pub mod Command

@@ -1,56 +1,82 @@
-ghost use Rattle.std.specs.Prelude.{◌≡◌, ◌<◌, IfOk, length};
+ghost use Rattle.std.specs.Prelude.{◌≡◌, ◌<◌, true, IfOk, length};
 ghost use Rattle.mixed_graph.specs.Bits.{has};
 ghost use Rattle.mixed_graph.specs.Shown.{graph_of};
 ghost use Rattle.do_rules.specs.Rules.{AreThreeSets};
-ghost use Rattle.adjust_command.specs.Answers.{SetAnswer, BackDoorAnswer};
+ghost use Rattle.adjust_command.specs.Answers.{texts_of, CriterionAnswer};
+ghost use Rattle.adjust_command.specs.Verdicts.{IsVerdict};
 
 use crate::texts::{admissible_text, not_admissible_text};
-use adjustment::{adjusts, back_door};
+use adjustment::{AdjFault, adjusts, back_door};
 use latent_projection::Observed;
-use mixed_graph::VSet;
+use mixed_graph::{Graph, VSet};
 use replies::{Outcome, Reply, refuse};
 use std::alloc::{AllocError, Global};
 use targets::{Sets, TargetFault};
 
-/// The answer by the adjustment criterion.
-pub fn by_set(alloc: Global, seen: &Observed, sets: Sets) -> Result<Reply, AllocError>
-    requires named { length seen.now.names ≡ seen.now.graph.n }
-    requires sets { AreThreeSets seen.now.graph.n (has sets.x.bits) (has sets.y.bits) (has sets.given.bits) }
-    requires some { 0 < sets.y.bits }
-    ensures { IfOk result (λ r. SetAnswer (graph_of seen.now.graph) seen.now.names sets.x.bits sets.y.bits sets.given.bits r.outcome r.text.items) }
+/// What a criterion says of a set.
+#[derive(Clone, Copy)]
+pub enum Verdict {
+    /// The set meets the criterion, so that its formula is the effect.
+    Meets,
+    /// This breaks the criterion.
+    Breaks(AdjFault),
+    /// The exposures aren't one vertex, for the back-door criterion.
+    NotOne,
+}
+
+/// What the adjustment criterion says of the set `given`, or the back-door criterion, for which the exposures are one vertex.
+pub fn judge(graph: &Graph, sets: Sets, by_back_door: bool) -> Verdict
+    requires sets { AreThreeSets graph.now.n (has sets.x.bits) (has sets.y.bits) (has sets.given.bits) }
+    requires some { 0 < sets.x.bits }
+    ensures { IsVerdict by_back_door (graph_of graph.now) sets.x.bits sets.y.bits sets.given.bits result }
 {
-    match adjusts(&seen.graph, sets.x, sets.y, sets.given) {
-        Ok(()) => Ok(Reply {
-            outcome: Outcome::Yes,
-            text: admissible_text(alloc, &seen.names, sets)?,
-        }),
-        Err(fault) => Ok(Reply {
-            outcome: Outcome::No,
-            text: not_admissible_text(alloc, &seen.names, sets.given, &fault)?,
-        }),
+    if by_back_door {
+        return back_door_verdict(graph, sets);
+    }
+    match adjusts(graph, sets.x, sets.y, sets.given) {
+        Ok(()) => Verdict::Meets,
+        Err(fault) => Verdict::Breaks(fault),
     }
 }
 
-/// The answer by the back-door criterion, for which the exposures are one vertex.
-pub fn by_back_door(alloc: Global, seen: &Observed, sets: Sets) -> Result<Reply, AllocError>
+/// What the back-door criterion says.
+fn back_door_verdict(graph: &Graph, sets: Sets) -> Verdict
+    requires sets { AreThreeSets graph.now.n (has sets.x.bits) (has sets.y.bits) (has sets.given.bits) }
+    requires some { 0 < sets.x.bits }
+    ensures { IsVerdict true (graph_of graph.now) sets.x.bits sets.y.bits sets.given.bits result }
+{
+    let v = sets.x.lowest();
+    if sets.x.bits != VSet::one(v).bits {
+        return Verdict::NotOne;
+    }
+    match back_door(graph, v, sets.y, sets.given) {
+        Ok(()) => Verdict::Meets,
+        Err(fault) => Verdict::Breaks(fault),
+    }
+}
+
+/// The answer by one of the two criteria.
+pub fn by_criterion(
+    alloc: Global,
+    seen: &Observed,
+    sets: Sets,
+    by_back_door: bool,
+) -> Result<Reply, AllocError>
     requires named { length seen.now.names ≡ seen.now.graph.n }
     requires sets { AreThreeSets seen.now.graph.n (has sets.x.bits) (has sets.y.bits) (has sets.given.bits) }
     requires some_x { 0 < sets.x.bits }
     requires some_y { 0 < sets.y.bits }
-    ensures { IfOk result (λ r. BackDoorAnswer (graph_of seen.now.graph) seen.now.names sets.x.bits sets.y.bits sets.given.bits r.outcome r.text.items) }
+    ensures { IfOk result (λ r. CriterionAnswer by_back_door (graph_of seen.now.graph) (texts_of seen.now.names) sets.x.bits sets.y.bits sets.given.bits r.outcome r.text.items) }
 {
-    let v = sets.x.lowest();
-    if sets.x.bits != VSet::one(v).bits {
-        return refuse(alloc, &TargetFault::NotOneX);
-    }
-    match back_door(&seen.graph, v, sets.y, sets.given) {
-        Ok(()) => Ok(Reply {
+    match judge(&seen.graph, sets, by_back_door) {
+        Verdict::Meets => Ok(Reply {
             outcome: Outcome::Yes,
             text: admissible_text(alloc, &seen.names, sets)?,
         }),
-        Err(fault) => Ok(Reply {
+        Verdict::Breaks(fault) => Ok(Reply {
             outcome: Outcome::No,
             text: not_admissible_text(alloc, &seen.names, sets.given, &fault)?,
         }),
+        Verdict::NotOne => refuse(alloc, &TargetFault::NotOneX),
     }
 }

@@ -8,6 +8,7 @@ mod reply;
 mod request;
 mod texts;
 
+pub use criteria::{Verdict, judge};
 pub use query::Query;
 pub use reply::adjust_reply;
 pub use request::{ROW, Request};

@@ -8,13 +8,13 @@ ghost use Rattle.adjust_command.specs.Queries.{query_of, IsInRange};
 ghost use Rattle.adjust_command.specs.Answers.{set_of, SetsAnswer, AdjustAnswer};
 ghost use Rattle.adjust_command.specs.Requests.{request_of};
 
-use crate::criteria::{by_back_door, by_set};
+use crate::criteria::by_criterion;
 use crate::listing::list_sets;
 use crate::query::Query;
 use crate::request::Request;
 use dag_reader::ReadGraph;
-use latent_projection::{Observed, observed};
-use replies::{Reply, list_or, refuse};
+use latent_projection::Observed;
+use replies::{AskedLists, Reply, asked_lists, refuse};
 use std::alloc::{AllocError, Global};
 use targets::{Sets, find_sets};
 
@@ -44,9 +44,7 @@ fn reply_for(
     requires most { IsInRange (query_of query) }
     ensures { IfOk result (λ r. AdjustAnswer graph.now (option_map names_in x) (option_map names_in y) (query_of query) r.outcome r.text.items) }
 {
-    let seen = observed(alloc, &graph.names, &graph.graph, graph.latent)?;
-    let x = list_or(alloc, &graph.names, graph.exposures, x)?;
-    let y = list_or(alloc, &graph.names, graph.outcomes, y)?;
+    let AskedLists { seen, x, y } = asked_lists(alloc, graph, x, y)?;
     match find_sets(alloc, &graph.names, &seen.names, &x, &y, set_of(&query)) {
         Ok(sets) => decide(alloc, &seen, sets, &query),
         Err(fault) => refuse(alloc, &fault),
@@ -74,8 +72,8 @@ fn decide(alloc: Global, seen: &Observed, sets: Sets, query: &Query) -> Result<R
     ensures { IfOk result (λ r. SetsAnswer (query_of query.now) (graph_of seen.now.graph) seen.now.names sets.x.bits sets.y.bits sets.given.bits r.outcome r.text.items) }
 {
     match query {
-        Query::Set(_) => by_set(alloc, seen, sets),
-        Query::BackDoor(_) => by_back_door(alloc, seen, sets),
+        Query::Set(_) => by_criterion(alloc, seen, sets, false),
+        Query::BackDoor(_) => by_criterion(alloc, seen, sets, true),
         Query::List(most) => list_sets(alloc, seen, sets, *most),
     }
 }

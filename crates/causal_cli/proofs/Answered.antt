@@ -9,7 +9,7 @@ use Rattle.replies.specs.declared.outcome.Reply.{Reply}
 use Rattle.replies.specs.Outcomes.{IsAnswered}
 use Rattle.replies.proofs.Outcomes.{answered}
 use Rattle.causal_cli.specs.Commands.{Request, of, second_of}
-use Rattle.causal_cli.specs.Answers.{WordsAnswer, GraphAnswer, Defined, Continues, DefinedWith, second_in, limit_of, IsAccepted, GivesSecond, IsAnsweredWith, IsLeft, IsLeftOf}
+use Rattle.causal_cli.specs.Answers.{WordsAnswer, GraphAnswer, Defined, Continues, DefinedWith, second_in, limit_of, IsOfAcceptedGraph, GivesSecond, IsAnsweredWith, IsLeft, IsLeftOf}
 use Rattle.causal_cli.specs.declared.answer.SecondInput.{SecondInput}
 use Rattle.causal_cli.proofs.EachCommand.{lawful}
 
@@ -52,8 +52,8 @@ pub answered_with : (w : Request) (bytes : List ℕ) (p : SecondInput) → IsLef
 answered_with (of c q) bytes p is = λ other o text a. (lawful c).both_answered q is.0 other o text (is.2.answers other o text a)
 
 -- what is kept is accepted, where something is left
-pub accepted_on : (w : Request) (g : ReadGraph) (p : SecondInput) → IsLeft w g p → IsAccepted p
+pub accepted_on : (w : Request) (g : ReadGraph) (p : SecondInput) → IsLeft w g p → IsOfAcceptedGraph p
 accepted_on (of c q) g p is = is.known
 
-pub accepted : (w : Request) (bytes : List ℕ) (p : SecondInput) → IsLeftOf w bytes p → IsAccepted p
+pub accepted : (w : Request) (bytes : List ℕ) (p : SecondInput) → IsLeftOf w bytes p → IsOfAcceptedGraph p
 accepted (of c q) bytes p is = is.2.known

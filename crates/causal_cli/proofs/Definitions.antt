@@ -11,21 +11,21 @@ use Rattle.replies.specs.declared.outcome.Outcome.{Outcome}
 use Rattle.replies.specs.declared.outcome.Outcome.TheVariants.{Graph}
 use Rattle.replies.specs.Observed.{HoldsGraph}
 use Rattle.causal_cli.specs.Commands.{Request}
-use Rattle.causal_cli.specs.Answers.{HoldsAnswer, faulty, Defined, GivesOn, GivesFirst}
-use Rattle.causal_cli.specs.declared.answer.First.{First}
-use Rattle.causal_cli.specs.declared.answer.First.TheVariants as first
+use Rattle.causal_cli.specs.Answers.{HoldsAnswer, faulty, Defined, GivesOn, FileGives}
+use Rattle.causal_cli.specs.declared.answer.AfterFile.{AfterFile}
+use Rattle.causal_cli.specs.declared.answer.AfterFile.TheVariants as first
 
 held : (w : Request) (bytes : List ℕ) (o : Outcome) (text : List ℕ) → HoldsAnswer w bytes o text → Defined w bytes o text
 held w bytes Graph text h = inr h
 held w bytes o text h = h
 
 -- what a request gives on the graph that the bytes hold
-pub given_on : (w : Request) (bytes : List ℕ) (g : ReadGraph) (f : First) → HoldsGraph bytes g → GivesOn w g f → GivesFirst w bytes f
+pub given_on : (w : Request) (bytes : List ℕ) (g : ReadGraph) (f : AfterFile) → HoldsGraph bytes g → GivesOn w g f → FileGives w bytes f
 given_on w bytes g (first.Replied reply) h a = held w bytes reply.outcome reply.text.items (record { graph = g; holds = h; answer = a })
 given_on w bytes g (first.Continues p) h a = (g, h, a)
 
-pub defined_on : {E : Type 0} (w : Request) (bytes : List ℕ) (g : ReadGraph) (r : Result First E) → length bytes ≤ 1048576 → Reads bytes (Ok g) →
-    IfOk r (GivesOn w g) → IfOk r (GivesFirst w bytes)
+pub defined_on : {E : Type 0} (w : Request) (bytes : List ℕ) (g : ReadGraph) (r : Result AfterFile E) → length bytes ≤ 1048576 → Reads bytes (Ok g) →
+    IfOk r (GivesOn w g) → IfOk r (FileGives w bytes)
 defined_on w bytes g (Err e) small reads a = tt
 defined_on w bytes g (Ok f) small reads a = given_on w bytes g f (record { small = small; reads = reads }) a
 

@@ -16,8 +16,8 @@ use Rattle.replies.specs.Command as forms
 use Rattle.causal_cli.specs.Commands.{form_of, Request, of, left_of}
 use Rattle.causal_cli.specs.Lines.{size_line}
 use Rattle.causal_cli.specs.declared.answer.SecondInput.{SecondInput}
-use Rattle.causal_cli.specs.declared.answer.First.{First}
-use Rattle.causal_cli.specs.declared.answer.First.TheVariants as first
+use Rattle.causal_cli.specs.declared.answer.AfterFile.{AfterFile}
+use Rattle.causal_cli.specs.declared.answer.AfterFile.TheVariants as first
 
 -- the answer of a command without an input
 abbrev pub WordsAnswer : Request → Outcome → List ℕ → Type 0
@@ -71,8 +71,8 @@ abbrev pub limit_of : SecondInput → ℕ
 limit_of p = (left_of p).limit
 
 -- what was kept is accepted
-abbrev pub IsAccepted : SecondInput → Type 0
-IsAccepted p = (left_of p).known
+abbrev pub IsOfAcceptedGraph : SecondInput → Type 0
+IsOfAcceptedGraph p = (left_of p).known
 
 -- the reply is the answer on these bytes of the second input
 abbrev pub GivesSecond : SecondInput → List ℕ → Reply → Type 0
@@ -87,7 +87,7 @@ abbrev pub IsLeft : Request → ReadGraph → SecondInput → Type 0
 IsLeft (of c q) g p = forms.IsLeft (form_of c) q g (left_of p)
 
 -- what a graph that was read gives: the answer on it, or what is left
-abbrev pub GivesOn : Request → ReadGraph → First → Type 0
+abbrev pub GivesOn : Request → ReadGraph → AfterFile → Type 0
 GivesOn w g (first.Replied reply) = GraphAnswer w g reply.outcome reply.text.items
 GivesOn w g (first.Continues p) = IsLeft w g p
 
@@ -96,6 +96,6 @@ abbrev pub IsLeftOf : Request → List ℕ → SecondInput → Type 0
 IsLeftOf w bytes p = (g : ReadGraph) × HoldsGraph bytes g × IsLeft w g p
 
 -- what the file alone gives: the defined answer, or what is left
-abbrev pub GivesFirst : Request → List ℕ → First → Type 0
-GivesFirst w bytes (first.Replied reply) = Defined w bytes reply.outcome reply.text.items
-GivesFirst w bytes (first.Continues p) = IsLeftOf w bytes p
+abbrev pub FileGives : Request → List ℕ → AfterFile → Type 0
+FileGives w bytes (first.Replied reply) = Defined w bytes reply.outcome reply.text.items
+FileGives w bytes (first.Continues p) = IsLeftOf w bytes p

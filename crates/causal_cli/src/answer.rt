@@ -1,21 +1,19 @@
 // What the inputs of a request give: first the file alone, then the second input, where the file was accepted.
 
-ghost use Rattle.std.specs.Prelude.{◌≡◌, ◌≤◌, ◌<◌, ℕ, List, IfOk, OnOk, length};
-ghost use Rattle.name_text.specs.Lines.{line_of};
-ghost use Rattle.dag_reader.specs.FaultTexts.{graph_fault_text};
+ghost use Rattle.std.specs.Prelude.{◌≡◌, ◌≤◌, ◌<◌, ℕ, List, IfOk, length};
 ghost use Rattle.causal_cli.specs.Commands.{on_graph};
-ghost use Rattle.causal_cli.specs.Answers.{GivesOn, GivesFirst, second_in, limit_of, IsAccepted, GivesSecond};
+ghost use Rattle.causal_cli.specs.Answers.{GivesOn, FileGives, second_in, limit_of, IsOfAcceptedGraph, GivesSecond};
 
 use crate::commands::GraphRequest;
 use adjust_command::adjust_reply;
 use check_command::{check_reply, long_certificate};
-use dag_reader::{GraphFault, ReadGraph, read_graph};
+use dag_reader::{ReadGraph, read_graph};
 use equivalent_command::{accept_first, equivalent_reply, long_second_graph};
 use evaluate_command::{Identified, evaluate_reply, identify_first, long_counts};
 use graph_command::graph_reply;
 use identify_command::identify_reply;
 use implications_command::{Pairs, counted_pairs, differences_reply, pairs_reply};
-use replies::{Outcome, Reply};
+use replies::{Reply, refuse_graph};
 use rule_command::rule_reply;
 use separate_command::separate_reply;
 use std::alloc::{AllocError, Global};
@@ -24,7 +22,7 @@ use targets::Sets;
 
 /// What the file alone gives.
 #[derive(Drop)]
-pub enum First<'a> {
+pub enum AfterFile<'a> {
     /// The defined answer.
     Replied(Reply),
     /// The second input is read.
@@ -36,13 +34,13 @@ pub fn answer<'a>(
     alloc: Global,
     request: GraphRequest<'a>,
     bytes: &[u8],
-) -> Result<First<'a>, AllocError>
+) -> Result<AfterFile<'a>, AllocError>
     requires { length bytes.now ≤ 1048576 }
-    ensures { IfOk result (GivesFirst (on_graph request.entry) bytes.now) }
+    ensures { IfOk result (FileGives (on_graph request.entry) bytes.now) }
 {
     match read_graph(alloc, bytes) {
         Ok(graph) => answer_on(alloc, request, graph),
-        Err(fault) => Ok(First::Replied(refuse_graph(alloc, &fault)?)),
+        Err(fault) => Ok(AfterFile::Replied(refuse_graph(alloc, &fault)?)),
     }
 }
 
@@ -51,23 +49,23 @@ pub fn answer_on<'a>(
     alloc: Global,
     request: GraphRequest<'a>,
     graph: ReadGraph,
-) -> Result<First<'a>, AllocError>
+) -> Result<AfterFile<'a>, AllocError>
     ensures { IfOk result (GivesOn (on_graph request.entry) graph) }
 {
     match request {
-        GraphRequest::Graph(asked) => Ok(First::Replied(graph_reply(
+        GraphRequest::Graph(asked) => Ok(AfterFile::Replied(graph_reply(
             alloc,
             &graph,
             asked.project,
         )?)),
-        GraphRequest::Separate(asked) => Ok(First::Replied(separate_reply(
+        GraphRequest::Separate(asked) => Ok(AfterFile::Replied(separate_reply(
             alloc,
             &graph,
             asked.x,
             asked.y,
             asked.given,
         )?)),
-        GraphRequest::Rule(asked) => Ok(First::Replied(rule_reply(
+        GraphRequest::Rule(asked) => Ok(AfterFile::Replied(rule_reply(
             alloc,
             &graph,
             asked.rule,
@@ -76,7 +74,7 @@ pub fn answer_on<'a>(
             &asked.z,
             &asked.given,
         )?)),
-        GraphRequest::Identify(asked) => Ok(First::Replied(identify_reply(
+        GraphRequest::Identify(asked) => Ok(AfterFile::Replied(identify_reply(
             alloc,
             &graph,
             asked.x,
@@ -84,15 +82,15 @@ pub fn answer_on<'a>(
             asked.given,
             asked.form,
         )?)),
-        GraphRequest::Check(asked) => Ok(First::Continues(SecondInput::Check {
+        GraphRequest::Check(asked) => Ok(AfterFile::Continues(SecondInput::Check {
             graph,
             certificate: asked.certificate,
         })),
-        GraphRequest::Adjust(asked) => Ok(First::Replied(adjust_reply(alloc, &graph, asked)?)),
+        GraphRequest::Adjust(asked) => Ok(AfterFile::Replied(adjust_reply(alloc, &graph, asked)?)),
         GraphRequest::Evaluate(asked) => evaluate_over(alloc, &graph, asked),
         GraphRequest::Equivalent(asked) => compare_with(alloc, graph, asked),
         GraphRequest::Implications(asked) => list_implications(alloc, &graph, asked),
-        GraphRequest::Surrogate(asked) => Ok(First::Replied(surrogate_reply(
+        GraphRequest::Surrogate(asked) => Ok(AfterFile::Replied(surrogate_reply(
             alloc, &graph, asked,
         )?)),
     }
@@ -103,12 +101,12 @@ fn evaluate_over<'a>(
     alloc: Global,
     graph: &ReadGraph,
     asked: evaluate_command::Request<'a>,
-) -> Result<First<'a>, AllocError>
+) -> Result<AfterFile<'a>, AllocError>
     ensures { IfOk result (GivesOn (on_graph (GraphRequest.Evaluate asked.entry)) graph.now) }
 {
     match identify_first(alloc, graph, asked.x, asked.y)? {
-        evaluate_command::First::Replied(reply) => Ok(First::Replied(reply)),
-        evaluate_command::First::Identified(found) => Ok(First::Continues(SecondInput::Evaluate {
+        evaluate_command::EffectOrReply::Replied(reply) => Ok(AfterFile::Replied(reply)),
+        evaluate_command::EffectOrReply::Identified(found) => Ok(AfterFile::Continues(SecondInput::Evaluate {
             found,
             counts: asked.counts,
             count: asked.count,
@@ -122,12 +120,12 @@ fn compare_with<'a>(
     alloc: Global,
     graph: ReadGraph,
     asked: equivalent_command::Request<'a>,
-) -> Result<First<'a>, AllocError>
+) -> Result<AfterFile<'a>, AllocError>
     ensures { IfOk result (GivesOn (on_graph (GraphRequest.Equivalent asked.entry)) graph) }
 {
     match accept_first(alloc, &graph, asked.query)? {
-        equivalent_command::First::Refused(reply) => Ok(First::Replied(reply)),
-        equivalent_command::First::Accepted(sets) => Ok(First::Continues(
+        equivalent_command::Acceptance::Refused(reply) => Ok(AfterFile::Replied(reply)),
+        equivalent_command::Acceptance::Accepted(sets) => Ok(AfterFile::Continues(
             SecondInput::Equivalent {
                 graph,
                 sets,
@@ -142,15 +140,15 @@ fn list_implications<'a>(
     alloc: Global,
     graph: &ReadGraph,
     asked: implications_command::Request<'a>,
-) -> Result<First<'a>, AllocError>
+) -> Result<AfterFile<'a>, AllocError>
     ensures { IfOk result (GivesOn (on_graph (GraphRequest.Implications asked.entry)) graph.now) }
 {
     let Some(counts) = asked.counts else {
-        return Ok(First::Replied(pairs_reply(alloc, graph)?));
+        return Ok(AfterFile::Replied(pairs_reply(alloc, graph)?));
     };
     match counted_pairs(alloc, graph)? {
-        implications_command::First::Replied(reply) => Ok(First::Replied(reply)),
-        implications_command::First::Pairs(pairs) => Ok(First::Continues(
+        implications_command::PairsOrReply::Replied(reply) => Ok(AfterFile::Replied(reply)),
+        implications_command::PairsOrReply::Pairs(pairs) => Ok(AfterFile::Continues(
             SecondInput::Implications {
                 pairs,
                 counts,
@@ -158,18 +156,6 @@ fn list_implications<'a>(
             },
         )),
     }
-}
-
-/// The reply to a graph text with a fault.
-fn refuse_graph(alloc: Global, fault: &GraphFault) -> Result<Reply, AllocError>
-    ensures outcome { IfOk result (λ r. r.outcome ≡ Outcome.Graph) }
-    ensures line { IfOk result (λ r. r.text.items ≡ line_of (graph_fault_text fault.now)) }
-    ensures fault { OnOk result (fault.now ≡ GraphFault.NoMemory → ⊥) }
-{
-    Ok(Reply {
-        outcome: Outcome::Graph,
-        text: fault.line(alloc)?,
-    })
 }
 
 /// What is left to answer once the file was accepted, where a second input is read.
@@ -235,7 +221,7 @@ pub fn second_reply(
     other: &[u8],
 ) -> Result<Reply, AllocError>
     requires limit { length other.now ≤ limit_of input.now }
-    requires accepted { IsAccepted input.now }
+    requires accepted { IsOfAcceptedGraph input.now }
     ensures { IfOk result (GivesSecond input.now other.now) }
 {
     match input {

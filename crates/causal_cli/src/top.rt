@@ -7,12 +7,12 @@ ghost use Rattle.replies.specs.Outcomes.{code_of};
 ghost use Rattle.causal_cli.specs.Run.{Stream, Ended, Received, run_on, stream_of, reads_of, IsNotRead, IsReadAtMostOnce, ReadsAsAsked};
 ghost use Rattle.causal_cli.specs.Complete.{Complete};
 ghost use Rattle.causal_cli.specs.Commands.{Asks, on_graph};
-ghost use Rattle.causal_cli.specs.Answers.{IsAccepted, IsAnsweredWith, second_in};
+ghost use Rattle.causal_cli.specs.Answers.{IsOfAcceptedGraph, IsAnsweredWith, second_in};
 ghost use Rattle.causal_cli.specs.Headline.{Headline, HeadlineOfCheck};
 ghost use Rattle.causal_cli.specs.Drawn.{RightAsDrawn};
 ghost use Rattle.causal_cli.specs.Ends.{RepliesWith, EndsWith, IsTooLong, Delivers, Proceeds, text_of};
 
-use crate::answer::{First, SecondInput, answer, long_reply, second_reply};
+use crate::answer::{AfterFile, SecondInput, answer, long_reply, second_reply};
 use crate::commands::{GraphRequest, Request, read_request};
 use crate::lines::line_of;
 use causal_io::{ReadError, Shelf, Sink, read_all, write_all};
@@ -124,8 +124,8 @@ fn answer_graph<S: Shelf>(alloc: Global, request: GraphRequest<'_>, shelf: &mut 
     };
     match answer(alloc, request, &bytes) {
         Err(_) => Reply::bare(alloc, Outcome::Memory),
-        Ok(First::Replied(reply)) => reply,
-        Ok(First::Continues(input)) => proceed(alloc, file, &bytes, &input, shelf),
+        Ok(AfterFile::Replied(reply)) => reply,
+        Ok(AfterFile::Continues(input)) => proceed(alloc, file, &bytes, &input, shelf),
     }
 }
 
@@ -140,7 +140,7 @@ fn proceed<S: Shelf>(
     requires held { IfSome (S.held shelf.now file.now) (λ all. bytes.now ≡ all) }
     requires there { S.lacks shelf.now file.now ≡ false }
     requires small { length bytes.now ≤ 1048576 }
-    requires accepted { IsAccepted input.now }
+    requires accepted { IsOfAcceptedGraph input.now }
     requires answered { IsAnsweredWith input.now }
     ensures proceeds { Proceeds (S.held shelf.old) (S.lacks shelf.old) (S.faults shelf.old) (S.faults shelf.new) input.now result }
     ensures only { (name : List ℕ) → name ≢ second_in input.now → IsNotRead (reads_of (S.reads shelf.old) (S.reads shelf.new) (S.given shelf.old) (S.given shelf.new)) name }

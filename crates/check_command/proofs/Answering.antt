@@ -1,5 +1,5 @@
 -- From what was read, and the answer for it, to the answer of a check.
-use Rattle.std.proofs.Common.{◌≡◌, ◌≤◌, ℕ, List, length, Result, Ok, Err, subst}
+use Rattle.std.proofs.Common.{◌≡◌, ◌≤◌, ℕ, List, length, Result, Ok, subst}
 use Rattle.std.specs.Prelude.{IfOk}
 use Rattle.mixed_graph.specs.Graphs.{MixedGraph}
 use Rattle.prob_expr.specs.Tree.{PlainFormula, PlainTarget}
@@ -11,14 +11,10 @@ use Rattle.dag_reader.specs.declared.graph.ReadGraph.{ReadGraph}
 use Rattle.replies.specs.declared.outcome.Outcome.{Outcome}
 use Rattle.replies.specs.declared.outcome.Outcome.TheVariants.{Yes, No}
 use Rattle.replies.specs.declared.outcome.Reply.{Reply}
+use Rattle.replies.proofs.Results.{mapped}
 use Rattle.replies.specs.Observed.{observed_names, IsObservedGraph}
 use Rattle.check_command.specs.Answers.{IsRead, FormulaAnswer, HedgeAnswer, HasEntries, CertificateAnswer, of_formula, of_hedge, ObservedAnswer, CheckAnswer}
 use Rattle.check_command.specs.Replies.{AnswersFormula, AnswersHedge}
-
--- what holds of a result and what follows from it
-mapped : {A E : Type 0} (P Q : A → Type 0) (r : Result A E) → ((x : A) → P x → Q x) → IfOk r P → IfOk r Q
-mapped P Q (Ok x) f h = f x h
-mapped P Q (Err e) f h = tt
 
 module _ (g : ReadGraph) (q : MixedGraph) (names : List (List ℕ)) (bytes : List ℕ) (observed : IsObservedGraph g q) (named : names ≡ observed_names g) (small : length bytes ≤ 67108864) where
   in_graph : (o : Outcome) (text : List ℕ) → CertificateAnswer q names bytes o text → ObservedAnswer g bytes o text

@@ -4,8 +4,8 @@ use Rattle.std.specs.Prelude.{not, eqb, ltb, leb, get_or, ◌||◌, ◌&&◌}
 use Rattle.mixed_graph.specs.Bits.{has}
 use Rattle.mixed_graph.specs.Graphs.{MixedGraph, IsMixedGraph}
 use Rattle.m_separation.specs.declared.paths.OpenPath.{OpenPath}
-use Rattle.m_separation.specs.Paths.{IsOpenPath}
-use Rattle.replies.proofs.PathsBelow.{path_below}
+use Rattle.replies.specs.Lines.{IsPrintablePath}
+use Rattle.replies.proofs.PathsBelow.{path_printable}
 use Rattle.do_rules.specs.Rules.{IsOpenFor}
 use Rattle.do_rules.specs.declared.rules.Rule.{Rule}
 use Rattle.do_rules.specs.declared.rules.Rule.TheVariants.{One, Two, Three}
@@ -21,15 +21,12 @@ use Rattle.do_derivation.specs.Accepts.{AcceptsNot, DefinesNot, EndsNot, start_o
 use Rattle.do_derivation.specs.declared.faults.StepFault.{StepFault}
 use Rattle.do_derivation.specs.declared.faults.StepFault.TheVariants.{Sets, BadOrder, Grouping, NoLemma, NoPlace, Shape}
 use Rattle.do_derivation.specs.declared.faults.CheckFault.{CheckFault}
-use Rattle.check_command.specs.Replies.{IsLowPath, HasLowPath, IsLowFault}
+use Rattle.check_command.specs.Replies.{HasLowPath, IsLowFault}
 
-low : (g : MixedGraph) → IsMixedGraph g → (x y w : ℕ → Bool) (p : OpenPath) → IsOpenPath g x y w p.vertices p.marks p.count → IsLowPath g.vertices p
-low g valid x y w p h = record { some = h.some; few = h.few; low = λ i lt. path_below g valid x y w p.vertices p.marks p.count h i lt }
-
-open_low : (g : MixedGraph) → IsMixedGraph g → (r : Rule) (x y z w : ℕ → Bool) (p : OpenPath) → IsOpenFor r g x y z w p → IsLowPath g.vertices p
+open_low : (g : MixedGraph) → IsMixedGraph g → (r : Rule) (x y z w : ℕ → Bool) (p : OpenPath) → IsOpenFor r g x y z w p → IsPrintablePath g.vertices p
 open_low g valid r x y z w p h =
     let cut = cut_graph r g valid x z w h.graph h.is_graph in
-    subst (λ n. IsLowPath n p) cut.1 (low h.graph cut.0 y z (λ v. x v || w v) p h.path)
+    subst (λ n. IsPrintablePath n p) cut.1 (path_printable h.graph cut.0 y z (λ v. x v || w v) p h.path)
 
 -- a row that refuses at once has no path, or one below n
 abbrev IsLowRow : ℕ → Row → Type 0

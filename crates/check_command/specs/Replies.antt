@@ -1,7 +1,6 @@
 -- What the parts of a check ask and reply.
-use Rattle.std.specs.Prelude.{ℕ, ◌≡◌, ◌<◌, ◌≤◌, true, List, None, slice_index}
+use Rattle.std.specs.Prelude.{ℕ, ◌≡◌, true, List, None}
 use Rattle.mixed_graph.specs.Graphs.{MixedGraph}
-use Rattle.m_separation.specs.declared.paths.OpenPath.{OpenPath}
 use Rattle.prob_expr.specs.Check.{fault_in}
 use Rattle.prob_expr.specs.Terms.{is_term}
 use Rattle.prob_expr.specs.Tree.{PlainFormula, PlainTarget}
@@ -13,6 +12,7 @@ use Rattle.do_derivation.specs.declared.faults.CheckFault.{CheckFault}
 use Rattle.do_derivation.specs.declared.faults.CheckFault.TheVariants.{Step, EndDiffers, DoLeft, NoMemory}
 use Rattle.hedge.specs.declared.hedge.Hedge.{Hedge}
 use Rattle.replies.specs.declared.outcome.Reply.{Reply}
+use Rattle.replies.specs.Lines.{IsPrintablePath}
 use Rattle.check_command.specs.Answers.{FormulaAnswer, HedgeAnswer}
 
 -- the target of a certificate that was read: its sets are below n and don't meet, and y isn't empty
@@ -27,17 +27,11 @@ IsSoundFormula n f = fault_in n f ≡ None
 abbrev pub IsSoundDerivation : ℕ → PlainDerivation → Type 0
 IsSoundDerivation n d = are_sets n (sets_of d.lemmas) ≡ true
 
--- the path has a vertex and at most 64, all of them below n
-pub record IsLowPath (n : ℕ) (p : OpenPath) : Type 0 where
-  pub some : 0 < p.count
-  pub few : p.count ≤ 64
-  pub low : (i : ℕ) → i < p.count → slice_index p.vertices i < n
-
 -- the path of a step's fault, where it has one, lies below n
 abbrev pub HasLowPath : ℕ → StepFault → Type 0
 HasLowPath n NotATerm = Unit {0}
 HasLowPath n Sets = Unit {0}
-HasLowPath n (Unblocked p) = IsLowPath n p
+HasLowPath n (Unblocked p) = IsPrintablePath n p
 HasLowPath n BadOrder = Unit {0}
 HasLowPath n Grouping = Unit {0}
 HasLowPath n (NoLemma k) = Unit {0}

@@ -1,3 +1,3 @@
-pub mod Faults
 pub mod Belows
+pub mod Found
 pub mod Exclusive

@@ -3,8 +3,8 @@ ghost use Rattle.word_lists.specs.Views.{names_in};
 ghost use Rattle.effect_answers.specs.Effects.{IsAsked};
 
 use dag_reader::ReadGraph;
-use latent_projection::{Observed, observed};
-use replies::{Reply, list_or, refuse};
+use latent_projection::Observed;
+use replies::{AskedLists, Reply, asked_lists, refuse};
 use std::alloc::{AllocError, Global};
 use targets::{EffectSets, find_effect_sets};
 
@@ -35,9 +35,7 @@ pub fn asked_effect(
 ) -> Result<Asked, AllocError>
     ensures { IfOk result (IsAsked graph.now (option_map names_in x) (option_map names_in y)) }
 {
-    let seen = observed(alloc, &graph.names, &graph.graph, graph.latent)?;
-    let x = list_or(alloc, &graph.names, graph.exposures, x)?;
-    let y = list_or(alloc, &graph.names, graph.outcomes, y)?;
+    let AskedLists { seen, x, y } = asked_lists(alloc, graph, x, y)?;
     match find_effect_sets(alloc, &graph.names, &seen.names, &x, &y) {
         Ok(sets) => Ok(Asked::Effect(Effect { seen, sets })),
         Err(fault) => Ok(Asked::Refused(refuse(alloc, &fault)?)),

@@ -1,5 +1,5 @@
 -- Sets and paths of vertices that have names.
-use Rattle.std.proofs.Common.{◌≡◌, ℕ, ◌+◌, ◌-◌, Bool, List, length, Option, Some, None, zero, suc, refl, ap, ◌∙◌, arith, eq-eqb}
+use Rattle.std.proofs.Common.{◌≡◌, ℕ, ◌+◌, ◌-◌, Bool, List, length, Option, Some, None, zero, suc, refl, ap, subst, ◌∙◌, arith, eq-eqb}
 use Rattle.std.specs.Prelude.{IfSome, slice_index}
 use Rattle.mixed_graph.specs.Graphs.{MixedGraph, IsMixedGraph}
 use Rattle.m_separation.specs.declared.marks.Mark.{Mark}
@@ -11,9 +11,10 @@ use Rattle.targets.specs.declared.query.Sets.{Sets}
 use Rattle.targets.proofs.Queries.{set_within}
 use Rattle.path_carry.specs.Separations.{IsOpenWithEndsOf}
 use Rattle.replies.specs.Observed.{observed_names}
-use Rattle.replies.proofs.PathsBelow.{path_below}
+use Rattle.replies.specs.Lines.{IsPrintablePath}
+use Rattle.replies.proofs.PathsBelow.{path_printable}
 use Rattle.equivalent_command.specs.Requests.{Query}
-use Rattle.equivalent_command.specs.Queries.{AreAsked, AreBelow, IsPathBelow}
+use Rattle.equivalent_command.specs.Queries.{AreAsked, AreBelow}
 
 -- the sets that lists name are sets of the observed vertices
 pub asked_below : (g : ReadGraph) (l : Option Query) (s : Option Sets) → AreAsked g l s → IfSome s (AreBelow (length (observed_names g)))
@@ -27,12 +28,8 @@ asked_below g (Some q) (Some s) a = record {
 }
 
 -- the vertices of an open path are vertices of the graph
-pub open_below : (g : MixedGraph) → IsMixedGraph g → (n : ℕ) → g.vertices ≡ n → (x y w : ℕ → Bool) (p : OpenPath) → IsOpenPath g x y w p.vertices p.marks p.count → IsPathBelow n p
-open_below g valid n e x y w p o = record {
-  some = o.some;
-  few = o.few;
-  below = λ i h. (let b = path_below g valid x y w p.vertices p.marks p.count o i h in omega (arith, b, e));
-}
+pub open_below : (g : MixedGraph) → IsMixedGraph g → (n : ℕ) → g.vertices ≡ n → (x y w : ℕ → Bool) (p : OpenPath) → IsOpenPath g x y w p.vertices p.marks p.count → IsPrintablePath n p
+open_below g valid n e x y w p o = subst (λ k. IsPrintablePath k p) e (path_printable g valid x y w p o)
 
 -- where the steps of a path lead
 last_of_steps : (vertices : List ℕ) (marks : List Mark) (i k : ℕ) → last (slice_index vertices i) (steps_from vertices marks i k) ≡ slice_index vertices (i + k)

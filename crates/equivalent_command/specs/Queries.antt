@@ -1,8 +1,7 @@
--- What the lists of a query stand for: sets of the first graph. And what can be printed: sets and paths of vertices that have names.
-use Rattle.std.specs.Prelude.{ℕ, ◌<◌, ◌≤◌, Option, Some, None, slice_index}
+-- What the lists of a query stand for: sets of the first graph. And sets that can be printed: their vertices have names.
+use Rattle.std.specs.Prelude.{ℕ, Option, Some, None}
 use Rattle.mixed_graph.specs.Bits.{has}
 use Rattle.mixed_graph.specs.Sets.{Within}
-use Rattle.m_separation.specs.declared.paths.OpenPath.{OpenPath}
 use Rattle.dag_reader.specs.declared.graph.ReadGraph.{ReadGraph}
 use Rattle.targets.specs.declared.query.Sets.{Sets}
 use Rattle.targets.specs.declared.fault.TargetFault.{TargetFault}
@@ -31,9 +30,3 @@ pub record AreBelow (n : ℕ) (s : Sets) : Type 0 where
   pub x : Within n (has s.x.bits)
   pub y : Within n (has s.y.bits)
   pub given : Within n (has s.given.bits)
-
--- the path has at least one vertex, and its vertices are among n
-pub record IsPathBelow (n : ℕ) (p : OpenPath) : Type 0 where
-  pub some : 0 < p.count
-  pub few : p.count ≤ 64
-  pub below : (i : ℕ) → i < p.count → slice_index p.vertices i < n

@@ -2,7 +2,7 @@ ghost use Rattle.std.specs.Prelude.{◌≡◌, IfOk, IfErr, option_map};
 ghost use Rattle.replies.specs.Observed.{observed_names};
 ghost use Rattle.equivalent_command.specs.Requests.{query_of};
 ghost use Rattle.equivalent_command.specs.Queries.{AreAsked, IsListsFault};
-ghost use Rattle.equivalent_command.specs.Firsts.{GivesFirst};
+ghost use Rattle.equivalent_command.specs.Firsts.{IsAcceptance};
 
 use crate::faults::bidirected_fault;
 use crate::request::Query;
@@ -15,7 +15,7 @@ use targets::{Sets, TargetFault, find_sets};
 
 /// What the first graph gives.
 #[derive(Drop)]
-pub enum First {
+pub enum Acceptance {
     /// A listed name, an empty set or a bidirected edge is refused.
     Refused(Reply),
     /// The second graph is to be read. The sets are those that are asked about.
@@ -54,16 +54,16 @@ pub fn accept_first(
     alloc: Global,
     graph: &ReadGraph,
     query: Option<Query>,
-) -> Result<First, AllocError>
-    ensures { IfOk result (GivesFirst graph.now (option_map query_of query)) }
+) -> Result<Acceptance, AllocError>
+    ensures { IfOk result (IsAcceptance graph.now (option_map query_of query)) }
 {
     let seen = observed(alloc, &graph.names, &graph.graph, graph.latent)?;
     let sets = match find_asked(alloc, graph, &seen.names, query) {
         Ok(sets) => sets,
-        Err(fault) => return Ok(First::Refused(refuse(alloc, &fault)?)),
+        Err(fault) => return Ok(Acceptance::Refused(refuse(alloc, &fault)?)),
     };
     match bidirected_fault(alloc, &seen)? {
-        Some(fault) => Ok(First::Refused(refuse(alloc, &fault)?)),
-        None => Ok(First::Accepted(sets)),
+        Some(fault) => Ok(Acceptance::Refused(refuse(alloc, &fault)?)),
+        None => Ok(Acceptance::Accepted(sets)),
     }
 }

@@ -1,7 +1,8 @@
 ghost use Rattle.std.specs.Prelude.{◌≡◌, ◌++◌, IfOk, IfSome, OnOk, length};
 ghost use Rattle.mixed_graph.specs.Shown.{graph_of};
 ghost use Rattle.markov_equivalence.specs.Skeletons.{HasArrowsAlone, AreEquivalent};
-ghost use Rattle.equivalent_command.specs.Queries.{AreBelow, IsPathBelow};
+ghost use Rattle.replies.specs.Lines.{IsPrintablePath};
+ghost use Rattle.equivalent_command.specs.Queries.{AreBelow};
 ghost use Rattle.equivalent_command.specs.Answers.{SetsAnswer};
 ghost use Rattle.equivalent_command.specs.Lines.{separated_text, open_text, connected_text};
 
@@ -61,8 +62,8 @@ fn connected_text(
     first: &OpenPath,
     second: &OpenPath,
 ) -> Result<Vec<u8>, AllocError>
-    requires first { IsPathBelow (length names.now) first.now }
-    requires second { IsPathBelow (length names.now) second.now }
+    requires first { IsPrintablePath (length names.now) first.now }
+    requires second { IsPrintablePath (length names.now) second.now }
     ensures { IfOk result (λ v. v.items ≡ connected_text names.now first.now second.now) }
 {
     let mut text = Vec::from_slice(alloc, b"equivalent\n")?;
@@ -78,7 +79,7 @@ fn push_open_in(
     names: &Names,
     path: &OpenPath,
 ) -> Result<(), AllocError>
-    requires { IsPathBelow (length names.now) path.now }
+    requires { IsPrintablePath (length names.now) path.now }
     ensures { OnOk result (out.new.items ≡ out.old.items ++ open_text first names.now path.now) }
 {
     out.extend_from_slice(b"open in the ")?;

@@ -11,6 +11,6 @@ mod printing;
 mod reply;
 mod request;
 
-pub use accepting::{First, accept_first};
+pub use accepting::{Acceptance, accept_first};
 pub use reply::{equivalent_reply, long_second_graph};
 pub use request::{Query, ROW, Request};

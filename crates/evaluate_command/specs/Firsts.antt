@@ -7,15 +7,15 @@ use Rattle.prob_expr.specs.View.{formula_view}
 use Rattle.effect_answers.specs.Hedges.{ShowsHedge}
 use Rattle.evaluate_command.specs.Answers.{EvaluateFirst}
 use Rattle.evaluate_command.specs.Effects.{effect_view, IsIdentified, Identifies}
-use Rattle.evaluate_command.specs.declared.first.First.{First}
-use Rattle.evaluate_command.specs.declared.first.First.TheVariants as first
+use Rattle.evaluate_command.specs.declared.first.EffectOrReply.{EffectOrReply}
+use Rattle.evaluate_command.specs.declared.first.EffectOrReply.TheVariants as first
 use Rattle.evaluate_command.specs.declared.first.Found.{Found}
 use Rattle.evaluate_command.specs.declared.first.Found.TheVariants as found
 
 -- the answer is given, or the lists name an effect that has a formula
-abbrev pub IsFirst : ReadGraph → Names → Names → First → Type 0
-IsFirst g x y (first.Replied r) = EvaluateFirst g x y r.outcome r.text.items
-IsFirst g x y (first.Identified i) = Identifies g x y (effect_view i)
+abbrev pub IsEffectOrReply : ReadGraph → Names → Names → EffectOrReply → Type 0
+IsEffectOrReply g x y (first.Replied r) = EvaluateFirst g x y r.outcome r.text.items
+IsEffectOrReply g x y (first.Identified i) = Identifies g x y (effect_view i)
 
 -- for sets of the observed graph q: a formula for their effect, or the text of a hedge
 abbrev pub IsFound : MixedGraph → List (List ℕ) → (x y : ℕ) → Found → Type 0

@@ -3,7 +3,7 @@ ghost use Rattle.mixed_graph.specs.Bits.{has};
 ghost use Rattle.mixed_graph.specs.Sets.{Within, Apart};
 ghost use Rattle.mixed_graph.specs.Shown.{graph_of};
 ghost use Rattle.word_lists.specs.Views.{names_in};
-ghost use Rattle.evaluate_command.specs.Firsts.{IsFirst, IsFound};
+ghost use Rattle.evaluate_command.specs.Firsts.{IsEffectOrReply, IsFound};
 
 use crate::identified::Identified;
 use dag_reader::ReadGraph;
@@ -18,7 +18,7 @@ use targets::EffectSets;
 
 /// What is known before counts are read.
 #[derive(Drop)]
-pub enum First {
+pub enum EffectOrReply {
     /// The answer: there is a hedge, or a listed name is at fault.
     Replied(Reply),
     /// The effect has a formula.
@@ -33,20 +33,20 @@ pub fn identify_first(
     graph: &ReadGraph,
     x: Option<Vec<Vec<u8>>>,
     y: Option<Vec<Vec<u8>>>,
-) -> Result<First, AllocError>
-    ensures { IfOk result (IsFirst graph.now (option_map names_in x) (option_map names_in y)) }
+) -> Result<EffectOrReply, AllocError>
+    ensures { IfOk result (IsEffectOrReply graph.now (option_map names_in x) (option_map names_in y)) }
 {
     let Effect { seen, sets } = match asked_effect(alloc, graph, x, y)? {
         Asked::Effect(effect) => effect,
-        Asked::Refused(reply) => return Ok(First::Replied(reply)),
+        Asked::Refused(reply) => return Ok(EffectOrReply::Replied(reply)),
     };
     match find_formula(alloc, &seen, sets)? {
-        Found::Formula(formula) => Ok(First::Identified(Identified {
+        Found::Formula(formula) => Ok(EffectOrReply::Identified(Identified {
             seen,
             sets,
             formula,
         })),
-        Found::Hedge(text) => Ok(First::Replied(Reply {
+        Found::Hedge(text) => Ok(EffectOrReply::Replied(Reply {
             outcome: Outcome::No,
             text,
         })),

@@ -10,7 +10,7 @@ mod reply;
 mod request;
 mod values;
 
-pub use first::{First, identify_first};
+pub use first::{EffectOrReply, identify_first};
 pub use identified::Identified;
 pub use reply::{evaluate_reply, long_counts};
 pub use request::{ROW, Request};

@@ -2,4 +2,3 @@ mod Telling
 mod Readable
 mod OneKind
 mod Spoken
-mod BackDoors

@@ -15,16 +15,12 @@ use Rattle.dag_reader.specs.FaultTexts.{graph_fault_text}
 use Rattle.replies.specs.declared.outcome.Outcome.{Outcome}
 use Rattle.replies.specs.declared.outcome.Outcome.TheVariants.{Yes, No, Words, Graph, Second, Evaluation, Read, Write, Memory}
 use Rattle.replies.specs.declared.outcome.Reply.{Reply}
+use Rattle.replies.proofs.Results.{mapped}
 use Rattle.replies.specs.Observed.{observed_names, IsObservedGraph, HoldsGraph}
 use Rattle.explain_call.specs.Requests.{Request}
 use Rattle.explain_call.specs.Steps.{StepsIn, StepsAnswer}
 use Rattle.explain_call.specs.Answers.{GraphAnswer, faulty, FileAnswer}
 use Rattle.explain_call.specs.Told.{TellsSteps}
-
--- what holds of a result and what follows from it
-pub mapped : {A E : Type 0} (P Q : A → Type 0) (r : Result A E) → ((x : A) → P x → Q x) → IfOk r P → IfOk r Q
-mapped P Q (Ok x) f h = f x h
-mapped P Q (Err e) f h = tt
 
 module _ (graphs : Bool) (g : ReadGraph) (q : MixedGraph) (names : List (List ℕ)) (bytes : List ℕ) (observed : IsObservedGraph g q) (named : names ≡ observed_names g) where
   pub in_graph : (o : Outcome) (text : List ℕ) → StepsIn graphs q names bytes o text → StepsAnswer graphs g bytes o text

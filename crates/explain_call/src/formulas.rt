@@ -4,15 +4,16 @@ ghost use Rattle.mixed_graph.specs.Names.{texts};
 ghost use Rattle.mixed_graph.specs.Shown.{graph_of};
 ghost use Rattle.do_rules.specs.Rules.{AreThreeSets};
 ghost use Rattle.word_lists.specs.Views.{names_in};
-ghost use Rattle.explain_call.specs.Formulas.{formula_latex, SetFormula, BackDoorFormula, FormulaFor, FormulaAnswer};
+ghost use Rattle.explain_call.specs.Formulas.{formula_latex, FormulaFor, FormulaAnswer};
 
-use adjustment::{adjusts, back_door, formula_for};
+use adjust_command::{Verdict, judge};
+use adjustment::formula_for;
 use dag_reader::ReadGraph;
 use identify_text::latex_answer;
-use latent_projection::{Observed, observed};
+use latent_projection::Observed;
 use mixed_graph::{Names, VSet};
 use prob_expr::Target;
-use replies::{Outcome, Reply, list_or, refuse};
+use replies::{AskedLists, Outcome, Reply, asked_lists, refuse};
 use std::alloc::{AllocError, Global};
 use targets::{Sets, TargetFault, find_sets};
 
@@ -29,9 +30,7 @@ pub fn formula_reply(
 ) -> Result<Reply, AllocError>
     ensures { IfOk result (λ r. FormulaAnswer by_back_door graph.now (option_map names_in x) (option_map names_in y) (texts set.now) r.outcome r.text.items) }
 {
-    let seen = observed(alloc, &graph.names, &graph.graph, graph.latent)?;
-    let x = list_or(alloc, &graph.names, graph.exposures, x)?;
-    let y = list_or(alloc, &graph.names, graph.outcomes, y)?;
+    let AskedLists { seen, x, y } = asked_lists(alloc, graph, x, y)?;
     match find_sets(alloc, &graph.names, &seen.names, &x, &y, set) {
         Ok(sets) => decide(alloc, &seen, sets, by_back_door),
         Err(fault) => refuse(alloc, &fault),
@@ -51,53 +50,16 @@ fn decide(
     requires some_y { 0 < sets.y.bits }
     ensures { IfOk result (λ r. FormulaFor by_back_door (graph_of seen.now.graph) seen.now.names sets.x.bits sets.y.bits sets.given.bits r.outcome r.text.items) }
 {
-    if by_back_door {
-        of_back_door_set(alloc, seen, sets)
-    } else {
-        of_set(alloc, seen, sets)
-    }
-}
-
-/// The answer by the adjustment criterion.
-fn of_set(alloc: Global, seen: &Observed, sets: Sets) -> Result<Reply, AllocError>
-    requires named { length seen.now.names ≡ seen.now.graph.n }
-    requires sets { AreThreeSets seen.now.graph.n (has sets.x.bits) (has sets.y.bits) (has sets.given.bits) }
-    requires some { 0 < sets.y.bits }
-    ensures { IfOk result (λ r. SetFormula (graph_of seen.now.graph) seen.now.names sets.x.bits sets.y.bits sets.given.bits r.outcome r.text.items) }
-{
-    match adjusts(&seen.graph, sets.x, sets.y, sets.given) {
-        Ok(()) => Ok(Reply {
+    match judge(&seen.graph, sets, by_back_door) {
+        Verdict::Meets => Ok(Reply {
             outcome: Outcome::Yes,
             text: formula_latex(alloc, &seen.names, sets)?,
         }),
-        Err(_) => Ok(Reply {
+        Verdict::Breaks(_) => Ok(Reply {
             outcome: Outcome::No,
             text: Vec::from_slice(alloc, b"not admissible\n")?,
         }),
-    }
-}
-
-/// The answer by the back-door criterion, for which the exposures are one vertex.
-fn of_back_door_set(alloc: Global, seen: &Observed, sets: Sets) -> Result<Reply, AllocError>
-    requires named { length seen.now.names ≡ seen.now.graph.n }
-    requires sets { AreThreeSets seen.now.graph.n (has sets.x.bits) (has sets.y.bits) (has sets.given.bits) }
-    requires some_x { 0 < sets.x.bits }
-    requires some_y { 0 < sets.y.bits }
-    ensures { IfOk result (λ r. BackDoorFormula (graph_of seen.now.graph) seen.now.names sets.x.bits sets.y.bits sets.given.bits r.outcome r.text.items) }
-{
-    let v = sets.x.lowest();
-    if sets.x.bits != VSet::one(v).bits {
-        return refuse(alloc, &TargetFault::NotOneX);
-    }
-    match back_door(&seen.graph, v, sets.y, sets.given) {
-        Ok(()) => Ok(Reply {
-            outcome: Outcome::Yes,
-            text: formula_latex(alloc, &seen.names, sets)?,
-        }),
-        Err(_) => Ok(Reply {
-            outcome: Outcome::No,
-            text: Vec::from_slice(alloc, b"not admissible\n")?,
-        }),
+        Verdict::NotOne => refuse(alloc, &TargetFault::NotOneX),
     }
 }
 

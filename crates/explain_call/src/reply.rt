@@ -1,6 +1,4 @@
-ghost use Rattle.std.specs.Prelude.{◌≡◌, IfOk, OnOk};
-ghost use Rattle.name_text.specs.Lines.{line_of};
-ghost use Rattle.dag_reader.specs.FaultTexts.{graph_fault_text};
+ghost use Rattle.std.specs.Prelude.{IfOk};
 ghost use Rattle.explain_call.specs.Requests.{request_of};
 ghost use Rattle.explain_call.specs.Answers.{GraphAnswer, FileAnswer};
 
@@ -9,7 +7,7 @@ use crate::requests::Request;
 use crate::rule_graphs::rule_graph_reply;
 use crate::steps::steps_reply;
 use dag_reader::{GraphFault, ReadGraph, read_graph};
-use replies::{Outcome, Reply};
+use replies::{Outcome, Reply, refuse_graph};
 use std::alloc::{AllocError, Global};
 
 /// The most bytes of a graph text.
@@ -44,18 +42,6 @@ fn graph_reply(
             asked.back_door,
         ),
     }
-}
-
-/// The line of a graph that is refused.
-fn refuse_graph(alloc: Global, fault: &GraphFault) -> Result<Reply, AllocError>
-    ensures outcome { IfOk result (λ r. r.outcome ≡ Outcome.Graph) }
-    ensures line { IfOk result (λ r. r.text.items ≡ line_of (graph_fault_text fault.now)) }
-    ensures fault { OnOk result (fault.now ≡ GraphFault.NoMemory → ⊥) }
-{
-    Ok(Reply {
-        outcome: Outcome::Graph,
-        text: fault.line(alloc)?,
-    })
 }
 
 /// The answer on the bytes of a file, and of a certificate where there is one.

@@ -5,7 +5,7 @@ use Rattle.dag_reader.specs.declared.graph.ReadGraph.{ReadGraph}
 use Rattle.dag_reader.specs.RoundTrip.{AreSame}
 use Rattle.targets.specs.declared.fault.TargetFault.{TargetFault}
 use Rattle.targets.specs.declared.fault.TargetFault.TheVariants.{EmptyX}
-use Rattle.targets.specs.Targets.{EffectLists, Lists, fault_in, IsFaultOfTarget}
+use Rattle.targets.specs.Targets.{EffectLists, Lists, fault_in, IsFaultOfTarget, IsListFault}
 use Rattle.prob_expr.specs.Tree.{PlainTarget}
 use Rattle.identification.specs.Procedure.{IsUnidentified}
 use Rattle.conditional_theory.specs.Conditionals.{IsConditionalTarget}
@@ -21,8 +21,9 @@ use Rattle.effect_answers.specs.Effects.{effect_lists}
 use Rattle.effect_answers.proofs.Exclusive.{formula_or_hedge, effect_refused, same_effect_lists}
 use Rattle.identify_command.specs.declared.form.Form.{Form}
 use Rattle.identify_command.specs.Answers.{EffectAnswer, IdentifyAnswer}
-use Rattle.identify_command.specs.Conditions.{target_lists, AreTargetSets, IsListFault, IsListRefusal, ShowsConditional, ShowsJoint, ListsAnswer, ConditionalAnswer, IdentifyAnswerGiven}
-use Rattle.identify_command.proofs.Lists.{three_sets, outcome}
+use Rattle.identify_command.specs.Conditions.{target_lists, AreTargetSets, IsListRefusal, ShowsConditional, ShowsJoint, ListsAnswer, ConditionalAnswer, IdentifyAnswerGiven}
+use Rattle.targets.proofs.Effects.{listed_outcome}
+use Rattle.identify_command.proofs.Lists.{three_sets}
 
 -- ---- where nothing is given
 
@@ -65,7 +66,7 @@ refused l t line s r = no_fault_of (fault_in l) l.y some_list r.fault s.no_fault
 
 module _ (form : Form) (q : MixedGraph) (valid : IsMixedGraph q) (l : Lists) (named : length l.observed ≡ q.vertices) where
   is_target : (t : PlainTarget) → AreTargetSets l t → IsConditionalTarget q t
-  is_target t s = let sets = three_sets l q.vertices t named s in record { sets = sets; some = some_member q.vertices t.y sets.y_within (outcome l t s) }
+  is_target t s = let sets = three_sets l q.vertices t named s in record { sets = sets; some = some_member q.vertices t.y sets.y_within (listed_outcome l t.x t.y t.given s) }
 
   formula_or_joint : (t : PlainTarget) (text line : List ℕ) → AreTargetSets l t → ShowsConditional form q l.observed t text → ShowsJoint form q l.observed t line → ⊥
   formula_or_joint t text line s a b =

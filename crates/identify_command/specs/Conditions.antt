@@ -3,13 +3,12 @@ use Rattle.std.specs.Prelude.{ℕ, ◌≡◌, List, [], ◌∷◌, Some, None}
 use Rattle.mixed_graph.specs.Graphs.{MixedGraph}
 use Rattle.dag_reader.specs.declared.graph.ReadGraph.{ReadGraph}
 use Rattle.targets.specs.declared.fault.TargetFault.{TargetFault}
-use Rattle.targets.specs.declared.fault.TargetFault.TheVariants.{EmptyX}
-use Rattle.targets.specs.Targets.{Lists, listed, fault_in, IsListedSet, IsTargetFault, IsFaultOrMemory}
+use Rattle.targets.specs.Targets.{Lists, AreListedSets, IsListFault}
 use Rattle.name_text.specs.Lines.{line_of}
 use Rattle.targets.specs.FaultTexts.{target_fault_text}
 use Rattle.replies.specs.declared.outcome.Outcome.{Outcome}
 use Rattle.replies.specs.declared.outcome.Outcome.TheVariants.{Yes, No, Graph}
-use Rattle.replies.specs.Observed.{Names, observed_names, IsObservedGraph}
+use Rattle.replies.specs.Observed.{Names, IsObservedGraph, query_lists}
 use Rattle.prob_expr.specs.Tree.{PlainFormula, PlainTarget}
 use Rattle.do_derivation.specs.Plans.{PlainDerivation}
 use Rattle.hedge.specs.declared.hedge.Hedge.{Hedge}
@@ -30,31 +29,11 @@ use Rattle.identify_command.specs.Answers.{certificate_line, formula_text, Reads
 
 -- the lists of a target: x and y are those that are listed, or else the exposures and the outcomes
 abbrev pub target_lists : ReadGraph → (x y : Names) → (given : List (List ℕ)) → Lists
-target_lists g x y given = record {
-  all = g.names;
-  observed = observed_names g;
-  x = listed g.names g.exposures.bits x;
-  y = listed g.names g.outcomes.bits y;
-  given = given;
-}
+target_lists g x y given = query_lists g x y given
 
 -- the sets of a target: no name is at fault, and y isn't empty
-pub record AreTargetSets (l : Lists) (t : PlainTarget) : Type 0 where
-  pub no_fault : fault_in l ≡ None
-  pub some_y : l.y ≡ [] → ⊥
-  pub set_x : IsListedSet l.observed l.x t.x
-  pub set_y : IsListedSet l.observed l.y t.y
-  pub set_given : IsListedSet l.observed l.given t.given
-
--- the fault of the lists of a target, for which an empty x is none
-abbrev pub IsListFault : Lists → TargetFault → Type 0
-IsListFault l EmptyX = ⊥
-IsListFault l f = IsTargetFault l f
-
--- the fault of the lists of a target; want of memory may stand in its place
-abbrev pub IsListFaultOrMemory : Lists → TargetFault → Type 0
-IsListFaultOrMemory l EmptyX = ⊥
-IsListFaultOrMemory l f = IsFaultOrMemory l f
+abbrev pub AreTargetSets : Lists → PlainTarget → Type 0
+AreTargetSets l t = AreListedSets l t.x t.y t.given
 
 -- a listed name is at fault, or y is empty: the line says so
 pub record IsListRefusal (l : Lists) (line : List ℕ) : Type 0 where

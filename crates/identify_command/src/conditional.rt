@@ -11,15 +11,14 @@ ghost use Rattle.identify_command.specs.Conditions.{ConditionalAnswer, TargetAns
 
 use crate::form::Form;
 use crate::reply::sized;
-use crate::target::find_target;
 use crate::texts::{formula_text, joint_text};
 use conditional_id::{Conditional, identify_given};
 use dag_reader::ReadGraph;
-use latent_projection::{Observed, observed};
+use latent_projection::Observed;
 use prob_expr::Target;
-use replies::{Outcome, Reply, list_or, refuse};
+use replies::{AskedLists, Outcome, Reply, asked_lists, refuse};
 use std::alloc::{AllocError, Global};
-use targets::EffectSets;
+use targets::{EffectSets, find_listed_sets};
 
 /// Whether P(y | do(x), given) can be computed from observations, in the observed graph.
 pub fn conditional_reply(
@@ -32,11 +31,16 @@ pub fn conditional_reply(
 ) -> Result<Reply, AllocError>
     ensures { IfOk result (λ r. ConditionalAnswer form graph.now (option_map names_in x) (option_map names_in y) (texts given.now) r.outcome r.text.items) }
 {
-    let seen = observed(alloc, &graph.names, &graph.graph, graph.latent)?;
-    let x = list_or(alloc, &graph.names, graph.exposures, x)?;
-    let y = list_or(alloc, &graph.names, graph.outcomes, y)?;
-    match find_target(alloc, &graph.names, &seen.names, &x, &y, given) {
-        Ok(target) => decide_given(alloc, &seen, target, form),
+    let AskedLists { seen, x, y } = asked_lists(alloc, graph, x, y)?;
+    match find_listed_sets(alloc, &graph.names, &seen.names, &x, &y, given) {
+        Ok(sets) => {
+            let target = Target {
+                x: sets.x,
+                y: sets.y,
+                given: sets.given,
+            };
+            decide_given(alloc, &seen, target, form)
+        }
         Err(fault) => refuse(alloc, &fault),
     }
 }

@@ -5,7 +5,6 @@ mod conditional;
 mod form;
 mod reply;
 mod request;
-mod target;
 mod texts;
 
 pub use form::Form;

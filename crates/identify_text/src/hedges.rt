@@ -11,7 +11,7 @@ use mixed_graph::{Names, VSet};
 use std::alloc::{AllocError, Global};
 
 /// Appends the line of a hedge's sets.
-fn push_sets(out: &mut Vec<u8>, names: &Names, h: &Hedge) -> Result<(), AllocError>
+pub fn push_hedge_sets(out: &mut Vec<u8>, names: &Names, h: &Hedge) -> Result<(), AllocError>
     requires big { Within (length names.now) (has h.now.big.bits) }
     requires small { Within (length names.now) (has h.now.small.bits) }
     requires roots { Within (length names.now) (has h.now.roots.bits) }
@@ -46,7 +46,7 @@ pub fn hedge_heading(
 {
     let mut text = effect_text(alloc, x, y, names)?;
     text.extend_from_slice(b" is not identifiable\n")?;
-    push_sets(&mut text, names, h)?;
+    push_hedge_sets(&mut text, names, h)?;
     Ok(text)
 }
 

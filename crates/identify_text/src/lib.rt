@@ -9,7 +9,7 @@ mod pairs;
 mod parts;
 mod theory;
 
-pub use formulas::{formula_answer, latex_answer};
-pub use hedges::hedge_heading;
+pub use formulas::{effect_text, formula_answer, latex_answer};
+pub use hedges::{hedge_heading, push_hedge_sets};
 pub use pairs::{hedge_answer, joint_answer};
 pub use theory::laws;

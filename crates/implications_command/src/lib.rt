@@ -12,7 +12,7 @@ mod reply;
 mod request;
 mod used;
 
-pub use listing::{First, counted_pairs, pairs_reply};
+pub use listing::{PairsOrReply, counted_pairs, pairs_reply};
 pub use pairs::Pairs;
 pub use reply::{differences_reply, long_counts};
 pub use request::{ROW, Request};

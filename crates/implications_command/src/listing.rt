@@ -2,7 +2,7 @@ ghost use Rattle.std.specs.Prelude.{◌≡◌, ◌<◌, IfOk, length};
 ghost use Rattle.implications_command.specs.Pairs.{ArePairs, pairs_view};
 ghost use Rattle.implications_command.specs.Lines.{pair_lines};
 ghost use Rattle.implications_command.specs.Answers.{PairsAnswer};
-ghost use Rattle.implications_command.specs.Firsts.{IsFirst};
+ghost use Rattle.implications_command.specs.Firsts.{IsPairsOrReply};
 
 use crate::lines::pair_lines;
 use crate::pairs::Pairs;
@@ -14,7 +14,7 @@ use std::alloc::{AllocError, Global};
 
 /// What is known before counts are read.
 #[derive(Drop)]
-pub enum First {
+pub enum PairsOrReply {
     /// The answer: no set separates any two vertices.
     Replied(Reply),
     /// There are pairs.
@@ -22,18 +22,18 @@ pub enum First {
 }
 
 /// The pairs of the observed graph that some set separates, or the answer that there is none. The only error is want of memory.
-pub fn counted_pairs(alloc: Global, graph: &ReadGraph) -> Result<First, AllocError>
-    ensures { IfOk result (IsFirst graph.now) }
+pub fn counted_pairs(alloc: Global, graph: &ReadGraph) -> Result<PairsOrReply, AllocError>
+    ensures { IfOk result (IsPairsOrReply graph.now) }
 {
     let seen = observed(alloc, &graph.names, &graph.graph, graph.latent)?;
     let list = implications(alloc, &seen.graph)?;
     if list.is_empty() {
-        return Ok(First::Replied(Reply {
+        return Ok(PairsOrReply::Replied(Reply {
             outcome: Outcome::No,
             text: Vec::from_slice(alloc, b"none\n")?,
         }));
     }
-    Ok(First::Pairs(Pairs { seen, list }))
+    Ok(PairsOrReply::Pairs(Pairs { seen, list }))
 }
 
 /// The answer without counts: the pairs, or that there is none. The only error is want of memory.
@@ -41,8 +41,8 @@ pub fn pairs_reply(alloc: Global, graph: &ReadGraph) -> Result<Reply, AllocError
     ensures { IfOk result (λ r. PairsAnswer graph.now r.outcome r.text.items) }
 {
     match counted_pairs(alloc, graph)? {
-        First::Replied(reply) => Ok(reply),
-        First::Pairs(pairs) => listed_reply(alloc, &pairs),
+        PairsOrReply::Replied(reply) => Ok(reply),
+        PairsOrReply::Pairs(pairs) => listed_reply(alloc, &pairs),
     }
 }
 

@@ -6,12 +6,12 @@ ghost use Rattle.word_forms.specs.Views.{texts_of};
 ghost use Rattle.dag_reader.specs.declared.graph.ReadGraph.{ReadGraph as Read};
 ghost use Rattle.replies.specs.Observed.{HoldsGraph};
 ghost use Rattle.causal_cli.specs.Commands.{Asks, on_graph};
-ghost use Rattle.causal_cli.specs.Answers.{GivesSecond, IsAccepted};
+ghost use Rattle.causal_cli.specs.Answers.{GivesSecond, IsOfAcceptedGraph};
 ghost use Rattle.kept_graph.specs.Kept.{IsKept, Keeps};
 ghost use Rattle.kept_call.specs.Replies.{Proceeds, RepliesWith, answer_of, line_of, question};
 
 use causal_cli::{
-    First, GraphRequest, Request, SecondInput, answer_on, line_of, long_reply, read_request,
+    AfterFile, GraphRequest, Request, SecondInput, answer_on, line_of, long_reply, read_request,
     second_reply,
 };
 use dag_reader::ReadGraph;
@@ -78,15 +78,15 @@ fn answer_graph(
         → RepliesWith (question diagram words bytes.now inputs.now) result }
 {
     match answer_on(alloc, request, graph) {
-        Ok(First::Replied(reply)) => reply,
-        Ok(First::Continues(input)) => proceed(alloc, &input, bytes, inputs),
+        Ok(AfterFile::Replied(reply)) => reply,
+        Ok(AfterFile::Continues(input)) => proceed(alloc, &input, bytes, inputs),
         Err(_) => Reply::bare(alloc, Outcome::Memory),
     }
 }
 
 /// Finds the second input and answers on it.
 fn proceed(alloc: Global, input: &SecondInput<'_>, bytes: &[u8], inputs: &[Input]) -> Reply
-    requires { IsAccepted input.now }
+    requires { IsOfAcceptedGraph input.now }
     ensures { Proceeds input.now bytes.now inputs.now result }
 {
     let Some(other) = content_named(bytes, inputs, input.second()) else {
@@ -100,7 +100,7 @@ fn proceed(alloc: Global, input: &SecondInput<'_>, bytes: &[u8], inputs: &[Input
 
 /// The reply on the bytes of the second input.
 fn reply_on(alloc: Global, input: &SecondInput<'_>, other: &[u8]) -> Result<Reply, AllocError>
-    requires { IsAccepted input.now }
+    requires { IsOfAcceptedGraph input.now }
     ensures { IfOk result (GivesSecond input.now other.now) }
 {
     if other.len() as u64 > input.limit() {

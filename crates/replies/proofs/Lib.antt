@@ -1,3 +1,4 @@
+pub mod Results
 pub mod PathsBelow
 pub mod Outcomes
 pub mod OneGraph

@@ -3,9 +3,11 @@ use Rattle.std.proofs.Common.{◌≡◌, ℕ, ◌+◌, ◌-◌, ◌<◌, ◌≤�
 use Rattle.std.specs.Prelude.{zero, suc, slice_index}
 use Rattle.mixed_graph.specs.Graphs.{MixedGraph, IsMixedGraph}
 use Rattle.m_separation.specs.declared.marks.Mark.{Mark}
+use Rattle.m_separation.specs.declared.paths.OpenPath.{OpenPath}
 use Rattle.m_separation.specs.Walks.{IsWalk}
 use Rattle.m_separation.specs.Paths.{steps_from, IsOpenPath}
 use Rattle.m_separation.proofs.Going.{joined_below}
+use Rattle.replies.specs.Lines.{IsPrintablePath}
 
 steps_below : (g : MixedGraph) → IsMixedGraph g → (vertices : List ℕ) (marks : List Mark) (i k : ℕ) →
     slice_index vertices i < g.vertices → IsWalk g (slice_index vertices i) (steps_from vertices marks i k) →
@@ -24,3 +26,7 @@ path_below g valid x y w vertices marks count p i h =
     let e : 0 + i ≡ i = omega arith in
     let r = steps_below g valid vertices marks 0 (count - 1) p.walk.vertex p.walk.walk i (omega (arith, p.some)) in
     rw e at r
+
+-- so that it can be printed
+pub path_printable : (g : MixedGraph) → IsMixedGraph g → (x y w : ℕ → Bool) (path : OpenPath) → IsOpenPath g x y w path.vertices path.marks path.count → IsPrintablePath g.vertices path
+path_printable g valid x y w path o = record { some = o.some; few = o.few; below = path_below g valid x y w path.vertices path.marks path.count o }

@@ -1,5 +1,5 @@
 -- The observed part of a graph that was read, and refused names.
-use Rattle.std.specs.Prelude.{ℕ, ◌≡◌, ◌≤◌, List, length, Option, Ok}
+use Rattle.std.specs.Prelude.{ℕ, ◌≡◌, ◌≤◌, ◌⊎◌, List, length, Option, Ok}
 use Rattle.mixed_graph.specs.Bits.{has}
 use Rattle.mixed_graph.specs.Graphs.{MixedGraph}
 use Rattle.mixed_graph.specs.Shown.{graph_of}
@@ -7,9 +7,11 @@ use Rattle.dag_reader.specs.declared.graph.ReadGraph.{ReadGraph}
 use Rattle.dag_reader.specs.Reads.{Reads}
 use Rattle.latent_projection.specs.Renumbering.{IsObserved, observed_below, names_at}
 use Rattle.targets.specs.declared.fault.TargetFault.{TargetFault}
-use Rattle.targets.specs.Targets.{Lists, IsTargetFault}
+use Rattle.targets.specs.Targets.{listed, Lists, AreSets, IsTargetFault}
 use Rattle.name_text.specs.Lines.{line_of}
 use Rattle.targets.specs.FaultTexts.{target_fault_text}
+use Rattle.replies.specs.declared.outcome.Outcome.{Outcome}
+use Rattle.replies.specs.declared.outcome.Outcome.TheVariants.{Graph}
 
 -- the names of a list, where an option gives one
 abbrev pub Names : Type 0
@@ -33,3 +35,26 @@ pub record IsTargetRefusal (l : Lists) (line : List ℕ) : Type 0 where
   pub fault : TargetFault
   pub is_fault : IsTargetFault l fault
   pub prints : line ≡ line_of (target_fault_text fault)
+
+-- the lists of a query with a third list: x and y are those that are given, or else the exposures and the outcomes
+abbrev pub query_lists : ReadGraph → (x y : Names) → (given : List (List ℕ)) → Lists
+query_lists g x y given = record {
+  all = g.names;
+  observed = observed_names g;
+  x = listed g.names g.exposures.bits x;
+  y = listed g.names g.outcomes.bits y;
+  given = given;
+}
+
+-- the lists name three sets, of which this is so
+pub record IsOfThreeSets (l : Lists) (is_so : (x y z : ℕ) → Type 0) : Type 0 where
+  pub x : ℕ
+  pub y : ℕ
+  pub z : ℕ
+  pub sets : AreSets l x y z
+  pub answer : is_so x y z
+
+-- the answer for lists: that for the three sets which they name, of which the graph may be refused, or their own refusal
+abbrev pub AnswerForSets : Lists → ((x y z : ℕ) → Outcome → List ℕ → Type 0) → Outcome → List ℕ → Type 0
+AnswerForSets l answer Graph text = IsTargetRefusal l text ⊎ IsOfThreeSets l (λ x y z. answer x y z Graph text)
+AnswerForSets l answer o text = IsOfThreeSets l (λ x y z. answer x y z o text)

@@ -1,5 +1,5 @@
 -- Experiments that have names name sets that aren't empty.
-use Rattle.std.proofs.Common.{◌≡◌, ℕ, Bool, true, false, not, ◌&&◌, List, [], ◌∷◌, length, Option, Some, None, refl, subst, arith}
+use Rattle.std.proofs.Common.{◌≡◌, ℕ, Bool, true, false, not, ◌&&◌, List, [], ◌∷◌, length, None, refl, subst, arith}
 use Rattle.std.specs.List.{list_all}
 use Rattle.std.proofs.lemmas.Bool.{and_parts}
 use Rattle.mixed_graph.specs.Bits.{has}
@@ -7,15 +7,11 @@ use Rattle.mixed_graph.specs.Sets.{Within}
 use Rattle.mixed_graph.specs.Masks.{is_below, is_empty}
 use Rattle.mixed_graph.proofs.MaskLaws.{below_from, not_empty}
 use Rattle.do_derivation.specs.Accepts.{are_sets}
-use Rattle.targets.specs.Targets.{NameFault, or_fault, first_fault}
-use Rattle.targets.proofs.Queries.{set_within}
+use Rattle.targets.specs.Targets.{first_fault}
+use Rattle.targets.proofs.Queries.{set_within, neither}
 use Rattle.targets.proofs.RuleWalks.{some_in}
 use Rattle.surrogate_command.specs.Experiments.{Lists, is_filled}
 use Rattle.surrogate_command.specs.Sets.{experiments_fault, AreExperimentSets}
-
-neither : (a b : Option NameFault) → or_fault a b ≡ None → (a ≡ None) × (b ≡ None)
-neither None b e = (refl, e)
-neither (Some f) b e = absurd (cc)
 
 both_true : (a b : Bool) → a ≡ true → b ≡ true → (a && b) ≡ true
 both_true a b e f = rw (e, f) refl

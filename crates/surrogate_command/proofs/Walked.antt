@@ -1,21 +1,17 @@
 -- The faults of the lists of an effect over experiments, and the sets that they name.
-use Rattle.std.proofs.Common.{◌≡◌, ◌<◌, ◌+◌, map, get_or, drop, drop-cons, append-nil, ℕ, false, List, [], ◌∷◌, ◌++◌, length, Option, None, refl, sym, ap, subst, ◌∙◌, append_assoc, arith}
+use Rattle.std.proofs.Common.{◌≡◌, ◌<◌, ◌+◌, map, get_or, drop, drop-cons, append-nil, ℕ, false, List, [], ◌∷◌, ◌++◌, length, None, refl, sym, ap, subst, ◌∙◌, append_assoc, arith}
 use Rattle.std.specs.Prelude.{suc}
 use Rattle.std.specs.Global.{Vec}
 use Rattle.word_lists.specs.Views.{names_in}
 use Rattle.mixed_graph.specs.declared.sets.VSet.{VSet}
 use Rattle.prob_expr.specs.Listed.{masks_of}
 use Rattle.mixed_graph.specs.Bits.{has}
-use Rattle.mixed_graph.specs.Names.{index_of}
 use Rattle.targets.specs.declared.fault.TargetFault.{TargetFault}
-use Rattle.targets.specs.declared.fault.TargetFault.TheVariants.{Unknown, Latent, Twice, EmptyY, EmptyX, NotOneX, Bidirected, OtherNames, NoMemory}
-use Rattle.targets.specs.Targets.{NameFault, or_fault, first_fault, walked_in, IsListedSet, IsNameFault, effect_fault}
-use Rattle.targets.proofs.Walking.{same_first_fault, fault_first}
-use Rattle.surrogate_command.specs.Sets.{SurrogateLists, experiments_fault, surrogate_fault, AreExperimentSets, IsSurrogateFault, IsSurrogateFaultOrMemory}
-
--- an experiment is walked by itself
-pub walked_alone : (all observed : List (List ℕ)) (empty : ℕ) → ((v : ℕ) → has empty v ≡ false) → (e : List (List ℕ)) → first_fault all observed (walked_in observed empty) e ≡ first_fault all observed (λ n. false) e
-walked_alone all observed empty none e = same_first_fault all observed (walked_in observed empty) (λ n. false) (λ m h. none (index_of observed m)) e
+use Rattle.targets.specs.Targets.{or_fault, first_fault, walked_in, IsListedSet, IsNameFault, OrMemory, effect_fault}
+use Rattle.targets.proofs.Faults.{named_fault}
+use Rattle.targets.proofs.Queries.{from_empty}
+use Rattle.targets.proofs.Walking.{fault_first}
+use Rattle.surrogate_command.specs.Sets.{SurrogateLists, experiments_fault, surrogate_fault, AreExperimentSets, IsSurrogateFault}
 
 -- the experiments that were walked, with their sets, and those still to come
 pub record AreWalked (all observed : List (List ℕ)) (experiments : List (List (List ℕ))) (done : List ℕ) (rest : List (List (List ℕ))) : Type 0 where
@@ -34,39 +30,19 @@ walked_more all observed experiments rest done more e z pushed none set w = reco
 }
 
 -- a fault of a name is one of the lists
-pub fault_of_lists : (l : SurrogateLists) (o : Option NameFault) (f : TargetFault) → surrogate_fault l ≡ o → IsNameFault o f → IsSurrogateFaultOrMemory l f
-fault_of_lists l o (Unknown t) e h = e ∙ h
-fault_of_lists l o (Latent t) e h = e ∙ h
-fault_of_lists l o (Twice t) e h = e ∙ h
-fault_of_lists l o EmptyY e h = absurd h
-fault_of_lists l o EmptyX e h = absurd h
-fault_of_lists l o NotOneX e h = absurd h
-fault_of_lists l o (Bidirected a b) e h = absurd h
-fault_of_lists l o (OtherNames t) e h = absurd h
-fault_of_lists l o NoMemory e h = tt
+pub surrogate_fault_named : (l : SurrogateLists) (f : TargetFault) → IsNameFault (surrogate_fault l) f → OrMemory (IsSurrogateFault l) f
+surrogate_fault_named l = named_fault (surrogate_fault l) (IsSurrogateFault l) (λ n e. e) (λ n e. e) (λ n e. e)
 
 -- where x and y have no fault the first is that of the experiments
 pub after_effect : (l : SurrogateLists) → effect_fault l.effect ≡ None → surrogate_fault l ≡ experiments_fault l.effect.all l.effect.observed l.experiments
 after_effect l none = ap (λ o. or_fault o (experiments_fault l.effect.all l.effect.observed l.experiments)) none
-
--- a fault that isn't want of memory
-pub surrogate_refused : (l : SurrogateLists) (f : TargetFault) → (f ≡ NoMemory → ⊥) → IsSurrogateFaultOrMemory l f → IsSurrogateFault l f
-surrogate_refused l (Unknown n) ne h = h
-surrogate_refused l (Latent n) ne h = h
-surrogate_refused l (Twice n) ne h = h
-surrogate_refused l EmptyY ne h = h
-surrogate_refused l EmptyX ne h = h
-surrogate_refused l NotOneX ne h = h
-surrogate_refused l (Bidirected a b) ne h = h
-surrogate_refused l (OtherNames n) ne h = h
-surrogate_refused l NoMemory ne h = absurd (ne refl)
 
 -- a fault of the next experiment is the first of all
 pub fault_next : (all observed : List (List ℕ)) (experiments rest : List (List (List ℕ))) (done : List ℕ) (e : List (List ℕ)) (empty : ℕ) → ((v : ℕ) → has empty v ≡ false)
     → AreWalked all observed experiments done (e ∷ rest) → (f : TargetFault) → IsNameFault (first_fault all observed (walked_in observed empty) e) f → IsNameFault (experiments_fault all observed experiments) f
 fault_next all observed experiments rest done e empty none w f h =
     subst (λ o. IsNameFault o f) (sym w.faults)
-    (fault_first (first_fault all observed (λ n. false) e) (experiments_fault all observed rest) f (subst (λ o. IsNameFault o f) (walked_alone all observed empty none e) h))
+    (fault_first (first_fault all observed (λ n. false) e) (experiments_fault all observed rest) f (subst (λ o. IsNameFault o f) (sym (from_empty all observed empty none e)) h))
 
 -- all are walked
 pub walked_done : (all observed : List (List ℕ)) (experiments rest : List (List (List ℕ))) (done : List ℕ) → rest ≡ [] → AreWalked all observed experiments done rest → AreExperimentSets observed experiments done

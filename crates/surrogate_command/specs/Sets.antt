@@ -1,7 +1,7 @@
 -- What the lists of an effect over experiments stand for: sets of vertices, or the first fault.
 use Rattle.std.specs.Prelude.{ℕ, ◌≡◌, false, List, [], ◌∷◌, Option, None}
 use Rattle.targets.specs.declared.fault.TargetFault.{TargetFault}
-use Rattle.targets.specs.declared.fault.TargetFault.TheVariants.{EmptyX, NoMemory}
+use Rattle.targets.specs.declared.fault.TargetFault.TheVariants.{EmptyX}
 use Rattle.targets.specs.Targets.{NameFault, first_fault, or_fault, IsListedSet, IsFaultOfTarget, EffectLists, effect_fault, AreEffectSets}
 
 -- the lists of an effect, and one for each experiment
@@ -39,8 +39,3 @@ pub record AreSurrogateSets (l : SurrogateLists) (x y : ℕ) (zs : List ℕ) : T
 abbrev pub IsSurrogateFault : SurrogateLists → TargetFault → Type 0
 IsSurrogateFault l EmptyX = ⊥
 IsSurrogateFault l f = IsFaultOfTarget (surrogate_fault l) l.effect.y l.effect.x f
-
--- the fault of the lists; want of memory may stand in its place
-abbrev pub IsSurrogateFaultOrMemory : SurrogateLists → TargetFault → Type 0
-IsSurrogateFaultOrMemory l NoMemory = Unit {0}
-IsSurrogateFaultOrMemory l f = IsSurrogateFault l f

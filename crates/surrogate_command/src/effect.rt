@@ -7,8 +7,8 @@ ghost use Rattle.surrogate_command.specs.Experiments.{AreFilled};
 
 use crate::sets::{SurrogateSets, find_surrogate_sets};
 use dag_reader::ReadGraph;
-use latent_projection::{Observed, observed};
-use replies::{Reply, list_or, refuse};
+use latent_projection::Observed;
+use replies::{AskedLists, Reply, asked_lists, refuse};
 use std::alloc::{AllocError, Global};
 
 /// An effect over experiments, in an observed graph.
@@ -40,9 +40,7 @@ pub fn asked_effect(
     requires { AreFilled (map names_in experiments.now) }
     ensures { IfOk result (IsAsked graph.now (option_map names_in x) (option_map names_in y) (map names_in experiments.now)) }
 {
-    let seen = observed(alloc, &graph.names, &graph.graph, graph.latent)?;
-    let x = list_or(alloc, &graph.names, graph.exposures, x)?;
-    let y = list_or(alloc, &graph.names, graph.outcomes, y)?;
+    let AskedLists { seen, x, y } = asked_lists(alloc, graph, x, y)?;
     match find_surrogate_sets(alloc, &graph.names, &seen.names, &x, &y, experiments) {
         Ok(sets) => Ok(Asked::Effect(SurrogateEffect { seen, sets })),
         Err(fault) => Ok(Asked::Refused(refuse(alloc, &fault)?)),

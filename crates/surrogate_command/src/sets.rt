@@ -3,13 +3,13 @@
 ghost use Rattle.std.specs.Prelude.{◌≡◌, None, IfOk, IfErr, OnOk, map};
 ghost use Rattle.mixed_graph.specs.Names.{texts};
 ghost use Rattle.prob_expr.specs.Listed.{masks_of};
-ghost use Rattle.targets.specs.Targets.{IsNameFault};
+ghost use Rattle.targets.specs.Targets.{IsNameFault, OrMemory};
 ghost use Rattle.word_lists.specs.Views.{names_in};
-ghost use Rattle.surrogate_command.specs.Sets.{experiments_fault, AreExperimentSets, AreSurrogateSets, IsSurrogateFaultOrMemory, lists_of};
+ghost use Rattle.surrogate_command.specs.Sets.{experiments_fault, AreExperimentSets, AreSurrogateSets, IsSurrogateFault, lists_of};
 
 use mixed_graph::{Names, VSet};
 use std::alloc::Global;
-use targets::{TargetFault, walk};
+use targets::{TargetFault, walk, walk_two};
 
 /// The sets that experiments name, each walked by itself; else the first name at fault.
 fn experiment_sets(
@@ -57,14 +57,10 @@ pub fn find_surrogate_sets(
     experiments: &[Vec<Vec<u8>>],
 ) -> Result<SurrogateSets, TargetFault>
     ensures sets { IfOk result (λ s. AreSurrogateSets (lists_of all.now observed.now (texts x.now) (texts y.now) (map names_in experiments.now)) s.x.bits s.y.bits (masks_of s.experiments.items)) }
-    ensures fault { IfErr result (IsSurrogateFaultOrMemory (lists_of all.now observed.now (texts x.now) (texts y.now) (map names_in experiments.now))) }
+    ensures fault { IfErr result (OrMemory (IsSurrogateFault (lists_of all.now observed.now (texts x.now) (texts y.now) (map names_in experiments.now)))) }
 {
-    let exposures = match walk(alloc, all, observed, VSet::empty(), x) {
-        Ok(set) => set,
-        Err(fault) => return Err(fault),
-    };
-    let outcomes = match walk(alloc, all, observed, exposures, y) {
-        Ok(set) => set,
+    let (set_x, set_y) = match walk_two(alloc, all, observed, VSet::empty(), x, y) {
+        Ok(sets) => sets,
         Err(fault) => return Err(fault),
     };
     let experiments = match experiment_sets(alloc, all, observed, experiments) {
@@ -75,8 +71,8 @@ pub fn find_surrogate_sets(
         return Err(TargetFault::EmptyY);
     }
     Ok(SurrogateSets {
-        x: exposures,
-        y: outcomes,
+        x: set_x,
+        y: set_y,
         experiments,
     })
 }

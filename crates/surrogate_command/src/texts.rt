@@ -3,14 +3,12 @@
 ghost use Rattle.std.specs.Prelude.{◌≡◌, ◌++◌, OnOk, IfOk, length};
 ghost use Rattle.mixed_graph.specs.Bits.{has};
 ghost use Rattle.mixed_graph.specs.Sets.{Within};
-ghost use Rattle.identify_text.specs.HedgeLines.{sets_line};
 ghost use Rattle.surrogate_command.specs.Lines.{unfound_line, district_line, stop_answer};
 
 use answer_text::push_set;
-use expr_text::target_text;
 use hedge::Hedge;
+use identify_text::{effect_text, push_hedge_sets};
 use mixed_graph::{Names, VSet};
-use prob_expr::Target;
 use std::alloc::{AllocError, Global};
 
 /// The line that no formula is found.
@@ -19,12 +17,7 @@ fn unfound(alloc: Global, names: &Names, x: VSet, y: VSet) -> Result<Vec<u8>, Al
     requires y { Within (length names.now) (has y.bits) }
     ensures { IfOk result (λ v. v.items ≡ unfound_line names.now x.bits y.bits) }
 {
-    let target = Target {
-        x,
-        y,
-        given: VSet::EMPTY,
-    };
-    let mut text = target_text(alloc, &target, names)?;
+    let mut text = effect_text(alloc, x, y, names)?;
     text.extend_from_slice(b" has no formula found from these experiments\n")?;
     Ok(text)
 }
@@ -36,23 +29,6 @@ fn push_district(out: &mut Vec<u8>, names: &Names, district: VSet) -> Result<(),
 {
     out.extend_from_slice(b"district ")?;
     push_set(out, names, district)?;
-    out.push(b'\n')?;
-    Ok(())
-}
-
-/// Appends the line of a hedge's sets.
-fn push_sets(out: &mut Vec<u8>, names: &Names, h: &Hedge) -> Result<(), AllocError>
-    requires big { Within (length names.now) (has h.now.big.bits) }
-    requires small { Within (length names.now) (has h.now.small.bits) }
-    requires roots { Within (length names.now) (has h.now.roots.bits) }
-    ensures { OnOk result (out.new.items ≡ out.old.items ++ sets_line names.now h.now) }
-{
-    out.extend_from_slice(b"hedge ")?;
-    push_set(out, names, h.big)?;
-    out.extend_from_slice(b" over ")?;
-    push_set(out, names, h.small)?;
-    out.extend_from_slice(b" with roots ")?;
-    push_set(out, names, h.roots)?;
     out.push(b'\n')?;
     Ok(())
 }
@@ -78,6 +54,6 @@ pub fn stop_answer(
 {
     let mut text = unfound(alloc, names, x, y)?;
     push_district(&mut text, names, district)?;
-    push_sets(&mut text, names, h)?;
+    push_hedge_sets(&mut text, names, h)?;
     Ok(text)
 }

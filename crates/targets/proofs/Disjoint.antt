@@ -5,9 +5,10 @@ use Rattle.std.proofs.lemmas.Bool.{and_right}
 use Rattle.mixed_graph.specs.Bits.{has}
 use Rattle.mixed_graph.specs.Sets.{Within, Apart}
 use Rattle.mixed_graph.proofs.Masks.{has-zero}
-use Rattle.targets.specs.Targets.{Lists, AreSets, RuleLists, AreRuleSets, IsListedSet}
+use Rattle.targets.specs.Targets.{Lists, AreListedSets, AreSets, RuleLists, AreRuleSets, IsListedSet}
 use Rattle.targets.proofs.Queries.{set_within}
 use Rattle.targets.proofs.RuleWalks.{pairwise_apart}
+use Rattle.targets.proofs.Effects.{are_listed}
 
 -- three sets below n that are pairwise disjoint
 pub record DisjointSets (n x y w : ℕ) : Type 0 where
@@ -37,7 +38,7 @@ set_of_none observed v = has-zero v ∙ sym (and_right (nat_lt v (length observe
 -- the sets of a rule are within n, and no two of them meet
 pub disjoint_rule_sets : (l : RuleLists) (n y done z given : ℕ) → length l.observed ≡ n → AreRuleSets l y done z given → DisjointRuleSets n done y z given
 disjoint_rule_sets l n y done z given e s =
-    let a = pairwise_apart l y done z given s in record {
+    let a = pairwise_apart l y done z given s.no_fault s.set_y s.set_done s.set_z s.set_given in record {
       three = record {
         x_within = within l.observed l.done n done e s.set_done;
         y_within = within l.observed l.y n y e s.set_y;
@@ -52,11 +53,11 @@ disjoint_rule_sets l n y done z given e s =
       z_w = a.z_given;
     }
 
--- the lists of a query as those of a rule that does nothing
-pub disjoint_sets : (l : Lists) (n x y given : ℕ) → length l.observed ≡ n → AreSets l x y given → DisjointSets n x y given
-disjoint_sets l n x y given e s =
-    let a = pairwise_apart (record { all = l.all; observed = l.observed; y = l.x; done = []; z = l.y; given = l.given }) x 0 y given
-    (record { no_fault = s.no_fault; some_y = s.some_x; some_z = s.some_y; set_y = s.set_x; set_done = set_of_none l.observed; set_z = s.set_y; set_given = s.set_given }) in record {
+-- the sets of a query in which x may be empty, by those of a rule that does nothing
+pub disjoint_listed_sets : (l : Lists) (n x y given : ℕ) → length l.observed ≡ n → AreListedSets l x y given → DisjointSets n x y given
+disjoint_listed_sets l n x y given e s =
+    let rule : RuleLists = record { all = l.all; observed = l.observed; y = l.x; done = []; z = l.y; given = l.given } in
+    let a = pairwise_apart rule x 0 y given s.no_fault s.set_x (set_of_none l.observed) s.set_y s.set_given in record {
       x_within = within l.observed l.x n x e s.set_x;
       y_within = within l.observed l.y n y e s.set_y;
       w_within = within l.observed l.given n given e s.set_given;
@@ -64,3 +65,7 @@ disjoint_sets l n x y given e s =
       x_w = a.y_given;
       y_w = a.z_given;
     }
+
+-- and so those of a query
+pub disjoint_sets : (l : Lists) (n x y given : ℕ) → length l.observed ≡ n → AreSets l x y given → DisjointSets n x y given
+disjoint_sets l n x y given e s = disjoint_listed_sets l n x y given e (are_listed l x y given s)

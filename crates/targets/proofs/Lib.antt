@@ -1,3 +1,5 @@
+pub mod Parts
+pub mod Faults
 pub mod Queries
 pub mod RuleWalks
 pub mod Walking

@@ -1,15 +1,15 @@
 -- The faults of several lists that are walked one after the other.
-use Rattle.std.proofs.Common.{◌≡◌, ℕ, ◌+◌, ◌<◌, Bool, true, false, ◌&&◌, ◌||◌, List, [], ◌∷◌, ◌++◌, length, Option, Some, None, refl, sym, ap, ◌∙◌, arith}
+use Rattle.std.proofs.Common.{◌≡◌, ℕ, ◌+◌, ◌<◌, Bool, true, false, ◌&&◌, ◌||◌, bit_or, List, [], ◌∷◌, ◌++◌, length, Option, Some, None, refl, sym, ap, subst, ◌∙◌, append_assoc, arith}
 use Rattle.std.specs.Prelude.{cond, not, nat_lt}
 use Rattle.std.specs.Str.{bytes_eq}
 use Rattle.std.proofs.lemmas.Bool.{lt-ltb, ltb-true}
 use Rattle.mixed_graph.specs.Bits.{has}
+use Rattle.mixed_graph.proofs.Masks.{has-or}
 use Rattle.mixed_graph.specs.Sets.{Within}
 use Rattle.mixed_graph.specs.Names.{is_named, index_of, name_of}
 use Rattle.targets.specs.declared.fault.TargetFault.{TargetFault}
-use Rattle.targets.specs.declared.fault.TargetFault.TheVariants.{Unknown, Latent, Twice, EmptyY, EmptyX, NotOneX, Bidirected, OtherNames, NoMemory}
-use Rattle.targets.specs.Targets.{NameFault, name_fault, or_fault, first_fault, walked_in, IsListedSet, IsNameFault, Lists, fault_in, IsFaultOrMemory}
-use Rattle.targets.proofs.Walking.{named_here, same_first_fault}
+use Rattle.targets.specs.Targets.{NameFault, name_fault, or_fault, first_fault, walked_in, IsListedSet, IsNameFault}
+use Rattle.targets.proofs.Walking.{named_here, same_first_fault, fault_first}
 
 or_fault_assoc : (a b c : Option NameFault) → or_fault (or_fault a b) c ≡ or_fault a (or_fault b c)
 or_fault_assoc (Some f) b c = refl
@@ -58,60 +58,56 @@ set_within observed list mask s v h = ltb-true v (length observed) (front (nat_l
     front true b e = refl
     front false b e = e
 
--- the first list of a query
-pub query_first : (l : Lists) (empty : ℕ) → ((v : ℕ) → has empty v ≡ false) →
-    fault_in l ≡ or_fault (first_fault l.all l.observed (walked_in l.observed empty) l.x) (first_fault l.all l.observed (λ m. false || is_named l.x m) (l.y ++ l.given))
-query_first l empty none =
-    first_fault-append l.all l.observed (λ n. false) l.x (l.y ++ l.given)
-    ∙ ap (λ f. or_fault f (first_fault l.all l.observed (λ m. false || is_named l.x m) (l.y ++ l.given)))
-    (same_first_fault l.all l.observed (λ n. false) (walked_in l.observed empty) (λ m h. sym (none (index_of l.observed m))) l.x)
+-- nothing was walked before the first list
+pub from_empty : (all observed : List (List ℕ)) (empty : ℕ) → ((v : ℕ) → has empty v ≡ false) → (list : List (List ℕ)) →
+    first_fault all observed (λ n. false) list ≡ first_fault all observed (walked_in observed empty) list
+from_empty all observed empty none list = same_first_fault all observed (λ n. false) (walked_in observed empty) (λ m h. sym (none (index_of observed m))) list
 
--- the second list, behind a first one without fault
-pub query_second : (l : Lists) (x : ℕ) → IsListedSet l.observed l.x x →
-    first_fault l.all l.observed (λ m. false || is_named l.x m) (l.y ++ l.given)
-    ≡ or_fault (first_fault l.all l.observed (walked_in l.observed x) l.y) (first_fault l.all l.observed (λ m. is_named l.x m || is_named l.y m) l.given)
-query_second l x s =
-    first_fault-append l.all l.observed (λ m. false || is_named l.x m) l.y l.given
-    ∙ ap (λ f. or_fault f (first_fault l.all l.observed (λ m. is_named l.x m || is_named l.y m) l.given))
-    (same_first_fault l.all l.observed (λ m. false || is_named l.x m) (walked_in l.observed x) (λ m h. sym (set_test l.observed l.x x s m h)) l.y)
+-- a list without fault: what is left is walked behind its set
+pub after_list : (all observed : List (List ℕ)) (before set now : ℕ) (list later : List (List ℕ)) →
+    first_fault all observed (walked_in observed before) list ≡ None → IsListedSet observed list set → ((v : ℕ) → has now v ≡ (has before v || has set v)) →
+    first_fault all observed (walked_in observed before) (list ++ later) ≡ first_fault all observed (walked_in observed now) later
+after_list all observed before set now list later clear s is =
+    first_fault-append all observed (walked_in observed before) list later
+    ∙ ap (λ o. or_fault o (first_fault all observed (λ m. walked_in observed before m || is_named list m) later)) clear
+    ∙ same_first_fault all observed (λ m. walked_in observed before m || is_named list m) (walked_in observed now)
+    (λ m h. ap (λ b. walked_in observed before m || b) (sym (set_test observed list set s m h)) ∙ sym (is (index_of observed m))) later
 
--- the third list, behind two without fault
-pub query_third : (l : Lists) (x y both : ℕ) → IsListedSet l.observed l.x x → IsListedSet l.observed l.y y → ((v : ℕ) → has both v ≡ (has x v || has y v)) →
-    first_fault l.all l.observed (λ m. is_named l.x m || is_named l.y m) l.given ≡ first_fault l.all l.observed (walked_in l.observed both) l.given
-query_third l x y both sx sy is = same_first_fault l.all l.observed (λ m. is_named l.x m || is_named l.y m) (walked_in l.observed both)
-    (λ m h. joined (is_named l.x m) (is_named l.y m) (has x (index_of l.observed m)) (has y (index_of l.observed m)) _ (is (index_of l.observed m))
-    (set_test l.observed l.x x sx m h) (set_test l.observed l.y y sy m h)) l.given
-  where
-    joined : (p q a b c : Bool) → c ≡ (a || b) → a ≡ p → b ≡ q → (p || q) ≡ c
-    joined p q a b c e f g = rw (e, f, g) refl
+-- neither of two has a fault where there is none first
+pub neither : (a b : Option NameFault) → or_fault a b ≡ None → (a ≡ None) × (b ≡ None)
+neither None b e = (refl, e)
+neither (Some f) b e = absurd (cc)
 
--- a fault of a name is one of the query
-pub fault_of_query : (l : Lists) (o : Option NameFault) (f : TargetFault) → fault_in l ≡ o → IsNameFault o f → IsFaultOrMemory l f
-fault_of_query l o (Unknown t) e h = e ∙ h
-fault_of_query l o (Latent t) e h = e ∙ h
-fault_of_query l o (Twice t) e h = e ∙ h
-fault_of_query l o EmptyY e h = absurd h
-fault_of_query l o EmptyX e h = absurd h
-fault_of_query l o NotOneX e h = absurd h
-fault_of_query l o (Bidirected a b) e h = absurd h
-fault_of_query l o (OtherNames t) e h = absurd h
-fault_of_query l o NoMemory e h = tt
+-- what is left behind a list, where nothing has a fault
+pub behind : (all observed : List (List ℕ)) (walked : List ℕ → Bool) (list later : List (List ℕ)) → first_fault all observed walked (list ++ later) ≡ None →
+    (first_fault all observed walked list ≡ None) × (first_fault all observed (λ m. walked m || is_named list m) later ≡ None)
+behind all observed walked list later clear = neither _ _ (sym (first_fault-append all observed walked list later) ∙ clear)
 
--- the first list is without fault: what is left of the query
-pub query_after_first : (l : Lists) (empty x : ℕ) → ((v : ℕ) → has empty v ≡ false) →
-    first_fault l.all l.observed (walked_in l.observed empty) l.x ≡ None → IsListedSet l.observed l.x x →
-    fault_in l ≡ or_fault (first_fault l.all l.observed (walked_in l.observed x) l.y) (first_fault l.all l.observed (λ m. is_named l.x m || is_named l.y m) l.given)
-query_after_first l empty x none clear s =
-    query_first l empty none
-    ∙ ap (λ f. or_fault f (first_fault l.all l.observed (λ m. false || is_named l.x m) (l.y ++ l.given))) clear
-    ∙ query_second l x s
+-- two lists without fault: what is left is walked behind their sets
+after_two : (all observed : List (List ℕ)) (before one two now : ℕ) (a b later : List (List ℕ)) →
+    first_fault all observed (walked_in observed before) (a ++ b) ≡ None → IsListedSet observed a one → IsListedSet observed b two → ((v : ℕ) → has now v ≡ (has before v || (has one v || has two v))) →
+    first_fault all observed (walked_in observed before) (a ++ (b ++ later)) ≡ first_fault all observed (walked_in observed now) later
+after_two all observed before one two now a b later clear is_one is_two is =
+    let both = has-or before one in
+    let first = (behind all observed (walked_in observed before) a b clear).0 in
+    let second : first_fault all observed (walked_in observed (bit_or before one)) b ≡ None = sym (after_list all observed before one (bit_or before one) a b first is_one both) ∙ clear in
+    after_list all observed before one (bit_or before one) a (b ++ later) first is_one both
+    ∙ after_list all observed (bit_or before one) two now b later second is_two (λ v. let i = is v in let e = both v in grind arith)
 
--- the first two lists are without fault: what is left of the query
-pub query_after_second : (l : Lists) (empty x y both : ℕ) → ((v : ℕ) → has empty v ≡ false) →
-    first_fault l.all l.observed (walked_in l.observed empty) l.x ≡ None → IsListedSet l.observed l.x x →
-    first_fault l.all l.observed (walked_in l.observed x) l.y ≡ None → IsListedSet l.observed l.y y → ((v : ℕ) → has both v ≡ (has x v || has y v)) →
-    fault_in l ≡ first_fault l.all l.observed (walked_in l.observed both) l.given
-query_after_second l empty x y both none clear_x sx clear_y sy is =
-    query_after_first l empty x none clear_x sx
-    ∙ ap (λ f. or_fault f (first_fault l.all l.observed (λ m. is_named l.x m || is_named l.y m) l.given)) clear_y
-    ∙ query_third l x y both sx sy is
+-- the same where nothing was walked before them
+pub after_first_two : (all observed : List (List ℕ)) (empty one two both : ℕ) (a b later : List (List ℕ)) → ((v : ℕ) → has empty v ≡ false) →
+    first_fault all observed (walked_in observed empty) (a ++ b) ≡ None → IsListedSet observed a one → IsListedSet observed b two → ((v : ℕ) → has both v ≡ (has one v || has two v)) →
+    first_fault all observed (λ n. false) (a ++ (b ++ later)) ≡ first_fault all observed (walked_in observed both) later
+after_first_two all observed empty one two both a b later none clear is_one is_two is =
+    from_empty all observed empty none (a ++ (b ++ later))
+    ∙ after_two all observed empty one two both a b later clear is_one is_two (λ v. is v ∙ sym (ap (λ t. t || (has one v || has two v)) (none v)))
+
+-- a fault in the first two of several lists is the first of all
+pub fault_in_first_two : (all observed : List (List ℕ)) (empty : ℕ) (a b later : List (List ℕ)) → ((v : ℕ) → has empty v ≡ false) → (f : TargetFault) →
+    IsNameFault (first_fault all observed (walked_in observed empty) (a ++ b)) f → IsNameFault (first_fault all observed (λ n. false) (a ++ (b ++ later))) f
+fault_in_first_two all observed empty a b later none f h =
+    let one = first_fault all observed (λ n. false) (a ++ b) in
+    let other = first_fault all observed (λ m. false || is_named (a ++ b) m) later in
+    let all_lists : first_fault all observed (λ n. false) (a ++ (b ++ later)) ≡ or_fault one other =
+    ap (first_fault all observed (λ n. false)) (sym (append_assoc a b later)) ∙ first_fault-append all observed (λ n. false) (a ++ b) later in
+    subst (λ o. IsNameFault o f) (sym all_lists) (fault_first one other f (subst (λ o. IsNameFault o f) (sym (from_empty all observed empty none (a ++ b))) h))

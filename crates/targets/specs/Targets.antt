@@ -87,10 +87,23 @@ IsFaultOfTarget first y x NoMemory = ⊥
 abbrev pub IsTargetFault : Lists → TargetFault → Type 0
 IsTargetFault l f = IsFaultOfTarget (fault_in l) l.y l.x f
 
--- the fault of a query; want of memory may stand in its place
-abbrev pub IsFaultOrMemory : Lists → TargetFault → Type 0
-IsFaultOrMemory l NoMemory = Unit {0}
-IsFaultOrMemory l f = IsTargetFault l f
+-- the fault is such a one; want of memory may stand in its place
+abbrev pub OrMemory : (TargetFault → Type 0) → TargetFault → Type 0
+OrMemory is NoMemory = Unit {0}
+OrMemory is f = is f
+
+-- the sets of lists of which x may be empty: no name is at fault, and y isn't empty
+pub record AreListedSets (l : Lists) (x y given : ℕ) : Type 0 where
+  pub no_fault : fault_in l ≡ None
+  pub some_y : l.y ≡ [] → ⊥
+  pub set_x : IsListedSet l.observed l.x x
+  pub set_y : IsListedSet l.observed l.y y
+  pub set_given : IsListedSet l.observed l.given given
+
+-- the fault of such lists, for which an empty x is none
+abbrev pub IsListFault : Lists → TargetFault → Type 0
+IsListFault l EmptyX = ⊥
+IsListFault l f = IsTargetFault l f
 
 -- the lists of a rule of the do-calculus: y and z, with what is done and what is given
 pub record RuleLists : Type 0 where
@@ -119,11 +132,6 @@ pub record AreRuleSets (l : RuleLists) (y done z given : ℕ) : Type 0 where
 abbrev pub IsRuleFault : RuleLists → TargetFault → Type 0
 IsRuleFault l f = IsFaultOfTarget (rule_fault l) l.y l.z f
 
--- the fault of the lists of a rule; want of memory may stand in its place
-abbrev pub IsRuleFaultOrMemory : RuleLists → TargetFault → Type 0
-IsRuleFaultOrMemory l NoMemory = Unit {0}
-IsRuleFaultOrMemory l f = IsRuleFault l f
-
 -- the lists of an effect: what is done, which may be empty, and y
 pub record EffectLists : Type 0 where
   pub all : List (List ℕ)
@@ -146,8 +154,3 @@ pub record AreEffectSets (l : EffectLists) (x y : ℕ) : Type 0 where
 abbrev pub IsEffectFault : EffectLists → TargetFault → Type 0
 IsEffectFault l EmptyX = ⊥
 IsEffectFault l f = IsFaultOfTarget (effect_fault l) l.y l.x f
-
--- the fault of the lists of an effect; want of memory may stand in its place
-abbrev pub IsEffectFaultOrMemory : EffectLists → TargetFault → Type 0
-IsEffectFaultOrMemory l NoMemory = Unit {0}
-IsEffectFaultOrMemory l f = IsEffectFault l f

@@ -3,7 +3,7 @@
 //! `find_sets(alloc, &all, &observed, x, y, given)` gives the sets of three lists.
 #![tactic(auto)]
 
-ghost use Rattle.std.specs.Prelude.{◌≡◌, ◌<◌, ℕ, IsTrue, false, true, length, IfOk, IfErr, OnOk, None, Some, ◌||◌};
+ghost use Rattle.std.specs.Prelude.{◌≡◌, ◌<◌, ◌++◌, ℕ, IsTrue, false, true, length, IfOk, IfErr, OnOk, None, Some, ◌||◌};
 ghost use Rattle.mixed_graph.specs.Bits.{has};
 ghost use Rattle.mixed_graph.specs.Names.{AreNames, is_named, index_of, texts};
 ghost use Rattle.targets.specs.Targets.{first_fault, name_fault, IsListedSet, IsNameFault, walked_in};
@@ -15,7 +15,8 @@ pub use fault::TargetFault;
 use fault::{latent, twice, unknown};
 use mixed_graph::{Names, VSet};
 pub use query::{
-    EffectSets, RuleSets, Sets, find_effect_sets, find_rule_sets, find_sets, names_of,
+    EffectSets, RuleSets, Sets, find_effect_sets, find_listed_sets, find_rule_sets, find_sets,
+    names_of,
 };
 use std::alloc::Global;
 
@@ -42,6 +43,30 @@ pub fn walk(
         }
     }
     Ok(set)
+}
+
+/// The sets of two lists, the second walked behind the first; else the first name at fault.
+pub fn walk_two(
+    alloc: Global,
+    all: &Names,
+    observed: &Names,
+    walked: VSet,
+    first: &[Vec<u8>],
+    second: &[Vec<u8>],
+) -> Result<(VSet, VSet), TargetFault>
+    ensures none { OnOk result (first_fault all.now observed.now (walked_in observed.now walked.bits) (texts first.now ++ texts second.now) ≡ None) }
+    ensures first { IfOk result (λ sets. IsListedSet observed.now (texts first.now) sets.0.bits) }
+    ensures second { IfOk result (λ sets. IsListedSet observed.now (texts second.now) sets.1.bits) }
+    ensures fault { IfErr result (IsNameFault (first_fault all.now observed.now (walked_in observed.now walked.bits) (texts first.now ++ texts second.now))) }
+{
+    let set = match walk(alloc, all, observed, walked, first) {
+        Ok(set) => set,
+        Err(fault) => return Err(fault),
+    };
+    match walk(alloc, all, observed, walked.union(set), second) {
+        Ok(next) => Ok((set, next)),
+        Err(fault) => Err(fault),
+    }
 }
 
 /// The vertex of a listed name.

@@ -2,10 +2,10 @@ ghost use Rattle.std.specs.Prelude.{◌≡◌, ◌<◌, IfOk, IfErr, length, map
 ghost use Rattle.mixed_graph.specs.Bits.{has, members_below};
 ghost use Rattle.mixed_graph.specs.Sets.{Within};
 ghost use Rattle.mixed_graph.specs.Names.{texts, name_of};
-ghost use Rattle.targets.specs.Targets.{AreSets, IsFaultOrMemory, AreRuleSets, IsRuleFaultOrMemory, AreEffectSets, IsEffectFaultOrMemory};
+ghost use Rattle.targets.specs.Targets.{OrMemory, AreListedSets, IsListFault, AreSets, IsTargetFault, AreRuleSets, IsRuleFault, AreEffectSets, IsEffectFault};
 
 use crate::fault::TargetFault;
-use crate::walk;
+use crate::{walk, walk_two};
 use mixed_graph::{Names, VSet};
 use std::alloc::{AllocError, Global};
 
@@ -17,10 +17,10 @@ pub struct Sets {
     pub given: VSet,
 }
 
-/// The sets that the lists of a query name, all of them observed and none named twice.
+/// The sets that the lists of a query name, all of them observed and none named twice. x may be empty.
 ///
-/// Else the first name at fault, x walked first, then y, then given; else `EmptyY`; else `EmptyX`.
-pub fn find_sets(
+/// Else the first name at fault, x walked first, then y, then given; else `EmptyY`.
+pub fn find_listed_sets(
     alloc: Global,
     all: &Names,
     observed: &Names,
@@ -28,15 +28,11 @@ pub fn find_sets(
     y: &[Vec<u8>],
     given: &[Vec<u8>],
 ) -> Result<Sets, TargetFault>
-    ensures sets { IfOk result (λ s. AreSets (record { all = all.now; observed = observed.now; x = texts x.now; y = texts y.now; given = texts given.now }) s.x.bits s.y.bits s.given.bits) }
-    ensures fault { IfErr result (IsFaultOrMemory (record { all = all.now; observed = observed.now; x = texts x.now; y = texts y.now; given = texts given.now })) }
+    ensures sets { IfOk result (λ s. AreListedSets (record { all = all.now; observed = observed.now; x = texts x.now; y = texts y.now; given = texts given.now }) s.x.bits s.y.bits s.given.bits) }
+    ensures fault { IfErr result (OrMemory (IsListFault (record { all = all.now; observed = observed.now; x = texts x.now; y = texts y.now; given = texts given.now }))) }
 {
-    let set_x = match walk(alloc, all, observed, VSet::empty(), x) {
-        Ok(set) => set,
-        Err(fault) => return Err(fault),
-    };
-    let set_y = match walk(alloc, all, observed, set_x, y) {
-        Ok(set) => set,
+    let (set_x, set_y) = match walk_two(alloc, all, observed, VSet::empty(), x, y) {
+        Ok(sets) => sets,
         Err(fault) => return Err(fault),
     };
     let set_given = match walk(alloc, all, observed, set_x.union(set_y), given) {
@@ -46,14 +42,33 @@ pub fn find_sets(
     if y.is_empty() {
         return Err(TargetFault::EmptyY);
     }
-    if x.is_empty() {
-        return Err(TargetFault::EmptyX);
-    }
     Ok(Sets {
         x: set_x,
         y: set_y,
         given: set_given,
     })
+}
+
+/// The same where x may not be empty: else `EmptyX`.
+pub fn find_sets(
+    alloc: Global,
+    all: &Names,
+    observed: &Names,
+    x: &[Vec<u8>],
+    y: &[Vec<u8>],
+    given: &[Vec<u8>],
+) -> Result<Sets, TargetFault>
+    ensures sets { IfOk result (λ s. AreSets (record { all = all.now; observed = observed.now; x = texts x.now; y = texts y.now; given = texts given.now }) s.x.bits s.y.bits s.given.bits) }
+    ensures fault { IfErr result (OrMemory (IsTargetFault (record { all = all.now; observed = observed.now; x = texts x.now; y = texts y.now; given = texts given.now }))) }
+{
+    let sets = match find_listed_sets(alloc, all, observed, x, y, given) {
+        Ok(sets) => sets,
+        Err(fault) => return Err(fault),
+    };
+    if x.is_empty() {
+        return Err(TargetFault::EmptyX);
+    }
+    Ok(sets)
 }
 
 /// The sets of a rule of the do-calculus: y and z, with what is done and what is given.
@@ -79,23 +94,14 @@ pub fn find_rule_sets(
     given: &[Vec<u8>],
 ) -> Result<RuleSets, TargetFault>
     ensures sets { IfOk result (λ s. AreRuleSets (record { all = all.now; observed = observed.now; y = texts y.now; done = texts done.now; z = texts z.now; given = texts given.now }) s.y.bits s.done.bits s.z.bits s.given.bits) }
-    ensures fault { IfErr result (IsRuleFaultOrMemory (record { all = all.now; observed = observed.now; y = texts y.now; done = texts done.now; z = texts z.now; given = texts given.now })) }
+    ensures fault { IfErr result (OrMemory (IsRuleFault (record { all = all.now; observed = observed.now; y = texts y.now; done = texts done.now; z = texts z.now; given = texts given.now }))) }
 {
-    let set_y = match walk(alloc, all, observed, VSet::empty(), y) {
-        Ok(set) => set,
+    let (set_y, set_done) = match walk_two(alloc, all, observed, VSet::empty(), y, done) {
+        Ok(sets) => sets,
         Err(fault) => return Err(fault),
     };
-    let set_done = match walk(alloc, all, observed, set_y, done) {
-        Ok(set) => set,
-        Err(fault) => return Err(fault),
-    };
-    let before_z = set_y.union(set_done);
-    let set_z = match walk(alloc, all, observed, before_z, z) {
-        Ok(set) => set,
-        Err(fault) => return Err(fault),
-    };
-    let set_given = match walk(alloc, all, observed, before_z.union(set_z), given) {
-        Ok(set) => set,
+    let (set_z, set_given) = match walk_two(alloc, all, observed, set_y.union(set_done), z, given) {
+        Ok(sets) => sets,
         Err(fault) => return Err(fault),
     };
     if y.is_empty() {
@@ -130,23 +136,16 @@ pub fn find_effect_sets(
     y: &[Vec<u8>],
 ) -> Result<EffectSets, TargetFault>
     ensures sets { IfOk result (λ s. AreEffectSets (record { all = all.now; observed = observed.now; x = texts x.now; y = texts y.now }) s.x.bits s.y.bits) }
-    ensures fault { IfErr result (IsEffectFaultOrMemory (record { all = all.now; observed = observed.now; x = texts x.now; y = texts y.now })) }
+    ensures fault { IfErr result (OrMemory (IsEffectFault (record { all = all.now; observed = observed.now; x = texts x.now; y = texts y.now }))) }
 {
-    let exposures = match walk(alloc, all, observed, VSet::empty(), x) {
-        Ok(set) => set,
-        Err(fault) => return Err(fault),
-    };
-    let outcomes = match walk(alloc, all, observed, exposures, y) {
-        Ok(set) => set,
+    let (set_x, set_y) = match walk_two(alloc, all, observed, VSet::empty(), x, y) {
+        Ok(sets) => sets,
         Err(fault) => return Err(fault),
     };
     if y.is_empty() {
         return Err(TargetFault::EmptyY);
     }
-    Ok(EffectSets {
-        x: exposures,
-        y: outcomes,
-    })
+    Ok(EffectSets { x: set_x, y: set_y })
 }
 
 /// The names of a set's vertices, in index order.

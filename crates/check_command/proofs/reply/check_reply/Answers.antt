@@ -10,23 +10,12 @@ use Rattle.check_command.proofs.ReadFormulas.{read_sound}
 use Rattle.check_command.proofs.Using.{unread}
 use Rattle.check_command.proofs.reply.check_reply.Goals as goal
 
-pub check_formula-requires-clause-target : goal.check_formula-requires-clause-target
-check_formula-requires-clause-target c =
+pub check_formula-requires : goal.check_formula-requires
+check_formula-requires c =
     let reads = rw c.in-Ok-Formula.field-0-is at c.in-Ok-Formula.ensures in
-    (read_sound c.in_ok-seen.seen.names c.args.certificate.now
-    (formula (target_view c.in-Ok-Formula.target) (formula_view c.in-Ok-Formula.formula) (derivation_view c.in-Ok-Formula.derivation)) reads).target
-
-pub check_formula-requires-clause-formula : goal.check_formula-requires-clause-formula
-check_formula-requires-clause-formula c =
-    let reads = rw c.in-Ok-Formula.field-0-is at c.in-Ok-Formula.ensures in
-    (read_sound c.in_ok-seen.seen.names c.args.certificate.now
-    (formula (target_view c.in-Ok-Formula.target) (formula_view c.in-Ok-Formula.formula) (derivation_view c.in-Ok-Formula.derivation)) reads).formula
-
-pub check_formula-requires-clause-derivation : goal.check_formula-requires-clause-derivation
-check_formula-requires-clause-derivation c =
-    let reads = rw c.in-Ok-Formula.field-0-is at c.in-Ok-Formula.ensures in
-    (read_sound c.in_ok-seen.seen.names c.args.certificate.now
-    (formula (target_view c.in-Ok-Formula.target) (formula_view c.in-Ok-Formula.formula) (derivation_view c.in-Ok-Formula.derivation)) reads).derivation
+    let sound = read_sound c.in_ok-seen.seen.names c.args.certificate.now
+    (formula (target_view c.in-Ok-Formula.target) (formula_view c.in-Ok-Formula.formula) (derivation_view c.in-Ok-Formula.derivation)) reads in
+    record { named = c.in_ok-seen.ensures.named; target = sound.target; formula = sound.formula; derivation = sound.derivation }
 
 pub returns-in-Ok-Formula : goal.returns-in-Ok-Formula
 returns-in-Ok-Formula c =

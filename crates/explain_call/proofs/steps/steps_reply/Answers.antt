@@ -11,17 +11,12 @@ use Rattle.check_command.proofs.Using.{unread}
 use Rattle.explain_call.proofs.Telling.{in_graph, tells, of_hedge}
 use Rattle.explain_call.proofs.steps.steps_reply.Goals as goal
 
-pub tell-requires-clause-target : goal.tell-requires-clause-target
-tell-requires-clause-target c =
+pub tell-requires : goal.tell-requires
+tell-requires c =
     let reads = rw c.in-Ok-Formula.field-0-is at c.in-Ok-Formula.ensures in
-    (read_sound c.in_ok-seen.seen.names c.args.certificate.now
-    (formula (target_view c.in-Ok-Formula.target) (formula_view c.in-Ok-Formula.formula) (derivation_view c.in-Ok-Formula.derivation)) reads).target
-
-pub tell-requires-clause-derivation : goal.tell-requires-clause-derivation
-tell-requires-clause-derivation c =
-    let reads = rw c.in-Ok-Formula.field-0-is at c.in-Ok-Formula.ensures in
-    (read_sound c.in_ok-seen.seen.names c.args.certificate.now
-    (formula (target_view c.in-Ok-Formula.target) (formula_view c.in-Ok-Formula.formula) (derivation_view c.in-Ok-Formula.derivation)) reads).derivation
+    let sound = read_sound c.in_ok-seen.seen.names c.args.certificate.now
+    (formula (target_view c.in-Ok-Formula.target) (formula_view c.in-Ok-Formula.formula) (derivation_view c.in-Ok-Formula.derivation)) reads in
+    record { named = c.in_ok-seen.ensures.named; target = sound.target; derivation = sound.derivation }
 
 pub returns-in-Ok-Formula : goal.returns-in-Ok-Formula
 returns-in-Ok-Formula c =

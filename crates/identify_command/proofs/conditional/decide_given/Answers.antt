@@ -23,20 +23,11 @@ use Rattle.identify_command.proofs.conditional.decide_given.Goals as goal
 pub formula_text-requires-clause-what : goal.formula_text-requires-clause-what
 formula_text-requires-clause-what c = subst (λ n. Within n (has c.args.target.y.bits)) (sym c.requires.named) c.requires.sets.y_within
 
-pub joint_text-requires-clause-what : goal.joint_text-requires-clause-what
-joint_text-requires-clause-what c = subst (λ n. Within n (has c.args.target.y.bits)) (sym c.requires.named) c.requires.sets.y_within
-
 pub formula_text-requires-clause-doing : goal.formula_text-requires-clause-doing
 formula_text-requires-clause-doing c = subst (λ n. Within n (has c.args.target.x.bits)) (sym c.requires.named) c.requires.sets.x_within
 
-pub joint_text-requires-clause-doing : goal.joint_text-requires-clause-doing
-joint_text-requires-clause-doing c = subst (λ n. Within n (has c.args.target.x.bits)) (sym c.requires.named) c.requires.sets.x_within
-
 pub formula_text-requires-clause-given : goal.formula_text-requires-clause-given
 formula_text-requires-clause-given c = subst (λ n. Within n (has c.args.target.given.bits)) (sym c.requires.named) c.requires.sets.w_within
-
-pub joint_text-requires-clause-given : goal.joint_text-requires-clause-given
-joint_text-requires-clause-given c = subst (λ n. Within n (has c.args.target.given.bits)) (sym c.requires.named) c.requires.sets.w_within
 
 pub formula_text-requires-clause-target : goal.formula_text-requires-clause-target
 formula_text-requires-clause-target c = subst (λ n. IsTargetWithin n (target_view c.args.target)) (sym c.requires.named)
@@ -56,59 +47,30 @@ formula_text-requires-clause-shallow c = given_shallow (formula_view c.in-Formul
     (subst (λ a. IfFormula a (λ f d. length f.defs ≤ 4096)) c.in-Formula.is c.in_ok-formula.ensures.few)
     (subst (λ a. IfFormula a IsShallowGiven) c.in-Formula.is c.in_ok-formula.ensures.shallow)
 
-pub joint_text-requires-clause-x : goal.joint_text-requires-clause-x
-joint_text-requires-clause-x c =
+pub joint_text-requires : goal.joint_text-requires
+joint_text-requires c =
     let g = graph_of c.args.seen.now.graph in
     let t = target_view c.args.target in
+    let sets = c.requires.sets in
     let effect = subst (λ a. IfJoint a (λ x y h pair. IsJointEffect g t x.bits y.bits)) c.in-Joint.is c.in_ok-formula.ensures.joint in
     let shown = subst (λ a. IfJoint a (IsJointShown g t)) c.in-Joint.is c.in_ok-formula.ensures.shown in
-    subst (λ n. Within n (has c.in-Joint.x.bits)) (sym c.requires.named) effect.target.sets.x_within
-
-pub joint_text-requires-clause-y : goal.joint_text-requires-clause-y
-joint_text-requires-clause-y c =
-    let g = graph_of c.args.seen.now.graph in
-    let t = target_view c.args.target in
-    let effect = subst (λ a. IfJoint a (λ x y h pair. IsJointEffect g t x.bits y.bits)) c.in-Joint.is c.in_ok-formula.ensures.joint in
-    let shown = subst (λ a. IfJoint a (IsJointShown g t)) c.in-Joint.is c.in_ok-formula.ensures.shown in
-    subst (λ n. Within n (has c.in-Joint.y.bits)) (sym c.requires.named) effect.target.sets.y_within
-
-pub joint_text-requires-clause-target : goal.joint_text-requires-clause-target
-joint_text-requires-clause-target c =
-    let g = graph_of c.args.seen.now.graph in
-    let t = target_view c.args.target in
-    let effect = subst (λ a. IfJoint a (λ x y h pair. IsJointEffect g t x.bits y.bits)) c.in-Joint.is c.in_ok-formula.ensures.joint in
-    let shown = subst (λ a. IfJoint a (IsJointShown g t)) c.in-Joint.is c.in_ok-formula.ensures.shown in
-    subst (λ n. IsBareTarget n (effect_on c.in-Joint.x.bits c.in-Joint.y.bits)) (sym c.requires.named)
-    (bare_target c.args.seen.now.graph.n c.in-Joint.x.bits c.in-Joint.y.bits effect.target.sets.x_within effect.target.sets.y_within effect.target.sets.x_y
-    (with_member c.in-Joint.y.bits effect.target.some.0 effect.target.some.1))
-
-pub joint_text-requires-clause-hedge : goal.joint_text-requires-clause-hedge
-joint_text-requires-clause-hedge c =
-    let g = graph_of c.args.seen.now.graph in
-    let t = target_view c.args.target in
-    let effect = subst (λ a. IfJoint a (λ x y h pair. IsJointEffect g t x.bits y.bits)) c.in-Joint.is c.in_ok-formula.ensures.joint in
-    let shown = subst (λ a. IfJoint a (IsJointShown g t)) c.in-Joint.is c.in_ok-formula.ensures.shown in
-    subst (λ n. IsHedgeBelow n c.in-Joint.hedge) (sym c.requires.named)
-    (hedge_below g c.in-Joint.x.bits c.in-Joint.y.bits c.in-Joint.hedge c.args.seen.now.graph.small shown.hedge)
-
-pub joint_text-requires-clause-models : goal.joint_text-requires-clause-models
-joint_text-requires-clause-models c =
-    let g = graph_of c.args.seen.now.graph in
-    let t = target_view c.args.target in
-    let effect = subst (λ a. IfJoint a (λ x y h pair. IsJointEffect g t x.bits y.bits)) c.in-Joint.is c.in_ok-formula.ensures.joint in
-    let shown = subst (λ a. IfJoint a (IsJointShown g t)) c.in-Joint.is c.in_ok-formula.ensures.shown in
-    subst (λ n. ArePairBelow n c.in-Joint.pair) (sym c.requires.named)
-    (pair_below g c.args.seen.now.graph.valid c.in-Joint.x.bits c.in-Joint.y.bits c.in-Joint.hedge c.in-Joint.pair effect.target.sets.y_within shown.models
-    (subst (λ a. IfJoint a (λ x y h pair. AreCounterModels g x.bits y.bits pair)) c.in-Joint.is c.in_ok-formula.ensures.counter))
-
-pub joint_text-requires-clause-data : goal.joint_text-requires-clause-data
-joint_text-requires-clause-data c =
-    let g = graph_of c.args.seen.now.graph in
-    let t = target_view c.args.target in
-    let effect = subst (λ a. IfJoint a (λ x y h pair. IsJointEffect g t x.bits y.bits)) c.in-Joint.is c.in_ok-formula.ensures.joint in
-    let shown = subst (λ a. IfJoint a (IsJointShown g t)) c.in-Joint.is c.in_ok-formula.ensures.shown in
-    subst (λ n. IsHedgeWithin n (hedge_view c.in-Joint.hedge)) (sym c.requires.named)
-    (hedge_within g c.in-Joint.x.bits c.in-Joint.y.bits c.in-Joint.hedge c.sized.ensures.found c.sized.ensures.partner shown.hedge)
+    let on_names : (P : ℕ → Type 0) → P c.args.seen.now.graph.n → P (length c.args.seen.now.names) = λ P. subst P (sym c.requires.named) in
+    record {
+      what = on_names (λ n. Within n (has c.args.target.y.bits)) sets.y_within;
+      doing = on_names (λ n. Within n (has c.args.target.x.bits)) sets.x_within;
+      given = on_names (λ n. Within n (has c.args.target.given.bits)) sets.w_within;
+      x = on_names (λ n. Within n (has c.in-Joint.x.bits)) effect.target.sets.x_within;
+      y = on_names (λ n. Within n (has c.in-Joint.y.bits)) effect.target.sets.y_within;
+      target = on_names (λ n. IsBareTarget n (effect_on c.in-Joint.x.bits c.in-Joint.y.bits))
+          (bare_target c.args.seen.now.graph.n c.in-Joint.x.bits c.in-Joint.y.bits effect.target.sets.x_within effect.target.sets.y_within effect.target.sets.x_y
+          (with_member c.in-Joint.y.bits effect.target.some.0 effect.target.some.1));
+      hedge = on_names (λ n. IsHedgeBelow n c.in-Joint.hedge) (hedge_below g c.in-Joint.x.bits c.in-Joint.y.bits c.in-Joint.hedge c.args.seen.now.graph.small shown.hedge);
+      models = on_names (λ n. ArePairBelow n c.in-Joint.pair)
+          (pair_below g c.args.seen.now.graph.valid c.in-Joint.x.bits c.in-Joint.y.bits c.in-Joint.hedge c.in-Joint.pair effect.target.sets.y_within shown.models
+          (subst (λ a. IfJoint a (λ x y h pair. AreCounterModels g x.bits y.bits pair)) c.in-Joint.is c.in_ok-formula.ensures.counter));
+      data = on_names (λ n. IsHedgeWithin n (hedge_view c.in-Joint.hedge))
+          (hedge_within g c.in-Joint.x.bits c.in-Joint.y.bits c.in-Joint.hedge c.sized.ensures.found c.sized.ensures.partner shown.hedge);
+    }
 
 pub returns-in_ok-joint_text-in-Joint : goal.returns-in_ok-joint_text-in-Joint
 returns-in_ok-joint_text-in-Joint c =

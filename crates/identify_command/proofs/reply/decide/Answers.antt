@@ -7,19 +7,13 @@ use Rattle.prob_expr.specs.Tree.{PlainTarget}
 use Rattle.prob_expr.specs.View.{formula_view}
 use Rattle.do_derivation.specs.Accepts.{Accepts}
 use Rattle.do_derivation.specs.View.{derivation_view}
-use Rattle.counter_models.specs.Events.{AreCounterModels}
-use Rattle.counter_models.specs.Pairs.{IsPairOf}
-use Rattle.identification.specs.Procedure.{IsUnidentified}
-use Rattle.id_recursion.specs.Answers.{effect_on, IsRight, IfFormula, IfHedge, AreShallowSteps, IsShallowFormula}
-use Rattle.id_recursion.specs.Hedged.{IsHedgeOf}
-use Rattle.identify_text.specs.Below.{IsHedgeBelow, ArePairBelow}
-use Rattle.identify_text.proofs.Belows.{hedge_below}
+use Rattle.id_recursion.specs.Answers.{effect_on, IfFormula, IfHedge, AreShallowSteps, IsShallowFormula}
 use Rattle.identify_text.proofs.Free.{none_within}
 use Rattle.certificate.specs.Plain.{hedge_view}
 use Rattle.certificate_writing.specs.Writable.{IsTargetWithin, IsBareTarget, IsDerivationWithin, IsHedgeWithin}
 use Rattle.identify_command.proofs.Shallow.{formula_shallow}
 use Rattle.identify_command.proofs.Within.{derivation_within}
-use Rattle.effect_answers.proofs.Belows.{pair_below}
+use Rattle.effect_answers.proofs.Found.{found, hedge_named, pair_named}
 use Rattle.identify_command.proofs.Writing.{bare_target, hedge_within}
 use Rattle.identify_command.proofs.reply.decide.Goals as goal
 
@@ -59,19 +53,12 @@ hedge_text-requires-clause-target c = subst (λ n. IsBareTarget n (effect_on c.a
     (bare_target c.args.seen.now.graph.n c.args.sets.x.bits c.args.sets.y.bits c.requires.x c.requires.y c.requires.apart c.requires.some)
 
 pub hedge_text-requires-clause-hedge : goal.hedge_text-requires-clause-hedge
-hedge_text-requires-clause-hedge c =
-    let g = graph_of c.args.seen.now.graph in
-    subst (λ n. IsHedgeBelow n c.in-Hedge.hedge) (sym c.requires.named)
-    (hedge_below g c.args.sets.x.bits c.args.sets.y.bits c.in-Hedge.hedge c.args.seen.now.graph.small
-    (subst (λ a. IfHedge a (λ h pair. IsHedge g c.args.sets.x.bits c.args.sets.y.bits h)) c.in-Hedge.is c.in_ok-formula.ensures.hedge))
+hedge_text-requires-clause-hedge c = hedge_named (graph_of c.args.seen.now.graph) c.args.sets.x.bits c.args.sets.y.bits c.in-Hedge.hedge c.in-Hedge.pair c.in-Hedge.is
+    (length c.args.seen.now.names) c.requires.named c.args.seen.now.graph.small c.in_ok-formula.ensures.hedge
 
 pub hedge_text-requires-clause-models : goal.hedge_text-requires-clause-models
-hedge_text-requires-clause-models c =
-    let g = graph_of c.args.seen.now.graph in
-    subst (λ n. ArePairBelow n c.in-Hedge.pair) (sym c.requires.named)
-    (pair_below g c.args.seen.now.graph.valid c.args.sets.x.bits c.args.sets.y.bits c.in-Hedge.hedge c.in-Hedge.pair c.requires.y
-    (subst (λ a. IfHedge a (IsPairOf g c.args.sets.x.bits c.args.sets.y.bits)) c.in-Hedge.is c.in_ok-formula.ensures.pair)
-    (subst (λ a. IfHedge a (λ h pair. AreCounterModels g c.args.sets.x.bits c.args.sets.y.bits pair)) c.in-Hedge.is c.in_ok-formula.ensures.counter))
+hedge_text-requires-clause-models c = pair_named (graph_of c.args.seen.now.graph) c.args.sets.x.bits c.args.sets.y.bits c.in-Hedge.hedge c.in-Hedge.pair c.in-Hedge.is
+    (length c.args.seen.now.names) c.requires.named c.args.seen.now.graph.valid c.requires.y c.in_ok-formula.ensures.pair c.in_ok-formula.ensures.counter
 
 pub hedge_text-requires-clause-data : goal.hedge_text-requires-clause-data
 hedge_text-requires-clause-data c =
@@ -82,17 +69,10 @@ hedge_text-requires-clause-data c =
 
 pub returns-in_ok-hedge_text-in-Hedge : goal.returns-in_ok-hedge_text-in-Hedge
 returns-in_ok-hedge_text-in-Hedge c =
-    let g = graph_of c.args.seen.now.graph in
-    record {
+    let e = c.in_ok-formula.ensures in record {
       hedge = c.in-Hedge.hedge;
       pair = c.in-Hedge.pair;
-      found = record {
-        right = subst (IsRight g c.args.sets.x.bits c.args.sets.y.bits) c.in-Hedge.is c.in_ok-formula.ensures.right;
-        evidence = subst (λ a. IfHedge a (λ h pair. IsHedge g c.args.sets.x.bits c.args.sets.y.bits h)) c.in-Hedge.is c.in_ok-formula.ensures.hedge;
-        stop = subst (λ a. IfHedge a (λ h pair. IsUnidentified g c.args.sets.x.bits c.args.sets.y.bits h.small.bits h.big.bits)) c.in-Hedge.is c.in_ok-formula.ensures.stop;
-        built = subst (λ a. IfHedge a (λ h pair. IsHedgeOf g h)) c.in-Hedge.is c.in_ok-formula.ensures.data;
-        models = subst (λ a. IfHedge a (IsPairOf g c.args.sets.x.bits c.args.sets.y.bits)) c.in-Hedge.is c.in_ok-formula.ensures.pair;
-      };
+      found = found (graph_of c.args.seen.now.graph) c.args.sets.x.bits c.args.sets.y.bits c.in-Hedge.hedge c.in-Hedge.pair c.in-Hedge.is e.right e.hedge e.stop e.data e.pair;
       prints = c.in_ok-hedge_text-in-Hedge.ensures.text;
       reads_back = c.in_ok-hedge_text-in-Hedge.ensures.reads_back;
     }

@@ -1,5 +1,5 @@
 use Rattle.causal_cli.specs.Commands.{on_graph}
-use Rattle.causal_cli.specs.declared.answer.First.TheVariants as first
+use Rattle.causal_cli.specs.declared.answer.AfterFile.TheVariants as first
 use Rattle.causal_cli.proofs.Answered.{accepted_on}
 use Rattle.causal_cli.proofs.Definitions.{given_on}
 use Rattle.kept_call.proofs.Replying.{replied_diagram, proceeded, refused_memory}

@@ -5,15 +5,16 @@ use Rattle.mixed_graph.specs.Names.{texts}
 use Rattle.mixed_graph.specs.Sets.{Within}
 use Rattle.mixed_graph.specs.Shown.{graph_of}
 use Rattle.prob_expr.specs.Listed.{masks_of}
-use Rattle.targets.specs.Targets.{EffectLists}
+use Rattle.targets.specs.Targets.{EffectLists, OrMemory}
 use Rattle.targets.proofs.Effects.{effect_within_x, effect_within_y, effect_apart, effect_outcome}
 use Rattle.word_lists.specs.Views.{names_in}
-use Rattle.effect_answers.proofs.Faults.{same_lists}
+use Rattle.targets.proofs.Faults.{not_memory}
+use Rattle.targets.proofs.Parts.{same_effect_lists}
 use Rattle.surrogate_command.specs.Asked.{surrogate_lists}
 use Rattle.surrogate_command.specs.Experiments.{Lists}
-use Rattle.surrogate_command.specs.Sets.{SurrogateLists, lists_of, AreSurrogateSets, IsSurrogateFaultOrMemory}
+use Rattle.surrogate_command.specs.Sets.{SurrogateLists, lists_of, AreSurrogateSets, IsSurrogateFault}
 use Rattle.surrogate_command.proofs.Filled.{one_set_each, sets_filled}
-use Rattle.surrogate_command.proofs.Walked.{surrogate_refused, after_effect}
+use Rattle.surrogate_command.proofs.Walked.{after_effect}
 use Rattle.surrogate_command.proofs.effect.asked_effect.Goals as goal
 
 abbrev with_experiments : Lists → EffectLists → SurrogateLists
@@ -22,12 +23,12 @@ with_experiments experiments e = record { effect = e; experiments = experiments 
 pub returns-in-Ok : goal.returns-in-Ok
 returns-in-Ok c =
     let g = c.args.graph.now in let experiments = map names_in c.args.experiments.now in
-    let lists = lists_of g.names c.in_ok-seen.seen.names (texts c.deref.result.now) (texts c.deref-2.result.now) experiments in
-    let same_effect = same_lists g.names _ _ _ _ _ _ c.in_ok-seen.ensures.names (ap texts c.deref.ensures.value ∙ c.in_ok-x.ensures) (ap texts c.deref-2.ensures.value ∙ c.in_ok-y.ensures) in
+    let lists = lists_of g.names c.in_ok-seen.field-0.seen.names (texts c.deref.result.now) (texts c.deref-2.result.now) experiments in
+    let same_effect = same_effect_lists g.names _ _ _ _ _ _ c.in_ok-seen.ensures.names (ap texts c.deref.ensures.value ∙ c.in_ok-seen.ensures.x) (ap texts c.deref-2.ensures.value ∙ c.in_ok-seen.ensures.y) in
     let same = ap (with_experiments experiments) same_effect in
     let x = c.in-Ok.sets.x.bits in let y = c.in-Ok.sets.y.bits in let zs = masks_of c.in-Ok.sets.experiments.items in
     let sets = c.in-Ok.ensures.sets in
-    let count = one_set_each c.in_ok-seen.seen.names experiments zs sets.experiments in
+    let count = one_set_each c.in_ok-seen.field-0.seen.names experiments zs sets.experiments in
     let few = simp length-map at c.requires.few in
     record {
       graph = c.in_ok-seen.ensures.graph;
@@ -39,22 +40,22 @@ returns-in-Ok c =
       apart = effect_apart lists.effect x y sets.effect;
       some = effect_outcome lists.effect x y sets.effect;
       few = (let items = simp length-map at count in omega (arith, items, few));
-      are_sets = sets_filled g.names c.in_ok-seen.seen.names c.in_ok-seen.seen.graph.n c.in_ok-seen.ensures.named experiments c.requires.filled
+      are_sets = sets_filled g.names c.in_ok-seen.field-0.seen.names c.in_ok-seen.field-0.seen.graph.n c.in_ok-seen.ensures.named experiments c.requires.filled
           (sym (after_effect lists sets.effect.no_fault) ∙ sets.no_fault) zs sets.experiments;
     }
 
 pub returns-in_ok-refuse-in-Err : goal.returns-in_ok-refuse-in-Err
 returns-in_ok-refuse-in-Err c =
     let g = c.args.graph.now in let x = option_map names_in c.args.x in let y = option_map names_in c.args.y in let experiments = map names_in c.args.experiments.now in
-    let same_effect = same_lists g.names _ _ _ _ _ _ c.in_ok-seen.ensures.names (ap texts c.deref.ensures.value ∙ c.in_ok-x.ensures) (ap texts c.deref-2.ensures.value ∙ c.in_ok-y.ensures) in
+    let same_effect = same_effect_lists g.names _ _ _ _ _ _ c.in_ok-seen.ensures.names (ap texts c.deref.ensures.value ∙ c.in_ok-seen.ensures.x) (ap texts c.deref-2.ensures.value ∙ c.in_ok-seen.ensures.y) in
     let same = ap (with_experiments experiments) same_effect in (
       c.in_ok-refuse-in-Err.ensures.outcome,
       (
-        graph_of c.in_ok-seen.seen.graph,
+        graph_of c.in_ok-seen.field-0.seen.graph,
         c.in_ok-seen.ensures.graph,
         record {
           fault = c.in-Err.fault;
-          is_fault = surrogate_refused (surrogate_lists g x y experiments) c.in-Err.fault c.in_ok-refuse-in-Err.ensures.fault (subst (λ l. IsSurrogateFaultOrMemory l c.in-Err.fault) same c.in-Err.ensures.fault);
+          is_fault = not_memory (IsSurrogateFault (surrogate_lists g x y experiments)) c.in-Err.fault c.in_ok-refuse-in-Err.ensures.fault (subst (λ l. OrMemory (IsSurrogateFault l) c.in-Err.fault) same c.in-Err.ensures.fault);
           prints = c.in_ok-refuse-in-Err.ensures.line;
         },
       ),

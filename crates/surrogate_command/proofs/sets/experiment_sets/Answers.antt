@@ -4,7 +4,8 @@ use Rattle.mixed_graph.specs.Names.{texts}
 use Rattle.prob_expr.specs.Listed.{masks_of}
 use Rattle.word_lists.specs.Views.{names_in}
 use Rattle.targets.specs.Targets.{first_fault, walked_in, IsNameFault, IsListedSet}
-use Rattle.surrogate_command.proofs.Walked.{AreWalked, walked_alone, walked_more, walked_done, fault_next, lists-drop, masks_pushed}
+use Rattle.targets.proofs.Queries.{from_empty}
+use Rattle.surrogate_command.proofs.Walked.{AreWalked, walked_more, walked_done, fault_next, lists-drop, masks_pushed}
 use Rattle.surrogate_command.proofs.sets.experiment_sets.Goals as goal
 
 pub returns-in-Err-clause-fault : goal.returns-in-Err-clause-fault
@@ -24,7 +25,7 @@ loop-experiment-preserved c =
     let at = lists-drop c.args.experiments.now c.loop-experiment.experiment-index c.experiment-item.result c.loop-experiment-test.true (sym c.experiment-item.is) in
     walked_more all observed lists rest (masks_of c.loop-experiment.sets.items) (masks_of c.push.new.self.items) e c.in-Ok.set.bits
     (masks_pushed c.push.new.self.items c.loop-experiment.sets.items c.in-Ok.set c.in-Ok-push.ensures.items)
-    (sym (walked_alone all observed c.empty.result.bits c.empty.ensures.members e) ∙ ap (first_fault all observed (walked_in observed c.empty.result.bits)) (sym (ap texts c.as_slice.ensures.value)) ∙ c.in-Ok.ensures.none)
+    (from_empty all observed c.empty.result.bits c.empty.ensures.members e ∙ ap (first_fault all observed (walked_in observed c.empty.result.bits)) (sym (ap texts c.as_slice.ensures.value)) ∙ c.in-Ok.ensures.none)
     (subst (λ t. IsListedSet observed t c.in-Ok.set.bits) (ap texts c.as_slice.ensures.value) c.in-Ok.ensures.set)
     (subst (AreWalked all observed lists (masks_of c.loop-experiment.sets.items)) at c.loop-experiment.invariant)
 

@@ -1,68 +1,27 @@
-use Rattle.std.proofs.Common.{◌≡◌, ◌||◌, length, ap, ◌∙◌, rules}
+use Rattle.std.proofs.Common.{◌≡◌, length, ap, rules}
 use Rattle.std.proofs.lemmas.List.{nil_from_length}
-use Rattle.mixed_graph.specs.Names.{texts, is_named}
-use Rattle.targets.specs.Targets.{Lists, fault_in, first_fault, walked_in, or_fault}
-use Rattle.targets.proofs.Walking.{fault_first, texts-none}
-use Rattle.targets.proofs.Queries.{query_first, query_after_first, query_after_second, fault_of_query}
+use Rattle.mixed_graph.specs.Names.{texts}
+use Rattle.targets.proofs.Parts.{lists_of}
+use Rattle.targets.proofs.Faults.{list_fault_of_target}
+use Rattle.targets.proofs.Walking.{texts-none}
 use Rattle.targets.proofs.query.find_sets.Goals as goal
-use Rattle.targets.proofs.query.find_sets.Goals.{After-walk, After-walk-2, After-walk-3}
-
-abbrev lists-2 : After-walk-2 → Lists
-lists-2 c = record { all = c.args.all.now; observed = c.args.observed.now; x = texts c.args.x.now; y = texts c.args.y.now; given = texts c.args.given.now }
-
-abbrev lists-3 : After-walk-3 → Lists
-lists-3 c = record { all = c.args.all.now; observed = c.args.observed.now; x = texts c.args.x.now; y = texts c.args.y.now; given = texts c.args.given.now }
-
-abbrev lists : After-walk → Lists
-lists c = record { all = c.args.all.now; observed = c.args.observed.now; x = texts c.args.x.now; y = texts c.args.y.now; given = texts c.args.given.now }
 
 pub returns-in-Err-clause-fault : goal.returns-in-Err-clause-fault
-returns-in-Err-clause-fault c =
-    let l = lists (goal.at.returns-in-Err-clause-fault c).After-walk in
-    fault_of_query l _ c.in-Err.fault (query_first l c.empty.result.bits c.empty.ensures.members) (fault_first _ _ c.in-Err.fault c.in-Err.ensures.fault)
-
-abbrev after_first : (c : After-walk-2) → fault_in (lists-2 c)
-    ≡ or_fault (first_fault c.args.all.now c.args.observed.now (walked_in c.args.observed.now c.in-Ok.set.bits) (texts c.args.y.now))
-    (first_fault c.args.all.now c.args.observed.now (λ m. is_named (texts c.args.x.now) m || is_named (texts c.args.y.now) m) (texts c.args.given.now))
-after_first c = query_after_first (lists-2 c) c.empty.result.bits c.in-Ok.set.bits c.empty.ensures.members c.in-Ok.ensures.none c.in-Ok.ensures.set
-
-abbrev after_second : (c : After-walk-3) → fault_in (lists-3 c)
-    ≡ first_fault c.args.all.now c.args.observed.now (walked_in c.args.observed.now c.union.result.bits) (texts c.args.given.now)
-after_second c = query_after_second (lists-3 c) c.empty.result.bits c.in-Ok.set.bits c.in-Ok-walk.set.bits c.union.result.bits c.empty.ensures.members
-    c.in-Ok.ensures.none c.in-Ok.ensures.set c.in-Ok-walk.ensures.none c.in-Ok-walk.ensures.set c.union.ensures.members
-
-pub returns-in-Err-walk-clause-fault : goal.returns-in-Err-walk-clause-fault
-returns-in-Err-walk-clause-fault c =
-    let at = goal.at.returns-in-Err-walk-clause-fault c in
-    fault_of_query (lists-2 at.After-walk-2) _ c.in-Err-walk.fault (after_first at.After-walk-2) (fault_first _ _ c.in-Err-walk.fault c.in-Err-walk.ensures.fault)
-
-pub returns-in-Err-walk-2-clause-fault : goal.returns-in-Err-walk-2-clause-fault
-returns-in-Err-walk-2-clause-fault c =
-    let at = goal.at.returns-in-Err-walk-2-clause-fault c in
-    fault_of_query (lists-3 at.After-walk-3) _ c.in-Err-walk-2.fault (after_second at.After-walk-3) c.in-Err-walk-2.ensures.fault
+returns-in-Err-clause-fault c = list_fault_of_target (lists_of c.args.all.now c.args.observed.now (texts c.args.x.now) (texts c.args.y.now) (texts c.args.given.now)) c.in-Err.fault c.in-Err.ensures.fault
 
 pub returns-then-is_empty-clause-fault : goal.returns-then-is_empty-clause-fault
 returns-then-is_empty-clause-fault c =
-    let at = goal.at.returns-then-is_empty-clause-fault c in
-    let none : length c.args.y.now ≡ 0 = search rules in
-    (after_second at.After-walk-3 ∙ c.in-Ok-walk-2.ensures.none, ap texts (nil_from_length c.args.y.now none))
-
-pub returns-then-is_empty-2-clause-fault : goal.returns-then-is_empty-2-clause-fault
-returns-then-is_empty-2-clause-fault c =
-    let at = goal.at.returns-then-is_empty-2-clause-fault c in
     let none : length c.args.x.now ≡ 0 = search rules in
-    let some : length c.args.y.now ≡ 0 → ⊥ = search rules in
-    (after_second at.After-walk-3 ∙ c.in-Ok-walk-2.ensures.none, λ e. some (texts-none c.args.y.now e), ap texts (nil_from_length c.args.x.now none))
+    (c.in-Ok.ensures.sets.no_fault, c.in-Ok.ensures.sets.some_y, ap texts (nil_from_length c.args.x.now none))
 
 pub returns-clause-sets : goal.returns-clause-sets
 returns-clause-sets c =
-    let at = goal.at.returns-clause-sets c in
-    let some_y : length c.args.y.now ≡ 0 → ⊥ = search rules in
+    let s = c.in-Ok.ensures.sets in
     let some_x : length c.args.x.now ≡ 0 → ⊥ = search rules in record {
-      no_fault = after_second at.After-walk-3 ∙ c.in-Ok-walk-2.ensures.none;
-      some_y = λ e. some_y (texts-none c.args.y.now e);
+      no_fault = s.no_fault;
+      some_y = s.some_y;
       some_x = λ e. some_x (texts-none c.args.x.now e);
-      set_x = c.in-Ok.ensures.set;
-      set_y = c.in-Ok-walk.ensures.set;
-      set_given = c.in-Ok-walk-2.ensures.set;
+      set_x = s.set_x;
+      set_y = s.set_y;
+      set_given = s.set_given;
     }

@@ -1,7 +1,7 @@
 use Rattle.std.proofs.Common.{codes}
 use Rattle.answer_text.specs.Texts.{set_text}
 use Rattle.identify_text.proofs.Lines.{seven_written}
-use Rattle.identify_text.proofs.hedges.push_sets.Goals as goal
+use Rattle.identify_text.proofs.hedges.push_hedge_sets.Goals as goal
 
 pub returns : goal.returns
 returns c =

@@ -1,0 +1,8 @@
+-- What holds of a result.
+use Rattle.std.proofs.Common.{Result, Ok, Err}
+use Rattle.std.specs.Prelude.{IfOk}
+
+-- what follows from what holds of a result
+pub mapped : {A E : Type 0} (P Q : A → Type 0) (r : Result A E) → ((x : A) → P x → Q x) → IfOk r P → IfOk r Q
+mapped P Q (Ok x) f h = f x h
+mapped P Q (Err e) f h = tt
