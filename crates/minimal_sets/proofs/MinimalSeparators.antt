@@ -10,10 +10,10 @@ use Rattle.finite_models.proofs.Bools.{and_first, and_second, not_both}
 use Rattle.prob_expr.specs.Values.{EqualsEffect}
 use Rattle.proper_paths.specs.Proper.{IsBetween, IsBackDoorGraph}
 use Rattle.proper_paths.proofs.FirstEdges.{cut_arrows, firsts, back_door_graph_is}
-use Rattle.adjustment.specs.Criteria.{IsExcluded, IsAdmissible}
+use Rattle.adjustment.specs.Criteria.{IsForbidden, IsAdmissible}
 use Rattle.adjustment.specs.Formulas.{adjustment_formula, effect_on}
 use Rattle.adjustment.proofs.Effects.{admissible_adjusts}
-use Rattle.adjustment.proofs.Separating.{excluded_is, separated_from, admissible_from}
+use Rattle.adjustment.proofs.Separating.{forbidden_is, separated_from, admissible_from}
 use Rattle.adjustment.proofs.Walks.{graph_arrows}
 use Rattle.vertex_separators.specs.Separators.{IsSeparator, IsPart, IsMinimalSeparator}
 use Rattle.vertex_separators.specs.Frames.{IsFrame}
@@ -23,7 +23,7 @@ use Rattle.minimal_sets.specs.Moral.{IsNear}
 use Rattle.minimal_sets.proofs.Separations.{turn, separated_by_separator, separator_from_separated, separated_inner}
 
 module _ (g : MixedGraph) (ok : IsMixedGraph g) (X Y : ℕ → Bool) (xl : Within g.vertices X) (yl : Within g.vertices Y) (xy : Apart X Y)
-    (B bad : ℕ → Bool) (is_between : (v : ℕ) → IsTrue (B v) ↔ IsBetween g X Y v) (is_excluded : (v : ℕ) → IsTrue (bad v) ↔ IsExcluded g X Y v)
+    (B bad : ℕ → Bool) (is_between : (v : ℕ) → IsTrue (B v) ↔ IsBetween g X Y v) (is_forbidden : (v : ℕ) → IsTrue (bad v) ↔ IsForbidden g X Y v)
     (A : ℕ → Bool) (above : (v : ℕ) → IsTrue (A v) ↔ IsAncestor (cut_arrows g (firsts X B)) (λ v. X v || Y v) v)
     (near : ℕ → ℕ → Bool) (is_near : IsNear (cut_arrows g (firsts X B)) A near) where
   -- the vertices that a separator may have
@@ -52,7 +52,7 @@ module _ (g : MixedGraph) (ok : IsMixedGraph g) (X Y : ℕ → Bool) (xl : Withi
   apart_from p W h v e = false_from_ne_true (p v) (λ i. not_both (W v) e (h v i))
 
   pub admissible_separator : (p : ℕ → Bool) → IsPart p allowed → IsSeparator near X Y p → IsAdmissible g X Y p
-  admissible_separator p part separator = admissible_from g ok X Y xl xy B is_between p (λ v e x. not_both (bad v) ((is_excluded v).1 x) (al_bad v (part v e)))
+  admissible_separator p part separator = admissible_from g ok X Y xl xy B is_between p (λ v e x. not_both (bad v) ((is_forbidden v).1 x) (al_bad v (part v e)))
       (separated_by_separator (cut_arrows g (firsts X B)) (graph_arrows g (firsts X B) ok) X Y xl yl A above near is_near p (λ v e. al_a v (part v e)) separator)
 
   pub separator_admissible : (p : ℕ → Bool) → ((v : ℕ) → p v ≡ true → X v ≡ false) → ((v : ℕ) → p v ≡ true → Y v ≡ false) → IsAdmissible g X Y p → IsSeparator near X Y p
@@ -75,7 +75,7 @@ module _ (g : MixedGraph) (ok : IsMixedGraph g) (X Y : ℕ → Bool) (xl : Withi
       part : IsPart z allowed
       part v e = allowed_from v
           (and_second (z v) (A v) (k.minimal (λ v. z v && A v) (λ w i. and_first (z w) (A w) i) (inner_admissible z k.x_apart k.y_apart k.admissible) v e))
-          (k.x_apart v e) (k.y_apart v e) (false_from_ne_true (bad v) (λ b. k.admissible.clear v e ((is_excluded v).0 b)))
+          (k.x_apart v e) (k.y_apart v e) (false_from_ne_true (bad v) (λ b. k.admissible.clear v e ((is_forbidden v).0 b)))
 
   pub to_set : (z : ℕ → Bool) → IsMinimalSeparator near allowed X Y z → IsMinimalSet g X Y z
   to_set z k = record {
@@ -127,8 +127,8 @@ module _ (g : MixedGraph) (ok : IsMixedGraph g) (X Y : ℕ → Bool) (xl : Withi
   graph_is : h ≡ cut_arrows g (firsts X B)
   graph_is = back_door_graph_is g ok X Y xl B is_between h is_h
 
-  excluded : (v : ℕ) → IsTrue (bad v) ↔ IsExcluded g X Y v
-  excluded = excluded_is g ok X Y xl B bad is_between below
+  forbidden : (v : ℕ) → IsTrue (bad v) ↔ IsForbidden g X Y v
+  forbidden = forbidden_is g ok X Y xl B bad is_between below
 
   above_cut : (v : ℕ) → IsTrue (A v) ↔ IsAncestor (cut_arrows g (firsts X B)) (λ v. X v || Y v) v
   above_cut v = subst (λ k. IsTrue (A v) ↔ IsAncestor k (λ v. X v || Y v) v) graph_is (subst (λ (s : ℕ → Bool). IsTrue (A v) ↔ IsAncestor h s v) (fun_ext u_is) (above v))
@@ -137,13 +137,13 @@ module _ (g : MixedGraph) (ok : IsMixedGraph g) (X Y : ℕ → Bool) (xl : Withi
   near_cut = subst (λ k. IsNear k A near) graph_is is_near
 
   pub handed_within : Within g.vertices R
-  handed_within = allowed_within g ok X Y xl yl xy B bad is_between excluded A above_cut near near_cut R r_is
+  handed_within = allowed_within g ok X Y xl yl xy B bad is_between forbidden A above_cut near near_cut R r_is
 
   pub handed_frame : IsFrame near R X Y
-  handed_frame = frame g ok X Y xl yl xy B bad is_between excluded A above_cut near near_cut R r_is
+  handed_frame = frame g ok X Y xl yl xy B bad is_between forbidden A above_cut near near_cut R r_is
 
   pub handed_sets : (most : ℕ) (sets : List VSet) (more : Bool) → IsListingOf (IsMinimalSeparator near R X Y) most sets more → IsListingOf (IsMinimalSet g X Y) most sets more
-  handed_sets = sets_listed g ok X Y xl yl xy B bad is_between excluded A above_cut near near_cut R r_is
+  handed_sets = sets_listed g ok X Y xl yl xy B bad is_between forbidden A above_cut near near_cut R r_is
 
 -- the formula of a minimal set is the effect
 pub minimal_adjusts : (g : MixedGraph) → IsMixedGraph g → (x y z : ℕ) → Within g.vertices (has x) → Within g.vertices (has y) → Apart (has x) (has y) → IsMinimalSet g (has x) (has y) (has z)

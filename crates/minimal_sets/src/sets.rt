@@ -35,13 +35,13 @@ pub fn list<L: Ledger>(
     ensures cost { IfOk result (λ l. steps.new ≤ steps.old + 1 + g.now.n * length l.sets.items) }
     ensures bound { IfOk result (λ l. steps.new ≤ steps.old + ((2 * g.now.n + 1) * (length l.sets.items + 1) + 1)) }
 {
-    let excluded = g.descendants(proper_causal(g, x, y));
+    let forbidden = g.descendants(proper_causal(g, x, y));
     let h = back_door_graph(g, x, y);
     let within = h.ancestors(x.union(y));
     let p = SeparationProblem {
         n: g.n as u8,
         near: moral_rows(&h, within),
-        allowed: within.difference(x).difference(y).difference(excluded),
+        allowed: within.difference(x).difference(y).difference(forbidden),
         x,
         y,
     };
