@@ -1,5 +1,5 @@
 -- One token more, and the token that ends the reading.
-use Rattle.std.proofs.Common.{◌≡◌, ℕ, Bool, List, [], ◌∷◌, length, Result, Ok, Err, refl, sym, subst}
+use Rattle.std.proofs.Common.{◌≡◌, ℕ, List, [], ◌∷◌, length, Result, Ok, Err, refl, sym, subst}
 use Rattle.dag_reader.specs.declared.tokens.Due.{Due}
 use Rattle.dag_reader.specs.Tokens.{Tok, end, first, place_of, due_behind}
 use Rattle.dag_reader.specs.Grammar.{Fault, Said, Position, goes_on, ends, step, settled, taken, ended}
