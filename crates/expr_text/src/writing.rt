@@ -15,6 +15,7 @@ use prob_expr::{Expr, Formula};
 use std::alloc::{AllocError, Global};
 
 /// In which notation and with which names expressions are written.
+#[derive(Drop)]
 struct Writer<'n> {
     alloc: Global,
     notation: Notation,
