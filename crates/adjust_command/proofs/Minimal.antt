@@ -6,8 +6,8 @@ use Rattle.mixed_graph.specs.declared.sets.VSet.{VSet}
 use Rattle.do_rules.specs.Rules.{AreThreeSets}
 use Rattle.do_derivation.proofs.TermSets.{apart_back}
 use Rattle.adjustment.specs.Criteria.{IsAdmissible}
-use Rattle.vertex_cuts.specs.Cuts.{IsPart}
-use Rattle.vertex_cuts.specs.Listings.{IsListingOf}
+use Rattle.vertex_separators.specs.Separators.{IsPart}
+use Rattle.vertex_separators.specs.Listings.{IsListingOf}
 use Rattle.minimal_sets.specs.MinimalSets.{IsMinimalSet}
 
 -- the number of members below n

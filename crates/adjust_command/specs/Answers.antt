@@ -18,7 +18,7 @@ use Rattle.adjustment.specs.declared.criteria.AdjFault.{AdjFault}
 use Rattle.adjustment.specs.Criteria.{IsAdmissible, IsBackDoorSet}
 use Rattle.adjustment.specs.Faults.{IsAdjustmentFault, IsBackDoorFault}
 use Rattle.adjustment.specs.Formulas.{adjustment_formula, effect_on}
-use Rattle.vertex_cuts.specs.Listings.{IsListingOf}
+use Rattle.vertex_separators.specs.Listings.{IsListingOf}
 use Rattle.minimal_sets.specs.MinimalSets.{IsMinimalSet}
 use Rattle.adjust_command.specs.Queries.{Query, by_set, by_back_door, listing}
 use Rattle.adjust_command.specs.Lines.{admissible_text, not_admissible_text, listing_text}

@@ -18,7 +18,7 @@ set_line names set = set_text names set ++ codes "\n"
 abbrev pub admissible_text : List (List ℕ) → (x y z : ℕ) → List ℕ
 admissible_text names x y z = codes "admissible: " ++ (set_line names z ++ formula_answer names (effect_on x y) (adjustment_formula x y z))
 
--- `forbidden: Z`, with a member that is excluded
+-- `forbidden: Z`, with a member that is forbidden
 abbrev pub forbidden_line : List (List ℕ) → ℕ → List ℕ
 forbidden_line names v = codes "forbidden: " ++ (printed (name_of names v) ++ codes "\n")
 

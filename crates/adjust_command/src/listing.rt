@@ -23,7 +23,7 @@ pub fn list_sets(alloc: Global, seen: &Observed, sets: Sets, most: u32) -> Resul
     list_counted::<Brand>(alloc, Blank::new(1), seen, sets, most)
 }
 
-/// The same with a blank for the count of the cuts computed.
+/// The same with a blank for the count of the separators computed.
 fn list_counted<L: Ledger>(
     alloc: Global,
     blank: Blank,

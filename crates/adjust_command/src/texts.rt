@@ -43,7 +43,7 @@ pub fn admissible_text(alloc: Global, names: &Names, sets: Sets) -> Result<Vec<u
     Ok(text)
 }
 
-/// Appends the line of a member that is excluded.
+/// Appends the line of a member that is forbidden.
 fn push_forbidden(out: &mut Vec<u8>, names: &Names, v: u8) -> Result<(), AllocError>
     requires { v < length names.now }
     ensures { OnOk result (out.new.items ≡ out.old.items ++ forbidden_line names.now v) }

@@ -25,7 +25,7 @@ use Rattle.prob_expr.proofs.ValueLaws.{value_positive, formula_positive, term_po
 use Rattle.proper_paths.specs.Proper.{IsBetween}
 use Rattle.proper_paths.proofs.Causal.{below_from, between_first}
 use Rattle.proper_paths.proofs.FirstEdges.{cut_arrows, firsts}
-use Rattle.adjustment.specs.Criteria.{IsExcluded, IsAdmissible}
+use Rattle.adjustment.specs.Criteria.{IsForbidden, IsAdmissible}
 use Rattle.adjustment.specs.Faults.{IsClearOf}
 use Rattle.adjustment.specs.Formulas.{adjusted_sum, adjustment_formula, effect_on}
 use Rattle.adjustment.proofs.Held.{hold_arrows, term_is, sum_is_effect}
@@ -173,8 +173,8 @@ module _ (g : MixedGraph) (ok : IsMixedGraph g) (x y z : ℕ) (sets : AreThreeSe
   equals_effect m fit positive s within = formula_equal m fit positive s within
 
 module _ (g : MixedGraph) (ok : IsMixedGraph g) (x y z : ℕ) (sets : AreThreeSets g.vertices (has x) (has y) (has z)) where
-  -- the formula of a set that separates in the back-door graph, without an excluded member
-  pub separating_adjusts : (B : ℕ → Bool) → ((v : ℕ) → IsTrue (B v) ↔ IsBetween g (has x) (has y) v) → IsClearOf (IsExcluded g (has x) (has y)) (has z)
+  -- the formula of a set that separates in the back-door graph, without a forbidden member
+  pub separating_adjusts : (B : ℕ → Bool) → ((v : ℕ) → IsTrue (B v) ↔ IsBetween g (has x) (has y) v) → IsClearOf (IsForbidden g (has x) (has y)) (has z)
       → IsSeparated (cut_arrows g (firsts (has x) B)) (has x) (has y) (has z) → EqualsEffect g (effect_on x y) (adjustment_formula x y z)
   separating_adjusts B is_between clear sep =
       equals_effect g ok x y z sets (firsts (has x) B) (λ u v e. (and_parts (has x u) (B v) e).0)

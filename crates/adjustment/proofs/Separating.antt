@@ -15,7 +15,7 @@ use Rattle.finite_models.proofs.Bools.{not_both}
 use Rattle.proper_paths.specs.Proper.{AreOutside, IsCausal, IsBetween}
 use Rattle.proper_paths.proofs.Causal.{below_from}
 use Rattle.proper_paths.proofs.FirstEdges.{cut_arrows, firsts, on_here}
-use Rattle.adjustment.specs.Criteria.{IsExcluded, IsAdmissible, BeginsInto, IsBackDoorSet}
+use Rattle.adjustment.specs.Criteria.{IsForbidden, IsAdmissible, BeginsInto, IsBackDoorSet}
 use Rattle.adjustment.specs.Faults.{IsClearOf, steps_of, IsBackDoorPath}
 use Rattle.adjustment.proofs.Walks.{graph_arrows, walk_more, open_more, IsClear, open_less}
 
@@ -48,10 +48,10 @@ part_of g X Y W v r o q = elim (part_or_outside g X W false v r o.walk (passed_f
 ]
 
 -- ---- the adjustment criterion
--- the excluded vertices are the descendants of those between
-pub excluded_is : (g : MixedGraph) → IsMixedGraph g → (X Y : ℕ → Bool) → Within g.vertices X → (B bad : ℕ → Bool) → ((v : ℕ) → IsTrue (B v) ↔ IsBetween g X Y v)
-    → ((v : ℕ) → IsTrue (bad v) ↔ IsDescendant g B v) → (v : ℕ) → IsTrue (bad v) ↔ IsExcluded g X Y v
-excluded_is g ok X Y within B bad is_between below v = (
+-- the forbidden vertices are the descendants of those between
+pub forbidden_is : (g : MixedGraph) → IsMixedGraph g → (X Y : ℕ → Bool) → Within g.vertices X → (B bad : ℕ → Bool) → ((v : ℕ) → IsTrue (B v) ↔ IsBetween g X Y v)
+    → ((v : ℕ) → IsTrue (bad v) ↔ IsDescendant g B v) → (v : ℕ) → IsTrue (bad v) ↔ IsForbidden g X Y v
+forbidden_is g ok X Y within B bad is_between below v = (
   λ e. let d = (below v).0 e in record { from = d.start; between = (is_between d.start).0 d.inside; path = d.path; leads = d.leads },
   λ x. (below v).1 (record {
     vertex = end_below g ok.head_below x.from x.path v (below_from g ok X Y within x.from x.between).vertex x.leads;
@@ -63,7 +63,7 @@ excluded_is g ok X Y within B bad is_between below v = (
 )
 
 module _ (g : MixedGraph) (ok : IsMixedGraph g) (X Y : ℕ → Bool) (within : Within g.vertices X) (apart : Apart X Y) (B : ℕ → Bool) (is_between : (v : ℕ) → IsTrue (B v) ↔ IsBetween g X Y v) (Z : ℕ → Bool) where
-  pub clear_of_firsts : IsClearOf (IsExcluded g X Y) Z → IsClear g (firsts X B) Z
+  pub clear_of_firsts : IsClearOf (IsForbidden g X Y) Z → IsClear g (firsts X B) Z
   clear_of_firsts clear u v a e t p l z = clear t z (record { from = v; between = (is_between v).0 (and_parts (X u) (B v) e).1; path = p; leads = l })
 
   -- a proper path of the back-door graph isn't causal
@@ -94,8 +94,8 @@ module _ (g : MixedGraph) (ok : IsMixedGraph g) (X Y : ℕ → Bool) (within : W
       (open_more g (firsts X B) X Y Z p.first p.steps
       (record { vertex = within p.first p.begins; begins = p.begins; ends = y; first_outside = x_out p.first p.begins; last_outside = rw p.ends q.1.last_outside; walk = p.walk; passed = p.passed }))
 
-  -- z is admissible if no member is excluded and it separates x and y in that graph
-  pub admissible_from : IsClearOf (IsExcluded g X Y) Z → IsSeparated (cut_arrows g (firsts X B)) X Y Z → IsAdmissible g X Y Z
+  -- z is admissible if no member is forbidden and it separates x and y in that graph
+  pub admissible_from : IsClearOf (IsForbidden g X Y) Z → IsSeparated (cut_arrows g (firsts X B)) X Y Z → IsAdmissible g X Y Z
   admissible_from clear sep = record {
     clear = clear;
     blocked = λ v r p n o. sep v r (open_less g (firsts X B) Z (clear_of_firsts clear) X (λ u v e. (and_parts (X u) (B v) e).0) Y v r p.outside n o);

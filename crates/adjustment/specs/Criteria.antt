@@ -4,16 +4,16 @@ use Rattle.mixed_graph.specs.Graphs.{MixedGraph, IsDirectedPath, IsDescendant}
 use Rattle.m_separation.specs.Walks.{Step, IsPath, IsOpenWalk, heads_first}
 use Rattle.proper_paths.specs.Proper.{IsProperPath, IsCausal, IsBetween}
 
--- v has a directed path to it from a vertex outside x on a proper causal path
-pub record IsExcluded (g : MixedGraph) (x y : ℕ → Bool) (v : ℕ) : Type 0 where
+-- v is forbidden (the forbidden set of Perkovic, Textor, Kalisch and Maathuis, 2018): it has a directed path to it from a vertex outside x on a proper causal path
+pub record IsForbidden (g : MixedGraph) (x y : ℕ → Bool) (v : ℕ) : Type 0 where
   pub from : ℕ
   pub between : IsBetween g x y from
   pub path : List ℕ
   pub leads : IsDirectedPath g from path v
 
--- z is admissible: none of its members is excluded, and no proper path that isn't causal is open given z
+-- z is admissible: none of its members is forbidden, and no proper path that isn't causal is open given z
 pub record IsAdmissible (g : MixedGraph) (x y z : ℕ → Bool) : Type 0 where
-  pub clear : (v : ℕ) → IsTrue (z v) → IsExcluded g x y v → ⊥
+  pub clear : (v : ℕ) → IsTrue (z v) → IsForbidden g x y v → ⊥
   pub blocked : (v : ℕ) (r : List Step) → IsProperPath g x y v r → (IsCausal r → ⊥) → IsOpenWalk g x y z v r → ⊥
 
 -- the first edge has an arrowhead where the walk begins

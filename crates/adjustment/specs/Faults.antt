@@ -1,4 +1,4 @@
--- What breaks the criteria: an excluded member, or an open path.
+-- What breaks the criteria: a forbidden member, or an open path.
 use Rattle.std.specs.Prelude.{ℕ, ◌-◌, ◌≤◌, ◌==◌, Bool, List, IsTrue, slice_index}
 use Rattle.mixed_graph.specs.Graphs.{MixedGraph, IsDescendant}
 use Rattle.m_separation.specs.declared.paths.OpenPath.{OpenPath}
@@ -7,7 +7,7 @@ use Rattle.m_separation.specs.Walks.{Step}
 use Rattle.proper_paths.specs.Proper.{IsProperPath, IsCausal}
 use Rattle.adjustment.specs.declared.criteria.AdjFault.{AdjFault}
 use Rattle.adjustment.specs.declared.criteria.AdjFault.TheVariants.{Forbidden, Unblocked}
-use Rattle.adjustment.specs.Criteria.{IsExcluded, BeginsInto}
+use Rattle.adjustment.specs.Criteria.{IsForbidden, BeginsInto}
 
 -- v is the lowest member of z of which P holds
 pub record IsLowestIn (P : ℕ → Type 0) (z : ℕ → Bool) (v : ℕ) : Type 0 where
@@ -34,10 +34,10 @@ pub record IsBackDoorPath (g : MixedGraph) (x : ℕ) (y z : ℕ → Bool) (p : O
   pub open_path : IsOpenPath g (λ u. u == x) y z p.vertices p.marks p.count
   pub begins : BeginsInto (steps_of p)
 
--- what breaks the adjustment criterion: the lowest excluded member, or where none is excluded, such a path
+-- what breaks the adjustment criterion: the lowest forbidden member, or where none is forbidden, such a path
 abbrev pub IsAdjustmentFault : MixedGraph → (x y z : ℕ → Bool) → AdjFault → Type 0
-IsAdjustmentFault g x y z (Forbidden v) = IsLowestIn (IsExcluded g x y) z v
-IsAdjustmentFault g x y z (Unblocked p) = IsClearOf (IsExcluded g x y) z × IsUnblockedPath g x y z p
+IsAdjustmentFault g x y z (Forbidden v) = IsLowestIn (IsForbidden g x y) z v
+IsAdjustmentFault g x y z (Unblocked p) = IsClearOf (IsForbidden g x y) z × IsUnblockedPath g x y z p
 
 -- what breaks the back-door criterion: the lowest member that is a descendant of x, or where none is, such a path
 abbrev pub IsBackDoorFault : MixedGraph → (x : ℕ) → (y z : ℕ → Bool) → AdjFault → Type 0

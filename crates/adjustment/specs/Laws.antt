@@ -8,14 +8,14 @@ use Rattle.do_rules.specs.Rules.{AreThreeSets}
 use Rattle.proper_paths.specs.Proper.{IsBackDoorGraph}
 use Rattle.mixed_graph.specs.Masks.{one}
 use Rattle.prob_expr.specs.Values.{EqualsEffect}
-use Rattle.adjustment.specs.Criteria.{IsExcluded, IsAdmissible, IsBackDoorSet}
+use Rattle.adjustment.specs.Criteria.{IsForbidden, IsAdmissible, IsBackDoorSet}
 use Rattle.adjustment.specs.Faults.{IsClearOf}
 use Rattle.adjustment.specs.Formulas.{adjustment_formula, effect_on}
 
--- a set is admissible exactly where none of its members is excluded and it separates x from y in the back-door graph
+-- a set is admissible exactly where none of its members is forbidden and it separates x from y in the back-door graph
 abbrev pub AdmissibleIsSeparating : Type 0
 AdmissibleIsSeparating = (g h : MixedGraph) → IsMixedGraph g → (x y z : ℕ → Bool) → AreThreeSets g.vertices x y z → IsBackDoorGraph g x y h
-    → IsAdmissible g x y z ↔ (IsClearOf (IsExcluded g x y) z × IsSeparated h x y z)
+    → IsAdmissible g x y z ↔ (IsClearOf (IsForbidden g x y) z × IsSeparated h x y z)
 
 -- a set meets the back-door criterion exactly where no member is a descendant of x and it separates x from y in the graph without the arrows out of x
 abbrev pub BackDoorIsSeparating : Type 0

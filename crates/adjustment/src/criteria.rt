@@ -17,18 +17,18 @@ use surgery::cut_out;
 /// What breaks a criterion.
 #[derive(Clone, Copy)]
 pub enum AdjFault {
-    /// The lowest member of the set that the criterion excludes.
+    /// The lowest member of the set that the criterion forbids.
     Forbidden(u8),
-    /// No member is excluded, and the set leaves this path from x to y open against the criterion.
+    /// No member is forbidden, and the set leaves this path from x to y open against the criterion.
     Unblocked(OpenPath),
 }
 
-/// The lowest member of z that is excluded.
-fn forbidden(z: VSet, excluded: VSet) -> Option<u8>
-    ensures found { IfSome result (λ v. IsLowestIn (λ u. IsTrue (has excluded.bits u)) (has z.bits) v) }
-    ensures none { IfNone result (IsClearOf (λ u. IsTrue (has excluded.bits u)) (has z.bits)) }
+/// The lowest member of z that is forbidden.
+fn lowest_forbidden(z: VSet, forbidden: VSet) -> Option<u8>
+    ensures found { IfSome result (λ v. IsLowestIn (λ u. IsTrue (has forbidden.bits u)) (has z.bits) v) }
+    ensures none { IfNone result (IsClearOf (λ u. IsTrue (has forbidden.bits u)) (has z.bits)) }
 {
-    let bad = z.intersection(excluded);
+    let bad = z.intersection(forbidden);
     if bad.is_empty() {
         None
     } else {
@@ -48,8 +48,8 @@ pub fn adjusts(g: &Graph, x: VSet, y: VSet, z: VSet) -> Result<(), AdjFault>
     ensures effect { OnOk result (EqualsEffect (graph_of g.now) (effect_on x.bits y.bits) (adjustment_formula x.bits y.bits z.bits)) }
     ensures fault { IfErr result (λ f. IsAdjustmentFault (graph_of g.now) (has x.bits) (has y.bits) (has z.bits) f) }
 {
-    let excluded = g.descendants(proper_causal(g, x, y));
-    if let Some(v) = forbidden(z, excluded) {
+    let forbidden = g.descendants(proper_causal(g, x, y));
+    if let Some(v) = lowest_forbidden(z, forbidden) {
         return Err(AdjFault::Forbidden(v));
     }
     match open_path(&back_door_graph(g, x, y), x, y, z) {
@@ -70,7 +70,7 @@ pub fn back_door(g: &Graph, x: u8, y: VSet, z: VSet) -> Result<(), AdjFault>
     ensures fault { IfErr result (λ f. IsBackDoorFault (graph_of g.now) x (has y.bits) (has z.bits) f) }
 {
     let exposure = VSet::one(x);
-    if let Some(v) = forbidden(z, g.descendants(exposure)) {
+    if let Some(v) = lowest_forbidden(z, g.descendants(exposure)) {
         return Err(AdjFault::Forbidden(v));
     }
     match open_path(&cut_out(g, exposure), exposure, y, z) {

@@ -7,6 +7,7 @@
 mod hedges;
 mod printed;
 mod reading;
+mod running;
 mod showing;
 
 pub use hedges::hedge;
@@ -15,4 +16,5 @@ pub use reading::{
     Inputs, all_below, built, bytes, flag, graph, list, names, number, numbers, pairs, set, text,
     texts, vertex, wide_numbers,
 };
+pub use running::print_rows;
 pub use showing::{Entries, Members, Path, Rows};

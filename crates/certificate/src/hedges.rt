@@ -6,25 +6,10 @@ ghost use Rattle.certificate.specs.HedgeReading.{first_by, alone, unchosen_in, w
 
 use crate::sizes::is_end;
 use hedge::{Choice, Links};
-use mixed_graph::{Names, Text};
+use mixed_graph::Names;
 use serde_json::Value;
 use std::alloc::Global;
-use step_json::ValueFault;
-
-// The vertex that a value names.
-fn vertex_in(alloc: Global, names: &Names, d: &Value) -> Result<u8, ValueFault>
-    ensures vertex { Gives (λ v. v) result (vertex_in names.now (data_view d.now)) }
-    ensures within { IfOk result (λ v. v < 64) }
-{
-    let Some(text) = d.as_str() else {
-        return Err(ValueFault::Form);
-    };
-    let text = text.as_bytes();
-    match names.index(text) {
-        Some(v) => Ok(v),
-        None => Err(ValueFault::Name(Text::of(alloc, text)?)),
-    }
-}
+use step_json::{ValueFault, read_vertex};
 
 // No vertex has a choice.
 fn no_choice() -> Choice
@@ -49,7 +34,7 @@ fn unchosen_in(alloc: Global, names: &Names, choice: &Choice, d: &Value) -> Resu
     ensures vertex { Gives (λ v. v) result (unchosen_in names.now choice.now.next (data_view d.now)) }
     ensures within { IfOk result (λ v. v < 64) }
 {
-    let v = vertex_in(alloc, names, d)?;
+    let v = read_vertex(alloc, names, d)?;
     if choice.next[v as usize] != 64 {
         return Err(ValueFault::Form);
     }
@@ -70,7 +55,7 @@ fn with_child(
     let [d, ds @ ..] = ds else {
         return Err(ValueFault::Form);
     };
-    let child = vertex_in(alloc, names, d)?;
+    let child = read_vertex(alloc, names, d)?;
     if !is_end(ds) {
         return Err(ValueFault::Form);
     }
@@ -171,7 +156,7 @@ fn start_of(alloc: Global, names: &Names, ds: &[Value]) -> Result<u8, ValueFault
     let [d, ds @ ..] = ds else {
         return Err(ValueFault::Form);
     };
-    let v = vertex_in(alloc, names, d)?;
+    let v = read_vertex(alloc, names, d)?;
     if !is_end(ds) {
         return Err(ValueFault::Form);
     }
@@ -194,7 +179,7 @@ fn partner_of(alloc: Global, names: &Names, v: u8, ds: &[Value]) -> Result<(u8, 
     let [d, ds @ ..] = ds else {
         return Err(ValueFault::Form);
     };
-    let partner = vertex_in(alloc, names, d)?;
+    let partner = read_vertex(alloc, names, d)?;
     if !is_end(ds) {
         return Err(ValueFault::Form);
     }
@@ -207,7 +192,7 @@ fn link_of(alloc: Global, names: &Names, ds: &[Value]) -> Result<(u8, u8), Value
     let [d, ds @ ..] = ds else {
         return Err(ValueFault::Form);
     };
-    let v = vertex_in(alloc, names, d)?;
+    let v = read_vertex(alloc, names, d)?;
     partner_of(alloc, names, v, ds)
 }
 

@@ -1,5 +1,4 @@
 ghost use Rattle.std.specs.Prelude.{◌≡◌, ◌==◌, codes, map, option_and_then};
-ghost use Rattle.std.specs.Str.{bytes_eq};
 ghost use Rattle.serde_json.specs.View.{view as data_view};
 ghost use Rattle.serde_json.specs.Find.{get};
 ghost use Rattle.prob_expr.specs.View.{view, formula_view, target_view};
@@ -226,12 +225,6 @@ pub fn hedge_in(alloc: Global, names: &Names, d: &Value) -> Result<Hedge, CertFa
     })
 }
 
-fn is_word(text: &[u8], word: &[u8]) -> bool
-    ensures { result ≡ bytes_eq text.now word.now }
-{
-    text == word
-}
-
 /// Whether the answer is the word.
 pub fn is_answer(d: &Value, word: &[u8]) -> bool
     ensures { result ≡ is_answer word.now (data_view d.now) }
@@ -240,7 +233,7 @@ pub fn is_answer(d: &Value, word: &[u8]) -> bool
         return false;
     };
     match value.as_str() {
-        Some(text) => is_word(text.as_bytes(), word),
+        Some(text) => text.as_bytes() == word,
         None => false,
     }
 }

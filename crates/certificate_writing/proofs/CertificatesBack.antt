@@ -150,22 +150,27 @@ object_by bare names t f p =
     member (codes "defs") (array (expr_items names f.defs)) (
     member (codes "formula") (string (text_of names f.main)) (cond bare rest (member (codes "given") (set_value names t.given) rest)))))
 
+-- the object has the members of the formula and its derivation
+record HasFormula (names : List (List ℕ)) (f : PlainFormula) (p : PlainDerivation) (d : Data) : Type 0 where
+  text : get (codes "formula") d ≡ Some (string (text_of names f.main))
+  defs : get (codes "defs") d ≡ Some (array (expr_items names f.defs))
+  lemmas : get (codes "lemmas") d ≡ Some (array (lemma_items names p.lemmas))
+  main : get (codes "main") d ≡ Some (step_value names p.main)
+
 -- where an object has the members of a formula's certificate, and so many
 formula_certificate_back : (names : List (List ℕ)) (version : ℕ) (d : Data) (t : PlainTarget) (f : PlainFormula) (p : PlainDerivation)
     → AreNames names → IsWritable (length names) (formula t f p) → IsRepresentable (formula t f p) → IsShallow (formula t f p) → target_in names version d ≡ Ok t
-    → get (codes "formula") d ≡ Some (string (text_of names f.main)) → get (codes "defs") d ≡ Some (array (expr_items names f.defs))
-    → get (codes "lemmas") d ≡ Some (array (lemma_items names p.lemmas)) → get (codes "main") d ≡ Some (step_value names p.main)
-    → (member_count (as_object d) == key_count version) ≡ true
+    → HasFormula names f p d → (member_count (as_object d) == key_count version) ≡ true
     → formula_certificate_in names version d ≡ Ok (formula t f p)
 unfolding formula_certificate_in
-formula_certificate_back names version d t f p are writable kept shallow target at_formula at_defs at_lemmas at_main count =
+formula_certificate_back names version d t f p are writable kept shallow target at count =
     let defs = def_list_back names f.defs (defs_back names f.defs [] 0 are refl (defs_checked names f writable.1) (omega (arith, shallow.numbered)) shallow.defs_texts) in
     let lemmas = lemma_list_back names p.lemmas (lemmas_back names p.lemmas [] are writable.2.sets writable.2.lemmas kept.0 shallow.lemmas none_apart) in
     let whole_object = λ (c : PlainCertificate). cond (member_count (as_object d) == key_count version) (Ok c) (Err (Member keys.Extra)) in
     ap (λ r. r >>= λ t. formula_in names d >>= λ f. derivation_in names d >>= λ p. whole_object (formula t f p)) target
     ∙ ap (λ r. r >>= λ f. derivation_in names d >>= λ p. whole_object (formula t f p))
-    (formula_back names d f (main_back names f are writable.1 shallow.numbered shallow.main_text) defs (whole_back (length names) f writable.1) at_formula at_defs)
-    ∙ ap (λ r. r >>= λ p. whole_object (formula t f p)) (derivation_back names d p lemmas (step_reads_back names p.main are writable.2.main kept.1 shallow.main) at_lemmas at_main)
+    (formula_back names d f (main_back names f are writable.1 shallow.numbered shallow.main_text) defs (whole_back (length names) f writable.1) at.text at.defs)
+    ∙ ap (λ r. r >>= λ p. whole_object (formula t f p)) (derivation_back names d p lemmas (step_reads_back names p.main are writable.2.main kept.1 shallow.main) at.lemmas at.main)
     ∙ ap (λ b. cond b (Ok (formula t f p)) (Err (Member keys.Extra))) count
 
 -- the object of a formula's certificate is read back, whether something is given or not
@@ -177,35 +182,15 @@ object_back true names t f p none are writable kept shallow =
     let d = object_by true names t f p in
     let parts = target_parts (length names) t writable.0 in
     formula_certificate_back names 1 d t f p are writable kept shallow
-    (target_back names 1 d t are parts refl refl (none_given_back names (join t.x t.y) t.given d (eqb-true t.given 0 none))) refl refl refl refl refl
+    (target_back names 1 d t are parts refl refl (none_given_back names (join t.x t.y) t.given d (eqb-true t.given 0 none)))
+    (record { text = refl; defs = refl; lemmas = refl; main = refl }) refl
 object_back false names t f p some are writable kept shallow =
     let d = object_by false names t f p in
     let parts = target_parts (length names) t writable.0 in
     formula_certificate_back names 2 d t f p are writable kept shallow
-    (target_back names 2 d t are parts refl refl (given_back names d t are parts some refl)) refl refl refl refl refl
+    (target_back names 2 d t are parts refl refl (given_back names d t are parts some refl)) (record { text = refl; defs = refl; lemmas = refl; main = refl }) refl
 
 -- ---- hedges
-
-hedge_back : (names : List (List ℕ)) (d : Data) (h : PlainHedge) → AreNames names → IsHedgeWithin (length names) h
-    → choice_in names (array (pair_items names (choices_from 0 h.choice))) ≡ Ok h.choice → links_in names (array (link_items names h.links)) ≡ Ok h.links
-    → get (codes "big") d ≡ Some (set_value names h.big) → get (codes "small") d ≡ Some (set_value names h.small) → get (codes "roots") d ≡ Some (set_value names h.roots)
-    → get (codes "choice") d ≡ Some (array (pair_items names (choices_from 0 h.choice))) → get (codes "links") d ≡ Some (array (link_items names h.links))
-    → hedge_in names d ≡ Ok h
-unfolding hedge_in
-hedge_back names d h are within choice links at_big at_small at_roots at_choice at_links =
-    ap (λ r. r >>= λ big. member_by keys.Small (codes "small") (set_in names 0) d >>= λ small. member_by keys.Roots (codes "roots") (set_in names 0) d >>= λ roots.
-    member_by keys.Choice (codes "choice") (choice_in names) d >>= λ choice. member_by keys.Links (codes "links") (links_in names) d >>= λ links.
-    Ok (record { big = big; small = small; roots = roots; choice = choice; links = links })) (set_back names keys.Big (codes "big") d h.big are within.big at_big)
-    ∙ ap (λ r. r >>= λ small. member_by keys.Roots (codes "roots") (set_in names 0) d >>= λ roots.
-    member_by keys.Choice (codes "choice") (choice_in names) d >>= λ choice. member_by keys.Links (codes "links") (links_in names) d >>= λ links.
-    Ok (record { big = h.big; small = small; roots = roots; choice = choice; links = links })) (set_back names keys.Small (codes "small") d h.small are within.small at_small)
-    ∙ ap (λ r. r >>= λ roots. member_by keys.Choice (codes "choice") (choice_in names) d >>= λ choice. member_by keys.Links (codes "links") (links_in names) d >>= λ links.
-    Ok (record { big = h.big; small = h.small; roots = roots; choice = choice; links = links })) (set_back names keys.Roots (codes "roots") d h.roots are within.roots at_roots)
-    ∙ ap (λ r. r >>= λ choice. member_by keys.Links (codes "links") (links_in names) d >>= λ links.
-    Ok (record { big = h.big; small = h.small; roots = h.roots; choice = choice; links = links }))
-    (member_back keys.Choice (codes "choice") (choice_in names) d (array (pair_items names (choices_from 0 h.choice))) h.choice at_choice choice)
-    ∙ ap (λ r. r >>= λ links. Ok (record { big = h.big; small = h.small; roots = h.roots; choice = h.choice; links = links }))
-    (member_back keys.Links (codes "links") (links_in names) d (array (link_items names h.links)) h.links at_links links)
 
 all_links_back : (names : List (List ℕ)) (ls : List (ℕ × ℕ)) → AreNames names → All (IsWithin (length names)) ls → 0 < length ls → length ls ≤ 64 → IsStartBlank ls
     → links_in names (array (link_items names ls)) ≡ Ok ls
@@ -216,6 +201,31 @@ all_links_back names (l ∷ ls) are within some room blank =
     ∙ links_back names l.0 ls are (subst (λ m. All (IsWithin (length names)) (m ∷ ls)) e within) (omega (arith, room))
     ∙ ap (λ m. Ok (m ∷ ls)) (sym e)
 
+-- the object has the members of the hedge
+record HasHedge (names : List (List ℕ)) (h : PlainHedge) (d : Data) : Type 0 where
+  big : get (codes "big") d ≡ Some (set_value names h.big)
+  small : get (codes "small") d ≡ Some (set_value names h.small)
+  roots : get (codes "roots") d ≡ Some (set_value names h.roots)
+  choice : get (codes "choice") d ≡ Some (array (pair_items names (choices_from 0 h.choice)))
+  links : get (codes "links") d ≡ Some (array (link_items names h.links))
+
+hedge_back : (names : List (List ℕ)) (d : Data) (t : PlainTarget) (h : PlainHedge) → AreNames names → IsHedgeWithin (length names) h → IsRepresentable (hedge t h) → HasHedge names h d → hedge_in names d ≡ Ok h
+unfolding hedge_in
+hedge_back names d t h are within kept at =
+    ap (λ r. r >>= λ big. member_by keys.Small (codes "small") (set_in names 0) d >>= λ small. member_by keys.Roots (codes "roots") (set_in names 0) d >>= λ roots.
+    member_by keys.Choice (codes "choice") (choice_in names) d >>= λ choice. member_by keys.Links (codes "links") (links_in names) d >>= λ links.
+    Ok (record { big = big; small = small; roots = roots; choice = choice; links = links })) (set_back names keys.Big (codes "big") d h.big are within.big at.big)
+    ∙ ap (λ r. r >>= λ small. member_by keys.Roots (codes "roots") (set_in names 0) d >>= λ roots.
+    member_by keys.Choice (codes "choice") (choice_in names) d >>= λ choice. member_by keys.Links (codes "links") (links_in names) d >>= λ links.
+    Ok (record { big = h.big; small = small; roots = roots; choice = choice; links = links })) (set_back names keys.Small (codes "small") d h.small are within.small at.small)
+    ∙ ap (λ r. r >>= λ roots. member_by keys.Choice (codes "choice") (choice_in names) d >>= λ choice. member_by keys.Links (codes "links") (links_in names) d >>= λ links.
+    Ok (record { big = h.big; small = h.small; roots = roots; choice = choice; links = links })) (set_back names keys.Roots (codes "roots") d h.roots are within.roots at.roots)
+    ∙ ap (λ r. r >>= λ choice. member_by keys.Links (codes "links") (links_in names) d >>= λ links.
+    Ok (record { big = h.big; small = h.small; roots = h.roots; choice = choice; links = links }))
+    (member_back keys.Choice (codes "choice") (choice_in names) d (array (pair_items names (choices_from 0 h.choice))) h.choice at.choice (choice_back names h.choice are kept.0 within.choice))
+    ∙ ap (λ r. r >>= λ links. Ok (record { big = h.big; small = h.small; roots = h.roots; choice = h.choice; links = links }))
+    (member_back keys.Links (codes "links") (links_in names) d (array (link_items names h.links)) h.links at.links (all_links_back names h.links are within.links within.some kept.1 kept.2))
+
 hedge_certificate_back : (names : List (List ℕ)) (t : PlainTarget) (h : PlainHedge) → AreNames names → IsWritable (length names) (hedge t h) → IsRepresentable (hedge t h)
     → hedge_certificate_in names (certificate_value names (hedge t h)) ≡ Ok (hedge t h)
 unfolding hedge_certificate_in
@@ -225,7 +235,7 @@ hedge_certificate_back names t h are writable kept =
     ap (λ r. r >>= λ t. hedge_in names d >>= λ h. cond (member_count (as_object d) == 9) (Ok (hedge t h)) (Err (Member keys.Extra)))
     (target_back names 1 d t are parts refl refl (none_given_back names (join t.x t.y) t.given d writable.0.bare))
     ∙ ap (λ r. r >>= λ h. cond (member_count (as_object d) == 9) (Ok (hedge t h)) (Err (Member keys.Extra)))
-    (hedge_back names d h are writable.1 (choice_back names h.choice are kept.0 writable.1.choice) (all_links_back names h.links are writable.1.links writable.1.some kept.1 kept.2) refl refl refl refl refl)
+    (hedge_back names d t h are writable.1 kept (record { big = refl; small = refl; roots = refl; choice = refl; links = refl }))
 
 -- ---- certificates
 

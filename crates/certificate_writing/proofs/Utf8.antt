@@ -12,6 +12,7 @@ use Rattle.name_text.specs.Printing.{is_plain, printed}
 use Rattle.answer_text.specs.declared.signs.Notation.TheVariants.{Plain}
 use Rattle.answer_text.specs.Texts.{names_in, set_text, conditions_in, term_text}
 use Rattle.prob_expr.specs.Tree.{Tree, prob, sum, product, quotient, named, Trees, no_trees, tree}
+use Rattle.expr_text.specs.declared.writing.Place.TheVariants.{First, Later}
 use Rattle.expr_text.specs.Write.{parenthesized, wrapped, text_of, factors_in}
 
 behind : (b : ℕ) (bs : List ℕ) → b < 128 → IsUtf8 bs → IsUtf8 (b ∷ bs)
@@ -118,11 +119,11 @@ mutual
       (join (codes " / ") _ (between 47 (omega arith)) (wrapped_utf8 q (text_of names q) (text_is_utf8 names q are)))
   text_is_utf8 names (named k) are = join (codes "q") _ (ascii1 113 (omega arith)) (number_utf8 k)
 
-  factors_utf8 : (names : List (List ℕ)) (ts : Trees) → AreNames names → IsUtf8 (factors_in Plain false names ts)
+  factors_utf8 : (names : List (List ℕ)) (ts : Trees) → AreNames names → IsUtf8 (factors_in Plain First names ts)
   factors_utf8 names no_trees are = IsUtf8-nil
   factors_utf8 names (tree t ts) are = join _ _ (wrapped_utf8 t (text_of names t) (text_is_utf8 names t are)) (more_factors_utf8 names ts are)
 
-  more_factors_utf8 : (names : List (List ℕ)) (ts : Trees) → AreNames names → IsUtf8 (factors_in Plain true names ts)
+  more_factors_utf8 : (names : List (List ℕ)) (ts : Trees) → AreNames names → IsUtf8 (factors_in Plain Later names ts)
   more_factors_utf8 names no_trees are = IsUtf8-nil
   more_factors_utf8 names (tree t ts) are =
       join (codes " * ") _ (between 42 (omega arith)) (join _ _ (wrapped_utf8 t (text_of names t) (text_is_utf8 names t are)) (more_factors_utf8 names ts are))

@@ -1,7 +1,6 @@
 ghost use Rattle.std.specs.Prelude.{◌≡◌, ℕ, ◌<◌, ◌++◌, ◌∷◌, [], length, slice_index, All, IfOk, OnOk};
 ghost use Rattle.std.specs.List.{zip};
-ghost use Rattle.mixed_graph.specs.Names.{name_of};
-ghost use Rattle.serde_json.specs.Data.{string, array};
+ghost use Rattle.serde_json.specs.Data.{array};
 ghost use Rattle.serde_json.specs.View.{view as data_view};
 ghost use Rattle.step_json.specs.Values.{names_value};
 ghost use Rattle.certificate.specs.Plain.{links_view};
@@ -11,17 +10,7 @@ use hedge::{Choice, Links};
 use mixed_graph::Names;
 use serde_json::Value;
 use std::alloc::{AllocError, Global};
-
-// The name of a vertex.
-fn name_value(alloc: Global, names: &Names, v: u8) -> Result<Value, AllocError>
-    requires { v < length names.now }
-    ensures { IfOk result (λ d. data_view d ≡ string (name_of names.now v)) }
-{
-    match str::from_utf8(names.get(v)) {
-        Ok(text) => Value::try_from_str(alloc, text),
-        Err(_) => unreachable!(),
-    }
-}
+use step_json::name_value;
 
 // A list of one vertex.
 fn start_value(alloc: Global, names: &Names, v: u8) -> Result<Value, AllocError>

@@ -1,24 +1,26 @@
-ghost use Rattle.std.specs.Prelude.{◌≡◌, length, IfOk, Ok, None};
+ghost use Rattle.std.specs.Prelude.{◌≡◌, length, codes, IfOk, Ok, None};
 ghost use Rattle.mixed_graph.specs.Names.{AreNames};
+ghost use Rattle.serde_json.specs.Data.{array, put};
 ghost use Rattle.serde_json.specs.View.{view as data_view, members_view};
 ghost use Rattle.prob_expr.specs.Check.{fault_in};
 ghost use Rattle.prob_expr.specs.View.{formula_view, target_view};
 ghost use Rattle.do_derivation.specs.View.{derivation_view};
-ghost use Rattle.certificate.specs.Plain.{certificate_view, hedge_view, formula as formula_case, hedge as hedge_case};
+ghost use Rattle.step_json.specs.Values.{set_value};
+ghost use Rattle.certificate.specs.Plain.{certificate_view, hedge_view, links_view, formula as formula_case, hedge as hedge_case};
 ghost use Rattle.certificate.specs.Reading.{certificate_in};
 ghost use Rattle.certificate_writing.specs.Writable.{IsTargetWithin, IsBareTarget, IsDerivationWithin, IsHedgeWithin, IsWritable, IsShallow};
-ghost use Rattle.certificate_writing.specs.Written.{version_of, target_members, derivation_members, given_members, root_members, certificate_value, certificate_text};
+ghost use Rattle.certificate_writing.specs.Written.{link_items, version_of, target_members, given_members, certificate_value, certificate_text};
 
 use crate::formulas::{expr_value, exprs_value, lemmas_value};
 use crate::hedges::{choices_value, links_value};
 use crate::kept::certificate_kept;
-use crate::objects::{text_value, with};
+use crate::objects::{Object, text_value};
 use certificate::Certificate;
 use do_derivation::Derivation;
 use hedge::Hedge;
 use mixed_graph::{Names, VSet};
 use prob_expr::{Formula, Target};
-use serde_json::{Map, Value};
+use serde_json::Value;
 use std::alloc::{AllocError, Global};
 use step_json::{set_value, step_value};
 
@@ -30,50 +32,14 @@ fn version_of(given: VSet) -> u64
 }
 
 // The members of a target's object from `version` on.
-fn target_members(
-    alloc: Global,
-    names: &Names,
-    target: &Target,
-) -> Result<Map<String, Value>, AllocError>
+fn target_members(alloc: Global, names: &Names, target: &Target) -> Result<Object, AllocError>
     requires target { IsTargetWithin (length names.now) (target_view target.now) }
-    ensures { IfOk result (λ m. members_view m.entries ≡ target_members names.now (target_view target.now)) }
+    ensures { IfOk result (λ o. members_view o.members.entries ≡ target_members names.now (target_view target.now)) }
 {
-    let members = with(
-        alloc,
-        Map::new(alloc),
-        "y",
-        set_value(alloc, names, target.y)?,
-    )?;
-    let members = with(alloc, members, "x", set_value(alloc, names, target.x)?)?;
-    let version = Value::from(version_of(target.given));
-    with(alloc, members, "version", version)
-}
-
-// The members of a formula's object from `lemmas` on.
-fn derivation_members(
-    alloc: Global,
-    names: &Names,
-    target: &Target,
-    derivation: &Derivation,
-) -> Result<Map<String, Value>, AllocError>
-    requires names { AreNames names.now }
-    requires target { IsTargetWithin (length names.now) (target_view target.now) }
-    requires derivation { IsDerivationWithin (length names.now) (derivation_view derivation.now) }
-    ensures { IfOk result (λ m. members_view m.entries ≡ derivation_members names.now (target_view target.now) (derivation_view derivation.now)) }
-{
-    let members = target_members(alloc, names, target)?;
-    let members = with(
-        alloc,
-        members,
-        "main",
-        step_value(alloc, names, &derivation.main)?,
-    )?;
-    with(
-        alloc,
-        members,
-        "lemmas",
-        lemmas_value(alloc, names, &derivation.lemmas)?,
-    )
+    let object = Object::new(alloc);
+    let object = object.with("y", set_value(alloc, names, target.y)?)?;
+    let object = object.with("x", set_value(alloc, names, target.x)?)?;
+    object.with("version", Value::from(version_of(target.given)))
 }
 
 // The members of a formula's object from `given` on.
@@ -82,22 +48,19 @@ fn given_members(
     names: &Names,
     target: &Target,
     derivation: &Derivation,
-) -> Result<Map<String, Value>, AllocError>
+) -> Result<Object, AllocError>
     requires names { AreNames names.now }
     requires target { IsTargetWithin (length names.now) (target_view target.now) }
     requires derivation { IsDerivationWithin (length names.now) (derivation_view derivation.now) }
-    ensures { IfOk result (λ m. members_view m.entries ≡ given_members names.now (target_view target.now) (derivation_view derivation.now)) }
+    ensures { IfOk result (λ o. members_view o.members.entries ≡ given_members names.now (target_view target.now) (derivation_view derivation.now)) }
 {
-    let members = derivation_members(alloc, names, target, derivation)?;
+    let object = target_members(alloc, names, target)?;
+    let object = object.with("main", step_value(alloc, names, &derivation.main)?)?;
+    let object = object.with("lemmas", lemmas_value(alloc, names, &derivation.lemmas)?)?;
     if target.given.is_empty() {
-        return Ok(members);
+        return Ok(object);
     }
-    with(
-        alloc,
-        members,
-        "given",
-        set_value(alloc, names, target.given)?,
-    )
+    object.with("given", set_value(alloc, names, target.given)?)
 }
 
 fn formula_value(
@@ -113,53 +76,24 @@ fn formula_value(
     requires derivation { IsDerivationWithin (length names.now) (derivation_view derivation.now) }
     ensures { IfOk result (λ d. data_view d ≡ certificate_value names.now (formula_case (target_view target.now) (formula_view formula.now) (derivation_view derivation.now))) }
 {
-    let members = given_members(alloc, names, target, derivation)?;
-    let members = with(
-        alloc,
-        members,
-        "formula",
-        expr_value(alloc, names, &formula.main)?,
-    )?;
-    let members = with(
-        alloc,
-        members,
-        "defs",
-        exprs_value(alloc, names, &formula.defs)?,
-    )?;
-    let members = with(alloc, members, "answer", text_value(alloc, "formula")?)?;
-    Ok(Value::Object(members))
+    let object = given_members(alloc, names, target, derivation)?;
+    let object = object.with("formula", expr_value(alloc, names, &formula.main)?)?;
+    let object = object.with("defs", exprs_value(alloc, names, &formula.defs)?)?;
+    let object = object.with("answer", text_value(alloc, "formula")?)?;
+    Ok(object.value())
 }
 
-// The members of a hedge's object from `links` on.
-fn root_members(
-    alloc: Global,
-    names: &Names,
-    target: &Target,
-    hedge: &Hedge,
-) -> Result<Map<String, Value>, AllocError>
-    requires target { IsBareTarget (length names.now) (target_view target.now) }
-    requires hedge { IsHedgeWithin (length names.now) (hedge_view hedge.now) }
-    ensures { IfOk result (λ m. members_view m.entries ≡ root_members names.now (target_view target.now) (hedge_view hedge.now)) }
+// An object with the members of a hedge from `links` on.
+fn with_roots(object: Object, names: &Names, hedge: &Hedge) -> Result<Object, AllocError>
+    requires { IsHedgeWithin (length names.now) (hedge_view hedge.now) }
+    ensures { IfOk result (λ o. members_view o.members.entries ≡ put (codes "links") (array (link_items names.now (links_view hedge.now.links))) (
+        put (codes "roots") (set_value names.now hedge.now.roots.bits) (
+        put (codes "small") (set_value names.now hedge.now.small.bits) (members_view object.members.entries)))) }
 {
-    let members = target_members(alloc, names, target)?;
-    let members = with(
-        alloc,
-        members,
-        "small",
-        set_value(alloc, names, hedge.small)?,
-    )?;
-    let members = with(
-        alloc,
-        members,
-        "roots",
-        set_value(alloc, names, hedge.roots)?,
-    )?;
-    with(
-        alloc,
-        members,
-        "links",
-        links_value(alloc, names, &hedge.links)?,
-    )
+    let alloc = object.alloc;
+    let object = object.with("small", set_value(alloc, names, hedge.small)?)?;
+    let object = object.with("roots", set_value(alloc, names, hedge.roots)?)?;
+    object.with("links", links_value(alloc, names, &hedge.links)?)
 }
 
 fn hedge_value(
@@ -172,16 +106,12 @@ fn hedge_value(
     requires hedge { IsHedgeWithin (length names.now) (hedge_view hedge.now) }
     ensures { IfOk result (λ d. data_view d ≡ certificate_value names.now (hedge_case (target_view target.now) (hedge_view hedge.now))) }
 {
-    let members = root_members(alloc, names, target, hedge)?;
-    let members = with(
-        alloc,
-        members,
-        "choice",
-        choices_value(alloc, names, &hedge.choice)?,
-    )?;
-    let members = with(alloc, members, "big", set_value(alloc, names, hedge.big)?)?;
-    let members = with(alloc, members, "answer", text_value(alloc, "hedge")?)?;
-    Ok(Value::Object(members))
+    let object = target_members(alloc, names, target)?;
+    let object = with_roots(object, names, hedge)?;
+    let object = object.with("choice", choices_value(alloc, names, &hedge.choice)?)?;
+    let object = object.with("big", set_value(alloc, names, hedge.big)?)?;
+    let object = object.with("answer", text_value(alloc, "hedge")?)?;
+    Ok(object.value())
 }
 
 // The object of a certificate.

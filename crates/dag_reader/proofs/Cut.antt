@@ -1,5 +1,5 @@
 -- The tokens of a written graph.
-use Rattle.std.proofs.Common.{◌≡◌, ◌<◌, ◌+◌, ℕ, Bool, true, false, List, [], ◌∷◌, ◌++◌, length, drop, Option, Some, None, refl, sym, ap, subst, ◌∙◌, append_assoc, one-add}
+use Rattle.std.proofs.Common.{◌≡◌, ◌<◌, ◌+◌, ℕ, true, false, List, [], ◌∷◌, ◌++◌, length, drop, Option, Some, None, refl, sym, ap, subst, ◌∙◌, append_assoc, one-add}
 use Rattle.std.specs.Prelude.{cond, codes, not, All}
 use Rattle.std.proofs.lemmas.List.Elements.{All-head, All-tail}
 use Rattle.std.specs.List.{prefix_len}
@@ -8,7 +8,9 @@ use Rattle.dag_reader.specs.declared.marks.Arrow.TheVariants.{Right, Both}
 use Rattle.dag_reader.specs.declared.marks.Role.{Role}
 use Rattle.dag_reader.specs.declared.marks.Role.TheVariants.{Exposure, Outcome, Adjusted, Latent}
 use Rattle.name_text.specs.Printing.{is_white, is_name_byte}
-use Rattle.dag_reader.specs.Tokens.{Tok, open_brace, close_brace, open_bracket, close_bracket, edge, name, end, first, token_of, wants_value, place_of}
+use Rattle.dag_reader.specs.declared.tokens.Due.{Due}
+use Rattle.dag_reader.specs.declared.tokens.Due.TheVariants as dues
+use Rattle.dag_reader.specs.Tokens.{Tok, open_brace, close_brace, open_bracket, close_bracket, edge, name, end, first, token_of, due_behind, place_of}
 use Rattle.mixed_graph.specs.Names.{IsName}
 use Rattle.name_text.specs.Printing.{is_plain, printed}
 use Rattle.dag_reader.specs.Reading.{AreFirst}
@@ -21,14 +23,14 @@ use Rattle.dag_reader.proofs.Printed.{first_here, printed_first, Stops}
 -- these are the first tokens, and none of them wants a value behind it
 abbrev pub Cut : List Tok → List ℕ → Type 0
 Cut [] bytes = Unit {0}
-Cut (t ∷ ts) bytes = (rest : List ℕ) × (wants_value t ≡ false) × (first false bytes ≡ (t, rest)) × Cut ts rest
+Cut (t ∷ ts) bytes = (rest : List ℕ) × (due_behind t ≡ dues.Token) × (first dues.Token bytes ≡ (t, rest)) × Cut ts rest
 
 skip : (w k : ℕ) (bytes : List ℕ) → is_white w ≡ true → drop (cond (is_white w) (1 + k) 0) (w ∷ bytes) ≡ drop k bytes
 skip w k bytes h = rw (h, one-add) refl
 
-white_first : (w : ℕ) (bytes : List ℕ) → is_white w ≡ true → first false (w ∷ bytes) ≡ first false bytes
+white_first : (w : ℕ) (bytes : List ℕ) → is_white w ≡ true → first dues.Token (w ∷ bytes) ≡ first dues.Token bytes
 unfolding first
-white_first w bytes h = ap (token_of false) (skip w (prefix_len is_white bytes) bytes h)
+white_first w bytes h = ap (token_of dues.Token) (skip w (prefix_len is_white bytes) bytes h)
 
 pub spaced : (w : ℕ) (ts : List Tok) (bytes : List ℕ) → is_white w ≡ true → Cut ts bytes → Cut ts (w ∷ bytes)
 spaced w [] bytes h c = tt
@@ -65,7 +67,7 @@ drawn_text d = record { title = None; statements = vertices d.names d.roles (joi
 name_cut : (n : List ℕ) (ts : List Tok) (rest : List ℕ) → IsName n → Stops is_name_byte rest → Cut ts rest → Cut (word_token (word_of n) ∷ ts) (printed n ++ rest)
 name_cut n ts rest form stops c = (rest, refl, printed_first n rest form stops, c)
 
-bracket_cut : (n : List ℕ) (ts : List Tok) (rest : List ℕ) → first false (n ++ 93 ∷ rest) ≡ (name false n, 93 ∷ rest) → Cut ts rest
+bracket_cut : (n : List ℕ) (ts : List Tok) (rest : List ℕ) → first dues.Token (n ++ 93 ∷ rest) ≡ (name false n, 93 ∷ rest) → Cut ts rest
     → Cut (open_bracket ∷ name false n ∷ close_bracket ∷ ts) (32 ∷ 91 ∷ (n ++ 93 ∷ rest))
 bracket_cut n ts rest here c =
     spaced 32 (open_bracket ∷ name false n ∷ close_bracket ∷ ts) (91 ∷ (n ++ 93 ∷ rest)) refl
@@ -170,12 +172,12 @@ written_cut d is =
 
 -- ---- with their places
 
-placed : (size : ℕ) (ts : List Tok) (bytes : List ℕ) → Cut ts bytes → (tokens : List (ℕ × Tok)) × AreFirst size false tokens bytes × (kinds tokens ≡ ts)
+placed : (size : ℕ) (ts : List Tok) (bytes : List ℕ) → Cut ts bytes → (tokens : List (ℕ × Tok)) × AreFirst size dues.Token tokens bytes × (kinds tokens ≡ ts)
 unfolding AreFirst
 placed size [] bytes c = ([], tt, refl)
 placed size (t ∷ ts) bytes c =
     let p = placed size ts c.0 c.3 in
-    ((place_of size bytes, t) ∷ p.0, (c.0, refl, c.2, subst (λ (due : Bool). AreFirst size due p.0 c.0) (sym c.1) p.1), ap (λ l. t ∷ l) p.2)
+    ((place_of size bytes, t) ∷ p.0, (c.0, refl, c.2, subst (λ (due : Due). AreFirst size due p.0 c.0) (sym c.1) p.1), ap (λ l. t ∷ l) p.2)
 
 -- The bytes of a written graph are a text of the grammar.
 pub written_spelled : (d : Drawn) → IsDrawn d → Spelled (written d) (drawn_text d)

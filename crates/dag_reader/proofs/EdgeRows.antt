@@ -151,57 +151,60 @@ shift o p q c n is h = ap (λ b. b || q) is ∙ or_assoc o p q ∙ h
 both_same : (p q r s : Bool) → p ≡ r → q ≡ s → (p && q) ≡ (r && s)
 both_same p q r s h k = rw (h, k) refl
 
-pub at_right : (marks ms : List Remark) (left right new : ℕ) (arrows more doubles : List ℕ) → SoFar marks (Joined Right ∷ ms) left arrows doubles
-    → ((v : ℕ) → has right v ≡ list_any (λ u. v == u) (members ms)) → ((v : ℕ) → has new v ≡ false)
+-- the mask holds the members of the group at the front
+abbrev pub IsGroup : ℕ → List Remark → Type 0
+IsGroup group ms = (v : ℕ) → has group v ≡ list_any (λ u. v == u) (members ms)
+
+-- rows and what is left of the edges, where one group is joined to the next: its pairs go to the rows
+rows_joined : (f : Edge → Option (ℕ × ℕ)) (k : Arrow) (g : ℕ → ℕ → ℕ × ℕ) → ((l r : ℕ) → f (record { left = l; arrow = k; right = r }) ≡ Some (g l r))
+    → (group : List ℕ) (ms : List Remark) (rows more : List ℕ) (all : List (ℕ × ℕ)) (is_pair : ℕ → ℕ → Bool)
+    → ((a b : ℕ) → is_pair a b ≡ some_pair g group (members ms) a b) → ((a b : ℕ) → row_has more a b ≡ (row_has rows a b || is_pair a b))
+    → ((a b : ℕ) → (row_has rows a b || joins (filter_map f (edges_behind group (Joined k ∷ ms))) a b) ≡ joins all a b)
+    → (a b : ℕ) → (row_has more a b || joins (filter_map f (edges_behind [] ms)) a b) ≡ joins all a b
+rows_joined f k g is group ms rows more all is_pair pairs joined before a b =
+    let rest = joins (filter_map f (edges_behind [] ms)) a b in
+    shift (row_has rows a b) (is_pair a b) rest (joins all a b) (row_has more a b) (joined a b)
+    (ap (λ t. row_has rows a b || t) (ap (λ t. t || rest) (pairs a b) ∙ sym (pairs_joined f k g is group (members ms) (edges_behind [] ms) a b)) ∙ before a b)
+
+-- the same for rows to which an edge of that kind adds nothing
+rows_kept : (f : Edge → Option (ℕ × ℕ)) (k : Arrow) → ((l r : ℕ) → ◌≡◌ {A = Option (ℕ × ℕ)} (f (record { left = l; arrow = k; right = r })) None)
+    → (group : List ℕ) (ms : List Remark) (rows : List ℕ) (all : List (ℕ × ℕ))
+    → ((a b : ℕ) → (row_has rows a b || joins (filter_map f (edges_behind group (Joined k ∷ ms))) a b) ≡ joins all a b)
+    → (a b : ℕ) → (row_has rows a b || joins (filter_map f (edges_behind [] ms)) a b) ≡ joins all a b
+rows_kept f k is group ms rows all before a b =
+    ap (λ es. row_has rows a b || joins es a b) (sym (pairs_dropped f k is group (members ms) (edges_behind [] ms))) ∙ before a b
+
+pub at_right : (marks ms : List Remark) (left right new : ℕ) (arrows more doubles : List ℕ) → SoFar marks (Joined Right ∷ ms) left arrows doubles → IsGroup right ms → ((v : ℕ) → has new v ≡ false)
     → ((a b : ℕ) → row_has more a b ≡ (row_has arrows a b || (has left a && has right b))) → SoFar marks ms new more doubles
 at_right marks ms left right new arrows more doubles s group none joined = record {
   group = [];
   same = none;
-  arrow_rows = λ a b.
-      shift (row_has arrows a b) (has left a && has right b) (joins (filter_map arrow_of (edges_behind [] ms)) a b) (joins (arrows_of marks) a b) (row_has more a b) (joined a b)
-      (ap (λ t. row_has arrows a b || t)
-      (sym (pairs_joined arrow_of Right (λ l r. (l, r)) (λ l r. refl) s.group (members ms) (edges_behind [] ms) a b
-      ∙ ap (λ t. t || joins (filter_map arrow_of (edges_behind [] ms)) a b)
-      (straight_pairs s.group (members ms) a b ∙ sym (both_same (has left a) (has right b) _ _ (s.same a) (group b)))))
-      ∙ s.arrow_rows a b);
-  double_rows = λ a b.
-      ap (λ es. row_has doubles a b || joins es a b) (sym (pairs_dropped both_of Right (λ l r. refl) s.group (members ms) (edges_behind [] ms))) ∙ s.double_rows a b;
+  arrow_rows = rows_joined arrow_of Right (λ l r. (l, r)) (λ l r. refl) s.group ms arrows more (arrows_of marks) (λ a b. has left a && has right b)
+      (λ a b. both_same _ _ _ _ (s.same a) (group b) ∙ sym (straight_pairs s.group (members ms) a b)) joined s.arrow_rows;
+  double_rows = rows_kept both_of Right (λ l r. refl) s.group ms doubles (doubles_of marks) s.double_rows;
   inside = s.inside;
 }
 
-pub at_left : (marks ms : List Remark) (left right new : ℕ) (arrows more doubles : List ℕ) → SoFar marks (Joined Left ∷ ms) left arrows doubles
-    → ((v : ℕ) → has right v ≡ list_any (λ u. v == u) (members ms)) → ((v : ℕ) → has new v ≡ false)
+pub at_left : (marks ms : List Remark) (left right new : ℕ) (arrows more doubles : List ℕ) → SoFar marks (Joined Left ∷ ms) left arrows doubles → IsGroup right ms → ((v : ℕ) → has new v ≡ false)
     → ((a b : ℕ) → row_has more a b ≡ (row_has arrows a b || (has right a && has left b))) → SoFar marks ms new more doubles
-at_left marks ms left right new arrows more doubles s group none joined = record {
-  group = [];
-  same = none;
-  arrow_rows = λ a b.
-      shift (row_has arrows a b) (has right a && has left b) (joins (filter_map arrow_of (edges_behind [] ms)) a b) (joins (arrows_of marks) a b) (row_has more a b) (joined a b)
-      (ap (λ t. row_has arrows a b || t)
-      (sym (pairs_joined arrow_of Left (λ l r. (r, l)) (λ l r. refl) s.group (members ms) (edges_behind [] ms) a b
-      ∙ ap (λ t. t || joins (filter_map arrow_of (edges_behind [] ms)) a b)
-      (turned_pairs s.group (members ms) a b ∙ sym (both_same (has right a) (has left b) _ _ (group a) (s.same b)))))
-      ∙ s.arrow_rows a b);
-  double_rows = λ a b.
-      ap (λ es. row_has doubles a b || joins es a b) (sym (pairs_dropped both_of Left (λ l r. refl) s.group (members ms) (edges_behind [] ms))) ∙ s.double_rows a b;
-  inside = s.inside;
-}
+at_left marks ms left right new arrows more doubles s group none joined =
+    let turned = λ a b. both_same _ _ _ _ (group a) (s.same b) ∙ sym (turned_pairs s.group (members ms) a b) in
+    record {
+      group = [];
+      same = none;
+      arrow_rows = rows_joined arrow_of Left (λ l r. (r, l)) (λ l r. refl) s.group ms arrows more (arrows_of marks) (λ a b. has right a && has left b) turned joined s.arrow_rows;
+      double_rows = rows_kept both_of Left (λ l r. refl) s.group ms doubles (doubles_of marks) s.double_rows;
+      inside = s.inside;
+    }
 
-pub at_both : (marks ms : List Remark) (left right new : ℕ) (arrows doubles more : List ℕ) → SoFar marks (Joined Both ∷ ms) left arrows doubles
-    → ((v : ℕ) → has right v ≡ list_any (λ u. v == u) (members ms)) → ((v : ℕ) → has new v ≡ false)
+pub at_both : (marks ms : List Remark) (left right new : ℕ) (arrows doubles more : List ℕ) → SoFar marks (Joined Both ∷ ms) left arrows doubles → IsGroup right ms → ((v : ℕ) → has new v ≡ false)
     → ((a b : ℕ) → row_has more a b ≡ (row_has doubles a b || (has left a && has right b))) → SoFar marks ms new arrows more
 at_both marks ms left right new arrows doubles more s group none joined = record {
   group = [];
   same = none;
-  arrow_rows = λ a b.
-      ap (λ es. row_has arrows a b || joins es a b) (sym (pairs_dropped arrow_of Both (λ l r. refl) s.group (members ms) (edges_behind [] ms))) ∙ s.arrow_rows a b;
-  double_rows = λ a b.
-      shift (row_has doubles a b) (has left a && has right b) (joins (filter_map both_of (edges_behind [] ms)) a b) (joins (doubles_of marks) a b) (row_has more a b) (joined a b)
-      (ap (λ t. row_has doubles a b || t)
-      (sym (pairs_joined both_of Both (λ l r. (l, r)) (λ l r. refl) s.group (members ms) (edges_behind [] ms) a b
-      ∙ ap (λ t. t || joins (filter_map both_of (edges_behind [] ms)) a b)
-      (straight_pairs s.group (members ms) a b ∙ sym (both_same (has left a) (has right b) _ _ (s.same a) (group b)))))
-      ∙ s.double_rows a b);
+  arrow_rows = rows_kept arrow_of Both (λ l r. refl) s.group ms arrows (arrows_of marks) s.arrow_rows;
+  double_rows = rows_joined both_of Both (λ l r. (l, r)) (λ l r. refl) s.group ms doubles more (doubles_of marks) (λ a b. has left a && has right b)
+      (λ a b. both_same _ _ _ _ (s.same a) (group b) ∙ sym (straight_pairs s.group (members ms) a b)) joined s.double_rows;
   inside = s.inside;
 }
 

@@ -9,6 +9,7 @@ use Rattle.mixed_graph.specs.Names.{IsName}
 use Rattle.name_text.specs.Printing.{is_edge_byte, is_name_byte}
 use Rattle.dag_reader.specs.declared.marks.Arrow.{Arrow}
 use Rattle.dag_reader.specs.declared.marks.Arrow.TheVariants.{Right, Left, Both}
+use Rattle.dag_reader.specs.declared.tokens.Due.TheVariants as dues
 use Rattle.dag_reader.specs.Tokens.{Tok, edge, name, edge_token, name_token, sign_token, run_at, token_of, past_white, first}
 use Rattle.dag_reader.specs.Links.{sign_of, ends_edge}
 use Rattle.dag_reader.proofs.TextForm.{names_are_lines, behind_byte}
@@ -28,7 +29,7 @@ no_quote_in_name : (b : ℕ) → is_name_byte b ≡ true → ((b == 34) ≡ fals
 no_quote_in_name b h = (grind (arith, nat_tests), grind (arith, nat_tests))
 
 name_is_first : (here run rest : List ℕ) → run ≡ take (prefix_len is_name_byte here) here → rest ≡ drop (prefix_len is_name_byte here) here → 0 < length run
-    → token_of false here ≡ (name_token run, rest)
+    → token_of dues.Token here ≡ (name_token run, rest)
 name_is_first [] run rest is after some = absurd (let n = ap (λ (l : List ℕ). length l) is in omega (arith, n))
 name_is_first (b ∷ bs) run rest is after some =
     let here = begins is_name_byte b bs run is some in
@@ -43,10 +44,10 @@ no_comment_in (b ∷ bs) some slash hash = no_comment b bs (ne_eqb b 47 slash) (
 -- a bare name that doesn't look like a comment
 pub bare_name_here : (bytes here run rest : List ℕ) → here ≡ past_white bytes → run ≡ take (prefix_len is_name_byte here) here
     → rest ≡ drop (prefix_len is_name_byte here) here → 0 < length run → get_or run 0 0 ≢ 47 → get_or run 0 0 ≢ 35
-    → first false bytes ≡ (name false run, rest)
+    → first dues.Token bytes ≡ (name false run, rest)
 unfolding first
 bare_name_here bytes here run rest behind is after some slash hash =
-    ap (token_of false) (sym behind) ∙ name_is_first here run rest is after some ∙ ap (λ t. (t, rest)) (no_comment_in run some slash hash)
+    ap (token_of dues.Token) (sym behind) ∙ name_is_first here run rest is after some ∙ ap (λ t. (t, rest)) (no_comment_in run some slash hash)
 
 -- a run of name bytes that isn't empty
 pub name_of_run : (run : List ℕ) → 0 < length run → list_all is_name_byte run ≡ true → is_utf8 run ≡ true → IsName run
@@ -58,16 +59,16 @@ stops : (rest : List ℕ) → ends_edge rest ≡ true → Stops is_edge_byte res
 stops [] h = tt
 stops (b ∷ bs) h = not_true (is_edge_byte b) h
 
-sign_is_first : (a : Arrow) (rest : List ℕ) → ends_edge rest ≡ true → token_of false (sign_of a ++ rest) ≡ (edge a, rest)
+sign_is_first : (a : Arrow) (rest : List ℕ) → ends_edge rest ≡ true → token_of dues.Token (sign_of a ++ rest) ≡ (edge a, rest)
 sign_is_first Right rest h = run_is is_edge_byte edge_token (45 ∷ 62 ∷ []) rest refl (stops rest h)
 sign_is_first Left rest h = run_is is_edge_byte edge_token (60 ∷ 45 ∷ []) rest refl (stops rest h)
 sign_is_first Both rest h = run_is is_edge_byte edge_token (60 ∷ 45 ∷ 62 ∷ []) rest refl (stops rest h)
 
 -- an edge
 pub edge_here : (bytes here rest : List ℕ) (a : Arrow) → here ≡ past_white bytes → here ≡ sign_of a ++ rest → ends_edge rest ≡ true
-    → first false bytes ≡ (edge a, rest)
+    → first dues.Token bytes ≡ (edge a, rest)
 unfolding first
-edge_here bytes here rest a behind is h = ap (token_of false) (sym behind ∙ is) ∙ sign_is_first a rest h
+edge_here bytes here rest a behind is h = ap (token_of dues.Token) (sym behind ∙ is) ∙ sign_is_first a rest h
 
 -- what follows an edge is a text
 pub behind_sign : (a : Arrow) (rest : List ℕ) → is_utf8 (sign_of a ++ rest) ≡ true → is_utf8 rest ≡ true

@@ -2,11 +2,13 @@
 use Rattle.std.proofs.Common.{◌≡◌, ℕ, Bool, true, false, List, [], ◌∷◌, length, Option, Some, None, Result, Ok, Err, refl, sym, ap, ◌∙◌}
 use Rattle.std.specs.Prelude.{if◌then◌else◌, codes}
 use Rattle.std.specs.Str.{bytes_eq}
+use Rattle.dag_reader.specs.declared.grammar.Braces.{Braces}
+use Rattle.dag_reader.specs.declared.grammar.Braces.TheVariants as which
 use Rattle.dag_reader.specs.declared.marks.Arrow.{Arrow}
 use Rattle.dag_reader.specs.declared.marks.Role.{Role}
 use Rattle.dag_reader.specs.declared.marks.Remark.TheVariants.{Begins, Joined}
 use Rattle.dag_reader.specs.Tokens.{Tok, open_brace, close_brace, open_bracket, close_bracket, semicolon, equals, comma, edge, name, value, end, bad, bad_edge}
-use Rattle.dag_reader.specs.Grammar.{Fault, selected, Said, nothing, with_marks, with_vertex, with_flag, with_role, role_of, Position, step, taken}
+use Rattle.dag_reader.specs.Grammar.{Fault, selected, Said, nothing, with_marks, with_vertex, with_flag, with_role, role_of, Position, behind_braces, step, taken}
 use Rattle.dag_reader.specs.Grammar.{at_start, at_dag, at_title, at_statement, after_name, at_key_value, in_group, group_name, after_first, after_edge, chain_name, after_group, at_attrs, attr_name, at_attr_value, after_attr, after_comma, at_end}
 use Rattle.dag_reader.specs.Syntax.{Word, Inner, inner_semicolon, inner_name, Group, single, braces, Attr, bare, valued, Later, next_attr, comma_attr, Attrs, no_attr, attr_list, Statement, lone_semicolon, dropped, vertex, chain, Text}
 use Rattle.dag_reader.specs.Syntax.{inner_tokens, group_tokens, attr_tokens, later_tokens, attrs_tokens, links_tokens, statement_tokens, body_tokens, title_tokens, text_tokens}
@@ -31,14 +33,14 @@ pending_chain f n s (t ∷ ts) =
     one_ok f (chain_name n) s t ts ∙ chain_turn f n s (f (length ts)) t ts
     ∙ bind_ext (allowed (with_vertex n s)) _ (λ u. ok f after_group u (t ∷ ts)) (λ u. sym (one_ok f after_group u t ts))
 
-group_turn : (f : ℕ → ℕ) (b : Bool) (n : List ℕ) (s : Said) (at : ℕ) (t : Tok) (ts : List Tok)
+group_turn : (f : ℕ → ℕ) (b : Braces) (n : List ℕ) (s : Said) (at : ℕ) (t : Tok) (ts : List Tok)
     → then_ok f ts (step (group_name b n) s at t) ≡ (allowed (with_vertex n s) >>= (λ u. then_ok f ts (step (in_group b) u at t)))
 unfolding step
 group_turn f b n s at bad ts = sym (bind_none (allowed (with_vertex n s)))
 group_turn f b n s at bad_edge ts = sym (bind_none (allowed (with_vertex n s)))
 group_turn f b n s at t ts = settled_first f ts (group_name b n) (in_group b) at t (with_vertex n s) (λ u. refl)
 
-pub pending_group : (f : ℕ → ℕ) (b : Bool) (n : List ℕ) (s : Said) (ts : List Tok)
+pub pending_group : (f : ℕ → ℕ) (b : Braces) (n : List ℕ) (s : Said) (ts : List Tok)
     → ok f (group_name b n) s ts ≡ (allowed (with_vertex n s) >>= (λ u. ok f (in_group b) u ts))
 pending_group f b n s [] = no_more f (group_name b n) (in_group b) s _
 pending_group f b n s (t ∷ ts) =
@@ -143,10 +145,7 @@ name_then_bracket f n s ts =
 
 -- ---- groups
 
-abbrev behind_braces : Bool → Position
-behind_braces b = if b then after_first else after_group
-
-inner_read : (f : ℕ → ℕ) (b : Bool) (is : List Inner) (s : Said) (more : List Tok)
+inner_read : (f : ℕ → ℕ) (b : Braces) (is : List Inner) (s : Said) (more : List Tok)
     → ok f (in_group b) s (inner_tokens is more) ≡ (inner_say is s >>= (λ u. ok f (behind_braces b) u more))
 unfolding step
 inner_read f b [] s more = one_ok f (in_group b) s close_brace more
@@ -163,12 +162,12 @@ first_read : (f : ℕ → ℕ) (g : Group) (s : Said) (a : Arrow) (ts : List Tok
 unfolding step
 first_read f (single w) s a ts = one_ok f at_statement s (name w.quoted w.text) (edge a ∷ ts) ∙ name_then_edge f w.text s a ts
 first_read f (braces is) s a ts =
-    one_ok f at_statement s open_brace (inner_tokens is (edge a ∷ ts)) ∙ inner_read f true is (with_marks (Begins ∷ []) s) (edge a ∷ ts)
+    one_ok f at_statement s open_brace (inner_tokens is (edge a ∷ ts)) ∙ inner_read f which.First is (with_marks (Begins ∷ []) s) (edge a ∷ ts)
 
 later_group_read : (f : ℕ → ℕ) (g : Group) (s : Said) (more : List Tok) → ok f after_edge s (group_tokens g more) ≡ (group_says g s >>= (λ u. ok f after_group u more))
 unfolding step
 later_group_read f (single w) s more = one_ok f after_edge s (name w.quoted w.text) more ∙ pending_chain f w.text s more
-later_group_read f (braces is) s more = one_ok f after_edge s open_brace (inner_tokens is more) ∙ inner_read f false is s more
+later_group_read f (braces is) s more = one_ok f after_edge s open_brace (inner_tokens is more) ∙ inner_read f which.Later is s more
 
 links_read : (f : ℕ → ℕ) (ls : List (Arrow × Group)) (s : Said) (more : List Tok)
     → ok f after_group s (links_tokens ls more) ≡ (links_say ls s >>= (λ u. ok f after_group u more))

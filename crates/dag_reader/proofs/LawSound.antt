@@ -4,9 +4,11 @@ use Rattle.std.specs.Prelude.{if◌then◌else◌, codes}
 use Rattle.std.specs.Str.{bytes_eq}
 use Rattle.std.proofs.lemmas.Option.{cond_some}
 use Rattle.std.proofs.lemmas.Slice.Eq.{bytes_eq-Decides}
+use Rattle.dag_reader.specs.declared.grammar.Braces.{Braces}
+use Rattle.dag_reader.specs.declared.grammar.Braces.TheVariants as which
 use Rattle.dag_reader.specs.declared.marks.Arrow.{Arrow}
 use Rattle.dag_reader.specs.Tokens.{Tok, open_brace, close_brace, open_bracket, close_bracket, semicolon, equals, comma, edge, name, value, end, bad, bad_edge}
-use Rattle.dag_reader.specs.Grammar.{Fault, Said, Position, step, settled, taken, ended, fitted, next, next_statement, noted, is_end}
+use Rattle.dag_reader.specs.Grammar.{Fault, Said, Position, step, settled, taken, ended, fitted, behind_braces, next, next_statement, noted, is_end}
 use Rattle.dag_reader.specs.Grammar.{at_start, at_dag, at_title, at_statement, after_name, at_key_value, in_group, group_name, after_first, after_edge, chain_name, after_group, at_attrs, attr_name, at_attr_value, after_attr, after_comma, at_end}
 use Rattle.dag_reader.specs.Syntax.{Word, Inner, inner_semicolon, inner_name, Group, single, braces, Attr, bare, valued, Later, next_attr, comma_attr, Attrs, no_attr, attr_list, Statement, lone_semicolon, dropped, vertex, chain, Text}
 use Rattle.dag_reader.specs.Syntax.{inner_tokens, group_tokens, attr_tokens, later_tokens, inside_tokens, attrs_tokens, links_tokens, body_tokens, title_tokens, text_tokens}
@@ -66,11 +68,11 @@ ChainTail ts = (ls : List (Arrow × Group)) × (attrs : Option Attrs) × (rest :
 abbrev pub FirstTail : List Tok → Type 0
 FirstTail ts = (l : Arrow × Group) × (ls : List (Arrow × Group)) × (attrs : Option Attrs) × (rest : List Tok) × (ts ≡ links_tokens (l ∷ ls) (attrs_tokens attrs rest)) × Body rest
 
-abbrev pub GroupTail : Bool → List Tok → Type 0
-GroupTail true ts = FirstTail ts
-GroupTail false ts = ChainTail ts
+abbrev pub GroupTail : Braces → List Tok → Type 0
+GroupTail which.First ts = FirstTail ts
+GroupTail which.Later ts = ChainTail ts
 
-abbrev pub Inside : Bool → List Tok → Type 0
+abbrev pub Inside : Braces → List Tok → Type 0
 Inside b ts = (is : List Inner) × (rest : List Tok) × (ts ≡ inner_tokens is rest) × GroupTail b rest
 
 abbrev pub LaterTail : List Tok → Type 0
@@ -126,7 +128,7 @@ named q n ts (is_chain c) =
     let b = c.5 in
     (chain (single (word q n)) c.0 c.1 c.2 ∷ b.0, b.1, ap (λ l. name q n ∷ l) (c.4 ∙ ap (λ l. links_tokens (c.0 ∷ c.1) (attrs_tokens c.2 l)) b.2))
 
-braced : (ts : List Tok) → Inside true ts → Body (open_brace ∷ ts)
+braced : (ts : List Tok) → Inside which.First ts → Body (open_brace ∷ ts)
 braced ts i =
     let c = i.3 in
     let b = c.5 in (
@@ -139,7 +141,7 @@ braced ts i =
 started : (t : Tok) (ts : List Tok) (q : Position) → next_statement t ≡ Some q → Behind q ts → Body (t ∷ ts)
 started semicolon ts q is h = let b = got at_statement q ts is h in (lone_semicolon ∷ b.0, b.1, ap (λ l. semicolon ∷ l) b.2)
 started (name k n) ts q is h = named k n ts (got (after_name n) q ts is h)
-started open_brace ts q is h = braced ts (got (in_group true) q ts is h)
+started open_brace ts q is h = braced ts (got (in_group which.First) q ts is h)
 started close_brace ts q is h = let b = got at_end q ts is h in ([], b.0, ap (λ l. close_brace ∷ l) b.1)
 started t ts q is h = cc is
 
@@ -195,11 +197,11 @@ after_a_name n open_brace ts q is h = is_vertex None (open_brace ∷ ts) refl (s
 after_a_name n close_brace ts q is h = is_vertex None (close_brace ∷ ts) refl (started close_brace ts q is h)
 after_a_name n t ts q is h = cc is
 
-closing_tail : (b : Bool) (ts : List Tok) (q : Position) → ◌≡◌ {A = Option Position} (Some (if b then after_first else after_group)) (Some q) → Behind q ts → GroupTail b ts
-closing_tail true ts q is h = got after_first q ts is h
-closing_tail false ts q is h = got after_group q ts is h
+closing_tail : (b : Braces) (ts : List Tok) (q : Position) → ◌≡◌ {A = Option Position} (Some (behind_braces b)) (Some q) → Behind q ts → GroupTail b ts
+closing_tail which.First ts q is h = got after_first q ts is h
+closing_tail which.Later ts q is h = got after_group q ts is h
 
-in_a_group : (b : Bool) (t : Tok) (ts : List Tok) (q : Position) → next (in_group b) 0 t ≡ Some q → Behind q ts → Inside b (t ∷ ts)
+in_a_group : (b : Braces) (t : Tok) (ts : List Tok) (q : Position) → next (in_group b) 0 t ≡ Some q → Behind q ts → Inside b (t ∷ ts)
 unfolding word
 in_a_group b semicolon ts q is h = let i = got (in_group b) q ts is h in (inner_semicolon ∷ i.0, i.1, ap (λ l. semicolon ∷ l) i.2, i.3)
 in_a_group b (name k n) ts q is h = let i = got (group_name b n) q ts is h in (inner_name (word k n) ∷ i.0, i.1, ap (λ l. name k n ∷ l) i.2, i.3)
@@ -242,7 +244,7 @@ behind_next (in_group b) at t ts q is h = in_a_group b t ts q is h
 behind_next (group_name b n) at t ts q is h = in_a_group b t ts q is h
 behind_next after_first at (edge a) ts q is h = linked a ts (got after_edge q ts is h)
 behind_next after_edge at (name k n) ts q is h = (single (word k n), ts, refl, got (chain_name n) q ts is h)
-behind_next after_edge at open_brace ts q is h = let i = got (in_group false) q ts is h in (braces i.0, i.1, ap (λ l. open_brace ∷ l) i.2, i.3)
+behind_next after_edge at open_brace ts q is h = let i = got (in_group which.Later) q ts is h in (braces i.0, i.1, ap (λ l. open_brace ∷ l) i.2, i.3)
 behind_next (chain_name n) at t ts q is h = in_chain after_group t ts q is h
 behind_next after_group at t ts q is h = in_chain after_group t ts q is h
 behind_next (at_attrs of) at t ts q is h = in_attrs of at t ts q is h

@@ -6,6 +6,7 @@ use Rattle.std.specs.List.{prefix_len, list_all}
 use Rattle.std.proofs.Math.Seq.{take-append_seam, drop-append_seam}
 use Rattle.name_text.specs.Printing.{is_white, is_edge_byte, is_sign, is_name_byte}
 use Rattle.mixed_graph.specs.Names.{is_line_byte}
+use Rattle.dag_reader.specs.declared.tokens.Due.TheVariants as dues
 use Rattle.dag_reader.specs.Tokens.{Tok, name, name_token, first, token_of, token_at, run_at, quoted_name, quoted_text, sign_token}
 use Rattle.mixed_graph.specs.Names.{IsName}
 use Rattle.name_text.specs.Printing.{is_plain_byte, is_plain, printed}
@@ -38,9 +39,9 @@ no_run : (p : ℕ → Bool) (b : ℕ) (bs : List ℕ) → p b ≡ false → pref
 no_run p b bs h = rw h refl
 
 -- no white space is left out
-pub first_here : (b : ℕ) (bs : List ℕ) → is_white b ≡ false → first false (b ∷ bs) ≡ token_at b bs
+pub first_here : (b : ℕ) (bs : List ℕ) → is_white b ≡ false → first dues.Token (b ∷ bs) ≡ token_at b bs
 unfolding first
-first_here b bs h = ap (λ (n : ℕ). token_of false (drop n (b ∷ bs))) (no_run is_white b bs h)
+first_here b bs h = ap (λ (n : ℕ). token_of dues.Token (drop n (b ∷ bs))) (no_run is_white b bs h)
 
 pub run_is : (p : ℕ → Bool) (token : List ℕ → Tok) (xs rest : List ℕ) → list_all p xs ≡ true → Stops p rest → run_at p token (xs ++ rest) ≡ (token xs, rest)
 run_is p token xs rest h s = rw (prefix_len-stops p xs rest h s, take-append_seam, drop-append_seam) refl
@@ -50,7 +51,7 @@ third a b c v w x o ha hb hc = rw (ha, hb, hc) refl
 
 -- a bare name, where it doesn't look like a comment
 pub bare_first : (b : ℕ) (bs rest : List ℕ) → list_all is_name_byte (b ∷ bs) ≡ true → Stops is_name_byte rest → name_token (b ∷ bs) ≡ name false (b ∷ bs)
-    → first false ((b ∷ bs) ++ rest) ≡ (name false (b ∷ bs), rest)
+    → first dues.Token ((b ∷ bs) ++ rest) ≡ (name false (b ∷ bs), rest)
 bare_first b bs rest h s plain =
     let here = (and_true (is_name_byte b) (list_all is_name_byte bs) h).0 in
     let none = not_true (is_white b || is_edge_byte b || is_sign b || b == 34) here in
@@ -66,7 +67,7 @@ closing : (n rest : List ℕ) → list_all is_line_byte n ≡ true → quoted_te
 closing n rest h = rw (prefix_len-stops is_line_byte n (34 ∷ rest) h refl, take-append_seam, drop-append_seam) refl
 
 -- a quoted name
-pub quoted_first : (b : ℕ) (bs rest : List ℕ) → list_all is_line_byte (b ∷ bs) ≡ true → first false (34 ∷ ((b ∷ bs) ++ 34 ∷ rest)) ≡ (name true (b ∷ bs), rest)
+pub quoted_first : (b : ℕ) (bs rest : List ℕ) → list_all is_line_byte (b ∷ bs) ≡ true → first dues.Token (34 ∷ ((b ∷ bs) ++ 34 ∷ rest)) ≡ (name true (b ∷ bs), rest)
 quoted_first b bs rest h =
     first_here 34 ((b ∷ bs) ++ 34 ∷ rest) refl
     ∙ ap (quoted_name ((b ∷ bs) ++ 34 ∷ rest)) (closing (b ∷ bs) rest h)
@@ -88,7 +89,7 @@ no_comment b bs slash hash = rw (eq_swap b 47 slash, eq_swap b 35 hash) refl
 last_of : (a b c d e : Bool) → not (a || b || c || d || e) ≡ true → e ≡ false
 last_of a b c d e h = (or_false _ e (not_true _ h)).1
 
-pub plain_first : (n rest : List ℕ) → is_plain n ≡ true → Stops is_name_byte rest → first false (n ++ rest) ≡ (name false n, rest)
+pub plain_first : (n rest : List ℕ) → is_plain n ≡ true → Stops is_name_byte rest → first dues.Token (n ++ rest) ≡ (name false n, rest)
 plain_first [] rest h s = cc h
 plain_first (b ∷ bs) rest h s =
     let parts = and_true (list_all is_plain_byte (b ∷ bs)) (not (b == 35)) h in
@@ -101,12 +102,12 @@ abbrev pub read_back : List ℕ → Tok
 read_back n = name (not (is_plain n)) n
 
 unquote : (plain : Bool) (n rest : List ℕ) → plain ≡ is_plain n → IsName n → Stops is_name_byte rest
-    → first false ((if plain then n else 34 ∷ n ++ 34 ∷ []) ++ rest) ≡ (name (not plain) n, rest)
+    → first dues.Token ((if plain then n else 34 ∷ n ++ 34 ∷ []) ++ rest) ≡ (name (not plain) n, rest)
 unquote true n rest plain form s = plain_first n rest (sym plain) s
 unquote false [] rest plain form s = absurd (let some = form.some in omega arith)
 unquote false (b ∷ bs) rest plain form s =
-    ap (λ l. first false (34 ∷ l)) (append_assoc (b ∷ bs) (34 ∷ []) rest) ∙ quoted_first b bs rest form.line
+    ap (λ l. first dues.Token (34 ∷ l)) (append_assoc (b ∷ bs) (34 ∷ []) rest) ∙ quoted_first b bs rest form.line
 
 -- A printed name is read back as that name.
-pub printed_first : (n rest : List ℕ) → IsName n → Stops is_name_byte rest → first false (printed n ++ rest) ≡ (read_back n, rest)
+pub printed_first : (n rest : List ℕ) → IsName n → Stops is_name_byte rest → first dues.Token (printed n ++ rest) ≡ (read_back n, rest)
 printed_first n rest form s = unquote (is_plain n) n rest refl form s

@@ -1,6 +1,7 @@
 -- One token more, and the token that ends the reading.
-use Rattle.std.proofs.Common.{◌≡◌, ℕ, Bool, List, [], ◌∷◌, length, Result, Ok, Err, refl, sym, subst}
-use Rattle.dag_reader.specs.Tokens.{Tok, end, first, place_of, wants_value}
+use Rattle.std.proofs.Common.{◌≡◌, ℕ, List, [], ◌∷◌, length, Result, Ok, Err, refl, sym, subst}
+use Rattle.dag_reader.specs.declared.tokens.Due.{Due}
+use Rattle.dag_reader.specs.Tokens.{Tok, end, first, place_of, due_behind}
 use Rattle.dag_reader.specs.Grammar.{Fault, Said, Position, goes_on, ends, step, settled, taken, ended}
 use Rattle.dag_reader.specs.Grammar.{at_end}
 use Rattle.dag_reader.specs.Reading.{AreFirst, rest_says, RestSays, Says}
@@ -10,9 +11,9 @@ use Rattle.dag_reader.specs.declared.said.Statements.{Statements}
 use Rattle.dag_reader.specs.declared.faults.ReadFault.{ReadFault}
 use Rattle.dag_reader.specs.declared.faults.ReadFault.TheVariants as errors
 
-pub one_more : (size : ℕ) (due : Bool) (p q : Position) (s u : Said) (bytes rest : List ℕ) (at : ℕ) (t : Tok) (r : Result Said Fault)
+pub one_more : (size : ℕ) (due : Due) (p q : Position) (s u : Said) (bytes rest : List ℕ) (at : ℕ) (t : Tok) (r : Result Said Fault)
     → at ≡ place_of size bytes → ◌≡◌ {A = Tok × List ℕ} (t, rest) (first due bytes) → step p s at t ≡ goes_on q u
-    → RestSays size (wants_value t) q u rest r → RestSays size due p s bytes r
+    → RestSays size (due_behind t) q u rest r → RestSays size due p s bytes r
 unfolding AreFirst rest_says
 one_more size due p q s u bytes rest at t r place here goes more = record {
   tokens = (at, t) ∷ more.tokens;
@@ -20,7 +21,7 @@ one_more size due p q s u bytes rest at t r place here goes more = record {
   says = rw goes more.says;
 }
 
-pub last_one : (size : ℕ) (due : Bool) (p : Position) (s : Said) (bytes rest : List ℕ) (at : ℕ) (t : Tok) (r : Result Said Fault)
+pub last_one : (size : ℕ) (due : Due) (p : Position) (s : Said) (bytes rest : List ℕ) (at : ℕ) (t : Tok) (r : Result Said Fault)
     → at ≡ place_of size bytes → ◌≡◌ {A = Tok × List ℕ} (t, rest) (first due bytes) → step p s at t ≡ ends r
     → RestSays size due p s bytes r
 unfolding AreFirst rest_says
@@ -50,11 +51,11 @@ step_failed text p s new at t errors.Memory r fails all is = subst (ReadsStateme
 step_failed text p s new at t (errors.Fault f) r fails all is = subst (ReadsStatements text) (sym is) (all (Err (fault_view f)) fails)
 
 -- what the rest says is what the text says, where no byte was taken
-pub nothing_taken : (text : List ℕ) (due now : Bool) (p : Position) (s : Said) (bytes rest : List ℕ) → now ≡ due → rest ≡ bytes
+pub nothing_taken : (text : List ℕ) (due now : Due) (p : Position) (s : Said) (bytes rest : List ℕ) → now ≡ due → rest ≡ bytes
     → ((r : Result Said Fault) → RestSays (length text) due p s bytes r → Says text r)
     → (r : Result Said Fault) → RestSays (length text) now p s rest r → Says text r
 nothing_taken text due now p s bytes rest same here all r more =
-    all r (subst (λ (d : Bool). RestSays (length text) d p s bytes r) same (subst (λ (l : List ℕ). RestSays (length text) now p s l r) here more))
+    all r (subst (λ (d : Due). RestSays (length text) d p s bytes r) same (subst (λ (l : List ℕ). RestSays (length text) now p s l r) here more))
 
 -- the error that a change of what was said gave is that of the text
 pub change_failed : (text : List ℕ) (v : Result Said Fault) (e : ReadFault) (r : Result Statements ReadFault)

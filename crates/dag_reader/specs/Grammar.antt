@@ -3,6 +3,8 @@ use Rattle.std.specs.Prelude.{ℕ, Bool, true, false, not, ◌&&◌, nat_le, Lis
 use Rattle.std.specs.List.{list_any}
 use Rattle.std.specs.Str.{bytes_eq}
 use Rattle.mixed_graph.specs.Names.{with_name, index_of}
+use Rattle.dag_reader.specs.declared.grammar.Braces.{Braces}
+use Rattle.dag_reader.specs.declared.grammar.Braces.TheVariants as which
 use Rattle.dag_reader.specs.declared.marks.Role.{Role}
 use Rattle.dag_reader.specs.declared.marks.Role.TheVariants.{Exposure, Outcome, Adjusted, Latent}
 use Rattle.dag_reader.specs.declared.marks.Remark.{Remark}
@@ -47,8 +49,8 @@ pub data Position : Type 0 where
   at_statement : Position
   after_name : List ℕ → Position  -- the first name of a statement, whose use the next token settles
   at_key_value : Position
-  in_group : Bool → Position  -- in braces, and whether these begin the statement
-  group_name : Bool → List ℕ → Position  -- behind a name in braces
+  in_group : Braces → Position  -- in the first braces of a statement or in later ones
+  group_name : Braces → List ℕ → Position  -- behind a name in braces
   after_first : Position  -- behind the braces that begin a statement
   after_edge : Position
   chain_name : List ℕ → Position  -- behind a name that is a group of a chain
@@ -66,7 +68,7 @@ pub data Position : Type 0 where
 abbrev pub next_statement : Tok → Option Position
 next_statement semicolon = Some at_statement
 next_statement (name q n) = Some (after_name n)
-next_statement open_brace = Some (in_group true)
+next_statement open_brace = Some (in_group which.First)
 next_statement close_brace = Some at_end
 next_statement t = None
 
@@ -83,12 +85,17 @@ next_after_name n (edge a) = Some after_edge
 next_after_name n open_bracket = Some (at_attrs (Some n))
 next_after_name n t = next_statement t
 
+-- behind braces
+abbrev pub behind_braces : Braces → Position
+behind_braces which.First = after_first
+behind_braces which.Later = after_group
+
 -- inside braces
-abbrev pub next_in_group : Bool → Tok → Option Position
-next_in_group begins semicolon = Some (in_group begins)
-next_in_group begins (name q n) = Some (group_name begins n)
-next_in_group begins close_brace = Some (if begins then after_first else after_group)
-next_in_group begins t = None
+abbrev pub next_in_group : Braces → Tok → Option Position
+next_in_group b semicolon = Some (in_group b)
+next_in_group b (name q n) = Some (group_name b n)
+next_in_group b close_brace = Some (behind_braces b)
+next_in_group b t = None
 
 -- behind `[`
 abbrev pub next_in_attrs : Option (List ℕ) → ℕ → Tok → Option Position
@@ -110,11 +117,11 @@ next at_title at open_brace = Some at_statement
 next at_statement at t = next_statement t
 next (after_name n) at t = next_after_name n t
 next at_key_value at value = Some at_statement
-next (in_group begins) at t = next_in_group begins t
-next (group_name begins n) at t = next_in_group begins t
+next (in_group b) at t = next_in_group b t
+next (group_name b n) at t = next_in_group b t
 next after_first at (edge a) = Some after_edge
 next after_edge at (name q n) = Some (chain_name n)
-next after_edge at open_brace = Some (in_group false)
+next after_edge at open_brace = Some (in_group which.Later)
 next (chain_name n) at t = next_in_chain t
 next after_group at t = next_in_chain t
 next (at_attrs of) at t = next_in_attrs of at t

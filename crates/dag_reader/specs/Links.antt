@@ -4,6 +4,7 @@ use Rattle.name_text.specs.Printing.{is_edge_byte}
 use Rattle.dag_reader.specs.declared.marks.Arrow.{Arrow}
 use Rattle.dag_reader.specs.declared.marks.Arrow.TheVariants.{Right, Left, Both}
 use Rattle.dag_reader.specs.declared.marks.Remark.TheVariants.{Begins, Joined}
+use Rattle.dag_reader.specs.declared.tokens.Due.TheVariants as dues
 use Rattle.dag_reader.specs.Tokens.{edge, name, first}
 use Rattle.dag_reader.specs.Grammar.{Fault, ◌>>=◌, Said, Position, at_statement, after_name, chain_name, after_group, with_marks, with_vertex, settled}
 
@@ -22,9 +23,9 @@ ends_edge (b ∷ bs) = not (is_edge_byte b)
 pub record IsLink (bytes left : List ℕ) (a : Arrow) (right rest : List ℕ) : Type 0 where
   pub behind_left : List ℕ
   pub behind_edge : List ℕ
-  pub left_first : first false bytes ≡ (name false left, behind_left)
-  pub edge_first : first false behind_left ≡ (edge a, behind_edge)
-  pub right_first : first false behind_edge ≡ (name false right, rest)
+  pub left_first : first dues.Token bytes ≡ (name false left, behind_left)
+  pub edge_first : first dues.Token behind_left ≡ (edge a, behind_edge)
+  pub right_first : first dues.Token behind_edge ≡ (name false right, rest)
 
 -- whether a name that comes here begins a statement
 abbrev pub begins_statement : Position → Bool

@@ -1,5 +1,6 @@
 -- A text of the grammar as bytes.
-use Rattle.std.specs.Prelude.{◌≡◌, ℕ, false, List, length, map}
+use Rattle.std.specs.Prelude.{◌≡◌, ℕ, List, length, map}
+use Rattle.dag_reader.specs.declared.tokens.Due.TheVariants as dues
 use Rattle.dag_reader.specs.Tokens.{Tok}
 use Rattle.dag_reader.specs.Reading.{AreFirst}
 use Rattle.dag_reader.specs.Syntax.{Text, text_tokens}
@@ -12,5 +13,5 @@ kinds ts = map (λ (t : ℕ × Tok). t.1) ts
 pub record Spelled (bytes : List ℕ) (t : Text) : Type 0 where
   pub tokens : List (ℕ × Tok)
   pub more : List Tok
-  pub cut : AreFirst (length bytes) false tokens bytes
+  pub cut : AreFirst (length bytes) dues.Token tokens bytes
   pub spelling : kinds tokens ≡ text_tokens t more

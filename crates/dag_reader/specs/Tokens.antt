@@ -4,6 +4,8 @@ use Rattle.std.specs.List.{prefix_len, starts_with, list_any}
 use Rattle.std.specs.Str.{bytes_eq}
 use Rattle.dag_reader.specs.declared.marks.Arrow.{Arrow}
 use Rattle.dag_reader.specs.declared.marks.Arrow.TheVariants as arrows
+use Rattle.dag_reader.specs.declared.tokens.Due.{Due}
+use Rattle.dag_reader.specs.declared.tokens.Due.TheVariants as dues
 use Rattle.name_text.specs.Printing.{is_white, is_edge_byte, is_name_byte}
 use Rattle.dag_reader.specs.Bytes.{is_run_byte}
 use Rattle.mixed_graph.specs.Names.{is_line_byte}
@@ -95,17 +97,17 @@ value_at b bs =
     else (sign_token b, bs))
 
 -- the token at the front, where no white space stands
-abbrev pub token_of : Bool → List ℕ → Tok × List ℕ
+abbrev pub token_of : Due → List ℕ → Tok × List ℕ
 token_of due [] = (end, [])
-token_of false (b ∷ bs) = token_at b bs
-token_of true (b ∷ bs) = value_at b bs
+token_of dues.Token (b ∷ bs) = token_at b bs
+token_of dues.Value (b ∷ bs) = value_at b bs
 
 -- what follows the white space at the front
 abbrev pub past_white : List ℕ → List ℕ
 past_white bytes = drop (prefix_len is_white bytes) bytes
 
 -- the first token behind white space, and what follows it
-unfoldable pub first : Bool → List ℕ → Tok × List ℕ
+unfoldable pub first : Due → List ℕ → Tok × List ℕ
 first due bytes = token_of due (past_white bytes)
 
 -- where it stands in a text of so many bytes
@@ -113,6 +115,6 @@ unfoldable pub place_of : ℕ → List ℕ → ℕ
 place_of size bytes = size - length (past_white bytes)
 
 -- a value is due behind a `=`
-abbrev pub wants_value : Tok → Bool
-wants_value equals = true
-wants_value t = false
+abbrev pub due_behind : Tok → Due
+due_behind equals = dues.Value
+due_behind t = dues.Token

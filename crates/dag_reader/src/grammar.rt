@@ -1,12 +1,21 @@
 ghost use Rattle.std.specs.Prelude.{◌≡◌, List, ℕ, [], ◌∷◌, Some, None, option_map};
 ghost use Rattle.dag_reader.specs.Tokens.{Tok};
-ghost use Rattle.dag_reader.specs.Grammar.{next_statement, next_in_chain, next_after_name, next_in_group, next_in_attrs, next_after_attr, next};
+ghost use Rattle.dag_reader.specs.Grammar.{next_statement, next_in_chain, next_after_name, behind_braces, next_in_group, next_in_attrs, next_after_attr, next};
 ghost use Rattle.dag_reader.specs.Links.{begins_statement};
 ghost use Rattle.dag_reader.specs.Views.{view};
 ghost use Rattle.dag_reader.specs.PlaceView.{place_view, name_view};
 
 use crate::tokens::Token;
 use crate::words::Word;
+
+/// Braces of a statement.
+#[derive(Clone, Copy, Debug)]
+pub enum Braces {
+    /// Those that begin the statement.
+    First,
+    /// Those behind an edge.
+    Later,
+}
 
 /// Where a reader is between two tokens.
 #[derive(Clone, Copy, Debug)]
@@ -20,9 +29,8 @@ pub enum Position<'a> {
     /// Behind the first name of a statement.
     AfterName(Word<'a>),
     KeyValue,
-    /// In braces, and whether these begin the statement.
-    InGroup(bool),
-    GroupName(bool, Word<'a>),
+    InGroup(Braces),
+    GroupName(Braces, Word<'a>),
     /// Behind the braces that begin a statement.
     AfterFirst,
     AfterEdge,
@@ -45,7 +53,7 @@ fn next_statement<'a>(token: Token<'a>) -> Option<Position<'a>>
     match token {
         Token::Semicolon => Some(Position::Statement),
         Token::Name(_, name) => Some(Position::AfterName(name)),
-        Token::OpenBrace => Some(Position::InGroup(true)),
+        Token::OpenBrace => Some(Position::InGroup(Braces::First)),
         Token::CloseBrace => Some(Position::End),
         _ => None,
     }
@@ -72,17 +80,23 @@ fn next_after_name<'a>(name: Word<'a>, token: Token<'a>) -> Option<Position<'a>>
     }
 }
 
-fn next_in_group<'a>(begins: bool, token: Token<'a>) -> Option<Position<'a>>
-    ensures { option_map place_view result ≡ next_in_group begins (view token.entry) }
+/// The place behind braces.
+fn behind_braces<'a>(braces: Braces) -> Position<'a>
+    ensures { place_view result ≡ behind_braces braces }
+{
+    match braces {
+        Braces::First => Position::AfterFirst,
+        Braces::Later => Position::AfterGroup,
+    }
+}
+
+fn next_in_group<'a>(braces: Braces, token: Token<'a>) -> Option<Position<'a>>
+    ensures { option_map place_view result ≡ next_in_group braces (view token.entry) }
 {
     match token {
-        Token::Semicolon => Some(Position::InGroup(begins)),
-        Token::Name(_, name) => Some(Position::GroupName(begins, name)),
-        Token::CloseBrace => Some(if begins {
-            Position::AfterFirst
-        } else {
-            Position::AfterGroup
-        }),
+        Token::Semicolon => Some(Position::InGroup(braces)),
+        Token::Name(_, name) => Some(Position::GroupName(braces, name)),
+        Token::CloseBrace => Some(behind_braces(braces)),
         _ => None,
     }
 }
@@ -134,14 +148,14 @@ pub fn next<'a>(place: Position<'a>, at: usize, token: Token<'a>) -> Option<Posi
             Token::Value => Some(Position::Statement),
             _ => None,
         },
-        Position::InGroup(begins) | Position::GroupName(begins, _) => next_in_group(begins, token),
+        Position::InGroup(braces) | Position::GroupName(braces, _) => next_in_group(braces, token),
         Position::AfterFirst => match token {
             Token::Edge(_) => Some(Position::AfterEdge),
             _ => None,
         },
         Position::AfterEdge => match token {
             Token::Name(_, name) => Some(Position::ChainName(name)),
-            Token::OpenBrace => Some(Position::InGroup(false)),
+            Token::OpenBrace => Some(Position::InGroup(Braces::Later)),
             _ => None,
         },
         Position::ChainName(_) | Position::AfterGroup => next_in_chain(token),

@@ -1,5 +1,6 @@
-ghost use Rattle.std.specs.Prelude.{◌≡◌, ◌<◌, true, false, length, IfSome, IfNone};
+ghost use Rattle.std.specs.Prelude.{◌≡◌, ◌<◌, true, length, IfSome, IfNone};
 ghost use Rattle.std.specs.Str.{is_utf8};
+ghost use Rattle.dag_reader.specs.declared.tokens.Due.TheVariants as dues;
 ghost use Rattle.dag_reader.specs.Links.{IsLink, begins_statement};
 ghost use Rattle.dag_reader.specs.PlaceView.{place_view};
 ghost use Rattle.dag_reader.specs.Turns.{ReadsStatements};
@@ -18,8 +19,8 @@ fn next_link<'a>(lexer: &mut Lexer<'a>, place: Position<'a>) -> Option<Link<'a>>
     ensures link { IfSome result (λ l. IsLink lexer.old.rest.now l.left.bytes.now l.arrow l.right.bytes.now lexer.new.rest.now) }
     ensures none { IfNone result (lexer.new.rest.now ≡ lexer.old.rest.now) }
     ensures size { lexer.new.size ≡ lexer.old.size }
-    ensures due { lexer.new.value_due ≡ lexer.old.value_due }
-    ensures not_due { IfSome result (λ _. lexer.old.value_due ≡ false) }
+    ensures due { lexer.new.due ≡ lexer.old.due }
+    ensures not_due { IfSome result (λ _. lexer.old.due ≡ dues.Token) }
     ensures shorter { IfSome result (λ _. length lexer.new.rest.now < length lexer.old.rest.now) }
 {
     if !begins_statement(place) {

@@ -5,7 +5,7 @@ ghost use Rattle.mixed_graph.specs.Names.{IsName};
 ghost use Rattle.name_text.specs.Printing.{is_white, is_edge_byte, is_sign, is_name_byte};
 ghost use Rattle.dag_reader.specs.Bytes.{in_class, is_run_byte};
 ghost use Rattle.mixed_graph.specs.Names.{is_line_byte};
-ghost use Rattle.dag_reader.specs.Tokens.{Tok, end, edge, name, edge_token, name_token, quoted_name_token, sign_token, quoted_text, token_at, value_at, token_of, past_white, first, place_of, wants_value};
+ghost use Rattle.dag_reader.specs.Tokens.{Tok, end, edge, name, edge_token, name_token, quoted_name_token, sign_token, quoted_text, token_at, value_at, token_of, past_white, first, place_of, due_behind};
 ghost use Rattle.dag_reader.specs.Views.{view};
 ghost use Rattle.dag_reader.specs.Grammar.{is_end};
 ghost use Rattle.dag_reader.specs.Links.{IsLink, sign_of, ends_edge};
@@ -22,6 +22,14 @@ pub enum Class {
     Name,
     Line,
     Run,
+}
+
+/// What is due next in a text.
+#[derive(Clone, Copy, Debug, PartialEq, Eq)]
+pub enum Due {
+    Token,
+    /// The value behind a `=`.
+    Value,
 }
 
 /// The tokens of a graph text.
@@ -220,9 +228,9 @@ fn value_at<'a>(byte: u8, rest: &'a [u8], bytes: &'a [u8]) -> (Token<'a>, &'a [u
 }
 
 /// The token at the front, and what follows it.
-fn token_of(value_due: bool, bytes: &[u8]) -> (Token<'_>, &[u8])
+fn token_of(due: Due, bytes: &[u8]) -> (Token<'_>, &[u8])
     requires { is_utf8 bytes.now ≡ true }
-    ensures token { (view result.0, result.1.now) ≡ token_of value_due bytes.now }
+    ensures token { (view result.0, result.1.now) ≡ token_of due bytes.now }
     ensures shorter { view result.0 ≢ end → length result.1.now < length bytes.now }
     ensures kept { length result.1.now ≤ length bytes.now }
     ensures after { is_utf8 result.1.now ≡ true }
@@ -230,17 +238,28 @@ fn token_of(value_due: bool, bytes: &[u8]) -> (Token<'_>, &[u8])
     let [byte, rest @ ..] = bytes else {
         return (Token::End, bytes);
     };
-    if value_due {
-        return value_at(*byte, rest, bytes);
+    match due {
+        Due::Token => token_at(*byte, rest, bytes),
+        Due::Value => value_at(*byte, rest, bytes),
     }
-    token_at(*byte, rest, bytes)
+}
+
+/// What is due behind a token: a value behind a `=`.
+#[inline(always)]
+fn due_behind(token: Token<'_>) -> Due
+    ensures { result ≡ due_behind (view token.entry) }
+{
+    match token {
+        Token::Equals => Due::Value,
+        _ => Due::Token,
+    }
 }
 
 /// The bare name at the front, behind white space, and what follows it; none of those that may look like a comment.
 #[inline(always)]
 fn name_first(bytes: &[u8]) -> Option<(Word<'_>, &[u8])>
     requires { is_utf8 bytes.now ≡ true }
-    ensures token { IfSome result (λ p. first false bytes.now ≡ (name false p.0.bytes.now, p.1.now)) }
+    ensures token { IfSome result (λ p. first Due.Token bytes.now ≡ (name false p.0.bytes.now, p.1.now)) }
     ensures shorter { IfSome result (λ p. length p.1.now < length bytes.now) }
     ensures after { IfSome result (λ p. is_utf8 p.1.now ≡ true) }
 {
@@ -261,7 +280,7 @@ fn name_first(bytes: &[u8]) -> Option<(Word<'_>, &[u8])>
 #[inline(always)]
 fn edge_first(bytes: &[u8]) -> Option<(Arrow, &[u8])>
     requires { is_utf8 bytes.now ≡ true }
-    ensures token { IfSome result (λ p. first false bytes.now ≡ (edge p.0, p.1.now)) }
+    ensures token { IfSome result (λ p. first Due.Token bytes.now ≡ (edge p.0, p.1.now)) }
     ensures kept { IfSome result (λ p. length p.1.now ≤ length bytes.now) }
     ensures after { IfSome result (λ p. is_utf8 p.1.now ≡ true) }
 {
@@ -302,7 +321,7 @@ fn ends_edge(bytes: &[u8]) -> bool
 pub struct Lexer<'a> {
     size: usize,
     rest: &'a [u8],
-    value_due: bool,
+    due: Due,
     ghost within: { length rest.now ≤ size },
     ghost text: { is_utf8 rest.now ≡ true },
 }
@@ -311,29 +330,29 @@ impl<'a> Lexer<'a> {
     /// Before the first token.
     pub fn new(text: &'a [u8]) -> Lexer<'a>
         requires { is_utf8 text.now ≡ true }
-        ensures { (result.size ≡ length text.now) × (result.rest.now ≡ text.now) × (result.value_due ≡ false) }
+        ensures { (result.size ≡ length text.now) × (result.rest.now ≡ text.now) × (result.due ≡ Due.Token) }
     {
         Lexer {
             size: text.len(),
             rest: text,
-            value_due: false,
+            due: Due::Token,
         }
     }
 
     /// The place of the next token, and the token.
     #[tactic(auto, unfolding(crate::specs::Tokens::first, crate::specs::Tokens::place_of))]
     pub fn next(&mut self) -> (usize, Token<'a>)
-        ensures token { (view result.1, self.new.rest.now) ≡ first self.old.value_due self.old.rest.now }
+        ensures token { (view result.1, self.new.rest.now) ≡ first self.old.due self.old.rest.now }
         ensures place { result.0 ≡ place_of self.old.size self.old.rest.now }
         ensures size { self.new.size ≡ self.old.size }
-        ensures due { self.new.value_due ≡ wants_value (view result.1) }
+        ensures due { self.new.due ≡ due_behind (view result.1) }
         ensures shorter { view result.1 ≢ end → length self.new.rest.now < length self.old.rest.now }
     {
         let bytes = past_white(self.rest);
         let at = self.size - bytes.len();
-        let (token, rest) = token_of(self.value_due, bytes);
+        let (token, rest) = token_of(self.due, bytes);
         self.rest = rest;
-        self.value_due = matches!(token, Token::Equals);
+        self.due = due_behind(token);
         (at, token)
     }
 
@@ -343,13 +362,13 @@ impl<'a> Lexer<'a> {
         ensures link { IfSome result (λ l. IsLink self.old.rest.now l.left.bytes.now l.arrow l.right.bytes.now self.new.rest.now) }
         ensures none { IfNone result (self.new.rest.now ≡ self.old.rest.now) }
         ensures size { self.new.size ≡ self.old.size }
-        ensures due { self.new.value_due ≡ self.old.value_due }
-        ensures not_due { IfSome result (λ _. self.old.value_due ≡ false) }
+        ensures due { self.new.due ≡ self.old.due }
+        ensures not_due { IfSome result (λ _. self.old.due ≡ Due.Token) }
         ensures shorter { IfSome result (λ _. length self.new.rest.now < length self.old.rest.now) }
     {
-        if self.value_due {
+        let Due::Token = self.due else {
             return None;
-        }
+        };
         let (left, behind_left) = name_first(self.rest)?;
         let (arrow, behind_edge) = edge_first(behind_left)?;
         let (right, rest) = name_first(behind_edge)?;

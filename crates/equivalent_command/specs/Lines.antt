@@ -1,17 +1,20 @@
 -- How the answer of a comparison is printed.
-use Rattle.std.specs.Prelude.{ℕ, Bool, true, false, not, List, [], ◌∷◌, ◌++◌, codes}
+use Rattle.std.specs.Prelude.{ℕ, List, [], ◌∷◌, ◌++◌, codes}
 use Rattle.mixed_graph.specs.Names.{name_of}
 use Rattle.m_separation.specs.declared.paths.OpenPath.{OpenPath}
 use Rattle.name_text.specs.Printing.{printed}
 use Rattle.answer_text.specs.Texts.{set_text, path_text}
 use Rattle.markov_equivalence.specs.declared.comparison.Difference.{Difference}
+use Rattle.markov_equivalence.specs.declared.sides.Side.{Side}
+use Rattle.markov_equivalence.specs.declared.sides.Side.TheVariants.{First, Second}
+use Rattle.markov_equivalence.specs.Sides.{other_side}
 use Rattle.targets.specs.declared.query.Sets.{Sets}
 use Rattle.replies.specs.Lines.{query_text}
 
 -- the first of the two graphs, or the second
-abbrev pub which : Bool → List ℕ
-which true = codes "first"
-which false = codes "second"
+abbrev pub which : Side → List ℕ
+which First = codes "first"
+which Second = codes "second"
 
 -- ---- graphs that differ
 
@@ -25,11 +28,11 @@ pair_text names d = braced names d.a ++ (codes " from " ++ (braced names d.b ++ 
 
 -- the line of the separation: `separated in the first alone: {A} from {B} given {C}`
 abbrev pub separation_text : List (List ℕ) → Difference → List ℕ
-separation_text names d = codes "separated in the " ++ (which d.first ++ (codes " alone: " ++ (pair_text names d ++ 10 ∷ [])))
+separation_text names d = codes "separated in the " ++ (which d.holds_in ++ (codes " alone: " ++ (pair_text names d ++ 10 ∷ [])))
 
 -- the graph that isn't the one of the separation has the edge or the collider: ` in the second`
 abbrev pub place_text : Difference → List ℕ
-place_text d = codes " in the " ++ (which (not d.first) ++ 10 ∷ [])
+place_text d = codes " in the " ++ (which (other_side d.holds_in) ++ 10 ∷ [])
 
 -- `not equivalent: edge A,B in the second`, and the separation
 abbrev pub edge_text : List (List ℕ) → Difference → List ℕ
@@ -52,9 +55,9 @@ abbrev pub separated_text : List (List ℕ) → Sets → List ℕ
 separated_text names s = equivalent_text ++ (codes "separated in both: " ++ (query_text names s.x.bits s.y.bits s.given.bits ++ 10 ∷ []))
 
 -- an open path of one graph: `open in the first: A -> B`
-abbrev pub open_text : Bool → List (List ℕ) → OpenPath → List ℕ
-open_text first names p = codes "open in the " ++ (which first ++ (codes ": " ++ (path_text names p.vertices p.marks p.count ++ 10 ∷ [])))
+abbrev pub open_text : Side → List (List ℕ) → OpenPath → List ℕ
+open_text side names p = codes "open in the " ++ (which side ++ (codes ": " ++ (path_text names p.vertices p.marks p.count ++ 10 ∷ [])))
 
 -- the line of graphs that don't differ, and an open path of each
 abbrev pub connected_text : List (List ℕ) → (first second : OpenPath) → List ℕ
-connected_text names first second = equivalent_text ++ (open_text true names first ++ open_text false names second)
+connected_text names first second = equivalent_text ++ (open_text First names first ++ open_text Second names second)

@@ -9,6 +9,7 @@ ghost use Rattle.equivalent_command.specs.Lines.{separated_text, open_text, conn
 use crate::printing::which;
 use answer_text::push_path;
 use m_separation::{OpenPath, open_path};
+use markov_equivalence::Side;
 use mixed_graph::{Graph, Names};
 use path_carry::carry_path;
 use replies::push_query;
@@ -67,23 +68,23 @@ fn connected_text(
     ensures { IfOk result (λ v. v.items ≡ connected_text names.now first.now second.now) }
 {
     let mut text = Vec::from_slice(alloc, b"equivalent\n")?;
-    push_open_in(&mut text, true, names, first)?;
-    push_open_in(&mut text, false, names, second)?;
+    push_open_in(&mut text, Side::First, names, first)?;
+    push_open_in(&mut text, Side::Second, names, second)?;
     Ok(text)
 }
 
 /// Appends an open path of the first graph or of the second.
 fn push_open_in(
     out: &mut Vec<u8>,
-    first: bool,
+    side: Side,
     names: &Names,
     path: &OpenPath,
 ) -> Result<(), AllocError>
     requires { IsPrintablePath (length names.now) path.now }
-    ensures { OnOk result (out.new.items ≡ out.old.items ++ open_text first names.now path.now) }
+    ensures { OnOk result (out.new.items ≡ out.old.items ++ open_text side names.now path.now) }
 {
     out.extend_from_slice(b"open in the ")?;
-    out.extend_from_slice(which(first))?;
+    out.extend_from_slice(which(side))?;
     out.extend_from_slice(b": ")?;
     push_path(out, names, &path.vertices, &path.marks, path.count)?;
     out.push(b'\n')?;

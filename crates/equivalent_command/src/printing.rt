@@ -4,7 +4,7 @@ ghost use Rattle.markov_equivalence.specs.Comparisons.{IsBelow};
 ghost use Rattle.equivalent_command.specs.Lines.{which, braced, pair_text, separation_text, place_text, edge_text, collider_text};
 
 use answer_text::{push_set, push_vertex};
-use markov_equivalence::Difference;
+use markov_equivalence::{Difference, Side};
 use mixed_graph::Names;
 use std::alloc::{AllocError, Global};
 
@@ -45,10 +45,13 @@ pub fn collider_text(
 }
 
 /// The first of the two graphs, or the second.
-pub fn which(first: bool) -> &'static [u8]
-    ensures { result.now ≡ which first }
+pub fn which(side: Side) -> &'static [u8]
+    ensures { result.now ≡ which side }
 {
-    if first { b"first" } else { b"second" }
+    match side {
+        Side::First => b"first",
+        Side::Second => b"second",
+    }
 }
 
 /// Appends the graph that has the edge or the collider: the one in which the separation doesn't hold.
@@ -56,7 +59,7 @@ fn push_place(out: &mut Vec<u8>, d: Difference) -> Result<(), AllocError>
     ensures { OnOk result (out.new.items ≡ out.old.items ++ place_text d) }
 {
     out.extend_from_slice(b" in the ")?;
-    out.extend_from_slice(which(!d.first))?;
+    out.extend_from_slice(which(d.holds_in.other()))?;
     out.push(b'\n')?;
     Ok(())
 }
@@ -91,7 +94,7 @@ fn push_separation(out: &mut Vec<u8>, names: &Names, d: Difference) -> Result<()
     ensures { OnOk result (out.new.items ≡ out.old.items ++ separation_text names.now d) }
 {
     out.extend_from_slice(b"separated in the ")?;
-    out.extend_from_slice(which(d.first))?;
+    out.extend_from_slice(which(d.holds_in))?;
     out.extend_from_slice(b" alone: ")?;
     push_pair(out, names, d)?;
     out.push(b'\n')?;

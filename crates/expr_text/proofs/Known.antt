@@ -1,11 +1,13 @@
 -- What is used of the names of a graph when a text is read.
-use Rattle.std.proofs.Common.{◌≡◌, ◌≢◌, ℕ, zero, suc, ◌+◌, ◌<◌, ◌≤◌, Bool, true, false, cond, not, ◌&&◌, List, [], ◌∷◌, length, get_or, refl, sym, arith}
-use Rattle.std.specs.List.{prefix_len, list_all, list_any, position_or_len}
+use Rattle.std.proofs.Common.{◌≡◌, ℕ, suc, ◌+◌, ◌<◌, ◌≤◌, Bool, true, false, cond, ◌&&◌, List, [], ◌∷◌, length, get_or, refl, sym, arith}
+use Rattle.std.specs.List.{prefix_len, list_all}
 use Rattle.std.specs.Str.{bytes_eq}
-use Rattle.std.proofs.lemmas.Slice.Eq.{bytes_eq-Decides}
+use Rattle.std.proofs.lemmas.Bool.{false_from_ne_true}
 use Rattle.std.proofs.lemmas.List.Elements.{All-get_or}
+use Rattle.std.proofs.lemmas.List.Folds.{list_any_at}
+use Rattle.std.proofs.lemmas.List.Sums.{position_or_len_is}
+use Rattle.std.proofs.lemmas.Slice.Eq.{bytes_eq-Decides}
 use Rattle.mixed_graph.specs.Names.{IsName, AreNames, is_line_byte, is_named, index_of}
-use Rattle.mixed_graph.proofs.NameLists.{position_or_len-none}
 
 -- not empty, and without a quotation mark or a line's end
 pub record IsKnown (name : List ℕ) : Type 0 where
@@ -31,35 +33,18 @@ whole_run p (x ∷ xs) h = run_step (p x) (list_all p xs) (prefix_len p xs) (len
 known_name : (name : List ℕ) → IsName name → IsKnown name
 known_name name is = record { some = is.some; inner = whole_run is_line_byte name is.line }
 
-at_here : (b : Bool) (n : ℕ) → b ≡ true → cond (not b) (1 + n) 0 ≡ 0
-at_here b n h = rw h refl
-
-at_later : (b : Bool) (n k : ℕ) → b ≡ false → n ≡ k → cond (not b) (1 + n) 0 ≡ suc k
-at_later b n k h e = rw h (omega arith)
-
-not_same : (a b : List ℕ) (t : Bool) → bytes_eq a b ≡ t → a ≢ b → t ≡ false
-not_same a b true h ne = absurd (ne ((bytes_eq-Decides a b).0 h))
-not_same a b false h ne = refl
-
--- a name that differs from those before it stands at its place
-place_is : (names : List (List ℕ)) (k : ℕ) → k < length names → ((i : ℕ) → i < k → get_or names i [] ≢ get_or names k []) → position_or_len (bytes_eq (get_or names k [])) names ≡ k
-place_is [] k lt ne = absurd (omega arith)
-place_is (x ∷ xs) zero lt ne = at_here (bytes_eq x x) (position_or_len (bytes_eq x) xs) ((bytes_eq-Decides x x).1 refl)
-place_is (x ∷ xs) (suc k) lt ne =
-    let n = get_or xs k [] in
-    at_later (bytes_eq n x) (position_or_len (bytes_eq n) xs) k (not_same n x (bytes_eq n x) refl (λ e. ne 0 (omega arith) (sym e)))
-    (place_is xs k (omega arith) (λ i h. ne (suc i) (omega arith)))
-
-named_by : (p : List ℕ → Bool) (xs : List (List ℕ)) (b : Bool) → list_any p xs ≡ b → position_or_len p xs < length xs → b ≡ true
-named_by p xs true is h = refl
-named_by p xs false is h = absurd (omega (arith, position_or_len-none p xs is))
+-- a name stands where it is first
+place_is : (names : List (List ℕ)) (k : ℕ) → AreNames names → k < length names → index_of names (get_or names k []) ≡ k
+place_is names k are lt =
+    let name = get_or names k [] in
+    position_or_len_is (bytes_eq name) names k [] (omega (arith, lt))
+    (λ i less. false_from_ne_true (bytes_eq name (get_or names i [])) (λ e. are.distinct i k [] less lt (sym ((bytes_eq-Decides name (get_or names i [])).0 e))))
+    (λ _. (bytes_eq-Decides name name).1 refl)
 
 pub known : (names : List (List ℕ)) → AreNames names → AreKnown names
-known names are =
-    let once : (k : ℕ) → k < length names → index_of names (get_or names k []) ≡ k = λ k lt. place_is names k lt (λ i h. are.distinct i k [] h lt) in
-    record {
-      few = are.few;
-      each = λ k lt. known_name (get_or names k []) (All-get_or IsName names k [] lt are.formed);
-      once = once;
-      there = λ k lt. named_by (bytes_eq (get_or names k [])) names (is_named names (get_or names k [])) refl (omega (arith, once k lt));
-    }
+known names are = record {
+  few = are.few;
+  each = λ k lt. known_name (get_or names k []) (All-get_or IsName names k [] lt are.formed);
+  once = λ k lt. place_is names k are lt;
+  there = λ k lt. list_any_at (bytes_eq (get_or names k [])) names k [] lt ((bytes_eq-Decides (get_or names k []) (get_or names k [])).1 refl);
+}

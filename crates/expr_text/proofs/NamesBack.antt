@@ -2,8 +2,8 @@
 use Rattle.std.proofs.Common.{◌≡◌, ℕ, zero, suc, ◌+◌, ◌*◌, ◌%◌, ◌^◌, ◌<◌, ◌≤◌, Bool, true, false, eqb, List, [], ◌∷◌, ◌++◌, length, get_or, drop, Some, None, Ok, bit_or, refl, sym, ap, subst, ◌∙◌, append_assoc, arith, eqb-true, codes}
 use Rattle.std.specs.Int.{bit_at}
 use Rattle.std.proofs.lemmas.Nat.{or_disjoint, mod-pow-add, pow_pos}
-use Rattle.std.proofs.lemmas.Nat.Bits.{and_pow, bit_at-zero, bit_at-lt}
-use Rattle.std.proofs.Math.Nat.{div-eq_of_lt, mod-eq_of_lt}
+use Rattle.std.proofs.lemmas.Nat.Bits.{and_pow, bit_at-zero, bit_at-lt, bit_at_above}
+use Rattle.std.proofs.Math.Nat.{mod-eq_of_lt}
 use Rattle.mixed_graph.specs.Bits.{has}
 use Rattle.mixed_graph.specs.Names.{is_named, index_of}
 use Rattle.name_text.specs.Printing.{is_plain_byte, printed}
@@ -32,15 +32,12 @@ low_out set k h =
 low_lt : (set k : ℕ) → set % 2 ^ k < 2 ^ k
 low_lt set k = let p = pow_pos k in omega arith
 
-no_bit : (n k : ℕ) → n < 2 ^ k → bit_at n k ≡ 0
-no_bit n k lt = ap (λ q. q % 2) (div-eq_of_lt lt)
-
 pub low_has_not : (n k : ℕ) → n < 2 ^ k → has n k ≡ false
 unfolding has
-low_has_not n k lt = ap (λ b. eqb b 1) (no_bit n k lt)
+low_has_not n k lt = ap (λ b. eqb b 1) (bit_at_above n k k lt (omega arith))
 
 or_is : (n k : ℕ) → n < 2 ^ k → bit_or n (2 ^ k) ≡ n + 2 ^ k
-or_is n k lt = or_disjoint n (2 ^ k) (and_pow n k ∙ ap (λ b. b * 2 ^ k) (no_bit n k lt) ∙ omega arith)
+or_is n k lt = or_disjoint n (2 ^ k) (and_pow n k ∙ ap (λ b. b * 2 ^ k) (bit_at_above n k k lt (omega arith)) ∙ omega arith)
 
 pub low_in : (set k : ℕ) → has set k ≡ true → set % 2 ^ (k + 1) ≡ bit_or (set % 2 ^ k) (2 ^ k)
 unfolding has

@@ -11,6 +11,7 @@ use Rattle.answer_text.specs.declared.signs.Notation.TheVariants.{Plain}
 use Rattle.answer_text.specs.Texts.{names_in, member_names}
 use Rattle.expr_text.specs.Bytes.{is_digit}
 use Rattle.expr_text.specs.Read.{◌>>=◌, Parse, when, bad, trim, next_is, expect, named_at, Inner, in_parentheses, operand_at, sum_at, factor_at, factor_step, repeat, factors_at, bottom_at, operands_at, expr_with, inner_of, expr_of}
+use Rattle.expr_text.specs.declared.writing.Place.TheVariants.{Later}
 use Rattle.expr_text.specs.Write.{parenthesized, wrapped, text_of, factors_in, deeper, nesting, nesting_each}
 use Rattle.expr_text.proofs.Readable.{is_readable, are_readable, readable}
 use Rattle.expr_text.specs.Laws.{ReadsBack}
@@ -177,16 +178,16 @@ trees_again : (ts : Trees) → trees_of (list_of ts) ≡ ts
 trees_again no_trees = refl
 trees_again (tree t ts) = ap (tree t) (trees_again ts)
 
-stops_factors : (names : List (List ℕ)) (ts : Trees) (rest : List ℕ) → Stops is_digit rest → Stops is_digit (factors_in Plain true names ts ++ rest)
+stops_factors : (names : List (List ℕ)) (ts : Trees) (rest : List ℕ) → Stops is_digit rest → Stops is_digit (factors_in Plain Later names ts ++ rest)
 stops_factors names no_trees rest s = s
 stops_factors names (tree t ts) rest s = refl
 
 factor_back : (names : List (List ℕ)) (before : List Tree) (t : Tree) (ts : Trees) (d : ℕ) (rest : List ℕ) → AreKnown names → ExprBack names t → is_readable (length names) t ≡ true → deeper t (nesting t) ≤ d → Stops is_digit rest
-    → factor_at names (inner_of names d) before (32 ∷ ((wrapped Plain t (text_of names t) ++ factors_in Plain true names ts) ++ rest)) ≡ Ok (before ++ t ∷ [], factors_in Plain true names ts ++ rest)
+    → factor_at names (inner_of names d) before (32 ∷ ((wrapped Plain t (text_of names t) ++ factors_in Plain Later names ts) ++ rest)) ≡ Ok (before ++ t ∷ [], factors_in Plain Later names ts ++ rest)
 unfolding factor_at
 factor_back names before t ts d rest are back sound deep digit =
     let w = wrapped Plain t (text_of names t) in
-    let more = factors_in Plain true names ts in
+    let more = factors_in Plain Later names ts in
     ap (λ r. r >>= λ next. Ok (before ++ next.0 ∷ [], next.1)) (
     operand_space names (inner_of names d) ((w ++ more) ++ rest)
     ∙ ap (operand_at names (inner_of names d)) (append_assoc w more rest)
@@ -196,7 +197,7 @@ regroup : (before : List Tree) (t : Tree) (ts : List Tree) → (before ++ t ∷ 
 regroup before t ts = append_assoc before (t ∷ []) ts
 
 more_back : (names : List (List ℕ)) (ts : Trees) (d : ℕ) (rest : List ℕ) → AreKnown names → EachBack names ts → are_readable (length names) ts ≡ true → nesting_each ts ≤ d → Ends rest
-    → (fuel : ℕ) (before : List Tree) → length (list_of ts) ≤ fuel → repeat (factor_step names (inner_of names d)) fuel before (factors_in Plain true names ts ++ rest) ≡ Ok (before ++ list_of ts, rest)
+    → (fuel : ℕ) (before : List Tree) → length (list_of ts) ≤ fuel → repeat (factor_step names (inner_of names d)) fuel before (factors_in Plain Later names ts ++ rest) ≡ Ok (before ++ list_of ts, rest)
 unfolding next_is trim
 more_back names no_trees d rest are each sound deep ends fuel before le =
     end_with (factor_step names (inner_of names d)) before rest fuel (ap (λ o. when o None (λ r. Some (factor_at names (inner_of names d) before r))) ends.star)
@@ -210,20 +211,20 @@ more_back names (tree t ts) d rest are each sound deep ends (suc fuel) before le
     ∙ more_back names ts d rest are each.1 parts.1 (omega arith) ends fuel (before ++ t ∷ []) (omega arith)
     ∙ ap (λ ts. Ok (ts, rest)) (regroup before t (list_of ts))
 
-fewer : (names : List (List ℕ)) (ts : Trees) (rest : List ℕ) → length (list_of ts) ≤ length (factors_in Plain true names ts ++ rest)
+fewer : (names : List (List ℕ)) (ts : Trees) (rest : List ℕ) → length (list_of ts) ≤ length (factors_in Plain Later names ts ++ rest)
 fewer names no_trees rest = omega arith
 fewer names (tree t ts) rest =
     let w = wrapped Plain t (text_of names t) in
-    let more = factors_in Plain true names ts in
+    let more = factors_in Plain Later names ts in
     omega (arith, fewer names ts rest, ap length (append_assoc w more rest), length-append w (more ++ rest))
 
 factors_back : (names : List (List ℕ)) (t u : Tree) (ts : Trees) (d : ℕ) (rest : List ℕ) → AreKnown names → ExprBack names u → EachBack names ts → is_readable (length names) u ≡ true → are_readable (length names) ts ≡ true
     → deeper u (nesting u) ≤ d → nesting_each ts ≤ d → Ends rest
-    → factors_at names (inner_of names d) t (32 ∷ ((wrapped Plain u (text_of names u) ++ factors_in Plain true names ts) ++ rest)) ≡ Ok (product (tree t (tree u ts)), rest)
+    → factors_at names (inner_of names d) t (32 ∷ ((wrapped Plain u (text_of names u) ++ factors_in Plain Later names ts) ++ rest)) ≡ Ok (product (tree t (tree u ts)), rest)
 unfolding factors_at
 factors_back names t u ts d rest are back each su ss du ds ends =
     let step = factor_step names (inner_of names d) in
-    let more = factors_in Plain true names ts in
+    let more = factors_in Plain Later names ts in
     ap (λ r. r >>= λ two. repeat step (length two.1) two.0 two.1 >>= λ all. Ok (product (trees_of all.0), all.1)) (factor_back names (t ∷ []) u ts d rest are back su du ends.digit)
     ∙ ap (λ r. r >>= λ all. Ok (product (trees_of all.0), all.1)) (more_back names ts d rest are each ss ds ends (length (more ++ rest)) (t ∷ u ∷ []) (fewer names ts rest))
     ∙ ap (λ ts. Ok (product (tree t (tree u ts)), rest)) (trees_again ts)
@@ -240,7 +241,7 @@ product_back names (tree t (tree u ts)) are each d rest sound deep ends =
     let one = and_true (is_readable n t) (is_readable n u && are_readable n ts) sound in
     let two = and_true (is_readable n u) (are_readable n ts) one.1 in
     let w = wrapped Plain t (text_of names t) in
-    let more = wrapped Plain u (text_of names u) ++ factors_in Plain true names ts in
+    let more = wrapped Plain u (text_of names u) ++ factors_in Plain Later names ts in
     ap (expr_with names (inner_of names d)) (append_assoc w (32 ∷ 42 ∷ 32 ∷ more) rest)
     ∙ first_back names t d (32 ∷ 42 ∷ 32 ∷ (more ++ rest)) are each.0 one.0 (omega arith) refl
     ∙ behind_star names (inner_of names d) t (32 ∷ (more ++ rest))

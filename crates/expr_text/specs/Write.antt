@@ -1,11 +1,13 @@
 -- The text of an expression, and of a formula, in either notation.
-use Rattle.std.specs.Prelude.{ℕ, suc, ◌+◌, max, Bool, true, false, List, [], ◌∷◌, ◌++◌, if◌then◌else◌, codes, decimal}
+use Rattle.std.specs.Prelude.{ℕ, suc, ◌+◌, max, List, [], ◌∷◌, ◌++◌, codes, decimal}
 use Rattle.mixed_graph.specs.Bits.{has}
 use Rattle.answer_text.specs.declared.signs.Notation.{Notation}
 use Rattle.answer_text.specs.declared.signs.Notation.TheVariants.{Plain, Latex}
 use Rattle.answer_text.specs.declared.signs.Sign.TheVariants.{Sum, Times, Open, Close}
 use Rattle.answer_text.specs.Notations.{sign_text, by_notation}
 use Rattle.answer_text.specs.Texts.{set_in, term_in}
+use Rattle.expr_text.specs.declared.writing.Place.{Place}
+use Rattle.expr_text.specs.declared.writing.Place.TheVariants.{First, Later}
 use Rattle.prob_expr.specs.Tree.{Tree, prob, sum, product, quotient, named, Trees, no_trees, tree, PlainFormula}
 
 -- a text in parentheses
@@ -29,23 +31,24 @@ quotient_in Latex p q top bottom = codes "\\frac{" ++ (top ++ (codes "}{" ++ (bo
 abbrev pub name_of_def : Notation → ℕ → List ℕ
 name_of_def notation k = by_notation notation (codes "q" ++ decimal k) (codes "q_{" ++ (decimal k ++ codes "}"))
 
--- a factor, and the sign of a product before it if others were there
-abbrev pub factor_in : Notation → Bool → List ℕ → List ℕ
-factor_in notation started text = if started then sign_text notation Times ++ text else text
+-- a factor, and before a later one the sign of a product
+abbrev pub factor_in : Notation → Place → List ℕ → List ℕ
+factor_in notation First text = text
+factor_in notation Later text = sign_text notation Times ++ text
 
 abbrev mutual
   -- a term as `P(Y|do(X),Z)`; a sum as its sign, the set and the body; factors as operands
   pub expr_in : Notation → List (List ℕ) → Tree → List ℕ
   expr_in notation names (prob a b c) = term_in notation names (has a) (has b) (has c)
   expr_in notation names (sum u e) = sign_text notation Sum ++ (set_in notation names u ++ (codes " " ++ expr_in notation names e))
-  expr_in notation names (product ts) = factors_in notation false names ts
+  expr_in notation names (product ts) = factors_in notation First names ts
   expr_in notation names (quotient p q) = quotient_in notation p q (expr_in notation names p) (expr_in notation names q)
   expr_in notation names (named k) = name_of_def notation k
 
-  -- factors, the first ones or behind others
-  pub factors_in : Notation → (started : Bool) → List (List ℕ) → Trees → List ℕ
-  factors_in notation started names no_trees = []
-  factors_in notation started names (tree t ts) = factor_in notation started (wrapped notation t (expr_in notation names t)) ++ factors_in notation true names ts
+  -- factors, from the first one or from a later one on
+  pub factors_in : Notation → Place → List (List ℕ) → Trees → List ℕ
+  factors_in notation place names no_trees = []
+  factors_in notation place names (tree t ts) = factor_in notation place (wrapped notation t (expr_in notation names t)) ++ factors_in notation Later names ts
 
 -- each definition on a line of its own, behind its name and ` = `
 abbrev pub defs_in : Notation → List (List ℕ) → ℕ → List Tree → List ℕ
@@ -59,15 +62,19 @@ formula_in notation names f = expr_in notation names f.main ++ defs_in notation 
 
 -- ---- plain text, and LaTeX
 
+-- an expression as plain text
 abbrev pub text_of : List (List ℕ) → Tree → List ℕ
 text_of names t = expr_in Plain names t
 
+-- an expression as LaTeX
 abbrev pub latex_of : List (List ℕ) → Tree → List ℕ
 latex_of names t = expr_in Latex names t
 
+-- a formula as plain text, each definition on a line of its own
 abbrev pub formula_text : List (List ℕ) → PlainFormula → List ℕ
 formula_text names f = formula_in Plain names f
 
+-- a formula as LaTeX, each definition on a line of its own
 abbrev pub formula_latex : List (List ℕ) → PlainFormula → List ℕ
 formula_latex names f = formula_in Latex names f
 

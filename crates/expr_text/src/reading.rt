@@ -3,7 +3,7 @@ ghost use Rattle.prob_expr.specs.View.{view, formula_view};
 ghost use Rattle.expr_text.specs.Read.{Gives, next_is, expect, names_at, given_at, doing_at, conds_at, term_at, named_at, in_parentheses, operand_at, sum_at, factor_at, factor_step, repeat, factors_at, bottom_at, operands_at, expr_with, inner_of, expr_of, def_body, def_at, def_step, checked, formula_of};
 ghost use Rattle.expr_text.specs.Text.{Faults, Reads};
 
-use crate::stop::ReadStop;
+use crate::stop::{Parsed, ReadStop};
 use crate::tokens::{expect, names_at, next_is, number_at, trim};
 use mixed_graph::{Names, VSet};
 use prob_expr::{Expr, Formula, check};
@@ -11,11 +11,7 @@ use std::alloc::Global;
 
 /// The names that are given, behind what is done.
 #[tactic(auto, unfolding(crate::specs::Read::given_at))]
-fn given_at<'a>(
-    names: &Names,
-    doing: VSet,
-    bytes: &'a [u8],
-) -> Result<((VSet, VSet), &'a [u8]), ReadStop>
+fn given_at<'a>(names: &Names, doing: VSet, bytes: &'a [u8]) -> Parsed<'a, (VSet, VSet)>
     ensures given { Gives (λ p. ((p.0.0.bits, p.0.1.bits), p.1.now)) result (given_at names.now doing.bits bytes.now) }
     ensures shorter { IfOk result (λ p. length p.1.now ≤ length bytes.now) }
 {
@@ -25,7 +21,7 @@ fn given_at<'a>(
 
 /// The names that are done, behind `do(`, and those that are given.
 #[tactic(auto, unfolding(crate::specs::Read::doing_at))]
-fn doing_at<'a>(names: &Names, bytes: &'a [u8]) -> Result<((VSet, VSet), &'a [u8]), ReadStop>
+fn doing_at<'a>(names: &Names, bytes: &'a [u8]) -> Parsed<'a, (VSet, VSet)>
     ensures doing { Gives (λ p. ((p.0.0.bits, p.0.1.bits), p.1.now)) result (doing_at names.now bytes.now) }
     ensures shorter { IfOk result (λ p. length p.1.now ≤ length bytes.now) }
 {
@@ -39,7 +35,7 @@ fn doing_at<'a>(names: &Names, bytes: &'a [u8]) -> Result<((VSet, VSet), &'a [u8
 
 /// What stands behind the bar of a term, where there is one.
 #[tactic(auto, unfolding(crate::specs::Read::conds_at))]
-fn conds_at<'a>(names: &Names, bytes: &'a [u8]) -> Result<((VSet, VSet), &'a [u8]), ReadStop>
+fn conds_at<'a>(names: &Names, bytes: &'a [u8]) -> Parsed<'a, (VSet, VSet)>
     ensures conds { Gives (λ p. ((p.0.0.bits, p.0.1.bits), p.1.now)) result (conds_at names.now bytes.now) }
     ensures shorter { IfOk result (λ p. length p.1.now ≤ length bytes.now) }
 {
@@ -54,7 +50,7 @@ fn conds_at<'a>(names: &Names, bytes: &'a [u8]) -> Result<((VSet, VSet), &'a [u8
 
 /// A term, behind `P(`.
 #[tactic(auto, unfolding(crate::specs::Read::term_at))]
-fn term_at<'a>(names: &Names, bytes: &'a [u8]) -> Result<(Expr, &'a [u8]), ReadStop>
+fn term_at<'a>(names: &Names, bytes: &'a [u8]) -> Parsed<'a, Expr>
     ensures term { Gives (λ p. (view p.0, p.1.now)) result (term_at names.now bytes.now) }
     ensures shorter { IfOk result (λ p. length p.1.now ≤ length bytes.now) }
 {
@@ -66,7 +62,7 @@ fn term_at<'a>(names: &Names, bytes: &'a [u8]) -> Result<(Expr, &'a [u8]), ReadS
 
 /// A definition's number, behind `q`.
 #[tactic(auto, unfolding(crate::specs::Read::named_at))]
-fn named_at(bytes: &[u8]) -> Result<(Expr, &[u8]), ReadStop>
+fn named_at(bytes: &[u8]) -> Parsed<'_, Expr>
     ensures named { Gives (λ p. (view p.0, p.1.now)) result (named_at bytes.now) }
     ensures shorter { IfOk result (λ p. length p.1.now ≤ length bytes.now) }
 {
@@ -77,12 +73,7 @@ fn named_at(bytes: &[u8]) -> Result<(Expr, &[u8]), ReadStop>
 /// An expression in parentheses, behind the first.
 #[tactic(auto, unfolding(crate::specs::Read::in_parentheses))]
 #[cycle(expr)]
-fn in_parentheses<'a>(
-    alloc: Global,
-    names: &Names,
-    more: u32,
-    bytes: &'a [u8],
-) -> Result<(Expr, &'a [u8]), ReadStop>
+fn in_parentheses<'a>(alloc: Global, names: &Names, more: u32, bytes: &'a [u8]) -> Parsed<'a, Expr>
     ensures parentheses { Gives (λ p. (view p.0, p.1.now)) result (in_parentheses (expr_with names.now (inner_of names.now more)) bytes.now) }
     ensures shorter { IfOk result (λ p. length p.1.now ≤ length bytes.now) }
 {
@@ -94,12 +85,7 @@ fn in_parentheses<'a>(
 /// A term, a definition or an expression in parentheses.
 #[tactic(auto, unfolding(crate::specs::Read::operand_at), using(crate::proofs::Inner::inner_none, crate::proofs::Inner::inner_some))]
 #[cycle(expr)]
-fn operand_at<'a>(
-    alloc: Global,
-    names: &Names,
-    more: u32,
-    bytes: &'a [u8],
-) -> Result<(Expr, &'a [u8]), ReadStop>
+fn operand_at<'a>(alloc: Global, names: &Names, more: u32, bytes: &'a [u8]) -> Parsed<'a, Expr>
     ensures operand { Gives (λ p. (view p.0, p.1.now)) result (operand_at names.now (inner_of names.now more) bytes.now) }
     ensures shorter { IfOk result (λ p. length p.1.now ≤ length bytes.now) }
 {
@@ -121,12 +107,7 @@ fn operand_at<'a>(
 /// A sum, behind its word.
 #[tactic(auto, unfolding(crate::specs::Read::sum_at))]
 #[cycle(expr)]
-fn sum_at<'a>(
-    alloc: Global,
-    names: &Names,
-    more: u32,
-    bytes: &'a [u8],
-) -> Result<(Expr, &'a [u8]), ReadStop>
+fn sum_at<'a>(alloc: Global, names: &Names, more: u32, bytes: &'a [u8]) -> Parsed<'a, Expr>
     ensures sum { Gives (λ p. (view p.0, p.1.now)) result (sum_at names.now (expr_with names.now (inner_of names.now more)) bytes.now) }
     ensures shorter { IfOk result (λ p. length p.1.now ≤ length bytes.now) }
 {
@@ -184,7 +165,7 @@ fn factors_at<'a>(
     more: u32,
     first: Expr,
     bytes: &'a [u8],
-) -> Result<(Expr, &'a [u8]), ReadStop>
+) -> Parsed<'a, Expr>
     ensures factors { Gives (λ p. (view p.0, p.1.now)) result (factors_at names.now (inner_of names.now more) (view first) bytes.now) }
     ensures shorter { IfOk result (λ p. length p.1.now ≤ length bytes.now) }
 {
@@ -204,7 +185,7 @@ fn bottom_at<'a>(
     more: u32,
     top: Expr,
     bytes: &'a [u8],
-) -> Result<(Expr, &'a [u8]), ReadStop>
+) -> Parsed<'a, Expr>
     ensures bottom { Gives (λ p. (view p.0, p.1.now)) result (bottom_at names.now (inner_of names.now more) (view top) bytes.now) }
     ensures shorter { IfOk result (λ p. length p.1.now ≤ length bytes.now) }
 {
@@ -217,12 +198,7 @@ fn bottom_at<'a>(
 /// One operand, a product or a quotient.
 #[tactic(auto, unfolding(crate::specs::Read::operands_at))]
 #[cycle(expr)]
-fn operands_at<'a>(
-    alloc: Global,
-    names: &Names,
-    more: u32,
-    bytes: &'a [u8],
-) -> Result<(Expr, &'a [u8]), ReadStop>
+fn operands_at<'a>(alloc: Global, names: &Names, more: u32, bytes: &'a [u8]) -> Parsed<'a, Expr>
     ensures operands { Gives (λ p. (view p.0, p.1.now)) result (operands_at names.now (inner_of names.now more) bytes.now) }
     ensures shorter { IfOk result (λ p. length p.1.now ≤ length bytes.now) }
 {
@@ -239,12 +215,7 @@ fn operands_at<'a>(
 /// An expression in which so many parentheses and sums may nest.
 #[tactic(auto, unfolding(crate::specs::Read::expr_with), using(crate::proofs::Inner::inner_none, crate::proofs::Inner::inner_some))]
 #[cycle(expr)]
-fn expr_at<'a>(
-    alloc: Global,
-    names: &Names,
-    more: u32,
-    bytes: &'a [u8],
-) -> Result<(Expr, &'a [u8]), ReadStop>
+fn expr_at<'a>(alloc: Global, names: &Names, more: u32, bytes: &'a [u8]) -> Parsed<'a, Expr>
     ensures expr { Gives (λ p. (view p.0, p.1.now)) result (expr_with names.now (inner_of names.now more) bytes.now) }
     ensures shorter { IfOk result (λ p. length p.1.now ≤ length bytes.now) }
 {

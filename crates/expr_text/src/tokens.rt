@@ -2,7 +2,7 @@ ghost use Rattle.std.specs.Prelude.{◌≡◌, ◌<◌, ◌≤◌, ◌+◌, ◌*
 ghost use Rattle.expr_text.specs.Read.{Gives, after, trim, next_is, expect, raw_name, bare, closed, with_vertex, name_at, name_step, repeat, names_at, number_of, is_number, number_in, number_at};
 
 use crate::bytes::{Class, run_len};
-use crate::stop::ReadStop;
+use crate::stop::{Parsed, ReadStop};
 use mixed_graph::{Names, VSet};
 
 /// The bytes from the next token on.
@@ -113,7 +113,7 @@ fn with_vertex(names: &Names, have: VSet, name: &[u8]) -> Option<VSet>
 
 /// The next name, beside the members before it.
 #[tactic(auto, unfolding(crate::specs::Read::name_at))]
-fn name_at<'a>(names: &Names, have: VSet, bytes: &'a [u8]) -> Result<(VSet, &'a [u8]), ReadStop>
+fn name_at<'a>(names: &Names, have: VSet, bytes: &'a [u8]) -> Parsed<'a, VSet>
     ensures name { Gives (λ p. (p.0.bits, p.1.now)) result (name_at names.now have.bits bytes.now) }
     ensures shorter { IfOk result (λ p. length p.1.now < length bytes.now) }
 {
@@ -129,7 +129,7 @@ fn name_at<'a>(names: &Names, have: VSet, bytes: &'a [u8]) -> Result<(VSet, &'a 
 
 /// The names of a set, in any order.
 #[tactic(auto, unfolding(crate::specs::Read::names_at))]
-pub fn names_at<'a>(names: &Names, bytes: &'a [u8]) -> Result<(VSet, &'a [u8]), ReadStop>
+pub fn names_at<'a>(names: &Names, bytes: &'a [u8]) -> Parsed<'a, VSet>
     ensures names { Gives (λ p. (p.0.bits, p.1.now)) result (names_at names.now bytes.now) }
     ensures shorter { IfOk result (λ p. length p.1.now < length bytes.now) }
 {
@@ -138,7 +138,7 @@ pub fn names_at<'a>(names: &Names, bytes: &'a [u8]) -> Result<(VSet, &'a [u8]), 
 }
 
 /// Names behind the first, each after a comma.
-fn more_names<'a>(names: &Names, first: VSet, bytes: &'a [u8]) -> Result<(VSet, &'a [u8]), ReadStop>
+fn more_names<'a>(names: &Names, first: VSet, bytes: &'a [u8]) -> Parsed<'a, VSet>
     ensures names { Gives (λ p. (p.0.bits, p.1.now)) result (repeat (name_step names.now) (length bytes.now) first.bits bytes.now) }
     ensures shorter { IfOk result (λ p. length p.1.now ≤ length bytes.now) }
 {
@@ -179,7 +179,7 @@ fn is_number(digits: &[u8]) -> bool
 
 /// The next number.
 #[tactic(auto, unfolding(crate::specs::Read::number_at))]
-pub fn number_at(bytes: &[u8]) -> Result<(u32, &[u8]), ReadStop>
+pub fn number_at(bytes: &[u8]) -> Parsed<'_, u32>
     ensures number { Gives (λ p. (p.0, p.1.now)) result (number_at bytes.now) }
     ensures shorter { IfOk result (λ p. length p.1.now ≤ length bytes.now) }
 {

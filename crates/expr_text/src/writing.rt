@@ -1,4 +1,4 @@
-ghost use Rattle.std.specs.Prelude.{◌≡◌, ◌<◌, ◌≤◌, ◌++◌, ◌+◌, ℕ, length, OnOk, IfOk, codes, decimal, string_bytes, map, true, false, None};
+ghost use Rattle.std.specs.Prelude.{◌≡◌, ◌<◌, ◌≤◌, ◌++◌, ◌+◌, ℕ, length, OnOk, IfOk, codes, decimal, string_bytes, map, true, None};
 ghost use Rattle.mixed_graph.specs.Bits.{has};
 ghost use Rattle.answer_text.specs.Notations.{sign_text};
 ghost use Rattle.answer_text.specs.Texts.{set_in, term_in};
@@ -14,35 +14,38 @@ use mixed_graph::{Names, VSet};
 use prob_expr::{Expr, Formula};
 use std::alloc::{AllocError, Global};
 
+/// In which notation and with which names expressions are written.
+#[derive(Drop)]
+struct Writer<'n> {
+    alloc: Global,
+    notation: Notation,
+    names: &'n Names,
+}
+
+/// Where a factor stands in its product.
+#[derive(Clone, Copy)]
+pub enum Place {
+    First,
+    Later,
+}
+
 /// Appends a term.
 #[tactic(auto, using(crate::proofs::Within::first_within, crate::proofs::Within::second_within, crate::proofs::Within::third_within))]
-fn put_term(
-    out: &mut Vec<u8>,
-    notation: Notation,
-    names: &Names,
-    of: VSet,
-    doing: VSet,
-    given: VSet,
-) -> Result<(), AllocError>
-    requires { is_term (length names.now) of.bits doing.bits given.bits ≡ true }
-    ensures { OnOk result (out.new.items ≡ out.old.items ++ term_in notation names.now (has of.bits) (has doing.bits) (has given.bits)) }
+fn put_term(writer: &Writer, out: &mut Vec<u8>, term: Term) -> Result<(), AllocError>
+    requires { is_term (length writer.now.names.now) term.of.bits term.doing.bits term.given.bits ≡ true }
+    ensures { OnOk result (out.new.items ≡ out.old.items ++ term_in writer.now.notation writer.now.names.now (has term.of.bits) (has term.doing.bits) (has term.given.bits)) }
 {
-    push_term_in(out, notation, names, Term { of, doing, given })
+    push_term_in(out, writer.notation, writer.names, term)
 }
 
 /// Appends the sign of a sum and the set over which the sum is.
 #[tactic(auto, using(crate::proofs::Within::below_within))]
-fn put_over(
-    out: &mut Vec<u8>,
-    notation: Notation,
-    names: &Names,
-    over: VSet,
-) -> Result<(), AllocError>
-    requires { is_below (length names.now) over.bits ≡ true }
-    ensures { OnOk result (out.new.items ≡ out.old.items ++ (sign_text notation Sign.Sum ++ (set_in notation names.now over.bits ++ codes " "))) }
+fn put_over(writer: &Writer, out: &mut Vec<u8>, over: VSet) -> Result<(), AllocError>
+    requires { is_below (length writer.now.names.now) over.bits ≡ true }
+    ensures { OnOk result (out.new.items ≡ out.old.items ++ (sign_text writer.now.notation Sign.Sum ++ (set_in writer.now.notation writer.now.names.now over.bits ++ codes " "))) }
 {
-    push_sign(out, notation, Sign::Sum)?;
-    push_set_in(out, notation, names, over)?;
+    push_sign(out, writer.notation, Sign::Sum)?;
+    push_set_in(out, writer.notation, writer.names, over)?;
     out.extend_from_slice(b" ")?;
     Ok(())
 }
@@ -58,132 +61,105 @@ fn name_of_def(alloc: Global, notation: Notation, k: usize) -> Result<String, Al
 }
 
 /// Appends the name of definition k.
-fn put_named(
-    alloc: Global,
-    out: &mut Vec<u8>,
-    notation: Notation,
-    k: usize,
-) -> Result<(), AllocError>
-    ensures { OnOk result (out.new.items ≡ out.old.items ++ name_of_def notation k) }
+fn put_named(writer: &Writer, out: &mut Vec<u8>, k: usize) -> Result<(), AllocError>
+    ensures { OnOk result (out.new.items ≡ out.old.items ++ name_of_def writer.now.notation k) }
 {
-    let text = name_of_def(alloc, notation, k)?;
+    let text = name_of_def(writer.alloc, writer.notation, k)?;
     out.extend_from_slice(text.as_bytes())?;
     Ok(())
 }
 
 /// Appends an expression.
 #[cycle(put)]
-fn put_expr(
-    alloc: Global,
-    out: &mut Vec<u8>,
-    notation: Notation,
-    names: &Names,
-    e: &Expr,
-) -> Result<(), AllocError>
-    requires { is_sound (length names.now) (view e.now) ≡ true }
-    ensures { OnOk result (out.new.items ≡ out.old.items ++ expr_in notation names.now (view e.now)) }
+fn put_expr(writer: &Writer, out: &mut Vec<u8>, e: &Expr) -> Result<(), AllocError>
+    requires { is_sound (length writer.now.names.now) (view e.now) ≡ true }
+    ensures { OnOk result (out.new.items ≡ out.old.items ++ expr_in writer.now.notation writer.now.names.now (view e.now)) }
 {
     match e {
-        Expr::Prob { of, doing, given } => put_term(out, notation, names, *of, *doing, *given),
-        Expr::Sum { over, body } => {
-            put_over(out, notation, names, *over)?;
-            put_expr(alloc, out, notation, names, body)
+        Expr::Prob { of, doing, given } => {
+            let (of, doing, given) = (*of, *doing, *given);
+            put_term(writer, out, Term { of, doing, given })
         }
-        Expr::Product(factors) => put_factors(alloc, out, notation, names, factors),
-        Expr::Quotient { top, bottom } => match notation {
+        Expr::Sum { over, body } => {
+            put_over(writer, out, *over)?;
+            put_expr(writer, out, body)
+        }
+        Expr::Product(factors) => put_factors(writer, out, factors),
+        Expr::Quotient { top, bottom } => match writer.notation {
             Notation::Plain => {
-                put_operand(alloc, out, Notation::Plain, names, top)?;
+                put_operand(writer, out, top)?;
                 out.extend_from_slice(b" / ")?;
-                put_operand(alloc, out, Notation::Plain, names, bottom)
+                put_operand(writer, out, bottom)
             }
             Notation::Latex => {
                 out.extend_from_slice(b"\\frac{")?;
-                put_expr(alloc, out, Notation::Latex, names, top)?;
+                put_expr(writer, out, top)?;
                 out.extend_from_slice(b"}{")?;
-                put_expr(alloc, out, Notation::Latex, names, bottom)?;
+                put_expr(writer, out, bottom)?;
                 out.extend_from_slice(b"}")?;
                 Ok(())
             }
         },
-        Expr::Named(k) => put_named(alloc, out, notation, *k as usize),
+        Expr::Named(k) => put_named(writer, out, *k as usize),
     }
 }
 
 /// Appends an expression as an operand.
 #[cycle(put)]
-fn put_operand(
-    alloc: Global,
-    out: &mut Vec<u8>,
-    notation: Notation,
-    names: &Names,
-    e: &Expr,
-) -> Result<(), AllocError>
-    requires { is_sound (length names.now) (view e.now) ≡ true }
-    ensures { OnOk result (out.new.items ≡ out.old.items ++ wrapped notation (view e.now) (expr_in notation names.now (view e.now))) }
+fn put_operand(writer: &Writer, out: &mut Vec<u8>, e: &Expr) -> Result<(), AllocError>
+    requires { is_sound (length writer.now.names.now) (view e.now) ≡ true }
+    ensures { OnOk result (out.new.items ≡ out.old.items ++ wrapped writer.now.notation (view e.now) (expr_in writer.now.notation writer.now.names.now (view e.now))) }
 {
     match e {
-        Expr::Prob { .. } | Expr::Named(_) => put_expr(alloc, out, notation, names, e),
-        _ => put_parenthesized(alloc, out, notation, names, e),
+        Expr::Prob { .. } | Expr::Named(_) => put_expr(writer, out, e),
+        _ => put_parenthesized(writer, out, e),
     }
 }
 
 /// Appends an expression in parentheses.
 #[cycle(put)]
-fn put_parenthesized(
-    alloc: Global,
-    out: &mut Vec<u8>,
-    notation: Notation,
-    names: &Names,
-    e: &Expr,
-) -> Result<(), AllocError>
-    requires { is_sound (length names.now) (view e.now) ≡ true }
-    ensures { OnOk result (out.new.items ≡ out.old.items ++ parenthesized notation (expr_in notation names.now (view e.now))) }
+fn put_parenthesized(writer: &Writer, out: &mut Vec<u8>, e: &Expr) -> Result<(), AllocError>
+    requires { is_sound (length writer.now.names.now) (view e.now) ≡ true }
+    ensures { OnOk result (out.new.items ≡ out.old.items ++ parenthesized writer.now.notation (expr_in writer.now.notation writer.now.names.now (view e.now))) }
 {
-    push_sign(out, notation, Sign::Open)?;
-    put_expr(alloc, out, notation, names, e)?;
-    push_sign(out, notation, Sign::Close)?;
+    push_sign(out, writer.notation, Sign::Open)?;
+    put_expr(writer, out, e)?;
+    push_sign(out, writer.notation, Sign::Close)?;
     Ok(())
 }
 
 /// Appends a product.
 #[cycle(put)]
-fn put_factors(
-    alloc: Global,
-    out: &mut Vec<u8>,
-    notation: Notation,
-    names: &Names,
-    factors: &Vec<Expr>,
-) -> Result<(), AllocError>
-    requires { are_sound (length names.now) (views factors.now.items) ≡ true }
-    ensures { OnOk result (out.new.items ≡ out.old.items ++ factors_in notation false names.now (views factors.now.items)) }
+fn put_factors(writer: &Writer, out: &mut Vec<u8>, factors: &Vec<Expr>) -> Result<(), AllocError>
+    requires { are_sound (length writer.now.names.now) (views factors.now.items) ≡ true }
+    ensures { OnOk result (out.new.items ≡ out.old.items ++ factors_in writer.now.notation Place.First writer.now.names.now (views factors.now.items)) }
 {
-    let mut started = false;
+    let mut place = Place::First;
     for factor in factors {
-        put_factor(alloc, out, notation, names, started, factor)?;
-        started = true;
+        put_factor(writer, out, place, factor)?;
+        place = Place::Later;
     }
     Ok(())
 }
 
-/// Appends a factor, and the sign of a product before it if others were there.
+/// Appends a factor, and before a later one the sign of a product.
 #[cycle(put)]
 fn put_factor(
-    alloc: Global,
+    writer: &Writer,
     out: &mut Vec<u8>,
-    notation: Notation,
-    names: &Names,
-    started: bool,
+    place: Place,
     e: &Expr,
 ) -> Result<(), AllocError>
-    requires { is_sound (length names.now) (view e.now) ≡ true }
-    ensures { OnOk result (out.new.items ≡ out.old.items ++ factor_in notation started (wrapped notation (view e.now) (expr_in notation names.now (view e.now)))) }
+    requires { is_sound (length writer.now.names.now) (view e.now) ≡ true }
+    ensures { OnOk result (out.new.items ≡ out.old.items ++ factor_in writer.now.notation place (wrapped writer.now.notation (view e.now) (expr_in writer.now.notation writer.now.names.now (view e.now)))) }
 {
-    if started {
-        push_sign(out, notation, Sign::Times)?;
-        put_operand(alloc, out, notation, names, e)?;
-        return Ok(());
+    match place {
+        Place::First => put_operand(writer, out, e),
+        Place::Later => {
+            push_sign(out, writer.notation, Sign::Times)?;
+            put_operand(writer, out, e)
+        }
     }
-    put_operand(alloc, out, notation, names, e)
 }
 
 /// The text of an expression.
@@ -192,43 +168,35 @@ pub fn write_expr(alloc: Global, e: &Expr, names: &Names) -> Result<Vec<u8>, All
     ensures { IfOk result (λ v. v.items ≡ text_of names.now (view e.now)) }
 {
     let mut out = Vec::new(alloc);
-    put_expr(alloc, &mut out, Notation::Plain, names, e)?;
+    let writer = Writer {
+        alloc,
+        notation: Notation::Plain,
+        names,
+    };
+    put_expr(&writer, &mut out, e)?;
     Ok(out)
 }
 
 /// Appends a line with a definition.
-fn put_def(
-    alloc: Global,
-    out: &mut Vec<u8>,
-    notation: Notation,
-    names: &Names,
-    k: usize,
-    def: &Expr,
-) -> Result<(), AllocError>
-    requires { is_sound (length names.now) (view def.now) ≡ true }
-    ensures { OnOk result (out.new.items ≡ out.old.items ++ (codes "\n" ++ (name_of_def notation k ++ (codes " = " ++ expr_in notation names.now (view def.now))))) }
+fn put_def(writer: &Writer, out: &mut Vec<u8>, k: usize, def: &Expr) -> Result<(), AllocError>
+    requires { is_sound (length writer.now.names.now) (view def.now) ≡ true }
+    ensures { OnOk result (out.new.items ≡ out.old.items ++ (codes "\n" ++ (name_of_def writer.now.notation k ++ (codes " = " ++ expr_in writer.now.notation writer.now.names.now (view def.now))))) }
 {
     out.extend_from_slice(b"\n")?;
-    put_named(alloc, out, notation, k)?;
+    put_named(writer, out, k)?;
     out.extend_from_slice(b" = ")?;
-    put_expr(alloc, out, notation, names, def)?;
+    put_expr(writer, out, def)?;
     Ok(())
 }
 
 /// Appends all definitions.
-fn put_defs(
-    alloc: Global,
-    out: &mut Vec<u8>,
-    notation: Notation,
-    names: &Names,
-    defs: &Vec<Expr>,
-) -> Result<(), AllocError>
-    requires { all_sound (length names.now) (map view defs.now.items) ≡ true }
-    ensures { OnOk result (out.new.items ≡ out.old.items ++ defs_in notation names.now 0 (map view defs.now.items)) }
+fn put_defs(writer: &Writer, out: &mut Vec<u8>, defs: &Vec<Expr>) -> Result<(), AllocError>
+    requires { all_sound (length writer.now.names.now) (map view defs.now.items) ≡ true }
+    ensures { OnOk result (out.new.items ≡ out.old.items ++ defs_in writer.now.notation writer.now.names.now 0 (map view defs.now.items)) }
 {
     let mut k = 0;
     for def in defs {
-        put_def(alloc, out, notation, names, k, def)?;
+        put_def(writer, out, k, def)?;
         k += 1;
     }
     Ok(())
@@ -245,8 +213,13 @@ pub fn formula_in(
     ensures { IfOk result (λ v. v.items ≡ formula_in notation names.now (formula_view f.now)) }
 {
     let mut out = Vec::new(alloc);
-    put_expr(alloc, &mut out, notation, names, &f.main)?;
-    put_defs(alloc, &mut out, notation, names, &f.defs)?;
+    let writer = Writer {
+        alloc,
+        notation,
+        names,
+    };
+    put_expr(&writer, &mut out, &f.main)?;
+    put_defs(&writer, &mut out, &f.defs)?;
     Ok(out)
 }
 

@@ -3,7 +3,7 @@ ghost use Rattle.mixed_graph.specs.Shown.{graph_of};
 ghost use Rattle.markov_equivalence.specs.Skeletons.{HasArrowsAlone};
 
 use case_rows::{Members, all_below, number, pairs};
-use markov_equivalence::{Compared, Difference, compare};
+use markov_equivalence::{Compared, Difference, Side, compare};
 use mixed_graph::Graph;
 use serde_json::Value;
 use std::alloc::Global;
@@ -26,7 +26,10 @@ fn with_arrows(n: u32, arrows: &[(u8, u8)]) -> Option<Graph>
 /// A separation in one of the graphs alone.
 fn difference_text(alloc: Global, d: Difference) -> Option<String> {
     let (a, b, given) = (d.a, d.b, Members(d.given));
-    let place = if d.first { "first" } else { "second" };
+    let place = match d.holds_in {
+        Side::First => "first",
+        Side::Second => "second",
+    };
     format!(in alloc; "{a} and {b} are separated by {given} in the {place} alone\n").ok()
 }
 

@@ -42,25 +42,42 @@ pub(crate) fn prefixes_row(alloc: Global, row: &Value) -> Option<String> {
     format!(in alloc; "{refused} of {all} refused\n").ok()
 }
 
-/// The line of a token that isn't one.
-fn token_line(alloc: Global, at: usize, second: bool) -> Result<Vec<u8>, AllocError> {
-    if second {
-        GraphFault::Token(at).second_line(alloc)
+/// The input whose fault a line names.
+#[derive(Clone, Copy)]
+pub(crate) enum Input {
+    First,
+    Second,
+}
+
+/// The input of a row.
+pub(crate) fn input_of(row: &Value) -> Input {
+    if flag(row, "second") {
+        Input::Second
     } else {
-        GraphFault::Token(at).line(alloc)
+        Input::First
+    }
+}
+
+/// The line of a token that isn't one.
+fn token_line(alloc: Global, at: usize, of: Input) -> Result<Vec<u8>, AllocError> {
+    match of {
+        Input::First => GraphFault::Token(at).line(alloc),
+        Input::Second => GraphFault::Token(at).second_line(alloc),
     }
 }
 
 /// The line of a fault of a graph's text.
 pub(crate) fn graph_line_row(alloc: Global, row: &Value) -> Option<String> {
-    let second = flag(row, "second");
+    let of = input_of(row);
     let line = match text(row, "fault") {
         "token" => {
             let at = usize::try_from(number(row, "byte")).ok()?;
-            token_line(alloc, at, second)
+            token_line(alloc, at, of)
         }
-        "size" if second => GraphFault::second_size_line(alloc),
-        "size" => GraphFault::size_line(alloc),
+        "size" => match of {
+            Input::First => GraphFault::size_line(alloc),
+            Input::Second => GraphFault::second_size_line(alloc),
+        },
         _ => return None,
     };
     told(alloc, &line.ok()?)

@@ -12,12 +12,11 @@ mod projections;
 mod separations;
 mod target_sets;
 
-use anyhow::{Context, Result};
-use case_rows::text;
+use anyhow::Result;
+use case_rows::{print_rows, text};
 use serde_json::Value;
 use std::alloc::Global;
 use std::fs;
-use std::io::Write;
 
 /// What the library answers in this row.
 fn answer(alloc: Global, row: &Value) -> Option<String> {
@@ -48,26 +47,7 @@ fn answer(alloc: Global, row: &Value) -> Option<String> {
     }
 }
 
-/// Prints the row's name and its answer.
-fn show<W: Write>(alloc: Global, row: &Value, print: &mut W) -> Result<()> {
-    print.write_all(b"== ")?;
-    print.write_all(text(row, "case").as_bytes())?;
-    print.write_all(b"\n")?;
-    match answer(alloc, row) {
-        Some(answer) => print.write_all(answer.as_bytes())?,
-        None => print.write_all(b"no answer\n")?,
-    }
-    Ok(())
-}
-
 fn main(rt: HostRuntime) -> Result<()> {
-    let alloc = rt.alloc();
-    let text = fs::read_to_string(&rt, "cases.json")?;
-    let rows = Value::from_str(alloc, text.as_str())?;
-    let mut print = rt.stdout();
-    for row in rows.as_array().context("a list of rows")? {
-        show(alloc, row, &mut print)?;
-    }
-    print.flush()?;
-    Ok(())
+    let rows = fs::read_to_string(&rt, "cases.json")?;
+    print_rows(rt.alloc(), rows.as_str(), answer, &mut rt.stdout())
 }

@@ -1,5 +1,5 @@
-use crate::graph_texts::told;
-use case_rows::{Members, flag, names, text, texts};
+use crate::graph_texts::{Input, input_of, told};
+use case_rows::{Members, names, text, texts};
 use mixed_graph::{Names, Text};
 use serde_json::Value;
 use std::alloc::Global;
@@ -25,11 +25,10 @@ fn sets_text(alloc: Global, sets: EffectSets) -> Option<String> {
 }
 
 /// The line of a fault.
-fn line_text(alloc: Global, fault: &TargetFault, second: bool) -> Option<String> {
-    let line = if second {
-        fault.second_line(alloc)
-    } else {
-        fault.line(alloc)
+fn line_text(alloc: Global, fault: &TargetFault, of: Input) -> Option<String> {
+    let line = match of {
+        Input::First => fault.line(alloc),
+        Input::Second => fault.second_line(alloc),
     };
     told(alloc, &line.ok()?)
 }
@@ -38,7 +37,7 @@ fn line_text(alloc: Global, fault: &TargetFault, second: bool) -> Option<String>
 fn effect_text(alloc: Global, all: &Names, observed: &Names, lists: &Lists) -> Option<String> {
     match find_effect_sets(alloc, all, observed, &lists.x, &lists.y) {
         Ok(sets) => sets_text(alloc, sets),
-        Err(fault) => line_text(alloc, &fault, false),
+        Err(fault) => line_text(alloc, &fault, Input::First),
     }
 }
 
@@ -78,5 +77,5 @@ fn fault(alloc: Global, row: &Value) -> Option<TargetFault> {
 /// The line of a fault of listed names.
 pub(crate) fn target_line_row(alloc: Global, row: &Value) -> Option<String> {
     let fault = fault(alloc, row)?;
-    line_text(alloc, &fault, flag(row, "second"))
+    line_text(alloc, &fault, input_of(row))
 }

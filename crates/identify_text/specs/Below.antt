@@ -1,4 +1,4 @@
--- What the texts of a hedge and its models need: that all vertices in them are below n, the number of names.
+-- What the texts of a target, a hedge and its models need: that all vertices in them are below n, the number of names.
 use Rattle.std.specs.Prelude.{◌≡◌, ℕ, ◌<◌, Option, Some, None, All, IsTrue, length, slice_index}
 use Rattle.mixed_graph.specs.Bits.{has}
 use Rattle.mixed_graph.specs.Sets.{Within}
@@ -8,7 +8,14 @@ use Rattle.finite_models.specs.declared.model.Mechanism.{Mechanism}
 use Rattle.finite_models.specs.declared.model.Mechanism.TheVariants.{Table, Parity}
 use Rattle.finite_models.specs.declared.model.Model.{Model}
 use Rattle.hedge.specs.declared.hedge.Hedge.{Hedge}
+use Rattle.prob_expr.specs.declared.expr.Target.{Target}
 use Rattle.counter_models.specs.declared.counter_pair.CounterPair.{CounterPair}
+
+-- the target's sets are below n
+pub record IsTargetBelow (n : ℕ) (t : Target) : Type 0 where
+  pub what : Within n (has t.y.bits)
+  pub doing : Within n (has t.x.bits)
+  pub given : Within n (has t.given.bits)
 
 -- the hedge's sets are below n, and so are the choices of members of big and both ends of each link
 pub record IsHedgeBelow (n : ℕ) (h : Hedge) : Type 0 where

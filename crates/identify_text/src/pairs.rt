@@ -2,7 +2,7 @@ ghost use Rattle.std.specs.Prelude.{◌≡◌, ◌+◌, ◌++◌, decimal, lengt
 ghost use Rattle.mixed_graph.specs.Bits.{has};
 ghost use Rattle.mixed_graph.specs.Sets.{Within};
 ghost use Rattle.prob_expr.specs.View.{target_view};
-ghost use Rattle.identify_text.specs.Below.{IsHedgeBelow, ArePairBelow};
+ghost use Rattle.identify_text.specs.Below.{IsTargetBelow, IsHedgeBelow, ArePairBelow};
 ghost use Rattle.identify_text.specs.PairLines.{event_line, hedge_answer, joint_answer};
 
 use crate::bits::{Bit, add_bits, push_sum};
@@ -97,9 +97,7 @@ pub fn joint_answer(
     pair: &CounterPair,
     names: &Names,
 ) -> Result<Vec<u8>, AllocError>
-    requires what { Within (length names.now) (has target.now.y.bits) }
-    requires doing { Within (length names.now) (has target.now.x.bits) }
-    requires given { Within (length names.now) (has target.now.given.bits) }
+    requires target { IsTargetBelow (length names.now) target.now }
     requires x { Within (length names.now) (has x.bits) }
     requires y { Within (length names.now) (has y.bits) }
     requires hedge { IsHedgeBelow (length names.now) h.now }

@@ -10,11 +10,11 @@ use mixed_graph::Names;
 use std::alloc::{AllocError, Global};
 
 /// Appends ` + ` and the hedge bit of v, where its part reads it.
-fn add_own(terms: &mut Vec<u8>, names: &Names, own: bool, v: u8) -> Result<(), AllocError>
+fn add_own(terms: &mut Vec<u8>, names: &Names, part: &Part, v: u8) -> Result<(), AllocError>
     requires { v < length names.now }
-    ensures { OnOk result (terms.new.items ≡ terms.old.items ++ added (if own then bit_text names.now Hedge v ∷ [] else [])) }
+    ensures { OnOk result (terms.new.items ≡ terms.old.items ++ added (if part.now.own_hedge then bit_text names.now Hedge v ∷ [] else [])) }
 {
-    if !own {
+    if !part.own_hedge {
         return Ok(());
     }
     terms.extend_from_slice(b" + ")?;
@@ -53,7 +53,7 @@ fn push_terms(
     ensures { OnOk result (out.new.items ≡ out.old.items ++ sum_text (terms_of names.now v part.now)) }
 {
     let mut terms = Vec::new(alloc);
-    add_own(&mut terms, names, part.own_hedge, v)?;
+    add_own(&mut terms, names, part, v)?;
     add_bits(&mut terms, names, Bit::Hedge, part.hedge_of)?;
     add_bits(&mut terms, names, Bit::Carried, part.carried_of)?;
     add_causes(alloc, &mut terms, part.causes.as_slice())?;

@@ -4,7 +4,10 @@ use Rattle.std.proofs.lemmas.Bool.{cases_Bool, cases_order, or_cases}
 use mathlib.Core.Path.{fun_ext}
 use Rattle.mixed_graph.specs.Graphs.{MixedGraph, IsMixedGraph}
 use Rattle.markov_equivalence.specs.Skeletons.{HasArrowsAlone, is_adjacent, is_unshielded_collider, HaveSameSkeleton}
-use Rattle.markov_equivalence.specs.Laters.{IsAfter, AreParentsOfLater, one_of}
+use Rattle.markov_equivalence.specs.Laters.{IsAfter, AreParentsOfLater}
+use Rattle.markov_equivalence.specs.Sides.{one_of, other_side, side_without}
+use Rattle.markov_equivalence.specs.declared.sides.Side.{Side}
+use Rattle.markov_equivalence.specs.declared.sides.Side.TheVariants.{First, Second}
 use Rattle.markov_equivalence.specs.Comparisons.{SeparatesInOne}
 use Rattle.markov_equivalence.proofs.ParentsSeparate.{differs, differs_back, edge_way, collider_way}
 use Rattle.markov_equivalence.proofs.Places.{place_in, rises, later_place}
@@ -77,21 +80,34 @@ other_of : (x y : Bool) → x ≢ y → (y ≡ true → x ≡ false) × (y ≡ f
 other_of true y d = (λ e. absurd (d (sym e)), λ e. refl)
 other_of false y d = (λ e. refl, λ e. absurd (d (sym e)))
 
+in_second : (b : Bool) → First ≡ side_without b → b ≡ true
+in_second true e = refl
+in_second false e = cc e
+
+in_first : (b : Bool) → Second ≡ side_without b → b ≡ false
+in_first true e = cc e
+in_first false e = refl
+
 module _ (g h : MixedGraph) (gv : IsMixedGraph g) (hv : IsMixedGraph h) (gn : HasArrowsAlone g) (hn : HasArrowsAlone h) (a b : ℕ) (s : ℕ → Bool) where
   -- an edge that one graph has alone: the first graph is named where the second has it
-  pub edge_shown : (first : Bool) → is_adjacent g a b ≢ is_adjacent h a b → first ≡ is_adjacent h a b → AreParentsOfLater (one_of g h first) a b s → SeparatesInOne (one_of g h first) (one_of h g first) a b s
-  edge_shown true other named given = shown_edge g h gv gn a b s given hv ((other_of (is_adjacent g a b) (is_adjacent h a b) other).0 (sym named)) (sym named)
-  edge_shown false other named given = shown_edge h g hv hn a b s given gv (sym named) ((other_of (is_adjacent g a b) (is_adjacent h a b) other).1 (sym named))
+  pub edge_shown : (side : Side) → is_adjacent g a b ≢ is_adjacent h a b → side ≡ side_without (is_adjacent h a b) → AreParentsOfLater (one_of g h side) a b s
+      → SeparatesInOne (one_of g h side) (one_of g h (other_side side)) a b s
+  edge_shown First other named given =
+      let e = in_second (is_adjacent h a b) named in shown_edge g h gv gn a b s given hv ((other_of (is_adjacent g a b) (is_adjacent h a b) other).0 e) e
+  edge_shown Second other named given =
+      let e = in_first (is_adjacent h a b) named in shown_edge h g hv hn a b s given gv e ((other_of (is_adjacent g a b) (is_adjacent h a b) other).1 e)
 
   -- an unshielded collider that one graph has alone: the first graph is named where the second has it
-  pub collider_shown : HaveSameSkeleton g h → (m : ℕ) (first : Bool) → is_unshielded_collider g a m b ≢ is_unshielded_collider h a m b → first ≡ is_unshielded_collider h a m b →
-      AreParentsOfLater (one_of g h first) a b s → SeparatesInOne (one_of g h first) (one_of h g first) a b s
-  collider_shown same m true other named given =
+  pub collider_shown : HaveSameSkeleton g h → (m : ℕ) (side : Side) → is_unshielded_collider g a m b ≢ is_unshielded_collider h a m b → side ≡ side_without (is_unshielded_collider h a m b)
+      → AreParentsOfLater (one_of g h side) a b s → SeparatesInOne (one_of g h side) (one_of g h (other_side side)) a b s
+  collider_shown same m First other named given =
       let pairs = same_pairs g h gv hv same in
-      let apart : is_adjacent g a b ≡ false = pairs a b ∙ grind (arith, named) in
-      shown_collider g h gv gn a b s given hv apart (λ u v. sym (pairs u v)) m (sym named) ((other_of (is_unshielded_collider g a m b) (is_unshielded_collider h a m b) other).0 (sym named))
-  collider_shown same m false other named given =
+      let e = in_second (is_unshielded_collider h a m b) named in
+      let apart : is_adjacent g a b ≡ false = pairs a b ∙ grind (arith, e) in
+      shown_collider g h gv gn a b s given hv apart (λ u v. sym (pairs u v)) m e ((other_of (is_unshielded_collider g a m b) (is_unshielded_collider h a m b) other).0 e)
+  collider_shown same m Second other named given =
       let pairs = same_pairs g h gv hv same in
-      let e = (other_of (is_unshielded_collider g a m b) (is_unshielded_collider h a m b) other).1 (sym named) in
+      let n = in_first (is_unshielded_collider h a m b) named in
+      let e = (other_of (is_unshielded_collider g a m b) (is_unshielded_collider h a m b) other).1 n in
       let apart : is_adjacent h a b ≡ false = sym (pairs a b) ∙ grind (arith, e) in
-      shown_collider h g hv hn a b s given gv apart pairs m e (sym named)
+      shown_collider h g hv hn a b s given gv apart pairs m e n

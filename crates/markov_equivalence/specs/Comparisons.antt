@@ -6,7 +6,8 @@ use Rattle.mixed_graph.specs.Sets.{Within}
 use Rattle.m_separation.specs.Walks.{IsSeparated, HasOpenWalk}
 use Rattle.markov_equivalence.specs.Skeletons.{is_adjacent, is_unshielded_collider, HaveSameSkeleton, AreEquivalent}
 use Rattle.markov_equivalence.specs.Firsts.{IsFirstEdge, IsFirstCollider}
-use Rattle.markov_equivalence.specs.Laters.{AreParentsOfLater, one_of}
+use Rattle.markov_equivalence.specs.Laters.{AreParentsOfLater}
+use Rattle.markov_equivalence.specs.Sides.{one_of, other_side}
 use Rattle.markov_equivalence.specs.declared.comparison.Difference.{Difference}
 use Rattle.markov_equivalence.specs.declared.comparison.Compared.{Compared}
 use Rattle.markov_equivalence.specs.declared.comparison.Compared.TheVariants.{Same, Edge, Collider}
@@ -14,15 +15,15 @@ use Rattle.markov_equivalence.specs.declared.comparison.Compared.TheVariants.{Sa
 -- the first edge that one graph has alone; the graph named is the one without it
 pub record IsEdgeDifference (g h : MixedGraph) (d : Difference) : Type 0 where
   pub pair : IsFirstEdge g h d.a d.b
-  pub without : is_adjacent (one_of g h d.first) d.a d.b ≡ false
-  pub given : AreParentsOfLater (one_of g h d.first) d.a d.b (has d.given.bits)
+  pub without : is_adjacent (one_of g h d.holds_in) d.a d.b ≡ false
+  pub given : AreParentsOfLater (one_of g h d.holds_in) d.a d.b (has d.given.bits)
 
 -- the skeletons agree; the first unshielded collider that one graph has alone; the graph named is the one in which m is none
 pub record IsColliderDifference (g h : MixedGraph) (d : Difference) (m : ℕ) : Type 0 where
   pub skeleton : HaveSameSkeleton g h
   pub triple : IsFirstCollider g h d.a d.b m
-  pub without : is_unshielded_collider (one_of g h d.first) d.a m d.b ≡ false
-  pub given : AreParentsOfLater (one_of g h d.first) d.a d.b (has d.given.bits)
+  pub without : is_unshielded_collider (one_of g h d.holds_in) d.a m d.b ≡ false
+  pub given : AreParentsOfLater (one_of g h d.holds_in) d.a d.b (has d.given.bits)
 
 -- the answer of the comparison of g and h
 abbrev pub IsComparison : MixedGraph → MixedGraph → Compared → Type 0
@@ -39,7 +40,7 @@ pub record SeparatesInOne (k g : MixedGraph) (a b : ℕ) (given : ℕ → Bool) 
 
 -- the separation of a difference holds in the graph named and not in the other
 abbrev pub IsShown : MixedGraph → MixedGraph → Difference → Type 0
-IsShown g h d = SeparatesInOne (one_of g h d.first) (one_of h g d.first) d.a d.b (has d.given.bits)
+IsShown g h d = SeparatesInOne (one_of g h d.holds_in) (one_of g h (other_side d.holds_in)) d.a d.b (has d.given.bits)
 
 -- the same of an answer that is a difference
 abbrev pub ShowsDifference : MixedGraph → MixedGraph → Compared → Type 0

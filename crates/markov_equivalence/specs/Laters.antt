@@ -1,5 +1,5 @@
 -- The later of two vertices in the order of a graph.
-use Rattle.std.specs.Prelude.{ℕ, ◌≡◌, ◌<◌, Bool, true, false, List, ◌⊎◌, slice_index}
+use Rattle.std.specs.Prelude.{ℕ, ◌≡◌, ◌<◌, Bool, List, ◌⊎◌, slice_index}
 use Rattle.mixed_graph.specs.Graphs.{MixedGraph}
 use Rattle.mixed_graph.specs.Orders.{IsOrder}
 
@@ -18,8 +18,3 @@ pub record IsAfter (k : MixedGraph) (a b : ℕ) : Type 0 where
 -- the set is that of the parents of the one of a and b that stands after the other
 abbrev pub AreParentsOfLater : MixedGraph → ℕ → ℕ → (ℕ → Bool) → Type 0
 AreParentsOfLater k a b s = (IsAfter k a b × ((v : ℕ) → s v ≡ k.arrow v b)) ⊎ (IsAfter k b a × ((v : ℕ) → s v ≡ k.arrow v a))
-
--- the first of two graphs, or the second
-abbrev pub one_of : MixedGraph → MixedGraph → Bool → MixedGraph
-one_of g h true = g
-one_of g h false = h

@@ -2,3 +2,4 @@ pub mod Comparisons
 pub mod Firsts
 pub mod Laters
 pub mod Skeletons
+pub mod Sides

@@ -2,10 +2,12 @@ ghost use Rattle.std.specs.Prelude.{◌≡◌, ◌≢◌, ℕ, ◌<◌};
 ghost use Rattle.mixed_graph.specs.Bits.{has};
 ghost use Rattle.mixed_graph.specs.Shown.{graph_of};
 ghost use Rattle.markov_equivalence.specs.Skeletons.{HasArrowsAlone};
-ghost use Rattle.markov_equivalence.specs.Laters.{AreParentsOfLater, one_of};
+ghost use Rattle.markov_equivalence.specs.Laters.{AreParentsOfLater};
+ghost use Rattle.markov_equivalence.specs.Sides.{one_of};
 ghost use Rattle.markov_equivalence.specs.Comparisons.{IsComparison, ShowsDifference, NamesVertices};
 
 use crate::firsts::{first_collider, first_edge};
+use crate::sides::{Side, side_without};
 use crate::skeleton::{colliders, neighbours};
 use mixed_graph::{Graph, VSet};
 
@@ -18,8 +20,8 @@ pub struct Difference {
     pub b: u8,
     /// The set that separates them: the parents of the one that is later in the order of that graph.
     pub given: VSet,
-    /// Whether the separation holds in the first graph; else it holds in the second.
-    pub first: bool,
+    /// The graph in which the separation holds.
+    pub holds_in: Side,
 }
 
 /// The answer of a comparison.
@@ -52,23 +54,27 @@ fn parents_of_later(k: &Graph, a: u8, b: u8) -> VSet
     unreachable!()
 }
 
-/// The difference that the parents of the later of a and b show, in the first graph or in the second.
-fn separation(g: &Graph, h: &Graph, a: u8, b: u8, first: bool) -> Difference
+/// The difference that the parents of the later of a and b in the order of one of the graphs show.
+fn separation(g: &Graph, h: &Graph, a: u8, b: u8, holds_in: Side) -> Difference
     requires size { g.now.n ≡ h.now.n }
     requires a { a < g.now.n }
     requires b { b < g.now.n }
     requires differ { a ≢ b }
     ensures a { result.a ≡ a }
     ensures b { result.b ≡ b }
-    ensures first { result.first ≡ first }
-    ensures given { AreParentsOfLater (one_of (graph_of g.now) (graph_of h.now) first) a b (has result.given.bits) }
+    ensures side { result.holds_in ≡ holds_in }
+    ensures given { AreParentsOfLater (one_of (graph_of g.now) (graph_of h.now) holds_in) a b (has result.given.bits) }
 {
-    let given = if first {
-        parents_of_later(g, a, b)
-    } else {
-        parents_of_later(h, a, b)
+    let given = match holds_in {
+        Side::First => parents_of_later(g, a, b),
+        Side::Second => parents_of_later(h, a, b),
     };
-    Difference { a, b, given, first }
+    Difference {
+        a,
+        b,
+        given,
+        holds_in,
+    }
 }
 
 /// Compares the skeletons, and then the unshielded colliders (Verma and Pearl).
@@ -83,12 +89,12 @@ pub fn compare(g: &Graph, h: &Graph) -> Compared
     ensures vertices { NamesVertices g.now.n result }
 {
     if let Some(p) = first_edge(g, h) {
-        let first = neighbours(h, p.a).has(p.b);
-        return Compared::Edge(separation(g, h, p.a, p.b, first));
+        let side = side_without(neighbours(h, p.a).has(p.b));
+        return Compared::Edge(separation(g, h, p.a, p.b, side));
     }
     if let Some(t) = first_collider(g, h) {
-        let first = colliders(h, t.a, t.b).has(t.m);
-        return Compared::Collider(separation(g, h, t.a, t.b, first), t.m);
+        let side = side_without(colliders(h, t.a, t.b).has(t.m));
+        return Compared::Collider(separation(g, h, t.a, t.b, side), t.m);
     }
     Compared::Same
 }

@@ -5,6 +5,8 @@
 
 mod comparison;
 mod firsts;
+mod sides;
 mod skeleton;
 
 pub use comparison::{Compared, Difference, compare};
+pub use sides::Side;

@@ -1,3 +1,3 @@
 pub mod Meetings
-pub mod MinimalCuts
+pub mod MinimalSeparators
 pub mod Separations

@@ -1,4 +1,4 @@
--- Separation inside the ancestors is a vertex cut of an undirected graph.
+-- What separates inside the ancestors is a separator of an undirected graph.
 use Rattle.std.proofs.Common.{ℕ, ◌≡◌, Bool, true, false, refl, ◌||◌, ◌&&◌, ◌⊎◌, inl, inr, List, [], ◌∷◌, arith, ◌↔◌, IsTrue}
 use Rattle.mixed_graph.specs.Graphs.{MixedGraph, IsMixedGraph, IsDirectedPath, IsAncestor}
 use Rattle.mixed_graph.specs.Sets.{Within}
@@ -10,9 +10,9 @@ use Rattle.finite_models.proofs.Bools.{and_first, and_second, not_both, either}
 use Rattle.std.proofs.lemmas.Bool.{and_from, false_from_ne_true, or_left, or_right}
 use Rattle.do_rules.proofs.Reach.{Linked, here, by_child, by_parent, reach}
 use Rattle.do_rules.proofs.Reach as linked
-use Rattle.vertex_cuts.specs.Cuts.{Reached, start, step, IsCut, IsPart}
+use Rattle.vertex_separators.specs.Separators.{Reached, start, step, IsSeparator, IsPart}
 use Rattle.minimal_sets.specs.Moral.{Heads, by_arrow, by_both, on, Meets, heads, parent, beyond, IsNear}
-use Rattle.vertex_cuts.proofs.CutLaws.{outside, apart}
+use Rattle.vertex_separators.proofs.SeparatorLaws.{outside, apart}
 
 module _ (g : MixedGraph) (is_graph : IsMixedGraph g) (X Y : ℕ → Bool) (xl : Within g.vertices X) (yl : Within g.vertices Y) (A : ℕ → Bool) (above : (v : ℕ) → IsTrue (A v) ↔ IsAncestor g (λ v. X v || Y v) v) (near : ℕ → ℕ → Bool) (is_near : IsNear g A near) where
   in_x : (v : ℕ) → X v ≡ true → A v ≡ true
@@ -77,7 +77,7 @@ module _ (g : MixedGraph) (is_graph : IsMixedGraph g) (X Y : ℕ → Bool) (xl :
       in_next v Into w j e o = in_parent w v j e
       in_next v Both w j e o = absurd (grind (arith, o))
 
-      -- ---- a cut separates
+      -- ---- a separator of the undirected graph separates in the mixed one
       -- where a walk from x has come: to v itself, or to v with an arrowhead from a vertex that is reached
       abbrev State : Bool → ℕ → Type 0
       State false v = Reached near X Z v
@@ -107,11 +107,11 @@ module _ (g : MixedGraph) (is_graph : IsMixedGraph g) (X Y : ℕ → Bool) (xl :
           next Into j i q a' = step s.1 (is_near.complete s.0 t.to (beyond s.2 a' s.3 j)) (tail_outside t.to r q o)
           next Both j i q a' = (s.0, s.1, s.2, on s.3 j a')
 
-      pub separated_from_cut : IsCut near X Y Z → IsSeparated g X Y Z
-      separated_from_cut c v r k = c (last v r) k.ends
+      pub separated_by_separator : IsSeparator near X Y Z → IsSeparated g X Y Z
+      separated_by_separator c v r k = c (last v r) k.ends
           (follow false v r k.walk (passed_from_start g Z v r k.first_outside k.passed) k.ends k.last_outside (in_x v k.begins) (start k.begins k.first_outside))
 
-    -- ---- separation is a cut
+    -- ---- what separates in the mixed graph is a separator of the undirected one
     module _ (x_out : (v : ℕ) → X v ≡ true → Z v ≡ false) (y_out : (v : ℕ) → Y v ≡ true → Z v ≡ false) where
       linked_head : (u v : ℕ) → Linked g A Z Y u → Z u ≡ false → Heads g A u v → Linked g A Z Y v
       linked_head u v l o (by_arrow a e) = linked.by_parent e a o l
@@ -127,8 +127,8 @@ module _ (g : MixedGraph) (is_graph : IsMixedGraph g) (X Y : ℕ → Bool) (xl :
       linked_from v (start y o) = linked.here y
       linked_from v (step {u = u} r a o) = linked_meets u v (linked_from u r) (outside near Y Z u r) o (is_near.sound u v a)
 
-      pub cut_from_separated : IsSeparated g X Y Z → IsCut near X Y Z
-      cut_from_separated sep v y r = apart near turn X Y Z (λ t x k. opened t x (linked_from t k)) v r (start y (y_out v y))
+      pub separator_from_separated : IsSeparated g X Y Z → IsSeparator near X Y Z
+      separator_from_separated sep v y r = apart near turn X Y Z (λ t x k. opened t x (linked_from t k)) v r (start y (y_out v y))
         where
           opened : (t : ℕ) → X t ≡ true → Linked g A Z Y t → ⊥
           opened t x l = let c = reach g X Y Z A is_graph xl wide x_out y_out sep t l in

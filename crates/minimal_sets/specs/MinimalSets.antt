@@ -3,7 +3,7 @@ use Rattle.std.specs.Prelude.{ℕ, Bool}
 use Rattle.mixed_graph.specs.Graphs.{MixedGraph}
 use Rattle.mixed_graph.specs.Sets.{Within, Apart}
 use Rattle.adjustment.specs.Criteria.{IsAdmissible}
-use Rattle.vertex_cuts.specs.Cuts.{IsPart}
+use Rattle.vertex_separators.specs.Separators.{IsPart}
 
 -- z is an admissible set of vertices outside x and y, and no proper part of it is admissible
 pub record IsMinimalSet (g : MixedGraph) (x y z : ℕ → Bool) : Type 0 where

@@ -7,4 +7,4 @@ mod moral;
 mod sets;
 
 pub use sets::list;
-pub use vertex_cuts::{Listing, Steps};
+pub use vertex_separators::{Listing, Steps};

@@ -2,10 +2,10 @@ ghost use Rattle.std.specs.Prelude.{ℕ, ◌<◌, ◌↔◌, IsTrue};
 ghost use Rattle.mixed_graph.specs.Bits.{has};
 ghost use Rattle.mixed_graph.specs.Shown.{graph_of};
 ghost use Rattle.minimal_sets.specs.Moral.{Meets, IsNear};
-ghost use Rattle.vertex_cuts.specs.Rows.{joins};
+ghost use Rattle.vertex_separators.specs.Rows.{joins};
 
 use mixed_graph::{Graph, Rows, VSet, reached};
-use vertex_cuts::beside;
+use vertex_separators::beside;
 
 /// The vertices to which a walk inside a set leads from u whose inner vertices are all colliders.
 fn meeting(g: &Graph, within: VSet, u: u8) -> VSet

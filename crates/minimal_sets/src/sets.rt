@@ -4,7 +4,7 @@ ghost use Rattle.mixed_graph.specs.Sets.{Within, Apart};
 ghost use Rattle.mixed_graph.specs.Shown.{graph_of};
 ghost use Rattle.prob_expr.specs.Values.{EqualsEffect};
 ghost use Rattle.adjustment.specs.Formulas.{adjustment_formula, effect_on};
-ghost use Rattle.vertex_cuts.specs.Listings.{IsListingOf};
+ghost use Rattle.vertex_separators.specs.Listings.{IsListingOf};
 ghost use Rattle.minimal_sets.specs.MinimalSets.{IsMinimalSet};
 
 use crate::moral::moral_rows;
@@ -12,12 +12,12 @@ use mixed_graph::{Graph, VSet};
 use proper_paths::{back_door_graph, proper_causal};
 use std::alloc::{AllocError, Global};
 use std::sync::ledger::Ledger;
-use vertex_cuts::{CutGraph, Listing, Steps, list_cuts};
+use vertex_separators::{Listing, SeparationProblem, Steps, list_separators};
 
 /// The minimal admissible sets for the effect of x on y, in ascending order of their lists of
 /// members: all of them, or `most` where there are more.
 ///
-/// `steps` counts the closest cuts computed: at most n for each set listed, and one
+/// `steps` counts the closest separators computed: at most n for each set listed, and one
 /// (van der Zander, Liskiewicz and Textor).
 pub fn list<L: Ledger>(
     alloc: Global,
@@ -35,15 +35,15 @@ pub fn list<L: Ledger>(
     ensures cost { IfOk result (λ l. steps.new ≤ steps.old + 1 + g.now.n * length l.sets.items) }
     ensures bound { IfOk result (λ l. steps.new ≤ steps.old + ((2 * g.now.n + 1) * (length l.sets.items + 1) + 1)) }
 {
-    let excluded = g.descendants(proper_causal(g, x, y));
+    let forbidden = g.descendants(proper_causal(g, x, y));
     let h = back_door_graph(g, x, y);
     let within = h.ancestors(x.union(y));
-    let p = CutGraph {
+    let p = SeparationProblem {
         n: g.n as u8,
         near: moral_rows(&h, within),
-        allowed: within.difference(x).difference(y).difference(excluded),
+        allowed: within.difference(x).difference(y).difference(forbidden),
         x,
         y,
     };
-    list_cuts(alloc, &p, most, steps)
+    list_separators(alloc, &p, most, steps)
 }

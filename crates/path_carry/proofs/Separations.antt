@@ -6,7 +6,9 @@ use Rattle.m_separation.specs.declared.marks.Mark.TheVariants.{Out, Into, Both}
 use Rattle.m_separation.specs.Walks.{Step, last, IsJoined, IsWalk, IsOpenWalk, HasOpenWalk, IsSeparated}
 use Rattle.markov_equivalence.specs.Skeletons.{HasArrowsAlone, AreEquivalent}
 use Rattle.markov_equivalence.specs.Comparisons.{SeparatesInOne}
-use Rattle.markov_equivalence.specs.Laters.{one_of}
+use Rattle.markov_equivalence.specs.Sides.{one_of, other_side}
+use Rattle.markov_equivalence.specs.declared.sides.Side.{Side}
+use Rattle.markov_equivalence.specs.declared.sides.Side.TheVariants.{First, Second}
 use Rattle.markov_equivalence.proofs.Ways.{to_way, from_way, passed_first, passed_rest}
 use Rattle.path_carry.specs.Separations.{HaveSameSeparations}
 use Rattle.path_carry.proofs.Carrying.{agrees, flipped, carried}
@@ -46,9 +48,9 @@ pub flipped_separations : (g h : MixedGraph) → HaveSameSeparations g h → Hav
 flipped_separations g h same x y w = ((same x y w).1, (same x y w).0)
 
 -- the separation of a difference holds in one graph alone
-pub differs : (g h : MixedGraph) (first : Bool) (a b : ℕ) (given : ℕ → Bool) → SeparatesInOne (one_of g h first) (one_of h g first) a b given → HaveSameSeparations g h → ⊥
-differs g h true a b given s same = differ_one g h a b given s same
-differs g h false a b given s same = differ_one h g a b given s (flipped_separations g h same)
+pub differs : (g h : MixedGraph) (side : Side) (a b : ℕ) (given : ℕ → Bool) → SeparatesInOne (one_of g h side) (one_of g h (other_side side)) a b given → HaveSameSeparations g h → ⊥
+differs g h First a b given s same = differ_one g h a b given s same
+differs g h Second a b given s same = differ_one h g a b given s (flipped_separations g h same)
 
 -- where a walk from a vertex ends, there is a vertex
 pub last_below : (g : MixedGraph) → IsMixedGraph g → (v : ℕ) (r : List Step) → v < g.vertices → IsWalk g v r → last v r < g.vertices

@@ -1,11 +1,11 @@
 -- The value of a set is read again as that set.
-use Rattle.std.proofs.Common.{◌≡◌, ℕ, zero, suc, ◌+◌, ◌*◌, ◌%◌, ◌^◌, ◌<◌, ◌≤◌, Bool, true, false, cond, eqb, ◌||◌, ◌&&◌, List, [], ◌∷◌, ◌++◌, length, map, Result, Ok, Err, bit_and, bit_or, refl, sym, ap, ◌∙◌, append-nil, lit<, inl, inr, arith, eqb-true, ltb-true, lt-ltb}
+use Rattle.std.proofs.Common.{◌≡◌, ℕ, zero, suc, ◌+◌, ◌*◌, ◌%◌, ◌^◌, ◌<◌, ◌≤◌, Bool, true, false, cond, eqb, ◌||◌, ◌&&◌, List, [], ◌∷◌, ◌++◌, length, map, Result, Ok, Err, bit_and, refl, sym, ap, ◌∙◌, append-nil, lit<, inl, inr, arith, eqb-true, ltb-true, lt-ltb}
 use Rattle.std.proofs.lemmas.Bool.{cases_lt, false≢true}
 use Rattle.std.specs.Int.{bit_at}
 use Rattle.std.proofs.lemmas.List.{map-append}
 use Rattle.std.proofs.lemmas.Nat.{or_disjoint, mod-pow-add, pow_pos}
-use Rattle.std.proofs.lemmas.Nat.Bits.{and_pow, bit_at-lt}
-use Rattle.std.proofs.Math.Nat.{div-eq_of_lt, mod-eq_of_lt, pow-le-pow_right}
+use Rattle.std.proofs.lemmas.Nat.Bits.{and_pow, bit_at-lt, bit_at_above}
+use Rattle.std.proofs.Math.Nat.{mod-eq_of_lt, pow-le-pow_right}
 use Rattle.mixed_graph.specs.Bits.{has, members_below}
 use Rattle.mixed_graph.specs.Names.{AreNames, name_of}
 use Rattle.mixed_graph.proofs.Masks.{has-zero, has-or, has-and}
@@ -38,24 +38,17 @@ low_out set k h =
 low_lt : (set k : ℕ) → set % 2 ^ k < 2 ^ k
 low_lt set k = let p = pow_pos k in omega arith
 
-no_bit : (n k : ℕ) → n < 2 ^ k → bit_at n k ≡ 0
-no_bit n k lt = ap (λ q. q % 2) (div-eq_of_lt lt)
-
-has_not : (n k : ℕ) → n < 2 ^ k → has n k ≡ false
-unfolding has
-has_not n k lt = ap (λ b. eqb b 1) (no_bit n k lt)
-
-or_is : (n k : ℕ) → n < 2 ^ k → bit_or n (2 ^ k) ≡ n + 2 ^ k
-or_is n k lt = or_disjoint n (2 ^ k) (and_pow n k ∙ ap (λ b. b * 2 ^ k) (no_bit n k lt) ∙ omega arith)
-
 low_in : (set k : ℕ) → has set k ≡ true → set % 2 ^ (k + 1) ≡ join (set % 2 ^ k) (one k)
 unfolding has
 low_in set k h =
-    more_low set k ∙ ap (λ b. b * 2 ^ k + set % 2 ^ k) (eqb-true _ _ h) ∙ (omega (arith, or_is (set % 2 ^ k) k (low_lt set k)))
+    let low = set % 2 ^ k in
+    let apart : bit_and low (2 ^ k) ≡ 0 = and_pow low k ∙ ap (λ b. b * 2 ^ k) (bit_at_above low k k (low_lt set k) (omega arith)) ∙ omega arith in
+    more_low set k ∙ ap (λ b. b * 2 ^ k + low) (eqb-true _ _ h) ∙ omega (arith, or_disjoint low (2 ^ k) apart)
 
 -- a member of a set below n is below n
 pub not_above : (n set k : ℕ) → set < 2 ^ n → n ≤ k → has set k ≡ false
-not_above n set k lt le = let p : 2 ^ n ≤ 2 ^ k = pow-le-pow_right (lit< tt) {j = k} le in has_not set k (omega arith)
+unfolding has
+not_above n set k lt le = ap (λ b. eqb b 1) (bit_at_above set n k lt le)
 
 apart_bits : (a b : Bool) → (a && b) ≡ false → b ≡ true → a ≡ false
 apart_bits true true h e = h
@@ -83,7 +76,7 @@ before-append (t ∷ ts) us rest = ap (item (string t)) (before-append ts us res
 
 open_place : (barred set k : ℕ) → is_apart barred set ≡ true → has set k ≡ true → has (join barred (set % 2 ^ k)) k ≡ false
 open_place barred set k apart h =
-    has-or barred (set % 2 ^ k) k ∙ ap (λ b. b || has (set % 2 ^ k) k) (apart_at barred set k apart h) ∙ has_not (set % 2 ^ k) k (low_lt set k)
+    has-or barred (set % 2 ^ k) k ∙ ap (λ b. b || has (set % 2 ^ k) k) (apart_at barred set k apart h) ∙ not_above k (set % 2 ^ k) k (low_lt set k) (omega arith)
 
 member_read : (names : List (List ℕ)) (barred count low k : ℕ) (rest : Items) → AreNames names → count < 64 → k < length names → has (join barred low) k ≡ false
     → more_of_set names barred count low (item (string (name_of names k)) rest) ≡ more_of_set names barred (count + 1) (join low (one k)) rest

@@ -22,6 +22,6 @@ mod writing;
 
 pub use fault::ValueFault;
 pub use laws::written_is_read;
-pub use lists::{read_filled_set, read_set};
+pub use lists::{read_filled_set, read_set, read_vertex};
 pub use reading::read_step;
-pub use writing::{set_value, step_value};
+pub use writing::{name_value, set_value, step_value};

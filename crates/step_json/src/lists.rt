@@ -10,8 +10,8 @@ use mixed_graph::{Names, Order, Text, VSet};
 use serde_json::Value;
 use std::alloc::Global;
 
-// The vertex that a value names.
-fn vertex_in(alloc: Global, names: &Names, d: &Value) -> Result<u8, ValueFault>
+/// The vertex that a value names: `Form` where it is no text, `Name` where the text isn't a name.
+pub fn read_vertex(alloc: Global, names: &Names, d: &Value) -> Result<u8, ValueFault>
     ensures vertex { Gives (λ v. v) result (vertex_in names.now (view d.now)) }
     ensures within { IfOk result (λ v. v < 64) }
 {
@@ -44,7 +44,7 @@ fn more_of_set(alloc: Global, names: &Names, barred: VSet, ds: &[Value]) -> Resu
         if count >= 64 {
             return Err(ValueFault::Form);
         }
-        let v = vertex_in(alloc, names, d)?;
+        let v = read_vertex(alloc, names, d)?;
         set = with_member(barred, set, v)?;
     }
     Ok(set)
@@ -94,7 +94,7 @@ fn more_vertices(alloc: Global, names: &Names, ds: &[Value]) -> Result<Vec<u8>, 
         if all.len() >= 64 {
             return Err(ValueFault::Form);
         }
-        let v = vertex_in(alloc, names, d)?;
+        let v = read_vertex(alloc, names, d)?;
         all.push(v)?;
     }
     Ok(all)

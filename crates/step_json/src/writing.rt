@@ -14,8 +14,8 @@ use mixed_graph::{Names, Order, VSet};
 use serde_json::Value;
 use std::alloc::{AllocError, Global};
 
-// The name of a vertex.
-fn name_value(alloc: Global, names: &Names, v: u8) -> Result<Value, AllocError>
+/// The name of a vertex.
+pub fn name_value(alloc: Global, names: &Names, v: u8) -> Result<Value, AllocError>
     requires { v < length names.now }
     ensures { IfOk result (λ d. view d ≡ string (name_of names.now v)) }
 {

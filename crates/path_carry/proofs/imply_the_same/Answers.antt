@@ -13,11 +13,11 @@ returns-in-Same-clause-separations c = (
 pub returns-in-Edge-clause-separations : goal.returns-in-Edge-clause-separations
 returns-in-Edge-clause-separations c = (
   λ no. absurd (grind (arith, no)),
-  λ same. let d = c.in-Edge.field-0 in absurd (differs (graph_of c.args.g.now) (graph_of c.args.h.now) d.first d.a d.b (has d.given.bits) (c.in-Edge.ensures).shown same),
+  λ same. let d = c.in-Edge.field-0 in absurd (differs (graph_of c.args.g.now) (graph_of c.args.h.now) d.holds_in d.a d.b (has d.given.bits) (c.in-Edge.ensures).shown same),
 )
 
 pub returns-in-Collider-clause-separations : goal.returns-in-Collider-clause-separations
 returns-in-Collider-clause-separations c = (
   λ no. absurd (grind (arith, no)),
-  λ same. let d = c.in-Collider.field-0 in absurd (differs (graph_of c.args.g.now) (graph_of c.args.h.now) d.first d.a d.b (has d.given.bits) (c.in-Collider.ensures).shown same),
+  λ same. let d = c.in-Collider.field-0 in absurd (differs (graph_of c.args.g.now) (graph_of c.args.h.now) d.holds_in d.a d.b (has d.given.bits) (c.in-Collider.ensures).shown same),
 )

@@ -5,34 +5,34 @@ use Rattle.m_separation.specs.Paths.{IsOpenPath}
 use Rattle.m_separation.specs.Walks.{IsSeparated}
 use Rattle.proper_paths.proofs.Causal.{below_from}
 use Rattle.proper_paths.proofs.FirstEdges.{cut_arrows, firsts, back_door_graph_is}
-use Rattle.adjustment.specs.Criteria.{IsExcluded}
+use Rattle.adjustment.specs.Criteria.{IsForbidden}
 use Rattle.adjustment.specs.Faults.{IsClearOf}
 use Rattle.adjustment.proofs.Effects.{separating_adjusts}
 use Rattle.adjustment.proofs.PathParts.{path_begins, part_unblocked}
-use Rattle.adjustment.proofs.Separating.{excluded_is, admissible_from}
+use Rattle.adjustment.proofs.Separating.{forbidden_is, admissible_from}
 use Rattle.adjustment.proofs.criteria.adjusts.Goals as goal
-use Rattle.adjustment.proofs.criteria.adjusts.Goals.{After-descendants-excluded, After-open_path}
+use Rattle.adjustment.proofs.criteria.adjusts.Goals.{After-descendants-forbidden, After-open_path}
 
-pub descendants-excluded-requires : goal.descendants-excluded-requires
-descendants-excluded-requires c = λ v e.
+pub descendants-forbidden-requires : goal.descendants-forbidden-requires
+descendants-forbidden-requires c = λ v e.
     (below_from (graph_of c.args.g.now) c.args.g.now.valid (has c.args.x.bits) (has c.args.y.bits) c.requires.x_within v ((c.proper_causal.ensures v).0 e)).vertex
 
-excluded : (c : After-descendants-excluded) → (v : ℕ) → IsTrue (has c.descendants-excluded.result.bits v) ↔ IsExcluded (graph_of c.args.g.now) (has c.args.x.bits) (has c.args.y.bits) v
-excluded c = excluded_is (graph_of c.args.g.now) c.args.g.now.valid (has c.args.x.bits) (has c.args.y.bits) c.requires.x_within (has c.proper_causal.result.bits) (has c.descendants-excluded.result.bits)
-    c.proper_causal.ensures c.descendants-excluded.ensures
+forbidden : (c : After-descendants-forbidden) → (v : ℕ) → IsTrue (has c.descendants-forbidden.result.bits v) ↔ IsForbidden (graph_of c.args.g.now) (has c.args.x.bits) (has c.args.y.bits) v
+forbidden c = forbidden_is (graph_of c.args.g.now) c.args.g.now.valid (has c.args.x.bits) (has c.args.y.bits) c.requires.x_within (has c.proper_causal.result.bits) (has c.descendants-forbidden.result.bits)
+    c.proper_causal.ensures c.descendants-forbidden.ensures
 
 pub returns-in-Some-clause-fault : goal.returns-in-Some-clause-fault
-returns-in-Some-clause-fault c = let l = c.in-Some.ensures.found in let e = excluded (goal.at.returns-in-Some-clause-fault c).After-descendants-excluded in record {
+returns-in-Some-clause-fault c = let l = c.in-Some.ensures.found in let e = forbidden (goal.at.returns-in-Some-clause-fault c).After-descendants-forbidden in record {
   member = l.member;
   holds = (e c.in-Some.v).0 l.holds;
   lowest = λ u zu k. l.lowest u zu ((e u).1 k);
 }
 
--- no member of z is excluded
-clear : (c : After-open_path) → IsClearOf (IsExcluded (graph_of c.args.g.now) (has c.args.x.bits) (has c.args.y.bits)) (has c.args.z.bits)
+-- no member of z is forbidden
+clear : (c : After-open_path) → IsClearOf (IsForbidden (graph_of c.args.g.now) (has c.args.x.bits) (has c.args.y.bits)) (has c.args.z.bits)
 clear c = let none = c.in_default.ensures.none in
-    λ v zv e. none v zv ((excluded_is (graph_of c.args.g.now) c.args.g.now.valid (has c.args.x.bits) (has c.args.y.bits) c.requires.x_within (has c.proper_causal.result.bits) (has c.descendants-excluded.result.bits)
-    c.proper_causal.ensures c.descendants-excluded.ensures v).1 e)
+    λ v zv e. none v zv ((forbidden_is (graph_of c.args.g.now) c.args.g.now.valid (has c.args.x.bits) (has c.args.y.bits) c.requires.x_within (has c.proper_causal.result.bits) (has c.descendants-forbidden.result.bits)
+    c.proper_causal.ensures c.descendants-forbidden.ensures v).1 e)
 
 -- the back-door graph is g without the arrows from x to the vertices between
 graph_is : (c : After-open_path) → graph_of c.back_door_graph.result ≡ cut_arrows (graph_of c.args.g.now) (firsts (has c.args.x.bits) (has c.proper_causal.result.bits))

@@ -1,5 +1,5 @@
-use Rattle.std.proofs.Common.{◌≡◌, ◌&&◌, ◌<◌, ◌+◌, ℕ, Bool, true, false, List, length, map, get_or, drop, refl, sym, ap, subst, ◌∙◌, arith}
-use Rattle.std.proofs.lemmas.Bool.{false≢true}
+use Rattle.std.proofs.Common.{◌≡◌, ◌&&◌, ◌<◌, ◌+◌, ℕ, List, length, map, get_or, drop, refl, sym, ap, subst, ◌∙◌, arith}
+use Rattle.std.proofs.lemmas.Bool.{and_parts}
 use Rattle.std.proofs.lemmas.List.{at_drop_more}
 use Rattle.serde_json.specs.Data.{Items, array, string}
 use Rattle.serde_json.specs.View.{view as data_view}
@@ -15,10 +15,6 @@ use Rattle.certificate_writing.proofs.formulas.exprs_value.Goals as goal
 abbrev valued : List (List ℕ) → List Expr → Items
 valued names xs = expr_items names (map view xs)
 
-second : (a b : Bool) → (a && b) ≡ true → b ≡ true
-second true b h = h
-second false b h = absurd (false≢true h)
-
 pub loop-e-preserved : goal.loop-e-preserved
 loop-e-preserved c =
     let names = c.args.names.now in
@@ -30,7 +26,7 @@ loop-e-preserved c =
     let read : d ≡ get_or xs i d = c.e-item.is ∙ ap (λ l. get_or l i d) c.deref-e-items.ensures.value in
     let viewed : data_view c.in_ok-text.text ≡ string (text_of names (view (get_or xs i d))) = c.in_ok-text.ensures ∙ ap (λ s. string (text_of names (view s))) read in (
       one_more (valued names) (λ s. string (text_of names (view s))) (λ x xs. refl) xs i d lt c.loop-e.all.items c.push.new.self.items c.in_ok-text.text (valued names xs) c.in_ok-push.ensures.items viewed c.loop-e.invariant.0,
-      second (is_sound (length names) (view (get_or xs i d))) (sound (drop (i + 1) xs)) (sym (at_drop_more sound xs i d lt) ∙ c.loop-e.invariant.1),
+      (and_parts (is_sound (length names) (view (get_or xs i d))) (sound (drop (i + 1) xs)) (sym (at_drop_more sound xs i d lt) ∙ c.loop-e.invariant.1)).1,
     )
 
 pub returns : goal.returns

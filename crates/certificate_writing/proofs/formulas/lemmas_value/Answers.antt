@@ -1,5 +1,5 @@
-use Rattle.std.proofs.Common.{◌≡◌, ◌&&◌, ◌<◌, ◌+◌, ℕ, Bool, true, false, not, List, length, map, get_or, drop, refl, sym, ap, subst, ◌∙◌, arith}
-use Rattle.std.proofs.lemmas.Bool.{false≢true}
+use Rattle.std.proofs.Common.{◌≡◌, ◌&&◌, ◌<◌, ◌+◌, ℕ, not, List, length, map, get_or, drop, refl, sym, ap, subst, ◌∙◌, arith}
+use Rattle.std.proofs.lemmas.Bool.{and_parts}
 use Rattle.std.proofs.lemmas.List.{at_drop_more}
 use Rattle.serde_json.specs.Data.{Items, array}
 use Rattle.serde_json.specs.View.{view as data_view}
@@ -17,10 +17,6 @@ use Rattle.certificate_writing.proofs.formulas.lemmas_value.Goals as goal
 abbrev valued : List (List ℕ) → List Lemma → Items
 valued names xs = lemma_items names (map lemma_view xs)
 
-second : (a b : Bool) → (a && b) ≡ true → b ≡ true
-second true b h = h
-second false b h = absurd (false≢true h)
-
 pub loop-lemma-preserved : goal.loop-lemma-preserved
 loop-lemma-preserved c =
     let names = c.args.names.now in
@@ -35,8 +31,8 @@ loop-lemma-preserved c =
     let read : d ≡ x = c.lemma-item.is ∙ ap (λ l. get_or l i d) c.deref-lemma-items.ensures.value in
     let viewed : data_view c.in_ok-value.value ≡ lemma_value names (lemma_view x) = c.in_ok-value.ensures ∙ ap (λ s. lemma_value names (lemma_view s)) read in (
       one_more (valued names) (λ s. lemma_value names (lemma_view s)) (λ x xs. refl) xs i d lt c.loop-lemma.all.items c.push.new.self.items c.in_ok-value.value (valued names xs) c.in_ok-push.ensures.items viewed c.loop-lemma.invariant.0,
-      second (is_below n x.set.bits && not (is_empty x.set.bits)) (sets (drop (i + 1) xs)) (sym (at_drop_more sets xs i d lt) ∙ c.loop-lemma.invariant.1),
-      second (is_within n (step_view x.step)) (steps (drop (i + 1) xs)) (sym (at_drop_more steps xs i d lt) ∙ c.loop-lemma.invariant.2),
+      (and_parts (is_below n x.set.bits && not (is_empty x.set.bits)) (sets (drop (i + 1) xs)) (sym (at_drop_more sets xs i d lt) ∙ c.loop-lemma.invariant.1)).1,
+      (and_parts (is_within n (step_view x.step)) (steps (drop (i + 1) xs)) (sym (at_drop_more steps xs i d lt) ∙ c.loop-lemma.invariant.2)).1,
     )
 
 pub returns : goal.returns

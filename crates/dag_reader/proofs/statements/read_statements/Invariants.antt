@@ -10,7 +10,7 @@ use Rattle.dag_reader.proofs.statements.read_statements.Given as goal
 abbrev pub invariant-turns : goal.invariant-turns
 invariant-turns l = record {
   size : l.lexer.size ≡ length l.text;
-  all : (r : Result Said Fault) → RestSays (length l.text) l.lexer.value_due (place_view l.place) (said_by l.said) l.lexer.rest.now r → Says l.text r;
+  all : (r : Result Said Fault) → RestSays (length l.text) l.lexer.due (place_view l.place) (said_by l.said) l.lexer.rest.now r → Says l.text r;
 }
 
 abbrev pub decreases-turns : goal.decreases-turns

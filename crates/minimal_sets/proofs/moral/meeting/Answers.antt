@@ -2,7 +2,7 @@ use Rattle.std.proofs.Common.{◌≡◌, ℕ, refl, sym, ◌∙◌, true, ap, �
 use Rattle.minimal_sets.specs.Moral.{Heads}
 use Rattle.mixed_graph.specs.Bits.{has}
 use Rattle.mixed_graph.specs.Shown.{graph_of}
-use Rattle.vertex_cuts.specs.Rows.{joins}
+use Rattle.vertex_separators.specs.Rows.{joins}
 use Rattle.minimal_sets.proofs.Meetings.{heads_from, heads_to, meets_from, meets_to}
 use Rattle.minimal_sets.proofs.moral.meeting.Goals as goal
 use Rattle.minimal_sets.proofs.moral.meeting.Goals.{After-reached-heads}

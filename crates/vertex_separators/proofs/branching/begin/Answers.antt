@@ -1,0 +1,23 @@
+use Rattle.std.proofs.Common.{refl, sym, ◌∙◌, ap, [], ◌∷◌, ◌++◌, subst}
+use Rattle.mixed_graph.specs.Bits.{has}
+use Rattle.vertex_separators.specs.Separators.{start}
+use Rattle.vertex_separators.specs.Rows.{joins}
+use Rattle.vertex_separators.specs.Progress.{IsSoFar}
+use Rattle.vertex_separators.proofs.SoFar.{listing_none, listing_one}
+use Rattle.vertex_separators.proofs.branching.begin.Goals as goal
+use Rattle.vertex_separators.proofs.branching.begin.Goals.{in-Some+in_ok-push, in_default}
+
+pub closest-requires-clause-connected : goal.closest-requires-clause-connected
+closest-requires-clause-connected g c = λ v x. start x (rw x refl)
+
+pub returns-clause-listed : goal.returns-clause-listed
+returns-clause-listed g c = elim c.match-closest.branch [
+  | in-Some+in_ok-push w ↦
+      subst (λ t. IsSoFar (joins c.args.p.now.near) (has c.args.p.now.allowed.bits) (has c.args.p.now.x.bits) (has c.args.p.now.y.bits) [] t)
+      (sym (ap (λ t. t.items) w.todo-is ∙ w.in_ok-push.ensures.items ∙ ap (λ t. t ++ (record { separator = w.in-Some.c.separator; side = w.in-Some.c.side; kept = w.empty.result }) ∷ []) c.new-todo.ensures.items))
+      (listing_one (joins c.args.p.now.near) (has c.args.p.now.allowed.bits) (has c.args.p.now.x.bits) (has c.args.p.now.y.bits) c.args.p.now.frame (record { separator = w.in-Some.c.separator; side = w.in-Some.c.side; kept = w.empty.result }) w.in-Some.ensures.some w.empty.ensures.members)
+  | in_default w ↦
+      subst (λ t. IsSoFar (joins c.args.p.now.near) (has c.args.p.now.allowed.bits) (has c.args.p.now.x.bits) (has c.args.p.now.y.bits) [] t)
+      (sym (ap (λ t. t.items) w.todo-is ∙ c.new-todo.ensures.items))
+      (listing_none (joins c.args.p.now.near) (has c.args.p.now.allowed.bits) (has c.args.p.now.x.bits) (has c.args.p.now.y.bits) c.args.p.now.frame w.in_default.ensures.none)
+]
