@@ -106,12 +106,14 @@ fn evaluate_over<'a>(
 {
     match identify_first(alloc, graph, asked.x, asked.y)? {
         evaluate_command::EffectOrReply::Replied(reply) => Ok(AfterFile::Replied(reply)),
-        evaluate_command::EffectOrReply::Identified(found) => Ok(AfterFile::Continues(SecondInput::Evaluate {
-            found,
-            counts: asked.counts,
-            count: asked.count,
-            exact: asked.exact,
-        })),
+        evaluate_command::EffectOrReply::Identified(found) => Ok(AfterFile::Continues(
+            SecondInput::Evaluate {
+                found,
+                counts: asked.counts,
+                count: asked.count,
+                exact: asked.exact,
+            },
+        )),
     }
 }
 

@@ -13,7 +13,7 @@ use Rattle.identification.proofs.Nesting.{steps_more, each_at, place_deep, are_l
 use Rattle.identification.proofs.Orders.{IsOrderFrom}
 use Rattle.identification.proofs.Places.{made_if, place_made}
 use Rattle.identification.proofs.Separations.{IsPlace}
-use Rattle.identification.proofs.Sets.{all-below, all-is, empty-has, has-minus, one-is, one-self}
+use Rattle.identification.proofs.Sets.{all-below, all-is, alone, empty-has, has-minus, one-is, one-self}
 use Rattle.identification.specs.Depth.{are_plans_within}
 use Rattle.identification.specs.Procedure.AreFactors.{none, skip, take}
 use Rattle.identification.specs.Procedure.{AreFactors, IsBody, IsParent, IsPillow, Source, conditional}
