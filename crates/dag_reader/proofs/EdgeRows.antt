@@ -187,15 +187,14 @@ at_right marks ms left right new arrows more doubles s group none joined = recor
 
 pub at_left : (marks ms : List Remark) (left right new : ℕ) (arrows more doubles : List ℕ) → SoFar marks (Joined Left ∷ ms) left arrows doubles → IsGroup right ms → ((v : ℕ) → has new v ≡ false)
     → ((a b : ℕ) → row_has more a b ≡ (row_has arrows a b || (has right a && has left b))) → SoFar marks ms new more doubles
-at_left marks ms left right new arrows more doubles s group none joined =
-    let turned = λ a b. both_same _ _ _ _ (group a) (s.same b) ∙ sym (turned_pairs s.group (members ms) a b) in
-    record {
-      group = [];
-      same = none;
-      arrow_rows = rows_joined arrow_of Left (λ l r. (r, l)) (λ l r. refl) s.group ms arrows more (arrows_of marks) (λ a b. has right a && has left b) turned joined s.arrow_rows;
-      double_rows = rows_kept both_of Left (λ l r. refl) s.group ms doubles (doubles_of marks) s.double_rows;
-      inside = s.inside;
-    }
+at_left marks ms left right new arrows more doubles s group none joined = record {
+  group = [];
+  same = none;
+  arrow_rows = rows_joined arrow_of Left (λ l r. (r, l)) (λ l r. refl) s.group ms arrows more (arrows_of marks) (λ a b. has right a && has left b)
+      (λ a b. both_same _ _ _ _ (group a) (s.same b) ∙ sym (turned_pairs s.group (members ms) a b)) joined s.arrow_rows;
+  double_rows = rows_kept both_of Left (λ l r. refl) s.group ms doubles (doubles_of marks) s.double_rows;
+  inside = s.inside;
+}
 
 pub at_both : (marks ms : List Remark) (left right new : ℕ) (arrows doubles more : List ℕ) → SoFar marks (Joined Both ∷ ms) left arrows doubles → IsGroup right ms → ((v : ℕ) → has new v ≡ false)
     → ((a b : ℕ) → row_has more a b ≡ (row_has doubles a b || (has left a && has right b))) → SoFar marks ms new arrows more
