@@ -1,5 +1,5 @@
 -- Lists of steps that grow at their end, read with what comes after them.
-use Rattle.std.proofs.Common.{ℕ, suc, ◌+◌, ◌≡◌, ◌<◌, ◌≤◌, Bool, true, false, cond, leb, refl, sym, ap, ap₂, ◌∙◌, List, [], ◌∷◌, ◌++◌, length, take, map, All, rules, arith, le-leb}
+use Rattle.std.proofs.Common.{ℕ, suc, ◌+◌, ◌≡◌, ◌≤◌, Bool, true, false, cond, leb, refl, sym, ap, ap₂, ◌∙◌, List, [], ◌∷◌, ◌++◌, length, take, map, All, rules, arith, le-leb}
 use Rattle.std.proofs.lemmas.List.{take-map}
 use Rattle.std.proofs.lemmas.List.Elements.{All-nil, All-cons}
 use Rattle.mixed_graph.specs.Bits.{has}
@@ -16,7 +16,7 @@ use Rattle.prob_expr.specs.Tree.{Trees, product}
 use Rattle.prob_expr.specs.View.{view, views}
 use Rattle.prob_expr.specs.declared.expr.Expr.{Expr}
 use Rattle.identification.specs.Procedure.{product_of}
-use Rattle.identification.specs.Derivations.{Lists, no_more, more, single, with_set, at_place, at_each, at_zero, in_order, two_or_more, unchain_steps, unwrap_steps, home_list, home_lists, group_steps, district_steps, main_steps}
+use Rattle.identification.specs.Derivations.{Lists, more, single, with_set, at_place, at_each, at_zero, in_order, two_or_more, unchain_steps, unwrap_steps, home_list, home_lists, group_steps, district_steps, main_steps}
 use Rattle.id_recursion.specs.Lists.{onto, lists_onto, lists_view}
 
 -- a step at a place is seen as the plan of that step, at the same place
