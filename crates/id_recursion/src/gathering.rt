@@ -61,7 +61,11 @@ fn stop_for(c: VSet, fault: FactorFault) -> Stop
 }
 
 /// Adds the factor of c, where one was found; else says why there are no factors.
-pub fn add_found(made: &mut Factors, c: VSet, found: Result<Factor, FactorFault>) -> Result<(), Stop>
+pub fn add_found(
+    made: &mut Factors,
+    c: VSet,
+    found: Result<Factor, FactorFault>,
+) -> Result<(), Stop>
     ensures added { OnOk result (IsAdded found made.old made.new) }
     ensures stop { IfErr result (IsStopFor c found) }
 {

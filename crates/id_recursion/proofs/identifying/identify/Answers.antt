@@ -30,7 +30,7 @@ returns c =
       few = c.answer.ensures.few;
       stop = if_hedge g x y r _ (λ h pair i. i.0) found;
       hedge = if_hedge g x y r _ (λ h pair i. i.2) found;
-      data = if_hedge g x y r _ (λ h pair i. i.1) found;
+      «data» = if_hedge g x y r _ (λ h pair i. i.1) found;
       pair = if_hedge g x y r _ (λ h pair i. i.3) found;
       counter = if_hedge g x y r _ (λ h pair i. counter g valid small x y h i.2 off pair i.3) found;
     }
