@@ -1,7 +1,7 @@
 -- Lists of steps and lists of such lists, as derivations have them.
 use Rattle.std.specs.Prelude.{List, [], ◌∷◌}
 use Rattle.std.specs.Global.{Vec}
-use Rattle.do_derivation.specs.Plans.{Plans, no_plans, plan}
+use Rattle.do_derivation.specs.Plans.{Plans, plan}
 use Rattle.do_derivation.specs.View.{step_view, steps_view}
 use Rattle.do_derivation.specs.declared.steps.Step.{Step}
 use Rattle.identification.specs.Derivations.{Lists, no_more, more}

@@ -1,4 +1,4 @@
-pub mod Assembled
+pub mod Composed
 pub mod GatheredFactors
 pub mod HedgeData
 pub mod Orders

@@ -1,4 +1,4 @@
-use Rattle.std.proofs.Common.{ℕ, ◌≡◌, ◌≢◌, ◌≤◌, true, false, eqb-true, inl, inr, sym, ◌∙◌, length, length-take, map, arith}
+use Rattle.std.proofs.Common.{ℕ, eqb-true, inl, inr, sym, ◌∙◌, length, length-take, map, arith}
 use Rattle.mixed_graph.specs.Orders.{IsOrder}
 use Rattle.mixed_graph.specs.Shown.{graph_of}
 use Rattle.mixed_graph.specs.declared.sets.VSet.{VSet}
@@ -10,7 +10,7 @@ use Rattle.do_derivation.specs.View.{derivation_view, listed}
 use Rattle.identification.specs.Procedure.{IsTarget, IsUnidentified, StopsAt}
 use Rattle.identification_answers.proofs.Answered.{stop_is_hedge}
 use Rattle.identification_answers.specs.Laws.{AreRoots}
-use Rattle.id_recursion.proofs.Assembled.{few_defs, with_steps}
+use Rattle.id_recursion.proofs.Composed.{few_defs, with_steps}
 use Rattle.id_recursion.proofs.Orders.{listed_order, districts_by}
 use Rattle.id_recursion.proofs.RightAnswers.{target_from, unidentified, unidentified_at}
 use Rattle.id_recursion.proofs.identifying.answer.Goals as goal

@@ -1,6 +1,5 @@
 use Rattle.mixed_graph.proofs.Masks.{positive_from_has}
 use Rattle.mixed_graph.specs.Shown.{graph_of}
-use Rattle.hedge.specs.Hedges.{IsHedge}
 use Rattle.hedge.specs.Shapes.{AreSetsOfHedge}
 use Rattle.id_recursion.proofs.HedgeData.{hedge_from}
 use Rattle.id_recursion.proofs.stops.hedge_of.Goals as goal

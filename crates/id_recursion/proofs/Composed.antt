@@ -1,5 +1,5 @@
 -- What is assembled of the factors of the procedure is its formula with its derivation.
-use Rattle.std.proofs.Common.{ℕ, ◌≡◌, ◌≤◌, ◌*◌, List, length, sym, ap, subst, arith}
+use Rattle.std.proofs.Common.{ℕ, ◌≤◌, ◌*◌, List, length, sym, ap, subst, arith}
 use Rattle.std.proofs.lemmas.List.{length-map}
 use Rattle.mixed_graph.specs.Graphs.{MixedGraph}
 use Rattle.districts.specs.Linked.{AreDistricts}
