@@ -1,4 +1,4 @@
-use Rattle.std.proofs.Common.{◌≡◌, ◌≤◌, ℕ, [], length, sym, subst}
+use Rattle.std.proofs.Common.{◌≤◌, ℕ, [], length, sym, subst}
 use Rattle.mixed_graph.specs.Bits.{has}
 use Rattle.mixed_graph.specs.Sets.{Within}
 use Rattle.mixed_graph.specs.Shown.{graph_of}
@@ -68,7 +68,7 @@ joint_text-requires c =
       models = on_names (λ n. ArePairBelow n c.in-Joint.pair)
           (pair_below g c.args.seen.now.graph.valid c.in-Joint.x.bits c.in-Joint.y.bits c.in-Joint.hedge c.in-Joint.pair effect.target.sets.y_within shown.models
           (subst (λ a. IfJoint a (λ x y h pair. AreCounterModels g x.bits y.bits pair)) c.in-Joint.is c.in_ok-formula.ensures.counter));
-      data = on_names (λ n. IsHedgeWithin n (hedge_view c.in-Joint.hedge))
+      «data» = on_names (λ n. IsHedgeWithin n (hedge_view c.in-Joint.hedge))
           (hedge_within g c.in-Joint.x.bits c.in-Joint.y.bits c.in-Joint.hedge c.sized.ensures.found c.sized.ensures.partner shown.hedge);
     }
 
