@@ -1,5 +1,5 @@
 -- A step makes at most one expression, and is refused in at most one way; never both.
-use Rattle.std.proofs.Common.{ℕ, ◌+◌, ◌-◌, ◌≡◌, Bool, true, sym, ap, ◌∙◌, ◌||◌, inl, inr, subst, List, [], ◌∷◌, ◌++◌, Some, None, Option, MatchOption, arith}
+use Rattle.std.proofs.Common.{ℕ, ◌+◌, ◌-◌, ◌≡◌, Bool, sym, ap, ◌∙◌, ◌||◌, inl, inr, subst, List, [], ◌∷◌, ◌++◌, Some, None, Option, MatchOption, arith}
 use Rattle.mixed_graph.specs.Bits.{has}
 use Rattle.mixed_graph.specs.Graphs.{MixedGraph}
 use Rattle.m_separation.specs.Walks.{IsSeparated}

@@ -16,7 +16,7 @@ ghost use Rattle.prob_expr.specs.Values.{EqualsEffect};
 ghost use Rattle.prob_expr.specs.View.{formula_view};
 ghost use Rattle.do_derivation.specs.Accepts.{Accepts};
 ghost use Rattle.do_derivation.specs.Plans.{Plan, no_plans};
-ghost use Rattle.do_derivation.specs.View.{derivation_view};
+ghost use Rattle.do_derivation.specs.View.{derivation_view, listed};
 ghost use Rattle.identification.specs.Derivations.{IsDerived};
 ghost use Rattle.identification.specs.Procedure.{AreAncestorsIn, IsUnidentified};
 ghost use Rattle.identification_answers.specs.Names.{FormulaNamesOnly};
@@ -69,6 +69,7 @@ pub fn ancestors_outside(g: &Graph, x: VSet, y: VSet) -> VSet
 pub fn order_of(g: &Graph) -> Order
     ensures order { IsOrder (graph_of g.now) result.list result.count }
     ensures full { length result.list ≡ 64 }
+    ensures listed { IsOrder (graph_of g.now) (listed result) (length (listed result)) }
 {
     g.order()
 }

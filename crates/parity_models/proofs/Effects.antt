@@ -35,6 +35,13 @@ pub product_same : (k c : ℕ) (f : ℕ → ℕ) → ((i : ℕ) → i < k → f 
 product_same zero c f h = sym (pow-zero c)
 product_same (suc k) c f h = ap₂ (λ p q. p * q) (product_same k c f (λ i lt. h i (omega arith))) (h k (omega arith)) ∙ sym (pow-suc c k)
 
+right : (p q b : Bool) → differ (p && b) (q && b) ≡ (differ p q && b)
+right true true true = refl
+right true true false = refl
+right true false true = refl
+right true false false = refl
+right false q b = refl
+
 turned : (p c : Bool) → not (differ p c) ≡ not (differ (differ p c) false)
 turned p c = ap not (sym (differ-false (differ p c)))
 
@@ -55,13 +62,6 @@ module _ (g : MixedGraph) (x : ℕ → Bool) (d : ParityHedge) (ok : IsParityHed
       ∙ sym (odd-differ d.causes (λ j. odd_below g.vertices (λ v. d.small v && eqb j (d.small_cause v)) && bit (u j)) (λ j. odd_below g.vertices (λ v. d.kept v && eqb j (d.kept_cause v)) && bit (u j)))
       ∙ odd-congr d.causes (λ j. differ (odd_below g.vertices (λ v. d.small v && eqb j (d.small_cause v)) && bit (u j)) (odd_below g.vertices (λ v. d.kept v && eqb j (d.kept_cause v)) && bit (u j)))
       (λ j. privates g.vertices d j && bit (u j)) (λ j lt. right (odd_below g.vertices (λ v. d.small v && eqb j (d.small_cause v))) (odd_below g.vertices (λ v. d.kept v && eqb j (d.kept_cause v))) (bit (u j)))
-    where
-      right : (p q b : Bool) → differ (p && b) (q && b) ≡ (differ p q && b)
-      right true true true = refl
-      right true true false = refl
-      right true false true = refl
-      right true false false = refl
-      right false q b = refl
 
   -- ---- a model whose mechanisms give the hedge's bit by h
   module _ (mechanism : ℕ → (ℕ → ℕ) → (ℕ → ℕ) → ℕ) (h : (ℕ → ℕ) → (ℕ → ℕ) → ℕ → Bool) (is : (v : ℕ) (s u : ℕ → ℕ) → mechanism v s u ≡ value (d.big v) (d.kept v) (h s u v) (top_bit g.vertices d s u (h s u v) v))
@@ -120,13 +120,6 @@ module _ (g : MixedGraph) (x : ℕ → Bool) (d : ParityHedge) (ok : IsParityHed
         ∙ odd-congr d.causes (λ j. differ (crosses (length d.inner) d.outer G j && bit (u j)) (privates g.vertices d j && bit (u j))) (λ j. all_causes G j && bit (u j))
         (λ j lt. right (crosses (length d.inner) d.outer G j) (privates g.vertices d j) (bit (u j))))
       where
-        right : (p q b : Bool) → differ (p && b) (q && b) ≡ (differ p q && b)
-        right true true true = refl
-        right true true false = refl
-        right true false true = refl
-        right true false false = refl
-        right false q b = refl
-
         shuffle : (c l o t : Bool) → differ (differ c (differ l o)) t ≡ differ (differ l (differ o t)) c
         shuffle true true true true = refl
         shuffle true true true false = refl
