@@ -87,7 +87,8 @@ impl<'a, 'b, Q: Quantity> Tables<'a, 'b, Q> {
             node: 0,
             cell,
         };
-        match value_at(&scope, &defs[k as usize], root) {
+        let place = k as usize;
+        match value_at(&scope, &defs[place], root) {
             Ok(q) => Some(q),
             Err(_) => None,
         }

@@ -34,24 +34,24 @@ value_at-requires-clause-scope g c =
 
 pub value_at-requires-clause-below : goal.value_at-requires-clause-below
 value_at-requires-clause-below g c =
-    let slice = c.as_slice-defs.result.now in let k = c.args.k in let e = c.index.result in
+    let slice = c.as_slice-defs.result.now in let k = c.args.k in let e = c.index-defs-place.result in
     let defs : map view slice ≡ c.args.self.now.formula.defs = ap (λ (l : List Expr). map view l) c.as_slice-defs.ensures.value ∙ ap (λ (p : Preparation). p.formula.defs) c.self.view_is in
-    let named = named_in slice c.args.self.now.formula.defs k e defs c.requires.definition c.index.is in
+    let named = named_in slice c.args.self.now.formula.defs k e defs c.requires.definition c.index-defs-place.is in
     subst (λ (n : ℕ). IsBelow n (view e)) (omega arith) (ordered_at 0 k (map view slice) (view e) (value_at-requires-clause-scope g c).ordered named.within named.is)
 
 pub value_at-requires-clause-used : goal.value_at-requires-clause-used
 value_at-requires-clause-used g c =
-    let slice = c.as_slice-defs.result.now in let k = c.args.k in let e = c.index.result in
+    let slice = c.as_slice-defs.result.now in let k = c.args.k in let e = c.index-defs-place.result in
     let defs : map view slice ≡ c.args.self.now.formula.defs = ap (λ (l : List Expr). map view l) c.as_slice-defs.ensures.value ∙ ap (λ (p : Preparation). p.formula.defs) c.self.view_is in
-    let named = named_in slice c.args.self.now.formula.defs k e defs c.requires.definition c.index.is in
+    let named = named_in slice c.args.self.now.formula.defs k e defs c.requires.definition c.index-defs-place.is in
     used_at (is_used c.args.self.now.counts) k (map view slice) (view e) (value_at-requires-clause-scope g c).used named.within named.is
 
 pub returns-in-Ok : goal.returns-in-Ok
 returns-in-Ok g c =
-    let p = c.args.self.now in let slice = c.as_slice-defs.result.now in let k = c.args.k in let e = c.index.result in let s = cell_of c.args.cell in
+    let p = c.args.self.now in let slice = c.as_slice-defs.result.now in let k = c.args.k in let e = c.index-defs-place.result in let s = cell_of c.args.cell in
     let kind = g.Q.Quantity.kind in let w = weights_in p.vertices p.counts in
     let defs : map view slice ≡ p.formula.defs = ap (λ (l : List Expr). map view l) c.as_slice-defs.ensures.value ∙ ap (λ (p : Preparation). p.formula.defs) c.self.view_is in
-    let at = (named_in slice p.formula.defs k e defs c.requires.definition c.index.is).is in
+    let at = (named_in slice p.formula.defs k e defs c.requires.definition c.index-defs-place.is).is in
     known_by kind w p.formula.defs k (view e) s (Ok (g.Q.Quantity.numbers c.in-Ok.q)) c.requires.definition (omega arith) (subst (λ (ds : List Tree). view e ≡ get_or ds k (view e)) defs at)
     (c.in-Ok.ensures
     ∙ ap (λ (n : ℕ). evaluated kind (weights_in n p.counts) (known kind (weights_in n p.counts) (map view slice) k) (Some k) 0 (view e) s) (ap (λ (p : Preparation). p.vertices) c.self.view_is)
