@@ -38,11 +38,10 @@ module _ {T E : Type 0} (r : Result T E) (names : List (List ℕ)) (old new : Li
       (same_set (has x_z) (λ v. has x v || has z v) done) h)
 
 -- a text that is made piece by piece, with a line feed before the last piece
-pub in_pieces : (a b digit c d o : List ℕ) {t0 t1 t2 t3 t4 t5 : List ℕ} → t0 ≡ a → t1 ≡ t0 ++ digit → digit ≡ b → t2 ≡ t1 ++ c → t3 ≡ t2 ++ d → t4 ≡ t3 ++ 10 ∷ [] → t5 ≡ t4 ++ o →
-    t5 ≡ a ++ (b ++ (c ++ (d ++ (10 ∷ o))))
-in_pieces a b digit c d o e0 e1 eb e2 e3 e4 e5 =
+pub in_pieces : (a b c d o : List ℕ) {t1 t2 t3 t4 t5 : List ℕ} → t1 ≡ a ++ b → t2 ≡ t1 ++ c → t3 ≡ t2 ++ d → t4 ≡ t3 ++ 10 ∷ [] → t5 ≡ t4 ++ o → t5 ≡ a ++ (b ++ (c ++ (d ++ (10 ∷ o))))
+in_pieces a b c d o e1 e2 e3 e4 e5 =
     e5
-    ∙ ap (λ t. t ++ o) (e4 ∙ ap (λ t. t ++ 10 ∷ []) (e3 ∙ ap (λ t. t ++ d) (e2 ∙ ap (λ t. t ++ c) (e1 ∙ ap (λ t. t ++ digit) e0 ∙ ap (λ t. a ++ t) eb))))
+    ∙ ap (λ t. t ++ o) (e4 ∙ ap (λ t. t ++ 10 ∷ []) (e3 ∙ ap (λ t. t ++ d) (e2 ∙ ap (λ t. t ++ c) e1)))
     ∙ append_assoc (((a ++ b) ++ c) ++ d) (10 ∷ []) o
     ∙ append_assoc ((a ++ b) ++ c) d (10 ∷ o)
     ∙ append_assoc (a ++ b) c (d ++ (10 ∷ o))

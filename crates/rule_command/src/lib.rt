@@ -1,11 +1,9 @@
 //! The command `rule`: whether a rule of the do-calculus holds, in the observed graph.
 #![tactic(auto)]
 
-mod named;
 mod reply;
 mod request;
 mod texts;
 
-pub use named::{NamedSets, named_sets};
 pub use reply::rule_reply;
 pub use request::{ROW, Request};

@@ -5,14 +5,13 @@ ghost use Rattle.mixed_graph.specs.Shown.{graph_of};
 ghost use Rattle.do_rules.specs.Rules.{AreFourSets};
 ghost use Rattle.rule_command.specs.Answers.{RuleAnswer, SetsAnswer};
 
-use crate::named::{NamedSets, named_sets};
 use crate::texts::{rule_fails_text, rule_holds_text};
 use dag_reader::ReadGraph;
 use do_rules::Rule;
-use latent_projection::Observed;
-use replies::{Outcome, Reply};
+use latent_projection::{Observed, observed};
+use replies::{Outcome, Reply, refuse};
 use std::alloc::{AllocError, Global};
-use targets::RuleSets;
+use targets::{RuleSets, find_rule_sets};
 
 /// Whether a rule of the do-calculus holds for the listed names, in the observed graph.
 pub fn rule_reply(
@@ -26,9 +25,10 @@ pub fn rule_reply(
 ) -> Result<Reply, AllocError>
     ensures { IfOk result (λ r. RuleAnswer rule graph.now (texts y.now) (texts done.now) (texts z.now) (texts given.now) r.outcome r.text.items) }
 {
-    match named_sets(alloc, graph, y, done, z, given)? {
-        NamedSets::Found(seen, sets) => decide(alloc, &seen, rule, sets),
-        NamedSets::Refused(reply) => Ok(reply),
+    let seen = observed(alloc, &graph.names, &graph.graph, graph.latent)?;
+    match find_rule_sets(alloc, &graph.names, &seen.names, y, done, z, given) {
+        Ok(sets) => decide(alloc, &seen, rule, sets),
+        Err(fault) => refuse(alloc, &fault),
     }
 }
 
