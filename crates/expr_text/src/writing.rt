@@ -144,12 +144,7 @@ fn put_factors(writer: &Writer, out: &mut Vec<u8>, factors: &Vec<Expr>) -> Resul
 
 /// Appends a factor, and before a later one the sign of a product.
 #[cycle(put)]
-fn put_factor(
-    writer: &Writer,
-    out: &mut Vec<u8>,
-    place: Place,
-    e: &Expr,
-) -> Result<(), AllocError>
+fn put_factor(writer: &Writer, out: &mut Vec<u8>, place: Place, e: &Expr) -> Result<(), AllocError>
     requires { is_sound (length writer.now.names.now) (view e.now) ≡ true }
     ensures { OnOk result (out.new.items ≡ out.old.items ++ factor_in writer.now.notation place (wrapped writer.now.notation (view e.now) (expr_in writer.now.notation writer.now.names.now (view e.now)))) }
 {

@@ -20,11 +20,7 @@ pub struct Separator {
 }
 
 /// The minimal separator by allowed vertices that is nearest to a side of x, if there is one with that side.
-pub fn closest<L: Ledger>(
-    p: &SeparationProblem,
-    s: VSet,
-    steps: &mut Steps<L>,
-) -> Option<Separator>
+pub fn closest<L: Ledger>(p: &SeparationProblem, s: VSet, steps: &mut Steps<L>) -> Option<Separator>
     requires holds { IsPart (has p.now.x.bits) (has s.bits) }
     requires connected { (v : ℕ) → IsTrue (has s.bits v) → Reached (joins p.now.near) (has p.now.x.bits) (λ u. not (has s.bits u)) v }
     ensures some { IfSome result (λ c. IsClosest (joins p.now.near) (has p.now.allowed.bits) (has p.now.x.bits) (has p.now.y.bits) (has s.bits) (has c.separator.bits) (has c.side.bits)) }
@@ -56,12 +52,7 @@ pub struct Node {
 }
 
 /// The branch in which a vertex of the separator joins the side, if it holds a separator.
-fn joined<L: Ledger>(
-    p: &SeparationProblem,
-    node: Node,
-    v: u8,
-    steps: &mut Steps<L>,
-) -> Option<Node>
+fn joined<L: Ledger>(p: &SeparationProblem, node: Node, v: u8, steps: &mut Steps<L>) -> Option<Node>
     requires node { IsNode (joins p.now.near) (has p.now.allowed.bits) (has p.now.x.bits) (has p.now.y.bits) node }
     requires below { v < 64 }
     requires member { IsTrue (has node.separator.bits v) }
