@@ -4,7 +4,7 @@ use Rattle.std.specs.Prelude.{fold}
 use Rattle.std.specs.Str.{bytes_eq}
 use Rattle.std.specs.List.{list_all, flat_map}
 use Rattle.std.proofs.lemmas.Slice.Eq.{bytes_eq-Decides}
-use Rattle.clap.specs.Walk.{Row as Entry, Walk, walked, arg_by_long, arg_by_index, arg_by_id, has_row}
+use Rattle.clap.specs.Walk.{Row as Entry, Rule, Walk, walked, arg_by_long, arg_by_index, arg_by_id, has_row}
 use Rattle.clap.specs.Lexer.{usize_max}
 use Rattle.clap.specs.Simple.{Shape}
 use Rattle.clap.specs.Takes.{turn_passes, walk_passes}
