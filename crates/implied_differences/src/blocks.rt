@@ -38,7 +38,12 @@ fn sum_columns(table: &BlockTable, begin: usize, columns: &mut [u64])
     let l = table.layout;
     columns.fill(0);
     for x in 0..l.firsts {
-        add_strided(columns, table.cells, begin + x * l.first_step, l.second_step);
+        add_strided(
+            columns,
+            table.cells,
+            begin + x * l.first_step,
+            l.second_step,
+        );
     }
 }
 

@@ -75,7 +75,13 @@ fn row_reaches(
     let l = table.layout;
     for y in 0..levels_to_see(l.seconds) {
         columns.fill(0);
-        add_line(columns, table.cells, strip.begins, l.column_cells(y), strip.width);
+        add_line(
+            columns,
+            table.cells,
+            strip.begins,
+            l.column_cells(y),
+            strip.width,
+        );
         let limit = before.limit(l.number(x, y, strip.first.number));
         let offset = x * l.first_step + y * l.second_step;
         if any_reaches(table.cells, strip, offset, rows, columns, limit) {
