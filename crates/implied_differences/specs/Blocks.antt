@@ -52,7 +52,7 @@ pub record AreBegins (cells : List ℕ) (l : Layout) (begins : List ℕ) (width 
 pub record IsStrip (cells : List ℕ) (l : Layout) (begins sums : List ℕ) (width : ℕ) : Type 0 where
   pub blocks : AreBegins cells l begins width
   pub long : width ≤ length sums
-  pub sums : (j : ℕ) → j < width → slice_index sums j ≡ block_at cells l (slice_index begins j)
+  pub each : (j : ℕ) → j < width → slice_index sums j ≡ block_at cells l (slice_index begins j)
 
 -- N(b,W) for each level of b
 pub record AreColumns (cells : List ℕ) (l : Layout) (begin : ℕ) (columns : List ℕ) : Type 0 where

@@ -68,7 +68,7 @@ any_reaches-requires-clause-small_cells c j lt =
     let begin = get_or c.args.strip.now.begins.now j 0 in
     let e = placed c.args.table.now.cells.now c.args.table.now.layout.now begin c.args.x c.loop-y.y in
     let most = value_most c.args.table.now.cells.now c.args.table.now.layout.now begin c.args.x c.loop-y.y c.requires.first (level (goal.at.any_reaches-requires-clause-small_cells c).After-fill) in
-    let sum = c.requires.strip.sums j lt in
+    let sum = c.requires.strip.each j lt in
     let small = c.requires.small j lt in
     omega (arith, e, most, sum, small)
 
@@ -76,7 +76,7 @@ pub any_reaches-requires-clause-small_rows : goal.any_reaches-requires-clause-sm
 any_reaches-requires-clause-small_rows c j lt =
     let most = row_most c.args.table.now.cells.now c.args.table.now.layout.now (get_or c.args.strip.now.begins.now j 0) c.args.x c.requires.first in
     let row = c.requires.rows j lt in
-    let sum = c.requires.strip.sums j lt in
+    let sum = c.requires.strip.each j lt in
     let small = c.requires.small j lt in
     omega (arith, most, row, sum, small)
 
@@ -84,7 +84,7 @@ pub any_reaches-requires-clause-small_columns : goal.any_reaches-requires-clause
 any_reaches-requires-clause-small_columns c j lt =
     let most = column_most c.args.table.now.cells.now c.args.table.now.layout.now (get_or c.args.strip.now.begins.now j 0) c.loop-y.y (level (goal.at.any_reaches-requires-clause-small_columns c).After-fill) in
     let total = column (goal.at.any_reaches-requires-clause-small_columns c).After-add_line j lt in
-    let sum = c.requires.strip.sums j lt in
+    let sum = c.requires.strip.each j lt in
     let small = c.requires.small j lt in
     omega (arith, most, total, sum, small)
 
@@ -105,7 +105,7 @@ loop-y-preserved c =
               let gap = abs_diff (get_or cells (begin + (x * l.first_step + y * l.second_step)) 0 * get_or c.args.strip.now.sums.now j 0) (get_or c.args.rows.now j 0 * get_or c.add_line.new.sums j 0) in
               let number = c.number.ensures in
               out_alike cells l begins c.args.strip.now.width w c.args.before.now gap (gap_in cells l begin x y) c.number.result (number_at l (w + j) x y)
-              (sym (ap₂ abs_diff (ap₂ (λ m n. m * n) (placed cells l begin x y) (c.requires.strip.sums j less)) (ap₂ (λ m n. m * n) (c.requires.rows j less) (column (goal.at.loop-y-preserved c).After-add_line j less))))
+              (sym (ap₂ abs_diff (ap₂ (λ m n. m * n) (placed cells l begin x y) (c.requires.strip.each j less)) (ap₂ (λ m n. m * n) (c.requires.rows j less) (column (goal.at.loop-y-preserved c).After-add_line j less))))
               (omega (arith, number))
               (c.limit-limit.ensures gap (c.if-any_reaches.ensures.no j less));
         })

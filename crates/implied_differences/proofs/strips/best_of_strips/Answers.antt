@@ -39,7 +39,7 @@ pub best_in_strip-best-requires-clause-strip : goal.best_in_strip-best-requires-
 best_in_strip-best-requires-clause-strip c = record {
   blocks = blocks (goal.at.best_in_strip-best-requires-clause-strip c).After-list_begins-next;
   long = omega arith;
-  sums = c.sum_blocks.ensures;
+  each = c.sum_blocks.ensures;
 }
 
 pub returns : goal.returns
