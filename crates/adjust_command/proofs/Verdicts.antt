@@ -8,7 +8,6 @@ use Rattle.targets.specs.declared.fault.TargetFault.TheVariants.{NotOneX}
 use Rattle.targets.specs.FaultTexts.{target_fault_text}
 use Rattle.adjustment.specs.declared.criteria.AdjFault.{AdjFault}
 use Rattle.replies.specs.declared.outcome.Reply.{Reply}
-use Rattle.replies.specs.declared.outcome.Outcome.{Outcome}
 use Rattle.replies.specs.declared.outcome.Outcome.TheVariants.{Yes, No, Graph}
 use Rattle.adjust_command.specs.declared.criteria.Verdict.TheVariants.{Meets, Breaks, NotOne}
 use Rattle.adjust_command.specs.Answers.{SetTexts, BackDoorAnswer, CriterionAnswer}

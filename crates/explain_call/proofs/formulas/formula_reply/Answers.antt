@@ -1,5 +1,11 @@
+use Rattle.std.proofs.Common.{option_map, refl, ap, ◌∙◌}
+use Rattle.mixed_graph.specs.Names.{texts}
+use Rattle.mixed_graph.specs.Shown.{graph_of}
+use Rattle.word_lists.specs.Views.{names_in}
 use Rattle.targets.proofs.Effects.{query_exposure, query_outcome}
-use Rattle.adjust_command.proofs.Lists.{three_sets}
+use Rattle.replies.specs.Observed.{observed_names}
+use Rattle.adjust_command.proofs.Lists.{three_sets, same_lists, lists_refused}
+use Rattle.explain_call.specs.Formulas.{FormulaFor}
 use Rattle.explain_call.proofs.formulas.formula_reply.Goals as goal
 
 pub decide-requires-clause-sets : goal.decide-requires-clause-sets
@@ -10,3 +16,11 @@ decide-requires-clause-some_x c = query_exposure _ c.in-Ok.sets.x.bits c.in-Ok.s
 
 pub decide-requires-clause-some_y : goal.decide-requires-clause-some_y
 decide-requires-clause-some_y c = query_outcome _ c.in-Ok.sets.x.bits c.in-Ok.sets.y.bits c.in-Ok.sets.given.bits c.in-Ok.ensures.sets
+
+pub returns-in-Err : goal.returns-in-Err
+returns-in-Err c =
+    let g = c.args.graph.now in let e = c.in_ok-seen.ensures in
+    let x = option_map names_in c.args.x in let y = option_map names_in c.args.y in let set = texts c.args.set.now in
+    lists_refused g x y set (graph_of c.in_ok-seen.field-0.seen.graph) e.graph (λ q. FormulaFor c.args.by_back_door q (observed_names g)) _
+    (same_lists g x y set _ _ _ _ e.names (ap texts c.deref.ensures.value ∙ e.x) (ap texts c.deref-2.ensures.value ∙ e.y) refl)
+    c.in-Err.fault c.in-Err.ensures.fault c.refuse.result c.refuse.ensures.outcome c.refuse.ensures.line c.refuse.ensures.fault
