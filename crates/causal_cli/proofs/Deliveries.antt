@@ -16,7 +16,7 @@ use Rattle.causal_cli.specs.Answers.{WordsAnswer, Defined, too_long, Continues, 
 use Rattle.causal_cli.specs.Run.{Run, Answers, by_words, by_file, by_both, file as reads_file, second, Ends}
 use Rattle.causal_cli.specs.Ends.{FailedRead, Replied, RepliesWith, told_of, EndsWith, Delivers, written, unwritten, refused, IsTooLongLine, IsTooLong, Proceeds, replied, unread, no_memory}
 use Rattle.causal_cli.specs.declared.answer.SecondInput.{SecondInput}
-use Rattle.causal_cli.proofs.Answered.{words_answered, defined_answered, long_answered, named, continues, defined_with}
+use Rattle.causal_cli.proofs.Answered.{words_answered, defined_answered, long_answered, said, named, continues, defined_with}
 
 -- what holds of the bytes that were read holds of those that are held, where they are told
 pub told : (held : Option (List ℕ)) (items : List ℕ) (P : List ℕ → Type 0) → IfSome held (λ all. items ≡ all) → P items → IfSome held P
@@ -36,11 +36,7 @@ not_true false n = refl
 
 -- the defined answer is a reply
 an_answer : (r : Run) (o : Outcome) (text : List ℕ) → IsAnswered o → Answers r o text → Replied r o text
-an_answer r Words text only a = absurd only
-an_answer r Read text only a = absurd only
-an_answer r Write text only a = absurd only
-an_answer r Memory text only a = absurd only
-an_answer r o text only a = a
+an_answer r o text only a = said r.words (Answers r) (FailedRead r) o text only a
 
 -- the words ask for nothing
 pub not_understood : (r : Run) (reply : Reply) → reply.outcome ≡ Words → ((w : Request) → Asks r.words w → ⊥) → RepliesWith r reply

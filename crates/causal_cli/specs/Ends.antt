@@ -21,13 +21,17 @@ pub record FailedRead (r : Run) : Type 0 where
   pub is_read : IsRead r request name
   pub rose : Rose (r.read_faults name) (r.read_faults_after name)
 
--- what a reply says of the run, by its outcome: it is the defined answer, or the words ask for nothing, or a read failed, or memory was refused
+-- what a reply says, by its outcome, where words have these answers: it is one of them, or the words ask for nothing, or an input isn't read, or memory was refused
+abbrev pub Says : (words : List Text) (answers : Outcome → List ℕ → Type 0) (unread : Type 0) → Outcome → List ℕ → Type 0
+Says words answers unread Words text = (q : Request) → Asks words q → ⊥
+Says words answers unread Read text = unread
+Says words answers unread Write text = ⊥
+Says words answers unread Memory text = Unit {0}
+Says words answers unread o text = answers o text
+
+-- what a reply says of the run: the answer is the defined one, and a read failed
 abbrev pub Replied : Run → Outcome → List ℕ → Type 0
-Replied r Words text = (q : Request) → Asks r.words q → ⊥
-Replied r Read text = FailedRead r
-Replied r Write text = ⊥
-Replied r Memory text = Unit {0}
-Replied r o text = Answers r o text
+Replied r o text = Says r.words (Answers r) (FailedRead r) o text
 
 -- the same of a reply
 abbrev pub RepliesWith : Run → Reply → Type 0

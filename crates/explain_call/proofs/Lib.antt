@@ -1,5 +1,4 @@
 mod Telling
 mod Readable
 mod OneKind
-mod Spoken
 mod BackDoors

@@ -1,8 +1,8 @@
 // What the words ask for.
 
-ghost use Rattle.std.specs.Prelude.{List, ◌≡◌, Some, None, IfOk, IsErrOf, map, option_map};
-ghost use Rattle.word_forms.specs.Form.{Text, Use, row_named, HasForm, IsCall, IsOnlyCall};
-ghost use Rattle.word_forms.specs.Views.{row_of, texts_of, uses_in};
+ghost use Rattle.std.specs.Prelude.{List, ◌≡◌, IfOk, IsErrOf, map, option_map};
+ghost use Rattle.word_forms.specs.Form.{Use, row_named};
+ghost use Rattle.word_forms.specs.Views.{row_of, texts_of};
 ghost use Rattle.word_values.specs.Gives.{HoldsCall};
 ghost use Rattle.word_values.specs.Readable.{IsReadable};
 ghost use Rattle.explain_call.specs.Requests.{row_for, table, kind_of, IsRequest, AsksNothing, Asks, request_of};
@@ -11,7 +11,8 @@ ghost use Rattle.explain_call.specs.Requests as asked;
 use request_values::{RequestFault, listed_names, needed_names, needed_word};
 use std::alloc::Global;
 use word_forms::Entry;
-use word_values::{Values, Words, read_words};
+use word_requests::words_found;
+use word_values::Values;
 
 /// `steps FILE CERTIFICATE [--graphs]`
 const STEPS_ROW: Entry = Entry {
@@ -161,34 +162,10 @@ pub fn read_request<'a>(alloc: Global, words: &'a [String]) -> Result<Request<'a
     ensures asks { IfOk result (λ r. Asks (texts_of words.now) (request_of r)) }
     ensures none { IsErrOf result RequestFault.NotUnderstood → (q : asked.Request) → Asks (texts_of words.now) q → ⊥ }
 {
-    match words_found(alloc, words) {
-        Ok(found) => request_found(alloc, found),
-        Err(fault) => Err(fault),
-    }
-}
-
-/// The words by the table, exactly where they have its form.
-fn words_found<'a>(alloc: Global, words: &'a [String]) -> Result<Words<'a>, RequestFault>
-    ensures call { IfOk result (λ w. IsCall table (texts_of words.now) (row_of w.call.row.now) (uses_in w.call.uses)) }
-    ensures only { IfOk result (λ w. IsOnlyCall table (texts_of words.now) (row_of w.call.row.now) (uses_in w.call.uses)) }
-    ensures values { IfOk result (λ w. HoldsCall (row_of w.call.row.now) (uses_in w.call.uses) w.values) }
-    ensures none { IsErrOf result RequestFault.NotUnderstood → HasForm table (texts_of words.now) → ⊥ }
-{
-    match read_words(alloc, rows(), words) {
-        Ok(Some(found)) => Ok(found),
-        Ok(None) => Err(RequestFault::NotUnderstood),
-        Err(_) => Err(RequestFault::NoMemory),
-    }
-}
-
-/// What words of the form ask for.
-fn request_found<'a>(alloc: Global, found: Words<'a>) -> Result<Request<'a>, RequestFault>
-    requires { row_named table (row_of found.call.row.now).name ≡ Some (row_of found.call.row.now) }
-    ensures row { IfOk result (λ r. row_for (kind_of (request_of r)) ≡ row_of found.entry.call.row.now) }
-    ensures ok { (uses : List Use) → HoldsCall (row_of found.entry.call.row.now) uses found.entry.values → IfOk result (λ r. IsRequest uses (request_of r)) }
-    ensures none { (uses : List Use) → HoldsCall (row_of found.entry.call.row.now) uses found.entry.values → IsErrOf result RequestFault.NotUnderstood
-        → (q : asked.Request) → row_for (kind_of q) ≡ row_of found.entry.call.row.now → IsRequest uses q → ⊥ }
-{
+    let found = match words_found(alloc, rows(), words) {
+        Ok(found) => found,
+        Err(fault) => return Err(fault),
+    };
     let Some(kind) = kind_named(found.call.row.name) else {
         unreachable!()
     };

@@ -1,25 +1,17 @@
 -- From what a request gives to what is replied.
 use Rattle.std.proofs.Common.{◌≡◌, ℕ, List, sym, subst}
 use Rattle.replies.specs.declared.outcome.Outcome.{Outcome}
-use Rattle.replies.specs.declared.outcome.Outcome.TheVariants.{Yes, No, Words, Graph, Second, Evaluation, Read, Write, Memory}
+use Rattle.replies.specs.declared.outcome.Outcome.TheVariants.{Words, Memory}
 use Rattle.replies.specs.declared.outcome.Reply.{Reply}
 use Rattle.replies.specs.Outcomes.{IsAnswered}
 use Rattle.causal_cli.specs.Commands.{Request, Asks}
 use Rattle.causal_cli.specs.Answers.{WordsAnswer, Defined, IsLeftOf}
 use Rattle.causal_cli.specs.declared.answer.SecondInput.{SecondInput}
-use Rattle.causal_cli.proofs.Answered.{words_answered, defined_answered, named, continues, defined_with, answered_with}
-use Rattle.kept_call.specs.Replies.{Question, Answers, by_words, by_diagram, by_both, Replies, RepliesWith, Proceeds, replied, lacked, no_memory}
+use Rattle.causal_cli.proofs.Answered.{words_answered, defined_answered, said, named, continues, defined_with, answered_with}
+use Rattle.kept_call.specs.Replies.{Question, LacksSecond, Answers, by_words, by_diagram, by_both, Replies, RepliesWith, Proceeds, replied, lacked, no_memory}
 
 settled : (q : Question) (o : Outcome) (text : List ℕ) → IsAnswered o → Answers q o text → Replies q o text
-settled q Yes text is a = a
-settled q No text is a = a
-settled q Graph text is a = a
-settled q Second text is a = a
-settled q Evaluation text is a = a
-settled q Words text is a = absurd is
-settled q Read text is a = absurd is
-settled q Write text is a = absurd is
-settled q Memory text is a = absurd is
+settled q o text is a = said q.words (Answers q) (LacksSecond q) o text is a
 
 pub replied_words : (q : Question) (w : Request) (reply : Reply) → Asks q.words w → WordsAnswer w reply.outcome reply.text.items → RepliesWith q reply
 replied_words q w reply asks a =
