@@ -53,7 +53,7 @@ cause_text j = codes "c" ++ decimal j
 
 -- what a bit of vertex v is the parity of: v's own hedge bit, hedge bits, carried bits, and causes
 abbrev pub terms_of : List (List ℕ) → ℕ → Part → List (List ℕ)
-terms_of names v p = if p.own_hedge then (bit_text names Hedge v ∷ []) else []
+terms_of names v p = (if p.own_hedge then bit_text names Hedge v ∷ [] else [])
     ++ (bits_of names Hedge p.hedge_of.bits ++ (bits_of names Carried p.carried_of.bits ++ map cause_text p.causes.items))
 
 -- each term behind ` + `
