@@ -93,14 +93,14 @@ file_read r q w name names asks once other_calls other_given = record {
 -- a second input of another name was read
 pub read_other : (held : Text → Option (List ℕ)) (q : Reads) (file second : Text) → (second ≡ file → ⊥) → IsReadAtMostOnce held q second → ((other : Text) → other ≢ second → q.calls_after other ≡ q.calls other)
     → ((other : Text) → other ≢ second → q.given_after other ≡ q.given other) → ReadsSecond held q file second
-read_other held q file second apart once other_calls other_given = record {
+read_other held q name other apart once other_calls other_given = record {
   only = others;
-  not_again = others file (λ e. apart (sym e));
-  once = one_read held q second once others;
+  not_again = others name (λ e. apart (sym e));
+  once = one_read held q other once others;
 }
   where
-    others : (other : Text) → other ≢ second → IsNotRead q other
-    others other d = record { calls = other_calls other d; given = other_given other d }
+    others : (x : Text) → x ≢ other → IsNotRead q x
+    others x d = record { calls = other_calls x d; given = other_given x d }
 
 -- nothing was read
 none : (q : Reads) → q.calls_after ≡ q.calls → q.given_after ≡ q.given → (name : Text) → IsNotRead q name
@@ -114,8 +114,8 @@ nothing_read r q same_calls same_given = record {
 
 -- nor of a second input
 pub nothing_more : (held : Text → Option (List ℕ)) (q : Reads) (file second : Text) → q.calls_after ≡ q.calls → q.given_after ≡ q.given → ReadsSecond held q file second
-nothing_more held q file second same_calls same_given = record {
-  only = λ name d. none q same_calls same_given name;
-  not_again = none q same_calls same_given file;
-  once = λ name. not_read_once held q name (none q same_calls same_given name);
+nothing_more held q name other same_calls same_given = record {
+  only = λ x d. none q same_calls same_given x;
+  not_again = none q same_calls same_given name;
+  once = λ x. not_read_once held q x (none q same_calls same_given x);
 }

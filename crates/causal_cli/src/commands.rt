@@ -13,7 +13,7 @@ use request_values::RequestFault;
 use std::alloc::Global;
 use word_forms::Entry;
 use word_requests::words_found;
-use word_values::Values;
+use word_values::{Values, Words};
 
 /// A command.
 #[derive(Clone, Copy)]
@@ -110,10 +110,20 @@ pub fn read_request<'a>(alloc: Global, words: &'a [String]) -> Result<Request<'a
     ensures asks { IfOk result (λ r. Asks (texts_of words.now) (request_of r)) }
     ensures none { IsErrOf result RequestFault.NotUnderstood → (q : asked.Request) → Asks (texts_of words.now) q → ⊥ }
 {
-    let found = match words_found(alloc, rows(), words) {
-        Ok(found) => found,
-        Err(fault) => return Err(fault),
-    };
+    match words_found(alloc, rows(), words) {
+        Ok(found) => request_found(alloc, found),
+        Err(fault) => Err(fault),
+    }
+}
+
+/// What words of the form ask for.
+fn request_found<'a>(alloc: Global, found: Words<'a>) -> Result<Request<'a>, RequestFault>
+    requires { row_named table (row_of found.call.row.now).name ≡ Some (row_of found.call.row.now) }
+    ensures row { IfOk result (λ r. row_for (command_of (request_of r)) ≡ row_of found.entry.call.row.now) }
+    ensures ok { (uses : List Use) → HoldsCall (row_of found.entry.call.row.now) uses found.entry.values → IfOk result (λ r. IsRequest uses (request_of r)) }
+    ensures none { (uses : List Use) → HoldsCall (row_of found.entry.call.row.now) uses found.entry.values → IsErrOf result RequestFault.NotUnderstood
+        → (q : asked.Request) → row_for (command_of q) ≡ row_of found.entry.call.row.now → IsRequest uses q → ⊥ }
+{
     let Some(command) = command_named(found.call.row.name) else {
         unreachable!()
     };

@@ -15,7 +15,7 @@ use word_values::{Words, read_words};
 /// The words' call with its values, exactly where they have the form of the table. They are one call at most.
 pub fn words_found<'a>(
     alloc: Global,
-    table: &'a [Entry],
+    table: &'static [Entry],
     words: &'a [String],
 ) -> Result<Words<'a>, RequestFault>
     requires { IsReadable (map row_of table.now) }
@@ -24,7 +24,8 @@ pub fn words_found<'a>(
     ensures values { IfOk result (λ w. HoldsCall (row_of w.call.row.now) (uses_in w.call.uses) w.values) }
     ensures none { IsErrOf result RequestFault.NotUnderstood → HasForm (map row_of table.now) (texts_of words.now) → ⊥ }
 {
-    match read_words(alloc, table, words) {
+    let rows: &'a [Entry] = table;
+    match read_words(alloc, rows, words) {
         Ok(Some(found)) => Ok(found),
         Ok(None) => Err(RequestFault::NotUnderstood),
         Err(_) => Err(RequestFault::NoMemory),
