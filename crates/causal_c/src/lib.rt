@@ -7,15 +7,15 @@ ghost use Rattle.m_separation.specs.Walks.{IsSeparated, HasOpenWalk};
 ghost use Rattle.dag_reader.specs.declared.graph.ReadGraph.{ReadGraph};
 ghost use Rattle.kept_graph.specs.Kept.{AreAskable, IsKept, IsNoGraphText, Keeps, graph_in};
 ghost use Rattle.kept_call.specs.Asked.{Asked, HasKept};
-ghost use Rattle.spans.specs.Words.{AreTexts, IsNoText};
 ghost use Rattle.span_call.specs.Called.{Called, LacksInput, IsCutShort};
+ghost use Rattle.span_call.specs.Ends.{IsEnd};
 ghost use Rattle.explain_call.specs.Calls.{Explained};
 
 use explain_call::explain_spans;
 use kept_call::ask_kept;
 use kept_graph::{KeepFault, KeptDiagram, ReadDiagram, Separation};
 use mixed_graph::VSet;
-use span_call::{Sizes, run_spans, show};
+use span_call::{Arguments, Sizes, run_spans, show};
 use spans::{Input, Span};
 use std::alloc::Global;
 
@@ -30,21 +30,23 @@ pub extern "C" fn causal_run(
     err: &mut [u8],
     sizes: &mut Sizes,
 ) -> u8
-    ensures called { result ≤ 8 → Called bytes.now words.now inputs.now out.old out.new err.old err.new sizes.new result }
+    // 9: a word is no text. Below that each is. From 9 on nothing is written.
+    ensures end { IsEnd bytes.now words.now out.old out.new err.old err.new sizes.new result }
     ensures known { result ≤ 10 }
 
     // 6: an input that the words name isn't there. 7: memory was refused for the answer.
+    ensures called { result ≤ 8 → Called bytes.now words.now inputs.now out.old out.new err.old err.new sizes.new result }
     ensures lacked { result ≡ 6 → LacksInput bytes.now words.now inputs.now }
     ensures cut_short { result ≡ 7 → IsCutShort bytes.now words.now inputs.now out.old out.new sizes.new }
-
-    // 9: a word is no text. Below that each is. From 9 on nothing is written.
-    ensures not_text { result ≡ 9 → IsNoText bytes.now words.now }
-    ensures are_texts { result ≤ 8 → AreTexts bytes.now words.now }
-    ensures out_stays { 9 ≤ result → out.new ≡ out.old }
-    ensures err_stays { 9 ≤ result → err.new ≡ err.old }
-    ensures no_sizes { 9 ≤ result → sizes.new ≡ record { out = 0; err = 0 } }
 {
-    run_spans(alloc, bytes, words, inputs, out, err, sizes)
+    let arguments = Arguments {
+        bytes,
+        words,
+        inputs,
+    };
+    let end = run_spans(alloc, &arguments, out, err);
+    *sizes = end.sizes;
+    end.status
 }
 
 /// The steps of the derivation of a certificate: answers the words `steps FILE CERTIFICATE`, shows what was written, and gives the status.
@@ -58,17 +60,19 @@ pub extern "C" fn causal_explain(
     err: &mut [u8],
     sizes: &mut Sizes,
 ) -> u8
-    ensures explained { result ≤ 8 → Explained bytes.now words.now inputs.now out.old out.new err.old err.new sizes.new result }
-    ensures known { result ≤ 10 }
-
     // 9: a word is no text. Below that each is. From 9 on nothing is written.
-    ensures not_text { result ≡ 9 → IsNoText bytes.now words.now }
-    ensures are_texts { result ≤ 8 → AreTexts bytes.now words.now }
-    ensures out_stays { 9 ≤ result → out.new ≡ out.old }
-    ensures err_stays { 9 ≤ result → err.new ≡ err.old }
-    ensures no_sizes { 9 ≤ result → sizes.new ≡ record { out = 0; err = 0 } }
+    ensures end { IsEnd bytes.now words.now out.old out.new err.old err.new sizes.new result }
+    ensures known { result ≤ 10 }
+    ensures explained { result ≤ 8 → Explained bytes.now words.now inputs.now out.old out.new err.old err.new sizes.new result }
 {
-    explain_spans(alloc, bytes, words, inputs, out, err, sizes)
+    let arguments = Arguments {
+        bytes,
+        words,
+        inputs,
+    };
+    let end = explain_spans(alloc, &arguments, out, err);
+    *sizes = end.sizes;
+    end.status
 }
 
 /// Keeps the diagram of a graph text, and shows its names: 0; 3 where the bytes are no graph text; 8 where memory was refused. What was
@@ -141,17 +145,19 @@ pub extern "C" fn causal_ask(
     err: &mut [u8],
     sizes: &mut Sizes,
 ) -> u8
+    // 9: a word is no text. 11: no diagram with these names is kept. Below 9 each word is a text. From 9 on nothing is written.
+    ensures end { IsEnd bytes.now words.now out.old out.new err.old err.new sizes.new result }
+    ensures not_kept { result ≡ 11 → (g : ReadGraph) → Keeps kept.now names.now g → ⊥ }
+    ensures known { result ≤ 11 }
     ensures asked { result ≤ 8 → (text : List ℕ) → IsKept text kept.now names.now
         → Asked text bytes.now words.now inputs.now out.old out.new err.old err.new sizes.new result }
-    ensures known { result ≤ 11 }
-
-    // 9: a word is no text. 11: no diagram with these names is kept. Below 9 each word is a text. From 9 on nothing is written.
-    ensures not_text { result ≡ 9 → IsNoText bytes.now words.now }
-    ensures not_kept { result ≡ 11 → (g : ReadGraph) → Keeps kept.now names.now g → ⊥ }
-    ensures are_texts { result ≤ 8 → AreTexts bytes.now words.now }
-    ensures out_stays { 9 ≤ result → out.new ≡ out.old }
-    ensures err_stays { 9 ≤ result → err.new ≡ err.old }
-    ensures no_sizes { 9 ≤ result → sizes.new ≡ record { out = 0; err = 0 } }
 {
-    ask_kept(alloc, kept, names, bytes, words, inputs, out, err, sizes)
+    let arguments = Arguments {
+        bytes,
+        words,
+        inputs,
+    };
+    let end = ask_kept(alloc, kept, names, &arguments, out, err);
+    *sizes = end.sizes;
+    end.status
 }

@@ -2,6 +2,7 @@
 use Rattle.std.proofs.Common.{◌≡◌, ℕ, ◌<◌, List, Some, length, arith}
 use Rattle.std.specs.Prelude.{suc, replicate}
 use Rattle.std.proofs.lemmas.List.{length-replicate}
+use Rattle.word_forms.specs.Form.{Text}
 use Rattle.dag_reader.specs.declared.graph.ReadGraph.{ReadGraph}
 use Rattle.replies.specs.declared.outcome.Outcome.{Outcome}
 use Rattle.replies.specs.declared.outcome.Outcome.TheVariants.{Words, Read, Write, Memory}
@@ -9,6 +10,7 @@ use Rattle.replies.specs.declared.outcome.Reply.{Reply}
 use Rattle.replies.specs.Outcomes.{IsAnswered}
 use Rattle.replies.proofs.Outcomes.{answered}
 use Rattle.causal_cli.specs.Commands.{Request, of, second_of}
+use Rattle.causal_cli.specs.Ends.{Says}
 use Rattle.causal_cli.specs.Answers.{WordsAnswer, GraphAnswer, Defined, Continues, DefinedWith, second_in, limit_of, IsOfAcceptedGraph, GivesSecond, IsAnsweredWith, IsLeft, IsLeftOf}
 use Rattle.causal_cli.specs.declared.answer.SecondInput.{SecondInput}
 use Rattle.causal_cli.proofs.EachCommand.{lawful}
@@ -31,6 +33,14 @@ long_answered p reply only gives =
     let long : List ℕ = replicate (suc (limit_of p)) 0 in
     let e : length long ≡ suc (limit_of p) = length-replicate (suc (limit_of p)) 0 in
     only long reply.outcome reply.text.items (gives long (omega (arith, e)))
+
+-- an answer is what a reply with its outcome says
+pub said : (words : List Text) (answers : Outcome → List ℕ → Type 0) (unread : Type 0) (o : Outcome) (text : List ℕ) → IsAnswered o → answers o text → Says words answers unread o text
+said words answers unread Words text only a = absurd only
+said words answers unread Read text only a = absurd only
+said words answers unread Write text only a = absurd only
+said words answers unread Memory text only a = absurd only
+said words answers unread o text only a = a
 
 -- ---- what is left
 

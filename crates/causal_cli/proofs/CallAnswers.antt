@@ -1,11 +1,13 @@
 -- What a run answers whose words are a call of one command.
-use Rattle.std.proofs.Common.{◌≡◌, ℕ, List, Option, Some, sym, subst}
-use Rattle.std.proofs.lemmas.Option.{same_Some}
+use Rattle.std.proofs.Common.{◌≡◌, ℕ, List, Option, Some, None, sym, ◌∙◌, subst}
+use Rattle.std.proofs.lemmas.Option.{same_Some, none-some}
 use Rattle.std.specs.Prelude.{IfSome}
+use Rattle.std.specs.Io.KnownBytes.{Appends}
 use Rattle.word_forms.specs.Form.{Text, Use, IsCall}
 use Rattle.replies.specs.declared.outcome.Outcome.{Outcome}
 use Rattle.causal_cli.specs.Answers.{WordsAnswer, Defined, DefinedWith}
 use Rattle.causal_cli.specs.Commands.{form_of, table, row_for, Request, of, command_of, file_of, second_of, IsRequest, Asks}
+use Rattle.causal_cli.specs.Headline.{WrittenFor}
 use Rattle.causal_cli.specs.Run.{Run, Answers, by_words, by_file, by_both}
 use Rattle.causal_cli.specs.declared.commands.Command.{Command}
 use Rattle.causal_cli.proofs.CompleteRuns.{words_ask_once}
@@ -56,3 +58,18 @@ pub under_names : (held : Text → Option (List ℕ)) (name file other second : 
 under_names held name file other second P Q f e g h =
     under_name held name file (λ bytes. IfSome (held second) (λ more. P bytes more)) (λ bytes. IfSome (held other) (λ more. Q bytes more))
     (λ bytes k. under_name held other second (λ more. P bytes more) (λ more. Q bytes more) (f bytes) g k) e h
+
+-- what is answered to a call of a command that has a file alone, and was written, was written for the request
+module _ (r : Run) (c : Command) (uses : List Use) (o : Outcome) (text : List ℕ) (file : (form_of c).Request → Text) (shows : (form_of c).Request → (bytes text : List ℕ) → Type 0)
+    (wordless : (q : (form_of c).Request) → WordsAnswer (of c q) o text → ⊥) (names : (q : (form_of c).Request) → file_of (of c q) ≡ Some (file q)) (single : (q : (form_of c).Request) → second_of (of c q) ≡ None)
+    (shown : (q : (form_of c).Request) → IsRequest uses (of c q) → (bytes : List ℕ) → Defined (of c q) bytes o text → shows q bytes text) where
+  pub written_for : Appends r.out.before r.out.after text → CallAnswer r c uses o text → WrittenFor (λ us q. IsRequest us (of c q)) file shows r uses
+  written_for whole (on_words q is h) = absurd (wordless q h)
+  written_for whole (on_file q is name named h) = record {
+    request = q;
+    text = text;
+    asks = is;
+    right = under_name r.held (file q) name (λ bytes. Defined (of c q) bytes o text) (λ bytes. shows q bytes text) (shown q is) (sym (names q) ∙ named) h;
+    whole = whole;
+  }
+  written_for whole (on_both q is name second named named_second h) = absurd (none-some second (sym (single q) ∙ named_second))

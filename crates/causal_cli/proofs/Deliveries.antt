@@ -1,11 +1,13 @@
 -- From what was read to the reply, and from a reply that was delivered to the end of the run.
-use Rattle.std.proofs.Common.{◌≡◌, ℕ, ◌<◌, ◌≤◌, arith, Bool, true, false, List, Option, Some, None, IfSome, Result, Ok, Err, length, inl, ◌∙◌, refl, sym, subst}
+use Rattle.std.proofs.Common.{◌≡◌, ℕ, ◌<◌, ◌≤◌, arith, Bool, true, false, List, Option, Some, None, IfSome, IfOk, Result, Ok, Err, length, inl, ◌∙◌, refl, sym, subst}
+use Rattle.std.specs.Prelude.{IfErr}
+use Rattle.std.proofs.lemmas.Bool.{false≢true}
 use Rattle.std.specs.Global.{Vec}
 use Rattle.word_forms.specs.Form.{Text}
 use Rattle.causal_io.specs.Causes.{Rose}
 use Rattle.causal_io.specs.Reading.{AnswersAll}
 use Rattle.causal_io.specs.declared.ReadError.{ReadError}
-use Rattle.causal_io.specs.declared.ReadError.TheVariants.{Fault, TooLong}
+use Rattle.causal_io.specs.declared.ReadError.TheVariants.{Fault, TooLong, NoMemory}
 use Rattle.std.specs.Io.KnownBytes.{Appends}
 use Rattle.replies.specs.declared.outcome.Outcome.{Outcome}
 use Rattle.replies.specs.declared.outcome.Outcome.TheVariants.{Yes, No, Words, Graph, Read, Write, Memory}
@@ -14,9 +16,9 @@ use Rattle.replies.specs.declared.outcome.Reply.{Reply}
 use Rattle.causal_cli.specs.Commands.{Request, Asks, file_of}
 use Rattle.causal_cli.specs.Answers.{WordsAnswer, Defined, too_long, Continues, DefinedWith, second_in, limit_of, GivesSecond, IsAnsweredWith, IsLeftOf}
 use Rattle.causal_cli.specs.Run.{Run, Answers, by_words, by_file, by_both, file as reads_file, second, Ends}
-use Rattle.causal_cli.specs.Ends.{FailedRead, Replied, RepliesWith, told_of, EndsWith, Delivers, written, unwritten, refused, IsTooLongLine, IsTooLong, Proceeds, replied, unread, no_memory}
+use Rattle.causal_cli.specs.Ends.{FailedRead, Replied, RepliesWith, IsReadOf, TellsUnread, IsMade, GivesOnRead, told_of, EndsWith, Delivers, written, unwritten, refused, IsTooLongLine, Proceeds, replied, unread, no_memory}
 use Rattle.causal_cli.specs.declared.answer.SecondInput.{SecondInput}
-use Rattle.causal_cli.proofs.Answered.{words_answered, defined_answered, long_answered, named, continues, defined_with}
+use Rattle.causal_cli.proofs.Answered.{words_answered, defined_answered, long_answered, said, named, continues, defined_with}
 
 -- what holds of the bytes that were read holds of those that are held, where they are told
 pub told : (held : Option (List ℕ)) (items : List ℕ) (P : List ℕ → Type 0) → IfSome held (λ all. items ≡ all) → P items → IfSome held P
@@ -36,19 +38,21 @@ not_true false n = refl
 
 -- the defined answer is a reply
 an_answer : (r : Run) (o : Outcome) (text : List ℕ) → IsAnswered o → Answers r o text → Replied r o text
-an_answer r Words text only a = absurd only
-an_answer r Read text only a = absurd only
-an_answer r Write text only a = absurd only
-an_answer r Memory text only a = absurd only
-an_answer r o text only a = a
+an_answer r o text only a = said r.words (Answers r) (FailedRead r) o text only a
 
 -- the words ask for nothing
 pub not_understood : (r : Run) (reply : Reply) → reply.outcome ≡ Words → ((w : Request) → Asks r.words w → ⊥) → RepliesWith r reply
 not_understood r reply is none = subst (λ o. Replied r o reply.text.items) (sym is) none
 
--- the reply on the words alone
-pub replied_words : (r : Run) (w : Request) (reply : Reply) → Asks r.words w → WordsAnswer w reply.outcome reply.text.items → RepliesWith r reply
-replied_words r w reply asks a = an_answer r reply.outcome reply.text.items (words_answered w reply.outcome reply.text.items a) (by_words (record { request = w; asks = asks; answer = a }))
+-- memory was refused
+pub no_room : (r : Run) (reply : Reply) → reply.outcome ≡ Memory → RepliesWith r reply
+no_room r reply is = subst (λ o. Replied r o reply.text.items) (sym is) tt
+
+-- the reply on the words alone, or that memory was refused for it
+pub replied_words : {E : Type 0} (r : Run) (w : Request) (made : Result Reply E) (reply : Reply) → Asks r.words w → IfOk made (λ x. WordsAnswer w x.outcome x.text.items) → IsMade made reply → RepliesWith r reply
+replied_words r w (Ok made) reply asks a is =
+    subst (RepliesWith r) (sym is) (an_answer r made.outcome made.text.items (words_answered w made.outcome made.text.items a) (by_words (record { request = w; asks = asks; answer = a })))
+replied_words r w (Err e) reply asks a is = no_room r reply is
 
 -- the reply on the file alone
 pub replied_file : (r : Run) (w : Request) (file : Text) (bytes : List ℕ) (reply : Reply) → Asks r.words w → file_of w ≡ Some file → r.lacks file ≡ false →
@@ -61,12 +65,6 @@ replied_file r w file bytes reply asks names there held d = an_answer r reply.ou
   there = there;
   defined = told (r.held file) bytes (λ all. Defined w all reply.outcome reply.text.items) held d;
 }))
-
--- the file couldn't be read
-pub failed_file : (r : Run) (w : Request) (name : Text) (reply : Reply) → Asks r.words w → file_of w ≡ Some name → Rose (r.read_faults name) (r.read_faults_after name) →
-    reply.outcome ≡ Read → RepliesWith r reply
-failed_file r w name reply asks names rose is =
-    let failed : FailedRead r = record { request = w; asks = asks; name = name; is_read = reads_file names; rose = rose } in subst (λ o. Replied r o reply.text.items) (sym is) failed
 
 -- a count that rose after it stood higher rose
 rose_since : (before middle after : ℕ) → before ≤ middle → Rose middle after → Rose before after
@@ -103,7 +101,7 @@ module _ (r : Run) (w : Request) (file : Text) (bytes : List ℕ) (p : SecondInp
         rose = rose_since (r.read_faults (second_in p)) (faults (second_in p)) (r.read_faults_after (second_in p)) (grown (second_in p)) rose;
       } in
       subst (λ o. Replied r o reply.text.items) (sym same) failed
-  proceeded (no_memory same) = subst (λ o. Replied r o reply.text.items) (sym same) tt
+  proceeded (no_memory same) = no_room r reply same
 
 -- the reply to a text that is too long
 long_file : (r : Run) (w : Request) (file : Text) → Asks r.words w → file_of w ≡ Some file → r.lacks file ≡ false → IfSome (r.held file) (λ all. 1048576 < length all) →
@@ -119,37 +117,54 @@ long_file r w file asks names there held Graph line long = by_file (record {
 long_file r w file asks names there held Memory line long = tt
 long_file r w file asks names there held o line long = absurd long
 
-no_fault : (f : ReadError) (most : ℕ) → f ≡ TooLong most → (let r : Result (Vec ℕ) ReadError = Err f in r ≡ Err Fault) → ⊥
-no_fault f most e h = let g : f ≡ Fault = cc h in let t : TooLong most ≡ Fault = sym e ∙ g in cc t
+-- the file couldn't be read whole
+pub unread_file : (r : Run) (w : Request) (name : Text) (f : ReadError) (reply : Reply) → Asks r.words w → file_of w ≡ Some name → IsReadOf (r.held name) (r.lacks name) (r.read_faults name) (r.read_faults_after name) 1048576 (Err f)
+    → TellsUnread f reply → RepliesWith r reply
+unread_file r w name Fault reply asks names h is =
+    let failed : FailedRead r = record { request = w; asks = asks; name = name; is_read = reads_file names; rose = h.failed refl } in subst (λ o. Replied r o reply.text.items) (sym is) failed
+unread_file r w name (TooLong most) reply asks names h long =
+    long_file r w name asks names (not_true (r.lacks name) (λ t. let e = h.lacked t in cc e)) h.answer.1 reply.outcome reply.text.items long
+unread_file r w name NoMemory reply asks names h is = no_room r reply is
 
--- the file that the request names holds more than is read
-pub replied_too_long : (r : Run) (w : Request) (file : Text) (f : ReadError) (most : ℕ) (reply : Reply) → file_of w ≡ Some file → f ≡ TooLong most → Asks r.words w →
-    AnswersAll (r.held file) 1048576 (Err f) → (r.lacks file ≡ true → (let read : Result (Vec ℕ) ReadError = Err f in read ≡ Err Fault)) → IsTooLong reply → RepliesWith r reply
-replied_too_long r w file f most reply names ef asks answer lacked long =
-    let held = subst (λ k. AnswersAll (r.held file) 1048576 (Err k)) ef answer in
-    long_file r w file asks names (not_true (r.lacks file) (λ t. no_fault f most ef (lacked t))) held.1 reply.outcome reply.text.items long
+-- ---- the second input
 
--- the second input holds more than is read
-pub long_second : (held : Text → Option (List ℕ)) (lacks : Text → Bool) (faults faults_after : Text → ℕ) (p : SecondInput) (name : Text) (limit : ℕ)
-    (f : ReadError) (most : ℕ) (reply : Reply) → name ≡ second_in p → limit ≡ limit_of p → f ≡ TooLong most → AnswersAll (held name) limit (Err f) →
-    (lacks name ≡ true → (let read : Result (Vec ℕ) ReadError = Err f in read ≡ Err Fault)) →
-    IsAnsweredWith p → ((other : List ℕ) → limit_of p < length other → GivesSecond p other reply) → Proceeds held lacks faults faults_after p reply
-long_second held lacks faults faults_after p name limit f most reply en el ef answer lacked only gives =
-    let read = subst (λ n. AnswersAll (held n) (limit_of p) (Err (TooLong most))) en (subst (λ k. AnswersAll (held name) k (Err (TooLong most))) el (subst (λ k. AnswersAll (held name) limit (Err k)) ef answer)) in
-    replied (long_answered p reply only gives) (subst (λ n. lacks n ≡ false) en (not_true (lacks name) (λ t. no_fault f most ef (lacked t))))
-    (mapped (held (second_in p)) (λ other. (limit_of p) < length other) (λ other. GivesSecond p other reply) gives read.1)
+-- bytes that were read before are what is read of an input of the same name
+pub read_again : (held : Option (List ℕ)) (lacks : Bool) (faults limit : ℕ) (bytes : List ℕ) (r : Result (Vec ℕ) ReadError) → IfSome held (λ all. bytes ≡ all) → lacks ≡ false → length bytes ≤ limit
+    → IfOk r (λ copy. copy.items ≡ bytes) → IfErr r (λ f. f ≡ NoMemory) → IsReadOf held lacks faults faults limit r
+read_again held lacks faults limit bytes (Ok copy) told_it there small same memory = record {
+  answer = (subst (λ (xs : List ℕ). length xs ≤ limit) (sym same) small, mapped held (λ all. bytes ≡ all) (λ all. copy.items ≡ all) (λ all e. same ∙ e) told_it);
+  lacked = λ t. absurd (false≢true (sym there ∙ t));
+  failed = λ e. cc e;
+}
+read_again held lacks faults limit bytes (Err f) told_it there small same memory = subst (λ (k : ReadError). IsReadOf held lacks faults faults limit (Err k)) (sym memory) (record {
+  answer = tt;
+  lacked = λ t. absurd (false≢true (sym there ∙ t));
+  failed = λ e. cc e;
+})
 
-not_fault : (v : Vec ℕ) → (let r : Result (Vec ℕ) ReadError = Ok v in r ≡ Err Fault) → ⊥
-not_fault v h = absurd (cc h)
+-- what was read is within the limit
+pub within : (held : Option (List ℕ)) (limit : ℕ) (r : Result (Vec ℕ) ReadError) → AnswersAll held limit r → IfOk r (λ other. length other.items ≤ limit)
+within held limit (Ok other) a = a.0
+within held limit (Err f) a = tt
 
--- the second input was read
-pub read_second : (held : Text → Option (List ℕ)) (lacks : Text → Bool) (faults faults_after : Text → ℕ) (p : SecondInput) (name : Text) (limit : ℕ)
-    (v : Vec ℕ) (reply : Reply) → name ≡ second_in p → AnswersAll (held name) limit (Ok v) →
-    (lacks name ≡ true → (let read : Result (Vec ℕ) ReadError = Ok v in read ≡ Err Fault)) →
-    IsAnsweredWith p → GivesSecond p v.items reply → Proceeds held lacks faults faults_after p reply
-read_second held lacks faults faults_after p name limit v reply en answer lacked only gives =
-    replied (only v.items reply.outcome reply.text.items gives) (subst (λ n. lacks n ≡ false) en (not_true (lacks name) (λ t. not_fault v (lacked t))))
-    (told (held (second_in p)) v.items (λ other. GivesSecond p other reply) (subst (λ n. IfSome (held n) (λ all. v.items ≡ all)) en answer.1) gives)
+module _ (held : Text → Option (List ℕ)) (lacks : Text → Bool) (faults faults_after : Text → ℕ) (p : SecondInput) (only : IsAnsweredWith p) where
+  -- the reply on what was read of the second input
+  given_on : (reply : Reply) (read : Result (Vec ℕ) ReadError)
+      → IsReadOf (held (second_in p)) (lacks (second_in p)) (faults (second_in p)) (faults_after (second_in p)) (limit_of p) read → GivesOnRead p read reply → Proceeds held lacks faults faults_after p reply
+  given_on reply (Ok other) h gives = replied (only other.items reply.outcome reply.text.items gives) (not_true (lacks (second_in p)) (λ t. let e = h.lacked t in cc e))
+      (told (held (second_in p)) other.items (λ all. GivesSecond p all reply) h.answer.1 gives)
+  given_on reply (Err (TooLong most)) h gives = replied (long_answered p reply only gives) (not_true (lacks (second_in p)) (λ t. let e = h.lacked t in cc e))
+      (mapped (held (second_in p)) (λ all. limit_of p < length all) (λ all. GivesSecond p all reply) gives h.answer.1)
+  given_on reply (Err Fault) h is = unread is (h.failed refl)
+  given_on reply (Err NoMemory) h is = absurd is
+
+  -- or that memory was refused for it
+  pub given_second : {E : Type 0} (name : Text) (limit : ℕ) (read : Result (Vec ℕ) ReadError) (made : Result Reply E) (reply : Reply) → name ≡ second_in p → limit ≡ limit_of p
+      → IsReadOf (held name) (lacks name) (faults name) (faults_after name) limit read → IfOk made (GivesOnRead p read) → IsMade made reply → Proceeds held lacks faults faults_after p reply
+  given_second name limit read (Ok made) reply en el h gives is =
+      let at = subst (λ n. IsReadOf (held n) (lacks n) (faults n) (faults_after n) (limit_of p) read) en (subst (λ k. IsReadOf (held name) (lacks name) (faults name) (faults_after name) k read) el h) in
+      subst (Proceeds held lacks faults faults_after p) (sym is) (given_on made read at gives)
+  given_second name limit read (Err e) reply en el h gives is = no_memory is
 
 -- ---- deliveries
 

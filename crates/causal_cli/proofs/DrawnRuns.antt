@@ -2,7 +2,6 @@
 use Rattle.std.proofs.Common.{◌≡◌, ℕ, Bool, true, false, List, [], ◌∷◌, ◌++◌, Some, None, Result, Ok, ◌&&◌, nat_lt, length, refl, sym, ap, ◌∙◌, subst, arith}
 use Rattle.std.proofs.lemmas.List.{append-nil}
 use Rattle.std.proofs.lemmas.List.Elements.{All-weaker}
-use Rattle.std.proofs.lemmas.Option.{none-some}
 use Rattle.std.specs.Prelude.{IfSome, unwrap_or}
 use Rattle.std.specs.Io.KnownBytes.{Appends}
 use Rattle.mixed_graph.specs.Bits.{has}
@@ -43,7 +42,7 @@ use Rattle.causal_cli.specs.declared.commands.Command.TheVariants.{Identify, Adj
 use Rattle.causal_cli.specs.Drawn.{IsRightAsDrawn, IsTextAsDrawn, IdentifiedAsDrawn, IsCertificateAsDrawn, CheckedAsDrawn, AdjustsAsDrawn, ShowsAdjustmentAsDrawn, IsAdjustmentAsDrawn, AdjustedAsDrawn, IsSurrogateAsDrawn, SurrogatedAsDrawn, IsEvaluationAsDrawn, EvaluatedAsDrawn, RightAsDrawn}
 use Rattle.causal_cli.specs.Headline.{IsRightCertificate, Checked, HeadlineOfCheck}
 use Rattle.causal_cli.specs.Run.{Run, Ends}
-use Rattle.causal_cli.proofs.CallAnswers.{CallAnswer, on_words, on_file, on_both, call_answer, under_name, under_names}
+use Rattle.causal_cli.proofs.CallAnswers.{CallAnswer, on_words, on_file, on_both, call_answer, under_name, under_names, written_for}
 use Rattle.causal_cli.proofs.Deliveries.{mapped}
 use Rattle.causal_cli.proofs.DrawnCounts.{shows_quantities}
 
@@ -87,16 +86,8 @@ module _ (form : Form) (bytes : List ℕ) (g : ReadGraph) (holds : HoldsGraph by
   text_as_drawn (Some (n ∷ ns)) (q, observed, h) = shown q observed (Some (n ∷ ns)) h.target h.sets h.answer.formula h.answer.derivation h.answer.right.effect h.answer.prints
 
 identified : (r : Run) (uses : List Use) (text : List ℕ) → Appends r.out.before r.out.after text → CallAnswer r Identify uses Yes text → IdentifiedAsDrawn r uses
-identified r uses text whole (on_words q is h) = absurd h
-identified r uses text whole (on_file q is file names h) = record {
-  request = q;
-  text = text;
-  asks = is;
-  right = under_name r.held q.file file (λ bytes. HoldsAnswer (of Identify q) bytes Yes text) (λ bytes. IsTextAsDrawn q.form bytes q.x q.y q.given text)
-      (λ bytes a. text_as_drawn q.form bytes a.graph a.holds q.x q.y text q.given a.answer) names h;
-  whole = whole;
-}
-identified r uses text whole (on_both q is file second names names_second h) = absurd (none-some second names_second)
+identified r uses text = written_for r Identify uses Yes text (λ q. q.file) (λ q bytes line. IsTextAsDrawn q.form bytes q.x q.y q.given line) (λ q h. h) (λ q. refl) (λ q. refl)
+    (λ q is bytes a. text_as_drawn q.form bytes a.graph a.holds q.x q.y text q.given a.answer)
 
 -- ---- check
 
@@ -147,15 +138,7 @@ adjusted_on : (q : AdjustRequest) (bytes text : List ℕ) (g : ReadGraph) → Ho
 adjusted_on q bytes text g holds (p, observed, h) = record { graph = g; holds = holds; x = h.x; y = h.y; z = h.z; sets = h.sets; shows = adjustment_as_drawn g p observed q.query h.x h.y h.z text h.answer }
 
 adjusted : (r : Run) (uses : List Use) (text : List ℕ) → Appends r.out.before r.out.after text → CallAnswer r Adjust uses Yes text → AdjustedAsDrawn r uses
-adjusted r uses text whole (on_words q is h) = absurd h
-adjusted r uses text whole (on_file q is file names h) = record {
-  request = q;
-  text = text;
-  asks = is;
-  right = under_name r.held q.file file (λ bytes. HoldsAnswer (of Adjust q) bytes Yes text) (λ bytes. IsAdjustmentAsDrawn q bytes text) (λ bytes a. adjusted_on q bytes text a.graph a.holds a.answer) names h;
-  whole = whole;
-}
-adjusted r uses text whole (on_both q is file second names names_second h) = absurd (none-some second names_second)
+adjusted r uses text = written_for r Adjust uses Yes text (λ q. q.file) IsAdjustmentAsDrawn (λ q h. h) (λ q. refl) (λ q. refl) (λ q is bytes a. adjusted_on q bytes text a.graph a.holds a.answer)
 
 -- ---- surrogate
 
@@ -173,15 +156,7 @@ surrogated_on q bytes text g holds (p, observed, h) = record {
 }
 
 surrogated : (r : Run) (uses : List Use) (text : List ℕ) → Appends r.out.before r.out.after text → CallAnswer r Surrogate uses Yes text → SurrogatedAsDrawn r uses
-surrogated r uses text whole (on_words q is h) = absurd h
-surrogated r uses text whole (on_file q is file names h) = record {
-  request = q;
-  text = text;
-  asks = is;
-  right = under_name r.held q.file file (λ bytes. HoldsAnswer (of Surrogate q) bytes Yes text) (λ bytes. IsSurrogateAsDrawn q bytes text) (λ bytes a. surrogated_on q bytes text a.graph a.holds a.answer) names h;
-  whole = whole;
-}
-surrogated r uses text whole (on_both q is file second names names_second h) = absurd (none-some second names_second)
+surrogated r uses text = written_for r Surrogate uses Yes text (λ q. q.file) IsSurrogateAsDrawn (λ q h. h) (λ q. refl) (λ q. refl) (λ q is bytes a. surrogated_on q bytes text a.graph a.holds a.answer)
 
 -- ---- evaluate
 

@@ -6,7 +6,6 @@ mod NeverFails
 pub mod Answered
 mod Readable
 mod OneCommand
-mod Spoken
 mod DrawnCounts
 mod DrawnRuns
 mod Headlines

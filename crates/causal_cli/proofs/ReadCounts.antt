@@ -8,6 +8,7 @@ use Rattle.causal_io.specs.Reading.{IsReadOnce}
 use Rattle.causal_cli.specs.Commands.{Request, Asks, file_of, second_of}
 use Rattle.causal_cli.specs.Answers.{Continues, second_in, IsLeftOf}
 use Rattle.causal_cli.specs.declared.answer.SecondInput.{SecondInput}
+use Rattle.causal_cli.specs.Ends.{ReadsSecond}
 use Rattle.causal_cli.proofs.Answered.{named, continues}
 use Rattle.causal_cli.proofs.Deliveries.{told}
 use Rattle.causal_cli.specs.Run.{Run, Reads, reads_of, IsNotRead, IsReadAtMostOnce, ReadsAsAsked, IsRead, file, second}
@@ -24,11 +25,11 @@ none_at_most : (o : Option (List ℕ)) (calls calls_after given given_after : �
 none_at_most None calls calls_after given given_after e f = tt
 none_at_most (Some all) calls calls_after given given_after e f = record { calls = omega (arith, e); bytes = omega (arith, f) }
 
-pub not_read_once : (held : Text → Option (List ℕ)) (q : Reads) (name : Text) → IsNotRead q name → IsReadAtMostOnce held q name
+not_read_once : (held : Text → Option (List ℕ)) (q : Reads) (name : Text) → IsNotRead q name → IsReadAtMostOnce held q name
 not_read_once held q name n = none_at_most (held name) (q.calls name) (q.calls_after name) (q.given name) (q.given_after name) n.calls n.given
 
 -- one name was read, and once at most
-pub one_read : (held : Text → Option (List ℕ)) (q : Reads) (read : Text) → IsReadAtMostOnce held q read → ((name : Text) → name ≢ read → IsNotRead q name) → (name : Text) → IsReadAtMostOnce held q name
+one_read : (held : Text → Option (List ℕ)) (q : Reads) (read : Text) → IsReadAtMostOnce held q read → ((name : Text) → name ≢ read → IsNotRead q name) → (name : Text) → IsReadAtMostOnce held q name
 one_read held q read once others name =
     either name read (IsReadAtMostOnce held q name) (λ e. subst (IsReadAtMostOnce held q) (sym e) once) (λ d. not_read_once held q name (others name d))
 
@@ -60,13 +61,12 @@ module _ (calls calls_middle calls_after given given_middle given_after : Text �
   pub both_read : (r : Run) (w : Request) (name : Text) (bytes : List ℕ) (p : SecondInput) (held : Text → Option (List ℕ)) → file_of w ≡ Some name → Asks r.words w
       → r.lacks name ≡ false → IfSome (r.held name) (λ all. bytes ≡ all) → IsLeftOf w bytes p → held ≡ r.held
       → IsReadAtMostOnce r.held before name → ((other : Text) → other ≢ name → calls_middle other ≡ calls other) → ((other : Text) → other ≢ name → given_middle other ≡ given other)
-      → ((other : Text) → other ≢ second_in p → IsNotRead behind other) → IsNotRead behind name → ((other : Text) → IsReadAtMostOnce held behind other)
-      → ReadsAsAsked r whole
-  both_read r w name bytes p held names asks there told_it is same_held once other_calls other_given only not_again once_behind = record {
-    only = λ other no. not_read other (others other (λ e. no w asks (is_file other e))) (only other (λ e. no w asks (is_second other e)));
+      → ReadsSecond held behind name (second_in p) → ReadsAsAsked r whole
+  both_read r w name bytes p held names asks there told_it is same_held once other_calls other_given after = record {
+    only = λ other no. not_read other (others other (λ e. no w asks (is_file other e))) (after.only other (λ e. no w asks (is_second other e)));
     once = λ other. either other name (IsReadAtMostOnce r.held whole other)
-        (λ e. subst (IsReadAtMostOnce r.held whole) (sym e) (first_alone (r.held name) name once not_again))
-        (λ d. second_alone (r.held other) other (others other d) (subst (λ h. IsReadAtMostOnce h behind other) same_held (once_behind other)));
+        (λ e. subst (IsReadAtMostOnce r.held whole) (sym e) (first_alone (r.held name) name once after.not_again))
+        (λ d. second_alone (r.held other) other (others other d) (subst (λ h. IsReadAtMostOnce h behind other) same_held (after.once other)));
   }
     where
       others : (other : Text) → other ≢ name → IsNotRead before other
@@ -90,12 +90,32 @@ file_read r q w name names asks once other_calls other_given = record {
     others : (other : Text) → other ≢ name → IsNotRead q other
     others other d = record { calls = other_calls other d; given = other_given other d }
 
--- nothing was read
-pub nothing_read : (r : Run) (q : Reads) → q.calls_after ≡ q.calls → q.given_after ≡ q.given → ReadsAsAsked r q
-nothing_read r q same_calls same_given = record {
-  only = λ name no. none name;
-  once = λ name. not_read_once r.held q name (none name);
+-- a second input of another name was read
+pub read_other : (held : Text → Option (List ℕ)) (q : Reads) (file second : Text) → (second ≡ file → ⊥) → IsReadAtMostOnce held q second → ((other : Text) → other ≢ second → q.calls_after other ≡ q.calls other)
+    → ((other : Text) → other ≢ second → q.given_after other ≡ q.given other) → ReadsSecond held q file second
+read_other held q name other apart once other_calls other_given = record {
+  only = others;
+  not_again = others name (λ e. apart (sym e));
+  once = one_read held q other once others;
 }
   where
-    none : (name : Text) → IsNotRead q name
-    none name = record { calls = ap (λ f. f name) same_calls; given = ap (λ f. f name) same_given }
+    others : (x : Text) → x ≢ other → IsNotRead q x
+    others x d = record { calls = other_calls x d; given = other_given x d }
+
+-- nothing was read
+none : (q : Reads) → q.calls_after ≡ q.calls → q.given_after ≡ q.given → (name : Text) → IsNotRead q name
+none q same_calls same_given name = record { calls = ap (λ f. f name) same_calls; given = ap (λ f. f name) same_given }
+
+pub nothing_read : (r : Run) (q : Reads) → q.calls_after ≡ q.calls → q.given_after ≡ q.given → ReadsAsAsked r q
+nothing_read r q same_calls same_given = record {
+  only = λ name no. none q same_calls same_given name;
+  once = λ name. not_read_once r.held q name (none q same_calls same_given name);
+}
+
+-- nor of a second input
+pub nothing_more : (held : Text → Option (List ℕ)) (q : Reads) (file second : Text) → q.calls_after ≡ q.calls → q.given_after ≡ q.given → ReadsSecond held q file second
+nothing_more held q name other same_calls same_given = record {
+  only = λ x d. none q same_calls same_given x;
+  not_again = none q same_calls same_given name;
+  once = λ x. not_read_once held q x (none q same_calls same_given x);
+}

@@ -1,6 +1,7 @@
 -- The commands: one list, and of each what it is, which stands in its own crate; when words ask for a request; and what the code's values stand for.
 use Rattle.std.specs.Prelude.{◌≡◌, List, [], ◌∷◌, Option, map, option_map}
 use Rattle.word_forms.specs.Form.{Text, Row, Use, IsCall}
+use Rattle.word_requests.specs.Asks.{AsksBy}
 use Rattle.replies.specs.Command.{CommandForm, Remainder}
 use Rattle.replies.specs.Command as forms
 use Rattle.graph_command.specs.Command.{graph_command}
@@ -101,10 +102,8 @@ abbrev pub AsksNothing : Command → List Use → Type 0
 AsksNothing c uses = forms.AsksNothing (form_of c) uses
 
 -- the words ask for this: they are a call of its command, whose uses give the request
-pub record Asks (words : List Text) (q : Request) : Type 0 where
-  pub uses : List Use
-  pub call : IsCall table words (row_for (command_of q)) uses
-  pub asks : IsRequest uses q
+abbrev pub Asks : List Text → Request → Type 0
+Asks = AsksBy table (λ q. row_for (command_of q)) IsRequest
 
 -- words are one call at most
 abbrev pub AskOnce : List Text → Type 0

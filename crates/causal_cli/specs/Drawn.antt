@@ -48,6 +48,7 @@ use Rattle.evaluate_command.specs.Lines.{sign_of, value_line, pinned_lines}
 use Rattle.evaluate_command.specs.Requests.{evaluate_row}
 use Rattle.evaluate_command.specs.Requests as evaluate_requests
 use Rattle.causal_cli.specs.Commands.{table}
+use Rattle.causal_cli.specs.Headline.{WrittenFor}
 use Rattle.causal_cli.specs.Run.{Run}
 
 -- The formula equals the effect of the target in the diagram as drawn: in every model of the graph that was read, whatever the mechanisms of its hidden vertices, that is positive on the observed ones, at each assignment. Its terms are taken in that model.
@@ -68,12 +69,8 @@ pub record IsTextAsDrawn (form : Form) (bytes : List ℕ) (x y given : Names) (t
   pub prints : text ≡ formula_text form (observed_names graph) target formula derivation
 
 -- such a text was written for the bytes of the file, and for the lists and the form, that these uses ask for
-pub record IdentifiedAsDrawn (r : Run) (uses : List Use) : Type 0 where
-  pub request : Request
-  pub text : List ℕ
-  pub asks : IsRequest uses request
-  pub right : IfSome (r.held request.file) (λ bytes. IsTextAsDrawn request.form bytes request.x request.y request.given text)
-  pub whole : Appends r.out.before r.out.after text
+abbrev pub IdentifiedAsDrawn : Run → List Use → Type 0
+IdentifiedAsDrawn = WrittenFor IsRequest (λ q. q.file) (λ q bytes text. IsTextAsDrawn q.form bytes q.x q.y q.given text)
 
 -- ---- check
 
@@ -123,12 +120,8 @@ pub record IsAdjustmentAsDrawn (q : adjust_requests.Request) (bytes text : List 
   pub shows : ShowsAdjustmentAsDrawn q.query graph x y z text
 
 -- such a text was written for the bytes of the file that these uses ask for
-pub record AdjustedAsDrawn (r : Run) (uses : List Use) : Type 0 where
-  pub request : adjust_requests.Request
-  pub text : List ℕ
-  pub asks : adjust_requests.IsRequest uses request
-  pub right : IfSome (r.held request.file) (λ bytes. IsAdjustmentAsDrawn request bytes text)
-  pub whole : Appends r.out.before r.out.after text
+abbrev pub AdjustedAsDrawn : Run → List Use → Type 0
+AdjustedAsDrawn = WrittenFor adjust_requests.IsRequest (λ q. q.file) IsAdjustmentAsDrawn
 
 -- ---- surrogate
 
@@ -145,12 +138,8 @@ pub record IsSurrogateAsDrawn (q : surrogate_requests.Request) (bytes text : Lis
   pub prints : text ≡ formula_answer (observed_names graph) (effect_on x y) formula
 
 -- such a text was written for the bytes of the file that these uses ask for
-pub record SurrogatedAsDrawn (r : Run) (uses : List Use) : Type 0 where
-  pub request : surrogate_requests.Request
-  pub text : List ℕ
-  pub asks : surrogate_requests.IsRequest uses request
-  pub right : IfSome (r.held request.file) (λ bytes. IsSurrogateAsDrawn request bytes text)
-  pub whole : Appends r.out.before r.out.after text
+abbrev pub SurrogatedAsDrawn : Run → List Use → Type 0
+SurrogatedAsDrawn = WrittenFor surrogate_requests.IsRequest (λ q. q.file) IsSurrogateAsDrawn
 
 -- ---- evaluate
 

@@ -1,7 +1,11 @@
 -- How a run comes to its end: the reply to its words, before anything is written, and what is written of it.
-use Rattle.std.specs.Prelude.{ℕ, ◌≡◌, ◌≤◌, Bool, false, List, length, take, Option, IfSome}
+use Rattle.std.specs.Prelude.{ℕ, ◌≡◌, ◌≢◌, ◌≤◌, ◌<◌, Bool, true, false, List, length, take, Option, Result, Ok, Err, IfSome, IsErrOf}
+use Rattle.std.specs.Global.{Vec}
 use Rattle.std.specs.Io.KnownBytes.{Appends}
 use Rattle.causal_io.specs.Causes.{Rose}
+use Rattle.causal_io.specs.Reading.{AnswersAll}
+use Rattle.causal_io.specs.declared.ReadError.{ReadError}
+use Rattle.causal_io.specs.declared.ReadError.TheVariants.{Fault, TooLong, NoMemory}
 use Rattle.word_forms.specs.Form.{Text}
 use Rattle.replies.specs.declared.outcome.Outcome.{Outcome}
 use Rattle.replies.specs.declared.outcome.Outcome.TheVariants.{Words, Graph, Read, Write, Memory}
@@ -9,8 +13,8 @@ use Rattle.replies.specs.declared.outcome.Reply.{Reply}
 use Rattle.replies.specs.Outcomes.{code_of, IsAnswered}
 use Rattle.causal_cli.specs.Commands.{Request, Asks}
 use Rattle.causal_cli.specs.Lines.{words_line, size_line, read_line, write_line, memory_line}
-use Rattle.causal_cli.specs.Run.{Stream, Run, Answers, IsRead, Ends}
-use Rattle.causal_cli.specs.Answers.{second_in, GivesSecond}
+use Rattle.causal_cli.specs.Run.{Stream, Run, Answers, IsRead, Reads, IsNotRead, IsReadAtMostOnce, Ends}
+use Rattle.causal_cli.specs.Answers.{second_in, limit_of, GivesSecond}
 use Rattle.causal_cli.specs.declared.answer.SecondInput.{SecondInput}
 
 -- a read of an input that the words ask for failed
@@ -21,17 +25,32 @@ pub record FailedRead (r : Run) : Type 0 where
   pub is_read : IsRead r request name
   pub rose : Rose (r.read_faults name) (r.read_faults_after name)
 
--- what a reply says of the run, by its outcome: it is the defined answer, or the words ask for nothing, or a read failed, or memory was refused
+-- what a reply says, by its outcome, where words have these answers: it is one of them, or the words ask for nothing, or an input isn't read, or memory was refused
+abbrev pub Says : (words : List Text) (answers : Outcome → List ℕ → Type 0) (unread : Type 0) → Outcome → List ℕ → Type 0
+Says words answers unread Words text = (q : Request) → Asks words q → ⊥
+Says words answers unread Read text = unread
+Says words answers unread Write text = ⊥
+Says words answers unread Memory text = Unit {0}
+Says words answers unread o text = answers o text
+
+-- what a reply says of the run: the answer is the defined one, and a read failed
 abbrev pub Replied : Run → Outcome → List ℕ → Type 0
-Replied r Words text = (q : Request) → Asks r.words q → ⊥
-Replied r Read text = FailedRead r
-Replied r Write text = ⊥
-Replied r Memory text = Unit {0}
-Replied r o text = Answers r o text
+Replied r o text = Says r.words (Answers r) (FailedRead r) o text
 
 -- the same of a reply
 abbrev pub RepliesWith : Run → Reply → Type 0
 RepliesWith r reply = Replied r reply.outcome reply.text.items
+
+-- what was read of an input: all that it holds, up to a limit, or that this is more; or a read failed, as one of an input that is lacked does
+pub record IsReadOf (held : Option (List ℕ)) (lacks : Bool) (faults faults_after limit : ℕ) (read : Result (Vec ℕ) ReadError) : Type 0 where
+  pub answer : AnswersAll held limit read
+  pub lacked : lacks ≡ true → IsErrOf read Fault
+  pub failed : IsErrOf read Fault → Rose faults faults_after
+
+-- what an input tells stays: what it holds under each name, and whether it lacks it
+pub record Stays (held held_after : Text → Option (List ℕ)) (lacks lacks_after : Text → Bool) : Type 0 where
+  pub holds : held_after ≡ held
+  pub lack : lacks_after ≡ lacks
 
 -- the line says that the graph's text is too long; want of memory may stand in its place
 abbrev pub IsTooLongLine : Outcome → List ℕ → Type 0
@@ -42,6 +61,30 @@ IsTooLongLine o line = ⊥
 -- the same of a reply
 abbrev pub IsTooLong : Reply → Type 0
 IsTooLong reply = IsTooLongLine reply.outcome reply.text.items
+
+-- what a reply says of a file that couldn't be read whole
+abbrev pub TellsUnread : ReadError → Reply → Type 0
+TellsUnread Fault reply = reply.outcome ≡ Read
+TellsUnread (TooLong most) reply = IsTooLong reply
+TellsUnread NoMemory reply = reply.outcome ≡ Memory
+
+-- the reply is the one that was made, or says that memory was refused for it
+abbrev pub IsMade : {E : Type 0} → Result Reply E → Reply → Type 0
+IsMade (Ok made) reply = reply ≡ made
+IsMade (Err e) reply = reply.outcome ≡ Memory
+
+-- the reply on what was read of the second input: on its bytes, or where they are more than the limit; or a read failed
+abbrev pub GivesOnRead : SecondInput → Result (Vec ℕ) ReadError → Reply → Type 0
+GivesOnRead p (Ok other) reply = GivesSecond p other.items reply
+GivesOnRead p (Err (TooLong most)) reply = (other : List ℕ) → limit_of p < length other → GivesSecond p other reply
+GivesOnRead p (Err Fault) reply = reply.outcome ≡ Read
+GivesOnRead p (Err NoMemory) reply = ⊥
+
+-- what was read where a second input is: no other name, the file not again, and none more than once
+pub record ReadsSecond (held : Text → Option (List ℕ)) (q : Reads) (file second : Text) : Type 0 where
+  pub only : (name : Text) → name ≢ second → IsNotRead q name
+  pub not_again : IsNotRead q file
+  pub once : (name : Text) → IsReadAtMostOnce held q name
 
 -- the reply where the second input is read: that on the bytes that it holds; or a read failed; or memory was refused
 pub data Proceeds (held : Text → Option (List ℕ)) (lacks : Text → Bool) (faults faults_after : Text → ℕ) (p : SecondInput) (reply : Reply) : Type 0 where

@@ -1,7 +1,7 @@
 -- The headline, on a run: what words that ask for `identify`, and for `check`, are answered.
 use Rattle.std.specs.Prelude.{ℕ, ◌≡◌, List, None, IfSome, codes}
 use Rattle.std.specs.Io.KnownBytes.{Appends}
-use Rattle.word_forms.specs.Form.{Use, IsCall, value_of}
+use Rattle.word_forms.specs.Form.{Text, Use, IsCall, value_of}
 use Rattle.dag_reader.specs.declared.graph.ReadGraph.{ReadGraph}
 use Rattle.replies.specs.declared.outcome.Outcome.{Outcome}
 use Rattle.replies.specs.declared.outcome.Outcome.TheVariants.{Yes, No}
@@ -15,6 +15,14 @@ use Rattle.check_command.specs.Requests as check_requests
 use Rattle.causal_cli.specs.Commands.{table}
 use Rattle.causal_cli.specs.Run.{Run}
 
+-- a text was written for a request that these uses ask for, and on the bytes of the request's file it is one that shows what it is to
+pub record WrittenFor {Asked : Type 0} (asks_for : List Use → Asked → Type 0) (file : Asked → Text) (shows : Asked → (bytes text : List ℕ) → Type 0) (r : Run) (uses : List Use) : Type 0 where
+  pub request : Asked
+  pub text : List ℕ
+  pub asks : asks_for uses request
+  pub right : IfSome (r.held (file request)) (λ bytes. shows request bytes text)
+  pub whole : Appends r.out.before r.out.after text
+
 -- The bytes hold a graph, and the text answers for it and for the sets x and y of these lists, in the observed graph.
 -- Yes: it shows a formula without interventions, with a derivation that the checker accepts, which equals P(y | do(x)) at each assignment in each positive finite model that fits.
 -- No: it shows a hedge with two positive finite models that fit, agree on all observations, and differ on P(y | do(x)).
@@ -24,12 +32,8 @@ pub record IsRightText (form : Form) (bytes : List ℕ) (x y : Names) (o : Outco
   pub answer : IdentifyAnswer form graph x y o text
 
 -- a right text was written for the bytes of the file, and for the lists and the form, that these uses ask for
-pub record Identified (r : Run) (uses : List Use) (o : Outcome) : Type 0 where
-  pub request : Request
-  pub text : List ℕ
-  pub asks : IsRequest uses request
-  pub right : IfSome (r.held request.file) (λ bytes. IsRightText request.form bytes request.x request.y o text)
-  pub whole : Appends r.out.before r.out.after text
+abbrev pub Identified : Run → List Use → Outcome → Type 0
+Identified r uses o = WrittenFor IsRequest (λ q. q.file) (λ q bytes text. IsRightText q.form bytes q.x q.y o text) r uses
 
 -- where the words ask for `identify` without a condition, status 0 says that a right formula was written, and status 1 that a right hedge was
 pub record Headline (r : Run) (code : ℕ) : Type 0 where

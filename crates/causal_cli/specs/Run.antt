@@ -36,9 +36,9 @@ abbrev pub run_on : (words : List Text) (held : Text → Option (List ℕ)) (lac
 run_on words held lacks faults faults_after out = record { words = words; held = held; lacks = lacks; read_faults = faults; read_faults_after = faults_after; out = out }
 
 -- the words ask for a request without an input, and this is its answer
-pub record AnswersWords (r : Run) (o : Outcome) (text : List ℕ) : Type 0 where
+pub record AnswersWords (words : List Text) (o : Outcome) (text : List ℕ) : Type 0 where
   pub request : Request
-  pub asks : Asks r.words request
+  pub asks : Asks words request
   pub answer : WordsAnswer request o text
 
 -- the words ask for a request whose file was read, and on the bytes that it holds this is the defined answer
@@ -65,7 +65,7 @@ pub record AnswersBoth (r : Run) (o : Outcome) (text : List ℕ) : Type 0 where
 
 -- the defined answer: by the words alone, by the file alone, or by both inputs
 pub data Answers (r : Run) (o : Outcome) (text : List ℕ) : Type 0 where
-  by_words : AnswersWords r o text → Answers r o text
+  by_words : AnswersWords r.words o text → Answers r o text
   by_file : AnswersFile r o text → Answers r o text
   by_both : AnswersBoth r o text → Answers r o text
 

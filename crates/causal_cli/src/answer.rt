@@ -3,9 +3,11 @@
 ghost use Rattle.std.specs.Prelude.{◌≡◌, ◌≤◌, ◌<◌, ℕ, List, IfOk, length};
 ghost use Rattle.causal_cli.specs.Commands.{on_graph};
 ghost use Rattle.causal_cli.specs.Answers.{GivesOn, FileGives, second_in, limit_of, IsOfAcceptedGraph, GivesSecond};
+ghost use Rattle.causal_cli.specs.Ends.{GivesOnRead, IsMade};
 
 use crate::commands::GraphRequest;
 use adjust_command::adjust_reply;
+use causal_io::ReadError;
 use check_command::{check_reply, long_certificate};
 use dag_reader::{ReadGraph, read_graph};
 use equivalent_command::{accept_first, equivalent_reply, long_second_graph};
@@ -238,6 +240,34 @@ pub fn second_reply(
         SecondInput::Implications { pairs, count, .. } => differences_reply(
             alloc, pairs, *count, other,
         ),
+    }
+}
+
+/// The reply on what was read of the second input.
+pub fn answer_second(
+    alloc: Global,
+    input: &SecondInput<'_>,
+    read: Result<Vec<u8>, ReadError>,
+) -> Result<Reply, AllocError>
+    requires limit { IfOk read (λ other. length other.items ≤ limit_of input.now) }
+    requires accepted { IsOfAcceptedGraph input.now }
+    ensures { IfOk result (GivesOnRead input.now read) }
+{
+    match read {
+        Ok(other) => second_reply(alloc, input, &other),
+        Err(ReadError::TooLong { limit: _ }) => long_reply(alloc, input),
+        Err(ReadError::Fault) => Ok(Reply::bare(alloc, Outcome::Read)),
+        Err(ReadError::NoMemory) => Err(AllocError),
+    }
+}
+
+/// The reply, or that memory was refused for it.
+pub fn or_memory(alloc: Global, reply: Result<Reply, AllocError>) -> Reply
+    ensures { IsMade reply result }
+{
+    match reply {
+        Ok(made) => made,
+        Err(_) => Reply::bare(alloc, Outcome::Memory),
     }
 }
 

@@ -8,7 +8,7 @@ mod sure;
 mod theory;
 mod top;
 
-pub use answer::{AfterFile, SecondInput, answer_on, long_reply, second_reply};
+pub use answer::{AfterFile, SecondInput, answer_on, long_reply, or_memory, second_reply};
 pub use commands::{GraphRequest, Request, read_request};
 pub use lines::line_of;
 pub use sure::run_surely;

@@ -1,18 +1,16 @@
-ghost use Rattle.std.specs.Prelude.{◌≡◌, ◌≢◌, ◌≤◌, List, ℕ, true, false, length, IfSome, IsErrOf};
-ghost use Rattle.causal_io.specs.Causes.{Rose};
-ghost use Rattle.causal_io.specs.Reading.{AnswersAll};
+ghost use Rattle.std.specs.Prelude.{◌≡◌, ◌≤◌, List, false, length, IfOk, IfErr, IfSome};
 ghost use Rattle.word_forms.specs.Form.{Text};
 ghost use Rattle.word_forms.specs.Views.{texts_of};
 ghost use Rattle.replies.specs.Outcomes.{code_of};
-ghost use Rattle.causal_cli.specs.Run.{Stream, Ended, Received, run_on, stream_of, reads_of, IsNotRead, IsReadAtMostOnce, ReadsAsAsked};
+ghost use Rattle.causal_cli.specs.Run.{Stream, Ended, Received, run_on, stream_of, reads_of, ReadsAsAsked};
 ghost use Rattle.causal_cli.specs.Complete.{Complete};
 ghost use Rattle.causal_cli.specs.Commands.{Asks, on_graph};
 ghost use Rattle.causal_cli.specs.Answers.{IsOfAcceptedGraph, IsAnsweredWith, second_in};
 ghost use Rattle.causal_cli.specs.Headline.{Headline, HeadlineOfCheck};
 ghost use Rattle.causal_cli.specs.Drawn.{RightAsDrawn};
-ghost use Rattle.causal_cli.specs.Ends.{RepliesWith, EndsWith, IsTooLong, Delivers, Proceeds, text_of};
+ghost use Rattle.causal_cli.specs.Ends.{RepliesWith, EndsWith, IsReadOf, Stays, IsTooLong, TellsUnread, ReadsSecond, Delivers, Proceeds, text_of};
 
-use crate::answer::{AfterFile, SecondInput, answer, long_reply, second_reply};
+use crate::answer::{AfterFile, SecondInput, answer, answer_second, or_memory};
 use crate::commands::{GraphRequest, Request, read_request};
 use crate::lines::line_of;
 use causal_io::{ReadError, Shelf, Sink, read_all, write_all};
@@ -80,8 +78,7 @@ fn respond<S: Shelf, O: Sink>(alloc: Global, words: &[String], shelf: &mut S, ou
         (stream_of (O.written out.old) (O.written out.new) (O.faults out.old) (O.faults out.new))) result }
     ensures reads { ReadsAsAsked (run_on (texts_of words.now) (S.held shelf.old) (S.lacks shelf.old) (S.faults shelf.old) (S.faults shelf.new)
         (stream_of (O.written out.old) (O.written out.new) (O.faults out.old) (O.faults out.new))) (reads_of (S.reads shelf.old) (S.reads shelf.new) (S.given shelf.old) (S.given shelf.new)) }
-    ensures holds { S.held shelf.new ≡ S.held shelf.old }
-    ensures lack { S.lacks shelf.new ≡ S.lacks shelf.old }
+    ensures stays { Stays (S.held shelf.old) (S.held shelf.new) (S.lacks shelf.old) (S.lacks shelf.new) }
 {
     let reply = reply_to(alloc, words, shelf);
     deliver(alloc, out, reply)
@@ -92,15 +89,11 @@ fn reply_to<S: Shelf>(alloc: Global, words: &[String], shelf: &mut S) -> Reply
     ensures replies { (out : Stream) → RepliesWith (run_on (texts_of words.now) (S.held shelf.old) (S.lacks shelf.old) (S.faults shelf.old) (S.faults shelf.new) out) result }
     ensures reads { (out : Stream) → ReadsAsAsked (run_on (texts_of words.now) (S.held shelf.old) (S.lacks shelf.old) (S.faults shelf.old) (S.faults shelf.new) out)
         (reads_of (S.reads shelf.old) (S.reads shelf.new) (S.given shelf.old) (S.given shelf.new)) }
-    ensures holds { S.held shelf.new ≡ S.held shelf.old }
-    ensures lack { S.lacks shelf.new ≡ S.lacks shelf.old }
+    ensures stays { Stays (S.held shelf.old) (S.held shelf.new) (S.lacks shelf.old) (S.lacks shelf.new) }
 {
     match read_request(alloc, words) {
         Ok(Request::OnGraph(request)) => answer_graph(alloc, request, shelf),
-        Ok(Request::Survey(request)) => match survey_reply(alloc, request.seed) {
-            Ok(reply) => reply,
-            Err(_) => Reply::bare(alloc, Outcome::Memory),
-        },
+        Ok(Request::Survey(request)) => or_memory(alloc, survey_reply(alloc, request.seed)),
         Err(RequestFault::NotUnderstood) => Reply::bare(alloc, Outcome::Words),
         Err(RequestFault::NoMemory) => Reply::bare(alloc, Outcome::Memory),
     }
@@ -112,15 +105,12 @@ fn answer_graph<S: Shelf>(alloc: Global, request: GraphRequest<'_>, shelf: &mut 
         → RepliesWith (run_on words (S.held shelf.old) (S.lacks shelf.old) (S.faults shelf.old) (S.faults shelf.new) out) result }
     ensures reads { (words : List Text) → Asks words (on_graph request.entry) → (out : Stream)
         → ReadsAsAsked (run_on words (S.held shelf.old) (S.lacks shelf.old) (S.faults shelf.old) (S.faults shelf.new) out) (reads_of (S.reads shelf.old) (S.reads shelf.new) (S.given shelf.old) (S.given shelf.new)) }
-    ensures holds { S.held shelf.new ≡ S.held shelf.old }
-    ensures lack { S.lacks shelf.new ≡ S.lacks shelf.old }
+    ensures stays { Stays (S.held shelf.old) (S.held shelf.new) (S.lacks shelf.old) (S.lacks shelf.new) }
 {
     let file = request.file();
     let bytes = match read_all(alloc, shelf, file, MAX_GRAPH_BYTES) {
         Ok(bytes) => bytes,
-        Err(ReadError::Fault) => return Reply::bare(alloc, Outcome::Read),
-        Err(ReadError::TooLong { limit: _ }) => return too_long(alloc),
-        Err(ReadError::NoMemory) => return Reply::bare(alloc, Outcome::Memory),
+        Err(fault) => return unread_graph(alloc, fault),
     };
     match answer(alloc, request, &bytes) {
         Err(_) => Reply::bare(alloc, Outcome::Memory),
@@ -143,24 +133,11 @@ fn proceed<S: Shelf>(
     requires accepted { IsOfAcceptedGraph input.now }
     requires answered { IsAnsweredWith input.now }
     ensures proceeds { Proceeds (S.held shelf.old) (S.lacks shelf.old) (S.faults shelf.old) (S.faults shelf.new) input.now result }
-    ensures only { (name : List ℕ) → name ≢ second_in input.now → IsNotRead (reads_of (S.reads shelf.old) (S.reads shelf.new) (S.given shelf.old) (S.given shelf.new)) name }
-    ensures not_again { IsNotRead (reads_of (S.reads shelf.old) (S.reads shelf.new) (S.given shelf.old) (S.given shelf.new)) file.now }
-    ensures once { (name : List ℕ) → IsReadAtMostOnce (S.held shelf.old) (reads_of (S.reads shelf.old) (S.reads shelf.new) (S.given shelf.old) (S.given shelf.new)) name }
-    ensures holds { S.held shelf.new ≡ S.held shelf.old }
-    ensures lack { S.lacks shelf.new ≡ S.lacks shelf.old }
+    ensures reads { ReadsSecond (S.held shelf.old) (reads_of (S.reads shelf.old) (S.reads shelf.new) (S.given shelf.old) (S.given shelf.new)) file.now (second_in input.now) }
+    ensures stays { Stays (S.held shelf.old) (S.held shelf.new) (S.lacks shelf.old) (S.lacks shelf.new) }
 {
-    match read_second(alloc, file, bytes, input.second(), input.limit(), shelf) {
-        Ok(other) => match second_reply(alloc, input, &other) {
-            Ok(reply) => reply,
-            Err(_) => Reply::bare(alloc, Outcome::Memory),
-        },
-        Err(ReadError::TooLong { limit: _ }) => match long_reply(alloc, input) {
-            Ok(reply) => reply,
-            Err(_) => Reply::bare(alloc, Outcome::Memory),
-        },
-        Err(ReadError::Fault) => Reply::bare(alloc, Outcome::Read),
-        Err(ReadError::NoMemory) => Reply::bare(alloc, Outcome::Memory),
-    }
+    let read = read_second(alloc, file, bytes, input.second(), input.limit(), shelf);
+    or_memory(alloc, answer_second(alloc, input, read))
 }
 
 /// The bytes of the second input. An input that is named twice is read once.
@@ -175,22 +152,36 @@ fn read_second<S: Shelf>(
     requires held { IfSome (S.held shelf.now file.now) (λ all. bytes.now ≡ all) }
     requires there { S.lacks shelf.now file.now ≡ false }
     requires small { length bytes.now ≤ limit }
-    ensures answer { AnswersAll (S.held shelf.old second.now) limit result }
-    ensures lacked { S.lacks shelf.old second.now ≡ true → IsErrOf result ReadError.Fault }
-    ensures fault { IsErrOf result ReadError.Fault → Rose (S.faults shelf.old second.now) (S.faults shelf.new second.now) }
-    ensures only { (name : List ℕ) → name ≢ second.now → IsNotRead (reads_of (S.reads shelf.old) (S.reads shelf.new) (S.given shelf.old) (S.given shelf.new)) name }
-    ensures not_again { IsNotRead (reads_of (S.reads shelf.old) (S.reads shelf.new) (S.given shelf.old) (S.given shelf.new)) file.now }
-    ensures once { (name : List ℕ) → IsReadAtMostOnce (S.held shelf.old) (reads_of (S.reads shelf.old) (S.reads shelf.new) (S.given shelf.old) (S.given shelf.new)) name }
-    ensures holds { S.held shelf.new ≡ S.held shelf.old }
-    ensures lack { S.lacks shelf.new ≡ S.lacks shelf.old }
+    ensures answer { IsReadOf (S.held shelf.old second.now) (S.lacks shelf.old second.now) (S.faults shelf.old second.now) (S.faults shelf.new second.now) limit result }
+    ensures reads { ReadsSecond (S.held shelf.old) (reads_of (S.reads shelf.old) (S.reads shelf.new) (S.given shelf.old) (S.given shelf.new)) file.now second.now }
+    ensures stays { Stays (S.held shelf.old) (S.held shelf.new) (S.lacks shelf.old) (S.lacks shelf.new) }
 {
     if second == file {
-        return match Vec::from_slice(alloc, bytes) {
-            Ok(copy) => Ok(copy),
-            Err(_) => Err(ReadError::NoMemory),
-        };
+        return copied(alloc, bytes);
     }
     read_all(alloc, shelf, second, limit)
+}
+
+/// A copy of what was read before.
+fn copied(alloc: Global, bytes: &[u8]) -> Result<Vec<u8>, ReadError>
+    ensures copy { IfOk result (λ copy. copy.items ≡ bytes.now) }
+    ensures fault { IfErr result (λ fault. fault ≡ ReadError.NoMemory) }
+{
+    match Vec::from_slice(alloc, bytes) {
+        Ok(copy) => Ok(copy),
+        Err(_) => Err(ReadError::NoMemory),
+    }
+}
+
+/// The reply to a file that couldn't be read whole.
+fn unread_graph(alloc: Global, fault: ReadError) -> Reply
+    ensures { TellsUnread fault result }
+{
+    match fault {
+        ReadError::Fault => Reply::bare(alloc, Outcome::Read),
+        ReadError::TooLong { limit: _ } => too_long(alloc),
+        ReadError::NoMemory => Reply::bare(alloc, Outcome::Memory),
+    }
 }
 
 /// The reply to a graph text that is too long.

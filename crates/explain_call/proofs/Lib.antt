@@ -1,4 +1,3 @@
 mod Telling
 mod Readable
 mod OneKind
-mod Spoken

@@ -1,8 +1,9 @@
 -- What the words of a call that explains ask for, by a table of their own: `rule` has the words of the command of that name.
 use Rattle.std.specs.Prelude.{◌≡◌, Bool, List, [], ◌∷◌, Option, Some, None, codes, option_map}
-use Rattle.word_forms.specs.Form.{Text, Row, Use, IsCall, word_of, value_of, has_flag}
+use Rattle.word_forms.specs.Form.{Text, Row, Use, word_of, value_of, has_flag}
 use Rattle.word_lists.specs.Views.{names_in}
 use Rattle.request_values.specs.Values as values
+use Rattle.word_requests.specs.Asks.{AsksBy}
 use Rattle.replies.specs.Observed.{Names}
 use Rattle.rule_command.specs.Requests as of_rule
 use Rattle.explain_call.specs.declared.requests.Kind.{Kind}
@@ -95,10 +96,8 @@ AsksNothing kind.Rule uses = (q : of_rule.Request) → of_rule.IsRequest uses q 
 AsksNothing kind.Formula uses = (q : AskedFormula) → IsFormula uses q → ⊥
 
 -- the words ask for this: they are a call by the table, whose uses give the request
-pub record Asks (words : List Text) (q : Request) : Type 0 where
-  pub uses : List Use
-  pub call : IsCall table words (row_for (kind_of q)) uses
-  pub asks : IsRequest uses q
+abbrev pub Asks : List Text → Request → Type 0
+Asks = AsksBy table (λ q. row_for (kind_of q)) IsRequest
 
 -- what the code's request for steps stands for
 abbrev pub steps_of : StepsRequest → AskedSteps

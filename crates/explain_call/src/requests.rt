@@ -1,8 +1,8 @@
 // What the words ask for.
 
-ghost use Rattle.std.specs.Prelude.{List, ◌≡◌, Some, None, IfOk, IsErrOf, map, option_map};
-ghost use Rattle.word_forms.specs.Form.{Text, Use, row_named, HasForm, IsCall, IsOnlyCall};
-ghost use Rattle.word_forms.specs.Views.{row_of, texts_of, uses_in};
+ghost use Rattle.std.specs.Prelude.{List, ◌≡◌, Some, IfOk, IsErrOf, map, option_map};
+ghost use Rattle.word_forms.specs.Form.{Use, row_named};
+ghost use Rattle.word_forms.specs.Views.{row_of, texts_of};
 ghost use Rattle.word_values.specs.Gives.{HoldsCall};
 ghost use Rattle.word_values.specs.Readable.{IsReadable};
 ghost use Rattle.explain_call.specs.Requests.{row_for, table, kind_of, IsRequest, AsksNothing, Asks, request_of};
@@ -11,7 +11,8 @@ ghost use Rattle.explain_call.specs.Requests as asked;
 use request_values::{RequestFault, Subject, needed_names, needed_word};
 use std::alloc::Global;
 use word_forms::Entry;
-use word_values::{Values, Words, read_words};
+use word_requests::words_found;
+use word_values::{Values, Words};
 
 /// `steps FILE CERTIFICATE [--graphs]`
 const STEPS_ROW: Entry = Entry {
@@ -141,23 +142,9 @@ pub fn read_request<'a>(alloc: Global, words: &'a [String]) -> Result<Request<'a
     ensures asks { IfOk result (λ r. Asks (texts_of words.now) (request_of r)) }
     ensures none { IsErrOf result RequestFault.NotUnderstood → (q : asked.Request) → Asks (texts_of words.now) q → ⊥ }
 {
-    match words_found(alloc, words) {
+    match words_found(alloc, rows(), words) {
         Ok(found) => request_found(alloc, found),
         Err(fault) => Err(fault),
-    }
-}
-
-/// The words by the table, exactly where they have its form.
-fn words_found<'a>(alloc: Global, words: &'a [String]) -> Result<Words<'a>, RequestFault>
-    ensures call { IfOk result (λ w. IsCall table (texts_of words.now) (row_of w.call.row.now) (uses_in w.call.uses)) }
-    ensures only { IfOk result (λ w. IsOnlyCall table (texts_of words.now) (row_of w.call.row.now) (uses_in w.call.uses)) }
-    ensures values { IfOk result (λ w. HoldsCall (row_of w.call.row.now) (uses_in w.call.uses) w.values) }
-    ensures none { IsErrOf result RequestFault.NotUnderstood → HasForm table (texts_of words.now) → ⊥ }
-{
-    match read_words(alloc, rows(), words) {
-        Ok(Some(found)) => Ok(found),
-        Ok(None) => Err(RequestFault::NotUnderstood),
-        Err(_) => Err(RequestFault::NoMemory),
     }
 }
 

@@ -6,7 +6,7 @@ use Rattle.mixed_graph.specs.declared.sets.VSet.{VSet}
 use Rattle.mixed_graph.specs.Graphs.{MixedGraph, IsMixedGraph}
 use Rattle.mixed_graph.specs.Orders.{taken_by}
 use Rattle.mixed_graph.proofs.Members.{one_if, length-members-suc, length-members-zero, length-members-more, length-members-none}
-use Rattle.districts.specs.Nearest.{IsChoiceOf}
+use Rattle.districts.specs.Nearest.{IsChoiceOf, Leads}
 use Rattle.districts.specs.Spanning.{IsNextLink, AreLinks}
 use Rattle.districts.proofs.Trees.{place_of_taken, taken_own}
 use Rattle.hedge.specs.Hedges.{size_of, IsChildInside, IsRightChoice, IsPlaced, AreRightLinks, IsHedge}

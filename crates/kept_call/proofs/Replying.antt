@@ -1,29 +1,28 @@
 -- From what a request gives to what is replied.
-use Rattle.std.proofs.Common.{◌≡◌, ℕ, List, sym, subst}
+use Rattle.std.proofs.Common.{◌≡◌, ℕ, List, Some, Result, Ok, Err, IfOk, sym, subst}
+use Rattle.spans.specs.declared.Input.{Input}
+use Rattle.spans.specs.Parts.{content_named}
 use Rattle.replies.specs.declared.outcome.Outcome.{Outcome}
-use Rattle.replies.specs.declared.outcome.Outcome.TheVariants.{Yes, No, Words, Graph, Second, Evaluation, Read, Write, Memory}
+use Rattle.replies.specs.declared.outcome.Outcome.TheVariants.{Words, Memory}
 use Rattle.replies.specs.declared.outcome.Reply.{Reply}
 use Rattle.replies.specs.Outcomes.{IsAnswered}
 use Rattle.causal_cli.specs.Commands.{Request, Asks}
-use Rattle.causal_cli.specs.Answers.{WordsAnswer, Defined, IsLeftOf}
+use Rattle.causal_cli.specs.Answers.{WordsAnswer, Defined, second_in, GivesSecond, IsLeftOf}
+use Rattle.causal_cli.specs.Ends.{IsMade}
 use Rattle.causal_cli.specs.declared.answer.SecondInput.{SecondInput}
-use Rattle.causal_cli.proofs.Answered.{words_answered, defined_answered, named, continues, defined_with, answered_with}
-use Rattle.kept_call.specs.Replies.{Question, Answers, by_words, by_diagram, by_both, Replies, RepliesWith, Proceeds, replied, lacked, no_memory}
+use Rattle.causal_cli.proofs.Answered.{words_answered, defined_answered, said, named, continues, defined_with, answered_with}
+use Rattle.kept_call.specs.Replies.{Question, LacksSecond, Answers, by_words, by_diagram, by_both, Replies, RepliesWith, Proceeds, replied, lacked, no_memory}
 
 settled : (q : Question) (o : Outcome) (text : List ℕ) → IsAnswered o → Answers q o text → Replies q o text
-settled q Yes text is a = a
-settled q No text is a = a
-settled q Graph text is a = a
-settled q Second text is a = a
-settled q Evaluation text is a = a
-settled q Words text is a = absurd is
-settled q Read text is a = absurd is
-settled q Write text is a = absurd is
-settled q Memory text is a = absurd is
+settled q o text is a = said q.words (Answers q) (LacksSecond q) o text is a
 
-pub replied_words : (q : Question) (w : Request) (reply : Reply) → Asks q.words w → WordsAnswer w reply.outcome reply.text.items → RepliesWith q reply
-replied_words q w reply asks a =
-    settled q reply.outcome reply.text.items (words_answered w reply.outcome reply.text.items a) (by_words (record { request = w; asks = asks; answer = a }))
+pub refused_memory : (q : Question) (reply : Reply) → reply.outcome ≡ Memory → RepliesWith q reply
+refused_memory q reply memory = subst (λ o. Replies q o reply.text.items) (sym memory) tt
+
+pub replied_words : {E : Type 0} (q : Question) (w : Request) (made : Result Reply E) (reply : Reply) → Asks q.words w → IfOk made (λ x. WordsAnswer w x.outcome x.text.items) → IsMade made reply → RepliesWith q reply
+replied_words q w (Ok made) reply asks a is =
+    subst (RepliesWith q) (sym is) (settled q made.outcome made.text.items (words_answered w made.outcome made.text.items a) (by_words (record { request = w; asks = asks; answer = a })))
+replied_words q w (Err e) reply asks a is = refused_memory q reply is
 
 pub replied_diagram : (q : Question) (w : Request) (reply : Reply) → Asks q.words w → Defined w q.diagram reply.outcome reply.text.items → RepliesWith q reply
 replied_diagram q w reply asks a =
@@ -36,10 +35,13 @@ proceeded q w p reply asks left (replied other held gives) =
 proceeded q w p reply asks left (lacked read none) =
     subst (λ o. Replies q o reply.text.items) (sym read)
     (record { request = w; asks = asks; continues = continues w q.diagram p left; second = _; names_second = named w q.diagram p left; lacked = none })
-proceeded q w p reply asks left (no_memory memory) = subst (λ o. Replies q o reply.text.items) (sym memory) tt
+proceeded q w p reply asks left (no_memory memory) = refused_memory q reply memory
 
 pub not_understood : (q : Question) (reply : Reply) → reply.outcome ≡ Words → ((w : Request) → Asks q.words w → ⊥) → RepliesWith q reply
 not_understood q reply words none = subst (λ o. Replies q o reply.text.items) (sym words) none
 
-pub refused_memory : (q : Question) (reply : Reply) → reply.outcome ≡ Memory → RepliesWith q reply
-refused_memory q reply memory = subst (λ o. Replies q o reply.text.items) (sym memory) tt
+-- the reply that was made on the second input, or that memory was refused for it
+pub given_second : {E : Type 0} (p : SecondInput) (bytes : List ℕ) (inputs : List Input) (other : List ℕ) (made : Result Reply E) (reply : Reply) → content_named bytes inputs (second_in p) ≡ Some other
+    → IfOk made (GivesSecond p other) → IsMade made reply → Proceeds p bytes inputs reply
+given_second p bytes inputs other (Ok made) reply held gives is = subst (Proceeds p bytes inputs) (sym is) (replied other held gives)
+given_second p bytes inputs other (Err e) reply held gives is = no_memory is

@@ -4,12 +4,13 @@ use Rattle.word_forms.specs.Form.{Text}
 use Rattle.spans.specs.declared.Input.{Input}
 use Rattle.spans.specs.Parts.{place_named, content_named}
 use Rattle.replies.specs.declared.outcome.Outcome.{Outcome}
-use Rattle.replies.specs.declared.outcome.Outcome.TheVariants.{Words, Read, Write, Memory}
+use Rattle.replies.specs.declared.outcome.Outcome.TheVariants.{Read, Memory}
 use Rattle.replies.specs.declared.outcome.Reply.{Reply}
 use Rattle.replies.specs.Outcomes.{code_of}
 use Rattle.causal_cli.specs.Commands.{Request, Asks, second_of}
-use Rattle.causal_cli.specs.Answers.{WordsAnswer, Defined, Continues, DefinedWith, second_in, GivesSecond}
-use Rattle.causal_cli.specs.Ends.{text_of}
+use Rattle.causal_cli.specs.Answers.{Defined, Continues, DefinedWith, second_in, GivesSecond}
+use Rattle.causal_cli.specs.Ends.{Says, text_of}
+use Rattle.causal_cli.specs.Run.{AnswersWords}
 use Rattle.causal_cli.specs.declared.answer.SecondInput.{SecondInput}
 
 -- what is asked: the text of the diagram, the words, and the other inputs, which are parts of some bytes
@@ -22,12 +23,6 @@ pub record Question : Type 0 where
 -- the question of these parts
 abbrev pub question : (diagram : List ℕ) (words : List Text) (bytes : List ℕ) (inputs : List Input) → Question
 question diagram words bytes inputs = record { diagram = diagram; words = words; bytes = bytes; inputs = inputs }
-
--- the words ask for a request without an input, and this is its answer
-pub record AnswersWords (q : Question) (o : Outcome) (text : List ℕ) : Type 0 where
-  pub request : Request
-  pub asks : Asks q.words request
-  pub answer : WordsAnswer request o text
 
 -- the words ask for a request, and this is its answer on the text of the diagram alone
 pub record AnswersDiagram (q : Question) (o : Outcome) (text : List ℕ) : Type 0 where
@@ -47,7 +42,7 @@ pub record AnswersBoth (q : Question) (o : Outcome) (text : List ℕ) : Type 0 w
 
 -- the answer of the command
 pub data Answers (q : Question) (o : Outcome) (text : List ℕ) : Type 0 where
-  by_words : AnswersWords q o text → Answers q o text
+  by_words : AnswersWords q.words o text → Answers q o text
   by_diagram : AnswersDiagram q o text → Answers q o text
   by_both : AnswersBoth q o text → Answers q o text
 
@@ -62,11 +57,7 @@ pub record LacksSecond (q : Question) : Type 0 where
 
 -- what an outcome says of the question; want of memory may come at any time
 abbrev pub Replies : Question → Outcome → List ℕ → Type 0
-Replies q Words text = (r : Request) → Asks q.words r → ⊥
-Replies q Read text = LacksSecond q
-Replies q Write text = ⊥
-Replies q Memory text = Unit {0}
-Replies q o text = Answers q o text
+Replies q o text = Says q.words (Answers q) (LacksSecond q) o text
 
 -- the same of a reply
 abbrev pub RepliesWith : Question → Reply → Type 0

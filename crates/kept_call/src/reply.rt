@@ -11,8 +11,8 @@ ghost use Rattle.kept_graph.specs.Kept.{IsKept, Keeps};
 ghost use Rattle.kept_call.specs.Replies.{Proceeds, RepliesWith, answer_of, line_of, question};
 
 use causal_cli::{
-    AfterFile, GraphRequest, Request, SecondInput, answer_on, line_of, long_reply, read_request,
-    second_reply,
+    AfterFile, GraphRequest, Request, SecondInput, answer_on, line_of, long_reply, or_memory,
+    read_request, second_reply,
 };
 use dag_reader::ReadGraph;
 use kept_graph::{KeptDiagram, NamesFault};
@@ -57,10 +57,7 @@ fn respond(
 {
     match read_request(alloc, words) {
         Ok(Request::OnGraph(request)) => answer_graph(alloc, request, graph, bytes, inputs),
-        Ok(Request::Survey(request)) => match survey_reply(alloc, request.seed) {
-            Ok(reply) => reply,
-            Err(_) => Reply::bare(alloc, Outcome::Memory),
-        },
+        Ok(Request::Survey(request)) => or_memory(alloc, survey_reply(alloc, request.seed)),
         Err(RequestFault::NotUnderstood) => Reply::bare(alloc, Outcome::Words),
         Err(RequestFault::NoMemory) => Reply::bare(alloc, Outcome::Memory),
     }
@@ -92,10 +89,7 @@ fn proceed(alloc: Global, input: &SecondInput<'_>, bytes: &[u8], inputs: &[Input
     let Some(other) = content_named(bytes, inputs, input.second()) else {
         return Reply::bare(alloc, Outcome::Read);
     };
-    match reply_on(alloc, input, other) {
-        Ok(reply) => reply,
-        Err(_) => Reply::bare(alloc, Outcome::Memory),
-    }
+    or_memory(alloc, reply_on(alloc, input, other))
 }
 
 /// The reply on the bytes of the second input.

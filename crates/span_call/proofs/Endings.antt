@@ -7,7 +7,7 @@ use Rattle.spans.specs.declared.Input.{Input}
 use Rattle.spans.specs.Parts.{place_named}
 use Rattle.span_call.specs.declared.Sizes.{Sizes}
 use Rattle.replies.specs.declared.outcome.Outcome.{Outcome}
-use Rattle.replies.specs.declared.outcome.Outcome.TheVariants.{Yes, No, Words, Graph, Second, Evaluation, Read, Write, Memory}
+use Rattle.replies.specs.declared.outcome.Outcome.TheVariants.{Read, Write}
 use Rattle.replies.specs.Outcomes.{code_of}
 use Rattle.causal_cli.specs.Run.{Run, Ends, Unread, Unwritten}
 use Rattle.span_call.specs.Called.{IsRunOf, Called, LacksInput, IsCutShort}
@@ -19,26 +19,12 @@ lacked_of bytes words inputs r is name rose true p = sym (is.lacks_is name) ∙ 
 lacked_of bytes words inputs r is name rose false p = absurd (omega (arith, rose, is.none_failed name, is.fails_lacked name p))
 
 unread_at : (r : Run) (text : List ℕ) (v : Outcome) → 6 ≡ code_of v → Ends r v text → Unread r
-unread_at r text Yes c h = absurd (omega (arith, c))
-unread_at r text No c h = absurd (omega (arith, c))
-unread_at r text Words c h = absurd (omega (arith, c))
-unread_at r text Graph c h = absurd (omega (arith, c))
-unread_at r text Second c h = absurd (omega (arith, c))
-unread_at r text Evaluation c h = absurd (omega (arith, c))
 unread_at r text Read c h = h.0
-unread_at r text Write c h = absurd (omega (arith, c))
-unread_at r text Memory c h = absurd (omega (arith, c))
+unread_at r text v c h = absurd (omega (arith, c))
 
 unwritten_at : (r : Run) (text : List ℕ) (v : Outcome) → 7 ≡ code_of v → Ends r v text → Unwritten r
-unwritten_at r text Yes c h = absurd (omega (arith, c))
-unwritten_at r text No c h = absurd (omega (arith, c))
-unwritten_at r text Words c h = absurd (omega (arith, c))
-unwritten_at r text Graph c h = absurd (omega (arith, c))
-unwritten_at r text Second c h = absurd (omega (arith, c))
-unwritten_at r text Evaluation c h = absurd (omega (arith, c))
-unwritten_at r text Read c h = absurd (omega (arith, c))
 unwritten_at r text Write c h = h.0
-unwritten_at r text Memory c h = absurd (omega (arith, c))
+unwritten_at r text v c h = absurd (omega (arith, c))
 
 pub lacks_input : (bytes : List ℕ) (words : List Span) (inputs : List Input) (out0 out err0 err : List ℕ) (sizes : Sizes) (code : ℕ)
     → Called bytes words inputs out0 out err0 err sizes code → code ≡ 6 → LacksInput bytes words inputs

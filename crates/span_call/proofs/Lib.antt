@@ -1,2 +1,3 @@
+pub mod CallEnds
 mod Counts
 mod Endings

@@ -1,11 +1,12 @@
 -- What a call over spans of bytes gives.
-use Rattle.std.specs.Prelude.{ℕ, ◌≡◌, [], List, Some, true, false, length, take, drop, min, is_none}
+use Rattle.std.specs.Prelude.{ℕ, ◌≡◌, [], List, Some, true, false, is_none}
 use Rattle.word_forms.specs.Form.{Text}
 use Rattle.spans.specs.declared.Span.{Span}
 use Rattle.spans.specs.declared.Input.{Input}
 use Rattle.spans.specs.Parts.{place_named, content_named}
 use Rattle.spans.specs.Words.{texts}
 use Rattle.span_call.specs.declared.Sizes.{Sizes}
+use Rattle.span_call.specs.Rooms.{ShowsText}
 use Rattle.causal_cli.specs.Run.{Stream, Run, Ended, Unread, Unwritten}
 use Rattle.causal_cli.specs.Headline.{Headline}
 
@@ -18,15 +19,13 @@ pub record IsRunOf (r : Run) (bytes : List ℕ) (words : List Span) (inputs : Li
   pub none_failed : (name : Text) → r.read_faults name ≡ 0
   pub fails_lacked : (name : Text) → r.lacks name ≡ false → r.read_faults_after name ≡ 0
 
--- an output was empty, and has a text now; the room shows its front, or all of it, and stays as it was behind that
+-- an output was empty, and has a text now, which the room shows
 pub record Shows (s : Stream) (before room : List ℕ) (size : ℕ) : Type 0 where
   pub text : List ℕ
   pub empty : s.before ≡ Some []
   pub none_failed : s.faults ≡ 0
   pub wrote : s.after ≡ Some text
-  pub whole : size ≡ length text
-  pub front : take (min size (length room)) room ≡ take (min size (length room)) text
-  pub rest : drop (min size (length room)) room ≡ drop (min size (length room)) before
+  pub shown : ShowsText text before room size
 
 -- a run over the words and the inputs ended with this status, and the two rooms show what it wrote
 pub record Called (bytes : List ℕ) (words : List Span) (inputs : List Input) (out_before out err_before err : List ℕ) (sizes : Sizes) (code : ℕ) : Type 0 where

@@ -1,19 +1,16 @@
 //! The top call over spans of bytes, for callers that are no Rattle code.
 #![tactic(auto)]
 
-ghost use Rattle.std.specs.Prelude.{◌≡◌, ◌≤◌, length, take, drop, min};
-ghost use Rattle.spans.specs.Words.{AreTexts, IsNoText};
+ghost use Rattle.std.specs.Prelude.{◌≡◌, ◌≤◌};
 ghost use Rattle.span_call.specs.Called.{Called, LacksInput, IsCutShort};
+ghost use Rattle.span_call.specs.Ends.{IsEnd};
+
+mod ends;
 
 use causal_cli::run;
-use spans::{GrowingSink, Input, Span, SpanShelf, WordsFault, copy_front, words_in};
+pub use ends::{Arguments, CallEnd, call_words, show, show_both};
+use spans::{GrowingSink, SpanShelf};
 use std::alloc::Global;
-
-/// The status where a word isn't UTF-8.
-pub const NOT_TEXT: u8 = 9;
-
-/// The status where there is no memory for the words.
-pub const NO_WORDS: u8 = 10;
 
 /// How many bytes a run wrote. Where they are more than the caller's room, the room has the first of them.
 #[repr(C)]
@@ -23,51 +20,31 @@ pub struct Sizes {
     pub err: usize,
 }
 
-/// Shows a text in some room, and gives its size. What stands behind it stays.
-pub fn show(text: &[u8], room: &mut [u8]) -> usize
-    ensures whole { result ≡ length text.now }
-    ensures front { take (min result (length room.new)) room.new ≡ take (min result (length room.new)) text.now }
-    ensures rest { drop (min result (length room.new)) room.new ≡ drop (min result (length room.new)) room.old }
-{
-    copy_front(text, room);
-    text.len()
-}
-
-/// Runs the words over the inputs, which are parts of `bytes`, shows what was written, and gives the status.
+/// Runs the words over the inputs, shows what was written, and gives the end.
 pub fn run_spans(
     alloc: Global,
-    bytes: &[u8],
-    words: &[Span],
-    inputs: &[Input],
+    arguments: &Arguments<'_>,
     out: &mut [u8],
     err: &mut [u8],
-    sizes: &mut Sizes,
-) -> u8
-    ensures called { result ≤ 8 → Called bytes.now words.now inputs.now out.old out.new err.old err.new sizes.new result }
-    ensures known { result ≤ 10 }
+) -> CallEnd
+    ensures end { IsEnd arguments.now.bytes.now arguments.now.words.now out.old out.new err.old err.new result.sizes result.status }
+    ensures called { result.status ≤ 8 → Called arguments.now.bytes.now arguments.now.words.now arguments.now.inputs.now out.old out.new err.old err.new result.sizes result.status }
 
     // 6: an input that the words name isn't there. 7: memory was refused for the answer.
-    ensures lacked { result ≡ 6 → LacksInput bytes.now words.now inputs.now }
-    ensures cut_short { result ≡ 7 → IsCutShort bytes.now words.now inputs.now out.old out.new sizes.new }
-
-    // 9: a word is no text. Below that each is. From 9 on nothing is written.
-    ensures not_text { result ≡ 9 → IsNoText bytes.now words.now }
-    ensures are_texts { result ≤ 8 → AreTexts bytes.now words.now }
-    ensures out_stays { 9 ≤ result → out.new ≡ out.old }
-    ensures err_stays { 9 ≤ result → err.new ≡ err.old }
-    ensures no_sizes { 9 ≤ result → sizes.new ≡ record { out = 0; err = 0 } }
+    ensures lacked { result.status ≡ 6 → LacksInput arguments.now.bytes.now arguments.now.words.now arguments.now.inputs.now }
+    ensures cut_short { result.status ≡ 7 → IsCutShort arguments.now.bytes.now arguments.now.words.now arguments.now.inputs.now out.old out.new result.sizes }
+    ensures known { result.status ≤ 10 }
 {
-    *sizes = Sizes { out: 0, err: 0 };
-    let words = match words_in(alloc, bytes, words) {
+    let words = match call_words(alloc, arguments) {
         Ok(words) => words,
-        Err(WordsFault::NotText) => return NOT_TEXT,
-        Err(WordsFault::NoMemory) => return NO_WORDS,
+        Err(end) => return end,
     };
-    let mut shelf = SpanShelf::of(bytes, inputs);
+    let mut shelf = SpanShelf::of(arguments.bytes, arguments.inputs);
     let mut text = GrowingSink::new(alloc);
     let mut line = GrowingSink::new(alloc);
     let status = run(alloc, &words, &mut shelf, &mut text, &mut line);
-    sizes.out = show(text.bytes(), out);
-    sizes.err = show(line.bytes(), err);
-    status.code
+    CallEnd {
+        status: status.code,
+        sizes: show_both(text.bytes(), line.bytes(), out, err),
+    }
 }

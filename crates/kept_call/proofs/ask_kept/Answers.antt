@@ -1,18 +1,37 @@
-use Rattle.std.proofs.Common.{◌∙◌, ap, map, subst}
+use Rattle.std.proofs.Common.{◌≤◌, ◌∙◌, ap, map, subst, lit≤, arith}
 use Rattle.std.specs.Prelude.{string_bytes}
+use Rattle.replies.specs.declared.outcome.Outcome.{Outcome}
+use Rattle.replies.specs.declared.outcome.Outcome.TheVariants.{Yes}
+use Rattle.replies.specs.Outcomes.{code_of}
 use Rattle.span_call.specs.Rooms.{ShowsText}
+use Rattle.span_call.proofs.CallEnds.{ended}
 use Rattle.kept_call.specs.Replies.{RepliesWith, question}
 use Rattle.kept_call.proofs.ask_kept.Goals as goal
+
+-- statuses end at 8
+small_code : (o : Outcome) → code_of o ≤ 8
+small_code Yes = lit≤ tt
+small_code o = lit≤ tt
+
+pub returns-in-Err-clause-end : goal.returns-in-Err-clause-end
+returns-in-Err-clause-end c = c.in-Err.ensures.end c.args.out.now c.args.err.now
+
+pub returns-in-Err-clause-asked : goal.returns-in-Err-clause-asked
+returns-in-Err-clause-asked c = λ small diagram kept. absurd (omega (arith, small, c.in-Err.ensures.least))
+
+pub returns-in-Err-clause-not_kept : goal.returns-in-Err-clause-not_kept
+returns-in-Err-clause-not_kept c = λ eleven g keeps. absurd (omega (arith, eleven, c.in-Err.ensures.most))
+
+pub returns-clause-end : goal.returns-clause-end
+returns-clause-end c = ended _ _ _ _ _ _ _ _ c.in-Ok.ensures.are_texts (omega (arith, c.code.ensures, small_code c.in-Ok-reply_kept.reply.outcome))
 
 pub returns-clause-asked : goal.returns-clause-asked
 returns-clause-asked c = λ small diagram kept.
     let words = ap (map string_bytes) c.deref.ensures.value ∙ c.in-Ok.ensures.words in
     record {
       reply = c.in-Ok-reply_kept.reply;
-      replies = subst (λ ws. RepliesWith (question diagram ws c.args.bytes.now c.args.inputs.now) c.in-Ok-reply_kept.reply) words (c.in-Ok-reply_kept.ensures.replies diagram kept);
+      replies = subst (λ ws. RepliesWith (question diagram ws c.args.arguments.now.bytes.now c.args.arguments.now.inputs.now) c.in-Ok-reply_kept.reply) words (c.in-Ok-reply_kept.ensures.replies diagram kept);
       status = c.code.ensures;
-      shows_out = subst (λ t. ShowsText t c.args.out.now c.show-sizes.new.room c.show-sizes.result) c.answer_in.ensures
-          (record { whole = c.show-sizes.ensures.whole; front = c.show-sizes.ensures.front; rest = c.show-sizes.ensures.rest });
-      shows_err = subst (λ t. ShowsText t c.args.err.now c.show-sizes-2.new.room c.show-sizes-2.result) c.line_in.ensures
-          (record { whole = c.show-sizes-2.ensures.whole; front = c.show-sizes-2.ensures.front; rest = c.show-sizes-2.ensures.rest });
+      shows_out = subst (λ t. ShowsText t c.args.out.now c.show_both.new.out c.show_both.result.out) c.answer_in.ensures c.show_both.ensures.out;
+      shows_err = subst (λ t. ShowsText t c.args.err.now c.show_both.new.err c.show_both.result.err) c.line_in.ensures c.show_both.ensures.err;
     }

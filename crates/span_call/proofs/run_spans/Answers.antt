@@ -2,9 +2,25 @@ use Rattle.std.proofs.Common.{ap, ap₂, map, is_none, ◌∙◌, arith}
 use Rattle.std.specs.Prelude.{string_bytes}
 use Rattle.spans.specs.Parts.{place_named, content_named}
 use Rattle.spans.specs.Held.{lacks_in}
+use Rattle.span_call.proofs.CallEnds.{ended}
 use Rattle.span_call.proofs.Counts.{zero_or, unless}
 use Rattle.span_call.proofs.Endings.{lacks_input, cut_short}
 use Rattle.span_call.proofs.run_spans.Goals as goal
+
+pub returns-in-Err-clause-end : goal.returns-in-Err-clause-end
+returns-in-Err-clause-end c = c.in-Err.ensures.end c.args.out.now c.args.err.now
+
+pub returns-in-Err-clause-called : goal.returns-in-Err-clause-called
+returns-in-Err-clause-called c = λ small. absurd (omega (arith, small, c.in-Err.ensures.least))
+
+pub returns-in-Err-clause-lacked : goal.returns-in-Err-clause-lacked
+returns-in-Err-clause-lacked c = λ six. absurd (omega (arith, six, c.in-Err.ensures.least))
+
+pub returns-in-Err-clause-cut_short : goal.returns-in-Err-clause-cut_short
+returns-in-Err-clause-cut_short c = λ seven. absurd (omega (arith, seven, c.in-Err.ensures.least))
+
+pub returns-clause-end : goal.returns-clause-end
+returns-clause-end c = ended _ _ _ _ _ _ _ _ c.in-Ok.ensures.are_texts c.run-status.result.known
 
 pub returns-clause-called : goal.returns-clause-called
 returns-clause-called c = λ small. record {
@@ -24,18 +40,14 @@ returns-clause-called c = λ small. record {
     empty = c.new-text.ensures.written;
     none_failed = c.new-text.ensures.faults;
     wrote = c.bytes.ensures;
-    whole = c.show-sizes.ensures.whole;
-    front = c.show-sizes.ensures.front;
-    rest = c.show-sizes.ensures.rest;
+    shown = c.show_both.ensures.out;
   };
   shows_err = record {
     text = c.bytes-2.result.now;
     empty = c.new-line.ensures.written;
     none_failed = c.new-line.ensures.faults;
     wrote = c.bytes-2.ensures;
-    whole = c.show-sizes-2.ensures.whole;
-    front = c.show-sizes-2.ensures.front;
-    rest = c.show-sizes-2.ensures.rest;
+    shown = c.show_both.ensures.err;
   };
 }
 

@@ -1,14 +1,18 @@
-use Rattle.causal_cli.specs.Answers.{GivesSecond}
-use Rattle.causal_cli.proofs.Deliveries.{long_second, read_second}
+use Rattle.std.proofs.Common.{◌≤◌, subst, length}
+use Rattle.std.specs.Prelude.{IfOk}
+use Rattle.causal_cli.specs.Ends.{ReadsSecond}
+use Rattle.causal_cli.proofs.Deliveries.{within, given_second}
 use Rattle.causal_cli.proofs.top.proceed.Goals as goal
 
-pub returns-in-Ok-long_reply-clause-proceeds : goal.returns-in-Ok-long_reply-clause-proceeds
-returns-in-Ok-long_reply-clause-proceeds g c = long_second _ _ _ _ c.args.input.now c.second.result.now c.limit.result
-    c.in-Err-TooLong.field-0 c.in-Err-TooLong.field-0-0 c.in-Ok-long_reply.reply c.second.ensures c.limit.ensures.limit c.in-Err-TooLong.field-0-is
-    c.in-Err-TooLong.ensures.answer c.in-Err-TooLong.ensures.lacked c.requires.answered c.in-Ok-long_reply.ensures
+pub answer_second-requires-clause-limit : goal.answer_second-requires-clause-limit
+answer_second-requires-clause-limit g c = subst (λ k. IfOk c.read_second-read.result (λ other. length other.items ≤ k)) c.limit.ensures.limit (within _ _ c.read_second-read.result c.read_second-read.ensures.answer.answer)
 
-pub returns-in-Ok-second_reply-clause-proceeds : goal.returns-in-Ok-second_reply-clause-proceeds
-returns-in-Ok-second_reply-clause-proceeds g c =
-    let gives : GivesSecond c.args.input.now c.in-Ok.other.items c.in-Ok-second_reply.reply = rw c.deref.ensures.value at c.in-Ok-second_reply.ensures in
-    read_second _ _ _ _ c.args.input.now c.second.result.now c.limit.result c.in-Ok.other c.in-Ok-second_reply.reply c.second.ensures
-    c.in-Ok.ensures.answer c.in-Ok.ensures.lacked c.requires.answered gives
+pub returns-clause-proceeds : goal.returns-clause-proceeds
+returns-clause-proceeds g c = given_second _ _ _ _ c.args.input.now c.requires.answered c.second.result.now c.limit.result c.read_second-read.result c.answer_second.result c.or_memory.result
+    c.second.ensures c.limit.ensures.limit c.read_second-read.ensures.answer c.answer_second.ensures c.or_memory.ensures
+
+pub returns-clause-reads : goal.returns-clause-reads
+returns-clause-reads g c = subst (ReadsSecond _ _ c.args.file.now) c.second.ensures c.read_second-read.ensures.reads
+
+pub returns-clause-stays : goal.returns-clause-stays
+returns-clause-stays g c = c.read_second-read.ensures.stays

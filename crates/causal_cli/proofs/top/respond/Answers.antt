@@ -6,3 +6,6 @@ returns-clause-ends g c = delivered _ c.reply_to-reply.result c.deliver.result (
 
 pub returns-clause-reads : goal.returns-clause-reads
 returns-clause-reads g c = c.reply_to-reply.ensures.reads _
+
+pub returns-clause-stays : goal.returns-clause-stays
+returns-clause-stays g c = c.reply_to-reply.ensures.stays

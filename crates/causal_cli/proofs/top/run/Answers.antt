@@ -28,3 +28,12 @@ returns-clause-drawn g c =
 
 pub returns-clause-complete : goal.returns-clause-complete
 returns-clause-complete g c = complete _ _ c.respond-last.result.outcome (text_of c.respond-last.result) c.code.ensures c.respond-last.ensures.ends
+
+pub returns-clause-reads : goal.returns-clause-reads
+returns-clause-reads g c = c.respond-last.ensures.reads
+
+pub returns-clause-holds : goal.returns-clause-holds
+returns-clause-holds g c = c.respond-last.ensures.stays.holds
+
+pub returns-clause-lack : goal.returns-clause-lack
+returns-clause-lack g c = c.respond-last.ensures.stays.lack

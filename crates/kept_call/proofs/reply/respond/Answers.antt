@@ -11,12 +11,12 @@ returns-in-Ok-OnGraph c = λ diagram holds.
     let asks = rw c.in-Ok-OnGraph.field-0-is at c.in-Ok-OnGraph.ensures.asks in
     c.answer_graph.ensures (texts_of c.args.words.now) asks diagram holds
 
-pub returns-in-Ok : goal.returns-in-Ok
-returns-in-Ok c = λ diagram holds.
+pub returns-in-Ok-Survey : goal.returns-in-Ok-Survey
+returns-in-Ok-Survey c = λ diagram holds.
     let asks = rw c.in-Ok-Survey.field-0-is at c.in-Ok-Survey.ensures.asks in
-    replied_words _ (of Survey (request_of c.in-Ok-Survey.request)) c.in-Ok.reply asks c.in-Ok.ensures
+    replied_words _ (of Survey (request_of c.in-Ok-Survey.request)) c.survey_reply.result c.or_memory.result asks c.survey_reply.ensures c.or_memory.ensures
 
 pub returns-in-Err-NotUnderstood : goal.returns-in-Err-NotUnderstood
 returns-in-Err-NotUnderstood c = λ diagram holds.
-    not_understood _ c.bare-in-Err-NotUnderstood.result c.bare-in-Err-NotUnderstood.ensures
+    not_understood _ c.bare.result c.bare.ensures
     (c.in-Err-NotUnderstood.ensures.none (ap (λ f. Err f) c.in-Err-NotUnderstood.field-0-is))
