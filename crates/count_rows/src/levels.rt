@@ -1,5 +1,5 @@
-ghost use Rattle.std.specs.Prelude.{◌≡◌, ◌<◌, List, ℕ, [], ◌∷◌, ◌++◌, false, is_some, length, OnOk, OnErr, IfOk, IfSome, slice_get};
-ghost use Rattle.mixed_graph.specs.Names.{with_name, index_of, is_named, texts};
+ghost use Rattle.std.specs.Prelude.{◌≡◌, ◌<◌, List, ℕ, [], length, OnOk, IfOk, slice_get};
+ghost use Rattle.mixed_graph.specs.Names.{with_name, index_of, texts};
 ghost use Rattle.count_rows.specs.Levels.{AreLevels};
 
 use indexmap::IndexSet;
@@ -62,33 +62,15 @@ impl Levels {
         ensures within { IfOk result (λ k. k < length self.new) }
     {
         let number = self.set.len();
-        if let Some(number) = place(&self.set, level) {
+        if let Some(number) = self.set.get_index_of(level) {
             return Ok(number as u32);
         }
         // Numbers have 32 bits. So many levels are far beyond what a table may have.
         if number >= u32::MAX as usize {
             return Err(AllocError);
         }
-        put(alloc, &mut self.set, level)?;
+        let owned = Vec::from_slice(alloc, level)?;
+        self.set.insert(owned)?;
         Ok(number as u32)
     }
-}
-
-/// Where a level is.
-fn place(set: &IndexSet<Vec<u8>>, level: &[u8]) -> Option<usize>
-    ensures found { IfSome result (λ i. (i ≡ index_of (texts set.now.keys) level.now) × (i < length set.now.keys)) }
-    ensures has { is_some result ≡ is_named (texts set.now.keys) level.now }
-{
-    set.get_index_of(level)
-}
-
-/// Adds a level that isn't there.
-fn put(alloc: Global, set: &mut IndexSet<Vec<u8>>, level: &[u8]) -> Result<(), AllocError>
-    requires { is_named (texts set.old.keys) level.now ≡ false }
-    ensures ok { OnOk result (texts set.new.keys ≡ texts set.old.keys ++ level.now ∷ []) }
-    ensures err { OnErr result (set.new.keys ≡ set.old.keys) }
-{
-    let owned = Vec::from_slice(alloc, level)?;
-    set.insert(owned)?;
-    Ok(())
 }
