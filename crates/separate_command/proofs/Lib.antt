@@ -1,4 +1,5 @@
 mod Sets
+mod Refused
 pub mod Outcomes
 pub mod Exclusive
 pub mod Lawful
