@@ -1,15 +1,15 @@
 -- The data of the hedge at which the procedure stops is a hedge.
-use Rattle.std.proofs.Common.{ℕ, zero, suc, ◌≡◌, ◌<◌, ◌≤◌, ◌⊎◌, Bool, true, false, ◌&&◌, ◌==◌, length, get_or, inl, inr, refl, sym, subst, ◌∙◌, arith}
-use Rattle.std.proofs.lemmas.Bool.{cases_Bool, cases_order, and_parts, or_cases, eqb-true}
+use Rattle.std.proofs.Common.{ℕ, zero, suc, ◌+◌, ◌≡◌, ◌<◌, ◌≤◌, ◌⊎◌, ◌↔◌, Bool, true, false, cond, not, ◌&&◌, ◌||◌, ◌==◌, List, length, get_or, IsTrue, inl, inr, refl, sym, ap, subst, ◌∙◌, arith}
+use Rattle.std.proofs.lemmas.Bool.{cases_Bool, cases_lt, cases_order, and_parts, or_left, or_right, or_cases, eqb-true}
 use Rattle.mixed_graph.specs.Bits.{has, members_below}
 use Rattle.mixed_graph.specs.declared.sets.VSet.{VSet}
-use Rattle.mixed_graph.specs.Graphs.{MixedGraph, IsMixedGraph}
+use Rattle.mixed_graph.specs.Graphs.{MixedGraph, IsMixedGraph, induced}
 use Rattle.mixed_graph.specs.Orders.{taken_by}
 use Rattle.mixed_graph.proofs.Members.{one_if, length-members-suc, length-members-zero, length-members-more, length-members-none}
-use Rattle.districts.specs.Nearest.{IsChoiceOf, Leads}
+use Rattle.districts.specs.Nearest.{Leads, IsChoiceOf, IsNearestChild}
 use Rattle.districts.specs.Spanning.{IsNextLink, AreLinks}
 use Rattle.districts.proofs.Trees.{place_of_taken, taken_own}
-use Rattle.hedge.specs.Hedges.{size_of, IsChildInside, IsRightChoice, IsPlaced, AreRightLinks, IsHedge}
+use Rattle.hedge.specs.Hedges.{size_of, IsChildInside, IsRightChoice, IsPlaced, IsRightPartner, AreRightLinks, IsHedge}
 use Rattle.hedge.specs.Shapes.{AreSetsOfHedge}
 use Rattle.hedge.specs.declared.hedge.Hedge.{Hedge}
 use Rattle.id_recursion.specs.Hedged.{IsHedgeOf}
@@ -32,49 +32,52 @@ module _ (g : MixedGraph) (valid : IsMixedGraph g) (few : g.vertices ≤ 64) (x 
   abbrev entry : ℕ → ℕ
   entry i = get_or h.links.found i 0
 
-  abbrev child : ℕ → ℕ
-  child v = get_or h.choice.next v 0
-
   -- ---- choices
   root_out : (v : ℕ) → has h.small.bits v ≡ false → has h.roots.bits v ≡ false
   root_out v o = elim (cases_Bool (has h.roots.bits v)) [ inl t ↦ absurd (clash (has h.small.bits v) (sets.roots_inside v t) o) | inr f ↦ f ]
 
-  -- a vertex that leads to a set chooses a child on the way to it
-  on_the_way : (s r : ℕ → Bool) (v : ℕ) → Leads g s r v → IsChoiceOf g s r v (child v) → IsTrue (g.arrow v (child v)) × IsTrue (s (child v))
-  on_the_way s r v leads (inr c) = absurd (c.0 leads)
-  on_the_way s r v leads (inl c) =
-      let a = and_parts (g.arrow v (child v)) (s v && s (child v)) c.1.arrow in
-      (a.0, (and_parts (s v) (s (child v)) a.1).1)
+  inner_child : (v : ℕ) → v < 64 → has h.small.bits v ≡ true → has h.roots.bits v ≡ false → IsChildInside g h v (get_or h.choice.next v 0)
+  inner_child v lt i o = go (is.inner v lt i)
+    where
+      go : IsChoiceOf g (has h.small.bits) (has h.roots.bits) v (get_or h.choice.next v 0) → IsChildInside g h v (get_or h.choice.next v 0)
+      go (inr c) = absurd (c.0 (record { member = i; outside = o; reaches = sets.small_reaches v i }))
+      go (inl c) =
+          let a = and_parts (g.arrow v (get_or h.choice.next v 0)) (has h.small.bits v && has h.small.bits (get_or h.choice.next v 0)) c.1.arrow in
+          let b = and_parts (has h.small.bits v) (has h.small.bits (get_or h.choice.next v 0)) a.1 in
+          record { arrow = a.0; in_big = sets.small_inside (get_or h.choice.next v 0) b.1; in_small = λ _. b.1 }
 
-  inner_child : (v : ℕ) → v < 64 → has h.small.bits v ≡ true → has h.roots.bits v ≡ false → IsChildInside g h v (child v)
-  inner_child v lt i o =
-      let a = on_the_way (has h.small.bits) (has h.roots.bits) v (record { member = i; outside = o; reaches = sets.small_reaches v i }) (is.inner v lt i) in
-      record { arrow = a.0; in_big = sets.small_inside (child v) a.1; in_small = λ _. a.1 }
+  outer_child : (v : ℕ) → v < 64 → has h.big.bits v ≡ true → has h.small.bits v ≡ false → IsChildInside g h v (get_or h.choice.next v 0)
+  outer_child v lt i o = go (is.outer v lt o)
+    where
+      go : IsChoiceOf g (has h.big.bits) (has h.small.bits) v (get_or h.choice.next v 0) → IsChildInside g h v (get_or h.choice.next v 0)
+      go (inr c) = absurd (c.0 (record { member = i; outside = o; reaches = sets.big_reaches v i }))
+      go (inl c) =
+          let a = and_parts (g.arrow v (get_or h.choice.next v 0)) (has h.big.bits v && has h.big.bits (get_or h.choice.next v 0)) c.1.arrow in
+          let b = and_parts (has h.big.bits v) (has h.big.bits (get_or h.choice.next v 0)) a.1 in
+          record { arrow = a.0; in_big = b.1; in_small = λ s. absurd (clash (has h.small.bits v) s o) }
 
-  outer_child : (v : ℕ) → v < 64 → has h.big.bits v ≡ true → has h.small.bits v ≡ false → IsChildInside g h v (child v)
-  outer_child v lt i o =
-      let a = on_the_way (has h.big.bits) (has h.small.bits) v (record { member = i; outside = o; reaches = sets.big_reaches v i }) (is.outer v lt o) in
-      record { arrow = a.0; in_big = a.1; in_small = λ s. absurd (clash (has h.small.bits v) s o) }
+  inner_none : (v : ℕ) → v < 64 → has h.small.bits v ≡ true → has h.roots.bits v ≡ true → get_or h.choice.next v 0 ≡ 64
+  inner_none v lt i r = go (is.inner v lt i)
+    where
+      go : IsChoiceOf g (has h.small.bits) (has h.roots.bits) v (get_or h.choice.next v 0) → get_or h.choice.next v 0 ≡ 64
+      go (inl c) = absurd (clash (has h.roots.bits v) r c.0.outside)
+      go (inr c) = c.1
 
-  -- any other vertex chooses none
-  off_the_way : (s r : ℕ → Bool) (v : ℕ) → (Leads g s r v → ⊥) → IsChoiceOf g s r v (child v) → child v ≡ 64
-  off_the_way s r v no (inl c) = absurd (no c.0)
-  off_the_way s r v no (inr c) = c.1
-
-  inner_none : (v : ℕ) → v < 64 → has h.small.bits v ≡ true → has h.roots.bits v ≡ true → child v ≡ 64
-  inner_none v lt i r = off_the_way (has h.small.bits) (has h.roots.bits) v (λ l. clash (has h.roots.bits v) r l.outside) (is.inner v lt i)
-
-  outer_none : (v : ℕ) → v < 64 → has h.small.bits v ≡ false → has h.big.bits v ≡ false → child v ≡ 64
-  outer_none v lt o b = off_the_way (has h.big.bits) (has h.small.bits) v (λ l. clash (has h.big.bits v) l.member b) (is.outer v lt o)
+  outer_none : (v : ℕ) → v < 64 → has h.small.bits v ≡ false → has h.big.bits v ≡ false → get_or h.choice.next v 0 ≡ 64
+  outer_none v lt o b = go (is.outer v lt o)
+    where
+      go : IsChoiceOf g (has h.big.bits) (has h.small.bits) v (get_or h.choice.next v 0) → get_or h.choice.next v 0 ≡ 64
+      go (inl c) = absurd (clash (has h.big.bits v) c.0.member b)
+      go (inr c) = c.1
 
   right_choice : (v : ℕ) → v < 64 → IsRightChoice g h v
   right_choice v lt = record { chosen = λ i o. chosen i o (cases_Bool (has h.small.bits v)); none = λ n. none n (cases_Bool (has h.small.bits v)) }
     where
-      chosen : has h.big.bits v ≡ true → has h.roots.bits v ≡ false → (has h.small.bits v ≡ true) ⊎ (has h.small.bits v ≡ false) → IsChildInside g h v (child v)
+      chosen : has h.big.bits v ≡ true → has h.roots.bits v ≡ false → (has h.small.bits v ≡ true) ⊎ (has h.small.bits v ≡ false) → IsChildInside g h v (get_or h.choice.next v 0)
       chosen i o (inl s) = inner_child v lt s o
       chosen i o (inr s) = outer_child v lt i s
 
-      none : (has h.big.bits v ≡ false) ⊎ (has h.roots.bits v ≡ true) → (has h.small.bits v ≡ true) ⊎ (has h.small.bits v ≡ false) → child v ≡ 64
+      none : (has h.big.bits v ≡ false) ⊎ (has h.roots.bits v ≡ true) → (has h.small.bits v ≡ true) ⊎ (has h.small.bits v ≡ false) → get_or h.choice.next v 0 ≡ 64
       none (inl b) (inl s) = absurd (clash (has h.big.bits v) (sets.small_inside v s) b)
       none (inl b) (inr s) = outer_none v lt s b
       none (inr r) (inl s) = inner_none v lt s r
