@@ -40,15 +40,16 @@ pub fn ask_kept(
         Ok(words) => words,
         Err(end) => return end,
     };
-    let Ok(reply) = reply_kept(
+    let reply = match reply_kept(
         alloc,
         kept,
         lines,
         &words,
         arguments.bytes,
         arguments.inputs,
-    ) else {
-        return CallEnd::silent(NOT_KEPT);
+    ) {
+        Ok(reply) => reply,
+        Err(_) => return CallEnd::silent(NOT_KEPT),
     };
     CallEnd {
         status: reply.outcome.code(),

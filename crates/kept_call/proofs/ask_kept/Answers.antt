@@ -4,7 +4,7 @@ use Rattle.replies.specs.declared.outcome.Outcome.{Outcome}
 use Rattle.replies.specs.declared.outcome.Outcome.TheVariants.{Yes}
 use Rattle.replies.specs.Outcomes.{code_of}
 use Rattle.span_call.specs.Rooms.{ShowsText}
-use Rattle.span_call.proofs.CallEnds.{ended}
+use Rattle.span_call.proofs.CallEnds.{ended, silent}
 use Rattle.kept_call.specs.Replies.{RepliesWith, question}
 use Rattle.kept_call.proofs.ask_kept.Goals as goal
 
@@ -21,6 +21,12 @@ returns-in-Err-clause-asked c = λ small diagram kept. absurd (omega (arith, sma
 
 pub returns-in-Err-clause-not_kept : goal.returns-in-Err-clause-not_kept
 returns-in-Err-clause-not_kept c = λ eleven g keeps. absurd (omega (arith, eleven, c.in-Err.ensures.most))
+
+pub returns-in-Err-reply_kept-clause-end : goal.returns-in-Err-reply_kept-clause-end
+returns-in-Err-reply_kept-clause-end c = silent _ _ _ _ _ _ (omega (arith, c.silent.ensures.status)) c.silent.ensures.sizes
+
+pub returns-in-Err-reply_kept-clause-asked : goal.returns-in-Err-reply_kept-clause-asked
+returns-in-Err-reply_kept-clause-asked c = λ small diagram kept. absurd (omega (arith, small, c.silent.ensures.status))
 
 pub returns-clause-end : goal.returns-clause-end
 returns-clause-end c = ended _ _ _ _ _ _ _ _ c.in-Ok.ensures.are_texts (omega (arith, c.code.ensures, small_code c.in-Ok-reply_kept.reply.outcome))

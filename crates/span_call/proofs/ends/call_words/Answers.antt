@@ -1,4 +1,5 @@
 use Rattle.std.proofs.Common.{refl, ap, Err, arith}
+use Rattle.span_call.proofs.CallEnds.{silent}
 use Rattle.span_call.proofs.ends.call_words.Goals as goal
 
 pub returns-in-Err-NotText-clause-end : goal.returns-in-Err-NotText-clause-end
@@ -11,10 +12,4 @@ returns-in-Err-NotText-clause-end c = λ out err. record {
 }
 
 pub returns-in-Err-NoMemory-clause-end : goal.returns-in-Err-NoMemory-clause-end
-returns-in-Err-NoMemory-clause-end c = λ out err. record {
-  not_text = λ nine. absurd (omega (arith, nine, c.silent-in-Err-NoMemory.ensures.status));
-  are_texts = λ small. absurd (omega (arith, small, c.silent-in-Err-NoMemory.ensures.status));
-  out_stays = λ nine. refl;
-  err_stays = λ nine. refl;
-  no_sizes = λ nine. c.silent-in-Err-NoMemory.ensures.sizes;
-}
+returns-in-Err-NoMemory-clause-end c = λ out err. silent _ _ out err _ _ (omega (arith, c.silent-in-Err-NoMemory.ensures.status)) c.silent-in-Err-NoMemory.ensures.sizes
