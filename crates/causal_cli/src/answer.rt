@@ -15,7 +15,7 @@ use evaluate_command::{Identified, evaluate_reply, identify_first, long_counts};
 use graph_command::graph_reply;
 use identify_command::identify_reply;
 use implications_command::{Pairs, counted_pairs, differences_reply, pairs_reply};
-use replies::{Reply, refuse_graph};
+use replies::{Outcome, Reply, refuse_graph};
 use rule_command::rule_reply;
 use separate_command::separate_reply;
 use std::alloc::{AllocError, Global};
