@@ -17,8 +17,8 @@ decide-requires-clause-some_x c = query_exposure _ c.in-Ok.sets.x.bits c.in-Ok.s
 pub decide-requires-clause-some_y : goal.decide-requires-clause-some_y
 decide-requires-clause-some_y c = query_outcome _ c.in-Ok.sets.x.bits c.in-Ok.sets.y.bits c.in-Ok.sets.given.bits c.in-Ok.ensures.sets
 
-pub returns-in-Err : goal.returns-in-Err
-returns-in-Err c =
+pub returns : goal.returns
+returns c =
     let g = c.args.graph.now in let e = c.in_ok-seen.ensures in
     let x = option_map names_in c.args.x in let y = option_map names_in c.args.y in let set = texts c.args.set.now in
     lists_refused g x y set (graph_of c.in_ok-seen.field-0.seen.graph) e.graph (λ q. FormulaFor c.args.by_back_door q (observed_names g)) _
