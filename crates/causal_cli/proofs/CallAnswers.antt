@@ -5,42 +5,43 @@ use Rattle.std.specs.Prelude.{IfSome}
 use Rattle.std.specs.Io.KnownBytes.{Appends}
 use Rattle.word_forms.specs.Form.{Text, Use, IsCall}
 use Rattle.replies.specs.declared.outcome.Outcome.{Outcome}
-use Rattle.causal_cli.specs.Answers.{WordsAnswer, Defined, DefinedWith}
-use Rattle.causal_cli.specs.Commands.{form_of, table, row_for, Request, of, command_of, file_of, second_of, IsRequest, Asks}
+use Rattle.command_run.specs.Answers.{WordsAnswer, Defined, DefinedWith}
+use Rattle.command_run.specs.Commands.{Request, of, command_of, file_of, second_of, IsRequest, Asks}
+use Rattle.command_run.specs.Run.{Run, Answers, by_words, by_file, by_both}
+use Rattle.command_run.proofs.Deliveries.{mapped}
+use Rattle.command_run.proofs.OneRequest.{words_ask_once}
+use Rattle.causal_cli.specs.Commands.{commands, form_of, table, row_for}
 use Rattle.causal_cli.specs.Headline.{WrittenFor}
-use Rattle.causal_cli.specs.Run.{Run, Answers, by_words, by_file, by_both}
+use Rattle.causal_cli.specs.Lawful.{lawful}
 use Rattle.causal_cli.specs.declared.commands.Command.{Command}
-use Rattle.causal_cli.proofs.CompleteRuns.{words_ask_once}
-use Rattle.causal_cli.proofs.Deliveries.{mapped}
-use Rattle.causal_cli.proofs.OneCommand.{one_command}
 
 -- the answer to the request of a command that these uses ask for: by the words alone, on the bytes of its file, or on those of both inputs
 pub data CallAnswer (r : Run) (c : Command) (uses : List Use) (o : Outcome) (text : List ℕ) : Type 0 where
-  on_words : (q : (form_of c).Request) → IsRequest uses (of c q) → WordsAnswer (of c q) o text → CallAnswer r c uses o text
-  on_file : (q : (form_of c).Request) → IsRequest uses (of c q) → (file : Text) → file_of (of c q) ≡ Some file → IfSome (r.held file) (λ bytes. Defined (of c q) bytes o text) → CallAnswer r c uses o text
-  on_both : (q : (form_of c).Request) → IsRequest uses (of c q) → (file second : Text) → file_of (of c q) ≡ Some file → second_of (of c q) ≡ Some second
-      → IfSome (r.held file) (λ bytes. IfSome (r.held second) (λ other. DefinedWith (of c q) bytes other o text)) → CallAnswer r c uses o text
+  on_words : (q : (form_of c).Request) → IsRequest commands uses (of c q) → WordsAnswer commands (of c q) o text → CallAnswer r c uses o text
+  on_file : (q : (form_of c).Request) → IsRequest commands uses (of c q) → (file : Text) → file_of commands (of c q) ≡ Some file → IfSome (r.held file) (λ bytes. Defined commands (of c q) bytes o text) → CallAnswer r c uses o text
+  on_both : (q : (form_of c).Request) → IsRequest commands uses (of c q) → (file second : Text) → file_of commands (of c q) ≡ Some file → second_of commands (of c q) ≡ Some second
+      → IfSome (r.held file) (λ bytes. IfSome (r.held second) (λ other. DefinedWith commands (of c q) bytes other o text)) → CallAnswer r c uses o text
 
 module _ (r : Run) (c : Command) (uses : List Use) (call : IsCall table r.words (row_for c) uses) where
   -- a request that the words ask for is one of this command, by the same uses
-  is_of : (w : Request) → Asks r.words w → command_of w ≡ c
-  is_of w a = one_command (command_of w) c (words_ask_once r.words (row_for c) (row_for (command_of w)) uses a.uses call a.call).0
+  is_of : (w : Request commands) → Asks commands r.words w → command_of commands w ≡ c
+  is_of w a = lawful.apart (command_of commands w) c (words_ask_once commands lawful r.words (row_for c) (row_for (command_of commands w)) uses a.uses call a.call).0
 
-  by_them : (w : Request) → Asks r.words w → IsRequest uses w
-  by_them w a = subst (λ us. IsRequest us w) (words_ask_once r.words (row_for c) (row_for (command_of w)) uses a.uses call a.call).1 a.asks
+  by_them : (w : Request commands) → Asks commands r.words w → IsRequest commands uses w
+  by_them w a = subst (λ us. IsRequest commands us w) (words_ask_once commands lawful r.words (row_for c) (row_for (command_of commands w)) uses a.uses call a.call).1 a.asks
 
 module _ (r : Run) (c : Command) (uses : List Use) (o : Outcome) (text : List ℕ) where
-  for_words : (w : Request) → command_of w ≡ c → IsRequest uses w → WordsAnswer w o text → CallAnswer r c uses o text
+  for_words : (w : Request commands) → command_of commands w ≡ c → IsRequest commands uses w → WordsAnswer commands w o text → CallAnswer r c uses o text
   for_words (of d q) e is answer = subst (λ (k : Command). CallAnswer r k uses o text) e (on_words q is answer)
 
-  for_file : (w : Request) → command_of w ≡ c → IsRequest uses w → (file : Text) → file_of w ≡ Some file → IfSome (r.held file) (λ bytes. Defined w bytes o text) → CallAnswer r c uses o text
+  for_file : (w : Request commands) → command_of commands w ≡ c → IsRequest commands uses w → (file : Text) → file_of commands w ≡ Some file → IfSome (r.held file) (λ bytes. Defined commands w bytes o text) → CallAnswer r c uses o text
   for_file (of d q) e is file names defined = subst (λ (k : Command). CallAnswer r k uses o text) e (on_file q is file names defined)
 
-  for_both : (w : Request) → command_of w ≡ c → IsRequest uses w → (file second : Text) → file_of w ≡ Some file → second_of w ≡ Some second
-      → IfSome (r.held file) (λ bytes. IfSome (r.held second) (λ other. DefinedWith w bytes other o text)) → CallAnswer r c uses o text
+  for_both : (w : Request commands) → command_of commands w ≡ c → IsRequest commands uses w → (file second : Text) → file_of commands w ≡ Some file → second_of commands w ≡ Some second
+      → IfSome (r.held file) (λ bytes. IfSome (r.held second) (λ other. DefinedWith commands w bytes other o text)) → CallAnswer r c uses o text
   for_both (of d q) e is file second names names_second defined = subst (λ (k : Command). CallAnswer r k uses o text) e (on_both q is file second names names_second defined)
 
-pub call_answer : (r : Run) (c : Command) (uses : List Use) → IsCall table r.words (row_for c) uses → (o : Outcome) (text : List ℕ) → Answers r o text → CallAnswer r c uses o text
+pub call_answer : (r : Run) (c : Command) (uses : List Use) → IsCall table r.words (row_for c) uses → (o : Outcome) (text : List ℕ) → Answers commands r o text → CallAnswer r c uses o text
 call_answer r c uses call o text (by_words a) = for_words r c uses o text a.request (is_of r c uses call a.request a.asks) (by_them r c uses call a.request a.asks) a.answer
 call_answer r c uses call o text (by_file a) = for_file r c uses o text a.request (is_of r c uses call a.request a.asks) (by_them r c uses call a.request a.asks) a.file a.names_it a.defined
 call_answer r c uses call o text (by_both a) =
@@ -61,15 +62,15 @@ under_names held name file other second P Q f e g h =
 
 -- what is answered to a call of a command that has a file alone, and was written, was written for the request
 module _ (r : Run) (c : Command) (uses : List Use) (o : Outcome) (text : List ℕ) (file : (form_of c).Request → Text) (shows : (form_of c).Request → (bytes text : List ℕ) → Type 0)
-    (wordless : (q : (form_of c).Request) → WordsAnswer (of c q) o text → ⊥) (names : (q : (form_of c).Request) → file_of (of c q) ≡ Some (file q)) (single : (q : (form_of c).Request) → second_of (of c q) ≡ None)
-    (shown : (q : (form_of c).Request) → IsRequest uses (of c q) → (bytes : List ℕ) → Defined (of c q) bytes o text → shows q bytes text) where
-  pub written_for : Appends r.out.before r.out.after text → CallAnswer r c uses o text → WrittenFor (λ us q. IsRequest us (of c q)) file shows r uses
+    (wordless : (q : (form_of c).Request) → WordsAnswer commands (of c q) o text → ⊥) (names : (q : (form_of c).Request) → file_of commands (of c q) ≡ Some (file q)) (single : (q : (form_of c).Request) → second_of commands (of c q) ≡ None)
+    (shown : (q : (form_of c).Request) → IsRequest commands uses (of c q) → (bytes : List ℕ) → Defined commands (of c q) bytes o text → shows q bytes text) where
+  pub written_for : Appends r.out.before r.out.after text → CallAnswer r c uses o text → WrittenFor (λ us q. IsRequest commands us (of c q)) file shows r uses
   written_for whole (on_words q is h) = absurd (wordless q h)
   written_for whole (on_file q is name named h) = record {
     request = q;
     text = text;
     asks = is;
-    right = under_name r.held (file q) name (λ bytes. Defined (of c q) bytes o text) (λ bytes. shows q bytes text) (shown q is) (sym (names q) ∙ named) h;
+    right = under_name r.held (file q) name (λ bytes. Defined commands (of c q) bytes o text) (λ bytes. shows q bytes text) (shown q is) (sym (names q) ∙ named) h;
     whole = whole;
   }
   written_for whole (on_both q is name second named named_second h) = absurd (none-some second (sym (single q) ∙ named_second))

@@ -6,10 +6,11 @@ use Rattle.word_forms.specs.Form.{Use}
 use Rattle.replies.specs.declared.outcome.Outcome.{Outcome}
 use Rattle.replies.specs.declared.outcome.Outcome.TheVariants.{Yes}
 use Rattle.replies.specs.Outcomes.{code_of}
-use Rattle.causal_cli.specs.Answers.{HoldsAnswer, DefinedWith}
-use Rattle.causal_cli.specs.Commands.{of}
+use Rattle.command_run.specs.Answers.{HoldsAnswer, DefinedWith}
+use Rattle.command_run.specs.Commands.{of}
+use Rattle.command_run.specs.Run.{Run, Ends}
+use Rattle.causal_cli.specs.Commands.{commands}
 use Rattle.causal_cli.specs.Headline.{IsRightCertificate, Checked, HeadlineOfCheck}
-use Rattle.causal_cli.specs.Run.{Run, Ends}
 use Rattle.causal_cli.specs.declared.commands.Command.TheVariants.{Check}
 use Rattle.causal_cli.proofs.CallAnswers.{CallAnswer, on_words, on_file, on_both, call_answer, under_name, under_names}
 
@@ -20,19 +21,19 @@ on_yes r uses text whole (on_file q is file names h) = record {
   request = q;
   text = text;
   asks = is;
-  right = under_name r.held q.file file (λ bytes. HoldsAnswer (of Check q) bytes Yes text) (λ bytes. IfSome (r.held q.certificate) (λ other. IsRightCertificate bytes other text)) (λ bytes a. absurd a.answer) names h;
+  right = under_name r.held q.file file (λ bytes. HoldsAnswer commands (of Check q) bytes Yes text) (λ bytes. IfSome (r.held q.certificate) (λ other. IsRightCertificate bytes other text)) (λ bytes a. absurd a.answer) names h;
   whole = whole;
 }
 on_yes r uses text whole (on_both q is file second names names_second h) = record {
   request = q;
   text = text;
   asks = is;
-  right = under_names r.held q.file file q.certificate second (λ bytes other. DefinedWith (of Check q) bytes other Yes text) (λ bytes other. IsRightCertificate bytes other text)
+  right = under_names r.held q.file file q.certificate second (λ bytes other. DefinedWith commands (of Check q) bytes other Yes text) (λ bytes other. IsRightCertificate bytes other text)
       (λ bytes other d. record { graph = d.0; holds = d.1; accepted = d.3 }) names names_second h;
   whole = whole;
 }
 
 -- status 0 is that of a yes
-pub checked : (r : Run) (code : ℕ) (o : Outcome) (text : List ℕ) → code ≡ code_of o → Ends r o text → HeadlineOfCheck r code
+pub checked : (r : Run) (code : ℕ) (o : Outcome) (text : List ℕ) → code ≡ code_of o → Ends commands r o text → HeadlineOfCheck r code
 checked r code Yes text c h = λ uses call zero. on_yes r uses text h.whole (call_answer r Check uses call Yes text h.answers)
 checked r code o text c h = λ uses call zero. absurd (omega (arith, c, zero))

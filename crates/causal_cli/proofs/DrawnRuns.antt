@@ -36,14 +36,15 @@ use Rattle.adjust_command.specs.Requests.{Request as AdjustRequest}
 use Rattle.surrogate_command.specs.Answers.{SurrogateAnswer}
 use Rattle.surrogate_command.specs.Requests.{Request as SurrogateRequest}
 use Rattle.evaluate_command.specs.Requests.{Request as EvaluateRequest}
-use Rattle.causal_cli.specs.Answers.{HoldsAnswer, DefinedWith}
-use Rattle.causal_cli.specs.Commands.{of}
+use Rattle.command_run.specs.Answers.{HoldsAnswer, DefinedWith}
+use Rattle.command_run.specs.Commands.{of}
+use Rattle.command_run.specs.Run.{Run, Ends}
+use Rattle.command_run.proofs.Deliveries.{mapped}
+use Rattle.causal_cli.specs.Commands.{commands}
 use Rattle.causal_cli.specs.declared.commands.Command.TheVariants.{Identify, Adjust, Surrogate, Evaluate}
 use Rattle.causal_cli.specs.Drawn.{IsRightAsDrawn, IsTextAsDrawn, IdentifiedAsDrawn, IsCertificateAsDrawn, CheckedAsDrawn, AdjustsAsDrawn, ShowsAdjustmentAsDrawn, IsAdjustmentAsDrawn, AdjustedAsDrawn, IsSurrogateAsDrawn, SurrogatedAsDrawn, IsEvaluationAsDrawn, EvaluatedAsDrawn, RightAsDrawn}
 use Rattle.causal_cli.specs.Headline.{IsRightCertificate, Checked, HeadlineOfCheck}
-use Rattle.causal_cli.specs.Run.{Run, Ends}
 use Rattle.causal_cli.proofs.CallAnswers.{CallAnswer, on_words, on_file, on_both, call_answer, under_name, under_names, written_for}
-use Rattle.causal_cli.proofs.Deliveries.{mapped}
 use Rattle.causal_cli.proofs.DrawnCounts.{shows_quantities}
 
 -- what equals an effect in the observed graph is right in the diagram as drawn
@@ -160,7 +161,7 @@ surrogated r uses text = written_for r Surrogate uses Yes text (λ q. q.file) Is
 
 -- ---- evaluate
 
-evaluated_on : (q : EvaluateRequest) (bytes other text : List ℕ) → DefinedWith (of Evaluate q) bytes other Yes text → IsEvaluationAsDrawn q bytes other text
+evaluated_on : (q : EvaluateRequest) (bytes other text : List ℕ) → DefinedWith commands (of Evaluate q) bytes other Yes text → IsEvaluationAsDrawn q bytes other text
 evaluated_on q bytes other text (g, holds, needs, (e, identifies, (t, read, shows))) = record {
   graph = g;
   holds = holds;
@@ -178,14 +179,14 @@ evaluated r uses text whole (on_file q is file names h) = record {
   request = q;
   text = text;
   asks = is;
-  right = under_name r.held q.file file (λ bytes. HoldsAnswer (of Evaluate q) bytes Yes text) (λ bytes. IfSome (r.held q.counts) (λ other. IsEvaluationAsDrawn q bytes other text)) (λ bytes a. absurd a.answer) names h;
+  right = under_name r.held q.file file (λ bytes. HoldsAnswer commands (of Evaluate q) bytes Yes text) (λ bytes. IfSome (r.held q.counts) (λ other. IsEvaluationAsDrawn q bytes other text)) (λ bytes a. absurd a.answer) names h;
   whole = whole;
 }
 evaluated r uses text whole (on_both q is file second names names_second h) = record {
   request = q;
   text = text;
   asks = is;
-  right = under_names r.held q.file file q.counts second (λ bytes other. DefinedWith (of Evaluate q) bytes other Yes text) (λ bytes other. IsEvaluationAsDrawn q bytes other text)
+  right = under_names r.held q.file file q.counts second (λ bytes other. DefinedWith commands (of Evaluate q) bytes other Yes text) (λ bytes other. IsEvaluationAsDrawn q bytes other text)
       (λ bytes other d. evaluated_on q bytes other text d) names names_second h;
   whole = whole;
 }
@@ -193,7 +194,7 @@ evaluated r uses text whole (on_both q is file second names names_second h) = re
 -- ---- a run
 
 -- status 0 is that of a yes
-pub right_as_drawn_of : (r : Run) (code : ℕ) (o : Outcome) (text : List ℕ) → code ≡ code_of o → Ends r o text → HeadlineOfCheck r code → RightAsDrawn r code
+pub right_as_drawn_of : (r : Run) (code : ℕ) (o : Outcome) (text : List ℕ) → code ≡ code_of o → Ends commands r o text → HeadlineOfCheck r code → RightAsDrawn r code
 right_as_drawn_of r code Yes text c h accepted = record {
   identified = λ uses call zero. identified r uses text h.whole (call_answer r Identify uses call Yes text h.answers);
   checked = λ uses call zero. checked r uses (accepted uses call zero);

@@ -1,9 +1,8 @@
--- The commands: one list, and of each what it is, which stands in its own crate; when words ask for a request; and what the code's values stand for.
-use Rattle.std.specs.Prelude.{◌≡◌, List, [], ◌∷◌, Option, map, option_map}
-use Rattle.word_forms.specs.Form.{Text, Row, Use, IsCall}
-use Rattle.word_requests.specs.Asks.{AsksBy}
+-- The commands: one list, and of each what it is, which stands in its own crate; and what the code's values stand for.
+use Rattle.std.specs.Prelude.{List, [], ◌∷◌, map, option_map}
+use Rattle.word_forms.specs.Form.{Row}
 use Rattle.replies.specs.Command.{CommandForm, Remainder}
-use Rattle.replies.specs.Command as forms
+use Rattle.command_run.specs.Commands.{CommandSet, Request, of}
 use Rattle.graph_command.specs.Command.{graph_command}
 use Rattle.graph_command.specs.Requests as of_graph
 use Rattle.separate_command.specs.Command.{separate_command}
@@ -30,12 +29,10 @@ use Rattle.evaluate_command.specs.Effects.{effect_view}
 use Rattle.implications_command.specs.Pairs.{pairs_view}
 use Rattle.causal_cli.specs.declared.commands.Command.{Command}
 use Rattle.causal_cli.specs.declared.commands.Command.TheVariants as command
-use Rattle.causal_cli.specs.declared.commands.GraphRequest.{GraphRequest}
-use Rattle.causal_cli.specs.declared.commands.GraphRequest.TheVariants as code
-use Rattle.causal_cli.specs.declared.commands.Request.{Request as CodeRequest}
-use Rattle.causal_cli.specs.declared.commands.Request.TheVariants as request
-use Rattle.causal_cli.specs.declared.answer.SecondInput.{SecondInput}
-use Rattle.causal_cli.specs.declared.answer.SecondInput.TheVariants as input
+use Rattle.causal_cli.specs.declared.request.Request.{Request as CodeRequest}
+use Rattle.causal_cli.specs.declared.request.Request.TheVariants as request
+use Rattle.causal_cli.specs.declared.second.SecondInput.{SecondInput}
+use Rattle.causal_cli.specs.declared.second.SecondInput.TheVariants as input
 
 -- ---- each command
 
@@ -75,59 +72,25 @@ form_of command.Implications = implications_command
 form_of command.Survey = survey_command
 form_of command.Surrogate = surrogate_command
 
--- ---- what words ask for
-
--- what words ask for: a command, and what it is asked for
-pub data Request : Type 0 where
-  of : (c : Command) → (form_of c).Request → Request
-
--- its command
-abbrev pub command_of : Request → Command
-command_of (of c q) = c
-
--- its file, where it has one
-abbrev pub file_of : Request → Option Text
-file_of (of c q) = (form_of c).file q
-
--- its second input, where it has one
-abbrev pub second_of : Request → Option Text
-second_of (of c q) = (form_of c).second q
-
--- the uses of its command ask for it
-abbrev pub IsRequest : List Use → Request → Type 0
-IsRequest uses (of c q) = (form_of c).asks uses q
-
--- the uses ask the command for nothing
-abbrev pub AsksNothing : Command → List Use → Type 0
-AsksNothing c uses = forms.AsksNothing (form_of c) uses
-
--- the words ask for this: they are a call of its command, whose uses give the request
-abbrev pub Asks : List Text → Request → Type 0
-Asks = AsksBy table (λ q. row_for (command_of q)) IsRequest
-
--- words are one call at most
-abbrev pub AskOnce : List Text → Type 0
-AskOnce words = (row other : Row) (uses others : List Use) → IsCall table words row uses → IsCall table words other others → (other ≡ row) × (others ≡ uses)
+-- the commands, with their names where words ask for nothing
+abbrev pub commands : CommandSet
+commands = record { Command = Command; all = all_commands; row_for = row_for; form_of = form_of; names = map (λ row. row.name) table }
 
 -- ---- what the code's values stand for
 
--- a request on a graph
-abbrev pub on_graph : GraphRequest → Request
-on_graph (code.Graph q) = of command.Graph (of_graph.request_of q)
-on_graph (code.Separate q) = of command.Separate (of_separate.request_of q)
-on_graph (code.Rule q) = of command.Rule (of_rule.request_of q)
-on_graph (code.Identify q) = of command.Identify (of_identify.request_of q)
-on_graph (code.Check q) = of command.Check (of_check.request_of q)
-on_graph (code.Adjust q) = of command.Adjust (of_adjust.request_of q)
-on_graph (code.Evaluate q) = of command.Evaluate (of_evaluate.request_of q)
-on_graph (code.Equivalent q) = of command.Equivalent (of_equivalent.request_of q)
-on_graph (code.Implications q) = of command.Implications (of_implications.request_of q)
-on_graph (code.Surrogate q) = of command.Surrogate (of_surrogate.request_of q)
-
 -- a request
-abbrev pub request_of : CodeRequest → Request
-request_of (request.OnGraph q) = on_graph q
+abbrev pub request_of : CodeRequest → Request commands
+request_of (request.Graph q) = of command.Graph (of_graph.request_of q)
+request_of (request.Separate q) = of command.Separate (of_separate.request_of q)
+request_of (request.Rule q) = of command.Rule (of_rule.request_of q)
+request_of (request.Identify q) = of command.Identify (of_identify.request_of q)
+request_of (request.Check q) = of command.Check (of_check.request_of q)
+request_of (request.Adjust q) = of command.Adjust (of_adjust.request_of q)
+request_of (request.Evaluate q) = of command.Evaluate (of_evaluate.request_of q)
+request_of (request.Equivalent q) = of command.Equivalent (of_equivalent.request_of q)
+request_of (request.Implications q) = of command.Implications (of_implications.request_of q)
 request_of (request.Survey q) = of command.Survey (of_survey.request_of q)
+request_of (request.Surrogate q) = of command.Surrogate (of_surrogate.request_of q)
 
 -- what is left to answer
 abbrev pub left_of : SecondInput → Remainder

@@ -29,7 +29,7 @@ use Rattle.identify_text.specs.Answers.{formula_answer}
 use Rattle.identify_command.specs.declared.form.Form.{Form}
 use Rattle.identify_command.specs.Answers.{formula_text}
 use Rattle.identify_command.specs.Conditions.{target_lists, AreTargetSets}
-use Rattle.identify_command.specs.Requests.{Request, IsRequest, identify_row}
+use Rattle.identify_command.specs.Requests.{IsRequest, identify_row}
 use Rattle.check_command.specs.Answers.{IsRead}
 use Rattle.check_command.specs.Requests.{check_row}
 use Rattle.check_command.specs.Requests as check_requests
@@ -47,9 +47,9 @@ use Rattle.evaluate_command.specs.Effects.{PlainEffect, Identifies, used_in}
 use Rattle.evaluate_command.specs.Lines.{sign_of, value_line, pinned_lines}
 use Rattle.evaluate_command.specs.Requests.{evaluate_row}
 use Rattle.evaluate_command.specs.Requests as evaluate_requests
+use Rattle.command_run.specs.Run.{Run}
 use Rattle.causal_cli.specs.Commands.{table}
 use Rattle.causal_cli.specs.Headline.{WrittenFor}
-use Rattle.causal_cli.specs.Run.{Run}
 
 -- The formula equals the effect of the target in the diagram as drawn: in every model of the graph that was read, whatever the mechanisms of its hidden vertices, that is positive on the observed ones, at each assignment. Its terms are taken in that model.
 abbrev pub IsRightAsDrawn : ReadGraph → PlainTarget → PlainFormula → Type 0

@@ -8,12 +8,12 @@ use Rattle.replies.specs.declared.outcome.Outcome.TheVariants.{Yes, No}
 use Rattle.replies.specs.Observed.{Names, HoldsGraph}
 use Rattle.identify_command.specs.declared.form.Form.{Form}
 use Rattle.identify_command.specs.Answers.{IdentifyAnswer}
-use Rattle.identify_command.specs.Requests.{Request, IsRequest, identify_row}
+use Rattle.identify_command.specs.Requests.{IsRequest, identify_row}
 use Rattle.check_command.specs.Answers.{CheckAnswer}
 use Rattle.check_command.specs.Requests.{check_row}
 use Rattle.check_command.specs.Requests as check_requests
+use Rattle.command_run.specs.Run.{Run}
 use Rattle.causal_cli.specs.Commands.{table}
-use Rattle.causal_cli.specs.Run.{Run}
 
 -- a text was written for a request that these uses ask for, and on the bytes of the request's file it is one that shows what it is to
 pub record WrittenFor {Asked : Type 0} (asks_for : List Use → Asked → Type 0) (file : Asked → Text) (shows : Asked → (bytes text : List ℕ) → Type 0) (r : Run) (uses : List Use) : Type 0 where

@@ -1,8 +1,4 @@
 pub mod Commands
-pub mod Lines
-pub mod Answers
-pub mod Run
-pub mod Complete
-pub mod Ends
+pub mod Lawful
 pub mod Headline
 pub mod Drawn

@@ -1,17 +1,16 @@
-//! The top call: a command line is run over named inputs and two outputs.
+//! The top call: a command line is run over named inputs and two outputs, by all commands.
 #![tactic(auto)]
 
-mod answer;
 mod commands;
-mod lines;
-mod sure;
+mod request;
+mod second;
 mod theory;
 mod top;
 
-pub use answer::{AfterFile, SecondInput, answer_on, long_reply, or_memory, second_reply};
-pub use commands::{GraphRequest, Request, read_request};
-pub use lines::line_of;
-pub use sure::run_surely;
+pub use command_run::Status;
+pub use commands::Command;
+pub use request::Request;
+pub use second::SecondInput;
 pub use survey_graph::survey_graph;
 pub use theory::laws;
-pub use top::{Status, run};
+pub use top::run;

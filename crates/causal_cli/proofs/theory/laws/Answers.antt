@@ -1,5 +1,7 @@
-use Rattle.causal_cli.proofs.CompleteRuns.{words_ask_once}
+use Rattle.command_run.proofs.OneRequest.{words_ask_once}
+use Rattle.causal_cli.specs.Commands.{commands}
+use Rattle.causal_cli.specs.Lawful.{lawful}
 use Rattle.causal_cli.proofs.theory.laws.Goals as goal
 
 pub returns : goal.returns
-returns c = record { once = words_ask_once }
+returns c = record { once = words_ask_once commands lawful }

@@ -1,0 +1,256 @@
+// What words ask for, and what a request gives on its graph.
+
+ghost use Rattle.std.specs.Prelude.{◌≡◌, List, None, IfOk, IsErrOf, map, option_map};
+ghost use Rattle.word_forms.specs.Form.{Use, row_named};
+ghost use Rattle.word_forms.specs.Views.{row_of};
+ghost use Rattle.word_values.specs.Gives.{HoldsCall};
+ghost use Rattle.word_values.specs.Readable.{IsReadable};
+ghost use Rattle.command_run.specs.Lines.{words_line};
+ghost use Rattle.command_run.specs.Commands.{command_of, file_of, IsRequest, AsksNothing};
+ghost use Rattle.command_run.specs.Answers.{GivesOn};
+ghost use Rattle.causal_cli.specs.Commands.{commands, table, row_for, request_of, left_of};
+
+use crate::commands::{Command, command_named, rows};
+use crate::second::SecondInput;
+use adjust_command::adjust_reply;
+use command_run::AfterFile;
+use dag_reader::ReadGraph;
+use equivalent_command::accept_first;
+use evaluate_command::identify_first;
+use graph_command::graph_reply;
+use identify_command::identify_reply;
+use implications_command::{counted_pairs, pairs_reply};
+use replies::Reply;
+use request_values::RequestFault;
+use rule_command::rule_reply;
+use separate_command::separate_reply;
+use std::alloc::{AllocError, Global};
+use surrogate_command::surrogate_reply;
+use survey_command::survey_reply;
+use word_forms::Entry;
+use word_values::Values;
+
+/// What words ask for.
+#[derive(Drop)]
+pub enum Request<'a> {
+    Graph(graph_command::Request<'a>),
+    Separate(separate_command::Request<'a>),
+    Rule(rule_command::Request<'a>),
+    Identify(identify_command::Request<'a>),
+    Check(check_command::Request<'a>),
+    Adjust(adjust_command::Request<'a>),
+    Evaluate(evaluate_command::Request<'a>),
+    Equivalent(equivalent_command::Request<'a>),
+    Implications(implications_command::Request<'a>),
+    Survey(survey_command::Request),
+    Surrogate(surrogate_command::Request<'a>),
+}
+
+impl<'a> command_run::Request<'a> for Request<'a> {
+    type Command = Command;
+
+    type Second = SecondInput<'a>;
+
+    ghost commands = { commands };
+
+    ghost command = { λ c. c };
+
+    ghost request = { request_of };
+
+    fn rows() -> &'static [Entry]
+        ensures rows { map row_of result.now ≡ table }
+        ensures readable { IsReadable (map row_of result.now) }
+    {
+        rows()
+    }
+
+    fn words_line() -> &'static [u8]
+        ensures { result.now ≡ words_line commands }
+    {
+        b"causal: words not understood; commands are graph separate rule identify check adjust evaluate equivalent implications survey surrogate\n"
+    }
+
+    fn named(name: &str) -> Option<Command>
+        ensures { option_map row_for result ≡ row_named table name.now }
+    {
+        command_named(name)
+    }
+
+    fn read(alloc: Global, it: Command, values: &Values<'a>) -> Result<Self, RequestFault> {
+        read_values(alloc, it, values)
+    }
+
+    fn file(&self) -> Option<&'a str> {
+        match self {
+            Request::Graph(request) => Some(request.file),
+            Request::Separate(request) => Some(request.file),
+            Request::Rule(request) => Some(request.file),
+            Request::Identify(request) => Some(request.file),
+            Request::Check(request) => Some(request.file),
+            Request::Adjust(request) => Some(request.file),
+            Request::Evaluate(request) => Some(request.file),
+            Request::Equivalent(request) => Some(request.file),
+            Request::Implications(request) => Some(request.file),
+            Request::Survey(_) => None,
+            Request::Surrogate(request) => Some(request.file),
+        }
+    }
+
+    fn words_reply(&self, alloc: Global) -> Result<Reply, AllocError> {
+        match self {
+            Request::Survey(asked) => survey_reply(alloc, asked.seed),
+            _ => unreachable!(),
+        }
+    }
+
+    fn graph_reply(
+        self,
+        alloc: Global,
+        graph: ReadGraph,
+    ) -> Result<AfterFile<SecondInput<'a>>, AllocError> {
+        reply_on(alloc, self, graph)
+    }
+}
+
+/// What the values of a command's words ask for.
+fn read_values<'a>(
+    alloc: Global,
+    command: Command,
+    values: &Values<'a>,
+) -> Result<Request<'a>, RequestFault>
+    ensures row { IfOk result (λ r. command_of commands (request_of r) ≡ command) }
+    ensures ok { (uses : List Use) → HoldsCall (row_for command) uses values.now → IfOk result (λ r. IsRequest commands uses (request_of r)) }
+    ensures none { (uses : List Use) → HoldsCall (row_for command) uses values.now → IsErrOf result RequestFault.NotUnderstood → AsksNothing commands command uses }
+{
+    match command {
+        Command::Graph => Ok(Request::Graph(graph_command::Request::read(values)?)),
+        Command::Separate => Ok(Request::Separate(separate_command::Request::read(alloc, values)?)),
+        Command::Rule => Ok(Request::Rule(rule_command::Request::read(alloc, values)?)),
+        Command::Identify => Ok(Request::Identify(identify_command::Request::read(alloc, values)?)),
+        Command::Check => Ok(Request::Check(check_command::Request::read(values)?)),
+        Command::Adjust => Ok(Request::Adjust(adjust_command::Request::read(alloc, values)?)),
+        Command::Evaluate => Ok(Request::Evaluate(evaluate_command::Request::read(alloc, values)?)),
+        Command::Equivalent => Ok(Request::Equivalent(equivalent_command::Request::read(
+            alloc, values,
+        )?)),
+        Command::Implications => Ok(Request::Implications(implications_command::Request::read(
+            values,
+        )?)),
+        Command::Survey => Ok(Request::Survey(survey_command::Request::read(values)?)),
+        Command::Surrogate => Ok(Request::Surrogate(surrogate_command::Request::read(
+            alloc, values,
+        )?)),
+    }
+}
+
+/// What a request gives on a graph that was read.
+fn reply_on<'a>(
+    alloc: Global,
+    request: Request<'a>,
+    graph: ReadGraph,
+) -> Result<AfterFile<SecondInput<'a>>, AllocError>
+    requires { file_of commands (request_of request) ≡ None → ⊥ }
+    ensures { IfOk result (GivesOn left_of commands (request_of request.entry) graph) }
+{
+    match request {
+        Request::Graph(asked) => Ok(AfterFile::Replied(graph_reply(alloc, &graph, asked.project)?)),
+        Request::Separate(asked) => Ok(AfterFile::Replied(separate_reply(
+            alloc,
+            &graph,
+            asked.x,
+            asked.y,
+            asked.given,
+        )?)),
+        Request::Rule(asked) => Ok(AfterFile::Replied(rule_reply(
+            alloc,
+            &graph,
+            asked.rule,
+            &asked.y,
+            &asked.done,
+            &asked.z,
+            &asked.given,
+        )?)),
+        Request::Identify(asked) => Ok(AfterFile::Replied(identify_reply(
+            alloc,
+            &graph,
+            asked.x,
+            asked.y,
+            asked.given,
+            asked.form,
+        )?)),
+        Request::Check(asked) => Ok(AfterFile::Continues(SecondInput::Check {
+            graph,
+            certificate: asked.certificate,
+        })),
+        Request::Adjust(asked) => Ok(AfterFile::Replied(adjust_reply(alloc, &graph, asked)?)),
+        Request::Evaluate(asked) => evaluate_over(alloc, &graph, asked),
+        Request::Equivalent(asked) => compare_with(alloc, graph, asked),
+        Request::Implications(asked) => list_implications(alloc, &graph, asked),
+        Request::Survey(_) => unreachable!(),
+        Request::Surrogate(asked) => Ok(AfterFile::Replied(surrogate_reply(alloc, &graph, asked)?)),
+    }
+}
+
+/// What an evaluation gives on its graph.
+fn evaluate_over<'a>(
+    alloc: Global,
+    graph: &ReadGraph,
+    asked: evaluate_command::Request<'a>,
+) -> Result<AfterFile<SecondInput<'a>>, AllocError>
+    ensures { IfOk result (GivesOn left_of commands (request_of (Request.Evaluate asked.entry)) graph.now) }
+{
+    match identify_first(alloc, graph, asked.x, asked.y)? {
+        evaluate_command::EffectOrReply::Replied(reply) => Ok(AfterFile::Replied(reply)),
+        evaluate_command::EffectOrReply::Identified(found) => Ok(AfterFile::Continues(
+            SecondInput::Evaluate {
+                found,
+                counts: asked.counts,
+                count: asked.count,
+                exact: asked.exact,
+            },
+        )),
+    }
+}
+
+/// What a comparison gives on its first graph.
+fn compare_with<'a>(
+    alloc: Global,
+    graph: ReadGraph,
+    asked: equivalent_command::Request<'a>,
+) -> Result<AfterFile<SecondInput<'a>>, AllocError>
+    ensures { IfOk result (GivesOn left_of commands (request_of (Request.Equivalent asked.entry)) graph) }
+{
+    match accept_first(alloc, &graph, asked.query)? {
+        equivalent_command::Acceptance::Refused(reply) => Ok(AfterFile::Replied(reply)),
+        equivalent_command::Acceptance::Accepted(sets) => Ok(AfterFile::Continues(
+            SecondInput::Equivalent {
+                graph,
+                sets,
+                second: asked.second,
+            },
+        )),
+    }
+}
+
+/// What a list of implications gives on its graph.
+fn list_implications<'a>(
+    alloc: Global,
+    graph: &ReadGraph,
+    asked: implications_command::Request<'a>,
+) -> Result<AfterFile<SecondInput<'a>>, AllocError>
+    ensures { IfOk result (GivesOn left_of commands (request_of (Request.Implications asked.entry)) graph.now) }
+{
+    let Some(counts) = asked.counts else {
+        return Ok(AfterFile::Replied(pairs_reply(alloc, graph)?));
+    };
+    match counted_pairs(alloc, graph)? {
+        implications_command::PairsOrReply::Replied(reply) => Ok(AfterFile::Replied(reply)),
+        implications_command::PairsOrReply::Pairs(pairs) => Ok(AfterFile::Continues(
+            SecondInput::Implications {
+                pairs,
+                counts,
+                count: asked.count,
+            },
+        )),
+    }
+}

@@ -1,0 +1,91 @@
+// What is left to answer once the file was accepted, where a second input is read.
+
+ghost use Rattle.std.specs.Prelude.{◌≤◌, ◌<◌, ℕ, List, ◌≡◌, IfOk, length};
+ghost use Rattle.causal_cli.specs.Commands.{left_of};
+
+use check_command::{check_reply, long_certificate};
+use dag_reader::ReadGraph;
+use equivalent_command::{equivalent_reply, long_second_graph};
+use evaluate_command::{Identified, evaluate_reply, long_counts};
+use implications_command::{Pairs, differences_reply};
+use replies::Reply;
+use std::alloc::{AllocError, Global};
+use targets::Sets;
+
+/// What is left to answer once the file was accepted, where a second input is read.
+#[derive(Drop)]
+pub enum SecondInput<'a> {
+    /// Whether a certificate is accepted.
+    Check {
+        graph: ReadGraph,
+        certificate: &'a str,
+    },
+    /// The values of an effect over counts, whose column may have a name, in exact fractions or in bounds.
+    Evaluate {
+        found: Identified,
+        counts: &'a str,
+        count: Option<&'a [u8]>,
+        exact: bool,
+    },
+    /// Whether a second graph is equivalent, and what both say of sets that are asked about.
+    Equivalent {
+        graph: ReadGraph,
+        sets: Option<Sets>,
+        second: &'a str,
+    },
+    /// How far counts, whose column may have a name, are from each implication.
+    Implications {
+        pairs: Pairs,
+        counts: &'a str,
+        count: Option<&'a [u8]>,
+    },
+}
+
+impl<'a> command_run::SecondInput for SecondInput<'a> {
+    ghost left = { left_of };
+
+    fn second(&self) -> &str {
+        match self {
+            SecondInput::Check { certificate, .. } => certificate,
+            SecondInput::Evaluate { counts, .. } => counts,
+            SecondInput::Equivalent { second, .. } => second,
+            SecondInput::Implications { counts, .. } => counts,
+        }
+    }
+
+    fn limit(&self) -> u64 {
+        match self {
+            SecondInput::Check { .. } => 67_108_864,
+            SecondInput::Evaluate { .. } => 67_108_864,
+            SecondInput::Equivalent { .. } => 1_048_576,
+            SecondInput::Implications { .. } => 67_108_864,
+        }
+    }
+
+    fn reply(&self, alloc: Global, other: &[u8]) -> Result<Reply, AllocError> {
+        match self {
+            SecondInput::Check { graph, .. } => check_reply(alloc, graph, other),
+            SecondInput::Evaluate {
+                found,
+                count,
+                exact,
+                ..
+            } => evaluate_reply(alloc, found, *count, *exact, other),
+            SecondInput::Equivalent { graph, sets, .. } => equivalent_reply(
+                alloc, graph, *sets, other,
+            ),
+            SecondInput::Implications { pairs, count, .. } => differences_reply(
+                alloc, pairs, *count, other,
+            ),
+        }
+    }
+
+    fn long_reply(&self, alloc: Global) -> Result<Reply, AllocError> {
+        match self {
+            SecondInput::Check { graph, .. } => long_certificate(alloc, graph),
+            SecondInput::Evaluate { .. } => long_counts(alloc),
+            SecondInput::Equivalent { .. } => long_second_graph(alloc),
+            SecondInput::Implications { .. } => implications_command::long_counts(alloc),
+        }
+    }
+}

@@ -1,0 +1,50 @@
+-- From how a run ended to which status it has to have.
+use Rattle.std.proofs.Common.{◌≡◌, ℕ, List, ◌⊎◌, inl, inr, ap, ◌∙◌}
+use Rattle.replies.specs.declared.outcome.Outcome.{Outcome}
+use Rattle.replies.specs.declared.outcome.Outcome.TheVariants.{Yes, No, Words, Graph, Second, Evaluation, Read, Write, Memory}
+use Rattle.replies.specs.Outcomes.{code_of}
+use Rattle.command_run.specs.Commands.{CommandSet, Request, Asks}
+use Rattle.command_run.specs.Laws.{AreLawful}
+use Rattle.command_run.specs.Run.{Run, Answers, by_words, by_file, by_both, Ends}
+use Rattle.command_run.specs.Complete.{NothingFailed, Answered, IsTold, IsExact, Complete}
+use Rattle.command_run.proofs.OneAnswer.{one_answer, asked}
+
+module _ (s : CommandSet) (laws : AreLawful s) where
+  module _ (r : Run) (code : ℕ) where
+    -- a defined answer is one to a request of the words
+    none_answered : (o : Outcome) (text : List ℕ) → ((q : Request s) → Asks s r.words q → ⊥) → Answers s r o text → ⊥
+    none_answered o text none (by_words a) = none a.request a.asks
+    none_answered o text none (by_file a) = none a.request a.asks
+    none_answered o text none (by_both a) = none a.request a.asks
+
+    refused : (o : Outcome) (text : List ℕ) → code ≡ code_of o → Ends s r o text → ((q : Request s) → Asks s r.words q → ⊥) → (code ≡ 2) ⊎ (code ≡ 8)
+    refused Yes text c h none = absurd (none_answered Yes text none h.answers)
+    refused No text c h none = absurd (none_answered No text none h.answers)
+    refused Words text c h none = inl c
+    refused Graph text c h none = absurd (none_answered Graph text none h.answers)
+    refused Second text c h none = absurd (none_answered Second text none h.answers)
+    refused Evaluation text c h none = absurd (none_answered Evaluation text none h.answers)
+    refused Read text c h none = absurd (none h.0.request h.0.asks)
+    refused Write text c h none = absurd (none_answered h.0.outcome h.0.text none h.0.answers)
+    refused Memory text c h none = inr c
+
+    given : (o : Outcome) (text : List ℕ) → code ≡ code_of o → Ends s r o text → (q : Request s) → Asks s r.words q → NothingFailed r → Answered s r code ⊎ (code ≡ 8)
+    given Yes text c h q a f = inl (record { outcome = Yes; text = text; status = c; answered = tt; answers = h.answers })
+    given No text c h q a f = inl (record { outcome = No; text = text; status = c; answered = tt; answers = h.answers })
+    given Words text c h q a f = absurd (h.0.no_request q a)
+    given Graph text c h q a f = inl (record { outcome = Graph; text = text; status = c; answered = tt; answers = h.answers })
+    given Second text c h q a f = inl (record { outcome = Second; text = text; status = c; answered = tt; answers = h.answers })
+    given Evaluation text c h q a f = inl (record { outcome = Evaluation; text = text; status = c; answered = tt; answers = h.answers })
+    given Read text c h q a f = absurd (f.reads h.0.name h.0.rose)
+    given Write text c h q a f = absurd (f.writes h.0.rose)
+    given Memory text c h q a f = inr c
+
+    -- the inputs have one defined answer, so the status is that of each
+    exactly : (o : Outcome) (text : List ℕ) → code ≡ code_of o → Ends s r o text → IsTold s r → NothingFailed r → IsExact s r code
+    exactly o text c h told f k line answers = let q = asked s r k line answers in elim (given o text c h q.0 q.1 f) [
+      | inl found ↦ inl (found.status ∙ ap code_of (one_answer s laws r told found.outcome k found.text line found.answers answers))
+      | inr memory ↦ inr memory
+    ]
+
+    pub complete : (o : Outcome) (text : List ℕ) → code ≡ code_of o → Ends s r o text → Complete s r code
+    complete o text c h = record { refused = refused o text c h; answered = given o text c h; exact = exactly o text c h }

@@ -1,0 +1,232 @@
+-- From what was read to the reply, and from a reply that was delivered to the end of the run.
+use Rattle.std.proofs.Common.{◌≡◌, ℕ, ◌<◌, ◌≤◌, arith, Bool, true, false, List, Option, Some, None, IfSome, IfOk, Result, Ok, Err, length, inl, ◌∙◌, refl, sym, subst}
+use Rattle.std.specs.Prelude.{IfErr, OnOk, OnErr, take}
+use Rattle.std.proofs.Math.Seq.{take-length}
+use Rattle.std.proofs.lemmas.Bool.{false≢true}
+use Rattle.std.specs.Global.{Vec}
+use Rattle.word_forms.specs.Form.{Text}
+use Rattle.causal_io.specs.Causes.{Rose}
+use Rattle.causal_io.specs.Reading.{AnswersAll}
+use Rattle.causal_io.specs.declared.ReadError.{ReadError}
+use Rattle.causal_io.specs.declared.ReadError.TheVariants.{Fault, TooLong, NoMemory}
+use Rattle.std.specs.Io.KnownBytes.{Appends}
+use Rattle.replies.specs.declared.outcome.Outcome.{Outcome}
+use Rattle.replies.specs.declared.outcome.Outcome.TheVariants.{Yes, No, Words, Graph, Read, Write, Memory}
+use Rattle.replies.specs.Outcomes.{code_of, IsAnswered}
+use Rattle.replies.specs.declared.outcome.Reply.{Reply}
+use Rattle.command_run.specs.Commands.{CommandSet, Request, Asks, file_of}
+use Rattle.command_run.specs.Laws.{AreLawful}
+use Rattle.replies.specs.Command.{Remainder}
+use Rattle.command_run.specs.Answers.{WordsAnswer, Defined, too_long, Continues, DefinedWith, GivesSecond, IsAnsweredWith, IsLeftOf}
+use Rattle.command_run.specs.Run.{Stream, Run, Answers, Received, ReceivedLine, by_words, by_file, by_both, file as reads_file, second, Ends}
+use Rattle.command_run.specs.Ends.{FailedRead, Replied, RepliesWith, IsReadOf, TellsUnread, IsMade, GivesOnRead, told_of, EndsWith, Delivers, written, unwritten, refused, IsTooLongLine, Proceeds, replied, unread, no_memory}
+use Rattle.command_run.proofs.Answered.{words_answered, defined_answered, long_answered, said, named, continues, defined_with}
+
+-- what holds of the bytes that were read holds of those that are held, where they are told
+pub told : (held : Option (List ℕ)) (items : List ℕ) (P : List ℕ → Type 0) → IfSome held (λ all. items ≡ all) → P items → IfSome held P
+told None items P h p = tt
+told (Some all) items P h p = subst P h p
+
+pub mapped : (held : Option (List ℕ)) (P Q : List ℕ → Type 0) → ((all : List ℕ) → P all → Q all) → IfSome held P → IfSome held Q
+mapped None P Q f h = tt
+mapped (Some all) P Q f h = f all h
+
+-- a test that can't be true is false
+pub not_true : (b : Bool) → (b ≡ true → ⊥) → b ≡ false
+not_true true n = absurd (n refl)
+not_true false n = refl
+
+-- a count that rose after it stood higher rose
+rose_since : (before middle after : ℕ) → before ≤ middle → Rose middle after → Rose before after
+rose_since before middle after h r = omega (arith, h, r)
+
+-- ---- replies
+
+module _ (s : CommandSet) (laws : AreLawful s) where
+  -- the defined answer is a reply
+  an_answer : (r : Run) (o : Outcome) (text : List ℕ) → IsAnswered o → Answers s r o text → Replied s r o text
+  an_answer r o text only a = said s r.words (Answers s r) (FailedRead s r) o text only a
+
+  -- the words ask for nothing
+  pub not_understood : (r : Run) (reply : Reply) → reply.outcome ≡ Words → ((w : Request s) → Asks s r.words w → ⊥) → RepliesWith s r reply
+  not_understood r reply is none = subst (λ o. Replied s r o reply.text.items) (sym is) none
+
+  -- memory was refused
+  pub no_room : (r : Run) (reply : Reply) → reply.outcome ≡ Memory → RepliesWith s r reply
+  no_room r reply is = subst (λ o. Replied s r o reply.text.items) (sym is) tt
+
+  -- the reply on the words alone, or that memory was refused for it
+  pub replied_words : {E : Type 0} (r : Run) (w : Request s) (made : Result Reply E) (reply : Reply) → Asks s r.words w → IfOk made (λ x. WordsAnswer s w x.outcome x.text.items) → IsMade made reply → RepliesWith s r reply
+  replied_words r w (Ok made) reply asks a is =
+      subst (RepliesWith s r) (sym is) (an_answer r made.outcome made.text.items (words_answered s laws w made.outcome made.text.items a) (by_words (record { request = w; asks = asks; answer = a })))
+  replied_words r w (Err e) reply asks a is = no_room r reply is
+
+  -- the reply on the file alone
+  pub replied_file : (r : Run) (w : Request s) (file : Text) (bytes : List ℕ) (reply : Reply) → Asks s r.words w → file_of s w ≡ Some file → r.lacks file ≡ false →
+      IfSome (r.held file) (λ all. bytes ≡ all) → Defined s w bytes reply.outcome reply.text.items → RepliesWith s r reply
+  replied_file r w file bytes reply asks names there held d = an_answer r reply.outcome reply.text.items (defined_answered s laws w bytes reply.outcome reply.text.items d) (by_file (record {
+    request = w;
+    asks = asks;
+    file = file;
+    names_it = names;
+    there = there;
+    defined = told (r.held file) bytes (λ all. Defined s w all reply.outcome reply.text.items) held d;
+  }))
+
+  -- the second input was read, over the shelf as the first read left it
+  module _ (r : Run) (w : Request s) (file : Text) (bytes : List ℕ) (l : Remainder) (reply : Reply) (held : Text → Option (List ℕ)) (lacks : Text → Bool) (faults : Text → ℕ)
+      (asks : Asks s r.words w) (names : file_of s w ≡ Some file) (there : r.lacks file ≡ false) (told_it : IfSome (r.held file) (λ all. bytes ≡ all)) (is : IsLeftOf s w bytes l)
+      (same_held : held ≡ r.held) (same_lacks : lacks ≡ r.lacks) (grown : (name : Text) → r.read_faults name ≤ faults name) where
+    accepted_file : IfSome (r.held file) (λ all. Continues s w all)
+    accepted_file = told (r.held file) bytes (λ all. Continues s w all) told_it (continues s w bytes l is)
+
+    pub proceeded : Proceeds held lacks faults r.read_faults_after l reply → RepliesWith s r reply
+    proceeded (replied only second_there gives) = an_answer r reply.outcome reply.text.items only (by_both (record {
+      request = w;
+      asks = asks;
+      file = file;
+      names_it = names;
+      second = l.second;
+      names_second = named s w bytes l is;
+      there = there;
+      second_there = subst (λ f. f l.second ≡ false) same_lacks second_there;
+      accepted = accepted_file;
+      defined = told (r.held file) bytes (λ all. IfSome (r.held l.second) (λ other. DefinedWith s w all other reply.outcome reply.text.items)) told_it
+          (mapped (r.held l.second) (λ other. GivesSecond l other reply) (λ other. DefinedWith s w bytes other reply.outcome reply.text.items)
+          (λ other g. defined_with s w bytes l other reply is g) (subst (λ h. IfSome (h l.second) (λ other. GivesSecond l other reply)) same_held gives));
+    }))
+    proceeded (unread same rose) =
+        let failed : FailedRead s r = record {
+          request = w;
+          asks = asks;
+          name = l.second;
+          is_read = second file names (named s w bytes l is) there accepted_file;
+          rose = rose_since (r.read_faults l.second) (faults l.second) (r.read_faults_after l.second) (grown l.second) rose;
+        } in
+        subst (λ o. Replied s r o reply.text.items) (sym same) failed
+    proceeded (no_memory same) = no_room r reply same
+
+  -- the reply to a text that is too long
+  long_file : (r : Run) (w : Request s) (file : Text) → Asks s r.words w → file_of s w ≡ Some file → r.lacks file ≡ false → IfSome (r.held file) (λ all. 1048576 < length all) →
+      (o : Outcome) (text : List ℕ) → IsTooLongLine o text → Replied s r o text
+  long_file r w file asks names there held Graph line long = by_file (record {
+    request = w;
+    asks = asks;
+    file = file;
+    names_it = names;
+    there = there;
+    defined = mapped (r.held file) (λ all. 1048576 < length all) (λ all. Defined s w all Graph line) (λ all h. inl (too_long h long)) held;
+  })
+  long_file r w file asks names there held Memory line long = tt
+  long_file r w file asks names there held o line long = absurd long
+
+  -- the file couldn't be read whole
+  pub unread_file : (r : Run) (w : Request s) (name : Text) (f : ReadError) (reply : Reply) → Asks s r.words w → file_of s w ≡ Some name → IsReadOf (r.held name) (r.lacks name) (r.read_faults name) (r.read_faults_after name) 1048576 (Err f)
+      → TellsUnread f reply → RepliesWith s r reply
+  unread_file r w name Fault reply asks names h is =
+      let failed : FailedRead s r = record { request = w; asks = asks; name = name; is_read = reads_file names; rose = h.failed refl } in subst (λ o. Replied s r o reply.text.items) (sym is) failed
+  unread_file r w name (TooLong most) reply asks names h long =
+      long_file r w name asks names (not_true (r.lacks name) (λ t. let e = h.lacked t in cc e)) h.answer.1 reply.outcome reply.text.items long
+  unread_file r w name NoMemory reply asks names h is = no_room r reply is
+
+-- ---- the second input
+
+-- bytes that were read before are what is read of an input of the same name
+pub read_again : (held : Option (List ℕ)) (lacks : Bool) (faults limit : ℕ) (bytes : List ℕ) (r : Result (Vec ℕ) ReadError) → IfSome held (λ all. bytes ≡ all) → lacks ≡ false → length bytes ≤ limit
+    → IfOk r (λ copy. copy.items ≡ bytes) → IfErr r (λ f. f ≡ NoMemory) → IsReadOf held lacks faults faults limit r
+read_again held lacks faults limit bytes (Ok copy) told_it there small same memory = record {
+  answer = (subst (λ (xs : List ℕ). length xs ≤ limit) (sym same) small, mapped held (λ all. bytes ≡ all) (λ all. copy.items ≡ all) (λ all e. same ∙ e) told_it);
+  lacked = λ t. absurd (false≢true (sym there ∙ t));
+  failed = λ e. cc e;
+}
+read_again held lacks faults limit bytes (Err f) told_it there small same memory = subst (λ (k : ReadError). IsReadOf held lacks faults faults limit (Err k)) (sym memory) (record {
+  answer = tt;
+  lacked = λ t. absurd (false≢true (sym there ∙ t));
+  failed = λ e. cc e;
+})
+
+-- what was read is within the limit
+pub within : (held : Option (List ℕ)) (limit : ℕ) (r : Result (Vec ℕ) ReadError) → AnswersAll held limit r → IfOk r (λ other. length other.items ≤ limit)
+within held limit (Ok other) a = a.0
+within held limit (Err f) a = tt
+
+module _ (held : Text → Option (List ℕ)) (lacks : Text → Bool) (faults faults_after : Text → ℕ) (l : Remainder) (only : IsAnsweredWith l) where
+  -- the reply on what was read of the second input
+  given_on : (reply : Reply) (read : Result (Vec ℕ) ReadError)
+      → IsReadOf (held l.second) (lacks l.second) (faults l.second) (faults_after l.second) (l.limit) read → GivesOnRead l read reply → Proceeds held lacks faults faults_after l reply
+  given_on reply (Ok other) h gives = replied (only other.items reply.outcome reply.text.items gives) (not_true (lacks l.second) (λ t. let e = h.lacked t in cc e))
+      (told (held l.second) other.items (λ all. GivesSecond l all reply) h.answer.1 gives)
+  given_on reply (Err (TooLong most)) h gives = replied (long_answered l reply only gives) (not_true (lacks l.second) (λ t. let e = h.lacked t in cc e))
+      (mapped (held l.second) (λ all. l.limit < length all) (λ all. GivesSecond l all reply) gives h.answer.1)
+  given_on reply (Err Fault) h is = unread is (h.failed refl)
+  given_on reply (Err NoMemory) h is = absurd is
+
+  -- or that memory was refused for it
+  pub given_second : {E : Type 0} (name : Text) (limit : ℕ) (read : Result (Vec ℕ) ReadError) (made : Result Reply E) (reply : Reply) → name ≡ l.second → limit ≡ l.limit
+      → IsReadOf (held name) (lacks name) (faults name) (faults_after name) limit read → IfOk made (GivesOnRead l read) → IsMade made reply → Proceeds held lacks faults faults_after l reply
+  given_second name limit read (Ok made) reply en el h gives is =
+      let at = subst (λ n. IsReadOf (held n) (lacks n) (faults n) (faults_after n) (l.limit) read) en (subst (λ k. IsReadOf (held name) (lacks name) (faults name) (faults_after name) k read) el h) in
+      subst (Proceeds held lacks faults faults_after l) (sym is) (given_on made read at gives)
+  given_second name limit read (Err e) reply en el h gives is = no_memory is
+
+-- ---- deliveries
+
+module _ (s : CommandSet) where
+  -- a reply that was written whole
+  whole_end : (r : Run) (o : Outcome) (text : List ℕ) → code_of o ≤ 1 → Replied s r o text → Appends r.out.before r.out.after text → Ends s r o (told_of s o text)
+  whole_end r Yes text low a whole = record { answers = a; whole = whole }
+  whole_end r No text low a whole = record { answers = a; whole = whole }
+  whole_end r o text low a whole = absurd (omega (arith, low))
+
+  -- one of which a front was written
+  front_of : (r : Run) (o : Outcome) (text : List ℕ) → code_of o ≤ 1 → Replied s r o text → Answers s r o text
+  front_of r Yes text low a = a
+  front_of r No text low a = a
+  front_of r o text low a = absurd (omega (arith, low))
+
+  -- one of which nothing was written
+  refused_end : (r : Run) (o : Outcome) (text : List ℕ) → 2 ≤ code_of o → Replied s r o text → r.out.after ≡ r.out.before → Ends s r o (told_of s o text)
+  refused_end r Yes text high a nothing = absurd (omega (arith, high))
+  refused_end r No text high a nothing = absurd (omega (arith, high))
+  refused_end r Words text high a nothing = (record { no_request = a; nothing = nothing }, refl)
+  refused_end r Read text high a nothing = (record { request = a.request; asks = a.asks; name = a.name; is_read = a.is_read; rose = a.rose; nothing = nothing }, refl)
+  refused_end r Write text high a nothing = absurd a
+  refused_end r Memory text high a nothing = (nothing, refl)
+  refused_end r o text high a nothing = record { answers = a; nothing = nothing }
+
+  -- the reply was delivered
+  pub delivered : (r : Run) (reply last : Reply) → RepliesWith s r reply → Delivers r.out reply last → EndsWith s r last
+  delivered r reply last a (written same low whole) = subst (EndsWith s r) (sym same) (whole_end r reply.outcome reply.text.items low a whole)
+  delivered r reply last a (refused same high nothing) = subst (EndsWith s r) (sym same) (refused_end r reply.outcome reply.text.items high a nothing)
+  delivered r reply last a (unwritten is low count within front rose) = subst (λ o. Ends s r o (told_of s o last.text.items)) (sym is) (
+    record {
+      outcome = reply.outcome;
+      text = reply.text.items;
+      count = count;
+      is_answer = low;
+      answers = front_of r reply.outcome reply.text.items low a;
+      within = within;
+      front = front;
+      rose = rose;
+    },
+    refl,
+  )
+
+-- ---- the line
+
+-- what was written of a line was received: all of it, or a front of it where a write failed
+line_received : {A E : Type 0} (err : Stream) (line : List ℕ) (r : Result A E) → OnOk r (Appends err.before err.after line)
+    → OnErr r ((count : ℕ) × (count ≤ length line) × Appends err.before err.after (take count line)) → OnErr r (Rose err.faults err.faults_after) → ReceivedLine err line
+line_received err line (Ok x) whole front rose = record {
+  count = length line;
+  within = omega arith;
+  front = subst (Appends err.before err.after) (sym (take-length line)) whole;
+  whole = λ none. whole;
+}
+line_received err line (Err e) whole front rose = record { count = front.0; within = front.1; front = front.2; whole = λ none. absurd (none rose) }
+
+pub received : {A E : Type 0} (err : Stream) (o : Outcome) (line : List ℕ) (r : Result A E) → (o ≡ Yes → ⊥) → (o ≡ No → ⊥) → OnOk r (Appends err.before err.after line)
+    → OnErr r ((count : ℕ) × (count ≤ length line) × Appends err.before err.after (take count line)) → OnErr r (Rose err.faults err.faults_after) → Received err o line
+received err Yes line r not_yes not_no whole front rose = absurd (not_yes refl)
+received err No line r not_yes not_no whole front rose = absurd (not_no refl)
+received err o line r not_yes not_no whole front rose = line_received err line r whole front rose

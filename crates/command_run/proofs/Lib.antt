@@ -1,0 +1,9 @@
+pub mod Definitions
+pub mod Answered
+pub mod Deliveries
+mod ReadCounts
+mod NeverFails
+mod OneCommand
+pub mod OneRequest
+mod OneAnswer
+mod CompleteRuns

@@ -1,0 +1,88 @@
+-- The defined answer of a command: by its words alone, on the bytes of its file, or on those of both inputs; and what the code's values say of it.
+use Rattle.std.specs.Prelude.{ℕ, ◌≡◌, ◌<◌, ◌≤◌, ◌⊎◌, List, length, Err}
+use Rattle.dag_reader.specs.declared.graph.ReadGraph.{ReadGraph}
+use Rattle.dag_reader.specs.declared.faults.GraphFault.{GraphFault}
+use Rattle.dag_reader.specs.declared.faults.GraphFault.TheVariants.{NoMemory}
+use Rattle.dag_reader.specs.Reads.{Reads}
+use Rattle.name_text.specs.Lines.{line_of}
+use Rattle.dag_reader.specs.FaultTexts.{graph_fault_text}
+use Rattle.replies.specs.declared.outcome.Outcome.{Outcome}
+use Rattle.replies.specs.declared.outcome.Outcome.TheVariants.{Graph}
+use Rattle.replies.specs.declared.outcome.Reply.{Reply}
+use Rattle.replies.specs.Observed.{HoldsGraph}
+use Rattle.replies.specs.Outcomes.{IsAnswered}
+use Rattle.replies.specs.Command.{Remainder}
+use Rattle.replies.specs.Command as forms
+use Rattle.command_run.specs.Commands.{CommandSet, Request, of}
+use Rattle.command_run.specs.Lines.{size_line}
+use Rattle.command_run.specs.declared.request.AfterFile.{AfterFile}
+use Rattle.command_run.specs.declared.request.AfterFile.TheVariants as first
+
+-- the answer of a command without an input
+abbrev pub WordsAnswer : (s : CommandSet) → Request s → Outcome → List ℕ → Type 0
+WordsAnswer s (of c q) o text = (s.form_of c).by_words q o text
+
+-- the answer of a command on a graph that was read, where its file alone decides
+abbrev pub GraphAnswer : (s : CommandSet) → Request s → ReadGraph → Outcome → List ℕ → Type 0
+GraphAnswer s (of c q) g o text = (s.form_of c).by_graph q g o text
+
+-- the graph is accepted, and the second input is read
+abbrev pub NeedsSecond : (s : CommandSet) → Request s → ReadGraph → Type 0
+NeedsSecond s (of c q) g = (s.form_of c).continues q g
+
+-- the answer of a command on a graph that was read and the bytes of its second input
+abbrev pub SecondAnswer : (s : CommandSet) → Request s → ReadGraph → List ℕ → Outcome → List ℕ → Type 0
+SecondAnswer s (of c q) g other o text = (s.form_of c).by_both q g other o text
+
+-- the bytes are no graph: they are too many, or their text has a fault
+pub data IsGraphRefusal (bytes line : List ℕ) : Type 0 where
+  too_long : 1048576 < length bytes → line ≡ size_line → IsGraphRefusal bytes line
+  faulty : (fault : GraphFault) → length bytes ≤ 1048576 → (fault ≡ NoMemory → ⊥) → Reads bytes (Err fault) → line ≡ line_of (graph_fault_text fault)
+      → IsGraphRefusal bytes line
+
+-- the answer of a command on a graph that the bytes hold
+pub record HoldsAnswer (s : CommandSet) (w : Request s) (bytes : List ℕ) (o : Outcome) (text : List ℕ) : Type 0 where
+  pub graph : ReadGraph
+  pub holds : HoldsGraph bytes graph
+  pub answer : GraphAnswer s w graph o text
+
+-- the defined answer on the bytes of the file alone: yes or no with its text, or the line of a refused graph or target
+abbrev pub Defined : (s : CommandSet) → Request s → List ℕ → Outcome → List ℕ → Type 0
+Defined s w bytes Graph line = IsGraphRefusal bytes line ⊎ HoldsAnswer s w bytes Graph line
+Defined s w bytes o text = HoldsAnswer s w bytes o text
+
+-- the bytes hold a graph that is accepted, and the second input is read
+abbrev pub Continues : (s : CommandSet) → Request s → List ℕ → Type 0
+Continues s w bytes = (g : ReadGraph) × HoldsGraph bytes g × NeedsSecond s w g
+
+-- the defined answer on the bytes of both inputs
+abbrev pub DefinedWith : (s : CommandSet) → Request s → (bytes other : List ℕ) → Outcome → List ℕ → Type 0
+DefinedWith s w bytes other o text = (g : ReadGraph) × HoldsGraph bytes g × NeedsSecond s w g × SecondAnswer s w g other o text
+
+-- ---- what is left to answer once the file was accepted
+
+-- the reply is the answer on these bytes of the second input
+abbrev pub GivesSecond : Remainder → List ℕ → Reply → Type 0
+GivesSecond l other reply = l.answer other reply.outcome reply.text.items
+
+-- the answers on a second input are those that a command answers
+abbrev pub IsAnsweredWith : Remainder → Type 0
+IsAnsweredWith l = (other : List ℕ) (o : Outcome) (text : List ℕ) → l.answer other o text → IsAnswered o
+
+-- what is left of a request on a graph that was read
+abbrev pub IsLeft : (s : CommandSet) → Request s → ReadGraph → Remainder → Type 0
+IsLeft s (of c q) g l = forms.IsLeft (s.form_of c) q g l
+
+-- what a graph that was read gives: the answer on it, or what is left, as this tells it
+abbrev pub GivesOn : {Second : Type 0} → (Second → Remainder) → (s : CommandSet) → Request s → ReadGraph → AfterFile Second → Type 0
+GivesOn left s w g (first.Replied reply) = GraphAnswer s w g reply.outcome reply.text.items
+GivesOn left s w g (first.Continues p) = IsLeft s w g (left p)
+
+-- what is left of a request whose file has these bytes
+abbrev pub IsLeftOf : (s : CommandSet) → Request s → List ℕ → Remainder → Type 0
+IsLeftOf s w bytes l = (g : ReadGraph) × HoldsGraph bytes g × IsLeft s w g l
+
+-- what the file alone gives: the defined answer, or what is left
+abbrev pub FileGives : {Second : Type 0} → (Second → Remainder) → (s : CommandSet) → Request s → List ℕ → AfterFile Second → Type 0
+FileGives left s w bytes (first.Replied reply) = Defined s w bytes reply.outcome reply.text.items
+FileGives left s w bytes (first.Continues p) = IsLeftOf s w bytes (left p)

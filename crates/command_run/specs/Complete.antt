@@ -1,0 +1,39 @@
+-- The other way round: which status a run has to have.
+use Rattle.std.specs.Prelude.{ℕ, ◌≡◌, ◌⊎◌, false, List, Some}
+use Rattle.causal_io.specs.Causes.{Rose}
+use Rattle.word_forms.specs.Form.{Text}
+use Rattle.replies.specs.declared.outcome.Outcome.{Outcome}
+use Rattle.replies.specs.Outcomes.{code_of, IsAnswered}
+use Rattle.command_run.specs.Commands.{CommandSet, Request, Asks, AskOnce}
+use Rattle.command_run.specs.Run.{Run, Answers, IsRead}
+
+-- no count of failures rose: of the reads of a name, or of the writes
+pub record NothingFailed (r : Run) : Type 0 where
+  pub reads : (name : Text) → Rose (r.read_faults name) (r.read_faults_after name) → ⊥
+  pub writes : Rose r.out.faults r.out.faults_after → ⊥
+
+-- the status is that of the defined answer to what the words ask for
+pub record Answered (s : CommandSet) (r : Run) (code : ℕ) : Type 0 where
+  pub outcome : Outcome
+  pub text : List ℕ
+  pub status : code ≡ code_of outcome
+  pub answered : IsAnswered outcome
+  pub answers : Answers s r outcome text
+
+-- each input that a request of the words reads tells what it holds
+abbrev pub IsTold : CommandSet → Run → Type 0
+IsTold s r = (q : Request s) → Asks s r.words q → (name : Text) → IsRead s r q name → r.lacks name ≡ false → (bytes : List ℕ) × (r.held name ≡ Some bytes)
+
+-- whatever is the defined answer, the status is that of its outcome; or memory was refused
+abbrev pub IsExact : CommandSet → Run → ℕ → Type 0
+IsExact s r code = (o : Outcome) (text : List ℕ) → Answers s r o text → (code ≡ code_of o) ⊎ (code ≡ 8)
+
+-- Where the words ask for nothing, the status is 2; where they ask for something and nothing failed, it is that of a defined answer, and, where the inputs are told, of each defined answer. Or memory was refused.
+pub record Complete (s : CommandSet) (r : Run) (code : ℕ) : Type 0 where
+  pub refused : ((q : Request s) → Asks s r.words q → ⊥) → (code ≡ 2) ⊎ (code ≡ 8)
+  pub answered : (q : Request s) → Asks s r.words q → NothingFailed r → Answered s r code ⊎ (code ≡ 8)
+  pub exact : IsTold s r → NothingFailed r → IsExact s r code
+
+-- words ask for one call at most
+abbrev pub WordsAskOnce : CommandSet → Type 0
+WordsAskOnce s = (words : List Text) → AskOnce s words

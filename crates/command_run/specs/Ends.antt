@@ -1,0 +1,118 @@
+-- How a run comes to its end: the reply to its words, before anything is written, and what is written of it.
+use Rattle.std.specs.Prelude.{ℕ, ◌≡◌, ◌≢◌, ◌≤◌, ◌<◌, Bool, true, false, List, length, take, Option, Result, Ok, Err, IfSome, IsErrOf}
+use Rattle.std.specs.Global.{Vec}
+use Rattle.std.specs.Io.KnownBytes.{Appends}
+use Rattle.causal_io.specs.Causes.{Rose}
+use Rattle.causal_io.specs.Reading.{AnswersAll}
+use Rattle.causal_io.specs.declared.ReadError.{ReadError}
+use Rattle.causal_io.specs.declared.ReadError.TheVariants.{Fault, TooLong, NoMemory}
+use Rattle.word_forms.specs.Form.{Text}
+use Rattle.replies.specs.declared.outcome.Outcome.{Outcome}
+use Rattle.replies.specs.declared.outcome.Outcome.TheVariants.{Words, Graph, Read, Write, Memory}
+use Rattle.replies.specs.declared.outcome.Reply.{Reply}
+use Rattle.replies.specs.Outcomes.{code_of, IsAnswered}
+use Rattle.command_run.specs.Commands.{CommandSet, Request, Asks}
+use Rattle.command_run.specs.Lines.{words_line, size_line, read_line, write_line, memory_line}
+use Rattle.command_run.specs.Run.{Stream, Run, Answers, IsRead, Reads, IsNotRead, IsReadAtMostOnce, Ends}
+use Rattle.replies.specs.Command.{Remainder}
+use Rattle.command_run.specs.Answers.{GivesSecond}
+
+-- a read of an input that the words ask for failed
+pub record FailedRead (s : CommandSet) (r : Run) : Type 0 where
+  pub request : Request s
+  pub asks : Asks s r.words request
+  pub name : Text
+  pub is_read : IsRead s r request name
+  pub rose : Rose (r.read_faults name) (r.read_faults_after name)
+
+-- what a reply says, by its outcome, where words have these answers: it is one of them, or the words ask for nothing, or an input isn't read, or memory was refused
+abbrev pub Says : (s : CommandSet) (words : List Text) (answers : Outcome → List ℕ → Type 0) (unread : Type 0) → Outcome → List ℕ → Type 0
+Says s words answers unread Words text = (q : Request s) → Asks s words q → ⊥
+Says s words answers unread Read text = unread
+Says s words answers unread Write text = ⊥
+Says s words answers unread Memory text = Unit {0}
+Says s words answers unread o text = answers o text
+
+-- what a reply says of the run: the answer is the defined one, and a read failed
+abbrev pub Replied : CommandSet → Run → Outcome → List ℕ → Type 0
+Replied s r o text = Says s r.words (Answers s r) (FailedRead s r) o text
+
+-- the same of a reply
+abbrev pub RepliesWith : CommandSet → Run → Reply → Type 0
+RepliesWith s r reply = Replied s r reply.outcome reply.text.items
+
+-- what was read of an input: all that it holds, up to a limit, or that this is more; or a read failed, as one of an input that is lacked does
+pub record IsReadOf (held : Option (List ℕ)) (lacks : Bool) (faults faults_after limit : ℕ) (read : Result (Vec ℕ) ReadError) : Type 0 where
+  pub answer : AnswersAll held limit read
+  pub lacked : lacks ≡ true → IsErrOf read Fault
+  pub failed : IsErrOf read Fault → Rose faults faults_after
+
+-- what an input tells stays: what it holds under each name, and whether it lacks it
+pub record Stays (held held_after : Text → Option (List ℕ)) (lacks lacks_after : Text → Bool) : Type 0 where
+  pub holds : held_after ≡ held
+  pub lack : lacks_after ≡ lacks
+
+-- the line says that the graph's text is too long; want of memory may stand in its place
+abbrev pub IsTooLongLine : Outcome → List ℕ → Type 0
+IsTooLongLine Graph line = line ≡ size_line
+IsTooLongLine Memory line = Unit {0}
+IsTooLongLine o line = ⊥
+
+-- the same of a reply
+abbrev pub IsTooLong : Reply → Type 0
+IsTooLong reply = IsTooLongLine reply.outcome reply.text.items
+
+-- what a reply says of a file that couldn't be read whole
+abbrev pub TellsUnread : ReadError → Reply → Type 0
+TellsUnread Fault reply = reply.outcome ≡ Read
+TellsUnread (TooLong most) reply = IsTooLong reply
+TellsUnread NoMemory reply = reply.outcome ≡ Memory
+
+-- the reply is the one that was made, or says that memory was refused for it
+abbrev pub IsMade : {E : Type 0} → Result Reply E → Reply → Type 0
+IsMade (Ok made) reply = reply ≡ made
+IsMade (Err e) reply = reply.outcome ≡ Memory
+
+-- the reply on what was read of the second input: on its bytes, or where they are more than the limit; or a read failed
+abbrev pub GivesOnRead : Remainder → Result (Vec ℕ) ReadError → Reply → Type 0
+GivesOnRead l (Ok other) reply = GivesSecond l other.items reply
+GivesOnRead l (Err (TooLong most)) reply = (other : List ℕ) → l.limit < length other → GivesSecond l other reply
+GivesOnRead l (Err Fault) reply = reply.outcome ≡ Read
+GivesOnRead l (Err NoMemory) reply = ⊥
+
+-- what was read where a second input is: no other name, the file not again, and none more than once
+pub record ReadsSecond (held : Text → Option (List ℕ)) (q : Reads) (file second : Text) : Type 0 where
+  pub only : (name : Text) → name ≢ second → IsNotRead q name
+  pub not_again : IsNotRead q file
+  pub once : (name : Text) → IsReadAtMostOnce held q name
+
+-- the reply where the second input is read: that on the bytes that it holds; or a read failed; or memory was refused
+pub data Proceeds (held : Text → Option (List ℕ)) (lacks : Text → Bool) (faults faults_after : Text → ℕ) (l : Remainder) (reply : Reply) : Type 0 where
+  replied : IsAnswered reply.outcome → lacks l.second ≡ false → IfSome (held l.second) (λ other. GivesSecond l other reply) → Proceeds held lacks faults faults_after l reply
+  unread : reply.outcome ≡ Read → Rose (faults l.second) (faults_after l.second) → Proceeds held lacks faults faults_after l reply
+  no_memory : reply.outcome ≡ Memory → Proceeds held lacks faults faults_after l reply
+
+-- ---- what is written
+
+-- what is told of an outcome: the text or the line of a command's answer, or the line of an outcome of the run alone
+abbrev pub told_of : CommandSet → Outcome → List ℕ → List ℕ
+told_of s Words text = words_line s
+told_of s Read text = read_line
+told_of s Write text = write_line
+told_of s Memory text = memory_line
+told_of s o text = text
+
+-- what is told of a reply
+abbrev pub text_of : CommandSet → Reply → List ℕ
+text_of s reply = told_of s reply.outcome reply.text.items
+
+-- the run ends with this reply
+abbrev pub EndsWith : CommandSet → Run → Reply → Type 0
+EndsWith s r reply = Ends s r reply.outcome (text_of s reply)
+
+-- a command's reply was written, or a front of it where the count of faults rose; nothing is written of a refusal
+pub data Delivers (out : Stream) (reply last : Reply) : Type 0 where
+  written : last ≡ reply → code_of reply.outcome ≤ 1 → Appends out.before out.after reply.text.items → Delivers out reply last
+  unwritten : last.outcome ≡ Write → code_of reply.outcome ≤ 1 → (count : ℕ) → count ≤ length reply.text.items → Appends out.before out.after (take count reply.text.items)
+      → Rose out.faults out.faults_after → Delivers out reply last
+  refused : last ≡ reply → 2 ≤ code_of reply.outcome → out.after ≡ out.before → Delivers out reply last

@@ -1,0 +1,7 @@
+pub mod Commands
+pub mod Laws
+pub mod Lines
+pub mod Answers
+pub mod Run
+pub mod Complete
+pub mod Ends

@@ -1,0 +1,18 @@
+//! A run of a program: its words name a command, whose inputs are read, and whose answer is written. The commands are the program's.
+//!
+//! What words ask of a program is a type with the trait `Request`, which says what the commands are. `run` and `run_surely` run any such program.
+#![tactic(auto)]
+
+mod lines;
+mod replying;
+mod request;
+mod sure;
+mod top;
+mod words;
+
+pub use lines::line_of;
+pub use replying::or_memory;
+pub use request::{AfterFile, Request, SecondInput};
+pub use sure::run_surely;
+pub use top::{Status, run};
+pub use words::read_request;

@@ -1,0 +1,108 @@
+// What a program says of its commands.
+
+ghost use Rattle.std.specs.Prelude.{◌≡◌, ◌<◌, ◌≤◌, ℕ, List, None, length, map, option_map, IfOk, IsErrOf};
+ghost use Rattle.word_forms.specs.Form.{Use, row_named};
+ghost use Rattle.word_forms.specs.Views.{row_of};
+ghost use Rattle.word_values.specs.Gives.{HoldsCall};
+ghost use Rattle.word_values.specs.Readable.{IsReadable};
+ghost use Rattle.replies.specs.Command.{Remainder};
+ghost use Rattle.command_run.specs.Commands.{CommandSet, table, command_of, file_of, IsRequest, AsksNothing};
+ghost use Rattle.command_run.specs.Commands as asked;
+ghost use Rattle.command_run.specs.Lines.{words_line};
+ghost use Rattle.command_run.specs.Answers.{WordsAnswer, GivesOn, GivesSecond};
+
+use dag_reader::ReadGraph;
+use replies::Reply;
+use request_values::RequestFault;
+use std::alloc::{AllocError, Global};
+use word_forms::Entry;
+use word_values::Values;
+
+/// What the file alone gives.
+#[derive(Drop)]
+pub enum AfterFile<S> {
+    /// The defined answer.
+    Replied(Reply),
+    /// The second input is read.
+    Continues(S),
+}
+
+/// What is left to answer once the file was accepted, where a second input is read.
+pub trait SecondInput: Drop {
+    /// What is left.
+    ghost left: { Self → Remainder };
+
+    /// The name of the second input.
+    fn second(&self) -> &str
+        ensures { result.now ≡ (left self.now).second };
+
+    /// The most bytes of the second input.
+    fn limit(&self) -> u64
+        ensures limit { result ≡ (left self.now).limit }
+        ensures least { 1048576 ≤ result };
+
+    /// The reply on the bytes of the second input.
+    fn reply(&self, alloc: Global, other: &[u8]) -> Result<Reply, AllocError>
+        requires limit { length other.now ≤ (left self.now).limit }
+        requires accepted { (left self.now).known }
+        ensures { IfOk result (GivesSecond (left self.now) other.now) };
+
+    /// The reply where the second input has more bytes than its limit.
+    fn long_reply(&self, alloc: Global) -> Result<Reply, AllocError>
+        ensures { IfOk result (λ reply. (other : List ℕ) → (left self.now).limit < length other → GivesSecond (left self.now) other reply) };
+}
+
+/// What words ask of a program, whose commands these are.
+pub trait Request<'a>: Sized + Drop {
+    /// A command.
+    type Command: Copy;
+
+    /// What is left where a second input is read.
+    type Second: SecondInput;
+
+    /// The commands.
+    ghost commands: { CommandSet };
+
+    /// The command that a value stands for.
+    ghost command: { Self.Command → commands.Command };
+
+    /// The request that a value stands for.
+    ghost request: { Self → asked.Request commands };
+
+    /// The table of the commands.
+    fn rows() -> &'static [Entry]
+        ensures rows { map row_of result.now ≡ table commands }
+        ensures readable { IsReadable (map row_of result.now) };
+
+    /// The line for words that aren't understood, with the names of the commands.
+    fn words_line() -> &'static [u8]
+        ensures { result.now ≡ words_line commands };
+
+    /// The command of this name.
+    fn named(name: &str) -> Option<Self::Command>
+        ensures { option_map (λ it. commands.row_for (command it)) result ≡ row_named (table commands) name.now };
+
+    /// What a command is asked for by the values of its words.
+    fn read(alloc: Global, it: Self::Command, values: &Values<'a>) -> Result<Self, RequestFault>
+        ensures row { IfOk result (λ r. command_of commands (request r) ≡ command it) }
+        ensures ok { (uses : List Use) → HoldsCall (commands.row_for (command it)) uses values.now → IfOk result (λ r. IsRequest commands uses (request r)) }
+        ensures none { (uses : List Use) → HoldsCall (commands.row_for (command it)) uses values.now → IsErrOf result RequestFault.NotUnderstood → AsksNothing commands (command it) uses };
+
+    /// The file, where there is one.
+    fn file(&self) -> Option<&'a str>
+        ensures { option_map (λ name. name.now) result ≡ file_of commands (request self.now) };
+
+    /// The reply of a command without an input.
+    fn words_reply(&self, alloc: Global) -> Result<Reply, AllocError>
+        requires { file_of commands (request self.now) ≡ None }
+        ensures { IfOk result (λ reply. WordsAnswer commands (request self.now) reply.outcome reply.text.items) };
+
+    /// What a command gives on the graph of its file.
+    fn graph_reply(
+        self,
+        alloc: Global,
+        graph: ReadGraph,
+    ) -> Result<AfterFile<Self::Second>, AllocError>
+        requires { file_of commands (request self) ≡ None → ⊥ }
+        ensures { IfOk result (GivesOn Self.Second.left commands (request self) graph) };
+}

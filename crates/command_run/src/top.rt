@@ -1,0 +1,244 @@
+ghost use Rattle.std.specs.Prelude.{◌≡◌, ◌≤◌, List, Some, None, false, length, IfOk, IfErr, IfSome};
+ghost use Rattle.word_forms.specs.Form.{Text};
+ghost use Rattle.word_forms.specs.Views.{texts_of};
+ghost use Rattle.replies.specs.Outcomes.{code_of};
+ghost use Rattle.command_run.specs.Run.{Stream, Ended, Received, run_on, stream_of, reads_of, ReadsAsAsked};
+ghost use Rattle.command_run.specs.Complete.{Complete};
+ghost use Rattle.command_run.specs.Commands.{Asks, file_of};
+ghost use Rattle.command_run.specs.Laws.{AreLawful};
+ghost use Rattle.command_run.specs.Answers.{IsAnsweredWith};
+ghost use Rattle.command_run.specs.Ends.{RepliesWith, EndsWith, IsReadOf, Stays, IsTooLong, TellsUnread, ReadsSecond, Delivers, Proceeds, text_of};
+
+use crate::lines::line_of;
+use crate::replying::{or_memory, reply_on_file, reply_on_second};
+use crate::request::{AfterFile, Request, SecondInput};
+use crate::words::read_request;
+use causal_io::{ReadError, Shelf, Sink, read_all, write_all};
+use replies::{Outcome, Reply};
+use request_values::RequestFault;
+use std::alloc::Global;
+
+/// The most bytes of a graph text.
+const MAX_GRAPH_BYTES: u64 = 1_048_576;
+
+/// The status with which a run ended.
+#[derive(Drop)]
+pub struct Status {
+    pub code: u8,
+    pub ghost known: { code ≤ 8 },
+}
+
+/// Runs the command that the words name: reads its inputs from the shelf and writes its answer to `out`,
+/// or a line to `err` where the words, the graph, the target or the second input are refused or a device fails.
+pub fn run<'a, R: Request<'a>, S: Shelf, O: Sink, E: Sink>(
+    alloc: Global,
+    words: &'a [String],
+    shelf: &mut S,
+    out: &mut O,
+    err: &mut E,
+) -> Status
+    requires { AreLawful R.commands }
+    ensures ended { Ended R.commands (run_on (texts_of words.now) (S.held shelf.old) (S.lacks shelf.old) (S.faults shelf.old) (S.faults shelf.new)
+        (stream_of (O.written out.old) (O.written out.new) (O.faults out.old) (O.faults out.new))) (stream_of (E.written err.old) (E.written err.new) (E.faults err.old) (E.faults err.new)) result.code }
+    ensures complete { Complete R.commands (run_on (texts_of words.now) (S.held shelf.old) (S.lacks shelf.old) (S.faults shelf.old) (S.faults shelf.new)
+        (stream_of (O.written out.old) (O.written out.new) (O.faults out.old) (O.faults out.new))) result.code }
+    ensures reads { ReadsAsAsked R.commands (run_on (texts_of words.now) (S.held shelf.old) (S.lacks shelf.old) (S.faults shelf.old) (S.faults shelf.new)
+        (stream_of (O.written out.old) (O.written out.new) (O.faults out.old) (O.faults out.new))) (reads_of (S.reads shelf.old) (S.reads shelf.new) (S.given shelf.old) (S.given shelf.new)) }
+    ensures holds { S.held shelf.new ≡ S.held shelf.old }
+    ensures lack { S.lacks shelf.new ≡ S.lacks shelf.old }
+{
+    let last = respond::<R, S, O>(alloc, words, shelf, out);
+    report::<R, E>(err, &last);
+    Status {
+        code: last.outcome.code(),
+    }
+}
+
+/// Writes the line of the last reply to `err`; nothing on an answer.
+fn report<'a, R: Request<'a>, E: Sink>(err: &mut E, last: &Reply)
+    ensures { Received (stream_of (E.written err.old) (E.written err.new) (E.faults err.old) (E.faults err.new)) last.now.outcome (text_of R.commands last.now) }
+{
+    match last.outcome {
+        Outcome::Yes | Outcome::No => {}
+        _ => {
+            let _ = write_all(err, line_of::<R>(last));
+        }
+    }
+}
+
+/// Does all of a run but the line on `err`.
+fn respond<'a, R: Request<'a>, S: Shelf, O: Sink>(
+    alloc: Global,
+    words: &'a [String],
+    shelf: &mut S,
+    out: &mut O,
+) -> Reply
+    requires { AreLawful R.commands }
+    ensures ends { EndsWith R.commands (run_on (texts_of words.now) (S.held shelf.old) (S.lacks shelf.old) (S.faults shelf.old) (S.faults shelf.new)
+        (stream_of (O.written out.old) (O.written out.new) (O.faults out.old) (O.faults out.new))) result }
+    ensures reads { ReadsAsAsked R.commands (run_on (texts_of words.now) (S.held shelf.old) (S.lacks shelf.old) (S.faults shelf.old) (S.faults shelf.new)
+        (stream_of (O.written out.old) (O.written out.new) (O.faults out.old) (O.faults out.new))) (reads_of (S.reads shelf.old) (S.reads shelf.new) (S.given shelf.old) (S.given shelf.new)) }
+    ensures stays { Stays (S.held shelf.old) (S.held shelf.new) (S.lacks shelf.old) (S.lacks shelf.new) }
+{
+    let reply = reply_to::<R, S>(alloc, words, shelf);
+    deliver(alloc, out, reply)
+}
+
+/// The reply to the words, for which their inputs are read and nothing is written.
+fn reply_to<'a, R: Request<'a>, S: Shelf>(
+    alloc: Global,
+    words: &'a [String],
+    shelf: &mut S,
+) -> Reply
+    requires { AreLawful R.commands }
+    ensures replies { (out : Stream) → RepliesWith R.commands (run_on (texts_of words.now) (S.held shelf.old) (S.lacks shelf.old) (S.faults shelf.old) (S.faults shelf.new) out) result }
+    ensures reads { (out : Stream) → ReadsAsAsked R.commands (run_on (texts_of words.now) (S.held shelf.old) (S.lacks shelf.old) (S.faults shelf.old) (S.faults shelf.new) out)
+        (reads_of (S.reads shelf.old) (S.reads shelf.new) (S.given shelf.old) (S.given shelf.new)) }
+    ensures stays { Stays (S.held shelf.old) (S.held shelf.new) (S.lacks shelf.old) (S.lacks shelf.new) }
+{
+    match read_request::<R>(alloc, words) {
+        Ok(request) => answer::<R, S>(alloc, request, shelf),
+        Err(RequestFault::NotUnderstood) => Reply::bare(alloc, Outcome::Words),
+        Err(RequestFault::NoMemory) => Reply::bare(alloc, Outcome::Memory),
+    }
+}
+
+/// Answers a request: by its words, or on its file.
+fn answer<'a, R: Request<'a>, S: Shelf>(alloc: Global, request: R, shelf: &mut S) -> Reply
+    requires { AreLawful R.commands }
+    ensures replies { (words : List Text) → Asks R.commands words (R.request request) → (out : Stream)
+        → RepliesWith R.commands (run_on words (S.held shelf.old) (S.lacks shelf.old) (S.faults shelf.old) (S.faults shelf.new) out) result }
+    ensures reads { (words : List Text) → Asks R.commands words (R.request request) → (out : Stream)
+        → ReadsAsAsked R.commands (run_on words (S.held shelf.old) (S.lacks shelf.old) (S.faults shelf.old) (S.faults shelf.new) out) (reads_of (S.reads shelf.old) (S.reads shelf.new) (S.given shelf.old) (S.given shelf.new)) }
+    ensures stays { Stays (S.held shelf.old) (S.held shelf.new) (S.lacks shelf.old) (S.lacks shelf.new) }
+{
+    match request.file() {
+        Some(file) => answer_on_file::<R, S>(alloc, file, request, shelf),
+        None => or_memory(alloc, request.words_reply(alloc)),
+    }
+}
+
+/// Reads the file of a request and answers on it.
+fn answer_on_file<'a, R: Request<'a>, S: Shelf>(
+    alloc: Global,
+    file: &str,
+    request: R,
+    shelf: &mut S,
+) -> Reply
+    requires lawful { AreLawful R.commands }
+    requires names { file_of R.commands (R.request request) ≡ Some file.now }
+    ensures replies { (words : List Text) → Asks R.commands words (R.request request) → (out : Stream)
+        → RepliesWith R.commands (run_on words (S.held shelf.old) (S.lacks shelf.old) (S.faults shelf.old) (S.faults shelf.new) out) result }
+    ensures reads { (words : List Text) → Asks R.commands words (R.request request) → (out : Stream)
+        → ReadsAsAsked R.commands (run_on words (S.held shelf.old) (S.lacks shelf.old) (S.faults shelf.old) (S.faults shelf.new) out) (reads_of (S.reads shelf.old) (S.reads shelf.new) (S.given shelf.old) (S.given shelf.new)) }
+    ensures stays { Stays (S.held shelf.old) (S.held shelf.new) (S.lacks shelf.old) (S.lacks shelf.new) }
+{
+    let bytes = match read_all(alloc, shelf, file, MAX_GRAPH_BYTES) {
+        Ok(bytes) => bytes,
+        Err(fault) => return unread_graph(alloc, fault),
+    };
+    match reply_on_file::<R>(alloc, request, &bytes) {
+        Err(_) => Reply::bare(alloc, Outcome::Memory),
+        Ok(AfterFile::Replied(reply)) => reply,
+        Ok(AfterFile::Continues(input)) => proceed(alloc, file, &bytes, &input, shelf),
+    }
+}
+
+/// Reads the second input and answers on it.
+fn proceed<I: SecondInput, S: Shelf>(
+    alloc: Global,
+    file: &str,
+    bytes: &[u8],
+    input: &I,
+    shelf: &mut S,
+) -> Reply
+    requires held { IfSome (S.held shelf.now file.now) (λ all. bytes.now ≡ all) }
+    requires there { S.lacks shelf.now file.now ≡ false }
+    requires small { length bytes.now ≤ 1048576 }
+    requires accepted { (I.left input.now).known }
+    requires answered { IsAnsweredWith (I.left input.now) }
+    ensures proceeds { Proceeds (S.held shelf.old) (S.lacks shelf.old) (S.faults shelf.old) (S.faults shelf.new) (I.left input.now) result }
+    ensures reads { ReadsSecond (S.held shelf.old) (reads_of (S.reads shelf.old) (S.reads shelf.new) (S.given shelf.old) (S.given shelf.new)) file.now (I.left input.now).second }
+    ensures stays { Stays (S.held shelf.old) (S.held shelf.new) (S.lacks shelf.old) (S.lacks shelf.new) }
+{
+    let read = read_second(alloc, file, bytes, input.second(), input.limit(), shelf);
+    or_memory(alloc, reply_on_second(alloc, input, read))
+}
+
+/// The bytes of the second input. An input that is named twice is read once.
+fn read_second<S: Shelf>(
+    alloc: Global,
+    file: &str,
+    bytes: &[u8],
+    second: &str,
+    limit: u64,
+    shelf: &mut S,
+) -> Result<Vec<u8>, ReadError>
+    requires held { IfSome (S.held shelf.now file.now) (λ all. bytes.now ≡ all) }
+    requires there { S.lacks shelf.now file.now ≡ false }
+    requires small { length bytes.now ≤ limit }
+    ensures answer { IsReadOf (S.held shelf.old second.now) (S.lacks shelf.old second.now) (S.faults shelf.old second.now) (S.faults shelf.new second.now) limit result }
+    ensures reads { ReadsSecond (S.held shelf.old) (reads_of (S.reads shelf.old) (S.reads shelf.new) (S.given shelf.old) (S.given shelf.new)) file.now second.now }
+    ensures stays { Stays (S.held shelf.old) (S.held shelf.new) (S.lacks shelf.old) (S.lacks shelf.new) }
+{
+    if second == file {
+        return copied(alloc, bytes);
+    }
+    read_all(alloc, shelf, second, limit)
+}
+
+/// A copy of what was read before.
+fn copied(alloc: Global, bytes: &[u8]) -> Result<Vec<u8>, ReadError>
+    ensures copy { IfOk result (λ copy. copy.items ≡ bytes.now) }
+    ensures fault { IfErr result (λ fault. fault ≡ ReadError.NoMemory) }
+{
+    match Vec::from_slice(alloc, bytes) {
+        Ok(copy) => Ok(copy),
+        Err(_) => Err(ReadError::NoMemory),
+    }
+}
+
+/// The reply to a file that couldn't be read whole.
+fn unread_graph(alloc: Global, fault: ReadError) -> Reply
+    ensures { TellsUnread fault result }
+{
+    match fault {
+        ReadError::Fault => Reply::bare(alloc, Outcome::Read),
+        ReadError::TooLong { limit: _ } => too_long(alloc),
+        ReadError::NoMemory => Reply::bare(alloc, Outcome::Memory),
+    }
+}
+
+/// The reply to a graph text that is too long.
+fn too_long(alloc: Global) -> Reply
+    ensures { IsTooLong result }
+{
+    match Vec::from_slice(alloc, b"causal: graph fault 12: over 1048576 bytes\n") {
+        Ok(text) => Reply {
+            outcome: Outcome::Graph,
+            text,
+        },
+        Err(_) => Reply::bare(alloc, Outcome::Memory),
+    }
+}
+
+/// Writes an answer to `out`; a refusal keeps its line for `err`.
+fn deliver<O: Sink>(alloc: Global, out: &mut O, reply: Reply) -> Reply
+    ensures { Delivers (stream_of (O.written out.old) (O.written out.new) (O.faults out.old) (O.faults out.new)) reply result }
+{
+    match reply.outcome {
+        Outcome::Yes | Outcome::No => write_reply(alloc, out, reply),
+        _ => reply,
+    }
+}
+
+/// Writes the text of an answer.
+fn write_reply<O: Sink>(alloc: Global, out: &mut O, reply: Reply) -> Reply
+    requires { code_of reply.outcome ≤ 1 }
+    ensures { Delivers (stream_of (O.written out.old) (O.written out.new) (O.faults out.old) (O.faults out.new)) reply result }
+{
+    match write_all(out, &reply.text) {
+        Ok(()) => reply,
+        Err(_) => Reply::bare(alloc, Outcome::Write),
+    }
+}
