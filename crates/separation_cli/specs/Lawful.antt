@@ -1,0 +1,37 @@
+-- What holds of each command, as its own crate shows; and that each has a row of its own.
+use Rattle.std.specs.Prelude.{◌≡◌, Option, Some, refl, find}
+use Rattle.std.specs.Str.{bytes_eq}
+use Rattle.std.proofs.Common.{sym, ap, ◌∙◌}
+use Rattle.std.proofs.lemmas.Option.{same_Some}
+use Rattle.word_forms.specs.Form.{Text}
+use Rattle.replies.proofs.Commands.{IsLawful}
+use Rattle.graph_command.proofs.Lawful.{graph_lawful}
+use Rattle.separate_command.proofs.Lawful.{separate_lawful}
+use Rattle.rule_command.proofs.Lawful.{rule_lawful}
+use Rattle.equivalent_command.proofs.Lawful.{equivalent_lawful}
+use Rattle.command_run.specs.Commands.{AreApart}
+use Rattle.command_run.specs.Laws.{AreLawful}
+use Rattle.separation_cli.specs.Commands.{commands, all_commands, row_for, form_of}
+use Rattle.separation_cli.specs.declared.commands.Command.{Command}
+use Rattle.separation_cli.specs.declared.commands.Command.TheVariants as command
+
+-- the command of a name
+abbrev named : Text → Option Command
+named name = find (λ c. bytes_eq (row_for c).name name) all_commands
+
+-- computed for each command: it stands in the list, and none before it has its name
+by_its_name : (c : Command) → named (row_for c).name ≡ Some c
+by_its_name command.Graph = refl
+by_its_name c = refl
+
+apart : AreApart commands
+apart c d e = same_Some c d (sym (by_its_name c) ∙ ap (λ r. named r.name) e ∙ by_its_name d)
+
+each : (c : Command) → IsLawful (form_of c)
+each command.Graph = graph_lawful
+each command.Separate = separate_lawful
+each command.Rule = rule_lawful
+each command.Equivalent = equivalent_lawful
+
+pub lawful : AreLawful commands
+lawful = record { each = each; apart = apart; clear = refl }

@@ -1,0 +1,31 @@
+ghost use Rattle.std.specs.Prelude.{◌≡◌};
+ghost use Rattle.word_forms.specs.Views.{texts_of};
+ghost use Rattle.command_run.specs.Run.{Ended, run_on, stream_of, reads_of, ReadsAsAsked};
+ghost use Rattle.command_run.specs.Complete.{Complete};
+ghost use Rattle.separation_cli.specs.Commands.{commands};
+
+use crate::request::Request;
+use causal_io::{Shelf, Sink};
+use command_run::Status;
+use std::alloc::Global;
+
+/// Runs the command that the words name: reads its inputs from the shelf and writes its answer to `out`,
+/// or a line to `err` where the words, the graph, the target or the second graph are refused or a device fails.
+pub fn run<S: Shelf, O: Sink, E: Sink>(
+    alloc: Global,
+    words: &[String],
+    shelf: &mut S,
+    out: &mut O,
+    err: &mut E,
+) -> Status
+    ensures ended { Ended commands (run_on (texts_of words.now) (S.held shelf.old) (S.lacks shelf.old) (S.faults shelf.old) (S.faults shelf.new)
+        (stream_of (O.written out.old) (O.written out.new) (O.faults out.old) (O.faults out.new))) (stream_of (E.written err.old) (E.written err.new) (E.faults err.old) (E.faults err.new)) result.code }
+    ensures complete { Complete commands (run_on (texts_of words.now) (S.held shelf.old) (S.lacks shelf.old) (S.faults shelf.old) (S.faults shelf.new)
+        (stream_of (O.written out.old) (O.written out.new) (O.faults out.old) (O.faults out.new))) result.code }
+    ensures reads { ReadsAsAsked commands (run_on (texts_of words.now) (S.held shelf.old) (S.lacks shelf.old) (S.faults shelf.old) (S.faults shelf.new)
+        (stream_of (O.written out.old) (O.written out.new) (O.faults out.old) (O.faults out.new))) (reads_of (S.reads shelf.old) (S.reads shelf.new) (S.given shelf.old) (S.given shelf.new)) }
+    ensures holds { S.held shelf.new ≡ S.held shelf.old }
+    ensures lack { S.lacks shelf.new ≡ S.lacks shelf.old }
+{
+    command_run::run::<Request<'_>, S, O, E>(alloc, words, shelf, out, err)
+}
