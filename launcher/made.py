@@ -1,6 +1,6 @@
 """Whether the program that stands in .build is up to date.
 
-What decides is the toolchain's own stamp of the crate `causal`: a sum of all that the program is made from. A record
+What decides is the toolchain's own stamp of the program's crate: a sum of all that the program is made from. A record
 beside the program holds the stamp at which it was proved, and the program's own sum. So that a start needn't load the
 toolchain's code, the record also holds a sum of the bytes that the stamp is computed from: the same bytes have the same
 stamp. The times of files decide nothing.
@@ -10,10 +10,19 @@ import os
 
 TOP = os.path.dirname(os.path.dirname(os.path.realpath(__file__)))
 ROOM = f"{TOP}/.build"
-PROGRAM = f"{ROOM}/causal"
-RECORD = f"{ROOM}/causal.made"
 # The folders of a crate that its proof reads.
 PARTS = ("src", "specs", "proofs", "c")
+
+
+class Program:
+    """A program: the crate that it is made from, and where it and its record stand."""
+
+    def __init__(self, crate):
+        self.crate = crate
+        self.path, self.record = f"{ROOM}/{crate}", f"{ROOM}/{crate}.made"
+
+
+WHOLE = Program("causal")
 
 
 def kit_of(rt):
@@ -22,39 +31,39 @@ def kit_of(rt):
     return os.path.dirname(os.path.dirname(library))
 
 
-def is_current(kit):
+def is_current(program, kit):
     """Whether the program that stands there is the one proved from the sources as they are now."""
     try:
-        with open(RECORD, encoding="utf-8") as record:
-            stamp, read, program = record.read().split()
-        if program != sum_of(PROGRAM):
+        with open(program.record, encoding="utf-8") as record:
+            stamp, read, own = record.read().split()
+        if own != sum_of(program.path):
             return False
     except (OSError, ValueError):
         return False
-    now = sum_of_sources(TOP, kit)
+    now = sum_of_sources(program, TOP, kit)
     if now == read:
         return True
     import build
 
-    if stamp != build.stamp_of(TOP, kit):
+    if stamp != build.stamp_of(program, TOP, kit):
         return False
-    if now == sum_of_sources(TOP, kit):
-        write_record(stamp, now, program)
+    if now == sum_of_sources(program, TOP, kit):
+        write_record(program, stamp, now, own)
     return True
 
 
-def write_record(stamp, read, program):
-    with open(f"{RECORD}.new", "w", encoding="utf-8") as record:
-        record.write(f"{stamp}\n{read}\n{program}\n")
-    os.replace(f"{RECORD}.new", RECORD)
+def write_record(program, stamp, read, own):
+    with open(f"{program.record}.new", "w", encoding="utf-8") as record:
+        record.write(f"{stamp}\n{read}\n{own}\n")
+    os.replace(f"{program.record}.new", program.record)
 
 
-def lines_below(top):
+def lines_below(program, top):
     """The lines of crates.txt of the program's crate and of those below it, by name."""
     with open(f"{top}/crates.txt", encoding="utf-8") as file:
         lines = [line for line in file.read().splitlines() if line.partition("#")[0].strip()]
     every = {line.partition(":")[0].split()[0]: line for line in lines}
-    wanted, found = ["causal"], {}
+    wanted, found = [program.crate], {}
     while wanted:
         name = wanted.pop()
         if name in every and name not in found:
@@ -63,9 +72,9 @@ def lines_below(top):
     return {name: every[name] for name in every if name in found}
 
 
-def sum_of_sources(top, kit):
+def sum_of_sources(program, top, kit):
     """A sum of all bytes that the stamp is computed from: of the kit's name, the lines of crates.txt, and the crates' files."""
-    lines = lines_below(top)
+    lines = lines_below(program, top)
     total = hashlib.sha256(read_whole(f"{kit}/WHAT"))
     total.update("\n".join(lines.values()).encode())
     for name in lines:

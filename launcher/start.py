@@ -12,14 +12,15 @@ import made  # noqa: E402
 
 def main(rt, words):
     kit = made.kit_of(rt)
-    if not made.is_current(kit):
+    program = made.WHOLE
+    if not made.is_current(program, kit):
         import build
 
-        build.build(rt, kit)
+        build.build(program, rt, kit)
     # Python ignores these two, and the program would inherit that.
     for it in (signal.SIGPIPE, signal.SIGXFSZ):
         signal.signal(it, signal.SIG_DFL)
-    os.execv(made.PROGRAM, ["causal", *words])
+    os.execv(program.path, ["causal", *words])
 
 
 if __name__ == "__main__":
