@@ -9,6 +9,7 @@ import contextlib
 import fcntl
 import importlib.machinery
 import importlib.util
+import io
 import os
 import re
 import select
@@ -135,11 +136,13 @@ def stamp_of(program, top, kit):
         return known[crate.folder]
 
     rtlib.Crate.stamp = stamp_once
+    why = io.StringIO()
     try:
-        return rtlib.Crate(f"{top}/crates/{program.crate}", top, {}).stamp()
+        with contextlib.redirect_stderr(why):
+            return rtlib.Crate(f"{top}/crates/{program.crate}", top, {}).stamp()
     except SystemExit:
-        # (it has said why)
-        raise Failed("the toolchain refuses the sources") from None
+        said = why.getvalue().strip().replace(top, made.TOP)
+        raise Failed(f"the toolchain refuses the sources: {said}") from None
 
 
 def prove(rt, scratch, progress):

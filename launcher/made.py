@@ -2,8 +2,8 @@
 
 What decides is the toolchain's own stamp of the program's crate: a sum of all that the program is made from. A record
 beside the program holds the stamp at which it was proved, and the program's own sum. So that a start needn't load the
-toolchain's code, the record also holds a sum of the bytes that the stamp is computed from: the same bytes have the same
-stamp. The times of files decide nothing.
+toolchain's code, the record also holds a sum of the bytes that the stamp is computed from, and where the bytes were last
+found to have another stamp, their sum: the same bytes have the same stamp. The times of files decide nothing.
 """
 import hashlib
 import os
@@ -35,27 +35,36 @@ def is_current(program, kit):
     """Whether the program that stands there is the one proved from the sources as they are now."""
     try:
         with open(program.record, encoding="utf-8") as record:
-            stamp, read, own = record.read().split()
+            stamp, read, own, *other = record.read().split()
         if own != sum_of(program.path):
             return False
     except (OSError, ValueError):
         return False
     now = sum_of_sources(program, TOP, kit)
-    if now == read:
-        return True
+    if now == read or now in other:
+        return now == read
     import build
 
-    if stamp != build.stamp_of(program, TOP, kit):
+    try:
+        is_same = stamp == build.stamp_of(program, TOP, kit)
+    except build.Failed:
+        # (its build says why)
         return False
     if now == sum_of_sources(program, TOP, kit):
-        write_record(program, stamp, now, own)
-    return True
+        try:
+            write_record(program, stamp, *([now, own] if is_same else [read, own, now]))
+        except OSError:
+            # (the next start looks again)
+            pass
+    return is_same
 
 
-def write_record(program, stamp, read, own):
-    with open(f"{program.record}.new", "w", encoding="utf-8") as record:
-        record.write(f"{stamp}\n{read}\n{own}\n")
-    os.replace(f"{program.record}.new", program.record)
+def write_record(program, *sums):
+    # (two starts can write it at once)
+    new = f"{program.record}.{os.getpid()}"
+    with open(new, "w", encoding="utf-8") as record:
+        record.write("".join(f"{it}\n" for it in sums))
+    os.replace(new, program.record)
 
 
 def lines_below(program, top):
