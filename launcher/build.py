@@ -34,8 +34,8 @@ class Interrupted(BaseException):
     """A signal asked this start to end."""
 
 
-def build(program, rt, kit):
-    """Builds the program where it isn't up to date."""
+def build(words, rt, kit):
+    """Returns the program that answers these words, built where none that does is up to date."""
     was = {it: signal.getsignal(it) for it in ENDS}
     for it in ENDS:
         if was[it] is not signal.SIG_IGN:
@@ -44,8 +44,12 @@ def build(program, rt, kit):
         os.makedirs(made.ROOM, exist_ok=True)
         with open(f"{made.ROOM}/lock", "w") as lock:
             hold(lock)
-            if not made.is_current(program, kit):
+            # (another start may have built one meanwhile)
+            program = made.ready_for(words, kit)
+            if not program:
+                *_, program = made.programs_for(words)
                 build_anew(program, rt, kit)
+            return program
     except Interrupted as ended:
         print("causal: interrupted; the next start goes on with what the toolchain has kept", file=sys.stderr)
         signal.signal(ended.args[0], signal.SIG_DFL)
@@ -82,6 +86,8 @@ def build_anew(program, rt, kit):
         made.write_record(program, stamp, read, made.sum_of(program.path))
     finally:
         remove(scratch)
+    if program.commands:
+        print("causal: the other commands are proved when one of them is first asked", file=sys.stderr, flush=True)
 
 
 def remove(folder):
@@ -197,7 +203,8 @@ class Progress:
         self.program, self.crates, self.scratch, self.done, self.refused = program, crates, scratch, [], None
         self.began, self.is_terminal = time.monotonic(), sys.stderr.isatty()
         if not self.is_terminal:
-            self.say(f"causal: building the program: {len(crates)} crates to prove")
+            what = f"the commands {', '.join(program.commands)}" if program.commands else "the program"
+            self.say(f"causal: building {what}: {len(crates)} crates to prove")
 
     def hear(self, line):
         """Takes a line of rt: the crates' names stand before these words of it."""

@@ -1,4 +1,7 @@
-"""Whether the program that stands in .build is up to date.
+"""Which program answers the words, and whether it is up to date.
+
+There are two, each made from a crate and those below it. The whole one knows every command, and answers wherever it is up
+to date. The part knows a few commands and is proved sooner: while the whole one isn't up to date, it answers those.
 
 What decides is the toolchain's own stamp of the program's crate: a sum of all that the program is made from. A record
 beside the program holds the stamp at which it was proved, and the program's own sum. So that a start needn't load the
@@ -15,14 +18,27 @@ PARTS = ("src", "specs", "proofs", "c")
 
 
 class Program:
-    """A program: the crate that it is made from, and where it and its record stand."""
+    """A program: the crate that it is made from, where it and its record stand, and its commands, if it is the part."""
 
-    def __init__(self, crate):
-        self.crate = crate
+    def __init__(self, crate, *commands):
+        self.crate, self.commands = crate, commands
         self.path, self.record = f"{ROOM}/{crate}", f"{ROOM}/{crate}.made"
 
 
 WHOLE = Program("causal")
+PART = Program("causal_separation", "graph", "separate", "rule", "equivalent")
+
+
+def ready_for(words, kit):
+    """The program that answers these words as things stand, or None where one has to be built."""
+    return next((it for it in programs_for(words) if is_current(it, kit)), None)
+
+
+def programs_for(words):
+    """The programs that know these words, in the order in which they are taken. Where none is up to date, the last is built."""
+    yield WHOLE
+    if words and words[0] in PART.commands and lines_below(PART, TOP):
+        yield PART
 
 
 def kit_of(rt):
@@ -68,7 +84,7 @@ def write_record(program, *sums):
 
 
 def lines_below(program, top):
-    """The lines of crates.txt of the program's crate and of those below it, by name."""
+    """The lines of crates.txt of the program's crate and of those below it, by name: none where that crate isn't there."""
     with open(f"{top}/crates.txt", encoding="utf-8") as file:
         lines = [line for line in file.read().splitlines() if line.partition("#")[0].strip()]
     every = {line.partition(":")[0].split()[0]: line for line in lines}

@@ -1,4 +1,4 @@
-"""Runs the program with the words as given, built first where it isn't up to date: start.py RT WORD.., RT being rt's path."""
+"""Runs a program with the words as given, built first where none is up to date: start.py RT WORD.., RT being rt's path."""
 import os
 import signal
 import sys
@@ -12,11 +12,11 @@ import made  # noqa: E402
 
 def main(rt, words):
     kit = made.kit_of(rt)
-    program = made.WHOLE
-    if not made.is_current(program, kit):
+    program = made.ready_for(words, kit)
+    if not program:
         import build
 
-        build.build(program, rt, kit)
+        program = build.build(words, rt, kit)
     # Python ignores these two, and the program would inherit that.
     for it in (signal.SIGPIPE, signal.SIGXFSZ):
         signal.signal(it, signal.SIG_DFL)
