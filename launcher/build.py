@@ -1,4 +1,4 @@
-"""Proves and builds the program: `rt ci` over a scratch copy of the crates below it, without their wrong bodies.
+"""Proves and builds a program: `rt ci` over a scratch copy of the crates below it, without their wrong bodies.
 
 `rt ci` proves crates side by side, as many as there are processors and memory for them, those with the longest chain above
 them first. Where the kit keeps what passed, by the sum of all that it read, a start after an interrupted one goes on from
@@ -9,6 +9,7 @@ import contextlib
 import fcntl
 import importlib.machinery
 import importlib.util
+import io
 import os
 import re
 import select
@@ -33,8 +34,8 @@ class Interrupted(BaseException):
     """A signal asked this start to end."""
 
 
-def build(rt, kit):
-    """Builds the program where it isn't up to date."""
+def build(words, rt, kit):
+    """Returns the program that answers these words, built where none that does is up to date."""
     was = {it: signal.getsignal(it) for it in ENDS}
     for it in ENDS:
         if was[it] is not signal.SIG_IGN:
@@ -43,8 +44,12 @@ def build(rt, kit):
         os.makedirs(made.ROOM, exist_ok=True)
         with open(f"{made.ROOM}/lock", "w") as lock:
             hold(lock)
-            if not made.is_current(kit):
-                build_anew(rt, kit)
+            # (another start may have built one meanwhile)
+            program = made.ready_for(words, kit)
+            if not program:
+                *_, program = made.programs_for(words)
+                build_anew(program, rt, kit)
+            return program
     except Interrupted as ended:
         print("causal: interrupted; the next start goes on with what the toolchain has kept", file=sys.stderr)
         signal.signal(ended.args[0], signal.SIG_DFL)
@@ -67,20 +72,22 @@ def hold(lock):
         fcntl.flock(lock, fcntl.LOCK_EX)
 
 
-def build_anew(rt, kit):
+def build_anew(program, rt, kit):
     sweep()
     scratch = tempfile.mkdtemp(prefix=f"causal-build-{os.getpid()}-")
     try:
-        crates = copy_sources(scratch)
+        crates = copy_sources(program, scratch)
         # (of the copy, which nothing edits meanwhile)
-        stamp, read = stamp_of(scratch, kit), made.sum_of_sources(scratch, kit)
-        prove(rt, scratch, Progress(crates, scratch))
-        shutil.copyfile(f"{scratch}/crates/causal/out/causal", f"{made.PROGRAM}.new")
-        os.chmod(f"{made.PROGRAM}.new", 0o755)
-        os.replace(f"{made.PROGRAM}.new", made.PROGRAM)
-        made.write_record(stamp, read, made.sum_of(made.PROGRAM))
+        stamp, read = stamp_of(program, scratch, kit), made.sum_of_sources(program, scratch, kit)
+        prove(rt, scratch, Progress(program, crates, scratch))
+        shutil.copyfile(f"{scratch}/crates/{program.crate}/out/{program.crate}", f"{program.path}.new")
+        os.chmod(f"{program.path}.new", 0o755)
+        os.replace(f"{program.path}.new", program.path)
+        made.write_record(program, stamp, read, made.sum_of(program.path))
     finally:
         remove(scratch)
+    if program.commands:
+        print("causal: the other commands are proved when one of them is first asked", file=sys.stderr, flush=True)
 
 
 def remove(folder):
@@ -98,9 +105,9 @@ def sweep():
             remove(f"{at}/{name}")
 
 
-def copy_sources(scratch):
+def copy_sources(program, scratch):
     """Copies what the program stands on, and returns the names of the crates."""
-    lines = made.lines_below(made.TOP)
+    lines = made.lines_below(program, made.TOP)
     # (rt looks for the top of a repository)
     os.mkdir(f"{scratch}/.git")
     with open(f"{scratch}/crates.txt", "w", encoding="utf-8") as file:
@@ -117,8 +124,8 @@ def copy_sources(scratch):
     return [*lines]
 
 
-def stamp_of(top, kit):
-    """The toolchain's own stamp of the crate `causal`, by which `rt run` tells whether anything has changed.
+def stamp_of(program, top, kit):
+    """The toolchain's own stamp of the program's crate, by which `rt run` tells whether anything has changed.
 
     This alone uses code of the kit: bin/rtlib.py, there Crate(FOLDER, ROOT, KNOWN) and its stamp(). A stamp asks for those of
     the libraries below once for each way that leads to them, so each is kept.
@@ -135,11 +142,13 @@ def stamp_of(top, kit):
         return known[crate.folder]
 
     rtlib.Crate.stamp = stamp_once
+    why = io.StringIO()
     try:
-        return rtlib.Crate(f"{top}/crates/causal", top, {}).stamp()
+        with contextlib.redirect_stderr(why):
+            return rtlib.Crate(f"{top}/crates/{program.crate}", top, {}).stamp()
     except SystemExit:
-        # (it has said why)
-        raise Failed("the toolchain refuses the sources") from None
+        said = why.getvalue().strip().replace(top, made.TOP)
+        raise Failed(f"the toolchain refuses the sources: {said}") from None
 
 
 def prove(rt, scratch, progress):
@@ -190,11 +199,12 @@ def end(run):
 class Progress:
     """What is said on standard error: on a terminal one line, renewed in place; else a line for each crate that is done."""
 
-    def __init__(self, crates, scratch):
-        self.crates, self.scratch, self.done, self.refused = crates, scratch, [], None
+    def __init__(self, program, crates, scratch):
+        self.program, self.crates, self.scratch, self.done, self.refused = program, crates, scratch, [], None
         self.began, self.is_terminal = time.monotonic(), sys.stderr.isatty()
         if not self.is_terminal:
-            self.say(f"causal: building the program: {len(crates)} crates to prove")
+            what = f"the commands {', '.join(program.commands)}" if program.commands else "the program"
+            self.say(f"causal: building {what}: {len(crates)} crates to prove")
 
     def hear(self, line):
         """Takes a line of rt: the crates' names stand before these words of it."""
@@ -221,7 +231,9 @@ class Progress:
     def in_work(self):
         """The crates whose proof has begun: rt makes a library's folder first."""
         left = [it for it in self.crates if it not in self.done]
-        return left if left == ["causal"] else [it for it in left if os.path.isdir(f"{self.scratch}/crates/{it}/out/rlib")]
+        if left == [self.program.crate]:
+            return left
+        return [it for it in left if os.path.isdir(f"{self.scratch}/crates/{it}/out/rlib")]
 
     def time(self):
         minutes, seconds = divmod(int(time.monotonic() - self.began), 60)

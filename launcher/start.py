@@ -1,4 +1,4 @@
-"""Runs the program with the words as given, built first where it isn't up to date: start.py RT WORD.., RT being rt's path."""
+"""Runs a program with the words as given, built first where none is up to date: start.py RT WORD.., RT being rt's path."""
 import os
 import signal
 import sys
@@ -12,14 +12,15 @@ import made  # noqa: E402
 
 def main(rt, words):
     kit = made.kit_of(rt)
-    if not made.is_current(kit):
+    program = made.ready_for(words, kit)
+    if not program:
         import build
 
-        build.build(rt, kit)
+        program = build.build(words, rt, kit)
     # Python ignores these two, and the program would inherit that.
     for it in (signal.SIGPIPE, signal.SIGXFSZ):
         signal.signal(it, signal.SIG_DFL)
-    os.execv(made.PROGRAM, ["causal", *words])
+    os.execv(program.path, ["causal", *words])
 
 
 if __name__ == "__main__":
