@@ -7,13 +7,13 @@ ghost use Rattle.word_values.specs.Gives.{HoldsCall};
 ghost use Rattle.word_values.specs.Readable.{IsReadable};
 ghost use Rattle.command_run.specs.Lines.{words_line};
 ghost use Rattle.command_run.specs.Commands.{command_of, file_of, IsRequest, AsksNothing};
-ghost use Rattle.command_run.specs.Answers.{GivesOn};
+ghost use Rattle.command_run.specs.Answers.{GivesOnWords, GivesOn};
 ghost use Rattle.causal_cli.specs.Commands.{commands, table, row_for, request_of, left_of};
 
 use crate::commands::{Command, command_named, rows};
 use crate::second::SecondInput;
 use adjust_command::adjust_reply;
-use command_run::AfterFile;
+use command_run::{AfterFile, AfterWords};
 use dag_reader::ReadGraph;
 use equivalent_command::accept_first;
 use evaluate_command::identify_first;
@@ -80,26 +80,19 @@ impl<'a> command_run::Request<'a> for Request<'a> {
         read_values(alloc, it, values)
     }
 
-    fn file(&self) -> Option<&'a str> {
+    fn after_words(&self, alloc: Global) -> Result<AfterWords<'a>, AllocError> {
         match self {
-            Request::Graph(request) => Some(request.file),
-            Request::Separate(request) => Some(request.file),
-            Request::Rule(request) => Some(request.file),
-            Request::Identify(request) => Some(request.file),
-            Request::Check(request) => Some(request.file),
-            Request::Adjust(request) => Some(request.file),
-            Request::Evaluate(request) => Some(request.file),
-            Request::Equivalent(request) => Some(request.file),
-            Request::Implications(request) => Some(request.file),
-            Request::Survey(_) => None,
-            Request::Surrogate(request) => Some(request.file),
-        }
-    }
-
-    fn words_reply(&self, alloc: Global) -> Result<Reply, AllocError> {
-        match self {
-            Request::Survey(asked) => survey_reply(alloc, asked.seed),
-            _ => unreachable!(),
+            Request::Graph(asked) => Ok(AfterWords::Reads(asked.file)),
+            Request::Separate(asked) => Ok(AfterWords::Reads(asked.file)),
+            Request::Rule(asked) => Ok(AfterWords::Reads(asked.file)),
+            Request::Identify(asked) => Ok(AfterWords::Reads(asked.file)),
+            Request::Check(asked) => Ok(AfterWords::Reads(asked.file)),
+            Request::Adjust(asked) => Ok(AfterWords::Reads(asked.file)),
+            Request::Evaluate(asked) => Ok(AfterWords::Reads(asked.file)),
+            Request::Equivalent(asked) => Ok(AfterWords::Reads(asked.file)),
+            Request::Implications(asked) => Ok(AfterWords::Reads(asked.file)),
+            Request::Surrogate(asked) => Ok(AfterWords::Reads(asked.file)),
+            Request::Survey(asked) => survey(alloc, asked),
         }
     }
 
@@ -188,6 +181,19 @@ fn reply_on<'a>(
         Request::Implications(asked) => list_implications(alloc, &graph, asked),
         Request::Survey(_) => unreachable!(),
         Request::Surrogate(asked) => Ok(AfterFile::Replied(surrogate_reply(alloc, &graph, asked)?)),
+    }
+}
+
+/// What a survey gives.
+fn survey<'a>(
+    alloc: Global,
+    asked: &survey_command::Request,
+) -> Result<AfterWords<'a>, AllocError>
+    ensures { IfOk result (GivesOnWords commands (request_of (Request.Survey asked.now))) }
+{
+    match survey_reply(alloc, asked.seed) {
+        Ok(reply) => Ok(AfterWords::Replied(reply)),
+        Err(refused) => Err(refused),
     }
 }
 

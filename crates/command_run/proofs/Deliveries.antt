@@ -55,11 +55,9 @@ module _ (s : CommandSet) (laws : AreLawful s) where
   pub no_room : (r : Run) (reply : Reply) → reply.outcome ≡ Memory → RepliesWith s r reply
   no_room r reply is = subst (λ o. Replied s r o reply.text.items) (sym is) tt
 
-  -- the reply on the words alone, or that memory was refused for it
-  pub replied_words : {E : Type 0} (r : Run) (w : Request s) (made : Result Reply E) (reply : Reply) → Asks s r.words w → IfOk made (λ x. WordsAnswer s w x.outcome x.text.items) → IsMade made reply → RepliesWith s r reply
-  replied_words r w (Ok made) reply asks a is =
-      subst (RepliesWith s r) (sym is) (an_answer r made.outcome made.text.items (words_answered s laws w made.outcome made.text.items a) (by_words (record { request = w; asks = asks; answer = a })))
-  replied_words r w (Err e) reply asks a is = no_room r reply is
+  -- the reply on the words alone
+  pub replied_words : (r : Run) (w : Request s) (reply : Reply) → Asks s r.words w → WordsAnswer s w reply.outcome reply.text.items → RepliesWith s r reply
+  replied_words r w reply asks a = an_answer r reply.outcome reply.text.items (words_answered s laws w reply.outcome reply.text.items a) (by_words (record { request = w; asks = asks; answer = a }))
 
   -- the reply on the file alone
   pub replied_file : (r : Run) (w : Request s) (file : Text) (bytes : List ℕ) (reply : Reply) → Asks s r.words w → file_of s w ≡ Some file → r.lacks file ≡ false →

@@ -1,5 +1,5 @@
 -- The defined answer of a command: by its words alone, on the bytes of its file, or on those of both inputs; and what the code's values say of it.
-use Rattle.std.specs.Prelude.{ℕ, ◌≡◌, ◌<◌, ◌≤◌, ◌⊎◌, List, length, Err}
+use Rattle.std.specs.Prelude.{ℕ, ◌≡◌, ◌<◌, ◌≤◌, ◌⊎◌, List, length, Some, Err}
 use Rattle.dag_reader.specs.declared.graph.ReadGraph.{ReadGraph}
 use Rattle.dag_reader.specs.declared.faults.GraphFault.{GraphFault}
 use Rattle.dag_reader.specs.declared.faults.GraphFault.TheVariants.{NoMemory}
@@ -13,8 +13,10 @@ use Rattle.replies.specs.Observed.{HoldsGraph}
 use Rattle.replies.specs.Outcomes.{IsAnswered}
 use Rattle.replies.specs.Command.{Remainder}
 use Rattle.replies.specs.Command as forms
-use Rattle.command_run.specs.Commands.{CommandSet, Request, of}
+use Rattle.command_run.specs.Commands.{CommandSet, Request, of, file_of}
 use Rattle.command_run.specs.Lines.{size_line}
+use Rattle.command_run.specs.declared.request.AfterWords.{AfterWords}
+use Rattle.command_run.specs.declared.request.AfterWords.TheVariants as words
 use Rattle.command_run.specs.declared.request.AfterFile.{AfterFile}
 use Rattle.command_run.specs.declared.request.AfterFile.TheVariants as first
 
@@ -58,6 +60,11 @@ Continues s w bytes = (g : ReadGraph) × HoldsGraph bytes g × NeedsSecond s w g
 -- the defined answer on the bytes of both inputs
 abbrev pub DefinedWith : (s : CommandSet) → Request s → (bytes other : List ℕ) → Outcome → List ℕ → Type 0
 DefinedWith s w bytes other o text = (g : ReadGraph) × HoldsGraph bytes g × NeedsSecond s w g × SecondAnswer s w g other o text
+
+-- what the words alone give: the answer, or the name of the file that is read
+abbrev pub GivesOnWords : (s : CommandSet) → Request s → AfterWords → Type 0
+GivesOnWords s w (words.Replied reply) = WordsAnswer s w reply.outcome reply.text.items
+GivesOnWords s w (words.Reads file) = file_of s w ≡ Some file.now
 
 -- ---- what is left to answer once the file was accepted
 

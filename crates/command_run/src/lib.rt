@@ -12,7 +12,7 @@ mod words;
 
 pub use lines::line_of;
 pub use replying::or_memory;
-pub use request::{AfterFile, Request, SecondInput};
+pub use request::{AfterFile, AfterWords, Request, SecondInput};
 pub use sure::run_surely;
 pub use top::{Status, run};
 pub use words::read_request;

@@ -9,7 +9,7 @@ ghost use Rattle.replies.specs.Command.{Remainder};
 ghost use Rattle.command_run.specs.Commands.{CommandSet, table, command_of, file_of, IsRequest, AsksNothing};
 ghost use Rattle.command_run.specs.Commands as asked;
 ghost use Rattle.command_run.specs.Lines.{words_line};
-ghost use Rattle.command_run.specs.Answers.{WordsAnswer, GivesOn, GivesSecond};
+ghost use Rattle.command_run.specs.Answers.{GivesOnWords, GivesOn, GivesSecond};
 
 use dag_reader::ReadGraph;
 use replies::Reply;
@@ -17,6 +17,15 @@ use request_values::RequestFault;
 use std::alloc::{AllocError, Global};
 use word_forms::Entry;
 use word_values::Values;
+
+/// What the words alone give.
+#[derive(Drop)]
+pub enum AfterWords<'a> {
+    /// The defined answer.
+    Replied(Reply),
+    /// The file of this name is read.
+    Reads(&'a str),
+}
 
 /// What the file alone gives.
 #[derive(Drop)]
@@ -88,14 +97,9 @@ pub trait Request<'a>: Sized + Drop {
         ensures ok { (uses : List Use) → HoldsCall (commands.row_for (command it)) uses values.now → IfOk result (λ r. IsRequest commands uses (request r)) }
         ensures none { (uses : List Use) → HoldsCall (commands.row_for (command it)) uses values.now → IsErrOf result RequestFault.NotUnderstood → AsksNothing commands (command it) uses };
 
-    /// The file, where there is one.
-    fn file(&self) -> Option<&'a str>
-        ensures { option_map (λ name. name.now) result ≡ file_of commands (request self.now) };
-
-    /// The reply of a command without an input.
-    fn words_reply(&self, alloc: Global) -> Result<Reply, AllocError>
-        requires { file_of commands (request self.now) ≡ None }
-        ensures { IfOk result (λ reply. WordsAnswer commands (request self.now) reply.outcome reply.text.items) };
+    /// What the words alone give.
+    fn after_words(&self, alloc: Global) -> Result<AfterWords<'a>, AllocError>
+        ensures { IfOk result (GivesOnWords commands (request self.now)) };
 
     /// What a command gives on the graph of its file.
     fn graph_reply(

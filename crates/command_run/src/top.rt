@@ -11,7 +11,7 @@ ghost use Rattle.command_run.specs.Ends.{RepliesWith, EndsWith, IsReadOf, Stays,
 
 use crate::lines::line_of;
 use crate::replying::{or_memory, reply_on_file, reply_on_second};
-use crate::request::{AfterFile, Request, SecondInput};
+use crate::request::{AfterFile, AfterWords, Request, SecondInput};
 use crate::words::read_request;
 use causal_io::{ReadError, Shelf, Sink, read_all, write_all};
 use replies::{Outcome, Reply};
@@ -112,9 +112,10 @@ fn answer<'a, R: Request<'a>, S: Shelf>(alloc: Global, request: R, shelf: &mut S
         → ReadsAsAsked R.commands (run_on words (S.held shelf.old) (S.lacks shelf.old) (S.faults shelf.old) (S.faults shelf.new) out) (reads_of (S.reads shelf.old) (S.reads shelf.new) (S.given shelf.old) (S.given shelf.new)) }
     ensures stays { Stays (S.held shelf.old) (S.held shelf.new) (S.lacks shelf.old) (S.lacks shelf.new) }
 {
-    match request.file() {
-        Some(file) => answer_on_file::<R, S>(alloc, file, request, shelf),
-        None => or_memory(alloc, request.words_reply(alloc)),
+    match request.after_words(alloc) {
+        Ok(AfterWords::Reads(file)) => answer_on_file::<R, S>(alloc, file, request, shelf),
+        Ok(AfterWords::Replied(reply)) => reply,
+        Err(_) => Reply::bare(alloc, Outcome::Memory),
     }
 }
 

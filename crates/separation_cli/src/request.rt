@@ -12,7 +12,7 @@ ghost use Rattle.separation_cli.specs.Commands.{commands, table, row_for, reques
 
 use crate::commands::{Command, command_named, rows};
 use crate::second::SecondGraph;
-use command_run::AfterFile;
+use command_run::{AfterFile, AfterWords};
 use dag_reader::ReadGraph;
 use equivalent_command::{Acceptance, accept_first};
 use graph_command::graph_reply;
@@ -67,18 +67,13 @@ impl<'a> command_run::Request<'a> for Request<'a> {
         read_values(alloc, it, values)
     }
 
-    fn file(&self) -> Option<&'a str> {
+    fn after_words(&self, _alloc: Global) -> Result<AfterWords<'a>, AllocError> {
         match self {
-            Request::Graph(request) => Some(request.file),
-            Request::Separate(request) => Some(request.file),
-            Request::Rule(request) => Some(request.file),
-            Request::Equivalent(request) => Some(request.file),
+            Request::Graph(asked) => Ok(AfterWords::Reads(asked.file)),
+            Request::Separate(asked) => Ok(AfterWords::Reads(asked.file)),
+            Request::Rule(asked) => Ok(AfterWords::Reads(asked.file)),
+            Request::Equivalent(asked) => Ok(AfterWords::Reads(asked.file)),
         }
-    }
-
-    fn words_reply(&self, _alloc: Global) -> Result<Reply, AllocError> {
-        // (each command has a file)
-        unreachable!()
     }
 
     fn graph_reply(
