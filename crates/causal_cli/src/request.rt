@@ -185,10 +185,7 @@ fn reply_on<'a>(
 }
 
 /// What a survey gives.
-fn survey<'a>(
-    alloc: Global,
-    asked: &survey_command::Request,
-) -> Result<AfterWords<'a>, AllocError>
+fn survey<'a>(alloc: Global, asked: &survey_command::Request) -> Result<AfterWords<'a>, AllocError>
     ensures { IfOk result (GivesOnWords commands (request_of (Request.Survey asked.now))) }
 {
     match survey_reply(alloc, asked.seed) {
