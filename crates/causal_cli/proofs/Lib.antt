@@ -3,4 +3,5 @@ mod CheckedRuns
 mod DrawnCounts
 mod DrawnRuns
 mod Headlines
+mod Part
 mod Readable
