@@ -1,5 +1,6 @@
-ghost use Rattle.std.specs.Prelude.{◌≡◌, IfOk, IfErr, option_map};
-ghost use Rattle.replies.specs.Observed.{observed_names};
+ghost use Rattle.std.specs.Prelude.{◌≡◌, IfOk, IfErr, length, option_map};
+ghost use Rattle.mixed_graph.specs.Shown.{graph_of};
+ghost use Rattle.replies.specs.Observed.{observed_names, IsObservedGraph};
 ghost use Rattle.equivalent_command.specs.Requests.{query_of};
 ghost use Rattle.equivalent_command.specs.Queries.{AreAsked, IsListsFault};
 ghost use Rattle.equivalent_command.specs.Firsts.{IsAcceptance};
@@ -7,7 +8,7 @@ ghost use Rattle.equivalent_command.specs.Firsts.{IsAcceptance};
 use crate::faults::bidirected_fault;
 use crate::request::Query;
 use dag_reader::ReadGraph;
-use latent_projection::observed;
+use latent_projection::{Observed, observed};
 use mixed_graph::Names;
 use replies::{Reply, refuse};
 use std::alloc::{AllocError, Global};
@@ -58,11 +59,26 @@ pub fn accept_first(
     ensures { IfOk result (IsAcceptance graph.now (option_map query_of query)) }
 {
     let seen = observed(alloc, &graph.names, &graph.graph, graph.latent)?;
+    accept_observed(alloc, graph, &seen, query)
+}
+
+/// The same, where the observed graph is at hand.
+fn accept_observed(
+    alloc: Global,
+    graph: &ReadGraph,
+    seen: &Observed,
+    query: Option<Query>,
+) -> Result<Acceptance, AllocError>
+    requires names { seen.now.names ≡ observed_names graph.now }
+    requires graph { IsObservedGraph graph.now (graph_of seen.now.graph) }
+    requires named { length seen.now.names ≡ seen.now.graph.n }
+    ensures { IfOk result (IsAcceptance graph.now (option_map query_of query)) }
+{
     let sets = match find_asked(alloc, graph, &seen.names, query) {
         Ok(sets) => sets,
         Err(fault) => return Ok(Acceptance::Refused(refuse(alloc, &fault)?)),
     };
-    match bidirected_fault(alloc, &seen)? {
+    match bidirected_fault(alloc, seen)? {
         Some(fault) => Ok(Acceptance::Refused(refuse(alloc, &fault)?)),
         None => Ok(Acceptance::Accepted(sets)),
     }

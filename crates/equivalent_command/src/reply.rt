@@ -1,6 +1,6 @@
 ghost use Rattle.std.specs.Prelude.{◌≡◌, ◌≤◌, ◌<◌, ℕ, List, Option, IfOk, IfSome, IfNone, length};
 ghost use Rattle.dag_reader.specs.declared.graph.ReadGraph.{ReadGraph as FirstGraph};
-ghost use Rattle.replies.specs.Observed.{observed_names};
+ghost use Rattle.replies.specs.Observed.{observed_names, IsObservedGraph};
 ghost use Rattle.targets.specs.declared.query.Sets.{Sets as AskedSets};
 ghost use Rattle.equivalent_command.specs.Requests.{Query as AskedQuery};
 ghost use Rattle.equivalent_command.specs.Queries.{AreBelow};
@@ -64,12 +64,29 @@ fn reply_to(
 {
     let first = observed(alloc, &graph.names, &graph.graph, graph.latent)?;
     let second = observed(alloc, &other.names, &other.graph, other.latent)?;
-    match second_fault(alloc, &first.names, &second)? {
+    observed_reply(alloc, &first, &second, sets)
+}
+
+/// The same, where the observed graphs are at hand.
+fn observed_reply(
+    alloc: Global,
+    first: &Observed,
+    second: &Observed,
+    sets: Option<Sets>,
+) -> Result<Reply, AllocError>
+    requires first_named { length first.now.names ≡ first.now.graph.n }
+    requires second_named { length second.now.names ≡ second.now.graph.n }
+    requires arrows { HasArrowsAlone (graph_of first.now.graph) }
+    requires below { IfSome sets (AreBelow (length first.now.names)) }
+    ensures { (g h : FirstGraph) → first.now.names ≡ observed_names g → second.now.names ≡ observed_names h → IsObservedGraph g (graph_of first.now.graph) → IsObservedGraph h (graph_of second.now.graph)
+        → IfOk result (λ r. GraphsAnswer g sets h r.outcome r.text.items) }
+{
+    match second_fault(alloc, &first.names, second)? {
         Some(fault) => Ok(Reply {
             outcome: Outcome::Second,
             text: fault.second_line(alloc)?,
         }),
-        None => compared_reply(alloc, &first, &second, sets),
+        None => compared_reply(alloc, first, second, sets),
     }
 }
 
