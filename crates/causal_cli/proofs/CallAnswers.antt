@@ -12,7 +12,7 @@ use Rattle.command_run.proofs.Deliveries.{mapped}
 use Rattle.command_run.proofs.OneRequest.{words_ask_once}
 use Rattle.causal_cli.specs.Commands.{commands, form_of, table, row_for}
 use Rattle.causal_cli.specs.Headline.{WrittenFor}
-use Rattle.causal_cli.specs.Lawful.{lawful}
+use Rattle.causal_cli.proofs.Lawful.{lawful}
 use Rattle.causal_cli.specs.declared.commands.Command.{Command}
 
 -- the answer to the request of a command that these uses ask for: by the words alone, on the bytes of its file, or on those of both inputs

@@ -1,3 +1,4 @@
+mod Lawful
 mod CallAnswers
 mod CheckedRuns
 mod DrawnCounts

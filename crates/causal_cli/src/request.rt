@@ -5,9 +5,11 @@ ghost use Rattle.word_forms.specs.Form.{Use, row_named};
 ghost use Rattle.word_forms.specs.Views.{row_of};
 ghost use Rattle.word_values.specs.Gives.{HoldsCall};
 ghost use Rattle.word_values.specs.Readable.{IsReadable};
+ghost use Rattle.dag_reader.specs.declared.graph.ReadGraph.{ReadGraph as Read};
 ghost use Rattle.command_run.specs.Lines.{words_line};
+ghost use Rattle.command_run.specs.Commands as asked;
 ghost use Rattle.command_run.specs.Commands.{command_of, file_of, IsRequest, AsksNothing};
-ghost use Rattle.command_run.specs.Answers.{GivesOnWords, GivesOn};
+ghost use Rattle.command_run.specs.Answers.{GraphAnswer, GivesOnWords, GivesOn};
 ghost use Rattle.causal_cli.specs.Commands.{commands, table, row_for, request_of, left_of};
 
 use crate::commands::{Command, command_named, rows};
@@ -146,15 +148,15 @@ fn reply_on<'a>(
     ensures { IfOk result (GivesOn left_of commands (request_of request.entry) graph) }
 {
     match request {
-        Request::Graph(asked) => Ok(AfterFile::Replied(graph_reply(alloc, &graph, asked.project)?)),
-        Request::Separate(asked) => Ok(AfterFile::Replied(separate_reply(
+        Request::Graph(asked) => replied(graph_reply(alloc, &graph, asked.project)),
+        Request::Separate(asked) => replied(separate_reply(
             alloc,
             &graph,
             asked.x,
             asked.y,
             asked.given,
-        )?)),
-        Request::Rule(asked) => Ok(AfterFile::Replied(rule_reply(
+        )),
+        Request::Rule(asked) => replied(rule_reply(
             alloc,
             &graph,
             asked.rule,
@@ -162,25 +164,25 @@ fn reply_on<'a>(
             &asked.done,
             &asked.z,
             &asked.given,
-        )?)),
-        Request::Identify(asked) => Ok(AfterFile::Replied(identify_reply(
+        )),
+        Request::Identify(asked) => replied(identify_reply(
             alloc,
             &graph,
             asked.x,
             asked.y,
             asked.given,
             asked.form,
-        )?)),
+        )),
         Request::Check(asked) => Ok(AfterFile::Continues(SecondInput::Check {
             graph,
             certificate: asked.certificate,
         })),
-        Request::Adjust(asked) => Ok(AfterFile::Replied(adjust_reply(alloc, &graph, asked)?)),
+        Request::Adjust(asked) => replied(adjust_reply(alloc, &graph, asked)),
         Request::Evaluate(asked) => evaluate_over(alloc, &graph, asked),
         Request::Equivalent(asked) => compare_with(alloc, graph, asked),
         Request::Implications(asked) => list_implications(alloc, &graph, asked),
         Request::Survey(_) => unreachable!(),
-        Request::Surrogate(asked) => Ok(AfterFile::Replied(surrogate_reply(alloc, &graph, asked)?)),
+        Request::Surrogate(asked) => replied(surrogate_reply(alloc, &graph, asked)),
     }
 }
 
@@ -215,6 +217,16 @@ fn evaluate_over<'a>(
     }
 }
 
+/// A reply on the file alone.
+fn replied<'a>(made: Result<Reply, AllocError>) -> Result<AfterFile<SecondInput<'a>>, AllocError>
+    ensures { (w : asked.Request commands) (g : Read) → IfOk made (λ reply. GraphAnswer commands w g reply.outcome reply.text.items) → IfOk result (GivesOn left_of commands w g) }
+{
+    match made {
+        Ok(reply) => Ok(AfterFile::Replied(reply)),
+        Err(refused) => Err(refused),
+    }
+}
+
 /// What a comparison gives on its first graph.
 fn compare_with<'a>(
     alloc: Global,
@@ -244,7 +256,7 @@ fn list_implications<'a>(
     ensures { IfOk result (GivesOn left_of commands (request_of (Request.Implications asked.entry)) graph.now) }
 {
     let Some(counts) = asked.counts else {
-        return Ok(AfterFile::Replied(pairs_reply(alloc, graph)?));
+        return replied(pairs_reply(alloc, graph));
     };
     match counted_pairs(alloc, graph)? {
         implications_command::PairsOrReply::Replied(reply) => Ok(AfterFile::Replied(reply)),

@@ -1,5 +1,5 @@
 //! The commands that ask about separation alone: `graph`, `separate`, `rule` and `equivalent`, run over named inputs and two outputs.
-//! They stand on a third of the crates of all commands, so a program of them is there much sooner.
+//! They stand on far fewer crates than all commands, so a program of them is there much sooner.
 #![tactic(auto)]
 
 mod commands;

@@ -5,9 +5,11 @@ ghost use Rattle.word_forms.specs.Form.{Use, row_named};
 ghost use Rattle.word_forms.specs.Views.{row_of};
 ghost use Rattle.word_values.specs.Gives.{HoldsCall};
 ghost use Rattle.word_values.specs.Readable.{IsReadable};
+ghost use Rattle.dag_reader.specs.declared.graph.ReadGraph.{ReadGraph as Read};
 ghost use Rattle.command_run.specs.Lines.{words_line};
+ghost use Rattle.command_run.specs.Commands as asked;
 ghost use Rattle.command_run.specs.Commands.{command_of, IsRequest, AsksNothing};
-ghost use Rattle.command_run.specs.Answers.{GivesOn};
+ghost use Rattle.command_run.specs.Answers.{GraphAnswer, GivesOn};
 ghost use Rattle.separation_cli.specs.Commands.{commands, table, row_for, request_of, left_of};
 
 use crate::commands::{Command, command_named, rows};
@@ -114,15 +116,15 @@ fn reply_on<'a>(
     ensures { IfOk result (GivesOn left_of commands (request_of request.entry) graph) }
 {
     match request {
-        Request::Graph(asked) => Ok(AfterFile::Replied(graph_reply(alloc, &graph, asked.project)?)),
-        Request::Separate(asked) => Ok(AfterFile::Replied(separate_reply(
+        Request::Graph(asked) => replied(graph_reply(alloc, &graph, asked.project)),
+        Request::Separate(asked) => replied(separate_reply(
             alloc,
             &graph,
             asked.x,
             asked.y,
             asked.given,
-        )?)),
-        Request::Rule(asked) => Ok(AfterFile::Replied(rule_reply(
+        )),
+        Request::Rule(asked) => replied(rule_reply(
             alloc,
             &graph,
             asked.rule,
@@ -130,8 +132,18 @@ fn reply_on<'a>(
             &asked.done,
             &asked.z,
             &asked.given,
-        )?)),
+        )),
         Request::Equivalent(asked) => compare_with(alloc, graph, asked),
+    }
+}
+
+/// A reply on the file alone.
+fn replied<'a>(made: Result<Reply, AllocError>) -> Result<AfterFile<SecondGraph<'a>>, AllocError>
+    ensures { (w : asked.Request commands) (g : Read) → IfOk made (λ reply. GraphAnswer commands w g reply.outcome reply.text.items) → IfOk result (GivesOn left_of commands w g) }
+{
+    match made {
+        Ok(reply) => Ok(AfterFile::Replied(reply)),
+        Err(refused) => Err(refused),
     }
 }
 

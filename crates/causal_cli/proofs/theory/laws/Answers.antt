@@ -1,7 +1,7 @@
 use Rattle.std.proofs.Common.{refl}
 use Rattle.command_run.proofs.OneRequest.{words_ask_once}
 use Rattle.causal_cli.specs.Commands.{commands}
-use Rattle.causal_cli.specs.Lawful.{lawful}
+use Rattle.causal_cli.proofs.Lawful.{lawful}
 use Rattle.causal_cli.proofs.Part.{answers_of_part}
 use Rattle.causal_cli.proofs.theory.laws.Goals as goal
 

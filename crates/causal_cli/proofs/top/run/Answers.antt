@@ -1,5 +1,5 @@
 use Rattle.std.proofs.Common.{refl}
-use Rattle.causal_cli.specs.Lawful.{lawful}
+use Rattle.causal_cli.proofs.Lawful.{lawful}
 use Rattle.causal_cli.proofs.Headlines.{headline}
 use Rattle.causal_cli.proofs.CheckedRuns.{checked}
 use Rattle.causal_cli.proofs.DrawnRuns.{right_as_drawn_of}

@@ -1,5 +1,5 @@
 use Rattle.std.proofs.Common.{refl}
-use Rattle.separation_cli.specs.Lawful.{lawful}
+use Rattle.separation_cli.proofs.Lawful.{lawful}
 use Rattle.separation_cli.proofs.top.run.Goals as goal
 
 pub run-requires : goal.run-requires
