@@ -6,42 +6,44 @@ use Rattle.replies.specs.declared.outcome.Outcome.{Outcome}
 use Rattle.replies.specs.declared.outcome.Outcome.TheVariants.{Words, Memory}
 use Rattle.replies.specs.declared.outcome.Reply.{Reply}
 use Rattle.replies.specs.Outcomes.{IsAnswered}
-use Rattle.causal_cli.specs.Commands.{Request, Asks}
-use Rattle.causal_cli.specs.Answers.{WordsAnswer, Defined, second_in, GivesSecond, IsLeftOf}
-use Rattle.causal_cli.specs.Ends.{IsMade}
-use Rattle.causal_cli.specs.declared.answer.SecondInput.{SecondInput}
-use Rattle.causal_cli.proofs.Answered.{words_answered, defined_answered, said, named, continues, defined_with, answered_with}
+use Rattle.replies.specs.Command.{Remainder}
+use Rattle.command_run.specs.Commands.{Request, Asks}
+use Rattle.command_run.specs.Answers.{WordsAnswer, Defined, GivesSecond, IsLeftOf}
+use Rattle.command_run.specs.Ends.{IsMade}
+use Rattle.command_run.proofs.Answered.{words_answered, defined_answered, said, named, continues, defined_with, answered_with}
+use Rattle.causal_cli.specs.Commands.{commands}
+use Rattle.causal_cli.specs.Lawful.{lawful}
 use Rattle.kept_call.specs.Replies.{Question, LacksSecond, Answers, by_words, by_diagram, by_both, Replies, RepliesWith, Proceeds, replied, lacked, no_memory}
 
 settled : (q : Question) (o : Outcome) (text : List ℕ) → IsAnswered o → Answers q o text → Replies q o text
-settled q o text is a = said q.words (Answers q) (LacksSecond q) o text is a
+settled q o text is a = said commands q.words (Answers q) (LacksSecond q) o text is a
 
 pub refused_memory : (q : Question) (reply : Reply) → reply.outcome ≡ Memory → RepliesWith q reply
 refused_memory q reply memory = subst (λ o. Replies q o reply.text.items) (sym memory) tt
 
-pub replied_words : {E : Type 0} (q : Question) (w : Request) (made : Result Reply E) (reply : Reply) → Asks q.words w → IfOk made (λ x. WordsAnswer w x.outcome x.text.items) → IsMade made reply → RepliesWith q reply
+pub replied_words : {E : Type 0} (q : Question) (w : Request commands) (made : Result Reply E) (reply : Reply) → Asks commands q.words w → IfOk made (λ x. WordsAnswer commands w x.outcome x.text.items) → IsMade made reply → RepliesWith q reply
 replied_words q w (Ok made) reply asks a is =
-    subst (RepliesWith q) (sym is) (settled q made.outcome made.text.items (words_answered w made.outcome made.text.items a) (by_words (record { request = w; asks = asks; answer = a })))
+    subst (RepliesWith q) (sym is) (settled q made.outcome made.text.items (words_answered commands lawful w made.outcome made.text.items a) (by_words (record { request = w; asks = asks; answer = a })))
 replied_words q w (Err e) reply asks a is = refused_memory q reply is
 
-pub replied_diagram : (q : Question) (w : Request) (reply : Reply) → Asks q.words w → Defined w q.diagram reply.outcome reply.text.items → RepliesWith q reply
+pub replied_diagram : (q : Question) (w : Request commands) (reply : Reply) → Asks commands q.words w → Defined commands w q.diagram reply.outcome reply.text.items → RepliesWith q reply
 replied_diagram q w reply asks a =
-    settled q reply.outcome reply.text.items (defined_answered w q.diagram reply.outcome reply.text.items a) (by_diagram (record { request = w; asks = asks; defined = a }))
+    settled q reply.outcome reply.text.items (defined_answered commands lawful w q.diagram reply.outcome reply.text.items a) (by_diagram (record { request = w; asks = asks; defined = a }))
 
-pub proceeded : (q : Question) (w : Request) (p : SecondInput) (reply : Reply) → Asks q.words w → IsLeftOf w q.diagram p → Proceeds p q.bytes q.inputs reply → RepliesWith q reply
-proceeded q w p reply asks left (replied other held gives) =
-    settled q reply.outcome reply.text.items (answered_with w q.diagram p left other reply.outcome reply.text.items gives)
-    (by_both (record { request = w; asks = asks; second = _; names_second = named w q.diagram p left; other = other; holds_second = held; defined = defined_with w q.diagram p other reply left gives }))
-proceeded q w p reply asks left (lacked read none) =
+pub proceeded : (q : Question) (w : Request commands) (l : Remainder) (reply : Reply) → Asks commands q.words w → IsLeftOf commands w q.diagram l → Proceeds l q.bytes q.inputs reply → RepliesWith q reply
+proceeded q w l reply asks left (replied other held gives) =
+    settled q reply.outcome reply.text.items (answered_with commands lawful w q.diagram l left other reply.outcome reply.text.items gives)
+    (by_both (record { request = w; asks = asks; second = _; names_second = named commands w q.diagram l left; other = other; holds_second = held; defined = defined_with commands w q.diagram l other reply left gives }))
+proceeded q w l reply asks left (lacked read none) =
     subst (λ o. Replies q o reply.text.items) (sym read)
-    (record { request = w; asks = asks; continues = continues w q.diagram p left; second = _; names_second = named w q.diagram p left; lacked = none })
-proceeded q w p reply asks left (no_memory memory) = refused_memory q reply memory
+    (record { request = w; asks = asks; continues = continues commands w q.diagram l left; second = _; names_second = named commands w q.diagram l left; lacked = none })
+proceeded q w l reply asks left (no_memory memory) = refused_memory q reply memory
 
-pub not_understood : (q : Question) (reply : Reply) → reply.outcome ≡ Words → ((w : Request) → Asks q.words w → ⊥) → RepliesWith q reply
+pub not_understood : (q : Question) (reply : Reply) → reply.outcome ≡ Words → ((w : Request commands) → Asks commands q.words w → ⊥) → RepliesWith q reply
 not_understood q reply words none = subst (λ o. Replies q o reply.text.items) (sym words) none
 
 -- the reply that was made on the second input, or that memory was refused for it
-pub given_second : {E : Type 0} (p : SecondInput) (bytes : List ℕ) (inputs : List Input) (other : List ℕ) (made : Result Reply E) (reply : Reply) → content_named bytes inputs (second_in p) ≡ Some other
-    → IfOk made (GivesSecond p other) → IsMade made reply → Proceeds p bytes inputs reply
-given_second p bytes inputs other (Ok made) reply held gives is = subst (Proceeds p bytes inputs) (sym is) (replied other held gives)
-given_second p bytes inputs other (Err e) reply held gives is = no_memory is
+pub given_second : {E : Type 0} (l : Remainder) (bytes : List ℕ) (inputs : List Input) (other : List ℕ) (made : Result Reply E) (reply : Reply) → content_named bytes inputs l.second ≡ Some other
+    → IfOk made (GivesSecond l other) → IsMade made reply → Proceeds l bytes inputs reply
+given_second l bytes inputs other (Ok made) reply held gives is = subst (Proceeds l bytes inputs) (sym is) (replied other held gives)
+given_second l bytes inputs other (Err e) reply held gives is = no_memory is

@@ -1,26 +1,24 @@
 // The reply to words on a diagram that is kept.
 
-ghost use Rattle.std.specs.Prelude.{◌≡◌, List, ℕ, IfOk, OnErr};
+ghost use Rattle.std.specs.Prelude.{◌≡◌, List, ℕ, None, IfOk, OnErr};
 ghost use Rattle.word_forms.specs.Form.{Text};
 ghost use Rattle.word_forms.specs.Views.{texts_of};
 ghost use Rattle.dag_reader.specs.declared.graph.ReadGraph.{ReadGraph as Read};
 ghost use Rattle.replies.specs.Observed.{HoldsGraph};
-ghost use Rattle.causal_cli.specs.Commands.{Asks, on_graph};
-ghost use Rattle.causal_cli.specs.Answers.{GivesSecond, IsOfAcceptedGraph};
+ghost use Rattle.command_run.specs.Commands.{Asks, file_of};
+ghost use Rattle.command_run.specs.Answers.{GivesSecond};
+ghost use Rattle.causal_cli.specs.Commands.{commands, request_of, left_of};
 ghost use Rattle.kept_graph.specs.Kept.{IsKept, Keeps};
 ghost use Rattle.kept_call.specs.Replies.{Proceeds, RepliesWith, answer_of, line_of, question};
 
-use causal_cli::{
-    AfterFile, GraphRequest, Request, SecondInput, answer_on, line_of, long_reply, or_memory,
-    read_request, second_reply,
-};
+use causal_cli::{Request, SecondInput};
+use command_run::{AfterFile, Request as _, SecondInput as _, line_of, or_memory, read_request};
 use dag_reader::ReadGraph;
 use kept_graph::{KeptDiagram, NamesFault};
 use replies::{Outcome, Reply};
 use request_values::RequestFault;
 use spans::{Input, content_named};
 use std::alloc::{AllocError, Global};
-use survey_command::survey_reply;
 
 /// No graph with such names is kept.
 #[derive(Clone, Copy, Debug)]
@@ -55,26 +53,43 @@ fn respond(
 ) -> Reply
     ensures { (diagram : List ℕ) → HoldsGraph diagram graph → RepliesWith (question diagram (texts_of words.now) bytes.now inputs.now) result }
 {
-    match read_request(alloc, words) {
-        Ok(Request::OnGraph(request)) => answer_graph(alloc, request, graph, bytes, inputs),
-        Ok(Request::Survey(request)) => or_memory(alloc, survey_reply(alloc, request.seed)),
+    match read_request::<Request<'_>>(alloc, words) {
+        Ok(request) => answer(alloc, request, graph, bytes, inputs),
         Err(RequestFault::NotUnderstood) => Reply::bare(alloc, Outcome::Words),
         Err(RequestFault::NoMemory) => Reply::bare(alloc, Outcome::Memory),
+    }
+}
+
+/// Answers a request: by its words, or on a graph that was read, which stands for its file.
+fn answer(
+    alloc: Global,
+    request: Request<'_>,
+    graph: ReadGraph,
+    bytes: &[u8],
+    inputs: &[Input],
+) -> Reply
+    ensures { (words : List Text) → Asks commands words (request_of request.entry) → (diagram : List ℕ) → HoldsGraph diagram graph
+        → RepliesWith (question diagram words bytes.now inputs.now) result }
+{
+    match request.file() {
+        Some(_) => answer_graph(alloc, request, graph, bytes, inputs),
+        None => or_memory(alloc, request.words_reply(alloc)),
     }
 }
 
 /// Answers a request on a graph that was read.
 fn answer_graph(
     alloc: Global,
-    request: GraphRequest<'_>,
+    request: Request<'_>,
     graph: ReadGraph,
     bytes: &[u8],
     inputs: &[Input],
 ) -> Reply
-    ensures { (words : List Text) → Asks words (on_graph request.entry) → (diagram : List ℕ) → HoldsGraph diagram graph
+    requires { file_of commands (request_of request) ≡ None → ⊥ }
+    ensures { (words : List Text) → Asks commands words (request_of request.entry) → (diagram : List ℕ) → HoldsGraph diagram graph
         → RepliesWith (question diagram words bytes.now inputs.now) result }
 {
-    match answer_on(alloc, request, graph) {
+    match request.graph_reply(alloc, graph) {
         Ok(AfterFile::Replied(reply)) => reply,
         Ok(AfterFile::Continues(input)) => proceed(alloc, &input, bytes, inputs),
         Err(_) => Reply::bare(alloc, Outcome::Memory),
@@ -83,8 +98,8 @@ fn answer_graph(
 
 /// Finds the second input and answers on it.
 fn proceed(alloc: Global, input: &SecondInput<'_>, bytes: &[u8], inputs: &[Input]) -> Reply
-    requires { IsOfAcceptedGraph input.now }
-    ensures { Proceeds input.now bytes.now inputs.now result }
+    requires { (left_of input.now).known }
+    ensures { Proceeds (left_of input.now) bytes.now inputs.now result }
 {
     let Some(other) = content_named(bytes, inputs, input.second()) else {
         return Reply::bare(alloc, Outcome::Read);
@@ -94,13 +109,13 @@ fn proceed(alloc: Global, input: &SecondInput<'_>, bytes: &[u8], inputs: &[Input
 
 /// The reply on the bytes of the second input.
 fn reply_on(alloc: Global, input: &SecondInput<'_>, other: &[u8]) -> Result<Reply, AllocError>
-    requires { IsOfAcceptedGraph input.now }
-    ensures { IfOk result (GivesSecond input.now other.now) }
+    requires { (left_of input.now).known }
+    ensures { IfOk result (GivesSecond (left_of input.now) other.now) }
 {
     if other.len() as u64 > input.limit() {
-        return long_reply(alloc, input);
+        return input.long_reply(alloc);
     }
-    second_reply(alloc, input, other)
+    input.reply(alloc, other)
 }
 
 /// What is written as an answer.
@@ -121,6 +136,6 @@ pub fn line_in(reply: &Reply) -> &[u8]
     if reply.outcome.code() <= 1 {
         b""
     } else {
-        line_of(reply)
+        line_of::<Request<'_>>(reply)
     }
 }

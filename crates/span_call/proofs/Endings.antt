@@ -9,7 +9,8 @@ use Rattle.span_call.specs.declared.Sizes.{Sizes}
 use Rattle.replies.specs.declared.outcome.Outcome.{Outcome}
 use Rattle.replies.specs.declared.outcome.Outcome.TheVariants.{Read, Write}
 use Rattle.replies.specs.Outcomes.{code_of}
-use Rattle.causal_cli.specs.Run.{Run, Ends, Unread, Unwritten}
+use Rattle.command_run.specs.Run.{Run, Ends, Unread, Unwritten}
+use Rattle.causal_cli.specs.Commands.{commands}
 use Rattle.span_call.specs.Called.{IsRunOf, Called, LacksInput, IsCutShort}
 
 -- where a read failed, no input has the name
@@ -18,11 +19,11 @@ lacked_of : (bytes : List ℕ) (words : List Span) (inputs : List Input) (r : Ru
 lacked_of bytes words inputs r is name rose true p = sym (is.lacks_is name) ∙ p
 lacked_of bytes words inputs r is name rose false p = absurd (omega (arith, rose, is.none_failed name, is.fails_lacked name p))
 
-unread_at : (r : Run) (text : List ℕ) (v : Outcome) → 6 ≡ code_of v → Ends r v text → Unread r
+unread_at : (r : Run) (text : List ℕ) (v : Outcome) → 6 ≡ code_of v → Ends commands r v text → Unread commands r
 unread_at r text Read c h = h.0
 unread_at r text v c h = absurd (omega (arith, c))
 
-unwritten_at : (r : Run) (text : List ℕ) (v : Outcome) → 7 ≡ code_of v → Ends r v text → Unwritten r
+unwritten_at : (r : Run) (text : List ℕ) (v : Outcome) → 7 ≡ code_of v → Ends commands r v text → Unwritten commands r
 unwritten_at r text Write c h = h.0
 unwritten_at r text v c h = absurd (omega (arith, c))
 

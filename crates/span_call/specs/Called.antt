@@ -7,7 +7,8 @@ use Rattle.spans.specs.Parts.{place_named, content_named}
 use Rattle.spans.specs.Words.{texts}
 use Rattle.span_call.specs.declared.Sizes.{Sizes}
 use Rattle.span_call.specs.Rooms.{ShowsText}
-use Rattle.causal_cli.specs.Run.{Stream, Run, Ended, Unread, Unwritten}
+use Rattle.command_run.specs.Run.{Stream, Run, Ended, Unread, Unwritten}
+use Rattle.causal_cli.specs.Commands.{commands}
 use Rattle.causal_cli.specs.Headline.{Headline}
 
 -- the run is one over these words and inputs: its words are the spans' texts, what it holds under a name is the first input of that name,
@@ -32,7 +33,7 @@ pub record Called (bytes : List ℕ) (words : List Span) (inputs : List Input) (
   pub run : Run
   pub line : Stream
   pub is_run : IsRunOf run bytes words inputs
-  pub ended : Ended run line code
+  pub ended : Ended commands run line code
   pub headline : Headline run code
   pub shows_out : Shows run.out out_before out sizes.out
   pub shows_err : Shows line err_before err sizes.err
@@ -41,12 +42,12 @@ pub record Called (bytes : List ℕ) (words : List Span) (inputs : List Input) (
 pub record LacksInput (bytes : List ℕ) (words : List Span) (inputs : List Input) : Type 0 where
   pub run : Run
   pub is_run : IsRunOf run bytes words inputs
-  pub unread : Unread run
+  pub unread : Unread commands run
   pub lacked : is_none (place_named bytes inputs unread.name) ≡ true
 
 -- the output's growth was refused, which it counts: it has a front of an answer, and the room shows that
 pub record IsCutShort (bytes : List ℕ) (words : List Span) (inputs : List Input) (before out : List ℕ) (sizes : Sizes) : Type 0 where
   pub run : Run
   pub is_run : IsRunOf run bytes words inputs
-  pub unwritten : Unwritten run
+  pub unwritten : Unwritten commands run
   pub shows_out : Shows run.out before out sizes.out
