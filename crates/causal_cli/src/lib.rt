@@ -4,6 +4,7 @@
 mod commands;
 mod request;
 mod second;
+mod sure;
 mod theory;
 mod top;
 
@@ -11,6 +12,7 @@ pub use command_run::Status;
 pub use commands::Command;
 pub use request::Request;
 pub use second::SecondInput;
+pub use sure::run_surely;
 pub use survey_graph::survey_graph;
 pub use theory::laws;
 pub use top::run;

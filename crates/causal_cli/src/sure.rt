@@ -1,0 +1,28 @@
+ghost use Rattle.std.specs.Prelude.{◌≡◌, ◌≢◌, false, None};
+ghost use Rattle.word_forms.specs.Views.{texts_of};
+ghost use Rattle.causal_io.specs.SureShelf.{held_surely};
+ghost use Rattle.command_run.specs.Complete.{IsExact};
+ghost use Rattle.command_run.specs.Run.{Ended, run_on, stream_of};
+ghost use Rattle.causal_cli.specs.Commands.{commands};
+
+use crate::request::Request;
+use causal_io::{Sink, SureShelf, SureSink};
+use command_run::Status;
+use std::alloc::Global;
+
+/// `run` over an input and an output that never fail: a failed read or write is never answered, and the status is that of the defined answer, or memory was refused.
+pub fn run_surely<E: Sink>(
+    alloc: Global,
+    words: &[String],
+    shelf: &mut SureShelf,
+    out: &mut SureSink,
+    err: &mut E,
+) -> Status
+    ensures ended { Ended commands (run_on (texts_of words.now) (held_surely shelf.old) (λ _. false) (λ _. 0) (λ _. 0) (stream_of None None 0 0))
+        (stream_of (E.written err.old) (E.written err.new) (E.faults err.old) (E.faults err.new)) result.code }
+    ensures exact { IsExact commands (run_on (texts_of words.now) (held_surely shelf.old) (λ _. false) (λ _. 0) (λ _. 0) (stream_of None None 0 0)) result.code }
+    ensures read { result.code ≢ 6 }
+    ensures write { result.code ≢ 7 }
+{
+    command_run::run_surely::<Request<'_>, E>(alloc, words, shelf, out, err)
+}
