@@ -1,4 +1,4 @@
-mod Lawful
+pub mod Lawful
 mod CallAnswers
 mod CheckedRuns
 mod DrawnCounts

@@ -12,7 +12,7 @@ use Rattle.command_run.specs.Answers.{WordsAnswer, Defined, GivesSecond, IsLeftO
 use Rattle.command_run.specs.Ends.{IsMade}
 use Rattle.command_run.proofs.Answered.{words_answered, defined_answered, said, named, continues, defined_with, answered_with}
 use Rattle.causal_cli.specs.Commands.{commands}
-use Rattle.causal_cli.specs.Lawful.{lawful}
+use Rattle.causal_cli.proofs.Lawful.{lawful}
 use Rattle.kept_call.specs.Replies.{Question, LacksSecond, Answers, by_words, by_diagram, by_both, Replies, RepliesWith, Proceeds, replied, lacked, no_memory}
 
 settled : (q : Question) (o : Outcome) (text : List ℕ) → IsAnswered o → Answers q o text → Replies q o text
@@ -21,10 +21,8 @@ settled q o text is a = said commands q.words (Answers q) (LacksSecond q) o text
 pub refused_memory : (q : Question) (reply : Reply) → reply.outcome ≡ Memory → RepliesWith q reply
 refused_memory q reply memory = subst (λ o. Replies q o reply.text.items) (sym memory) tt
 
-pub replied_words : {E : Type 0} (q : Question) (w : Request commands) (made : Result Reply E) (reply : Reply) → Asks commands q.words w → IfOk made (λ x. WordsAnswer commands w x.outcome x.text.items) → IsMade made reply → RepliesWith q reply
-replied_words q w (Ok made) reply asks a is =
-    subst (RepliesWith q) (sym is) (settled q made.outcome made.text.items (words_answered commands lawful w made.outcome made.text.items a) (by_words (record { request = w; asks = asks; answer = a })))
-replied_words q w (Err e) reply asks a is = refused_memory q reply is
+pub replied_words : (q : Question) (w : Request commands) (reply : Reply) → Asks commands q.words w → WordsAnswer commands w reply.outcome reply.text.items → RepliesWith q reply
+replied_words q w reply asks a = settled q reply.outcome reply.text.items (words_answered commands lawful w reply.outcome reply.text.items a) (by_words (record { request = w; asks = asks; answer = a }))
 
 pub replied_diagram : (q : Question) (w : Request commands) (reply : Reply) → Asks commands q.words w → Defined commands w q.diagram reply.outcome reply.text.items → RepliesWith q reply
 replied_diagram q w reply asks a =

@@ -33,6 +33,7 @@ pub fn ask_kept(
         → Asked diagram arguments.now.bytes.now arguments.now.words.now arguments.now.inputs.now out.old out.new err.old err.new result.sizes result.status }
 
     // 11: no graph with names on these lines is kept.
+    ensures kept { result.status ≤ 7 → (g : ReadGraph) × Keeps kept.now lines.now g }
     ensures not_kept { result.status ≡ 11 → (g : ReadGraph) → Keeps kept.now lines.now g → ⊥ }
     ensures known { result.status ≤ 11 }
 {

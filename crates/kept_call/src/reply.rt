@@ -1,10 +1,11 @@
 // The reply to words on a diagram that is kept.
 
-ghost use Rattle.std.specs.Prelude.{◌≡◌, List, ℕ, None, IfOk, OnErr};
+ghost use Rattle.std.specs.Prelude.{◌≡◌, ◌≤◌, List, ℕ, None, IfOk, OnErr};
 ghost use Rattle.word_forms.specs.Form.{Text};
 ghost use Rattle.word_forms.specs.Views.{texts_of};
 ghost use Rattle.dag_reader.specs.declared.graph.ReadGraph.{ReadGraph as Read};
 ghost use Rattle.replies.specs.Observed.{HoldsGraph};
+ghost use Rattle.replies.specs.Outcomes.{code_of};
 ghost use Rattle.command_run.specs.Commands.{Asks, file_of};
 ghost use Rattle.command_run.specs.Answers.{GivesSecond};
 ghost use Rattle.causal_cli.specs.Commands.{commands, request_of, left_of};
@@ -12,7 +13,9 @@ ghost use Rattle.kept_graph.specs.Kept.{IsKept, Keeps};
 ghost use Rattle.kept_call.specs.Replies.{Proceeds, RepliesWith, answer_of, line_of, question};
 
 use causal_cli::{Request, SecondInput};
-use command_run::{AfterFile, Request as _, SecondInput as _, line_of, or_memory, read_request};
+use command_run::{
+    AfterFile, AfterWords, Request as _, SecondInput as _, line_of, or_memory, read_request,
+};
 use dag_reader::ReadGraph;
 use kept_graph::{KeptDiagram, NamesFault};
 use replies::{Outcome, Reply};
@@ -34,6 +37,7 @@ pub fn reply_kept(
     inputs: &[Input],
 ) -> Result<Reply, NotKept>
     ensures replies { IfOk result (λ r. (diagram : List ℕ) → IsKept diagram kept.now lines.now → RepliesWith (question diagram (texts_of words.now) bytes.now inputs.now) r) }
+    ensures kept { IfOk result (λ r. code_of r.outcome ≤ 7 → (g : Read) × Keeps kept.now lines.now g) }
     ensures not_kept { OnErr result ((g : Read) → Keeps kept.now lines.now g → ⊥) }
 {
     match kept.graph(alloc, lines) {
@@ -71,9 +75,10 @@ fn answer(
     ensures { (words : List Text) → Asks commands words (request_of request.entry) → (diagram : List ℕ) → HoldsGraph diagram graph
         → RepliesWith (question diagram words bytes.now inputs.now) result }
 {
-    match request.file() {
-        Some(_) => answer_graph(alloc, request, graph, bytes, inputs),
-        None => or_memory(alloc, request.words_reply(alloc)),
+    match request.after_words(alloc) {
+        Ok(AfterWords::Reads(_)) => answer_graph(alloc, request, graph, bytes, inputs),
+        Ok(AfterWords::Replied(reply)) => reply,
+        Err(_) => Reply::bare(alloc, Outcome::Memory),
     }
 }
 

@@ -41,3 +41,12 @@ returns-clause-asked c = λ small diagram kept.
       shows_out = subst (λ t. ShowsText t c.args.out.now c.show_both.new.out c.show_both.result.out) c.answer_in.ensures c.show_both.ensures.out;
       shows_err = subst (λ t. ShowsText t c.args.err.now c.show_both.new.err c.show_both.result.err) c.line_in.ensures c.show_both.ensures.err;
     }
+
+pub returns-in-Err-clause-kept : goal.returns-in-Err-clause-kept
+returns-in-Err-clause-kept c = λ small. absurd (omega (arith, small, c.in-Err.ensures.least))
+
+pub returns-in-Err-reply_kept-clause-kept : goal.returns-in-Err-reply_kept-clause-kept
+returns-in-Err-reply_kept-clause-kept c = λ small. absurd (omega (arith, small, c.silent.ensures.status))
+
+pub returns-clause-kept : goal.returns-clause-kept
+returns-clause-kept c = λ small. c.in-Ok-reply_kept.ensures.kept (subst (λ k. k ≤ 7) c.code.ensures small)

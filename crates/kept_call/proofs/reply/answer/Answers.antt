@@ -1,7 +1,11 @@
 use Rattle.causal_cli.specs.Commands.{request_of}
-use Rattle.kept_call.proofs.Replying.{replied_words}
+use Rattle.kept_call.proofs.Replying.{replied_words, refused_memory}
 use Rattle.kept_call.proofs.reply.answer.Goals as goal
 
-pub returns-in-None : goal.returns-in-None
-returns-in-None c = λ words asks diagram holds.
-    replied_words _ (request_of c.args.request) c.words_reply.result c.or_memory.result asks c.words_reply.ensures c.or_memory.ensures
+pub returns-in-Ok-Replied : goal.returns-in-Ok-Replied
+returns-in-Ok-Replied c = λ words asks diagram holds.
+    let gives = rw c.in-Ok-Replied.field-0-is at c.in-Ok-Replied.ensures in
+    replied_words _ (request_of c.args.request) c.in-Ok-Replied.reply asks gives
+
+pub returns-in-Err : goal.returns-in-Err
+returns-in-Err c = λ words asks diagram holds. refused_memory _ c.bare.result c.bare.ensures

@@ -8,3 +8,6 @@ returns-in-Ok-clause-replies c = λ diagram kept.
 
 pub returns-in-Err-NotNames-clause-not_kept : goal.returns-in-Err-NotNames-clause-not_kept
 returns-in-Err-NotNames-clause-not_kept c = c.in-Err-NotNames.ensures.refused (ap (λ f. Err f) c.in-Err-NotNames.field-0-is)
+
+pub returns-in-Ok-clause-kept : goal.returns-in-Ok-clause-kept
+returns-in-Ok-clause-kept c = λ small. (c.in-Ok.graph, c.in-Ok.ensures.keeps)

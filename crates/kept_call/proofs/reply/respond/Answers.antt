@@ -1,6 +1,6 @@
 use Rattle.std.proofs.Common.{refl, ap, Err}
 use Rattle.word_forms.specs.Views.{texts_of}
-use Rattle.causal_cli.specs.Lawful.{lawful}
+use Rattle.causal_cli.proofs.Lawful.{lawful}
 use Rattle.kept_call.proofs.Replying.{not_understood}
 use Rattle.kept_call.proofs.reply.respond.Goals as goal
 
