@@ -22,7 +22,6 @@ import time
 
 import made
 
-LOG = f"{made.ROOM}/rt-ci.log"
 ENDS = (signal.SIGINT, signal.SIGTERM, signal.SIGHUP)
 
 
@@ -42,12 +41,13 @@ def build(words, rt, kit):
             signal.signal(it, interrupt)
     try:
         os.makedirs(made.ROOM, exist_ok=True)
-        with open(f"{made.ROOM}/lock", "w") as lock:
+        *_, wanted = made.programs_for(words)
+        with open(f"{wanted.path}.lock", "w") as lock:
             hold(lock)
             # (another start may have built one meanwhile)
             program = made.ready_for(words, kit)
             if not program:
-                *_, program = made.programs_for(words)
+                program = wanted
                 build_anew(program, rt, kit)
             return program
     except Interrupted as ended:
@@ -64,7 +64,7 @@ def interrupt(number, _frame):
 
 
 def hold(lock):
-    """Waits until no other start builds in this checkout."""
+    """Waits until no other start builds this program. (The two programs' builds wait for each other's crates alone.)"""
     try:
         fcntl.flock(lock, fcntl.LOCK_EX | fcntl.LOCK_NB)
     except BlockingIOError:
@@ -79,7 +79,7 @@ def build_anew(program, rt, kit):
         crates = copy_sources(program, scratch)
         # (of the copy, which nothing edits meanwhile)
         stamp, read = stamp_of(program, scratch, kit), made.sum_of_sources(program, scratch, kit)
-        prove(rt, scratch, Progress(program, crates, scratch))
+        prove(program, rt, scratch, Progress(program, crates, scratch))
         shutil.copyfile(f"{scratch}/crates/{program.crate}/out/{program.crate}", f"{program.path}.new")
         os.chmod(f"{program.path}.new", 0o755)
         os.replace(f"{program.path}.new", program.path)
@@ -151,9 +151,9 @@ def stamp_of(program, top, kit):
         raise Failed(f"the toolchain refuses the sources: {said}") from None
 
 
-def prove(rt, scratch, progress):
+def prove(program, rt, scratch, progress):
     """Runs `rt ci` in the scratch copy. Its output is the log."""
-    with open(LOG, "wb") as log, contextlib.closing(progress):
+    with open(program.log, "wb") as log, contextlib.closing(progress):
         how = {"cwd": scratch, "stdin": subprocess.DEVNULL, "stdout": subprocess.PIPE, "stderr": subprocess.STDOUT}
         run = subprocess.Popen([rt, "ci"], **how)
         try:
@@ -161,9 +161,9 @@ def prove(rt, scratch, progress):
         finally:
             end(run)
     if progress.refused:
-        raise Failed(f"{progress.refused}: not proved; see {LOG}")
+        raise Failed(f"{progress.refused}: not proved; see {program.log}")
     if run.returncode:
-        raise Failed(f"the build failed: rt ci ended with status {run.returncode}; see {LOG}")
+        raise Failed(f"the build failed: rt ci ended with status {run.returncode}; see {program.log}")
 
 
 def follow(run, log, progress):

@@ -18,11 +18,11 @@ PARTS = ("src", "specs", "proofs", "c")
 
 
 class Program:
-    """A program: the crate that it is made from, where it and its record stand, and its commands, if it is the part."""
+    """A program: the crate that it is made from, where it, its record and the log of its proof stand, and its commands, if it is the part."""
 
     def __init__(self, crate, *commands):
         self.crate, self.commands = crate, commands
-        self.path, self.record = f"{ROOM}/{crate}", f"{ROOM}/{crate}.made"
+        self.path, self.record, self.log = f"{ROOM}/{crate}", f"{ROOM}/{crate}.made", f"{ROOM}/{crate}.log"
 
 
 WHOLE = Program("causal")
