@@ -10,6 +10,7 @@ pub mod Factors
 pub mod Following
 pub mod Indicators
 pub mod Numbering
+pub mod Packed
 pub mod Places
 pub mod Positive
 pub mod Radix
