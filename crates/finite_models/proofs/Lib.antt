@@ -6,6 +6,7 @@ pub mod DataFits
 pub mod DataReads
 pub mod DataSound
 pub mod Digits
+pub mod Existing
 pub mod Factors
 pub mod Following
 pub mod Indicators
