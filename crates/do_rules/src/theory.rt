@@ -1,0 +1,8 @@
+ghost use Rattle.do_rules.specs.Rules.{IndependenceIsSeparation, RuleIsSeparation, OpenRulesFail};
+
+/// What separation and the rules say of models, and what models say of them.
+pub fn laws()
+    ensures independence { IndependenceIsSeparation }
+    ensures rules { RuleIsSeparation }
+    ensures open { OpenRulesFail }
+{}
