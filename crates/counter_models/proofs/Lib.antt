@@ -13,6 +13,7 @@ pub mod Inputs
 pub mod Lists
 pub mod Reading
 pub mod Same
+pub mod Served
 pub mod SoundData
 pub mod Sums
 pub mod Terms
