@@ -14,7 +14,8 @@ use Rattle.finite_models.specs.Parities.{differ}
 use Rattle.walk_models.specs.WalkModels.{coin, is_both, sent_on, sent_back, has_own, bit_of, from_before, from_after, new_bit, walk_model}
 use Rattle.finite_models.proofs.Packed.{has-mask}
 use Rattle.walk_models.proofs.WalkFits.{mask-congr, when}
-use Rattle.walk_models.proofs.Worlds.{below_same, and_true, mask_none, heads, heads_coin}
+use Rattle.walk_models.proofs.Worlds.{mask_none}
+use Rattle.walk_models.proofs.Solved.{below_same, and_true, heads, heads_coin}
 
 module _ (g : MixedGraph) (ok : IsMixedGraph g) (p : Walk) (walk : IsWalkIn g p) (plain : IsPlain p) (last many : ℕ) (some : 1 ≤ many) (b : ℕ → Bool)
     (c : ℕ) where
@@ -22,7 +23,7 @@ module _ (g : MixedGraph) (ok : IsMixedGraph g) (p : Walk) (walk : IsWalkIn g p)
   m = walk_model g.vertices p last many
 
   abbrev ones : ℕ → ℕ
-  ones = heads g ok p walk plain last many some b
+  ones = heads p
 
   -- 1 at each visit before c that is no collider
   abbrev pub tossed_below : ℕ → ℕ
@@ -66,7 +67,7 @@ module _ (g : MixedGraph) (ok : IsMixedGraph g) (p : Walk) (walk : IsWalkIn g p)
             go : (k : Mark) → p.mark j ≡ k → sent_on k (bit_of p tossed_below j) (coin ones j) ≡ heads_second k
             go Out e = bit_before j (omega (arith, le)) (omega (arith, low)) ∙ out (head_before p j) (ltb j p.steps) (p.mark j) e
             go Into e = refl
-            go Both e = heads_coin g ok p walk plain last many some b j (omega (arith, le)) ∙ rw (e, lt-ltb j p.steps le) refl
+            go Both e = heads_coin p j (omega (arith, le)) ∙ rw (e, lt-ltb j p.steps le) refl
 
         after_is : from_after p tossed_below ones i ≡ head_after p i
         after_is = when (ltb i p.steps) (sent_back (p.mark i) (bit_of p tossed_below (suc i)) (coin ones i)) (heads_first (p.mark i))
@@ -84,10 +85,10 @@ module _ (g : MixedGraph) (ok : IsMixedGraph g) (p : Walk) (walk : IsWalkIn g p)
             go : ltb i p.steps ≡ true → (k : Mark) → p.mark i ≡ k → sent_back k (bit_of p tossed_below (suc i)) (coin ones i) ≡ heads_first k
             go l Out e = refl
             go l Into e = bit_before (suc i) (ltb-true i p.steps l) (before_c e (cases_lt (suc i) c)) ∙ into (head_after p (suc i)) (p.mark i) e
-            go l Both e = heads_coin g ok p walk plain last many some b i le ∙ rw (e, l) refl
+            go l Both e = heads_coin p i le ∙ rw (e, l) refl
 
         own_is : (has_own p i && coin ones i) ≡ has_own p i
-        own_is = ap (λ q. has_own p i && q) (heads_coin g ok p walk plain last many some b i le) ∙ go (has_own p i) (ltb i p.steps && is_both (p.mark i))
+        own_is = ap (λ q. has_own p i && q) (heads_coin p i le) ∙ go (has_own p i) (ltb i p.steps && is_both (p.mark i))
           where
             go : (o q : Bool) → (o && (q || o)) ≡ o
             go true true = refl

@@ -16,7 +16,8 @@ use Rattle.walk_models.proofs.Lifted.{below_is_positive}
 use Rattle.walk_models.proofs.Along.{edge_bit, one_bit, coins_before}
 use Rattle.walk_models.proofs.WalkFits.{walk_fits, walk_two}
 use Rattle.walk_models.proofs.Worlds.{within, solved, solves, bit_is, silent, silent_where, new_none}
-use Rattle.walk_models.proofs.Told.{agree_less, one_at_least, below_from, unsure, weighs, sizes}
+use Rattle.walk_models.proofs.Told.{agree_less, one_at_least, below_from, unsure}
+use Rattle.walk_models.proofs.Solved.{sizes, weighs}
 
 pub neither : (p q : Bool) → p ≡ false → q ≡ false → (p || q) ≡ false
 neither false q e f = f
@@ -98,9 +99,9 @@ module _ (g : MixedGraph) (ok : IsMixedGraph g) (p : Walk) (b w y z : ℕ → Bo
     below = below_from (weight_of m b (λ v. y v || w v) (λ v. 0)) (weight_of m done w (λ v. 0)) (weight_of m done (λ v. y v || w v) (λ v. 0))
         (weight_of m b w (λ v. 0))
         (unsure g ok p b w y z h) (sure mark)
-        (one_at_least m done (λ v. y v || w v) (λ v. 0) (sizes g ok p b w y z h)
+        (one_at_least m done (λ v. y v || w v) (λ v. 0) (λ j lt. sizes g.vertices p 0 1 j)
         (agree_from g.vertices (λ v. y v || w v) (at (λ j. 0)) (λ v. 0) (λ v lt i. silent g ok p h.walk h.plain 0 1 one done (λ j. 0) (λ j le. refl) v lt))
-        (weighs g ok p b w y z h (λ j. 0)));
+        (weighs g.vertices p 0 1 one (λ j. 0)));
   }
 
 pub done_ends_tell : DoneEndsTell

@@ -19,39 +19,22 @@ use Rattle.walk_models.proofs.Along.{last_bit, coins}
 use Rattle.walk_models.proofs.Below.{tossed_below, below_bit, below_solves, below_blank, IsCutAt}
 use Rattle.walk_models.proofs.Done.{neither}
 use Rattle.walk_models.proofs.Lifted.{below_is_positive}
-use Rattle.walk_models.proofs.Nearness.{product_pos}
 use Rattle.walk_models.proofs.Told.{agree_less, grows, one_at_least, below_from, sure}
 use Rattle.walk_models.proofs.WalkFits.{walk_fits, walk_two}
-use Rattle.walk_models.proofs.Worlds.{within, solved, only_one, bit_is, silent, heads, heads_world}
+use Rattle.walk_models.proofs.Worlds.{within, solved, only_one, bit_is, silent}
+use Rattle.walk_models.proofs.Solved.{sizes, weighs, heads, heads_world, heads_beyond}
 
 pub one : 1 ≤ 1
 one = omega arith
 
 module _ (g : MixedGraph) (ok : IsMixedGraph g) (p : Walk) (walk : IsWalkIn g p) (plain : IsPlain p) where
-  abbrev m : FiniteModel
-  m = walk_model g.vertices p 0 1
-
-  pub weighs_one : (u : ℕ → ℕ) → 1 ≤ world_weight m u
-  weighs_one u = product_pos (suc p.steps) (λ j. m.weight j (u j)) (λ j lt. go (eqb j 0 && eqb (u j) 0))
-    where
-      go : (c : Bool) → 1 ≤ cond c 1 1
-      go true = omega arith
-      go false = omega arith
-
-  pub sizes_one : (j : ℕ) → j < suc p.steps → 0 < m.values j
-  sizes_one j lt = go (has_coin p j)
-    where
-      go : (c : Bool) → 0 < cond c 2 1
-      go true = omega arith
-      go false = omega arith
-
   module _ (done w y : ℕ → Bool) (c : ℕ) (some : 0 < c) (cut : IsCutAt g ok p walk plain 0 1 one done c)
       (undone : (i : ℕ) → i ≤ p.steps → i < c → done (p.at i) ≡ false)
       (later : (i : ℕ) → i ≤ p.steps → c ≤ i → done (p.at i) ≡ false
-      → new_bit p (tossed_below g ok p walk plain 0 1 one done c) (heads g ok p walk plain 0 1 one done) i ≡ false)
+      → new_bit p (tossed_below g ok p walk plain 0 1 one done c) (heads p) i ≡ false)
       (strict : (i : ℕ) → i ≤ p.steps → i < c → w (p.at i) ≡ is_collider p i) (begins : IsTrue (y (p.at 0))) where
     abbrev coins_one : ℕ → ℕ
-    coins_one = heads g ok p walk plain 0 1 one done
+    coins_one = heads p
 
     abbrev at_one : ℕ → ℕ
     at_one = solved g ok p walk plain 0 1 one done coins_one
@@ -60,22 +43,20 @@ module _ (g : MixedGraph) (ok : IsMixedGraph g) (p : Walk) (walk : IsWalkIn g p)
     at_heads = only_one g ok p walk plain 0 1 one done coins_one (tossed_below g ok p walk plain 0 1 one done c)
         (below_solves g ok p walk plain 0 1 one done c cut undone later)
 
-    beyond : (j : ℕ) → suc p.steps ≤ j → coins_one j ≡ 0
-    beyond j le = rw (le-ltb j (suc p.steps) le) refl
-
     first_one : bit_of p at_one 0 ≡ true
     first_one = ap (λ x. has x 0) (at_heads (p.at 0) (walk.vertex 0 (omega arith))) ∙ below_bit g ok p walk plain 0 1 one done c 0 (omega arith)
         ∙ ap (λ q. q && true) (lt-ltb 0 c some)
 
     -- under done, y isn't sure given w
-    pub free_of : weight_of m done (λ v. y v || w v) (λ v. 0) < weight_of m done w (λ v. 0)
-    free_of = grows m done (λ v. y v || w v) w (λ v. 0) (λ v i. or_right (y v) (w v) i) coins_one (heads_world g ok p walk plain 0 1 one done) beyond
+    pub free_of : weight_of (walk_model g.vertices p 0 1) done (λ v. y v || w v) (λ v. 0) < weight_of (walk_model g.vertices p 0 1) done w (λ v. 0)
+    free_of = grows (walk_model g.vertices p 0 1) done (λ v. y v || w v) w (λ v. 0) (λ v i. or_right (y v) (w v) i) coins_one (heads_world g.vertices p 0 1)
+        (heads_beyond p)
         (agree_from g.vertices w at_one (λ v. 0) (λ v lt i. at_heads v lt ∙ below_blank g ok p walk plain 0 1 one done c cut w strict v i))
         (false_from_ne_true (agree g.vertices (λ v. y v || w v) at_one (λ v. 0))
         (λ e. not_both (bit_of p at_one 0) first_one (ap (λ x. has x 0)
         (agree_gives g.vertices (λ v. y v || w v) at_one (λ v. 0) e (p.at 0) (walk.vertex 0 (omega arith)) (or_left (y (p.at 0)) (w (p.at 0)) begins))
         ∙ has-zero 0)))
-        (weighs_one coins_one)
+        (weighs g.vertices p 0 1 one coins_one)
 
 module _ (g : MixedGraph) (ok : IsMixedGraph g) (p : Walk) (b w y z : ℕ → Bool) (h : IsWalkTo g p b w y z) (first : IsFirstIn p z) (k : ℕ)
     (len : p.steps ≡ suc k) (mark : p.mark k ≢ Into) where
@@ -96,9 +77,9 @@ module _ (g : MixedGraph) (ok : IsMixedGraph g) (p : Walk) (b w y z : ℕ → Bo
         (or_right (b (p.at p.steps)) (z (p.at p.steps)) h.ends)) out))
         (λ i le lt. h.strict i le) h.begins)
         (sure g ok p b w y z h)
-        (one_at_least (walk_model g.vertices p 0 1) b (λ v. y v || (z v || w v)) (λ v. 0) (sizes_one g ok p h.walk h.plain)
+        (one_at_least (walk_model g.vertices p 0 1) b (λ v. y v || (z v || w v)) (λ v. 0) (λ j lt. sizes g.vertices p 0 1 j)
         (agree_from g.vertices (λ v. y v || (z v || w v)) (solved g ok p h.walk h.plain 0 1 one b (λ j. 0)) (λ v. 0)
-        (λ v lt i. silent g ok p h.walk h.plain 0 1 one b (λ j. 0) (λ j le. refl) v lt)) (weighs_one g ok p h.walk h.plain (λ j. 0)));
+        (λ v lt i. silent g ok p h.walk h.plain 0 1 one b (λ j. 0) (λ j le. refl) v lt)) (weighs g.vertices p 0 1 one (λ j. 0)));
   }
 
 pub done_ends_are_free : DoneEndsAreFree
@@ -177,7 +158,7 @@ module _ (g : MixedGraph) (ok : IsMixedGraph g) (p : Walk) (b w y z : ℕ → Bo
   below = tossed_below g ok p walk plain 0 1 one with_z (suc k)
 
   abbrev coins_z : ℕ → ℕ
-  coins_z = heads g ok p walk plain 0 1 one with_z
+  coins_z = heads p
 
   -- behind z all is 0
   behind : (i : ℕ) → i ≤ p.steps → suc k ≤ i → with_z (p.at i) ≡ false → new_bit p below coins_z i ≡ false
@@ -219,9 +200,9 @@ module _ (g : MixedGraph) (ok : IsMixedGraph g) (p : Walk) (b w y z : ℕ → Bo
         behind
         (λ i le lt. strict i (omega (arith, lt))) begins)
         shown
-        (one_at_least gm b (λ v. y v || w v) (λ v. 0) (sizes_one g ok p walk plain)
+        (one_at_least gm b (λ v. y v || w v) (λ v. 0) (λ j lt. sizes g.vertices p 0 1 j)
         (agree_from g.vertices (λ v. y v || w v) (at (λ j. 0)) (λ v. 0) (λ v lt i. silent g ok p walk plain 0 1 one b (λ j. 0) (λ j le. refl) v lt))
-        (weighs_one g ok p walk plain (λ j. 0)));
+        (weighs g.vertices p 0 1 one (λ j. 0)));
   }
 
 pub given_ends_tell : GivenEndsTell

@@ -1,50 +1,27 @@
 -- Where a walk from x ends apart from x, one stratum exceeds the effect.
-use Rattle.std.proofs.Common.{ℕ, zero, suc, ◌+◌, ◌-◌, ◌*◌, ◌≡◌, ◌≢◌, ◌<◌, ◌≤◌, inl, inr, Bool, true, false, cond, eqb, ltb, not, ◌&&◌, ◌||◌, nat_lt, refl, sym, ap, ◌∙◌, subst, IsTrue, arith, lt-ltb, le-ltb, ltb-true, eqb-true}
-use Rattle.std.proofs.lemmas.Bool.{or_left, or_right, cases_eq}
+use Rattle.std.proofs.Common.{ℕ, zero, suc, ◌+◌, ◌-◌, ◌≡◌, ◌≢◌, ◌<◌, ◌≤◌, Bool, true, false, cond, eqb, ltb, not, ◌&&◌, ◌||◌, refl, sym, ap, ◌∙◌, IsTrue, arith, lt-ltb, le-ltb, ltb-true, eqb-true}
+use Rattle.std.proofs.lemmas.Bool.{or_left, or_right}
 use Rattle.mixed_graph.specs.Bits.{has}
 use Rattle.mixed_graph.specs.Graphs.{MixedGraph, IsMixedGraph}
 use Rattle.mixed_graph.proofs.Masks.{has-zero}
 use Rattle.m_separation.specs.declared.marks.Mark.{Mark}
 use Rattle.m_separation.specs.declared.marks.Mark.TheVariants.{Out, Into, Both}
 use Rattle.m_separation.specs.Walks.{heads_first, heads_second}
-use Rattle.finite_models.specs.Sums.{product_below}
-use Rattle.finite_models.specs.Models.{FiniteModel, IsAssignment, IsWorld, IsSolution, solution, intervene, agree, weight_of, world_weight, sum_worlds}
+use Rattle.finite_models.specs.Models.{FiniteModel, IsAssignment, IsWorld, solution, intervene, agree, weight_of, world_weight, sum_worlds}
 use Rattle.finite_models.proofs.Bools.{same_truth}
-use Rattle.finite_models.proofs.Following.{follows_of, follows_intervene}
 use Rattle.finite_models.proofs.Positive.{over-mono}
-use Rattle.finite_models.proofs.Ranks.{with_rank}
-use Rattle.finite_models.proofs.SumLaws.{eqb-refl, over-congr_within, product_below-congr, over-base, over-term}
-use Rattle.finite_models.proofs.Solutions.{solution_is, agree_gives, agree_from}
+use Rattle.finite_models.proofs.SumLaws.{over-congr_within, over-base, over-term}
+use Rattle.finite_models.proofs.Solutions.{agree_gives, agree_from}
 use Rattle.walk_models.specs.Visits.{Walk, IsWalkIn, IsPlain, IsStrict, head_before, is_collider}
-use Rattle.finite_models.specs.Packed.{mask_of}
 use Rattle.finite_models.specs.Parities.{differ}
 use Rattle.walk_models.specs.WalkModels.{is_both, bit_of, coin, has_coin, sent_on, sent_back, new_bit, walk_model}
 use Rattle.walk_models.specs.Laws.{IsBelowIn, IsBelowSomewhere, event}
 use Rattle.walk_models.proofs.Along.{coins}
-use Rattle.walk_models.proofs.Lifted.{times, below_is_positive}
-use Rattle.walk_models.proofs.Nearness.{product_pos}
+use Rattle.walk_models.proofs.Lifted.{below_is_positive}
 use Rattle.walk_models.proofs.Told.{agree_less, below_from}
-use Rattle.finite_models.proofs.Packed.{has-mask}
+use Rattle.walk_models.proofs.Solved.{sizes, light, weighs, heavy, heads, heads_world, heads_beyond, bit_under}
 use Rattle.walk_models.proofs.WalkFits.{walk_fits, low_value, walk_two}
-use Rattle.walk_models.proofs.Worlds.{below_same, and_true, solved, only_one, bit_is, silent, heads, heads_world, tossed, tossed_bit, tossed_solves, tossed_blank}
-
--- a product of factors of at least 1 is at least each of them
-pub product_at : (n : ℕ) (f : ℕ → ℕ) (i : ℕ) → i < n → ((j : ℕ) → j < n → 1 ≤ f j) → f i ≤ product_below n f
-product_at zero f i lt h = absurd (omega (arith, lt))
-product_at (suc n) f i lt h = elim (cases_eq i n) [
-  | inl e ↦ rw e (up (product_below n f) (f n) (product_pos n f (λ j jl. h j (omega (arith, jl)))))
-  | inr d ↦ keep (f i) (product_below n f) (f n) (product_at n f i (omega (arith, lt, d)) (λ j jl. h j (omega (arith, jl)))) (h n (omega arith))
-]
-  where
-    up : (a b : ℕ) → 1 ≤ a → b ≤ a * b
-    up a b le = omega (arith, times 1 a b b le (omega arith))
-
-    keep : (c a b : ℕ) → c ≤ a → 1 ≤ b → c ≤ a * b
-    keep c a b le le' = omega (arith, times c a 1 b le le')
-
-pub product_ones : (n : ℕ) → product_below n (λ j. 1) ≡ 1
-product_ones zero = refl
-product_ones (suc n) = omega (arith, product_ones n)
+use Rattle.walk_models.proofs.Worlds.{solved, only_one, bit_is, silent, tossed, tossed_bit, tossed_solves, tossed_blank}
 
 module _ (g : MixedGraph) (ok : IsMixedGraph g) (p : Walk) (walk : IsWalkIn g p) (plain : IsPlain p) (x y z : ℕ → Bool) (strict : IsStrict p z)
     (begins : IsTrue (x (p.at 0))) (ends : IsTrue (y (p.at p.steps)))
@@ -67,7 +44,7 @@ module _ (g : MixedGraph) (ok : IsMixedGraph g) (p : Walk) (walk : IsWalkIn g p)
   nobody v = false
 
   abbrev s : ℕ → ℕ
-  s = tossed g ok p walk plain last many some nobody
+  s = tossed p
 
   abbrev at : (ℕ → ℕ) → ℕ → ℕ
   at u = solved g ok p walk plain last many some nobody u
@@ -82,44 +59,13 @@ module _ (g : MixedGraph) (ok : IsMixedGraph g) (p : Walk) (walk : IsWalkIn g p)
       go true = omega (arith, inside)
       go false = omega (arith, inside)
 
-  factor : (u : ℕ → ℕ) (j : ℕ) → 1 ≤ m.weight j (u j)
-  factor u j = go (eqb j last && eqb (u j) 0)
-    where
-      go : (q : Bool) → 1 ≤ cond q many 1
-      go true = some
-      go false = omega arith
-
-  heavy : many ≤ world_weight m (λ j. 0)
-  heavy = subst (λ t. t ≤ world_weight m (λ j. 0)) (rw (eqb-refl last) refl)
-      (product_at (suc p.steps) (λ j. m.weight j 0) last last_low (λ j lt. factor (λ j. 0) j))
-
-  light : (u : ℕ → ℕ) → coin u last ≡ true → world_weight m u ≡ 1
-  light u e = product_below-congr (suc p.steps) (λ j. m.weight j (u j)) (λ j. 1) (λ j lt. go j (eqb j last) refl) ∙ product_ones (suc p.steps)
-    where
-      not_zero : (t : ℕ) → eqb t 1 ≡ true → eqb t 0 ≡ false
-      not_zero t f = grind (arith, f)
-
-      go : (j : ℕ) (q : Bool) → eqb j last ≡ q → cond (q && eqb (u j) 0) many 1 ≡ 1
-      go j true f = ap (λ r. cond r many 1) (ap (λ k. eqb (u k) 0) (eqb-true j last f) ∙ not_zero (u last) e)
-      go j false f = refl
-
   -- ---- under do(x) the end of the walk shows that coin
   module _ (u : ℕ → ℕ) where
     abbrev under : ℕ → ℕ
     under = solution (intervene m x s) u
 
-    solves_x : IsSolution (intervene m x s) u under
-    solves_x v lt = with_rank g ok (under v) ((intervene m x s).mechanism v under u)
-        (λ rank ranked. solution_is g (intervene m x s) rank ranked
-        (follows_intervene g m x s fits_in (follows_of g m (walk_fits g ok p walk last many some))) u v lt)
-
     bit_x : (i : ℕ) → i ≤ p.steps → x (p.at i) ≡ false → bit_of p under i ≡ new_bit p under u i
-    bit_x i le out =
-        ap (λ r. has r i) (solves_x (p.at i) (walk.vertex i le)
-        ∙ ap (λ q. cond q (s (p.at i)) (mask_of (λ j. eqb (p.at i) (p.at j) && new_bit p under u j) (suc p.steps))) out)
-        ∙ has-mask (λ j. eqb (p.at i) (p.at j) && new_bit p under u j) (suc p.steps) i
-        ∙ and_true (eqb (p.at i) (p.at i) && new_bit p under u i) (nat_lt i (suc p.steps)) (below_same (suc p.steps) i (omega (arith, le)))
-        ∙ ap (λ q. q && new_bit p under u i) (eqb-refl (p.at i))
+    bit_x = bit_under g ok p walk last many some x s fits_in u
 
     -- the visit after the turn has the coin, and each one after it
     first_fed : bit_of p under (suc c) ≡ coin u last
@@ -174,7 +120,7 @@ module _ (g : MixedGraph) (ok : IsMixedGraph g) (p : Walk) (walk : IsWalkIn g p)
         go q t a e true n h = absurd (grind (arith, n))
 
   end_one : has (s (p.at p.steps)) p.steps ≡ true
-  end_one = tossed_bit g ok p walk plain last many some nobody p.steps (omega arith)
+  end_one = tossed_bit p p.steps (omega arith)
       ∙ go (head_before p p.steps) (ltb p.steps p.steps) (le-ltb p.steps p.steps (omega arith))
     where
       go : (h q : Bool) → q ≡ false → not (h && (q && heads_first (p.mark p.steps))) ≡ true
@@ -190,29 +136,22 @@ module _ (g : MixedGraph) (ok : IsMixedGraph g) (p : Walk) (walk : IsWalkIn g p)
       go : (u : ℕ → ℕ) (q : Bool) → agree g.vertices y (under u) s ≡ q → cond q (world_weight m u) 0 ≤ 1
       go u false e = omega arith
       go u true e =
-          rw (light u (sym (fed u (p.steps - suc c) p.steps (omega (arith, inside)) (omega arith))
+          rw (light g.vertices p last many u (sym (fed u (p.steps - suc c) p.steps (omega (arith, inside)) (omega arith))
           ∙ ap (λ r. has r p.steps) (agree_gives g.vertices y (under u) s e (p.at p.steps) (walk.vertex p.steps (omega arith)) ends) ∙ end_one)) (omega arith)
 
   -- ---- observed: z is 0 in s
   zero_in_s : (v : ℕ) → z v ≡ true → s v ≡ 0
-  zero_in_s = tossed_blank g ok p walk plain last many some nobody z strict
+  zero_in_s = tossed_blank p z strict
 
   zeros : (v : ℕ) → v < g.vertices → at (λ j. 0) v ≡ 0
   zeros = silent g ok p walk plain last many some nobody (λ j. 0) (λ j le. refl)
 
-  sizes_m : (j : ℕ) → 0 < m.values j
-  sizes_m j = go (has_coin p j)
-    where
-      go : (q : Bool) → 0 < cond q 2 1
-      go true = omega arith
-      go false = omega arith
-
   heavy_z : many ≤ weight_of m nobody z s
   heavy_z = omega (
     arith,
-    over-term (λ j. true) m.values m.causes (λ u. cond (agree g.vertices z (at u) s) (world_weight m u) 0) (λ j. 0) (λ j lt e. sizes_m j),
+    over-term (λ j. true) m.values m.causes (λ u. cond (agree g.vertices z (at u) s) (world_weight m u) 0) (λ j. 0) (λ j lt e. sizes g.vertices p last many j),
     (let h : many ≤ cond (agree g.vertices z (at (λ j. 0)) s) (world_weight m (λ j. 0)) 0 =
-        rw (agree_from g.vertices z (at (λ j. 0)) s (λ v lt i. zeros v lt ∙ sym (zero_in_s v i))) heavy in h),
+        rw (agree_from g.vertices z (at (λ j. 0)) s (λ v lt i. zeros v lt ∙ sym (zero_in_s v i))) (heavy g.vertices p last many some last_low) in h),
   )
 
   module _ (u : ℕ → ℕ) (world : IsWorld m u) (e : agree g.vertices (λ v. x v || z v) (at u) s ≡ true) where
@@ -227,10 +166,10 @@ module _ (g : MixedGraph) (ok : IsMixedGraph g) (p : Walk) (walk : IsWalkIn g p)
     start_one : bit_of p (at u) 0 ≡ true
     start_one = ap (λ r. has r 0) (agree_gives g.vertices (λ v. x v || z v) (at u) s e (p.at 0) (walk.vertex 0 (omega arith))
         (or_left (x (p.at 0)) (z (p.at 0)) begins))
-        ∙ tossed_bit g ok p walk plain last many some nobody 0 (omega arith)
+        ∙ tossed_bit p 0 (omega arith)
 
     -- so it is the world of ones
-    all_ones : (j : ℕ) → j < suc p.steps → u j ≡ heads g ok p walk plain last many some nobody j
+    all_ones : (j : ℕ) → j < suc p.steps → u j ≡ heads p j
     all_ones j lt = rw (lt-ltb j (suc p.steps) lt) (go (has_coin p j) refl (world j lt))
       where
         go : (q : Bool) → has_coin p j ≡ q → u j < cond q 2 1 → u j ≡ cond q 1 0
@@ -242,7 +181,7 @@ module _ (g : MixedGraph) (ok : IsMixedGraph g) (p : Walk) (walk : IsWalkIn g p)
     is_s : (v : ℕ) → v < g.vertices → at u v ≡ s v
     is_s = only_one g ok p walk plain last many some nobody u s
         (λ v lt. tossed_solves g ok p walk plain last many some nobody (λ i le. refl) v lt
-        ∙ (walk_fits g ok p walk last many some).reads v lt s s (heads g ok p walk plain last many some nobody) u (λ q a. refl) (λ j jl k. sym (all_ones j jl)))
+        ∙ (walk_fits g ok p walk last many some).reads v lt s s (heads p) u (λ q a. refl) (λ j jl k. sym (all_ones j jl)))
 
   sure_z : weight_of m nobody (λ v. x v || z v) s ≡ weight_of m nobody (λ v. x v || (y v || z v)) s
   sure_z = over-congr_within (λ j. true) m.values m.causes
@@ -262,22 +201,18 @@ module _ (g : MixedGraph) (ok : IsMixedGraph g) (p : Walk) (walk : IsWalkIn g p)
   some_one = omega (
     arith,
     over-base (λ j. true) m.values m.causes (λ u. cond (agree g.vertices (λ v. x v || (y v || z v)) (at u) s) (world_weight m u) 0)
-        (heads g ok p walk plain last many some nobody) (λ j. 0)
-        (λ j out. beyond j (let n = λ (l : j < suc p.steps). out l refl in grind (arith, n))),
+        (heads p) (λ j. 0)
+        (λ j out. heads_beyond p j (let n = λ (l : j < suc p.steps). out l refl in grind (arith, n))),
     over-term (λ j. true) m.values m.causes (λ u. cond (agree g.vertices (λ v. x v || (y v || z v)) (at u) s) (world_weight m u) 0)
-        (heads g ok p walk plain last many some nobody)
-        (λ j lt e. heads_world g ok p walk plain last many some nobody j lt),
-    (let h : 1 ≤ cond (agree g.vertices (λ v. x v || (y v || z v)) (at (heads g ok p walk plain last many some nobody)) s)
-        (world_weight m (heads g ok p walk plain last many some nobody)) 0 =
-        rw (agree_from g.vertices (λ v. x v || (y v || z v)) (at (heads g ok p walk plain last many some nobody)) s
-        (λ v lt i. only_one g ok p walk plain last many some nobody (heads g ok p walk plain last many some nobody) s
+        (heads p)
+        (λ j lt e. heads_world g.vertices p last many j lt),
+    (let h : 1 ≤ cond (agree g.vertices (λ v. x v || (y v || z v)) (at (heads p)) s)
+        (world_weight m (heads p)) 0 =
+        rw (agree_from g.vertices (λ v. x v || (y v || z v)) (at (heads p)) s
+        (λ v lt i. only_one g ok p walk plain last many some nobody (heads p) s
         (tossed_solves g ok p walk plain last many some nobody (λ i le. refl)) v lt))
-        (product_pos (suc p.steps) (λ j. m.weight j (heads g ok p walk plain last many some nobody j))
-        (λ j lt. factor (heads g ok p walk plain last many some nobody) j)) in h),
+        (weighs g.vertices p last many some (heads p)) in h),
   )
-    where
-      beyond : (j : ℕ) → suc p.steps ≤ j → heads g ok p walk plain last many some nobody j ≡ 0
-      beyond j le = rw (le-ltb j (suc p.steps) le) refl
 
   exceeds : IsBelowIn m s (event x y) (event nobody (λ u. x u || z u)) (event nobody (λ u. x u || (y u || z u))) (event nobody z)
   exceeds = record {

@@ -9,6 +9,7 @@ pub mod Middle
 mod Near
 mod Nearness
 mod Rare
+mod Solved
 pub mod Stricts
 pub mod Told
 mod WalkFits

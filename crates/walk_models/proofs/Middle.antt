@@ -1,5 +1,5 @@
 -- Where a causal path from x to y has an inner vertex in z, one stratum exceeds the effect.
-use Rattle.std.proofs.Common.{ℕ, zero, suc, ◌+◌, ◌-◌, ◌≡◌, ◌<◌, ◌≤◌, inl, inr, Bool, true, false, cond, eqb, ltb, not, ◌&&◌, ◌||◌, ◌==◌, nat_lt, refl, sym, ap, ap₂, ◌∙◌, subst, IsTrue, arith, lt-ltb, le-ltb, ltb-true, eqb-true, ne_eqb}
+use Rattle.std.proofs.Common.{ℕ, zero, suc, ◌+◌, ◌-◌, ◌≡◌, ◌<◌, ◌≤◌, inl, inr, Bool, true, false, cond, eqb, ltb, not, ◌&&◌, ◌||◌, ◌==◌, refl, sym, ap, ap₂, ◌∙◌, subst, IsTrue, arith, lt-ltb, ltb-true, eqb-true, ne_eqb}
 use Rattle.std.proofs.lemmas.Bool.{or_left, or_right, cases_lt}
 use Rattle.mixed_graph.specs.Bits.{has}
 use Rattle.mixed_graph.specs.Graphs.{MixedGraph, IsMixedGraph}
@@ -7,25 +7,21 @@ use Rattle.mixed_graph.proofs.Masks.{has-zero}
 use Rattle.m_separation.specs.declared.marks.Mark.{Mark}
 use Rattle.m_separation.specs.declared.marks.Mark.TheVariants.{Out, Into, Both}
 use Rattle.m_separation.specs.Walks.{heads_first, heads_second}
-use Rattle.finite_models.specs.Models.{FiniteModel, IsAssignment, IsWorld, IsSolution, solution, intervene, agree, weight_of, world_weight, sum_worlds}
+use Rattle.finite_models.specs.Models.{FiniteModel, IsAssignment, IsWorld, solution, intervene, agree, weight_of, world_weight, sum_worlds}
 use Rattle.finite_models.proofs.Bools.{not_both, same_truth}
 use Rattle.finite_models.proofs.Following.{follows_of, follows_intervene}
 use Rattle.finite_models.proofs.Positive.{over-mono}
-use Rattle.finite_models.proofs.Ranks.{with_rank}
-use Rattle.finite_models.proofs.SumLaws.{eqb-refl, over-congr_within, product_below-congr, over-base, over-term}
-use Rattle.finite_models.proofs.Solutions.{solution_is, solution_within, unique, agree_gives, agree_from}
+use Rattle.finite_models.proofs.SumLaws.{eqb-refl, over-congr_within, over-base, over-term}
+use Rattle.finite_models.proofs.Solutions.{solution_within, agree_gives, agree_from}
 use Rattle.walk_models.specs.Visits.{Walk, IsWalkIn}
-use Rattle.finite_models.specs.Packed.{mask_of}
 use Rattle.finite_models.specs.Parities.{differ}
 use Rattle.walk_models.specs.WalkModels.{is_both, bit_of, coin, has_coin, sent_on, sent_back, new_bit, walk_model}
 use Rattle.walk_models.specs.Laws.{MiddlesExceed, IsBelowIn, event}
-use Rattle.walk_models.proofs.Late.{product_at, product_ones}
+use Rattle.walk_models.proofs.Solved.{sizes, light, weighs, heavy, heads, heads_world, heads_beyond, solves_under, only_under, bit_under}
 use Rattle.walk_models.proofs.Lifted.{below_is_positive}
-use Rattle.walk_models.proofs.Nearness.{product_pos}
 use Rattle.walk_models.proofs.Told.{agree_less, below_from}
-use Rattle.finite_models.proofs.Packed.{has-mask}
 use Rattle.walk_models.proofs.WalkFits.{walk_fits, walk_two}
-use Rattle.walk_models.proofs.Worlds.{below_same, and_true, mask_none}
+use Rattle.walk_models.proofs.Worlds.{mask_none}
 
 -- the walk with a coin of its own at visit k + 1
 abbrev with_coin : Walk → ℕ → Walk
@@ -58,27 +54,6 @@ module _ (g : MixedGraph) (ok : IsMixedGraph g) (x y z : ℕ → Bool) (q : Walk
 
   nowhere : IsAssignment g.vertices m.size (λ v. 0)
   nowhere v lt = omega arith
-
-  solves : (b : ℕ → Bool) (s : ℕ → ℕ) → IsAssignment g.vertices m.size s → (u : ℕ → ℕ) → IsSolution (intervene m b s) u (solution (intervene m b s) u)
-  solves b s within u v lt = with_rank g ok (solution (intervene m b s) u v) ((intervene m b s).mechanism v (solution (intervene m b s) u) u)
-      (λ rank ranked. solution_is g (intervene m b s) rank ranked
-      (follows_intervene g m b s within (follows_of g m (walk_fits g ok p walk_p (suc k) many some))) u v lt)
-
-  only_one : (u t : ℕ → ℕ) → IsSolution (intervene m nobody (λ v. 0)) u t → (v : ℕ) → v < g.vertices → at u v ≡ t v
-  only_one u t h v lt = with_rank g ok (at u v) (t v)
-      (λ rank ranked. unique g (intervene m nobody (λ v. 0)) rank ranked
-      (follows_intervene g m nobody (λ v. 0) nowhere (follows_of g m (walk_fits g ok p walk_p (suc k) many some))) u (at u) t
-      (solves nobody (λ v. 0) nowhere u) h v lt)
-
-  bit_is : (b : ℕ → Bool) (s : ℕ → ℕ) → IsAssignment g.vertices m.size s → (u : ℕ → ℕ) (i : ℕ) → i ≤ p.steps → b (p.at i) ≡ false
-      → bit_of p (solution (intervene m b s) u) i ≡ new_bit p (solution (intervene m b s) u) u i
-  bit_is b s within u i le out =
-      ap (λ r. has r i) (solves b s within u (p.at i) (walk.vertex i le)
-      ∙ ap (λ c. cond c (s (p.at i)) (mask_of (λ j. eqb (p.at i) (p.at j) && new_bit p (solution (intervene m b s) u) u j) (suc p.steps))) out)
-      ∙ has-mask (λ j. eqb (p.at i) (p.at j) && new_bit p (solution (intervene m b s) u) u j) (suc p.steps) i
-      ∙ and_true (eqb (p.at i) (p.at i) && new_bit p (solution (intervene m b s) u) u i) (nat_lt i (suc p.steps))
-      (below_same (suc p.steps) i (omega (arith, le)))
-      ∙ ap (λ c. c && new_bit p (solution (intervene m b s) u) u i) (eqb-refl (p.at i))
 
   -- what a visit gets
   gets_first : (t u : ℕ → ℕ) → new_bit p t u 0 ≡ coin u 0
@@ -128,14 +103,14 @@ module _ (g : MixedGraph) (ok : IsMixedGraph g) (x y z : ℕ → Bool) (q : Walk
         ∙ high_bit d i (omega (arith, e)) (omega (arith, in_range))
 
   start_is : (u : ℕ → ℕ) → bit_of p (at u) 0 ≡ coin u 0
-  start_is u = bit_is nobody (λ v. 0) nowhere u 0 (omega arith) refl ∙ gets_first (at u) u
+  start_is u = bit_under g ok p walk_p (suc k) many some nobody (λ v. 0) nowhere u 0 (omega arith) refl ∙ gets_first (at u) u
 
   new_is : (u : ℕ → ℕ) (i : ℕ) → suc i ≤ p.steps → bit_of p (at u) (suc i) ≡ new_bit p (at u) u (suc i)
-  new_is u i le = bit_is nobody (λ v. 0) nowhere u (suc i) le refl
+  new_is u i le = bit_under g ok p walk_p (suc k) many some nobody (λ v. 0) nowhere u (suc i) le refl
 
   -- z is 0 where both coins are one
   zero_on : (u : ℕ → ℕ) → differ (coin u 0) (coin u (suc k)) ≡ false → (v : ℕ) → v < g.vertices → z v ≡ true → at u v ≡ 0
-  zero_on u even v lt e = solves nobody (λ v. 0) nowhere u v lt
+  zero_on u even v lt e = solves_under g ok p walk_p (suc k) many some nobody (λ v. 0) nowhere u v lt
       ∙ mask_none (λ i. eqb v (p.at i) && new_bit p (at u) u i) (suc p.steps) (λ i il. here i (omega (arith, il)) (eqb v (p.at i)) refl)
     where
       out : (i : ℕ) → i ≤ k → z (p.at i) ≡ false
@@ -145,7 +120,8 @@ module _ (g : MixedGraph) (ok : IsMixedGraph g) (x y z : ℕ → Bool) (q : Walk
       here : (i : ℕ) → i ≤ p.steps → (r : Bool) → eqb v (p.at i) ≡ r → (r && new_bit p (at u) u i) ≡ false
       here i il false f = refl
       here i il true f = elim (cases_lt k i) [
-        | inl gt ↦ sym (bit_is nobody (λ v. 0) nowhere u i il refl) ∙ high_bit (at u) u (coin u 0) (start_is u) (new_is u) (i - suc k) i (omega (arith, gt)) il
+        | inl gt ↦ sym (bit_under g ok p walk_p (suc k) many some nobody (λ v. 0) nowhere u i il refl)
+            ∙ high_bit (at u) u (coin u 0) (start_is u) (new_is u) (i - suc k) i (omega (arith, gt)) il
             ∙ even
         | inr ge ↦ absurd (not_both (z (p.at i)) (ap z (sym (eqb-true v (p.at i) f)) ∙ e) (out i ge))
       ]
@@ -173,14 +149,7 @@ module _ (g : MixedGraph) (ok : IsMixedGraph g) (x y z : ℕ → Bool) (q : Walk
       go false a f h = refl
 
   abbrev ones : ℕ → ℕ
-  ones j = cond (ltb j (suc p.steps)) (cond (has_coin p j) 1 0) 0
-
-  ones_world : IsWorld m ones
-  ones_world j lt = rw (lt-ltb j (suc p.steps) lt) (go (has_coin p j))
-    where
-      go : (r : Bool) → cond r 1 0 < cond r 2 1
-      go true = omega arith
-      go false = omega arith
+  ones = heads p
 
   ones_first : coin ones 0 ≡ true
   ones_first = rw (lt-ltb 0 (suc p.steps) (omega arith), own_first) refl
@@ -193,7 +162,7 @@ module _ (g : MixedGraph) (ok : IsMixedGraph g) (x y z : ℕ → Bool) (q : Walk
 
   fits_in : IsAssignment g.vertices m.size s
   fits_in = solution_within g (intervene m nobody (λ v. 0))
-      (follows_intervene g m nobody (λ v. 0) nowhere (follows_of g m (walk_fits g ok p walk_p (suc k) many some))) ones ones_world
+      (follows_intervene g m nobody (λ v. 0) nowhere (follows_of g m (walk_fits g ok p walk_p (suc k) many some))) ones (heads_world g.vertices p (suc k) many)
 
   zero_in_s : (v : ℕ) → v < g.vertices → z v ≡ true → s v ≡ 0
   zero_in_s = zero_on ones (ap₂ differ ones_first ones_middle)
@@ -204,34 +173,13 @@ module _ (g : MixedGraph) (ok : IsMixedGraph g) (x y z : ℕ → Bool) (q : Walk
   last_in_s : bit_of p s p.steps ≡ false
   last_in_s = high_bit s ones true first_in_s (new_is ones) (p.steps - suc k) p.steps (omega (arith, inside)) (omega arith) ∙ ap (differ true) ones_middle
 
-  factor : (u : ℕ → ℕ) (j : ℕ) → 1 ≤ m.weight j (u j)
-  factor u j = go (eqb j (suc k) && eqb (u j) 0)
-    where
-      go : (r : Bool) → 1 ≤ cond r many 1
-      go true = some
-      go false = omega arith
-
-  heavy : many ≤ world_weight m (λ j. 0)
-  heavy = subst (λ t. t ≤ world_weight m (λ j. 0)) (rw (eqb-refl (suc k)) refl)
-      (product_at (suc p.steps) (λ j. m.weight j 0) (suc k) (omega (arith, inside)) (λ j lt. factor (λ j. 0) j))
-
-  light : (u : ℕ → ℕ) → coin u (suc k) ≡ true → world_weight m u ≡ 1
-  light u e = product_below-congr (suc p.steps) (λ j. m.weight j (u j)) (λ j. 1) (λ j lt. go j (eqb j (suc k)) refl) ∙ product_ones (suc p.steps)
-    where
-      not_zero : (t : ℕ) → eqb t 1 ≡ true → eqb t 0 ≡ false
-      not_zero t f = grind (arith, f)
-
-      go : (j : ℕ) (r : Bool) → eqb j (suc k) ≡ r → cond (r && eqb (u j) 0) many 1 ≡ 1
-      go j true f = ap (λ r. cond r many 1) (ap (λ i. eqb (u i) 0) (eqb-true j (suc k) f) ∙ not_zero (u (suc k)) e)
-      go j false f = refl
-
   few : weight_of m x y s < many
   few = let le : weight_of m x y s ≤ sum_worlds (walk_model g.vertices p (suc k) 1) (λ u. 1) =
       over-mono (λ j. true) m.values m.causes (λ u. cond (agree g.vertices y (solution (intervene m x s) u) s) (world_weight m u) 0) (λ u. 1) (λ j. 0)
       (λ u. go u (agree g.vertices y (solution (intervene m x s) u) s) refl) in omega (arith, le)
     where
       held : (u : ℕ → ℕ) → bit_of p (solution (intervene m x s) u) 0 ≡ true
-      held u = ap (λ r. has r 0) (solves x s fits_in u (p.at 0) (walk.vertex 0 (omega arith))
+      held u = ap (λ r. has r 0) (solves_under g ok p walk_p (suc k) many some x s fits_in u (p.at 0) (walk.vertex 0 (omega arith))
           ∙ ap (λ c. cond c (s (p.at 0)) (m.mechanism (p.at 0) (solution (intervene m x s) u) u)) begins) ∙ first_in_s
 
       other : (a : Bool) → differ true a ≡ false → a ≡ true
@@ -241,24 +189,20 @@ module _ (g : MixedGraph) (ok : IsMixedGraph g) (x y z : ℕ → Bool) (q : Walk
       go : (u : ℕ → ℕ) (r : Bool) → agree g.vertices y (solution (intervene m x s) u) s ≡ r → cond r (world_weight m u) 0 ≤ 1
       go u false e = omega arith
       go u true e =
-          rw (light u (other (coin u (suc k)) (sym (high_bit (solution (intervene m x s) u) u true (held u)
-          (λ i le. bit_is x s fits_in u (suc i) le (apart (suc i) (omega arith) le)) (p.steps - suc k) p.steps (omega (arith, inside)) (omega arith))
+          rw (light g.vertices p (suc k) many u (other (coin u (suc k)) (sym (high_bit (solution (intervene m x s) u) u true (held u)
+          (λ i le. bit_under g ok p walk_p (suc k) many some x s fits_in u (suc i) le (apart (suc i) (omega arith) le)) (p.steps - suc k) p.steps
+          (omega (arith, inside)) (omega arith))
           ∙ ap (λ r. has r p.steps) (agree_gives g.vertices y (solution (intervene m x s) u) s e (p.at p.steps) (walk.vertex p.steps (omega arith)) ends)
           ∙ last_in_s))) (omega arith)
-
-  sizes_m : (j : ℕ) → 0 < m.values j
-  sizes_m j = go (has_coin p j)
-    where
-      go : (r : Bool) → 0 < cond r 2 1
-      go true = omega arith
-      go false = omega arith
 
   heavy_z : many ≤ weight_of m nobody z s
   heavy_z = omega (
     arith,
-    over-term (λ j. true) m.values m.causes (λ u. cond (agree g.vertices z (at u) s) (world_weight m u) 0) (λ j. 0) (λ j lt e. sizes_m j),
+    over-term (λ j. true) m.values m.causes (λ u. cond (agree g.vertices z (at u) s) (world_weight m u) 0) (λ j. 0)
+        (λ j lt e. sizes g.vertices p (suc k) many j),
     (let h : many ≤ cond (agree g.vertices z (at (λ j. 0)) s) (world_weight m (λ j. 0)) 0 =
-        rw (agree_from g.vertices z (at (λ j. 0)) s (λ v lt i. zero_on (λ j. 0) refl v lt i ∙ sym (zero_in_s v lt i))) heavy in h),
+        rw (agree_from g.vertices z (at (λ j. 0)) s (λ v lt i. zero_on (λ j. 0) refl v lt i ∙ sym (zero_in_s v lt i)))
+        (heavy g.vertices p (suc k) many some (omega (arith, inside))) in h),
   )
 
   module _ (u : ℕ → ℕ) (world : IsWorld m u) (e : agree g.vertices (λ v. x v || z v) (at u) s ≡ true) where
@@ -288,7 +232,8 @@ module _ (g : MixedGraph) (ok : IsMixedGraph g) (x y z : ℕ → Bool) (q : Walk
         go j lt false f under_one = omega (arith, under_one)
 
     is_s : (v : ℕ) → v < g.vertices → at u v ≡ s v
-    is_s = only_one u s (λ v lt. solves nobody (λ v. 0) nowhere ones v lt
+    is_s = only_under g ok p walk_p (suc k) many some nobody (λ v. 0) nowhere u s
+        (λ v lt. solves_under g ok p walk_p (suc k) many some nobody (λ v. 0) nowhere ones v lt
         ∙ (walk_fits g ok p walk_p (suc k) many some).reads v lt s s ones u (λ r a. refl) (λ j jl c. sym (all_ones j jl)))
 
   sure_z : weight_of m nobody (λ v. x v || z v) s ≡ weight_of m nobody (λ v. x v || (y v || z v)) s
@@ -309,16 +254,13 @@ module _ (g : MixedGraph) (ok : IsMixedGraph g) (x y z : ℕ → Bool) (q : Walk
   some_one = omega (
     arith,
     over-base (λ j. true) m.values m.causes (λ u. cond (agree g.vertices (λ v. x v || (y v || z v)) (at u) s) (world_weight m u) 0) ones (λ j. 0)
-        (λ j out. beyond j (let n = λ (l : j < suc p.steps). out l refl in grind (arith, n))),
+        (λ j out. heads_beyond p j (let n = λ (l : j < suc p.steps). out l refl in grind (arith, n))),
     over-term (λ j. true) m.values m.causes (λ u. cond (agree g.vertices (λ v. x v || (y v || z v)) (at u) s) (world_weight m u) 0) ones
-        (λ j lt e. ones_world j lt),
+        (λ j lt e. heads_world g.vertices p (suc k) many j lt),
     (let h : 1 ≤ cond (agree g.vertices (λ v. x v || (y v || z v)) (at ones) s) (world_weight m ones) 0 =
         rw (agree_from g.vertices (λ v. x v || (y v || z v)) (at ones) s (λ v lt i. refl))
-        (product_pos (suc p.steps) (λ j. m.weight j (ones j)) (λ j lt. factor ones j)) in h),
+        (weighs g.vertices p (suc k) many some ones) in h),
   )
-    where
-      beyond : (j : ℕ) → suc p.steps ≤ j → ones j ≡ 0
-      beyond j le = rw (le-ltb j (suc p.steps) le) refl
 
   exceeds : IsBelowIn m s (event x y) (event nobody (λ u. x u || z u)) (event nobody (λ u. x u || (y u || z u))) (event nobody z)
   exceeds = record {

@@ -1,5 +1,5 @@
 -- What is seen at one end of a walk tells of the other.
-use Rattle.std.proofs.Common.{ℕ, suc, ◌+◌, ◌*◌, ◌≡◌, ◌<◌, ◌≤◌, Bool, true, false, cond, eqb, not, ◌&&◌, ◌||◌, refl, sym, ap, ◌∙◌, arith, le-ltb}
+use Rattle.std.proofs.Common.{ℕ, suc, ◌+◌, ◌*◌, ◌≡◌, ◌<◌, ◌≤◌, Bool, true, false, cond, not, ◌&&◌, ◌||◌, refl, sym, ap, ◌∙◌, arith}
 use Rattle.std.proofs.lemmas.Bool.{or_left, or_right, false_from_ne_true}
 use Rattle.mixed_graph.specs.Bits.{has}
 use Rattle.mixed_graph.specs.Graphs.{MixedGraph, IsMixedGraph}
@@ -10,12 +10,12 @@ use Rattle.finite_models.proofs.SumLaws.{over-congr_within, over-base, over-term
 use Rattle.finite_models.proofs.Positive.{over-mono}
 use Rattle.finite_models.proofs.Solutions.{agree_gives, agree_from}
 use Rattle.walk_models.specs.Visits.{Walk}
-use Rattle.walk_models.specs.WalkModels.{bit_of, has_coin, walk_model}
+use Rattle.walk_models.specs.WalkModels.{bit_of, walk_model}
 use Rattle.walk_models.specs.Laws.{SeenEndsTell, IsWalkTo, IsBelowIn, event}
 use Rattle.walk_models.proofs.Lifted.{times, below_is_positive}
-use Rattle.walk_models.proofs.Nearness.{product_pos}
+use Rattle.walk_models.proofs.Solved.{sizes, weighs, heads, heads_world, heads_beyond}
 use Rattle.walk_models.proofs.WalkFits.{walk_fits, walk_two}
-use Rattle.walk_models.proofs.Worlds.{within, solved, only_one, silent, one_end, all_zero, heads, heads_world, tossed, tossed_bit, tossed_solves, tossed_blank}
+use Rattle.walk_models.proofs.Worlds.{within, solved, only_one, silent, one_end, all_zero, tossed, tossed_bit, tossed_solves, tossed_blank}
 
 -- with more vertices fewer worlds agree
 pub agree_less : (n : ℕ) (a c : ℕ → Bool) (x s : ℕ → ℕ) → ((v : ℕ) → a v ≡ true → c v ≡ true) → agree n c x s ≡ true → agree n a x s ≡ true
@@ -71,20 +71,6 @@ module _ (g : MixedGraph) (ok : IsMixedGraph g) (p : Walk) (b w y z : ℕ → Bo
   abbrev pub at : (ℕ → ℕ) → ℕ → ℕ
   at u = solved g ok p h.walk h.plain 0 1 one b u
 
-  pub weighs : (u : ℕ → ℕ) → 1 ≤ world_weight m u
-  weighs u = product_pos (suc p.steps) (λ j. m.weight j (u j)) (λ j lt. go (eqb j 0 && eqb (u j) 0))
-    where
-      go : (c : Bool) → 1 ≤ cond c 1 1
-      go true = omega arith
-      go false = omega arith
-
-  pub sizes : (j : ℕ) → j < suc p.steps → 0 < m.values j
-  sizes j lt = go (has_coin p j)
-    where
-      go : (c : Bool) → 0 < cond c 2 1
-      go true = omega arith
-      go false = omega arith
-
   zeros : (v : ℕ) → v < g.vertices → at (λ j. 0) v ≡ 0
   zeros = silent g ok p h.walk h.plain 0 1 one b (λ j. 0) (λ j le. refl)
 
@@ -108,35 +94,32 @@ module _ (g : MixedGraph) (ok : IsMixedGraph g) (p : Walk) (b w y z : ℕ → Bo
       (λ e. agree_less g.vertices (λ v. z v || w v) (λ v. y v || (z v || w v)) (at u) (λ v. 0) (λ v i. or_right (y v) (z v || w v) i) e)))
 
   -- the world in which each coin is 1 has w but not y
-  at_heads : (v : ℕ) → v < g.vertices → at (heads g ok p h.walk h.plain 0 1 one b) v ≡ tossed g ok p h.walk h.plain 0 1 one b v
-  at_heads = only_one g ok p h.walk h.plain 0 1 one b (heads g ok p h.walk h.plain 0 1 one b) (tossed g ok p h.walk h.plain 0 1 one b)
+  at_heads : (v : ℕ) → v < g.vertices → at (heads p) v ≡ tossed p v
+  at_heads = only_one g ok p h.walk h.plain 0 1 one b (heads p) (tossed p)
       (tossed_solves g ok p h.walk h.plain 0 1 one b h.outside)
 
   abbrev coins : ℕ → ℕ
-  coins = heads g ok p h.walk h.plain 0 1 one b
-
-  beyond : (j : ℕ) → suc p.steps ≤ j → coins j ≡ 0
-  beyond j le = rw (le-ltb j (suc p.steps) le) refl
+  coins = heads p
 
   first_one : bit_of p (at coins) 0 ≡ true
-  first_one = ap (λ x. has x 0) (at_heads (p.at 0) (h.walk.vertex 0 (omega arith))) ∙ tossed_bit g ok p h.walk h.plain 0 1 one b 0 (omega arith)
+  first_one = ap (λ x. has x 0) (at_heads (p.at 0) (h.walk.vertex 0 (omega arith))) ∙ tossed_bit p 0 (omega arith)
 
   pub unsure : weight_of m b (λ v. y v || w v) (λ v. 0) < weight_of m b w (λ v. 0)
-  unsure = grows m b (λ v. y v || w v) w (λ v. 0) (λ v i. or_right (y v) (w v) i) coins (heads_world g ok p h.walk h.plain 0 1 one b) beyond
-      (agree_from g.vertices w (at coins) (λ v. 0) (λ v lt i. at_heads v lt ∙ tossed_blank g ok p h.walk h.plain 0 1 one b w h.strict v i))
+  unsure = grows m b (λ v. y v || w v) w (λ v. 0) (λ v i. or_right (y v) (w v) i) coins (heads_world g.vertices p 0 1) (heads_beyond p)
+      (agree_from g.vertices w (at coins) (λ v. 0) (λ v lt i. at_heads v lt ∙ tossed_blank p w h.strict v i))
       (false_from_ne_true (agree g.vertices (λ v. y v || w v) (at coins) (λ v. 0))
       (λ e. not_both (bit_of p (at coins) 0) first_one (ap (λ x. has x 0)
       (agree_gives g.vertices (λ v. y v || w v) (at coins) (λ v. 0) e (p.at 0) (h.walk.vertex 0 (omega arith)) (or_left (y (p.at 0)) (w (p.at 0)) h.begins))
       ∙ has-zero 0)))
-      (weighs coins)
+      (weighs g.vertices p 0 1 one coins)
 
   seen : IsBelowIn m (λ v. 0) (event b (λ v. y v || w v)) (event b (λ v. z v || w v)) (event b (λ v. y v || (z v || w v))) (event b w)
   seen = record {
     within = within g ok p h.walk h.plain 0 1 one b;
     below = below_from (weight_of m b (λ v. y v || w v) (λ v. 0)) (weight_of m b (λ v. z v || w v) (λ v. 0)) (weight_of m b (λ v. y v || (z v || w v)) (λ v. 0))
         (weight_of m b w (λ v. 0)) unsure sure
-        (one_at_least m b (λ v. y v || (z v || w v)) (λ v. 0) sizes
-        (agree_from g.vertices (λ v. y v || (z v || w v)) (at (λ j. 0)) (λ v. 0) (λ v lt i. zeros v lt)) (weighs (λ j. 0)));
+        (one_at_least m b (λ v. y v || (z v || w v)) (λ v. 0) (λ j lt. sizes g.vertices p 0 1 j)
+        (agree_from g.vertices (λ v. y v || (z v || w v)) (at (λ j. 0)) (λ v. 0) (λ v lt i. zeros v lt)) (weighs g.vertices p 0 1 one (λ j. 0)));
   }
 
 pub seen_ends_tell : SeenEndsTell

@@ -10,23 +10,15 @@ use Rattle.m_separation.specs.Walks.{heads_first, heads_second}
 use Rattle.finite_models.specs.Models.{FiniteModel, IsAssignment, IsWorld, IsSolution, solution, intervene, agree}
 use Rattle.finite_models.proofs.SumLaws.{eqb-refl}
 use Rattle.finite_models.proofs.Bools.{not_both}
-use Rattle.finite_models.proofs.Following.{follows_of, follows_intervene}
-use Rattle.finite_models.proofs.Solutions.{solution_is, unique, agree_gives}
-use Rattle.finite_models.proofs.Ranks.{with_rank}
+use Rattle.finite_models.proofs.Solutions.{agree_gives}
 use Rattle.walk_models.specs.Visits.{Walk, IsWalkIn, IsPlain, IsStrict, head_before, head_after, is_collider}
 use Rattle.finite_models.specs.Packed.{mask_of}
 use Rattle.finite_models.specs.Parities.{differ}
 use Rattle.walk_models.specs.WalkModels.{coin, is_both, sent_on, sent_back, has_own, has_coin, bit_of, from_before, from_after, new_bit, walk_model}
 use Rattle.walk_models.proofs.Along.{last_bit, coins}
 use Rattle.finite_models.proofs.Packed.{has-mask}
-use Rattle.walk_models.proofs.WalkFits.{mask-congr, walk_fits, when}
-
-pub below_same : (n i : ℕ) → i < n → nat_lt i n ≡ true
-below_same n i lt = grind (arith, lt)
-
-pub and_true : (a b : Bool) → b ≡ true → (a && b) ≡ a
-and_true true b e = e
-and_true false b e = refl
+use Rattle.walk_models.proofs.Solved.{below_same, and_true, heads, heads_coin, solves_under, only_under, bit_under}
+use Rattle.walk_models.proofs.WalkFits.{mask-congr, when}
 
 pub mask_none : (t : ℕ → Bool) (n : ℕ) → ((i : ℕ) → i < n → t i ≡ false) → mask_of t n ≡ 0
 mask_none t n h = zero_from_empty (mask_of t n) (λ v. has-mask t n v ∙ go v (cases_lt v n))
@@ -38,8 +30,23 @@ mask_none t n h = zero_from_empty (mask_of t n) (λ v. has-mask t n v ∙ go v (
     go v (inl lt) = ap (λ b. b && nat_lt v n) (h v lt)
     go v (inr ge) = out (t v) v n ge
 
-pub nothing : ℕ → ℕ
-nothing v = 0
+-- ---- what the vertices have in the world in which each coin is 1
+abbrev pub tossed : Walk → ℕ → ℕ
+tossed p v = mask_of (λ i. eqb v (p.at i) && not (is_collider p i)) (suc p.steps)
+
+pub tossed_bit : (p : Walk) (i : ℕ) → i ≤ p.steps → bit_of p (tossed p) i ≡ not (is_collider p i)
+tossed_bit p i le =
+    has-mask (λ j. eqb (p.at i) (p.at j) && not (is_collider p j)) (suc p.steps) i
+    ∙ and_true (eqb (p.at i) (p.at i) && not (is_collider p i)) (nat_lt i (suc p.steps)) (below_same (suc p.steps) i (omega (arith, le)))
+    ∙ ap (λ c. c && not (is_collider p i)) (eqb-refl (p.at i))
+
+-- in it all of w is 0, where the walk is strict
+pub tossed_blank : (p : Walk) (w : ℕ → Bool) → IsStrict p w → (v : ℕ) → w v ≡ true → tossed p v ≡ 0
+tossed_blank p w strict v e = mask_none (λ i. eqb v (p.at i) && not (is_collider p i)) (suc p.steps) (λ i il. here i (omega (arith, il)) (eqb v (p.at i)) refl)
+  where
+    here : (i : ℕ) → i ≤ p.steps → (q : Bool) → eqb v (p.at i) ≡ q → (q && not (is_collider p i)) ≡ false
+    here i il true f = ap not (sym (strict i il) ∙ ap w (sym (eqb-true v (p.at i) f)) ∙ e)
+    here i il false f = refl
 
 module _ (g : MixedGraph) (ok : IsMixedGraph g) (p : Walk) (walk : IsWalkIn g p) (plain : IsPlain p) (last many : ℕ) (some : 1 ≤ many) (b : ℕ → Bool) where
   abbrev m : FiniteModel
@@ -53,23 +60,13 @@ module _ (g : MixedGraph) (ok : IsMixedGraph g) (p : Walk) (walk : IsWalkIn g p)
   solved u = solution (intervene m b (λ v. 0)) u
 
   pub solves : (u : ℕ → ℕ) → IsSolution (intervene m b (λ v. 0)) u (solved u)
-  solves u v lt = with_rank g ok (solved u v) ((intervene m b (λ v. 0)).mechanism v (solved u) u)
-      (λ rank ranked. solution_is g (intervene m b (λ v. 0)) rank ranked
-      (follows_intervene g m b (λ v. 0) within (follows_of g m (walk_fits g ok p walk last many some))) u v lt)
+  solves = solves_under g ok p walk last many some b (λ v. 0) within
 
   pub only_one : (u t : ℕ → ℕ) → IsSolution (intervene m b (λ v. 0)) u t → (v : ℕ) → v < g.vertices → solved u v ≡ t v
-  only_one u t h v lt = with_rank g ok (solved u v) (t v)
-      (λ rank ranked. unique g (intervene m b (λ v. 0)) rank ranked
-      (follows_intervene g m b (λ v. 0) within (follows_of g m (walk_fits g ok p walk last many some))) u (solved u) t (solves u) h v lt)
+  only_one = only_under g ok p walk last many some b (λ v. 0) within
 
-  -- a visit outside b gets its bit
   pub bit_is : (u : ℕ → ℕ) (i : ℕ) → i ≤ p.steps → b (p.at i) ≡ false → bit_of p (solved u) i ≡ new_bit p (solved u) u i
-  bit_is u i le out =
-      ap (λ x. has x i) (solves u (p.at i) (walk.vertex i le)
-      ∙ ap (λ c. cond c 0 (mask_of (λ j. eqb (p.at i) (p.at j) && new_bit p (solved u) u j) (suc p.steps))) out)
-      ∙ has-mask (λ j. eqb (p.at i) (p.at j) && new_bit p (solved u) u j) (suc p.steps) i
-      ∙ and_true (eqb (p.at i) (p.at i) && new_bit p (solved u) u i) (nat_lt i (suc p.steps)) (below_same (suc p.steps) i (omega (arith, le)))
-      ∙ ap (λ c. c && new_bit p (solved u) u i) (eqb-refl (p.at i))
+  bit_is = bit_under g ok p walk last many some b (λ v. 0) within
 
   -- a visit gets 0 where nothing is 1 and its coins aren't
   pub new_none : (u : ℕ → ℕ) (i : ℕ) → ((j : ℕ) → j ≤ i → u j ≡ 0) → new_bit p (λ v. 0) u i ≡ false
@@ -139,33 +136,7 @@ module _ (g : MixedGraph) (ok : IsMixedGraph g) (p : Walk) (walk : IsWalkIn g p)
         go j le false h lt = omega (arith, lt)
 
   -- ---- the world in which each coin is 1
-  abbrev pub heads : ℕ → ℕ
-  heads j = cond (ltb j (suc p.steps)) (cond (has_coin p j) 1 0) 0
-
-  abbrev pub tossed : ℕ → ℕ
-  tossed v = mask_of (λ i. eqb v (p.at i) && not (is_collider p i)) (suc p.steps)
-
-  pub heads_world : IsWorld m heads
-  heads_world j lt = rw (lt-ltb j (suc p.steps) lt) (go (has_coin p j))
-    where
-      go : (c : Bool) → cond c 1 0 < cond c 2 1
-      go true = omega arith
-      go false = omega arith
-
-  pub heads_coin : (i : ℕ) → i ≤ p.steps → coin heads i ≡ has_coin p i
-  heads_coin i le = rw (lt-ltb i (suc p.steps) (omega (arith, le))) (go (has_coin p i))
-    where
-      go : (c : Bool) → (cond c 1 0 == 1) ≡ c
-      go true = refl
-      go false = refl
-
-  pub tossed_bit : (i : ℕ) → i ≤ p.steps → bit_of p tossed i ≡ not (is_collider p i)
-  tossed_bit i le =
-      has-mask (λ j. eqb (p.at i) (p.at j) && not (is_collider p j)) (suc p.steps) i
-      ∙ and_true (eqb (p.at i) (p.at i) && not (is_collider p i)) (nat_lt i (suc p.steps)) (below_same (suc p.steps) i (omega (arith, le)))
-      ∙ ap (λ c. c && not (is_collider p i)) (eqb-refl (p.at i))
-
-  tossed_new : (i : ℕ) → i ≤ p.steps → new_bit p tossed heads i ≡ not (is_collider p i)
+  tossed_new : (i : ℕ) → i ≤ p.steps → new_bit p (tossed p) (heads p) i ≡ not (is_collider p i)
   tossed_new i le =
       ap₂ differ (before_is i le) (ap₂ differ after_is own_is) ∙ joined (head_before p i) (head_after p i) (p.free i) (plain i)
     where
@@ -176,7 +147,7 @@ module _ (g : MixedGraph) (ok : IsMixedGraph g) (p : Walk) (walk : IsWalkIn g p)
       joined false false f e = refl
       joined true false true e = absurd (grind (arith, e))
 
-      before_is : (i : ℕ) → i ≤ p.steps → from_before p tossed heads i ≡ head_before p i
+      before_is : (i : ℕ) → i ≤ p.steps → from_before p (tossed p) (heads p) i ≡ head_before p i
       before_is zero le = refl
       before_is (suc j) le = go (p.mark j) refl
         where
@@ -187,26 +158,27 @@ module _ (g : MixedGraph) (ok : IsMixedGraph g) (p : Walk) (walk : IsWalkIn g p)
           out h q Into e = absurd (cc)
           out h q Both e = absurd (cc)
 
-          go : (k : Mark) → p.mark j ≡ k → sent_on k (bit_of p tossed j) (coin heads j) ≡ heads_second k
-          go Out e = tossed_bit j (omega (arith, le)) ∙ out (head_before p j) (ltb j p.steps) (p.mark j) e
+          go : (k : Mark) → p.mark j ≡ k → sent_on k (bit_of p (tossed p) j) (coin (heads p) j) ≡ heads_second k
+          go Out e = tossed_bit p j (omega (arith, le)) ∙ out (head_before p j) (ltb j p.steps) (p.mark j) e
           go Into e = refl
-          go Both e = heads_coin j (omega (arith, le)) ∙ rw (e, lt-ltb j p.steps le) refl
+          go Both e = heads_coin p j (omega (arith, le)) ∙ rw (e, lt-ltb j p.steps le) refl
 
-      after_is : from_after p tossed heads i ≡ head_after p i
-      after_is = when (ltb i p.steps) (sent_back (p.mark i) (bit_of p tossed (suc i)) (coin heads i)) (heads_first (p.mark i)) (λ l. go l (p.mark i) refl)
+      after_is : from_after p (tossed p) (heads p) i ≡ head_after p i
+      after_is = when (ltb i p.steps) (sent_back (p.mark i) (bit_of p (tossed p) (suc i)) (coin (heads p) i)) (heads_first (p.mark i))
+          (λ l. go l (p.mark i) refl)
         where
           into : (q : Bool) (k : Mark) → k ≡ Into → not (heads_second k && q) ≡ true
           into q Into e = refl
           into q Out e = absurd (cc)
           into q Both e = absurd (cc)
 
-          go : ltb i p.steps ≡ true → (k : Mark) → p.mark i ≡ k → sent_back k (bit_of p tossed (suc i)) (coin heads i) ≡ heads_first k
+          go : ltb i p.steps ≡ true → (k : Mark) → p.mark i ≡ k → sent_back k (bit_of p (tossed p) (suc i)) (coin (heads p) i) ≡ heads_first k
           go l Out e = refl
-          go l Into e = tossed_bit (suc i) (ltb-true i p.steps l) ∙ into (head_after p (suc i)) (p.mark i) e
-          go l Both e = heads_coin i le ∙ rw (e, l) refl
+          go l Into e = tossed_bit p (suc i) (ltb-true i p.steps l) ∙ into (head_after p (suc i)) (p.mark i) e
+          go l Both e = heads_coin p i le ∙ rw (e, l) refl
 
-      own_is : (has_own p i && coin heads i) ≡ has_own p i
-      own_is = ap (λ c. has_own p i && c) (heads_coin i le) ∙ go (has_own p i) (ltb i p.steps && is_both (p.mark i))
+      own_is : (has_own p i && coin (heads p) i) ≡ has_own p i
+      own_is = ap (λ c. has_own p i && c) (heads_coin p i le) ∙ go (has_own p i) (ltb i p.steps && is_both (p.mark i))
         where
           go : (o q : Bool) → (o && (q || o)) ≡ o
           go true true = refl
@@ -214,22 +186,14 @@ module _ (g : MixedGraph) (ok : IsMixedGraph g) (p : Walk) (walk : IsWalkIn g p)
           go false q = refl
 
   -- it is a solution where no visit is in b
-  pub tossed_solves : ((i : ℕ) → i ≤ p.steps → b (p.at i) ≡ false) → IsSolution (intervene m b (λ v. 0)) heads tossed
+  pub tossed_solves : ((i : ℕ) → i ≤ p.steps → b (p.at i) ≡ false) → IsSolution (intervene m b (λ v. 0)) (heads p) (tossed p)
   tossed_solves outside v lt = go (b v) refl
     where
-      go : (c : Bool) → b v ≡ c → tossed v ≡ cond c 0 (mask_of (λ i. eqb v (p.at i) && new_bit p tossed heads i) (suc p.steps))
+      go : (c : Bool) → b v ≡ c → tossed p v ≡ cond c 0 (mask_of (λ i. eqb v (p.at i) && new_bit p (tossed p) (heads p) i) (suc p.steps))
       go true e = mask_none (λ i. eqb v (p.at i) && not (is_collider p i)) (suc p.steps) (λ i il. here i (omega (arith, il)) (eqb v (p.at i)) refl)
         where
           here : (i : ℕ) → i ≤ p.steps → (q : Bool) → eqb v (p.at i) ≡ q → (q && not (is_collider p i)) ≡ false
           here i il true f = absurd (not_both (b (p.at i)) (ap b (sym (eqb-true v (p.at i) f)) ∙ e) (outside i il))
           here i il false f = refl
-      go false e = mask-congr (λ i. eqb v (p.at i) && not (is_collider p i)) (λ i. eqb v (p.at i) && new_bit p tossed heads i) (suc p.steps)
+      go false e = mask-congr (λ i. eqb v (p.at i) && not (is_collider p i)) (λ i. eqb v (p.at i) && new_bit p (tossed p) (heads p) i) (suc p.steps)
           (λ i il. ap (λ c. eqb v (p.at i) && c) (sym (tossed_new i (omega (arith, il)))))
-
-  -- there all of w is 0
-  pub tossed_blank : (w : ℕ → Bool) → IsStrict p w → (v : ℕ) → w v ≡ true → tossed v ≡ 0
-  tossed_blank w strict v e = mask_none (λ i. eqb v (p.at i) && not (is_collider p i)) (suc p.steps) (λ i il. here i (omega (arith, il)) (eqb v (p.at i)) refl)
-    where
-      here : (i : ℕ) → i ≤ p.steps → (q : Bool) → eqb v (p.at i) ≡ q → (q && not (is_collider p i)) ≡ false
-      here i il true f = ap not (sym (strict i il) ∙ ap w (sym (eqb-true v (p.at i) f)) ∙ e)
-      here i il false f = refl

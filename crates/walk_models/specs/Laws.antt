@@ -14,11 +14,12 @@ abbrev pub EachIsNearPositive : Type 0
 EachIsNearPositive = (g : MixedGraph) → IsMixedGraph g → (m : FiniteModel) → Fits g m
     → (extra : ℕ) × ((k : ℕ) → 1 ≤ k → (p : FiniteModel) × IsNear g m k extra p)
 
--- an event under an intervention
+-- an event, and the intervention that it is under
 pub record Event : Type 0 where
   pub doing : ℕ → Bool
   pub of : ℕ → Bool
 
+-- the event a under do(b)
 abbrev pub event : (doing of : ℕ → Bool) → Event
 event b a = record { doing = b; of = a }
 

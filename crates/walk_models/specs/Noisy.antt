@@ -4,7 +4,8 @@ use Rattle.mixed_graph.specs.Graphs.{MixedGraph}
 use Rattle.finite_models.specs.Models.{FiniteModel, Fits, IsAssignment, IsPositiveModel, weight_of}
 use Rattle.finite_models.specs.Served.{ServesTwo}
 
--- Each vertex v gets a cause of its own, number causes + v. With value 0, of weight k, v follows its mechanism; with value i + 1, of weight 1, it has the value i.
+-- Each vertex v gets a cause of its own, number causes + v.
+-- With value 0, of weight k, v follows its mechanism; with value i + 1, of weight 1, it has the value i.
 abbrev pub noisy : ℕ → FiniteModel → FiniteModel
 noisy k m = record m {
   causes = m.causes + m.vertices;
