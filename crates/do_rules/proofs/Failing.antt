@@ -18,7 +18,7 @@ use Rattle.walk_models.proofs.Stricts.{open_walks_depend}
 use Rattle.walk_models.proofs.Told.{seen_ends_tell}
 use Rattle.walk_models.proofs.Done.{done_ends_tell}
 use Rattle.walk_models.proofs.Free.{done_ends_are_free, given_ends_tell}
-use Rattle.do_rules.specs.Rules.{AreFourSets, AreDependent, DifferSomewhere, IsRuleGraph, IsFarPart, Side, left_of, right_of, OpenRulesFail, IndependenceIsSeparation, RuleIsSeparation}
+use Rattle.do_rules.specs.Rules.{AreFourSets, AreDependent, DifferSomewhere, IsRuleGraph, IsFarPart, Side, left_of, right_of, OpenRulesFail, IndependenceIsSeparation, PositiveIndependenceIsSeparation, RuleIsSeparation}
 use Rattle.do_rules.specs.declared.rules.Rule.{Rule}
 use Rattle.do_rules.specs.declared.rules.Rule.TheVariants.{One, Two, Three}
 use Rattle.do_rules.proofs.Holds.{independent_holds, rule_holds}
@@ -37,6 +37,7 @@ dependent g ok x y w walk =
       model = d.model;
       fits = d.fits;
       positive = d.positive;
+      two = d.two;
       at = d.at;
       within = d.less.within;
       unequal = λ e. less_differs (event_weight d.model (λ v. x v || w v) d.at * event_weight d.model (λ v. y v || w v) d.at)
@@ -59,6 +60,7 @@ above g left right d =
       model = d.model;
       fits = d.fits;
       positive = d.positive;
+      two = d.two;
       at = d.at;
       within = d.less.within;
       unequal = λ e. absurd
@@ -75,6 +77,7 @@ below g left right d =
       model = d.model;
       fits = d.fits;
       positive = d.positive;
+      two = d.two;
       at = d.at;
       within = d.less.within;
       unequal = λ e. absurd
@@ -233,6 +236,12 @@ open_rules_fail = λ r g ok x y z w sets p o. rule_fails g ok x y z w sets r o.g
 pub independence_is_separation : IndependenceIsSeparation
 independence_is_separation =
     λ g ok x y w sets. (independent_holds g ok x y w sets, λ all v r o. let d = dependent g ok x y w (v, r, o) in d.unequal (all d.model d.fits d.at))
+
+pub positive_independence_is_separation : PositiveIndependenceIsSeparation
+positive_independence_is_separation = λ g ok x y w sets. (
+  λ apart m fits positive. independent_holds g ok x y w sets apart m fits,
+  λ all v r o. let d = dependent g ok x y w (v, r, o) in d.unequal (all d.model d.fits d.positive d.at),
+)
 
 pub rule_is_separation : RuleIsSeparation
 rule_is_separation = λ r g ok x y z w sets h is. (
