@@ -6,6 +6,7 @@ pub mod Choosing
 pub mod Counted
 pub mod Distances
 pub mod Entries
+pub mod Excluded
 pub mod Final
 pub mod Following
 pub mod HedgePair
