@@ -11,10 +11,12 @@ pub enum Conditional {
     Formula(Formula, Derivation),
     /// The joint effect of `x` on `y` into which the observations turn: `x` has those that became
     /// interventions, `y` those that are left. It has a hedge, and two models that agree on all
-    /// observations and differ on it.
+    /// observations and differ on it. Where `settled`, no observation is left, or those that are left
+    /// have an effect that is known: then the two models differ on the target too.
     Joint {
         x: VSet,
         y: VSet,
+        settled: bool,
         hedge: Hedge,
         pair: CounterPair,
     },

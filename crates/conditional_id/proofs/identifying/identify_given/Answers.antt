@@ -3,7 +3,7 @@ use Rattle.prob_expr.specs.View.{target_view}
 use Rattle.id_recursion.proofs.RightAnswers.{if_ok}
 use Rattle.conditional_theory.proofs.Answered.{conditional_is_right, conditional_is_shallow, derived_is_conditional}
 use Rattle.conditional_id.specs.Answers.{IsAnswerGiven}
-use Rattle.conditional_id.proofs.RightAnswers.{right, joint_effect, plain_of, plain_sets, if_formula, if_joint}
+use Rattle.conditional_id.proofs.RightAnswers.{right, joint_effect, settled_excludes, plain_of, plain_sets, if_formula, if_joint}
 use Rattle.conditional_id.proofs.identifying.identify_given.Goals as goal
 
 pub returns : goal.returns
@@ -27,8 +27,9 @@ returns c =
       effect = if_formula g t r _ (λ f d i few. (conditional_is_right g valid t k f d i).effect) found;
       shallow = if_formula g t r _ (λ f d i few. conditional_is_shallow g valid t k f d i) found;
       few = if_formula g t r _ (λ f d i few. few) found;
-      joint = if_joint g t r _ (λ x y h pair i is. joint_effect g valid t k x y h pair i) found;
-      shown = if_joint g t r _ (λ x y h pair i is. i) found;
-      plain_joint = λ e. if_joint g t r _ (λ x y h pair i is. plain_sets g t e x y h pair i) found;
-      counter = if_joint g t r _ (λ x y h pair i is. is.counter) found;
+      joint = if_joint g t r _ (λ x y b h pair i is. joint_effect g valid t k x y b h pair i) found;
+      shown = if_joint g t r _ (λ x y b h pair i is. i) found;
+      plain_joint = λ e. if_joint g t r _ (λ x y b h pair i is. plain_sets g t e x y b h pair i) found;
+      counter = if_joint g t r _ (λ x y b h pair i is. is.counter) found;
+      settled = if_joint g t r _ (λ x y b h pair i is e. settled_excludes g valid t k x y b h pair i is.counter e) found;
     }
