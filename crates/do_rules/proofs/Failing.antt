@@ -23,7 +23,7 @@ use Rattle.do_rules.specs.declared.rules.Rule.{Rule}
 use Rattle.do_rules.specs.declared.rules.Rule.TheVariants.{One, Two, Three}
 use Rattle.do_rules.proofs.Holds.{independent_holds, rule_holds}
 use Rattle.do_rules.proofs.RuleGraphs.{cut_graph}
-use Rattle.do_rules.proofs.RuleWalks.{Arrival, arrives, walk_to, leads_more, extended, at_low, at_high, mark_low, mark_high, collider_low, collider_high, walk_on, path_at, path_end, path_outside}
+use Rattle.do_rules.proofs.RuleWalks.{Arrival, arrives, walk_to, fewer_twice, joined_more, leads_more, extended, at_low, at_high, mark_low, mark_high, collider_low, collider_high, walk_on, path_at, path_end, path_outside}
 
 less_differs : (a b : ℕ) → a < b → b ≡ a → ⊥
 less_differs a b lt e = absurd (omega (arith, lt, e))
@@ -90,19 +90,6 @@ headless_into g x Out u v j e = not-true (x v) (and_second (g.arrow u v) (not (x
 headless_into g x Into u v j e = absurd (grind (arith, e))
 headless_into g x Both u v j e = not-true (x v) (and_second (not (x u)) (not (x v)) (and_second (g.both u v) (not (x u) && not (x v)) j))
 
-fewer_twice : (f h g : MixedGraph) → HasFewer f h → HasFewer h g → HasFewer f g
-fewer_twice f h g a b = record {
-  vertices = b.vertices ∙ a.vertices;
-  arrows = λ u v e. b.arrows u v (a.arrows u v e);
-  spouses = λ u v e. b.spouses u v (a.spouses u v e);
-  symmetric = a.symmetric;
-}
-
-joined_in : (h g : MixedGraph) → HasFewer h g → (k : Mark) (u v : ℕ) → IsJoined h u k v → IsJoined g u k v
-joined_in h g f Out u v j = f.arrows u v j
-joined_in h g f Into u v j = f.arrows v u j
-joined_in h g f Both u v j = f.spouses u v j
-
 module _ (g : MixedGraph) (ok : IsMixedGraph g) (x y z w : ℕ → Bool) (sets : AreFourSets g.vertices x y z w) where
   abbrev cut : MixedGraph
   cut = cut_into g x
@@ -119,7 +106,7 @@ module _ (g : MixedGraph) (ok : IsMixedGraph g) (x y z w : ℕ → Bool) (sets :
   -- the walk of an open one in a graph with fewer edges still, up to its first visit in z
   arrival : (h : MixedGraph) → HasFewer h cut → IsMixedGraph h → HasOpenWalk h y z (λ v. x v || w v) → Arrival h x w y z
   arrival h fewer h_ok walk =
-      let p = walk_to h h_ok x (λ k u v j e. headless_into g x k u v (joined_in h cut fewer k u v j) e) w y z walk in
+      let p = walk_to h h_ok x (λ k u v j e. headless_into g x k u v (joined_more h cut fewer u k v j) e) w y z walk in
       arrives h p.0 x w y z sets.y_z sets.z_w p.1
 
   whole : (h : MixedGraph) → HasFewer h cut → (a : Arrival h x w y z) → IsWalkTo g a.walk x w y z

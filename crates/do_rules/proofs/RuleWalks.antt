@@ -102,8 +102,16 @@ module _ (h : MixedGraph) (ok : IsMixedGraph h) (x : ℕ → Bool) (headless : (
       outside = visits_outside (walk_of v q.steps) w walk strict
 
 -- ---- walks in a graph with more edges
+pub fewer_twice : (f h g : MixedGraph) → HasFewer f h → HasFewer h g → HasFewer f g
+fewer_twice f h g a b = record {
+  vertices = b.vertices ∙ a.vertices;
+  arrows = λ u v e. b.arrows u v (a.arrows u v e);
+  spouses = λ u v e. b.spouses u v (a.spouses u v e);
+  symmetric = a.symmetric;
+}
+
 module _ (h g : MixedGraph) (fewer : HasFewer h g) where
-  joined_more : (u : ℕ) (k : Mark) (v : ℕ) → IsJoined h u k v → IsJoined g u k v
+  pub joined_more : (u : ℕ) (k : Mark) (v : ℕ) → IsJoined h u k v → IsJoined g u k v
   joined_more u Out v j = fewer.arrows u v j
   joined_more u Into v j = fewer.arrows v u j
   joined_more u Both v j = fewer.spouses u v j
