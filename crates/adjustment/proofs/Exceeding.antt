@@ -86,7 +86,7 @@ module _ (g : MixedGraph) (ok : IsMixedGraph g) (x y z : ℕ) (d : Exceeds g (ha
       (ap (λ n. sum.top * n) (sym (whole m x s)) ∙ e.products ∙ ap (λ n. n * sum.bottom) effect_top)
 
   pub exceeds_fails : FailsSomewhere g (effect_on x y) (adjustment_formula x y z)
-  exceeds_fails = record { model = m; fits = d.fits; positive = d.positive; at = s; within = d.less.within; unequal = go (is_empty z) refl }
+  exceeds_fails = record { model = m; fits = d.fits; positive = d.positive; two = d.two; at = s; within = d.less.within; unequal = go (is_empty z) refl }
     where
       go : (p : Bool) → is_empty z ≡ p → IsEqual (value (weights_of m) (λ j t. over 1 1) (cond p (prob y 0 x) (adjusted_sum x y z)) s) (effect m
           (effect_on x y) s) → ⊥
