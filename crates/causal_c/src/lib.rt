@@ -172,6 +172,7 @@ pub extern "C" fn causal_ask(
 ) -> u8
     // 9: a word is no text. 11: no diagram with these names is kept. Below 9 each word is a text. From 9 on nothing is written.
     ensures end { IsEnd bytes.now words.now out.old out.new err.old err.new sizes.new result }
+    ensures kept { result ≤ 7 → (g : ReadGraph) × Keeps kept.now names.now g }
     ensures not_kept { result ≡ 11 → (g : ReadGraph) → Keeps kept.now names.now g → ⊥ }
     ensures known { result ≤ 11 }
     ensures asked { result ≤ 8 → (text : List ℕ) → IsKept text kept.now names.now
