@@ -1,4 +1,6 @@
 pub mod Check
+pub mod Differences
+pub mod Experiments
 pub mod Fold
 pub mod Free
 pub mod Laws

@@ -1,3 +1,4 @@
+use Rattle.hidden_theory.proofs.Drawing.{each_is_folded, unfolded_is_positive, difference_is_drawn}
 use Rattle.hidden_theory.proofs.Drawn.{folded_is_positive, folded_keeps_weights, folded_keeps_values, folded_keeps_effects, right_as_drawn}
 use Rattle.hidden_theory.proofs.Folded.{each_has_folded}
 use Rattle.hidden_theory.proofs.theory.laws.Goals as goal
@@ -10,4 +11,7 @@ returns c = record {
   values = folded_keeps_values;
   effects = folded_keeps_effects;
   drawn = right_as_drawn;
+  unfolded = each_is_folded;
+  unfolded_positive = unfolded_is_positive;
+  not_identifiable = difference_is_drawn;
 }

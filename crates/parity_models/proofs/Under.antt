@@ -1,20 +1,21 @@
--- The two counter-models give each observation the same weight.
-use Rattle.std.proofs.Common.{ℕ, zero, suc, ◌+◌, ◌*◌, ◌%◌, ◌≡◌, ◌<◌, ◌≤◌, Bool, true, false, cond, eqb, ltb, not, refl, sym, ap, ap₂, ◌∙◌, ◌||◌, ◌&&◌, List, [], ◌∷◌, length, arith, ne_eqb, eqb-true, eq-eqb, lt-ltb, ltb-true, ltb-false}
+-- The two counter-models give each assignment the same weight under an intervention that meets big nowhere, or small somewhere.
+use Rattle.std.proofs.Common.{ℕ, zero, suc, ◌+◌, ◌*◌, ◌%◌, ◌≡◌, ◌<◌, ◌≤◌, ◌⊎◌, inl, inr, Bool, true, false, cond, eqb, ltb, not, refl, sym, ap, ap₂, ◌∙◌, ◌||◌, ◌&&◌, List, [], ◌∷◌, length, arith, ne_eqb, eqb-true, eq-eqb, lt-ltb, ltb-true, ltb-false}
 use Rattle.std.proofs.lemmas.Bool.{and_from, false_from_ne_true}
 use mathlib.Core.Path.{fun_ext}
 use Rattle.mixed_graph.specs.Graphs.{MixedGraph, IsMixedGraph}
 use Rattle.finite_models.specs.Sums.{sum_over, product_below, all_below}
-use Rattle.finite_models.specs.Models.{FiniteModel, event_weight}
-use Rattle.finite_models.proofs.Following.{Follows}
+use Rattle.finite_models.specs.Models.{FiniteModel, IsAssignment, intervene, weight_of}
+use Rattle.finite_models.proofs.Following.{Follows, follows_intervene}
 use Rattle.finite_models.proofs.Indicators.{number, number-all, all_below_each, all_below_from}
 use Rattle.finite_models.proofs.Bools.{and_first, and_second, same_truth, not_both}
 use Rattle.finite_models.proofs.SumLaws.{over-congr, over-join, product_below-congr}
 use Rattle.finite_models.proofs.Solutions.{IsRanked}
 use Rattle.finite_models.proofs.Factors.{weight_by_checks}
-use Rattle.parity_models.specs.Parities.{differ, odd_below, bit, chosen}
+use Rattle.finite_models.specs.Parities.{differ, odd_below}
+use Rattle.parity_models.specs.Parities.{bit, chosen}
 use Rattle.parity_models.specs.Links.{Link, at_vertex, AreInside}
 use Rattle.parity_models.specs.Hedges.{ParityHedge, IsParityHedge, links_of, outsider, AreOuter, IsTree}
-use Rattle.parity_models.specs.Pairs.{value, hedge_bit, carried_bit, world_bit, at_first, at_second, chooses, first_bit, second_bit, carries, top_bit, first_mechanism, second_mechanism, cause_weight, counter_model}
+use Rattle.parity_models.specs.Pairs.{value, hedge_bit, carried_bit, world_bit, at_first, at_second, chooses, first_bit, second_bit, carries, top_bit, first_mechanism, second_mechanism, cause_weight, counter_model, size_of}
 use Rattle.parity_models.proofs.Truths.{cond_false, not_true}
 use Rattle.parity_models.proofs.ParityLaws.{differ-assoc, differ-comm, differ-false, differ-self, differ-swap, odd-congr, odd-differ, odd-one, and-differ, fibres}
 use Rattle.parity_models.proofs.Solve.{at_vertex-congr, residual, bits, met, settled, kept_parity}
@@ -75,7 +76,16 @@ flipped_bit true zero lt = refl
 flipped_bit true (suc zero) lt = refl
 flipped_bit true (suc (suc x)) lt = absurd (omega arith)
 
-module _ (g : MixedGraph) (x : ℕ → Bool) (d : ParityHedge) (ok : IsParityHedge g x d) (tree : IsTree g.vertices d) (is_graph : IsMixedGraph g) (a : ℕ → ℕ) where
+-- what is wanted, and at r what is left of the parity
+abbrev pub target : ℕ → ParityHedge → (r : ℕ) → (ℕ → ℕ) → (ℕ → ℕ) → ℕ → Bool
+target n d r a u v = differ (wanted n d a u v) (d.small v && (eqb v r && odd_below n (wanted n d a u)))
+
+-- the intervention on z meets no member of big; or r, in small, is set by it
+abbrev pub LeavesAgreement : ParityHedge → (z : ℕ → Bool) → (r : ℕ) → Type 0
+LeavesAgreement d z r = ((v : ℕ) → d.big v ≡ true → z v ≡ false) ⊎ ((d.small r ≡ true) × (z r ≡ true))
+
+module _ (g : MixedGraph) (x : ℕ → Bool) (d : ParityHedge) (ok : IsParityHedge g x d) (tree : IsTree g.vertices d) (is_graph : IsMixedGraph g) (a : ℕ → ℕ)
+    (cuts : ℕ → Bool) (root : ℕ) (leaves : LeavesAgreement d cuts root) where
   chooses_low : (u : ℕ) → chooses d d.big u ≡ true → d.choice u < g.vertices
   chooses_low u e = is_graph.head_below u (d.choice u) (ok.choice_arrow u (and_first (d.big u) (not (d.roots u)) e) (not_true (d.roots u) (and_second (d.big u) (not (d.roots u)) e)))
 
@@ -158,51 +168,87 @@ module _ (g : MixedGraph) (x : ℕ → Bool) (d : ParityHedge) (ok : IsParityHed
           (λ e. let c = outsider_chooses u e in one_of (d.big (d.choice u)) (d.small (d.choice u)) (ok.choice_big u (and_first (d.big u) (not (d.roots u)) c) (not_true (d.roots u) (and_second (d.big u) (not (d.roots u)) c))))))
           ∙ summed)
 
+  -- what is left over is even
+  by_root : (u : ℕ → ℕ) → d.small root ≡ true → odd_below g.vertices (target g.vertices d root a u) ≡ false
+  by_root u s =
+      odd-differ g.vertices (wanted g.vertices d a u) (λ v. d.small v && (eqb v root && odd_below g.vertices (wanted g.vertices d a u)))
+      ∙ ap (differ (odd_below g.vertices (wanted g.vertices d a u)))
+      (odd-congr g.vertices (λ v. d.small v && (eqb v root && odd_below g.vertices (wanted g.vertices d a u)))
+      (λ v. eqb v root && odd_below g.vertices (wanted g.vertices d a u)) (λ v lt. own v (eqb v root) refl)
+      ∙ odd-one g.vertices root (λ v. odd_below g.vertices (wanted g.vertices d a u)) (ok.big_low root (ok.small_big root s)))
+      ∙ differ-self (odd_below g.vertices (wanted g.vertices d a u))
+    where
+      own : (v : ℕ) (c : Bool) → eqb v root ≡ c → (d.small v && (c && odd_below g.vertices (wanted g.vertices d a u)))
+          ≡ (c && odd_below g.vertices (wanted g.vertices d a u))
+      own v true e = let f : d.small v ≡ true = ap d.small (eqb-true v root e) ∙ s in rw f refl
+      own v false e = none (d.small v)
+        where
+          none : (c : Bool) → (c && false) ≡ false
+          none true = refl
+          none false = refl
+
+  -- where nothing is left over, or v isn't r, the target is what is wanted
+  same_target : (u : ℕ → ℕ) (v : ℕ) → (eqb v root && odd_below g.vertices (wanted g.vertices d a u)) ≡ false
+      → target g.vertices d root a u v ≡ wanted g.vertices d a u v
+  same_target u v e = rw e (last (d.small v) (wanted g.vertices d a u v))
+    where
+      last : (c w : Bool) → differ w (c && false) ≡ w
+      last true w = differ-false w
+      last false w = differ-false w
+
+  by_outer : (u : ℕ → ℕ) → odd_below g.vertices (wanted g.vertices d a u) ≡ false → odd_below g.vertices (target g.vertices d root a u) ≡ false
+  by_outer u e = odd-congr g.vertices (target g.vertices d root a u) (wanted g.vertices d a u) (λ v lt. same_target u v (rw e (none (eqb v root)))) ∙ e
+    where
+      none : (c : Bool) → (c && false) ≡ false
+      none true = refl
+      none false = refl
+
   -- A4: the inner bits that are to be flipped meet what is wanted
-  solved : (u : ℕ → ℕ) → Outer u → (v : ℕ) → d.small v ≡ true → at_vertex 0 d.inner (bits 0 d.inner (wanted g.vertices d a u)) v ≡ wanted g.vertices d a u v
+  solved : (u : ℕ → ℕ) → odd_below g.vertices (target g.vertices d root a u) ≡ false → (v : ℕ) → d.small v ≡ true
+      → at_vertex 0 d.inner (bits 0 d.inner (target g.vertices d root a u)) v ≡ target g.vertices d root a u v
   solved u eq v s =
-      sym (differ-false (at_vertex 0 d.inner (bits 0 d.inner (wanted g.vertices d a u)) v))
-      ∙ ap (differ (at_vertex 0 d.inner (bits 0 d.inner (wanted g.vertices d a u)) v)) (sym (nothing v s))
-      ∙ met 0 d.inner (wanted g.vertices d a u) v tree.apart
+      sym (differ-false (at_vertex 0 d.inner (bits 0 d.inner (target g.vertices d root a u)) v))
+      ∙ ap (differ (at_vertex 0 d.inner (bits 0 d.inner (target g.vertices d root a u)) v)) (sym (nothing v s))
+      ∙ met 0 d.inner (target g.vertices d root a u) v tree.apart
     where
       t : ℕ → Bool
-      t = wanted g.vertices d a u
+      t = target g.vertices d root a u
 
-      elsewhere : (v : ℕ) → (v ≡ tree.first → ⊥) → residual d.inner (wanted g.vertices d a u) v ≡ false
+      elsewhere : (v : ℕ) → (v ≡ tree.first → ⊥) → residual d.inner (target g.vertices d root a u) v ≡ false
       elsewhere v ne = go (d.small v) refl
         where
-          go : (c : Bool) → d.small v ≡ c → residual d.inner (wanted g.vertices d a u) v ≡ false
-          go true e = settled d.inner (wanted g.vertices d a u) v tree.ordered (tree.all v e ne)
-          go false e = away_residual d.inner d.small (wanted g.vertices d a u) v ok.inner_inside e ∙ rw e refl
+          go : (c : Bool) → d.small v ≡ c → residual d.inner (target g.vertices d root a u) v ≡ false
+          go true e = settled d.inner (target g.vertices d root a u) v tree.ordered (tree.all v e ne)
+          go false e = away_residual d.inner d.small (target g.vertices d root a u) v ok.inner_inside e ∙ rw e refl
 
-      at_first_vertex : residual d.inner (wanted g.vertices d a u) tree.first ≡ false
+      at_first_vertex : residual d.inner (target g.vertices d root a u) tree.first ≡ false
       at_first_vertex =
-          sym (odd-one g.vertices tree.first (residual d.inner (wanted g.vertices d a u)) tree.first_low)
-          ∙ odd-congr g.vertices (λ v. eqb v tree.first && residual d.inner (wanted g.vertices d a u) v) (residual d.inner (wanted g.vertices d a u)) (λ v lt. only v (eqb v tree.first) refl)
-          ∙ kept_parity g.vertices d.inner (wanted g.vertices d a u) tree.apart ok.inner_low
-          ∙ even_wanted u eq
+          sym (odd-one g.vertices tree.first (residual d.inner (target g.vertices d root a u)) tree.first_low)
+          ∙ odd-congr g.vertices (λ v. eqb v tree.first && residual d.inner (target g.vertices d root a u) v) (residual d.inner (target g.vertices d root a u)) (λ v lt. only v (eqb v tree.first) refl)
+          ∙ kept_parity g.vertices d.inner (target g.vertices d root a u) tree.apart ok.inner_low
+          ∙ eq
         where
-          only : (v : ℕ) (c : Bool) → eqb v tree.first ≡ c → (c && residual d.inner (wanted g.vertices d a u) v) ≡ residual d.inner (wanted g.vertices d a u) v
+          only : (v : ℕ) (c : Bool) → eqb v tree.first ≡ c → (c && residual d.inner (target g.vertices d root a u) v) ≡ residual d.inner (target g.vertices d root a u) v
           only v true e = refl
           only v false e = sym (elsewhere v (ne_of v tree.first e))
 
-      nothing : (v : ℕ) → d.small v ≡ true → residual d.inner (wanted g.vertices d a u) v ≡ false
+      nothing : (v : ℕ) → d.small v ≡ true → residual d.inner (target g.vertices d root a u) v ≡ false
       nothing v s = go (eqb v tree.first) refl
         where
-          go : (c : Bool) → eqb v tree.first ≡ c → residual d.inner (wanted g.vertices d a u) v ≡ false
-          go true e = ap (residual d.inner (wanted g.vertices d a u)) (eqb-true v tree.first e) ∙ at_first_vertex
+          go : (c : Bool) → eqb v tree.first ≡ c → residual d.inner (target g.vertices d root a u) v ≡ false
+          go true e = ap (residual d.inner (target g.vertices d root a u)) (eqb-true v tree.first e) ∙ at_first_vertex
           go false e = elsewhere v (ne_of v tree.first e)
 
   -- ---- the mechanisms of the first model with the inner bits flipped are those of the second
   flips : (ℕ → ℕ) → ℕ → Bool
-  flips c = bits 0 d.inner (wanted g.vertices d a c)
+  flips c = bits 0 d.inner (target g.vertices d root a c)
 
   module _ (c u : ℕ → ℕ) (in_range : (j : ℕ) → j < length d.inner → u j < 2) (same : (j : ℕ) → length d.inner ≤ j → u j ≡ c j) where
     abbrev turned : ℕ → ℕ
-    turned = flip (bits 0 d.inner (wanted g.vertices d a c)) u
+    turned = flip (bits 0 d.inner (target g.vertices d root a c)) u
 
     kept_from : (j : ℕ) → length d.inner ≤ j → turned j ≡ u j
-    kept_from j le = let e : bits 0 d.inner (wanted g.vertices d a c) j ≡ false = false_from_ne_true (bits 0 d.inner (wanted g.vertices d a c) j) (λ q. absurd (omega (arith, bits_low 0 d.inner (wanted g.vertices d a c) j q))) in rw e refl
+    kept_from j le = let e : bits 0 d.inner (target g.vertices d root a c) j ≡ false = false_from_ne_true (bits 0 d.inner (target g.vertices d root a c) j) (λ q. absurd (omega (arith, bits_low 0 d.inner (target g.vertices d root a c) j q))) in rw e refl
 
     outer_alike : (y z : ℕ → ℕ) (v : ℕ) → ((j : ℕ) → length d.inner ≤ j → y j ≡ z j) → at_vertex (length d.inner) d.outer (world_bit y) v ≡ at_vertex (length d.inner) d.outer (world_bit z) v
     outer_alike y z v h = at_vertex-congr (length d.inner) d.outer (world_bit y) (world_bit z) v (λ j le. ap bit (h j le))
@@ -244,26 +290,29 @@ module _ (g : MixedGraph) (x : ℕ → Bool) (d : ParityHedge) (ok : IsParityHed
         at false true r k f q = absurd (grind (arith, f refl))
         at false false r k f q = refl
 
-    inner_turned : (v : ℕ) → at_vertex 0 d.inner (world_bit turned) v ≡ differ (at_vertex 0 d.inner (world_bit u) v) (at_vertex 0 d.inner (bits 0 d.inner (wanted g.vertices d a c)) v)
+    inner_turned : (v : ℕ) → at_vertex 0 d.inner (world_bit turned) v ≡ differ (at_vertex 0 d.inner (world_bit u) v) (at_vertex 0 d.inner (bits 0 d.inner (target g.vertices d root a c)) v)
     inner_turned v =
-        at_vertex-congr 0 d.inner (world_bit turned) (λ j. differ (world_bit u j) (bits 0 d.inner (wanted g.vertices d a c) j)) v (λ j le. each j (ltb j (length d.inner)) refl)
-        ∙ at_vertex-flip 0 d.inner (world_bit u) (bits 0 d.inner (wanted g.vertices d a c)) v
+        at_vertex-congr 0 d.inner (world_bit turned) (λ j. differ (world_bit u j) (bits 0 d.inner (target g.vertices d root a c) j)) v (λ j le. each j (ltb j (length d.inner)) refl)
+        ∙ at_vertex-flip 0 d.inner (world_bit u) (bits 0 d.inner (target g.vertices d root a c)) v
       where
-        each : (j : ℕ) (p : Bool) → ltb j (length d.inner) ≡ p → bit (flip_value (bits 0 d.inner (wanted g.vertices d a c) j) (u j)) ≡ differ (bit (u j)) (bits 0 d.inner (wanted g.vertices d a c) j)
-        each j true e = flipped_bit (bits 0 d.inner (wanted g.vertices d a c) j) (u j) (in_range j (ltb-true j (length d.inner) e))
+        each : (j : ℕ) (p : Bool) → ltb j (length d.inner) ≡ p → bit (flip_value (bits 0 d.inner (target g.vertices d root a c) j) (u j)) ≡ differ (bit (u j)) (bits 0 d.inner (target g.vertices d root a c) j)
+        each j true e = flipped_bit (bits 0 d.inner (target g.vertices d root a c) j) (u j) (in_range j (ltb-true j (length d.inner) e))
         each j false e =
-            let z : bits 0 d.inner (wanted g.vertices d a c) j ≡ false = false_from_ne_true (bits 0 d.inner (wanted g.vertices d a c) j) (λ q. absurd (let l = ltb-false j (length d.inner) e in omega (arith, bits_low 0 d.inner (wanted g.vertices d a c) j q))) in
+            let z : bits 0 d.inner (target g.vertices d root a c) j ≡ false = false_from_ne_true (bits 0 d.inner (target g.vertices d root a c) j) (λ q. absurd (let l = ltb-false j (length d.inner) e in omega (arith, bits_low 0 d.inner (target g.vertices d root a c) j q))) in
             rw z (sym (differ-false (bit (u j))))
 
-    small_alike : Outer u → (v : ℕ) → d.small v ≡ true → first_bit g.vertices d a turned v ≡ differ (chosen g.vertices (chooses d d.small) d.choice (hedge_bit d a) v) (at_second d (world_bit u) v)
-    small_alike eq v s =
+    small_alike : odd_below g.vertices (target g.vertices d root a c) ≡ false → (v : ℕ)
+        → (eqb v root && odd_below g.vertices (wanted g.vertices d a c)) ≡ false → d.small v ≡ true
+        → first_bit g.vertices d a turned v ≡ differ (chosen g.vertices (chooses d d.small) d.choice (hedge_bit d a) v) (at_second d (world_bit u) v)
+    small_alike eq v fine s =
         ap₂ differ (chosen_split v)
         (ap₂ differ (ap₂ differ (inner_turned v ∙ ap (differ (at_vertex 0 d.inner (world_bit u) v)) more) (outer_alike turned u v kept_from))
         (ap (λ r. r && world_bit turned (d.small_cause v)) s ∙ ap bit (kept_from (d.small_cause v) (own_high v s))))
         ∙ shuffle (chosen g.vertices (chooses d d.small) d.choice (hedge_bit d a) v) (chosen g.vertices (outsider d) d.choice (hedge_bit d a) v) (at_vertex 0 d.inner (world_bit u) v) (at_vertex (length d.inner) d.outer (world_bit u) v) (world_bit u (d.small_cause v))
       where
-        more : at_vertex 0 d.inner (bits 0 d.inner (wanted g.vertices d a c)) v ≡ differ (chosen g.vertices (outsider d) d.choice (hedge_bit d a) v) (at_vertex (length d.inner) d.outer (world_bit u) v)
-        more = solved c (outer_at eq) v s ∙ wanted_alike v ∙ ap (λ r. r && differ (chosen g.vertices (outsider d) d.choice (hedge_bit d a) v) (at_vertex (length d.inner) d.outer (world_bit u) v)) s
+        more : at_vertex 0 d.inner (bits 0 d.inner (target g.vertices d root a c)) v ≡ differ (chosen g.vertices (outsider d) d.choice (hedge_bit d a) v) (at_vertex (length d.inner) d.outer (world_bit u) v)
+        more = solved c eq v s ∙ same_target c v fine ∙ wanted_alike v
+            ∙ ap (λ r. r && differ (chosen g.vertices (outsider d) d.choice (hedge_bit d a) v) (at_vertex (length d.inner) d.outer (world_bit u) v)) s
 
         shuffle : (p q i o w : Bool) → differ (differ p q) (differ (differ (differ i (differ q o)) o) w) ≡ differ p (differ i w)
         shuffle p q i o w =
@@ -271,15 +320,17 @@ module _ (g : MixedGraph) (x : ℕ → Bool) (d : ParityHedge) (ok : IsParityHed
             ∙ ap (differ p) (ap (λ r. differ q (differ r w)) (differ-assoc i (differ q o) o ∙ ap (differ i) (differ-assoc q o o ∙ ap (differ q) (differ-self o) ∙ differ-false q))
             ∙ sym (differ-assoc q (differ i q) w) ∙ ap (λ r. differ r w) (ap (differ q) (differ-comm i q) ∙ sym (differ-assoc q q i) ∙ ap (λ r. differ r i) (differ-self q)))
 
-    bits_alike : Outer u → (v : ℕ) → first_bit g.vertices d a turned v ≡ second_bit g.vertices d a u v
-    bits_alike eq v = go (d.small v) refl
+    bits_alike : odd_below g.vertices (target g.vertices d root a c) ≡ false → (v : ℕ)
+        → (eqb v root && odd_below g.vertices (wanted g.vertices d a c)) ≡ false → first_bit g.vertices d a turned v ≡ second_bit g.vertices d a u v
+    bits_alike eq v fine = go (d.small v) refl
       where
         go : (p : Bool) → d.small v ≡ p → first_bit g.vertices d a turned v ≡ cond p (differ (chosen g.vertices (chooses d d.small) d.choice (hedge_bit d a) v) (at_second d (world_bit u) v)) (first_bit g.vertices d a u v)
-        go true s = small_alike eq v s
+        go true s = small_alike eq v fine s
         go false s = outsider_alike v s
 
-    mechanisms_alike : Outer u → (v : ℕ) → first_mechanism g.vertices d v a turned ≡ second_mechanism g.vertices d v a u
-    mechanisms_alike eq v = go (d.kept v) refl
+    mechanisms_alike : odd_below g.vertices (target g.vertices d root a c) ≡ false → (v : ℕ)
+        → (eqb v root && odd_below g.vertices (wanted g.vertices d a c)) ≡ false → first_mechanism g.vertices d v a turned ≡ second_mechanism g.vertices d v a u
+    mechanisms_alike eq v fine = go (d.kept v) refl
       where
         top_high : d.kept v ≡ true → length d.inner ≤ d.kept_cause v
         top_high k = let h = ok.top_high v k in omega arith
@@ -291,37 +342,76 @@ module _ (g : MixedGraph) (x : ℕ → Bool) (d : ParityHedge) (ok : IsParityHed
         go : (p : Bool) → d.kept v ≡ p → value (d.big v) (d.kept v) (first_bit g.vertices d a turned v) (top_bit g.vertices d a turned (first_bit g.vertices d a turned v) v)
             ≡ value (d.big v) (d.kept v) (second_bit g.vertices d a u v) (top_bit g.vertices d a u (second_bit g.vertices d a u v) v)
         go true k =
-            ap (λ r. value (d.big v) (d.kept v) r (top_bit g.vertices d a turned r v)) (bits_alike eq v)
+            ap (λ r. value (d.big v) (d.kept v) r (top_bit g.vertices d a turned r v)) (bits_alike eq v fine)
             ∙ ap (λ r. value (d.big v) (d.kept v) (second_bit g.vertices d a u v) (differ (chosen g.vertices (carries d) d.carry (carried_bit d a) v) (differ (d.roots v && second_bit g.vertices d a u v) (bit r)))) (kept_from (d.kept_cause v) (top_high k))
         go false k =
-            ap (λ r. value (d.big v) (d.kept v) r (top_bit g.vertices d a turned r v)) (bits_alike eq v)
+            ap (λ r. value (d.big v) (d.kept v) r (top_bit g.vertices d a turned r v)) (bits_alike eq v fine)
             ∙ ap (λ q. value (d.big v) q (second_bit g.vertices d a u v) (top_bit g.vertices d a turned (second_bit g.vertices d a u v) v)) k
             ∙ no_top (d.big v) (second_bit g.vertices d a u v) (top_bit g.vertices d a turned (second_bit g.vertices d a u v) v) (top_bit g.vertices d a u (second_bit g.vertices d a u v) v)
             ∙ ap (λ q. value (d.big v) q (second_bit g.vertices d a u v) (top_bit g.vertices d a u (second_bit g.vertices d a u v) v)) (sym k)
 
-    -- the outsiders' equations hold where either model gives the values of a
-    outer_from_first : ((v : ℕ) → v < g.vertices → a v ≡ first_mechanism g.vertices d v a turned) → Outer u
-    outer_from_first h = outer_of_first (λ v lt o. let b = and_first (d.big v) (not (d.small v)) o in
-        ap (λ r. bit (r % 2)) (h v lt) ∙ ap (λ r. bit (value r (d.kept v) (first_bit g.vertices d a turned v) (top_bit g.vertices d a turned (first_bit g.vertices d a turned v) v) % 2)) b
+    -- what the equations of the vertices that aren't set tell
+    record Told : Type 0 where
+      even : odd_below g.vertices (target g.vertices d root a c) ≡ false
+      fine : (v : ℕ) → cuts v ≡ false → (eqb v root && odd_below g.vertices (wanted g.vertices d a c)) ≡ false
+
+    told : (((v : ℕ) → d.big v ≡ true → cuts v ≡ false) → Outer u) → Told
+    told outer = go leaves
+      where
+        none : (b : Bool) → (b && false) ≡ false
+        none true = refl
+        none false = refl
+
+        go : LeavesAgreement d cuts root → Told
+        go (inl h) = let e = even_wanted c (outer_at (outer h)) in record { even = by_outer c e; fine = λ v q. rw e (none (eqb v root)) }
+        go (inr h) = record {
+          even = by_root c h.0;
+          fine = λ v q. ap (λ b. b && odd_below g.vertices (wanted g.vertices d a c)) (ne_eqb v root (λ s. not_both (cuts v) (ap cuts s ∙ h.1) q));
+        }
+
+    -- either model gives the vertices that aren't set their values in a
+    Gives : (ℕ → (ℕ → ℕ) → (ℕ → ℕ) → ℕ) → (ℕ → ℕ) → Type 0
+    Gives f w = (v : ℕ) → v < g.vertices → cuts v ≡ false → a v ≡ f v a w
+
+    outer_from_first : Gives (first_mechanism g.vertices d) turned → ((v : ℕ) → d.big v ≡ true → cuts v ≡ false) → Outer u
+    unfolding Gives
+    outer_from_first h apart = outer_of_first (λ v lt o. let b = and_first (d.big v) (not (d.small v)) o in
+        ap (λ r. bit (r % 2)) (h v lt (apart v b)) ∙ ap
+        (λ r. bit (value r (d.kept v) (first_bit g.vertices d a turned v) (top_bit g.vertices d a turned (first_bit g.vertices d a turned v) v) % 2)) b
         ∙ hedge_of (d.kept v) (first_bit g.vertices d a turned v) (top_bit g.vertices d a turned (first_bit g.vertices d a turned v) v))
 
-    outer_from_second : ((v : ℕ) → v < g.vertices → a v ≡ second_mechanism g.vertices d v a u) → Outer u
-    outer_from_second h v lt o =
-        ap (λ r. bit (r % 2)) (h v lt) ∙ ap (λ r. bit (value r (d.kept v) (second_bit g.vertices d a u v) (top_bit g.vertices d a u (second_bit g.vertices d a u v) v) % 2)) (and_first (d.big v) (not (d.small v)) o)
+    outer_from_second : Gives (second_mechanism g.vertices d) u → ((v : ℕ) → d.big v ≡ true → cuts v ≡ false) → Outer u
+    unfolding Gives
+    outer_from_second h apart v lt o =
+        ap (λ r. bit (r % 2)) (h v lt (apart v (and_first (d.big v) (not (d.small v)) o)))
+        ∙ ap (λ r. bit (value r (d.kept v) (second_bit g.vertices d a u v) (top_bit g.vertices d a u (second_bit g.vertices d a u v) v) % 2))
+        (and_first (d.big v) (not (d.small v)) o)
         ∙ hedge_of (d.kept v) (second_bit g.vertices d a u v) (top_bit g.vertices d a u (second_bit g.vertices d a u v) v)
         ∙ cond_false (d.small v) (differ (chosen g.vertices (chooses d d.small) d.choice (hedge_bit d a) v) (at_second d (world_bit u) v)) (first_bit g.vertices d a u v) (not_true (d.small v) (and_second (d.big v) (not (d.small v)) o))
 
-    all_alike : all_below g.vertices (λ v. cond true (eqb (a v) (first_mechanism g.vertices d v a turned)) true) ≡ all_below g.vertices (λ v. cond true (eqb (a v) (second_mechanism g.vertices d v a u)) true)
+    all_alike : all_below g.vertices (λ v. cond true (eqb (a v) (cond (cuts v) (a v) (first_mechanism g.vertices d v a turned))) true)
+        ≡ all_below g.vertices (λ v. cond true (eqb (a v) (cond (cuts v) (a v) (second_mechanism g.vertices d v a u))) true)
+    unfolding Gives
     all_alike =
-        same_truth (all_below g.vertices (λ v. eqb (a v) (first_mechanism g.vertices d v a turned))) (all_below g.vertices (λ v. eqb (a v) (second_mechanism g.vertices d v a u)))
-        (λ e. let h = read (first_mechanism g.vertices d) turned e in write (second_mechanism g.vertices d) u (λ v lt. h v lt ∙ mechanisms_alike (outer_from_first h) v))
-        (λ e. let h = read (second_mechanism g.vertices d) u e in write (first_mechanism g.vertices d) turned (λ v lt. h v lt ∙ sym (mechanisms_alike (outer_from_second h) v)))
+        same_truth (all_below g.vertices (λ v. eqb (a v) (cond (cuts v) (a v) (first_mechanism g.vertices d v a turned))))
+        (all_below g.vertices (λ v. eqb (a v) (cond (cuts v) (a v) (second_mechanism g.vertices d v a u))))
+        (λ e. let h = read (first_mechanism g.vertices d) turned e in let k = told (outer_from_first h) in
+        write (second_mechanism g.vertices d) u (λ v lt q. h v lt q ∙ mechanisms_alike k.even v (k.fine v q)))
+        (λ e. let h = read (second_mechanism g.vertices d) u e in let k = told (outer_from_second h) in
+        write (first_mechanism g.vertices d) turned (λ v lt q. h v lt q ∙ sym (mechanisms_alike k.even v (k.fine v q))))
       where
-        read : (f : ℕ → (ℕ → ℕ) → (ℕ → ℕ) → ℕ) (w : ℕ → ℕ) → all_below g.vertices (λ v. eqb (a v) (f v a w)) ≡ true → (v : ℕ) → v < g.vertices → a v ≡ f v a w
-        read f w e v lt = eqb-true (a v) (f v a w) (all_below_each g.vertices (λ v. eqb (a v) (f v a w)) e v lt)
+        read : (f : ℕ → (ℕ → ℕ) → (ℕ → ℕ) → ℕ) (w : ℕ → ℕ) → all_below g.vertices (λ v. eqb (a v) (cond (cuts v) (a v) (f v a w))) ≡ true → (v : ℕ)
+            → v < g.vertices → cuts v ≡ false → a v ≡ f v a w
+        read f w e v lt q = let h = eqb-true (a v) (cond (cuts v) (a v) (f v a w))
+            (all_below_each g.vertices (λ v. eqb (a v) (cond (cuts v) (a v) (f v a w))) e v lt) in rw q at h
 
-        write : (f : ℕ → (ℕ → ℕ) → (ℕ → ℕ) → ℕ) (w : ℕ → ℕ) → ((v : ℕ) → v < g.vertices → a v ≡ f v a w) → all_below g.vertices (λ v. eqb (a v) (f v a w)) ≡ true
-        write f w h = all_below_from g.vertices (λ v. eqb (a v) (f v a w)) (λ v lt. eq-eqb (a v) (f v a w) (h v lt))
+        write : (f : ℕ → (ℕ → ℕ) → (ℕ → ℕ) → ℕ) (w : ℕ → ℕ) → ((v : ℕ) → v < g.vertices → cuts v ≡ false → a v ≡ f v a w)
+            → all_below g.vertices (λ v. eqb (a v) (cond (cuts v) (a v) (f v a w))) ≡ true
+        write f w h = all_below_from g.vertices (λ v. eqb (a v) (cond (cuts v) (a v) (f v a w))) (λ v lt. go v lt (cuts v) refl)
+          where
+            go : (v : ℕ) → v < g.vertices → (c : Bool) → cuts v ≡ c → eqb (a v) (cond (cuts v) (a v) (f v a w)) ≡ true
+            go v lt true q = rw q (eq-eqb (a v) (a v) refl)
+            go v lt false q = rw q (eq-eqb (a v) (f v a w) (h v lt q))
 
     weight_alike : product_below d.causes (λ j. cause_weight d j (turned j)) ≡ product_below d.causes (λ j. cause_weight d j (u j))
     weight_alike = product_below-congr d.causes (λ j. cause_weight d j (turned j)) (λ j. cause_weight d j (u j)) (λ j lt. go j (ltb j (length d.inner)) refl)
@@ -338,27 +428,29 @@ module _ (g : MixedGraph) (x : ℕ → Bool) (d : ParityHedge) (ok : IsParityHed
     Two = counter_model g.vertices d serves (second_mechanism g.vertices d)
 
     abbrev term : (ℕ → (ℕ → ℕ) → (ℕ → ℕ) → ℕ) → (ℕ → ℕ) → ℕ
-    term f u = product_below d.causes (λ j. cause_weight d j (u j)) * product_below g.vertices (λ v. number (cond true (eqb (a v) (f v a u)) true))
+    term f u = product_below d.causes (λ j. cause_weight d j (u j)) * product_below g.vertices
+        (λ v. number (cond true (eqb (a v) (cond (cuts v) (a v) (f v a u))) true))
 
     or_not : (p : Bool) → true ≡ (not p || p)
     or_not true = refl
     or_not false = refl
 
-    flip_fits : (c : ℕ → ℕ) (i : ℕ) → bits 0 d.inner (wanted g.vertices d a c) i ≡ true → (i < d.causes) × (ltb i (length d.inner) ≡ true) × (◌≡◌ {A = ℕ} 2 2)
-    flip_fits c i e = let l : i < length d.inner = omega (arith, bits_low 0 d.inner (wanted g.vertices d a c) i e) in (omega (arith, ok.links_low, l), lt-ltb i (length d.inner) l, refl)
+    flip_fits : (c : ℕ → ℕ) (i : ℕ) → bits 0 d.inner (target g.vertices d root a c) i ≡ true → (i < d.causes) × (ltb i (length d.inner) ≡ true) × (◌≡◌ {A = ℕ} 2 2)
+    flip_fits c i e = let l : i < length d.inner = omega (arith, bits_low 0 d.inner (target g.vertices d root a c) i e) in (omega (arith, ok.links_low, l), lt-ltb i (length d.inner) l, refl)
 
     -- the inner sums agree at each point of the other causes
     inner_sums : (c : ℕ → ℕ) → sum_over (λ j. ltb j (length d.inner)) (λ j. 2) d.causes (term (first_mechanism g.vertices d)) c ≡ sum_over (λ j. ltb j (length d.inner)) (λ j. 2) d.causes (term (second_mechanism g.vertices d)) c
     inner_sums c =
-        sym (over-flip (λ j. ltb j (length d.inner)) (λ j. 2) d.causes (term (first_mechanism g.vertices d)) (bits 0 d.inner (wanted g.vertices d a c)) c (flip_fits c))
-        ∙ over-congr_box (λ j. ltb j (length d.inner)) (λ j. 2) d.causes (λ u. term (first_mechanism g.vertices d) (flip (bits 0 d.inner (wanted g.vertices d a c)) u)) (term (second_mechanism g.vertices d)) c
+        sym (over-flip (λ j. ltb j (length d.inner)) (λ j. 2) d.causes (term (first_mechanism g.vertices d)) (bits 0 d.inner (target g.vertices d root a c)) c (flip_fits c))
+        ∙ over-congr_box (λ j. ltb j (length d.inner)) (λ j. 2) d.causes (λ u. term (first_mechanism g.vertices d) (flip (bits 0 d.inner (target g.vertices d root a c)) u)) (term (second_mechanism g.vertices d)) c
         (λ u r same.
         let range : (j : ℕ) → j < length d.inner → u j < 2 = λ j l. r j (omega (arith, ok.links_low)) (lt-ltb j (length d.inner) l) in
         let keep : (j : ℕ) → length d.inner ≤ j → u j ≡ c j = λ j l. same j (λ lt e. let q = ltb-true j (length d.inner) e in omega arith) in
         ap₂ (λ p q. p * q) (weight_alike c u range keep)
-        (sym (number-all g.vertices (λ v. cond true (eqb (a v) (first_mechanism g.vertices d v a (flip (bits 0 d.inner (wanted g.vertices d a c)) u))) true))
+        (sym (number-all g.vertices
+        (λ v. cond true (eqb (a v) (cond (cuts v) (a v) (first_mechanism g.vertices d v a (flip (bits 0 d.inner (target g.vertices d root a c)) u)))) true))
         ∙ ap number (all_alike c u range keep)
-        ∙ number-all g.vertices (λ v. cond true (eqb (a v) (second_mechanism g.vertices d v a u)) true)))
+        ∙ number-all g.vertices (λ v. cond true (eqb (a v) (cond (cuts v) (a v) (second_mechanism g.vertices d v a u))) true)))
 
     by_parts : (f : ℕ → (ℕ → ℕ) → (ℕ → ℕ) → ℕ) → sum_over (λ j. true) (λ j. 2) d.causes (term f) (λ j. 0)
         ≡ sum_over (λ j. not (ltb j (length d.inner))) (λ j. 2) d.causes (sum_over (λ j. ltb j (length d.inner)) (λ j. 2) d.causes (term f)) (λ j. 0)
@@ -366,12 +458,12 @@ module _ (g : MixedGraph) (x : ℕ → Bool) (d : ParityHedge) (ok : IsParityHed
         ap (λ U. sum_over U (λ j. 2) d.causes (term f) (λ j. 0)) (fun_ext (λ j. or_not (ltb j (length d.inner))))
         ∙ over-join (λ j. not (ltb j (length d.inner))) (λ j. ltb j (length d.inner)) (λ j. 2) d.causes (term f) (λ j. 0) (λ i p q. not_both (ltb i (length d.inner)) q (not_true (ltb i (length d.inner)) p))
 
-    -- both models give the assignment a of all vertices the same weight
-    pub observations_agree : event_weight One (λ v. true) a ≡ event_weight Two (λ v. true) a
-    observations_agree =
-        weight_by_checks g One rank ranked fit₁ (λ v. true) a (λ p v e q. refl)
+    -- both models give the assignment a of all vertices the same weight under the intervention
+    pub under_agrees : IsAssignment g.vertices (size_of d) a → weight_of One cuts (λ v. true) a ≡ weight_of Two cuts (λ v. true) a
+    under_agrees within =
+        weight_by_checks g (intervene One cuts a) rank ranked (follows_intervene g One cuts a within fit₁) (λ v. true) a (λ p v e q. refl)
         ∙ by_parts (first_mechanism g.vertices d)
         ∙ over-congr (λ j. not (ltb j (length d.inner))) (λ j. 2) d.causes (sum_over (λ j. ltb j (length d.inner)) (λ j. 2) d.causes (term (first_mechanism g.vertices d)))
         (sum_over (λ j. ltb j (length d.inner)) (λ j. 2) d.causes (term (second_mechanism g.vertices d))) (λ j. 0) inner_sums
         ∙ sym (by_parts (second_mechanism g.vertices d))
-        ∙ sym (weight_by_checks g Two rank ranked fit₂ (λ v. true) a (λ p v e q. refl))
+        ∙ sym (weight_by_checks g (intervene Two cuts a) rank ranked (follows_intervene g Two cuts a within fit₂) (λ v. true) a (λ p v e q. refl))

@@ -1,14 +1,14 @@
 -- Digits in mixed radix, from the last one on.
-use Rattle.std.proofs.Common.{ℕ, zero, suc, ◌+◌, ◌*◌, ◌/◌, ◌%◌, ◌≡◌, ◌<◌, ◌≤◌, Bool, true, false, cond, eqb, refl, sym, ap, ap₂, ◌∙◌, ◌⊎◌, inl, inr, List, length, get_or, set, replicate, subst, arith, eqb-true}
-use Rattle.std.proofs.lemmas.Bool.{cases_eq, cases_lt}
-use Rattle.std.proofs.lemmas.List.{get_or-replicate, get_or_past, get_or-set_same, get_or-set_other, length-replicate}
+use Rattle.std.proofs.Common.{ℕ, zero, suc, ◌+◌, ◌*◌, ◌/◌, ◌%◌, ◌≡◌, ◌<◌, ◌≤◌, Bool, true, false, cond, eqb, refl, sym, ap, ◌∙◌, ◌⊎◌, inl, inr, subst, arith, eqb-true}
+use Rattle.std.proofs.lemmas.Bool.{cases_eq}
 use Rattle.std.proofs.lemmas.Nat.{div-mul-add, mod-mul-add}
 use Rattle.finite_models.specs.Sums.{set_at}
 use Rattle.finite_models.specs.Tables.{radix}
 use Rattle.finite_models.proofs.SumLaws.{set_at-same, set_at-other}
-use Rattle.hidden_models.specs.Digits.{digits}
+use Rattle.hidden_theory.specs.Digits.{digits}
 
-pub digits_radix : (n : ℕ) (p : ℕ → Bool) (b s : ℕ → ℕ) → ((k : ℕ) → k < n → p k ≡ true → s k < b k) → (k : ℕ) → k < n → p k ≡ true → digits n p b (radix n p b s) k ≡ s k
+pub digits_radix : (n : ℕ) (p : ℕ → Bool) (b s : ℕ → ℕ) → ((k : ℕ) → k < n → p k ≡ true → s k < b k) → (k : ℕ) → k < n → p k ≡ true
+    → digits n p b (radix n p b s) k ≡ s k
 digits_radix zero p b s h k lt e = absurd (omega arith)
 digits_radix (suc n) p b s h k lt e = go (p n) refl (digits_radix n p b s (λ i il f. h i (omega arith) f) k)
   where
@@ -16,7 +16,8 @@ digits_radix (suc n) p b s h k lt e = go (p n) refl (digits_radix n p b s (λ i 
     less q = let d : k ≡ n → ⊥ = λ t. absurd (grind (arith, t, q)) in omega arith
 
     go : (c : Bool) → p n ≡ c → (k < n → p k ≡ true → digits n p b (radix n p b s) k ≡ s k)
-        → cond c (set_at (digits n p b (cond c (radix n p b s * b n + s n) (radix n p b s) / b n)) n (cond c (radix n p b s * b n + s n) (radix n p b s) % b n)) (digits n p b (cond c (radix n p b s * b n + s n) (radix n p b s))) k ≡ s k
+        → cond c (set_at (digits n p b (cond c (radix n p b s * b n + s n) (radix n p b s) / b n)) n (cond c (radix n p b s * b n + s n) (radix n p b s) % b n))
+        (digits n p b (cond c (radix n p b s * b n + s n) (radix n p b s))) k ≡ s k
     go false f ih = ih (let d : k ≡ n → ⊥ = λ t. absurd (grind (arith, ap p t, e, f)) in omega arith) e
     go true f ih = at (eqb k n) refl
       where
@@ -67,35 +68,3 @@ digits-lt (suc n) p b pos i t lt = go (cases_eq t n) (λ l. digits-lt n p b (λ 
     go : (t ≡ n) ⊎ (t ≡ n → ⊥) → (t < n → digits n p b (cond (p n) (i / b n) i) t < b t) → digits (suc n) p b i t < b t
     go (inl e) ih = subst (λ x. digits (suc n) p b i x < b x) (sym e) (subst (λ x. x < b n) (sym (digits-last n p b i)) (last (p n)))
     go (inr d) ih = let l : t < n = omega arith in subst (λ x. x < b t) (sym (digits-before n p b i t l)) (ih l)
-
--- ---- a loop that writes digits, from the last one on
--- the places from k on are written, and `rest` writes those before
-pub record AreWritten (n : ℕ) (p : ℕ → Bool) (b : ℕ → ℕ) (i : ℕ) (written : ℕ → ℕ) (rest k : ℕ) : Type 0 where
-  pub before : (t : ℕ) → t < k → digits n p b i t ≡ digits k p b rest t
-  pub from : (t : ℕ) → k ≤ t → written t ≡ digits n p b i t
-
-pub written-none : (n : ℕ) (p : ℕ → Bool) (b : ℕ → ℕ) (i k : ℕ) (written : ℕ → ℕ) → k ≡ n → ((t : ℕ) → written t ≡ 0) → AreWritten n p b i written i k
-written-none n p b i k written e zeros = record {
-  before = λ t lt. ap (λ m. digits m p b i t) (sym e);
-  from = λ t le. zeros t ∙ sym (digits-past n p b i t (omega arith));
-}
-
--- each entry of a list of zeros is 0, and so is what is taken to stand past it
-pub all_zero : (n t : ℕ) → ◌≡◌ {A = ℕ} (get_or (replicate n 0) t 0) 0
-all_zero n t = elim (cases_lt t n) [
-  | inl lt ↦ get_or-replicate {A = ℕ} n t 0 0 lt
-  | inr ge ↦ let zs : List ℕ = replicate n 0 in get_or_past zs t 0 (let e = length-replicate {A = ℕ} n 0 in omega arith)
-]
-
--- the next digit is written
-pub written-more : (n : ℕ) (p : ℕ → Bool) (b : ℕ → ℕ) (i : ℕ) (values : List ℕ) (rest rest' from to at digit base : ℕ) (kept : Bool) → at < length values → from ≡ suc at → to ≡ at → kept ≡ p at → base ≡ b at
-    → digit ≡ cond kept (rest % base) 0 → rest' ≡ cond kept (rest / base) rest → AreWritten n p b i (λ k. get_or values k 0) rest from → AreWritten n p b i (λ k. get_or (set values at digit) k 0) rest' to
-written-more n p b i values rest rest' from to at digit base kept lt ef et k x d r w = record {
-  before = λ t l. w.before t (omega arith) ∙ ap (λ m. digits m p b rest t) ef ∙ digits-before at p b rest t (omega arith) ∙ ap₂ (λ m q. digits m p b q t) (sym et) (sym (rw (k, x) at r));
-  from = λ t le. go t (cases_eq t at) (omega arith);
-}
-  where
-    go : (t : ℕ) → (t ≡ at) ⊎ (t ≡ at → ⊥) → at ≤ t → get_or (set values at digit) t 0 ≡ digits n p b i t
-    go t (inl e) le = subst (λ y. get_or (set values at digit) y 0 ≡ digits n p b i y) (sym e)
-        (get_or-set_same values at digit 0 lt ∙ rw (k, x) at d ∙ sym (digits-last at p b rest) ∙ ap (λ m. digits m p b rest at) (sym ef) ∙ sym (w.before at (omega arith)))
-    go t (inr ne) le = get_or-set_other values at t digit 0 ne ∙ w.from t (omega arith)
