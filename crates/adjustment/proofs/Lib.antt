@@ -3,3 +3,7 @@ pub mod Separating
 pub mod PathParts
 pub mod Held
 pub mod Effects
+pub mod Observed
+pub mod SingleTerms
+pub mod Exceeding
+pub mod FaultWalks

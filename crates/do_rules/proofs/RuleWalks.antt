@@ -12,26 +12,8 @@ use Rattle.m_separation.proofs.Going.{passed_from_start}
 use Rattle.finite_models.proofs.Bools.{and_first, and_second, not_both, or_false}
 use Rattle.walk_models.specs.Visits.{Walk, IsWalkIn, IsStrict, head_before, head_after, is_collider}
 use Rattle.walk_models.specs.Laws.{IsWalkTo, IsFirstIn}
+use Rattle.walk_models.proofs.Firsts.{First, first}
 use Rattle.walk_models.proofs.Stricts.{StrictSteps, Anything, strict_from, walk_of, strict_visits, visits, starts_at, ends_at}
-
--- the least number that passes a test
-record First (t : ℕ → Bool) (n : ℕ) : Type 0 where
-  pub at : ℕ
-  pub low : at ≤ n
-  pub inside : t at ≡ true
-  pub before : (i : ℕ) → i < at → t i ≡ false
-
-first : (t : ℕ → Bool) (n : ℕ) → t n ≡ true → First t n
-first t zero e = record { at = 0; low = omega arith; inside = e; before = λ i lt. absurd (omega (arith, lt)) }
-first t (suc n) e = go (t 0) refl (first (λ i. t (suc i)) n e)
-  where
-    go : (b : Bool) → t 0 ≡ b → First (λ i. t (suc i)) n → First t (suc n)
-    go true f later = record { at = 0; low = omega arith; inside = f; before = λ i lt. absurd (omega (arith, lt)) }
-    go false f later = record { at = suc later.at; low = (let le = later.low in omega (arith, le)); inside = later.inside; before = before }
-      where
-        before : (i : ℕ) → i < suc later.at → t i ≡ false
-        before zero lt = f
-        before (suc i) lt = later.before i (omega (arith, lt))
 
 -- ---- a walk up to visit n
 abbrev pub until : Walk → ℕ → Walk

@@ -1,5 +1,5 @@
 -- Late steps by numbers.
-use Rattle.std.proofs.Common.{ℕ, zero, suc, ◌≡◌, ◌≢◌, ◌<◌, ◌≤◌, inl, inr, Bool, false, List, [], ◌∷◌, length, refl, sym, subst, IsTrue, arith}
+use Rattle.std.proofs.Common.{ℕ, zero, suc, ◌≡◌, ◌≢◌, ◌<◌, ◌≤◌, inl, inr, Bool, false, List, [], ◌∷◌, length, refl, sym, ap, ◌∙◌, subst, IsTrue, arith}
 use Rattle.m_separation.specs.declared.marks.Mark.TheVariants.{Out}
 use Rattle.m_separation.specs.Walks.{Step}
 use Rattle.walk_models.specs.Visits.{vertex_at, mark_at}
@@ -16,15 +16,18 @@ record LateAt (x : ℕ → Bool) (v : ℕ) (r : List Step) : Type 0 where
   forwards : (i : ℕ) → place < i → i < length r → mark_at r i ≡ Out
   apart : (i : ℕ) → place < i → i ≤ length r → x (vertex_at v r i) ≡ false
 
-causal_marks : (x : ℕ → Bool) (r : List Step) → IsCausalOutside x r → (i : ℕ) → i < length r → mark_at r i ≡ Out
+-- such steps are arrows forwards
+pub causal_marks : (x : ℕ → Bool) (r : List Step) → IsCausalOutside x r → (i : ℕ) → i < length r → mark_at r i ≡ Out
 causal_marks x [] k i lt = absurd (omega (arith, lt))
 causal_marks x (s ∷ r) k zero lt = k.0
 causal_marks x (s ∷ r) k (suc i) lt = causal_marks x r k.2 i (omega (arith, lt))
 
-causal_outside : (x : ℕ → Bool) (v : ℕ) (r : List Step) → x v ≡ false → IsCausalOutside x r → (i : ℕ) → i ≤ length r → x (vertex_at v r i) ≡ false
-causal_outside x v [] out k i le = out
-causal_outside x v (s ∷ r) out k zero le = out
-causal_outside x v (s ∷ r) out k (suc i) le = causal_outside x s.to r k.1 k.2 i (omega (arith, le))
+-- to visits outside x
+pub causal_outside : (x : ℕ → Bool) (v : ℕ) (r : List Step) → IsCausalOutside x r → (i : ℕ) → 0 < i → i ≤ length r → x (vertex_at v r i) ≡ false
+causal_outside x v r k zero some le = absurd (omega (arith, some))
+causal_outside x v [] k (suc i) some le = absurd (omega (arith, le))
+causal_outside x v (s ∷ r) k (suc zero) some le = ap x (starts_at s.to r) ∙ k.1
+causal_outside x v (s ∷ r) k (suc (suc i)) some le = causal_outside x s.to r k.2 (suc i) (omega arith) (omega (arith, le))
 
 late_at : (x : ℕ → Bool) (v : ℕ) (r : List Step) → IsLate x r → LateAt x v r
 late_at x v [] k = absurd k
@@ -36,7 +39,8 @@ late_at x v (s ∷ r) (inl k) = record { place = 0; inside = omega arith; turn =
 
     apart : (i : ℕ) → 0 < i → i ≤ length (s ∷ r) → x (vertex_at v (s ∷ r) i) ≡ false
     apart zero gt le = absurd (omega (arith, gt))
-    apart (suc i) gt le = causal_outside x s.to r k.1 k.2 i (omega (arith, le))
+    apart (suc zero) gt le = ap x (starts_at s.to r) ∙ k.1
+    apart (suc (suc i)) gt le = causal_outside x s.to r k.2 (suc i) (omega arith) (omega (arith, le))
 late_at x v (s ∷ r) (inr k) = let q = late_at x s.to r k in
     record { place = suc q.place; inside = omega (arith, q.inside); turn = q.turn; forwards = forwards q; apart = apart q }
   where

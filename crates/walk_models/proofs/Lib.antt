@@ -1,6 +1,7 @@
 mod Along
 mod Below
 pub mod Done
+pub mod Firsts
 pub mod Free
 mod Late
 pub mod LateSteps

@@ -80,7 +80,7 @@ AreAllOutside x [] = Unit {0}
 AreAllOutside x (s ∷ r) = (x s.to ≡ false) × AreAllOutside x r
 
 -- steps outside x are arrows forwards, or some step isn't
-late_or_causal : (x : ℕ → Bool) (r : List Step) → AreAllOutside x r → IsCausalOutside x r ⊎ IsLate x r
+pub late_or_causal : (x : ℕ → Bool) (r : List Step) → AreAllOutside x r → IsCausalOutside x r ⊎ IsLate x r
 late_or_causal x [] k = inl tt
 late_or_causal x (s ∷ r) k = elim (late_or_causal x r k.1) [
   | inl c ↦ go s.mark refl c
