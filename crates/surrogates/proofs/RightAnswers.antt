@@ -13,13 +13,11 @@ use Rattle.do_derivation.specs.View.{derivation_view}
 use Rattle.do_derivation.proofs.Accepted.{accepted_is_effect}
 use Rattle.identification.proofs.Bools.{clash}
 use Rattle.identification.specs.Procedure.{IsTarget, IsIdentified}
-use Rattle.counter_models.proofs.Final.{counter}
 use Rattle.counter_models.specs.Pairs.{IsPairOf}
 use Rattle.counter_models.specs.declared.counter_pair.CounterPair.{CounterPair}
-use Rattle.hedge.proofs.Shaping.{sets_form_hedge}
 use Rattle.hedge.specs.Hedges.{IsHedge}
 use Rattle.hedge.specs.declared.hedge.Hedge.{Hedge}
-use Rattle.id_recursion.proofs.RightAnswers.{if_ok, target_term}
+use Rattle.id_recursion.proofs.RightAnswers.{if_ok, right_hedge, target_term}
 use Rattle.id_recursion.specs.Answers.{effect_on}
 use Rattle.id_recursion.specs.Hedged.{IsHedgeOf}
 use Rattle.surrogate_theory.proofs.Answered.{derived_is_surrogate, surrogate_is_accepted, stop_is_first_blocked, blocked_excludes_formula, one_surrogate, plain_comes_first}
@@ -75,7 +73,7 @@ module _ (g : MixedGraph) (valid : IsMixedGraph g) (few : g.vertices ≤ 64) (x 
   pub right : (a : Surrogate) → IsAnswerWith g zs x y a → IsRightWith g zs x y a
   right (Formula f t) i = let a = (surrogate_is_accepted g valid zs sets x y target (formula_view f) (derivation_view t) i).accepted in
       record { allowed = a.listed; accepted = a; effect = (accepted_is_effect g valid zs (effect_on x y) (formula_view f) (derivation_view t) (target_term g x y target) a).1 }
-  right (Stopped district h pair) i = record { hedge = sets_form_hedge g x y h valid few i.hedge; counter = counter g valid few x y h i.hedge off pair i.models }
+  right (Stopped district h pair) i = right_hedge g valid few x y target off h pair i.hedge i.models
 
   pub exact : (a : Surrogate) → IsAnswerWith g zs x y a → IsTrue (is_stopped a) ↔ SomeBlocked g zs x y
   exact (Formula f t) i = (λ e. absurd (clash false e refl), λ b. absurd (blocked_excludes_formula g valid zs x y target b (formula_view f) (derived_is_surrogate g zs x y (formula_view f) (derivation_view t) i)))
