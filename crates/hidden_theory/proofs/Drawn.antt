@@ -89,7 +89,7 @@ module _ (g : MixedGraph) (ok : IsMixedGraph g) (l : ℕ → Bool) (q : MixedGra
         (mul-pos (observed (values_before l s) (before_within s hs)) (total_positive q m' fit'))
         (ap (λ n. n * total m') (sym (none_observed s)) ∙ drawn_weight (λ k. false) (λ k. true) s hs ∙ ap (λ n. n * total m) (weight_of-none m' (λ k. false) (λ k. true) s (λ k. refl)))
 
-    new_positive : (b a : ℕ → Bool) (s : ℕ → ℕ) → IsAssignment m'.vertices m'.size s → 1 ≤ weight_of m' b a s
+    pub new_positive : (b a : ℕ → Bool) (s : ℕ → ℕ) → IsAssignment m'.vertices m'.size s → 1 ≤ weight_of m' b a s
     new_positive b a s hs = positive_weight q m' q_ok (follows_of q m' fit') folded_positive b a s hs
 
     into : (s : ℕ → ℕ) → IsAssignment (drawn_weights l m).vertices (drawn_weights l m).size s → IsAssignment m'.vertices m'.size s
@@ -101,7 +101,7 @@ module _ (g : MixedGraph) (ok : IsMixedGraph g) (l : ℕ → Bool) (q : MixedGra
     drawn_some : (k : ℕ) → k < (drawn_weights l m).vertices → 1 ≤ (drawn_weights l m).size k
     drawn_some k kl = fit.positive_size (member (λ v. not (l v)) m.vertices k) (member_is (λ v. not (l v)) m.vertices k kl).below
 
-    drawn_positive : (b a : ℕ → Bool) (s : ℕ → ℕ) → IsAssignment (drawn_weights l m).vertices (drawn_weights l m).size s → 1 ≤ (drawn_weights l m).weight b a s
+    pub drawn_positive : (b a : ℕ → Bool) (s : ℕ → ℕ) → IsAssignment (drawn_weights l m).vertices (drawn_weights l m).size s → 1 ≤ (drawn_weights l m).weight b a s
     drawn_positive b a s hs = left_positive ((drawn_weights l m).weight b a s) (total m') (weight_of m' b a s * total m) (mul-pos (new_positive b a s (into s hs)) (total_positive g m fit)) (sym (drawn_weight b a s (into s hs)))
 
     after_drawn : (s : ℕ → ℕ) → IsAssignment m.vertices m.size s → IsAssignment (drawn_weights l m).vertices (drawn_weights l m).size (values_after l m.vertices s)

@@ -10,6 +10,7 @@ pub mod Folds
 pub mod Positions
 pub mod Reaching
 pub mod Renumber
+pub mod Statements
 pub mod Totals
 pub mod Unfold
 pub mod Unfolded
