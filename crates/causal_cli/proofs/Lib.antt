@@ -4,5 +4,5 @@ mod CheckedRuns
 mod DrawnCounts
 mod DrawnRuns
 mod Headlines
-mod Part
+pub mod LongInputs
 mod Readable
