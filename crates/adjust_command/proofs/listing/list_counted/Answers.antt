@@ -1,12 +1,16 @@
 use Rattle.std.proofs.Common.{arith}
 use Rattle.mixed_graph.specs.Bits.{has}
 use Rattle.mixed_graph.specs.Shown.{graph_of}
+use Rattle.adjustment.proofs.FaultWalks.{adjusts_exactly}
 use Rattle.adjust_command.proofs.Minimal.{none_admissible}
 use Rattle.adjust_command.proofs.listing.list_counted.Goals as goal
 
 pub returns-then-is_empty : goal.returns-then-is_empty
-returns-then-is_empty g c = record {
-  none = none_admissible (graph_of c.args.seen.now.graph) (has c.args.sets.x.bits) (has c.args.sets.y.bits) c.args.most c.in_ok-listing.listing.sets.items c.in_ok-listing.listing.more
-      c.requires.most c.in_ok-listing.ensures.listed (grind (arith, c.if-is_empty.true, c.if-is_empty.ensures));
+returns-then-is_empty g c =
+    let q = graph_of c.args.seen.now.graph in let x = c.args.sets.x.bits in let y = c.args.sets.y.bits in
+    let none = none_admissible q (has x) (has y) c.args.most c.in_ok-listing.listing.sets.items c.in_ok-listing.listing.more
+    c.requires.most c.in_ok-listing.ensures.listed (grind (arith, c.if-is_empty.true, c.if-is_empty.ensures)) in record {
+  none = none;
+  no_formula = λ z sets e. none (has z) sets ((adjusts_exactly q c.args.seen.now.graph.valid x y z sets).1 e);
   prints = c.in_ok-from_slice.ensures.items;
 }
