@@ -30,6 +30,12 @@ pub(crate) fn conditional_row(alloc: Global, row: &Value) -> Option<String> {
     let (x, y) = (set(row, "x"), set(row, "y"));
     match asked(alloc, &graph, x, y, set(row, "given"))? {
         Conditional::Formula(formula, _) => shown(alloc, &formula, &names(alloc, row, "names")?),
-        Conditional::Joint { x, y, hedge, pair } => joint_text(alloc, x, y, &hedge, pair.event),
+        Conditional::Joint {
+            x,
+            y,
+            hedge,
+            pair,
+            ..
+        } => joint_text(alloc, x, y, &hedge, pair.event),
     }
 }
