@@ -24,7 +24,7 @@ use Rattle.hidden_theory.specs.Folding.{Folds, IsObservedPositive, values_after,
 use Rattle.hidden_theory.specs.Laws.{EqualsAsDrawn}
 use Rattle.finite_models.specs.Served.{ServesTwo}
 use Rattle.hidden_theory.specs.Unfolding.{IsFoldedFrom, AgreeAsDrawn, DifferOnAsDrawn, NotIdentifiableAsDrawn}
-use Rattle.hidden_theory.specs.UnfoldingLaws.{EachIsFolded, UnfoldedIsPositive, DifferenceIsDrawn}
+use Rattle.hidden_theory.specs.UnfoldingLaws.{EachIsFolded, UnfoldedIsPositive, DifferenceIsDrawn, FormulaAsDrawnFixes}
 use Rattle.prob_expr.proofs.Alike.{left_positive}
 use Rattle.hidden_theory.proofs.Depends.{weight_depends}
 use Rattle.hidden_theory.proofs.Drawn.{after_within, before_within, drawn_weight, keeps_value, keeps_effect, keeps_term}
@@ -230,14 +230,18 @@ module _ (g : MixedGraph) (ok : IsMixedGraph g) (l : ℕ → Bool) (q : MixedGra
     turned_within : (s : ℕ → ℕ) → IsAssignment m₁.vertices m₁.size s → IsAssignment m₁.vertices m₁.size (turned s)
     turned_within s hs v vl = subst (λ x. x < m₁.size v) (sym (turned_at s v (subst (λ n. v < n) f₁.vertices vl))) (hs v vl)
 
+    -- a formula without interventions that equals the effect in the diagram as drawn gives it one value in both models
+    pub one_value : (f : PlainFormula) → is_do_free f ≡ true → EqualsAsDrawn g l t f → (s : ℕ → ℕ) → IsAssignment m₁.vertices m₁.size s
+        → IsEqual (effect m₁ t s) (effect m₂ t s)
+    one_value f free h s hs =
+        equal_trans (effect m₁ t s) (value_of (weights_of m₁) f (turned s)) (effect m₂ t s)
+        (equal_sym (value_of (weights_of m₁) f (turned s)) (effect m₁ t s) (equals_folded f h m₁ f₁ p₁ d₁ positive₁ s hs))
+        (equal_trans (value_of (weights_of m₁) f (turned s)) (value_of (weights_of m₂) f (turned s)) (effect m₂ t s)
+        (observed_fixes_value q (q_mixed g ok l q is) m₁ m₂ f₁ f₂ p₁ p₂ agreed f free (turned s) (turned_within s hs))
+        (equals_folded f h m₂ f₂ p₂ d₂ positive₂ s (second s hs)))
+
     none : DifferOnTarget m₁ m₂ t → (f : PlainFormula) → is_do_free f ≡ true → EqualsAsDrawn g l t f → ⊥
-    none differ f free h =
-        let d = (differ (λ v. 0) (λ v vl. f₁.positive_size v vl)).0 in
-        d.unequal (equal_trans (effect m₁ t d.at) (value_of (weights_of m₁) f (turned d.at)) (effect m₂ t d.at)
-        (equal_sym (value_of (weights_of m₁) f (turned d.at)) (effect m₁ t d.at) (equals_folded f h m₁ f₁ p₁ d₁ positive₁ d.at d.within))
-        (equal_trans (value_of (weights_of m₁) f (turned d.at)) (value_of (weights_of m₂) f (turned d.at)) (effect m₂ t d.at)
-        (observed_fixes_value q (q_mixed g ok l q is) m₁ m₂ f₁ f₂ p₁ p₂ agreed f free (turned d.at) (turned_within d.at d.within))
-        (equals_folded f h m₂ f₂ p₂ d₂ positive₂ d.at (second d.at d.within))))
+    none differ f free h = let d = (differ (λ v. 0) (λ v vl. f₁.positive_size v vl)).0 in d.unequal (one_value f free h d.at d.within)
 
     pub shown : DifferOnTarget m₁ m₂ t → NotIdentifiableAsDrawn g l t
     unfolding differ_drawn
@@ -256,3 +260,7 @@ module _ (g : MixedGraph) (ok : IsMixedGraph g) (l : ℕ → Bool) (q : MixedGra
 pub difference_is_drawn : DifferenceIsDrawn
 difference_is_drawn = λ g ok l q is m₁ m₂ f₁ f₂ two₁ two₂ p₁ p₂ agreed t differ.
     shown g ok l q is m₁ m₂ f₁ f₂ p₁ p₂ agreed (each_is_folded g ok l q is m₁ f₁ two₁) (each_is_folded g ok l q is m₂ f₂ two₂) t differ
+
+pub formula_as_drawn_fixes : FormulaAsDrawnFixes
+formula_as_drawn_fixes = λ g ok l q is t f free h m₁ m₂ f₁ f₂ two₁ two₂ p₁ p₂ agreed s hs.
+    one_value g ok l q is m₁ m₂ f₁ f₂ p₁ p₂ agreed (each_is_folded g ok l q is m₁ f₁ two₁) (each_is_folded g ok l q is m₂ f₂ two₂) t f free h s hs
