@@ -6,3 +6,4 @@ mod DrawnRuns
 mod Headlines
 pub mod LongInputs
 mod Readable
+mod RefutedRuns

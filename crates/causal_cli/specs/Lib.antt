@@ -2,3 +2,4 @@ pub mod Commands
 pub mod Headline
 pub mod Drawn
 pub mod Inputs
+pub mod Refuted
