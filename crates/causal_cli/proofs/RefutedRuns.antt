@@ -1,5 +1,5 @@
 -- From the end of a run to what it refutes in the diagram as drawn.
-use Rattle.std.proofs.Common.{◌≡◌, ℕ, true, List, [], ◌∷◌, Some, None, refl, subst, arith}
+use Rattle.std.proofs.Common.{◌≡◌, ℕ, true, List, [], ◌∷◌, Option, Some, None, refl, subst, arith}
 use Rattle.std.specs.Prelude.{IfSome}
 use Rattle.std.specs.Io.KnownBytes.{Appends}
 use Rattle.mixed_graph.specs.Bits.{has}
@@ -31,7 +31,6 @@ use Rattle.identify_command.specs.Conditions.{IdentifyAnswerGiven}
 use Rattle.identify_command.specs.Requests.{IsRequest}
 use Rattle.check_command.specs.Answers.{IsRead, CheckAnswer, of_formula, of_hedge}
 use Rattle.evaluate_command.specs.Answers.{EvaluateFirst}
-use Rattle.evaluate_command.specs.Requests as evaluate_requests
 use Rattle.separate_command.specs.Answers.{SeparateAnswer}
 use Rattle.separate_command.specs.Requests.{Request as SeparateRequest}
 use Rattle.separate_command.specs.Requests as separate_requests
@@ -45,9 +44,9 @@ use Rattle.command_run.specs.Run.{Run, Ends}
 use Rattle.causal_cli.specs.Commands.{commands}
 use Rattle.causal_cli.specs.declared.commands.Command.TheVariants.{Identify, Evaluate, Separate, Rule}
 use Rattle.causal_cli.specs.Headline.{WrittenFor, IsRightCertificate, Checked, HeadlineOfCheck}
-use Rattle.causal_cli.specs.Refuted.{IsNotIdentifiable, IsHedgeAsDrawn, IsUnidentifiedAsDrawn, IsHedgeCertificateAsDrawn, CheckedHedgeAsDrawn, IsDependenceAsDrawn}
+use Rattle.causal_cli.specs.Refuted.{IsNotIdentifiable, IsHedgeAsDrawn, IsUnidentifiedAsDrawn, UnevaluatedAsDrawn, IsHedgeCertificateAsDrawn, CheckedHedgeAsDrawn, IsDependenceAsDrawn}
 use Rattle.causal_cli.specs.Refuted.{IsFailureAsDrawn, RefutedAsDrawn}
-use Rattle.causal_cli.proofs.CallAnswers.{CallAnswer, on_words, on_file, on_both, call_answer, under_name, written_for}
+use Rattle.causal_cli.proofs.CallAnswers.{CallAnswer, on_words, on_file, on_both, call_answer, under_name, under_names, written_for}
 use Rattle.causal_cli.proofs.DrawnRuns.{same_read, same_hedge_target}
 
 -- two models that show an effect not to be identifiable in the observed graph show it of any target on which they differ, in the diagram as drawn
@@ -108,24 +107,28 @@ evaluated_on bytes x y text g holds (q, observed, h) = record {
   sets = record { x = h.x; y = h.y; sets = h.sets; answer = (h.answer, effect_lost g q observed h.x h.y h.answer.pair h.answer.found.right.counter) };
 }
 
+if_told : (told : Option (List ℕ)) (P : Type 0) → P → IfSome told (λ other. P)
+if_told (Some other) P p = p
+if_told None P p = tt
+
 -- a no is given on the file alone: where there is a formula, the counts have values or stop
-evaluated : (r : Run) (uses : List Use) (text : List ℕ) → Appends r.out.before r.out.after text → CallAnswer r Evaluate uses No text
-    → WrittenFor evaluate_requests.IsRequest (λ q. q.file) (λ q bytes line. IsHedgeAsDrawn hedges.ShowsHedge bytes q.x q.y line) r uses
+evaluated : (r : Run) (uses : List Use) (text : List ℕ) → Appends r.out.before r.out.after text → CallAnswer r Evaluate uses No text → UnevaluatedAsDrawn r uses
 evaluated r uses text whole (on_words q is h) = absurd h
 evaluated r uses text whole (on_file q is file names h) = record {
   request = q;
   text = text;
   asks = is;
-  right = under_name r.held q.file file (λ bytes. HoldsAnswer commands (of Evaluate q) bytes No text) (λ bytes. IsHedgeAsDrawn hedges.ShowsHedge bytes q.x q.y text)
-      (λ bytes a. evaluated_on bytes q.x q.y text a.graph a.holds a.answer) names h;
+  right = under_name r.held q.file file (λ bytes. HoldsAnswer commands (of Evaluate q) bytes No text)
+      (λ bytes. IfSome (r.held q.counts) (λ other. IsHedgeAsDrawn hedges.ShowsHedge bytes q.x q.y text))
+      (λ bytes a. if_told (r.held q.counts) (IsHedgeAsDrawn hedges.ShowsHedge bytes q.x q.y text) (evaluated_on bytes q.x q.y text a.graph a.holds a.answer)) names h;
   whole = whole;
 }
 evaluated r uses text whole (on_both q is file second names names_second h) = record {
   request = q;
   text = text;
   asks = is;
-  right = under_name r.held q.file file (λ bytes. IfSome (r.held second) (λ other. DefinedWith commands (of Evaluate q) bytes other No text))
-      (λ bytes. IsHedgeAsDrawn hedges.ShowsHedge bytes q.x q.y text) (λ bytes a. ?) names h;
+  right = under_names r.held q.file file q.counts second (λ bytes other. DefinedWith commands (of Evaluate q) bytes other No text)
+      (λ bytes other. IsHedgeAsDrawn hedges.ShowsHedge bytes q.x q.y text) (λ bytes other d. absurd d.3.2) names names_second h;
   whole = whole;
 }
 

@@ -1,5 +1,6 @@
 -- What status 1 of `identify`, `evaluate`, `separate` and `rule`, and status 0 of `check` on a hedge, say of the diagram as drawn, with its hidden vertices.
 use Rattle.std.specs.Prelude.{ℕ, ◌≡◌, true, List, [], ◌∷◌, IsTrue, IfSome, Some, None}
+use Rattle.std.specs.Io.KnownBytes.{Appends}
 use Rattle.mixed_graph.specs.Bits.{has}
 use Rattle.mixed_graph.specs.Graphs.{MixedGraph}
 use Rattle.mixed_graph.specs.Shown.{graph_of}
@@ -76,6 +77,14 @@ IsUnidentifiedAsDrawn form bytes x y None text = IsHedgeAsDrawn (ShowsHedge form
 IsUnidentifiedAsDrawn form bytes x y (Some []) text = IsHedgeAsDrawn (ShowsHedge form) bytes x y text
 IsUnidentifiedAsDrawn form bytes x y (Some (n ∷ ns)) text = IsJointAsDrawn form bytes x y (n ∷ ns) text
 
+-- such a text was written for the bytes of the file that these uses ask for, where they and those of the counts are told
+pub record UnevaluatedAsDrawn (r : Run) (uses : List Use) : Type 0 where
+  pub request : evaluate_requests.Request
+  pub text : List ℕ
+  pub asks : evaluate_requests.IsRequest uses request
+  pub right : IfSome (r.held request.file) (λ bytes. IfSome (r.held request.counts) (λ other. IsHedgeAsDrawn hedges.ShowsHedge bytes request.x request.y text))
+  pub whole : Appends r.out.before r.out.after text
+
 -- ---- check
 
 -- the bytes of the file hold a graph; and where those of the certificate are the certificate of a hedge, its effect isn't identifiable in the diagram as drawn
@@ -126,8 +135,7 @@ pub record IsFailureAsDrawn (q : rule_requests.Request) (bytes text : List ℕ) 
 pub record RefutedAsDrawn (r : Run) (code : ℕ) : Type 0 where
   pub identified : (uses : List Use) → IsCall table r.words identify_row uses → code ≡ 1
       → WrittenFor IsRequest (λ q. q.file) (λ q bytes text. IsUnidentifiedAsDrawn q.form bytes q.x q.y q.given text) r uses
-  pub evaluated : (uses : List Use) → IsCall table r.words evaluate_row uses → code ≡ 1
-      → WrittenFor evaluate_requests.IsRequest (λ q. q.file) (λ q bytes text. IsHedgeAsDrawn hedges.ShowsHedge bytes q.x q.y text) r uses
+  pub evaluated : (uses : List Use) → IsCall table r.words evaluate_row uses → code ≡ 1 → UnevaluatedAsDrawn r uses
   pub checked : (uses : List Use) → IsCall table r.words check_row uses → code ≡ 0 → CheckedHedgeAsDrawn r uses
   pub separated : (uses : List Use) → IsCall table r.words separate_row uses → code ≡ 1 → WrittenFor separate_requests.IsRequest (λ q. q.file) IsDependenceAsDrawn r uses
   pub ruled : (uses : List Use) → IsCall table r.words rule_row uses → code ≡ 1 → WrittenFor rule_requests.IsRequest (λ q. q.file) IsFailureAsDrawn r uses
