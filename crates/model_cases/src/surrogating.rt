@@ -25,11 +25,11 @@ fn asked(
     identify_with(alloc, graph, x, y, &[first, second]).ok()
 }
 
-/// A district, its hedge and the event of its models.
-fn stop_text(alloc: Global, district: VSet, h: &Hedge, event: VSet) -> Option<String> {
+/// A district, how it stops, its hedge and the event of its models.
+fn stop_text(alloc: Global, stop: &str, district: VSet, h: &Hedge, event: VSet) -> Option<String> {
     let (district, big) = (Members(district), Members(h.big));
     let (roots, event) = (Members(h.roots), Members(event));
-    format!(in alloc; "district {district}, big {big}, roots {roots}, event {event}\n").ok()
+    format!(in alloc; "{stop} district {district}, big {big}, roots {roots}, event {event}\n").ok()
 }
 
 /// The formula of an effect over the row's experiments `first` and `second`, or the district that they don't free.
@@ -42,6 +42,11 @@ pub(crate) fn surrogate_row(alloc: Global, row: &Value) -> Option<String> {
             district,
             hedge,
             pair,
-        } => stop_text(alloc, district, &hedge, pair.event),
+        } => stop_text(alloc, "stopped", district, &hedge, pair.event),
+        Surrogate::Blocked {
+            district,
+            hedge,
+            pair,
+        } => stop_text(alloc, "blocked", district, &hedge, pair.event),
     }
 }

@@ -16,11 +16,12 @@ abbrev pub around : ℕ → List ℕ → ℕ
 around c [] = 0
 around c (z ∷ zs) = if is_apart z c then join z (around c zs) else around c zs
 
--- where the district at which the procedure stops is stopped under an intervention on u that leaves it alone, its sets form a hedge for the effect, which u leaves alone
+-- the sets form a hedge for the effect, which u leaves alone
 pub record IsHedgeApart (g : MixedGraph) (x y u big small roots : ℕ) : Type 0 where
   pub hedge : AreSetsOfHedge g x y big small roots
   pub apart : Apart (has big) (has u)
 
+-- where the district at which the procedure stops is stopped under an intervention on u that leaves it alone too, there is such a hedge
 abbrev pub StopUnderHasHedge : Type 0
 StopUnderHasHedge = (g : MixedGraph) → IsMixedGraph g → (zs : List ℕ) (x y small first roots : ℕ) → IsTarget g x y → IsStoppedWith g zs x y small first
     → AreRoots g small roots

@@ -1,7 +1,12 @@
 -- Right answers to the question for P(y | do(x)) over experiments on the sets zs.
-use Rattle.std.specs.Prelude.{ℕ, ◌≡◌, Bool, true, false, List, IsTrue}
+use Rattle.std.specs.Prelude.{ℕ, ◌≡◌, Bool, true, false, List}
+use Rattle.mixed_graph.specs.Bits.{has}
 use Rattle.mixed_graph.specs.Graphs.{MixedGraph}
+use Rattle.mixed_graph.specs.Sets.{Apart}
 use Rattle.mixed_graph.specs.declared.sets.VSet.{VSet}
+use Rattle.finite_models.specs.Data.{meaning}
+use Rattle.prob_expr.specs.Differences.{HasNoFormulaOver}
+use Rattle.prob_expr.specs.Experiments.{AgreeUnderAll}
 use Rattle.prob_expr.specs.Terms.{is_allowed}
 use Rattle.prob_expr.specs.Tree.{PlainFormula}
 use Rattle.prob_expr.specs.Values.{EqualsEffect}
@@ -15,7 +20,8 @@ use Rattle.counter_models.specs.Pairs.{IsPairOf}
 use Rattle.counter_models.specs.declared.counter_pair.CounterPair.{CounterPair}
 use Rattle.id_recursion.specs.Answers.{effect_on, IsRightHedge}
 use Rattle.id_recursion.specs.Hedged.{IsHedgeOf}
-use Rattle.surrogate_theory.specs.Surrogates.{IsSurrogateBySteps, IsStoppedWith, IsFirstBlockedFor}
+use Rattle.surrogate_theory.specs.Common.{around}
+use Rattle.surrogate_theory.specs.Surrogates.{IsSurrogateBySteps, IsStoppedUnder, IsStoppedWith, IsFirstBlockedFor}
 use Rattle.surrogates.specs.declared.answer.Surrogate.{Surrogate}
 use Rattle.surrogates.specs.declared.answer.Surrogate.TheVariants as answers
 
@@ -25,28 +31,51 @@ pub record IsRightFormulaWith (g : MixedGraph) (zs : List ℕ) (x y : ℕ) (f : 
   pub accepted : Accepts g zs (effect_on x y) f t
   pub effect : EqualsEffect g (effect_on x y) f
 
+-- the two models of the hedge agree under each experiment too, so no formula whose terms are observed or under an experiment equals the effect
+pub record IsRightBlock (g : MixedGraph) (zs : List ℕ) (x y : ℕ) (h : Hedge) (pair : CounterPair) : Type 0 where
+  pub hedge : IsRightHedge g x y h pair
+  pub under : AgreeUnderAll zs (meaning g pair.first) (meaning g pair.second)
+  pub no_formula : HasNoFormulaOver g zs (effect_on x y)
+
 -- A right answer is a formula of observed terms and terms under the experiments, with an accepted derivation, that equals the effect; or a hedge for the effect with two positive models of the graph
--- that agree on all observations and differ on the effect.
+-- that agree on all observations and differ on the effect, and, where it is answered as blocked, agree under each experiment.
 abbrev pub IsRightWith : MixedGraph → List ℕ → (x y : ℕ) → Surrogate → Type 0
 IsRightWith g zs x y (answers.Formula f t) = IsRightFormulaWith g zs x y (formula_view f) (derivation_view t)
 IsRightWith g zs x y (answers.Stopped district h pair) = IsRightHedge g x y h pair
+IsRightWith g zs x y (answers.Blocked district h pair) = IsRightBlock g zs x y h pair
 
 -- the fact holds of the formula and its derivation, where they are answered
 abbrev pub IfFormula : Surrogate → (PlainFormula → PlainDerivation → Type 0) → Type 0
 IfFormula (answers.Formula f t) P = P (formula_view f) (derivation_view t)
 IfFormula (answers.Stopped district h pair) P = Unit {0}
+IfFormula (answers.Blocked district h pair) P = Unit {0}
 
--- the fact holds of the district, the hedge and its two models, where they are answered
+-- the fact holds of the district, the hedge and its two models, where they are answered as stopped
 abbrev pub IfStopped : Surrogate → (VSet → Hedge → CounterPair → Type 0) → Type 0
 IfStopped (answers.Formula f t) P = Unit {0}
 IfStopped (answers.Stopped district h pair) P = P district h pair
+IfStopped (answers.Blocked district h pair) P = Unit {0}
+
+-- and where they are answered as blocked
+abbrev pub IfBlocked : Surrogate → (VSet → Hedge → CounterPair → Type 0) → Type 0
+IfBlocked (answers.Formula f t) P = Unit {0}
+IfBlocked (answers.Stopped district h pair) P = Unit {0}
+IfBlocked (answers.Blocked district h pair) P = P district h pair
 
 -- a district is answered
 abbrev pub is_stopped : Surrogate → Bool
 is_stopped (answers.Formula f t) = false
 is_stopped (answers.Stopped district h pair) = true
+is_stopped (answers.Blocked district h pair) = true
+
+-- it is answered as blocked
+abbrev pub is_blocked : Surrogate → Bool
+is_blocked (answers.Formula f t) = false
+is_blocked (answers.Stopped district h pair) = false
+is_blocked (answers.Blocked district h pair) = true
 
 -- The district is the one at which the procedure stops, and the first in the graph's order that is blocked. The hedge is that at which its factor stops without experiment, with its data and its models.
+-- Under all experiments that leave the district alone at once its factor doesn't stop.
 pub record IsStopShown (g : MixedGraph) (zs : List ℕ) (x y : ℕ) (district : VSet) (h : Hedge) (pair : CounterPair) : Type 0 where
   pub stop : IsStoppedWith g zs x y district.bits h.big.bits
   pub first : IsFirstBlockedFor g zs x y district.bits
@@ -54,8 +83,28 @@ pub record IsStopShown (g : MixedGraph) (zs : List ℕ) (x y : ℕ) (district : 
   pub built : IsHedgeOf g h
   pub hedge : IsHedge g x y h
   pub models : IsPairOf g x y h pair
+  pub alone : (big : ℕ) → IsStoppedUnder g (around district.bits zs) district.bits big → ⊥
+
+-- The district is the first in the graph's order that is blocked. The hedge is that at which its factor stops under all experiments that leave the district alone at once, with its data and its models.
+-- It is apart from these experiments.
+pub record IsBlockShown (g : MixedGraph) (zs : List ℕ) (x y : ℕ) (district : VSet) (h : Hedge) (pair : CounterPair) : Type 0 where
+  pub first : IsFirstBlockedFor g zs x y district.bits
+  pub stop : IsStoppedUnder g (around district.bits zs) district.bits h.big.bits
+  pub apart : Apart (has h.big.bits) (has (around district.bits zs))
+  pub small : h.small ≡ district
+  pub built : IsHedgeOf g h
+  pub hedge : IsHedge g x y h
+  pub models : IsPairOf g x y h pair
+
+-- the factor of the first blocked district stops under all experiments that leave it alone at once
+pub record IsBlockedTogether (g : MixedGraph) (zs : List ℕ) (x y : ℕ) : Type 0 where
+  pub district : ℕ
+  pub first : IsFirstBlockedFor g zs x y district
+  pub big : ℕ
+  pub stop : IsStoppedUnder g (around district zs) district big
 
 -- what the procedure answers: its formula with its derivation; or the district at which it stops
 abbrev pub IsAnswerWith : MixedGraph → List ℕ → (x y : ℕ) → Surrogate → Type 0
 IsAnswerWith g zs x y (answers.Formula f t) = IsSurrogateBySteps g zs x y (formula_view f) (derivation_view t)
 IsAnswerWith g zs x y (answers.Stopped district h pair) = IsStopShown g zs x y district h pair
+IsAnswerWith g zs x y (answers.Blocked district h pair) = IsBlockShown g zs x y district h pair

@@ -18,4 +18,12 @@ pub enum Surrogate {
         hedge: Hedge,
         pair: CounterPair,
     },
+    /// A district whose factor stops under all experiments that leave it alone at once; the hedge at
+    /// which it does, and two models that agree on all observations and under each experiment, and
+    /// differ on the effect.
+    Blocked {
+        district: VSet,
+        hedge: Hedge,
+        pair: CounterPair,
+    },
 }

@@ -5,6 +5,7 @@
 #![tactic(auto)]
 
 mod answer;
+mod blocking;
 mod gathering;
 mod identifying;
 mod tries;
