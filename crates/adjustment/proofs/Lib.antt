@@ -3,7 +3,7 @@ pub mod Separating
 pub mod PathParts
 pub mod Held
 pub mod Effects
-pub mod Observed
-pub mod SingleTerms
-pub mod Exceeding
+mod Observed
+mod SingleTerms
+mod Exceeding
 pub mod FaultWalks
