@@ -18,8 +18,7 @@ returns c =
     let g = graph_of c.args.g.now in
     let zs = masks_of c.args.experiments.now in
     let target = target_from g c.args.x.bits c.args.y.bits c.requires.x_within c.requires.y_within c.requires.apart c.requires.some (omega arith) in
-    let is = c.in_ok-hedge.ensures in
-    (
+    let is = c.in_ok-hedge.ensures in (
       stop_shown g c.args.g.now.valid zs c.args.x.bits c.args.y.bits target c.args.small c.args.big c.requires.stop
           c.in_ok-hedge.hedge c.in_ok-hedge.pair is.small is.big is.data is.hedge is.pair,
       c.in_ok-common.ensures,
