@@ -22,8 +22,10 @@ pub district_named : (g : MixedGraph) (zs : List ℕ) (x y : ℕ) (district : VS
 district_named g zs x y district h pair n e few stop = subst (λ (s : VSet). Within n (has s.bits)) stop.small (hedge_named g zs x y district h pair n e few stop).small
 
 -- so are the common hedge and its models, where there is one
-pub common_named : (g : MixedGraph) → IsMixedGraph g → (zs : List ℕ) (x y : ℕ) (district : VSet) (common : Option CommonHedge) (n : ℕ) → n ≡ g.vertices → g.vertices ≤ 64
-    → Within g.vertices (has y) → IfSome common (λ k. IsRightBlock g zs x y k.hedge k.pair) → IfSome common (λ k. IsBlockShown g zs x y district k.hedge k.pair)
+pub common_named : (g : MixedGraph) → IsMixedGraph g → (zs : List ℕ) (x y : ℕ) (district : VSet) (common : Option CommonHedge)
+    → (n : ℕ) → n ≡ g.vertices → g.vertices ≤ 64 → Within g.vertices (has y)
+    → IfSome common (λ k. IsRightBlock g zs x y k.hedge k.pair)
+    → IfSome common (λ k. IsBlockShown g zs x y district k.hedge k.pair)
     → IfSome common (λ k. IsHedgeBelow n k.hedge × ArePairBelow n k.pair)
 common_named g valid zs x y district None n e few in_y right shown = tt
 common_named g valid zs x y district (Some k) n e few in_y right shown = (

@@ -26,12 +26,7 @@ fn unfound(alloc: Global, names: &Names, x: VSet, y: VSet) -> Result<Vec<u8>, Al
 }
 
 /// The line that no formula equals the effect.
-fn unidentifiable(
-    alloc: Global,
-    names: &Names,
-    x: VSet,
-    y: VSet,
-) -> Result<Vec<u8>, AllocError>
+fn unidentifiable(alloc: Global, names: &Names, x: VSet, y: VSet) -> Result<Vec<u8>, AllocError>
     requires x { Within (length names.now) (has x.bits) }
     requires y { Within (length names.now) (has y.bits) }
     ensures { IfOk result (λ v. v.items ≡ unidentifiable_with_line names.now x.bits y.bits) }

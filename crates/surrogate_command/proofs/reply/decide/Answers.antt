@@ -17,20 +17,32 @@ identify_with-requires-clause-few c = subst (λ l. length l ≤ 8) (sym c.as_sli
 
 pub stopped_text-requires-clause-district : goal.stopped_text-requires-clause-district
 stopped_text-requires-clause-district c =
-    let g = graph_of c.args.seen.now.graph in let zs = masks_of c.as_slice-experiments.result.now in let x = c.args.sets.now.x.bits in let y = c.args.sets.now.y.bits in
-    district_named g zs x y c.in-Stopped.district c.in-Stopped.hedge c.in-Stopped.pair (length c.args.seen.now.names) c.requires.named c.args.seen.now.graph.small
+    let g = graph_of c.args.seen.now.graph in
+    let zs = masks_of c.as_slice-experiments.result.now in
+    let x = c.args.sets.now.x.bits in
+    let y = c.args.sets.now.y.bits in
+    district_named g zs x y c.in-Stopped.district c.in-Stopped.hedge c.in-Stopped.pair
+    (length c.args.seen.now.names) c.requires.named c.args.seen.now.graph.small
     (subst (λ a. IfStopped a (IsStopShown g zs x y)) c.in-Stopped.is c.in_ok-formula.ensures.stopped)
 
 pub stopped_text-requires-clause-hedge : goal.stopped_text-requires-clause-hedge
 stopped_text-requires-clause-hedge c =
-    let g = graph_of c.args.seen.now.graph in let zs = masks_of c.as_slice-experiments.result.now in let x = c.args.sets.now.x.bits in let y = c.args.sets.now.y.bits in
-    hedge_named g zs x y c.in-Stopped.district c.in-Stopped.hedge c.in-Stopped.pair (length c.args.seen.now.names) c.requires.named c.args.seen.now.graph.small
+    let g = graph_of c.args.seen.now.graph in
+    let zs = masks_of c.as_slice-experiments.result.now in
+    let x = c.args.sets.now.x.bits in
+    let y = c.args.sets.now.y.bits in
+    hedge_named g zs x y c.in-Stopped.district c.in-Stopped.hedge c.in-Stopped.pair
+    (length c.args.seen.now.names) c.requires.named c.args.seen.now.graph.small
     (subst (λ a. IfStopped a (IsStopShown g zs x y)) c.in-Stopped.is c.in_ok-formula.ensures.stopped)
 
 pub stopped_text-requires-clause-common : goal.stopped_text-requires-clause-common
 stopped_text-requires-clause-common c =
-    let g = graph_of c.args.seen.now.graph in let zs = masks_of c.as_slice-experiments.result.now in let x = c.args.sets.now.x.bits in let y = c.args.sets.now.y.bits in
-    common_named g c.args.seen.now.graph.valid zs x y c.in-Stopped.district c.in-Stopped.common (length c.args.seen.now.names) c.requires.named c.args.seen.now.graph.small
+    let g = graph_of c.args.seen.now.graph in
+    let zs = masks_of c.as_slice-experiments.result.now in
+    let x = c.args.sets.now.x.bits in
+    let y = c.args.sets.now.y.bits in
+    common_named g c.args.seen.now.graph.valid zs x y c.in-Stopped.district c.in-Stopped.common
+    (length c.args.seen.now.names) c.requires.named c.args.seen.now.graph.small
     c.requires.y (subst (IsRightWith g zs x y) c.in-Stopped.is c.in_ok-formula.ensures.right).1
     (subst (λ a. IfCommon a (IsBlockShown g zs x y)) c.in-Stopped.is c.in_ok-formula.ensures.blocked)
 
@@ -39,7 +51,10 @@ formula_answer-requires-clause-given c = λ v h. absurd (let bits : c.effect_of.
 
 pub returns-in-Formula : goal.returns-in-Formula
 returns-in-Formula c =
-    let g = graph_of c.args.seen.now.graph in let zs = masks_of c.as_slice-experiments.result.now in let x = c.args.sets.now.x.bits in let y = c.args.sets.now.y.bits in
+    let g = graph_of c.args.seen.now.graph in
+    let zs = masks_of c.as_slice-experiments.result.now in
+    let x = c.args.sets.now.x.bits in
+    let y = c.args.sets.now.y.bits in
     subst (λ l. ShowsFormula g c.args.seen.now.names (masks_of l) x y c.in_ok-formula_answer-in-Formula.field-0.items) c.as_slice-experiments.ensures.value (record {
       formula = formula_view c.in-Formula.formula;
       derivation = derivation_view c.in-Formula.field-1;
@@ -53,9 +68,13 @@ returns-in-Formula c =
 
 pub returns : goal.returns
 returns c =
-    let g = graph_of c.args.seen.now.graph in let zs = masks_of c.as_slice-experiments.result.now in let x = c.args.sets.now.x.bits in let y = c.args.sets.now.y.bits in
+    let g = graph_of c.args.seen.now.graph in
+    let zs = masks_of c.as_slice-experiments.result.now in
+    let x = c.args.sets.now.x.bits in
+    let y = c.args.sets.now.y.bits in
     let right = subst (IsRightWith g zs x y) c.in-Stopped.is c.in_ok-formula.ensures.right in
-    subst (λ l. ShowsStop g c.args.seen.now.names (masks_of l) x y c.args.models c.in_ok-stopped_text-in-Stopped.field-0.items) c.as_slice-experiments.ensures.value (record {
+    subst (λ l. ShowsStop g c.args.seen.now.names (masks_of l) x y c.args.models c.in_ok-stopped_text-in-Stopped.field-0.items)
+    c.as_slice-experiments.ensures.value (record {
       district = c.in-Stopped.district;
       hedge = c.in-Stopped.hedge;
       pair = c.in-Stopped.pair;
