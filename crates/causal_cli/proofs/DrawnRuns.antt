@@ -155,7 +155,7 @@ adjusted r uses text = written_for r Adjust uses Yes text (λ q. q.file) IsAdjus
 
 -- ---- surrogate
 
-surrogated_on : (q : SurrogateRequest) (bytes text : List ℕ) (g : ReadGraph) → HoldsGraph bytes g → SurrogateAnswer g q.x q.y q.experiments Yes text → IsSurrogateAsDrawn q bytes text
+surrogated_on : (q : SurrogateRequest) (bytes text : List ℕ) (g : ReadGraph) → HoldsGraph bytes g → SurrogateAnswer g q.x q.y q.experiments q.models Yes text → IsSurrogateAsDrawn q bytes text
 surrogated_on q bytes text g holds (p, observed, h) = record {
   graph = g;
   holds = holds;

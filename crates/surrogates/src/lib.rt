@@ -10,5 +10,5 @@ mod gathering;
 mod identifying;
 mod tries;
 
-pub use answer::Surrogate;
+pub use answer::{CommonHedge, Surrogate};
 pub use identifying::{are_experiments, identify_with};
