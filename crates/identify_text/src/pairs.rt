@@ -76,7 +76,8 @@ pub fn push_models(
         b"second",
         pair.second.mechanisms.as_slice(),
     )?;
-    push_event(alloc, out, names, pair)
+    push_event(alloc, out, names, pair)?;
+    Ok(())
 }
 
 /// The text of a hedge: its heading, its choices and links, and the two models by which the effect differs though all observations agree.

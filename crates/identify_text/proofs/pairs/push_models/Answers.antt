@@ -14,4 +14,4 @@ returns c =
     (c.in_ok-push_causes.ensures ∙ ap (λ t. c.push_links.new.out.items ++ cause_lines names 0 t) c.as_slice.ensures.value)
     (c.in_ok-push_vertices.ensures ∙ ap (λ t. c.push_causes.new.out.items ++ vertex_lines names (codes "first") 0 t) c.as_slice-2.ensures.value)
     (c.in_ok-push_vertices-2.ensures ∙ ap (λ t. c.push_vertices.new.out.items ++ vertex_lines names (codes "second") 0 t) c.as_slice-3.ensures.value)
-    c.push_event.ensures
+    c.in_ok-push_event.ensures
