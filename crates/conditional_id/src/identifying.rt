@@ -9,8 +9,6 @@ ghost use Rattle.do_rules.specs.Rules.{AreThreeSets};
 ghost use Rattle.prob_expr.specs.Check.{fault_in};
 ghost use Rattle.mixed_graph.specs.Masks.{join};
 ghost use Rattle.prob_expr.specs.Differences.{HasNoFormula};
-ghost use Rattle.hedge.specs.Hedges.{IsHedge};
-ghost use Rattle.hedge.specs.declared.hedge.Hedge.{Hedge};
 ghost use Rattle.prob_expr.specs.Terms.{is_do_free};
 ghost use Rattle.prob_expr.specs.Tree.{prob};
 ghost use Rattle.prob_expr.specs.Values.{EqualsEffect};
@@ -20,6 +18,8 @@ ghost use Rattle.do_derivation.specs.Plans.{Plan, Plans, no_plans};
 ghost use Rattle.do_derivation.specs.View.{derivation_view};
 ghost use Rattle.identification.specs.Derivations.{IsDerived};
 ghost use Rattle.identification_answers.specs.Names.{FormulaNamesOnly};
+ghost use Rattle.hedge.specs.Hedges.{IsHedge};
+ghost use Rattle.hedge.specs.declared.hedge.Hedge.{Hedge};
 ghost use Rattle.counter_models.specs.Events.{AreCounterModels};
 ghost use Rattle.id_recursion.specs.Answers.{effect_on, is_hedge};
 ghost use Rattle.district_factors.specs.Lists.{onto};
@@ -183,7 +183,7 @@ pub fn identify_given(alloc: Global, g: &Graph, t: &Target) -> Result<Conditiona
 
     // A formula has an accepted derivation and the value of the effect; a joint effect is the one into which the observations
     // turn, by sets with which the effect is the same, and has two models that agree on all observations and differ on it,
-    // and where the answer is settled on the target too. Then the target has no formula.
+    // and where the answer is settled on the target too. Settled or not, the target isn't identifiable then.
     ensures right { IfOk result (IsRight (graph_of g.now) (target_view t.now)) }
 
     // A formula is answered exactly where the target has one without interventions.
@@ -210,7 +210,8 @@ pub fn identify_given(alloc: Global, g: &Graph, t: &Target) -> Result<Conditiona
     ensures plain_joint { t.now.given.bits ≡ 0 → IfOk result (λ a. IfJoint a (λ x y b h pair. (x.bits ≡ t.now.x.bits) × (y.bits ≡ t.now.y.bits))) }
     ensures counter { IfOk result (λ a. IfJoint a (λ x y b h pair. AreCounterModels (graph_of g.now) x.bits y.bits pair)) }
 
-    // Then two models that agree on all observations give the target two values, and no formula without interventions equals it.
+    // Where it is answered, two models that agree on all observations give the target two values, and no formula without
+    // interventions equals it.
     ensures not_fixed { IfOk result (λ a. IfJoint a (λ x y b h pair. IsFixed (graph_of g.now) (target_view t.now) → ⊥)) }
     ensures no_formula { IfOk result (λ a. IfJoint a (λ x y b h pair. HasNoFormula (graph_of g.now) (target_view t.now))) }
 {
