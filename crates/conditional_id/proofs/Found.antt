@@ -1,5 +1,5 @@
 -- What is found, from what identification answers for the joint effect.
-use Rattle.std.proofs.Common.{true, not, ℕ, ◌^◌, ◌≡◌, ◌≢◌, ◌<◌, ◌≤◌, ◌↔◌, refl, sym, subst, ◌∙◌, ap, inl, inr, List, [], length, IsTrue, arith}
+use Rattle.std.proofs.Common.{true, false, not, ℕ, ◌^◌, ◌≡◌, ◌≢◌, ◌<◌, ◌≤◌, ◌↔◌, refl, sym, subst, ◌∙◌, ap, inl, inr, List, [], length, IsTrue, arith}
 use Rattle.std.proofs.lemmas.Bool.{cases_eq}
 use Rattle.mixed_graph.specs.Bits.{has}
 use Rattle.mixed_graph.specs.Graphs.{MixedGraph}
@@ -89,6 +89,11 @@ given_formula g t some doing x' z' vs turned w is joint e derived few f d formul
   )),
   subst (λ h. length h.defs ≤ 4096) (sym formula) (subst (λ ds. length ds ≤ 4096) (sym (divided_defs t.y z' joint)) few),
 )
+
+-- where no formula is answered, there is a hedge
+pub hedge_by : (g : MixedGraph) (x z : ℕ) (a : Answer) → IsTrue (is_hedge a) ↔ ((h : Hedge) × IsHedge g x z h) → not (is_hedge a) ≡ false
+    → (h : Hedge) × IsHedge g x z h
+hedge_by g x z a exact e = exact.0 (grind (arith, e))
 
 -- whether the target is settled, from what identification answers for the observations that are left
 pub settled_by : (g : MixedGraph) (x z : ℕ) → (z ≡ 0 → ⊥) → (a : Answer) → IsRight g x z a → IsTrue (not (is_hedge a)) ↔ IsSettled g x z

@@ -1,5 +1,5 @@
 -- What is found for an effect under a condition is right.
-use Rattle.std.proofs.Common.{ℕ, ◌≡◌, ◌≤◌, Bool, sym, ap, subst, ◌∙◌, inl, inr, List, length, IsTrue}
+use Rattle.std.proofs.Common.{ℕ, ◌≡◌, ◌≤◌, ◌↔◌, Bool, true, false, refl, sym, ap, subst, ◌∙◌, inl, inr, List, length, IsTrue}
 use Rattle.std.specs.Prelude.{Result, IfOk}
 use Rattle.mixed_graph.specs.Bits.{has}
 use Rattle.mixed_graph.specs.Graphs.{MixedGraph, IsMixedGraph}
@@ -26,7 +26,9 @@ use Rattle.conditional_theory.proofs.Dividing.{join-zero}
 use Rattle.conditional_theory.proofs.Settling.{joint_settles_target}
 use Rattle.conditional_theory.proofs.Turning.{none_moves}
 use Rattle.conditional_theory.specs.Conditionals.{IsConditionalBySteps, IsConditionalTarget, IsTurned}
-use Rattle.conditional_id.specs.Answers.{IsAnswerGiven, IsRight, IsJointEffect, IsJointShown, SomeJointHedge, IfFormula, IfJoint}
+use Rattle.conditional_hedges.specs.Laws.{IsFixed}
+use Rattle.conditional_hedges.proofs.Given.{hedges_exclude_turned, hedges_exclude_formula}
+use Rattle.conditional_id.specs.Answers.{IsAnswerGiven, IsRight, IsJointEffect, IsJointShown, SomeFormula, SomeJointHedge, IfFormula, IfJoint, is_joint}
 use Rattle.conditional_id.specs.declared.answer.Conditional.{Conditional}
 use Rattle.conditional_id.specs.declared.answer.Conditional.TheVariants.{Formula, Joint}
 
@@ -76,24 +78,46 @@ module _ (g : MixedGraph) (valid : IsMixedGraph g) (t : PlainTarget) (k : IsCond
       two.first.positive two.second.positive two.observed
       (subst (λ w. DifferOnTarget (meaning g pair.first) (meaning g pair.second) (effect_on x.bits w)) i.joint (differ_on g valid x.bits y.bits pair two))
 
-  -- so no formula without interventions equals it
-  pub settled_excludes : (x y : VSet) (settled : Bool) (h : Hedge) (pair : CounterPair) → IsJointShown g t x y settled h pair
-      → AreCounterModels g x.bits y.bits pair → IsTrue settled
-      → HasNoFormula g t
-  settled_excludes x y settled h pair i two e =
-      difference_excludes_formula g valid (meaning g pair.first) (meaning g pair.second) two.first.fits two.second.fits two.first.positive two.second.positive
-      two.observed t (differ_on_target x y settled h pair i two e)
+  module _ (few : g.vertices ≤ 64) where
+    -- two models that agree on all observations give the target two values: those of the joint effect, or, where it isn't settled, two of the hedge for what is left
+    pub joint_not_fixed : (x y : VSet) (settled : Bool) (h : Hedge) (pair : CounterPair) → IsJointShown g t x y settled h pair
+        → AreCounterModels g x.bits y.bits pair → IsFixed g t → ⊥
+    joint_not_fixed x y true h pair i two fixed =
+        let d = differ_on_target x y true h pair i two refl (λ v. 0) (λ v low. two.first.fits.positive_size v low) in
+        d.0.unequal (fixed (meaning g pair.first) (meaning g pair.second) two.first.fits two.second.fits two.two.0 two.two.1
+        two.first.positive two.second.positive two.observed d.0.at d.0.within)
+    joint_not_fixed x y false h pair i two fixed =
+        let left = i.unsettled refl in hedges_exclude_turned g valid few t k x.bits i.left i.moved i.turned left.0 left.1 fixed
 
-  pub right : (a : Conditional) → IsAnswerGiven g t a → IsRight g t a
-  unfolding joint_effect
-  right (Formula f d) i = conditional_is_right g valid t k (formula_view f) (derivation_view d) i.0
-  right (Joint x y settled h pair) i = let two = i.1.counter in record {
-    effect = joint_effect x y settled h pair i.0;
-    hedge = i.1;
-    settled_is = i.0.settled_is;
-    target = differ_on_target x y settled h pair i.0 two;
-    no_formula = settled_excludes x y settled h pair i.0 two;
-  }
+    -- so no formula without interventions equals it
+    pub joint_no_formula : (x y : VSet) (settled : Bool) (h : Hedge) (pair : CounterPair) → IsJointShown g t x y settled h pair
+        → AreCounterModels g x.bits y.bits pair → HasNoFormula g t
+    joint_no_formula x y true h pair i two =
+        difference_excludes_formula g valid (meaning g pair.first) (meaning g pair.second) two.first.fits two.second.fits two.first.positive two.second.positive
+        two.observed t (differ_on_target x y true h pair i two refl)
+    joint_no_formula x y false h pair i two =
+        let left = i.unsettled refl in hedges_exclude_formula g valid few t k x.bits i.left i.moved i.turned left.0 left.1
+
+    pub right : (a : Conditional) → IsAnswerGiven g t a → IsRight g t a
+    unfolding joint_effect
+    right (Formula f d) i = conditional_is_right g valid t k (formula_view f) (derivation_view d) i.0
+    right (Joint x y settled h pair) i = let two = i.1.counter in record {
+      effect = joint_effect x y settled h pair i.0;
+      hedge = i.1;
+      not_fixed = joint_not_fixed x y settled h pair i.0 two;
+      no_formula = joint_no_formula x y settled h pair i.0 two;
+      settled_is = i.0.settled_is;
+      target = differ_on_target x y settled h pair i.0 two;
+    }
+
+    -- a formula is answered exactly where the target has one
+    pub exact_formula : (a : Conditional) → IsAnswerGiven g t a → is_joint a ≡ false ↔ SomeFormula g t
+    exact_formula (Formula f d) i = let r = conditional_is_right g valid t k (formula_view f) (derivation_view d) i.0 in
+        (λ e. (formula_view f, r.do_free, r.effect), λ s. refl)
+    exact_formula (Joint x y settled h pair) i = (
+      λ e. absurd (clash true refl e),
+      λ s. absurd (joint_no_formula x y settled h pair i.0 i.1.counter s.0 s.1 s.2),
+    )
 
 -- what is true of each formula with its derivation is true of what is found
 pub if_formula : {E : Type 0} (g : MixedGraph) (t : PlainTarget) (r : Result Conditional E) (P : PlainFormula → PlainDerivation → Type 0)

@@ -5,7 +5,9 @@ use Rattle.mixed_graph.specs.declared.sets.VSet.{VSet}
 use Rattle.mixed_graph.specs.Masks.{join}
 use Rattle.finite_models.specs.Data.{meaning}
 use Rattle.prob_expr.specs.Differences.{DifferOnTarget, HasNoFormula}
+use Rattle.prob_expr.specs.Terms.{is_do_free}
 use Rattle.prob_expr.specs.Tree.{PlainFormula, PlainTarget}
+use Rattle.prob_expr.specs.Values.{EqualsEffect}
 use Rattle.prob_expr.specs.View.{formula_view}
 use Rattle.do_derivation.specs.Plans.{PlainDerivation}
 use Rattle.do_derivation.specs.View.{derivation_view}
@@ -19,6 +21,7 @@ use Rattle.id_recursion.specs.Hedged.{IsHedgeOf}
 use Rattle.conditional_theory.specs.Conditionals.{IsConditionalTarget, IsTurned, IsConditionalBySteps, AreEqualEffects}
 use Rattle.conditional_theory.specs.Laws.{IsRightGiven}
 use Rattle.conditional_theory.specs.Settled.{IsSettled}
+use Rattle.conditional_hedges.specs.Laws.{IsFixed}
 use Rattle.conditional_id.specs.declared.answer.Conditional.{Conditional}
 use Rattle.conditional_id.specs.declared.answer.Conditional.TheVariants as answers
 
@@ -32,15 +35,19 @@ pub record IsJointEffect (g : MixedGraph) (t : PlainTarget) (x y : ℕ) : Type 0
   pub same : AreEqualEffects g t (record { x = x; y = t.y; given = left })
 
 -- x and y are the joint effect into which the observations turn; big and small form a hedge for it, and its two models, which are positive and of the graph, agree on all observations and differ on it
+-- The target itself isn't identifiable.
 pub record IsRightJoint (g : MixedGraph) (t : PlainTarget) (x y : ℕ) (settled : Bool) (h : Hedge) (pair : CounterPair) : Type 0 where
   pub effect : IsJointEffect g t x y
   pub hedge : IsRightHedge g x y h pair
-  -- where no observation is left, or those that are left have an effect that is known, the two models differ on the target too, and it has no formula
+  -- two positive models of the graph that agree on all observations give the target two values
+  pub not_fixed : IsFixed g t → ⊥
+  -- so no formula without interventions equals it
+  pub no_formula : HasNoFormula g t
+  -- where no observation is left, or those that are left have an effect that is known, the two models of the hedge differ on the target too
   pub settled_is : IsTrue settled ↔ IsSettled g x effect.left
   pub target : IsTrue settled → DifferOnTarget (meaning g pair.first) (meaning g pair.second) t
-  pub no_formula : IsTrue settled → HasNoFormula g t
 
--- A right answer is either a formula without interventions, with an accepted derivation, that equals P(y | do(x), given) in each positive model of the graph; or a hedge for the joint effect into which the observations turn, with its two models. Of the target itself the latter claims something where `settled` says so: then the two models differ on it, and no formula without interventions equals it.
+-- A right answer is either a formula without interventions, with an accepted derivation, that equals P(y | do(x), given) in each positive model of the graph; or a hedge for the joint effect into which the observations turn, with its two models. Where a joint effect is answered, no formula without interventions equals P(y | do(x), given). Where `settled`, the two models of the hedge show it, since they differ on the target too.
 abbrev pub IsRight : MixedGraph → PlainTarget → Conditional → Type 0
 IsRight g t (answers.Formula f d) = IsRightGiven g t (formula_view f) (derivation_view d)
 IsRight g t (answers.Joint x y settled h pair) = IsRightJoint g t x.bits y.bits settled h pair
@@ -60,6 +67,10 @@ abbrev pub is_joint : Conditional → Bool
 is_joint (answers.Formula f d) = false
 is_joint (answers.Joint x y settled h pair) = true
 
+-- some formula without interventions equals the target
+abbrev pub SomeFormula : MixedGraph → PlainTarget → Type 0
+SomeFormula g t = (f : PlainFormula) × (is_do_free f ≡ true) × EqualsEffect g t f
+
 -- there is a hedge for the joint effect into which the observations turn
 pub record SomeJointHedge (g : MixedGraph) (t : PlainTarget) : Type 0 where
   pub doing : ℕ
@@ -69,13 +80,14 @@ pub record SomeJointHedge (g : MixedGraph) (t : PlainTarget) : Type 0 where
   pub hedge : Hedge
   pub is_hedge : IsHedge g doing (join t.y left) hedge
 
--- the joint effect, whether it is settled, the hedge at which its identification stops, with its data, and its two models
+-- the joint effect, whether it is settled, the hedge at which its identification stops, with its data, and its two models; and where it isn't settled, a hedge for the observations that are left
 pub record IsJointShown (g : MixedGraph) (t : PlainTarget) (x y : VSet) (settled : Bool) (h : Hedge) (pair : CounterPair) : Type 0 where
   pub left : ℕ
   pub moved : List ℕ
   pub turned : IsTurned g t x.bits left moved
   pub joint : y.bits ≡ join t.y left
   pub settled_is : IsTrue settled ↔ IsSettled g x.bits left
+  pub unsettled : settled ≡ false → (k : Hedge) × IsHedge g x.bits left k
   pub stop : IsUnidentified g x.bits y.bits h.small.bits h.big.bits
   pub built : IsHedgeOf g h
   pub hedge : IsHedge g x.bits y.bits h

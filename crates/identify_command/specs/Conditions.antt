@@ -19,6 +19,7 @@ use Rattle.id_recursion.specs.Answers.{effect_on}
 use Rattle.conditional_theory.specs.Conditionals.{IsConditionalBySteps}
 use Rattle.conditional_theory.specs.Laws.{IsRightGiven}
 use Rattle.conditional_theory.specs.Settled.{IsSettled}
+use Rattle.conditional_hedges.specs.Laws.{IsFixed}
 use Rattle.conditional_id.specs.Answers.{IsJointEffect}
 use Rattle.identify_text.specs.PairLines.{joint_answer}
 use Rattle.effect_answers.specs.Hedges.{IsFoundHedge}
@@ -63,7 +64,7 @@ pub record ShowsConditional (form : Form) (q : MixedGraph) (names : List (List �
   pub reads_back : ReadsBack form names (plain.formula t formula derivation)
 
 -- No: observations turn the target into an effect of x on the target's y and what is left, which is equal to it in each positive model that fits q. For the joint effect of both there is a hedge, with two models that show that there is no formula for it, and the text shows it.
--- No formula without interventions equals the target itself in each such model. Where no observation is left, or those that are left have an effect that is known, it is settled by these very models, which differ on the target too.
+-- The target itself isn't identifiable: two positive models that fit q and agree on all observations give it two values, so no formula without interventions equals it in each such model. Where no observation is left, or those that are left have an effect that is known, it is settled by the very models of the hedge, which differ on the target too.
 pub record ShowsJoint (form : Form) (q : MixedGraph) (names : List (List ℕ)) (t : PlainTarget) (text : List ℕ) : Type 0 where
   pub x : ℕ
   pub y : ℕ
@@ -71,6 +72,7 @@ pub record ShowsJoint (form : Form) (q : MixedGraph) (names : List (List ℕ)) (
   pub hedge : Hedge
   pub pair : CounterPair
   pub joint : IsJointEffect q t x y
+  pub not_fixed : IsFixed q t → ⊥
   pub no_formula : HasNoFormula q t
   pub settled_is : IsTrue settled ↔ IsSettled q x joint.left
   pub differs : IsTrue settled → DifferOnTarget (meaning q pair.first) (meaning q pair.second) t

@@ -85,6 +85,7 @@ returns-in_ok-joint_text-in-Joint c =
       hedge = c.in-Joint.hedge;
       pair = c.in-Joint.pair;
       joint = right.effect;
+      not_fixed = right.not_fixed;
       no_formula = right.no_formula;
       settled_is = right.settled_is;
       differs = right.target;
