@@ -4,7 +4,7 @@ from __future__ import annotations
 import re
 from typing import NamedTuple
 
-from operations import BITS, NAMED, Operation
+from instructions import BITS, NAMED, Instruction
 
 # Constants below it fit an int.
 SMALL = 1 << 31
@@ -93,7 +93,7 @@ def operand(v: Value, how: str, is_typed: bool) -> str:
 
 
 def filled(c: str, values: dict[str, Value], words: dict[str, str]) -> str:
-    """The C of an operation with its operands and words in it."""
+    """The C of an instruction with its operands and words in it."""
     is_typed = any(v.number is None for v in values.values())
 
     def text(found: re.Match[str]) -> str:
@@ -102,12 +102,12 @@ def filled(c: str, values: dict[str, Value], words: dict[str, str]) -> str:
     return re.sub(r"\{(\w)(?::(\w+))?\}", text, c)
 
 
-def applied(operation: Operation, *operands: Value, words: dict[str, str] | None = None) -> Value:
-    """The expression of an operation and its operands."""
-    assert operation.c is not None
-    text = filled(operation.c, dict(zip("ab", operands)), words or {})
+def applied(instruction: Instruction, *operands: Value, words: dict[str, str] | None = None) -> Value:
+    """The expression of an instruction and its operands."""
+    assert instruction.c is not None
+    text = filled(instruction.c, dict(zip("ab", operands)), words or {})
     reads = NOTHING.union(*(v.reads for v in operands))
-    return Value(text, operation.level, operation.gives, reads, any(v.memory for v in operands))
+    return Value(text, instruction.level, instruction.gives, reads, any(v.memory for v in operands))
 
 
 def choice(condition: Value, a: Value, b: Value) -> Value:
@@ -117,13 +117,13 @@ def choice(condition: Value, a: Value, b: Value) -> Value:
     return Value("{}?{}:{}".format(*parts), 13, a.type, reads, condition.memory or a.memory or b.memory)
 
 
-def simpler(operation: Operation, a: Value, b: Value) -> Value | None:
+def simpler(instruction: Instruction, a: Value, b: Value) -> Value | None:
     """Some operations with a constant, as one would write them; None for all others."""
-    if b.number is None or operation.name[:3] not in ("i32", "i64"):
+    if b.number is None or instruction.name[:3] not in ("i32", "i64"):
         return None
     bits = BITS[a.type]
     less = (1 << bits) - b.number  # -b
-    name = operation.name[4:]
+    name = instruction.name[4:]
     if name == "add" and b.number >> (bits - 1) and less < SMALL:
         return Value(f"{beside(a, 4)}-{less}", 4, a.type, a.reads, a.memory)
     if name == "and" and less <= SMALL // 2:
@@ -133,13 +133,13 @@ def simpler(operation: Operation, a: Value, b: Value) -> Value | None:
     return None
 
 
-def calculated(operation: Operation, *operands: Value) -> Value:
-    """The expression of an operation. Some take a comparison as it stands, or give one; others take it as a number."""
+def calculated(instruction: Instruction, *operands: Value) -> Value:
+    """The expression of an instruction. Some take a comparison as it stands, or give one; others take it as a number."""
     both = [v.type for v in operands]
-    if operation.name in ("i32.and", "i32.or", "i32.xor") and both == ["B", "B"]:
-        return applied(operation, *operands)._replace(type="B")
-    if operation.name == "i64.extend_i32_s" and both == ["B"]:  # it is 0 or 1, so it has no sign
-        operation = NAMED["i64.extend_i32_u"]
-    if operation.name not in ("i32.eqz", "i64.extend_i32_u"):
+    if instruction.name in ("i32.and", "i32.or", "i32.xor") and both == ["B", "B"]:
+        return applied(instruction, *operands)._replace(type="B")
+    if instruction.name == "i64.extend_i32_s" and both == ["B"]:  # it is 0 or 1, so it has no sign
+        instruction = NAMED["i64.extend_i32_u"]
+    if instruction.name not in ("i32.eqz", "i64.extend_i32_u"):
         operands = tuple(whole(v) for v in operands)
-    return (simpler(operation, *operands) if len(operands) == 2 else None) or applied(operation, *operands)
+    return (simpler(instruction, *operands) if len(operands) == 2 else None) or applied(instruction, *operands)

@@ -7,7 +7,7 @@ from typing import TYPE_CHECKING
 
 from expressions import SMALL, Value, applied, beside, calculated, choice, constant, double, filled, literal, variable, vector
 from objects import TYPES, Reader, Relocation, stop
-from operations import SLIDE, Step, steps_of
+from instructions import SLIDE, Step, steps_of
 from runs import followed, slide_of
 from stack import TOP, Frame, Label, Operands
 
@@ -70,12 +70,12 @@ class Function:
         while self.at < len(self.steps):
             step = self.steps[self.at]
             self.at += 1
-            operation = step.operation
-            if operation.behind.startswith("memory"):
+            instruction = step.instruction
+            if instruction.behind.startswith("memory"):
                 self.load_or_store(step)
-            elif operation.c is not None:
+            elif instruction.c is not None:
                 self.expression(step)
-            elif getattr(self, "do_" + operation.name.replace(".", "_"))(step):
+            elif getattr(self, "do_" + instruction.name.replace(".", "_"))(step):
                 self.skip_unreachable()
         if self.blocks:
             self.frame.stop("no end")
@@ -86,41 +86,41 @@ class Function:
     # --- expressions, loads and stores
 
     def expression(self, step: Step) -> None:
-        """An operation on the values on top of the stack."""
-        operation = step.operation
-        values = [self.operands.pop_any() for _ in operation.takes][::-1]
+        """An instruction on the values on top of the stack."""
+        instruction = step.instruction
+        values = [self.operands.pop_any() for _ in instruction.takes][::-1]
         if values[0] is TOP:
-            self.operands.push(self.frame.lower(operation.name, values[1]))
+            self.operands.push(self.frame.lower(instruction.name, values[1]))
             return
-        self.frame.check(operation.name, values[0])
-        if operation.behind == "lane":
-            self.operands.push(applied(operation, *values, words={"k": str(step.numbers[0])}))
-        elif operation.behind == "lanes":
+        self.frame.check(instruction.name, values[0])
+        if instruction.behind == "lane":
+            self.operands.push(applied(instruction, *values, words={"k": str(step.numbers[0])}))
+        elif instruction.behind == "lanes":
             self.operands.push(self.shuffled(step, *values))
         else:
-            self.operands.push(calculated(operation, *values))
+            self.operands.push(calculated(instruction, *values))
 
     @staticmethod
     def shuffled(step: Step, a: Value, b: Value) -> Value:
         first = slide_of(step.numbers)
         if first is not None:
             return applied(SLIDE, a, b, words={"k": str(first)})
-        return applied(step.operation, a, b, words={"k": ",".join(f"{number:#x}ull" for number in step.numbers)})
+        return applied(step.instruction, a, b, words={"k": ",".join(f"{number:#x}ull" for number in step.numbers)})
 
     def load_or_store(self, step: Step) -> None:
-        operation = step.operation
-        value = self.operands.pop() if len(operation.takes) == 2 else None
+        instruction = step.instruction
+        value = self.operands.pop() if len(instruction.takes) == 2 else None
         base = self.operands.pop()
         address = self.address(step, base)
         words = {"p": address.text, "k": str(step.numbers[-1])}
-        if not operation.gives:
-            assert value is not None and operation.c is not None
+        if not instruction.gives:
+            assert value is not None and instruction.c is not None
             self.operands.settle_memory(value, base)
             if value.number is not None and value.number < SMALL:
                 words["b"] = str(value.number)
-            self.emit(filled(operation.c, {"b": value}, words) + ";")
+            self.emit(filled(instruction.c, {"b": value}, words) + ";")
             return
-        result = applied(operation, *([base] if value is None else [base, value]), words=words)._replace(memory=True)
+        result = applied(instruction, *([base] if value is None else [base, value]), words=words)._replace(memory=True)
         self.operands.push(followed(step, address, value, result))
 
     def address(self, step: Step, base: Value) -> Value:
@@ -222,13 +222,13 @@ class Function:
         self.operands.settle_memory(*arguments)
         text = f"{self.program.name(index)}({','.join(v.text for v in arguments)})"
         following = self.steps[self.at]
-        if gives and following.operation.name == "local.set":
+        if gives and following.instruction.name == "local.set":
             self.at += 1
             name = local_name(following.numbers[0])
             self.note(name, Value(text, 1, gives))
             self.operands.settle_readers(name, *arguments)
             self.emit(f"{name}={text};")
-        elif gives and following.operation.name != "drop":
+        elif gives and following.instruction.name != "drop":
             name = self.operands.temporary(gives)
             self.emit(f"{name}={text};")
             self.operands.push(variable(name, gives))
@@ -355,7 +355,7 @@ class Function:
         while True:
             step = self.steps[self.at]
             self.at += 1
-            name = step.operation.name
+            name = step.instruction.name
             if name in ("block", "loop", "if"):
                 depth += 1
             elif depth == 0 and name == "else":

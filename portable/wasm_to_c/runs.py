@@ -5,7 +5,7 @@ import re
 import struct
 
 from expressions import Run, Value
-from operations import Step
+from instructions import Step
 
 LAST_LANE = 15
 
@@ -21,9 +21,9 @@ def followed(step: Step, address: Value, vector: Value | None, result: Value) ->
 
     What stands on the stack hasn't changed since it was put there: two addresses with one text are one address.
     """
-    if step.operation.name == "v128.load8_splat":
+    if step.instruction.name == "v128.load8_splat":
         return result._replace(run=Run(address, 0))
-    if step.operation.name != "v128.load8_lane" or vector is None or vector.run is None:
+    if step.instruction.name != "v128.load8_lane" or vector is None or vector.run is None:
         return result
     start, last = vector.run
     base, first = parts_of(start)

@@ -106,9 +106,9 @@ class Frame:
             self.stop("the stack's pointer read after it was lowered")
         return TOP
 
-    def lower(self, operation: str, by: Value) -> Value:
+    def lower(self, instruction: str, by: Value) -> Value:
         """The only thing that is calculated with the pointer."""
-        if operation != "i64.sub" or self.size is not None or by.number is None or not 0 < by.number < MOST_IN_FRAME:
+        if instruction != "i64.sub" or self.size is not None or by.number is None or not 0 < by.number < MOST_IN_FRAME:
             self.stop("a frame of no constant size")
         self.size = by.number
         return FRAME
@@ -119,9 +119,9 @@ class Frame:
         if begin != FRAME.text and begin not in self.holders or size not in ("", str(self.size)):
             self.stop(f"the stack's pointer as {v.text}")
 
-    def check(self, operation: str, a: Value) -> None:
-        """An operation on the frame's beginning: addresses are made of it by sums, and by `|` since it is a multiple of 16."""
-        if a.text == FRAME.text and operation != "i64.add" or a.text in self.holders and operation == "i64.and":
+    def check(self, instruction: str, a: Value) -> None:
+        """An instruction on the frame's beginning: addresses are made of it by sums, and by `|` since it is a multiple of 16."""
+        if a.text == FRAME.text and instruction != "i64.add" or a.text in self.holders and instruction == "i64.and":
             self.stop("a frame that is aligned")
 
     def assign(self, name: str, v: Value, is_in_block: bool, loop_begin: int | None) -> None:

@@ -26,7 +26,7 @@ from objects import CONSTANT, FUNCTION_INDEX, GLOBAL_INDEX, OFFSET, Module, Read
 BITS = {"I": 32, "L": 64}
 
 
-class Operation(NamedTuple):
+class Instruction(NamedTuple):
     """An instruction; `behind` says what stands behind its code in a body, and `c` is None where it is no expression or store."""
     name: str
     behind: str = ""
@@ -175,8 +175,8 @@ VECTORS = [
 ]
 
 # A shuffle of bytes, and one whose bytes follow each other.
-SHUFFLE = Operation("i8x16.shuffle", "lanes", "VV", "V", 1, "shuffle({a},{b},{k})")
-SLIDE = Operation("i8x16.shuffle", "lanes", "VV", "V", 1, "slide({a},{b},{k})")
+SHUFFLE = Instruction("i8x16.shuffle", "lanes", "VV", "V", 1, "shuffle({a},{b},{k})")
+SLIDE = Instruction("i8x16.shuffle", "lanes", "VV", "V", 1, "slide({a},{b},{k})")
 
 # Those that are no expression: functions.py has a method named as each.
 OTHERS = [
@@ -208,40 +208,40 @@ OTHERS = [
 ]
 
 
-def of_integers() -> dict[int, Operation]:
+def of_integers() -> dict[int, Instruction]:
     """The operations of integers of both widths."""
     found = {}
     for code32, code64, name, takes, gives, level, c in INTEGERS:
         for code, letter in (code32, "I"), (code64, "L"):
             bits = str(BITS[letter])
             text = c.replace("(S)", f"(S{letter})").replace("#", bits)
-            found[code] = Operation(f"i{bits}.{name}", "", takes.replace("T", letter), gives.replace("T", letter), level, text)
+            found[code] = Instruction(f"i{bits}.{name}", "", takes.replace("T", letter), gives.replace("T", letter), level, text)
     return found
 
 
-def all_operations() -> dict[int, Operation]:
+def all_instructions() -> dict[int, Instruction]:
     """The operations by their codes. Those of two bytes have the first one eight bits higher."""
     found = of_integers()
     for code, name, takes, gives, level, c in CONVERSIONS + DOUBLES:
-        found[code] = Operation(name, "", takes, gives, level, c)
+        found[code] = Instruction(name, "", takes, gives, level, c)
     for code, name, gives, c in LOADS:
-        found[code] = Operation(name, "memory", "L", gives, 1, c)
+        found[code] = Instruction(name, "memory", "L", gives, 1, c)
     for code, name, letter, c in STORES:
-        found[code] = Operation(name, "memory", "L" + letter, "", 1, c)
+        found[code] = Instruction(name, "memory", "L" + letter, "", 1, c)
     for code, name, gives, c in LANE_ACCESSES:
-        found[code] = Operation(name, "memory lane", "LV", gives, 1, c)
+        found[code] = Instruction(name, "memory lane", "LV", gives, 1, c)
     for code, name, takes, gives, c in LANES:
-        found[code] = Operation(name, "lane", takes, gives, 1, c)
+        found[code] = Instruction(name, "lane", takes, gives, 1, c)
     for code, name, takes, gives, c in VECTORS:
-        found[code] = Operation(name, "", takes, gives, 1, c)
+        found[code] = Instruction(name, "", takes, gives, 1, c)
     for code, name, behind in OTHERS:
-        found[code] = Operation(name, behind)
+        found[code] = Instruction(name, behind)
     found[0xFD0D] = SHUFFLE
     return found
 
 
-OPERATIONS = all_operations()
-NAMED = {operation.name: operation for operation in OPERATIONS.values()}
+INSTRUCTIONS = all_instructions()
+NAMED = {instruction.name: instruction for instruction in INSTRUCTIONS.values()}
 PREFIXES = (0xFC, 0xFD)
 
 # --- bodies
@@ -253,7 +253,7 @@ ALWAYS_RELOCATED = ("function", "global")
 
 class Step(NamedTuple):
     """An instruction in a body: what it is, the numbers behind it, and the relocation of the first of them."""
-    operation: Operation
+    instruction: Instruction
     numbers: tuple[int, ...]
     relocation: Relocation | None
 
@@ -275,16 +275,16 @@ def read_step(module: Module, r: Reader) -> Step:
         if second > 255:
             stop(f"the instruction {code:#x} {second}")
         code = code << 8 | second
-    if code not in OPERATIONS:
+    if code not in INSTRUCTIONS:
         stop(f"the instruction {code:#x}")
-    operation = OPERATIONS[code]
-    if operation.behind.startswith("memory") and r.unsigned() & 64:  # the alignment, which is a hint
+    instruction = INSTRUCTIONS[code]
+    if instruction.behind.startswith("memory") and r.unsigned() & 64:  # the alignment, which is a hint
         stop("another memory")
-    relocation = module.relocations.get(r.at) if operation.behind in RELOCATED else None
-    is_wrong = relocation and relocation.kind != RELOCATED[operation.behind]
-    if is_wrong or not relocation and operation.behind in ALWAYS_RELOCATED:
-        stop(f"{operation.name} with the relocation {relocation}")
-    return Step(operation, read_numbers(operation.behind, r), relocation)
+    relocation = module.relocations.get(r.at) if instruction.behind in RELOCATED else None
+    is_wrong = relocation and relocation.kind != RELOCATED[instruction.behind]
+    if is_wrong or not relocation and instruction.behind in ALWAYS_RELOCATED:
+        stop(f"{instruction.name} with the relocation {relocation}")
+    return Step(instruction, read_numbers(instruction.behind, r), relocation)
 
 
 def read_numbers(behind: str, r: Reader) -> tuple[int, ...]:
