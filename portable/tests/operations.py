@@ -3,7 +3,7 @@
 
 operation_cases.py has a function for each instruction and for what else the translation has to keep. wabt's wat2wasm makes one
 object of all; wasm_to_c makes C of it, and node runs the same object. Each function is called with edge values and others, and the
-results have to be the same bit for bit, on each target that is here. Without a target all of TARGETS are tested.
+results have to be the same bit for bit, on each target (targets.py) that is here. Without a target all are tested.
 
 Status 77 where wat2wasm or node isn't here.
 """
@@ -16,35 +16,9 @@ import struct
 import subprocess
 import sys
 import tempfile
-from typing import NamedTuple
 
 from operation_cases import Case, cases
-
-TOP = os.path.dirname(os.path.dirname(os.path.abspath(__file__)))
-
-
-class Target(NamedTuple):
-    """A compiler with its options, and what runs its programs."""
-    compiler: list[str]
-    runs: list[str] = []
-
-
-PLAIN = ["-DWITHOUT_SSE2", "-D__TINYC__", "-U__SIZEOF_INT128__"]  # no vectors, no builtins, no numbers of 128 bits
-TARGETS = {
-    "gcc-O0": Target(["gcc", "-O0"]),
-    "gcc-O1": Target(["gcc", "-O1"]),
-    "gcc-O2": Target(["gcc", "-O2"]),
-    "gcc-words": Target(["gcc", "-O1", "-DWITHOUT_SSE2"]),
-    "gcc-plain": Target(["gcc", "-O1", "-DSOFT_DOUBLES", *PLAIN]),
-    "gcc-sanitized": Target(["gcc", "-O1", "-fsanitize=address,undefined", "-fno-sanitize-recover"]),
-    "clang-O1": Target(["clang", "-O1"]),
-    "clang-O2": Target(["clang", "-O2"]),
-    "tcc": Target(["tcc"]),
-    "s390x": Target(["s390x-linux-gnu-gcc", "-O1", "-static"], ["qemu-s390x"]),
-    "aarch64": Target(["aarch64-linux-gnu-gcc", "-O1", "-static"], ["qemu-aarch64"]),
-    "arm": Target(["arm-linux-gnueabihf-gcc", "-O1", "-static"], ["qemu-arm"]),
-    "i686": Target(["i686-linux-gnu-gcc", "-O1", "-static"]),
-}
+from targets import PORTABLE, TARGETS, Failed, Target
 
 HEAD = """(module (import "env" "memory" (memory i64 1)) (import "env" "__stack_pointer" (global $sp (mut i64)))
 (import "env" "__multi3" (func $multi3 (param i64 i64 i64 i64 i64)))
@@ -138,7 +112,7 @@ def make_files(tested: list[Case], calls: list[list[list[int]]]) -> None:
         heads.append(f"L causal_t{number}_code({','.join(['L'] * case.width)});")
         rows_of_c.append(f"case {number}: return causal_t{number}_code({','.join(f'a[{i}]' for i in range(case.width))});")
     write("caller.c", CALLER % {"heads": "\n".join(heads), "rows": "\n".join(rows_of_c)})
-    subprocess.run([sys.executable, f"{TOP}/wasm_to_c", "ops.o", "ops.c"], check=True, stdout=subprocess.DEVNULL)
+    subprocess.run([sys.executable, f"{PORTABLE}/wasm_to_c", "ops.o", "ops.c"], check=True, stdout=subprocess.DEVNULL)
 
 
 def results_of_node() -> bytes:
@@ -166,10 +140,11 @@ def differences(expected: bytes, got: bytes, tested: list[Case], calls: list[lis
 
 def test(name: str, target: Target, expected: bytes, tested: list[Case], calls: list[list[list[int]]]) -> bool:
     """Whether the target's results are those of node."""
-    words = [*target.compiler, "-w", "-I", TOP, "-o", name, "ops.c", "caller.c"]
-    made = subprocess.run(words, capture_output=True, text=True)
-    if made.returncode:
-        print(f"{name}: it doesn't compile\n{made.stderr[:2000]}")
+    try:
+        # (some constants give comparisons that are always true)
+        target.compile(name, "-w", "-I", PORTABLE, "ops.c", "caller.c", *target.links)
+    except Failed as failed:
+        print(f"{name}: {failed}")
         return False
     with open("calls", "rb") as file:
         ran = subprocess.run([*target.runs, f"./{name}"], stdin=file, capture_output=True)
@@ -198,9 +173,8 @@ def main() -> int:
     wrong = 0
     for name in options.targets or TARGETS:
         target = TARGETS[name]
-        lacking = [tool for tool in (target.compiler[0], *target.runs) if not shutil.which(tool)]
-        if lacking:
-            print(f"skipped: {name}: no {lacking[0]}")
+        if target.lacking():
+            print(f"skipped: operations on {name}: no {target.lacking()[0]}")
         else:
             wrong += not test(name, target, expected, tested, calls)
     if not options.keep:

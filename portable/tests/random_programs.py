@@ -18,8 +18,8 @@ import sys
 import tempfile
 
 from program_maker import Maker
+from targets import PORTABLE
 
-TOP = os.path.dirname(os.path.dirname(os.path.abspath(__file__)))
 PLAIN = ["-fno-vectorize", "-fno-slp-vectorize"]
 LEVELS = [["-O0"], ["-O1"], ["-O2"], ["-Os"], ["-Oz"], ["-O3"], ["-Os", "-msimd128", *PLAIN], ["-O2", *PLAIN]]
 COMPILERS = [["gcc", "-O0"], ["gcc", "-O1"], ["gcc", "-O2"], ["gcc", "-O3"], ["clang", "-O1"], ["clang", "-O2"], ["tcc"]]
@@ -59,11 +59,11 @@ def try_program(seed: int, clang: str, compilers: list[list[str]]) -> str:
     run(["gcc", "-O1", *QUIET, "-DNAME=causal_t", "-o", "native", "p.c", "caller.c"])
     target = ["--target=wasm64-unknown-unknown", "-mcpu=lime1", "-ffreestanding", *LEVELS[seed % len(LEVELS)]]
     run([clang, *target, *QUIET, "-c", "p.c", "-o", "p.o"])
-    made = subprocess.run([sys.executable, f"{TOP}/wasm_to_c", "p.o", "t.c"], capture_output=True, text=True)
+    made = subprocess.run([sys.executable, f"{PORTABLE}/wasm_to_c", "p.o", "t.c"], capture_output=True, text=True)
     if made.returncode:
         return made.stderr.strip()
     compiler = compilers[seed // len(LEVELS) % len(compilers)]
-    run([*compiler, "-w", "-I", TOP, "-DNAME=causal_t_code", "-o", "made", "t.c", "caller.c"])
+    run([*compiler, "-w", "-I", PORTABLE, "-DNAME=causal_t_code", "-o", "made", "t.c", "caller.c"])
     return "same" if ending("native") == ending("made") else "different"
 
 
