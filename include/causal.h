@@ -9,7 +9,8 @@
  *                                 out, sizeof out, err, sizeof err, &sizes);
  *     // status is CAUSAL_NO, and out has sizes.out bytes: not separated: {A} from {C} given {} ..
  *
- * `bindings/build` makes the two libraries, libcausal.a and libcausal.so.
+ * The C in portable/ compiles to these calls on any machine: causal.c and causal_code.c. `bindings/build` makes two libraries for
+ * Linux on x86-64, libcausal.a and libcausal.so.
  */
 #ifndef CAUSAL_H
 #define CAUSAL_H
@@ -20,6 +21,9 @@
 #ifdef __cplusplus
 extern "C" {
 #endif
+
+/* The version, as the file VERSION of the repository has it. */
+#define CAUSAL_VERSION "0.1.0"
 
 /* A part of `bytes`: from `start` up to `end`. One that goes past the end has the bytes that are there, and one whose
  * `end` isn't behind its `start` is empty. */
@@ -81,6 +85,26 @@ uint8_t causal_run(const uint8_t *bytes, size_t length,
                    uint8_t *out, size_t out_room,
                    uint8_t *err, size_t err_room,
                    causal_sizes *sizes);
+
+/* The inputs that words may ask for: how many (0, 1 or 2), how many bytes the name of each has, and the most bytes of the second
+ * that an answer reads (of the first, the graph's text, they are 1,048,576): of a longer one it doesn't matter which they are. */
+typedef struct causal_wanted {
+    size_t count, file, second;
+    uint64_t most;
+} causal_wanted;
+
+/* Tells which inputs the words may ask for: whoever holds the inputs elsewhere, as in files, reads these and no others. causal_run
+ * asks for the second one only where the answer on the file goes on with it: with the file alone its status is CAUSAL_NO_INPUT then.
+ *
+ * names, names_room    receives the name of the file and behind it that of the second input, or the first bytes of both: a room of as
+ *                      many bytes as the words have is enough
+ *
+ * CAUSAL_WORDS where the words aren't understood (causal_run gives the line); CAUSAL_NO_MEMORY, CAUSAL_NOT_TEXT and CAUSAL_NO_WORDS
+ * as for causal_run. Unless it is CAUSAL_YES, nothing is written to `names`, and `wanted` is all 0. */
+uint8_t causal_inputs(const uint8_t *bytes, size_t length,
+                      const causal_span *words, size_t word_count,
+                      uint8_t *names, size_t names_room,
+                      causal_wanted *wanted);
 
 /* An answer explained. The arguments are those of causal_run, and the words one of
  *

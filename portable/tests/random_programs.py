@@ -1,0 +1,103 @@
+#!/usr/bin/env python3
+"""random_programs.py [--keep FOLDER] [--seed N] COUNT: random programs, compiled natively and by way of WebAssembly and wasm_to_c.
+
+Each is a program in C with structs, arrays, constant tables, pointers, loops, switches, recursion, numbers of 128 bits and doubles
+(program_maker.py), which gives one number for each of some calls. The toolchain's clang makes an object of wasm64 of it, at a level
+that turns with the seed, and its translation is compiled by gcc, clang and tcc in turn. A program with an instruction that wasm_to_c
+doesn't know is passed over, and counted. Where the two differ, the program, its object and its translation are kept.
+
+Status 77 where rt, whose clang has wasm64, or gcc isn't here.
+"""
+from __future__ import annotations
+
+import argparse
+import os
+import shutil
+import subprocess
+import sys
+import tempfile
+
+from program_maker import Maker
+from targets import PORTABLE
+
+PLAIN = ["-fno-vectorize", "-fno-slp-vectorize"]
+LEVELS = [["-O0"], ["-O1"], ["-O2"], ["-Os"], ["-Oz"], ["-O3"], ["-Os", "-msimd128", *PLAIN], ["-O2", *PLAIN]]
+COMPILERS = [["gcc", "-O0"], ["gcc", "-O1"], ["gcc", "-O2"], ["gcc", "-O3"], ["clang", "-O1"], ["clang", "-O2"], ["tcc"]]
+QUIET = ["-w", "-fwrapv", "-ffp-contract=off"]
+
+# Calls a program with some seeds, and prints what it gives.
+CALLER = """#include <inttypes.h>
+#include <stdint.h>
+#include <stdio.h>
+#include <stdlib.h>
+uint64_t NAME(uint64_t);
+void causal_trap(void) { abort(); }
+int main(void) {
+  uint64_t x = 1;
+  for (int i = 0; i < 40; i++) {
+    printf("%016" PRIx64 "\\n", NAME(i < 8 ? (uint64_t)i : i < 12 ? ~(uint64_t)0 >> (i * 5) : x));
+    x = x * 6364136223846793005u + 1442695040888963407u;
+  }
+  return 0;
+}
+"""
+
+
+def run(words: list[str]) -> None:
+    subprocess.run(words, check=True)
+
+
+def ending(program: str) -> tuple[int, bytes]:
+    ran = subprocess.run([f"./{program}"], stdout=subprocess.PIPE, timeout=300)
+    return ran.returncode, ran.stdout
+
+
+def try_program(seed: int, clang: str, compilers: list[list[str]]) -> str:
+    """What came of a program: "same", "different", or why it was passed over."""
+    with open("p.c", "w", encoding="ascii") as file:
+        file.write(Maker(seed).program())
+    run(["gcc", "-O1", *QUIET, "-DNAME=causal_t", "-o", "native", "p.c", "caller.c"])
+    target = ["--target=wasm64-unknown-unknown", "-mcpu=lime1", "-ffreestanding", *LEVELS[seed % len(LEVELS)]]
+    run([clang, *target, *QUIET, "-c", "p.c", "-o", "p.o"])
+    made = subprocess.run([sys.executable, f"{PORTABLE}/wasm_to_c", "p.o", "t.c"], capture_output=True, text=True)
+    if made.returncode:
+        return made.stderr.strip()
+    compiler = compilers[seed // len(LEVELS) % len(compilers)]
+    run([*compiler, "-w", "-I", PORTABLE, "-DNAME=causal_t_code", "-o", "made", "t.c", "caller.c"])
+    return "same" if ending("native") == ending("made") else "different"
+
+
+def main() -> int:
+    parser = argparse.ArgumentParser(description=__doc__, formatter_class=argparse.RawDescriptionHelpFormatter)
+    parser.add_argument("--keep", metavar="FOLDER", help="where to leave what differs")
+    parser.add_argument("--seed", type=int, default=0)
+    parser.add_argument("count", type=int)
+    options = parser.parse_args()
+    for tool in ("rt", "gcc"):
+        if not shutil.which(tool):
+            print(f"skipped: random programs: no {tool}")
+            return 77
+    kit = os.path.dirname(subprocess.run(["rt", "doc"], capture_output=True, text=True, check=True).stdout.strip())
+    folder = options.keep or tempfile.mkdtemp()
+    os.makedirs(folder, exist_ok=True)
+    os.chdir(folder)
+    with open("caller.c", "w", encoding="ascii") as file:
+        file.write(CALLER)
+    compilers = [it for it in COMPILERS if shutil.which(it[0])]
+    results: dict[str, int] = {}
+    for seed in range(options.seed, options.seed + options.count):
+        result = try_program(seed, f"{kit}/toolchain/bin/clang", compilers)
+        results[result] = results.get(result, 0) + 1
+        if result == "different":
+            print(f"{seed}: different")
+            for name in ("p.c", "p.o", "t.c"):
+                shutil.copyfile(name, f"{seed}.{name}")
+    for result, count in sorted(results.items()):
+        print(f"{count} programs: {result}")
+    if not options.keep and "different" not in results:
+        shutil.rmtree(folder)
+    return 1 if "different" in results else 0
+
+
+if __name__ == "__main__":
+    sys.exit(main())
