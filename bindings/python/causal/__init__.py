@@ -10,7 +10,7 @@ causality is computed in Python: each question is a call of the library, and its
 P(Y|do(X)) = sum{M} P(M|X) * (sum{X} P(X) * P(Y|X,M))
 """
 from importlib import import_module as _import_module
-from typing import TYPE_CHECKING, Any
+from typing import TYPE_CHECKING, Any, List
 
 from causal._library import Reply, run
 from causal.answers import Adjustment, AdjustmentSets, Check, Equivalence, Path, Refusal, RuleAnswer, Separation
@@ -34,7 +34,7 @@ from causal.version import VERSION
 
 if TYPE_CHECKING:
     from causal.bootstrap import Bootstrap, ContrastInterval, Interval
-    from causal.effects import Contrast, Effect, Effects, Value
+    from causal.effects import Contrast, Effect, Effects, Spread, Value
     from causal.implications import Difference, Implication, Implications
 
 __version__ = VERSION
@@ -71,6 +71,7 @@ __all__ = [
     "RequestError",
     "RuleAnswer",
     "Separation",
+    "Spread",
     "Stopped",
     "TargetError",
     "Term",
@@ -87,6 +88,7 @@ _LATER = {
     "Contrast": "causal.effects",
     "Effect": "causal.effects",
     "Effects": "causal.effects",
+    "Spread": "causal.effects",
     "Value": "causal.effects",
     "Difference": "causal.implications",
     "Implication": "causal.implications",
@@ -98,3 +100,7 @@ def __getattr__(name: str) -> Any:
     if name not in _LATER:
         raise AttributeError(f"module 'causal' has no attribute {name!r}")
     return getattr(_import_module(_LATER[name]), name)
+
+
+def __dir__() -> List[str]:
+    return sorted({*globals(), *__all__})

@@ -11,6 +11,8 @@ from typing import Any, Callable, Dict, Iterable, List, Mapping, NamedTuple, Opt
 from causal.errors import LibraryMissing
 
 Text = Union[str, bytes]
+# Texts by the names of inputs. (Any: a mapping's keys are of one type alone, where types are checked.)
+Inputs = Mapping[Any, Text]
 
 OUT_ROOM = 1 << 14
 ERR_ROOM = 1 << 10
@@ -133,7 +135,7 @@ class _Packed(NamedTuple):
         return self.first_word + 2 * self.words * self.spans.itemsize
 
 
-def _packed(words: Iterable[Text], named: Mapping[Text, Text]) -> _Packed:
+def _packed(words: Iterable[Text], named: Inputs) -> _Packed:
     parts = [as_bytes(word) for word in words]
     count = len(parts)
     parts += [as_bytes(text) for pair in named.items() for text in pair]
@@ -143,7 +145,7 @@ def _packed(words: Iterable[Text], named: Mapping[Text, Text]) -> _Packed:
     return _Packed(b"".join(parts), spans, count, len(named))
 
 
-def run(words: Iterable[Text], inputs: Optional[Mapping[Text, Text]] = None) -> Reply:
+def run(words: Iterable[Text], inputs: Optional[Inputs] = None) -> Reply:
     """Runs `causal WORDS..` over the named inputs, and raises nothing where `causal` refuses: its status and line say so.
 
     The statuses are those of the program. Status 6 says that the words name an input that isn't there.
@@ -155,7 +157,7 @@ def run(words: Iterable[Text], inputs: Optional[Mapping[Text, Text]] = None) -> 
     return _run(_load().run, words, inputs or {})
 
 
-def _run(call: Callable[..., int], words: Iterable[Text], named: Mapping[Text, Text]) -> Reply:
+def _run(call: Callable[..., int], words: Iterable[Text], named: Inputs) -> Reply:
     """Calls `causal_run`, or another call whose last arguments are the same."""
     ctypes = _load().ctypes
     packed = _packed(words, named)
@@ -283,7 +285,7 @@ class KeptDiagram:
             return None
         return None if status > 1 else status == 0
 
-    def run(self, words: Iterable[Text], inputs: Optional[Mapping[Text, Text]] = None) -> Reply:
+    def run(self, words: Iterable[Text], inputs: Optional[Inputs] = None) -> Reply:
         """As `run`, on the diagram, which stands for the file of the command."""
         return _run(self._asked, words, inputs or {})
 

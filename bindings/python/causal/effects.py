@@ -5,7 +5,7 @@ import math
 import re
 from dataclasses import dataclass
 from fractions import Fraction
-from typing import TYPE_CHECKING, Any, Callable, Dict, Hashable, Iterator, List, Mapping, Optional, Sequence, Tuple, Union
+from typing import TYPE_CHECKING, Any, Callable, Dict, Hashable, Iterator, List, Mapping, Optional, Sequence, Tuple, Union, overload
 
 from causal.errors import RequestError, UnreadableAnswer
 from causal.formula import Formula, Term
@@ -103,9 +103,12 @@ class Effect:
         return f"{_cell_text(self.y, self.x)} {self.value}"
 
 
+def _levels_text(cell: Mapping[str, Level]) -> str:
+    return ",".join(f"{printed_name(name)}={level}" for name, level in cell.items())
+
+
 def _cell_text(y: Mapping[str, Level], x: Mapping[str, Level]) -> str:
-    outcomes, exposures = [",".join(f"{printed_name(name)}={level}" for name, level in cell.items()) for cell in (y, x)]
-    return f"P({outcomes}|do({exposures}))" if x else f"P({outcomes})"
+    return f"P({_levels_text(y)}|do({_levels_text(x)}))" if x else f"P({_levels_text(y)})"
 
 
 @dataclass(frozen=True)
@@ -140,22 +143,56 @@ class Effects(Sequence[Effect]):
     def __len__(self) -> int:
         return len(self.effects)
 
-    def __getitem__(self, index: Any) -> Any:
+    @overload
+    def __getitem__(self, index: int) -> Effect: ...
+
+    @overload
+    def __getitem__(self, index: slice) -> Tuple[Effect, ...]: ...
+
+    def __getitem__(self, index: Union[int, slice]) -> Union[Effect, Tuple[Effect, ...]]:
         return self.effects[index]
 
     def __iter__(self) -> Iterator[Effect]:
         return iter(self.effects)
 
-    def __str__(self) -> str:
+    @property
+    def text(self) -> str:
+        """The answer as the program prints it."""
         pins = [f"pinned {printed_name(name)}={level}" for name, level in self.pinned.items()]
         return "\n".join([*pins, *map(str, self.effects)])
+
+    def __str__(self) -> str:
+        return "\n".join([*self.notes, *map(str, self.effects)])
+
+    @property
+    def notes(self) -> Tuple[str, ...]:
+        """What the values rest on: the pinned levels, and how many records were left out."""
+        pins = [f"pinned {printed_name(name)}={level}" for name, level in self.pinned.items()]
+        if pins:
+            pins[-1] += " (in the population every level gives the same)"
+        return (*pins, *([f"{self.dropped} records left out that lack a value"] if self.dropped else []))
+
+    @property
+    def levels(self) -> Dict[str, List[Level]]:
+        """The levels of each variable of y and of x, in the order of the effects.
+
+        >>> from causal import Diagram
+        >>> Diagram("dag{ X -> Y }").effects({"X": ["a", "a", "b"], "Y": [0, 1, 1]}, "X", "Y").levels
+        {'Y': [0, 1], 'X': ['a', 'b']}
+        """
+        found: Dict[str, Dict[Level, None]] = {name: {} for name in (*self.formula.target.y, *self.formula.target.x)}
+        for effect in self.effects:
+            for name, level in (*effect.y.items(), *effect.x.items()):
+                found[name][level] = None
+        return {name: list(levels) for name, levels in found.items()}
 
     def place(self, y: Mapping[str, Level], x: Mapping[str, Level]) -> int:
         """The number of the effect at these levels."""
         for k, effect in enumerate(self.effects):
             if effect.y == dict(y) and effect.x == dict(x):
                 return k
-        raise RequestError(f"there is no effect {_cell_text(y, x)} in the data")
+        there = [f"{name} has {', '.join(map(repr, levels))}" for name, levels in self.levels.items()]
+        raise RequestError(f"there is no effect {_cell_text(y, x)} in the data, in which {'; '.join(there)}")
 
     def at(self, y: Mapping[str, Level], x: Mapping[str, Level]) -> Value:
         """The value at these levels."""
@@ -176,7 +213,8 @@ class Effects(Sequence[Effect]):
 
         Its columns are the pinned variables, the exposures and the outcomes, then `estimate`, a float, and either `exact`, a
         `Fraction`, or `from` and `to`, the bounds as floats that are rounded outward. These are bounds for rounding, and no
-        confidence interval. A value's column whose name a variable has is followed by `_`.
+        confidence interval. A value's column whose name a variable has is followed by `_`. What the values rest on stands in its
+        `attrs`: `pinned`, the pinned levels, and `dropped`, how many records were left out.
 
         >>> import pandas
         >>> from causal import Diagram
@@ -197,11 +235,13 @@ class Effects(Sequence[Effect]):
         pandas = _pandas()
         names = [*self.pinned, *self.formula.target.x, *self.formula.target.y]
         rows = [[*self.pinned.values(), *e.x.values(), *e.y.values(), *value] for e, value in zip(self.effects, values)]
-        return pandas.DataFrame(rows, columns=[*names, *(_apart(head, names) for head in heads)])
+        frame = pandas.DataFrame(rows, columns=[*names, *(_apart(head, names) for head in heads)])
+        frame.attrs.update(pinned=dict(self.pinned), dropped=self.dropped)
+        return frame
 
     def _repr_html_(self) -> Optional[str]:
         try:
-            return self.frame().to_html()
+            return str(self.frame().to_html())
         except ImportError:
             return None
 
@@ -218,6 +258,62 @@ def _pandas() -> Any:
     except ImportError as cause:
         raise ImportError("a DataFrame needs pandas; `effects` gives the same values without it") from cause
     return pandas
+
+
+@dataclass(frozen=True)
+class Spread(Sequence[Effects]):
+    """The effects at each level of what a formula reads beside x and y.
+
+    In the population every level gives the same, where the diagram is right; over the counts of a sample they differ by chance.
+    Where they differ by more, as the intervals of `Diagram.bootstrap` tell, the data speaks against the diagram. Each value is
+    proved, as `Effects` says; `without_value` has the levels at which some term has no records.
+
+    >>> from causal import Diagram
+    >>> napkin = Diagram("dag { W -> Z -> X -> Y  W <-> X  W <-> Y }")
+    >>> data = {name: [k >> bit & 1 for k in range(16)] for bit, name in enumerate("WZXY")}
+    >>> spread = napkin.spread(data, "X", "Y")
+    >>> [effects.pinned for effects in spread], spread.widest
+    ([{'Z': 0}, {'Z': 1}], 0.0)
+    """
+
+    effects: Tuple[Effects, ...]
+    without_value: Tuple[Dict[str, Level], ...] = ()
+
+    def __len__(self) -> int:
+        return len(self.effects)
+
+    @overload
+    def __getitem__(self, index: int) -> Effects: ...
+
+    @overload
+    def __getitem__(self, index: slice) -> Tuple[Effects, ...]: ...
+
+    def __getitem__(self, index: Union[int, slice]) -> Union[Effects, Tuple[Effects, ...]]:
+        return self.effects[index]
+
+    def __iter__(self) -> Iterator[Effects]:
+        return iter(self.effects)
+
+    @property
+    def widest(self) -> float:
+        """How far the values of one effect are apart at most."""
+        columns = zip(*([float(effect.value) for effect in effects] for effects in self.effects))
+        return max((max(values) - min(values) for values in columns), default=0.0)
+
+    def __str__(self) -> str:
+        parts = [effects.text for effects in self.effects]
+        parts += [f"no value at {_levels_text(levels)}" for levels in self.without_value]
+        return "\n".join([*parts, f"at most {self.widest:.6g} apart"])
+
+    def frame(self) -> "pandas.DataFrame":
+        """A DataFrame with the rows of each effect at each level (it needs pandas): see `Effects.frame`."""
+        return _pandas().concat([effects.frame() for effects in self.effects], ignore_index=True)
+
+    def _repr_html_(self) -> Optional[str]:
+        try:
+            return str(self.frame().to_html())
+        except (ImportError, ValueError):
+            return None
 
 
 @dataclass(frozen=True)

@@ -2,13 +2,14 @@
 from __future__ import annotations
 
 from dataclasses import dataclass
-from typing import TYPE_CHECKING, Any, Dict, Iterator, List, Optional, Sequence, Tuple
+from typing import TYPE_CHECKING, Dict, Iterator, List, Optional, Sequence, Tuple, Union, overload
 
 from causal._library import Text
+from causal.columns import Data, may_have_blanks, path_of, read_bytes
 from causal.effects import Level, LevelOf, split_levels
 from causal.errors import UnreadableAnswer
 from causal.names import Cursor, printed_name, printed_set
-from causal.tables import Data, path_of, read_bytes, table_of
+from causal.tables import Table, check_request, table_of, table_of_file
 
 if TYPE_CHECKING:
     import pandas
@@ -79,7 +80,13 @@ class Implications(Sequence[Implication]):
     def __len__(self) -> int:
         return len(self.implications)
 
-    def __getitem__(self, index: Any) -> Any:
+    @overload
+    def __getitem__(self, index: int) -> Implication: ...
+
+    @overload
+    def __getitem__(self, index: slice) -> Tuple[Implication, ...]: ...
+
+    def __getitem__(self, index: Union[int, slice]) -> Union[Implication, Tuple[Implication, ...]]:
         return self.implications[index]
 
     def __iter__(self) -> Iterator[Implication]:
@@ -111,11 +118,13 @@ class Implications(Sequence[Implication]):
 
         has_data = any(it.difference is not None for it in self.implications)
         rows = [[it.a, it.b, it.given, *([it.difference.value, it.difference.cell] if it.difference else [])] for it in self]
-        return pandas.DataFrame(rows, columns=["a", "b", "given", *(["difference", "cell"] if has_data else [])])
+        frame = pandas.DataFrame(rows, columns=["a", "b", "given", *(["difference", "cell"] if has_data else [])])
+        frame.attrs.update(dropped=self.dropped)
+        return frame
 
     def _repr_html_(self) -> Optional[str]:
         try:
-            return self.frame().to_html()
+            return str(self.frame().to_html())
         except ImportError:
             return None
 
@@ -173,12 +182,23 @@ def implications_of(diagram: "Diagram", data: Optional[Data], count: Optional[st
     pairs = read_implications(diagram._ask("implications")[1])
     if data is None or not pairs:
         return pairs
-    path = path_of(data)
-    if path is not None:
+    names = [name for name in diagram.vertices if name in pairs.variables]
+    check_request(names, count, missing)
+
+    def over_text(text: bytes) -> Implications:
         words = [] if count is None else [f"--count={count}"]
-        return _with_counts(diagram, pairs, read_bytes(path), words, lambda name, level: level, 0)
-    table = table_of(data, [name for name in diagram.vertices if name in pairs.variables], count, missing)
-    return _with_counts(diagram, pairs, table.text(), [f"--count={table.count_column}"], table.level, table.dropped)
+        return _with_counts(diagram, pairs, text, words, lambda name, level: level, 0)
+
+    def over_table(table: Table) -> Implications:
+        return _with_counts(diagram, pairs, table.text(), [f"--count={table.count_column}"], table.level, table.dropped)
+
+    path = path_of(data)
+    if path is None:
+        return over_table(table_of(data, names, count, missing))
+    text = read_bytes(path)
+    if missing == "level" or not may_have_blanks(text):
+        return over_text(text)
+    return over_table(table_of_file(text, names, count, missing, over_text, over_table))
 
 
 def _with_counts(

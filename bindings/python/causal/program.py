@@ -120,7 +120,7 @@ def explanation(reply: Reply, files: Files) -> str:
         return files.failed
     if not WORDS < reply.status < NO_INPUT:
         return ""
-    return told_of(refusal_of(reply, list(files.contents.values())))
+    return told_of(refusal_of(reply, [*files.contents.values(), b"", b""]))
 
 
 def refusal_of(reply: Reply, texts: List[bytes]) -> CausalError:
@@ -128,7 +128,7 @@ def refusal_of(reply: Reply, texts: List[bytes]) -> CausalError:
     from causal.faults import Sources, raise_refusal
 
     try:
-        raise_refusal(reply.status, reply.err, [], Sources(*texts[:2]))
+        raise_refusal(reply.status, reply.err, [], Sources(texts[0], texts[1]))
     except CausalError as error:
         return error
 
@@ -142,13 +142,16 @@ def told_of(error: CausalError) -> str:
 
 def write(stream: Optional[TextIO], content: bytes) -> bool:
     """Writes to a stream, which may be closed. Whether that went well."""
+    if not content or stream is None:
+        return not content
     try:
-        if content:
-            assert stream is not None
+        if hasattr(stream, "buffer"):
             stream.buffer.write(content)
-            stream.flush()
+        else:
+            stream.write(content.decode("utf-8", "replace"))
+        stream.flush()
         return True
-    except (OSError, ValueError, AssertionError):
+    except (OSError, ValueError):
         return False
 
 
@@ -164,19 +167,30 @@ def write_answer(reply: Reply, files: Files) -> int:
     return reply.status
 
 
+def answered_here(words: Sequence[bytes]) -> Optional[Reply]:
+    """What `--help` and `--version` answer, which the library doesn't."""
+    if len(words) != 1:
+        return None
+    told = {b"--help": USAGE, b"--version": f"causal {VERSION}\n"}.get(words[0])
+    return Reply(0, told.encode(), b"") if told else None
+
+
 def main(words: Optional[Sequence[str]] = None) -> int:
     """Runs the command that the words name, and gives the status of the program.
 
     >>> from causal.program import main
-    >>> main(["--version"])  # doctest: +ELLIPSIS
-    causal ...
+    >>> main(["survey", "1"])
+    vertices 40
+    directed 146
+    bidirected 46
+    formulas 1510
+    hedges 50
     0
     """
     asked = [os.fsencode(word) for word in (sys.argv[1:] if words is None else words)]
-    told = {(b"--help",): USAGE, (b"--version",): f"causal {VERSION}\n"}.get(tuple(asked))
     files = Files()
     try:
-        reply = Reply(0, told.encode(), b"") if told else answer(asked, files)
+        reply = answered_here(asked) or answer(asked, files)
     except LibraryMissing as cause:
         write(sys.stderr, f"causal: {cause}\n".encode())
         return NO_LIBRARY

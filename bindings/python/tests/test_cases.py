@@ -8,6 +8,7 @@ import unittest
 from worked import all_cases
 
 import causal
+from causal.evaluation import Evaluation
 from causal.names import Cursor
 
 LISTS = ("x", "y", "z", "do", "given", "set")
@@ -130,7 +131,8 @@ class Questions(unittest.TestCase):
 
     def ask_evaluate(self, diagram, second, options, folder):
         try:
-            return diagram.effects(self.file_of(second, folder), **options)
+            exact = options.pop("exact", False)
+            return Evaluation(diagram, **{"x": None, "y": None, **options}).over_file(second or b"", exact).text
         except causal.NotIdentifiable as error:
             return error.place
 

@@ -32,6 +32,19 @@ class Networkx(unittest.TestCase):
         self.assertEqual(diagram.vertices, ("a b", "1", "c", "U"))
         self.assertEqual(diagram.roles, {"a b": "exposure", "c": "outcome", "U": "latent"})
 
+    def test_vertices_that_are_no_texts(self):
+        graph = networkx.DiGraph([(1, 2), ((1, 2), 2), (3, 1)])
+        for exposure in (1, [1], "1"):
+            diagram = Diagram.from_networkx(graph, exposure=exposure, outcome=2, adjusted=(1, 2), latent=[3])
+            self.assertEqual(diagram.roles, {"1": "exposure", "2": "outcome", "(1, 2)": "adjusted", "3": "latent"})
+        self.assertEqual(str(diagram.identify(1, 2)), str(diagram.identify("1", "2")))
+        self.assertTrue(diagram.is_separated([1], "(1, 2)"))
+
+    def test_what_is_no_graph(self):
+        for wrong in (None, 3, {}, [(1, 2)]):
+            with self.assertRaisesRegex(causal.RequestError, "a graph of networkx is needed, and no"):
+                Diagram.from_networkx(wrong)
+
     def test_there_and_back(self):
         for name in ("napkin.dag", "bow.dag", "exported.dag", "hidden_cause.dag"):
             with self.subTest(name):
