@@ -252,6 +252,11 @@ class Diagram:
 
         return plot(self._content, path, hedge, positions, ax)
 
+    def _repr_svg_(self) -> Optional[str]:
+        from causal.plotting import svg
+
+        return svg(self._content)
+
     # Questions about a diagram.
 
     def separated(self, x: Optional[Names] = None, y: Optional[Names] = None, given: Optional[Names] = None) -> answers.Separation:

@@ -2,7 +2,7 @@
 from __future__ import annotations
 
 import re
-from typing import Iterable, Optional, Tuple, Union
+from typing import Any, Iterable, Optional, Tuple, Union
 
 from causal.errors import RequestError, UnreadableAnswer
 
@@ -30,7 +30,7 @@ def names_of(names: Names) -> Tuple[str, ...]:
         ...
     causal.errors.RequestError: a name is a text, and a set several of them; None is neither
     """
-    several = [names] if isinstance(names, (str, int)) or not hasattr(names, "__iter__") else names
+    several: Iterable[Any] = [names] if isinstance(names, (str, int)) or not hasattr(names, "__iter__") else names
     try:
         return tuple([_name_of(name) for name in several])
     except TypeError:
