@@ -1,12 +1,12 @@
 # Contrasts of effects, and their intervals by the bootstrap. The library gives the effects; the rest is arithmetic.
 
 contrast <- function(diagram, data, x = NULL, y = NULL, treated = NULL, control = NULL, count = NULL, level = 0.95, resamples = 1000,
-                     seed = NULL, missing = c("error", "drop")) {
+                     seed = NULL, missing = c("error", "drop"), at = NULL) {
   diagram <- as_causal_diagram(diagram)
   check_numbers(level, resamples)
   words <- c(option("x", x), option("y", y))
-  table <- count_table(diagram, words, data, count, match.arg(missing))
-  if (is.null(table)) stop(not_identifiable(diagram, x, y))
+  table <- effect_table(diagram, x, y, data, count, match.arg(missing))
+  table <- pin(table, first_places(table, free_variables(diagram, words), at))
   effects <- effects_of(diagram, words, table)
   arms <- arms_of(effects, table, treated, control)
   drawn <- with_seed(seed, resampled_values(diagram, words, table, effects, resamples))
@@ -93,13 +93,8 @@ contrast_frame <- function(effects, table, arms, drawn, level, seed) {
   structure(frame_of(columns), class = c("causal_contrast", "data.frame"), level = level, resamples = nrow(drawn),
             without_value = sum(is.na(drawn[, 1])), without_ratio = colSums(is.na(ratios)), seed = seed,
             outcomes = names(effects$y[[1]]),
-            treated = arm_levels(effects, table, arms$treated), control = arm_levels(effects, table, arms$control),
-            pinned = pinned_levels(effects, table), dropped = table$dropped)
-}
-
-arm_levels <- function(effects, table, arm) {
-  cell <- effects$x[[arm[1]]]
-  lapply(stats::setNames(names(cell), names(cell)), function(name) level_of(table, name, cell[[name]]))
+            treated = levels_at(table, effects$x[[arms$treated[1]]]), control = levels_at(table, effects$x[[arms$control[1]]]),
+            pinned = levels_at(table, effects$pinned), dropped = table$dropped)
 }
 
 # The percentile interval of each column, of the resamples that have a value.

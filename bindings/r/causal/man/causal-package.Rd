@@ -10,10 +10,11 @@
 \details{
   A diagram (\code{\link{causal_diagram}}) is asked whether sets of vertices are separated (\code{\link{separated}}), whether a rule
   of do-calculus applies (\code{\link{rule_holds}}), whether an effect can be computed from observations
-  (\code{\link{identify}}) or from experiments on other variables (\code{\link{surrogate}}), whether somebody's derivation is
+  (\code{\link{identify_effect}}) or from experiments on other variables (\code{\link{surrogate}}), whether somebody's derivation is
   right (\code{\link{check_certificate}}), what may be adjusted for (\code{\link{adjustment_sets}}, \code{\link{adjusts}}), what it
-  implies of data (\code{\link{implications}}), and whether it implies the same as another (\code{\link{equivalent}}). Over a data frame \code{\link{evaluate}} gives the value of an effect, and \code{\link{contrast}}
-  differences and ratios of effects with intervals.
+  implies of data (\code{\link{implications}}), and whether it implies the same as another (\code{\link{equivalent}}). Over a data frame
+  \code{\link{evaluate}} gives the value of an effect, \code{\link{pin_spread}} its values where a variable may be pinned at any
+  level, and \code{\link{contrast}} differences and ratios of effects with intervals.
 
   \strong{What is proved, and what isn't.} The status, the answer and the line that the library gives for its words and inputs
   are proved. This package hands it text and reads its printed answers; that, the drawings, and all arithmetic with R's

@@ -9,11 +9,11 @@
 \usage{
 contrast(diagram, data, x = NULL, y = NULL, treated = NULL, control = NULL,
          count = NULL, level = 0.95, resamples = 1000, seed = NULL,
-         missing = c("error", "drop"))
+         missing = c("error", "drop"), at = NULL)
 \method{print}{causal_contrast}(x, digits = 4, ...)
 }
 \arguments{
-  \item{diagram, data, x, y, count, missing}{as in \code{\link{evaluate}}; in the method \code{x} is an answer.}
+  \item{diagram, data, x, y, count, missing, at}{as in \code{\link{evaluate}}; in the method \code{x} is an answer.}
   \item{treated, control}{the levels of \code{x} in both arms: a value, or for several exposures a vector or list named by them.
     Where there is one exposure with two levels the second is \code{treated} and the first \code{control} by default.}
   \item{level}{the level of the intervals.}
