@@ -25,6 +25,8 @@ if int(setuptools.__version__.split(".")[0]) < 61:
 HERE = os.path.dirname(os.path.abspath(__file__))
 TOP = os.path.join(HERE, "..", "..")
 NATIVE = os.path.join(HERE, "native")
+# What of the C is the program's alone.
+PROGRAM = ("main.c", "usage.h")
 LIBRARY = {"win32": "causal.dll", "darwin": "libcausal.dylib"}.get(sys.platform, "libcausal.so")
 
 
@@ -34,7 +36,7 @@ def take_sources():
     if found:
         os.makedirs(NATIVE, exist_ok=True)
         for path in [*found, os.path.join(TOP, "include", "causal.h"), os.path.join(TOP, "VERSION")]:
-            if os.path.basename(path) != "main.c":
+            if os.path.basename(path) not in PROGRAM:
                 take(path, os.path.join(NATIVE, os.path.basename(path)))
     sources = sorted(glob.glob(os.path.join(NATIVE, "*.c")))
     if not sources:

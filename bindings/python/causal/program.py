@@ -17,22 +17,35 @@ WORDS, NO_INPUT, WRITE_FAILED, NO_MEMORY, NO_LIBRARY = 2, 6, 7, 8, 70
 # No more bytes of a graph are read, and of no input at all; one more is refused.
 MOST_OF_A_GRAPH, MOST = 1 << 20, 64 << 20
 
+# As portable/usage.h has it.
 USAGE = """\
-causal: proved answers about causal diagrams with hidden confounders
+usage: causal COMMAND ..
 
-    causal graph FILE [--project]
-    causal separate FILE [--x L] [--y L] [--given L]
-    causal rule FILE --rule N --y L --z L [--do L] [--given L]
-    causal identify FILE [--x L] [--y L] [--given L] [--certificate] [--latex]
-    causal check FILE CERTIFICATE
-    causal adjust FILE [--x L] [--y L] [--set L] [--back-door] [--most N]
-    causal evaluate FILE COUNTS [--x L] [--y L] [--count NAME] [--exact]
-    causal equivalent FILE FILE2 [--x L] [--y L] [--given L]
-    causal implications FILE [COUNTS] [--count NAME]
-    causal survey N
-    causal surrogate FILE [--x L] [--y L] --experiments E
+Answers questions about causal diagrams with hidden confounders. The answers are proved.
 
-FILE is the dag text of DAGitty, - standard input; a list L is names joined by commas, {} for none.
+    graph FILE [--project]
+    separate FILE [--x L] [--y L] [--given L]
+    rule FILE --rule N --y L --z L [--do L] [--given L]
+    identify FILE [--x L] [--y L] [--given L] [--certificate] [--latex]
+    check FILE CERTIFICATE
+    adjust FILE [--x L] [--y L] [--set L] [--back-door] [--most N]
+    evaluate FILE COUNTS [--x L] [--y L] [--count NAME] [--exact]
+    equivalent FILE FILE2 [--x L] [--y L] [--given L]
+    implications FILE [COUNTS] [--count NAME]
+    survey N
+    surrogate FILE [--x L] [--y L] --experiments E
+
+FILE is a graph text, in the form of DAGitty; - is standard input. A list L is names joined by
+commas, {} for none. Where x and y aren't listed, they are the vertices marked exposure and
+outcome. COUNTS is CSV with a header: a column for each vertex, and with --count one of counts.
+E is one to eight lists joined by ;, each an experiment.
+
+    causal --help       prints this
+    causal --version    prints the version
+
+Statuses: 0 yes, 1 no; 2 words that aren't understood; 3 the graph or the target is refused;
+4 the second input is refused; 5 the formula has no value over the counts; 6 a read failed,
+7 a write failed; 8 memory was refused.
 """
 
 
@@ -169,9 +182,7 @@ def write_answer(reply: Reply, files: Files) -> int:
 
 def answered_here(words: Sequence[bytes]) -> Optional[Reply]:
     """What `--help` and `--version` answer, which the library doesn't."""
-    if len(words) != 1:
-        return None
-    told = {b"--help": USAGE, b"--version": f"causal {VERSION}\n"}.get(words[0])
+    told = {b"--help": USAGE, b"--version": f"causal {VERSION}\n"}.get(words[0]) if words else None
     return Reply(0, told.encode(), b"") if told else None
 
 
