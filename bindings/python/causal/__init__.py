@@ -36,6 +36,7 @@ if TYPE_CHECKING:
     from causal.bootstrap import Bootstrap, ContrastInterval, Interval
     from causal.effects import Contrast, Effect, Effects, Spread, Value
     from causal.implications import Difference, Implication, Implications
+    from causal.independence import IndependenceTest, IndependenceTests
 
 __version__ = VERSION
 
@@ -61,6 +62,8 @@ __all__ = [
     "HedgeSets",
     "Implication",
     "Implications",
+    "IndependenceTest",
+    "IndependenceTests",
     "Interval",
     "LibraryMissing",
     "MissingValues",
@@ -93,6 +96,8 @@ _LATER = {
     "Difference": "causal.implications",
     "Implication": "causal.implications",
     "Implications": "causal.implications",
+    "IndependenceTest": "causal.independence",
+    "IndependenceTests": "causal.independence",
 }
 
 

@@ -22,6 +22,7 @@ if TYPE_CHECKING:
     from causal.columns import Data
     from causal.effects import Contrast, Effects, Level, Spread
     from causal.implications import Implications
+    from causal.independence import IndependenceTests
 
 
 def options(**lists: Optional[Names]) -> List[Text]:
@@ -426,6 +427,35 @@ class Diagram:
         from causal.implications import implications_of
 
         return implications_of(self, data, count, missing)
+
+    def test_implications(
+        self,
+        data: Data,
+        count: Optional[str] = None,
+        *,
+        missing: str = "error",
+        method: str = "auto",
+        permutations: int = 1000,
+        seed: int = 0,
+    ) -> IndependenceTests:
+        """Tests of the testable implications: whether the data is farther from each than chance lets expect.
+
+        For each pair of `implications` G² is summed over the levels of its set, and compared with the chi-squared distribution of
+        its degrees of freedom (it needs scipy), or, where the tables are too thin or scipy isn't there, with tables that are drawn
+        with the same sums, as many as `permutations` says, from the seed. `method` may be "chi-squared" or "permutation" for all.
+        The pairs are proved, as `implications` says; the tests are computed, and nothing about them is proved.
+
+        >>> from causal import Diagram
+        >>> data = {"A": [0, 0, 0, 1, 1, 1] * 20, "B": [0] * 60 + [1] * 60, "C": ([0, 0, 1, 0, 1, 1]) * 20}
+        >>> tests = Diagram("dag { A <- B -> C }").test_implications(data, method="permutation", permutations=200)
+        >>> tests[0].a, tests[0].b, tests[0].given, tests[0].degrees, round(tests[0].statistic, 3)
+        ('A', 'C', ('B',), 2, 13.592)
+        >>> len(tests.rejected())
+        1
+        """
+        from causal.independence import tests_of
+
+        return tests_of(self, data, count, missing, method, permutations, seed)
 
     # Effects in data.
 

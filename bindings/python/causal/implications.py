@@ -177,28 +177,49 @@ def read_implications(text: str, level_of: LevelOf = lambda name, level: level, 
     return Implications(tuple(found), dropped)
 
 
+class _Counts:
+    """How the library is asked of the counts of a diagram's pairs."""
+
+    def __init__(self, diagram: "Diagram", pairs: Implications, count: Optional[str], missing: str) -> None:
+        self.diagram, self.pairs, self.count, self.missing = diagram, pairs, count, missing
+        self.names = [name for name in diagram.vertices if name in pairs.variables]
+        check_request(self.names, count, missing)
+
+    def over_text(self, text: bytes) -> Implications:
+        """The pairs with their differences over the text of a CSV file, which is sent as it is."""
+        words = [] if self.count is None else [f"--count={self.count}"]
+        return _with_counts(self.diagram, self.pairs, text, words, lambda name, level: level, 0)
+
+    def over_table(self, table: Table) -> Implications:
+        """The pairs with their differences over a table."""
+        words = [f"--count={table.count_column}"]
+        return _with_counts(self.diagram, self.pairs, table.text(), words, table.level, table.dropped)
+
+    def table(self, data: Data) -> Table:
+        """The table of the data."""
+        path = path_of(data)
+        if path is None:
+            return table_of(data, self.names, self.count, self.missing)
+        return table_of_file(read_bytes(path), self.names, self.count, self.missing, self.over_text, self.over_table)
+
+
 def implications_of(diagram: "Diagram", data: Optional[Data], count: Optional[str], missing: str) -> Implications:
     """The implications of a diagram, with their differences where there is data: see `Diagram.implications`."""
     pairs = read_implications(diagram._ask("implications")[1])
     if data is None or not pairs:
         return pairs
-    names = [name for name in diagram.vertices if name in pairs.variables]
-    check_request(names, count, missing)
-
-    def over_text(text: bytes) -> Implications:
-        words = [] if count is None else [f"--count={count}"]
-        return _with_counts(diagram, pairs, text, words, lambda name, level: level, 0)
-
-    def over_table(table: Table) -> Implications:
-        return _with_counts(diagram, pairs, table.text(), [f"--count={table.count_column}"], table.level, table.dropped)
-
+    counts = _Counts(diagram, pairs, count, missing)
     path = path_of(data)
-    if path is None:
-        return over_table(table_of(data, names, count, missing))
-    text = read_bytes(path)
-    if missing == "level" or not may_have_blanks(text):
-        return over_text(text)
-    return over_table(table_of_file(text, names, count, missing, over_text, over_table))
+    if path is not None:
+        text = read_bytes(path)
+        if missing == "level" or not may_have_blanks(text):
+            return counts.over_text(text)
+    return counts.over_table(counts.table(data))
+
+
+def table_for(diagram: "Diagram", pairs: Implications, data: Data, count: Optional[str], missing: str) -> Table:
+    """The table of the variables of the pairs."""
+    return _Counts(diagram, pairs, count, missing).table(data)
 
 
 def _with_counts(
