@@ -33,8 +33,8 @@ from causal.surrogates import Stopped
 from causal.version import VERSION
 
 if TYPE_CHECKING:
-    from causal.bootstrap import Bootstrap, ContrastInterval, Interval
-    from causal.effects import Contrast, Effect, Effects, Spread, Value
+    from causal.bootstrap import Bootstrap, ContrastInterval, Interval, MeanInterval
+    from causal.effects import Contrast, Effect, Effects, Mean, Spread, Value
     from causal.implications import Difference, Implication, Implications
     from causal.independence import IndependenceTest, IndependenceTests
 
@@ -66,6 +66,8 @@ __all__ = [
     "IndependenceTests",
     "Interval",
     "LibraryMissing",
+    "Mean",
+    "MeanInterval",
     "MissingValues",
     "NotIdentifiable",
     "Path",
@@ -88,9 +90,11 @@ _LATER = {
     "Bootstrap": "causal.bootstrap",
     "ContrastInterval": "causal.bootstrap",
     "Interval": "causal.bootstrap",
+    "MeanInterval": "causal.bootstrap",
     "Contrast": "causal.effects",
     "Effect": "causal.effects",
     "Effects": "causal.effects",
+    "Mean": "causal.effects",
     "Spread": "causal.effects",
     "Value": "causal.effects",
     "Difference": "causal.implications",

@@ -571,10 +571,10 @@ class Diagram:
         missing: str = "error",
         at: Optional[Mapping[str, Level]] = None,
     ) -> Contrast:
-        """The risk difference and the risk ratio of two levels of x, for a level of y.
+        """The risk difference, the risk ratio and the odds ratio of two levels of x, for a level of y.
 
         The levels are given as they stand in the data; where x or y has several variables, as a mapping or in the order of the
-        target. Both effects are proved, as `effects` says; the difference and the ratio are computed from them, outward where
+        target. Both effects are proved, as `effects` says; the difference and the ratios are computed from them, outward where
         they are bounds. For intervals see `bootstrap(..).contrast(..)`.
 
         >>> from causal import Diagram
@@ -601,8 +601,10 @@ class Diagram:
         resamples: int = 1000,
         level: float = 0.95,
         seed: int = 0,
+        kind: str = "percentile",
     ) -> Bootstrap:
-        """The effects with intervals by the bootstrap (percentiles of resampled tables of counts).
+        """The effects with intervals by the bootstrap: percentiles of resampled tables of counts, or with `kind="bca"` percentiles
+        that are corrected for bias and accelerated, which asks once more for each cell of the table.
 
         As many records as there are are drawn with replacement, `resamples` times, and the effects asked for again. What is
         proved is each value over its counts; the interval is only computed. A draw has the levels of x, of y and of pinned
@@ -622,4 +624,6 @@ class Diagram:
 
         if resamples < 1 or not 0 < level < 1:
             raise RequestError("resamples is at least 1, and level lies between 0 and 1")
-        return Evaluation(self, x, y, count, missing).bootstrap(data, resamples, level, seed, at)
+        if kind not in ("percentile", "bca"):
+            raise RequestError(f"kind is 'percentile' or 'bca', and not {kind!r}")
+        return Evaluation(self, x, y, count, missing).bootstrap(data, resamples, level, seed, at, kind)

@@ -2,11 +2,14 @@
 from __future__ import annotations
 
 import math
+import numbers
 import re
 from dataclasses import dataclass
+from decimal import Decimal
 from fractions import Fraction
 from typing import TYPE_CHECKING, Any, Callable, Dict, Hashable, Iterator, List, Mapping, Optional, Sequence, Tuple, Union, overload
 
+from causal.display import html_table
 from causal.errors import RequestError, UnreadableAnswer
 from causal.formula import Formula, Term
 from causal.names import printed_name
@@ -85,10 +88,66 @@ class Value:
         return Value(self.lower / other.upper, self.upper / other.lower) if other.lower > 0 else None
 
 
+    def odds(self) -> Optional["Value"]:
+        """The odds, or None where the value may be 1.
+
+        >>> from fractions import Fraction
+        >>> from causal.effects import Value
+        >>> Value(Fraction(1, 2), Fraction(3, 4)).odds()
+        Value(lower=Fraction(1, 1), upper=Fraction(3, 1))
+        """
+        return Value(self.lower / (1 - self.lower), self.upper / (1 - self.upper)) if self.upper < 1 else None
+
+    def times(self, factor: Fraction) -> "Value":
+        """The value times a number.
+
+        >>> from fractions import Fraction
+        >>> from causal.effects import Value
+        >>> Value(Fraction(1, 2), Fraction(3, 4)).times(Fraction(-2))
+        Value(lower=Fraction(-3, 2), upper=Fraction(-1, 1))
+        """
+        ends = self.lower * factor, self.upper * factor
+        return Value(min(ends), max(ends))
+
+    def plus(self, other: "Value") -> "Value":
+        """The sum.
+
+        >>> from fractions import Fraction
+        >>> from causal.effects import Value
+        >>> Value(Fraction(1, 2), Fraction(3, 4)).plus(Value(Fraction(1), Fraction(1)))
+        Value(lower=Fraction(3, 2), upper=Fraction(7, 4))
+        """
+        return Value(self.lower + other.lower, self.upper + other.upper)
+
+
 def _digits(value: Fraction) -> str:
     """The value with 18 digits behind the point."""
     units = value * 10**18
     return f"{units // 10**18}.{int(units % 10**18):018d}"
+
+
+def number_of(level: Level) -> Optional[Fraction]:
+    """The number that a level is, or that it is written as in a file; None where it is none.
+
+    >>> from causal.effects import number_of
+    >>> number_of(0.5), number_of("12"), number_of("good")
+    (Fraction(1, 2), Fraction(12, 1), None)
+    """
+    try:
+        return Fraction(level) if isinstance(level, (str, numbers.Rational, float, Decimal)) else None
+    except (ValueError, OverflowError, ZeroDivisionError):
+        return None
+
+
+@dataclass(frozen=True)
+class Mean:
+    """The mean of a numeric outcome under levels of the exposures. It is computed from the proved probabilities, exactly or outward."""
+
+    x: Dict[str, Level]
+    value: Value
+
+    def __str__(self) -> str:
+        return f"mean at {_levels_text(self.x)} {self.value}" if self.x else f"mean {self.value}"
 
 
 @dataclass(frozen=True)
@@ -99,8 +158,13 @@ class Effect:
     x: Dict[str, Level]
     value: Value
 
+    @property
+    def cell(self) -> str:
+        """The probability, as it is printed."""
+        return _cell_text(self.y, self.x)
+
     def __str__(self) -> str:
-        return f"{_cell_text(self.y, self.x)} {self.value}"
+        return f"{self.cell} {self.value}"
 
 
 def _levels_text(cell: Mapping[str, Level]) -> str:
@@ -208,6 +272,42 @@ class Effects(Sequence[Effect]):
         """
         return Contrast(self.at(outcome, treated), self.at(outcome, control))
 
+    @property
+    def numbers(self) -> Dict[Level, Fraction]:
+        """The number of each level of the outcome, which has to be one variable with numbers for levels."""
+        if len(self.formula.target.y) != 1:
+            raise RequestError("a mean is of one outcome")
+        name = self.formula.target.y[0]
+        found = {level: number_of(level) for level in self.levels[name]}
+        others = [repr(level) for level, number in found.items() if number is None]
+        if others:
+            raise RequestError(f"{name} has a level that is no number: {', '.join(others[:3])}")
+        return {level: number for level, number in found.items() if number is not None}
+
+    def means(self) -> Tuple[Mean, ...]:
+        """The mean of the outcome, which has numbers for levels, under each level of the exposures.
+
+        >>> from causal import Diagram
+        >>> effects = Diagram("dag{ X -> Y }").effects({"X": ["a", "a", "b"], "Y": [0, 5, 2]}, "X", "Y", exact=True)
+        >>> print(*effects.means(), sep="\\n")
+        mean at X=a = 5/2
+        mean at X=b = 2/1
+        """
+        of, name = self.numbers, self.formula.target.y[0]
+        sums: Dict[Tuple[Level, ...], Mean] = {}
+        for effect in self.effects:
+            term = effect.value.times(of[effect.y[name]])
+            key = tuple(effect.x.values())
+            sums[key] = Mean(effect.x, sums[key].value.plus(term) if key in sums else term)
+        return tuple(sums.values())
+
+    def mean(self, x: Mapping[str, Level]) -> Value:
+        """The mean of the outcome under these levels of the exposures."""
+        for mean in self.means():
+            if mean.x == dict(x):
+                return mean.value
+        raise RequestError(f"there is no mean at {_levels_text(x)} in the data")
+
     def frame(self) -> "pandas.DataFrame":
         """A DataFrame with a row for each effect (it needs pandas).
 
@@ -239,11 +339,17 @@ class Effects(Sequence[Effect]):
         frame.attrs.update(pinned=dict(self.pinned), dropped=self.dropped)
         return frame
 
-    def _repr_html_(self) -> Optional[str]:
-        try:
-            return str(self.frame().to_html())
-        except ImportError:
-            return None
+    @property
+    def names(self) -> Tuple[str, ...]:
+        """The variables of x and of y."""
+        return (*self.formula.target.x, *self.formula.target.y)
+
+    def _repr_html_(self) -> str:
+        heads = ("estimate", "exact") if self.exact else ("estimate", "from", "to")
+        rows = [
+            [*e.x.values(), *e.y.values(), float(e.value), *((e.value.exact,) if self.exact else map(repr, e.value.floats()))] for e in self
+        ]
+        return html_table([*self.names, *heads], rows, self.notes)
 
 
 def _apart(head: str, names: Sequence[str]) -> str:
@@ -309,18 +415,20 @@ class Spread(Sequence[Effects]):
         """A DataFrame with the rows of each effect at each level (it needs pandas): see `Effects.frame`."""
         return _pandas().concat([effects.frame() for effects in self.effects], ignore_index=True)
 
-    def _repr_html_(self) -> Optional[str]:
-        try:
-            return str(self.frame().to_html())
-        except (ImportError, ValueError):
-            return None
+    def _repr_html_(self) -> str:
+        if not self.effects:
+            return html_table([], [], [f"no value at {_levels_text(levels)}" for levels in self.without_value])
+        free, names = list(self.effects[0].pinned), self.effects[0].names
+        rows = [[*es.pinned.values(), *e.x.values(), *e.y.values(), float(e.value)] for es in self.effects for e in es]
+        notes = [f"no value at {_levels_text(levels)}" for levels in self.without_value]
+        return html_table([*free, *names, "estimate"], rows, [*notes, f"at most {self.widest:.6g} apart"])
 
 
 @dataclass(frozen=True)
 class Contrast:
-    """Two effects compared: the risk difference and the ratio of `treated` and `control`.
+    """Two effects compared: the risk difference, the risk ratio and the odds ratio of `treated` and `control`.
 
-    Both effects are proved; the difference and the ratio are computed here from their fractions, exactly or outward.
+    Both effects are proved; the difference and the ratios are computed here from their fractions, exactly or outward.
 
     >>> from fractions import Fraction
     >>> from causal.effects import Contrast, Value
@@ -341,6 +449,18 @@ class Contrast:
     def ratio(self) -> Optional[Value]:
         """The risk ratio: treated over control, or None where control may be 0."""
         return self.treated.over(self.control)
+
+    @property
+    def odds_ratio(self) -> Optional[Value]:
+        """The odds ratio: the odds of treated over those of control, or None where one may have no odds or control's may be 0.
+
+        >>> from fractions import Fraction
+        >>> from causal.effects import Contrast, Value
+        >>> Contrast(Value(Fraction(1, 2), Fraction(1, 2)), Value(Fraction(1, 4), Fraction(1, 4))).odds_ratio.exact
+        Fraction(3, 1)
+        """
+        treated, control = self.treated.odds(), self.control.odds()
+        return treated.over(control) if treated and control else None
 
 
 _EXACT = r" = ([0-9]+)/([0-9]+)"

@@ -13,7 +13,7 @@ from causal.effects import Effects, Level, LevelOf, Spread, read_effects, split_
 from causal.errors import EvaluationError, NotIdentifiable, RequestError
 from causal.formula import Hedge
 from causal.names import Names
-from causal.tables import Table, check_request, table_of, table_of_file
+from causal.tables import Cell, Table, check_request, table_of, table_of_file
 
 if TYPE_CHECKING:
     from causal.diagram import Diagram
@@ -66,13 +66,19 @@ class Evaluation:
                 without.append({name: table.levels_of(name)[place] for name, place in pins.items()})
         return Spread(tuple(found), tuple(without))
 
-    def bootstrap(self, data: Data, resamples: int, level: float, seed: int, at: Pins) -> Bootstrap:
+    def bootstrap(self, data: Data, resamples: int, level: float, seed: int, at: Pins, kind: str) -> Bootstrap:
         """The effects with intervals: see `Diagram.bootstrap`."""
         table = self.pinned(self.table(data), at)
         estimate = self.over_table(table, exact=False)
         source = random.Random(seed)
-        draws = [self.draw(table, source) for _ in range(resamples)]
-        return Bootstrap(estimate, tuple(draws), level, seed)
+        draws = [self.over_counts(table, drawn(source, table.counts)) for _ in range(resamples)]
+        return Bootstrap(estimate, tuple(draws), level, seed, kind, tuple(self.left_out(table)) if kind == "bca" else ())
+
+    def left_out(self, table: Table) -> Iterator[Tuple[int, Optional[Tuple[float, ...]]]]:
+        """The values without one record, for each cell of the table, with how many records it has."""
+        for cell, count in table.counts.items():
+            if count:
+                yield count, self.over_counts(table, {**table.counts, cell: count - 1})
 
     # How data is read.
 
@@ -147,10 +153,10 @@ class Evaluation:
         answer = self.diagram._ask("evaluate", *lists, *words, second=text, levels=cell)[1]
         return read_effects(answer, self.formula, level_of, dropped)
 
-    def draw(self, table: Table, source: random.Random) -> Optional[Tuple[float, ...]]:
-        """The effects over a table that is drawn anew, or None where some cell has no value."""
+    def over_counts(self, table: Table, counts: Mapping[Cell, int]) -> Optional[Tuple[float, ...]]:
+        """The effects over other counts of a table, or None where some cell has no value."""
         kept = {*self.formula.target.x, *self.formula.target.y, *self.formula.free}
-        text = table.text(drawn(source, table.counts), kept)
+        text = table.text({cell: count for cell, count in counts.items() if count}, kept)
         try:
             return tuple(float(effect.value) for effect in self.over_table(table, exact=False, text=text))
         except EvaluationError:

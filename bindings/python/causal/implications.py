@@ -6,6 +6,7 @@ from typing import TYPE_CHECKING, Dict, Iterator, List, Optional, Sequence, Tupl
 
 from causal._library import Text
 from causal.columns import Data, may_have_blanks, path_of, read_bytes
+from causal.display import html_table
 from causal.effects import Level, LevelOf, split_levels
 from causal.errors import UnreadableAnswer
 from causal.names import Cursor, printed_name, printed_set
@@ -32,8 +33,13 @@ class Difference:
     value: int
     cell: Dict[str, Level]
 
+    @property
+    def place(self) -> str:
+        """The levels, as they are printed."""
+        return ",".join(f"{printed_name(name)}={level}" for name, level in self.cell.items())
+
     def __str__(self) -> str:
-        return f"largest difference {self.value} at " + ",".join(f"{printed_name(v)}={level}" for v, level in self.cell.items())
+        return f"largest difference {self.value} at {self.place}"
 
 
 @dataclass(frozen=True)
@@ -122,11 +128,10 @@ class Implications(Sequence[Implication]):
         frame.attrs.update(dropped=self.dropped)
         return frame
 
-    def _repr_html_(self) -> Optional[str]:
-        try:
-            return str(self.frame().to_html())
-        except ImportError:
-            return None
+    def _repr_html_(self) -> str:
+        has_data = any(it.difference is not None for it in self.implications)
+        rows = [[it.a, it.b, it.given, *([it.difference.value, it.difference.place] if it.difference else [])] for it in self]
+        return html_table(["a", "b", "given", *(["largest difference", "at"] if has_data else [])], rows)
 
 
 def _read_pair(line: str) -> Implication:
