@@ -293,7 +293,7 @@ class Bootstrap:
             return above / below if below > 0 else None
 
         def odds_ratio(a: float, b: float) -> Optional[float]:
-            return a * (1 - b) / ((1 - a) * b) if a < 1 and b > 0 else None
+            return a * (1 - b) / ((1 - a) * b) if a < 1 and 0 < b < 1 else None
 
         return ContrastInterval(
             self.effects.contrast(outcome, treated, control),

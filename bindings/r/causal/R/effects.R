@@ -19,7 +19,7 @@ pin_spread <- function(diagram, data, x = NULL, y = NULL, count = NULL, exact = 
   rows <- lapply(seq_len(nrow(places)), function(k) spread_rows(diagram, words, pin(table, unlist(places[k, , drop = FALSE])), free, exact))
   has_value <- !vapply(rows, is.null, NA)
   frame <- if (any(has_value)) do.call(rbind, rows[has_value]) else data.frame()
-  structure(frame, class = c("causal_spread", "data.frame"), dropped = table$dropped, pinned = free,
+  structure(frame, class = c("causal_spread", "data.frame"), dropped = table$dropped, free = free,
             without_value = lapply(which(!has_value), function(k) levels_at(table, unlist(places[k, , drop = FALSE]))))
 }
 
@@ -34,19 +34,15 @@ spread_rows <- function(diagram, words, table, free, exact) {
 
 # How far the values of one effect are apart at most.
 widest <- function(spread) {
-  cells <- setdiff(names(spread), c(attr(spread, "pinned"), "value", "fraction", "from", "to"))
+  cells <- setdiff(names(spread), c(attr(spread, "free"), "value", "fraction", "from", "to"))
   if (!nrow(spread)) return(NA_real_)
   cell <- do.call(paste, c(lapply(spread[cells], function(column) match(column, unique(column))), list(sep = ",")))
   max(tapply(spread$value, cell, function(values) diff(range(values))))
 }
 
 print.causal_spread <- function(x, ...) {
-  if (is.null(attr(x, "pinned")) || is.null(x$value)) return(print.data.frame(x, ...))
-  print_notes(structure(list(), dropped = attr(x, "dropped")))
-  if (nrow(x)) print.data.frame(x, ...)
-  for (levels in attr(x, "without_value")) cat("no value at ", level_text(levels), "\n", sep = "")
-  if (nrow(x)) cat("at most", format(widest(x), digits = 4), "apart; in the population every level gives the same\n")
-  invisible(x)
+  if (is.null(attr(x, "free")) || is.null(x$value)) return(print.data.frame(x, ...))
+  print_with_notes(x, x, ...)
 }
 
 # The table of counts of an effect, which has to have a formula.
@@ -124,15 +120,37 @@ values_of <- function(effects) {
   vapply(sides, function(side) as.numeric(side[1]) / as.numeric(side[2]), 0)
 }
 
-print.causal_effects <- function(x, ...) {
-  print_notes(x)
-  print.data.frame(x, ...)
+print.causal_effects <- function(x, ...) print_with_notes(x, x, ...)
+
+# Columns between what they rest on; what stands in the columns may be shown otherwise than an answer has it.
+print_with_notes <- function(x, shown, ...) {
+  writeLines(head_notes(x))
+  if (nrow(shown)) print.data.frame(shown, ...)
+  writeLines(foot_notes(x))
   invisible(x)
 }
 
-# What a table of values rests on.
-print_notes <- function(x) {
+# What a table of values rests on, above it.
+head_notes <- function(x) {
   pinned <- attr(x, "pinned")
-  if (length(pinned)) cat("pinned: ", level_text(pinned), " (in the population every level gives the same)\n", sep = "")
-  if (isTRUE(attr(x, "dropped") > 0)) cat("rows left out for missing values:", attr(x, "dropped"), "\n")
+  c(character(), if (inherits(x, "causal_contrast")) paste0("treated: ", level_text(attr(x, "treated")), "; control: ", level_text(attr(x, "control"))),
+    if (inherits(x, "causal_means")) paste0("mean of ", attr(x, "outcome"), if (length(attr(x, "control"))) paste0("; difference from ", level_text(attr(x, "control")))),
+    if (length(pinned)) paste0("pinned: ", level_text(pinned), " (in the population every level gives the same)"),
+    if (isTRUE(attr(x, "dropped") > 0)) paste("rows left out for missing values:", attr(x, "dropped")))
 }
+
+# And below it.
+foot_notes <- function(x) {
+  without <- vapply(attr(x, "without_value")[inherits(x, "causal_spread")], function(levels) paste0("no value at ", level_text(levels)), "")
+  c(character(), without,
+    if (inherits(x, "causal_spread") && nrow(x)) paste("at most", format(widest(x), digits = 4), "apart; in the population every level gives the same"),
+    if (inherits(x, c("causal_contrast", "causal_means")) && attr(x, "resamples") > 0) interval_note(x))
+}
+
+interval_note <- function(x) {
+  kind <- if (attr(x, "interval") == "bca") "BCa" else "percentile"
+  paste0(100 * attr(x, "level"), "% ", kind, " intervals of ", attr(x, "resamples"), " resamples, of which ", attr(x, "without_value"),
+         " had no value", if (!is.null(attr(x, "seed"))) paste0("; seed ", attr(x, "seed")))
+}
+
+level_text <- function(levels) paste0(names(levels), "=", vapply(levels, as.character, ""), collapse = ", ")

@@ -19,15 +19,26 @@ implications_frame <- function(read, table) {
 }
 
 print.causal_implications <- function(x, ...) {
-  print_notes(x)
-  if (nrow(x)) print.data.frame(x, ...) else cat("none\n")
-  invisible(x)
+  if (!nrow(x)) cat("none\n")
+  print_with_notes(x, x, ...)
 }
 
-# A plain data frame: sets and cells are text alone.
+# A plain data frame: sets and cells are text alone, and what the answer rests on isn't in it.
 as.data.frame.causal_implications <- function(x, ...) {
-  frame_of(lapply(stats::setNames(names(x), names(x)), function(name) if (is.character(x[[name]])) as.character(x[[name]]) else x[[name]]))
+  frame_of(lapply(stats::setNames(names(x), names(x)), function(name) {
+    if (inherits(x[[name]], "causal_text_list")) as.character(x[[name]]) else x[[name]]
+  }))
 }
+
+as.data.frame.causal_contrast <- as.data.frame.causal_implications
+
+as.data.frame.causal_effects <- as.data.frame.causal_implications
+
+as.data.frame.causal_means <- as.data.frame.causal_implications
+
+as.data.frame.causal_spread <- as.data.frame.causal_implications
+
+as.data.frame.causal_tests <- as.data.frame.causal_implications
 
 # A column of sets or of cells: texts, by which it is printed, compared and written to files, each with its members, which `[[` and
 # `as.list` give, and so `lapply`.

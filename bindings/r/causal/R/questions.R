@@ -107,6 +107,11 @@ adjustment_sets <- function(diagram, x = NULL, y = NULL, most = 100) {
 
 as.list.causal_sets <- function(x, ...) x$sets
 
+# A row for each set and member; an empty set has none.
+as.data.frame.causal_sets <- function(x, ...) {
+  frame_of(list(set = rep(seq_along(x$sets), lengths(x$sets)), name = as.character(unlist(x$sets))))
+}
+
 adjusts <- function(diagram, set, x = NULL, y = NULL, back_door = FALSE) {
   diagram <- as_causal_diagram(diagram)
   words <- c(option("x", x), option("y", y), option("set", as.character(set)), flag("back-door", back_door))

@@ -28,7 +28,7 @@ implications(diagram, data = NULL, count = NULL,
   \eqn{N(a,b,w) N(w) - N(a,w) N(b,w)}, where \eqn{N} counts records; the one that is given is the largest in size, the first where
   several are, and it is 0 where a model that fits the diagram matches the counts.
 
-  A difference is no test: the counts of a sample differ from independence by chance, and nothing here says by how much.
+  A difference is no test: the counts of a sample differ from independence by chance. \code{\link{test_implications}} tests it.
 }
 \value{
   A data frame of the class \code{causal_implications} with a row for each pair: \code{a}, \code{b}, and \code{given}, the set as
@@ -37,7 +37,7 @@ implications(diagram, data = NULL, count = NULL,
   likewise as text whose elements are lists. \code{as.data.frame} gives a plain data frame with text alone, and
   \code{\link{write.csv}} writes either. The attribute \code{dropped} is the number of rows left out.
 }
-\seealso{\code{\link{separated}}}
+\seealso{\code{\link{separated}}, \code{\link{test_implications}}}
 \examples{
 fork <- causal_diagram("dag { A <- B -> C }")
 implications(fork)

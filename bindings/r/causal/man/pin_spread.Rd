@@ -23,7 +23,7 @@ pin_spread(diagram, data, x = NULL, y = NULL, count = NULL,
 }
 \value{
   A data frame of the class \code{causal_spread} with the columns of \code{\link{evaluate}} behind one for each free variable.
-  Attributes: \code{pinned}, the names of these variables; \code{without_value}, a list of the levels at which some cell has no
+  Attributes: \code{free}, the names of these variables; \code{without_value}, a list of the levels at which some cell has no
   support; and \code{dropped}.
 }
 \examples{

@@ -44,7 +44,7 @@ stopifnot(grepl("of which there are none here", refusal(evaluate("dag { X -> Y }
 spread <- pin_spread(napkin, data, exact = TRUE)
 same(spread$Z, rep(0:1, each = 4))
 same(spread$fraction, c(at_zero$fraction, at_one$fraction))
-same(attr(spread, "pinned"), "Z")
+same(attr(spread, "free"), "Z")
 shown <- utils::capture.output(print(spread))
 stopifnot(grepl("^at most 0.0.* apart; in the population every level gives the same$", shown[length(shown)]))
 more <- rbind(data, transform(data[1, ], Z = 7L))
