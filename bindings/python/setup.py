@@ -40,7 +40,7 @@ def take_sources():
                 take(path, os.path.join(NATIVE, os.path.basename(path)))
     sources = sorted(glob.glob(os.path.join(NATIVE, "*.c")))
     if not sources:
-        raise SystemExit("causal: there is no C to compile: neither `native` beside setup.py nor `portable` at the top of the repository")
+        raise SystemExit("causal: there is no C to compile, neither in `native` beside setup.py nor in `portable` of the repository")
     return [os.path.relpath(path, HERE) for path in sources]
 
 

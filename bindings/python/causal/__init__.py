@@ -1,8 +1,9 @@
 """Answers about causal diagrams with hidden confounders, from the proved library of `causal`.
 
 A `Diagram` is asked: whether sets are separated, whether a rule of do-calculus applies, for a formula of an effect or a hedge, also
-from experiments on other variables, for adjustment sets, for what it implies of data, and for effects in data. What each answer is proved to say stands in its class and method. Nothing about
-causality is computed in Python: each question is a call of the library, and its printed answer is read.
+from experiments on other variables, for adjustment sets, for what it implies of data, and for effects in data. What each answer is
+proved to say stands in its class and method. Nothing about causality is computed in Python: each question is a call of the library,
+and its printed answer is read.
 
 >>> import causal
 >>> diagram = causal.Diagram("dag { X -> M -> Y X <-> Y }")

@@ -138,7 +138,7 @@ def corrected_interval(
 
 
 def acceleration(left_out: Sequence[Tuple[int, Optional[float]]]) -> float:
-    """How fast the spread changes with the value, by what one record makes of it; a record without which there is no value is left out.
+    """How fast the spread changes with the value, by what one record makes of it. One without which there is no value is left out.
 
     >>> from causal.bootstrap import acceleration
     >>> acceleration([(2, 1.0), (2, 2.0), (1, None)]), acceleration([])
@@ -206,7 +206,7 @@ def _told(value: Optional[Value], interval: Optional[Interval]) -> str:
 
 @dataclass(frozen=True)
 class MeanInterval:
-    """The mean of a numeric outcome under levels of the exposures, or the difference of two, with its interval, which is only computed."""
+    """The mean of a numeric outcome under levels of the exposures, or the difference of two, with its interval. Both are computed."""
 
     value: Value
     interval: Optional[Interval]
@@ -347,7 +347,8 @@ class Bootstrap:
         rows = [(i.lower, i.upper, i.draws) if i else (nan, nan, self.resamples - self.without_value) for i in self.intervals]
         values = [(float(effect.value), *row) for effect, row in zip(self.effects, rows)]
         frame = self.effects.frame_with(self.HEADS, values)
-        frame.attrs.update(level=self.level, kind=self.kind, resamples=self.resamples, without_value=self.without_value, seed=self.seed)
+        frame.attrs.update(level=self.level, kind=self.kind, resamples=self.resamples, seed=self.seed)
+        frame.attrs.update(without_value=self.without_value)
         return frame
 
     @property

@@ -101,8 +101,9 @@ def column_of(name: str, values: Any) -> Column:
     """A column of a list, an array or a series of values."""
     if isinstance(values, (str, bytes, Mapping)) or not isinstance(values, Iterable):
         raise RequestError(f"the column {name} is no list of values, but of the type {type(values).__name__}")
-    if len(getattr(values, "shape", (0,))) != 1:
-        raise RequestError(f"the column {name} is no list of values: it has {len(values.shape)} dimensions")  # type: ignore[attr-defined]
+    shape = getattr(values, "shape", (0,))
+    if len(shape) != 1:
+        raise RequestError(f"the column {name} is no list of values: it has {len(shape)} dimensions")
     categories = getattr(getattr(values, "dtype", None), "categories", None)
     order = _listed(categories) if isinstance(categories, Iterable) else None
     held = _listed(values) or []

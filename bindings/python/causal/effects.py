@@ -141,7 +141,7 @@ def number_of(level: Level) -> Optional[Fraction]:
 
 @dataclass(frozen=True)
 class Mean:
-    """The mean of a numeric outcome under levels of the exposures. It is computed from the proved probabilities, exactly or outward."""
+    """The mean of a numeric outcome under levels of the exposures. It is computed of proved probabilities, exactly or outward."""
 
     x: Dict[str, Level]
     value: Value
@@ -346,9 +346,8 @@ class Effects(Sequence[Effect]):
 
     def _repr_html_(self) -> str:
         heads = ("estimate", "exact") if self.exact else ("estimate", "from", "to")
-        rows = [
-            [*e.x.values(), *e.y.values(), float(e.value), *((e.value.exact,) if self.exact else map(repr, e.value.floats()))] for e in self
-        ]
+        values = [[str(e.value.exact)] if self.exact else [repr(bound) for bound in e.value.floats()] for e in self]
+        rows = [[*e.x.values(), *e.y.values(), float(e.value), *value] for e, value in zip(self, values)]
         return html_table([*self.names, *heads], rows, self.notes)
 
 

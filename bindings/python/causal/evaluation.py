@@ -117,8 +117,8 @@ class Evaluation:
     def place_of(self, table: Table, name: str, level: Level) -> int:
         """The place of a level of a free variable."""
         if name not in self.formula.free:
-            free = ", ".join(self.formula.free)
-            raise RequestError(f"no level can be given for {name}: the formula reads " + (f"a level of {free}" if free else "no such"))
+            free = f"a level of {', '.join(self.formula.free)}" if self.formula.free else "no such"
+            raise RequestError(f"no level can be given for {name}: the formula reads {free}")
         levels = table.levels_of(name)
         if level not in levels:
             there = ", ".join(repr(levels[place]) for place in table.ranked_of(name))

@@ -299,6 +299,5 @@ def tests_of(
     table = table_for(diagram, pairs, data, count, missing)
     tests = [tested(pair, table, method, permutations, seed + k) for k, pair in enumerate(pairs)]
     adjusted = iter(holm([test.p for test in tests if test.p is not None]))
-    return IndependenceTests(
-        tuple(test if test.p is None else replace(test, adjusted=next(adjusted)) for test in tests), permutations, seed, table.dropped
-    )
+    tests = [test if test.p is None else replace(test, adjusted=next(adjusted)) for test in tests]
+    return IndependenceTests(tuple(tests), permutations, seed, table.dropped)

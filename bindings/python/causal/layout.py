@@ -115,7 +115,8 @@ def limits(places: Sequence[float], halves: Sequence[float], size: float, margin
         return places[0] - 1.0, places[0] + 1.0
 
     def needed(scale: float) -> float:
-        return max(scale * at + half for at, half in zip(places, halves)) - min(scale * at - half for at, half in zip(places, halves))
+        held = [(scale * at - half, scale * at + half) for at, half in zip(places, halves)]
+        return max(high for _, high in held) - min(low for low, _ in held)
 
     room = max(size - 2 * margin, 1.0)
     low, high = 0.0, room / (max(places) - min(places))

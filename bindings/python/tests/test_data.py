@@ -245,7 +245,8 @@ class Blanks(unittest.TestCase):
                 KIDNEY.effects(path, count="n")
             self.assertEqual(caught.exception.place, ("T", 1))
             effects = KIDNEY.effects(path, count="n", exact=True, missing="drop")
-            self.assertEqual((effects.effects, effects.dropped), (KIDNEY.effects(self.put(self.TEXT), count="n", exact=True).effects, 2))
+            whole = KIDNEY.effects(self.put(self.TEXT), count="n", exact=True)
+            self.assertEqual((effects.effects, effects.dropped), (whole.effects, 2))
 
     def test_as_a_level(self):
         path = self.put(self.TEXT + b"a,,1,7,\n,x,1,7,z\nb,,0,1,\n,,1,1,\n,y,1,1,\n")
@@ -378,7 +379,8 @@ class Kinds(unittest.TestCase):
     def test_what_is_no_data(self):
         lazy = type("LazyFrame", (), {"collect": None})()
         array = type("ndarray", (), {"shape": (2, 2)})()
-        for data, told in ((None, "no NoneType$"), (3, "no int$"), ([1], "no list$"), (lazy, r"no LazyFrame; collect\(\)"), (array, "an array has no")):
+        plain = [(None, "no NoneType$"), (3, "no int$"), ([1], "no list$")]
+        for data, told in (*plain, (lazy, r"no LazyFrame; collect\(\)"), (array, "an array has no")):
             for ask in (KIDNEY.effects, KIDNEY.bootstrap):
                 with self.subTest(told), self.assertRaisesRegex(causal.RequestError, told):
                     ask(data)

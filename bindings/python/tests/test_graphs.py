@@ -1,6 +1,7 @@
 """Graphs of networkx and drawings of matplotlib."""
 import random
 import unittest
+import warnings
 
 from worked import read_example
 
@@ -122,6 +123,8 @@ class Plots(unittest.TestCase):
         self.assertEqual(sum(arrow.get_linewidth() > 2 for arrow in self.arrows(axes)), 2)
 
     def test_positions_and_axes(self):
+        # (a font may lack the signs)
+        warnings.filterwarnings("ignore", message="Glyph")
         figure, axes = pyplot.subplots()
         diagram = Diagram.from_edges([("größe $x$", "日本")])
         self.assertIs(diagram.plot(positions={"größe $x$": (0, 0), "日本": (5, 5)}, ax=axes), axes)

@@ -134,7 +134,8 @@ print_with_notes <- function(x, shown, ...) {
 head_notes <- function(x) {
   pinned <- attr(x, "pinned")
   c(character(), if (inherits(x, "causal_contrast")) paste0("treated: ", level_text(attr(x, "treated")), "; control: ", level_text(attr(x, "control"))),
-    if (inherits(x, "causal_means")) paste0("mean of ", attr(x, "outcome"), if (length(attr(x, "control"))) paste0("; difference from ", level_text(attr(x, "control")))),
+    if (inherits(x, "causal_means")) paste0("mean of ", attr(x, "outcome"),
+                                            if (length(attr(x, "control"))) paste0("; difference from ", level_text(attr(x, "control")))),
     if (length(pinned)) paste0("pinned: ", level_text(pinned), " (in the population every level gives the same)"),
     if (isTRUE(attr(x, "dropped") > 0)) paste("rows left out for missing values:", attr(x, "dropped")))
 }
