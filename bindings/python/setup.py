@@ -32,12 +32,15 @@ LIBRARY = {"win32": "causal.dll", "darwin": "libcausal.dylib"}.get(sys.platform,
 
 def take_sources():
     """Copies the C and the version of the repository to `native`, where that is one, and gives the C files."""
-    found = glob.glob(os.path.join(TOP, "portable", "*.[ch]"))
-    if found:
+    if os.path.isfile(os.path.join(TOP, "portable", "causal_code.c")):
+        taken = [os.path.join(TOP, "VERSION"), os.path.join(TOP, "include", "causal.h")]
+        taken += glob.glob(os.path.join(TOP, "portable", "*.[ch]"))
+        taken = [path for path in taken if os.path.basename(path) not in PROGRAM]
         os.makedirs(NATIVE, exist_ok=True)
-        for path in [*found, os.path.join(TOP, "include", "causal.h"), os.path.join(TOP, "VERSION")]:
-            if os.path.basename(path) not in PROGRAM:
-                take(path, os.path.join(NATIVE, os.path.basename(path)))
+        for name in {*os.listdir(NATIVE)} - {*map(os.path.basename, taken)}:
+            os.remove(os.path.join(NATIVE, name))
+        for path in taken:
+            take(path, os.path.join(NATIVE, os.path.basename(path)))
     sources = sorted(glob.glob(os.path.join(NATIVE, "*.c")))
     if not sources:
         raise SystemExit("causal: there is no C to compile, neither in `native` beside setup.py nor in `portable` of the repository")
