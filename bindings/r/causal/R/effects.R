@@ -142,8 +142,8 @@ head_notes <- function(x) {
 
 # And below it.
 foot_notes <- function(x) {
-  without <- vapply(attr(x, "without_value")[inherits(x, "causal_spread")], function(levels) paste0("no value at ", level_text(levels)), "")
-  c(character(), without,
+  without <- if (inherits(x, "causal_spread")) attr(x, "without_value")
+  c(vapply(without, function(levels) paste0("no value at ", level_text(levels)), ""),
     if (inherits(x, "causal_spread") && nrow(x)) paste("at most", format(widest(x), digits = 4), "apart; in the population every level gives the same"),
     if (inherits(x, c("causal_contrast", "causal_means")) && attr(x, "resamples") > 0) interval_note(x))
 }
