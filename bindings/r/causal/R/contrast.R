@@ -49,7 +49,9 @@ arm_of <- function(wanted, effects, table, names) {
   wanted <- if (is.null(names(wanted))) stats::setNames(as.list(wanted), names[seq_along(wanted)]) else as.list(wanted)
   if (length(wanted) != length(names) || !setequal(names(wanted), names)) stop("an arm needs one level of each of ", paste(names, collapse = ", "))
   codes <- vapply(names, function(name) match(as.character(wanted[[name]]), as.character(table$levels[[name]])), 0L)
-  if (anyNA(codes)) stop(names[is.na(codes)][1], " has no level ", as.character(wanted[[names[is.na(codes)][1]]]), " in the data")
+  lacking <- names[is.na(codes)]
+  if (length(lacking)) stop(lacking[1], " has no level ", as.character(wanted[[lacking[1]]]), " in the data; it has ",
+                            paste(as.character(table$levels[[lacking[1]]]), collapse = ", "))
   which(vapply(effects$x, function(cell) all(cell[names] == codes), NA))
 }
 
