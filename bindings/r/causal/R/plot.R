@@ -99,8 +99,7 @@ edges_of_path <- function(path) {
 draw_edge <- function(edge, places, sizes, is_marked) {
   ends <- match(c(edge$from, edge$to), rownames(places))
   is_dashed <- edge$edge == "<->"
-  bend <- if (is_dashed) 0.24 else if (is_blocked(ends, places)) -0.18 else 0
-  points <- curve_between(places[ends[1], ], places[ends[2], ], bend)
+  points <- curve_between(places[ends[1], ], places[ends[2], ], bend_round(ends, places, sizes, if (is_dashed) bent else straight))
   points <- points[!inside(points, places[ends[1], ], sizes[ends[1], ]) & !inside(points, places[ends[2], ], sizes[ends[2], ]), , drop = FALSE]
   last <- nrow(points)
   if (last < 2) return(invisible())
@@ -109,22 +108,25 @@ draw_edge <- function(edge, places, sizes, is_marked) {
   graphics::lines(points, lty = if (is_dashed) 2 else 1, col = colour, lwd = width)
   draw_head(points[last - 1, ], points[last, ], colour, width)
   if (is_dashed) draw_head(points[2, ], points[1, ], colour, width)
+  invisible(points)
 }
 
 draw_head <- function(from, to, colour, width) {
   graphics::arrows(from[1], from[2], to[1], to[2], length = 0.09, angle = 22, col = colour, lwd = width)
 }
 
-# Whether another vertex stands on the straight line between two.
-is_blocked <- function(ends, places) {
-  from <- places[ends[1], ]
-  along <- places[ends[2], ] - from
-  others <- places[-ends, , drop = FALSE]
-  if (!nrow(others) || !any(along != 0)) return(FALSE)
-  apart <- sweep(others, 2, from)
-  at <- (apart %*% along) / sum(along^2)
-  distance <- abs(apart[, 1] * along[2] - apart[, 2] * along[1]) / sqrt(sum(along^2))
-  any(at > 0 & at < 1 & distance < 0.25)
+# How far an edge may bend, in turn, as a part of its length.
+straight <- c(0, 0.1, -0.1, 0.2, -0.2, 0.35, -0.35, 0.5, -0.5, 0.7, -0.7)
+bent <- c(0.24, -0.24, 0.38, -0.38, 0.55, -0.55, 0.75, -0.75)
+
+# The first bend with which the edge runs behind no other vertex, or else behind the least.
+bend_round <- function(ends, places, sizes, bends) {
+  others <- seq_len(nrow(places))[-ends]
+  hidden <- vapply(bends, function(bend) {
+    points <- curve_between(places[ends[1], ], places[ends[2], ], bend)
+    sum(vapply(others, function(other) sum(inside(points, places[other, ], 1.15 * sizes[other, ])), 0))
+  }, 0)
+  bends[which.min(hidden)]
 }
 
 curve_between <- function(from, to, bend) {

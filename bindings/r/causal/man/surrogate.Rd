@@ -21,14 +21,14 @@ surrogate(diagram, x = NULL, y = NULL, experiments)
   from the experiments to the effect.
 }
 \value{
-  For a formula a list of the class \code{causal_formula}, as \code{\link{identify}} gives it, without \code{latex} and
+  For a formula a list of the class \code{causal_formula}, as \code{\link{identify_effect}} gives it, without \code{latex} and
   \code{certificate}. Else a list of the class \code{causal_stopped}: \code{identifiable} (\code{FALSE}), \code{target}, the
   \code{district}, the sets \code{big}, \code{small} and \code{roots} of the hedge, and the printed \code{text}.
 }
-\seealso{\code{\link{identify}}}
+\seealso{\code{\link{identify_effect}}}
 \examples{
 diagram <- causal_diagram("dag { X [exposure] Y [outcome] Z -> X -> Y Z <-> X Z <-> Y }")
-identify(diagram)$identifiable
+identify_effect(diagram)$identifiable
 surrogate(diagram, experiments = "Z")
 surrogate("dag { X -> Y X <-> Y X -> Z }", "X", "Y", experiments = list("Z"))
 }

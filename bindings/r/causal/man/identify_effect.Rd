@@ -1,9 +1,6 @@
-\name{identify}
-\alias{identify}
+\name{identify_effect}
+\alias{identify_effect}
 \alias{identify.causal_diagram}
-\alias{identify.character}
-\alias{identify.dagitty}
-\alias{identify.default}
 \alias{toLatex.causal_formula}
 \alias{summary.causal_hedge}
 \alias{print.summary.causal_hedge}
@@ -13,20 +10,19 @@
   that is observed and differ on the effect.
 }
 \usage{
-identify(diagram, ...)
-\method{identify}{causal_diagram}(diagram, x = NULL, y = NULL,
-         given = NULL, ...)
+identify_effect(diagram, x = NULL, y = NULL, given = NULL)
 
+\method{identify}{causal_diagram}(x, ...)
 \method{toLatex}{causal_formula}(object, ...)
 \method{summary}{causal_hedge}(object, ...)
 }
 \arguments{
-  \item{diagram}{a diagram, its text, or an object of the package \pkg{dagitty}. Everything else is handed on to \code{\link[graphics]{identify}} of the package
-    \pkg{graphics}, which has the same name.}
-  \item{x, y}{names of the exposures and of the outcomes; \code{NULL} for the vertices with these marks.}
+  \item{diagram}{a diagram, or what \code{\link{as_causal_diagram}} takes.}
+  \item{x, y}{names of the exposures and of the outcomes; \code{NULL} for the vertices with these marks. In the method
+    \code{x} is a diagram.}
   \item{given}{names of variables with whose values the effect is asked for, \eqn{P(y | do(x), given)}; \code{NULL} for none.}
   \item{object}{an answer.}
-  \item{...}{not used.}
+  \item{...}{for the method \code{identify} further arguments of \code{identify_effect}, not named; else not used.}
 }
 \details{
   Proved: a formula has no intervention in it and equals \eqn{P(y | do(x))} at every assignment, in every positive finite model
@@ -35,6 +31,9 @@ identify(diagram, ...)
 
   In a formula \code{sum\{M\}} reaches as far right as it can, and \code{q0}, \code{q1} and so on are the definitions. A free
   variable, as the \code{Z} of the napkin, may be set to any value: the formula gives the same.
+
+  \code{\link[graphics]{identify}} of the package \pkg{graphics} takes a diagram too: \code{identify(diagram)} or
+  \code{identify(diagram, "X", "Y")}. Its first argument has the name \code{x}, so the exposures can't be named there.
 
   With \code{given} the formula is one for the conditional effect. Where there is none, the hedge is one of a joint effect, by
   which that can't be computed from observations; nothing is claimed of the conditional effect itself.
@@ -53,13 +52,13 @@ identify(diagram, ...)
 }
 \seealso{\code{\link{check_certificate}}, \code{\link{evaluate}}, \code{\link{surrogate}}}
 \examples{
-formula <- identify("dag { X [exposure] Y [outcome] X -> M -> Y X <-> Y }")
+formula <- identify_effect("dag { X [exposure] Y [outcome] X -> M -> Y X <-> Y }")
 formula
 toLatex(formula)
 
-identify("dag { Z -> X Z -> Y X -> Y }", x = "X", y = "Y", given = "Z")
+identify_effect("dag { Z -> X Z -> Y X -> Y }", x = "X", y = "Y", given = "Z")
 
-hedge <- identify("dag { X -> Y X <-> Y }", x = "X", y = "Y")
+hedge <- identify_effect("dag { X -> Y X <-> Y }", x = "X", y = "Y")
 summary(hedge)
 hedge$difference
 }

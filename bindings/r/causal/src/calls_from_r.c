@@ -3,7 +3,7 @@
 #include <R.h>
 #include <Rinternals.h>
 #include <R_ext/Rdynload.h>
-#include "library/causal.h"
+#include "causal.h"
 
 enum { FIRST_ROOM = 1 << 14, LAST_STATUS = 8 };
 
