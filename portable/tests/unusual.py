@@ -7,13 +7,16 @@ it is run as nobody, whom files without permission stop.
 """
 from __future__ import annotations
 
+import fcntl
 import os
 import pty
 import shutil
+import struct
 import subprocess
 import sys
 import tempfile
 import termios
+import time
 import tty
 from typing import NamedTuple
 
@@ -102,7 +105,7 @@ mkfifo pipe; @ implications pipe --count
 { printf 'dag { A }'; head -c 1048568 /dev/zero | tr '\0' ' '; } >long; @ graph long
 { printf 'dag { A }'; head -c 1048567 /dev/zero | tr '\0' ' '; } >long; @ equivalent fork.dag long
 { printf 'dag { A }'; head -c 1048568 /dev/zero | tr '\0' ' '; } >long; @ equivalent fork.dag long
-{ printf 'dag { A }'; head -c 3000000 /dev/zero | tr '\0' ' '; } | { @ graph -; wc -c; } 2>&1 | head -2
+{ printf 'dag { A }'; head -c 3000000 /dev/zero | tr '\0' ' '; } | @ graph -
 (printf 'dag { "'; head -c 70000 /dev/zero | tr '\0' a; printf '" "'; head -c 70000 /dev/zero | tr '\0' a; printf '" }') | @ graph -
 (echo "dag {"; for i in {1..64}; do for j in {1..64}; do [ $i -lt $j ] && echo "n$i -> n$j"; done; done; echo "}") | @ graph - | md5sum
 # files without permission
@@ -169,15 +172,18 @@ def ending(folder: str, program: str, use: str) -> Ending:
 
 
 def cut_off(folder: str, program: str, words: list[str], text: bytes) -> Ending:
-    """The ending of a run whose standard input fails behind some text: a terminal that is gone."""
+    """The ending of a run whose standard input fails behind some text: a terminal that goes while the program waits for more."""
     begin(folder)
     ours, theirs = pty.openpty()
     tty.setraw(theirs, termios.TCSANOW)
     os.write(ours, text)
     running = subprocess.Popen([program, *words], cwd=folder, stdin=theirs, stdout=subprocess.PIPE, stderr=subprocess.PIPE)
-    os.close(theirs)
+    while struct.unpack("i", fcntl.ioctl(theirs, termios.FIONREAD, bytes(4)))[0] > 0:
+        time.sleep(0.01)
+    time.sleep(0.2)
     os.close(ours)
     out, err = running.communicate(timeout=60)
+    os.close(theirs)
     return Ending(running.returncode, out, err, b"")
 
 
