@@ -21,7 +21,7 @@ MOST_OF_A_GRAPH, MOST = 1 << 20, 64 << 20
 USAGE = """\
 usage: causal COMMAND ..
 
-Answers questions about causal diagrams with hidden confounders. The answers are proved.
+Answers questions about causal diagrams with hidden confounders, by a proved program.
 
     graph FILE [--project]
     separate FILE [--x L] [--y L] [--given L]
