@@ -1,4 +1,4 @@
 pub mod Meetings
 pub mod MinimalSeparators
 pub mod Separations
-mod Exact
+pub mod Exact
