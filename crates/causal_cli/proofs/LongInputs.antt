@@ -1,7 +1,6 @@
 -- Of a second input that is too long each command answers the same, whatever its bytes are.
-use Rattle.std.proofs.Common.{◌≡◌, ◌≤◌, ◌<◌, ◌⊎◌, inl, inr, ℕ, Bool, List, Option, length, arith}
+use Rattle.std.proofs.Common.{◌≤◌, ◌<◌, inl, inr, ℕ, Bool, List, Option, length, arith}
 use Rattle.mixed_graph.specs.Graphs.{MixedGraph}
-use Rattle.word_forms.specs.Form.{Text}
 use Rattle.dag_reader.specs.declared.graph.ReadGraph.{ReadGraph}
 use Rattle.replies.specs.declared.outcome.Outcome.{Outcome}
 use Rattle.replies.specs.declared.outcome.Outcome.TheVariants.{Yes, No, Second, Evaluation}

@@ -1,5 +1,5 @@
 -- From the end of a run to what it refutes in the diagram as drawn.
-use Rattle.std.proofs.Common.{◌≡◌, ℕ, true, List, [], ◌∷◌, Option, Some, None, refl, subst, arith}
+use Rattle.std.proofs.Common.{◌≡◌, ℕ, List, [], ◌∷◌, Option, Some, None, refl, subst, arith}
 use Rattle.std.specs.Prelude.{IfSome}
 use Rattle.std.specs.Io.KnownBytes.{Appends}
 use Rattle.mixed_graph.specs.Bits.{has}
@@ -13,7 +13,6 @@ use Rattle.prob_expr.specs.Tree.{PlainTarget}
 use Rattle.counter_models.specs.Events.{AreCounterModels}
 use Rattle.counter_models.specs.declared.counter_pair.CounterPair.{CounterPair}
 use Rattle.counter_models.proofs.Excluded.{differ_on}
-use Rattle.conditional_hedges.specs.Laws.{IsFixed}
 use Rattle.dag_reader.specs.declared.graph.ReadGraph.{ReadGraph}
 use Rattle.certificate.specs.Plain as certificates
 use Rattle.hidden_theory.proofs.Drawing.{difference_is_drawn, formula_as_drawn_fixes}

@@ -4,4 +4,4 @@ use Rattle.causal_cli.proofs.Lawful.{lawful}
 use Rattle.causal_cli.proofs.theory.laws.Goals as goal
 
 pub returns : goal.returns
-returns c = words_ask_once commands lawful
+returns c = record { once = words_ask_once commands lawful }
