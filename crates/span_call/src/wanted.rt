@@ -48,12 +48,7 @@ pub struct WantedEnd {
 }
 
 /// Tells which inputs the words may ask for, shows their names one behind the other, and gives the status.
-pub fn wanted_spans(
-    alloc: Global,
-    bytes: &[u8],
-    words: &[Span],
-    names: &mut [u8],
-) -> WantedEnd
+pub fn wanted_spans(alloc: Global, bytes: &[u8], words: &[Span], names: &mut [u8]) -> WantedEnd
     ensures told { result.status ≡ 0 → TellsInputs bytes.now words.now names.old names.new result.wanted }
     ensures nothing { result.status ≡ 2 → AskForNothing bytes.now words.now }
     ensures not_text { result.status ≡ 9 → IsNoText bytes.now words.now }
@@ -124,7 +119,7 @@ fn told(alloc: Global, inputs: &Inputs<'_>, names: &mut [u8]) -> WantedEnd
 
 /// The bytes of a name, or none.
 fn name_bytes(name: Option<&str>) -> &[u8]
-    ensures { result.now ≡ bytes_of (option_map (λ s. s.now) name) }
+    ensures { result.now ≡ bytes_of (option_map (λ s. s.now) name.entry) }
 {
     match name {
         Some(name) => name.as_bytes(),
@@ -134,7 +129,7 @@ fn name_bytes(name: Option<&str>) -> &[u8]
 
 /// One where there is a name.
 fn one_if(name: Option<&str>) -> usize
-    ensures count { result ≡ one_if (option_map (λ s. s.now) name) }
+    ensures count { result ≡ one_if (option_map (λ s. s.now) name.entry) }
     ensures most { result ≤ 1 }
 {
     match name {
