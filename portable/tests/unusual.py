@@ -127,11 +127,11 @@ mkdir folder; cp fork.dag folder/g; chmod 000 folder; @ graph folder/g; status=$
 @ identify front_door.dag 2>&-
 @ survey 1 >/dev/full
 @ identify front_door.dag | head -c 5; echo ${PIPESTATUS[0]}
-@ survey 1 | true; echo ${PIPESTATUS[0]}
-@ identify front_door.dag --certificate | true; echo ${PIPESTATUS[0]}
+{ sleep 0.3; @ survey 1; } | true; echo ${PIPESTATUS[0]}
+{ sleep 0.3; @ identify front_door.dag --certificate; } | true; echo ${PIPESTATUS[0]}
 ulimit -f 1; @ identify bow.dag >out
 trap '' XFSZ; ulimit -f 1; for i in 1 2 3; do @ identify napkin.dag --certificate; done >out
-trap '' PIPE; @ identify front_door.dag | true; echo ${PIPESTATUS[0]}
+trap '' PIPE; { sleep 0.3; @ identify front_door.dag; } | true; echo ${PIPESTATUS[0]}
 # little stack
 ulimit -s 1024; @ identify napkin.dag
 ulimit -s 1024; @ evaluate kidney_stones.dag kidney_stones.csv --count count
@@ -178,7 +178,7 @@ def cut_off(folder: str, program: str, words: list[str], text: bytes) -> Ending:
     tty.setraw(theirs, termios.TCSANOW)
     os.write(ours, text)
     running = subprocess.Popen([program, *words], cwd=folder, stdin=theirs, stdout=subprocess.PIPE, stderr=subprocess.PIPE)
-    while struct.unpack("i", fcntl.ioctl(theirs, termios.FIONREAD, bytes(4)))[0] > 0:
+    while running.poll() is None and struct.unpack("i", fcntl.ioctl(theirs, termios.FIONREAD, bytes(4)))[0] > 0:
         time.sleep(0.01)
     time.sleep(0.2)
     os.close(ours)
@@ -189,7 +189,7 @@ def cut_off(folder: str, program: str, words: list[str], text: bytes) -> Ending:
 
 def main(native: str, programs: list[str]) -> int:
     uses = [line for line in USES.strip().splitlines() if not line.startswith("#")]
-    readings = [(["graph", "-"], b"dag { A -> B }"), (["check", "front_door.dag", "-"], b"{"), (["check", "-", "-"], b"dag {")]
+    readings = [(["graph", "-"], b"dag { A -> B }"), (["check", "front_door.dag", "-"], b"{"), (["check", "-", "front_door.dag"], b"dag {")]
     wrong = 0
     with tempfile.TemporaryDirectory() as room:
         os.chmod(room, 0o755)
