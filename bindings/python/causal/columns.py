@@ -15,7 +15,7 @@ Data = Union[str, "os.PathLike[str]", Mapping[str, Any], Any]
 
 _NUMBER = re.compile(r"\s*[-+]?([0-9]+\.?[0-9]*|\.[0-9]+)([eE][-+]?[0-9]+)?\s*")
 # An empty field, quoted or not: one between two commas, or at an end of a line.
-_BLANK = re.compile(rb'(?:^|,)(?:"")?(?=,|\r?$)', re.MULTILINE)
+_BLANK = re.compile(rb'(?:\A|[,\r\n])(?:"")?(?=[,\r\n]|\Z)')
 
 
 @dataclass(frozen=True)
@@ -193,7 +193,7 @@ def may_have_blanks(text: bytes) -> bool:
     >>> may_have_blanks(b'X,Y\\n1,2\\n'), may_have_blanks(b'X,Y\\n1,""\\n'), may_have_blanks(b'X,Y\\n1,\\n')
     (False, True, True)
     """
-    return _BLANK.search(text.rstrip(b"\r\n")) is not None
+    return _BLANK.search(text.replace(b"\r\n", b"\n").rstrip(b"\r\n")) is not None
 
 
 def csv_columns(text: bytes, used: Sequence[str]) -> Dict[str, Column]:

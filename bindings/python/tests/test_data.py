@@ -10,6 +10,7 @@ from worked import read_example
 
 import causal
 from causal import Diagram
+from causal.columns import may_have_blanks
 
 try:
     import pandas
@@ -247,6 +248,16 @@ class Blanks(unittest.TestCase):
             effects = KIDNEY.effects(path, count="n", exact=True, missing="drop")
             whole = KIDNEY.effects(self.put(self.TEXT), count="n", exact=True)
             self.assertEqual((effects.effects, effects.dropped), (whole.effects, 2))
+
+    def test_each_end_of_lines(self):
+        for end in (b"\n", b"\r\n", b"\r"):
+            plain = self.TEXT.replace(b",\n", b",z\n").replace(b"\n", end)
+            self.assertFalse(may_have_blanks(plain))
+            for line in (b",x,1,7,z", b"a,x,,7,z", b"a,x,1,7,", b'"",x,1,7,z', b'a,x,1,7,""'):
+                self.assertTrue(may_have_blanks(plain + line + end))
+                self.assertTrue(may_have_blanks(line + end + plain))
+            effects = KIDNEY.effects(self.put(plain + b",x,1,7,z" + end), count="n", missing="drop")
+            self.assertEqual(effects.dropped, 1)
 
     def test_as_a_level(self):
         path = self.put(self.TEXT + b"a,,1,7,\n,x,1,7,z\nb,,0,1,\n,,1,1,\n,y,1,1,\n")
