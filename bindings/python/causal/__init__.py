@@ -30,7 +30,7 @@ from causal.errors import (
     UnreadableAnswer,
 )
 from causal.formula import Formula, Hedge, HedgeSets, Term
-from causal.surrogates import Stopped
+from causal.surrogates import Stopped, StoppedHedge
 from causal.version import VERSION
 
 if TYPE_CHECKING:
@@ -79,6 +79,7 @@ __all__ = [
     "Separation",
     "Spread",
     "Stopped",
+    "StoppedHedge",
     "TargetError",
     "Term",
     "UnreadableAnswer",

@@ -9,7 +9,7 @@ from causal._library import KeptDiagram, Text, as_bytes, ask
 from causal.errors import RequestError
 from causal.formula import Formula, Hedge, HedgeSets
 from causal.names import Name, Names, list_word, names_of
-from causal.surrogates import Stopped, experiments_word, read_surrogate
+from causal.surrogates import Stopped, StoppedHedge, experiments_word, read_surrogate
 
 if TYPE_CHECKING:
     import os
@@ -333,13 +333,18 @@ class Diagram:
         return formula.read_hedge(text, form) if status == 1 else formula.read_formula(text, form)
 
     def surrogate(
-        self, x: Optional[Names] = None, y: Optional[Names] = None, experiments: Union[str, Iterable[Names]] = ()
-    ) -> Union[Formula, Stopped]:
+        self,
+        x: Optional[Names] = None,
+        y: Optional[Names] = None,
+        experiments: Union[str, Iterable[Names]] = (),
+        models: bool = False,
+    ) -> Union[Formula, Stopped, StoppedHedge]:
         """A formula for the effect of x on y that may use experiments, or why none was found, which counts as false.
 
         Each experiment is one name or several: variables that were set in a trial, under which all others were observed. It is
         proved that a formula, whose terms are observed or under one of the experiments, is the effect in every positive finite
-        model that fits the diagram.
+        model that fits the diagram. With `models` a hedge is given, where there is one, whose two models agree on all
+        observations and under each experiment and differ on the effect: then no formula over them exists.
 
         >>> from causal import Diagram
         >>> diagram = Diagram("dag { Z -> X -> Y Z <-> X Z <-> Y }")
@@ -349,7 +354,7 @@ class Diagram:
         P(Y|do(X)) = P(Y|do(Z),X)
         free {Z}
         """
-        words = [*options(x=x, y=y), "--experiments", experiments_word(experiments)]
+        words = [*options(x=x, y=y), "--experiments", experiments_word(experiments), *(["--models"] if models else [])]
         return read_surrogate(self._ask("surrogate", *words)[1])
 
     def check(self, certificate: Union[Text, Formula, Hedge]) -> answers.Check:

@@ -33,7 +33,7 @@ Answers questions about causal diagrams with hidden confounders, by a proved pro
     equivalent FILE FILE2 [--x L] [--y L] [--given L]
     implications FILE [COUNTS] [--count NAME]
     survey N
-    surrogate FILE [--x L] [--y L] --experiments E
+    surrogate FILE [--x L] [--y L] --experiments E [--models]
 
 FILE is a graph text, in the form of DAGitty; - is standard input. A list L is names joined by
 commas, {} for none. Where x and y aren't listed, they are the vertices marked exposure and

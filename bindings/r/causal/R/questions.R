@@ -80,12 +80,16 @@ print.summary.causal_hedge <- function(x, ...) {
 }
 
 # Experiments: a list of sets of names; a single set needn't be in a list.
-surrogate <- function(diagram, x = NULL, y = NULL, experiments) {
+# With `models` the two models that exclude every formula, where there are such.
+surrogate <- function(diagram, x = NULL, y = NULL, experiments, models = FALSE) {
   diagram <- as_causal_diagram(diagram)
   experiments <- if (is.list(experiments)) experiments else list(experiments)
   word <- paste(vapply(experiments, list_word, ""), collapse = ";")
-  told <- ask("surrogate", diagram, c(option("x", x), option("y", y), "--experiments", word))
+  told <- ask("surrogate", diagram, c(option("x", x), option("y", y), "--experiments", word, if (models) "--models"))
   if (told$yes) return(new_answer("causal_formula", c(list(identifiable = TRUE), read_formula(told$lines)), told, diagram))
+  if (is_stopped_hedge(told$lines)) {
+    return(new_answer("causal_hedge", c(list(identifiable = FALSE), read_stopped_hedge(told$lines)), told, diagram))
+  }
   new_answer("causal_stopped", c(list(identifiable = FALSE), read_stopped(told$lines)), told, diagram)
 }
 

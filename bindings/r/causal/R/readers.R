@@ -117,6 +117,17 @@ read_stopped <- function(lines) {
   c(list(target = target, district = read_names(district)), read_hedge_sets(lines[3]))
 }
 
+stopped_form <- paste0("(", target_form, " is not identifiable) from these experiments")
+
+is_stopped_hedge <- function(lines) length(lines) > 2 && !is.null(parts(stopped_form, lines[1]))
+
+# The district that none of the experiments frees, and the hedge at which it stops under all that leave it alone.
+read_stopped_hedge <- function(lines) {
+  head <- parts_of(stopped_form, lines[1])
+  district <- parts_of(paste0("district (", set_form, ")"), lines[2])
+  c(read_hedge(c(head, lines[-(1:2)])), list(district = read_names(district)))
+}
+
 read_pairs <- function(lines, word, mark) {
   lines <- lines[startsWith(lines, paste0(word, " "))]
   form <- paste0(word, " (", name_form, ") ", mark, " (", name_form, ")")

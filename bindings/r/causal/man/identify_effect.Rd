@@ -36,7 +36,7 @@ identify_effect(diagram, x = NULL, y = NULL, given = NULL)
   \code{identify(diagram, "X", "Y")}. Its first argument has the name \code{x}, so the exposures can't be named there.
 
   With \code{given} the formula is one for the conditional effect. Where there is none, the hedge is one of a joint effect, by
-  which that can't be computed from observations; nothing is claimed of the conditional effect itself.
+  which that can't be computed from observations; and no formula over observations equals the conditional effect in every model.
 }
 \value{
   For a formula a list of the class \code{causal_formula}: \code{identifiable} (\code{TRUE}), \code{target},

@@ -84,11 +84,17 @@ pdf(NULL)
 plot(stopped)
 invisible(dev.off())
 
-# Conditions
 bow <- c(
   "hedge {X,Y} over {Y} with roots {Y}", "choice X -> Y", "link X <-> Y", "cause 0 on {X,Y} with weights 1 1",
   "first h(X) = c0", "first k(Y) = c0", "second h(X) = c0", "second k(Y) = c0", "event k(Y) even: 1/2 in the first, 1/2 + 1/2^3 in the second"
 )
+answering(no(paste(c("P(Y|do(X)) is not identifiable from these experiments", "district {Y}", bow), collapse = "\n")))
+stopped <- surrogate("dag { Z -> X -> Y X <-> Y }", "X", "Y", experiments = "Z", models = TRUE)
+same(asked[[1]]$words[9], "--models")
+stopifnot(inherits(stopped, "causal_hedge"), !stopped$identifiable)
+same(c(stopped$target, stopped$district, stopped$roots), c("P(Y|do(X))", "Y", "Y"))
+
+# Conditions
 answering("P(Y|do(X),Z) = P(Y|Z,X)", "{}", "P(Y)")
 formula <- identify_effect("dag { Z -> X Z -> Y X -> Y }", "X", "Y", given = "Z")
 same(asked[[1]]$words, c("identify", "diagram", "--x", "\"X\"", "--y", "\"Y\"", "--given", "\"Z\""))
