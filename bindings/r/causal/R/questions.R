@@ -75,7 +75,7 @@ summary.causal_hedge <- function(object, ...) structure(object, class = c("summa
 # The hedge without the two models.
 print.summary.causal_hedge <- function(x, ...) {
   lines <- strsplit(x$text, "\n", fixed = TRUE)[[1]]
-  writeLines(lines[grepl("^(P|hedge|choice|link|event)", lines)])
+  writeLines(lines[grepl("^(P|district|hedge|choice|link|event)", lines)])
   invisible(x)
 }
 
