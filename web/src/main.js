@@ -19,6 +19,8 @@ const program = new Program(new Runner(inlined("worker-source"), inlined("module
 const drawing = new Drawing(), { diagram } = drawing;
 const places = new Places(new Runner(inlined("arranger-source")), diagram);
 
+let drawn = null; // when the drawing is right; nothing else waits for it
+
 const draft = new Draft(program, {
   text: (text, { typed }) => typed || editor.set(text),
   asking: (reading) => answers.askAhead(reading),
@@ -31,7 +33,8 @@ const draft = new Draft(program, {
     byId("drawing").setAttribute("aria-label",
       `Diagram of ${summary(graph)}. Tab goes through the vertices, Enter opens a vertex's menu`);
     sayOrigin(graph);
-    await Promise.all([places.draw(graph, text, fit), answers.update(graph, text)]);
+    drawn = places.draw(graph, text, fit);
+    await answers.update(graph, text);
   },
 });
 const editor = new Editor({
@@ -135,4 +138,5 @@ async function start() {
 addEventListener("hashchange", () => readLink().text !== null && start());
 
 await start();
+await drawn;
 document.body.dataset.ready = String(Math.round(performance.now()));

@@ -147,6 +147,34 @@ def drags_and_takes_back(s):
     s.soon("redo", lambda: s.text() == after, s.text)
 
 
+OVERLAPS = """const boxes = [...document.querySelectorAll('#drawing .vertex .shape')].map((el) => el.getBoundingClientRect());
+    return boxes.flatMap((p, i) => boxes.slice(i + 1).filter((q) => p.left < q.right && q.left < p.right
+        && p.top < q.bottom && q.top < p.bottom)).length"""
+EXPORTED = """dag {
+bb="0,0,1,1"
+"age at the first visit" [pos="0.10,0.20"]
+smoking [exposure,pos="0.14,0.24"]
+"birth weight" [outcome,pos="0.34,0.22"]
+tar [pos="0.24,0.23"]
+"age at the first visit" -> smoking -> tar -> "birth weight"
+}
+"""
+
+
+def fits_places(s):
+    s.example("napkin")
+    s.write(EXPORTED)
+    s.soon("a pasted text's names don't overlap", lambda: len(s.names()) == 4 and s.run(OVERLAPS) == 0, lambda: s.run(OVERLAPS))
+    s.check("its places stay as they were written", s.text() == EXPORTED, s.text())
+    s.one("#arrange").click()
+    s.soon("a layout is computed", lambda: "pos=" not in s.text(), s.text)
+    s.check("and the way back is said", "Undo" in s.one("#toast").text, s.one("#toast").text)
+    s.undo()
+    s.soon("the author's places come back", lambda: s.text() == EXPORTED and s.run(OVERLAPS) == 0, s.text)
+    ActionChains(s.driver).drag_and_drop_by_offset(s.vertex("tar"), 10, 90).perform()
+    s.soon("dragging keeps the names apart", lambda: s.text() != EXPORTED and s.run(OVERLAPS) == 0, s.text)
+
+
 def breaks_the_text(s):
     s.example("napkin")
     area = s.one("#text")
@@ -516,7 +544,7 @@ def works_by_touch():
 
 
 PARTS = [
-    reads_a_formula, drags_and_takes_back, breaks_the_text, chooses_sets, draws, uses_keys_alone, saves_a_certificate,
+    reads_a_formula, drags_and_takes_back, fits_places, breaks_the_text, chooses_sets, draws, uses_keys_alone, saves_a_certificate,
     drops_a_table, adjusts_and_compares, shows_a_hedge, lists_what_is_implied, takes_trials, asks_under_a_condition,
     saves_the_drawing_and_a_link, is_accessible, sends_nothing, is_served,
 ]

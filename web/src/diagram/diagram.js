@@ -124,13 +124,19 @@ export class Diagram {
     this.#render();
   }
 
+  /** The pixels that a drawing may take. */
+  room() {
+    const { width, height } = this.element.getBoundingClientRect();
+    return { width: Math.max(1, width - 60), height: Math.max(1, height - 90) };
+  }
+
   /** Fits the view to the drawing. */
   fit() {
     this.element.removeAttribute("viewBox");
     const box = this.element.getBoundingClientRect();
     if (!this.target.size || !box.width) return;
     const { left, right, top, bottom } = this.bounds(this.target);
-    const k = Math.min(1.3, (box.width - 60) / (right - left), (box.height - 90) / (bottom - top));
+    const room = this.room(), k = Math.min(1.3, room.width / (right - left), room.height / (bottom - top));
     const x = box.width / 2 - (k * (left + right)) / 2, y = box.height / 2 - (k * (top + bottom)) / 2;
     select(this.element).call(this.#zoom.transform, zoomIdentity.translate(x, y).scale(k));
   }

@@ -91,8 +91,10 @@ export class Acts {
     return this.keepPlaces(name);
   }
 
-  /** Drops the places of the text, so that a layout is computed. */
-  arrange() {
-    return this.#propose(change(this.#text, new Map(this.graph.vertices.map((v) => [v.name, { pos: null }]))));
+  /** Drops the places of the text, so that a layout is computed; they come back by undo. */
+  async arrange() {
+    this.places.forget();
+    const text = this.#text, bare = change(text, new Map(this.graph.vertices.map((v) => [v.name, { pos: null }])));
+    if ((await this.#propose(bare)) && bare !== text) toast("Arranged anew. Undo brings the places of the text back.");
   }
 }

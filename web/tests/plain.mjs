@@ -1,0 +1,53 @@
+// What the page does without the program: fitting of places, layouts.
+import { apart, circle, scaleFor } from "../src/diagram/fitting.js";
+import { arrange } from "../src/layout.js";
+
+let done = 0, wrong = 0;
+function check(what, good, saw) {
+  done++;
+  if (good) return;
+  wrong++;
+  console.log(`wrong: ${what}: saw ${JSON.stringify(saw)}`);
+}
+
+const HEIGHT = 36;
+
+/** The pairs of names that lie on one another. */
+function overlaps(places, halves) {
+  const all = [...places];
+  return all.flatMap(([a, p], i) => all.slice(i + 1).filter(([b, q]) =>
+    Math.abs(p.x - q.x) < halves.get(a) + halves.get(b) && Math.abs(p.y - q.y) < HEIGHT).map(([b]) => `${a} ${b}`));
+}
+
+function testFitting() {
+  let seed = 3;
+  const random = () => (seed = (seed * 1103515245 + 12345) % 2147483648) / 2147483648;
+  for (let n = 2; n < 40; n++) {
+    const names = Array.from({ length: n }, (_, i) => `v${i}`), halves = new Map(names.map((name) => [name, 22 + 80 * random()]));
+    const unit = [1, 0.1, 100, 5][n % 4], given = new Map(names.map((name) => [name, { x: unit * random(), y: unit * random() }]));
+    const scale = scaleFor(given, halves, HEIGHT, 100);
+    const places = apart(new Map([...given].map(([name, p]) => [name, { x: p.x * scale, y: p.y * scale }])), halves, HEIGHT);
+    check(`no names overlap: ${n}`, !overlaps(places, halves).length, overlaps(places, halves));
+    check(`a circle has none: ${n}`, !overlaps(circle(names, halves), halves).length, n);
+  }
+  const halves = new Map([["A", 22], ["B", 22]]);
+  check("a scale that will do is kept", scaleFor(new Map([["A", { x: 0, y: 0 }], ["B", { x: 1, y: 0 }]]), halves, HEIGHT, 100) === 100);
+}
+
+function testLayout() {
+  const chain = (n) => ({
+    vertices: Array.from({ length: n }, (_, i) => ({ name: `v${i}`, width: 60, height: HEIGHT })),
+    edges: Array.from({ length: n - 1 }, (_, i) => [`v${i}`, `v${i + 1}`]),
+  });
+  const span = (places, k) => Math.max(...places.map(([, p]) => p[k])) - Math.min(...places.map(([, p]) => p[k]));
+  const high = arrange({ ...chain(12), room: { width: 400, height: 700 } });
+  check("a long chain uses the height", span(high, "y") > span(high, "x"), high);
+  const wide = arrange({ ...chain(12), room: { width: 900, height: 400 } });
+  check("where there is width it lies", span(wide, "x") > span(wide, "y"), wide);
+  check("without a room it lies", span(arrange(chain(3)), "x") > 0, "");
+}
+
+testFitting();
+testLayout();
+console.log(`${done} checks without the program, ${wrong} wrong`);
+process.exit(wrong ? 1 : 0);
