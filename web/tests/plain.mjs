@@ -1,6 +1,7 @@
 // What the page does without the program: fitting of places, layouts.
 import { apart, circle, scaleFor } from "../src/diagram/fitting.js";
 import { arrange } from "../src/layout.js";
+import { Kept, titleOf } from "../src/page/kept.js";
 
 let done = 0, wrong = 0;
 function check(what, good, saw) {
@@ -47,6 +48,33 @@ function testLayout() {
   check("without a room it lies", span(arrange(chain(3)), "x") > 0, "");
 }
 
+function testKept() {
+  const memory = new Map(), store = { getItem: (k) => memory.get(k) ?? null, setItem: (k, v) => memory.set(k, v) };
+  const kept = new Kept(store);
+  kept.begin("example");
+  kept.keep("example");
+  check("an example isn't kept", !kept.list().length, kept.list());
+  kept.keep("changed");
+  kept.keep("changed again");
+  check("what is changed is one entry", kept.list().join() === "changed again", kept.list());
+  for (let i = 0; i < 12; i++) {
+    kept.begin("");
+    kept.keep(`text ${i}`);
+  }
+  check("the last ten", kept.list().length === 10 && kept.list()[0] === "text 11", kept.list());
+  kept.begin("text 5");
+  kept.keep("text 5 changed");
+  check("one that is opened again stays too", kept.list().slice(0, 2).join() === "text 5 changed,text 11", kept.list());
+  memory.set("causal.diagrams", "no list");
+  check("what can't be read is none", !kept.list().length && new Kept(undefined).list().length === 0, kept.list());
+  const refused = new Kept({ getItem: () => null, setItem: () => { throw new Error("full"); } });
+  refused.begin("a");
+  refused.keep("b");
+  check("what isn't kept is known", !refused.isSafe, "");
+  check("a title", titleOf('dag {\nbb="0,0,1,1"\nX [exposure,pos="0,1"]\nX -> Y\n}\n') === "X X -> Y", titleOf("dag { }"));
+}
+
+testKept();
 testFitting();
 testLayout();
 console.log(`${done} checks without the program, ${wrong} wrong`);

@@ -280,6 +280,31 @@ def uses_keys_alone(s):
     s.tab("effect")
 
 
+def names_and_deletes(s):
+    s.example("front_door")
+    s.vertex("M").click()
+    s.keys("a")
+    s.soon("a key chooses in the open menu", lambda: "M [adjusted" in s.text() and not s.all("#menu"), s.text)
+    for fresh, why in (("", "a character at least"), ('a"b', "quotation mark")):
+        s.vertex("M").click()
+        s.item("Rename")
+        s.one("#menu input").send_keys(Keys.CONTROL, "a")
+        s.one("#menu input").send_keys(fresh or Keys.BACKSPACE, Keys.ENTER)
+        s.soon("a name that can't be is refused aloud", lambda: why in s.one("#toast").text, lambda: s.one("#toast").text)
+    s.run("arguments[0].focus()", s.vertex("M"))
+    s.keys(Keys.DELETE)
+    s.soon("after a deletion a vertex has the focus", lambda: "M" not in s.names()
+           and s.run("return document.activeElement.classList.contains('vertex')"))
+    long = "x" * 90
+    s.write(f'dag {{ {long} [exposure] Y [outcome] {long} -> Y }}')
+    s.soon("a long name is cut in its shape", lambda: any(name.endswith("…") for name in s.names()), s.names)
+    s.check("nothing is pushed away", s.run("return document.documentElement.scrollWidth <= innerWidth"))
+    out = s.run("""const pane = document.getElementById('answers-pane').getBoundingClientRect();
+        return [...document.querySelectorAll('#tabs button')].filter((el) => el.getBoundingClientRect().right > pane.right
+            || el.scrollWidth > el.clientWidth).map((el) => el.id)""")
+    s.check("every tab is seen", not out, out)
+
+
 def saves_a_certificate(s):
     s.example("napkin")
     s.one("#panel details summary").click()
@@ -451,6 +476,22 @@ def saves_the_drawing_and_a_link(s):
     s.check("the link carries the diagram", s.text() == text, s.text())
 
 
+def keeps_the_work(s):
+    s.example("front_door")
+    s.write("dag { X [exposure] Y [outcome] X -> kept -> Y }")
+    s.soon("a link's address follows", lambda: "kept" in s.run("return location.href"), lambda: s.run("return location.href"))
+    browser.open_page(s.driver)
+    s.check("the diagram is kept", "kept" in s.text(), s.text())
+    s.one("#new").click()
+    s.soon("an empty one", lambda: s.text() == "dag {\n}\n" and not s.names(), s.text)
+    own = s.run("return [...document.querySelectorAll('#examples-menu optgroup option')].map((el) => el.textContent)")
+    s.check("the last ones are listed", any("kept" in line for line in own), own)
+    browser.example(s.driver, "kept 0")
+    s.soon("and opened again", lambda: "kept" in s.names(), s.text)
+    browser.example(s.driver, "forget")
+    s.check("and forgotten", not s.all("#examples-menu optgroup option"))
+
+
 def is_accessible(s):
     """Whatever can be focused has a name, ids are unique, and one heading stands at the top."""
     s.example("napkin")
@@ -544,9 +585,9 @@ def works_by_touch():
 
 
 PARTS = [
-    reads_a_formula, drags_and_takes_back, fits_places, breaks_the_text, chooses_sets, draws, uses_keys_alone, saves_a_certificate,
+    reads_a_formula, drags_and_takes_back, fits_places, breaks_the_text, chooses_sets, draws, uses_keys_alone, names_and_deletes, saves_a_certificate,
     drops_a_table, adjusts_and_compares, shows_a_hedge, lists_what_is_implied, takes_trials, asks_under_a_condition,
-    saves_the_drawing_and_a_link, is_accessible, sends_nothing, is_served,
+    saves_the_drawing_and_a_link, keeps_the_work, is_accessible, sends_nothing, is_served,
 ]
 
 
