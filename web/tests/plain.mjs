@@ -1,6 +1,7 @@
 // What the page does without the program: fitting of places, layouts.
 import { apart, circle, scaleFor } from "../src/diagram/fitting.js";
 import { arrange } from "../src/layout.js";
+import { howToRead, levelsOf, missingIn, readRows, rewritten, tooFine } from "../src/text/csv.js";
 import { Kept, titleOf } from "../src/page/kept.js";
 
 let done = 0, wrong = 0;
@@ -74,6 +75,19 @@ function testKept() {
   check("a title", titleOf('dag {\nbb="0,0,1,1"\nX [exposure,pos="0,1"]\nX -> Y\n}\n') === "X X -> Y", titleOf("dag { }"));
 }
 
+function testTables() {
+  const text = 'hrt;"a ;b";Y\n1;"2,5";0\n', how = howToRead(text, ["HRT", "Y"]);
+  check("how a table is read", JSON.stringify(how) === '{"mark":";","renamed":[["hrt","HRT"]]}', how);
+  check("a table with commas", rewritten(text, how) === 'HRT,a ;b,Y\n1,"2,5",0\n', rewritten(text, how));
+  const tabs = howToRead("A\tB\n0\t1\n", ["A", "B"]);
+  check("tabs", tabs.mark === "\t" && rewritten("A\tB\n0\t1\n", tabs) === "A,B\n0,1\n", tabs);
+  check("what is in doubt stays", !howToRead("hrt,Hrt\n", ["HRT"]).renamed.length && !howToRead("hrt,HRT\n", ["HRT"]).renamed.length, "");
+  const rows = readRows(`A,B\nNA,1\n,2\n${Array.from({ length: 20 }, (_, i) => `0,${i}.5\n`).join("")}`), levels = levelsOf(rows, ["A", "B"], "");
+  check("missing values", JSON.stringify(missingIn(levels)) === '[["A","NA",1],["A","",1]]', missingIn(levels));
+  check("many levels", JSON.stringify(tooFine(levels)) === '[["B",22]]', tooFine(levels));
+}
+
+testTables();
 testKept();
 testFitting();
 testLayout();

@@ -357,6 +357,47 @@ def drops_a_table(s):
     s.soon("bounds", lambda: "0.832546217385603774" in s.panel(), s.panel)
 
 
+def reads_other_tables(s):
+    s.example("kidney_stones")
+    s.tab("data")
+    drop = """const data = new DataTransfer();
+        data.items.add(new File([arguments[0]], "mine.csv", { type: "text/csv" }));
+        document.body.dispatchEvent(new DragEvent("drop", { dataTransfer: data, bubbles: true, cancelable: true }));"""
+    table = (EXAMPLES / "kidney_stones.csv").read_text()
+    s.run(drop, table.lower().replace(",", ";"))
+    s.soon("semicolons and other letters", lambda: "634983/762700" in s.one(".values").text, s.panel)
+    s.check("are told", "semicolons as commas" in s.one("#read-notes").text, s.panel())
+    s.check("in the command line", "mine.read.csv" in s.command(), s.command())
+    s.check("the example's table is still offered", s.all("#sample"))
+    header = table.split("\n")[0].split(",")
+    rows = [",".join("1" if name == "count" else f"{i}.18" if name == "S" else str(i % 2) for name in header) for i in range(40)]
+    s.run(drop, "\n".join([",".join(header), *rows]) + "\n")
+    s.soon("many levels are to be grouped", lambda: "Group S first" in s.panel(), s.panel)
+    s.check("no raw code is seen", " node " not in s.panel(), s.panel())
+    s.run(drop, table + ",".join("1" if name == "count" else "NA" for name in header) + "\n")
+    s.soon("missing values are told", lambda: "Missing values: NA" in s.panel(), s.panel)
+    s.run("""const data = new DataTransfer(), file = new File(["X"], "large.csv");
+        Object.defineProperty(File.prototype, "size", { configurable: true, get() { return 90000000; } });
+        data.items.add(file);
+        document.body.dispatchEvent(new DragEvent("drop", { dataTransfer: data, bubbles: true, cancelable: true }));
+        delete File.prototype.size;""")
+    s.soon("what is too large isn't read", lambda: "64 MB at most" in s.one("#toast").text, lambda: s.one("#toast").text)
+    s.one("#sample").click()
+    s.soon("the example's table comes back", lambda: "634983/762700" in s.one(".values").text, s.panel)
+
+
+def says_it_plainly(s):
+    s.tab("effect")
+    s.write("dag { X [exposure] Y [outcome] Y -> X }")
+    s.soon("no directed path", lambda: "No directed path leads from X to Y, so Y isn't changed by X." in s.panel(), s.panel)
+    s.check("the tab says what is so", s.one("#tab-effect").get_attribute("textContent") == "Effect: identifiable",
+            s.one("#tab-effect").get_attribute("textContent"))
+    s.write("dag { X [exposure] Y X -> Y }")
+    s.soon("no raw code", lambda: "No outcome is chosen" in s.panel() and "fault" not in s.panel(), s.panel)
+    s.example("bow")
+    s.soon("the plain reason first", lambda: s.panel().split("\n")[1].startswith("What is observed doesn't settle"), s.panel)
+
+
 def adjusts_and_compares(s):
     s.example("kidney_stones")
     s.tab("adjustment")
@@ -420,7 +461,7 @@ def lists_what_is_implied(s):
     s.soon("a table that lacks a column", lambda: "no column named B" in s.panel(), s.panel)
     s.check("the pairs stay", s.printed() == "A from C given {B}", s.printed())
     s.example("front_door")
-    s.soon("nothing to test", lambda: "Nothing to test" in s.panel(), s.panel)
+    s.soon("nothing to test", lambda: "No independence to test" in s.panel(), s.panel)
 
 
 def takes_trials(s):
@@ -478,6 +519,8 @@ def saves_the_drawing_and_a_link(s):
 
 def keeps_the_work(s):
     s.example("front_door")
+    s.one("#share").click()
+    time.sleep(0.3)
     s.write("dag { X [exposure] Y [outcome] X -> kept -> Y }")
     s.soon("a link's address follows", lambda: "kept" in s.run("return location.href"), lambda: s.run("return location.href"))
     browser.open_page(s.driver)
@@ -586,7 +629,8 @@ def works_by_touch():
 
 PARTS = [
     reads_a_formula, drags_and_takes_back, fits_places, breaks_the_text, chooses_sets, draws, uses_keys_alone, names_and_deletes, saves_a_certificate,
-    drops_a_table, adjusts_and_compares, shows_a_hedge, lists_what_is_implied, takes_trials, asks_under_a_condition,
+    drops_a_table, reads_other_tables, says_it_plainly,
+    adjusts_and_compares, shows_a_hedge, lists_what_is_implied, takes_trials, asks_under_a_condition,
     saves_the_drawing_and_a_link, keeps_the_work, is_accessible, sends_nothing, is_served,
 ]
 

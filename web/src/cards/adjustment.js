@@ -112,4 +112,5 @@ function testVerdict({ tested: said, path, forbidden }) {
 /** @type {import("./parts.js").Card} */
 export const adjustment = {
   id: "adjustment", title: "Adjust", hasDot: true, ahead: [LIST], answer,
+  dotWords: { yes: "a set is admissible", no: "no set is admissible" },
 };
