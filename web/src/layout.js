@@ -3,6 +3,7 @@ import dagre from "dagre";
 /** @typedef {{x: number, y: number}} Point  @typedef {{width: number, height: number}} Size */
 
 const SIDEWAYS_FIRST = 1.2; // how much larger a drawing from top to bottom is, where it is taken
+const QUICK_MS = 400; // a layout that took longer isn't computed the other way as well
 const MOST_STRETCH = 2.2;
 
 /**
@@ -11,8 +12,8 @@ const MOST_STRETCH = 2.2;
  * @returns {[string, Point][]}
  */
 export function arrange(outline) {
-  const sideways = arrangeBy("LR", outline), { room } = outline;
-  if (!room) return listed(sideways);
+  const began = performance.now(), sideways = arrangeBy("LR", outline), { room } = outline;
+  if (!room || performance.now() - began > QUICK_MS) return listed(sideways);
   const down = arrangeBy("TB", outline), isDown = scaleIn(room, down) > SIDEWAYS_FIRST * scaleIn(room, sideways);
   const chosen = isDown ? down : sideways;
   stretch(chosen, room);

@@ -2,6 +2,7 @@
 import { apart, circle, scaleFor } from "../src/diagram/fitting.js";
 import { arrange } from "../src/layout.js";
 import { howToRead, levelsOf, missingIn, readRows, rewritten, tooFine } from "../src/text/csv.js";
+import { annotatePieces } from "../src/latex.js";
 import { Kept, titleOf } from "../src/page/kept.js";
 
 let done = 0, wrong = 0;
@@ -87,6 +88,15 @@ function testTables() {
   check("many levels", JSON.stringify(tooFine(levels)) === '[["B",22]]', tooFine(levels));
 }
 
+function testWideSums() {
+  const names = Array.from({ length: 9 }, (_, i) => `"covariate ${i}"`).join(", ");
+  const pieces = annotatePieces(`\\sum_{${names}} P("covariate 0") P("covariate 1")`);
+  check("a wide sum is a piece of its own", pieces.length === 3 && pieces[1].includes("P("), pieces);
+  check("in rows", pieces[0].split("\\\\").length > 2, pieces[0]);
+  check("a narrow one isn't", annotatePieces("\\sum_{Z} P(Z) P(Y \\mid Z)").length === 2, "");
+}
+
+testWideSums();
 testTables();
 testKept();
 testFitting();

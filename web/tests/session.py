@@ -171,8 +171,24 @@ def fits_places(s):
     s.check("and the way back is said", "Undo" in s.one("#toast").text, s.one("#toast").text)
     s.undo()
     s.soon("the author's places come back", lambda: s.text() == EXPORTED and s.run(OVERLAPS) == 0, s.text)
+    time.sleep(0.5)
     ActionChains(s.driver).drag_and_drop_by_offset(s.vertex("tar"), 10, 90).perform()
     s.soon("dragging keeps the names apart", lambda: s.text() != EXPORTED and s.run(OVERLAPS) == 0, s.text)
+
+
+def draws_large_texts(s):
+    s.example("front_door")
+    s.run("""window.sawLate = false;
+        const drawing = document.getElementById('drawing'), see = () => (window.sawLate ||= drawing.classList.contains('late'));
+        new MutationObserver(see).observe(drawing, { attributes: true });""")
+    dense = "\n".join(f"w{i} -> w{j}" for i in range(64) for j in range(i + 1, 64))
+    s.write(f"dag {{\n{dense}\n}}\n")
+    s.check("a drawing that isn't right yet is dimmed", s.run("return window.sawLate"))
+    area = s.one("#text")
+    s.soon("the answers don't wait for it", lambda: "No outcome" in s.panel(), s.panel)
+    drawn = "return document.querySelectorAll('#drawing .vertex').length === 64 && !document.querySelector('#drawing.late')"
+    s.soon("at the latest after two seconds it is there", lambda: s.run(drawn), lambda: len(s.names()))
+    s.check("the text can be written in", area.is_enabled())
 
 
 def breaks_the_text(s):
@@ -628,7 +644,7 @@ def works_by_touch():
 
 
 PARTS = [
-    reads_a_formula, drags_and_takes_back, fits_places, breaks_the_text, chooses_sets, draws, uses_keys_alone, names_and_deletes, saves_a_certificate,
+    reads_a_formula, drags_and_takes_back, fits_places, draws_large_texts, breaks_the_text, chooses_sets, draws, uses_keys_alone, names_and_deletes, saves_a_certificate,
     drops_a_table, reads_other_tables, says_it_plainly,
     adjusts_and_compares, shows_a_hedge, lists_what_is_implied, takes_trials, asks_under_a_condition,
     saves_the_drawing_and_a_link, keeps_the_work, is_accessible, sends_nothing, is_served,
