@@ -88,6 +88,7 @@ byId("licences-box").ontoggle = () => (byId("licences-text").textContent = inlin
 
 // ---- The text
 
+const MOST_BYTES = 2e6; // the program says the fault of a text that is only a little too long
 let origin = { source: "", graph: "" };
 
 /** Shows another diagram. */
@@ -112,19 +113,25 @@ function toggleText(isOn = document.body.classList.contains("no-text")) {
   requestAnimationFrame(() => diagram.fit());
 }
 
+/** Opens a file's text. What is far longer than a diagram's text may be isn't read. */
+async function openFile(file) {
+  if (file.size > MOST_BYTES) toast(`${file.name} has ${Math.ceil(file.size / 1e6)} MB. A diagram's text has 1 MB at most.`);
+  else open(await file.text());
+}
+
 byId("fold").onclick = () => toggleText();
 byId("open-text").onchange = async (e) => {
   const [file] = e.target.files;
-  if (file) open(await file.text());
+  if (file) openFile(file);
   e.target.value = "";
 };
 byId("save-text").onclick = () => save("diagram.dag", draft.text, "text/plain");
 document.addEventListener("dragover", (e) => e.preventDefault());
-document.addEventListener("drop", async (e) => {
+document.addEventListener("drop", (e) => {
   e.preventDefault();
   const [file] = e.dataTransfer.files;
-  if (/\.csv$/i.test(file?.name ?? "")) answers.take(file);
-  else if (file) open(await file.text());
+  if (/\.(csv|tsv|tab)$/i.test(file?.name ?? "")) answers.take(file);
+  else if (file) openFile(file);
 });
 
 // ---- The drawing

@@ -644,8 +644,8 @@ def works_by_touch():
 
 
 PARTS = [
-    reads_a_formula, drags_and_takes_back, fits_places, draws_large_texts, breaks_the_text, chooses_sets, draws, uses_keys_alone, names_and_deletes, saves_a_certificate,
-    drops_a_table, reads_other_tables, says_it_plainly,
+    reads_a_formula, drags_and_takes_back, fits_places, draws_large_texts, breaks_the_text, chooses_sets, draws,
+    uses_keys_alone, names_and_deletes, saves_a_certificate, drops_a_table, reads_other_tables, says_it_plainly,
     adjusts_and_compares, shows_a_hedge, lists_what_is_implied, takes_trials, asks_under_a_condition,
     saves_the_drawing_and_a_link, keeps_the_work, is_accessible, sends_nothing, is_served,
 ]

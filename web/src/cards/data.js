@@ -63,7 +63,7 @@ function sampleRow(ctx) {
 
 function dropZone({ take }, content) {
   const choose = (e) => e.target.files[0] && take(e.target.files[0]);
-  const input = h("input", { type: "file", accept: ".csv,text/csv", id: "csv", class: "unseen", onchange: choose });
+  const input = h("input", { type: "file", accept: ".csv,.tsv,.tab,text/csv,text/tab-separated-values", id: "csv", class: "unseen", onchange: choose });
   const zone = h("label", {
     class: "drop", for: "csv", ondragover: () => zone.classList.add("over"),
     ondragleave: () => zone.classList.remove("over"), ondrop: () => zone.classList.remove("over"),
