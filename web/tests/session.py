@@ -638,6 +638,8 @@ def works_by_touch():
             time.sleep(0.3)
             wide = s.run("return document.documentElement.scrollWidth - innerWidth")
             s.check(f"nothing is wider than a phone: {tab}", wide <= 0, wide)
+        right = s.run("return document.getElementById('about').getBoundingClientRect().right - innerWidth")
+        s.check("the head's buttons are seen on a phone", right <= 0, right)
     finally:
         driver.quit()
     return s

@@ -3,7 +3,7 @@ import { readFault } from "../faults.js";
 import { DIAGRAM } from "../names.js";
 import { headerOf, levelsOf, missingIn, readRows, tooFine } from "../text/csv.js";
 import { readCells } from "../text/printed.js";
-import { fold, source, verdict } from "./parts.js";
+import { fold, printedOf, source, verdict } from "./parts.js";
 import { dotPlot } from "./plot.js";
 
 const COUNT_NAMES = /^(count|counts|n|freq|frequency|weight)$/i;
@@ -138,7 +138,7 @@ function noValue({ ctx, words, bounds }) {
   return h("div", {}, tableRow(ctx), fine.length
     ? verdict("no", `Group ${fine.map(([column]) => column).join(" and ")} first`, `${many}, so most combinations have no row. `
       + "Put a few groups in their place in the table, and take it again.")
-    : verdict("no", "No value", fault.sentence), source(words, fault.number ? "" : bounds.err));
+    : verdict("no", "No value", fault.sentence), source(words, printedOf(bounds)));
 }
 
 // ---- The effect

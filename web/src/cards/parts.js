@@ -51,6 +51,9 @@ export function source(words, printed) {
       copyButton(printed, "answer")));
 }
 
+/** What was printed; nothing where it's a fault, since a sentence tells that. */
+export const printedOf = ({ out, err }) => out + (readFault(err).number ? "" : err);
+
 /** @param {"yes" | "no" | "ask" | "warn"} kind */
 export const verdict = (kind, title, ...text) =>
   h("div", { class: `verdict ${kind}` }, h("strong", {}, title), text.length ? h("p", {}, ...text) : null);
@@ -79,7 +82,7 @@ export function refused(words, answer, choices = () => null) {
   return {
     dot: "",
     view: () => h("div", {}, choices(), verdict("ask", fault.sentence, ...(mustMark ? [help] : [])),
-      source(words, fault.number ? "" : answer.err)),
+      source(words, printedOf(answer))),
   };
 }
 
