@@ -7,6 +7,7 @@ import { change, positions } from "./text/edit.js";
 const WAIT_MS = 25; // how long the drawing waits for a layout before it shows the new graph at its old places
 const PATIENCE_MS = 2000; // a layout that takes longer is given up for a circle
 const STALE_MS = 300; // a layout of an older text that has taken as long is given up for a newer one
+const NEAR = 2; // pixels
 const USUAL_SCALE = 100; // pixels to a unit of `pos`
 
 /** Where vertices stand: at the `pos` of the text, or else by a computed layout. */
@@ -56,14 +57,17 @@ export class Places {
       if (fitted) diagram.fit();
       this.#dim(isLate);
     };
-    if (given.size) return draw(this.#written(graph, given, text), fit);
+    if (given.size) {
+      const isAnew = this.#adapt(graph, given, text), places = this.#written(graph, given);
+      return draw(places, fit || (isAnew && this.#isElsewhere(places)));
+    }
     this.#given = given;
     const coming = this.arrange(graph).then((places) => draw(places, true));
     const isLate = await Promise.race([coming.then(() => false), new Promise((r) => setTimeout(r, WAIT_MS, true))]);
     if (!isLate || mine !== this.#turn) return coming;
     const known = graph.vertices.filter((v) => diagram.target.has(v.name)).length;
     if (fit || known < graph.vertices.length / 2) this.#dim(true);
-    else draw(this.#written(graph, given, text), false, true);
+    else draw(this.#written(graph, given), false, true);
     return coming;
   }
 
@@ -73,8 +77,7 @@ export class Places {
   }
 
   /** The places of a text; a vertex that has none there stays where it is, or is put near its neighbours. */
-  #written(graph, given, text) {
-    this.#adapt(graph, given, text);
+  #written(graph, given) {
     const places = new Map();
     for (const { name } of graph.vertices) {
       const p = given.get(name);
@@ -87,15 +90,23 @@ export class Places {
     return this.#isFitted ? apart(inOrder, halvesOf(graph), HEIGHT) : inOrder;
   }
 
-  /** Another text's places get the scale at which names don't overlap; those that were dragged stay as they are. */
+  /** Whether most vertices stand elsewhere than in the drawing. */
+  #isElsewhere(places) {
+    const isNear = ([name, p]) => Math.hypot(p.x - this.diagram.target.get(name)?.x, p.y - this.diagram.target.get(name)?.y) < NEAR;
+    return [...places].filter(isNear).length < places.size / 2;
+  }
+
+  /**
+   * Another text's places get the scale at which names don't overlap; those that were dragged stay as they are.
+   * @returns {boolean} whether they are another text's
+   */
   #adapt(graph, given, text) {
     const kept = [...given].filter(([name, p]) => isAt(p, this.#given.get(name))).length;
     this.#given = given;
     if (text === this.#own) this.#isFitted = false;
-    else if (given.size > 1 && kept < given.size / 2) {
-      this.#scale = scaleFor(given, halvesOf(graph), HEIGHT, this.#scale);
-      this.#isFitted = true;
-    }
+    if (text === this.#own || given.size < 2 || kept >= given.size / 2) return false;
+    this.#scale = scaleFor(given, halvesOf(graph), HEIGHT, this.#scale);
+    return (this.#isFitted = true);
   }
 
   /** A point as `pos` writes it, to the pixel. */

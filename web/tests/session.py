@@ -166,6 +166,10 @@ def fits_places(s):
     s.write(EXPORTED)
     s.soon("a pasted text's names don't overlap", lambda: len(s.names()) == 4 and s.run(OVERLAPS) == 0, lambda: s.run(OVERLAPS))
     s.check("its places stay as they were written", s.text() == EXPORTED, s.text())
+    inside = s.run("""const pane = document.getElementById('drawing').getBoundingClientRect();
+        return [...document.querySelectorAll('#drawing .vertex .shape')].map((el) => el.getBoundingClientRect())
+            .every((p) => p.left >= pane.left && p.right <= pane.right && p.top >= pane.top && p.bottom <= pane.bottom)""")
+    s.check("and all are in view", inside)
     s.one("#arrange").click()
     s.soon("a layout is computed", lambda: "pos=" not in s.text(), s.text)
     s.check("and the way back is said", "Undo" in s.one("#toast").text, s.one("#toast").text)
