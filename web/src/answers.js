@@ -1,7 +1,11 @@
 import { CARDS } from "./cards/index.js";
 import { tableName } from "./cards/data.js";
 import { byId, h, speak } from "./dom.js";
+import { toast } from "./page/notices.js";
 import { forgetGone } from "./seen.js";
+import { howToRead, rewritten } from "./text/csv.js";
+
+const MOST_BYTES = 1 << 26; // what the program reads of a table
 
 /** @typedef {import("./cards/parts.js").Card} Card  @typedef {import("./cards/parts.js").Context} Context */
 
@@ -78,6 +82,7 @@ export class Answers {
     this.#graph = graph;
     this.#text = text;
     if (isNew) this.#memory.shows = null;
+    if (isNew) this.#readTable();
     return this.refresh({ isAnew: false });
   }
 
@@ -104,11 +109,11 @@ export class Answers {
     }
   }
 
-  #setDot({ id, hasDot }, dot) {
+  #setDot({ id, hasDot, dotWords }, dot) {
     if (!hasDot) return;
     const tab = byId(`tab-${id}`);
     tab.querySelector(".dot").className = `dot ${dot}`;
-    tab.querySelector(".dot-words").textContent = dot ? `: ${dot}` : "";
+    tab.querySelector(".dot-words").textContent = dot ? `: ${dotWords[dot]}` : "";
   }
 
   /** Puts a card's view into the panel; what had the focus keeps it. */
@@ -125,10 +130,29 @@ export class Answers {
 
   /** Takes a table of counts, and shows what it gives for the effect, or for what is implied. @param {File} file */
   async take(file) {
+    if (file.size > MOST_BYTES) return toast(`${file.name} has ${Math.ceil(file.size / 2 ** 20)} MB. A table has 64 MB at most.`);
     const bytes = new Uint8Array(await file.arrayBuffer()), text = new TextDecoder().decode(bytes);
-    Object.assign(this.#memory, { csv: { name: file.name, text }, count: undefined });
-    this.program.put(tableName(file.name), bytes);
+    Object.assign(this.#memory, { table: { name: file.name, bytes, text, how: "" }, count: undefined });
+    this.#readTable();
     this.show(this.active.id === "implications" ? "implications" : "data");
+  }
+
+  /** Gives the program the table; with commas and the diagram's names where the file has others. */
+  #readTable() {
+    const { table } = this.#memory;
+    if (!table) return;
+    const how = howToRead(table.text, this.#observed()), key = JSON.stringify(how);
+    if (table.how === key) return;
+    table.how = key;
+    const isAsItIs = how.mark === "," && !how.renamed.length;
+    const csv = isAsItIs ? { name: table.name, text: table.text, how: null }
+      : { name: table.name.replace(/(\.\w+)?$/, ".read.csv"), text: rewritten(table.text, how), how };
+    this.#memory.csv = csv;
+    this.program.put(tableName(csv.name), isAsItIs ? table.bytes : csv.text);
+  }
+
+  #observed() {
+    return (this.#graph?.vertices ?? []).filter((v) => v.role !== "latent").map((v) => v.name);
   }
 
   /** Ends the choosing of a set by clicks. @returns {boolean} whether there was one */
@@ -150,7 +174,7 @@ export class Answers {
     };
     const ctx = {
       ...this.around, graph, text, ask, memory: this.#memory,
-      observed: graph.vertices.filter((v) => v.role !== "latent").map((v) => v.name),
+      observed: this.#observed(),
       put: (name, content) => this.program.put(name, content),
       refresh: () => this.refresh(),
       show: (id) => this.show(id),

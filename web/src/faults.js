@@ -1,7 +1,7 @@
 // The program's fault lines as sentences. The numbers are those of its tables of faults.
 import { bare, isEdgeMark, tokens } from "./text/tokens.js";
 
-/** @typedef {{sentence: string, number: number, second: boolean, detail: string, graph: boolean}} Fault */
+/** @typedef {{sentence: string, number: number, second: boolean, detail: string, graph: boolean, table?: string}} Fault */
 /** @typedef {{start: number, end: number}} Mark a place in a text */
 
 const circle = (names) => {
@@ -76,6 +76,7 @@ export function readFault(line) {
   const detail = m[4]?.replace(/^(byte|row|cycle) /, "") ?? "";
   return {
     sentence: table[m[3]](detail), number: Number(m[3]), second: Boolean(m[2]), detail, graph: table === GRAPH,
+    table: m[1].split(" ").at(-2),
   };
 }
 

@@ -9,16 +9,26 @@
 /** @type {Manner} */
 const WHOLE = { parentheses: ["\\left( ", "\\right)"], list: ", ", under: (names) => names.join(", ") };
 
-const ROW = 8; // names under a sum
+const ROW = 8; // names under a sum, in a row of so many letters
+const ROW_LETTERS = 40;
+const WIDE_LETTERS = 20; // of a sum behind which a line may break
+
+const lettersOf = (name) => name.replace(/\\htmlClass\{bound\}\{|\\textit\{|\}/g, "").length;
+const lettersIn = (names) => names.reduce((sum, name) => sum + lettersOf(name), 0);
 
 /** For a formula that is too wide for one line. @type {Manner} */
 const BROKEN = {
   parentheses: ["\\Bigl( ", "\\Bigr)"],
   list: ", \\allowbreak ",
   under: (names) => {
-    const rows = [];
-    for (let i = 0; i < names.length; i += ROW) rows.push(names.slice(i, i + ROW).join(", "));
-    return rows.length > 1 ? `\\substack{${rows.join(",\\\\")}}` : rows[0];
+    const rows = [[]];
+    for (const name of names) {
+      const row = rows.at(-1), isFull = row.length === ROW || lettersIn([...row, name]) > ROW_LETTERS;
+      if (row.length && isFull) rows.push([name]);
+      else row.push(name);
+    }
+    const lines = rows.map((row) => row.join(", "));
+    return lines.length > 1 ? `\\substack{${lines.join(",\\\\")}}` : lines[0];
   },
 };
 
@@ -68,9 +78,9 @@ class Annotator {
   }
 
   #sum(over) {
-    const names = over.match(PIECES).filter(isName);
+    const names = over.match(PIECES).filter(isName), isWide = lettersIn(names) > WIDE_LETTERS;
     for (const name of names) this.#bound.add(name);
-    this.#put(`\\sum_{${this.manner.under(names.map((name) => this.#name(name)))}} `, { begins: true });
+    this.#put(`\\sum_{${this.manner.under(names.map((name) => this.#name(name)))}} `, { begins: true, ends: isWide });
   }
 
   /** A probability whose parenthesis opened before this place. @returns {number} the place behind it */

@@ -1,22 +1,60 @@
 import dagre from "dagre";
 
-/** @typedef {{x: number, y: number}} Point */
+/** @typedef {{x: number, y: number}} Point  @typedef {{width: number, height: number}} Size */
+
+const SIDEWAYS_FIRST = 1.2; // how much larger a drawing from top to bottom is, where it is taken
+const QUICK_MS = 400; // a layout that took longer isn't computed the other way as well
+const MOST_STRETCH = 2.2;
 
 /**
- * Places for a graph by dagre, from left to right.
- * @param {{vertices: {name: string, width: number, height: number}[], edges: [string, string][]}} outline
+ * Places for a graph by dagre: from left to right, or from top to bottom where that shows it clearly larger in its room.
+ * @param {{vertices: {name: string, width: number, height: number}[], edges: [string, string][], room?: Size}} outline
  * @returns {[string, Point][]}
  */
-export function arrange({ vertices, edges }) {
+export function arrange(outline) {
+  const began = performance.now(), sideways = arrangeBy("LR", outline), { room } = outline;
+  if (!room || performance.now() - began > QUICK_MS) return listed(sideways);
+  const down = arrangeBy("TB", outline), isDown = scaleIn(room, down) > SIDEWAYS_FIRST * scaleIn(room, sideways);
+  const chosen = isDown ? down : sideways;
+  stretch(chosen, room);
+  return listed(chosen);
+}
+
+const listed = (placed) => placed.map(({ name, x, y }) => [name, { x, y }]);
+
+function arrangeBy(rankdir, { vertices, edges }) {
   const graph = new dagre.graphlib.Graph();
-  graph.setGraph({ rankdir: "LR", ranksep: 84, nodesep: 54 });
+  graph.setGraph({ rankdir, ranksep: 84, nodesep: 54 });
   graph.setDefaultEdgeLabel(() => ({}));
   for (const { name, width, height } of vertices) graph.setNode(name, { width, height });
   for (const [a, b] of edges) graph.setEdge(a, b, {});
   dagre.layout(graph);
-  const placed = vertices.map(({ name }) => [name, { x: graph.node(name).x, y: graph.node(name).y }]);
-  press(placed.map(([, point]) => point), (vertices[0]?.height ?? 0) + 24);
+  const placed = vertices.map(({ name, width, height }) => ({ name, width, height, ...pointOf(graph.node(name)) }));
+  if (rankdir === "LR") press(placed, (vertices[0]?.height ?? 0) + 24);
   return placed;
+}
+
+const pointOf = ({ x, y }) => ({ x, y });
+
+/** How wide and high a layout is, with its vertices. */
+function sizeOf(placed) {
+  const span = (k, size) => Math.max(...placed.map((p) => p[k] + p[size] / 2)) - Math.min(...placed.map((p) => p[k] - p[size] / 2));
+  return { width: span("x", "width"), height: span("y", "height") };
+}
+
+function scaleIn(room, placed) {
+  const { width, height } = sizeOf(placed);
+  return Math.min(1.3, room.width / width, room.height / height);
+}
+
+/** A layout that fills its room one way alone is stretched the other way. */
+function stretch(placed, room) {
+  if (placed.length < 2) return;
+  const size = sizeOf(placed), k = scaleIn(room, placed);
+  for (const [at, side] of [["x", "width"], ["y", "height"]]) {
+    const factor = Math.min(MOST_STRETCH, room[side] / k / size[side]);
+    if (k < 1 && factor > 1) for (const p of placed) p[at] *= factor;
+  }
 }
 
 /** Many long edges make the layout high: it is pressed together, with each rank's order and least distances kept. */

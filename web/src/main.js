@@ -7,7 +7,8 @@ import { Editor } from "./editor.js";
 import { Acts } from "./page/acts.js";
 import { Drawing } from "./page/drawing.js";
 import { toast } from "./page/notices.js";
-import { readLink, writeLink } from "./page/link.js";
+import { Kept, titleOf } from "./page/kept.js";
+import { followLink, partOf, readLink, writeLink } from "./page/link.js";
 import { Places } from "./places.js";
 import { Program } from "./program.js";
 import { Runner } from "./runner.js";
@@ -19,11 +20,17 @@ const program = new Program(new Runner(inlined("worker-source"), inlined("module
 const drawing = new Drawing(), { diagram } = drawing;
 const places = new Places(new Runner(inlined("arranger-source")), diagram);
 
+const kept = new Kept();
+let drawn = null; // when the drawing is right; nothing else waits for it
+
 const draft = new Draft(program, {
   text: (text, { typed }) => typed || editor.set(text),
   asking: (reading) => answers.askAhead(reading),
   judged: (fault, text, { typed }) => {
     editor.judge(fault, text, typed);
+    kept.keep(text);
+    listKept();
+    if (!fault) followLink(text, answers.active.id);
     byId("undo").disabled = !draft.canUndo;
     byId("redo").disabled = !draft.canRedo;
   },
@@ -31,7 +38,8 @@ const draft = new Draft(program, {
     byId("drawing").setAttribute("aria-label",
       `Diagram of ${summary(graph)}. Tab goes through the vertices, Enter opens a vertex's menu`);
     sayOrigin(graph);
-    await Promise.all([places.draw(graph, text, fit), answers.update(graph, text)]);
+    drawn = places.draw(graph, text, fit);
+    await answers.update(graph, text);
   },
 });
 const editor = new Editor({
@@ -46,24 +54,41 @@ const answers = new Answers(program, { drawing, acts, places, samples: examples.
 const menu = byId("examples-menu");
 menu.append(h("option", { value: "" }, "Examples"));
 menu.append(...examples.graphs.map((e) => h("option", { value: e.name }, e.title)));
+const own = menu.appendChild(h("optgroup", { label: "Your last diagrams, kept in this browser" }));
 menu.addEventListener("change", () => {
-  const found = examples.graphs.find((e) => e.name === menu.value);
+  const found = examples.graphs.find((e) => e.name === menu.value), number = /^kept (\d+)$/.exec(menu.value)?.[1];
   if (found) open(found.text, found.source);
+  else if (number) open(kept.list()[number]);
+  else if (menu.value === "forget") kept.forget();
   menu.value = "";
+  listKept();
 });
+
+function listKept() {
+  const items = kept.list().map((text, i) => h("option", { value: `kept ${i}` }, titleOf(text)));
+  own.replaceChildren(...items, ...(items.length ? [h("option", { value: "forget" }, "Forget these")] : []));
+  own.hidden = !items.length;
+}
+
+byId("new").onclick = () => open("dag {\n}\n");
+addEventListener("beforeunload", (e) => kept.isSafe || e.preventDefault());
 byId("undo").onclick = () => draft.undo();
 byId("redo").onclick = () => draft.redo();
 byId("share").onclick = async () => {
   const link = writeLink(draft.text, answers.active.id);
   history.replaceState(null, "", link);
-  await copy(link);
-  toast("The link with this diagram in it is copied.");
+  const isFile = location.protocol === "file:";
+  await copy(isFile ? partOf(link) : link);
+  toast(isFile
+    ? "Copied: what stands behind the address. This page is a file of yours, so put it behind the address of any copy."
+    : "The link with this diagram in it is copied.");
 };
 byId("about").onclick = () => byId("about-box").showModal();
 byId("licences-box").ontoggle = () => (byId("licences-text").textContent = inlined("licences"));
 
 // ---- The text
 
+const MOST_BYTES = 2e6; // the program says the fault of a text that is only a little too long
 let origin = { source: "", graph: "" };
 
 /** Shows another diagram. */
@@ -71,6 +96,7 @@ function open(text, source = "") {
   places.reset();
   answers.forgetChoices();
   origin = { source, graph: "" };
+  kept.begin(text);
   return draft.show(text, { fit: true });
 }
 
@@ -87,19 +113,25 @@ function toggleText(isOn = document.body.classList.contains("no-text")) {
   requestAnimationFrame(() => diagram.fit());
 }
 
+/** Opens a file's text. What is far longer than a diagram's text may be isn't read. */
+async function openFile(file) {
+  if (file.size > MOST_BYTES) toast(`${file.name} has ${Math.ceil(file.size / 1e6)} MB. A diagram's text has 1 MB at most.`);
+  else open(await file.text());
+}
+
 byId("fold").onclick = () => toggleText();
 byId("open-text").onchange = async (e) => {
   const [file] = e.target.files;
-  if (file) open(await file.text());
+  if (file) openFile(file);
   e.target.value = "";
 };
 byId("save-text").onclick = () => save("diagram.dag", draft.text, "text/plain");
 document.addEventListener("dragover", (e) => e.preventDefault());
-document.addEventListener("drop", async (e) => {
+document.addEventListener("drop", (e) => {
   e.preventDefault();
   const [file] = e.dataTransfer.files;
-  if (/\.csv$/i.test(file?.name ?? "")) answers.take(file);
-  else if (file) open(await file.text());
+  if (/\.(csv|tsv|tab)$/i.test(file?.name ?? "")) answers.take(file);
+  else if (file) openFile(file);
 });
 
 // ---- The drawing
@@ -128,11 +160,13 @@ document.addEventListener("keydown", (e) => {
 async function start() {
   const { text, card } = readLink();
   if (card) answers.show(card);
-  const [first] = examples.graphs;
-  await (text === null ? open(first.text, first.source) : open(text));
+  const [first] = examples.graphs, [last] = kept.list();
+  if (text !== null) await open(text);
+  else await (last === undefined ? open(first.text, first.source) : open(last));
 }
 
 addEventListener("hashchange", () => readLink().text !== null && start());
 
 await start();
+await drawn;
 document.body.dataset.ready = String(Math.round(performance.now()));

@@ -69,9 +69,12 @@ export class Runner {
     }
   }
 
-  /** Places for a graph's outline. @returns {Promise<Map<string, {x: number, y: number}>>} */
-  async arrange(outline) {
-    return new Map((await this.#send({ outline })).places ?? []);
+  /** Places for a graph's outline; null where they take longer. @returns {Promise<Map<string, {x: number, y: number}> | null>} */
+  async arrange(outline, ms) {
+    const late = setTimeout(() => this.giveUpAfter(0), ms);
+    const { places } = await this.#send({ outline });
+    clearTimeout(late);
+    return places ? new Map(places) : null;
   }
 
   /** Ends calls that have taken longer than this, and begins with a fresh worker. */

@@ -147,6 +147,54 @@ def drags_and_takes_back(s):
     s.soon("redo", lambda: s.text() == after, s.text)
 
 
+OVERLAPS = """const boxes = [...document.querySelectorAll('#drawing .vertex .shape')].map((el) => el.getBoundingClientRect());
+    return boxes.flatMap((p, i) => boxes.slice(i + 1).filter((q) => p.left < q.right && q.left < p.right
+        && p.top < q.bottom && q.top < p.bottom)).length"""
+EXPORTED = """dag {
+bb="0,0,1,1"
+"age at the first visit" [pos="0.10,0.20"]
+smoking [exposure,pos="0.14,0.24"]
+"birth weight" [outcome,pos="0.34,0.22"]
+tar [pos="0.24,0.23"]
+"age at the first visit" -> smoking -> tar -> "birth weight"
+}
+"""
+
+
+def fits_places(s):
+    s.example("napkin")
+    s.write(EXPORTED)
+    s.soon("a pasted text's names don't overlap", lambda: len(s.names()) == 4 and s.run(OVERLAPS) == 0, lambda: s.run(OVERLAPS))
+    s.check("its places stay as they were written", s.text() == EXPORTED, s.text())
+    inside = s.run("""const pane = document.getElementById('drawing').getBoundingClientRect();
+        return [...document.querySelectorAll('#drawing .vertex .shape')].map((el) => el.getBoundingClientRect())
+            .every((p) => p.left >= pane.left && p.right <= pane.right && p.top >= pane.top && p.bottom <= pane.bottom)""")
+    s.check("and all are in view", inside)
+    s.one("#arrange").click()
+    s.soon("a layout is computed", lambda: "pos=" not in s.text(), s.text)
+    s.check("and the way back is said", "Undo" in s.one("#toast").text, s.one("#toast").text)
+    s.undo()
+    s.soon("the author's places come back", lambda: s.text() == EXPORTED and s.run(OVERLAPS) == 0, s.text)
+    time.sleep(0.5)
+    ActionChains(s.driver).drag_and_drop_by_offset(s.vertex("tar"), 10, 90).perform()
+    s.soon("dragging keeps the names apart", lambda: s.text() != EXPORTED and s.run(OVERLAPS) == 0, s.text)
+
+
+def draws_large_texts(s):
+    s.example("front_door")
+    s.run("""window.sawLate = false;
+        const drawing = document.getElementById('drawing'), see = () => (window.sawLate ||= drawing.classList.contains('late'));
+        new MutationObserver(see).observe(drawing, { attributes: true });""")
+    dense = "\n".join(f"w{i} -> w{j}" for i in range(64) for j in range(i + 1, 64))
+    s.write(f"dag {{\n{dense}\n}}\n")
+    s.check("a drawing that isn't right yet is dimmed", s.run("return window.sawLate"))
+    area = s.one("#text")
+    s.soon("the answers don't wait for it", lambda: "No outcome" in s.panel(), s.panel)
+    drawn = "return document.querySelectorAll('#drawing .vertex').length === 64 && !document.querySelector('#drawing.late')"
+    s.soon("at the latest after two seconds it is there", lambda: s.run(drawn), lambda: len(s.names()))
+    s.check("the text can be written in", area.is_enabled())
+
+
 def breaks_the_text(s):
     s.example("napkin")
     area = s.one("#text")
@@ -252,6 +300,31 @@ def uses_keys_alone(s):
     s.tab("effect")
 
 
+def names_and_deletes(s):
+    s.example("front_door")
+    s.vertex("M").click()
+    s.keys("a")
+    s.soon("a key chooses in the open menu", lambda: "M [adjusted" in s.text() and not s.all("#menu"), s.text)
+    for fresh, why in (("", "a character at least"), ('a"b', "quotation mark")):
+        s.vertex("M").click()
+        s.item("Rename")
+        s.one("#menu input").send_keys(Keys.CONTROL, "a")
+        s.one("#menu input").send_keys(fresh or Keys.BACKSPACE, Keys.ENTER)
+        s.soon("a name that can't be is refused aloud", lambda: why in s.one("#toast").text, lambda: s.one("#toast").text)
+    s.run("arguments[0].focus()", s.vertex("M"))
+    s.keys(Keys.DELETE)
+    s.soon("after a deletion a vertex has the focus", lambda: "M" not in s.names()
+           and s.run("return document.activeElement.classList.contains('vertex')"))
+    long = "x" * 90
+    s.write(f'dag {{ {long} [exposure] Y [outcome] {long} -> Y }}')
+    s.soon("a long name is cut in its shape", lambda: any(name.endswith("…") for name in s.names()), s.names)
+    s.check("nothing is pushed away", s.run("return document.documentElement.scrollWidth <= innerWidth"))
+    out = s.run("""const pane = document.getElementById('answers-pane').getBoundingClientRect();
+        return [...document.querySelectorAll('#tabs button')].filter((el) => el.getBoundingClientRect().right > pane.right
+            || el.scrollWidth > el.clientWidth).map((el) => el.id)""")
+    s.check("every tab is seen", not out, out)
+
+
 def saves_a_certificate(s):
     s.example("napkin")
     s.one("#panel details summary").click()
@@ -302,6 +375,47 @@ def drops_a_table(s):
     s.soon("levels", lambda: "small (357)" in s.panel(), s.panel)
     s.one("summary[data-key='bounds']").click()
     s.soon("bounds", lambda: "0.832546217385603774" in s.panel(), s.panel)
+
+
+def reads_other_tables(s):
+    s.example("kidney_stones")
+    s.tab("data")
+    drop = """const data = new DataTransfer();
+        data.items.add(new File([arguments[0]], "mine.csv", { type: "text/csv" }));
+        document.body.dispatchEvent(new DragEvent("drop", { dataTransfer: data, bubbles: true, cancelable: true }));"""
+    table = (EXAMPLES / "kidney_stones.csv").read_text()
+    s.run(drop, table.lower().replace(",", ";"))
+    s.soon("semicolons and other letters", lambda: "634983/762700" in s.one(".values").text, s.panel)
+    s.check("are told", "semicolons as commas" in s.one("#read-notes").text, s.panel())
+    s.check("in the command line", "mine.read.csv" in s.command(), s.command())
+    s.check("the example's table is still offered", s.all("#sample"))
+    header = table.split("\n")[0].split(",")
+    rows = [",".join("1" if name == "count" else f"{i}.18" if name == "S" else str(i % 2) for name in header) for i in range(40)]
+    s.run(drop, "\n".join([",".join(header), *rows]) + "\n")
+    s.soon("many levels are to be grouped", lambda: "Group S first" in s.panel(), s.panel)
+    s.check("no raw code is seen", " node " not in s.panel(), s.panel())
+    s.run(drop, table + ",".join("1" if name == "count" else "NA" for name in header) + "\n")
+    s.soon("missing values are told", lambda: "Missing values: NA" in s.panel(), s.panel)
+    s.run("""const data = new DataTransfer(), file = new File(["X"], "large.csv");
+        Object.defineProperty(File.prototype, "size", { configurable: true, get() { return 90000000; } });
+        data.items.add(file);
+        document.body.dispatchEvent(new DragEvent("drop", { dataTransfer: data, bubbles: true, cancelable: true }));
+        delete File.prototype.size;""")
+    s.soon("what is too large isn't read", lambda: "64 MB at most" in s.one("#toast").text, lambda: s.one("#toast").text)
+    s.one("#sample").click()
+    s.soon("the example's table comes back", lambda: "634983/762700" in s.one(".values").text, s.panel)
+
+
+def says_it_plainly(s):
+    s.tab("effect")
+    s.write("dag { X [exposure] Y [outcome] Y -> X }")
+    s.soon("no directed path", lambda: "No directed path leads from X to Y, so Y isn't changed by X." in s.panel(), s.panel)
+    s.check("the tab says what is so", s.one("#tab-effect").get_attribute("textContent") == "Effect: identifiable",
+            s.one("#tab-effect").get_attribute("textContent"))
+    s.write("dag { X [exposure] Y X -> Y }")
+    s.soon("no raw code", lambda: "No outcome is chosen" in s.panel() and "fault" not in s.panel(), s.panel)
+    s.example("bow")
+    s.soon("the plain reason first", lambda: s.panel().split("\n")[1].startswith("What is observed doesn't settle"), s.panel)
 
 
 def adjusts_and_compares(s):
@@ -367,7 +481,7 @@ def lists_what_is_implied(s):
     s.soon("a table that lacks a column", lambda: "no column named B" in s.panel(), s.panel)
     s.check("the pairs stay", s.printed() == "A from C given {B}", s.printed())
     s.example("front_door")
-    s.soon("nothing to test", lambda: "Nothing to test" in s.panel(), s.panel)
+    s.soon("nothing to test", lambda: "No independence to test" in s.panel(), s.panel)
 
 
 def takes_trials(s):
@@ -421,6 +535,24 @@ def saves_the_drawing_and_a_link(s):
     link = s.run("return location.href")
     browser.open_page(s.driver, fragment="#" + link.split("#")[1])
     s.check("the link carries the diagram", s.text() == text, s.text())
+
+
+def keeps_the_work(s):
+    s.example("front_door")
+    s.one("#share").click()
+    time.sleep(0.3)
+    s.write("dag { X [exposure] Y [outcome] X -> kept -> Y }")
+    s.soon("a link's address follows", lambda: "kept" in s.run("return location.href"), lambda: s.run("return location.href"))
+    browser.open_page(s.driver)
+    s.check("the diagram is kept", "kept" in s.text(), s.text())
+    s.one("#new").click()
+    s.soon("an empty one", lambda: s.text() == "dag {\n}\n" and not s.names(), s.text)
+    own = s.run("return [...document.querySelectorAll('#examples-menu optgroup option')].map((el) => el.textContent)")
+    s.check("the last ones are listed", any("kept" in line for line in own), own)
+    browser.example(s.driver, "kept 0")
+    s.soon("and opened again", lambda: "kept" in s.names(), s.text)
+    browser.example(s.driver, "forget")
+    s.check("and forgotten", not s.all("#examples-menu optgroup option"))
 
 
 def is_accessible(s):
@@ -510,15 +642,18 @@ def works_by_touch():
             time.sleep(0.3)
             wide = s.run("return document.documentElement.scrollWidth - innerWidth")
             s.check(f"nothing is wider than a phone: {tab}", wide <= 0, wide)
+        right = s.run("return document.getElementById('about').getBoundingClientRect().right - innerWidth")
+        s.check("the head's buttons are seen on a phone", right <= 0, right)
     finally:
         driver.quit()
     return s
 
 
 PARTS = [
-    reads_a_formula, drags_and_takes_back, breaks_the_text, chooses_sets, draws, uses_keys_alone, saves_a_certificate,
-    drops_a_table, adjusts_and_compares, shows_a_hedge, lists_what_is_implied, takes_trials, asks_under_a_condition,
-    saves_the_drawing_and_a_link, is_accessible, sends_nothing, is_served,
+    reads_a_formula, drags_and_takes_back, fits_places, draws_large_texts, breaks_the_text, chooses_sets, draws,
+    uses_keys_alone, names_and_deletes, saves_a_certificate, drops_a_table, reads_other_tables, says_it_plainly,
+    adjusts_and_compares, shows_a_hedge, lists_what_is_implied, takes_trials, asks_under_a_condition,
+    saves_the_drawing_and_a_link, keeps_the_work, is_accessible, sends_nothing, is_served,
 ]
 
 

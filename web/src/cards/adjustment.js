@@ -3,7 +3,7 @@ import { adjustmentLatex } from "../explain.js";
 import { readFault } from "../faults.js";
 import { DIAGRAM } from "../names.js";
 import { listWord, openPath, readSet } from "../text/printed.js";
-import { formulaBox, isRefused, listed, pathMarks, refused, source, verdict, withRole } from "./parts.js";
+import { formulaBox, isRefused, listed, pathMarks, printedOf, refused, source, verdict, withRole } from "./parts.js";
 
 const LIST = ["adjust", DIAGRAM];
 
@@ -98,7 +98,7 @@ function tested(found, isOnTest) {
     testVerdict(found),
     !isOnTest && said.status < 2
       && h("p", {}, button("Show this in the drawing", show, { data: { key: "show test" } })),
-    source(test, said.out + said.err));
+    source(test, printedOf(said)));
 }
 
 function testVerdict({ tested: said, path, forbidden }) {
@@ -112,4 +112,5 @@ function testVerdict({ tested: said, path, forbidden }) {
 /** @type {import("./parts.js").Card} */
 export const adjustment = {
   id: "adjustment", title: "Adjust", hasDot: true, ahead: [LIST], answer,
+  dotWords: { yes: "a set is admissible", no: "no set is admissible" },
 };

@@ -4,7 +4,7 @@ import { summary } from "../diagram/describe.js";
 import { readFault } from "../faults.js";
 import { DIAGRAM, SECOND } from "../names.js";
 import { readDifference, readGraph } from "../text/printed.js";
-import { listed, source, verdict } from "./parts.js";
+import { listed, printedOf, source, verdict } from "./parts.js";
 
 const WORDS = ["equivalent", DIAGRAM, SECOND];
 const PAUSE_MS = 150;
@@ -22,7 +22,7 @@ async function answer(ctx) {
   return {
     dot: "", marks: own,
     view: () => h("div", {}, judged(said, difference), secondHead(ctx), secondText(ctx),
-      second && picture(second, places, other), source(WORDS, said.out + said.err)),
+      second && picture(second, places, other), source(WORDS, printedOf(said))),
   };
 }
 

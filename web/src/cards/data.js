@@ -1,13 +1,14 @@
-import { button, h } from "../dom.js";
+import { button, h, save } from "../dom.js";
 import { readFault } from "../faults.js";
 import { DIAGRAM } from "../names.js";
-import { headerOf, levelsOf, readRows } from "../text/csv.js";
+import { headerOf, levelsOf, missingIn, readRows, tooFine } from "../text/csv.js";
 import { readCells } from "../text/printed.js";
-import { fold, source, verdict } from "./parts.js";
+import { fold, printedOf, source, verdict } from "./parts.js";
 import { dotPlot } from "./plot.js";
 
 const COUNT_NAMES = /^(count|counts|n|freq|frequency|weight)$/i;
 const MOST_LEVELS = 12;
+const MOST_DIGITS = 15; // of a fraction in the table
 
 /** @param {import("./parts.js").Context} ctx */
 async function answer(ctx) {
@@ -44,20 +45,25 @@ const invitation = (ctx) => h("div", {},
 
 /** Where a first table is dropped or chosen; an example's is offered where it has a column for each vertex. */
 export function asksForTable(ctx) {
-  const { observed, samples } = ctx;
-  const holdsAll = ({ columns }) => columns.filter((c) => observed.includes(c)).length === observed.length;
-  const sample = samples.find(holdsAll);
   return [
     dropZone(ctx, [h("b", {}, "Drop a CSV file here"), ", or click to choose one. It stays in this page."]),
-    sample && h("p", {},
-      button(`Use ${sample.name}`, () => ctx.take(new File([sample.text], sample.name)), { id: "sample" }),
-      " from the examples"),
+    sampleRow(ctx),
   ];
+}
+
+/** An example's table that has a column for each vertex, unless it's the one that was taken. */
+function sampleRow(ctx) {
+  const { observed, samples, memory } = ctx;
+  const holdsAll = ({ columns }) => columns.filter((c) => observed.includes(c)).length === observed.length;
+  const sample = observed.length ? samples.find(holdsAll) : undefined;
+  return sample && memory.csv?.text !== sample.text && h("p", {},
+    button(`Use ${sample.name}`, () => ctx.take(new File([sample.text], sample.name)), { id: "sample" }),
+    " from the examples");
 }
 
 function dropZone({ take }, content) {
   const choose = (e) => e.target.files[0] && take(e.target.files[0]);
-  const input = h("input", { type: "file", accept: ".csv,text/csv", id: "csv", class: "unseen", onchange: choose });
+  const input = h("input", { type: "file", accept: ".csv,.tsv,.tab,text/csv,text/tab-separated-values", id: "csv", class: "unseen", onchange: choose });
   const zone = h("label", {
     class: "drop", for: "csv", ondragover: () => zone.classList.add("over"),
     ondragleave: () => zone.classList.remove("over"), ondrop: () => zone.classList.remove("over"),
@@ -75,30 +81,65 @@ function tableRow(ctx) {
   const option = (column) => h("option", { value: column, selected: column === memory.count }, column);
   return [
     dropZone(ctx, [h("b", {}, memory.csv.name), ". Drop another file here, or click."]),
+    sampleRow(ctx),
+    howItWasRead(ctx),
     h("label", { class: "count" }, "Count column ", h("select", { data: { key: "count" }, onchange: choose },
       h("option", { value: "" }, "none: each row counts 1"), others.map(option))),
     fold(ctx, "levels", "What is in the file", () => levels(ctx)),
   ];
 }
 
+/** What was changed in a file so that the program reads it, and which of its levels stand for nothing known. */
+function howItWasRead(ctx) {
+  const { csv } = ctx.memory, missing = missingIn(tableLevels(ctx)), { mark, renamed = [] } = csv.how ?? {};
+  const marks = { ";": "semicolons", "\t": "tabs" };
+  const notes = [
+    csv.how && h("li", {}, "Read as ", h("b", {}, csv.name), ":",
+      marks[mark] ? ` ${marks[mark]} as commas${renamed.length ? ";" : "."}` : "",
+      renamed.map(([from, to], i) => [i ? ", " : " ", h("code", {}, from), " as ", h("code", {}, to)]), " ",
+      button("Save it", () => save(csv.name, csv.text, "text/csv"))),
+    ...missing.map(([column, level, sum]) => h("li", {}, "Missing values: ", h("code", {}, level || "(empty)"), " in ",
+      h("b", {}, column), ` (${sum}) is counted as a level like any other. Drop these rows, or say why they may stay.`)),
+  ].filter(Boolean);
+  return notes.length ? h("ul", { class: "notes", id: "read-notes" }, notes) : null;
+}
+
+const readTables = new WeakMap();
+
+/** The levels of a table's columns that are vertices; a table is read once for a choice of columns. */
+function tableLevels({ memory, observed }) {
+  const { csv, count = "" } = memory, key = JSON.stringify([observed, count]), kept = readTables.get(csv);
+  if (kept?.key === key) return kept.levels;
+  const rows = kept?.rows ?? readRows(csv.text), columns = rows[0].filter((c) => observed.includes(c));
+  const levels = levelsOf(rows, columns, count);
+  readTables.set(csv, { key, rows, levels });
+  return levels;
+}
+
 /** The levels of the columns that are vertices, with their counts. */
-function levels({ memory, observed }) {
-  const rows = readRows(memory.csv.text), columns = rows[0].filter((c) => observed.includes(c));
+function levels(ctx) {
+  const found = tableLevels(ctx), { rows } = readTables.get(ctx.memory.csv);
   const line = ([column, sums]) => {
     const list = [...sums], shown = list.slice(0, MOST_LEVELS).map(([level, sum]) => `${level} (${sum})`).join(", ");
     return h("tr", {}, h("th", { scope: "row" }, column),
       h("td", {}, shown, list.length > MOST_LEVELS ? ` and ${list.length - MOST_LEVELS} more` : ""));
   };
   return h("table", {}, h("caption", {}, `${rows.length - 1} rows; levels with their counts, as this page reads them`),
-    h("tbody", {}, [...levelsOf(rows, columns, memory.count)].map(line)));
+    h("tbody", {}, [...found].map(line)));
 }
 
 const notIdentifiable = ({ ctx, words, bounds }) => h("div", {}, tableRow(ctx),
   verdict("no", "Not identifiable", "The table isn't read. See Effect for the two models that differ."),
   source(words, bounds.out));
 
-const noValue = ({ ctx, words, bounds }) => h("div", {}, tableRow(ctx),
-  verdict("no", "No value", readFault(bounds.err).sentence), source(words, bounds.err));
+function noValue({ ctx, words, bounds }) {
+  const fault = readFault(bounds.err), fine = fault.table === "evaluation" && fault.number === 1 ? tooFine(tableLevels(ctx)) : [];
+  const many = fine.map(([column, count]) => `${column} has ${count} different values`).join(", ");
+  return h("div", {}, tableRow(ctx), fine.length
+    ? verdict("no", `Group ${fine.map(([column]) => column).join(" and ")} first`, `${many}, so most combinations have no row. `
+      + "Put a few groups in their place in the table, and take it again.")
+    : verdict("no", "No value", fault.sentence), source(words, printedOf(bounds)));
+}
 
 // ---- The effect
 
@@ -117,10 +158,13 @@ function values({ ctx, words, exactWords, bounds, exact }) {
     isExact ? null : h("p", {}, readFault(exact.err).sentence));
 }
 
+/** A fraction of many digits stands in the printed text alone. */
+const shortened = (text) => (text.includes("/") && text.length > MOST_DIGITS ? "below" : text);
+
 function valuesTable(cells, isExact) {
   const head = ["when set", "outcome", "value", isExact ? "exact" : "bounds that hold"];
   const row = (c) => h("tr", {}, h("td", {}, c.x || "–"), h("td", {}, c.y),
-    h("td", { class: "number" }, c.value.toFixed(4)), h("td", { class: "number" }, c.text));
+    h("td", { class: "number" }, c.value.toFixed(4)), h("td", { class: "number" }, shortened(c.text)));
   return h("table", { class: "values" },
     h("thead", {}, h("tr", {}, head.map((text) => h("th", { scope: "col" }, text)))),
     h("tbody", {}, cells.map(row)));

@@ -17,10 +17,19 @@ async function answer(ctx) {
   if (isRefused(said)) return refused(words, said, () => (names.length ? condition(ctx, given) : null));
   if (said.status === 1) return hedge(ctx, words, said, condition(ctx, given));
   const tex = latex.out.trimEnd().split("\n").filter((line) => !line.startsWith("free "));
+  const isUnchanged = !names.length && (await leavesUnchanged(ctx));
   return {
-    dot: "yes", view: () => view(ctx, words, said.out, tex, given),
+    dot: "yes", view: () => view(ctx, words, said.out, tex, given, isUnchanged),
     marks: names.length ? { vertices: new Map(names.map((name) => [name, "chosen"])) } : {},
   };
+}
+
+/** Whether setting the exposure leaves the outcome as it is: the third rule with nothing seen, which the program decides. */
+async function leavesUnchanged(ctx) {
+  const xs = withRole(ctx, "exposure"), ys = withRole(ctx, "outcome");
+  if (!xs.length || !ys.length) return false;
+  const sets = ["--y", listWord(ys), "--z", listWord(xs), "--do", "{}", "--given", "{}"];
+  return (await ctx.ask(["rule", DIAGRAM, "--rule", "3", ...sets])).status === 0;
 }
 
 /** The choice of a condition: the effect among those with the same values of some variables. */
@@ -30,7 +39,7 @@ function condition(ctx, given) {
     h("div", { class: "pickers" }, given.row()), howToChoose()));
 }
 
-function view(ctx, words, printed, tex, given) {
+function view(ctx, words, printed, tex, given, isUnchanged) {
   const xs = withRole(ctx, "exposure"), ys = withRole(ctx, "outcome"), notes = notesOn(printed, xs, ys);
   const [effect] = printed.split(" = "), among = given.names.length ? [" given ", listed(given.names)] : "";
   const claim = xs.length
@@ -39,6 +48,8 @@ function view(ctx, words, printed, tex, given) {
     : ["No exposure is marked, so this is the plain distribution of ", listed(ys), among, "."];
   return h("div", {},
     verdict("yes", "Identifiable", claim),
+    isUnchanged ? h("p", { class: "reason" }, "No directed path leads from ", listed(xs), " to ", listed(ys), ", so ", listed(ys),
+      ys.length > 1 ? " aren't" : " isn't", " changed by ", listed(xs), ".") : null,
     formulaBox(tex, printed),
     notes.length ? h("ul", { class: "notes" }, notes) : null,
     source(words, printed),
@@ -72,4 +83,7 @@ function notesOn(printed, xs, ys) {
 }
 
 /** @type {import("./parts.js").Card} */
-export const effect = { id: "effect", title: "Effect", hasDot: true, ahead: [IDENTIFY, IN_LATEX], answer };
+export const effect = {
+  id: "effect", title: "Effect", hasDot: true, dotWords: { yes: "identifiable", no: "not identifiable" },
+  ahead: [IDENTIFY, IN_LATEX], answer,
+};

@@ -19,13 +19,13 @@ export function hedge(ctx, words, answer, ...more) {
 function view(ctx, words, printed, found, more) {
   const { asked, effect, big, small, roots } = found;
   return h("div", {},
-    verdict("no", asked ? "Not identified" : "Not identifiable", "Below are two positive finite models that fit the "
-      + "diagram. They agree on all observations and differ on ", h("code", {}, effect),
-    ", so no formula over what is observed equals it in both.",
+    verdict("no", asked ? "Not identified" : "Not identifiable", "What is observed doesn't settle ", h("code", {}, effect),
+    ": two positive finite models fit the diagram, agree on all observations, and differ on it. So no formula over what is "
+      + "observed equals it in both.",
     asked ? [" For ", h("code", {}, asked), " no formula was found; more isn't claimed of it."] : ""),
-    eventTable(found, parse(effect).doing),
     h("p", { class: "legendline" }, h("span", { class: "swatch hedge-big" }), "hedge ", listed(big),
       h("span", { class: "swatch hedge-small" }), "over ", listed(small), "; roots ", listed(roots)),
+    eventTable(found, parse(effect).doing),
     h("div", { class: "scroll" }, modelsTable(found)),
     h("p", { class: "small-print" }, "h and k are bits that a vertex carries; + is addition without carry (1 + 1 = 0). "
       + "Hidden causes, each 0 or 1: ", found.causes.map(causeText), "."),

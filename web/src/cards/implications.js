@@ -31,7 +31,7 @@ function view(found) {
 
 function head(pairs) {
   if (!pairs.length) {
-    return verdict("no", "Nothing to test", "No two vertices are separated by any set, so the diagram demands no "
+    return verdict("no", "No independence to test", "No two vertices are separated by any set, so the diagram demands no "
       + "independence of what is observed.");
   }
   return verdict("yes", pairs.length === 1 ? "One independence" : `${pairs.length} independences`,
@@ -69,7 +69,7 @@ function dataPart({ ctx, words, counted }) {
   const change = h("p", {}, h("b", {}, csv.name), " ",
     button("Another file or column of counts", () => ctx.show("data"), { data: { key: "to data" } }));
   if (counted.status !== 0) {
-    return h("div", { class: "stack" }, title, change, verdict("ask", readFault(counted.err).sentence), source(words, counted.err));
+    return h("div", { class: "stack" }, title, change, verdict("ask", readFault(counted.err).sentence), source(words, ""));
   }
   return h("div", { class: "stack" }, title, change,
     verdict("warn", "A difference is no test", "For levels a, b and w it is N(a,b,w)·N(w) − N(a,w)·N(b,w), N counting "

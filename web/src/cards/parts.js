@@ -13,7 +13,7 @@ import { readPath } from "../text/printed.js";
  */
 /**
  * A card asks the program and shows what it printed. `ahead` are the questions that it will ask by the text alone.
- * @typedef {{id: string, title: string, hasDot?: boolean, ahead?: string[][],
+ * @typedef {{id: string, title: string, hasDot?: boolean, dotWords?: {yes: string, no: string}, ahead?: string[][],
  *   answer: (ctx: Context) => Promise<Shown>}} Card
  */
 /**
@@ -39,17 +39,20 @@ const shellWord = (word) => (/^[\w./,=-]+$/.test(word) ? word : `'${word.replace
 /** The words as a command line. */
 export const commandOf = (words) => ["causal", ...words].map(shellWord).join(" ");
 
-/** The command line that gives an answer, and the text as the program printed it. */
+/** The command line that gives an answer, and the text as the program printed it; none where it's a fault that is told. */
 export function source(words, printed) {
   const line = commandOf(words);
   const shown = line.split(" ").map((word, i) => [i ? " " : "", h("span", { class: "word" }, word)]);
   return h("div", { class: "source" },
     h("div", { class: "command" },
       h("code", {}, h("span", { class: "prompt", "aria-hidden": "true" }, "$ "), shown), copyButton(line, "command")),
-    h("div", { class: "printed" },
+    printed && h("div", { class: "printed" },
       h("pre", { tabindex: 0, role: "region", "aria-label": "Printed by the program" }, printed.trimEnd()),
       copyButton(printed, "answer")));
 }
+
+/** What was printed; nothing where it's a fault, since a sentence tells that. */
+export const printedOf = ({ out, err }) => out + (readFault(err).number ? "" : err);
 
 /** @param {"yes" | "no" | "ask" | "warn"} kind */
 export const verdict = (kind, title, ...text) =>
@@ -78,7 +81,8 @@ export function refused(words, answer, choices = () => null) {
   const help = "Click a vertex (or focus it and press e or o) to mark it as the exposure or the outcome.";
   return {
     dot: "",
-    view: () => h("div", {}, choices(), verdict("ask", fault.sentence, ...(mustMark ? [help] : [])), source(words, answer.err)),
+    view: () => h("div", {}, choices(), verdict("ask", fault.sentence, ...(mustMark ? [help] : [])),
+      source(words, printedOf(answer))),
   };
 }
 

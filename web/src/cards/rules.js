@@ -3,7 +3,7 @@ import { lostEdges, ruleGraph } from "../explain.js";
 import { readFault } from "../faults.js";
 import { openPath } from "../text/printed.js";
 import { inGraph, ruleMarks, ruleWords } from "./derivation.js";
-import { pathMarks, source, verdict, withRole } from "./parts.js";
+import { pathMarks, printedOf, source, verdict, withRole } from "./parts.js";
 import { chosenSet, howToChoose } from "./sets.js";
 
 const RULES = [
@@ -31,7 +31,7 @@ async function answer(ctx) {
         h("select", { data: { key: "rule number" }, onchange: choose },
           RULES.map((text, i) => h("option", { value: i + 1, selected: i + 1 === n }, text)))),
       h("div", { class: "pickers" }, [y, z, doing, given].map((set) => set.row())), howToChoose(),
-      judged(said, path, where), source(words, said.out + said.err)),
+      judged(said, path, where), source(words, printedOf(said))),
   };
 }
 

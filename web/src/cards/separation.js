@@ -2,7 +2,7 @@ import { h } from "../dom.js";
 import { readFault } from "../faults.js";
 import { DIAGRAM } from "../names.js";
 import { listWord, openPath } from "../text/printed.js";
-import { listed, pathMarks, source, verdict, withRole } from "./parts.js";
+import { listed, pathMarks, printedOf, source, verdict, withRole } from "./parts.js";
 import { chosenSet, howToChoose } from "./sets.js";
 
 /** @param {import("./parts.js").Context} ctx */
@@ -20,7 +20,7 @@ async function answer(ctx) {
       vertices: new Map(classes.flatMap(([set, cls]) => set.names.map((name) => [name, cls]))),
     },
     view: () => h("div", {}, h("div", { class: "pickers" }, x.row(), y.row(), w.row()), howToChoose(),
-      judged(said, path, x, y, w), source(words, said.out + said.err)),
+      judged(said, path, x, y, w), source(words, printedOf(said))),
   };
 }
 

@@ -2,7 +2,7 @@ import { drag } from "d3-drag";
 import { event as d3event, select } from "d3-selection";
 import { zoom, zoomIdentity } from "d3-zoom";
 import { svg } from "../dom.js";
-import { bend, curve, halfWidth, HEIGHT, keyOf, rim } from "./geometry.js";
+import { bend, curve, halfWidth, HEIGHT, keyOf, rim, shownName } from "./geometry.js";
 import { describe } from "./describe.js";
 import { routed } from "./route.js";
 
@@ -124,13 +124,19 @@ export class Diagram {
     this.#render();
   }
 
+  /** The pixels that a drawing may take. */
+  room() {
+    const { width, height } = this.element.getBoundingClientRect();
+    return { width: Math.max(1, width - 60), height: Math.max(1, height - 90) };
+  }
+
   /** Fits the view to the drawing. */
   fit() {
     this.element.removeAttribute("viewBox");
     const box = this.element.getBoundingClientRect();
     if (!this.target.size || !box.width) return;
     const { left, right, top, bottom } = this.bounds(this.target);
-    const k = Math.min(1.3, (box.width - 60) / (right - left), (box.height - 90) / (bottom - top));
+    const room = this.room(), k = Math.min(1.3, room.width / (right - left), room.height / (bottom - top));
     const x = box.width / 2 - (k * (left + right)) / 2, y = box.height / 2 - (k * (top + bottom)) / 2;
     select(this.element).call(this.#zoom.transform, zoomIdentity.translate(x, y).scale(k));
   }
@@ -294,10 +300,10 @@ export class Diagram {
     const acts = Boolean(this.on.vertex);
     const item = {
       halo: svg("rect", { class: "halo" }), shape: svg("rect", { class: "shape" }),
-      mark: svg("path", { class: "mark" }), text: svg("text", { dy: "0.35em" }, name),
+      mark: svg("path", { class: "mark" }), text: svg("text", { dy: "0.35em" }, shownName(name)),
     };
     item.group = svg("g", acts ? { tabindex: 0, role: "button", "aria-haspopup": "menu" } : {},
-      item.halo, item.shape, item.mark, item.text);
+      item.halo, item.shape, item.mark, item.text, shownName(name) === name ? null : svg("title", {}, name));
     const selection = select(item.group).datum(name);
     if (this.on.moved) selection.call(this.#drag());
     selection.on("click", () => d3event.defaultPrevented || this.on.vertex?.(name, item.group));

@@ -6,11 +6,16 @@ export const HEIGHT = 36;
 
 const ruler = globalThis.document?.createElement("canvas").getContext("2d");
 
+const MOST_LETTERS = 32;
+
+/** What a vertex's shape shows of its name; the whole one is in its title. */
+export const shownName = (name) => ([...name].length > MOST_LETTERS ? `${[...name].slice(0, MOST_LETTERS - 2).join("")} …` : name);
+
 /** Half the width of a vertex's shape. @param {import("../text/printed.js").Vertex} vertex */
 export function halfWidth({ name, role }) {
   ruler.font = "500 15px system-ui, sans-serif";
   const mark = role === "exposure" || role === "outcome" ? 18 : 0;
-  return Math.max(22, (ruler.measureText(name).width + mark) / 2 + 13);
+  return Math.max(22, (ruler.measureText(shownName(name)).width + mark) / 2 + 13);
 }
 
 /** What a layout has to know of a graph: bidirected edges don't count. */

@@ -61,14 +61,20 @@ export class Acts {
 
   /** Gives a vertex another name. */
   rename(name, fresh) {
-    if (!isName(fresh) || fresh === name) return this.diagram.focus(name);
+    if (fresh === name) return this.diagram.focus(name);
+    if (!isName(fresh)) {
+      toast(fresh ? "A name can't have a quotation mark in it." : `A name has a character at least; ${name} stays.`);
+      return this.diagram.focus(name);
+    }
     if (this.graph.vertices.some((v) => v.name === fresh)) return toast(`There is a vertex named ${fresh} already.`);
     this.diagram.target.set(fresh, this.diagram.target.get(name));
     return this.#propose(rename(this.#text, name, fresh), fresh);
   }
 
+  /** Takes a vertex away; the focus goes to the one that stood behind it. */
   removeVertex(name) {
-    return this.#propose(removeVertex(this.#text, this.graph, name));
+    const names = this.graph.vertices.map((v) => v.name), i = names.indexOf(name);
+    return this.#propose(removeVertex(this.#text, this.graph, name), names[i + 1] ?? names[i - 1]);
   }
 
   addEdge(/** @type {Edge} */ edge) {
@@ -91,8 +97,10 @@ export class Acts {
     return this.keepPlaces(name);
   }
 
-  /** Drops the places of the text, so that a layout is computed. */
-  arrange() {
-    return this.#propose(change(this.#text, new Map(this.graph.vertices.map((v) => [v.name, { pos: null }]))));
+  /** Drops the places of the text, so that a layout is computed; they come back by undo. */
+  async arrange() {
+    this.places.forget();
+    const text = this.#text, bare = change(text, new Map(this.graph.vertices.map((v) => [v.name, { pos: null }])));
+    if ((await this.#propose(bare)) && bare !== text) toast("Arranged anew. Undo brings the places of the text back.");
   }
 }

@@ -8,7 +8,10 @@ export function openMenu(at, label, items, back) {
   closeMenu();
   const box = h("div", { class: "menu", role: "menu", "aria-label": label, id: "menu" },
     h("div", { class: "menu-title", "aria-hidden": "true" }, label), items.map(itemButton));
-  box.addEventListener("keydown", (e) => moveInMenu(e, box, back));
+  box.addEventListener("keydown", (e) => {
+    moveInMenu(e, box, back);
+    chooseByKey(e, items);
+  });
   show(box, at);
   box.querySelector("button")?.focus();
 }
@@ -23,6 +26,16 @@ function itemButton({ text, act, key, checked, cls }) {
       act();
     },
   }, text, key && h("kbd", { "aria-hidden": "true" }, key === "Delete" ? "Del" : key));
+}
+
+/** The letter of an item chooses it. */
+function chooseByKey(e, items) {
+  if (e.ctrlKey || e.metaKey || e.altKey) return;
+  const found = items.find(({ key }) => key === e.key || (key === "Delete" && e.key === "Backspace"));
+  if (!found) return;
+  e.preventDefault();
+  closeMenu();
+  found.act();
 }
 
 function moveInMenu(e, box, back) {
