@@ -172,7 +172,7 @@ def fits_places(s):
     s.check("and all are in view", inside)
     s.one("#arrange").click()
     s.soon("a layout is computed", lambda: "pos=" not in s.text(), s.text)
-    s.check("and the way back is said", "Undo" in s.one("#toast").text, s.one("#toast").text)
+    s.soon("and the way back is said", lambda: "Undo" in s.one("#toast").text, lambda: s.one("#toast").text)
     s.undo()
     s.soon("the author's places come back", lambda: s.text() == EXPORTED and s.run(OVERLAPS) == 0, s.text)
     time.sleep(0.5)
