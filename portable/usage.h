@@ -14,7 +14,7 @@ static const char usage[] =
     "    equivalent FILE FILE2 [--x L] [--y L] [--given L]\n"
     "    implications FILE [COUNTS] [--count NAME]\n"
     "    survey N\n"
-    "    surrogate FILE [--x L] [--y L] --experiments E\n"
+    "    surrogate FILE [--x L] [--y L] --experiments E [--models]\n"
     "\n"
     "FILE is a graph text, in the form of DAGitty; - is standard input. A list L is names joined by\n"
     "commas, {} for none. Where x and y aren't listed, they are the vertices marked exposure and\n"

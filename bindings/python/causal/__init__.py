@@ -1,8 +1,9 @@
 """Answers about causal diagrams with hidden confounders, from the proved library of `causal`.
 
 A `Diagram` is asked: whether sets are separated, whether a rule of do-calculus applies, for a formula of an effect or a hedge, also
-from experiments on other variables, for adjustment sets, for what it implies of data, and for effects in data. What each answer is proved to say stands in its class and method. Nothing about
-causality is computed in Python: each question is a call of the library, and its printed answer is read.
+from experiments on other variables, for adjustment sets, for what it implies of data, and for effects in data. What each answer is
+proved to say stands in its class and method. Nothing about causality is computed in Python: each question is a call of the library,
+and its printed answer is read.
 
 >>> import causal
 >>> diagram = causal.Diagram("dag { X -> M -> Y X <-> Y }")
@@ -10,7 +11,7 @@ causality is computed in Python: each question is a call of the library, and its
 P(Y|do(X)) = sum{M} P(M|X) * (sum{X} P(X) * P(Y|X,M))
 """
 from importlib import import_module as _import_module
-from typing import TYPE_CHECKING, Any
+from typing import TYPE_CHECKING, Any, List
 
 from causal._library import Reply, run
 from causal.answers import Adjustment, AdjustmentSets, Check, Equivalence, Path, Refusal, RuleAnswer, Separation
@@ -29,13 +30,14 @@ from causal.errors import (
     UnreadableAnswer,
 )
 from causal.formula import Formula, Hedge, HedgeSets, Term
-from causal.surrogates import Stopped
+from causal.surrogates import Stopped, StoppedHedge
 from causal.version import VERSION
 
 if TYPE_CHECKING:
-    from causal.bootstrap import Bootstrap, ContrastInterval, Interval
-    from causal.effects import Contrast, Effect, Effects, Value
+    from causal.bootstrap import Bootstrap, ContrastInterval, Interval, MeanInterval
+    from causal.effects import Contrast, Effect, Effects, Mean, Spread, Value
     from causal.implications import Difference, Implication, Implications
+    from causal.independence import IndependenceTest, IndependenceTests
 
 __version__ = VERSION
 
@@ -61,8 +63,12 @@ __all__ = [
     "HedgeSets",
     "Implication",
     "Implications",
+    "IndependenceTest",
+    "IndependenceTests",
     "Interval",
     "LibraryMissing",
+    "Mean",
+    "MeanInterval",
     "MissingValues",
     "NotIdentifiable",
     "Path",
@@ -71,7 +77,9 @@ __all__ = [
     "RequestError",
     "RuleAnswer",
     "Separation",
+    "Spread",
     "Stopped",
+    "StoppedHedge",
     "TargetError",
     "Term",
     "UnreadableAnswer",
@@ -84,13 +92,18 @@ _LATER = {
     "Bootstrap": "causal.bootstrap",
     "ContrastInterval": "causal.bootstrap",
     "Interval": "causal.bootstrap",
+    "MeanInterval": "causal.bootstrap",
     "Contrast": "causal.effects",
     "Effect": "causal.effects",
     "Effects": "causal.effects",
+    "Mean": "causal.effects",
+    "Spread": "causal.effects",
     "Value": "causal.effects",
     "Difference": "causal.implications",
     "Implication": "causal.implications",
     "Implications": "causal.implications",
+    "IndependenceTest": "causal.independence",
+    "IndependenceTests": "causal.independence",
 }
 
 
@@ -98,3 +111,7 @@ def __getattr__(name: str) -> Any:
     if name not in _LATER:
         raise AttributeError(f"module 'causal' has no attribute {name!r}")
     return getattr(_import_module(_LATER[name]), name)
+
+
+def __dir__() -> List[str]:
+    return sorted({*globals(), *__all__})

@@ -3,6 +3,7 @@ from __future__ import annotations
 
 import functools
 import os
+import sys
 from array import array
 from itertools import accumulate
 from typing import Any, Callable, Dict, Iterable, List, Mapping, NamedTuple, Optional, Tuple, Union
@@ -10,12 +11,18 @@ from typing import Any, Callable, Dict, Iterable, List, Mapping, NamedTuple, Opt
 from causal.errors import LibraryMissing
 
 Text = Union[str, bytes]
+# Texts by the names of inputs. (Any: a mapping's keys are of one type alone, where types are checked.)
+Inputs = Mapping[Any, Text]
 
 OUT_ROOM = 1 << 14
 ERR_ROOM = 1 << 10
 NOT_TEXT = 9
 NO_MEMORY = (7, 8, 10)
 NOT_KEPT = 11
+# The library beside this file, as its platform names one.
+LIBRARY_NAMES = ("libcausal.so", "libcausal.dylib", "causal.dll")
+# The code of `array` for numbers as wide as a size of C.
+SIZE_CODE = "Q" if sys.maxsize > 2**32 else "I"
 
 
 class Reply(NamedTuple):
@@ -34,30 +41,35 @@ class Reply(NamedTuple):
 def library_path() -> str:
     """Where the shared library is: the one that `CAUSAL_LIBRARY` names, else the package's own, else that of the source tree.
 
+    >>> import os
     >>> from causal._library import library_path
-    >>> library_path().endswith(".so")
+    >>> os.path.isfile(library_path())
     True
     """
     here = os.path.dirname(os.path.abspath(__file__))
     places = [
         os.environ.get("CAUSAL_LIBRARY", ""),
-        os.path.join(here, "libcausal.so"),
+        *(os.path.join(here, name) for name in LIBRARY_NAMES),
         os.path.join(here, "..", "..", "out", "libcausal.so"),
     ]
     for place in places:
         if place and os.path.isfile(place):
             return place
-    raise LibraryMissing("there is no libcausal.so: run bindings/build at the top of the repository, and install the package again")
+    raise LibraryMissing(
+        "there is no compiled library beside the package: install it by pip, which compiles one,"
+        " or name one in the environment variable CAUSAL_LIBRARY"
+    )
 
 
 class _Calls(NamedTuple):
-    """The module `ctypes`, and the calls of the library."""
+    """The module `ctypes`, and the calls of the library; `inputs` is None where it is of a version that has no such call."""
 
     ctypes: Any
     run: Any
     keep: Any
     separated: Any
     ask: Any
+    inputs: Any
 
 
 @functools.lru_cache(maxsize=None)
@@ -65,28 +77,75 @@ def _load() -> _Calls:
     """The calls of the library. A `CDLL` lets other threads run during a call, and each call has memory of its own."""
     import ctypes
 
+    path = library_path()
     try:
-        library = ctypes.CDLL(library_path())
-        calls = _Calls(ctypes, library.causal_run, library.causal_keep, library.causal_separated, library.causal_ask)
+        library = ctypes.CDLL(path)
+        known = library.causal_run, library.causal_keep, library.causal_separated, library.causal_ask
     except (OSError, AttributeError) as cause:
-        raise LibraryMissing(f"the library at {library_path()} can't be used: {cause}") from cause
+        raise LibraryMissing(f"the library at {path} can't be used: {cause}") from cause
+    calls = _Calls(ctypes, *known, getattr(library, "causal_inputs", None))
     size, spans, room, bits = ctypes.c_size_t, ctypes.c_void_p, ctypes.c_char_p, ctypes.c_uint64
     asked = [ctypes.c_char_p, size, spans, size, spans, size, room, size, room, size, ctypes.c_void_p]
     calls.run.argtypes = asked
     calls.keep.argtypes = [ctypes.c_char_p, size, ctypes.c_void_p, room, size, ctypes.POINTER(size)]
     calls.separated.argtypes = [ctypes.c_void_p, bits, bits, bits]
     calls.ask.argtypes = [ctypes.c_void_p, ctypes.c_char_p, size, *asked]
+    if calls.inputs is not None:
+        calls.inputs.argtypes = [ctypes.c_char_p, size, spans, size, room, size, ctypes.POINTER(_wanted_type())]
     for call in calls[1:]:
-        call.restype = ctypes.c_uint8
+        if call is not None:
+            call.restype = ctypes.c_uint8
     return calls
 
 
 def as_bytes(text: Text) -> bytes:
-    """The bytes of a text in UTF-8. A half of a surrogate pair gives bytes that aren't UTF-8, which the library refuses."""
-    return text.encode("utf-8", "surrogatepass") if isinstance(text, str) else bytes(text)
+    """The bytes of a text in UTF-8. A half of a surrogate pair gives bytes that aren't UTF-8, which the library refuses.
+
+    >>> from causal._library import as_bytes
+    >>> as_bytes("dag {}"), as_bytes(b"dag {}")
+    (b'dag {}', b'dag {}')
+    >>> as_bytes(3_000_000_000)
+    Traceback (most recent call last):
+        ...
+    TypeError: a text is a str or bytes, and no int
+    """
+    if isinstance(text, str):
+        return text.encode("utf-8", "surrogatepass")
+    if isinstance(text, (bytes, bytearray, memoryview)):
+        return bytes(text)
+    raise TypeError(f"a text is a str or bytes, and no {type(text).__name__}")
 
 
-def run(words: Iterable[Text], inputs: Optional[Mapping[Text, Text]] = None) -> Reply:
+class _Packed(NamedTuple):
+    """Parts of one run of bytes: the bytes, the spans of the words and of the inputs, and how many of each there are."""
+
+    data: bytes
+    spans: "array[int]"
+    words: int
+    inputs: int
+
+    @property
+    def first_word(self) -> int:
+        """The address of the span of the first word."""
+        return self.spans.buffer_info()[0]
+
+    @property
+    def first_input(self) -> int:
+        """The address of the span of the first input's name."""
+        return self.first_word + 2 * self.words * self.spans.itemsize
+
+
+def _packed(words: Iterable[Text], named: Inputs) -> _Packed:
+    parts = [as_bytes(word) for word in words]
+    count = len(parts)
+    parts += [as_bytes(text) for pair in named.items() for text in pair]
+    bounds = list(accumulate(map(len, parts), initial=0))
+    # the start and the end of each part
+    spans = array(SIZE_CODE, [bound for pair in zip(bounds, bounds[1:]) for bound in pair])
+    return _Packed(b"".join(parts), spans, count, len(named))
+
+
+def run(words: Iterable[Text], inputs: Optional[Inputs] = None) -> Reply:
     """Runs `causal WORDS..` over the named inputs, and raises nothing where `causal` refuses: its status and line say so.
 
     The statuses are those of the program. Status 6 says that the words name an input that isn't there.
@@ -98,33 +157,89 @@ def run(words: Iterable[Text], inputs: Optional[Mapping[Text, Text]] = None) -> 
     return _run(_load().run, words, inputs or {})
 
 
-def _run(call: Callable[..., int], words: Iterable[Text], named: Mapping[Text, Text]) -> Reply:
+def _run(call: Callable[..., int], words: Iterable[Text], named: Inputs) -> Reply:
     """Calls `causal_run`, or another call whose last arguments are the same."""
     ctypes = _load().ctypes
-    words = list(words)
-    parts = [as_bytes(text) for text in words] + [as_bytes(text) for pair in named.items() for text in pair]
-    bounds = list(accumulate(map(len, parts), initial=0))
-    # The start and the end of each part; "L" is as wide as a size is.
-    spans = array("L", [bound for pair in zip(bounds, bounds[1:]) for bound in pair])
-    first_span = spans.buffer_info()[0]
-    first_input = first_span + 2 * len(words) * spans.itemsize
-    data = b"".join(parts)
-    sizes = array("L", (0, 0))
+    packed = _packed(words, named)
+    asked = packed.data, len(packed.data), packed.first_word, packed.words, packed.first_input, packed.inputs
+    sizes = array(SIZE_CODE, (0, 0))
     out_room, err_room = OUT_ROOM, ERR_ROOM
     while True:
         out, err = ctypes.create_string_buffer(out_room), ctypes.create_string_buffer(err_room)
-        status = call(
-            data, len(data), first_span, len(words), first_input, len(named), out, out_room, err, err_room, sizes.buffer_info()[0]
-        )
-        if status == NOT_TEXT:
-            raise ValueError("a word isn't UTF-8")
-        if status in NO_MEMORY:
-            raise MemoryError("causal was refused memory")
-        if status == NOT_KEPT:
-            raise ValueError("the diagram isn't kept with these names")
+        status = call(*asked, out, out_room, err, err_room, sizes.buffer_info()[0])
+        _raise_at(status)
         if sizes[0] <= out_room and sizes[1] <= err_room:
             return Reply(status, ctypes.string_at(out, sizes[0]), ctypes.string_at(err, sizes[1]))
         out_room, err_room = max(sizes[0], out_room), max(sizes[1], err_room)
+
+
+def _raise_at(status: int) -> None:
+    """Raises an exception at a status that says nothing of the question."""
+    if status == NOT_TEXT:
+        raise ValueError("a word isn't UTF-8")
+    if status in NO_MEMORY:
+        raise MemoryError("causal was refused memory")
+    if status == NOT_KEPT:
+        raise ValueError("the diagram isn't kept with these names")
+
+
+class Wanted(NamedTuple):
+    """The inputs that words may ask for: the names of the first and of the second, and the most bytes of the second that are read.
+
+    >>> from causal._library import Wanted
+    >>> Wanted((b"a.dag", b"b.csv"), 67108864).names
+    (b'a.dag', b'b.csv')
+    """
+
+    names: Tuple[bytes, ...]
+    most: int
+
+
+@functools.lru_cache(maxsize=None)
+def _wanted_type() -> Any:
+    """`causal_wanted` in include/causal.h."""
+    import ctypes
+
+    class CausalWanted(ctypes.Structure):
+        _fields_ = [*((name, ctypes.c_size_t) for name in ("count", "file", "second")), ("most", ctypes.c_uint64)]
+
+    return CausalWanted
+
+
+def knows_inputs() -> bool:
+    """Whether the library says which inputs words may ask for."""
+    return _load().inputs is not None
+
+
+def inputs_of(words: Iterable[Text]) -> Optional[Wanted]:
+    """The inputs that words may ask for; None where they aren't understood: `run` has the line then. See `knows_inputs`."""
+    calls = _load()
+    packed = _packed(words, {})
+    room = len(packed.data)
+    names, told = calls.ctypes.create_string_buffer(room + 1), _wanted_type()()
+    status = calls.inputs(packed.data, room, packed.first_word, packed.words, names, room, told)
+    _raise_at(status)
+    if status:
+        return None
+    ends = [0, told.file, told.file + told.second]
+    return Wanted(tuple(names.raw[start:end] for start, end in zip(ends, ends[1 : told.count + 1])), told.most)
+
+
+@functools.lru_cache(maxsize=None)
+def _diagram_type() -> Any:
+    """`causal_diagram` in include/causal.h."""
+    import ctypes
+
+    class CausalGraph(ctypes.Structure):
+        _fields_ = [("vertices", ctypes.c_uint32), *((name, ctypes.c_uint64 * 64) for name in ("parents", "children", "spouses"))]
+
+    class CausalDiagram(ctypes.Structure):
+        _fields_ = [
+            *((name, CausalGraph) for name in ("observed", "read")),
+            *((name, ctypes.c_uint64) for name in ("exposures", "outcomes", "adjusted", "latent")),
+        ]
+
+    return CausalDiagram
 
 
 class KeptDiagram:
@@ -138,23 +253,20 @@ class KeptDiagram:
     b'P(C|do(A)) = sum{B} P(B|A) * P(C|B)\\n'
     """
 
-    # As `causal_diagram` in include/causal.h. A graph is a number of 32 bits, as many unused, and three rows of 64 numbers of 64 bits.
-    _SIZE = 2 * (8 + 3 * 64 * 8) + 4 * 8
-
     def __init__(self, text: bytes, observed: Iterable[str]) -> None:
         """The diagram of a text; its observed vertices have these names, in order."""
         calls = _load()
         self._separated = calls.separated
-        self._diagram = calls.ctypes.create_string_buffer(self._SIZE)
+        self._diagram = _diagram_type()()
         self._bits = {name: 1 << place for place, name in enumerate(observed)}
         room, size = calls.ctypes.create_string_buffer(len(text)), calls.ctypes.c_size_t()
-        status = calls.keep(text, len(text), self._diagram, room, len(text), size)
-        if status in NO_MEMORY:
-            raise MemoryError("causal was refused memory")
+        status = calls.keep(text, len(text), calls.ctypes.byref(self._diagram), room, len(text), size)
+        _raise_at(status)
         if status or size.value > len(text):
             raise ValueError("the text isn't kept")
         self._names = room.raw[: size.value]
-        self._asked = functools.partial(calls.ask, self._diagram, self._names, len(self._names))
+        self._place = calls.ctypes.addressof(self._diagram)
+        self._asked = functools.partial(calls.ask, self._place, self._names, len(self._names))
 
     def _mask(self, names: Iterable[str]) -> int:
         mask = 0
@@ -168,12 +280,12 @@ class KeptDiagram:
     def separated(self, x: Iterable[str], y: Iterable[str], given: Iterable[str]) -> Optional[bool]:
         """Whether the sets are separated; None where that can't be asked of them: `run` says why."""
         try:
-            status = self._separated(self._diagram, self._mask(x), self._mask(y), self._mask(given))
+            status = self._separated(self._place, self._mask(x), self._mask(y), self._mask(given))
         except KeyError:
             return None
         return None if status > 1 else status == 0
 
-    def run(self, words: Iterable[Text], inputs: Optional[Mapping[Text, Text]] = None) -> Reply:
+    def run(self, words: Iterable[Text], inputs: Optional[Inputs] = None) -> Reply:
         """As `run`, on the diagram, which stands for the file of the command."""
         return _run(self._asked, words, inputs or {})
 

@@ -2,7 +2,7 @@
 from __future__ import annotations
 
 from dataclasses import dataclass
-from typing import Dict, Iterator, List, Optional, Sequence, Tuple
+from typing import Dict, Iterator, List, Optional, Sequence, Tuple, Union, overload
 
 from causal.formula import Formula, HedgeSets, Term, read_formula, read_hedge_sets, read_term
 from causal.names import Cursor, printed_name, printed_set
@@ -394,7 +394,13 @@ class AdjustmentSets(Sequence[Tuple[str, ...]]):
     def __len__(self) -> int:
         return len(self.sets)
 
-    def __getitem__(self, index):  # type: ignore[no-untyped-def]
+    @overload
+    def __getitem__(self, index: int) -> Tuple[str, ...]: ...
+
+    @overload
+    def __getitem__(self, index: slice) -> Tuple[Tuple[str, ...], ...]: ...
+
+    def __getitem__(self, index: Union[int, slice]) -> Union[Tuple[str, ...], Tuple[Tuple[str, ...], ...]]:
         return self.sets[index]
 
     def __iter__(self) -> Iterator[Tuple[str, ...]]:
@@ -469,7 +475,7 @@ def _read_which(cursor: Cursor) -> bool:
     return False
 
 
-def _read_agreement(lines: List[str]) -> Equivalence:
+def _read_agreement(lines: Sequence[str]) -> Equivalence:
     if len(lines) == 1:
         cursor = Cursor(lines[0])
         cursor.take("separated in both: ")

@@ -5,16 +5,21 @@ The values of each draw are those of the library. The draws and the interval are
 from __future__ import annotations
 
 import random
-from dataclasses import dataclass
-from typing import TYPE_CHECKING, Dict, List, Mapping, Optional, Sequence, Tuple
+from dataclasses import dataclass, field
+from operator import itemgetter
+from statistics import NormalDist
+from typing import TYPE_CHECKING, Any, Callable, Dict, List, Mapping, Optional, Sequence, Tuple
 
-from causal.effects import Contrast, Effects, Level
+from causal.display import html_table
+from causal.effects import Contrast, Effects, Level, Value
 from causal.tables import Cell
 
 if TYPE_CHECKING:
     import pandas
 
 SMALL = 12
+# What computes a number of the values of all effects, or gives None where there is none.
+Measure = Callable[[Sequence[float]], Optional[float]]
 
 
 @dataclass(frozen=True)
@@ -104,9 +109,54 @@ def interval_of(values: Sequence[Optional[float]], level: float) -> Optional[Int
     return Interval(percentile(ordered, tail), percentile(ordered, 1 - tail), len(ordered))
 
 
+def corrected_interval(
+    values: Sequence[Optional[float]], estimate: Optional[float], left_out: Sequence[Tuple[int, Optional[float]]], level: float
+) -> Optional[Interval]:
+    """The interval that is corrected for bias and accelerated (BCa), or None where it can't be computed.
+
+    `left_out` has the values without one record, with how many records each is of.
+
+    >>> from causal.bootstrap import corrected_interval
+    >>> corrected_interval([0.0, 1.0, 2.0, 3.0], 1.5, [(1, 1.0), (1, 2.0)], 0.5)
+    Interval(lower=0.75, upper=2.25, draws=4)
+    """
+    ordered = sorted(value for value in values if value is not None)
+    if len(ordered) < 2 or estimate is None:
+        return None
+    below = sum(value < estimate for value in ordered) + sum(value == estimate for value in ordered) / 2
+    if not 0 < below < len(ordered):
+        return None
+    normal = NormalDist()
+    bias, rate = normal.inv_cdf(below / len(ordered)), acceleration(left_out)
+
+    def part(tail: float) -> float:
+        shifted = bias + normal.inv_cdf(tail)
+        return normal.cdf(bias + shifted / (1 - rate * shifted)) if rate * shifted < 1 else float(shifted > 0)
+
+    lower, upper = part((1 - level) / 2), part((1 + level) / 2)
+    return Interval(percentile(ordered, lower), percentile(ordered, upper), len(ordered))
+
+
+def acceleration(left_out: Sequence[Tuple[int, Optional[float]]]) -> float:
+    """How fast the spread changes with the value, by what one record makes of it. One without which there is no value is left out.
+
+    >>> from causal.bootstrap import acceleration
+    >>> acceleration([(2, 1.0), (2, 2.0), (1, None)]), acceleration([])
+    (0.0, 0.0)
+    """
+    known = [(count, value) for count, value in left_out if value is not None]
+    size = sum(count for count, _ in known)
+    if not size:
+        return 0.0
+    mean = sum(count * value for count, value in known) / size
+    squares = sum(count * (mean - value) ** 2 for count, value in known)
+    cubes = sum(count * (mean - value) ** 3 for count, value in known)
+    return float(cubes / (6 * squares**1.5)) if squares else 0.0
+
+
 @dataclass(frozen=True)
 class ContrastInterval:
-    """A contrast with the intervals of its difference and of its ratio. The interval is only computed, as in `Bootstrap`.
+    """A contrast with the intervals of its risk difference, risk ratio and odds ratio. They are only computed, as in `Bootstrap`.
 
     An interval is None where fewer than two draws have a value; `draws` in it says how many have one.
     """
@@ -114,18 +164,71 @@ class ContrastInterval:
     contrast: Contrast
     difference: Optional[Interval]
     ratio: Optional[Interval]
+    odds_ratio: Optional[Interval]
+
+    @property
+    def rows(self) -> Tuple[Tuple[str, Optional[Value], Optional[Interval]], ...]:
+        """Each measure with its name, its value and its interval."""
+        contrast = self.contrast
+        return (
+            ("risk difference", contrast.difference, self.difference),
+            ("risk ratio", contrast.ratio, self.ratio),
+            ("odds ratio", contrast.odds_ratio, self.odds_ratio),
+        )
+
+    HEADS = ("measure", "estimate", "lower", "upper", "draws")
+
+    def _cells(self) -> List[List[Any]]:
+        return [[name, *_estimated(value, interval)] for name, value, interval in self.rows]
+
+    def __str__(self) -> str:
+        return "\n".join(f"{name}: {_told(value, interval)}" for name, value, interval in self.rows)
+
+    def frame(self) -> "pandas.DataFrame":
+        """A DataFrame with a row for each measure (it needs pandas)."""
+        import pandas
+
+        return pandas.DataFrame(self._cells(), columns=list(self.HEADS))
+
+    def _repr_html_(self) -> str:
+        return html_table(self.HEADS, self._cells())
+
+
+def _estimated(value: Optional[Value], interval: Optional[Interval]) -> List[Any]:
+    ends: List[Any] = [interval.lower, interval.upper, interval.draws] if interval else [None, None, None]
+    return [None if value is None else float(value), *ends]
+
+
+def _told(value: Optional[Value], interval: Optional[Interval]) -> str:
+    estimate = "none" if value is None else f"{float(value):.6g}"
+    return f"{estimate}, no interval" if interval is None else f"{estimate} [{interval.lower:.6g}, {interval.upper:.6g}]"
+
+
+@dataclass(frozen=True)
+class MeanInterval:
+    """The mean of a numeric outcome under levels of the exposures, or the difference of two, with its interval. Both are computed."""
+
+    value: Value
+    interval: Optional[Interval]
+    x: Dict[str, Level] = field(default_factory=dict)
+
+    def __str__(self) -> str:
+        at = "".join(f"{name}={level}, " for name, level in self.x.items())
+        return f"{at}mean {_told(self.value, self.interval)}"
 
 
 @dataclass(frozen=True)
 class Bootstrap:
-    """Effects with percentile intervals by the bootstrap.
+    """Effects with intervals by the bootstrap: percentiles of the draws, or percentiles that are corrected for bias and accelerated
+    (BCa), as `kind` says ("percentile" or "bca").
 
     Each value, that of the data and that of each draw, is proved to be the formula's value over its counts. The interval isn't
     proved to cover anything: it is computed from pseudorandom draws, and covers the effect in about `level` of large samples, as
     the bootstrap's theory has it for a formula that is smooth where the counts are positive.
 
     `effects` are those of the data; `resamples` is how many draws were made, with the seed `seed`; `without_value` of them had no
-    value at some cell (a draw that lacks the records that a term needs), and are left out of the intervals.
+    value at some cell (a draw that lacks the records that a term needs), and are left out of the intervals. `left_out` has for BCa
+    the values without one record, with how many records each is of.
 
     >>> from causal import Diagram
     >>> data = {"X": ["a", "b"] * 50, "Y": [0, 0, 1, 1] * 25}
@@ -138,6 +241,8 @@ class Bootstrap:
     draws: Tuple[Optional[Tuple[float, ...]], ...]
     level: float
     seed: int
+    kind: str = "percentile"
+    left_out: Tuple[Tuple[int, Optional[Tuple[float, ...]]], ...] = ()
 
     @property
     def resamples(self) -> int:
@@ -149,11 +254,26 @@ class Bootstrap:
         """How many draws had no value."""
         return sum(draw is None for draw in self.draws)
 
+    def interval(self, measure: Measure) -> Optional[Interval]:
+        """The interval of any number that is computed of the values of all effects, in their order.
+
+        >>> from causal import Diagram
+        >>> data = {"X": ["a", "b"] * 50, "Y": [0, 0, 1, 1] * 25}
+        >>> answer = Diagram("dag{ X -> Y }").bootstrap(data, "X", "Y", resamples=200, seed=1)
+        >>> answer.interval(lambda values: values[0]) == answer.intervals[0]
+        True
+        """
+        values = [measure(draw) for draw in self.draws if draw is not None]
+        if self.kind == "percentile":
+            return interval_of(values, self.level)
+        estimate = measure(tuple(float(effect.value) for effect in self.effects))
+        left_out = [(count, None if held is None else measure(held)) for count, held in self.left_out]
+        return corrected_interval(values, estimate, left_out, self.level)
+
     @property
     def intervals(self) -> List[Optional[Interval]]:
         """The interval of each effect, in the order of `effects`."""
-        values = [draw for draw in self.draws if draw is not None]
-        return [interval_of([draw[k] for draw in values], self.level) for k in range(len(self.effects))]
+        return [self.interval(itemgetter(place)) for place in range(len(self.effects))]
 
     def contrast(
         self, outcome: Mapping[str, Level], treated: Mapping[str, Level], control: Mapping[str, Level]
@@ -168,12 +288,51 @@ class Bootstrap:
         True
         """
         first, second = self.effects.place(outcome, treated), self.effects.place(outcome, control)
-        pairs = [(draw[first], draw[second]) for draw in self.draws if draw is not None]
+
+        def ratio(above: float, below: float) -> Optional[float]:
+            return above / below if below > 0 else None
+
+        def odds_ratio(a: float, b: float) -> Optional[float]:
+            return a * (1 - b) / ((1 - a) * b) if a < 1 and 0 < b < 1 else None
+
         return ContrastInterval(
             self.effects.contrast(outcome, treated, control),
-            interval_of([a - b for a, b in pairs], self.level),
-            interval_of([a / b if b > 0 else None for a, b in pairs], self.level),
+            self.interval(lambda values: values[first] - values[second]),
+            self.interval(lambda values: ratio(values[first], values[second])),
+            self.interval(lambda values: odds_ratio(values[first], values[second])),
         )
+
+    def means(self) -> Tuple[MeanInterval, ...]:
+        """The mean of a numeric outcome under each level of the exposures, with its interval: see `Effects.means`.
+
+        >>> from causal import Diagram
+        >>> data = {"X": ["a", "b"] * 50, "Y": [0, 0, 10, 20] * 25}
+        >>> answer = Diagram("dag{ X -> Y }").bootstrap(data, "X", "Y", resamples=200, seed=1)
+        >>> [float(mean.value) for mean in answer.means()], answer.means()[0].interval.lower < 5 < answer.means()[0].interval.upper
+        ([5.0, 10.0], True)
+        """
+        return tuple(MeanInterval(mean.value, self.interval(self._mean_at(mean.x)), mean.x) for mean in self.effects.means())
+
+    def mean_difference(self, treated: Mapping[str, Level], control: Mapping[str, Level]) -> MeanInterval:
+        """The difference of the means of a numeric outcome under two levels of the exposures.
+
+        >>> from causal import Diagram
+        >>> data = {"X": ["a", "b"] * 50, "Y": [0, 0, 10, 20] * 25}
+        >>> answer = Diagram("dag{ X -> Y }").bootstrap(data, "X", "Y", resamples=200, seed=1)
+        >>> float(answer.mean_difference({"X": "b"}, {"X": "a"}).value)
+        5.0
+        """
+        first, second = self._mean_at(treated), self._mean_at(control)
+        value = self.effects.mean(treated).minus(self.effects.mean(control))
+        return MeanInterval(value, self.interval(lambda values: first(values) - second(values)))
+
+    def _mean_at(self, x: Mapping[str, Level]) -> Callable[[Sequence[float]], float]:
+        """What computes a mean of the values of all effects."""
+        of, name = self.effects.numbers, self.effects.formula.target.y[0]
+        weights = [float(of[effect.y[name]]) if effect.x == dict(x) else 0.0 for effect in self.effects]
+        return lambda values: sum(weight * value for weight, value in zip(weights, values))
+
+    HEADS = ("estimate", "lower", "upper", "draws")
 
     def frame(self) -> "pandas.DataFrame":
         """A DataFrame with a row for each effect (it needs pandas): the levels, `estimate`, `lower`, `upper` and `draws`.
@@ -187,4 +346,26 @@ class Bootstrap:
         nan = float("nan")
         rows = [(i.lower, i.upper, i.draws) if i else (nan, nan, self.resamples - self.without_value) for i in self.intervals]
         values = [(float(effect.value), *row) for effect, row in zip(self.effects, rows)]
-        return self.effects.frame_with(("estimate", "lower", "upper", "draws"), values)
+        frame = self.effects.frame_with(self.HEADS, values)
+        frame.attrs.update(level=self.level, kind=self.kind, resamples=self.resamples, seed=self.seed)
+        frame.attrs.update(without_value=self.without_value)
+        return frame
+
+    @property
+    def notes(self) -> Tuple[str, ...]:
+        """What the intervals rest on."""
+        kind = {"percentile": "percentile", "bca": "BCa"}[self.kind]
+        drawn = f"{100 * self.level:g}% {kind} intervals of {self.resamples} resamples, of which {self.without_value} had no value"
+        return (*self.effects.notes, f"{drawn}; seed {self.seed}")
+
+    def __str__(self) -> str:
+        rows = [f"{effect.cell} {_told(effect.value, interval)}" for effect, interval in zip(self.effects, self.intervals)]
+        return "\n".join([*rows, *self.notes])
+
+    def _repr_html_(self) -> str:
+        heads = [*self.effects.names, *self.HEADS]
+        rows = [
+            [*effect.x.values(), *effect.y.values(), *_estimated(effect.value, interval)]
+            for effect, interval in zip(self.effects, self.intervals)
+        ]
+        return html_table(heads, rows, self.notes)

@@ -1,17 +1,19 @@
 """Diagrams from edges, from graphs of networkx and from matrices, and back."""
 from __future__ import annotations
 
-from typing import Any, Dict, Iterable, List, Mapping, Tuple
+from typing import Any, Dict, Iterable, List, Mapping, Sequence, Tuple
 
 from causal.answers import GraphText
 from causal.errors import RequestError
-from causal.names import Names, names_of, written_name
+from causal.names import Name, Names, names_of, written_name
 
 ROLES = ("exposure", "outcome", "adjusted", "latent")
 Pair = Tuple[str, str]
 
 
-def text_of_edges(edges: Iterable[Pair], bidirected: Iterable[Pair], vertices: Iterable[str], roles: Mapping[str, Names]) -> str:
+def text_of_edges(
+    edges: Iterable[Sequence[Name]], bidirected: Iterable[Sequence[Name]], vertices: Iterable[Name], roles: Mapping[str, Names]
+) -> str:
     """The text of a diagram: first the vertices in their order, then those that edges name. A vertex with
     two marks is written so, for the library to refuse.
 
@@ -19,7 +21,7 @@ def text_of_edges(edges: Iterable[Pair], bidirected: Iterable[Pair], vertices: I
     >>> text_of_edges([("A", "B")], [], ["C"], {"exposure": "A"})
     'dag {\\nC\\nA [exposure]\\nB\\nA -> B\\n}\\n'
     """
-    directed, both = [tuple(edge) for edge in edges], [tuple(edge) for edge in bidirected]
+    directed, both = _pairs_of(edges), _pairs_of(bidirected)
     marks: Dict[str, List[str]] = {name: [] for name in names_of(vertices)}
     marks.update((name, []) for edge in (*directed, *both) for name in edge if name not in marks)
     for role, names in roles.items():
@@ -33,6 +35,16 @@ def text_of_edges(edges: Iterable[Pair], bidirected: Iterable[Pair], vertices: I
     return "\n".join(["dag {", *lines, "}", ""])
 
 
+def _pairs_of(edges: Iterable[Sequence[Name]]) -> List[Pair]:
+    pairs: List[Pair] = []
+    for edge in edges:
+        names = () if isinstance(edge, (str, int)) else names_of(edge)
+        if len(names) != 2:
+            raise RequestError(f"an edge is a pair of names, and not {edge!r}")
+        pairs.append((names[0], names[1]))
+    return pairs
+
+
 def _texts_of(labels: Iterable[Any]) -> Dict[Any, str]:
     """The name of each label. Two labels may not have one name."""
     names = {label: str(label) for label in labels}
@@ -41,12 +53,26 @@ def _texts_of(labels: Iterable[Any]) -> Dict[Any, str]:
     return names
 
 
-def text_of_networkx(graph: Any, roles: Mapping[str, Names]) -> str:
+def _labelled(members: Any, names: Mapping[Any, str]) -> List[str]:
+    """The names of one label, or of several. What is no label is a name."""
+    try:
+        if members in names:
+            return [names[members]]
+    except TypeError:
+        pass
+    if isinstance(members, str) or not isinstance(members, Iterable):
+        return [str(members)]
+    return [names.get(member, str(member)) for member in members]
+
+
+def text_of_networkx(graph: Any, roles: Mapping[str, Any]) -> str:
     """The text of the diagram of a directed graph of networkx."""
+    if not hasattr(graph, "is_directed"):
+        raise RequestError(f"a graph of networkx is needed, and no {type(graph).__name__}")
     if not graph.is_directed():
         raise RequestError("the graph isn't directed")
     names = _texts_of(graph.nodes)
-    marks = {role: list(names_of(members)) for role, members in roles.items()}
+    marks = {role: _labelled(members, names) for role, members in roles.items()}
     for label, attributes in graph.nodes(data=True):
         own = [attributes.get("role"), "latent" if attributes.get("latent") else None]
         for role in dict.fromkeys(role for role in own if role):
@@ -58,16 +84,19 @@ def text_of_networkx(graph: Any, roles: Mapping[str, Names]) -> str:
     return text_of_edges(directed, both, names.values(), marks)
 
 
-def text_of_pandas(adjacency: Any, bidirected: Iterable[Pair], roles: Mapping[str, Names]) -> str:
+def text_of_pandas(adjacency: Any, bidirected: Iterable[Sequence[Name]], roles: Mapping[str, Any]) -> str:
     """The text of the diagram of an adjacency matrix."""
-    names = list(_texts_of(adjacency.columns).values())
+    if not hasattr(adjacency, "columns") or not hasattr(adjacency, "index"):
+        raise RequestError(f"an adjacency matrix is a DataFrame of pandas, and no {type(adjacency).__name__}")
+    texts = _texts_of(adjacency.columns)
+    names = list(texts.values())
     if names != list(_texts_of(adjacency.index).values()):
         raise RequestError("the rows and columns of an adjacency matrix have the same names in the same order")
     if adjacency.isna().to_numpy().any():
         raise RequestError("an adjacency matrix has no missing values")
     entries = adjacency.to_numpy().tolist()
     edges = [(a, b) for a, row in zip(names, entries) for b, entry in zip(names, row) if entry]
-    return text_of_edges(edges, bidirected, names, roles)
+    return text_of_edges(edges, bidirected, names, {role: _labelled(members, texts) for role, members in roles.items()})
 
 
 def to_networkx(content: GraphText, mixed: bool) -> Any:

@@ -1,14 +1,15 @@
 """Diagrams, and the questions about them."""
 from __future__ import annotations
 
-from typing import TYPE_CHECKING, Any, Dict, Iterable, List, Mapping, Optional, Tuple, Union
+from dataclasses import dataclass
+from typing import TYPE_CHECKING, Any, Dict, Iterable, List, Mapping, Optional, Sequence, Tuple, Union
 
 from causal import answers, formula
 from causal._library import KeptDiagram, Text, as_bytes, ask
 from causal.errors import RequestError
 from causal.formula import Formula, Hedge, HedgeSets
-from causal.names import Names, list_word, names_of
-from causal.surrogates import Stopped, experiments_word, read_surrogate
+from causal.names import Name, Names, list_word, names_of
+from causal.surrogates import Stopped, StoppedHedge, experiments_word, read_surrogate
 
 if TYPE_CHECKING:
     import os
@@ -18,9 +19,10 @@ if TYPE_CHECKING:
     import pandas
 
     from causal.bootstrap import Bootstrap
-    from causal.effects import Contrast, Effects
+    from causal.columns import Data
+    from causal.effects import Contrast, Effects, Level, Spread
     from causal.implications import Implications
-    from causal.tables import Data
+    from causal.independence import IndependenceTests
 
 
 def options(**lists: Optional[Names]) -> List[Text]:
@@ -31,6 +33,22 @@ def options(**lists: Optional[Names]) -> List[Text]:
     ['--x', '"A"', '--given', '{}']
     """
     return [word for name, names in lists.items() if names is not None for word in (f"--{name}", list_word(names))]
+
+
+@dataclass(frozen=True)
+class OtherForm:
+    """Asks for another form of an answer of `identify`: `--latex` or `--certificate`.
+
+    >>> from causal.diagram import Diagram, OtherForm
+    >>> OtherForm(Diagram("dag { X -> Y }"), ("--x=X", "--y=Y"))("--latex")
+    'P(Y \\\\mid \\\\mathrm{do}(X)) = P(Y \\\\mid X)'
+    """
+
+    diagram: "Diagram"
+    words: Tuple[Text, ...]
+
+    def __call__(self, form: str) -> str:
+        return self.diagram._ask("identify", *self.words, form)[1].rstrip("\n")
 
 
 class Diagram:
@@ -78,10 +96,10 @@ class Diagram:
     @classmethod
     def from_edges(
         cls,
-        edges: Iterable[Tuple[str, str]],
+        edges: Iterable[Sequence[Name]],
         *,
-        bidirected: Iterable[Tuple[str, str]] = (),
-        vertices: Iterable[str] = (),
+        bidirected: Iterable[Sequence[Name]] = (),
+        vertices: Iterable[Name] = (),
         exposure: Names = (),
         outcome: Names = (),
         adjusted: Names = (),
@@ -106,11 +124,11 @@ class Diagram:
         return cls(text_of_edges(edges, bidirected, vertices, roles))
 
     @classmethod
-    def from_networkx(cls, graph: "networkx.Graph", **roles: Names) -> "Diagram":
+    def from_networkx(cls, graph: "networkx.Graph", **roles: Any) -> "Diagram":
         """The diagram of a directed graph of networkx.
 
         A vertex has the name `str(vertex)`. Its attribute `role` may be a mark, and a true attribute `latent` marks it so; marks
-        can be given as in `from_edges`. An edge with a true attribute `bidirected` is one.
+        can be given as in `from_edges`, by the graph's own vertices. An edge with a true attribute `bidirected` is one.
 
         >>> import networkx
         >>> from causal import Diagram
@@ -127,7 +145,7 @@ class Diagram:
 
     @classmethod
     def from_pandas(
-        cls, adjacency: "pandas.DataFrame", *, bidirected: Iterable[Tuple[str, str]] = (), **roles: Names
+        cls, adjacency: "pandas.DataFrame", *, bidirected: Iterable[Sequence[Name]] = (), **roles: Any
     ) -> "Diagram":
         """The diagram of an adjacency matrix: the row is joined to the column where the entry isn't 0.
 
@@ -235,6 +253,11 @@ class Diagram:
 
         return plot(self._content, path, hedge, positions, ax)
 
+    def _repr_svg_(self) -> Optional[str]:
+        from causal.plotting import svg
+
+        return svg(self._content)
+
     # Questions about a diagram.
 
     def separated(self, x: Optional[Names] = None, y: Optional[Names] = None, given: Optional[Names] = None) -> answers.Separation:
@@ -306,20 +329,22 @@ class Diagram:
         """
         words = options(x=x, y=y, given=given)
         status, text = self._ask("identify", *words)
-
-        def ask_form(form: str) -> str:
-            return self._ask("identify", *words, form)[1].rstrip("\n")
-
-        return formula.read_hedge(text, ask_form) if status == 1 else formula.read_formula(text, ask_form)
+        form = OtherForm(self, tuple(words))
+        return formula.read_hedge(text, form) if status == 1 else formula.read_formula(text, form)
 
     def surrogate(
-        self, x: Optional[Names] = None, y: Optional[Names] = None, experiments: Union[str, Iterable[Names]] = ()
-    ) -> Union[Formula, Stopped]:
+        self,
+        x: Optional[Names] = None,
+        y: Optional[Names] = None,
+        experiments: Union[str, Iterable[Names]] = (),
+        models: bool = False,
+    ) -> Union[Formula, Stopped, StoppedHedge]:
         """A formula for the effect of x on y that may use experiments, or why none was found, which counts as false.
 
         Each experiment is one name or several: variables that were set in a trial, under which all others were observed. It is
         proved that a formula, whose terms are observed or under one of the experiments, is the effect in every positive finite
-        model that fits the diagram.
+        model that fits the diagram. With `models` a hedge is given, where there is one, whose two models agree on all
+        observations and under each experiment and differ on the effect: then no formula over them exists.
 
         >>> from causal import Diagram
         >>> diagram = Diagram("dag { Z -> X -> Y Z <-> X Z <-> Y }")
@@ -329,7 +354,7 @@ class Diagram:
         P(Y|do(X)) = P(Y|do(Z),X)
         free {Z}
         """
-        words = [*options(x=x, y=y), "--experiments", experiments_word(experiments)]
+        words = [*options(x=x, y=y), "--experiments", experiments_word(experiments), *(["--models"] if models else [])]
         return read_surrogate(self._ask("surrogate", *words)[1])
 
     def check(self, certificate: Union[Text, Formula, Hedge]) -> answers.Check:
@@ -408,6 +433,35 @@ class Diagram:
 
         return implications_of(self, data, count, missing)
 
+    def test_implications(
+        self,
+        data: Data,
+        count: Optional[str] = None,
+        *,
+        missing: str = "error",
+        method: str = "auto",
+        permutations: int = 1000,
+        seed: int = 0,
+    ) -> IndependenceTests:
+        """Tests of the testable implications: whether the data is farther from each than chance lets expect.
+
+        For each pair of `implications` G² is summed over the levels of its set, and compared with the chi-squared distribution of
+        its degrees of freedom (it needs scipy), or, where the tables are too thin or scipy isn't there, with tables that are drawn
+        with the same sums, as many as `permutations` says, from the seed. `method` may be "chi-squared" or "permutation" for all.
+        The pairs are proved, as `implications` says; the tests are computed, and nothing about them is proved.
+
+        >>> from causal import Diagram
+        >>> data = {"A": [0, 0, 0, 1, 1, 1] * 20, "B": [0] * 60 + [1] * 60, "C": ([0, 0, 1, 0, 1, 1]) * 20}
+        >>> tests = Diagram("dag { A <- B -> C }").test_implications(data, method="permutation", permutations=200)
+        >>> tests[0].a, tests[0].b, tests[0].given, tests[0].degrees, round(tests[0].statistic, 3)
+        ('A', 'C', ('B',), 2, 13.592)
+        >>> len(tests.rejected())
+        1
+        """
+        from causal.independence import tests_of
+
+        return tests_of(self, data, count, missing, method, permutations, seed)
+
     # Effects in data.
 
     def evaluate(
@@ -419,6 +473,7 @@ class Diagram:
         count: Optional[str] = None,
         exact: bool = False,
         missing: str = "error",
+        at: Optional[Mapping[str, Level]] = None,
     ) -> "pandas.DataFrame":
         """The effects of x on y in the data, as a DataFrame (it needs pandas): see `effects`, which says what is proved, and
         `Effects.frame` for the columns.
@@ -433,7 +488,7 @@ class Diagram:
         2  B  good       1.0     1
         3  B   bad       0.0     0
         """
-        return self.effects(data, x, y, count=count, exact=exact, missing=missing).frame()
+        return self.effects(data, x, y, count=count, exact=exact, missing=missing, at=at).frame()
 
     def effects(
         self,
@@ -444,20 +499,25 @@ class Diagram:
         count: Optional[str] = None,
         exact: bool = False,
         missing: str = "error",
+        at: Optional[Mapping[str, Level]] = None,
     ) -> Effects:
         """The effects of x on y in the data: the values of the formula of `identify` over the counts.
 
-        The data is a DataFrame, a mapping of columns, or the path of a CSV file, with a column for each variable of the formula;
-        `count` names a column of counts, and without it each record counts 1. Values are bounds of 18 digits, or with `exact`
-        fractions. Each value is proved to be the formula's value over the counts, and so to cover the effect in each positive
-        model that fits the diagram and that the counts match. That the counts are those of the data is tested: Python counts the
-        records of a DataFrame. Nothing is said of sampling error: see `bootstrap`.
+        The data is a DataFrame (of pandas or polars), a table of pyarrow, a mapping of columns, or the path of a CSV file, with a
+        column for each variable of the formula; `count` names a column of counts, and without it each record counts 1. Values are
+        bounds of 18 digits, or with `exact` fractions. Each value is proved to be the formula's value over the counts, and so to
+        cover the effect in each positive model that fits the diagram and that the counts match. That the counts are those of the
+        data is tested: Python counts the records, but those of a plain file, which the library reads itself. Nothing is said of
+        sampling error: see `bootstrap`.
 
         Levels are the values of a column, whatever they are, in order of first appearance; those of a `Categorical` in the order
         of its categories, of which those without a record are left out. A variable that the formula reads beside x and y is
-        pinned at its first level. A missing value in a used column is refused as `MissingValues`; with `missing="drop"` its
+        pinned at its first level in order (numbers by size, texts by their characters, a `Categorical` by its categories), or at
+        the one that `at` gives, as in `at={"Z": 1}`: see `spread`.
+
+        A missing value in a used column, an empty field of a file too, is refused as `MissingValues`; with `missing="drop"` its
         record is left out, and the answer's `dropped` counts these (which estimates the effect among complete records: whether
-        that is the effect wanted isn't decided here). A file is read by the library itself; an empty field in it is a level.
+        that is the effect wanted isn't decided here); with `missing="level"` it is a level.
 
         `NotIdentifiable` is raised with a hedge where there is no formula, `EvaluationError` with a cell where a term has no
         records.
@@ -472,7 +532,35 @@ class Diagram:
         """
         from causal.evaluation import Evaluation
 
-        return Evaluation(self, x, y).effects(data, count, exact, missing)
+        return Evaluation(self, x, y, count, missing).effects(data, exact, at)
+
+    def spread(
+        self,
+        data: Data,
+        x: Optional[Names] = None,
+        y: Optional[Names] = None,
+        *,
+        count: Optional[str] = None,
+        exact: bool = False,
+        missing: str = "error",
+    ) -> Spread:
+        """The effects of x on y at each level at which the formula's further variables may be pinned: a check of the diagram.
+
+        In the population each of these levels gives the same, where the diagram is right. The data is as in `effects`.
+
+        >>> from causal import Diagram
+        >>> napkin = Diagram("dag { W -> Z -> X -> Y  W <-> X  W <-> Y }")
+        >>> data = {name: [k >> bit & 1 for k in range(16)] for bit, name in enumerate("WZXY")}
+        >>> print(napkin.spread(data, "X", "Y", exact=True)[1])
+        pinned Z=1 (in the population every level gives the same)
+        P(Y=0|do(X=0)) = 1/2
+        P(Y=1|do(X=0)) = 1/2
+        P(Y=0|do(X=1)) = 1/2
+        P(Y=1|do(X=1)) = 1/2
+        """
+        from causal.evaluation import Evaluation
+
+        return Evaluation(self, x, y, count, missing).spread(data, exact)
 
     def contrast(
         self,
@@ -484,24 +572,25 @@ class Diagram:
         control: Any,
         outcome: Any,
         count: Optional[str] = None,
-        exact: bool = True,
+        exact: bool = False,
         missing: str = "error",
+        at: Optional[Mapping[str, Level]] = None,
     ) -> Contrast:
-        """The risk difference and the risk ratio of two levels of x, for a level of y.
+        """The risk difference, the risk ratio and the odds ratio of two levels of x, for a level of y.
 
         The levels are given as they stand in the data; where x or y has several variables, as a mapping or in the order of the
-        target. Both effects are proved, as `effects` says; the difference and the ratio are computed from their fractions. For
-        intervals see `bootstrap(..).contrast(..)`.
+        target. Both effects are proved, as `effects` says; the difference and the ratios are computed from them, outward where
+        they are bounds. For intervals see `bootstrap(..).contrast(..)`.
 
         >>> from causal import Diagram
         >>> data = {"T": ["A", "A", "B", "B"], "R": [1, 0, 1, 1]}
         >>> contrast = Diagram("dag { T -> R }").contrast(data, "T", "R", treated="A", control="B", outcome=1)
-        >>> contrast.difference.exact, contrast.ratio.exact
-        (Fraction(-1, 2), Fraction(1, 2))
+        >>> float(contrast.difference), float(contrast.ratio)
+        (-0.5, 0.5)
         """
         from causal.evaluation import levels_at
 
-        found = self.effects(data, x, y, count=count, exact=exact, missing=missing)
+        found = self.effects(data, x, y, count=count, exact=exact, missing=missing, at=at)
         target = found.formula.target
         return found.contrast(levels_at(target.y, outcome), levels_at(target.x, treated), levels_at(target.x, control))
 
@@ -513,11 +602,14 @@ class Diagram:
         *,
         count: Optional[str] = None,
         missing: str = "error",
+        at: Optional[Mapping[str, Level]] = None,
         resamples: int = 1000,
         level: float = 0.95,
         seed: int = 0,
+        kind: str = "percentile",
     ) -> Bootstrap:
-        """The effects with intervals by the bootstrap (percentiles of resampled tables of counts).
+        """The effects with intervals by the bootstrap: percentiles of resampled tables of counts, or with `kind="bca"` percentiles
+        that are corrected for bias and accelerated, which asks once more for each cell of the table.
 
         As many records as there are are drawn with replacement, `resamples` times, and the effects asked for again. What is
         proved is each value over its counts; the interval is only computed. A draw has the levels of x, of y and of pinned
@@ -537,4 +629,6 @@ class Diagram:
 
         if resamples < 1 or not 0 < level < 1:
             raise RequestError("resamples is at least 1, and level lies between 0 and 1")
-        return Evaluation(self, x, y).bootstrap(data, count, missing, resamples, level, seed)
+        if kind not in ("percentile", "bca"):
+            raise RequestError(f"kind is 'percentile' or 'bca', and not {kind!r}")
+        return Evaluation(self, x, y, count, missing).bootstrap(data, resamples, level, seed, at, kind)

@@ -2,11 +2,14 @@
 from __future__ import annotations
 
 import math
+import numbers
 import re
 from dataclasses import dataclass
+from decimal import Decimal
 from fractions import Fraction
-from typing import TYPE_CHECKING, Any, Callable, Dict, Hashable, Iterator, List, Mapping, Optional, Sequence, Tuple, Union
+from typing import TYPE_CHECKING, Any, Callable, Dict, Hashable, Iterator, List, Mapping, Optional, Sequence, Tuple, Union, overload
 
+from causal.display import html_table
 from causal.errors import RequestError, UnreadableAnswer
 from causal.formula import Formula, Term
 from causal.names import printed_name
@@ -85,10 +88,66 @@ class Value:
         return Value(self.lower / other.upper, self.upper / other.lower) if other.lower > 0 else None
 
 
+    def odds(self) -> Optional["Value"]:
+        """The odds, or None where the value may be 1.
+
+        >>> from fractions import Fraction
+        >>> from causal.effects import Value
+        >>> Value(Fraction(1, 2), Fraction(3, 4)).odds()
+        Value(lower=Fraction(1, 1), upper=Fraction(3, 1))
+        """
+        return Value(self.lower / (1 - self.lower), self.upper / (1 - self.upper)) if self.upper < 1 else None
+
+    def times(self, factor: Fraction) -> "Value":
+        """The value times a number.
+
+        >>> from fractions import Fraction
+        >>> from causal.effects import Value
+        >>> Value(Fraction(1, 2), Fraction(3, 4)).times(Fraction(-2))
+        Value(lower=Fraction(-3, 2), upper=Fraction(-1, 1))
+        """
+        ends = self.lower * factor, self.upper * factor
+        return Value(min(ends), max(ends))
+
+    def plus(self, other: "Value") -> "Value":
+        """The sum.
+
+        >>> from fractions import Fraction
+        >>> from causal.effects import Value
+        >>> Value(Fraction(1, 2), Fraction(3, 4)).plus(Value(Fraction(1), Fraction(1)))
+        Value(lower=Fraction(3, 2), upper=Fraction(7, 4))
+        """
+        return Value(self.lower + other.lower, self.upper + other.upper)
+
+
 def _digits(value: Fraction) -> str:
     """The value with 18 digits behind the point."""
     units = value * 10**18
     return f"{units // 10**18}.{int(units % 10**18):018d}"
+
+
+def number_of(level: Level) -> Optional[Fraction]:
+    """The number that a level is, or that it is written as in a file; None where it is none.
+
+    >>> from causal.effects import number_of
+    >>> number_of(0.5), number_of("12"), number_of("good")
+    (Fraction(1, 2), Fraction(12, 1), None)
+    """
+    try:
+        return Fraction(level) if isinstance(level, (str, numbers.Rational, float, Decimal)) else None
+    except (ValueError, OverflowError, ZeroDivisionError):
+        return None
+
+
+@dataclass(frozen=True)
+class Mean:
+    """The mean of a numeric outcome under levels of the exposures. It is computed of proved probabilities, exactly or outward."""
+
+    x: Dict[str, Level]
+    value: Value
+
+    def __str__(self) -> str:
+        return f"mean at {_levels_text(self.x)} {self.value}" if self.x else f"mean {self.value}"
 
 
 @dataclass(frozen=True)
@@ -99,13 +158,21 @@ class Effect:
     x: Dict[str, Level]
     value: Value
 
+    @property
+    def cell(self) -> str:
+        """The probability, as it is printed."""
+        return _cell_text(self.y, self.x)
+
     def __str__(self) -> str:
-        return f"{_cell_text(self.y, self.x)} {self.value}"
+        return f"{self.cell} {self.value}"
+
+
+def _levels_text(cell: Mapping[str, Level]) -> str:
+    return ",".join(f"{printed_name(name)}={level}" for name, level in cell.items())
 
 
 def _cell_text(y: Mapping[str, Level], x: Mapping[str, Level]) -> str:
-    outcomes, exposures = [",".join(f"{printed_name(name)}={level}" for name, level in cell.items()) for cell in (y, x)]
-    return f"P({outcomes}|do({exposures}))" if x else f"P({outcomes})"
+    return f"P({_levels_text(y)}|do({_levels_text(x)}))" if x else f"P({_levels_text(y)})"
 
 
 @dataclass(frozen=True)
@@ -140,22 +207,56 @@ class Effects(Sequence[Effect]):
     def __len__(self) -> int:
         return len(self.effects)
 
-    def __getitem__(self, index: Any) -> Any:
+    @overload
+    def __getitem__(self, index: int) -> Effect: ...
+
+    @overload
+    def __getitem__(self, index: slice) -> Tuple[Effect, ...]: ...
+
+    def __getitem__(self, index: Union[int, slice]) -> Union[Effect, Tuple[Effect, ...]]:
         return self.effects[index]
 
     def __iter__(self) -> Iterator[Effect]:
         return iter(self.effects)
 
-    def __str__(self) -> str:
+    @property
+    def text(self) -> str:
+        """The answer as the program prints it."""
         pins = [f"pinned {printed_name(name)}={level}" for name, level in self.pinned.items()]
         return "\n".join([*pins, *map(str, self.effects)])
+
+    def __str__(self) -> str:
+        return "\n".join([*self.notes, *map(str, self.effects)])
+
+    @property
+    def notes(self) -> Tuple[str, ...]:
+        """What the values rest on: the pinned levels, and how many records were left out."""
+        pins = [f"pinned {printed_name(name)}={level}" for name, level in self.pinned.items()]
+        if pins:
+            pins[-1] += " (in the population every level gives the same)"
+        return (*pins, *([f"{self.dropped} records left out that lack a value"] if self.dropped else []))
+
+    @property
+    def levels(self) -> Dict[str, List[Level]]:
+        """The levels of each variable of y and of x, in the order of the effects.
+
+        >>> from causal import Diagram
+        >>> Diagram("dag{ X -> Y }").effects({"X": ["a", "a", "b"], "Y": [0, 1, 1]}, "X", "Y").levels
+        {'Y': [0, 1], 'X': ['a', 'b']}
+        """
+        found: Dict[str, Dict[Level, None]] = {name: {} for name in (*self.formula.target.y, *self.formula.target.x)}
+        for effect in self.effects:
+            for name, level in (*effect.y.items(), *effect.x.items()):
+                found[name][level] = None
+        return {name: list(levels) for name, levels in found.items()}
 
     def place(self, y: Mapping[str, Level], x: Mapping[str, Level]) -> int:
         """The number of the effect at these levels."""
         for k, effect in enumerate(self.effects):
             if effect.y == dict(y) and effect.x == dict(x):
                 return k
-        raise RequestError(f"there is no effect {_cell_text(y, x)} in the data")
+        there = [f"{name} has {', '.join(map(repr, levels))}" for name, levels in self.levels.items()]
+        raise RequestError(f"there is no effect {_cell_text(y, x)} in the data, in which {'; '.join(there)}")
 
     def at(self, y: Mapping[str, Level], x: Mapping[str, Level]) -> Value:
         """The value at these levels."""
@@ -171,12 +272,49 @@ class Effects(Sequence[Effect]):
         """
         return Contrast(self.at(outcome, treated), self.at(outcome, control))
 
+    @property
+    def numbers(self) -> Dict[Level, Fraction]:
+        """The number of each level of the outcome, which has to be one variable with numbers for levels."""
+        if len(self.formula.target.y) != 1:
+            raise RequestError("a mean is of one outcome")
+        name = self.formula.target.y[0]
+        found = {level: number_of(level) for level in self.levels[name]}
+        others = [repr(level) for level, number in found.items() if number is None]
+        if others:
+            raise RequestError(f"{name} has a level that is no number: {', '.join(others[:3])}")
+        return {level: number for level, number in found.items() if number is not None}
+
+    def means(self) -> Tuple[Mean, ...]:
+        """The mean of the outcome, which has numbers for levels, under each level of the exposures.
+
+        >>> from causal import Diagram
+        >>> effects = Diagram("dag{ X -> Y }").effects({"X": ["a", "a", "b"], "Y": [0, 5, 2]}, "X", "Y", exact=True)
+        >>> print(*effects.means(), sep="\\n")
+        mean at X=a = 5/2
+        mean at X=b = 2/1
+        """
+        of, name = self.numbers, self.formula.target.y[0]
+        sums: Dict[Tuple[Level, ...], Mean] = {}
+        for effect in self.effects:
+            term = effect.value.times(of[effect.y[name]])
+            key = tuple(effect.x.values())
+            sums[key] = Mean(effect.x, sums[key].value.plus(term) if key in sums else term)
+        return tuple(sums.values())
+
+    def mean(self, x: Mapping[str, Level]) -> Value:
+        """The mean of the outcome under these levels of the exposures."""
+        for mean in self.means():
+            if mean.x == dict(x):
+                return mean.value
+        raise RequestError(f"there is no mean at {_levels_text(x)} in the data")
+
     def frame(self) -> "pandas.DataFrame":
         """A DataFrame with a row for each effect (it needs pandas).
 
         Its columns are the pinned variables, the exposures and the outcomes, then `estimate`, a float, and either `exact`, a
         `Fraction`, or `from` and `to`, the bounds as floats that are rounded outward. These are bounds for rounding, and no
-        confidence interval. A value's column whose name a variable has is followed by `_`.
+        confidence interval. A value's column whose name a variable has is followed by `_`. What the values rest on stands in its
+        `attrs`: `pinned`, the pinned levels, and `dropped`, how many records were left out.
 
         >>> import pandas
         >>> from causal import Diagram
@@ -197,13 +335,20 @@ class Effects(Sequence[Effect]):
         pandas = _pandas()
         names = [*self.pinned, *self.formula.target.x, *self.formula.target.y]
         rows = [[*self.pinned.values(), *e.x.values(), *e.y.values(), *value] for e, value in zip(self.effects, values)]
-        return pandas.DataFrame(rows, columns=[*names, *(_apart(head, names) for head in heads)])
+        frame = pandas.DataFrame(rows, columns=[*names, *(_apart(head, names) for head in heads)])
+        frame.attrs.update(pinned=dict(self.pinned), dropped=self.dropped)
+        return frame
 
-    def _repr_html_(self) -> Optional[str]:
-        try:
-            return self.frame().to_html()
-        except ImportError:
-            return None
+    @property
+    def names(self) -> Tuple[str, ...]:
+        """The variables of x and of y."""
+        return (*self.formula.target.x, *self.formula.target.y)
+
+    def _repr_html_(self) -> str:
+        heads = ("estimate", "exact") if self.exact else ("estimate", "from", "to")
+        values = [[str(e.value.exact)] if self.exact else [repr(bound) for bound in e.value.floats()] for e in self]
+        rows = [[*e.x.values(), *e.y.values(), float(e.value), *value] for e, value in zip(self, values)]
+        return html_table([*self.names, *heads], rows, self.notes)
 
 
 def _apart(head: str, names: Sequence[str]) -> str:
@@ -221,10 +366,68 @@ def _pandas() -> Any:
 
 
 @dataclass(frozen=True)
-class Contrast:
-    """Two effects compared: the risk difference and the ratio of `treated` and `control`.
+class Spread(Sequence[Effects]):
+    """The effects at each level of what a formula reads beside x and y.
 
-    Both effects are proved; the difference and the ratio are computed here from their fractions, exactly or outward.
+    In the population every level gives the same, where the diagram is right; over the counts of a sample they differ by chance.
+    Where they differ by more, as the intervals of `Diagram.bootstrap` tell, the data speaks against the diagram. Each value is
+    proved, as `Effects` says; `without_value` has the levels at which some term has no records.
+
+    >>> from causal import Diagram
+    >>> napkin = Diagram("dag { W -> Z -> X -> Y  W <-> X  W <-> Y }")
+    >>> data = {name: [k >> bit & 1 for k in range(16)] for bit, name in enumerate("WZXY")}
+    >>> spread = napkin.spread(data, "X", "Y")
+    >>> [effects.pinned for effects in spread], spread.widest
+    ([{'Z': 0}, {'Z': 1}], 0.0)
+    """
+
+    effects: Tuple[Effects, ...]
+    without_value: Tuple[Dict[str, Level], ...] = ()
+
+    def __len__(self) -> int:
+        return len(self.effects)
+
+    @overload
+    def __getitem__(self, index: int) -> Effects: ...
+
+    @overload
+    def __getitem__(self, index: slice) -> Tuple[Effects, ...]: ...
+
+    def __getitem__(self, index: Union[int, slice]) -> Union[Effects, Tuple[Effects, ...]]:
+        return self.effects[index]
+
+    def __iter__(self) -> Iterator[Effects]:
+        return iter(self.effects)
+
+    @property
+    def widest(self) -> float:
+        """How far the values of one effect are apart at most."""
+        columns = zip(*([float(effect.value) for effect in effects] for effects in self.effects))
+        return max((max(values) - min(values) for values in columns), default=0.0)
+
+    def __str__(self) -> str:
+        parts = [effects.text for effects in self.effects]
+        parts += [f"no value at {_levels_text(levels)}" for levels in self.without_value]
+        return "\n".join([*parts, f"at most {self.widest:.6g} apart"])
+
+    def frame(self) -> "pandas.DataFrame":
+        """A DataFrame with the rows of each effect at each level (it needs pandas): see `Effects.frame`."""
+        return _pandas().concat([effects.frame() for effects in self.effects], ignore_index=True)
+
+    def _repr_html_(self) -> str:
+        if not self.effects:
+            return html_table([], [], [f"no value at {_levels_text(levels)}" for levels in self.without_value])
+        free, names = list(self.effects[0].pinned), self.effects[0].names
+        rows = [[*es.pinned.values(), *e.x.values(), *e.y.values(), float(e.value)] for es in self.effects for e in es]
+        notes = [f"no value at {_levels_text(levels)}" for levels in self.without_value]
+        return html_table([*free, *names, "estimate"], rows, [*notes, f"at most {self.widest:.6g} apart"])
+
+
+@dataclass(frozen=True)
+class Contrast:
+    """Two effects compared: the risk difference, the risk ratio and the odds ratio of `treated` and `control`.
+
+    Both effects are proved; the difference and the ratios are computed here from their fractions, exactly or outward.
 
     >>> from fractions import Fraction
     >>> from causal.effects import Contrast, Value
@@ -245,6 +448,18 @@ class Contrast:
     def ratio(self) -> Optional[Value]:
         """The risk ratio: treated over control, or None where control may be 0."""
         return self.treated.over(self.control)
+
+    @property
+    def odds_ratio(self) -> Optional[Value]:
+        """The odds ratio: the odds of treated over those of control, or None where one may have no odds or control's may be 0.
+
+        >>> from fractions import Fraction
+        >>> from causal.effects import Contrast, Value
+        >>> Contrast(Value(Fraction(1, 2), Fraction(1, 2)), Value(Fraction(1, 4), Fraction(1, 4))).odds_ratio.exact
+        Fraction(3, 1)
+        """
+        treated, control = self.treated.odds(), self.control.odds()
+        return treated.over(control) if treated and control else None
 
 
 _EXACT = r" = ([0-9]+)/([0-9]+)"

@@ -2,23 +2,27 @@
 from __future__ import annotations
 
 import random
-from typing import TYPE_CHECKING, Any, Dict, Mapping, Optional, Sequence, Tuple
+from itertools import product
+from typing import TYPE_CHECKING, Any, Dict, Iterator, Mapping, Optional, Sequence, Tuple
 
 from causal._library import Text
 from causal.bootstrap import Bootstrap, drawn
+from causal.columns import Data, may_have_blanks, path_of, read_bytes
 from causal.diagram import options
-from causal.effects import Effects, Level, LevelOf, read_effects, split_levels
-from causal.errors import CausalError, EvaluationError, NotIdentifiable, RequestError
+from causal.effects import Effects, Level, LevelOf, Spread, read_effects, split_levels
+from causal.errors import EvaluationError, NotIdentifiable, RequestError
 from causal.formula import Hedge
-from causal.names import Names, names_of
-from causal.tables import Data, Table, path_of, read_bytes, table_of
+from causal.names import Names
+from causal.tables import Cell, Table, check_request, table_of, table_of_file
 
 if TYPE_CHECKING:
     from causal.diagram import Diagram
 
+Pins = Optional[Mapping[str, Level]]
+
 
 class Evaluation:
-    """The effect of x on y in a diagram, which has a formula.
+    """The effect of x on y in a diagram, which has a formula; and how data is read for it.
 
     >>> from causal import Diagram
     >>> from causal.evaluation import Evaluation
@@ -26,7 +30,9 @@ class Evaluation:
     ('Z', 'X', 'Y')
     """
 
-    def __init__(self, diagram: "Diagram", x: Optional[Names], y: Optional[Names]) -> None:
+    def __init__(
+        self, diagram: "Diagram", x: Optional[Names], y: Optional[Names], count: Optional[str] = None, missing: str = "error"
+    ) -> None:
         answer = diagram.identify(x, y)
         if isinstance(answer, Hedge):
             raise NotIdentifiable(f"{answer.target} is not identifiable", place=answer)
@@ -34,29 +40,102 @@ class Evaluation:
         self.formula = answer
         # The variables that the formula reads, in the order of the vertices, as answers list them.
         self.used = tuple(name for name in diagram.vertices if name in answer.variables)
+        self.count = count
+        self.missing = missing
+        check_request(self.used, count, missing)
 
-    def effects(self, data: Data, count: Optional[str], exact: bool, missing: str) -> Effects:
+    def effects(self, data: Data, exact: bool, at: Pins) -> Effects:
         """The effects over the data: see `Diagram.effects`."""
         path = path_of(data)
-        if path is None:
-            return self.over_table(table_of(data, self.used, count, missing), exact)
-        return self.over_file(path, count, exact)
+        if path is not None and not self.formula.free and not at:
+            text = read_bytes(path)
+            if self.missing == "level" or not may_have_blanks(text):
+                return self.over_file(text, exact)
+        return self.over_table(self.pinned(self.table(data), at), exact)
 
-    def bootstrap(self, data: Data, count: Optional[str], missing: str, resamples: int, level: float, seed: int) -> Bootstrap:
+    def spread(self, data: Data, exact: bool) -> Spread:
+        """The effects at each level of what is pinned: see `Diagram.spread`."""
+        if not self.formula.free:
+            raise RequestError("the formula reads no variable beside x and y that could have another level")
+        table = self.table(data)
+        found, without = [], []
+        for pins in self.all_pins(table):
+            try:
+                found.append(self.over_table(table.pinned(pins), exact))
+            except EvaluationError:
+                without.append({name: table.levels_of(name)[place] for name, place in pins.items()})
+        return Spread(tuple(found), tuple(without))
+
+    def bootstrap(self, data: Data, resamples: int, level: float, seed: int, at: Pins, kind: str) -> Bootstrap:
         """The effects with intervals: see `Diagram.bootstrap`."""
-        table = table_of(data, self.used, count, missing)
+        table = self.pinned(self.table(data), at)
         estimate = self.over_table(table, exact=False)
-        path = path_of(data)
-        if path is not None:
-            self.same_as_file(estimate, path, count)
         source = random.Random(seed)
-        draws = [self.draw(table, source) for _ in range(resamples)]
-        return Bootstrap(estimate, tuple(draws), level, seed)
+        draws = [self.over_counts(table, drawn(source, table.counts)) for _ in range(resamples)]
+        return Bootstrap(estimate, tuple(draws), level, seed, kind, tuple(self.left_out(table)) if kind == "bca" else ())
 
-    def over_file(self, path: str, count: Optional[str], exact: bool) -> Effects:
-        """The effects over a CSV file, which is sent as it is."""
-        words = [*([] if count is None else [f"--count={count}"]), *(["--exact"] if exact else [])]
-        return self.over_text(read_bytes(path), words, lambda name, level: level)
+    def left_out(self, table: Table) -> Iterator[Tuple[int, Optional[Tuple[float, ...]]]]:
+        """The values without one record, for each cell of the table, with how many records it has."""
+        for cell, count in table.counts.items():
+            if count:
+                yield count, self.over_counts(table, {**table.counts, cell: count - 1})
+
+    # How data is read.
+
+    def table(self, data: Data) -> Table:
+        """The table of the data. The library reads a file itself too, and both readings have to give the same."""
+        path = path_of(data)
+        if path is None:
+            return table_of(data, self.used, self.count, self.missing)
+        return table_of_file(
+            read_bytes(path), self.used, self.count, self.missing, self.outcome_over_file, self.outcome_over_table
+        )
+
+    def outcome_over_file(self, text: bytes) -> object:
+        """What the library makes of a text of counts: its values, or the place where there is none."""
+        try:
+            direct = self.over_file(text, exact=False)
+            return direct.effects, direct.pinned
+        except EvaluationError as error:
+            return error.number, error.place
+
+    def outcome_over_table(self, table: Table) -> object:
+        """The same of a table."""
+        try:
+            found = self.over_table(table, exact=False)
+            return found.effects, found.pinned
+        except EvaluationError as error:
+            return error.number, error.place
+
+    def pinned(self, table: Table, at: Pins) -> Table:
+        """The table in which the level comes first that each free variable is pinned at: the first in order unless it is given."""
+        pins = {name: order[0] for name, order in zip(table.names, table.ranked) if name in self.formula.free and order}
+        for name, level in (at or {}).items():
+            pins[name] = self.place_of(table, name, level)
+        return table.pinned(pins)
+
+    def place_of(self, table: Table, name: str, level: Level) -> int:
+        """The place of a level of a free variable."""
+        if name not in self.formula.free:
+            free = f"a level of {', '.join(self.formula.free)}" if self.formula.free else "no such"
+            raise RequestError(f"no level can be given for {name}: the formula reads {free}")
+        levels = table.levels_of(name)
+        if level not in levels:
+            there = ", ".join(repr(levels[place]) for place in table.ranked_of(name))
+            raise RequestError(f"{name} has no level {level!r} in the data; it has {there or 'none'}")
+        return levels.index(level)
+
+    def all_pins(self, table: Table) -> Iterator[Dict[str, int]]:
+        """Each choice of a level of each free variable."""
+        orders = [table.ranked_of(name) for name in self.formula.free]
+        return (dict(zip(self.formula.free, places)) for places in product(*orders))
+
+    # How the library is asked.
+
+    def over_file(self, text: bytes, exact: bool) -> Effects:
+        """The effects over the text of a CSV file, which is sent as it is."""
+        words = [*([] if self.count is None else [f"--count={self.count}"]), *(["--exact"] if exact else [])]
+        return self.over_text(text, words, lambda name, level: level)
 
     def over_table(self, table: Table, exact: bool, text: Optional[bytes] = None) -> Effects:
         """The effects over a table, or over another text of counts with the same levels."""
@@ -74,16 +153,10 @@ class Evaluation:
         answer = self.diagram._ask("evaluate", *lists, *words, second=text, levels=cell)[1]
         return read_effects(answer, self.formula, level_of, dropped)
 
-    def same_as_file(self, estimate: Effects, path: str, count: Optional[str]) -> None:
-        """The library reads the file itself too: both readings have to give the same."""
-        direct = self.over_file(path, count, exact=False)
-        if direct.effects != estimate.effects or direct.pinned != estimate.pinned:
-            raise CausalError("the file isn't plain CSV: Python reads it otherwise than the library does; give a DataFrame instead")
-
-    def draw(self, table: Table, source: random.Random) -> Optional[Tuple[float, ...]]:
-        """The effects over a table that is drawn anew, or None where some cell has no value."""
+    def over_counts(self, table: Table, counts: Mapping[Cell, int]) -> Optional[Tuple[float, ...]]:
+        """The effects over other counts of a table, or None where some cell has no value."""
         kept = {*self.formula.target.x, *self.formula.target.y, *self.formula.free}
-        text = table.text(drawn(source, table.counts), kept)
+        text = table.text({cell: count for cell, count in counts.items() if count}, kept)
         try:
             return tuple(float(effect.value) for effect in self.over_table(table, exact=False, text=text))
         except EvaluationError:
@@ -98,9 +171,11 @@ def levels_at(names: Sequence[str], levels: Any) -> Dict[str, Level]:
     ({'T': 'A'}, {'S': 'small', 'T': 'A'})
     """
     if isinstance(levels, Mapping):
+        if set(levels) != set(names):
+            raise RequestError(f"a level is needed for each of {', '.join(names)}, and was given for {', '.join(map(str, levels))}")
         return {name: levels[name] for name in names}
     if len(names) == 1:
         return {names[0]: levels}
-    if isinstance(levels, str) or len(names_of(levels)) != len(names):
+    if isinstance(levels, str) or len(list(levels)) != len(names):
         raise RequestError(f"a level is needed for each of {', '.join(names)}")
     return dict(zip(names, levels))

@@ -237,7 +237,8 @@ class Hedge(HedgeSets):
     that join it, found in turn; `causes` are the hidden causes of both models; `first` and `second` are the bits of each model.
 
     Where a condition was given, `conditional` is the effect that was asked for, and `target` the joint effect of which the hedge
-    speaks: by it the joint effect can't be computed from observations, and nothing is claimed of the conditional one.
+    speaks: by it the joint effect can't be computed from observations. It is proved that no formula over observations equals the
+    conditional one either, in every model of the diagram.
 
     >>> from causal import Diagram
     >>> hedge = Diagram("dag{ X -> Y X <-> Y }").identify("X", "Y")
@@ -264,19 +265,22 @@ class Hedge(HedgeSets):
 
         return Fraction(1, 2), Fraction(1, 2) + Fraction(1, 2**self.noise)
 
-    @property
-    def text(self) -> str:
-        """The answer as it is printed."""
+    def _lines(self) -> List[str]:
+        """The printed lines."""
         asked = "" if self.conditional is None else f"{self.conditional} not identified; "
-        lines = [asked + HedgeSets.__str__(self)]
+        lines = (asked + HedgeSets.__str__(self)).split("\n")
         lines += [f"choice {printed_name(v)} -> {printed_name(c)}" for v, c in self.choice]
         lines += [f"link {printed_name(v)} <-> {printed_name(p)}" for v, p in self.links]
         lines += map(str, self.causes)
         lines += [f"first {bit}" for bit in self.first]
         lines += [f"second {bit}" for bit in self.second]
         event = " + ".join(f"k({printed_name(v)})" for v in self.event)
-        lines.append(f"event {event} even: 1/2 in the first, 1/2 + 1/2^{self.noise} in the second")
-        return "\n".join(lines)
+        return [*lines, f"event {event} even: 1/2 in the first, 1/2 + 1/2^{self.noise} in the second"]
+
+    @property
+    def text(self) -> str:
+        """The answer as it is printed."""
+        return "\n".join(self._lines())
 
     def __str__(self) -> str:
         return self.text

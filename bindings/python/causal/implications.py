@@ -2,13 +2,15 @@
 from __future__ import annotations
 
 from dataclasses import dataclass
-from typing import TYPE_CHECKING, Any, Dict, Iterator, List, Optional, Sequence, Tuple
+from typing import TYPE_CHECKING, Dict, Iterator, List, Optional, Sequence, Tuple, Union, overload
 
 from causal._library import Text
+from causal.columns import Data, may_have_blanks, path_of, read_bytes
+from causal.display import html_table
 from causal.effects import Level, LevelOf, split_levels
 from causal.errors import UnreadableAnswer
 from causal.names import Cursor, printed_name, printed_set
-from causal.tables import Data, path_of, read_bytes, table_of
+from causal.tables import Table, check_request, table_of, table_of_file
 
 if TYPE_CHECKING:
     import pandas
@@ -31,8 +33,13 @@ class Difference:
     value: int
     cell: Dict[str, Level]
 
+    @property
+    def place(self) -> str:
+        """The levels, as they are printed."""
+        return ",".join(f"{printed_name(name)}={level}" for name, level in self.cell.items())
+
     def __str__(self) -> str:
-        return f"largest difference {self.value} at " + ",".join(f"{printed_name(v)}={level}" for v, level in self.cell.items())
+        return f"largest difference {self.value} at {self.place}"
 
 
 @dataclass(frozen=True)
@@ -79,7 +86,13 @@ class Implications(Sequence[Implication]):
     def __len__(self) -> int:
         return len(self.implications)
 
-    def __getitem__(self, index: Any) -> Any:
+    @overload
+    def __getitem__(self, index: int) -> Implication: ...
+
+    @overload
+    def __getitem__(self, index: slice) -> Tuple[Implication, ...]: ...
+
+    def __getitem__(self, index: Union[int, slice]) -> Union[Implication, Tuple[Implication, ...]]:
         return self.implications[index]
 
     def __iter__(self) -> Iterator[Implication]:
@@ -111,13 +124,14 @@ class Implications(Sequence[Implication]):
 
         has_data = any(it.difference is not None for it in self.implications)
         rows = [[it.a, it.b, it.given, *([it.difference.value, it.difference.cell] if it.difference else [])] for it in self]
-        return pandas.DataFrame(rows, columns=["a", "b", "given", *(["difference", "cell"] if has_data else [])])
+        frame = pandas.DataFrame(rows, columns=["a", "b", "given", *(["difference", "cell"] if has_data else [])])
+        frame.attrs.update(dropped=self.dropped)
+        return frame
 
-    def _repr_html_(self) -> Optional[str]:
-        try:
-            return self.frame().to_html()
-        except ImportError:
-            return None
+    def _repr_html_(self) -> str:
+        has_data = any(it.difference is not None for it in self.implications)
+        rows = [[it.a, it.b, it.given, *([it.difference.value, it.difference.place] if it.difference else [])] for it in self]
+        return html_table(["a", "b", "given", *(["largest difference", "at"] if has_data else [])], rows)
 
 
 def _read_pair(line: str) -> Implication:
@@ -168,17 +182,49 @@ def read_implications(text: str, level_of: LevelOf = lambda name, level: level, 
     return Implications(tuple(found), dropped)
 
 
+class _Counts:
+    """How the library is asked of the counts of a diagram's pairs."""
+
+    def __init__(self, diagram: "Diagram", pairs: Implications, count: Optional[str], missing: str) -> None:
+        self.diagram, self.pairs, self.count, self.missing = diagram, pairs, count, missing
+        self.names = [name for name in diagram.vertices if name in pairs.variables]
+        check_request(self.names, count, missing)
+
+    def over_text(self, text: bytes) -> Implications:
+        """The pairs with their differences over the text of a CSV file, which is sent as it is."""
+        words = [] if self.count is None else [f"--count={self.count}"]
+        return _with_counts(self.diagram, self.pairs, text, words, lambda name, level: level, 0)
+
+    def over_table(self, table: Table) -> Implications:
+        """The pairs with their differences over a table."""
+        words = [f"--count={table.count_column}"]
+        return _with_counts(self.diagram, self.pairs, table.text(), words, table.level, table.dropped)
+
+    def table(self, data: Data) -> Table:
+        """The table of the data."""
+        path = path_of(data)
+        if path is None:
+            return table_of(data, self.names, self.count, self.missing)
+        return table_of_file(read_bytes(path), self.names, self.count, self.missing, self.over_text, self.over_table)
+
+
 def implications_of(diagram: "Diagram", data: Optional[Data], count: Optional[str], missing: str) -> Implications:
     """The implications of a diagram, with their differences where there is data: see `Diagram.implications`."""
     pairs = read_implications(diagram._ask("implications")[1])
     if data is None or not pairs:
         return pairs
+    counts = _Counts(diagram, pairs, count, missing)
     path = path_of(data)
     if path is not None:
-        words = [] if count is None else [f"--count={count}"]
-        return _with_counts(diagram, pairs, read_bytes(path), words, lambda name, level: level, 0)
-    table = table_of(data, [name for name in diagram.vertices if name in pairs.variables], count, missing)
-    return _with_counts(diagram, pairs, table.text(), [f"--count={table.count_column}"], table.level, table.dropped)
+        text = read_bytes(path)
+        if missing == "level" or not may_have_blanks(text):
+            return counts.over_text(text)
+    return counts.over_table(counts.table(data))
+
+
+def table_for(diagram: "Diagram", pairs: Implications, data: Data, count: Optional[str], missing: str) -> Table:
+    """The table of the variables of the pairs."""
+    return _Counts(diagram, pairs, count, missing).table(data)
 
 
 def _with_counts(

@@ -2,11 +2,12 @@
 from __future__ import annotations
 
 import re
-from typing import Iterable, Optional, Tuple, Union
+from typing import Any, Iterable, Optional, Tuple, Union
 
-from causal.errors import UnreadableAnswer
+from causal.errors import RequestError, UnreadableAnswer
 
-Names = Union[str, Iterable[str]]
+Name = Union[str, int]
+Names = Union[Name, Iterable[Name]]
 
 _BARE_TEXT = r'[^ \t\r\n{}\[\]";=,<>\-@()|*/]+'
 _QUOTED_TEXT = r'"[^"\r\n]+"'
@@ -19,13 +20,30 @@ _MARK = re.compile(r" (<->|->|<-) ")
 
 
 def names_of(names: Names) -> Tuple[str, ...]:
-    """One name, or several, as a tuple.
+    """One name, or several, as a tuple. A whole number is the name that its digits are.
 
     >>> from causal.names import names_of
-    >>> names_of("A, B"), names_of(["A", "B"])
-    (('A, B',), ('A', 'B'))
+    >>> names_of("A, B"), names_of(["A", "B"]), names_of(1)
+    (('A, B',), ('A', 'B'), ('1',))
+    >>> names_of(None)
+    Traceback (most recent call last):
+        ...
+    causal.errors.RequestError: a name is a text, and a set several of them; None is neither
     """
-    return (names,) if isinstance(names, str) else tuple(names)
+    several: Iterable[Any] = [names] if isinstance(names, (str, int)) or not hasattr(names, "__iter__") else names
+    try:
+        return tuple([_name_of(name) for name in several])
+    except TypeError:
+        raise RequestError(f"a name is a text, and a set several of them; {names!r} is neither") from None
+
+
+def _name_of(name: Name) -> str:
+    if isinstance(name, str):
+        return name
+    # (numpy has whole numbers of its own)
+    if isinstance(name, bool) or not hasattr(name, "__index__"):
+        raise TypeError(name)
+    return str(name)
 
 
 def printed_name(name: str) -> str:

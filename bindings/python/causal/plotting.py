@@ -1,58 +1,22 @@
 """Drawings of diagrams with matplotlib."""
 from __future__ import annotations
 
-from typing import Any, Dict, List, Mapping, Optional, Set, Tuple
+import io
+from typing import Any, Dict, List, Mapping, Optional, Sequence, Set, Tuple
 
 from causal.answers import GraphText, Path
 from causal.errors import RequestError
 from causal.formula import Hedge, HedgeSets
+from causal.layout import BENT, STRAIGHT, Box, Point, Positions, bend_round, curve, limits, positions_of
 
 COLOURS = {"exposure": "#8fd18f", "outcome": "#8fb8e8", "adjusted": "#f2c46d", "latent": "#d9d9d9"}
 PLAIN = "#ffffff"
 DRAWN_OUT = "#c0392b"
 SMALL_SET = "#7d3cb5"
-Positions = Mapping[str, Tuple[float, float]]
-
-
-def layers_of(content: GraphText) -> Dict[str, int]:
-    """The layer of each vertex: how many edges the longest directed path to it has.
-
-    >>> from causal import Diagram
-    >>> from causal.plotting import layers_of
-    >>> layers_of(Diagram("dag { A -> B -> C A -> C }")._content)
-    {'A': 0, 'B': 1, 'C': 2}
-    """
-    layers = {vertex: 0 for vertex in content.vertices}
-    for _ in content.vertices:
-        for a, b in content.edges:
-            layers[b] = max(layers[b], layers[a] + 1)
-    return layers
-
-
-def positions_of(content: GraphText) -> Dict[str, Tuple[float, float]]:
-    """A place for each vertex: layers from left to right, and within a layer by the mean height of the neighbours before.
-
-    >>> from causal import Diagram
-    >>> from causal.plotting import positions_of
-    >>> positions_of(Diagram("dag { A -> B }")._content)
-    {'A': (0.0, 0.0), 'B': (1.0, 0.0)}
-    """
-    layers = layers_of(content)
-    places: Dict[str, Tuple[float, float]] = {}
-    for layer in sorted(set(layers.values())):
-        members = [vertex for vertex in content.vertices if layers[vertex] == layer]
-        members.sort(key=lambda vertex: _mean_height(vertex, content, places))
-        for place, vertex in enumerate(members):
-            # Layers are shifted in turn, so that three vertices in a row seldom lie on one line.
-            shift = 0.15 * (layer % 3) if len(layers) > 2 else 0.0
-            places[vertex] = (float(layer), (len(members) - 1) / 2 - place + shift)
-    return places
-
-
-def _mean_height(vertex: str, content: GraphText, places: Positions) -> float:
-    joined = [*content.edges, *content.bidirected, *((b, a) for a, b in content.bidirected)]
-    heights = [-places[a][1] for a, b in joined if b == vertex and a in places]
-    return sum(heights) / len(heights) if heights else 0.0
+# In points: the room round a name in its box, between two boxes in a row, and at the border.
+PADDING, GAP, MARGIN = 4.0, 36.0, 8.0
+# The largest side of a drawing, in inches.
+LARGEST = 40.0
 
 
 def marked_edges(path: Optional[Path], hedge: Optional[HedgeSets]) -> Set[Tuple[str, str, str]]:
@@ -81,19 +45,56 @@ def plot(
         from matplotlib import pyplot
     except ImportError as cause:
         raise ImportError("a drawing needs matplotlib") from cause
+    places = places_of(content, positions)
+    axes = pyplot.subplots()[1] if ax is None else ax
+    draw(axes, content, places, path, hedge, fits=ax is None)
+    return axes
+
+
+def svg(content: GraphText) -> Optional[str]:
+    """The drawing as SVG, or None where matplotlib isn't there."""
+    try:
+        from matplotlib.backends.backend_agg import FigureCanvasAgg
+        from matplotlib.figure import Figure
+    except ImportError:
+        return None
+    figure = Figure()
+    FigureCanvasAgg(figure)
+    draw(figure.add_axes((0, 0, 1, 1)), content, places_of(content, None), None, None, fits=True)
+    held = io.StringIO()
+    figure.savefig(held, format="svg", metadata={"Date": None})
+    return held.getvalue()
+
+
+def places_of(content: GraphText, positions: Optional[Positions]) -> Dict[str, Point]:
+    """The places that were given, or those by layers."""
     places = dict(positions) if positions is not None else positions_of(content)
     lacking = [vertex for vertex in content.vertices if vertex not in places]
     if lacking:
         raise RequestError(f"no position is given for {', '.join(lacking)}")
-    axes = pyplot.subplots()[1] if ax is None else ax
+    return places
+
+
+def draw(
+    axes: Any, content: GraphText, places: Positions, path: Optional[Path], hedge: Optional[HedgeSets], fits: bool
+) -> None:
+    """Draws the diagram; where `fits`, the figure gets the size that the names need."""
+    axes.set_axis_off()
+    names = {
+        vertex: _draw_vertex(axes, vertex, places[vertex], content.roles.get(vertex), _ring(vertex, path, hedge))
+        for vertex in content.vertices
+    }
+    halves = {vertex: _half_size(axes, text) for vertex, text in names.items()}
+    if fits:
+        _fit_figure(axes, places, halves)
+    _set_limits(axes, [(places[vertex], halves[vertex]) for vertex in names])
+    edges = [(a, "->", b) for a, b in content.edges] + [(a, "<->", b) for a, b in content.bidirected]
+    bends = _bends(axes, edges, places, halves)
+    _set_limits(axes, [(places[vertex], halves[vertex]) for vertex in names], _bulges(axes, edges, bends, places))
     marked = marked_edges(path, hedge)
-    for mark, edges in (("->", content.edges), ("<->", content.bidirected)):
-        for a, b in edges:
-            _draw_edge(axes, places[a], places[b], mark, (a, mark, b) in marked)
-    for vertex in content.vertices:
-        _draw_vertex(axes, vertex, places[vertex], content.roles.get(vertex), _ring(vertex, path, hedge))
-    _frame(axes, content, places)
-    return axes
+    for edge, bend in zip(edges, bends):
+        _draw_edge(axes, edge, bend, places, names, edge in marked)
+    _explain(axes, content)
 
 
 def _ring(vertex: str, path: Optional[Path], hedge: Optional[HedgeSets]) -> Tuple[str, float]:
@@ -105,28 +106,9 @@ def _ring(vertex: str, path: Optional[Path], hedge: Optional[HedgeSets]) -> Tupl
     return "#333333", 1.0
 
 
-def _draw_edge(axes: Any, start: Tuple[float, float], end: Tuple[float, float], mark: str, is_marked: bool) -> None:
-    is_bidirected = mark == "<->"
-    axes.annotate(
-        "",
-        xy=end,
-        xytext=start,
-        arrowprops={
-            "arrowstyle": "<|-|>" if is_bidirected else "-|>",
-            "linestyle": "--" if is_bidirected else "-",
-            "color": DRAWN_OUT if is_marked else "#333333",
-            "linewidth": 2.5 if is_marked else 1.2,
-            "shrinkA": 16,
-            "shrinkB": 16,
-            "connectionstyle": f"arc3,rad={-0.35 if is_bidirected else 0.0}",
-        },
-        zorder=1,
-    )
-
-
-def _draw_vertex(axes: Any, vertex: str, place: Tuple[float, float], role: Optional[str], ring: Tuple[str, float]) -> None:
+def _draw_vertex(axes: Any, vertex: str, place: Point, role: Optional[str], ring: Tuple[str, float]) -> Any:
     colour, width = ring
-    axes.text(
+    return axes.text(
         *place,
         vertex.replace("$", r"\$"),
         ha="center",
@@ -142,14 +124,95 @@ def _draw_vertex(axes: Any, vertex: str, place: Tuple[float, float], role: Optio
     )
 
 
-def _frame(axes: Any, content: GraphText, places: Positions) -> None:
+def _pixels(axes: Any, points: float) -> float:
+    return float(points * axes.figure.dpi / 72)
+
+
+def _on_canvas(axes: Any, place: Point) -> Point:
+    x, y = axes.transData.transform(place)
+    return float(x), float(y)
+
+
+def _half_size(axes: Any, text: Any) -> Point:
+    """Half of the width and height of a name's box on the canvas."""
+    canvas = axes.figure.canvas
+    extent = text.get_window_extent(canvas.get_renderer() if hasattr(canvas, "get_renderer") else None)
+    room = _pixels(axes, PADDING)
+    return float(extent.width) / 2 + room, float(extent.height) / 2 + room
+
+
+def _fit_figure(axes: Any, places: Positions, halves: Mapping[str, Point]) -> None:
+    """Makes the figure as large as the names need it to stand apart."""
+    if not halves:
+        return
+    sizes = []
+    for side, inches in enumerate(axes.figure.get_size_inches()):
+        at = [places[vertex][side] for vertex in halves]
+        longest = 2 * max(half[side] for half in halves.values()) + _pixels(axes, GAP)
+        sizes.append(min(max(inches, (max(at) - min(at) + 1) * longest / axes.figure.dpi), LARGEST))
+    axes.figure.set_size_inches(sizes)
+
+
+def _set_limits(axes: Any, boxes: Sequence[Tuple[Point, Point]], more: Sequence[Point] = ()) -> None:
+    """Sets limits within which all names and further points lie."""
+    held = [*boxes, *((point, (0.0, 0.0)) for point in more)]
+    margin = _pixels(axes, MARGIN)
+    size = axes.get_window_extent()
+    for side, (length, set_limits) in enumerate(((size.width, axes.set_xlim), (size.height, axes.set_ylim))):
+        set_limits(*limits([place[side] for place, _ in held], [half[side] for _, half in held], float(length), margin))
+
+
+def _bends(axes: Any, edges: Sequence[Tuple[str, str, str]], places: Positions, halves: Mapping[str, Point]) -> List[float]:
+    """How far each edge bends, so that it runs behind no name."""
+    boxes = {vertex: Box(*_on_canvas(axes, places[vertex]), *half) for vertex, half in halves.items()}
+    found = []
+    for a, mark, b in edges:
+        others = [box for vertex, box in boxes.items() if vertex not in (a, b)]
+        found.append(bend_round(boxes[a][:2], boxes[b][:2], others, STRAIGHT if mark == "->" else BENT, _pixels(axes, 3)))
+    return found
+
+
+def _bulges(axes: Any, edges: Sequence[Tuple[str, str, str]], bends: Sequence[float], places: Positions) -> List[Point]:
+    """The middle of each edge, in the units of the axes."""
+    found = []
+    for (a, _, b), bend in zip(edges, bends):
+        points = curve(_on_canvas(axes, places[a]), _on_canvas(axes, places[b]), bend)
+        x, y = axes.transData.inverted().transform(points[len(points) // 2])
+        found.append((float(x), float(y)))
+    return found
+
+
+def _draw_edge(
+    axes: Any, edge: Tuple[str, str, str], bend: float, places: Positions, names: Mapping[str, Any], is_marked: bool
+) -> None:
+    """Draws an edge from box to box, above the names, whose boxes are known once they are drawn."""
+    from matplotlib.patches import FancyArrowPatch
+
+    a, mark, b = edge
+    axes.add_patch(
+        FancyArrowPatch(
+            places[a],
+            places[b],
+            patchA=names[a].get_bbox_patch(),
+            patchB=names[b].get_bbox_patch(),
+            shrinkA=1.5,
+            shrinkB=1.5,
+            arrowstyle="<|-|>" if mark == "<->" else "-|>",
+            linestyle="--" if mark == "<->" else "-",
+            color=DRAWN_OUT if is_marked else "#333333",
+            linewidth=2.5 if is_marked else 1.2,
+            mutation_scale=12,
+            connectionstyle=f"arc3,rad={bend}",
+            clip_on=False,
+            zorder=3,
+        )
+    )
+
+
+def _explain(axes: Any, content: GraphText) -> None:
+    """Says what the colours mean."""
     from matplotlib.patches import Patch
 
-    across: List[float] = [places[vertex][0] for vertex in content.vertices] or [0.0]
-    along: List[float] = [places[vertex][1] for vertex in content.vertices] or [0.0]
-    axes.set_xlim(min(across) - 0.6, max(across) + 0.6)
-    axes.set_ylim(min(along) - 0.8, max(along) + 0.8)
-    axes.set_axis_off()
     roles = [role for role in COLOURS if role in content.roles.values()]
     if roles:
         patches = [Patch(facecolor=COLOURS[role], edgecolor="#333333", label=role) for role in roles]

@@ -1,11 +1,14 @@
 """Effects from experiments on other variables, as `surrogate` prints them."""
 from __future__ import annotations
 
-from dataclasses import dataclass
+from dataclasses import dataclass, fields
 from typing import Iterable, Tuple, Union
 
-from causal.formula import Formula, HedgeSets, read_formula, read_hedge_line, read_term
+from causal.formula import Formula, Hedge, HedgeSets, read_formula, read_hedge, read_hedge_line, read_term
 from causal.names import Cursor, Names, list_word, printed_set
+
+_FROM = " from these experiments"
+_NONE = f" is not identifiable{_FROM}"
 
 
 @dataclass(frozen=True)
@@ -15,7 +18,7 @@ class Stopped(HedgeSets):
     `district` is the first district of the diagram that none of the experiments frees, and `big`, `small` and `roots` are the
     sets of a hedge for it. It is proved that a hedge stands against the district without an experiment and under each of those
     that are disjoint from it, and that the effect can't be computed from observations alone. It isn't said that no other way
-    leads from these experiments to the effect.
+    leads from these experiments to the effect; with `models` it may be (`StoppedHedge`).
 
     >>> from causal import Diagram
     >>> stopped = Diagram("dag { X -> Z -> Y X <-> Y X -> Y }").surrogate("X", "Y", experiments="Z")
@@ -30,6 +33,30 @@ class Stopped(HedgeSets):
         return f"{self.target} has no formula found from these experiments\ndistrict {printed_set(self.district)}\n{sets}"
 
 
+@dataclass(frozen=True)
+class StoppedHedge(Hedge):
+    """Why an effect can't be computed from observations and these experiments, with two models that show it. It counts as false.
+
+    It is proved that both models are positive and fit the diagram, agree on all observations and under each experiment, and
+    differ on the effect. `district` is the first district of the diagram that none of the experiments frees; the hedge is that
+    at which it stops under all experiments at once that leave it alone.
+
+    >>> from causal import Diagram
+    >>> diagram = Diagram("dag { Z -> X -> Y Z <-> X Z <-> Y X <-> Y }")
+    >>> stopped = diagram.surrogate("X", "Y", experiments="Z", models=True)
+    >>> stopped.district, stopped.big, stopped.probabilities
+    (('Y',), ('X', 'Y'), (Fraction(1, 2), Fraction(5, 8)))
+    """
+
+    district: Tuple[str, ...] = ()
+
+    @property
+    def text(self) -> str:
+        """The answer as it is printed."""
+        head, *lines = self._lines()
+        return "\n".join([f"{head} from these experiments", f"district {printed_set(self.district)}", *lines])
+
+
 def experiments_word(experiments: Iterable[Names]) -> str:
     """The word that lists experiments: each is one name or several.
 
@@ -40,7 +67,22 @@ def experiments_word(experiments: Iterable[Names]) -> str:
     return ";".join(map(list_word, [experiments] if isinstance(experiments, str) else experiments))
 
 
-def read_surrogate(text: str) -> Union[Formula, Stopped]:
+def _read_district(line: str) -> Tuple[str, ...]:
+    cursor = Cursor(line)
+    cursor.take("district ")
+    members = cursor.set()
+    cursor.end()
+    return members
+
+
+def _read_stopped_hedge(text: str) -> StoppedHedge:
+    head, district, rest = text.split("\n", 2)
+    hedge = read_hedge(f"{head[: -len(_FROM)]}\n{rest}")
+    parts = {part.name: getattr(hedge, part.name) for part in fields(Hedge)}
+    return StoppedHedge(**parts, district=_read_district(district))
+
+
+def read_surrogate(text: str) -> Union[Formula, Stopped, StoppedHedge]:
     """Reads the answer of `surrogate`.
 
     >>> from causal.surrogates import read_surrogate
@@ -50,11 +92,10 @@ def read_surrogate(text: str) -> Union[Formula, Stopped]:
     lines = text.rstrip("\n").split("\n")
     cursor = Cursor(lines[0])
     target = read_term(cursor)
+    if cursor.accept(_NONE):
+        cursor.end()
+        return _read_stopped_hedge(text)
     if not cursor.accept(" has no formula found from these experiments"):
         return read_formula(text)
     cursor.end()
-    district = Cursor(lines[1])
-    district.take("district ")
-    members = district.set()
-    district.end()
-    return Stopped(target, *read_hedge_line(lines[2]), members)
+    return Stopped(target, *read_hedge_line(lines[2]), _read_district(lines[1]))

@@ -4,19 +4,16 @@ Levels are sent as their numbers, so that any value may be a level; the answer's
 """
 from __future__ import annotations
 
-import csv
-import io
-import os
 from collections import Counter
-from dataclasses import dataclass
+from dataclasses import dataclass, replace
 from operator import index
-from typing import Any, Dict, Hashable, Iterable, List, Mapping, Optional, Sequence, Tuple, Union
+from typing import Any, Callable, Dict, Hashable, Iterable, List, Mapping, Optional, Sequence, Tuple
 
-from causal.errors import CountsError, MissingValues, RequestError
+from causal.columns import Column, Data, columns_of, csv_columns
+from causal.errors import CausalError, CountsError, MissingValues, RequestError
 
-# A DataFrame, a mapping of columns, or the path of a CSV file.
-Data = Union[str, "os.PathLike[str]", Mapping[str, Sequence[Any]], Any]
 Cell = Tuple[int, ...]
+MISSING = ("error", "drop", "level")
 
 
 @dataclass(frozen=True)
@@ -24,7 +21,8 @@ class Table:
     """Counts by the levels of the used variables.
 
     `levels` has the levels of each variable in order; `counts` the count of each cell, a tuple of places in these lists;
-    `dropped` says how many records were left out since they lacked a value.
+    `ranked` the places of the levels in the order of their size, of their text or of the categories; `dropped` says how many records
+    were left out since they lacked a value.
 
     >>> from causal.tables import table_of
     >>> table = table_of({"X": ["a", "b", "a"], "Y": [1, 1, 1]}, ["X", "Y"])
@@ -35,6 +33,7 @@ class Table:
     names: Tuple[str, ...]
     levels: Tuple[List[Hashable], ...]
     counts: Dict[Cell, int]
+    ranked: Tuple[Tuple[int, ...], ...]
     dropped: int = 0
 
     @property
@@ -48,6 +47,32 @@ class Table:
     def level(self, name: str, number: str) -> Hashable:
         """The level that a printed number stands for."""
         return self.levels[self.names.index(name)][int(number)]
+
+    def levels_of(self, name: str) -> List[Hashable]:
+        """The levels of a variable."""
+        return self.levels[self.names.index(name)]
+
+    def ranked_of(self, name: str) -> Tuple[int, ...]:
+        """The places of a variable's levels, in order."""
+        return self.ranked[self.names.index(name)]
+
+    def pinned(self, pins: Mapping[str, int]) -> "Table":
+        """The table with another order of the levels of some variables: that at the given place comes first.
+
+        >>> from causal.tables import table_of
+        >>> table = table_of({"X": ["b", "a", "b"], "Y": [1, 1, 1]}, ["X", "Y"]).pinned({"X": 1})
+        >>> table.levels, table.counts
+        ((['a', 'b'], [1]), {(1, 0): 2, (0, 0): 1})
+        """
+        places = [pins.get(name, 0) for name in self.names]
+        levels = tuple([held[at], *held[:at], *held[at + 1 :]] if held else held for held, at in zip(self.levels, places))
+
+        def moved(code: int, at: int) -> int:
+            return 0 if code == at else code + (code < at)
+
+        counts = {tuple(map(moved, cell, places)): count for cell, count in self.counts.items()}
+        ranked = tuple(tuple(moved(place, at) for place in order) for order, at in zip(self.ranked, places))
+        return replace(self, levels=levels, counts=counts, ranked=ranked)
 
     def text(self, counts: Optional[Mapping[Cell, int]] = None, kept: Optional[Iterable[str]] = None) -> bytes:
         """The counts as CSV: this table's, or those given in its place.
@@ -74,120 +99,66 @@ class Table:
         return [(tuple(min(k, n - 1) if n else b for n, b in zip(sizes, base)), 0) for k in range(max(sizes, default=0))]
 
 
-def path_of(data: Data) -> Optional[str]:
-    """The path, where the data is one.
+def check_request(names: Sequence[str], count: Optional[str], missing: str) -> None:
+    """Refuses what can't be asked of any data: a wrong word for missing values, or a column of counts that is a variable too.
 
-    >>> from causal.tables import path_of
-    >>> path_of("counts.csv"), path_of({"X": []})
-    ('counts.csv', None)
+    >>> from causal.tables import check_request
+    >>> check_request(["X", "Y"], "Y", "error")
+    Traceback (most recent call last):
+        ...
+    causal.errors.RequestError: the column Y can't hold the counts: it is a variable that the answer needs
     """
-    return os.fspath(data) if isinstance(data, (str, os.PathLike)) else None
-
-
-def read_bytes(path: Union[str, "os.PathLike[str]"]) -> bytes:
-    """What a file holds."""
-    with open(path, "rb") as file:
-        return file.read()
+    if missing not in MISSING:
+        raise RequestError(f"missing is {', '.join(map(repr, MISSING[:-1]))} or {MISSING[-1]!r}, and not {missing!r}")
+    if count is not None and not isinstance(count, str):
+        raise RequestError(f"count is the name of a column, and no {type(count).__name__}")
+    if count in names:
+        raise RequestError(f"the column {count} can't hold the counts: it is a variable that the answer needs")
 
 
 def table_of(data: Data, names: Sequence[str], count: Optional[str] = None, missing: str = "error") -> Table:
-    """The table of the named variables in a DataFrame, in a mapping of columns, or in a CSV file.
+    """The table of the named variables in data of any kind: see `table_from`."""
+    check_request(names, count, missing)
+    return table_from(columns_of(data, [*names, *([count] if count is not None else [])]), names, count, missing)
+
+
+def table_of_file(
+    text: bytes,
+    names: Sequence[str],
+    count: Optional[str],
+    missing: str,
+    over_text: Callable[[bytes], object],
+    over_table: Callable[[Table], object],
+) -> Table:
+    """The table of a CSV text. The library reads it itself too, and both readings have to give the same answer."""
+    direct = over_text(text)
+    columns = csv_columns(text, [*names, *([count] if count is not None else [])])
+    if over_table(table_from(columns, names, count, "level")) != direct:
+        raise CausalError("the file isn't plain CSV: Python reads it otherwise than the library does; give a DataFrame instead")
+    return table_from(columns, names, count, missing)
+
+
+def table_from(columns: Mapping[str, Column], names: Sequence[str], count: Optional[str] = None, missing: str = "error") -> Table:
+    """The table of the named variables in columns.
 
     The levels of a `Categorical` are its categories that occur, in their order; of any other column its values in order of first
-    appearance. A missing value (None, NaN, NaT, NA) in a used column is refused, or with `missing="drop"` its record is left out;
-    a CSV file has none, since an empty field is a level.
+    appearance. A missing value (None, NaN, NaT, NA, an empty field of a file) in a used column is refused; with `missing="drop"` its
+    record is left out, and with "level" it is a level.
     """
-    if missing not in ("error", "drop"):
-        raise RequestError(f"missing is 'error' or 'drop', and not {missing!r}")
-    used = list(dict.fromkeys([*names, *([count] if count is not None else [])]))
-    columns = _columns_of(data, used)
     kept, dropped = _kept_records(columns, missing)
     counts = _record_counts(columns[count].values, kept) if count is not None else [1] * len(kept)
     factors = [columns[name].factor(kept) for name in names]
     summed: Counter[Cell] = Counter()
     for cell, number in zip(zip(*(codes for codes, _ in factors)), counts):
         summed[cell] += number
-    return Table(tuple(names), tuple(levels for _, levels in factors), dict(summed), dropped)
+    ranked = tuple(columns[name].ranked(levels) for name, (_, levels) in zip(names, factors))
+    return Table(tuple(names), tuple(levels for _, levels in factors), dict(summed), ranked, dropped)
 
 
-@dataclass(frozen=True)
-class _Column:
-    """A column: its values, which of them are missing, and the order of its levels where it has one."""
-
-    name: str
-    values: Sequence[Any]
-    missing: Sequence[bool]
-    order: Optional[Sequence[Any]] = None
-
-    def factor(self, kept: Sequence[int]) -> Tuple[List[int], List[Hashable]]:
-        """The number of each kept value among the levels, and the levels."""
-        numbers: Dict[Hashable, int] = {}
-        values = [self.values[k] for k in kept]
-        if self.order is not None:
-            occurring = set(values)
-            numbers = {level: k for k, level in enumerate(level for level in self.order if level in occurring)}
-        try:
-            codes = [numbers.setdefault(value, len(numbers)) for value in values]
-        except TypeError as cause:
-            raise RequestError(f"the column {self.name} has a value that can't be a level: {cause}") from cause
-        return codes, list(numbers)
-
-
-def _columns_of(data: Any, used: Sequence[str]) -> Dict[str, _Column]:
-    path = path_of(data)
-    if path is not None:
-        return _csv_columns(read_bytes(path), used)
-    return _frame_columns(data, used) if hasattr(data, "columns") else _mapping_columns(data, used)
-
-
-def _frame_columns(frame: Any, used: Sequence[str]) -> Dict[str, _Column]:
-    places: Dict[str, List[int]] = {}
-    for place, label in enumerate(frame.columns):
-        places.setdefault(str(label), []).append(place)
-    columns = {}
-    for name in used:
-        series = frame.iloc[:, _only(places.get(name, []), name)]
-        categories = getattr(series.dtype, "categories", None)
-        order = None if categories is None else categories.tolist()
-        columns[name] = _Column(name, series.tolist(), series.isna().tolist(), order)
-    return columns
-
-
-def _only(places: Sequence[int], name: str) -> int:
-    if len(places) != 1:
-        sentence = f"the column {name} is there twice" if places else f"there is no column {name}"
-        raise CountsError(sentence, 3 if places else 2, name)
-    return places[0]
-
-
-def _mapping_columns(data: Mapping[str, Sequence[Any]], used: Sequence[str]) -> Dict[str, _Column]:
-    columns = {}
-    for name in used:
-        if name not in data:
-            _only([], name)
-        values = list(data[name])
-        columns[name] = _Column(name, values, [value is None or value != value for value in values])
-    if len({len(column.values) for column in columns.values()}) > 1:
-        raise RequestError("the columns have different lengths")
-    return columns
-
-
-def _csv_columns(text: bytes, used: Sequence[str]) -> Dict[str, _Column]:
-    content = text[3:] if text.startswith(b"\xef\xbb\xbf") else text
-    reader = csv.reader(io.StringIO(content.decode("utf-8", "surrogateescape"), newline=""))
-    rows = [row for row in reader if row]
-    head = rows[0] if rows else []
-    columns = {}
-    for name in used:
-        place = _only([k for k, label in enumerate(head) if label == name], name)
-        columns[name] = _Column(name, [row[place] for row in rows[1:]], [False] * (len(rows) - 1))
-    return columns
-
-
-def _kept_records(columns: Mapping[str, _Column], missing: str) -> Tuple[Sequence[int], int]:
+def _kept_records(columns: Mapping[str, Column], missing: str) -> Tuple[Sequence[int], int]:
     size = max((len(column.values) for column in columns.values()), default=0)
     lacking = [column for column in columns.values() if any(column.missing)]
-    if not lacking:
+    if not lacking or missing == "level":
         return range(size), 0
     if missing == "error":
         name, records = lacking[0].name, sum(lacking[0].missing)

@@ -63,7 +63,7 @@ class PrintedAgain(unittest.TestCase):
                     free = tuple(line[7:].split("=")[0] for line in case.printed.split("\n") if line.startswith("pinned "))
                     found = effects.read_effects(case.printed, formula.Formula(names.target, "", (), free))
                     printed = case.printed.replace("from 0.000000000000000000 to 0.000000000000000000", "= 0/1")
-                    self.assertEqual(str(found) + "\n", printed)
+                    self.assertEqual(found.text + "\n", printed)
 
     def target_of(self, line):
         """The target of a printed cell, whose levels hold no mark."""

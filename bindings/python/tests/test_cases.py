@@ -8,6 +8,7 @@ import unittest
 from worked import all_cases
 
 import causal
+from causal.evaluation import Evaluation
 from causal.names import Cursor
 
 LISTS = ("x", "y", "z", "do", "given", "set")
@@ -36,7 +37,7 @@ def options_of(words):
         word = rest.pop(0)
         if not word.startswith("--"):
             places.append(word)
-        elif word in ("--project", "--certificate", "--latex", "--exact", "--back-door"):
+        elif word in ("--project", "--certificate", "--latex", "--exact", "--back-door", "--models"):
             options[word[2:]] = True
         else:
             name, _, value = word[2:].partition("=")
@@ -130,7 +131,8 @@ class Questions(unittest.TestCase):
 
     def ask_evaluate(self, diagram, second, options, folder):
         try:
-            return diagram.effects(self.file_of(second, folder), **options)
+            exact = options.pop("exact", False)
+            return Evaluation(diagram, **{"x": None, "y": None, **options}).over_file(second or b"", exact).text
         except causal.NotIdentifiable as error:
             return error.place
 
@@ -138,7 +140,7 @@ class Questions(unittest.TestCase):
         number = 0
         with tempfile.TemporaryDirectory() as folder:
             for case in all_cases():
-                if case.words[:1] in (["implications"], ["survey"], ["surrogate"]) or case.fails or case.status in (2, 6) or self.is_refused_before(case):
+                if case.words[:1] == ["survey"] or case.fails or case.status in (2, 6) or self.is_refused_before(case):
                     continue
                 number += 1
                 with self.subTest(case.name):

@@ -22,6 +22,22 @@ NOT_IDENTIFIED = (
     "event k(Y) even: 1/2 in the first, 1/2 + 1/2^3 in the second\n"
 )
 STOPPED = "P(Y|do(X)) has no formula found from these experiments\ndistrict {Y}\nhedge {X,Y} over {Y} with roots {Y}\n"
+STOPPED_HEDGE = """P(Y|do(X)) is not identifiable from these experiments
+district {Y}
+hedge {X,Y} over {Y} with roots {Y}
+choice X -> Y
+link X <-> Y
+cause 0 on {X,Y} with weights 1 1
+cause 1 on {Y} with weights 3 1
+cause 2 on {Y} with weights 3 1
+first h(X) = c0
+first h(Y) = h(X) + c0 + c1
+first k(Y) = h(Y) + c2
+second h(X) = c0
+second h(Y) = c1
+second k(Y) = h(Y) + c2
+event k(Y) even: 1/2 in the first, 1/2 + 1/2^3 in the second
+"""
 
 
 class Library:
@@ -162,6 +178,15 @@ class Experiments(unittest.TestCase):
         self.assertEqual((found.district, found.big, found.small, found.roots), (("Y",), ("X", "Y"), ("Y",), ("Y",)))
         self.assertFalse(found.identifiable)
         self.assertEqual(f"{found}\n", STOPPED)
+
+    def test_two_models(self):
+        with answering((1, STOPPED_HEDGE, "")) as library:
+            found = Diagram("dag { X -> Y X <-> Y X -> Z }").surrogate("X", "Y", experiments=["Z"], models=True)
+        self.assertEqual(library.words[0][-1], "--models")
+        self.assertFalse(found)
+        self.assertEqual((found.district, found.big, found.noise), (("Y",), ("X", "Y"), 3))
+        self.assertEqual(f"{found}\n", STOPPED_HEDGE)
+        self.assertIsNone(found.certificate)
 
     def test_experiments(self):
         self.assertEqual(experiments_word("a;b"), '"a;b"')

@@ -1,6 +1,7 @@
 """Effects in data: columns, DataFrames and files."""
 import math
 import os
+import random
 import tempfile
 import unittest
 from fractions import Fraction
@@ -9,6 +10,7 @@ from worked import read_example
 
 import causal
 from causal import Diagram
+from causal.columns import may_have_blanks
 
 try:
     import pandas
@@ -54,16 +56,16 @@ class Columns(unittest.TestCase):
                 effect.value.exact
 
     def test_contrast(self):
-        contrast = KIDNEY.contrast(COUNTS, treated="A", control="B", outcome="success", count="n")
+        contrast = KIDNEY.contrast(COUNTS, treated="A", control="B", outcome="success", count="n", exact=True)
         self.assertEqual(contrast.difference.exact, EXACT[0] - EXACT[2])
         self.assertEqual(contrast.ratio.exact, EXACT[0] / EXACT[2])
-        bounds = KIDNEY.contrast(COUNTS, treated="A", control="B", outcome="success", count="n", exact=False)
+        bounds = KIDNEY.contrast(COUNTS, treated="A", control="B", outcome="success", count="n")
         self.assertTrue(bounds.difference.lower < EXACT[0] - EXACT[2] < bounds.difference.upper)
         self.assertTrue(bounds.ratio.lower < EXACT[0] / EXACT[2] < bounds.ratio.upper)
 
     def test_contrast_with_zero(self):
         data = {"X": ["a", "b"], "Y": [1, 0]}
-        contrast = Diagram("dag { X -> Y }").contrast(data, "X", "Y", treated="a", control="b", outcome=1)
+        contrast = Diagram("dag { X -> Y }").contrast(data, "X", "Y", treated="a", control="b", outcome=1, exact=True)
         self.assertEqual((contrast.difference.exact, contrast.ratio), (1, None))
         with self.assertRaises(causal.RequestError):
             Diagram("dag { X -> Y }").contrast(data, "X", "Y", treated="c", control="b", outcome=1)
@@ -73,7 +75,7 @@ class Columns(unittest.TestCase):
         diagram = Diagram("dag { A -> Y B -> Y }")
         effects = diagram.effects(data, ["A", "B"], "Y", exact=True)
         self.assertEqual(effects.at({"Y": 1}, {"B": 0, "A": 1}).exact, Fraction(1, 2))
-        contrast = diagram.contrast(data, ["A", "B"], "Y", treated=[1, 1], control={"B": 0, "A": 0}, outcome=1)
+        contrast = diagram.contrast(data, ["A", "B"], "Y", treated=[1, 1], control={"B": 0, "A": 0}, outcome=1, exact=True)
         self.assertEqual(contrast.difference.exact, Fraction(1, 2))
 
     def test_nothing_is_done(self):
@@ -85,8 +87,9 @@ class Columns(unittest.TestCase):
         cells = [(w, z, x, y) for w in (0, 1) for z in "ba" for x in (0, 1) for y in (0, 1)]
         data = {name: [cell[k] for cell in cells] for k, name in enumerate("WZXY")}
         effects = napkin.effects(data, exact=True)
-        self.assertEqual((effects.pinned, exact_values(effects)), ({"Z": "b"}, [Fraction(1, 2)] * 4))
-        self.assertTrue(str(effects).startswith("pinned Z=b\n"))
+        self.assertEqual((effects.pinned, exact_values(effects)), ({"Z": "a"}, [Fraction(1, 2)] * 4))
+        self.assertTrue(effects.text.startswith("pinned Z=a\n"))
+        self.assertTrue(str(effects).startswith("pinned Z=a (in the population every level gives the same)\n"))
 
     def test_any_values_are_levels(self):
         levels = [(1, 2), frozenset("a"), None.__class__, b"x", "a,b\n\"c\"", 2.5, True, Fraction(1, 3)]
@@ -100,10 +103,13 @@ class Columns(unittest.TestCase):
         effects = Diagram('dag { count -> count_ }').effects(data, "count", "count_", count="n", exact=True)
         self.assertEqual(exact_values(effects), [1, 0, 0, 1])
 
-    def test_the_counts_are_a_variable_too(self):
+    def test_the_counts_are_no_variable(self):
         data = {"X": ["a", "b"], "Y": [1, 3]}
-        effects = Diagram("dag { X -> Y }").effects(data, [], "Y", count="Y", exact=True)
-        self.assertEqual(exact_values(effects), [Fraction(1, 4), Fraction(3, 4)])
+        for ask in (Diagram.effects, Diagram.bootstrap):
+            with self.assertRaisesRegex(causal.RequestError, "the column Y can't hold the counts"):
+                ask(Diagram("dag { X -> Y }"), data, [], "Y", count="Y")
+        with self.assertRaises(causal.RequestError):
+            Diagram("dag { A -> B -> C }").implications({"A": [1], "B": [1], "C": [1]}, count="B")
 
 
 class Refused(unittest.TestCase):
@@ -185,10 +191,10 @@ class Files(unittest.TestCase):
         self.assertEqual(exact_values(KIDNEY.effects(pathlib.Path(self.path), count="count", exact=True)), EXACT)
 
     def test_levels_as_they_stand(self):
-        text = 'X,Y\r\n"a,b",\r\n"say ""hi""",c\r\n'.encode() + b"\xff,c\r\n"
+        text = 'X,Y\r\n"a,b",d\r\n"say ""hi""",c\r\n'.encode() + b"\xff,c\r\n"
         effects = self.effects(text, Diagram("dag { X -> Y }"), x="X", y="Y", exact=True)
         self.assertEqual([effect.x["X"] for effect in effects][::2], ["a,b", 'say "hi"', "\udcff"])
-        self.assertEqual([effect.y["Y"] for effect in effects][:2], ["", "c"])
+        self.assertEqual([effect.y["Y"] for effect in effects][:2], ["d", "c"])
 
     def test_refused_record(self):
         with self.assertRaises(causal.CountsError) as caught:
@@ -210,6 +216,259 @@ class Files(unittest.TestCase):
         one = KIDNEY.bootstrap(self.path, count="count", resamples=20)
         other = KIDNEY.bootstrap({**COUNTS, "count": COUNTS["n"]}, count="count", resamples=20)
         self.assertEqual(one.draws, other.draws)
+
+
+class Blanks(unittest.TestCase):
+    """Empty fields of a file are missing values."""
+
+    TEXT = b"S,T,R,n,other\na,x,1,3,\na,x,0,2,\na,y,1,4,\na,y,0,1,\nb,x,1,2,\nb,x,0,2,\nb,y,1,1,\nb,y,0,6,\n"
+
+    def setUp(self):
+        folder = tempfile.TemporaryDirectory()
+        self.addCleanup(folder.cleanup)
+        self.path = os.path.join(folder.name, "counts.csv")
+
+    def put(self, text):
+        """Writes the file, and gives its path."""
+        with open(self.path, "wb") as file:
+            file.write(text)
+        return self.path
+
+    def test_blanks_elsewhere_do_not_matter(self):
+        exact = KIDNEY.effects(self.put(self.TEXT), count="n", exact=True)
+        plain = KIDNEY.effects(self.put(self.TEXT.replace(b",\n", b",z\n")), count="n", exact=True)
+        self.assertEqual((exact.effects, exact.dropped), (plain.effects, 0))
+
+    def test_they_are_missing(self):
+        for blank in (b"", b'""'):
+            path = self.put(self.TEXT + b"a," + blank + b",1,7,\n" + blank + b",x,1,7,z\n")
+            with self.assertRaises(causal.MissingValues) as caught:
+                KIDNEY.effects(path, count="n")
+            self.assertEqual(caught.exception.place, ("T", 1))
+            effects = KIDNEY.effects(path, count="n", exact=True, missing="drop")
+            whole = KIDNEY.effects(self.put(self.TEXT), count="n", exact=True)
+            self.assertEqual((effects.effects, effects.dropped), (whole.effects, 2))
+
+    def test_each_end_of_lines(self):
+        for end in (b"\n", b"\r\n", b"\r"):
+            plain = self.TEXT.replace(b",\n", b",z\n").replace(b"\n", end)
+            self.assertFalse(may_have_blanks(plain))
+            for line in (b",x,1,7,z", b"a,x,,7,z", b"a,x,1,7,", b'"",x,1,7,z', b'a,x,1,7,""'):
+                self.assertTrue(may_have_blanks(plain + line + end))
+                self.assertTrue(may_have_blanks(line + end + plain))
+            effects = KIDNEY.effects(self.put(plain + b",x,1,7,z" + end), count="n", missing="drop")
+            self.assertEqual(effects.dropped, 1)
+
+    def test_as_a_level(self):
+        path = self.put(self.TEXT + b"a,,1,7,\n,x,1,7,z\nb,,0,1,\n,,1,1,\n,y,1,1,\n")
+        effects = KIDNEY.effects(path, count="n", missing="level")
+        self.assertEqual({effect.x["T"] for effect in effects}, {"x", "y", ""})
+        with self.assertRaises(causal.EvaluationError) as caught:
+            KIDNEY.effects(self.put(self.TEXT + b",x,1,7,z\n"), count="n", missing="level")
+        self.assertEqual(caught.exception.place.cell["S"], "")
+
+    def test_a_blank_count(self):
+        path = self.put(self.TEXT + b"a,x,1,,\n")
+        for missing in ("error", "drop"):
+            with self.assertRaises(causal.CountsError) as caught:
+                KIDNEY.effects(path, count="n", missing=missing)
+            self.assertEqual((caught.exception.number, caught.exception.place), (4, 9))
+
+    def test_bootstrap(self):
+        path = self.put(self.TEXT + b",x,1,7,z\n")
+        with self.assertRaises(causal.MissingValues):
+            KIDNEY.bootstrap(path, count="n", resamples=1)
+        self.assertEqual(KIDNEY.bootstrap(path, count="n", resamples=1, missing="drop").effects.dropped, 1)
+
+    def test_implications(self):
+        chain = Diagram("dag { S -> T -> R }")
+        path = self.put(self.TEXT + b",x,1,7,z\n")
+        with self.assertRaises(causal.MissingValues):
+            chain.implications(path, count="n")
+        found = chain.implications(path, count="n", missing="drop")
+        self.assertEqual((found.implications, found.dropped), (chain.implications(self.put(self.TEXT), count="n").implications, 1))
+        self.assertEqual(chain.implications(path, count="n", missing="level").dropped, 0)
+
+    def test_levels_of_frames(self):
+        data = {"X": ["a", None, "b", float("nan")], "Y": [0, 1, 1, 0]}
+        effects = Diagram("dag { X -> Y }").effects(data, "X", "Y", exact=True, missing="level")
+        self.assertEqual([effect.x["X"] for effect in effects][::2], ["a", None, "b"])
+        self.assertEqual(exact_values(effects)[2:4], [Fraction(1, 2)] * 2)
+
+    @needs_pandas
+    def test_the_number_is_kept(self):
+        frame = KIDNEY.evaluate(self.put(self.TEXT + b",x,1,7,z\n"), count="n", missing="drop")
+        self.assertEqual(frame.attrs, {"pinned": {}, "dropped": 1})
+        text = str(KIDNEY.effects(self.path, count="n", missing="drop"))
+        self.assertTrue(text.startswith("1 records left out that lack a value\nP("))
+
+
+class Polars:
+    """What the package reads of a DataFrame of polars."""
+
+    class Column:
+        """A series."""
+
+        def __init__(self, values, categories=None):
+            self.values, self.shape, self.dtype = values, (len(values),), type("Type", (), {"categories": categories})()
+
+        def __iter__(self):
+            return iter(self.values)
+
+        def to_list(self):
+            """The values."""
+            return self.values
+
+    def __init__(self, columns, **categories):
+        self.columns = list(columns)
+        self.held = [self.Column(values, categories.get(name)) for name, values in columns.items()]
+        self.shape = (len(self.held[0].values), len(self.held))
+
+    def to_series(self, place):
+        """The column at a place."""
+        return self.held[place]
+
+
+class Arrow:
+    """What the package reads of a table of pyarrow."""
+
+    class Column:
+        """A column in chunks."""
+
+        def __init__(self, values):
+            self.values = values
+
+        def __iter__(self):
+            return iter(["a scalar"] * len(self.values))
+
+        def to_pylist(self):
+            """The values."""
+            return self.values
+
+    def __init__(self, columns):
+        self.column_names, self.columns, self.held = list(columns), [], list(columns.values())
+        self.shape = (len(self.held[0]), len(self.held))
+
+    def column(self, place):
+        """The column at a place."""
+        return self.Column(self.held[place])
+
+
+class Kinds(unittest.TestCase):
+    """Data of other kinds: read, or refused in plain words."""
+
+    def test_polars(self):
+        self.assertEqual(exact_values(KIDNEY.effects(Polars(COUNTS), count="n", exact=True)), EXACT)
+        enum = Polars.Column(["B", "A"])
+        effects = KIDNEY.effects(Polars(COUNTS, T=enum), count="n", exact=True)
+        self.assertEqual([effect.x["T"] for effect in effects], ["B", "B", "A", "A"])
+        with self.assertRaises(causal.MissingValues):
+            KIDNEY.effects(Polars({**COUNTS, "S": [None] * 8}), count="n")
+
+    def test_polars_itself(self):
+        try:
+            import polars
+        except ImportError:
+            raise unittest.SkipTest("no polars") from None
+        data = polars.DataFrame({**COUNTS, "T": polars.Series(COUNTS["T"], dtype=polars.Enum(["B", "A"]))})
+        self.assertEqual([effect.x["T"] for effect in KIDNEY.effects(data, count="n")], ["B", "B", "A", "A"])
+        with self.assertRaisesRegex(causal.RequestError, "collect"):
+            KIDNEY.effects(data.lazy())
+
+    def test_arrow(self):
+        self.assertEqual(exact_values(KIDNEY.effects(Arrow(COUNTS), count="n", exact=True)), EXACT)
+        with self.assertRaises(causal.CountsError):
+            KIDNEY.effects(Arrow({"S": []}))
+
+    def test_arrow_itself(self):
+        try:
+            import pyarrow
+        except ImportError:
+            raise unittest.SkipTest("no pyarrow") from None
+        self.assertEqual(exact_values(KIDNEY.effects(pyarrow.table(COUNTS), count="n", exact=True)), EXACT)
+
+    def test_what_is_no_data(self):
+        lazy = type("LazyFrame", (), {"collect": None})()
+        array = type("ndarray", (), {"shape": (2, 2)})()
+        plain = [(None, "no NoneType$"), (3, "no int$"), ([1], "no list$")]
+        for data, told in (*plain, (lazy, r"no LazyFrame; collect\(\)"), (array, "an array has no")):
+            for ask in (KIDNEY.effects, KIDNEY.bootstrap):
+                with self.subTest(told), self.assertRaisesRegex(causal.RequestError, told):
+                    ask(data)
+
+    def test_what_is_no_column(self):
+        for column in (None, 3, "abc", b"abc", {"a": 1}):
+            with self.subTest(column), self.assertRaisesRegex(causal.RequestError, "the column S is no list of values"):
+                KIDNEY.effects({**COUNTS, "S": column}, count="n")
+
+    def test_what_is_no_level(self):
+        with self.assertRaisesRegex(causal.RequestError, "the column S has a value that can't be a level"):
+            KIDNEY.effects({**COUNTS, "S": [[1]] * 8}, count="n")
+
+    def test_what_is_no_name_of_counts(self):
+        with self.assertRaisesRegex(causal.RequestError, "count is the name of a column, and no int"):
+            KIDNEY.effects(COUNTS, count=3)
+
+    @needs_pandas
+    def test_arrays(self):
+        import numpy
+
+        columns = {name: numpy.array(values) for name, values in COUNTS.items()}
+        effects = KIDNEY.effects(columns, count="n", exact=True)
+        self.assertEqual((exact_values(effects), type(effects[0].x["T"])), (EXACT, str))
+        days = numpy.array(["2020-01-01", "2021-01-01"] * 4, dtype="M8[ns]")
+        self.assertEqual(len(KIDNEY.effects({**columns, "T": days}, count="n")), 4)
+        for wrong in (numpy.zeros((8, 2)), numpy.zeros(())):
+            with self.assertRaises(causal.RequestError):
+                KIDNEY.effects({**columns, "S": wrong}, count="n")
+
+    @needs_pandas
+    def test_na_of_pandas(self):
+        data = {**COUNTS, "S": [pandas.NA, *COUNTS["S"][1:]], "T": [pandas.NaT, *COUNTS["T"][1:]]}
+        with self.assertRaises(causal.MissingValues) as caught:
+            KIDNEY.effects(data, count="n")
+        self.assertEqual(caught.exception.place, ("T", 1))
+        self.assertEqual(KIDNEY.effects(data, count="n", missing="drop").dropped, 1)
+
+    @needs_pandas
+    def test_a_series_in_a_mapping(self):
+        kinds = pandas.Categorical(COUNTS["T"], ["B", "A"])
+        effects = KIDNEY.effects({**COUNTS, "T": pandas.Series(kinds)}, count="n", exact=True)
+        self.assertEqual([effect.x["T"] for effect in effects], ["B", "B", "A", "A"])
+
+
+class Requests(unittest.TestCase):
+    """What is asked of effects that aren't there."""
+
+    def test_the_levels_that_are_there(self):
+        data = {"X": ["1", "0", "1"], "Y": ["0", "1", "1"]}
+        effects = Diagram("dag { X -> Y }").effects(data, "X", "Y")
+        told = "there is no effect P(Y=1|do(X=1)) in the data, in which Y has '0', '1'; X has '1', '0'"
+        with self.assertRaises(causal.RequestError) as caught:
+            effects.at({"Y": 1}, {"X": 1})
+        self.assertEqual(str(caught.exception), told)
+
+    def test_levels_by_name(self):
+        for wrong in ({"T": "A", "S": "small"}, {}, {"S": "small"}):
+            with self.assertRaisesRegex(causal.RequestError, "a level is needed for each of T"):
+                KIDNEY.contrast(COUNTS, treated=wrong, control="B", outcome="success", count="n")
+
+    def test_moderate_data(self):
+        source = random.Random(3)
+        data = {"S": [], "T": [], "R": [], "n": []}
+        for s in range(12):
+            for t in (0, 1):
+                for r in (0, 1):
+                    for name, value in zip("STRn", (s, t, r, source.randrange(2000, 7000))):
+                        data[name].append(value)
+        contrast = KIDNEY.contrast(data, treated=1, control=0, outcome=1, count="n")
+        self.assertTrue(-1 < float(contrast.difference) < 1 and float(contrast.ratio) > 0)
+        with self.assertRaisesRegex(causal.EvaluationError, "numbers over 2"):
+            KIDNEY.contrast(data, treated=1, control=0, outcome=1, count="n", exact=True)
+
+    def test_parts_of_effects(self):
+        effects = KIDNEY.effects(COUNTS, count="n")
+        self.assertEqual((effects[1:3], effects[-1]), (effects.effects[1:3], effects.effects[-1]))
 
 
 @needs_pandas
@@ -236,7 +495,8 @@ class Frames(unittest.TestCase):
     def test_pinned(self):
         cells = [(w, z, x, y) for w in (0, 1) for z in "ba" for x in (0, 1) for y in (0, 1)]
         frame = Diagram(read_example("napkin.dag")).evaluate(pandas.DataFrame(cells, columns=list("WZXY")))
-        self.assertEqual((list(frame.columns[:3]), set(frame["Z"])), (["Z", "X", "Y"], {"b"}))
+        self.assertEqual((list(frame.columns[:3]), set(frame["Z"])), (["Z", "X", "Y"], {"a"}))
+        self.assertEqual(frame.attrs, {"pinned": {"Z": "a"}, "dropped": 0})
 
     def test_categories_in_their_order(self):
         data = pandas.DataFrame({"X": ["low", "high", "low", "high"], "Y": [1, 0, 0, 1]})

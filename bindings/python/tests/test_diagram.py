@@ -53,6 +53,27 @@ class Texts(unittest.TestCase):
         with self.assertRaises(causal.RequestError):
             text_of_edges([("A", "B")], [], [], {"treatment": "A"})
 
+    def test_what_is_no_text(self):
+        for wrong in (3_000_000_000, None, 1.5, ["dag {}"], {}):
+            with self.subTest(wrong), self.assertRaisesRegex(TypeError, "a text is a str or bytes, and no"):
+                Diagram(wrong)
+        for text in (bytearray(b"dag { A }"), memoryview(b"dag { A }")):
+            self.assertEqual(Diagram(text).vertices, ("A",))
+
+    def test_names_that_are_whole_numbers(self):
+        diagram = Diagram.from_edges([(1, 2), (2, "3")], vertices=[0], exposure=1, outcome=[3])
+        self.assertEqual((diagram.vertices, diagram.edges), (("0", "1", "2", "3"), (("1", "2"), ("2", "3"))))
+        self.assertEqual(str(diagram.separated(1, [3], given=2)), "separated: {1} from {3} given {2}")
+
+    def test_what_is_no_name(self):
+        diagram = Diagram("dag { A -> B }")
+        for wrong in (1.5, True, [None], ["A", ("B",)], object()):
+            with self.subTest(wrong), self.assertRaisesRegex(causal.RequestError, "a name is a text, and a set several of them"):
+                diagram.separated(wrong, "B")
+        for wrong in (["AB"], [("A",)], [("A", "B", "C")], [3]):
+            with self.subTest(wrong), self.assertRaisesRegex(causal.RequestError, "an edge is a pair of names"):
+                Diagram.from_edges(wrong)
+
     def test_a_refusal_shows_the_line(self):
         with self.assertRaises(causal.DiagramError) as caught:
             Diagram("dag {\n  größe -> X\n  größe -- Y\n}")

@@ -53,7 +53,12 @@ def load_tests(loader, tests, pattern):
 
 
 class EachPublicName(unittest.TestCase):
-    """Each public function and class of the package has a docstring."""
+    """Each public function and class of the package has a docstring, and is listed."""
+
+    def test_dir(self):
+        self.assertLessEqual({*causal.__all__, "__version__"}, set(dir(causal)))
+        for name in dir(causal):
+            self.assertIsNotNone(getattr(causal, name, None) or name == "annotations", name)
 
     def test_docstrings(self):
         for name in causal.__all__:

@@ -23,7 +23,7 @@ shown true q texts x y z text (v, exposure, meets, effect) prints = record { v =
 -- one that this keeps from meeting it, by the text of that
 pub broken : (back_door : Bool) (q : MixedGraph) (texts : SetTexts) (x y z : ℕ) (fault : AdjFault) (text : List ℕ) → IsVerdict back_door q x y z (Breaks fault) → text ≡ texts.breaks z fault
     → CriterionAnswer back_door q texts x y z No text
-broken false q texts x y z fault text h prints = record { fault = fault; breaks = h; prints = prints }
+broken false q texts x y z fault text h prints = record { fault = fault; breaks = h.0; fails = h.1; prints = prints }
 broken true q texts x y z fault text (v, exposure, breaks) prints = record { v = v; exposure = exposure; fault = fault; breaks = breaks; prints = prints }
 
 -- exposures that aren't one vertex, by their refusal
@@ -35,5 +35,5 @@ refused true q texts x y z (Ok p) h o l = subst (λ u. BackDoorAnswer q texts x 
 
 -- what breaks a criterion can be printed
 pub fault_printable : (back_door : Bool) (q : MixedGraph) → IsMixedGraph q → (x y z : ℕ) → Within q.vertices (has z) → (fault : AdjFault) → IsVerdict back_door q x y z (Breaks fault) → IsPrintable q.vertices fault
-fault_printable false q valid x y z within fault h = adjustment_printable q valid (has x) (has y) (has z) within fault h
+fault_printable false q valid x y z within fault h = adjustment_printable q valid (has x) (has y) (has z) within fault h.0
 fault_printable true q valid x y z within fault (v, exposure, h) = back_door_printable q valid v (has y) (has z) within fault h

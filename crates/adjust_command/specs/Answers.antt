@@ -1,5 +1,5 @@
 -- The answer of `adjust`: whether a set may be adjusted for to compute the effect of x on y, or the minimal such sets, in the observed graph of the one that was read.
-use Rattle.std.specs.Prelude.{ℕ, ◌≡◌, Bool, true, false, List, [], All, codes}
+use Rattle.std.specs.Prelude.{ℕ, ◌≡◌, ◌↔◌, Bool, true, false, List, [], All, codes}
 use Rattle.mixed_graph.specs.Bits.{has}
 use Rattle.mixed_graph.specs.Graphs.{MixedGraph}
 use Rattle.mixed_graph.specs.declared.sets.VSet.{VSet}
@@ -13,13 +13,14 @@ use Rattle.replies.specs.declared.outcome.Outcome.{Outcome}
 use Rattle.replies.specs.declared.outcome.Outcome.TheVariants.{Yes, No, Graph}
 use Rattle.replies.specs.Observed.{Names, IsObservedGraph, query_lists, IsOfThreeSets, AnswerForSets}
 use Rattle.mixed_graph.specs.Masks.{one}
+use Rattle.prob_expr.specs.Failing.{FailsSomewhere}
 use Rattle.prob_expr.specs.Values.{EqualsEffect}
 use Rattle.adjustment.specs.declared.criteria.AdjFault.{AdjFault}
 use Rattle.adjustment.specs.Criteria.{IsAdmissible, IsBackDoorSet}
 use Rattle.adjustment.specs.Faults.{IsAdjustmentFault, IsBackDoorFault}
 use Rattle.adjustment.specs.Formulas.{adjustment_formula, effect_on}
 use Rattle.vertex_separators.specs.Listings.{IsListingOf}
-use Rattle.minimal_sets.specs.MinimalSets.{IsMinimalSet}
+use Rattle.minimal_sets.specs.MinimalSets.{IsMinimalSet, IsMinimalAdjustment}
 use Rattle.adjust_command.specs.Queries.{Query, by_set, by_back_door, listing}
 use Rattle.adjust_command.specs.Lines.{admissible_text, not_admissible_text, listing_text}
 
@@ -40,10 +41,11 @@ pub record ShowsAdmissible (q : MixedGraph) (texts : SetTexts) (x y z : ℕ) (te
   pub effect : EqualsEffect q (effect_on x y) (adjustment_formula x y z)
   pub prints : text ≡ texts.meets x y z
 
--- No: this breaks the adjustment criterion for z, and the text says so
+-- No: this breaks the adjustment criterion for z; the formula isn't P(y | do(x)) in some positive model that fits q; and the text says so
 pub record ShowsFault (q : MixedGraph) (texts : SetTexts) (x y z : ℕ) (text : List ℕ) : Type 0 where
   pub fault : AdjFault
   pub breaks : IsAdjustmentFault q (has x) (has y) (has z) fault
+  pub fails : FailsSomewhere q (effect_on x y) (adjustment_formula x y z)
   pub prints : text ≡ texts.breaks z fault
 
 -- the answer for a set by the adjustment criterion
@@ -86,18 +88,20 @@ CriterionAnswer false q texts x y z o text = SetAnswer q texts x y z o text
 CriterionAnswer true q texts x y z o text = BackDoorAnswer q texts x y z o text
 
 -- Yes: these are the minimal admissible sets, of which there is one or more: all of them, or `most` where there are more; the formula of each equals P(y | do(x)) in each
--- positive model that fits q, and the text shows them
+-- positive model that fits q, and the text shows them. The minimal admissible sets are exactly the minimal sets of which this is so, whatever criterion one thinks of.
 pub record ShowsSets (q : MixedGraph) (names : List (List ℕ)) (x y most : ℕ) (text : List ℕ) : Type 0 where
   pub sets : List VSet
   pub more : Bool
   pub listed : IsListingOf (IsMinimalSet q (has x) (has y)) most sets more
   pub some : sets ≡ [] → ⊥
+  pub exact : (z : ℕ) → IsMinimalSet q (has x) (has y) (has z) ↔ IsMinimalAdjustment q x y z
   pub effect : All (λ s. EqualsEffect q (effect_on x y) (adjustment_formula x y s.bits)) sets
   pub prints : text ≡ listing_text names sets more
 
--- No: no set is admissible, and the text says so
+-- No: no set is admissible; the formula of no set is P(y | do(x)) in each positive model that fits q; and the text says so
 pub record ShowsNone (q : MixedGraph) (x y : ℕ) (text : List ℕ) : Type 0 where
   pub none : (z : ℕ → Bool) → AreThreeSets q.vertices (has x) (has y) z → IsAdmissible q (has x) (has y) z → ⊥
+  pub no_formula : (z : ℕ) → AreThreeSets q.vertices (has x) (has y) (has z) → EqualsEffect q (effect_on x y) (adjustment_formula x y z) → ⊥
   pub prints : text ≡ codes "none\n"
 
 -- the answer of a listing

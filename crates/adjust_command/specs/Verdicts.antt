@@ -3,6 +3,7 @@ use Rattle.std.specs.Prelude.{ℕ, ◌≡◌, Bool, true, false}
 use Rattle.mixed_graph.specs.Bits.{has}
 use Rattle.mixed_graph.specs.Graphs.{MixedGraph}
 use Rattle.mixed_graph.specs.Masks.{one}
+use Rattle.prob_expr.specs.Failing.{FailsSomewhere}
 use Rattle.prob_expr.specs.Values.{EqualsEffect}
 use Rattle.adjustment.specs.Criteria.{IsAdmissible, IsBackDoorSet}
 use Rattle.adjustment.specs.Faults.{IsAdjustmentFault, IsBackDoorFault}
@@ -10,10 +11,10 @@ use Rattle.adjustment.specs.Formulas.{adjustment_formula, effect_on}
 use Rattle.adjust_command.specs.declared.criteria.Verdict.{Verdict}
 use Rattle.adjust_command.specs.declared.criteria.Verdict.TheVariants.{Meets, Breaks, NotOne}
 
--- z meets the adjustment criterion, or the back-door criterion for the one exposure v, and its formula is the effect; or this breaks the criterion; or the exposures aren't one vertex
+-- z meets the adjustment criterion, or the back-door criterion for the one exposure v, and its formula is the effect; or this breaks the criterion, and the formula of what breaks the first isn't the effect in some positive model; or the exposures aren't one vertex
 abbrev pub IsVerdict : (back_door : Bool) → MixedGraph → (x y z : ℕ) → Verdict → Type 0
 IsVerdict false q x y z Meets = IsAdmissible q (has x) (has y) (has z) × EqualsEffect q (effect_on x y) (adjustment_formula x y z)
-IsVerdict false q x y z (Breaks fault) = IsAdjustmentFault q (has x) (has y) (has z) fault
+IsVerdict false q x y z (Breaks fault) = IsAdjustmentFault q (has x) (has y) (has z) fault × FailsSomewhere q (effect_on x y) (adjustment_formula x y z)
 IsVerdict false q x y z NotOne = ⊥
 IsVerdict true q x y z Meets = (v : ℕ) × (x ≡ one v) × IsBackDoorSet q v (has y) (has z) × EqualsEffect q (effect_on x y) (adjustment_formula x y z)
 IsVerdict true q x y z (Breaks fault) = (v : ℕ) × (x ≡ one v) × IsBackDoorFault q v (has y) (has z) fault

@@ -1,21 +1,20 @@
 -- The adjustment formula is the effect.
 use Rattle.std.proofs.Common.{ℕ, zero, suc, ◌*◌, ◌≡◌, ◌<◌, ◌≤◌, ◌↔◌, ◌==◌, Bool, true, false, cond, refl, sym, ap, ◌∙◌, ◌||◌, IsTrue, subst, arith, eqb-true}
-use mathlib.Core.Path.{fun_ext}
 use Rattle.std.proofs.lemmas.Bool.{and_parts, and_from}
 use Rattle.mixed_graph.specs.Bits.{has}
 use Rattle.mixed_graph.specs.Graphs.{MixedGraph, IsMixedGraph, IsAncestor, IsDescendant}
-use Rattle.mixed_graph.proofs.Masks.{has-zero, has-or, has-pow}
+use Rattle.mixed_graph.proofs.Masks.{has-zero, has-pow}
 use Rattle.m_separation.specs.Walks.{IsSeparated}
 use Rattle.surgery.specs.Cuts.{cut_into, cut_out}
 use Rattle.fractions.specs.Fractions.{Fraction, over, IsEqual}
 use Rattle.finite_models.specs.Sums.{sum_over, set_at}
-use Rattle.finite_models.specs.Models.{FiniteModel, Fits, IsAssignment, IsPositiveModel, event_weight, weight_of, intervene, total}
+use Rattle.finite_models.specs.Models.{FiniteModel, Fits, IsAssignment, IsPositiveModel, event_weight, weight_of, total}
 use Rattle.finite_models.proofs.Bools.{not_both}
 use Rattle.finite_models.proofs.Following.{follows_of}
 use Rattle.finite_models.proofs.Ranks.{with_rank}
 use Rattle.finite_models.proofs.SumLaws.{along, set_at-other}
 use Rattle.finite_models.proofs.Tested.{Test, tested, stable}
-use Rattle.finite_models.proofs.Weights.{weight-none, weight_of-none}
+use Rattle.finite_models.proofs.Weights.{weight-none}
 use Rattle.do_rules.specs.Rules.{AreThreeSets}
 use Rattle.mixed_graph.specs.Masks.{join, one, is_empty}
 use Rattle.prob_expr.specs.Tree.{prob, product, tree, no_trees}
@@ -28,6 +27,7 @@ use Rattle.proper_paths.proofs.FirstEdges.{cut_arrows, firsts}
 use Rattle.adjustment.specs.Criteria.{IsForbidden, IsAdmissible}
 use Rattle.adjustment.specs.Faults.{IsClearOf}
 use Rattle.adjustment.specs.Formulas.{adjusted_sum, adjustment_formula, effect_on}
+use Rattle.adjustment.proofs.Observed.{no_bits, turned, turned_pair, turned_one, joined, whole, observed, all_worlds}
 use Rattle.adjustment.proofs.Held.{hold_arrows, term_is, sum_is_effect}
 use Rattle.adjustment.proofs.Separating.{clear_of_firsts, separated_from, clear_of_out}
 use Rattle.adjustment.proofs.Walks.{IsClear}
@@ -52,40 +52,6 @@ sum_none u s (suc n) f b none = go (u n) (none n) (sum_none u s n f b none)
     go false e ih = ih
     go true e ih = absurd (grind (arith, e))
 
-no_bits : (a : ℕ → Bool) → (λ v. a v || has 0 v) ≡ a
-no_bits a = fun_ext (λ v. go (a v) (has 0 v) (has-zero v))
-  where
-    go : (p q : Bool) → q ≡ false → (p || q) ≡ p
-    go true q e = refl
-    go false q e = e
-
-turned : (x y z : ℕ) → ◌≡◌ {A = ℕ → Bool} (λ v. has y v || has (join x z) v) (λ v. has x v || (has y v || has z v))
-turned x y z = fun_ext (λ v. ap (λ t. has y v || t) (has-or x z v) ∙ go (has x v) (has y v) (has z v))
-  where
-    go : (p q r : Bool) → (q || (p || r)) ≡ (p || (q || r))
-    go true true r = refl
-    go true false r = refl
-    go false q r = refl
-
-turned_pair : (x y z : ℕ) → ((v : ℕ) → has z v ≡ false) → ◌≡◌ {A = ℕ → Bool} (λ v. has y v || has x v) (λ v. has x v || (has y v || has z v))
-turned_pair x y z none = fun_ext (λ v. go (has x v) (has y v) (has z v) (none v))
-  where
-    go : (p q r : Bool) → r ≡ false → (q || p) ≡ (p || (q || r))
-    go true true r e = refl
-    go true false r e = refl
-    go false true r e = refl
-    go false false r e = sym e
-
-turned_one : (x z : ℕ) → ((v : ℕ) → has z v ≡ false) → has x ≡ (λ v. has x v || has z v)
-turned_one x z none = fun_ext (λ v. go (has x v) (has z v) (none v))
-  where
-    go : (p r : Bool) → r ≡ false → p ≡ (p || r)
-    go true r e = refl
-    go false r e = sym e
-
-joined : (x z : ℕ) → has (join x z) ≡ (λ v. has x v || has z v)
-joined x z = fun_ext (λ v. has-or x z v)
-
 module _ (g : MixedGraph) (ok : IsMixedGraph g) (x y z : ℕ) (sets : AreThreeSets g.vertices (has x) (has y) (has z))
     (E : ℕ → ℕ → Bool) (tails : (u v : ℕ) → E u v ≡ true → has x u ≡ true) (clear : IsClear g E (has z))
     (cover : (u v : ℕ) → has x u ≡ true → g.arrow u v ≡ true → has x v ≡ false → IsAncestor (cut_into g (has x)) (has y) v → E u v ≡ true)
@@ -109,17 +75,8 @@ module _ (g : MixedGraph) (ok : IsMixedGraph g) (x y z : ℕ) (sets : AreThreeSe
         (λ rank ranked. sum_is_effect g m rank ok ranked (follows_of g m fit) s within E (has x) (has y) (has z) tails clear cover sets.x_y sets.x_w sets.y_w)
         ∙ ap (λ a. weight_of m (has x) a s) (sym (no_bits (has y)))
 
-    whole : weight_of m (has x) (has 0) s ≡ total m
-    whole = weight-none (intervene m (has x) s) (has 0) s has-zero
-
-    observed : (a b : ℕ → Bool) (c : ℕ → ℕ) → a ≡ b → weight_of m (has 0) a c ≡ event_weight m b c
-    observed a b c e = weight_of-none m (has 0) a c has-zero ∙ ap (λ t. event_weight m t c) e
-
-    all_worlds : (c : ℕ → ℕ) → weight_of m (has 0) (has 0) c ≡ total m
-    all_worlds c = weight_of-none m (has 0) (has 0) c has-zero ∙ weight-none m (has 0) c has-zero
-
     total_positive : 1 ≤ total m
-    total_positive = let p = (term_positive g ok m fit positive y x 0 s within).bottom in subst (λ t. 1 ≤ t) whole p
+    total_positive = let p = (term_positive g ok m fit positive y x 0 s within).bottom in subst (λ t. 1 ≤ t) (whole m x s) p
 
     each_term : (c : ℕ → ℕ) → IsAssignment m.vertices m.size c → ((v : ℕ) → has z v ≡ false → c v ≡ s v)
         → IsEqual (value (weights_of m) (λ j t. over 1 1) (product (tree (prob z 0 0) (tree (prob y 0 (join x z)) no_trees))) c) (over (part c) (total m))
@@ -128,8 +85,8 @@ module _ (g : MixedGraph) (ok : IsMixedGraph g) (x y z : ℕ) (sets : AreThreeSe
       right_bottom = total_positive;
       products = scaled (event_weight m (has z) c) (event_weight m (λ v. has x v || (has y v || has z v)) c) (event_weight m (λ v. has x v || has z v) c) (part c) (total m)
           (weight_of m (has 0) (λ v. has z v || has 0 v) c) (weight_of m (has 0) (has 0) c) (weight_of m (has 0) (λ v. has y v || has (join x z) v) c) (weight_of m (has 0) (has (join x z)) c)
-          (observed (λ v. has z v || has 0 v) (has z) c (no_bits (has z))) (all_worlds c) (observed (λ v. has y v || has (join x z) v) (λ v. has x v || (has y v || has z v)) c (turned x y z))
-          (observed (has (join x z)) (λ v. has x v || has z v) c (joined x z)) (term c same);
+          (observed m (λ v. has z v || has 0 v) (has z) c (no_bits (has z))) (all_worlds m c) (observed m (λ v. has y v || has (join x z) v) (λ v. has x v || (has y v || has z v)) c (turned x y z))
+          (observed m (has (join x z)) (λ v. has x v || has z v) c (joined x z)) (term c same);
     }
 
     -- c is an assignment that differs from s on z at most
@@ -145,7 +102,7 @@ module _ (g : MixedGraph) (ok : IsMixedGraph g) (x y z : ℕ) (sets : AreThreeSe
     sum_equal : IsEqual (value (weights_of m) (λ j t. over 1 1) (adjusted_sum x y z) s) (effect m (effect_on x y) s)
     sum_equal =
         moved (value (weights_of m) (λ j t. over 1 1) (adjusted_sum x y z) s) (sum_over (has z) m.size m.vertices part s) (total m) (weight_of m (has x) (λ v. has y v || has 0 v) s) (weight_of m (has x) (has 0) s)
-        sum_is (sym whole)
+        sum_is (sym (whole m x s))
         (add_over_whole (has z) m.size IsNearby m.vertices (total m) (value (weights_of m) (λ j t. over 1 1) (product (tree (prob z 0 0) (tree (prob y 0 (join x z)) no_trees)))) part s total_positive
         stays_nearby (within, λ v out. refl) (λ c p. each_term c p.0 p.1))
 
@@ -153,11 +110,11 @@ module _ (g : MixedGraph) (ok : IsMixedGraph g) (x y z : ℕ) (sets : AreThreeSe
     simple_equal none = record {
       left_bottom = (term_positive g ok m fit positive y 0 x s within).bottom;
       right_bottom = (term_positive g ok m fit positive y x 0 s within).bottom;
-      products = subst (λ t. weight_of m (has 0) (λ v. has y v || has x v) s * t ≡ weight_of m (has x) (λ v. has y v || has 0 v) s * weight_of m (has 0) (has x) s) (sym whole)
+      products = subst (λ t. weight_of m (has 0) (λ v. has y v || has x v) s * t ≡ weight_of m (has x) (λ v. has y v || has 0 v) s * weight_of m (has 0) (has x) s) (sym (whole m x s))
           (unscaled (event_weight m (has z) s) (event_weight m (λ v. has x v || (has y v || has z v)) s) (event_weight m (λ v. has x v || has z v) s) (part s) (total m)
           (weight_of m (has 0) (λ v. has y v || has x v) s) (weight_of m (has 0) (has x) s) (weight_of m (has x) (λ v. has y v || has 0 v) s)
-          (weight-none m (has z) s none) (observed (λ v. has y v || has x v) (λ v. has x v || (has y v || has z v)) s (turned_pair x y z none))
-          (observed (has x) (λ v. has x v || has z v) s (turned_one x z none))
+          (weight-none m (has z) s none) (observed m (λ v. has y v || has x v) (λ v. has x v || (has y v || has z v)) s (turned_pair x y z none))
+          (observed m (has x) (λ v. has x v || has z v) s (turned_one x z none))
           (sym (sum_none (has z) m.size m.vertices part s none) ∙ sum_is) (term s (λ v out. refl)));
     }
 

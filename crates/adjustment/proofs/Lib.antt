@@ -3,3 +3,7 @@ pub mod Separating
 pub mod PathParts
 pub mod Held
 pub mod Effects
+mod Observed
+mod SingleTerms
+mod Exceeding
+pub mod FaultWalks

@@ -8,8 +8,10 @@ use Rattle.do_rules.specs.Rules.{AreThreeSets}
 use Rattle.proper_paths.specs.Proper.{IsBackDoorGraph}
 use Rattle.mixed_graph.specs.Masks.{one}
 use Rattle.prob_expr.specs.Values.{EqualsEffect}
+use Rattle.prob_expr.specs.Failing.{FailsSomewhere}
+use Rattle.adjustment.specs.declared.criteria.AdjFault.{AdjFault}
 use Rattle.adjustment.specs.Criteria.{IsForbidden, IsAdmissible, IsBackDoorSet}
-use Rattle.adjustment.specs.Faults.{IsClearOf}
+use Rattle.adjustment.specs.Faults.{IsClearOf, IsAdjustmentFault}
 use Rattle.adjustment.specs.Formulas.{adjustment_formula, effect_on}
 
 -- a set is admissible exactly where none of its members is forbidden and it separates x from y in the back-door graph
@@ -31,3 +33,13 @@ AdmissibleAdjusts = (g : MixedGraph) → IsMixedGraph g → (x y z : ℕ) → Ar
 abbrev pub BackDoorAdjusts : Type 0
 BackDoorAdjusts = (g : MixedGraph) → IsMixedGraph g → (x y z : ℕ) → AreThreeSets g.vertices (has (one x)) (has y) (has z) → IsBackDoorSet g x (has y) (has z)
     → EqualsEffect g (effect_on (one x) y) (adjustment_formula (one x) y z)
+
+-- what breaks the criterion breaks the formula: in some positive model it isn't the effect
+abbrev pub FaultsFail : Type 0
+FaultsFail = (g : MixedGraph) → IsMixedGraph g → (x y z : ℕ) → AreThreeSets g.vertices (has x) (has y) (has z)
+    → (f : AdjFault) → IsAdjustmentFault g (has x) (has y) (has z) f → FailsSomewhere g (effect_on x y) (adjustment_formula x y z)
+
+-- so the formula is the effect in each positive model exactly for admissible sets
+abbrev pub AdjustsExactly : Type 0
+AdjustsExactly = (g : MixedGraph) → IsMixedGraph g → (x y z : ℕ) → AreThreeSets g.vertices (has x) (has y) (has z)
+    → IsAdmissible g (has x) (has y) (has z) ↔ EqualsEffect g (effect_on x y) (adjustment_formula x y z)

@@ -3,6 +3,7 @@ ghost use Rattle.mixed_graph.specs.Bits.{has};
 ghost use Rattle.mixed_graph.specs.Shown.{graph_of};
 ghost use Rattle.do_rules.specs.Rules.{AreThreeSets};
 ghost use Rattle.mixed_graph.specs.Masks.{one};
+ghost use Rattle.prob_expr.specs.Failing.{FailsSomewhere};
 ghost use Rattle.prob_expr.specs.Values.{EqualsEffect};
 ghost use Rattle.adjustment.specs.Criteria.{IsAdmissible, IsBackDoorSet};
 ghost use Rattle.adjustment.specs.Faults.{IsLowestIn, IsClearOf, IsAdjustmentFault, IsBackDoorFault};
@@ -37,7 +38,8 @@ fn lowest_forbidden(z: VSet, forbidden: VSet) -> Option<u8>
 }
 
 /// Whether z is admissible for the effect of x on y: whether the formula that sums over z is the
-/// effect because of the paths of the graph.
+/// effect because of the paths of the graph. Else the formula isn't the effect in some positive
+/// model that fits.
 ///
 /// `Forbidden`: a member of z has a directed path to it from a vertex outside x on a proper causal
 /// path. `Unblocked`: a proper path that isn't causal is open given z (Shpitser, VanderWeele and
@@ -47,6 +49,7 @@ pub fn adjusts(g: &Graph, x: VSet, y: VSet, z: VSet) -> Result<(), AdjFault>
     ensures admissible { OnOk result (IsAdmissible (graph_of g.now) (has x.bits) (has y.bits) (has z.bits)) }
     ensures effect { OnOk result (EqualsEffect (graph_of g.now) (effect_on x.bits y.bits) (adjustment_formula x.bits y.bits z.bits)) }
     ensures fault { IfErr result (λ f. IsAdjustmentFault (graph_of g.now) (has x.bits) (has y.bits) (has z.bits) f) }
+    ensures fails { IfErr result (λ f. FailsSomewhere (graph_of g.now) (effect_on x.bits y.bits) (adjustment_formula x.bits y.bits z.bits)) }
 {
     let forbidden = g.descendants(proper_causal(g, x, y));
     if let Some(v) = lowest_forbidden(z, forbidden) {

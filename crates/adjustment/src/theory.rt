@@ -1,4 +1,4 @@
-ghost use Rattle.adjustment.specs.Laws.{AdmissibleIsSeparating, BackDoorIsSeparating, AdmissibleAdjusts, BackDoorAdjusts};
+ghost use Rattle.adjustment.specs.Laws.{AdmissibleIsSeparating, BackDoorIsSeparating, AdmissibleAdjusts, BackDoorAdjusts, FaultsFail, AdjustsExactly};
 
 /// The laws of the two criteria.
 pub fn laws()
@@ -9,4 +9,8 @@ pub fn laws()
     // The formula of such a set is the effect in each positive model.
     ensures adjusts { AdmissibleAdjusts }
     ensures back_door_adjusts { BackDoorAdjusts }
+
+    // That of any other set isn't, in some positive model.
+    ensures fails { FaultsFail }
+    ensures exact { AdjustsExactly }
 {}

@@ -9,13 +9,15 @@ ghost use Rattle.kept_graph.specs.Kept.{AreAskable, IsKept, IsNoGraphText, Keeps
 ghost use Rattle.kept_call.specs.Asked.{Asked, HasKept};
 ghost use Rattle.span_call.specs.Called.{Called, LacksInput, IsCutShort};
 ghost use Rattle.span_call.specs.Ends.{IsEnd};
+ghost use Rattle.span_call.specs.Wanted.{TellsInputs, AskForNothing};
+ghost use Rattle.spans.specs.Words.{AreTexts, IsNoText};
 ghost use Rattle.explain_call.specs.Calls.{Explained};
 
 use explain_call::explain_spans;
 use kept_call::ask_kept;
 use kept_graph::{KeepFault, KeptDiagram, ReadDiagram, Separation};
 use mixed_graph::VSet;
-use span_call::{Arguments, Sizes, run_spans, show};
+use span_call::{Arguments, Sizes, Wanted, run_spans, show, wanted_spans};
 use spans::{Input, Span};
 use std::alloc::Global;
 
@@ -46,6 +48,29 @@ pub extern "C" fn causal_run(
     };
     let end = run_spans(alloc, &arguments, out, err);
     *sizes = end.sizes;
+    end.status
+}
+
+/// Tells which inputs the words may ask for, shows their names one behind the other, and gives the status: 0; 2 where the words aren't
+/// understood; 8 where memory was refused; 9 where a word is no text; 10 where there is no memory for the words.
+#[unsafe(no_mangle)]
+pub extern "C" fn causal_inputs(
+    alloc: Global,
+    bytes: &[u8],
+    words: &[Span],
+    names: &mut [u8],
+    wanted: &mut Wanted,
+) -> u8
+    ensures told { result ≡ 0 → TellsInputs bytes.now words.now names.old names.new wanted.new }
+    ensures nothing { result ≡ 2 → AskForNothing bytes.now words.now }
+    ensures not_text { result ≡ 9 → IsNoText bytes.now words.now }
+    ensures are_texts { result ≤ 8 → AreTexts bytes.now words.now }
+    ensures known { (result ≡ 0) ⊎ ((result ≡ 2) ⊎ ((result ≡ 8) ⊎ ((result ≡ 9) ⊎ (result ≡ 10)))) }
+    ensures stays { 2 ≤ result → names.new ≡ names.old }
+    ensures none { 2 ≤ result → wanted.new ≡ record { count = 0; file = 0; second = 0; most = 0 } }
+{
+    let end = wanted_spans(alloc, bytes, words, names);
+    *wanted = end.wanted;
     end.status
 }
 
@@ -147,6 +172,7 @@ pub extern "C" fn causal_ask(
 ) -> u8
     // 9: a word is no text. 11: no diagram with these names is kept. Below 9 each word is a text. From 9 on nothing is written.
     ensures end { IsEnd bytes.now words.now out.old out.new err.old err.new sizes.new result }
+    ensures kept { result ≤ 7 → (g : ReadGraph) × Keeps kept.now names.now g }
     ensures not_kept { result ≡ 11 → (g : ReadGraph) → Keeps kept.now names.now g → ⊥ }
     ensures known { result ≤ 11 }
     ensures asked { result ≤ 8 → (text : List ℕ) → IsKept text kept.now names.now

@@ -18,7 +18,9 @@ use Rattle.targets.specs.Targets.{AreEffectSets, first_fault}
 use Rattle.certificate.specs.Plain as certificates
 use Rattle.certificate.specs.Plain.{PlainCertificate}
 use Rattle.certificate.specs.declared.fault.CertFault.{CertFault}
+use Rattle.do_rules.specs.Rules.{left_of, right_of}
 use Rattle.hidden_theory.proofs.Drawn.{right_as_drawn}
+use Rattle.hidden_theory.proofs.Statements.{independence_is_drawn, equation_is_drawn}
 use Rattle.id_recursion.specs.Answers.{effect_on}
 use Rattle.adjustment.specs.Formulas.{adjustment_formula}
 use Rattle.replies.specs.declared.outcome.Outcome.{Outcome}
@@ -36,14 +38,20 @@ use Rattle.adjust_command.specs.Requests.{Request as AdjustRequest}
 use Rattle.surrogate_command.specs.Answers.{SurrogateAnswer}
 use Rattle.surrogate_command.specs.Requests.{Request as SurrogateRequest}
 use Rattle.evaluate_command.specs.Requests.{Request as EvaluateRequest}
+use Rattle.separate_command.specs.Answers.{SeparateAnswer}
+use Rattle.separate_command.specs.Requests.{Request as SeparateRequest}
+use Rattle.separate_command.specs.Requests as separate_requests
+use Rattle.rule_command.specs.Answers.{RuleAnswer}
+use Rattle.rule_command.specs.Requests.{Request as RuleRequest}
+use Rattle.rule_command.specs.Requests as rule_requests
 use Rattle.command_run.specs.Answers.{HoldsAnswer, DefinedWith}
 use Rattle.command_run.specs.Commands.{of}
 use Rattle.command_run.specs.Run.{Run, Ends}
 use Rattle.command_run.proofs.Deliveries.{mapped}
 use Rattle.causal_cli.specs.Commands.{commands}
-use Rattle.causal_cli.specs.declared.commands.Command.TheVariants.{Identify, Adjust, Surrogate, Evaluate}
-use Rattle.causal_cli.specs.Drawn.{IsRightAsDrawn, IsTextAsDrawn, IdentifiedAsDrawn, IsCertificateAsDrawn, CheckedAsDrawn, AdjustsAsDrawn, ShowsAdjustmentAsDrawn, IsAdjustmentAsDrawn, AdjustedAsDrawn, IsSurrogateAsDrawn, SurrogatedAsDrawn, IsEvaluationAsDrawn, EvaluatedAsDrawn, RightAsDrawn}
-use Rattle.causal_cli.specs.Headline.{IsRightCertificate, Checked, HeadlineOfCheck}
+use Rattle.causal_cli.specs.declared.commands.Command.TheVariants.{Identify, Adjust, Surrogate, Evaluate, Separate, Rule}
+use Rattle.causal_cli.specs.Drawn.{IsRightAsDrawn, IsTextAsDrawn, IdentifiedAsDrawn, IsCertificateAsDrawn, CheckedAsDrawn, AdjustsAsDrawn, ShowsAdjustmentAsDrawn, IsAdjustmentAsDrawn, AdjustedAsDrawn, IsSurrogateAsDrawn, SurrogatedAsDrawn, IsEvaluationAsDrawn, EvaluatedAsDrawn, IsSeparationAsDrawn, IsEquationAsDrawn, RightAsDrawn}
+use Rattle.causal_cli.specs.Headline.{WrittenFor, IsRightCertificate, Checked, HeadlineOfCheck}
 use Rattle.causal_cli.proofs.CallAnswers.{CallAnswer, on_words, on_file, on_both, call_answer, under_name, under_names, written_for}
 use Rattle.causal_cli.proofs.DrawnCounts.{shows_quantities}
 
@@ -99,8 +107,12 @@ same_target t u f h d e p = cc
 same_formula : (t u : PlainTarget) (f h : PlainFormula) (d e : PlainDerivation) → certificates.formula t f d ≡ certificates.formula u h e → f ≡ h
 same_formula t u f h d e p = cc
 
+-- and those of hedges one target
+pub same_hedge_target : (t u : PlainTarget) (h k : certificates.PlainHedge) → certificates.hedge t h ≡ certificates.hedge u k → t ≡ u
+same_hedge_target t u h k p = cc
+
 -- one text is read as one certificate
-same_read : (r : Result PlainCertificate CertFault) (a b : PlainCertificate) → r ≡ Ok a → r ≡ Ok b → a ≡ b
+pub same_read : (r : Result PlainCertificate CertFault) (a b : PlainCertificate) → r ≡ Ok a → r ≡ Ok b → a ≡ b
 same_read r a b p q = let e : Ok a ≡ Ok b = sym p ∙ q in cc
 
 -- an accepted certificate of a formula is right in the diagram as drawn
@@ -143,7 +155,7 @@ adjusted r uses text = written_for r Adjust uses Yes text (λ q. q.file) IsAdjus
 
 -- ---- surrogate
 
-surrogated_on : (q : SurrogateRequest) (bytes text : List ℕ) (g : ReadGraph) → HoldsGraph bytes g → SurrogateAnswer g q.x q.y q.experiments Yes text → IsSurrogateAsDrawn q bytes text
+surrogated_on : (q : SurrogateRequest) (bytes text : List ℕ) (g : ReadGraph) → HoldsGraph bytes g → SurrogateAnswer g q.x q.y q.experiments q.models Yes text → IsSurrogateAsDrawn q bytes text
 surrogated_on q bytes text g holds (p, observed, h) = record {
   graph = g;
   holds = holds;
@@ -191,6 +203,44 @@ evaluated r uses text whole (on_both q is file second names names_second h) = re
   whole = whole;
 }
 
+-- ---- separate and rule
+
+separated_on : (q : SeparateRequest) (bytes text : List ℕ) (g : ReadGraph) → HoldsGraph bytes g → SeparateAnswer g q.x q.y q.given Yes text → IsSeparationAsDrawn q bytes text
+separated_on q bytes text g holds (p, observed, h) = record {
+  graph = g;
+  holds = holds;
+  x = h.x;
+  y = h.y;
+  w = h.w;
+  sets = h.sets;
+  independent = independence_is_drawn (graph_of g.graph) g.graph.valid (has g.latent.bits) p observed (has h.x) (has h.y) (has h.w) h.answer.independent;
+  prints = h.answer.prints;
+}
+
+separated : (r : Run) (uses : List Use) (text : List ℕ) → Appends r.out.before r.out.after text → CallAnswer r Separate uses Yes text
+    → WrittenFor separate_requests.IsRequest (λ q. q.file) IsSeparationAsDrawn r uses
+separated r uses text = written_for r Separate uses Yes text (λ q. q.file) IsSeparationAsDrawn (λ q h. h) (λ q. refl) (λ q. refl)
+    (λ q is bytes a. separated_on q bytes text a.graph a.holds a.answer)
+
+ruled_on : (q : RuleRequest) (bytes text : List ℕ) (g : ReadGraph) → HoldsGraph bytes g → RuleAnswer q.rule g q.y q.done q.z q.given Yes text → IsEquationAsDrawn q bytes text
+ruled_on q bytes text g holds (p, observed, h) = record {
+  graph = g;
+  holds = holds;
+  y = h.y;
+  doing = h.done;
+  z = h.z;
+  given = h.given;
+  sets = h.sets;
+  equation = equation_is_drawn (graph_of g.graph) g.graph.valid (has g.latent.bits) p observed (left_of q.rule (has h.done) (has h.y) (has h.z) (has h.given))
+      (right_of q.rule (has h.done) (has h.y) (has h.z) (has h.given)) h.answer.equation;
+  prints = h.answer.prints;
+}
+
+ruled : (r : Run) (uses : List Use) (text : List ℕ) → Appends r.out.before r.out.after text → CallAnswer r Rule uses Yes text
+    → WrittenFor rule_requests.IsRequest (λ q. q.file) IsEquationAsDrawn r uses
+ruled r uses text = written_for r Rule uses Yes text (λ q. q.file) IsEquationAsDrawn (λ q h. h) (λ q. refl) (λ q. refl)
+    (λ q is bytes a. ruled_on q bytes text a.graph a.holds a.answer)
+
 -- ---- a run
 
 -- status 0 is that of a yes
@@ -201,6 +251,8 @@ right_as_drawn_of r code Yes text c h accepted = record {
   adjusted = λ uses call zero. adjusted r uses text h.whole (call_answer r Adjust uses call Yes text h.answers);
   surrogated = λ uses call zero. surrogated r uses text h.whole (call_answer r Surrogate uses call Yes text h.answers);
   evaluated = λ uses call zero. evaluated r uses text h.whole (call_answer r Evaluate uses call Yes text h.answers);
+  separated = λ uses call zero. separated r uses text h.whole (call_answer r Separate uses call Yes text h.answers);
+  ruled = λ uses call zero. ruled r uses text h.whole (call_answer r Rule uses call Yes text h.answers);
 }
 right_as_drawn_of r code o text c h accepted = record {
   identified = λ uses call zero. absurd (omega (arith, c, zero));
@@ -208,4 +260,6 @@ right_as_drawn_of r code o text c h accepted = record {
   adjusted = λ uses call zero. absurd (omega (arith, c, zero));
   surrogated = λ uses call zero. absurd (omega (arith, c, zero));
   evaluated = λ uses call zero. absurd (omega (arith, c, zero));
+  separated = λ uses call zero. absurd (omega (arith, c, zero));
+  ruled = λ uses call zero. absurd (omega (arith, c, zero));
 }

@@ -4,5 +4,6 @@ mod CheckedRuns
 mod DrawnCounts
 mod DrawnRuns
 mod Headlines
-mod Part
+pub mod LongInputs
 mod Readable
+mod RefutedRuns

@@ -1,4 +1,4 @@
--- What status 0 of `identify`, `check`, `adjust`, `surrogate` and `evaluate` says of the diagram as drawn, with its hidden vertices.
+-- What status 0 of `identify`, `check`, `adjust`, `surrogate`, `evaluate`, `separate` and `rule` says of the diagram as drawn, with its hidden vertices.
 use Rattle.std.specs.Prelude.{ℕ, ◌≡◌, ◌<◌, List, [], ◌++◌, All, Bool, true, false, Ok, IfSome, unwrap_or}
 use Rattle.std.specs.Io.KnownBytes.{Appends}
 use Rattle.std.specs.List.{flat_map}
@@ -11,10 +11,12 @@ use Rattle.word_forms.specs.Form.{Use, IsCall}
 use Rattle.prob_expr.specs.Tree.{PlainFormula, PlainTarget}
 use Rattle.do_derivation.specs.Plans.{PlainDerivation}
 use Rattle.dag_reader.specs.declared.graph.ReadGraph.{ReadGraph}
-use Rattle.targets.specs.Targets.{AreSets}
+use Rattle.do_rules.specs.Rules.{left_of, right_of}
+use Rattle.targets.specs.Targets.{AreSets, AreRuleSets}
 use Rattle.certificate.specs.Plain as certificates
 use Rattle.hidden_theory.specs.Folding.{IsObservedPositive, IsMatchedAsDrawn, values_after, drawn_effect}
 use Rattle.hidden_theory.specs.Laws.{EqualsAsDrawn}
+use Rattle.hidden_theory.specs.Statements.{AreIndependentAsDrawn, AreEqualSidesAsDrawn}
 use Rattle.id_recursion.specs.Answers.{effect_on}
 use Rattle.adjustment.specs.Formulas.{adjustment_formula}
 use Rattle.quantity.specs.Kinds.{Pair, Kind}
@@ -47,6 +49,14 @@ use Rattle.evaluate_command.specs.Effects.{PlainEffect, Identifies, used_in}
 use Rattle.evaluate_command.specs.Lines.{sign_of, value_line, pinned_lines}
 use Rattle.evaluate_command.specs.Requests.{evaluate_row}
 use Rattle.evaluate_command.specs.Requests as evaluate_requests
+use Rattle.separate_command.specs.Answers.{separation_lists}
+use Rattle.separate_command.specs.Lines.{separated_text}
+use Rattle.separate_command.specs.Requests.{separate_row}
+use Rattle.separate_command.specs.Requests as separate_requests
+use Rattle.rule_command.specs.Answers.{rule_lists}
+use Rattle.rule_command.specs.Lines.{rule_holds_text}
+use Rattle.rule_command.specs.Requests.{rule_row}
+use Rattle.rule_command.specs.Requests as rule_requests
 use Rattle.command_run.specs.Run.{Run}
 use Rattle.causal_cli.specs.Commands.{table}
 use Rattle.causal_cli.specs.Headline.{WrittenFor}
@@ -180,12 +190,40 @@ pub record EvaluatedAsDrawn (r : Run) (uses : List Use) : Type 0 where
   pub right : IfSome (r.held request.file) (λ bytes. IfSome (r.held request.counts) (λ other. IsEvaluationAsDrawn request bytes other text))
   pub whole : Appends r.out.before r.out.after text
 
+-- ---- separate and rule
+
+-- the bytes hold a graph, the lists name these sets, x and y are independent given w in every model of the diagram as drawn, and the text says that they are separated
+pub record IsSeparationAsDrawn (q : separate_requests.Request) (bytes text : List ℕ) : Type 0 where
+  pub graph : ReadGraph
+  pub holds : HoldsGraph bytes graph
+  pub x : ℕ
+  pub y : ℕ
+  pub w : ℕ
+  pub sets : AreSets (separation_lists graph q.x q.y q.given) x y w
+  pub independent : AreIndependentAsDrawn (graph_of graph.graph) (has graph.latent.bits) (has x) (has y) (has w)
+  pub prints : text ≡ separated_text (observed_names graph) x y w
+
+-- the bytes hold a graph, the lists name these sets, the rule's equation holds in every model of the diagram as drawn that is positive on the observed vertices, and the text says so
+pub record IsEquationAsDrawn (q : rule_requests.Request) (bytes text : List ℕ) : Type 0 where
+  pub graph : ReadGraph
+  pub holds : HoldsGraph bytes graph
+  pub y : ℕ
+  pub doing : ℕ
+  pub z : ℕ
+  pub given : ℕ
+  pub sets : AreRuleSets (rule_lists graph q.y q.done q.z q.given) y doing z given
+  pub equation : AreEqualSidesAsDrawn (graph_of graph.graph) (has graph.latent.bits) (left_of q.rule (has doing) (has y) (has z) (has given))
+      (right_of q.rule (has doing) (has y) (has z) (has given))
+  pub prints : text ≡ rule_holds_text q.rule (observed_names graph) (has doing) (has y) (has z) (has given)
+
 -- ---- a run
 
--- where the words ask for `identify`, `check`, `adjust`, `surrogate` or `evaluate`, status 0 says that what is shown is right in the diagram as drawn
+-- where the words ask for `identify`, `check`, `adjust`, `surrogate`, `evaluate`, `separate` or `rule`, status 0 says that what is shown is right in the diagram as drawn
 pub record RightAsDrawn (r : Run) (code : ℕ) : Type 0 where
   pub identified : (uses : List Use) → IsCall table r.words identify_row uses → code ≡ 0 → IdentifiedAsDrawn r uses
   pub checked : (uses : List Use) → IsCall table r.words check_row uses → code ≡ 0 → CheckedAsDrawn r uses
   pub adjusted : (uses : List Use) → IsCall table r.words adjust_row uses → code ≡ 0 → AdjustedAsDrawn r uses
   pub surrogated : (uses : List Use) → IsCall table r.words surrogate_row uses → code ≡ 0 → SurrogatedAsDrawn r uses
   pub evaluated : (uses : List Use) → IsCall table r.words evaluate_row uses → code ≡ 0 → EvaluatedAsDrawn r uses
+  pub separated : (uses : List Use) → IsCall table r.words separate_row uses → code ≡ 0 → WrittenFor separate_requests.IsRequest (λ q. q.file) IsSeparationAsDrawn r uses
+  pub ruled : (uses : List Use) → IsCall table r.words rule_row uses → code ≡ 0 → WrittenFor rule_requests.IsRequest (λ q. q.file) IsEquationAsDrawn r uses

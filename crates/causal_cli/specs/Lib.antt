@@ -1,4 +1,5 @@
 pub mod Commands
 pub mod Headline
 pub mod Drawn
-pub mod Part
+pub mod Inputs
+pub mod Refuted

@@ -2,6 +2,7 @@
 #![tactic(auto)]
 
 mod commands;
+mod inputs;
 mod request;
 mod second;
 mod sure;
@@ -10,6 +11,7 @@ mod top;
 
 pub use command_run::Status;
 pub use commands::Command;
+pub use inputs::{Inputs, inputs_of};
 pub use request::Request;
 pub use second::SecondInput;
 pub use sure::run_surely;

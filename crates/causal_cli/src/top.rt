@@ -5,6 +5,7 @@ ghost use Rattle.command_run.specs.Complete.{Complete};
 ghost use Rattle.causal_cli.specs.Commands.{commands};
 ghost use Rattle.causal_cli.specs.Headline.{Headline, HeadlineOfCheck};
 ghost use Rattle.causal_cli.specs.Drawn.{RightAsDrawn};
+ghost use Rattle.causal_cli.specs.Refuted.{RefutedAsDrawn};
 
 use crate::request::Request;
 use causal_io::{Shelf, Sink};
@@ -29,6 +30,8 @@ pub fn run<S: Shelf, O: Sink, E: Sink>(
     ensures checked { HeadlineOfCheck (run_on (texts_of words.now) (S.held shelf.old) (S.lacks shelf.old) (S.faults shelf.old) (S.faults shelf.new)
         (stream_of (O.written out.old) (O.written out.new) (O.faults out.old) (O.faults out.new))) result.code }
     ensures drawn { RightAsDrawn (run_on (texts_of words.now) (S.held shelf.old) (S.lacks shelf.old) (S.faults shelf.old) (S.faults shelf.new)
+        (stream_of (O.written out.old) (O.written out.new) (O.faults out.old) (O.faults out.new))) result.code }
+    ensures refuted { RefutedAsDrawn (run_on (texts_of words.now) (S.held shelf.old) (S.lacks shelf.old) (S.faults shelf.old) (S.faults shelf.new)
         (stream_of (O.written out.old) (O.written out.new) (O.faults out.old) (O.faults out.new))) result.code }
     ensures reads { ReadsAsAsked commands (run_on (texts_of words.now) (S.held shelf.old) (S.lacks shelf.old) (S.faults shelf.old) (S.faults shelf.new)
         (stream_of (O.written out.old) (O.written out.new) (O.faults out.old) (O.faults out.new))) (reads_of (S.reads shelf.old) (S.reads shelf.new) (S.given shelf.old) (S.given shelf.new)) }

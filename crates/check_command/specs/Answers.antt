@@ -1,6 +1,7 @@
 -- The defined answer of a check on a graph that was read and the bytes of a certificate.
 use Rattle.std.specs.Prelude.{ℕ, ◌≡◌, ◌<◌, ◌≤◌, true, List, [], length, Ok, Err}
 use Rattle.mixed_graph.specs.Graphs.{MixedGraph}
+use Rattle.prob_expr.specs.Differences.{HasNoFormula}
 use Rattle.prob_expr.specs.Terms.{is_do_free}
 use Rattle.prob_expr.specs.Tree.{PlainFormula, PlainTarget}
 use Rattle.prob_expr.specs.Values.{EqualsEffect}
@@ -46,12 +47,13 @@ pub record RefusesFormula (q : MixedGraph) (names : List (List ℕ)) (t : PlainT
   pub is_fault : AcceptsNot q [] t f d fault
   pub prints : text ≡ derivation_text names (length d.lemmas) fault
 
--- yes: its sets form a hedge for the effect (Shpitser and Pearl), of which the choice of children and the links are the evidence; two positive models that fit the graph agree on all observations and differ on the effect under every value of x
+-- yes: its sets form a hedge for the effect (Shpitser and Pearl), of which the choice of children and the links are the evidence; two positive models that fit the graph agree on all observations and differ on the effect under every value of x, so that no formula without interventions equals it
 pub record AcceptsHedge (q : MixedGraph) (names : List (List ℕ)) (t : PlainTarget) (h : Hedge) (text : List ℕ) : Type 0 where
   pub forms : FormHedge q t.x t.y h.big.bits h.small.bits h.roots.bits
   pub evidence : IsHedge q t.x t.y h
   pub pair : CounterPair
   pub models : AreCounterModels q t.x t.y pair
+  pub no_formula : HasNoFormula q (record { x = t.x; y = t.y; given = 0 })
   pub prints : text ≡ accepted_text (heading_text names t.x t.y h)
 
 -- no: what keeps it from being a hedge, the first in order

@@ -1,5 +1,5 @@
 -- What is found, from what identification answers for the joint effect.
-use Rattle.std.proofs.Common.{ℕ, ◌^◌, ◌≡◌, ◌≢◌, ◌<◌, ◌≤◌, ◌↔◌, refl, sym, subst, ◌∙◌, ap, inl, inr, List, [], length, IsTrue, arith}
+use Rattle.std.proofs.Common.{true, false, not, ℕ, ◌^◌, ◌≡◌, ◌≢◌, ◌<◌, ◌≤◌, ◌↔◌, refl, sym, subst, ◌∙◌, ap, inl, inr, List, [], length, IsTrue, arith}
 use Rattle.std.proofs.lemmas.Bool.{cases_eq}
 use Rattle.mixed_graph.specs.Bits.{has}
 use Rattle.mixed_graph.specs.Graphs.{MixedGraph}
@@ -12,11 +12,14 @@ use Rattle.identification.proofs.Bools.{clash}
 use Rattle.identification.specs.Derivations.{IsDerived}
 use Rattle.hedge.specs.Hedges.{IsHedge}
 use Rattle.hedge.specs.declared.hedge.Hedge.{Hedge}
-use Rattle.id_recursion.specs.Answers.{effect_on, is_hedge}
+use Rattle.prob_expr.specs.View.{formula_view}
+use Rattle.id_recursion.specs.Answers.{effect_on, is_hedge, IsRight}
 use Rattle.id_recursion.specs.declared.answer.Answer.{Answer}
+use Rattle.id_recursion.specs.declared.answer.Answer.TheVariants as answers
 use Rattle.conditional_theory.proofs.Answered.{one_turned}
 use Rattle.conditional_theory.proofs.Dividing.{divided_defs, join-zero}
 use Rattle.conditional_theory.proofs.Turning.{joint_target, targeted, turned_target}
+use Rattle.conditional_theory.specs.Settled.{IsSettled}
 use Rattle.conditional_theory.specs.Conditionals.AreTurned.{still}
 use Rattle.conditional_theory.specs.Conditionals.{AreTurned, IsConditionalBySteps, IsConditionalTarget, IsTurned, divided, divided_derivation}
 use Rattle.conditional_id.specs.Answers.{SomeJointHedge}
@@ -35,7 +38,8 @@ pub target_with : (g : MixedGraph) (x y z : ℕ) → AreThreeSets g.vertices (ha
 target_with g x y z sets some fits = record { sets = sets; some = some_member y (λ e. absurd (omega (arith, e, some))) fits }
 
 -- the sets of the joint effect
-pub joint_sets : (g : MixedGraph) (x y z : ℕ) → IsConditionalTarget g (targeted x y z) → (r : Turned) → AreMoved g y x z r → (w : ℕ) → w ≡ join y r.left.bits → IsConditionalTarget g (targeted r.doing.bits w 0)
+pub joint_sets : (g : MixedGraph) (x y z : ℕ) → IsConditionalTarget g (targeted x y z) → (r : Turned) → AreMoved g y x z r → (w : ℕ) → w ≡ join y r.left.bits
+    → IsConditionalTarget g (targeted r.doing.bits w 0)
 joint_sets g x y z k r m w e = subst (λ u. IsConditionalTarget g (targeted r.doing.bits u 0)) (sym e)
     (joint_target g r.doing.bits y r.left.bits (turned_target g y x z r.doing.bits r.left.bits m.moved m.turned k))
 
@@ -43,7 +47,8 @@ pub some_positive : (g : MixedGraph) (t : PlainTarget) → IsConditionalTarget g
 some_positive g t k = positive_from_has t.y k.some.0 k.some.1
 
 -- a hedge is answered for the joint effect exactly where there is one for some turned sets
-pub exact_for : (g : MixedGraph) (t : PlainTarget) (x' z' : ℕ) (vs : List ℕ) → IsTurned g t x' z' vs → (w : ℕ) → w ≡ join t.y z' → (a b : Answer) → a ≡ b → IsTrue (is_hedge a) ↔ ((h : Hedge) × IsHedge g x' w h) → IsTrue (is_hedge b) ↔ SomeJointHedge g t
+pub exact_for : (g : MixedGraph) (t : PlainTarget) (x' z' : ℕ) (vs : List ℕ) → IsTurned g t x' z' vs → (w : ℕ) → w ≡ join t.y z' → (a b : Answer) → a ≡ b
+    → IsTrue (is_hedge a) ↔ ((h : Hedge) × IsHedge g x' w h) → IsTrue (is_hedge b) ↔ SomeJointHedge g t
 exact_for g t x' z' vs turned w e a b same exact = (λ i. found (of_b.0 i), λ s. of_b.1 (back s))
   where
     of_b : IsTrue (is_hedge b) ↔ ((h : Hedge) × IsHedge g x' w h)
@@ -57,12 +62,15 @@ exact_for g t x' z' vs turned w e a b same exact = (λ i. found (of_b.0 i), λ s
         (s.hedge, subst (λ u. IsHedge g u w s.hedge) o.0 (subst (λ u. IsHedge g s.doing u s.hedge) (ap (join t.y) o.1 ∙ sym e) s.is_hedge))
 
 -- the same where nothing is given
-pub exact_plain : (g : MixedGraph) (x y : ℕ) (a b : Answer) → a ≡ b → IsTrue (is_hedge a) ↔ ((h : Hedge) × IsHedge g x y h) → IsTrue (is_hedge b) ↔ SomeJointHedge g (effect_on x y)
+pub exact_plain : (g : MixedGraph) (x y : ℕ) (a b : Answer) → a ≡ b → IsTrue (is_hedge a) ↔ ((h : Hedge) × IsHedge g x y h)
+    → IsTrue (is_hedge b) ↔ SomeJointHedge g (effect_on x y)
 exact_plain g x y a b same exact = exact_for g (effect_on x y) x 0 [] (turned_none g (effect_on x y) refl) y (sym (join-zero y)) a b same exact
 
 -- the divided formula, from that of the joint effect
-pub given_formula : (g : MixedGraph) (t : PlainTarget) → t.given ≢ 0 → t.x ≢ 0 → (x' z' : ℕ) (vs : List ℕ) → AreTurned g t.y t.x t.given x' z' vs → (w : ℕ) → w ≡ join t.y z' → (joint : PlainFormula) (e : PlainDerivation)
-    → IsDerived g x' w joint e → length joint.defs ≤ 4096 → (f : PlainFormula) (d : PlainDerivation) → f ≡ divided t.y z' joint → d ≡ divided_derivation vs t.y z' e → IsConditionalBySteps g t f d × (length f.defs ≤ 4096)
+pub given_formula : (g : MixedGraph) (t : PlainTarget) → t.given ≢ 0 → t.x ≢ 0 → (x' z' : ℕ) (vs : List ℕ) → AreTurned g t.y t.x t.given x' z' vs → (w : ℕ)
+    → w ≡ join t.y z' → (joint : PlainFormula) (e : PlainDerivation)
+    → IsDerived g x' w joint e → length joint.defs ≤ 4096 → (f : PlainFormula) (d : PlainDerivation) → f ≡ divided t.y z' joint
+    → d ≡ divided_derivation vs t.y z' e → IsConditionalBySteps g t f d × (length f.defs ≤ 4096)
 given_formula g t some doing x' z' vs turned w is joint e derived few f d formula steps = (
   inr (inr (
     some,
@@ -81,3 +89,17 @@ given_formula g t some doing x' z' vs turned w is joint e derived few f d formul
   )),
   subst (λ h. length h.defs ≤ 4096) (sym formula) (subst (λ ds. length ds ≤ 4096) (sym (divided_defs t.y z' joint)) few),
 )
+
+-- where no formula is answered, there is a hedge
+pub hedge_by : (g : MixedGraph) (x z : ℕ) (a : Answer) → IsTrue (is_hedge a) ↔ ((h : Hedge) × IsHedge g x z h) → not (is_hedge a) ≡ false
+    → (h : Hedge) × IsHedge g x z h
+hedge_by g x z a exact e = exact.0 (grind (arith, e))
+
+-- whether the target is settled, from what identification answers for the observations that are left
+pub settled_by : (g : MixedGraph) (x z : ℕ) → (z ≡ 0 → ⊥) → (a : Answer) → IsRight g x z a → IsTrue (not (is_hedge a)) ↔ IsSettled g x z
+settled_by g x z some (answers.Formula f d) right = (λ e. inr (record { formula = formula_view f; do_free = right.do_free; effect = right.effect }), λ s. refl)
+settled_by g x z some (answers.Hedge h pair) right = (λ e. absurd (grind (arith, e)), none)
+  where
+    none : IsSettled g x z → IsTrue (not true)
+    none (inl e) = absurd (some e)
+    none (inr f) = absurd (right.no_formula f.formula f.do_free f.effect)

@@ -1,5 +1,5 @@
 -- Observations that turn into interventions one after the other: what the rest turns into, all turns into.
-use Rattle.std.proofs.Common.{ℕ, ◌+◌, ◌≡◌, ◌<◌, Bool, true, false, not, refl, sym, ap, subst, ◌∙◌, ◌&&◌, inl, inr, List, [], ◌∷◌, ◌++◌, append_assoc, append-nil, IsTrue, arith}
+use Rattle.std.proofs.Common.{ℕ, ◌+◌, ◌≡◌, ◌<◌, Bool, true, false, not, refl, sym, ap, subst, ◌∙◌, ◌&&◌, inl, inr, List, [], ◌∷◌, ◌++◌, append_assoc, append-nil, arith}
 use Rattle.std.proofs.lemmas.Bool.{cases_lt}
 use Rattle.conditional_id.specs.Moves.{AreMoved, IsLowestTurning, NoneTurns}
 use Rattle.conditional_id.specs.declared.answer.Turned.{Turned}

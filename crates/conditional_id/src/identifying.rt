@@ -1,6 +1,6 @@
 //! Identification of an effect under a condition.
 
-ghost use Rattle.std.specs.Prelude.{◌≡◌, ◌≢◌, ℕ, ◌<◌, ◌≤◌, ◌↔◌, List, [], true, length, IsTrue, IfOk, None};
+ghost use Rattle.std.specs.Prelude.{◌≡◌, ◌≢◌, ℕ, ◌<◌, ◌≤◌, ◌↔◌, List, [], true, false, not, length, IsTrue, IfOk, None};
 ghost use Rattle.mixed_graph.specs.Bits.{has};
 ghost use Rattle.mixed_graph.specs.Graphs.{IsAncestor};
 ghost use Rattle.mixed_graph.specs.Sets.{Within, Apart};
@@ -8,6 +8,7 @@ ghost use Rattle.mixed_graph.specs.Shown.{graph_of};
 ghost use Rattle.do_rules.specs.Rules.{AreThreeSets};
 ghost use Rattle.prob_expr.specs.Check.{fault_in};
 ghost use Rattle.mixed_graph.specs.Masks.{join};
+ghost use Rattle.prob_expr.specs.Differences.{HasNoFormula};
 ghost use Rattle.prob_expr.specs.Terms.{is_do_free};
 ghost use Rattle.prob_expr.specs.Tree.{prob};
 ghost use Rattle.prob_expr.specs.Values.{EqualsEffect};
@@ -17,12 +18,16 @@ ghost use Rattle.do_derivation.specs.Plans.{Plan, Plans, no_plans};
 ghost use Rattle.do_derivation.specs.View.{derivation_view};
 ghost use Rattle.identification.specs.Derivations.{IsDerived};
 ghost use Rattle.identification_answers.specs.Names.{FormulaNamesOnly};
+ghost use Rattle.hedge.specs.Hedges.{IsHedge};
+ghost use Rattle.hedge.specs.declared.hedge.Hedge.{Hedge};
 ghost use Rattle.counter_models.specs.Events.{AreCounterModels};
-ghost use Rattle.id_recursion.specs.Answers.{effect_on};
+ghost use Rattle.id_recursion.specs.Answers.{effect_on, is_hedge};
 ghost use Rattle.district_factors.specs.Lists.{onto};
 ghost use Rattle.conditional_theory.specs.Conditionals.{divided, divided_derivation, turned_steps, IsConditionalTarget, IsConditional, IsConditionalBySteps};
 ghost use Rattle.conditional_theory.specs.Laws.{IsShallowGiven};
-ghost use Rattle.conditional_id.specs.Answers.{IsAnswerGiven, IsRight, IsJointEffect, IsJointShown, SomeJointHedge, IfFormula, IfJoint, is_joint};
+ghost use Rattle.conditional_theory.specs.Settled.{IsSettled};
+ghost use Rattle.conditional_hedges.specs.Laws.{IsFixed};
+ghost use Rattle.conditional_id.specs.Answers.{IsAnswerGiven, IsRight, IsJointEffect, IsJointShown, SomeFormula, SomeJointHedge, IfFormula, IfJoint, is_joint};
 
 use crate::answer::{Conditional, Turned};
 use crate::dividing::{divided, divided_steps};
@@ -44,7 +49,13 @@ fn without_condition(alloc: Global, g: &Graph, x: VSet, y: VSet) -> Result<Condi
 {
     match identify(alloc, g, x, y)? {
         Answer::Formula(formula, derivation) => Ok(Conditional::Formula(formula, derivation)),
-        Answer::Hedge(hedge, pair) => Ok(Conditional::Joint { x, y, hedge, pair }),
+        Answer::Hedge(hedge, pair) => Ok(Conditional::Joint {
+            x,
+            y,
+            settled: true,
+            hedge,
+            pair,
+        }),
     }
 }
 
@@ -89,6 +100,28 @@ fn divided_answer(
     Ok((formula, derivation))
 }
 
+/// Whether a formula is answered.
+fn is_formula(answer: &Answer) -> bool
+    ensures { result ≡ not (is_hedge answer.now) }
+{
+    matches!(answer, Answer::Formula(_, _))
+}
+
+/// Whether no observation is left, or those that are left have an effect that is known.
+fn is_settled(alloc: Global, g: &Graph, doing: VSet, left: VSet) -> Result<bool, AllocError>
+    requires doing_within { Within g.now.n (has doing.bits) }
+    requires left_within { Within g.now.n (has left.bits) }
+    requires apart { Apart (has doing.bits) (has left.bits) }
+    ensures settled { IfOk result (λ b. IsTrue b ↔ IsSettled (graph_of g.now) doing.bits left.bits) }
+    ensures unsettled { IfOk result (λ b. b ≡ false → (h : Hedge) × IsHedge (graph_of g.now) doing.bits left.bits h) }
+{
+    if left.is_empty() {
+        return Ok(true);
+    }
+    let answer = identify(alloc, g, doing, left)?;
+    Ok(is_formula(&answer))
+}
+
 /// The answer for a target with interventions.
 fn with_condition(alloc: Global, g: &Graph, t: Target) -> Result<Conditional, AllocError>
     requires sets { AreThreeSets g.now.n (has t.x.bits) (has t.y.bits) (has t.given.bits) }
@@ -106,12 +139,16 @@ fn with_condition(alloc: Global, g: &Graph, t: Target) -> Result<Conditional, Al
             let (formula, derivation) = divided_answer(alloc, t.y, turned, undivided, derivation)?;
             Ok(Conditional::Formula(formula, derivation))
         }
-        Answer::Hedge(hedge, pair) => Ok(Conditional::Joint {
-            x: doing,
-            y: joint,
-            hedge,
-            pair,
-        }),
+        Answer::Hedge(hedge, pair) => {
+            let settled = is_settled(alloc, g, doing, turned.left)?;
+            Ok(Conditional::Joint {
+                x: doing,
+                y: joint,
+                settled,
+                hedge,
+                pair,
+            })
+        }
     }
 }
 
@@ -134,19 +171,23 @@ fn answer(alloc: Global, g: &Graph, t: Target) -> Result<Conditional, AllocError
 }
 
 /// A formula for P(y | do(x), given) from what is observed, or a joint effect that can't be
-/// identified: the procedure IDC of Shpitser and Pearl (2006).
+/// identified, which shows that there is none: the procedure IDC of Shpitser and Pearl (2006).
 ///
 /// Observations turn into interventions, the lowest first, as long as rule 2 lets one; then the joint
 /// effect of y and of what is left is identified, and divided by its sum over y. Where that effect has
-/// a hedge, it is answered; that P(y | do(x), given) itself can't be computed is not claimed. The only
-/// error is want of memory.
+/// a hedge, it is answered. Where a joint effect is answered, no formula without interventions equals
+/// P(y | do(x), given). The only error is want of memory.
 pub fn identify_given(alloc: Global, g: &Graph, t: &Target) -> Result<Conditional, AllocError>
     requires sets { AreThreeSets g.now.n (has t.now.x.bits) (has t.now.y.bits) (has t.now.given.bits) }
     requires some { 0 < t.now.y.bits }
 
     // A formula has an accepted derivation and the value of the effect; a joint effect is the one into which the observations
-    // turn, by sets with which the effect is the same, and has two models that agree on all observations and differ on it.
+    // turn, by sets with which the effect is the same, and has two models that agree on all observations and differ on it,
+    // and where the answer is settled on the target too. Settled or not, the target isn't identifiable then.
     ensures right { IfOk result (IsRight (graph_of g.now) (target_view t.now)) }
+
+    // A formula is answered exactly where the target has one without interventions.
+    ensures exact_formula { IfOk result (λ a. is_joint a ≡ false ↔ SomeFormula (graph_of g.now) (target_view t.now)) }
 
     // A joint effect is answered exactly where there is a hedge for the one into which the observations turn.
     ensures exact { IfOk result (λ a. IsTrue (is_joint a) ↔ SomeJointHedge (graph_of g.now) (target_view t.now)) }
@@ -164,10 +205,15 @@ pub fn identify_given(alloc: Global, g: &Graph, t: &Target) -> Result<Conditiona
     ensures few { IfOk result (λ a. IfFormula a (λ f d. length f.defs ≤ 4096)) }
 
     // The joint effect, its hedge and its two models. Where nothing is given it is the effect of x on y.
-    ensures joint { IfOk result (λ a. IfJoint a (λ x y h pair. IsJointEffect (graph_of g.now) (target_view t.now) x.bits y.bits)) }
+    ensures joint { IfOk result (λ a. IfJoint a (λ x y b h pair. IsJointEffect (graph_of g.now) (target_view t.now) x.bits y.bits)) }
     ensures shown { IfOk result (λ a. IfJoint a (IsJointShown (graph_of g.now) (target_view t.now))) }
-    ensures plain_joint { t.now.given.bits ≡ 0 → IfOk result (λ a. IfJoint a (λ x y h pair. (x.bits ≡ t.now.x.bits) × (y.bits ≡ t.now.y.bits))) }
-    ensures counter { IfOk result (λ a. IfJoint a (λ x y h pair. AreCounterModels (graph_of g.now) x.bits y.bits pair)) }
+    ensures plain_joint { t.now.given.bits ≡ 0 → IfOk result (λ a. IfJoint a (λ x y b h pair. (x.bits ≡ t.now.x.bits) × (y.bits ≡ t.now.y.bits))) }
+    ensures counter { IfOk result (λ a. IfJoint a (λ x y b h pair. AreCounterModels (graph_of g.now) x.bits y.bits pair)) }
+
+    // Where it is answered, two models that agree on all observations give the target two values, and no formula without
+    // interventions equals it.
+    ensures not_fixed { IfOk result (λ a. IfJoint a (λ x y b h pair. IsFixed (graph_of g.now) (target_view t.now) → ⊥)) }
+    ensures no_formula { IfOk result (λ a. IfJoint a (λ x y b h pair. HasNoFormula (graph_of g.now) (target_view t.now))) }
 {
     answer(alloc, g, *t)
 }

@@ -1,3 +1,4 @@
 pub mod Answered
 pub mod Dividing
+pub mod Settling
 pub mod Turning

@@ -1,4 +1,5 @@
 ghost use Rattle.conditional_theory.specs.Laws.{DerivedIsConditional, ConditionalIsDerived, ConditionalIsRight, ConditionalIsShallow, DividedIsAccepted, TurnedIsSame, TurnedIsTarget, JointHasHedge, JointExcludesFormula, OneTurned, OneConditional, OneConditionalDerivation};
+ghost use Rattle.conditional_theory.specs.Settled.{JointSettlesTarget};
 
 /// What follows from the definitions of the turned sets and of the formula, about each formula that
 /// is made so and each joint effect whose identification stops.
@@ -12,6 +13,7 @@ pub fn laws()
     ensures target { TurnedIsTarget }
     ensures hedge { JointHasHedge }
     ensures excludes { JointExcludesFormula }
+    ensures settles { JointSettlesTarget }
     ensures one_turned { OneTurned }
     ensures one_formula { OneConditional }
     ensures one_derivation { OneConditionalDerivation }

@@ -19,7 +19,7 @@ use Rattle.prob_expr.proofs.Boxes.{assignment_set, add_over_positive}
 use Rattle.finite_models.proofs.Positive.{positive_weight}
 use Rattle.finite_models.proofs.Following.{follows_of}
 use Rattle.finite_models.proofs.Weights.{weight-none, weight_of-none}
-use Rattle.prob_expr.proofs.Observed
+use Rattle.prob_expr.proofs.Alike.{Events, Asks, AskEach, AllAsk, formula_alike}
 use Rattle.prob_expr.proofs.ValueLaws.{values_are_positive}
 use Rattle.count_eval.specs.Supported.{all_over, has_value, have_values, supported_from}
 use Rattle.count_eval.specs.Laws.{is_supported, IsUsed, AreUsed, AllUsed, MatchedHasValue}
@@ -168,22 +168,28 @@ module _ (w : Weights) (used : ℕ → Bool) (some : (v : ℕ) → v < w.vertice
       (sure_defs f.defs (and_first (all_under [] f.defs) (is_under [] f.main) d) ds 0 (λ j t. over 1 1) (λ j t. true) (λ j t kt. record { has = refl; positive = record { top = omega arith; bottom = omega arith } }))
       f.main (and_second (all_under [] f.defs) (is_under [] f.main) d) main s k
 
--- ---- the two readings of what is used
+-- ---- the events that are asked for are observed, and of used vertices
+abbrev observed_of : (ℕ → Bool) → Events
+observed_of used b a = ((is_empty b || is_listed b []) ≡ true) × ((v : ℕ) → a v ≡ true → used v ≡ true)
+
 mutual
-  asks_of : (used : ℕ → Bool) (e : Tree) → IsUsed used e → Observed.AsksFor used e
-  asks_of used (prob a b c) u = u
-  asks_of used (sum v e) u = asks_of used e u.1
-  asks_of used (product fs) u = ask_of used fs u
-  asks_of used (quotient x y) u = (asks_of used x u.0, asks_of used y u.1)
-  asks_of used (named k) u = tt
+  asks_of : (used : ℕ → Bool) (e : Tree) → is_under [] e ≡ true → IsUsed used e → Asks (observed_of used) e
+  asks_of used (prob a b c) d u = ((d, λ v h. either (has a v) (has c v) (used v ≡ true) h (u.0 v) (u.1 v)), (d, u.1))
+  asks_of used (sum v e) d u = asks_of used e d u.1
+  asks_of used (product fs) d u = ask_of used fs d u
+  asks_of used (quotient x y) d u =
+      (asks_of used x (and_first (is_under [] x) (is_under [] y) d) u.0, asks_of used y (and_second (is_under [] x) (is_under [] y) d) u.1)
+  asks_of used (named k) d u = tt
 
-  ask_of : (used : ℕ → Bool) (fs : Trees) → AreUsed used fs → Observed.AskFor used fs
-  ask_of used no_trees u = tt
-  ask_of used (tree e fs) u = (asks_of used e u.0, ask_of used fs u.1)
+  ask_of : (used : ℕ → Bool) (fs : Trees) → are_under [] fs ≡ true → AreUsed used fs → AskEach (observed_of used) fs
+  ask_of used no_trees d u = tt
+  ask_of used (tree e fs) d u =
+      (asks_of used e (and_first (is_under [] e) (are_under [] fs) d) u.0, ask_of used fs (and_second (is_under [] e) (are_under [] fs) d) u.1)
 
-all_ask_of : (used : ℕ → Bool) (ds : List Tree) → AllUsed used ds → Observed.AllAskFor used ds
-all_ask_of used [] u = tt
-all_ask_of used (d ∷ ds) u = (asks_of used d u.0, all_ask_of used ds u.1)
+all_ask_of : (used : ℕ → Bool) (ds : List Tree) → all_under [] ds ≡ true → AllUsed used ds → AllAsk (observed_of used) ds
+all_ask_of used [] d u = tt
+all_ask_of used (e ∷ es) d u =
+    (asks_of used e (and_first (is_under [] e) (all_under [] es) d) u.0, all_ask_of used es (and_second (is_under [] e) (all_under [] es) d) u.1)
 
 positive_other : (a b c d : ℕ) → a * b ≡ c * d → 1 ≤ a → 1 ≤ b → 1 ≤ c
 positive_other a b zero d e la lb = absurd (let r : 1 ≤ a * b = mul-pos la lb in let z : 0 * d ≡ 0 = omega arith in omega arith)
@@ -200,8 +206,10 @@ matched_has_value = λ g ok m fit positive used w all k f d ds main s within.
     = λ a u t h. positive_other (weight_of m (λ v. false) a t) all (w.weight (λ v. false) a t) (total m) (k.weights a u t (to_model t h)) (weight_one a t (to_model t h)) k.some in
     let total_one : 1 ≤ total m = subst (λ n. 1 ≤ n) (weight_of-none m (λ v. false) (λ v. false) s (λ v. refl) ∙ weight-none m (λ v. false) s (λ v. refl)) (weight_one (λ v. false) s within) in
     let same = same_formula w m.size used lower f ds main s in
-    let alike = Observed.formula_alike w' (weights_of m) k.vertices (λ v lt. refl) (λ v lt. size_positive (s v) (m.size v) (back v lt)) all (total m) (mul-pos k.some total_one) used one_each
-    (λ a u t h. sym (k.weights a u t (to_model t h))) f d (all_ask_of used f.defs ds) (asks_of used f.main main) s back in (
+    let alike = formula_alike w' (weights_of m) k.vertices (λ v lt. refl) (λ v lt. size_positive (s v) (m.size v) (back v lt)) all (total m) (mul-pos k.some total_one)
+    (observed_of used) (λ b a u t h. subst (λ B. 1 ≤ w'.weight B a t) (sym (none_doing b u.0)) (one_each a u.1 t h))
+    (λ b a u t h. subst (λ B. w'.weight B a t * total m ≡ weight_of m B a t * all) (sym (none_doing b u.0)) (sym (k.weights a u.1 t (to_model t h))))
+    f (all_ask_of used f.defs (and_first (all_under [] f.defs) (is_under [] f.main) d) ds) (asks_of used f.main (and_second (all_under [] f.defs) (is_under [] f.main) d) main) s back in (
       same.1 ∙ (sure_formula w' used (λ v lt. size_positive (s v) (m.size v) (back v lt)) one_each f d ds main s back).has,
       subst (λ x. IsEqual x (value_of (weights_of m) f s)) (sym same.0) alike,
     )

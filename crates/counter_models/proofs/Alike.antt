@@ -1,10 +1,10 @@
 -- Models that are the same where it counts have the same weights.
 use Rattle.std.proofs.Common.{ℕ, zero, suc, ◌≡◌, ◌<◌, Bool, true, false, cond, eqb, refl, ap, ap₂, ◌∙◌, ◌&&◌, arith}
 use Rattle.mixed_graph.specs.Graphs.{MixedGraph, IsMixedGraph}
-use Rattle.finite_models.specs.Sums.{sum_below, product_below, sum_over, set_at, all_below}
+use Rattle.finite_models.specs.Sums.{product_below, sum_over, all_below}
 use Rattle.finite_models.specs.Models.{FiniteModel, IsAssignment, IsWorld, rounds, solution, intervene, agree, world_weight, sum_worlds, weight_of, total}
 use Rattle.finite_models.proofs.Following.{Follows, follows_intervene}
-use Rattle.finite_models.proofs.SumLaws.{sum_below-congr, product_below-congr, over-congr_within}
+use Rattle.finite_models.proofs.SumLaws.{product_below-congr, over-congr_within, over-sizes}
 
 -- equal in range
 pub record Alike (m m' : FiniteModel) : Type 0 where
@@ -14,12 +14,6 @@ pub record Alike (m m' : FiniteModel) : Type 0 where
   pub values : (j : ℕ) → j < m.causes → m.values j ≡ m'.values j
   pub weights : (j i : ℕ) → j < m.causes → i < m.values j → m.weight j i ≡ m'.weight j i
   pub mechanisms : (v : ℕ) → v < m.vertices → (s u : ℕ → ℕ) → IsAssignment m.vertices m.size s → IsWorld m u → m.mechanism v s u ≡ m'.mechanism v s u
-
-over-sizes : (s t : ℕ → ℕ) (n : ℕ) (F : (ℕ → ℕ) → ℕ) (b : ℕ → ℕ) → ((i : ℕ) → i < n → s i ≡ t i) → sum_over (λ j. true) s n F b ≡ sum_over (λ j. true) t n F b
-over-sizes s t zero F b h = refl
-over-sizes s t (suc n) F b h =
-    ap (λ k. sum_below k (λ x. sum_over (λ j. true) s n F (set_at b n x))) (h n (omega arith))
-    ∙ sum_below-congr (t n) (λ x. sum_over (λ j. true) s n F (set_at b n x)) (λ x. sum_over (λ j. true) t n F (set_at b n x)) (λ x lt. over-sizes s t n F (set_at b n x) (λ i l. h i (omega arith)))
 
 all-congr : (k : ℕ) (p q : ℕ → Bool) → ((i : ℕ) → i < k → p i ≡ q i) → all_below k p ≡ all_below k q
 all-congr zero p q h = refl

@@ -6,7 +6,7 @@ use Rattle.mixed_graph.specs.Sets.{Apart}
 use Rattle.mixed_graph.specs.Graphs.{MixedGraph, IsMixedGraph}
 use Rattle.hedge.specs.Hedges.{size_of, IsPlaced, IsChildInside, IsHedge}
 use Rattle.hedge.specs.declared.hedge.Hedge.{Hedge}
-use Rattle.parity_models.specs.Parities.{differ}
+use Rattle.finite_models.specs.Parities.{differ}
 use Rattle.parity_models.specs.Links.{is_entry}
 use Rattle.parity_models.specs.Hedges.{ParityHedge, IsParityHedge, IsTree, IsNumbered, IsWholeHedge, AreOuter, links_of, privates}
 use Rattle.parity_models.proofs.Counter.{odd_none}

@@ -12,7 +12,8 @@ use Rattle.counter_models.specs.Kept.{free, CarriesTo, IsKept, AreKept}
 use Rattle.counter_models.specs.Kept.IsKept.{root, next}
 use Rattle.counter_models.proofs.Choosing.{same_child, reaches, kept_low}
 use Rattle.counter_models.proofs.Distances.{leads_within, by_route, leads_further, nearer, child_within, child_is}
-use Rattle.counter_models.proofs.Terms.{mask_of, has-mask}
+use Rattle.finite_models.specs.Packed.{mask_of}
+use Rattle.finite_models.proofs.Packed.{has-mask}
 
 clash : (b : Bool) → b ≡ true → b ≡ false → ⊥
 clash b e f = absurd (grind (arith, e, f))

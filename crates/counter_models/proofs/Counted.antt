@@ -3,7 +3,7 @@ use Rattle.std.proofs.Common.{ℕ, zero, suc, ◌≡◌, ◌<◌, ◌≤◌, Boo
 use Rattle.std.proofs.lemmas.Bool.{cases_lt}
 use Rattle.mixed_graph.specs.Bits.{has, members_below}
 use Rattle.mixed_graph.proofs.Members.{one_if, length-members-suc, length-members-zero}
-use Rattle.parity_models.specs.Parities.{odd_below}
+use Rattle.finite_models.specs.Parities.{odd_below}
 use Rattle.parity_models.proofs.ParityLaws.{odd-congr, odd-one}
 use Rattle.counter_models.specs.Pairs.{before}
 use Rattle.counter_models.proofs.Lists.{before-less, members-suc}

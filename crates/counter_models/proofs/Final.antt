@@ -1,5 +1,5 @@
 -- The two models of a hedge agree on observations and differ on the effect.
-use Rattle.std.proofs.Common.{ℕ, ◌+◌, ◌-◌, ◌*◌, ◌%◌, ◌^◌, ◌/◌, ◌==◌, ◌≡◌, ◌<◌, ◌≤◌, Bool, true, false, cond, not, ◌&&◌, inr, refl, sym, ap, ap₂, ◌∙◌, slice_index, arith}
+use Rattle.std.proofs.Common.{ℕ, ◌+◌, ◌-◌, ◌*◌, ◌%◌, ◌^◌, ◌/◌, ◌==◌, ◌≡◌, ◌<◌, ◌≤◌, Bool, true, false, cond, not, ◌&&◌, inl, inr, refl, sym, ap, ap₂, ◌∙◌, slice_index, arith}
 use Rattle.mixed_graph.specs.Bits.{has}
 use Rattle.mixed_graph.specs.Sets.{Apart}
 use Rattle.mixed_graph.specs.Graphs.{MixedGraph, IsMixedGraph}
@@ -13,17 +13,20 @@ use Rattle.hedge.specs.declared.hedge.Hedge.{Hedge}
 use Rattle.parity_models.specs.Parities.{bit}
 use Rattle.parity_models.specs.Hedges.{ParityHedge, IsWholeHedge, links_of, noise_of}
 use Rattle.parity_models.specs.Pairs.{first_model, second_model, event_odd, event_even, size_of}
-use Rattle.finite_models.specs.Agreement.{AgreeObserved}
+use Rattle.finite_models.specs.Agreement.{AgreeObserved, AgreeUnder}
+use Rattle.finite_models.specs.Served.{ServesTwo}
 use Rattle.parity_models.specs.Laws.{DifferAt}
 use Rattle.parity_models.proofs.ParityLaws.{odd-congr}
-use Rattle.parity_models.proofs.Witness.{fit_one, fit_two, positive_one, positive_two, agree_observed, half, more, effects, effects_each}
+use Rattle.parity_models.proofs.Witness.{fit_one, fit_two, positive_one, positive_two, agree_under, half, more, effects, effects_each}
 use Rattle.counter_models.specs.Events.{carried_sum, even_weight, IsProperModel, AreCounterModels}
+use Rattle.counter_models.specs.Experiments.{IsHarmlessTo}
 use Rattle.counter_models.specs.Pairs.{IsPairOf, in_first, in_second}
 use Rattle.counter_models.specs.Theory.{data_of, inner_entries}
 use Rattle.counter_models.specs.declared.counter_pair.CounterPair.{CounterPair}
 use Rattle.counter_models.proofs.Alike.{Alike, sum_alike, weight_alike, total_alike, solution_within_range, solution_alike, event_alike}
 use Rattle.counter_models.proofs.Bridge.{whole, links_is, some_small, some_entry}
 use Rattle.counter_models.proofs.Same.{two_values, same_hedges, first_alike, second_alike}
+use Rattle.counter_models.proofs.Served.{serves_two}
 use Rattle.counter_models.proofs.SoundData.{sound, fits}
 use Rattle.counter_models.proofs.Values.{event_same}
 
@@ -105,12 +108,33 @@ module _ (g : MixedGraph) (graph : IsMixedGraph g) (few : g.vertices ≤ 64) (x 
   t_two : total (meaning g pair.second) ≡ total (second_model g.vertices d)
   t_two = total_alike (meaning g pair.second) (second_model g.vertices d) al_two
 
+  -- an intervention that leaves the models of the theory alike leaves these alike
+  alike_under : (z : ℕ → Bool) → AgreeUnder z (first_model g.vertices d) (second_model g.vertices d)
+      → AgreeUnder z (meaning g pair.first) (meaning g pair.second)
+  alike_under z same = record {
+    vertices = refl;
+    sizes = λ v lt. is.first.sizes v lt ∙ sym (is.second.sizes v lt);
+    weights = λ s a. ap₂ (λ p q. p * q) (one_same z (λ v. true) s a) t_two ∙ same.weights s (in_one s a)
+        ∙ sym (ap₂ (λ p q. p * q) (two_same z (λ v. true) s (first_to_second s a)) t_one);
+  }
+
   pub agree : AgreeObserved (meaning g pair.first) (meaning g pair.second)
   agree = record {
     vertices = refl;
     sizes = λ v lt. is.first.sizes v lt ∙ sym (is.second.sizes v lt);
-    weights = λ s a. ap₂ (λ p q. p * q) (one_same (λ v. false) (λ v. true) s a) t_two ∙ (agree_observed g graph (has x) d w).weights s (in_one s a) ∙ sym (ap₂ (λ p q. p * q) (two_same (λ v. false) (λ v. true) s (first_to_second s a)) t_one);
+    weights = (alike_under (λ v. false) (agree_under g graph (has x) d w (λ v. false) (inl (λ v inside. refl)))).weights;
   }
+
+  -- an experiment that leaves big alone, or sets a member of small, doesn't tell them apart
+  pub agree_harmless : (z : ℕ) → IsHarmlessTo h z → AgreeUnder (has z) (meaning g pair.first) (meaning g pair.second)
+  unfolding alike_under
+  agree_harmless z harmless = alike_under (has z) (agree_under g graph (has x) d w (has z) harmless)
+
+  serve_two : ServesTwo (meaning g pair.first) × ServesTwo (meaning g pair.second)
+  serve_two = (
+    serves_two g graph x y h hedge is.kept w.hedge.kept_low pair.first is.first.causes,
+    serves_two g graph x y h hedge is.kept w.hedge.kept_low pair.second is.second.causes,
+  )
 
   pub proper_one : IsProperModel g pair.first
   proper_one = record {
@@ -166,4 +190,5 @@ module _ (g : MixedGraph) (graph : IsMixedGraph g) (few : g.vertices ≤ 64) (x 
         ∙ more g graph (has x) d w a (in_two a inside) ∙ sym (ap₂ (λ k r. (2 ^ k + 1) * r) noise_is t_two);
     effects = differ (effects g graph (has x) d w);
     each = λ a inside. let e = effects_each g graph (has x) d w a (in_one a inside) in (differ e.0, e.1);
+    two = serve_two;
   }

@@ -22,7 +22,8 @@ use Rattle.counter_models.proofs.Carried.{kept_mask, carry_list, carry_low, are_
 use Rattle.counter_models.proofs.Counted.{numbered}
 use Rattle.counter_models.proofs.Lists.{before-less, low_links}
 use Rattle.counter_models.proofs.Choosing.{kept_low}
-use Rattle.counter_models.proofs.Terms.{mask_of, vec_of, set_of, has-set}
+use Rattle.finite_models.specs.Packed.{mask_of}
+use Rattle.counter_models.proofs.Terms.{vec_of, set_of, has-set}
 
 -- a part where b says so
 abbrev part_where : Bool → Part → Option Part

@@ -6,6 +6,7 @@ pub mod Choosing
 pub mod Counted
 pub mod Distances
 pub mod Entries
+pub mod Excluded
 pub mod Final
 pub mod Following
 pub mod HedgePair
@@ -13,6 +14,7 @@ pub mod Inputs
 pub mod Lists
 pub mod Reading
 pub mod Same
+pub mod Served
 pub mod SoundData
 pub mod Sums
 pub mod Terms

@@ -5,7 +5,8 @@ use Rattle.mixed_graph.specs.Bits.{members_below}
 use Rattle.finite_models.specs.Sums.{sum_below}
 use Rattle.finite_models.proofs.Indicators.{number}
 use Rattle.hedge.specs.declared.hedge.Hedge.{Hedge}
-use Rattle.parity_models.specs.Parities.{differ, odd_below, bit}
+use Rattle.finite_models.specs.Parities.{differ, odd_below}
+use Rattle.parity_models.specs.Parities.{bit}
 use Rattle.parity_models.specs.Links.{at_vertex}
 use Rattle.parity_models.proofs.ParityLaws.{differ-assoc, differ-false}
 use Rattle.counter_models.proofs.Lists.{members-suc, members-none}

@@ -11,7 +11,8 @@ use Rattle.finite_models.proofs.Bools.{same_truth}
 use Rattle.finite_models.proofs.Indicators.{number}
 use Rattle.hedge.specs.Hedges.{size_of, IsHedge}
 use Rattle.hedge.specs.declared.hedge.Hedge.{Hedge}
-use Rattle.parity_models.specs.Parities.{differ, odd_below, bit, chosen}
+use Rattle.finite_models.specs.Parities.{differ, odd_below}
+use Rattle.parity_models.specs.Parities.{bit, chosen}
 use Rattle.parity_models.specs.Links.{at_vertex}
 use Rattle.parity_models.specs.Hedges.{ParityHedge}
 use Rattle.parity_models.specs.Pairs.{value, chooses, first_bit, second_bit, carries, top_bit, world_bit, event_odd, first_mechanism, second_mechanism}

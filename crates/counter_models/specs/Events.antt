@@ -9,6 +9,7 @@ use Rattle.finite_models.specs.Data.{meaning, carried_bit}
 use Rattle.finite_models.specs.Faults.{IsSoundModel}
 use Rattle.finite_models.specs.declared.model.Model.{Model}
 use Rattle.finite_models.specs.Agreement.{AgreeObserved}
+use Rattle.finite_models.specs.Served.{ServesTwo}
 use Rattle.parity_models.specs.Laws.{DifferAt, DifferAtEach}
 use Rattle.hedge.specs.Hedges.{IsHedge}
 use Rattle.hedge.specs.declared.hedge.Hedge.{Hedge}
@@ -30,7 +31,7 @@ pub record IsProperModel (g : MixedGraph) (m : Model) : Type 0 where
   pub fits : Fits g (meaning g m)
   pub positive : IsPositiveModel (meaning g m)
 
--- both are proper models of the graph that agree on all observations; at every value of x the event has under do(x) the probability 1 / 2 in the first and 1 / 2 + 1 / 2 ^ (noise + 1) in the second; so the effects of x on y differ, under every value of x
+-- both are proper models of the graph that agree on all observations; at every value of x the event has under do(x) the probability 1 / 2 in the first and 1 / 2 + 1 / 2 ^ (noise + 1) in the second; so the effects of x on y differ, under every value of x; each cause of either serves two vertices at most
 pub record AreCounterModels (g : MixedGraph) (x y : ℕ) (pair : CounterPair) : Type 0 where
   pub first : IsProperModel g pair.first
   pub second : IsProperModel g pair.second
@@ -41,6 +42,7 @@ pub record AreCounterModels (g : MixedGraph) (x y : ℕ) (pair : CounterPair) : 
       → 2 ^ (pair.noise + 1) * even_weight g pair.second x pair.event.bits a ≡ (2 ^ pair.noise + 1) * total (meaning g pair.second)
   pub effects : DifferAt (meaning g pair.first) (meaning g pair.second) (has x) (has y)
   pub each : DifferAtEach (meaning g pair.first) (meaning g pair.second) (has x) (has y)
+  pub two : ServesTwo (meaning g pair.first) × ServesTwo (meaning g pair.second)
 
 -- the two models of a hedge show that the effect isn't identifiable
 abbrev pub PairsAreCounterModels : Type 0

@@ -1,3 +1,4 @@
+ghost use Rattle.counter_models.specs.Experiments.{PairsAgreeUnder};
 ghost use Rattle.counter_models.specs.Theory.{HedgeIsWhole};
 ghost use Rattle.counter_models.specs.Events.{PairsAreCounterModels, HedgesHavePairs};
 
@@ -11,4 +12,7 @@ pub fn laws()
 
     // There are such two models of each hedge, though nobody builds them.
     ensures pairs { HedgesHavePairs }
+
+    // An experiment that leaves big alone, or sets a member of small, doesn't tell them apart either.
+    ensures experiments { PairsAgreeUnder }
 {}

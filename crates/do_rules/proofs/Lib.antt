@@ -8,3 +8,5 @@ pub mod RuleGraphs
 pub mod RuleThree
 pub mod TwoRules
 pub mod Split
+pub mod RuleWalks
+pub mod Failing

@@ -1,9 +1,10 @@
 -- Independence, and the three rules of the do-calculus as equations of probabilities (Pearl, Causality, chapter 3).
-use Rattle.std.specs.Prelude.{ℕ, ◌*◌, ◌≡◌, Bool, false, ◌||◌, IsTrue}
-use Rattle.mixed_graph.specs.Graphs.{MixedGraph, IsAncestor}
+use Rattle.std.specs.Prelude.{ℕ, ◌*◌, ◌≡◌, ◌≢◌, Bool, false, ◌||◌, ◌↔◌, IsTrue}
+use Rattle.mixed_graph.specs.Graphs.{MixedGraph, IsMixedGraph, IsAncestor}
 use Rattle.mixed_graph.specs.Sets.{Within, Apart}
 use Rattle.fractions.specs.Fractions.{Fraction, IsEqual}
 use Rattle.finite_models.specs.Models.{FiniteModel, Fits, IsAssignment, IsPositiveModel, event_weight, probability}
+use Rattle.finite_models.specs.Served.{ServesTwo}
 use Rattle.surgery.specs.Cuts.{cut_into, cut_out}
 use Rattle.m_separation.specs.Walks.{IsSeparated}
 use Rattle.m_separation.specs.Paths.{IsOpenPath}
@@ -18,6 +19,16 @@ IsIndependent m x y w = (s : ℕ → ℕ) → event_weight m (λ v. x v || (y v 
 -- they are so in each model that fits the graph
 abbrev pub AreIndependent : MixedGraph → (x y w : ℕ → Bool) → Type 0
 AreIndependent g x y w = (m : FiniteModel) → Fits g m → IsIndependent m x y w
+
+-- in some positive model that fits the graph, whose causes serve two vertices at most, x and y are dependent given w, at some assignment
+pub record AreDependent (g : MixedGraph) (x y w : ℕ → Bool) : Type 0 where
+  pub model : FiniteModel
+  pub fits : Fits g model
+  pub positive : IsPositiveModel model
+  pub two : ServesTwo model
+  pub at : ℕ → ℕ
+  pub within : IsAssignment model.vertices model.size at
+  pub unequal : event_weight model (λ v. x v || (y v || w v)) at * event_weight model w at ≢ event_weight model (λ v. x v || w v) at * event_weight model (λ v. y v || w v) at
 
 -- the three sets are below n and pairwise disjoint
 pub record AreThreeSets (n : ℕ) (x y w : ℕ → Bool) : Type 0 where
@@ -100,3 +111,32 @@ AreEqualSides g left right = (m : FiniteModel) → Fits g m → IsPositiveModel 
 -- the equation of a rule
 abbrev pub IsRuleFor : Rule → MixedGraph → (x y z w : ℕ → Bool) → Type 0
 IsRuleFor r g x y z w = AreEqualSides g (left_of r x y z w) (right_of r x y z w)
+
+-- in some positive model that fits the graph, whose causes serve two vertices at most, two sides differ, at some assignment
+pub record DifferSomewhere (g : MixedGraph) (left right : Side) : Type 0 where
+  pub model : FiniteModel
+  pub fits : Fits g model
+  pub positive : IsPositiveModel model
+  pub two : ServesTwo model
+  pub at : ℕ → ℕ
+  pub within : IsAssignment model.vertices model.size at
+  pub unequal : IsEqual (side_value model left at) (side_value model right at) → ⊥
+
+-- where a rule's path is open, its equation fails in some model
+abbrev pub OpenRulesFail : Type 0
+OpenRulesFail = (r : Rule) (g : MixedGraph) → IsMixedGraph g → (x y z w : ℕ → Bool) → AreFourSets g.vertices x y z w → (p : OpenPath) → IsOpenFor r g x y z w p
+    → DifferSomewhere g (left_of r x y z w) (right_of r x y z w)
+
+-- sets are separated exactly where they are independent in each model that fits
+abbrev pub IndependenceIsSeparation : Type 0
+IndependenceIsSeparation = (g : MixedGraph) → IsMixedGraph g → (x y w : ℕ → Bool) → AreThreeSets g.vertices x y w → IsSeparated g x y w ↔ AreIndependent g x y w
+
+-- and exactly where they are independent in each positive one
+abbrev pub PositiveIndependenceIsSeparation : Type 0
+PositiveIndependenceIsSeparation = (g : MixedGraph) → IsMixedGraph g → (x y w : ℕ → Bool) → AreThreeSets g.vertices x y w
+    → IsSeparated g x y w ↔ ((m : FiniteModel) → Fits g m → IsPositiveModel m → IsIndependent m x y w)
+
+-- in the graph of a rule y and z are separated exactly where the rule's equation holds in each positive model that fits the graph itself
+abbrev pub RuleIsSeparation : Type 0
+RuleIsSeparation = (r : Rule) (g : MixedGraph) → IsMixedGraph g → (x y z w : ℕ → Bool) → AreFourSets g.vertices x y z w → (h : MixedGraph) → IsRuleGraph r g x z w h
+    → IsSeparated h y z (λ v. x v || w v) ↔ IsRuleFor r g x y z w

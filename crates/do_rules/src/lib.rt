@@ -4,5 +4,7 @@
 #![tactic(auto)]
 
 mod rules;
+mod theory;
 
 pub use rules::{Rule, are_four_sets, are_three_sets, independence, rule1, rule2, rule3};
+pub use theory::laws;

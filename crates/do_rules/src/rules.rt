@@ -4,7 +4,7 @@ ghost use Rattle.mixed_graph.specs.Sets.{Within, Apart};
 ghost use Rattle.mixed_graph.specs.Shown.{graph_of};
 ghost use Rattle.m_separation.specs.Walks.{IsSeparated};
 ghost use Rattle.m_separation.specs.Paths.{IsOpenPath};
-ghost use Rattle.do_rules.specs.Rules.{AreThreeSets, AreFourSets, AreIndependent, IsBlockedFor, IsRuleFor, IsOpenFor};
+ghost use Rattle.do_rules.specs.Rules.{AreThreeSets, AreFourSets, AreIndependent, AreDependent, DifferSomewhere, left_of, right_of, IsBlockedFor, IsRuleFor, IsOpenFor};
 
 use m_separation::{OpenPath, open_path};
 use mixed_graph::{Graph, VSet};
@@ -46,12 +46,13 @@ fn blocked(g: &Graph, x: VSet, y: VSet, w: VSet) -> Result<(), OpenPath>
 
 /// Whether x and y are separated by w; else an open path from x to y.
 ///
-/// Separated sets are independent given w in each model that fits the graph, positive or not.
+/// Separated sets are independent given w in each model that fits the graph, positive or not; others are dependent in some positive one.
 pub fn independence(g: &Graph, x: VSet, y: VSet, w: VSet) -> Result<(), OpenPath>
     requires { AreThreeSets g.now.n (has x.bits) (has y.bits) (has w.bits) }
     ensures apart { OnOk result (IsSeparated (graph_of g.now) (has x.bits) (has y.bits) (has w.bits)) }
     ensures holds { OnOk result (AreIndependent (graph_of g.now) (has x.bits) (has y.bits) (has w.bits)) }
     ensures open { IfErr result (λ p. IsOpenPath (graph_of g.now) (has x.bits) (has y.bits) (has w.bits) p.vertices p.marks p.count) }
+    ensures dependent { IfErr result (λ p. AreDependent (graph_of g.now) (has x.bits) (has y.bits) (has w.bits)) }
 {
     blocked(g, x, y, w)
 }
@@ -113,13 +114,16 @@ impl Rule {
         }
     }
 
-    /// Whether what the rule asks of x, y, z and w is so; then its equation holds. Else a path from y to z that is open in its graph.
+    /// Whether what the rule asks of x, y, z and w is so; then its equation holds.
+    ///
+    /// Else a path from y to z that is open in its graph, and the equation fails in some positive model that fits.
     pub fn applies(self, g: &Graph, x: VSet, y: VSet, z: VSet, w: VSet) -> Result<(), OpenPath>
         requires sets { AreFourSets g.now.n (has x.bits) (has y.bits) (has z.bits) (has w.bits) }
         requires some { 0 < y.bits }
         ensures apart { OnOk result (IsBlockedFor self (graph_of g.now) (has x.bits) (has y.bits) (has z.bits) (has w.bits)) }
         ensures holds { OnOk result (IsRuleFor self (graph_of g.now) (has x.bits) (has y.bits) (has z.bits) (has w.bits)) }
         ensures open { IfErr result (IsOpenFor self (graph_of g.now) (has x.bits) (has y.bits) (has z.bits) (has w.bits)) }
+        ensures fails { IfErr result (λ p. DifferSomewhere (graph_of g.now) (left_of self (has x.bits) (has y.bits) (has z.bits) (has w.bits)) (right_of self (has x.bits) (has y.bits) (has z.bits) (has w.bits))) }
     {
         blocked(&self.graph(g, x, z, w), y, z, x.union(w))
     }
@@ -132,6 +136,7 @@ pub fn rule1(g: &Graph, x: VSet, y: VSet, z: VSet, w: VSet) -> Result<(), OpenPa
     ensures apart { OnOk result (IsBlockedFor Rule.One (graph_of g.now) (has x.bits) (has y.bits) (has z.bits) (has w.bits)) }
     ensures holds { OnOk result (IsRuleFor Rule.One (graph_of g.now) (has x.bits) (has y.bits) (has z.bits) (has w.bits)) }
     ensures open { IfErr result (IsOpenFor Rule.One (graph_of g.now) (has x.bits) (has y.bits) (has z.bits) (has w.bits)) }
+    ensures fails { IfErr result (λ p. DifferSomewhere (graph_of g.now) (left_of Rule.One (has x.bits) (has y.bits) (has z.bits) (has w.bits)) (right_of Rule.One (has x.bits) (has y.bits) (has z.bits) (has w.bits))) }
 {
     Rule::One.applies(g, x, y, z, w)
 }
@@ -143,6 +148,7 @@ pub fn rule2(g: &Graph, x: VSet, y: VSet, z: VSet, w: VSet) -> Result<(), OpenPa
     ensures apart { OnOk result (IsBlockedFor Rule.Two (graph_of g.now) (has x.bits) (has y.bits) (has z.bits) (has w.bits)) }
     ensures holds { OnOk result (IsRuleFor Rule.Two (graph_of g.now) (has x.bits) (has y.bits) (has z.bits) (has w.bits)) }
     ensures open { IfErr result (IsOpenFor Rule.Two (graph_of g.now) (has x.bits) (has y.bits) (has z.bits) (has w.bits)) }
+    ensures fails { IfErr result (λ p. DifferSomewhere (graph_of g.now) (left_of Rule.Two (has x.bits) (has y.bits) (has z.bits) (has w.bits)) (right_of Rule.Two (has x.bits) (has y.bits) (has z.bits) (has w.bits))) }
 {
     Rule::Two.applies(g, x, y, z, w)
 }
@@ -154,6 +160,7 @@ pub fn rule3(g: &Graph, x: VSet, y: VSet, z: VSet, w: VSet) -> Result<(), OpenPa
     ensures apart { OnOk result (IsBlockedFor Rule.Three (graph_of g.now) (has x.bits) (has y.bits) (has z.bits) (has w.bits)) }
     ensures holds { OnOk result (IsRuleFor Rule.Three (graph_of g.now) (has x.bits) (has y.bits) (has z.bits) (has w.bits)) }
     ensures open { IfErr result (IsOpenFor Rule.Three (graph_of g.now) (has x.bits) (has y.bits) (has z.bits) (has w.bits)) }
+    ensures fails { IfErr result (λ p. DifferSomewhere (graph_of g.now) (left_of Rule.Three (has x.bits) (has y.bits) (has z.bits) (has w.bits)) (right_of Rule.Three (has x.bits) (has y.bits) (has z.bits) (has w.bits))) }
 {
     Rule::Three.applies(g, x, y, z, w)
 }

@@ -73,7 +73,7 @@ module _ (g g' h h' : ReadGraph) (s : AreSame g g') (t : AreSame h h') where
   compared a b text line x y = same_or_different (observed_names g) x.p x.q a text line x.answer
       (subst (λ (ns : List (List ℕ)). IsDifferent ns x.p x.q line) (same_observed_names g g' s)
       (subst (λ (m : MixedGraph). IsDifferent (observed_names g') m x.q line) (same_first x.p x.q y.p y.q x.comparable y.comparable)
-      (subst (λ (m : MixedGraph). IsDifferent (observed_names g') y.p m line) (same_second x.p x.q y.p y.q x.comparable y.comparable) y.answer)))
+      (subst (λ (m : MixedGraph). IsDifferent (observed_names g') y.p m line) (same_second x.p x.q y.p y.q x.comparable y.comparable) y.answer.difference)))
 
   same_names : HaveSameNames (observed_names g) (observed_names h) → HaveSameNames (observed_names g') (observed_names h')
   same_names n = subst (λ (ns : List (List ℕ)). HaveSameNames ns (observed_names h')) (sym (same_observed_names g g' s))

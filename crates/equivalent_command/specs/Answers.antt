@@ -17,7 +17,7 @@ use Rattle.targets.specs.FaultTexts.{target_fault_text}
 use Rattle.markov_equivalence.specs.Skeletons.{HasArrowsAlone, AreEquivalent}
 use Rattle.markov_equivalence.specs.Comparisons.{IsEdgeDifference, IsColliderDifference, IsShown}
 use Rattle.markov_equivalence.specs.declared.comparison.Difference.{Difference}
-use Rattle.path_carry.specs.Separations.{HaveSameSeparations, IsOpenWithEndsOf}
+use Rattle.path_carry.specs.Separations.{HaveSameSeparations, HaveSameIndependences, IsOpenWithEndsOf}
 use Rattle.replies.specs.declared.outcome.Outcome.{Outcome}
 use Rattle.replies.specs.declared.outcome.Outcome.TheVariants.{Yes, No, Graph, Second}
 use Rattle.replies.specs.Observed.{observed_names, IsObservedGraph, HoldsGraph}
@@ -85,10 +85,11 @@ abbrev pub SetsAnswer : List (List ℕ) → (p q : MixedGraph) → Option Sets �
 SetsAnswer names p q None text = text ≡ equivalent_text
 SetsAnswer names p q (Some s) text = ShowsSeparation names p q s text ⊎ ShowsOpenPaths names p q s text
 
--- the same skeleton and the same unshielded colliders, hence the same separations: any sets are separated in the one graph exactly where they are in the other
+-- the same skeleton and the same unshielded colliders, hence the same separations: any sets are separated in the one graph exactly where they are in the other; and the same independences in models
 pub record IsSame (names : List (List ℕ)) (p q : MixedGraph) (s : Option Sets) (text : List ℕ) : Type 0 where
   pub equivalent : AreEquivalent p q
   pub separations : HaveSameSeparations p q
+  pub independences : HaveSameIndependences p q
   pub sets : SetsAnswer names p q s text
 
 -- the first edge, or else the first unshielded collider, that one of the graphs has alone, with a separation that holds in one of them alone
@@ -96,10 +97,15 @@ pub data IsDifferent (names : List (List ℕ)) (p q : MixedGraph) (text : List �
   edge : (d : Difference) → IsEdgeDifference p q d → IsShown p q d → text ≡ edge_text names d → IsDifferent names p q text
   collider : (d : Difference) (m : ℕ) → IsColliderDifference p q d m → IsShown p q d → text ≡ collider_text names d m → IsDifferent names p q text
 
+-- such a difference; so there are sets that are independent in every model of the one graph and not in every model of the other
+pub record ShowsDifference (names : List (List ℕ)) (p q : MixedGraph) (text : List ℕ) : Type 0 where
+  pub difference : IsDifferent names p q text
+  pub independences : HaveSameIndependences p q → ⊥
+
 -- the answer of two graphs that are compared
 abbrev pub ComparisonAnswer : List (List ℕ) → (p q : MixedGraph) → Option Sets → Outcome → List ℕ → Type 0
 ComparisonAnswer names p q s Yes text = IsSame names p q s text
-ComparisonAnswer names p q s No text = IsDifferent names p q text
+ComparisonAnswer names p q s No text = ShowsDifference names p q text
 ComparisonAnswer names p q s o text = ⊥
 
 -- ---- on the second graph

@@ -1,6 +1,7 @@
 -- What a model has of a graph apart from its causes' children and weights: an intervention keeps it.
-use Rattle.std.proofs.Common.{ℕ, ◌≡◌, ◌≢◌, ◌<◌, Bool, true, false, cond, not, refl, ◌&&◌}
+use Rattle.std.proofs.Common.{ℕ, ◌≡◌, ◌≢◌, ◌<◌, Bool, true, false, cond, not, refl, ap, ◌&&◌}
 use Rattle.std.proofs.lemmas.Bool.{and_from, not_from_false}
+use mathlib.Core.Path.{fun_ext}
 use Rattle.mixed_graph.specs.Graphs.{MixedGraph}
 use Rattle.finite_models.specs.Models.{FiniteModel, Fits, IsAssignment, IsWorld, intervene}
 use Rattle.finite_models.proofs.Bools.{and_first}
@@ -35,3 +36,12 @@ follows_intervene g m b s within follows = record {
     below : (v : ℕ) → v < m.vertices → (c : Bool) (x : ℕ) → x < m.size v → cond c (s v) x < m.size v
     below v il true x lt = within v il
     below v il false x lt = lt
+
+-- an intervention reads the assignment on x alone
+pub intervene_alike : (m : FiniteModel) (x : ℕ → Bool) (s t : ℕ → ℕ) → ((v : ℕ) → x v ≡ true → s v ≡ t v) → intervene m x s ≡ intervene m x t
+intervene_alike m x s t h =
+    ap (λ f. record m { serves = λ j v. m.serves j v && not (x v); mechanism = f }) (fun_ext (λ v. fun_ext (λ p. fun_ext (λ u. at v p u (x v) refl))))
+  where
+    at : (v : ℕ) (p u : ℕ → ℕ) (c : Bool) → x v ≡ c → cond (x v) (s v) (m.mechanism v p u) ≡ cond (x v) (t v) (m.mechanism v p u)
+    at v p u true e = rw e (h v e)
+    at v p u false e = rw e refl

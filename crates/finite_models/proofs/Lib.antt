@@ -6,10 +6,12 @@ pub mod DataFits
 pub mod DataReads
 pub mod DataSound
 pub mod Digits
+pub mod Existing
 pub mod Factors
 pub mod Following
 pub mod Indicators
 pub mod Numbering
+pub mod Packed
 pub mod Places
 pub mod Positive
 pub mod Radix

@@ -1,5 +1,5 @@
 -- Laws of finite sums.
-use Rattle.std.proofs.Common.{ℕ, zero, suc, ◌+◌, ◌*◌, ◌≡◌, ◌<◌, ◌≤◌, Bool, true, false, cond, eqb, refl, sym, ap, ◌∙◌, ◌||◌, arith, rules, ne_eqb, eqb-true}
+use Rattle.std.proofs.Common.{ℕ, zero, suc, ◌+◌, ◌*◌, ◌≡◌, ◌<◌, ◌≤◌, Bool, true, false, cond, eqb, refl, sym, ap, ap₂, ◌∙◌, ◌||◌, arith, rules, ne_eqb, eqb-true}
 use mathlib.Core.Path.{fun_ext}
 use Rattle.finite_models.specs.Sums.{sum_below, product_below, set_at, sum_over}
 
@@ -24,6 +24,15 @@ pub sum_below-swap : (k l : ℕ) (f : ℕ → ℕ → ℕ) → sum_below k (λ i
 sum_below-swap zero l f = sym (sum_below-zero l)
 sum_below-swap (suc k) l f = ap (λ n. n + sum_below l (λ j. f k j)) (sum_below-swap k l f) ∙ sym (sum_below-add l (λ j. sum_below k (λ i. f i j)) (λ j. f k j))
 
+-- a sum is at least any of its terms
+sum_below_term : (k : ℕ) (f : ℕ → ℕ) (x : ℕ) → x < k → f x ≤ sum_below k f
+sum_below_term zero f x lt = absurd (omega arith)
+sum_below_term (suc k) f x lt = go (eqb x k) refl (λ l. sum_below_term k f x l)
+  where
+    go : (q : Bool) → eqb x k ≡ q → (x < k → f x ≤ sum_below k f) → f x ≤ sum_below k f + f k
+    go true e ih = let same : x ≡ k = eqb-true x k e in rw same (omega arith)
+    go false e ih = omega (arith, ih (let d : x ≡ k → ⊥ = λ s. absurd (grind (arith, s, e)) in omega arith))
+
 -- ---- products
 pub product_below-congr : (k : ℕ) (f g : ℕ → ℕ) → ((i : ℕ) → i < k → f i ≡ g i) → product_below k f ≡ product_below k g
 product_below-congr zero f g h = refl
@@ -33,6 +42,14 @@ product_below-congr (suc k) f g h = ap (λ n. n * f k) (product_below-congr k f 
 pub product_below-mul : (k : ℕ) (f g : ℕ → ℕ) → product_below k (λ i. f i * g i) ≡ product_below k f * product_below k g
 product_below-mul zero f g = omega arith
 product_below-mul (suc k) f g = ap (λ n. n * (f k * g k)) (product_below-mul k f g) ∙ omega arith
+
+-- the product of the first c + n factors is that of the first c times that of the n after them
+pub product-split : (c n : ℕ) (f : ℕ → ℕ) (N : ℕ) → N ≡ c + n → product_below N f ≡ product_below c f * product_below n (λ v. f (c + v))
+product-split c zero f N e = ap (λ t. product_below t f) (let q : N ≡ c = omega (arith, e) in q) ∙ omega arith
+product-split c (suc n) f zero e = absurd (omega (arith, e))
+product-split c (suc n) f (suc N) e =
+    let same : N ≡ c + n = omega (arith, e) in
+    ap₂ (λ a b. a * b) (product-split c n f N same) (ap f same) ∙ omega arith
 
 -- ---- points
 pub eqb-refl : (n : ℕ) → eqb n n ≡ true
@@ -45,6 +62,14 @@ set_at-same b i x = rw (eqb-refl i) refl
 -- each other coordinate keeps its value
 pub set_at-other : (b : ℕ → ℕ) (i x k : ℕ) → (k ≡ i → ⊥) → set_at b i x k ≡ b k
 set_at-other b i x k ne = let e : eqb k i ≡ false = ne_eqb k i ne in rw e refl
+
+-- a coordinate set to what it is
+pub set_at-own : (b : ℕ → ℕ) (n : ℕ) → set_at b n (b n) ≡ b
+set_at-own b n = fun_ext (λ i. go i (eqb i n) refl)
+  where
+    go : (i : ℕ) (q : Bool) → eqb i n ≡ q → cond (eqb i n) (b n) (b i) ≡ b i
+    go i true e = rw e (ap b (sym (eqb-true i n e)))
+    go i false e = rw e refl
 
 set_at-swap_at : (b : ℕ → ℕ) (i j x y k : ℕ) → (i ≡ j → ⊥) → set_at (set_at b i x) j y k ≡ set_at (set_at b j y) i x k
 set_at-swap_at b i j x y k ne = go (eqb k i) (eqb k j) refl refl
@@ -192,3 +217,61 @@ over-congr_within U s (suc n) F G b h = go (U n) refl (λ c. over-congr_within U
         ih b (λ c r same. h c
         (λ i il u. r i (let d : i ≡ n → ⊥ = λ q. absurd (grind (arith, ap U q, u, e)) in omega arith) u)
         (λ i le. same i (omega arith)))
+
+-- the base counts outside the summed coordinates alone
+pub over-base : (U : ℕ → Bool) (s : ℕ → ℕ) (n : ℕ) (F : (ℕ → ℕ) → ℕ) (b c : ℕ → ℕ)
+    → ((i : ℕ) → (i < n → U i ≡ true → ⊥) → b i ≡ c i) → sum_over U s n F b ≡ sum_over U s n F c
+over-base U s zero F b c h = ap F (fun_ext (λ i. h i (λ lt. absurd (omega arith))))
+over-base U s (suc n) F b c h = go (U n) refl (λ b' c' k. over-base U s n F b' c' k)
+  where
+    go : (p : Bool) → U n ≡ p → ((b' c' : ℕ → ℕ) → ((i : ℕ) → (i < n → U i ≡ true → ⊥) → b' i ≡ c' i) → sum_over U s n F b' ≡ sum_over U s n F c')
+        → along p (s n) n (sum_over U s n F) b ≡ along p (s n) n (sum_over U s n F) c
+    go true e ih =
+        sum_below-congr (s n) (λ x. sum_over U s n F (set_at b n x)) (λ x. sum_over U s n F (set_at c n x))
+        (λ x lt. ih (set_at b n x) (set_at c n x) (λ i out. at x i out (eqb i n) refl))
+      where
+        at : (x i : ℕ) → (i < n → U i ≡ true → ⊥) → (q : Bool) → eqb i n ≡ q → cond (eqb i n) x (b i) ≡ cond (eqb i n) x (c i)
+        at x i out true f = rw f refl
+        at x i out false f = rw f (h i (λ lt u. out (let d : i ≡ n → ⊥ = λ s. absurd (grind (arith, s, f)) in omega arith) u))
+    go false e ih = ih b c (λ i out. h i (λ lt u. at i lt u out (eqb i n) refl))
+      where
+        at : (i : ℕ) → i < suc n → U i ≡ true → (i < n → U i ≡ true → ⊥) → (q : Bool) → eqb i n ≡ q → ⊥
+        at i lt u out true f = let same : i ≡ n = eqb-true i n f in absurd (grind (arith, ap U same, u, e))
+        at i lt u out false f = out (let d : i ≡ n → ⊥ = λ s. absurd (grind (arith, s, f)) in omega arith) u
+
+-- a sum over a box is at least any of its terms
+pub over-term : (U : ℕ → Bool) (s : ℕ → ℕ) (n : ℕ) (F : (ℕ → ℕ) → ℕ) (c : ℕ → ℕ) → ((i : ℕ) → i < n → U i ≡ true → c i < s i) → F c ≤ sum_over U s n F c
+over-term U s zero F c h = omega arith
+over-term U s (suc n) F c h = go (U n) refl (over-term U s n F c (λ i lt u. h i (omega arith) u))
+  where
+    go : (p : Bool) → U n ≡ p → F c ≤ sum_over U s n F c → F c ≤ along p (s n) n (sum_over U s n F) c
+    go true e ih =
+        omega (arith, ih, sum_below_term (s n) (λ x. sum_over U s n F (set_at c n x)) (c n) (h n (omega arith) e), ap (sum_over U s n F) (set_at-own c n))
+    go false e ih = ih
+
+-- the sum of sums is the sum of both
+pub over-add : (U : ℕ → Bool) (s : ℕ → ℕ) (n : ℕ) (F G : (ℕ → ℕ) → ℕ) (b : ℕ → ℕ)
+    → sum_over U s n (λ c. F c + G c) b ≡ sum_over U s n F b + sum_over U s n G b
+over-add U s zero F G b = refl
+over-add U s (suc n) F G b = go (U n) (over-add U s n F G)
+  where
+    go : (p : Bool) → ((c : ℕ → ℕ) → sum_over U s n (λ c. F c + G c) c ≡ sum_over U s n F c + sum_over U s n G c)
+        → along p (s n) n (sum_over U s n (λ c. F c + G c)) b ≡ along p (s n) n (sum_over U s n F) b + along p (s n) n (sum_over U s n G) b
+    go true ih =
+        sum_below-congr (s n) (λ x. sum_over U s n (λ c. F c + G c) (set_at b n x))
+        (λ x. sum_over U s n F (set_at b n x) + sum_over U s n G (set_at b n x)) (λ x lt. ih (set_at b n x))
+        ∙ sum_below-add (s n) (λ x. sum_over U s n F (set_at b n x)) (λ x. sum_over U s n G (set_at b n x))
+    go false ih = ih b
+
+-- a constant factor comes outside
+pub over-scale : (U : ℕ → Bool) (s : ℕ → ℕ) (n k : ℕ) (F : (ℕ → ℕ) → ℕ) (b : ℕ → ℕ) → sum_over U s n (λ c. k * F c) b ≡ k * sum_over U s n F b
+over-scale U s n k F b = over-mul U s n (λ c. k) F b (λ c i x lt e. refl)
+
+-- equal boxes have equal sums
+pub over-sizes : (s t : ℕ → ℕ) (n : ℕ) (F : (ℕ → ℕ) → ℕ) (b : ℕ → ℕ) → ((i : ℕ) → i < n → s i ≡ t i)
+    → sum_over (λ j. true) s n F b ≡ sum_over (λ j. true) t n F b
+over-sizes s t zero F b h = refl
+over-sizes s t (suc n) F b h =
+    ap (λ k. sum_below k (λ x. sum_over (λ j. true) s n F (set_at b n x))) (h n (omega arith))
+    ∙ sum_below-congr (t n) (λ x. sum_over (λ j. true) s n F (set_at b n x)) (λ x. sum_over (λ j. true) t n F (set_at b n x))
+    (λ x lt. over-sizes s t n F (set_at b n x) (λ i l. h i (omega arith)))

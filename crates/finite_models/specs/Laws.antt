@@ -42,3 +42,14 @@ SoundDataFits = (g : MixedGraph) (m : Model) → length m.sizes.items ≡ g.vert
 -- and data of the right form that means such a model is sound
 abbrev pub FittingDataIsSound : Type 0
 FittingDataIsSound = (g : MixedGraph) (m : Model) → length m.sizes.items ≡ g.vertices → length m.mechanisms.items ≡ g.vertices → IsWellFormed g m → Fits g (meaning g m) → IsSoundModel g m
+
+-- a positive model of these sizes that fits the graph
+pub record HasPositiveModel (g : MixedGraph) (size : ℕ → ℕ) : Type 0 where
+  pub model : FiniteModel
+  pub fits : Fits g model
+  pub positive : IsPositiveModel model
+  pub sizes : model.size ≡ size
+
+-- each graph has one, whatever the sizes of its vertices: what is said of every positive model isn't said of nothing
+abbrev pub EachGraphHasModel : Type 0
+EachGraphHasModel = (g : MixedGraph) → IsMixedGraph g → (size : ℕ → ℕ) → ((v : ℕ) → v < g.vertices → 1 ≤ size v) → HasPositiveModel g size

@@ -4,6 +4,9 @@ pub mod Faults
 pub mod Inputs
 pub mod Laws
 pub mod Models
+pub mod Packed
+pub mod Parities
+pub mod Served
 pub mod Sound
 pub mod Sums
 pub mod Tables

@@ -1,5 +1,5 @@
 ghost use Rattle.finite_models.specs.Laws.{SolutionIsSolution, SolutionIsUnique, SolutionIsAssignment};
-ghost use Rattle.finite_models.specs.Laws.{NoInterventionIsObservation, NoEventIsTotal, EachWeightIsPositive, SoundDataFits, FittingDataIsSound};
+ghost use Rattle.finite_models.specs.Laws.{NoInterventionIsObservation, NoEventIsTotal, EachWeightIsPositive, EachGraphHasModel, SoundDataFits, FittingDataIsSound};
 
 /// The laws of the models that fit a graph.
 pub fn laws()
@@ -14,6 +14,9 @@ pub fn laws()
 
     // A denominator is never 0 in a positive model.
     ensures positive { EachWeightIsPositive }
+
+    // And there is one of each graph.
+    ensures some { EachGraphHasModel }
 
     // Data that is sound means a model that fits.
     ensures fits { SoundDataFits }

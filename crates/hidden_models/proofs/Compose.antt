@@ -37,9 +37,9 @@ use Rattle.hidden_models.proofs.Tabled.{IsTabled, tabled_fits, tabled_folds}
 use Rattle.hidden_models.specs.Folded.{TellsReach, AreFoldedCauses, table_size, IsFoldedData}
 use Rattle.hidden_models.specs.Reaching.{IsReachedFrom, IsReachOf, AreReached, mask_at, has_some}
 use Rattle.hidden_models.specs.Tables.{world_range, entries, parents_at, causes_at, AreEntries, IsTableFor}
-use Rattle.hidden_models.specs.Digits.{digits}
+use Rattle.hidden_theory.specs.Digits.{digits}
 use Rattle.hidden_models.proofs.Compress.{AreAt, radix_compress, range_compress}
-use Rattle.hidden_models.proofs.DigitLaws.{digits_radix}
+use Rattle.hidden_theory.proofs.DigitLaws.{digits_radix}
 use Rattle.hidden_models.proofs.ListLaws.{listed_at}
 
 -- ---- one projection

@@ -2,7 +2,7 @@ mod ListLaws
 mod Worlds
 mod Masks
 mod Reach
-mod DigitLaws
+mod Written
 mod OneEntry
 mod Tabled
 mod Compress

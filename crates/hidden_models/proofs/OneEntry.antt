@@ -11,11 +11,11 @@ use Rattle.finite_models.specs.Tables.{radix_range}
 use Rattle.finite_models.specs.Worlds.{values_of, IsAcceptedModel}
 use Rattle.finite_models.specs.declared.model.Model.{Model}
 use Rattle.finite_models.proofs.Digits.{positive_range}
-use Rattle.hidden_models.specs.Digits.{digits}
+use Rattle.hidden_theory.specs.Digits.{digits}
 use Rattle.hidden_models.specs.Reaching.{mask_at}
 use Rattle.hidden_models.specs.Tables.{world_range, entries, parents_at, causes_at, folded_value, entry_at}
 use Rattle.hidden_models.specs.Values.{IsWorldOf, filled}
-use Rattle.hidden_models.proofs.DigitLaws.{digits-lt}
+use Rattle.hidden_theory.proofs.DigitLaws.{digits-lt}
 
 at_most : (x y : ℕ) → 0 < x → y ≤ x * y
 at_most x y pos = grind arith

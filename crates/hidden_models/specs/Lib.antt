@@ -1,7 +1,6 @@
 pub mod Lists
 pub mod Values
 pub mod Reaching
-pub mod Digits
 pub mod Tables
 pub mod Parts
 pub mod Folded

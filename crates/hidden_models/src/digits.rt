@@ -2,7 +2,7 @@ ghost use Rattle.std.specs.Prelude.{◌≡◌, ℕ, ◌/◌, ◌%◌, ◌<◌, �
 ghost use Rattle.mixed_graph.specs.Bits.{has};
 ghost use Rattle.mixed_graph.specs.Shown.{graph_of};
 ghost use Rattle.finite_models.specs.Worlds.{values_of};
-ghost use Rattle.hidden_models.specs.Digits.{digits};
+ghost use Rattle.hidden_theory.specs.Digits.{digits};
 ghost use Rattle.hidden_models.specs.Reaching.{mask_at};
 
 use finite_models::Model;

@@ -19,7 +19,7 @@ use Rattle.prob_expr.specs.Tree.{PlainFormula, PlainTarget}
 use Rattle.prob_expr.specs.Values.{weights_of, term_value, value_of, effect}
 use Rattle.hidden_theory.specs.Folding.{Folds, IsObservedPositive, values_after, values_before, set_before, drawn_weights, drawn_effect}
 use Rattle.hidden_theory.specs.Laws.{FoldedIsPositive, FoldedKeepsWeights, FoldedKeepsValues, FoldedKeepsEffects, RightAsDrawn}
-use Rattle.hidden_theory.proofs.Alike.{left_positive, term_alike, formula_alike}
+use Rattle.prob_expr.proofs.Alike.{Events, left_positive, term_alike, formula_alike, asks_any, all_ask_any}
 use Rattle.hidden_theory.proofs.Depends.{weight_depends}
 use Rattle.hidden_theory.proofs.Folded.{each_has_folded}
 use Rattle.hidden_theory.proofs.Folding.{position, member}
@@ -35,6 +35,10 @@ and_true : (c : Bool) → (c && true) ≡ c
 and_true true = refl
 and_true false = refl
 
+-- all events
+abbrev Any : Events
+Any b a = Unit {0}
+
 module _ (g : MixedGraph) (ok : IsMixedGraph g) (l : ℕ → Bool) (q : MixedGraph) (is : IsObserved g l q) (m m' : FiniteModel) (fit : Fits g m) (fit' : Fits q m') (folds : Folds l m m') where
   q_ok : IsMixedGraph q
   q_ok = subst IsMixedGraph (sym is.renumbers) (IsMixedGraph-renumbered is.projection (observed_below l g.vertices) (IsMixedGraph-projection g is.projection l ok is.projects))
@@ -42,7 +46,7 @@ module _ (g : MixedGraph) (ok : IsMixedGraph g) (l : ℕ → Bool) (q : MixedGra
   below : (k : ℕ) → k < m'.vertices → k < position (λ v. not (l v)) m.vertices
   below k kl = subst (λ n. k < n) folds.vertices kl
 
-  before_within : (s : ℕ → ℕ) → IsAssignment m'.vertices m'.size s → IsAssignment m.vertices m.size (values_before l s)
+  pub before_within : (s : ℕ → ℕ) → IsAssignment m'.vertices m'.size s → IsAssignment m.vertices m.size (values_before l s)
   before_within s hs v vl = go (l v) refl
     where
       go : (c : Bool) → l v ≡ c → cond (not (l v)) (s (position (λ v. not (l v)) v)) 0 < m.size v
@@ -52,7 +56,7 @@ module _ (g : MixedGraph) (ok : IsMixedGraph g) (l : ℕ → Bool) (q : MixedGra
           let kl : position (λ v. not (l v)) v < m'.vertices = subst (λ n. position (λ v. not (l v)) v < n) (sym folds.vertices) (position_lt (λ v. not (l v)) v m.vertices vl o) in
           rw o (subst (λ n. s (position (λ v. not (l v)) v) < n) (folds.sizes (position (λ v. not (l v)) v) kl ∙ ap m.size (member_position (λ v. not (l v)) m.vertices v vl o)) (hs (position (λ v. not (l v)) v) kl))
 
-  after_within : (s : ℕ → ℕ) → IsAssignment m.vertices m.size s → IsAssignment m'.vertices m'.size (values_after l m.vertices s)
+  pub after_within : (s : ℕ → ℕ) → IsAssignment m.vertices m.size s → IsAssignment m'.vertices m'.size (values_after l m.vertices s)
   after_within s hs k kl = subst (λ n. s (member (λ v. not (l v)) m.vertices k) < n) (sym (folds.sizes k kl)) (hs (member (λ v. not (l v)) m.vertices k) (member_is (λ v. not (l v)) m.vertices k (below k kl)).below)
 
   apart : (d : ℕ → Bool) → Apart (set_before l d) l
@@ -85,7 +89,7 @@ module _ (g : MixedGraph) (ok : IsMixedGraph g) (l : ℕ → Bool) (q : MixedGra
         (mul-pos (observed (values_before l s) (before_within s hs)) (total_positive q m' fit'))
         (ap (λ n. n * total m') (sym (none_observed s)) ∙ drawn_weight (λ k. false) (λ k. true) s hs ∙ ap (λ n. n * total m) (weight_of-none m' (λ k. false) (λ k. true) s (λ k. refl)))
 
-    new_positive : (b a : ℕ → Bool) (s : ℕ → ℕ) → IsAssignment m'.vertices m'.size s → 1 ≤ weight_of m' b a s
+    pub new_positive : (b a : ℕ → Bool) (s : ℕ → ℕ) → IsAssignment m'.vertices m'.size s → 1 ≤ weight_of m' b a s
     new_positive b a s hs = positive_weight q m' q_ok (follows_of q m' fit') folded_positive b a s hs
 
     into : (s : ℕ → ℕ) → IsAssignment (drawn_weights l m).vertices (drawn_weights l m).size s → IsAssignment m'.vertices m'.size s
@@ -97,7 +101,7 @@ module _ (g : MixedGraph) (ok : IsMixedGraph g) (l : ℕ → Bool) (q : MixedGra
     drawn_some : (k : ℕ) → k < (drawn_weights l m).vertices → 1 ≤ (drawn_weights l m).size k
     drawn_some k kl = fit.positive_size (member (λ v. not (l v)) m.vertices k) (member_is (λ v. not (l v)) m.vertices k kl).below
 
-    drawn_positive : (b a : ℕ → Bool) (s : ℕ → ℕ) → IsAssignment (drawn_weights l m).vertices (drawn_weights l m).size s → 1 ≤ (drawn_weights l m).weight b a s
+    pub drawn_positive : (b a : ℕ → Bool) (s : ℕ → ℕ) → IsAssignment (drawn_weights l m).vertices (drawn_weights l m).size s → 1 ≤ (drawn_weights l m).weight b a s
     drawn_positive b a s hs = left_positive ((drawn_weights l m).weight b a s) (total m') (weight_of m' b a s * total m) (mul-pos (new_positive b a s (into s hs)) (total_positive g m fit)) (sym (drawn_weight b a s (into s hs)))
 
     after_drawn : (s : ℕ → ℕ) → IsAssignment m.vertices m.size s → IsAssignment (drawn_weights l m).vertices (drawn_weights l m).size (values_after l m.vertices s)
@@ -106,7 +110,14 @@ module _ (g : MixedGraph) (ok : IsMixedGraph g) (l : ℕ → Bool) (q : MixedGra
     pub keeps_value : (f : PlainFormula) (s : ℕ → ℕ) → IsAssignment m.vertices m.size s → IsEqual (value_of (drawn_weights l m) f (values_after l m.vertices s)) (value_of (weights_of m') f (values_after l m.vertices s))
     keeps_value f s hs =
         formula_alike (drawn_weights l m) (weights_of m') (sym folds.vertices) drawn_sizes drawn_some (total m) (total m') (mul-pos (total_positive g m fit) (total_positive q m' fit'))
-        drawn_positive (λ b a c hc. drawn_weight b a c (into c hc)) f (values_after l m.vertices s) (after_drawn s hs)
+        Any (λ b a k. drawn_positive (has b) a) (λ b a k c hc. drawn_weight (has b) a c (into c hc))
+        f (all_ask_any Any (λ b a. tt) f.defs) (asks_any Any (λ b a. tt) f.main) (values_after l m.vertices s) (after_drawn s hs)
+
+    pub keeps_term : (a b c : ℕ) (s : ℕ → ℕ) → IsAssignment (drawn_weights l m).vertices (drawn_weights l m).size s
+        → IsEqual (term_value (drawn_weights l m) a b c s) (term_value (weights_of m') a b c s)
+    keeps_term a b c s hs =
+        (term_alike (drawn_weights l m) (weights_of m') (sym folds.vertices) drawn_sizes drawn_some (total m) (total m') (mul-pos (total_positive g m fit) (total_positive q m' fit'))
+        Any (λ b a k. drawn_positive (has b) a) (λ b a k c hc. drawn_weight (has b) a c (into c hc)) a b c tt tt s hs).equal
 
     -- the weight of an event of observed vertices, at values of all vertices
     at_all : (b a a' : ℕ → Bool) (s : ℕ → ℕ) → ((v : ℕ) → set_before l a v ≡ a' v)
@@ -129,8 +140,7 @@ module _ (g : MixedGraph) (ok : IsMixedGraph g) (l : ℕ → Bool) (q : MixedGra
     keeps_effect t s hs = subst (λ f. IsEqual (effect m' t (values_after l m.vertices s)) f)
         (ap₂ (λ x y. over x y) (at_all (has t.x) (λ k. has t.y k || has t.given k) (λ v. set_before l (has t.y) v || set_before l (has t.given) v) s (either_of (has t.y) (has t.given))) (at_all (has t.x) (has t.given) (set_before l (has t.given)) s (λ v. refl)))
         (equal_sym (term_value (drawn_weights l m) t.y t.x t.given (values_after l m.vertices s)) (effect m' t (values_after l m.vertices s))
-        (term_alike (drawn_weights l m) (weights_of m') (sym folds.vertices) drawn_sizes drawn_some (total m) (total m') (mul-pos (total_positive g m fit) (total_positive q m' fit'))
-        drawn_positive (λ b a c hc. drawn_weight b a c (into c hc)) t.y t.x t.given (values_after l m.vertices s) (after_drawn s hs)).equal)
+        (keeps_term t.y t.x t.given (values_after l m.vertices s) (after_drawn s hs)))
 
 -- what folds a model that is positive on the observed vertices is positive
 pub folded_is_positive : FoldedIsPositive

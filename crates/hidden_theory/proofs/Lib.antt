@@ -1,6 +1,8 @@
-pub mod Alike
 pub mod Depends
+pub mod DigitLaws
+pub mod Drawing
 pub mod Drawn
+pub mod Expanded
 pub mod Fold
 pub mod Folded
 pub mod Folding
@@ -8,4 +10,8 @@ pub mod Folds
 pub mod Positions
 pub mod Reaching
 pub mod Renumber
+pub mod Statements
 pub mod Totals
+pub mod Unfold
+pub mod Unfolded
+pub mod Unprojected

@@ -1,4 +1,6 @@
 ghost use Rattle.hidden_theory.specs.Laws.{EachHasFolded, FoldedIsPositive, FoldedKeepsWeights, FoldedKeepsValues, FoldedKeepsEffects, RightAsDrawn};
+ghost use Rattle.hidden_theory.specs.UnfoldingLaws.{EachIsFolded, UnfoldedIsPositive, DifferenceIsDrawn, FormulaAsDrawnFixes};
+ghost use Rattle.hidden_theory.specs.Statements.{IndependenceIsDrawn, DependenceIsDrawn, EquationIsDrawn, FailureIsDrawn};
 
 /// What is true of the models of a diagram with hidden vertices.
 pub fn laws()
@@ -13,4 +15,18 @@ pub fn laws()
 
     // So what is right in the observed graph is right in the diagram as drawn.
     ensures drawn { RightAsDrawn }
+
+    // Each model of the observed graph whose causes serve one vertex or two folds one of the diagram.
+    ensures unfolded { EachIsFolded }
+    ensures unfolded_positive { UnfoldedIsPositive }
+
+    // So what isn't identifiable in the observed graph isn't in the diagram as drawn.
+    ensures not_identifiable { DifferenceIsDrawn }
+    ensures fixes { FormulaAsDrawnFixes }
+
+    // And what separations and rules say is said of the diagram as drawn, where they hold and where they don't.
+    ensures independent { IndependenceIsDrawn }
+    ensures dependent { DependenceIsDrawn }
+    ensures equation { EquationIsDrawn }
+    ensures failure { FailureIsDrawn }
 {}

@@ -1,15 +1,15 @@
 -- The data of the hedge at which the procedure stops is a hedge.
-use Rattle.std.proofs.Common.{ℕ, zero, suc, ◌+◌, ◌≡◌, ◌<◌, ◌≤◌, ◌⊎◌, ◌↔◌, Bool, true, false, cond, not, ◌&&◌, ◌||◌, ◌==◌, List, length, get_or, IsTrue, inl, inr, refl, sym, ap, subst, ◌∙◌, arith}
-use Rattle.std.proofs.lemmas.Bool.{cases_Bool, cases_lt, cases_order, and_parts, or_left, or_right, or_cases, eqb-true}
+use Rattle.std.proofs.Common.{ℕ, zero, suc, ◌≡◌, ◌<◌, ◌≤◌, ◌⊎◌, Bool, true, false, ◌&&◌, ◌==◌, length, get_or, inl, inr, refl, sym, subst, ◌∙◌, arith}
+use Rattle.std.proofs.lemmas.Bool.{cases_Bool, cases_order, and_parts, or_cases, eqb-true}
 use Rattle.mixed_graph.specs.Bits.{has, members_below}
 use Rattle.mixed_graph.specs.declared.sets.VSet.{VSet}
-use Rattle.mixed_graph.specs.Graphs.{MixedGraph, IsMixedGraph, induced}
+use Rattle.mixed_graph.specs.Graphs.{MixedGraph, IsMixedGraph}
 use Rattle.mixed_graph.specs.Orders.{taken_by}
 use Rattle.mixed_graph.proofs.Members.{one_if, length-members-suc, length-members-zero, length-members-more, length-members-none}
-use Rattle.districts.specs.Nearest.{Leads, IsChoiceOf, IsNearestChild}
+use Rattle.districts.specs.Nearest.{IsChoiceOf}
 use Rattle.districts.specs.Spanning.{IsNextLink, AreLinks}
 use Rattle.districts.proofs.Trees.{place_of_taken, taken_own}
-use Rattle.hedge.specs.Hedges.{size_of, IsChildInside, IsRightChoice, IsPlaced, IsRightPartner, AreRightLinks, IsHedge}
+use Rattle.hedge.specs.Hedges.{size_of, IsChildInside, IsRightChoice, IsPlaced, AreRightLinks, IsHedge}
 use Rattle.hedge.specs.Shapes.{AreSetsOfHedge}
 use Rattle.hedge.specs.declared.hedge.Hedge.{Hedge}
 use Rattle.id_recursion.specs.Hedged.{IsHedgeOf}

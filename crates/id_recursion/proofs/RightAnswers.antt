@@ -1,7 +1,6 @@
 -- What the procedure answers is a right answer.
-use Rattle.std.proofs.Common.{ℕ, ◌*◌, ◌^◌, ◌≡◌, ◌<◌, ◌≤◌, ◌↔◌, Bool, true, false, ◌||◌, refl, sym, ap, ap₂, subst, ◌∙◌, List, [], length, IsTrue, arith}
+use Rattle.std.proofs.Common.{ℕ, ◌^◌, ◌≡◌, ◌<◌, ◌≤◌, ◌↔◌, true, refl, sym, subst, List, [], length, IsTrue, arith}
 use Rattle.std.specs.Prelude.{Result, Ok, Err, IfOk}
-use mathlib.Core.Path.{fun_ext}
 use Rattle.mixed_graph.specs.Bits.{has}
 use Rattle.mixed_graph.specs.Graphs.{MixedGraph, IsMixedGraph}
 use Rattle.mixed_graph.specs.Orders.{IsOrder}
@@ -9,15 +8,10 @@ use Rattle.mixed_graph.specs.Sets.{Within, Apart}
 use Rattle.mixed_graph.specs.declared.sets.VSet.{VSet}
 use Rattle.mixed_graph.proofs.Masks.{has-zero, some_member}
 use Rattle.districts.specs.Linked.{AreDistricts}
-use Rattle.finite_models.specs.Agreement.{AgreeObserved}
-use Rattle.finite_models.specs.Data.{meaning}
-use Rattle.finite_models.specs.Models.{FiniteModel, Fits, IsPositiveModel, weight_of}
-use Rattle.parity_models.specs.Laws.{DifferAt}
 use Rattle.mixed_graph.specs.Masks.{all, is_apart, is_below, is_empty, minus}
 use Rattle.prob_expr.specs.Terms.{is_term}
 use Rattle.prob_expr.specs.Tree.{PlainFormula}
 use Rattle.prob_expr.specs.View.{formula_view}
-use Rattle.prob_expr.proofs.Observed.{effect_is_over_total, formula_fixes_effect}
 use Rattle.do_derivation.specs.Plans.{PlainDerivation}
 use Rattle.do_derivation.specs.View.{derivation_view}
 use Rattle.do_derivation.proofs.Accepted.{accepted_is_effect}
@@ -28,8 +22,10 @@ use Rattle.identification.specs.Procedure.{AreAncestorsIn, IsTarget, IsUnidentif
 use Rattle.hedge.specs.Hedges.{IsHedge}
 use Rattle.hedge.specs.declared.hedge.Hedge.{Hedge as HedgeData}
 use Rattle.hedge.proofs.Shaping.{sets_form_hedge}
+use Rattle.counter_models.specs.Pairs.{IsPairOf}
 use Rattle.counter_models.specs.declared.counter_pair.CounterPair.{CounterPair}
-use Rattle.id_recursion.specs.Answers.{IsAnswerOf, IsRight, IsRightFormula, IfFormula, IfHedge, is_hedge, effect_on, AreShallowSteps, IsShallowFormula}
+use Rattle.counter_models.proofs.Excluded.{no_formula}
+use Rattle.id_recursion.specs.Answers.{IsAnswerOf, IsRight, IsRightFormula, IsRightHedge, IfFormula, IfHedge, is_hedge, effect_on, AreShallowSteps, IsShallowFormula}
 use Rattle.id_recursion.specs.declared.answer.Answer.{Answer}
 use Rattle.id_recursion.specs.declared.answer.Answer.TheVariants.{Formula, Hedge}
 use Rattle.identification_answers.proofs.Answered.{formula_names_ancestors, formula_is_formed, formula_is_shallow, derived_is_identified, derivation_is_accepted}
@@ -107,29 +103,24 @@ right_formula g valid x y target f d i =
     }
 
 module _ (g : MixedGraph) (valid : IsMixedGraph g) (few : g.vertices ≤ 64) (x y : ℕ) (target : IsTarget g x y) (off : Apart (has x) (has y)) where
+  -- a hedge with its two models is right
+  pub right_hedge : (h : HedgeData) (pair : CounterPair) → IsHedge g x y h → IsPairOf g x y h pair → IsRightHedge g x y h pair
+  right_hedge h pair is models = let two = counter g valid few x y h is off pair models in record {
+    hedge = sets_form_hedge g x y h valid few is;
+    counter = two;
+    no_formula = no_formula g valid x y pair two;
+  }
+
   pub right : (a : Answer) → IsAnswerOf g x y a → IsRight g x y a
   right (Formula f d) i = right_formula g valid x y target (formula_view f) (derivation_view d) i
-  right (Hedge h pair) i = record { hedge = sets_form_hedge g x y h valid few i.2; counter = counter g valid few x y h i.2 off pair i.3 }
+  right (Hedge h pair) i = right_hedge h pair i.2 i.3
 
-  -- ---- a formula and two such models never exist together
-  top_of : (m : FiniteModel) (s : ℕ → ℕ) → weight_of m (has x) (λ v. has y v || has 0 v) s ≡ weight_of m (has x) (has y) s
-  top_of m s = ap (λ (t : ℕ → Bool). weight_of m (has x) t s) (fun_ext (λ v. ap (λ b. has y v || b) (has-zero v) ∙ bare (has y v)))
-    where
-      bare : (b : Bool) → (b || false) ≡ b
-      bare b = grind arith
-
-  models_agree : (f : PlainFormula) (d : PlainDerivation) → IsDerived g x y f d → (one two : FiniteModel) → Fits g one → Fits g two → IsPositiveModel one → IsPositiveModel two → AgreeObserved one two → DifferAt one two (has x) (has y) → ⊥
-  models_agree f d i one two fit_first fit_second pos_first pos_second same differ =
-      let s = differ.at in
-      let is = right_formula g valid x y target f d i in
-      let e = formula_fixes_effect g valid (effect_on x y) f is.do_free is.effect one two fit_first fit_second pos_first pos_second same s differ.within in
-      differ.unequal (sym (ap₂ (λ p q. p * q) (top_of one s) (effect_is_over_total two (effect_on x y) s refl)) ∙ e.products ∙ ap₂ (λ p q. p * q) (top_of two s) (effect_is_over_total one (effect_on x y) s refl))
-
+  -- a formula and a hedge never exist together
   never_both : (f : PlainFormula) (d : PlainDerivation) → IsDerived g x y f d → (h : HedgeData) → IsHedge g x y h → ⊥
   never_both f d i h is =
+      let found = right_formula g valid x y target f d i in
       let two = pair_of g valid few x y h is in
-      let models = counter g valid few x y h is off two (is_pair g valid few x y h is) in
-      models_agree f d i (meaning g two.first) (meaning g two.second) models.first.fits models.second.fits models.first.positive models.second.positive models.observed models.effects
+      (right_hedge h two is (is_pair g valid few x y h is)).no_formula f found.do_free found.effect
 
   pub exact : (a : Answer) → IsAnswerOf g x y a → IsTrue (is_hedge a) ↔ ((h : HedgeData) × IsHedge g x y h)
   exact (Formula f d) i = (λ t. absurd (grind (arith, t)), λ p. absurd (never_both (formula_view f) (derivation_view d) i p.0 p.1))

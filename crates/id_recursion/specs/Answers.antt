@@ -3,6 +3,7 @@ use Rattle.std.specs.Prelude.{ℕ, ◌≡◌, Bool, true, false, [], IsTrue, Non
 use Rattle.mixed_graph.specs.Bits.{has}
 use Rattle.mixed_graph.specs.Graphs.{MixedGraph, IsAncestor}
 use Rattle.prob_expr.specs.Check.{fault_in}
+use Rattle.prob_expr.specs.Differences.{HasNoFormula}
 use Rattle.prob_expr.specs.Terms.{is_do_free}
 use Rattle.prob_expr.specs.Tree.{PlainFormula, PlainTarget}
 use Rattle.prob_expr.specs.Values.{EqualsEffect}
@@ -37,12 +38,13 @@ pub record IsRightFormula (g : MixedGraph) (x y : ℕ) (f : PlainFormula) (d : P
   pub accepted : Accepts g [] (effect_on x y) f d
   pub effect : EqualsEffect g (effect_on x y) f
 
--- big and small form a hedge for the effect of x on y, and its two models, which are positive and of the graph, agree on all observations and differ on the effect
+-- big and small form a hedge for the effect of x on y, and its two models, which are positive and of the graph, agree on all observations and differ on the effect; so no formula without interventions equals it
 pub record IsRightHedge (g : MixedGraph) (x y : ℕ) (h : Hedge) (pair : CounterPair) : Type 0 where
   pub hedge : FormHedge g x y h.big.bits h.small.bits h.roots.bits
   pub counter : AreCounterModels g x y pair
+  pub no_formula : HasNoFormula g (effect_on x y)
 
--- A right answer is either a formula without interventions, with an accepted derivation, that equals the effect of x on y in each positive model of the graph; or a hedge, with two positive models of the graph that agree on all observations and differ on the effect, under every value of x.
+-- A right answer is either a formula without interventions, with an accepted derivation, that equals the effect of x on y in each positive model of the graph; or a hedge, with two positive models of the graph that agree on all observations and differ on the effect, under every value of x, so that no such formula exists.
 abbrev pub IsRight : MixedGraph → (x y : ℕ) → Answer → Type 0
 IsRight g x y (answers.Formula f d) = IsRightFormula g x y (formula_view f) (derivation_view d)
 IsRight g x y (answers.Hedge h pair) = IsRightHedge g x y h pair

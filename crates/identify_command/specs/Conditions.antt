@@ -1,5 +1,5 @@
 -- The answer of `identify` where something is given: whether P(y | do(x), given) can be computed from observations, in the observed graph of the one that was read.
-use Rattle.std.specs.Prelude.{ℕ, ◌≡◌, List, [], ◌∷◌, Some, None}
+use Rattle.std.specs.Prelude.{ℕ, ◌≡◌, ◌↔◌, Bool, IsTrue, List, [], ◌∷◌, Some, None}
 use Rattle.mixed_graph.specs.Graphs.{MixedGraph}
 use Rattle.dag_reader.specs.declared.graph.ReadGraph.{ReadGraph}
 use Rattle.targets.specs.declared.fault.TargetFault.{TargetFault}
@@ -9,6 +9,8 @@ use Rattle.targets.specs.FaultTexts.{target_fault_text}
 use Rattle.replies.specs.declared.outcome.Outcome.{Outcome}
 use Rattle.replies.specs.declared.outcome.Outcome.TheVariants.{Yes, No, Graph}
 use Rattle.replies.specs.Observed.{Names, IsObservedGraph, query_lists}
+use Rattle.finite_models.specs.Data.{meaning}
+use Rattle.prob_expr.specs.Differences.{DifferOnTarget, HasNoFormula}
 use Rattle.prob_expr.specs.Tree.{PlainFormula, PlainTarget}
 use Rattle.do_derivation.specs.Plans.{PlainDerivation}
 use Rattle.hedge.specs.declared.hedge.Hedge.{Hedge}
@@ -16,6 +18,8 @@ use Rattle.counter_models.specs.declared.counter_pair.CounterPair.{CounterPair}
 use Rattle.id_recursion.specs.Answers.{effect_on}
 use Rattle.conditional_theory.specs.Conditionals.{IsConditionalBySteps}
 use Rattle.conditional_theory.specs.Laws.{IsRightGiven}
+use Rattle.conditional_theory.specs.Settled.{IsSettled}
+use Rattle.conditional_hedges.specs.Laws.{IsFixed}
 use Rattle.conditional_id.specs.Answers.{IsJointEffect}
 use Rattle.identify_text.specs.PairLines.{joint_answer}
 use Rattle.effect_answers.specs.Hedges.{IsFoundHedge}
@@ -59,13 +63,19 @@ pub record ShowsConditional (form : Form) (q : MixedGraph) (names : List (List �
   pub prints : text ≡ formula_text form names t formula derivation
   pub reads_back : ReadsBack form names (plain.formula t formula derivation)
 
--- No: observations turn the target into an effect of x on the target's y and what is left, which is equal to it in each positive model that fits q. For the joint effect of both there is a hedge, with two models that show that there is no formula for it, and the text shows it. Of the target itself nothing more is claimed.
+-- No: observations turn the target into an effect of x on the target's y and what is left, which is equal to it in each positive model that fits q. For the joint effect of both there is a hedge, with two models that show that there is no formula for it, and the text shows it.
+-- The target itself isn't identifiable: two positive models that fit q and agree on all observations give it two values, so no formula without interventions equals it in each such model. Where no observation is left, or those that are left have an effect that is known, it is settled by the very models of the hedge, which differ on the target too.
 pub record ShowsJoint (form : Form) (q : MixedGraph) (names : List (List ℕ)) (t : PlainTarget) (text : List ℕ) : Type 0 where
   pub x : ℕ
   pub y : ℕ
+  pub settled : Bool
   pub hedge : Hedge
   pub pair : CounterPair
   pub joint : IsJointEffect q t x y
+  pub not_fixed : IsFixed q t → ⊥
+  pub no_formula : HasNoFormula q t
+  pub settled_is : IsTrue settled ↔ IsSettled q x joint.left
+  pub differs : IsTrue settled → DifferOnTarget (meaning q pair.first) (meaning q pair.second) t
   pub found : IsFoundHedge q x y hedge pair
   pub prints : text ≡ joint_text form names t x y hedge pair
   pub reads_back : ReadsBack form names (plain.hedge (effect_on x y) (hedge_view hedge))

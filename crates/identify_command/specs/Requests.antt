@@ -1,5 +1,5 @@
 -- What `identify` is asked for.
-use Rattle.std.specs.Prelude.{◌≡◌, List, Option, Some, [], ◌∷◌, codes, option_map}
+use Rattle.std.specs.Prelude.{◌≡◌, List, Some, [], ◌∷◌, codes, option_map}
 use Rattle.word_forms.specs.Form.{Text, Row, Use, word_of, value_of, has_flag}
 use Rattle.request_values.specs.Values as values
 use Rattle.replies.specs.Observed.{Names}

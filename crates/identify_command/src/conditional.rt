@@ -62,7 +62,13 @@ fn decide_given(
             outcome: Outcome::Yes,
             text: formula_text(alloc, &seen.names, target, formula, derivation, form)?,
         }),
-        Conditional::Joint { x, y, hedge, pair } => {
+        Conditional::Joint {
+            x,
+            y,
+            hedge,
+            pair,
+            ..
+        } => {
             sized(&hedge);
             let sets = EffectSets { x, y };
             Ok(Reply {

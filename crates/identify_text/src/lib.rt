@@ -11,5 +11,5 @@ mod theory;
 
 pub use formulas::{effect_text, formula_answer, latex_answer};
 pub use hedges::{hedge_heading, push_hedge_sets};
-pub use pairs::{hedge_answer, joint_answer};
+pub use pairs::{hedge_answer, joint_answer, push_models};
 pub use theory::laws;

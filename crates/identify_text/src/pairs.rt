@@ -3,7 +3,7 @@ ghost use Rattle.mixed_graph.specs.Bits.{has};
 ghost use Rattle.mixed_graph.specs.Sets.{Within};
 ghost use Rattle.prob_expr.specs.View.{target_view};
 ghost use Rattle.identify_text.specs.Below.{IsTargetBelow, IsHedgeBelow, ArePairBelow};
-ghost use Rattle.identify_text.specs.PairLines.{event_line, hedge_answer, joint_answer};
+ghost use Rattle.identify_text.specs.PairLines.{event_line, models_text, hedge_answer, joint_answer};
 
 use crate::bits::{Bit, add_bits, push_sum};
 use crate::hedges::{hedge_heading, push_choices, push_links};
@@ -45,6 +45,41 @@ fn push_event(
     Ok(())
 }
 
+/// Appends the choices and links of a hedge, and the two models by which the effect differs though all observations agree.
+///
+/// Each line ends with a line feed.
+pub fn push_models(
+    alloc: Global,
+    out: &mut Vec<u8>,
+    names: &Names,
+    h: &Hedge,
+    pair: &CounterPair,
+) -> Result<(), AllocError>
+    requires hedge { IsHedgeBelow (length names.now) h.now }
+    requires models { ArePairBelow (length names.now) pair.now }
+    ensures { OnOk result (out.new.items ≡ out.old.items ++ models_text names.now h.now pair.now) }
+{
+    push_choices(out, names, h)?;
+    push_links(out, names, h)?;
+    push_causes(alloc, out, names, pair.first.causes.as_slice())?;
+    push_vertices(
+        alloc,
+        out,
+        names,
+        b"first",
+        pair.first.mechanisms.as_slice(),
+    )?;
+    push_vertices(
+        alloc,
+        out,
+        names,
+        b"second",
+        pair.second.mechanisms.as_slice(),
+    )?;
+    push_event(alloc, out, names, pair)?;
+    Ok(())
+}
+
 /// The text of a hedge: its heading, its choices and links, and the two models by which the effect differs though all observations agree.
 ///
 /// Each line ends with a line feed.
@@ -63,24 +98,7 @@ pub fn hedge_answer(
     ensures { IfOk result (λ v. v.items ≡ hedge_answer names.now x.bits y.bits h.now pair.now) }
 {
     let mut text = hedge_heading(alloc, x, y, h, names)?;
-    push_choices(&mut text, names, h)?;
-    push_links(&mut text, names, h)?;
-    push_causes(alloc, &mut text, names, pair.first.causes.as_slice())?;
-    push_vertices(
-        alloc,
-        &mut text,
-        names,
-        b"first",
-        pair.first.mechanisms.as_slice(),
-    )?;
-    push_vertices(
-        alloc,
-        &mut text,
-        names,
-        b"second",
-        pair.second.mechanisms.as_slice(),
-    )?;
-    push_event(alloc, &mut text, names, pair)?;
+    push_models(alloc, &mut text, names, h, pair)?;
     Ok(text)
 }
 

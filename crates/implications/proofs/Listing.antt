@@ -1,5 +1,5 @@
 -- The list of implications, pair after pair.
-use Rattle.std.proofs.Common.{ℕ, ◌+◌, ◌≡◌, ◌<◌, List, [], ◌∷◌, ◌++◌, get_or, ◌⊎◌, inl, inr, sym, ◌∙◌, subst, arith, length-append}
+use Rattle.std.proofs.Common.{ℕ, ◌+◌, ◌≡◌, ◌<◌, Bool, false, List, [], ◌∷◌, ◌++◌, get_or, ◌⊎◌, inl, inr, sym, ◌∙◌, subst, arith, length-append}
 use Rattle.std.specs.Prelude.{All}
 use Rattle.std.specs.List.{Any}
 use Rattle.std.proofs.lemmas.Bool.{cases_eq, false_from_ne_true, eqb-true}
@@ -8,9 +8,12 @@ use Rattle.std.proofs.lemmas.List.Elements.{All-push, All-weaker}
 use Rattle.std.proofs.lemmas.List.Quantifiers.{Any-push, all_pairs_push}
 use Rattle.mixed_graph.specs.Bits.{has}
 use Rattle.mixed_graph.specs.Graphs.{MixedGraph, IsMixedGraph}
-use Rattle.do_rules.specs.Rules.{AreIndependent}
+use Rattle.mixed_graph.specs.Sets.{Within}
+use Rattle.do_rules.specs.Rules.{AreThreeSets, AreIndependent}
+use Rattle.do_rules.proofs.Failing.{independence_is_separation}
 use Rattle.do_rules.proofs.Holds.{independent_holds}
 use Rattle.implications.specs.declared.pairs.Implication.{Implication}
+use Rattle.implications.specs.Laws.{SeparableIsIndependent}
 use Rattle.implications.specs.Separable.{only, IsSeparable}
 use Rattle.implications.specs.Implications.{IsImplication, IsOf, IsBefore}
 use Rattle.implications.specs.Steps.{IsEarlier, AreBefore}
@@ -66,22 +69,47 @@ module _ (g : MixedGraph) where
         before j (inl m) = inl (omega (arith, m, ea))
         before j (inr (e, m)) = inr (e ∙ sym ea, omega (arith, m, eb))
 
+  -- two vertices and a set without them
+  three_sets : (a b : ℕ) (w : ℕ → Bool) → a < b → b < g.vertices → Within g.vertices w → w a ≡ false → w b ≡ false → AreThreeSets g.vertices (only a) (only b) w
+  three_sets a b w order vertex within without_a without_b = record {
+    x_within = λ v e. rw (eqb-true v a e) (let below : a < g.vertices = omega (arith, order, vertex) in below);
+    y_within = λ v e. rw (eqb-true v b e) vertex;
+    w_within = within;
+    x_y = λ v e. false_from_ne_true (only b v) (λ f. let p = eqb-true v a e in let q = eqb-true v b f in omega (arith, p, q, order));
+    x_w = λ v e. rw (eqb-true v a e) without_a;
+    y_w = λ v e. rw (eqb-true v b e) without_b;
+  }
+
   -- separated vertices are independent in each model
   pub independent : IsMixedGraph g → (i : Implication) → IsImplication g i → AreIndependent g (only i.a) (only i.b) (has i.given.bits)
   independent ok i is =
-      independent_holds g ok (only i.a) (only i.b) (has i.given.bits)
-      (record {
-        x_within = λ v e. rw (eqb-true v i.a e) below;
-        y_within = λ v e. rw (eqb-true v i.b e) is.vertex;
-        w_within = is.given.separating.within;
-        x_y = λ v e. false_from_ne_true (only i.b v) (λ f. let p = eqb-true v i.a e in let q = eqb-true v i.b f in let o = is.order in omega (arith, p, q, o));
-        x_w = λ v e. rw (eqb-true v i.a e) is.given.separating.without_a;
-        y_w = λ v e. rw (eqb-true v i.b e) is.given.separating.without_b;
-      })
-      is.given.separating.separates
-    where
-      below : i.a < g.vertices
-      below = let o = is.order in let v = is.vertex in omega (arith, o, v)
+      let s = is.given.separating in
+      independent_holds g ok (only i.a) (only i.b) (has i.given.bits) (three_sets i.a i.b (has i.given.bits) is.order is.vertex s.within s.without_a s.without_b) s.separates
 
   pub each_independent : IsMixedGraph g → (list : List Implication) → All (IsImplication g) list → All (λ i. AreIndependent g (only i.a) (only i.b) (has i.given.bits)) list
   each_independent ok list each = All-weaker (IsImplication g) (λ i. AreIndependent g (only i.a) (only i.b) (has i.given.bits)) (independent ok) list each
+
+-- some set separates two vertices exactly where they are independent given some set
+pub separable_is_independent : SeparableIsIndependent
+separable_is_independent = λ g ok a b. (
+  λ s. let is = s.separating in record {
+    order = s.order;
+    vertex = s.vertex;
+    set = s.set;
+    within = is.within;
+    without_a = is.without_a;
+    without_b = is.without_b;
+    independent = independent_holds g ok (only a) (only b) s.set (three_sets g a b s.set s.order s.vertex is.within is.without_a is.without_b) is.separates;
+  },
+  λ s. record {
+    order = s.order;
+    vertex = s.vertex;
+    set = s.set;
+    separating = record {
+      within = s.within;
+      without_a = s.without_a;
+      without_b = s.without_b;
+      separates = (independence_is_separation g ok (only a) (only b) s.set (three_sets g a b s.set s.order s.vertex s.within s.without_a s.without_b)).1 s.independent;
+    };
+  },
+)

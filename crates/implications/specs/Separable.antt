@@ -3,6 +3,7 @@ use Rattle.std.specs.Prelude.{ℕ, ◌≡◌, ◌≢◌, ◌<◌, Bool, false, �
 use Rattle.mixed_graph.specs.Graphs.{MixedGraph, IsAncestor}
 use Rattle.mixed_graph.specs.Sets.{Within}
 use Rattle.m_separation.specs.Walks.{HasOpenWalk, IsSeparated}
+use Rattle.do_rules.specs.Rules.{AreIndependent}
 
 -- the vertex a alone
 abbrev pub only : ℕ → ℕ → Bool
@@ -21,6 +22,16 @@ pub record IsSeparable (g : MixedGraph) (a b : ℕ) : Type 0 where
   pub vertex : b < g.vertices
   pub set : ℕ → Bool
   pub separating : IsSeparatingSet g a b set
+
+-- the vertices a < b are independent given some set of other vertices, in each model that fits
+pub record AreIndependentGivenSome (g : MixedGraph) (a b : ℕ) : Type 0 where
+  pub order : a < b
+  pub vertex : b < g.vertices
+  pub set : ℕ → Bool
+  pub within : Within g.vertices set
+  pub without_a : set a ≡ false
+  pub without_b : set b ≡ false
+  pub independent : AreIndependent g (only a) (only b) set
 
 -- v is an ancestor of a or of b, and neither of them
 pub record IsOtherAncestor (g : MixedGraph) (a b v : ℕ) : Type 0 where

@@ -2,8 +2,9 @@ ghost use Rattle.std.specs.Prelude.{ℕ, ◌+◌, ◌<◌, IfOk, OnOk, All};
 ghost use Rattle.mixed_graph.specs.Bits.{has};
 ghost use Rattle.mixed_graph.specs.Shown.{graph_of};
 ghost use Rattle.do_rules.specs.Rules.{AreIndependent};
-ghost use Rattle.implications.specs.Separable.{only};
-ghost use Rattle.implications.specs.Implications.{AreImplications};
+ghost use Rattle.std.specs.List.{Any};
+ghost use Rattle.implications.specs.Separable.{only, AreIndependentGivenSome};
+ghost use Rattle.implications.specs.Implications.{AreImplications, IsOf};
 ghost use Rattle.implications.specs.Steps.{AreBefore};
 
 use crate::sets::given_set;
@@ -35,9 +36,11 @@ fn add_pairs(g: &Graph, a: u8, list: &mut Vec<Implication>) -> Result<(), AllocE
 /// The pairs of vertices that some set separates, each once, sorted, and each with a set that separates it.
 ///
 /// The set is made of the other ancestors of both: from the highest down each is dropped where the rest still separates.
-/// In each model that fits the graph, positive or not, the two are independent given it.
+/// In each model that fits the graph, positive or not, the two are independent given it. Of any other pair and any set some positive model has
+/// the two dependent.
 pub fn implications(alloc: Global, g: &Graph) -> Result<Vec<Implication>, AllocError>
     ensures implications { IfOk result (λ list. AreImplications (graph_of g.now) list.items) }
+    ensures complete { IfOk result (λ list. (a b : ℕ) → AreIndependentGivenSome (graph_of g.now) a b → Any (IsOf a b) list.items) }
     ensures independent { IfOk result (λ list. All (λ i. AreIndependent (graph_of g.now) (only i.a) (only i.b) (has i.given.bits)) list.items) }
 {
     let mut list = Vec::new(alloc);

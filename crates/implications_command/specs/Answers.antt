@@ -12,7 +12,7 @@ use Rattle.count_rows.specs.Records.{Field}
 use Rattle.count_rows.specs.Rows.{Table}
 use Rattle.count_answers.specs.Reads.{IsRead, AreRefusedCounts}
 use Rattle.implications.specs.declared.pairs.Implication.{Implication}
-use Rattle.implications.specs.Separable.{IsSeparable}
+use Rattle.implications.specs.Separable.{IsSeparable, AreIndependentGivenSome}
 use Rattle.implied_differences.specs.declared.largest.Difference.{Difference}
 use Rattle.implied_differences.specs.Differences.{IsLargest}
 use Rattle.implied_differences.specs.Laws.{IsMatchedBy}
@@ -22,11 +22,12 @@ use Rattle.implications_command.specs.Lines.{none_line, pair_lines, Measured, me
 
 -- ---- before the counts
 
--- no: in the observed graph no set separates any two vertices, and the text says so
+-- no: in the observed graph no set separates any two vertices; no two are independent given a set in each model that fits; and the text says so
 pub record ShowsNone (g : ReadGraph) (text : List ℕ) : Type 0 where
   pub graph : MixedGraph
   pub observed : IsObservedGraph g graph
   pub none : (a b : ℕ) → IsSeparable graph a b → ⊥
+  pub dependent : (a b : ℕ) → AreIndependentGivenSome graph a b → ⊥
   pub prints : text ≡ none_line
 
 -- yes: the pairs of the observed graph that some set separates, and their lines

@@ -1,3 +1,4 @@
 pub mod Meetings
 pub mod MinimalSeparators
 pub mod Separations
+pub mod Exact

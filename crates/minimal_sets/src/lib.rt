@@ -5,6 +5,8 @@
 
 mod moral;
 mod sets;
+mod theory;
 
 pub use sets::list;
+pub use theory::laws;
 pub use vertex_separators::{Listing, Steps};

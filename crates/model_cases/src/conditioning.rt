@@ -16,12 +16,21 @@ fn asked(alloc: Global, graph: &Graph, x: VSet, y: VSet, given: VSet) -> Option<
     identify_given(alloc, graph, &Target { x, y, given }).ok()
 }
 
-/// A joint effect with the sets of its hedge and the event of its models.
-fn joint_text(alloc: Global, x: VSet, y: VSet, h: &Hedge, event: VSet) -> Option<String> {
+/// A joint effect with the sets of its hedge and the event of its models, and whether it settles the target.
+fn joint_text(
+    alloc: Global,
+    x: VSet,
+    y: VSet,
+    settled: bool,
+    h: &Hedge,
+    event: VSet,
+) -> Option<String> {
     let (x, y, event) = (Members(x), Members(y), Members(event));
     let (big, small) = (Members(h.big), Members(h.small));
     let roots = Members(h.roots);
-    format!(in alloc; "x {x}, y {y}, big {big}, small {small}, roots {roots}, event {event}\n").ok()
+    format!(in alloc;
+        "x {x}, y {y}, big {big}, small {small}, roots {roots}, event {event}, settled {settled}\n"
+    ).ok()
 }
 
 /// The formula of the row's effect under a condition, or the joint effect that isn't identifiable.
@@ -30,6 +39,12 @@ pub(crate) fn conditional_row(alloc: Global, row: &Value) -> Option<String> {
     let (x, y) = (set(row, "x"), set(row, "y"));
     match asked(alloc, &graph, x, y, set(row, "given"))? {
         Conditional::Formula(formula, _) => shown(alloc, &formula, &names(alloc, row, "names")?),
-        Conditional::Joint { x, y, hedge, pair } => joint_text(alloc, x, y, &hedge, pair.event),
+        Conditional::Joint {
+            x,
+            y,
+            settled,
+            hedge,
+            pair,
+        } => joint_text(alloc, x, y, settled, &hedge, pair.event),
     }
 }

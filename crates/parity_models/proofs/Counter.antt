@@ -3,7 +3,8 @@ use Rattle.std.proofs.Common.{ℕ, zero, suc, ◌*◌, ◌/◌, ◌%◌, ◌≡�
 use Rattle.std.proofs.lemmas.Bool.{false_from_ne_true}
 use Rattle.finite_models.specs.Sums.{product_below}
 use Rattle.finite_models.proofs.Bools.{and_first, and_second}
-use Rattle.parity_models.specs.Parities.{odd_below, bit}
+use Rattle.finite_models.specs.Parities.{odd_below}
+use Rattle.parity_models.specs.Parities.{bit}
 use Rattle.parity_models.specs.Pairs.{value}
 use Rattle.parity_models.proofs.ParityLaws.{odd-congr, odd-false, odd-one, incidences}
 

@@ -6,7 +6,8 @@ use Rattle.finite_models.proofs.Following.{Follows}
 use Rattle.finite_models.proofs.Indicators.{number}
 use Rattle.finite_models.proofs.Bools.{and_first, and_second}
 use Rattle.finite_models.proofs.SumLaws.{eqb-refl}
-use Rattle.parity_models.specs.Parities.{differ, bit, chosen}
+use Rattle.finite_models.specs.Parities.{differ}
+use Rattle.parity_models.specs.Parities.{bit, chosen}
 use Rattle.parity_models.specs.Links.{Link, at_vertex, is_end, LinksAreEdges}
 use Rattle.parity_models.specs.Hedges.{ParityHedge, IsParityHedge, links_of, IsNumbered}
 use Rattle.parity_models.specs.Pairs.{value, hedge_bit, carried_bit, world_bit, at_second, chooses, first_bit, second_bit, carries, top_bit, first_mechanism, second_mechanism, counter_model, serves_of}

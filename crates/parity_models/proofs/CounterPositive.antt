@@ -9,13 +9,14 @@ use Rattle.finite_models.proofs.Indicators.{number, number-all, all_below_from}
 use Rattle.finite_models.proofs.Solutions.{IsRanked}
 use Rattle.finite_models.proofs.Factors.{checks, weight_by_checks}
 use Rattle.finite_models.proofs.Bools.{not_both}
-use Rattle.parity_models.specs.Parities.{differ, bit, chosen}
+use Rattle.finite_models.proofs.SumLaws.{over-base, over-term}
+use Rattle.finite_models.specs.Parities.{differ}
+use Rattle.parity_models.specs.Parities.{bit, chosen}
 use Rattle.parity_models.specs.Links.{Link, at_vertex}
 use Rattle.parity_models.specs.Hedges.{ParityHedge, IsParityHedge, links_of, outsider, IsTree, IsNumbered}
 use Rattle.parity_models.specs.Pairs.{value, hedge_bit, carried_bit, world_bit, at_second, chooses, first_bit, second_bit, carries, top_bit, second_mechanism, cause_weight, counter_model}
 use Rattle.parity_models.proofs.ParityLaws.{differ-false}
 use Rattle.parity_models.proofs.Solve.{bits, met, settled}
-use Rattle.parity_models.proofs.Counting.{over-base, over-term}
 
 at_vertex-congr_to : (k : ℕ) (r : List Link) (x y : ℕ → Bool) (v : ℕ) → ((j : ℕ) → k ≤ j → j < k + length r → x j ≡ y j) → at_vertex k r x v ≡ at_vertex k r y v
 at_vertex-congr_to k [] x y v h = refl

@@ -1,55 +1,12 @@
--- Counting parities of independent bits, a change of bits under a sum, and a term of a sum.
-use Rattle.std.proofs.Common.{ℕ, zero, suc, ◌+◌, ◌-◌, ◌*◌, ◌≡◌, ◌<◌, ◌≤◌, Bool, true, false, cond, eqb, not, refl, sym, ap, ap₂, ◌∙◌, ◌&&◌, arith, eqb-true}
+-- Counting parities of independent bits, and a change of bits under a sum.
+use Rattle.std.proofs.Common.{ℕ, zero, suc, ◌+◌, ◌-◌, ◌*◌, ◌≡◌, ◌<◌, Bool, true, false, cond, eqb, not, refl, sym, ap, ap₂, ◌∙◌, ◌&&◌, arith, eqb-true}
 use mathlib.Core.Path.{fun_ext}
 use Rattle.finite_models.specs.Sums.{sum_below, product_below, sum_over, set_at}
-use Rattle.finite_models.proofs.SumLaws.{along, along-congr, over-congr_within, over-mul, sum_below-congr, set_at-same, set_at-other}
+use Rattle.finite_models.proofs.SumLaws.{along, along-congr, over-base, over-congr_within, over-mul, sum_below-congr, set_at-same, set_at-other}
 use Rattle.finite_models.proofs.Indicators.{number}
-use Rattle.parity_models.specs.Parities.{differ, odd_below, bit}
+use Rattle.finite_models.specs.Parities.{differ, odd_below}
+use Rattle.parity_models.specs.Parities.{bit}
 use Rattle.parity_models.proofs.ParityLaws.{differ-assoc}
-
--- ---- the base counts outside the summed coordinates alone
-pub over-base : (U : ℕ → Bool) (s : ℕ → ℕ) (n : ℕ) (F : (ℕ → ℕ) → ℕ) (b c : ℕ → ℕ) → ((i : ℕ) → (i < n → U i ≡ true → ⊥) → b i ≡ c i) → sum_over U s n F b ≡ sum_over U s n F c
-over-base U s zero F b c h = ap F (fun_ext (λ i. h i (λ lt. absurd (omega arith))))
-over-base U s (suc n) F b c h = go (U n) refl (λ b' c' k. over-base U s n F b' c' k)
-  where
-    go : (p : Bool) → U n ≡ p → ((b' c' : ℕ → ℕ) → ((i : ℕ) → (i < n → U i ≡ true → ⊥) → b' i ≡ c' i) → sum_over U s n F b' ≡ sum_over U s n F c')
-        → along p (s n) n (sum_over U s n F) b ≡ along p (s n) n (sum_over U s n F) c
-    go true e ih =
-        sum_below-congr (s n) (λ x. sum_over U s n F (set_at b n x)) (λ x. sum_over U s n F (set_at c n x))
-        (λ x lt. ih (set_at b n x) (set_at c n x) (λ i out. at x i out (eqb i n) refl))
-      where
-        at : (x i : ℕ) → (i < n → U i ≡ true → ⊥) → (q : Bool) → eqb i n ≡ q → cond (eqb i n) x (b i) ≡ cond (eqb i n) x (c i)
-        at x i out true f = rw f refl
-        at x i out false f = rw f (h i (λ lt u. out (let d : i ≡ n → ⊥ = λ s. absurd (grind (arith, s, f)) in omega arith) u))
-    go false e ih = ih b c (λ i out. h i (λ lt u. at i lt u out (eqb i n) refl))
-      where
-        at : (i : ℕ) → i < suc n → U i ≡ true → (i < n → U i ≡ true → ⊥) → (q : Bool) → eqb i n ≡ q → ⊥
-        at i lt u out true f = let same : i ≡ n = eqb-true i n f in absurd (grind (arith, ap U same, u, e))
-        at i lt u out false f = out (let d : i ≡ n → ⊥ = λ s. absurd (grind (arith, s, f)) in omega arith) u
-
--- ---- a sum is at least any of its terms
-sum_below_term : (k : ℕ) (f : ℕ → ℕ) (x : ℕ) → x < k → f x ≤ sum_below k f
-sum_below_term zero f x lt = absurd (omega arith)
-sum_below_term (suc k) f x lt = go (eqb x k) refl (λ l. sum_below_term k f x l)
-  where
-    go : (q : Bool) → eqb x k ≡ q → (x < k → f x ≤ sum_below k f) → f x ≤ sum_below k f + f k
-    go true e ih = let same : x ≡ k = eqb-true x k e in rw same (omega arith)
-    go false e ih = omega (arith, ih (let d : x ≡ k → ⊥ = λ s. absurd (grind (arith, s, e)) in omega arith))
-
-set_at-own : (b : ℕ → ℕ) (n : ℕ) → set_at b n (b n) ≡ b
-set_at-own b n = fun_ext (λ i. go i (eqb i n) refl)
-  where
-    go : (i : ℕ) (q : Bool) → eqb i n ≡ q → cond (eqb i n) (b n) (b i) ≡ b i
-    go i true e = rw e (ap b (sym (eqb-true i n e)))
-    go i false e = rw e refl
-
-pub over-term : (U : ℕ → Bool) (s : ℕ → ℕ) (n : ℕ) (F : (ℕ → ℕ) → ℕ) (c : ℕ → ℕ) → ((i : ℕ) → i < n → U i ≡ true → c i < s i) → F c ≤ sum_over U s n F c
-over-term U s zero F c h = omega arith
-over-term U s (suc n) F c h = go (U n) refl (over-term U s n F c (λ i lt u. h i (omega arith) u))
-  where
-    go : (p : Bool) → U n ≡ p → F c ≤ sum_over U s n F c → F c ≤ along p (s n) n (sum_over U s n F) c
-    go true e ih = omega (arith, ih, sum_below_term (s n) (λ x. sum_over U s n F (set_at c n x)) (c n) (h n (omega arith) e), ap (sum_over U s n F) (set_at-own c n))
-    go false e ih = ih
 
 -- ---- bits may be flipped under a sum
 abbrev pub flip_value : Bool → ℕ → ℕ

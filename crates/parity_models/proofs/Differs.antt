@@ -1,11 +1,10 @@
 -- The two counter-models differ on the effect.
 use Rattle.std.proofs.Common.{ℕ, zero, suc, ◌*◌, ◌^◌, ◌/◌, ◌≡◌, ◌<◌, ◌≤◌, Bool, true, false, cond, not, refl, sym, ap, ◌∙◌, ◌&&◌, arith}
-use mathlib.Core.Path.{fun_ext}
 use native.Mathlib.Nat.{pow-suc}
 use Rattle.mixed_graph.specs.Graphs.{MixedGraph, IsMixedGraph}
 use Rattle.finite_models.specs.Sums.{sum_over}
 use Rattle.finite_models.specs.Models.{FiniteModel, IsAssignment, solution, intervene, world_weight, event_weight, weight_of, agree}
-use Rattle.finite_models.proofs.Following.{Follows, follows_intervene}
+use Rattle.finite_models.proofs.Following.{Follows, follows_intervene, intervene_alike}
 use Rattle.finite_models.proofs.Indicators.{number, matches, agree-matches, over-matches}
 use Rattle.finite_models.proofs.Bools.{and_second, not_both}
 use Rattle.finite_models.proofs.SumLaws.{over-congr, over-congr_within, over-swap, over-mul, over-mul-right}
@@ -49,15 +48,6 @@ by_cells g m rank ranked fit A F a reads =
   where
     turn : (w k f t : ℕ) → k * f ≡ t * k → (w * k) * f ≡ (w * t) * k
     turn w k f t e = let l : (w * k) * f ≡ w * (k * f) = omega arith in let r : w * (t * k) ≡ (w * t) * k = omega arith in l ∙ ap (λ q. w * q) e ∙ r
-
--- an intervention reads the assignment on x alone
-intervene_alike : (m : FiniteModel) (x : ℕ → Bool) (s t : ℕ → ℕ) → ((v : ℕ) → x v ≡ true → s v ≡ t v) → intervene m x s ≡ intervene m x t
-intervene_alike m x s t h =
-    ap (λ f. record m { serves = λ j v. m.serves j v && not (x v); mechanism = f }) (fun_ext (λ v. fun_ext (λ p. fun_ext (λ u. at v p u (x v) refl))))
-  where
-    at : (v : ℕ) (p u : ℕ → ℕ) (c : Bool) → x v ≡ c → cond (x v) (s v) (m.mechanism v p u) ≡ cond (x v) (t v) (m.mechanism v p u)
-    at v p u true e = rw e (h v e)
-    at v p u false e = rw e refl
 
 module _ (g : MixedGraph) (x : ℕ → Bool) (d : ParityHedge) (ok : IsParityHedge g x d) (rank : ℕ → ℕ) (is_graph : IsMixedGraph g) (ranked : IsRanked g rank) (serves : ℕ → ℕ → Bool)
     (fit₁ : Follows g (counter_model g.vertices d serves (first_mechanism g.vertices d))) (fit₂ : Follows g (counter_model g.vertices d serves (second_mechanism g.vertices d)))

@@ -11,7 +11,8 @@ use Rattle.finite_models.proofs.SumLaws.{over-congr}
 use Rattle.finite_models.proofs.Solutions.{IsRanked, solution_is}
 use Rattle.finite_models.proofs.Bools.{not_both}
 use Rattle.finite_models.proofs.Tested.{Test, tested, stable}
-use Rattle.parity_models.specs.Parities.{differ, odd_below, bit, chosen}
+use Rattle.finite_models.specs.Parities.{differ, odd_below}
+use Rattle.parity_models.specs.Parities.{bit, chosen}
 use Rattle.parity_models.specs.Hedges.{ParityHedge, IsParityHedge, links_of, privates}
 use Rattle.parity_models.specs.Pairs.{value, hedge_bit, carried_bit, world_bit, at_second, chooses, first_bit, second_bit, carries, top_bit, first_mechanism, second_mechanism, event_odd, cause_weight, counter_model, event_even}
 use Rattle.parity_models.proofs.Truths.{cond_true, cond_false}

@@ -51,7 +51,7 @@ pub record Found (U : ℕ → Bool) (s : ℕ → ℕ) (n : ℕ) (F : (ℕ → �
   pub same : (i : ℕ) → (i < n → U i ≡ true → ⊥) → point i ≡ b i
   pub some : 1 ≤ F point
 
-find_below : (k : ℕ) (f : ℕ → ℕ) → 1 ≤ sum_below k f → (i : ℕ) × (i < k) × (1 ≤ f i)
+pub find_below : (k : ℕ) (f : ℕ → ℕ) → 1 ≤ sum_below k f → (i : ℕ) × (i < k) × (1 ≤ f i)
 find_below zero f le = absurd (omega arith)
 find_below (suc k) f le = go (f k) refl (find_below k f)
   where

@@ -3,7 +3,8 @@ use Rattle.std.proofs.Common.{ℕ, zero, suc, ◌+◌, ◌%◌, ◌≡◌, ◌<�
 use Rattle.std.proofs.lemmas.Bool.{and_from, false_from_ne_true}
 use Rattle.mixed_graph.specs.Graphs.{MixedGraph}
 use Rattle.finite_models.proofs.Bools.{and_first, and_second, not_both}
-use Rattle.parity_models.specs.Parities.{differ, odd_below, bit, chosen}
+use Rattle.finite_models.specs.Parities.{differ, odd_below}
+use Rattle.parity_models.specs.Parities.{bit, chosen}
 use Rattle.parity_models.specs.Links.{Link, at_vertex, AreInside}
 use Rattle.parity_models.specs.Hedges.{ParityHedge, IsParityHedge}
 use Rattle.parity_models.specs.Pairs.{hedge_bit, carried_bit, world_bit, at_first, at_second, chooses, carries, event_odd}

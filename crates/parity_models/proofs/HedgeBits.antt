@@ -2,7 +2,7 @@
 use Rattle.std.proofs.Common.{ℕ, suc, ◌+◌, ◌≡◌, ◌<◌, ◌≤◌, Bool, true, false, cond, eqb, not, refl, sym, ap, ap₂, ◌∙◌, ◌||◌, ◌&&◌, List, [], ◌∷◌, length, arith, ne_eqb, eqb-true}
 use Rattle.finite_models.proofs.Bools.{and_first, not_both}
 use Rattle.finite_models.proofs.SumLaws.{eqb-refl}
-use Rattle.parity_models.specs.Parities.{differ, odd_below}
+use Rattle.finite_models.specs.Parities.{differ, odd_below}
 use Rattle.parity_models.specs.Links.{Link, at_vertex, is_entry, AreBelow, AreInside, AreRooted}
 use Rattle.parity_models.proofs.ParityLaws.{differ-false, odd-congr, odd-false, odd-differ, odd-and, odd-one, fibres, and-differ, and-assoc, and-comm}
 

@@ -1,4 +1,3 @@
-pub mod Agreement
 mod Bow
 pub mod Counter
 pub mod CounterFits
@@ -13,5 +12,6 @@ pub mod ParityLaws
 pub mod Solve
 pub mod Sound
 pub mod Truths
+pub mod Under
 pub mod Wholes
 pub mod Witness

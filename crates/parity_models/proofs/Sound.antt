@@ -6,7 +6,7 @@ use Rattle.finite_models.specs.Models.{Fits}
 use Rattle.finite_models.proofs.Bools.{and_first}
 use Rattle.finite_models.proofs.Following.{Follows}
 use Rattle.finite_models.proofs.SumLaws.{eqb-refl}
-use Rattle.parity_models.specs.Parities.{differ, odd_below}
+use Rattle.finite_models.specs.Parities.{differ, odd_below}
 use Rattle.parity_models.specs.Links.{Link, is_end, AreBelow}
 use Rattle.parity_models.specs.Hedges.{ParityHedge, IsWholeHedge, links_of}
 use Rattle.parity_models.specs.Pairs.{cause_weight, serves_of, counter_model}

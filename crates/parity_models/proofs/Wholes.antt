@@ -4,7 +4,8 @@ use Rattle.finite_models.specs.Sums.{product_below}
 use Rattle.finite_models.specs.Models.{total}
 use Rattle.finite_models.proofs.Indicators.{number}
 use Rattle.finite_models.proofs.SumLaws.{over-congr}
-use Rattle.parity_models.specs.Parities.{differ, odd_below, bit}
+use Rattle.finite_models.specs.Parities.{differ, odd_below}
+use Rattle.parity_models.specs.Parities.{bit}
 use Rattle.parity_models.specs.Hedges.{ParityHedge, links_of, noise_of}
 use Rattle.parity_models.specs.Pairs.{cause_weight, counter_model}
 use Rattle.parity_models.proofs.ParityLaws.{odd-false}

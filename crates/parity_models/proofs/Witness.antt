@@ -1,5 +1,5 @@
 -- An assignment at which the effects differ.
-use Rattle.std.proofs.Common.{ℕ, zero, suc, ◌+◌, ◌-◌, ◌*◌, ◌/◌, ◌^◌, ◌≡◌, ◌<◌, ◌≤◌, Bool, true, false, cond, eqb, not, refl, sym, ap, ap₂, ◌∙◌, arith, eqb-true, eq-eqb}
+use Rattle.std.proofs.Common.{ℕ, zero, suc, ◌+◌, ◌-◌, ◌*◌, ◌/◌, ◌^◌, ◌≡◌, ◌<◌, ◌≤◌, inl, inr, Bool, true, false, cond, eqb, not, refl, sym, ap, ap₂, ◌∙◌, arith, eqb-true, eq-eqb}
 use Rattle.std.proofs.Math.Nat.{mul-div_cancel}
 use native.Mathlib.Nat.{pow-zero, pow-suc}
 use Rattle.mixed_graph.specs.Graphs.{MixedGraph, IsMixedGraph}
@@ -9,12 +9,13 @@ use Rattle.finite_models.proofs.Following.{Follows}
 use Rattle.finite_models.proofs.Bools.{not_both}
 use Rattle.finite_models.proofs.Indicators.{number}
 use Rattle.finite_models.proofs.Ranks.{with_rank}
+use Rattle.finite_models.proofs.SumLaws.{over-base, over-term}
 use Rattle.parity_models.specs.Hedges.{ParityHedge, IsWholeHedge, links_of, noise_of}
 use Rattle.parity_models.specs.Pairs.{first_model, second_model, first_mechanism, second_mechanism, serves_of, size_of, event_even}
-use Rattle.finite_models.specs.Agreement.{AgreeObserved}
+use Rattle.finite_models.specs.Agreement.{AgreeObserved, AgreeUnder}
+use Rattle.parity_models.specs.Experiments.{IsHarmless}
 use Rattle.parity_models.specs.Laws.{DifferAt, DifferAtEach}
-use Rattle.parity_models.proofs.Agreement.{observations_agree}
-use Rattle.parity_models.proofs.Counting.{over-base, over-term}
+use Rattle.parity_models.proofs.Under.{LeavesAgreement, under_agrees}
 use Rattle.parity_models.proofs.CounterFits.{first_fits, second_fits}
 use Rattle.parity_models.proofs.CounterPositive.{second_positive}
 use Rattle.parity_models.proofs.Differs.{effects_differ}
@@ -55,13 +56,25 @@ module _ (g : MixedGraph) (is_graph : IsMixedGraph g) (x : ℕ → Bool) (d : Pa
   pub fit_two : Fits g Two
   fit_two = fits_of g x d ok (second_mechanism g.vertices d) follows_two
 
-  observed : (s : ℕ → ℕ) → event_weight One (λ v. true) s ≡ event_weight Two (λ v. true) s
-  observed s = with_rank g is_graph (event_weight One (λ v. true) s) (event_weight Two (λ v. true) s)
-      (λ rank ranked. observations_agree g x d ok.hedge ok.tree is_graph s rank ranked (serves_of d) follows_one follows_two)
+  under : (z : ℕ → Bool) (root : ℕ) → LeavesAgreement d z root → (s : ℕ → ℕ) → IsAssignment g.vertices (size_of d) s
+      → weight_of One z (λ v. true) s ≡ weight_of Two z (λ v. true) s
+  under z root leaves s within = with_rank g is_graph (weight_of One z (λ v. true) s) (weight_of Two z (λ v. true) s)
+      (λ rank ranked. under_agrees g x d ok.hedge ok.tree is_graph s z root leaves rank ranked (serves_of d) follows_one follows_two within)
+
+  observed : (s : ℕ → ℕ) → IsAssignment g.vertices (size_of d) s → event_weight One (λ v. true) s ≡ event_weight Two (λ v. true) s
+  observed = under (λ v. false) 0 (inl (λ v inside. refl))
 
   -- the two models give each observation the same probability
   pub agree_observed : AgreeObserved One Two
-  agree_observed = record { vertices = refl; sizes = λ v lt. refl; weights = λ s within. ap (λ r. r * total Two) (observed s) }
+  agree_observed = record { vertices = refl; sizes = λ v lt. refl; weights = λ s within. ap (λ r. r * total Two) (observed s within) }
+
+  -- and each assignment under an intervention that leaves big alone, or sets some member of small
+  pub agree_under : (z : ℕ → Bool) → IsHarmless d z → AgreeUnder z One Two
+  agree_under z harmless = record { vertices = refl; sizes = λ v lt. refl; weights = λ s within. ap (λ r. r * total Two) (go harmless s within) }
+    where
+      go : IsHarmless d z → (s : ℕ → ℕ) → IsAssignment g.vertices (size_of d) s → weight_of One z (λ v. true) s ≡ weight_of Two z (λ v. true) s
+      go (inl h) = under z 0 (inl h)
+      go (inr h) = under z h.0 (inr (h.1, h.2))
 
   -- the second model gives each assignment a positive weight
   pub positive_two : IsPositiveModel Two
@@ -77,7 +90,7 @@ module _ (g : MixedGraph) (is_graph : IsMixedGraph g) (x : ℕ → Bool) (d : Pa
 
   -- the first model gives each assignment a positive weight
   pub positive_one : IsPositiveModel One
-  positive_one s within = rw (observed s) (positive_two s within)
+  positive_one s within = rw (observed s within) (positive_two s within)
 
   module _ (a : ℕ → ℕ) (within : IsAssignment g.vertices (size_of d) a) where
     -- under do(x) the carried bits in the target have an even sum with probability 1 / 2 in the first model

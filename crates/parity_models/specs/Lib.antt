@@ -1,3 +1,4 @@
+pub mod Experiments
 pub mod Hedges
 pub mod Laws
 pub mod Links

@@ -2,7 +2,8 @@
 use Rattle.std.specs.Prelude.{ℕ, ◌+◌, ◌*◌, ◌/◌, ◌%◌, Bool, true, false, if◌then◌else◌, ◌==◌, ltb, not, ◌&&◌, ◌||◌, length}
 use Rattle.finite_models.specs.Sums.{sum_over}
 use Rattle.finite_models.specs.Models.{FiniteModel, solution, intervene, world_weight}
-use Rattle.parity_models.specs.Parities.{differ, odd_below, bit, chosen}
+use Rattle.finite_models.specs.Parities.{differ, odd_below}
+use Rattle.parity_models.specs.Parities.{bit, chosen}
 use Rattle.parity_models.specs.Links.{at_vertex, is_end}
 use Rattle.parity_models.specs.Hedges.{ParityHedge, links_of}
 

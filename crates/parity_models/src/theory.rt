@@ -1,3 +1,4 @@
+ghost use Rattle.parity_models.specs.Experiments.{ExperimentsAgree};
 ghost use Rattle.parity_models.specs.Laws.{BothFit, BothPositive, ObservationsAgree, EventIsHalf, EventIsMore, EffectsDiffer, EffectsDifferAtEach};
 
 /// The laws of the two models that the data of a hedge gives (Shpitser and Pearl: a hedge shows that the effect isn't identifiable).
@@ -8,6 +9,7 @@ pub fn laws()
 
     // What can be observed is the same.
     ensures observed { ObservationsAgree }
+    ensures experiments { ExperimentsAgree }
 
     // Under the intervention the event has two probabilities, whatever the value of x.
     ensures half { EventIsHalf }

@@ -1,3 +1,4 @@
 pub mod Carrying
+pub mod Independences
 pub mod Shortening
 pub mod Separations

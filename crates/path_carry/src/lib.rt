@@ -9,7 +9,7 @@ ghost use Rattle.mixed_graph.specs.Bits.{has};
 ghost use Rattle.mixed_graph.specs.Sets.{Within};
 ghost use Rattle.mixed_graph.specs.Shown.{graph_of};
 ghost use Rattle.markov_equivalence.specs.Skeletons.{HasArrowsAlone, AreEquivalent};
-ghost use Rattle.path_carry.specs.Separations.{HaveSameSeparations, IsOpenWithEndsOf};
+ghost use Rattle.path_carry.specs.Separations.{HaveSameSeparations, HaveSameIndependences, IsOpenWithEndsOf};
 
 use m_separation::{OpenPath, open_path};
 use markov_equivalence::{Compared, compare};
@@ -33,7 +33,8 @@ pub fn carry_path(g: &Graph, h: &Graph, w: VSet, p: &OpenPath) -> OpenPath
     }
 }
 
-/// Whether the graphs imply the same separations: any sets are separated in the one exactly where they are in the other.
+/// Whether the graphs imply the same separations: any sets are separated in the one exactly where they are in the other. So their models have
+/// the same independences, or else they don't.
 ///
 /// It is decided by their skeletons and unshielded colliders.
 pub fn imply_the_same(g: &Graph, h: &Graph) -> bool
@@ -41,6 +42,7 @@ pub fn imply_the_same(g: &Graph, h: &Graph) -> bool
     requires first { HasArrowsAlone (graph_of g.now) }
     requires second { HasArrowsAlone (graph_of h.now) }
     ensures separations { IsTrue result ↔ HaveSameSeparations (graph_of g.now) (graph_of h.now) }
+    ensures independences { IsTrue result ↔ HaveSameIndependences (graph_of g.now) (graph_of h.now) }
     ensures equivalent { IsTrue result ↔ AreEquivalent (graph_of g.now) (graph_of h.now) }
 {
     match compare(g, h) {

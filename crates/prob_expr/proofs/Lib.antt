@@ -1,5 +1,8 @@
+pub mod Alike
+pub mod Allowed
 pub mod Boxes
 pub mod Checked
+pub mod Excluded
 pub mod FreeLaws
 mod FreeSteps
 pub mod Observed

@@ -1,4 +1,7 @@
 pub mod Check
+pub mod Differences
+pub mod Experiments
+pub mod Failing
 pub mod Fold
 pub mod Free
 pub mod Laws

@@ -1,3 +1,5 @@
+ghost use Rattle.prob_expr.specs.Differences.{UnequalWeights, DifferenceExcludesFormula, ExperimentsExcludeFormula};
+ghost use Rattle.prob_expr.specs.Experiments.{ExperimentsFixValue};
 ghost use Rattle.prob_expr.specs.Laws.{AcceptedIsWhole, ValueReadsFree, ValuesArePositive, EffectsArePositive, EffectIsOverTotal, ObservedFixesValue, FormulaFixesEffect};
 
 /// The laws of formulas, and of their values in the models that fit a graph.
@@ -17,4 +19,10 @@ pub fn laws()
     // that two models with the same observations tell apart.
     ensures observed { ObservedFixesValue }
     ensures fixes { FormulaFixesEffect }
+    ensures experiments { ExperimentsFixValue }
+
+    // So two models that agree there and differ on an effect exclude such a formula for it.
+    ensures unequal { UnequalWeights }
+    ensures excludes { DifferenceExcludesFormula }
+    ensures excludes_over { ExperimentsExcludeFormula }
 {}

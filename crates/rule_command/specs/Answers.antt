@@ -4,7 +4,7 @@ use Rattle.mixed_graph.specs.Bits.{has}
 use Rattle.mixed_graph.specs.Graphs.{MixedGraph}
 use Rattle.m_separation.specs.declared.paths.OpenPath.{OpenPath}
 use Rattle.do_rules.specs.declared.rules.Rule.{Rule}
-use Rattle.do_rules.specs.Rules.{IsBlockedFor, IsRuleFor, IsOpenFor}
+use Rattle.do_rules.specs.Rules.{IsBlockedFor, IsRuleFor, IsOpenFor, DifferSomewhere, left_of, right_of}
 use Rattle.dag_reader.specs.declared.graph.ReadGraph.{ReadGraph}
 use Rattle.targets.specs.declared.fault.TargetFault.{TargetFault}
 use Rattle.targets.specs.Targets.{RuleLists, AreRuleSets, IsRuleFault}
@@ -24,10 +24,11 @@ pub record ShowsEquation (r : Rule) (q : MixedGraph) (names : List (List ℕ)) (
   pub equation : IsRuleFor r q (has done) (has y) (has z) (has given)
   pub prints : text ≡ rule_holds_text r names (has done) (has y) (has z) (has given)
 
--- No: this path is open in the cut graph of the rule, and the text shows it
+-- No: this path is open in the cut graph of the rule, its equation fails in some positive model that fits q, and the text shows the path
 pub record ShowsOpenPath (r : Rule) (q : MixedGraph) (names : List (List ℕ)) (y done z given : ℕ) (text : List ℕ) : Type 0 where
   pub path : OpenPath
   pub is_open : IsOpenFor r q (has done) (has y) (has z) (has given) path
+  pub fails : DifferSomewhere q (left_of r (has done) (has y) (has z) (has given)) (right_of r (has done) (has y) (has z) (has given))
   pub prints : text ≡ rule_fails_text r names (has done) (has y) (has z) (has given) (open_text names path.vertices path.marks path.count)
 
 -- the answer for the sets of a rule

@@ -5,7 +5,7 @@ use Rattle.mixed_graph.specs.Graphs.{MixedGraph}
 use Rattle.m_separation.specs.declared.marks.Mark.{Mark}
 use Rattle.m_separation.specs.Walks.{IsSeparated}
 use Rattle.m_separation.specs.Paths.{IsOpenPath}
-use Rattle.do_rules.specs.Rules.{AreIndependent}
+use Rattle.do_rules.specs.Rules.{AreIndependent, AreDependent}
 use Rattle.dag_reader.specs.declared.graph.ReadGraph.{ReadGraph}
 use Rattle.targets.specs.Targets.{Lists, listed, AreSets}
 use Rattle.replies.specs.declared.outcome.Outcome.{Outcome}
@@ -22,12 +22,13 @@ pub record ShowsSeparation (q : MixedGraph) (names : List (List ℕ)) (x y w : �
   pub independent : AreIndependent q (has x) (has y) (has w)
   pub prints : text ≡ separated_text names x y w
 
--- No: this path is open, and the text shows it
+-- No: this path is open, x and y are dependent given w in some positive model that fits q, and the text shows the path
 pub record ShowsOpenPath (q : MixedGraph) (names : List (List ℕ)) (x y w : ℕ) (text : List ℕ) : Type 0 where
   pub vertices : List ℕ
   pub marks : List Mark
   pub count : ℕ
   pub path : IsOpenPath q (has x) (has y) (has w) vertices marks count
+  pub dependent : AreDependent q (has x) (has y) (has w)
   pub prints : text ≡ not_separated_text names x y w (open_text names vertices marks count)
 
 -- the answer for the sets x, y and w

@@ -1,3 +1,4 @@
 pub mod CallEnds
 mod Counts
 mod Endings
+mod Telling

@@ -9,7 +9,9 @@ use Rattle.span_call.specs.declared.Sizes.{Sizes}
 use Rattle.span_call.specs.Rooms.{ShowsText}
 use Rattle.command_run.specs.Run.{Stream, Run, Ended, Unread, Unwritten}
 use Rattle.causal_cli.specs.Commands.{commands}
-use Rattle.causal_cli.specs.Headline.{Headline}
+use Rattle.command_run.specs.Complete.{Complete}
+use Rattle.causal_cli.specs.Drawn.{RightAsDrawn}
+use Rattle.causal_cli.specs.Headline.{Headline, HeadlineOfCheck}
 
 -- the run is one over these words and inputs: its words are the spans' texts, what it holds under a name is the first input of that name,
 -- and a read fails only where no input has the name
@@ -34,7 +36,10 @@ pub record Called (bytes : List ℕ) (words : List Span) (inputs : List Input) (
   pub line : Stream
   pub is_run : IsRunOf run bytes words inputs
   pub ended : Ended commands run line code
+  pub complete : Complete commands run code
   pub headline : Headline run code
+  pub checked : HeadlineOfCheck run code
+  pub drawn : RightAsDrawn run code
   pub shows_out : Shows run.out out_before out sizes.out
   pub shows_err : Shows line err_before err sizes.err
 

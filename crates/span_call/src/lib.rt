@@ -6,11 +6,13 @@ ghost use Rattle.span_call.specs.Called.{Called, LacksInput, IsCutShort};
 ghost use Rattle.span_call.specs.Ends.{IsEnd};
 
 mod ends;
+mod wanted;
 
 use causal_cli::run;
 pub use ends::{Arguments, CallEnd, call_words, show, show_both};
 use spans::{GrowingSink, SpanShelf};
 use std::alloc::Global;
+pub use wanted::{Wanted, WantedEnd, wanted_spans};
 
 /// How many bytes a run wrote. Where they are more than the caller's room, the room has the first of them.
 #[repr(C)]

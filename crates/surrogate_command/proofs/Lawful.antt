@@ -18,8 +18,9 @@ one_request uses q r a b = λ i. record {
   x = one_listed (value_of uses (codes "x")) q.x r.x a.x b.x i;
   y = one_listed (value_of uses (codes "y")) q.y r.y a.y b.y i;
   experiments = one_word (value_of uses (codes "experiments")) q.experiments r.experiments a.experiments b.experiments i;
+  models = (sym b.models ∙ a.models) i;
 }
 
 -- what holds of each command holds of it
 pub surrogate_lawful : IsLawful surrogate_command
-surrogate_lawful = lawful_on_file one_request (λ q g. surrogate_answered g q.x q.y q.experiments) (λ q bytes. surrogate_once bytes q.x q.y q.experiments)
+surrogate_lawful = lawful_on_file one_request (λ q g. surrogate_answered g q.x q.y q.experiments q.models) (λ q bytes. surrogate_once bytes q.x q.y q.experiments q.models)

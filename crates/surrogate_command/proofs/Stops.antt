@@ -1,14 +1,17 @@
 -- What the text of a stop needs: its vertices have names.
-use Rattle.std.proofs.Common.{◌≡◌, ◌≤◌, ℕ, List, sym, subst}
+use Rattle.std.proofs.Common.{◌≡◌, ◌≤◌, ℕ, List, Option, Some, None, sym, subst}
+use Rattle.std.specs.Prelude.{IfSome}
 use Rattle.mixed_graph.specs.Bits.{has}
-use Rattle.mixed_graph.specs.Graphs.{MixedGraph}
+use Rattle.mixed_graph.specs.Graphs.{MixedGraph, IsMixedGraph}
 use Rattle.mixed_graph.specs.Sets.{Within}
 use Rattle.mixed_graph.specs.declared.sets.VSet.{VSet}
 use Rattle.hedge.specs.declared.hedge.Hedge.{Hedge}
 use Rattle.counter_models.specs.declared.counter_pair.CounterPair.{CounterPair}
-use Rattle.identify_text.specs.Below.{IsHedgeBelow}
+use Rattle.identify_text.specs.Below.{IsHedgeBelow, ArePairBelow}
 use Rattle.identify_text.proofs.Belows.{hedge_below}
-use Rattle.surrogates.specs.Answers.{IsStopShown}
+use Rattle.effect_answers.proofs.Belows.{pair_below}
+use Rattle.surrogates.specs.Answers.{IsRightBlock, IsBlockShown, IsStopShown}
+use Rattle.surrogates.specs.declared.answer.CommonHedge.{CommonHedge}
 
 -- the hedge is on the graph's vertices, of which there are as many as names
 pub hedge_named : (g : MixedGraph) (zs : List ℕ) (x y : ℕ) (district : VSet) (h : Hedge) (pair : CounterPair) (n : ℕ) → n ≡ g.vertices → g.vertices ≤ 64 → IsStopShown g zs x y district h pair → IsHedgeBelow n h
@@ -17,3 +20,15 @@ hedge_named g zs x y district h pair n e few stop = subst (λ k. IsHedgeBelow k 
 -- and so is the district
 pub district_named : (g : MixedGraph) (zs : List ℕ) (x y : ℕ) (district : VSet) (h : Hedge) (pair : CounterPair) (n : ℕ) → n ≡ g.vertices → g.vertices ≤ 64 → IsStopShown g zs x y district h pair → Within n (has district.bits)
 district_named g zs x y district h pair n e few stop = subst (λ (s : VSet). Within n (has s.bits)) stop.small (hedge_named g zs x y district h pair n e few stop).small
+
+-- so are the common hedge and its models, where there is one
+pub common_named : (g : MixedGraph) → IsMixedGraph g → (zs : List ℕ) (x y : ℕ) (district : VSet) (common : Option CommonHedge)
+    → (n : ℕ) → n ≡ g.vertices → g.vertices ≤ 64 → Within g.vertices (has y)
+    → IfSome common (λ k. IsRightBlock g zs x y k.hedge k.pair)
+    → IfSome common (λ k. IsBlockShown g zs x y district k.hedge k.pair)
+    → IfSome common (λ k. IsHedgeBelow n k.hedge × ArePairBelow n k.pair)
+common_named g valid zs x y district None n e few in_y right shown = tt
+common_named g valid zs x y district (Some k) n e few in_y right shown = (
+  subst (λ m. IsHedgeBelow m k.hedge) (sym e) (hedge_below g x y k.hedge few shown.hedge),
+  subst (λ m. ArePairBelow m k.pair) (sym e) (pair_below g valid x y k.hedge k.pair in_y shown.models right.hedge.counter),
+)

@@ -1,6 +1,6 @@
 -- What `surrogate` is asked for.
-use Rattle.std.specs.Prelude.{◌≡◌, List, Some, [], ◌∷◌, codes, option_map}
-use Rattle.word_forms.specs.Form.{Text, Row, Use, word_of, value_of}
+use Rattle.std.specs.Prelude.{◌≡◌, Bool, List, Some, [], ◌∷◌, codes, option_map}
+use Rattle.word_forms.specs.Form.{Text, Row, Use, word_of, value_of, has_flag}
 use Rattle.request_values.specs.Values as values
 use Rattle.replies.specs.Observed.{Names}
 use Rattle.word_lists.specs.Views.{names_in}
@@ -8,9 +8,9 @@ use Rattle.surrogate_command.specs.Experiments.{Lists, AreNeededExperiments}
 use Rattle.surrogate_command.specs.Views.{lists_in}
 use Rattle.surrogate_command.specs.declared.request.Request.{Request as CodeRequest}
 
--- `surrogate FILE [--x L] [--y L] --experiments E`
+-- `surrogate FILE [--x L] [--y L] --experiments E [--models]`
 abbrev pub surrogate_row : Row
-surrogate_row = record { name = codes "surrogate"; positionals = codes "file" ∷ []; extra = []; needed = codes "experiments" ∷ []; options = codes "x" ∷ codes "y" ∷ []; flags = [] }
+surrogate_row = record { name = codes "surrogate"; positionals = codes "file" ∷ []; extra = []; needed = codes "experiments" ∷ []; options = codes "x" ∷ codes "y" ∷ []; flags = codes "models" ∷ [] }
 
 -- a request
 pub record Request : Type 0 where
@@ -18,10 +18,11 @@ pub record Request : Type 0 where
   pub x : Names
   pub y : Names
   pub experiments : Lists
+  pub models : Bool
 
 -- the request
 abbrev pub request_of : CodeRequest → Request
-request_of r = record { file = r.file.now; x = option_map names_in r.x; y = option_map names_in r.y; experiments = lists_in r.experiments }
+request_of r = record { file = r.file.now; x = option_map names_in r.x; y = option_map names_in r.y; experiments = lists_in r.experiments; models = r.models }
 
 -- the uses ask for this
 pub record IsRequest (uses : List Use) (r : Request) : Type 0 where
@@ -29,3 +30,4 @@ pub record IsRequest (uses : List Use) (r : Request) : Type 0 where
   pub x : values.IsListed (value_of uses (codes "x")) r.x
   pub y : values.IsListed (value_of uses (codes "y")) r.y
   pub experiments : AreNeededExperiments (value_of uses (codes "experiments")) r.experiments
+  pub models : has_flag uses (codes "models") ≡ r.models

@@ -15,7 +15,7 @@ ghost use Rattle.surrogate_command.specs.Views.{lists_in};
 use crate::effect::{Asked, asked_effect};
 use crate::request::Request;
 use crate::sets::SurrogateSets;
-use crate::texts::stop_answer;
+use crate::texts::stopped_text;
 use dag_reader::ReadGraph;
 use identify_text::formula_answer;
 use latent_projection::Observed;
@@ -28,15 +28,25 @@ use surrogates::{Surrogate, identify_with};
 /// Whether the effect of x on y can be computed from observations and from experiments, in the observed graph: a formula for
 /// P(y | do(x)), or the first district that no experiment frees (Bareinboim and Pearl 2012).
 ///
+/// Where models are asked for, and the district stops under all experiments that leave it alone at once, the answer
+/// shows the hedge at which it does, and its two models.
+///
 /// A list that is missing is that of the exposures or of the outcomes. The only error is want of memory.
 pub fn surrogate_reply(
     alloc: Global,
     graph: &ReadGraph,
     request: Request<'_>,
 ) -> Result<Reply, AllocError>
-    ensures { IfOk result (λ r. SurrogateAnswer graph.now (request_of request.entry).x (request_of request.entry).y (request_of request.entry).experiments r.outcome r.text.items) }
+    ensures { IfOk result (λ r. SurrogateAnswer graph.now (request_of request.entry).x (request_of request.entry).y (request_of request.entry).experiments (request_of request.entry).models r.outcome r.text.items) }
 {
-    reply_for(alloc, graph, request.x, request.y, request.experiments)
+    reply_for(
+        alloc,
+        graph,
+        request.x,
+        request.y,
+        request.experiments,
+        request.models,
+    )
 }
 
 /// The answer for lists and experiments.
@@ -46,18 +56,24 @@ fn reply_for(
     x: Option<Vec<Vec<u8>>>,
     y: Option<Vec<Vec<u8>>>,
     experiments: Vec<Vec<Vec<u8>>>,
+    models: bool,
 ) -> Result<Reply, AllocError>
     requires { AreFilled (lists_in experiments) }
-    ensures { IfOk result (λ r. SurrogateAnswer graph.now (option_map names_in x) (option_map names_in y) (lists_in experiments) r.outcome r.text.items) }
+    ensures { IfOk result (λ r. SurrogateAnswer graph.now (option_map names_in x) (option_map names_in y) (lists_in experiments) models r.outcome r.text.items) }
 {
     match asked_effect(alloc, graph, x, y, &experiments)? {
-        Asked::Effect(effect) => decide(alloc, &effect.seen, &effect.sets),
+        Asked::Effect(effect) => decide(alloc, &effect.seen, &effect.sets, models),
         Asked::Refused(reply) => Ok(reply),
     }
 }
 
 /// The answer for sets of the observed graph.
-fn decide(alloc: Global, seen: &Observed, sets: &SurrogateSets) -> Result<Reply, AllocError>
+fn decide(
+    alloc: Global,
+    seen: &Observed,
+    sets: &SurrogateSets,
+    models: bool,
+) -> Result<Reply, AllocError>
     requires named { length seen.now.names ≡ seen.now.graph.n }
     requires x { Within seen.now.graph.n (has sets.now.x.bits) }
     requires y { Within seen.now.graph.n (has sets.now.y.bits) }
@@ -65,7 +81,7 @@ fn decide(alloc: Global, seen: &Observed, sets: &SurrogateSets) -> Result<Reply,
     requires some { 0 < sets.now.y.bits }
     requires few { length sets.now.experiments.items ≤ 8 }
     requires experiments { are_sets seen.now.graph.n (masks_of sets.now.experiments.items) ≡ true }
-    ensures { IfOk result (λ r. SetsAnswer (graph_of seen.now.graph) seen.now.names (masks_of sets.now.experiments.items) sets.now.x.bits sets.now.y.bits r.outcome r.text.items) }
+    ensures { IfOk result (λ r. SetsAnswer (graph_of seen.now.graph) seen.now.names (masks_of sets.now.experiments.items) sets.now.x.bits sets.now.y.bits models r.outcome r.text.items) }
 {
     let experiments = sets.experiments.as_slice();
     match identify_with(alloc, &seen.graph, sets.x, sets.y, experiments)? {
@@ -76,10 +92,11 @@ fn decide(alloc: Global, seen: &Observed, sets: &SurrogateSets) -> Result<Reply,
         Surrogate::Stopped {
             district,
             hedge,
+            common,
             ..
         } => Ok(Reply {
             outcome: Outcome::No,
-            text: stop_answer(alloc, sets.x, sets.y, district, &hedge, &seen.names)?,
+            text: stopped_text(alloc, sets, district, &hedge, &common, models, &seen.names)?,
         }),
     }
 }

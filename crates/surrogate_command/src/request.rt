@@ -10,14 +10,14 @@ use std::alloc::Global;
 use word_forms::Entry;
 use word_values::Values;
 
-/// `surrogate FILE [--x L] [--y L] --experiments E`
+/// `surrogate FILE [--x L] [--y L] --experiments E [--models]`
 pub const ROW: Entry = Entry {
     name: "surrogate",
     positionals: &["file"],
     extra: &[],
     needed: &["experiments"],
     options: &["x", "y"],
-    flags: &[],
+    flags: &["models"],
 };
 
 /// What is asked for.
@@ -27,6 +27,7 @@ pub struct Request<'a> {
     pub x: Option<Vec<Vec<u8>>>,
     pub y: Option<Vec<Vec<u8>>>,
     pub experiments: Vec<Vec<Vec<u8>>>,
+    pub models: bool,
     pub ghost filled: { AreFilled (lists_in experiments) },
 }
 
@@ -40,6 +41,7 @@ impl<'a> Request<'a> {
         ensures ok { (uses : List Use) → HoldsCall surrogate_row uses values.now → IfOk result (λ r. IsRequest uses (request_of r)) }
         ensures none { (uses : List Use) → HoldsCall surrogate_row uses values.now → IsErrOf result RequestFault.NotUnderstood → AsksNothing surrogate_command uses }
     {
+        let models = values.flag("models");
         let Subject { file, x, y } = Subject::read(alloc, values)?;
         let experiments = needed_experiments(alloc, values, "experiments")?;
         Ok(Request {
@@ -47,6 +49,7 @@ impl<'a> Request<'a> {
             x,
             y,
             experiments,
+            models,
         })
     }
 }

@@ -1,6 +1,6 @@
 -- The derivation of the formula over experiments is accepted.
-use Rattle.std.proofs.Common.{ℕ, ◌+◌, ◌≡◌, ◌<◌, Bool, true, not, refl, sym, ap, ap₂, subst, ◌∙◌, ◌&&◌, ◌⊎◌, inl, inr, List, [], ◌∷◌, ◌++◌, length, length-append}
-use Rattle.do_derivation.specs.Accepts.{Accepts, Define, are_sets, sets_of}
+use Rattle.std.proofs.Common.{ℕ, ◌+◌, ◌≡◌, ◌<◌, true, refl, sym, ap, ap₂, subst, ◌∙◌, List, [], ◌∷◌, ◌++◌, length, length-append}
+use Rattle.do_derivation.specs.Accepts.{Define, are_sets, sets_of}
 use Rattle.do_derivation.specs.Plans.{Plan, Plans, no_plans, PlainDerivation, PlainLemma}
 use Rattle.do_derivation.specs.Steps.{MakesAll}
 use Rattle.identification.proofs.Accepted.{are_sets-append, d_low, main_deep, main_made, y_in}
@@ -14,7 +14,7 @@ use Rattle.identification.proofs.Groups.{AreParts, are_parts}
 use Rattle.identification.proofs.Nesting.{are_lists_to, lemmas_append}
 use Rattle.identification.proofs.Orders.{IsOrderFrom, order_of}
 use Rattle.identification.specs.Depth.{are_lemmas_within, are_plans_within}
-use Rattle.identification.specs.Derivations.{AreFactorSteps, Lists, more, no_more, district_steps, main_steps}
+use Rattle.identification.specs.Derivations.{Lists, district_steps, main_steps}
 use Rattle.identification.specs.Procedure.{IsTarget, Source, product_of}
 use Rattle.identification_answers.proofs.OneDerivation.{factor_one}
 use Rattle.mixed_graph.specs.Bits.{has}

@@ -1,21 +1,21 @@
 -- The laws of the procedure over experiments, with the case of an empty x.
 use Rattle.std.specs.Prelude.{None}
-use Rattle.std.proofs.Common.{ℕ, ◌+◌, ◌≡◌, true, ◌⊎◌, inl, inr, List, [], length}
-use Rattle.do_derivation.specs.Plans.{Plan, no_plans, PlainDerivation, PlainLemma}
+use Rattle.std.proofs.Common.{ℕ, ◌+◌, ◌≡◌, ◌⊎◌, inl, inr, List, [], length}
+use Rattle.do_derivation.specs.Plans.{Plan, no_plans, PlainLemma}
 use Rattle.identification.proofs.Orders.{order_of}
 use Rattle.identification.specs.Derivations.{Lists}
 use Rattle.identification_answers.proofs.Answered.{formula_is_formed}
 use Rattle.identification_answers.proofs.Faults.{no_fault}
 use Rattle.mixed_graph.specs.Graphs.{MixedGraph}
 use Rattle.prob_expr.specs.Check.{fault_in}
-use Rattle.prob_expr.specs.Tree.{PlainFormula, Tree, Trees, prob}
+use Rattle.prob_expr.specs.Tree.{Tree, Trees, prob}
 use Rattle.surrogate_theory.proofs.Accepted.{accepted, observed_with}
 use Rattle.surrogate_theory.proofs.Blocked.{blocked_none, own_hedge, first_blocked}
 use Rattle.surrogate_theory.proofs.Formed.{composed_formed}
 use Rattle.surrogate_theory.proofs.PlainFirst.{plain_first}
 use Rattle.surrogate_theory.proofs.Unique.{surrogate_one, stop_same}
 use Rattle.surrogate_theory.specs.Laws.{IsAcceptedWith, DerivedIsSurrogate, SurrogateIsAccepted, SurrogateIsFormed, StopHasHedge, StopIsFirstBlocked, BlockedExcludesFormula, OneSurrogate, OneStopWith, PlainComesFirst}
-use Rattle.surrogate_theory.specs.Surrogates.{AreDerivedWith, AreFactoredWith, IsComposedWith, IsComposedBySteps, IsSurrogate, IsSurrogateBySteps}
+use Rattle.surrogate_theory.specs.Surrogates.{AreDerivedWith, AreFactoredWith, IsComposedWith, IsComposedBySteps}
 
 -- the factors of a derivation, without its steps
 factors_of : (g : MixedGraph) (zs : List ℕ) (k : ℕ) (cs : List ℕ) (ds : List Tree) (fs : Trees) (ls : List PlainLemma) (lists : Lists) → AreDerivedWith g zs k cs ds fs ls lists → AreFactoredWith g zs k cs ds fs

@@ -1,6 +1,6 @@
 -- Where all tries of a district stop it is blocked, and a blocked district has no factor.
-use Rattle.std.proofs.Common.{ℕ, suc, ◌+◌, ◌≡◌, ◌<◌, Bool, true, false, eqb, not, refl, sym, subst, ◌∙◌, ◌&&◌, ◌||◌, ◌⊎◌, inl, inr, List, [], ◌∷◌, length, arith, eqb-true}
-use Rattle.districts.specs.Linked.{AreDistricts, IsDistrict, IsLinked}
+use Rattle.std.proofs.Common.{ℕ, suc, ◌+◌, ◌≡◌, ◌<◌, Bool, true, false, eqb, not, refl, sym, subst, ◌∙◌, ◌&&◌, ◌⊎◌, inl, inr, List, [], ◌∷◌, length, arith, eqb-true}
+use Rattle.districts.specs.Linked.{AreDistricts, IsLinked}
 use Rattle.districts.specs.Linked.IsLinked.{at, by}
 use Rattle.hedge.specs.Hedges.{outside}
 use Rattle.hedge.specs.Shapes.{AreSetsOfHedge}
@@ -19,12 +19,12 @@ use Rattle.identification_answers.specs.Laws.{AreRoots}
 use Rattle.mixed_graph.proofs.Masks.{has-zero}
 use Rattle.mixed_graph.specs.Bits.{has}
 use Rattle.mixed_graph.specs.Graphs.{IsAncestor, IsDirectedPath, IsMixedGraph, MixedGraph, induced}
-use Rattle.mixed_graph.specs.Orders.{IsOrder}
 use Rattle.mixed_graph.specs.Masks.{all, is_apart, minus, one}
 use Rattle.prob_expr.specs.Terms.{is_listed}
 use Rattle.prob_expr.specs.Tree.{Tree, Trees, PlainFormula}
-use Rattle.surrogate_theory.proofs.Induced.{inner_graph, link_in, stopped_out}
+use Rattle.surrogate_theory.proofs.Induced.{inner_graph, inside_of, above_inside, link_in, stopped_out}
 use Rattle.surrogate_theory.proofs.Rooms.{Chosen, chosen, zero_apart, c_room, a_room, c_in_a}
+use Rattle.surrogate_theory.specs.Common.{IsHedgeApart, StopUnderHasHedge}
 use Rattle.surrogate_theory.specs.Surrogates.{without, ComesFirst, IsFactorUnder, IsStoppedUnder, AllStop, AreFactoredWith, IsComposedWith, IsSurrogate, StopsWith, IsStoppedWith, SomeHedge, IsBlocked, IsAmong, IsDistrictFor, IsFirstBlocked, SomeBlocked}
 
 to_among : (c : ℕ) (ts : List ℕ) → IsAmong c ts → Among c ts
@@ -230,12 +230,12 @@ module _ (g : MixedGraph) (ok : IsMixedGraph g) (d c : ℕ) (low : (u : ℕ) →
   }
 
 -- the district at which it stops
-record StopAt (g : MixedGraph) (zs cs : List ℕ) (small big : ℕ) : Type 0 where
-  among : IsAmong small cs
-  stop : IsStoppedUnder g 0 small big
-  all_stop : AllStop g small zs
+pub record StopAt (g : MixedGraph) (zs cs : List ℕ) (small big : ℕ) : Type 0 where
+  pub among : IsAmong small cs
+  pub stop : IsStoppedUnder g 0 small big
+  pub all_stop : AllStop g small zs
 
-stop_at : (g : MixedGraph) (zs : List ℕ) (k : ℕ) (cs : List ℕ) (small big : ℕ) → StopsWith g zs k cs small big → StopAt g zs cs small big
+pub stop_at : (g : MixedGraph) (zs : List ℕ) (k : ℕ) (cs : List ℕ) (small big : ℕ) → StopsWith g zs k cs small big → StopAt g zs cs small big
 stop_at g zs k _ _ big (StopsWith.first s l) = record { among = inl refl; stop = s; all_stop = l }
 stop_at g zs k _ small big (StopsWith.after {cs = cs} {ds = ds} h f r) = let q = stop_at g zs (k + length ds) cs small big r in record { among = inr q.among; stop = q.stop; all_stop = q.all_stop }
 
@@ -276,3 +276,25 @@ module _ (g : MixedGraph) (ok : IsMixedGraph g) (zs : List ℕ) (x y small big r
 
   pub first_blocked : IsFirstBlocked g zs small s.districts
   first_blocked = first_one g zs 0 s.districts small big s.stops blocked
+
+  -- a stopped factor ends inside the set from which it starts
+  stop_inside : (h : MixedGraph) → h.vertices ≡ g.vertices → (a t : ℕ) → IsStopped h small a t → ((v : ℕ) → has small v ≡ true → has a v ≡ true) → (v : ℕ)
+      → has t v ≡ true → has a v ≡ true
+  stop_inside h n a t (IsStopped.here p ne m) inside v e = inside_of g 0 h a small t inside p v e
+  stop_inside h n a t (IsStopped.later {t = t'} {a2 = a2} p ne m r k rest) inside v e =
+      inside_of g 0 h a small t' inside p v (above_inside g 0 h t' small a2 (λ u i. p.complete u (at i)) m v
+      (stop_inside h n a2 t rest (λ u i. m.complete u (record { vertex = rw n (small_below u i); path = []; end = u; leads = refl; inside = i })) v e))
+
+  -- the district stops under u too, and the hedge there leaves u alone
+  pub apart_hedge : (u b : ℕ) → is_apart u small ≡ true → IsStoppedUnder g u small b → IsHedgeApart g x y u b small roots
+  apart_hedge u b off w = record {
+    hedge = hedge g ok s.order o x y tgt2 s.d s.is_d small part_of home_at w.a b
+        (stopped_out g (minus (all g.vertices) u) s.order small small_below w.a b (a_room g ok u small off small_below w.a w.ancestors)
+        (c_in_a g ok u small off small_below w.a w.ancestors) w.stop) roots are;
+    apart = λ v e. not_e (has u v) (and_r (has (all g.vertices) v) (not (has u v)) (rw (has-minus (all g.vertices) u v) at
+        (a_room g ok u small off small_below w.a w.ancestors v
+        (stop_inside (without g u) refl w.a b w.stop (c_in_a g ok u small off small_below w.a w.ancestors) v e))));
+  }
+
+pub stop_under_has_hedge : StopUnderHasHedge
+stop_under_has_hedge = λ g ok zs x y small first roots tgt s are u big off w. apart_hedge g ok zs x y small first roots tgt s are u big off w

@@ -1,5 +1,5 @@
 -- Each part of the formula over experiments has its form.
-use Rattle.std.proofs.Common.{ℕ, ◌+◌, ◌≡◌, ◌<◌, Bool, true, not, refl, sym, subst, List, [], ◌∷◌, ◌++◌, length, arith, length-append}
+use Rattle.std.proofs.Common.{ℕ, ◌+◌, ◌≡◌, ◌<◌, true, not, refl, subst, List, [], ◌∷◌, ◌++◌, length, arith, length-append}
 use Rattle.do_derivation.specs.Accepts.{are_sets}
 use Rattle.identification.proofs.Accepted.{d_low, y_in}
 use Rattle.identification.proofs.Bools.{and_l}

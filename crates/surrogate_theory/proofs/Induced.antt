@@ -1,6 +1,6 @@
 -- A factor made in the graph induced on a set of vertices, the room, read in the graph itself.
 use Rattle.std.proofs.Common.{ℕ, suc, ◌≡◌, ◌<◌, Bool, true, eqb, refl, ◌∙◌, ◌&&◌, ◌⊎◌, inl, inr, List, [], ◌∷◌, eqb-true}
-use Rattle.districts.specs.Linked.{IsLinked, IsDistrict, IsSetOf}
+use Rattle.districts.specs.Linked.{IsLinked, IsDistrict}
 use Rattle.districts.specs.Linked.IsLinked.{at, by}
 use Rattle.do_derivation.specs.Plans.{PlainLemma, Plans}
 use Rattle.identification.proofs.Bools.{and_l, and_r, both_true, or_r, or_e}

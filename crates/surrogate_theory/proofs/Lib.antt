@@ -1,5 +1,6 @@
 pub mod Accepted
 pub mod Answered
+pub mod Around
 pub mod Blocked
 pub mod Formed
 pub mod Induced

@@ -1,5 +1,5 @@
 -- Where identification answers a formula, it is the one over experiments.
-use Rattle.std.proofs.Common.{ℕ, ◌+◌, ◌≡◌, ◌<◌, Bool, true, false, not, refl, sym, ap₂, subst, ◌∙◌, ◌&&◌, ◌⊎◌, inl, inr, List, [], ◌∷◌, length}
+use Rattle.std.proofs.Common.{ℕ, ◌+◌, ◌≡◌, ◌<◌, Bool, true, false, not, refl, sym, ap₂, subst, ◌∙◌, ◌&&◌, ◌⊎◌, inl, inr, List, [], length}
 use mathlib.Core.Path.{fun_ext}
 use Rattle.identification.proofs.Bools.{both_true, not_i}
 use Rattle.identification.proofs.Sets.{all-is, has-minus}

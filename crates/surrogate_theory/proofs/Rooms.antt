@@ -1,5 +1,5 @@
 -- A district apart from an experiment z: its ancestors in the graph without z, and the stage at which its factor begins.
-use Rattle.std.proofs.Common.{ℕ, ◌≡◌, ◌<◌, Bool, true, false, not, eqb, refl, ◌∙◌, ◌&&◌, ◌||◌, ◌⊎◌, inl, inr, List, [], ◌∷◌, eqb-true, eq-eqb}
+use Rattle.std.proofs.Common.{ℕ, ◌≡◌, ◌<◌, Bool, true, false, not, eqb, refl, ◌∙◌, ◌&&◌, ◌⊎◌, inl, inr, List, [], ◌∷◌, eqb-true, eq-eqb}
 use Rattle.do_derivation.specs.Accepts.{are_sets}
 use Rattle.identification.proofs.Bools.{and_l, and_r, both_true, clash, not_e, not_i, or_e, or_l, or_r}
 use Rattle.identification.proofs.Factor.{IsStage}

@@ -1,5 +1,5 @@
 -- The formula over experiments is fixed, and so is where the procedure stops.
-use Rattle.std.proofs.Common.{ℕ, ◌+◌, ◌≡◌, Bool, true, false, eqb, refl, sym, ap, ap₂, subst, ◌∙◌, ◌||◌, ◌⊎◌, inl, inr, List, [], ◌∷◌, ◌++◌, length, eqb-true}
+use Rattle.std.proofs.Common.{ℕ, ◌+◌, ◌≡◌, true, eqb, refl, sym, ap₂, subst, ◌∙◌, ◌⊎◌, inl, inr, List, [], ◌∷◌, ◌++◌, length, eqb-true}
 use Rattle.districts.specs.Linked.{AreDistricts}
 use Rattle.identification.proofs.Bools.{clash, or_e}
 use Rattle.identification.proofs.Orders.{one_order}
@@ -11,7 +11,7 @@ use Rattle.mixed_graph.specs.Masks.{all, is_apart, minus}
 use Rattle.prob_expr.specs.Terms.{is_listed}
 use Rattle.prob_expr.specs.Tree.{PlainFormula, Tree, Trees, prob, tree}
 use Rattle.surrogate_theory.proofs.Rooms.{Chosen, chosen}
-use Rattle.surrogate_theory.specs.Surrogates.{without, ComesFirst, IsFactorUnder, IsStoppedUnder, AllStop, AreFactoredWith, IsComposedWith, IsSurrogate, StopsWith, IsStoppedWith}
+use Rattle.surrogate_theory.specs.Surrogates.{without, ComesFirst, IsFactorUnder, IsStoppedUnder, AllStop, AreFactoredWith, IsComposedWith, IsSurrogate, StopsWith, IsStoppedWith, IsFirstBlocked, IsFirstBlockedFor}
 
 -- two lists of definitions with an expression each are the same
 record Both (ds es : List Tree) (e f : Tree) : Type 0 where
@@ -28,7 +28,8 @@ module _ (g : MixedGraph) where
       (subst (λ b. IsFactor (without g z) t.order c b (Source.Under z) k es f) (one_set u.a t.a _ u.ancestors t.ancestors)
       (subst (λ o. IsFactor (without g z) o c u.a (Source.Under z) k es f) (one_order (without g z) u.order t.order u.is_order t.is_order) u.factor)) in record { defs = s.defs; main = s.main }
 
-  factor_or_stop : (z c k : ℕ) (ds : List Tree) (e : Tree) (big : ℕ) → IsFactorUnder g z c k ds e → IsStoppedUnder g z c big → ⊥
+  -- a factor and a stop under one intervention exclude each other
+  pub factor_or_stop : (z c k : ℕ) (ds : List Tree) (e : Tree) (big : ℕ) → IsFactorUnder g z c k ds e → IsStoppedUnder g z c big → ⊥
   factor_or_stop z c k ds e big t s = made_or_stopped (without g z) t.order c t.a (Source.Under z) k ds e big t.factor (subst (λ b. IsStopped (without g z) c b big) (one_set s.a t.a _ s.ancestors t.ancestors) s.stop)
 
   first_same : (c k z w : ℕ) (ds es : List Tree) (e f : Tree) (l : List ℕ) → ComesFirst g c z l → IsFactorUnder g z c k ds e → ComesFirst g c w l → IsFactorUnder g w c k es f → Both ds es e f
@@ -69,6 +70,13 @@ module _ (g : MixedGraph) where
       let q : Both ds ds2 e f = first_same c k z w ds ds2 e f (0 ∷ zs) h t h2 t2 in
       stops_same zs (k + length ds) cs small big small2 big2 r (subst (λ d. StopsWith g zs (k + length d) cs small2 big2) (sym q.defs) r2)
 
+  -- of one list the first blocked district is one
+  first_blocked_same : (zs : List ℕ) (c e : ℕ) (cs : List ℕ) → IsFirstBlocked g zs c cs → IsFirstBlocked g zs e cs → c ≡ e
+  first_blocked_same zs c _ _ (IsFirstBlocked.here b) (IsFirstBlocked.here d) = refl
+  first_blocked_same zs c e _ (IsFirstBlocked.here b) (IsFirstBlocked.after n r) = absurd (n b)
+  first_blocked_same zs c e _ (IsFirstBlocked.after n r) (IsFirstBlocked.here d) = absurd (n d)
+  first_blocked_same zs c e _ (IsFirstBlocked.after {cs = cs} n r) (IsFirstBlocked.after m s) = first_blocked_same zs c e cs r s
+
 module _ (g : MixedGraph) (x y : ℕ) where
   same_districts : (d e : ℕ) (o p ts us : List ℕ) → IsOrder g o (length o) → IsOrder g p (length p) → AreAncestorsIn g (minus (all g.vertices) x) y d → AreAncestorsIn g (minus (all g.vertices) x) y e
       → AreDistricts g d 0 o ts → AreDistricts g e 0 p us → us ≡ ts
@@ -99,3 +107,8 @@ module _ (g : MixedGraph) (x y : ℕ) where
     pub stop_same : (small big small2 big2 : ℕ) → IsStoppedWith g zs x y small big → IsStoppedWith g zs x y small2 big2 → (small ≡ small2) × (big ≡ big2)
     stop_same small big small2 big2 s u = stops_same g zs 0 s.districts small big small2 big2 s.stops
         (subst (λ z. StopsWith g zs 0 z small2 big2) (same_districts s.d u.d s.order u.order s.districts u.districts s.is_order u.is_order s.is_d u.is_d s.are_districts u.are_districts) u.stops)
+
+    -- at most one district is the first that is blocked
+    pub first_blocked_one : (c e : ℕ) → IsFirstBlockedFor g zs x y c → IsFirstBlockedFor g zs x y e → c ≡ e
+    first_blocked_one c e b d = first_blocked_same g zs c e b.districts b.first (subst (IsFirstBlocked g zs e)
+        (same_districts b.d d.d b.order d.order b.districts d.districts b.is_order d.is_order b.is_d d.is_d b.are_districts d.are_districts) d.first)

@@ -1,3 +1,4 @@
+ghost use Rattle.surrogate_theory.specs.Common.{StopUnderHasHedge, AroundIsApart, EachIsHarmless};
 ghost use Rattle.surrogate_theory.specs.Laws.{DerivedIsSurrogate, SurrogateIsAccepted, SurrogateIsFormed, StopHasHedge, StopIsFirstBlocked, BlockedExcludesFormula, OneSurrogate, OneStopWith, PlainComesFirst};
 
 /// What follows from the definition of the procedure over experiments, about each formula that it
@@ -7,6 +8,9 @@ pub fn laws()
     ensures accepted { SurrogateIsAccepted }
     ensures formed { SurrogateIsFormed }
     ensures hedge { StopHasHedge }
+    ensures hedge_under { StopUnderHasHedge }
+    ensures around { AroundIsApart }
+    ensures harmless { EachIsHarmless }
     ensures first_blocked { StopIsFirstBlocked }
     ensures excludes { BlockedExcludesFormula }
     ensures one_formula { OneSurrogate }

@@ -1,12 +1,11 @@
 -- What is assembled of the factors over experiments is the formula with its derivation.
-use Rattle.std.proofs.Common.{ℕ, ◌≡◌, List, length, map, sym, subst}
+use Rattle.std.proofs.Common.{ℕ, List, map, sym, subst}
 use Rattle.districts.specs.Linked.{AreDistricts}
 use Rattle.mixed_graph.specs.Graphs.{MixedGraph}
 use Rattle.mixed_graph.specs.Masks.{all, minus}
 use Rattle.prob_expr.specs.Tree.{PlainFormula}
 use Rattle.prob_expr.specs.View.{view, views}
 use Rattle.do_derivation.specs.Plans.{PlainDerivation}
-use Rattle.do_derivation.specs.View.{lemma_view}
 use Rattle.identification.specs.Procedure.{AreAncestorsIn}
 use Rattle.id_recursion.specs.Factored.{AreAssembled}
 use Rattle.district_factors.specs.Lists.{lists_view}

@@ -2,4 +2,5 @@ mod Assembled
 mod GatheredWith
 mod Passing
 pub mod RightAnswers
+mod Together
 mod Trying

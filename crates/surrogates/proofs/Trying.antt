@@ -1,5 +1,5 @@
 -- A factor of the graph without z, as a try of the graph.
-use Rattle.std.proofs.Common.{ℕ, ◌≡◌, ◌≤◌, ◌==◌, true, List, length, Result, Ok, Err, refl, sym, subst, eqb-true}
+use Rattle.std.proofs.Common.{ℕ, ◌≡◌, ◌≤◌, ◌==◌, true, List, length, Result, Ok, Err, sym, subst, eqb-true}
 use Rattle.std.specs.Prelude.{IfOk, IfErr}
 use Rattle.districts.specs.Linked.{IsJoinedSet}
 use Rattle.district_factors.specs.Factors.{IsFactorUnder, IsFactorFault}

@@ -4,12 +4,14 @@ use Rattle.mixed_graph.specs.Bits.{has}
 use Rattle.mixed_graph.specs.Graphs.{MixedGraph}
 use Rattle.mixed_graph.specs.Masks.{is_apart}
 use Rattle.mixed_graph.specs.Sets.{Within}
+use Rattle.mixed_graph.specs.declared.sets.VSet.{VSet}
 use Rattle.districts.specs.Linked.{IsJoinedSet}
 use Rattle.prob_expr.specs.View.{view}
 use Rattle.do_derivation.specs.View.{lemma_view, steps_view}
 use Rattle.district_factors.specs.declared.district_factor.Factor.{Factor}
 use Rattle.district_factors.specs.declared.district_factor.FactorFault.{FactorFault}
 use Rattle.district_factors.specs.declared.district_factor.FactorFault.TheVariants.{Stopped, NoMemory}
+use Rattle.surrogate_theory.specs.Common.{around}
 use Rattle.surrogate_theory.specs.Surrogates.{IsDerivedUnder, IsStoppedUnder, ComesFirst, AllStop}
 
 -- c is a joined set of vertices, and there are numbers for 64 definitions from k on
@@ -63,3 +65,8 @@ IsFirstTried g zs c k f = IsFirstOf g (0 ∷ zs) c k f
 abbrev pub IsBlockedFactor : MixedGraph → List ℕ → (c : ℕ) → FactorFault → Type 0
 IsBlockedFactor g zs c (Stopped big) = IsStoppedUnder g 0 c big.bits × AllStop g c zs
 IsBlockedFactor g zs c NoMemory = Unit {0}
+
+-- where the factor of c stops under all experiments that leave it alone at once; none where it doesn't
+abbrev pub IsStopTogether : MixedGraph → List ℕ → (c : ℕ) → Option VSet → Type 0
+IsStopTogether g zs c (Some big) = IsStoppedUnder g (around c zs) c big.bits
+IsStopTogether g zs c None = (big : ℕ) → IsStoppedUnder g (around c zs) c big → ⊥

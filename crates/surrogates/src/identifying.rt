@@ -9,10 +9,12 @@ ghost use Rattle.prob_expr.specs.Listed.{masks_of};
 ghost use Rattle.prob_expr.specs.Tree.{PlainFormula};
 ghost use Rattle.do_derivation.specs.Accepts.{are_sets};
 ghost use Rattle.identification.specs.Procedure.{IsIdentified};
-ghost use Rattle.surrogate_theory.specs.Surrogates.{IsSurrogate, IsSurrogateBySteps, SomeBlocked};
-ghost use Rattle.surrogates.specs.Answers.{IsAnswerWith, IsRightWith, IfFormula, IfStopped, IsStopShown, is_stopped};
+ghost use Rattle.surrogate_theory.specs.Surrogates.{IsSurrogate, IsSurrogateBySteps, IsStoppedWith, SomeBlocked};
+ghost use Rattle.surrogates.specs.Answers.{IsAnswerWith, IsRightWith, IfFormula, IfStopped, IfCommon, IsStopShown, IsBlockShown, IsCommonShown, IsBlockedTogether, is_stopped, HasCommon};
+ghost use Rattle.surrogates.specs.Tries.{IsDistrictFrom};
 
-use crate::answer::Surrogate;
+use crate::answer::{CommonHedge, Surrogate};
+use crate::blocking::common_stop;
 use crate::gathering::factors_with;
 use districts::districts;
 use id_recursion::{Stop, ancestors_outside, assembled, hedge_of, observed, order_of};
@@ -45,6 +47,66 @@ fn are_sets(n: u32, sets: &[VSet]) -> bool
     true
 }
 
+/// The hedge at which the factor of the district `small` stops under all experiments that leave it
+/// alone at once, with its models; none where it doesn't. Without experiment it stops at big.
+fn common_hedge(
+    alloc: Global,
+    g: &Graph,
+    x: VSet,
+    y: VSet,
+    experiments: &[VSet],
+    small: VSet,
+    big: VSet,
+) -> Result<Option<CommonHedge>, AllocError>
+    requires x_within { Within g.now.n (has x.bits) }
+    requires y_within { Within g.now.n (has y.bits) }
+    requires apart { Apart (has x.bits) (has y.bits) }
+    requires some { 0 < y.bits }
+    requires stop { IsStoppedWith (graph_of g.now) (masks_of experiments.now) x.bits y.bits small.bits big.bits }
+    requires district { IsDistrictFrom (graph_of g.now) small.bits 0 }
+    ensures { IfOk result (IsCommonShown (graph_of g.now) (masks_of experiments.now) x.bits y.bits small) }
+{
+    let found = match common_stop(alloc, g, experiments, small, big) {
+        Ok(found) => found,
+        Err(_) => return Err(AllocError),
+    };
+    match found {
+        Some(common) => {
+            let (hedge, pair) = hedge_of(alloc, g, x, y, small, common)?;
+            Ok(Some(CommonHedge { hedge, pair }))
+        }
+        None => Ok(None),
+    }
+}
+
+/// The answer at the district `small`, whose factor stops, without experiment at big.
+fn stopped_answer(
+    alloc: Global,
+    g: &Graph,
+    x: VSet,
+    y: VSet,
+    experiments: &[VSet],
+    small: VSet,
+    big: VSet,
+) -> Result<Surrogate, AllocError>
+    requires x_within { Within g.now.n (has x.bits) }
+    requires y_within { Within g.now.n (has y.bits) }
+    requires apart { Apart (has x.bits) (has y.bits) }
+    requires some { 0 < y.bits }
+    requires stop { IsStoppedWith (graph_of g.now) (masks_of experiments.now) x.bits y.bits small.bits big.bits }
+    requires district { IsDistrictFrom (graph_of g.now) small.bits 0 }
+    ensures { IfOk result (IsAnswerWith (graph_of g.now) (masks_of experiments.now) x.bits y.bits) }
+{
+    let common = common_hedge(alloc, g, x, y, experiments, small, big)?;
+    let (hedge, pair) = hedge_of(alloc, g, x, y, small, big)?;
+    Ok(Surrogate::Stopped {
+        district: small,
+        hedge,
+        pair,
+        common,
+    })
+}
+
 /// What the procedure over experiments answers.
 fn answer(
     alloc: Global,
@@ -71,14 +133,7 @@ fn answer(
             let (formula, derivation) = assembled(alloc, g, x, y, d, &order, &parts, made)?;
             Ok(Surrogate::Formula(formula, derivation))
         }
-        Err(Stop::At { small, big }) => {
-            let (hedge, pair) = hedge_of(alloc, g, x, y, small, big)?;
-            Ok(Surrogate::Stopped {
-                district: small,
-                hedge,
-                pair,
-            })
-        }
+        Err(Stop::At { small, big }) => stopped_answer(alloc, g, x, y, experiments, small, big),
         Err(Stop::NoMemory) => Err(AllocError),
     }
 }
@@ -86,8 +141,9 @@ fn answer(
 /// A formula for P(y | do(x)) from what is observed and from experiments on these sets, or the first
 /// district that no experiment frees (Bareinboim and Pearl 2012).
 ///
-/// That a district stops doesn't say that the effect can't be computed from the experiments in
-/// another way. The only error is want of memory.
+/// Where it stops with a common hedge, no formula over what is observed and the experiments equals the
+/// effect. Without one it isn't said that the effect can't be computed from the experiments in another
+/// way. The only error is want of memory.
 pub fn identify_with(
     alloc: Global,
     g: &Graph,
@@ -103,7 +159,8 @@ pub fn identify_with(
     requires experiments { are_sets g.now.n (masks_of experiments.now) ≡ true }
 
     // A formula has an accepted derivation, terms that are observed or under an experiment, and the value of the effect;
-    // where the procedure stops, there are two models that agree on all observations and differ on the effect.
+    // where the procedure stops, there are two models that agree on all observations and differ on the effect;
+    // those of the common hedge agree under each experiment too, so no such formula exists.
     ensures right { IfOk result (IsRightWith (graph_of g.now) (masks_of experiments.now) x.bits y.bits) }
 
     // It stops exactly where some district is blocked: under no experiment and under each that leaves it alone there is a hedge for it.
@@ -117,6 +174,10 @@ pub fn identify_with(
 
     // The district is the first that is blocked; the hedge is that for it without experiment, with its two models.
     ensures stopped { IfOk result (λ a. IfStopped a (IsStopShown (graph_of g.now) (masks_of experiments.now) x.bits y.bits)) }
+
+    // There is a common hedge exactly where its factor stops under all experiments that leave it alone at once; it is the hedge there, with its two models.
+    ensures common { IfOk result (λ a. HasCommon a ↔ IsBlockedTogether (graph_of g.now) (masks_of experiments.now) x.bits y.bits) }
+    ensures blocked { IfOk result (λ a. IfCommon a (IsBlockShown (graph_of g.now) (masks_of experiments.now) x.bits y.bits)) }
 {
     answer(alloc, g, x, y, experiments)
 }

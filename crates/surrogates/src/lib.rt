@@ -5,9 +5,10 @@
 #![tactic(auto)]
 
 mod answer;
+mod blocking;
 mod gathering;
 mod identifying;
 mod tries;
 
-pub use answer::Surrogate;
+pub use answer::{CommonHedge, Surrogate};
 pub use identifying::{are_experiments, identify_with};

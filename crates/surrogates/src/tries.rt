@@ -16,7 +16,7 @@ use mixed_graph::{Graph, VSet};
 use std::alloc::{AllocError, Global};
 
 /// The factor of c, read from the distribution under an intervention on z, in the graph without z.
-fn factor_without(
+pub fn factor_without(
     alloc: Global,
     g: &Graph,
     z: VSet,

@@ -30,6 +30,7 @@ count_table <- function(diagram, words, data, count, missing, command = "evaluat
   if (!is.null(count) && (!is.character(count) || length(count) != 1 || is.na(count))) stop("`count` is the name of one column")
   used <- used_columns(diagram, words, command)
   if (is.null(used)) return(NULL)
+  if (!is.null(count) && enc2utf8(count) %in% used) stop("the column ", count, " can't hold the counts: it is a variable that the answer needs")
   check_header(diagram, words, names(data), count, command)
   columns <- lapply(stats::setNames(used, used), function(name) data[[match(name, enc2utf8(names(data)))]])
   if (!all(vapply(columns, is_plain, NA))) stop("a column that the answer needs is no vector")
@@ -78,6 +79,20 @@ complete_rows <- function(columns, missing) {
 levels_of <- function(column) {
   if (is.factor(column)) return(factor(levels(droplevels(column)), levels(column), ordered = is.ordered(column)))
   if (is.character(column)) unique(column) else sort(unique(column))
+}
+
+# The places of levels in order: those of a factor in its own, text by its characters, all else by size.
+level_order <- function(levels) if (is.character(levels)) order(levels, method = "radix") else seq_along(levels)
+
+# The table with other first levels of some variables: those at these places.
+pin <- function(table, places) {
+  for (name in names(places)) {
+    order <- c(places[[name]], setdiff(seq_along(table$levels[[name]]), places[[name]]))
+    table$levels[[name]] <- table$levels[[name]][order]
+    table$codes[, name] <- match(table$codes[, name], order)
+  }
+  table$rows <- do.call(paste, c(lapply(table$names, function(name) table$codes[, name]), list(sep = ",")))
+  table
 }
 
 is_plain <- function(column) is.atomic(column) && is.null(dim(column))

@@ -6,14 +6,18 @@ plot.causal_diagram <- function(x, path = NULL, hedge = NULL, layout = NULL, leg
   places <- if (is.null(layout)) layered_places(x) else given_places(x, layout)
   roles <- ifelse(is.na(x$vertices$role) | x$vertices$role == "", "none", x$vertices$role)
   graphics::plot.new()
-  graphics::plot.window(widened(places[, 1]), widened(places[, 2]))
-  sizes <- vertex_sizes(x$vertices$name)
+  # all that is drawn is measured in inches
+  room <- graphics::par("pin")
+  graphics::plot.window(c(0, room[1]), c(0, room[2]), xaxs = "i", yaxs = "i")
+  sizes <- half_inches(x$vertices$name)
+  bends <- bends_of(x$edges, on_paper(places, sizes, room), sizes)
+  at <- on_paper(places, sizes, room, x$edges, bends)
   marked <- marked_edges(x, path, hedge)
-  for (k in seq_len(nrow(x$edges))) draw_edge(x$edges[k, ], places, sizes, marked[k])
-  draw_vertices(places, sizes, role_colours[roles], x$vertices$name %in% c(path$vertices, hedge$big))
+  for (k in seq_len(nrow(x$edges))) draw_edge(x$edges[k, ], at, sizes, bends[k], marked[k])
+  draw_vertices(at, sizes, role_colours[roles], x$vertices$name %in% c(path$vertices, hedge$big))
   shown <- setdiff(unique(roles), "none")
   if (isTRUE(legend) && length(shown)) {
-    graphics::legend("topright", legend = shown, fill = role_colours[shown], bty = "n", cex = 0.8)
+    graphics::legend(free_corner(at, room), legend = shown, fill = role_colours[shown], bty = "n", cex = 0.8)
   }
   graphics::title(...)
   invisible(places)
@@ -33,9 +37,52 @@ plot.causal_stopped <- plot.causal_hedge
 
 plot.causal_formula <- function(x, ...) plot(project(x$diagram), ...)
 
-widened <- function(places) {
+# The places in inches, so that all names are within the paper, and all edges, where their bends are known.
+on_paper <- function(places, sizes, room, edges = NULL, bends = NULL) {
+  at <- scaled(places, sizes, room, places, sizes)
+  # how far a curve bends depends on the scale, and the scale on the curves
+  for (round in seq_len(6 * (length(bends) > 0))) {
+    points <- do.call(rbind, lapply(seq_along(bends), function(k) {
+      ends <- match(c(edges$from[k], edges$to[k]), rownames(places))
+      curve_between(at[ends[1], ], at[ends[2], ], bends[k])[seq(20, steps_of_curve - 20, 20), ]
+    }))
+    points <- sweep(sweep(points, 2, attr(at, "steps"), "/"), 2, attr(at, "low"), "+")
+    at <- scaled(places, sizes, room, rbind(places, points), rbind(sizes, points * 0))
+  }
+  at
+}
+
+# The places in inches, on paper of this size on which what is held has room; with the first place of the paper and the inches of a step.
+scaled <- function(places, sizes, room, held, halves) {
+  sides <- lapply(1:2, function(side) {
+    # places in a row stay in the middle
+    flat <- nrow(places) > 0 && diff(range(places[, side])) < 1e-9
+    if (flat) room_for(places[, side], halves, room[side]) else room_for(held[, side], halves[, side], room[side])
+  })
+  low <- vapply(sides, `[`, 0, 1)
+  steps <- room / vapply(sides, diff, 0)
+  structure(sweep(sweep(places, 2, low), 2, steps, "*"), low = low, steps = steps)
+}
+
+# Limits of an axis of this size, within which what stands at the places has room, each with half its extent; these and the size are
+# in inches.
+room_for <- function(places, halves, size, margin = 0.1) {
   if (!length(places)) return(c(-1, 1))
-  range(places) + c(-1, 1) * max(0.4, 0.12 * diff(range(places)))
+  if (diff(range(places)) < 1e-9) return(places[1] + c(-1, 1))
+  halves <- halves + margin
+  needed <- function(scale) max(scale * places + halves) - min(scale * places - halves)
+  # where the names are too wide, they stand as far apart as they can
+  most <- size / diff(range(places))
+  scale <- if (needed(0) < size) stats::uniroot(function(scale) needed(scale) - size, c(0, most), tol = 1e-9)$root else 0.2 * most
+  low <- min(places - halves / scale)
+  c(low, low + size / scale)
+}
+
+# The corner that is farthest from all names.
+free_corner <- function(at, room) {
+  corners <- rbind(topright = room, topleft = c(0, room[2]), bottomright = c(room[1], 0), bottomleft = c(0, 0))
+  apart <- apply(corners, 1, function(corner) min(sqrt((at[, 1] - corner[1])^2 + (at[, 2] - corner[2])^2)))
+  rownames(corners)[which.max(apart)]
 }
 
 given_places <- function(diagram, layout) {
@@ -67,12 +114,11 @@ layered_places <- function(diagram) {
   cbind(x = column, y = height)
 }
 
-# Half the width and half the height of each vertex, in the units of the plot.
-vertex_sizes <- function(names) {
+# Half the width and half the height of each vertex, in inches.
+half_inches <- function(names) {
   if (!length(names)) return(matrix(0, 0, 2))
-  high <- graphics::strheight("Ag")
-  across <- graphics::xinch(graphics::strheight("Ag", units = "inches"))
-  cbind(pmax(graphics::strwidth(names) * 0.65, across) + across * 0.3, high)
+  high <- graphics::strheight("Ag", units = "inches")
+  cbind(pmax(graphics::strwidth(names, units = "inches") * 0.65, high) + high * 0.3, high)
 }
 
 # Which edges lie on the path, or are choices or links of the hedge.
@@ -96,40 +142,51 @@ edges_of_path <- function(path) {
   c(paste(ifelse(back, right, left), ifelse(back, "->", path$marks), ifelse(back, left, right), sep = "\r"), both)
 }
 
-draw_edge <- function(edge, places, sizes, is_marked) {
+draw_edge <- function(edge, places, sizes, bend, is_marked) {
   ends <- match(c(edge$from, edge$to), rownames(places))
-  is_dashed <- edge$edge == "<->"
-  bend <- if (is_dashed) 0.24 else if (is_blocked(ends, places)) -0.18 else 0
   points <- curve_between(places[ends[1], ], places[ends[2], ], bend)
   points <- points[!inside(points, places[ends[1], ], sizes[ends[1], ]) & !inside(points, places[ends[2], ], sizes[ends[2], ]), , drop = FALSE]
   last <- nrow(points)
   if (last < 2) return(invisible())
+  is_dashed <- edge$edge == "<->"
   colour <- if (is_marked) "#c0392b" else "#333333"
   width <- if (is_marked) 2.4 else 1.2
   graphics::lines(points, lty = if (is_dashed) 2 else 1, col = colour, lwd = width)
   draw_head(points[last - 1, ], points[last, ], colour, width)
   if (is_dashed) draw_head(points[2, ], points[1, ], colour, width)
+  invisible(points)
 }
 
 draw_head <- function(from, to, colour, width) {
   graphics::arrows(from[1], from[2], to[1], to[2], length = 0.09, angle = 22, col = colour, lwd = width)
 }
 
-# Whether another vertex stands on the straight line between two.
-is_blocked <- function(ends, places) {
-  from <- places[ends[1], ]
-  along <- places[ends[2], ] - from
-  others <- places[-ends, , drop = FALSE]
-  if (!nrow(others) || !any(along != 0)) return(FALSE)
-  apart <- sweep(others, 2, from)
-  at <- (apart %*% along) / sum(along^2)
-  distance <- abs(apart[, 1] * along[2] - apart[, 2] * along[1]) / sqrt(sum(along^2))
-  any(at > 0 & at < 1 & distance < 0.25)
+# How far an edge may bend, in turn, as a part of its length.
+straight <- c(0, 0.1, -0.1, 0.2, -0.2, 0.35, -0.35, 0.5, -0.5, 0.7, -0.7)
+bent <- c(0.24, -0.24, 0.38, -0.38, 0.55, -0.55, 0.75, -0.75)
+
+# The bend of each edge.
+bends_of <- function(edges, places, sizes) {
+  vapply(seq_len(nrow(edges)), function(k) {
+    bend_round(match(c(edges$from[k], edges$to[k]), rownames(places)), places, sizes, if (edges$edge[k] == "<->") bent else straight)
+  }, 0)
 }
+
+# The first bend with which the edge runs behind no other vertex, or else behind the least.
+bend_round <- function(ends, places, sizes, bends) {
+  others <- seq_len(nrow(places))[-ends]
+  hidden <- vapply(bends, function(bend) {
+    points <- curve_between(places[ends[1], ], places[ends[2], ], bend)
+    sum(vapply(others, function(other) sum(inside(points, places[other, ], 1.15 * sizes[other, ])), 0))
+  }, 0)
+  bends[which.min(hidden)]
+}
+
+steps_of_curve <- 400
 
 curve_between <- function(from, to, bend) {
   middle <- (from + to) / 2 + bend * c(from[2] - to[2], to[1] - from[1])
-  t <- seq(0, 1, length.out = 240)
+  t <- seq(0, 1, length.out = steps_of_curve)
   cbind((1 - t)^2 * from[1] + 2 * t * (1 - t) * middle[1] + t^2 * to[1], (1 - t)^2 * from[2] + 2 * t * (1 - t) * middle[2] + t^2 * to[2])
 }
 

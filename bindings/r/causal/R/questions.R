@@ -14,10 +14,11 @@ format.causal_answer <- function(x, ...) x$text
 
 as.character.causal_answer <- function(x, ...) x$text
 
-# Yes or no, of an answer that is one.
+# Yes or no, of an answer that is one; a formula is a yes, and what stands in its place a no.
 as.logical.causal_answer <- function(x, ...) {
-  if (is.null(x$holds)) stop("this answer isn't yes or no")
-  x$holds
+  holds <- if (is.null(x$holds)) x$identifiable else x$holds
+  if (is.null(holds)) stop("this answer isn't yes or no")
+  holds
 }
 
 summary.causal_answer <- function(object, ...) object
@@ -43,18 +44,11 @@ rule_holds <- function(diagram, rule, y, z, do = NULL, given = NULL) {
   new_answer("causal_rule", read_rule(told$lines), told, diagram)
 }
 
-# The name is that of an interactive call of the package graphics, to which everything but a diagram is handed on. It is called
-# from that package, so that its own methods are found.
-identify <- function(diagram, ...) UseMethod("identify")
+# A method for the interactive call of the package graphics, whose first argument has the name `x` too.
+identify.causal_diagram <- function(x, ...) identify_effect(x, ...)
 
-identify.default <- function(diagram, ...) do.call(graphics::identify, list(diagram, ...), envir = asNamespace("graphics"))
-
-identify.character <- function(diagram, ...) identify.causal_diagram(as_causal_diagram(diagram), ...)
-
-identify.dagitty <- identify.character
-
-identify.causal_diagram <- function(diagram, x = NULL, y = NULL, given = NULL, ...) {
-  if (...length()) stop("an argument that `identify` doesn't know")
+identify_effect <- function(diagram, x = NULL, y = NULL, given = NULL) {
+  diagram <- as_causal_diagram(diagram)
   words <- c(option("x", x), option("y", y), option("given", given))
   told <- ask("identify", diagram, words)
   certificate <- sub("\n$", "", ask("identify", diagram, c(words, "--certificate"))$out)
@@ -72,7 +66,7 @@ new_hedge <- function(told, certificate, diagram) {
 }
 
 toLatex.causal_formula <- function(object, ...) {
-  if (is.null(object$latex)) stop("this formula has no LaTeX form: only those of `identify` have one")
+  if (is.null(object$latex)) stop("this formula has no LaTeX form: only those of `identify_effect` have one")
   structure(object$latex, class = "Latex")
 }
 
@@ -81,24 +75,28 @@ summary.causal_hedge <- function(object, ...) structure(object, class = c("summa
 # The hedge without the two models.
 print.summary.causal_hedge <- function(x, ...) {
   lines <- strsplit(x$text, "\n", fixed = TRUE)[[1]]
-  writeLines(lines[grepl("^(P|hedge|choice|link|event)", lines)])
+  writeLines(lines[grepl("^(P|district|hedge|choice|link|event)", lines)])
   invisible(x)
 }
 
 # Experiments: a list of sets of names; a single set needn't be in a list.
-surrogate <- function(diagram, x = NULL, y = NULL, experiments) {
+# With `models` the two models that exclude every formula, where there are such.
+surrogate <- function(diagram, x = NULL, y = NULL, experiments, models = FALSE) {
   diagram <- as_causal_diagram(diagram)
   experiments <- if (is.list(experiments)) experiments else list(experiments)
   word <- paste(vapply(experiments, list_word, ""), collapse = ";")
-  told <- ask("surrogate", diagram, c(option("x", x), option("y", y), "--experiments", word))
+  told <- ask("surrogate", diagram, c(option("x", x), option("y", y), "--experiments", word, if (models) "--models"))
   if (told$yes) return(new_answer("causal_formula", c(list(identifiable = TRUE), read_formula(told$lines)), told, diagram))
+  if (is_stopped_hedge(told$lines)) {
+    return(new_answer("causal_hedge", c(list(identifiable = FALSE), read_stopped_hedge(told$lines)), told, diagram))
+  }
   new_answer("causal_stopped", c(list(identifiable = FALSE), read_stopped(told$lines)), told, diagram)
 }
 
 check_certificate <- function(diagram, certificate) {
   diagram <- as_causal_diagram(diagram)
   if (inherits(certificate, c("causal_formula", "causal_hedge"))) certificate <- certificate$certificate
-  if (is.null(certificate)) stop("this formula has no certificate: only those of `identify` have one")
+  if (is.null(certificate)) stop("this formula has no certificate: only those of `identify_effect` have one")
   told <- ask("check", diagram, "certificate", list(certificate = as_bytes(certificate)))
   read <- read_judgement(told$lines)
   new_answer("causal_judgement", c(list(holds = told$yes), read), told, diagram)
@@ -112,6 +110,11 @@ adjustment_sets <- function(diagram, x = NULL, y = NULL, most = 100) {
 }
 
 as.list.causal_sets <- function(x, ...) x$sets
+
+# A row for each set and member; an empty set has none.
+as.data.frame.causal_sets <- function(x, ...) {
+  frame_of(list(set = rep(seq_along(x$sets), lengths(x$sets)), name = as.character(unlist(x$sets))))
+}
 
 adjusts <- function(diagram, set, x = NULL, y = NULL, back_door = FALSE) {
   diagram <- as_causal_diagram(diagram)

@@ -18,6 +18,15 @@ parts_of <- function(form, line) {
   found
 }
 
+# The parts of lines, a row for each; NA where a line hasn't the form.
+parts_of_lines <- function(form, lines) {
+  found <- regexpr(paste0("(?s)^", form, "$"), lines, perl = TRUE)
+  start <- attr(found, "capture.start")
+  texts <- substring(lines, start, start + attr(found, "capture.length") - 1)
+  texts[rep(found < 1, ncol(start))] <- NA
+  matrix(texts, length(lines), ncol(start))
+}
+
 all_of <- function(form, text) regmatches(text, gregexpr(form, text, perl = TRUE))[[1]]
 
 unquote <- function(name) sub('(?s)^"(.*)"$', "\\1", name, perl = TRUE)
@@ -33,15 +42,13 @@ read_path <- function(line, head = "open: ") {
 
 read_graph <- function(lines) {
   inner <- lines[-c(1, length(lines))]
-  vertex <- paste0("(", name_form, ")(?: \\[(exposure|outcome|adjusted|latent)\\])?")
-  edge <- paste0("(", name_form, ") (->|<->) (", name_form, ")")
-  is_vertex <- !vapply(lapply(inner, parts, form = vertex), is.null, NA)
-  vertices <- table_of(lapply(inner[is_vertex], parts_of, form = vertex), c("name", "role"))
-  edges <- table_of(lapply(inner[!is_vertex], parts_of, form = edge), c("from", "edge", "to"))
-  vertices$name <- unquote(vertices$name)
-  edges$from <- unquote(edges$from)
-  edges$to <- unquote(edges$to)
-  list(vertices = vertices, edges = edges)
+  vertices <- parts_of_lines(paste0("(", name_form, ")(?: \\[(exposure|outcome|adjusted|latent)\\])?"), inner)
+  is_vertex <- !is.na(vertices[, 1])
+  vertices <- vertices[is_vertex, , drop = FALSE]
+  edges <- parts_of_lines(paste0("(", name_form, ") (->|<->) (", name_form, ")"), inner[!is_vertex])
+  if (anyNA(edges)) stop("the answer of the library isn't understood: ", paste(inner[!is_vertex][is.na(edges[, 1])], collapse = "\n"))
+  list(vertices = frame_of(list(name = unquote(vertices[, 1]), role = vertices[, 2])),
+       edges = frame_of(list(from = unquote(edges[, 1]), edge = edges[, 2], to = unquote(edges[, 3]))))
 }
 
 # Rows of text as a data frame.
@@ -108,6 +115,17 @@ read_stopped <- function(lines) {
   target <- parts_of(paste0("(", target_form, ") has no formula found from these experiments"), lines[1])
   district <- parts_of(paste0("district (", set_form, ")"), lines[2])
   c(list(target = target, district = read_names(district)), read_hedge_sets(lines[3]))
+}
+
+stopped_form <- paste0("(", target_form, " is not identifiable) from these experiments")
+
+is_stopped_hedge <- function(lines) length(lines) > 2 && !is.null(parts(stopped_form, lines[1]))
+
+# The district that none of the experiments frees, and the hedge at which it stops under all that leave it alone.
+read_stopped_hedge <- function(lines) {
+  head <- parts_of(stopped_form, lines[1])
+  district <- parts_of(paste0("district (", set_form, ")"), lines[2])
+  c(read_hedge(c(head, lines[-(1:2)])), list(district = read_names(district)))
 }
 
 read_pairs <- function(lines, word, mark) {

@@ -2,6 +2,7 @@
 \alias{adjustment_sets}
 \alias{adjusts}
 \alias{as.list.causal_sets}
+\alias{as.data.frame.causal_sets}
 \title{What May Be Adjusted For?}
 \description{
   Lists the minimal sets that may be adjusted for, or tells whether one set may be, with the vertex or the path that speaks
@@ -25,7 +26,7 @@ adjusts(diagram, set, x = NULL, y = NULL, back_door = FALSE)
 }
 \value{
   From \code{adjustment_sets} a list of the class \code{causal_sets}: \code{sets}, a list of character vectors (\code{as.list}
-  gives it too), and \code{more}, whether there are more than \code{most}. From \code{adjusts} a list of the class
+  gives it too; \code{as.data.frame} a row for each \code{set} and \code{name}), and \code{more}, whether there are more than \code{most}. From \code{adjusts} a list of the class
   \code{causal_adjustment}: \code{holds}, \code{set}, and the formula (\code{target}, \code{expression}) or one of
   \code{forbidden} and \code{path}. Both have the printed \code{text}.
 }

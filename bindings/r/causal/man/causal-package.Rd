@@ -10,14 +10,16 @@
 \details{
   A diagram (\code{\link{causal_diagram}}) is asked whether sets of vertices are separated (\code{\link{separated}}), whether a rule
   of do-calculus applies (\code{\link{rule_holds}}), whether an effect can be computed from observations
-  (\code{\link{identify}}) or from experiments on other variables (\code{\link{surrogate}}), whether somebody's derivation is
+  (\code{\link{identify_effect}}) or from experiments on other variables (\code{\link{surrogate}}), whether somebody's derivation is
   right (\code{\link{check_certificate}}), what may be adjusted for (\code{\link{adjustment_sets}}, \code{\link{adjusts}}), what it
-  implies of data (\code{\link{implications}}), and whether it implies the same as another (\code{\link{equivalent}}). Over a data frame \code{\link{evaluate}} gives the value of an effect, and \code{\link{contrast}}
-  differences and ratios of effects with intervals.
+  implies of data (\code{\link{implications}}), and whether it implies the same as another (\code{\link{equivalent}}). Over a data frame
+  \code{\link{evaluate}} gives the value of an effect, \code{\link{pin_spread}} its values where a variable may be pinned at any
+  level, \code{\link{contrast}} differences and ratios of effects and \code{\link{effect_means}} means of a numeric outcome, with
+  intervals, and \code{\link{test_implications}} tests of what the diagram implies.
 
   \strong{What is proved, and what isn't.} The status, the answer and the line that the library gives for its words and inputs
   are proved. This package hands it text and reads its printed answers; that, the drawings, and all arithmetic with R's
-  numbers (\code{value} columns, contrasts and intervals) are only tested. An answer holds for the diagram: nothing can say
+  numbers (\code{value} columns, contrasts, means, intervals and tests) are only tested. An answer holds for the diagram: nothing can say
   whether the diagram is right.
 
   Sets are character vectors. Where \code{x}, \code{y} or \code{given} is \code{NULL} the marks of the diagram count:

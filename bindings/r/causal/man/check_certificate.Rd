@@ -5,7 +5,7 @@
 \usage{check_certificate(diagram, certificate)}
 \arguments{
   \item{diagram}{a diagram, or what \code{\link{as_causal_diagram}} takes.}
-  \item{certificate}{the text of a certificate, or an answer of \code{\link{identify}}.}
+  \item{certificate}{the text of a certificate, or an answer of \code{\link{identify_effect}}.}
 }
 \details{
   Proved: where a formula is accepted, it has no intervention and equals the effect in every positive finite model that fits the
@@ -23,7 +23,7 @@
 }
 \examples{
 diagram <- causal_diagram("dag { X -> M -> Y X <-> Y }")
-formula <- identify(diagram, "X", "Y")
+formula <- identify_effect(diagram, "X", "Y")
 check_certificate(diagram, formula)
 check_certificate("dag { X -> M -> Y X <-> Y X -> Y }", formula)
 }

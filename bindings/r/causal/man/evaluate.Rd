@@ -1,33 +1,44 @@
 \name{evaluate}
 \alias{evaluate}
 \alias{print.causal_effects}
+\alias{as.data.frame.causal_effects}
+\alias{as.data.frame.causal_contrast}
+\alias{as.data.frame.causal_means}
+\alias{as.data.frame.causal_spread}
+\alias{as.data.frame.causal_tests}
 \title{How Large Is an Effect?}
 \description{Computes the effect of \code{x} on \code{y} over a data frame, in bounds that hold or in exact fractions.}
 \usage{
 evaluate(diagram, data, x = NULL, y = NULL, count = NULL, exact = FALSE,
-         missing = c("error", "drop"))
+         missing = c("error", "drop"), at = NULL)
+
+\method{as.data.frame}{causal_effects}(x, ...)
 }
 \arguments{
   \item{diagram}{a diagram, or what \code{\link{as_causal_diagram}} takes.}
   \item{data}{a data frame with a column for each vertex that the formula, \code{x} or \code{y} names; other columns don't
     matter. Or a contingency table (class \code{table}).}
-  \item{x, y}{names of the exposures and of the outcomes; \code{NULL} for the vertices with these marks.}
-  \item{count}{the name of the column of counts; \code{NULL} where each row is one record.}
+  \item{x, y}{names of the exposures and of the outcomes; \code{NULL} for the vertices with these marks. In the method \code{x} is
+    an answer.}
+  \item{count}{the name of the column of counts, which is no variable of the formula; \code{NULL} where each row is one record.}
   \item{exact}{whether exact fractions are given, as text.}
   \item{missing}{what is done where a column that the effect needs has a missing value: \code{"error"} is an error of the class
     \code{causal_missing_values} with the \code{rows}; \code{"drop"} leaves the row out, and the answer says how many. Leaving rows
     out is right only where what is missing is missing completely at random. To keep them, make missing a level of its own
     (\code{\link{addNA}}).}
+  \item{...}{not used.}
+  \item{at}{the levels at which the formula's free variables are pinned, as \code{list(Z = 1)}; the first in order by default.}
 }
 \details{
   Each distinct value of a column is a level, so columns with many numbers have to be cut to a few classes first
   (\code{\link{cut}}). Factors have the order of their levels, without those that don't occur; text is taken in order of first
   appearance; numbers, truth values and dates are sorted. The answer has the values of the data, with their type.
 
-  Where the formula has a free variable it is pinned at its first level, which is named. For another level reorder the factor. Over
-  a model's own probabilities every level gives the same; over data they differ by chance.
+  Where the formula has a free variable it is pinned at its first level in order (numbers by size, text by its characters, factors
+  by their levels), or at the one that \code{at} gives; the answer says which. Over a model's own probabilities every level gives
+  the same; over data they differ by chance, and \code{\link{pin_spread}} shows by how much.
 
-  \strong{What is proved}, of each value: it is the value of the formula of \code{\link{identify}} over the counts that the
+  \strong{What is proved}, of each value: it is the value of the formula of \code{\link{identify_effect}} over the counts that the
   library was given (the fraction exactly; the bounds enclose it), and it equals the effect, or its bounds enclose it, in each
   positive model that fits the diagram and that the counts match. \strong{What is only computed} or tested: that the data frame
   became these counts, and \code{value}, the nearest number of R.
@@ -41,7 +52,8 @@ evaluate(diagram, data, x = NULL, y = NULL, count = NULL, exact = FALSE,
   A data frame of the class \code{causal_effects}: a column for each vertex of \code{x} and of \code{y}, then \code{value}, and
   \code{fraction} or the bounds \code{from} and \code{to} of 18 digits as text. A vertex with one of these names keeps it, and
   the computed column gets a number. The attribute \code{pinned} is a list of the pinned levels, and \code{dropped} the number
-  of rows left out.
+  of rows left out. \code{as.data.frame} gives a plain data frame of it, and of the other answers over data: a row for each cell,
+  without what the values rest on.
 }
 \examples{
 diagram <- causal_diagram("dag { T [exposure] R [outcome] S -> T S -> R T -> R }")

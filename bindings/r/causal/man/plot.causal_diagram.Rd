@@ -22,7 +22,7 @@
 \arguments{
   \item{x}{a diagram; or an answer, which is drawn in the diagram that was asked about, without its hidden vertices.}
   \item{path}{an open path, as an answer has it in \code{path}.}
-  \item{hedge}{a hedge, as \code{\link{identify}} answers it.}
+  \item{hedge}{a hedge, as \code{\link{identify_effect}} answers it.}
   \item{layout}{a matrix with two columns, the places of the vertices, and their names as row names.}
   \item{legend}{whether the colours are explained.}
   \item{...}{passed on to \code{\link[graphics]{title}}; from the methods for answers, to the one for diagrams.}
@@ -32,5 +32,5 @@
 front_door <- causal_diagram("dag { X [exposure] Y [outcome] X -> M -> Y X <-> Y }")
 plot(front_door, main = "front door")
 plot(separated(front_door, "X", "Y"))
-plot(identify("dag { X [exposure] Y [outcome] X -> Y X <-> Y }"))
+plot(identify_effect("dag { X [exposure] Y [outcome] X -> Y X <-> Y }"))
 }

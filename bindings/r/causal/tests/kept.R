@@ -14,7 +14,7 @@ texts <- c(
   "dag { \u00c5 [exposure] \"\U1F600 -> x\" [outcome] \u00c5 -> \"\u4e2d }\" -> \"\U1F600 -> x\" }",
   paste0("dag { v1 [exposure] v64 [outcome] ", paste(many, collapse = " -> "), " v1 <-> v64 }")
 )
-certificate <- identify(texts[3])$certificate
+certificate <- identify_effect(texts[3])$certificate
 counts <- "X,M,Y\n0,0,0\n0,1,1\n1,0,1\n1,1,0\n0,0,1\n1,1,1\n"
 questions <- list(
   c("graph", "diagram"), c("graph", "diagram", "--project"), c("separate", "diagram"), c("separate", "diagram", "--x=X", "--y=Y", "--given=M"),

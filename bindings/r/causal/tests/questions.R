@@ -17,6 +17,11 @@ file <- tempfile(fileext = ".dag")
 writeLines("dag { \"\u00c5 b\" -> C }", file, useBytes = TRUE)
 same(read_diagram(file)$vertices$name, c("\u00c5 b", "C"))
 
+# Many new diagrams
+taken <- system.time(for (k in 1:1000) causal_diagram(paste0("dag { A", k, " -> B -> C -> D E -> F -> D A", k, " <-> D G -> H -> D }")))
+stopifnot(taken[["user.self"]] < 3)
+for (wrong in list(3e9, NULL, NA_character_, list("dag {}"), TRUE)) stopifnot(grepl("an input has to be text", try(causal_diagram(wrong), silent = TRUE)))
+
 # Diagrams of other objects
 same(as_causal_diagram("dag{A->B}")$edges$to, "B")
 dagitty <- structure("dag {\nbb=\"0,0,1,1\"\nD [outcome,pos=\"1.4,1.6\"]\nE [exposure,pos=\"-2.2,1.5\"]\nE -> D\n}\n", class = "dagitty")
@@ -26,7 +31,7 @@ adjacency["X", "M"] <- adjacency["M", "Y"] <- 1
 joined <- adjacency * 0
 joined["Y", "X"] <- 1
 made <- as_causal_diagram(adjacency, bidirected = joined, exposure = "X", outcome = "Y")
-same(identify(made)$text, identify("dag{X M Y X->M->Y X<->Y}", x = "X", y = "Y")$text)
+same(identify_effect(made)$text, identify_effect("dag{X M Y X->M->Y X<->Y}", x = "X", y = "Y")$text)
 edges <- data.frame(from = c("a,b", "M"), to = c("M", "c d"), edge = c("->", "<-"))
 made <- as_causal_diagram(edges, vertices = "alone", latent = "M")
 same(made$vertices$name, c("alone", "a,b", "M", "c d"))
@@ -71,31 +76,33 @@ same(answer$path$marks, "<->")
 stopifnot(rule_holds(front_door, 3, y = "Y", z = "X", do = "M")$holds)
 
 # Effects
-formula <- identify(front_door)
+formula <- identify_effect(front_door)
 stopifnot(inherits(formula, "causal_formula"), formula$identifiable)
 same(formula$text, "P(Y|do(X)) = sum{M} P(M|X) * (sum{X} P(X) * P(Y|X,M))")
+stopifnot(as.logical(formula))
 stopifnot(startsWith(formula$certificate, "{\"answer\":\"formula\""))
 same(unclass(toLatex(formula)), "P(Y \\mid \\mathrm{do}(X)) = \\sum_{M} P(M \\mid X) \\left( \\sum_{X} P(X) P(Y \\mid X, M) \\right)")
-napkin <- identify("dag { W -> Z -> X -> Y W <-> X W <-> Y }", x = "X", y = "Y")
+napkin <- identify_effect("dag { W -> Z -> X -> Y W <-> X W <-> Y }", x = "X", y = "Y")
 same(napkin$free, "Z")
 same(napkin$definitions, "sum{W} P(W) * P(X|W,Z) * P(Y|W,Z,X)")
 same(length(napkin$latex), 2L)
-hedge <- identify("dag { X [exposure] Y [outcome] X -> Y X <-> Y }")
+hedge <- identify_effect("dag { X [exposure] Y [outcome] X -> Y X <-> Y }")
 stopifnot(inherits(hedge, "causal_hedge"), !hedge$identifiable, startsWith(hedge$certificate, "{\"answer\":\"hedge\""))
 same(hedge$difference, 0.125)
+same(as.logical(hedge), FALSE)
+same(as.logical(surrogate("dag { X -> Y X <-> Y X -> Z }", "X", "Y", experiments = "Z")), FALSE)
+stopifnot(inherits(try(as.logical(adjustment_sets("dag { X -> Y }", "X", "Y")), silent = TRUE), "try-error"))
 print(summary(hedge))
-same(identify(front_door, x = character(), y = "M")$text, "P(M) = P(M)")
+same(identify_effect(front_door, x = character(), y = "M")$text, "P(M) = P(M)")
 
-same(identify(dagitty)$text, "P(D|do(E)) = P(D|E)")
-stopifnot(inherits(try(identify(front_door, sets = "M"), silent = TRUE), "try-error"))
+same(identify_effect(dagitty)$text, "P(D|do(E)) = P(D|E)")
+stopifnot(inherits(try(identify_effect(front_door, sets = "M"), silent = TRUE), "try-error"))
 
-# The call of the package graphics still works
-pdf(NULL)
-plot(1:3)
-same(length(identify(1:3)), 0L)
-plot(tree <- hclust(dist(c(1, 2, 9))))
-same(length(identify(tree, MAXCLUSTER = 3)), 0L)
-invisible(dev.off())
+# The call of the package graphics is no other one, and takes a diagram too
+same(identify, graphics::identify)
+stopifnot(!any(c("identify", "plot") %in% ls("package:causal")))
+same(identify(front_door)$text, formula$text)
+same(identify(front_door, "X", "M")$text, "P(M|do(X)) = P(M|X)")
 
 # Certificates
 stopifnot(check_certificate(front_door, formula)$accepted, check_certificate(front_door, formula$certificate)$holds)

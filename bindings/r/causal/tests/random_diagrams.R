@@ -29,7 +29,7 @@ check_sets <- function(diagram, names, x, y, given) {
 }
 
 check_effect <- function(diagram, names, x, y) {
-  answer <- identify(diagram, x, y)
+  answer <- identify_effect(diagram, x, y)
   judged <- check_certificate(diagram, answer)
   stopifnot(judged$accepted)
   if (answer$identifiable) {

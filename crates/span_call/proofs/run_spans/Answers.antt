@@ -34,7 +34,10 @@ returns-clause-called c = λ small. record {
     fails_lacked = λ name there. unless (lacks_in c.run-status.new.shelf name) c.run-status.new.shelf.lacked (ap (λ f. f name) c.run-status.ensures.lack ∙ there);
   };
   ended = c.run-status.ensures.ended;
+  complete = c.run-status.ensures.complete;
   headline = c.run-status.ensures.headline;
+  checked = c.run-status.ensures.checked;
+  drawn = c.run-status.ensures.drawn;
   shows_out = record {
     text = c.bytes.result.now;
     empty = c.new-text.ensures.written;

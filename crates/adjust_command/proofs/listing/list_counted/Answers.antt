@@ -1,12 +1,30 @@
-use Rattle.std.proofs.Common.{arith}
+use Rattle.std.proofs.Common.{◌≡◌, length, ap, ◌∙◌, arith}
 use Rattle.mixed_graph.specs.Bits.{has}
 use Rattle.mixed_graph.specs.Shown.{graph_of}
+use Rattle.adjustment.proofs.FaultWalks.{adjusts_exactly}
+use Rattle.adjust_command.specs.Lines.{listing_text}
 use Rattle.adjust_command.proofs.Minimal.{none_admissible}
+use Rattle.minimal_sets.proofs.Exact.{minimal_is_exact}
 use Rattle.adjust_command.proofs.listing.list_counted.Goals as goal
 
 pub returns-then-is_empty : goal.returns-then-is_empty
-returns-then-is_empty g c = record {
-  none = none_admissible (graph_of c.args.seen.now.graph) (has c.args.sets.x.bits) (has c.args.sets.y.bits) c.args.most c.in_ok-listing.listing.sets.items c.in_ok-listing.listing.more
-      c.requires.most c.in_ok-listing.ensures.listed (grind (arith, c.if-is_empty.true, c.if-is_empty.ensures));
-  prints = c.in_ok-from_slice.ensures.items;
-}
+returns-then-is_empty g c =
+    let q = graph_of c.args.seen.now.graph in let x = c.args.sets.x.bits in let y = c.args.sets.y.bits in
+    let none = none_admissible q (has x) (has y) c.args.most c.in_ok-listing.listing.sets.items c.in_ok-listing.listing.more
+    c.requires.most c.in_ok-listing.ensures.listed (grind (arith, c.if-is_empty.true, c.if-is_empty.ensures)) in record {
+      none = none;
+      no_formula = λ z sets e. none (has z) sets ((adjusts_exactly q c.args.seen.now.graph.valid x y z sets).1 e);
+      prints = c.in_ok-from_slice.ensures.items;
+    }
+
+pub returns : goal.returns
+returns g c =
+    let q = graph_of c.args.seen.now.graph in let sets = c.requires.sets in let found = c.in_ok-listing.listing in record {
+      sets = found.sets.items;
+      more = found.more;
+      listed = c.in_ok-listing.ensures.listed;
+      some = λ none. let empty : length found.sets.items ≡ 0 = ap length none in absurd (grind (arith, c.if-is_empty.false, c.if-is_empty.ensures, empty));
+      exact = λ z. minimal_is_exact q c.args.seen.now.graph.valid c.args.sets.x.bits c.args.sets.y.bits z sets.x_within sets.y_within sets.x_y;
+      effect = c.in_ok-listing.ensures.effect;
+      prints = c.in_ok-listing_text.ensures ∙ ap (λ s. listing_text c.args.seen.now.names s found.more) c.deref.ensures.value;
+    }

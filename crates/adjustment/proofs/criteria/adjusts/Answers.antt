@@ -6,7 +6,11 @@ use Rattle.m_separation.specs.Walks.{IsSeparated}
 use Rattle.proper_paths.proofs.Causal.{below_from}
 use Rattle.proper_paths.proofs.FirstEdges.{cut_arrows, firsts, back_door_graph_is}
 use Rattle.adjustment.specs.Criteria.{IsForbidden}
-use Rattle.adjustment.specs.Faults.{IsClearOf}
+use Rattle.m_separation.specs.declared.paths.OpenPath.{OpenPath}
+use Rattle.adjustment.specs.declared.criteria.AdjFault.TheVariants.{Forbidden, Unblocked}
+use Rattle.adjustment.specs.Faults.{IsClearOf, IsLowestIn, IsAdjustmentFault}
+use Rattle.adjustment.specs.Parts.{IsLastPart}
+use Rattle.adjustment.proofs.FaultWalks.{faults_fail}
 use Rattle.adjustment.proofs.Effects.{separating_adjusts}
 use Rattle.adjustment.proofs.PathParts.{path_begins, part_unblocked}
 use Rattle.adjustment.proofs.Separating.{forbidden_is, admissible_from}
@@ -21,12 +25,17 @@ forbidden : (c : After-descendants-forbidden) → (v : ℕ) → IsTrue (has c.de
 forbidden c = forbidden_is (graph_of c.args.g.now) c.args.g.now.valid (has c.args.x.bits) (has c.args.y.bits) c.requires.x_within (has c.proper_causal.result.bits) (has c.descendants-forbidden.result.bits)
     c.proper_causal.ensures c.descendants-forbidden.ensures
 
+lowest : (c : After-descendants-forbidden) (v : ℕ) → IsLowestIn (λ u. IsTrue (has c.descendants-forbidden.result.bits u)) (has c.args.z.bits) v
+    → IsAdjustmentFault (graph_of c.args.g.now) (has c.args.x.bits) (has c.args.y.bits) (has c.args.z.bits) (Forbidden v)
+lowest c v l = record { member = l.member; holds = (forbidden c v).0 l.holds; lowest = λ u zu k. l.lowest u zu ((forbidden c u).1 k) }
+
 pub returns-in-Some-clause-fault : goal.returns-in-Some-clause-fault
-returns-in-Some-clause-fault c = let l = c.in-Some.ensures.found in let e = forbidden (goal.at.returns-in-Some-clause-fault c).After-descendants-forbidden in record {
-  member = l.member;
-  holds = (e c.in-Some.v).0 l.holds;
-  lowest = λ u zu k. l.lowest u zu ((e u).1 k);
-}
+returns-in-Some-clause-fault c = lowest (goal.at.returns-in-Some-clause-fault c).After-descendants-forbidden c.in-Some.v c.in-Some.ensures.found
+
+pub returns-in-Some-clause-fails : goal.returns-in-Some-clause-fails
+returns-in-Some-clause-fails c =
+    faults_fail (graph_of c.args.g.now) c.args.g.now.valid c.args.x.bits c.args.y.bits c.args.z.bits c.requires (Forbidden c.in-Some.v)
+    (lowest (goal.at.returns-in-Some-clause-fails c).After-descendants-forbidden c.in-Some.v c.in-Some.ensures.found)
 
 -- no member of z is forbidden
 clear : (c : After-open_path) → IsClearOf (IsForbidden (graph_of c.args.g.now) (has c.args.x.bits) (has c.args.y.bits)) (has c.args.z.bits)
@@ -56,11 +65,21 @@ pub returns-in-None-clause-effect : goal.returns-in-None-clause-effect
 returns-in-None-clause-effect c = let a = (goal.at.returns-in-None-clause-effect c).After-open_path in
     separating_adjusts (graph_of c.args.g.now) c.args.g.now.valid c.args.x.bits c.args.y.bits c.args.z.bits c.requires (has c.proper_causal.result.bits) c.proper_causal.ensures (clear a) (separates a c.in-None.ensures.none)
 
-pub returns-in-Some-open_path-clause-fault : goal.returns-in-Some-open_path-clause-fault
-returns-in-Some-open_path-clause-fault c = let a = (goal.at.returns-in-Some-open_path-clause-fault c).After-open_path in (
-  clear a,
-  part_unblocked (graph_of c.args.g.now) c.args.g.now.valid (has c.args.x.bits) (has c.args.y.bits) c.requires.x_within c.requires.x_y (has c.proper_causal.result.bits) c.proper_causal.ensures (has c.args.z.bits) c.requires.x_w
-      c.in-Some-open_path.path c.last_part.result
-      (subst (λ h. IsOpenPath h (has c.args.x.bits) (has c.args.y.bits) (has c.args.z.bits) c.in-Some-open_path.path.vertices c.in-Some-open_path.path.marks c.in-Some-open_path.path.count) (graph_is a) c.in-Some-open_path.ensures.found)
-      c.last_part.ensures,
+unblocked : (c : After-open_path) (path part : OpenPath)
+    → IsOpenPath (graph_of c.back_door_graph.result) (has c.args.x.bits) (has c.args.y.bits) (has c.args.z.bits) path.vertices path.marks path.count → IsLastPart (has c.args.x.bits) path part
+    → IsAdjustmentFault (graph_of c.args.g.now) (has c.args.x.bits) (has c.args.y.bits) (has c.args.z.bits) (Unblocked part)
+unblocked c path part found last = (
+  clear c,
+  part_unblocked (graph_of c.args.g.now) c.args.g.now.valid (has c.args.x.bits) (has c.args.y.bits) c.requires.x_within c.requires.x_y
+      (has c.proper_causal.result.bits) c.proper_causal.ensures (has c.args.z.bits) c.requires.x_w path part
+      (subst (λ h. IsOpenPath h (has c.args.x.bits) (has c.args.y.bits) (has c.args.z.bits) path.vertices path.marks path.count) (graph_is c) found) last,
 )
+
+pub returns-in-Some-open_path-clause-fault : goal.returns-in-Some-open_path-clause-fault
+returns-in-Some-open_path-clause-fault c =
+    unblocked (goal.at.returns-in-Some-open_path-clause-fault c).After-open_path c.in-Some-open_path.path c.last_part.result c.in-Some-open_path.ensures.found c.last_part.ensures
+
+pub returns-in-Some-open_path-clause-fails : goal.returns-in-Some-open_path-clause-fails
+returns-in-Some-open_path-clause-fails c =
+    faults_fail (graph_of c.args.g.now) c.args.g.now.valid c.args.x.bits c.args.y.bits c.args.z.bits c.requires (Unblocked c.last_part.result)
+    (unblocked (goal.at.returns-in-Some-open_path-clause-fails c).After-open_path c.in-Some-open_path.path c.last_part.result c.in-Some-open_path.ensures.found c.last_part.ensures)

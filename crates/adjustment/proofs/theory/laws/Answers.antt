@@ -13,6 +13,7 @@ use Rattle.proper_paths.proofs.Causal.{below_from}
 use Rattle.proper_paths.proofs.FirstEdges.{back_door_graph_is}
 use Rattle.adjustment.proofs.Separating.{separated_from, admissible_from, back_door_separated, back_door_from}
 use Rattle.adjustment.proofs.Effects.{admissible_adjusts, unconfounded_adjusts}
+use Rattle.adjustment.proofs.FaultWalks.{faults_fail, adjusts_exactly}
 use Rattle.adjustment.proofs.theory.laws.Goals as goal
 
 test_is : (g : MixedGraph) → IsMixedGraph g → (x y z : ℕ → Bool) → AreThreeSets g.vertices x y z → (t : Test (IsBetween g x y) g.vertices) → (v : ℕ) → IsTrue (t.test v) ↔ IsBetween g x y v
@@ -44,3 +45,9 @@ returns-clause-back_door_adjusts c = λ g ok x y z sets k.
     unconfounded_adjusts g ok x y z sets k.clear
     (subst (λ t. IsSeparated (cut_out g t) t (has y) (has z)) (sym (fun_ext (has-pow x)))
     (back_door_separated g ok x (has z) (has y) (sets.x_y x (has-pow x x ∙ eq-eqb x x refl)) k))
+
+pub returns-clause-fails : goal.returns-clause-fails
+returns-clause-fails c = faults_fail
+
+pub returns-clause-exact : goal.returns-clause-exact
+returns-clause-exact c = adjusts_exactly

@@ -1,9 +1,7 @@
-use Rattle.std.proofs.Common.{refl}
 use Rattle.command_run.proofs.OneRequest.{words_ask_once}
 use Rattle.causal_cli.specs.Commands.{commands}
 use Rattle.causal_cli.proofs.Lawful.{lawful}
-use Rattle.causal_cli.proofs.Part.{answers_of_part}
 use Rattle.causal_cli.proofs.theory.laws.Goals as goal
 
 pub returns : goal.returns
-returns c = record { once = words_ask_once commands lawful; names = refl; part = answers_of_part }
+returns c = record { once = words_ask_once commands lawful }

@@ -3,6 +3,7 @@ use Rattle.causal_cli.proofs.Lawful.{lawful}
 use Rattle.causal_cli.proofs.Headlines.{headline}
 use Rattle.causal_cli.proofs.CheckedRuns.{checked}
 use Rattle.causal_cli.proofs.DrawnRuns.{right_as_drawn_of}
+use Rattle.causal_cli.proofs.RefutedRuns.{refuted_as_drawn_of}
 use Rattle.causal_cli.proofs.top.run.Goals as goal
 
 pub run-requires : goal.run-requires
@@ -16,3 +17,6 @@ returns-clause-checked g c = let e = c.run.ensures.ended in checked _ _ e.outcom
 
 pub returns-clause-drawn : goal.returns-clause-drawn
 returns-clause-drawn g c = let e = c.run.ensures.ended in right_as_drawn_of _ _ e.outcome e.text e.status e.ends (returns-clause-checked g c)
+
+pub returns-clause-refuted : goal.returns-clause-refuted
+returns-clause-refuted g c = let e = c.run.ensures.ended in refuted_as_drawn_of _ _ e.outcome e.text e.status e.ends (returns-clause-checked g c)

@@ -14,7 +14,8 @@ target c = target_with (graph_of c.args.g.now) c.args.t.x.bits c.args.t.y.bits c
 pub returns-then-is_empty-2-clause-exact : goal.returns-then-is_empty-2-clause-exact
 returns-then-is_empty-2-clause-exact c = (
   λ e. absurd (clash false e refl),
-  λ s. absurd (no_joint_hedge (graph_of c.args.g.now) (target_view c.args.t) (eqb-true c.args.t.x.bits 0 (sym c.is_empty-2.ensures.mask ∙ c.if-is_empty-2.true)) s),
+  λ s. absurd (no_joint_hedge (graph_of c.args.g.now) (target_view c.args.t)
+      (eqb-true c.args.t.x.bits 0 (sym c.is_empty-2.ensures.mask ∙ c.if-is_empty-2.true)) s),
 )
 
 pub returns-then-is_empty-clause-target : goal.returns-then-is_empty-clause-target

@@ -1,7 +1,8 @@
-use Rattle.std.proofs.Common.{refl, sym, subst, []}
+use Rattle.std.proofs.Common.{true, refl, sym, subst, inl, []}
 use Rattle.mixed_graph.specs.Shown.{graph_of}
 use Rattle.hedge.specs.Hedges.{IsHedge}
 use Rattle.counter_models.specs.Pairs.{IsPairOf}
+use Rattle.identification.proofs.Bools.{clash}
 use Rattle.identification.specs.Procedure.{IsUnidentified}
 use Rattle.id_recursion.specs.Answers.{effect_on, IfHedge, IsRight}
 use Rattle.id_recursion.specs.Hedged.{IsHedgeOf}
@@ -22,6 +23,8 @@ returns-in-Hedge-clause-answer c =
         moved = [];
         turned = turned_none g (effect_on x y) refl;
         joint = sym (join-zero y);
+        settled_is = (λ e. inl refl, λ i. refl);
+        unsettled = λ e. absurd (clash true refl e);
         stop = subst (λ a. IfHedge a (λ h pair. IsUnidentified g x y h.small.bits h.big.bits)) c.in-Hedge.is c.in_ok-formula.ensures.stop;
         built = subst (λ a. IfHedge a (λ h pair. IsHedgeOf g h)) c.in-Hedge.is c.in_ok-formula.ensures.data;
         hedge = subst (λ a. IfHedge a (λ h pair. IsHedge g x y h)) c.in-Hedge.is c.in_ok-formula.ensures.hedge;

@@ -1,3 +1,4 @@
+use Rattle.conditional_theory.proofs.Settling.{joint_settles_target}
 use Rattle.conditional_theory.proofs.Answered.{conditional_is_derived, conditional_is_right, conditional_is_shallow, derived_is_conditional, divided_is_accepted, joint_excludes_formula, joint_has_hedge, one_conditional, one_conditional_derivation, one_turned, turned_is_same, turned_is_target}
 use Rattle.conditional_theory.proofs.theory.laws.Goals as goal
 
@@ -12,6 +13,7 @@ returns c = record {
   target = turned_is_target;
   hedge = joint_has_hedge;
   excludes = joint_excludes_formula;
+  settles = joint_settles_target;
   one_turned = one_turned;
   one_formula = one_conditional;
   one_derivation = one_conditional_derivation;

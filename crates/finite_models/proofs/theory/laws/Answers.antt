@@ -1,5 +1,6 @@
 use Rattle.finite_models.specs.Models.{intervene, solution}
 use Rattle.finite_models.proofs.theory.laws.Goals as goal
+use Rattle.finite_models.proofs.Existing.{each_graph_has_model}
 use Rattle.finite_models.proofs.DataFits.{data_fits}
 use Rattle.finite_models.proofs.DataSound.{data_sound}
 use Rattle.finite_models.proofs.Following.{follows_of, follows_intervene}
@@ -37,3 +38,6 @@ returns-clause-fits c = data_fits
 
 pub returns-clause-sound : goal.returns-clause-sound
 returns-clause-sound c = data_sound
+
+pub returns-clause-some : goal.returns-clause-some
+returns-clause-some c = each_graph_has_model

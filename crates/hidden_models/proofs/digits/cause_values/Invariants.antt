@@ -2,7 +2,7 @@ use Rattle.std.proofs.Common.{◌≡◌, ◌-◌, get_or, length}
 use Rattle.mixed_graph.specs.Bits.{has}
 use Rattle.finite_models.specs.Worlds.{values_of}
 use Rattle.hidden_models.specs.Reaching.{mask_at}
-use Rattle.hidden_models.proofs.DigitLaws.{AreWritten}
+use Rattle.hidden_models.proofs.Written.{AreWritten}
 use Rattle.hidden_models.proofs.digits.cause_values.Given as goal
 
 abbrev pub invariant-loop-i : goal.invariant-loop-i

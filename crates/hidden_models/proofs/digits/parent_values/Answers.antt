@@ -1,6 +1,6 @@
 use Rattle.std.proofs.Common.{◌<◌, ◌-◌, ◌∙◌, ℕ, refl, length, arith}
 use Rattle.std.proofs.lemmas.List.{get_or_read, length-set}
-use Rattle.hidden_models.proofs.DigitLaws.{written-none, written-more, all_zero}
+use Rattle.hidden_models.proofs.Written.{written-none, written-more, all_zero}
 use Rattle.hidden_models.proofs.digits.parent_values.Goals as goal
 
 pub loop-i-init : goal.loop-i-init

@@ -1,6 +1,6 @@
 use Rattle.std.proofs.Common.{◌≡◌, ◌-◌, get_or, length}
 use Rattle.mixed_graph.specs.Shown.{graph_of}
-use Rattle.hidden_models.proofs.DigitLaws.{AreWritten}
+use Rattle.hidden_models.proofs.Written.{AreWritten}
 use Rattle.hidden_models.proofs.digits.parent_values.Given as goal
 
 abbrev pub invariant-loop-i : goal.invariant-loop-i

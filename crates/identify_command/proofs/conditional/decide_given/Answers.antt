@@ -52,7 +52,7 @@ joint_text-requires c =
     let g = graph_of c.args.seen.now.graph in
     let t = target_view c.args.target in
     let sets = c.requires.sets in
-    let effect = subst (λ a. IfJoint a (λ x y h pair. IsJointEffect g t x.bits y.bits)) c.in-Joint.is c.in_ok-formula.ensures.joint in
+    let effect = subst (λ a. IfJoint a (λ x y b h pair. IsJointEffect g t x.bits y.bits)) c.in-Joint.is c.in_ok-formula.ensures.joint in
     let shown = subst (λ a. IfJoint a (IsJointShown g t)) c.in-Joint.is c.in_ok-formula.ensures.shown in
     let on_names : (P : ℕ → Type 0) → P c.args.seen.now.graph.n → P (length c.args.seen.now.names) = λ P. subst P (sym c.requires.named) in
     record {
@@ -67,7 +67,7 @@ joint_text-requires c =
       hedge = on_names (λ n. IsHedgeBelow n c.in-Joint.hedge) (hedge_below g c.in-Joint.x.bits c.in-Joint.y.bits c.in-Joint.hedge c.args.seen.now.graph.small shown.hedge);
       models = on_names (λ n. ArePairBelow n c.in-Joint.pair)
           (pair_below g c.args.seen.now.graph.valid c.in-Joint.x.bits c.in-Joint.y.bits c.in-Joint.hedge c.in-Joint.pair effect.target.sets.y_within shown.models
-          (subst (λ a. IfJoint a (λ x y h pair. AreCounterModels g x.bits y.bits pair)) c.in-Joint.is c.in_ok-formula.ensures.counter));
+          (subst (λ a. IfJoint a (λ x y b h pair. AreCounterModels g x.bits y.bits pair)) c.in-Joint.is c.in_ok-formula.ensures.counter));
       «data» = on_names (λ n. IsHedgeWithin n (hedge_view c.in-Joint.hedge))
           (hedge_within g c.in-Joint.x.bits c.in-Joint.y.bits c.in-Joint.hedge c.sized.ensures.found c.sized.ensures.partner shown.hedge);
     }
@@ -76,15 +76,19 @@ pub returns-in_ok-joint_text-in-Joint : goal.returns-in_ok-joint_text-in-Joint
 returns-in_ok-joint_text-in-Joint c =
     let g = graph_of c.args.seen.now.graph in
     let t = target_view c.args.target in
-    let effect = subst (λ a. IfJoint a (λ x y h pair. IsJointEffect g t x.bits y.bits)) c.in-Joint.is c.in_ok-formula.ensures.joint in
     let shown = subst (λ a. IfJoint a (IsJointShown g t)) c.in-Joint.is c.in_ok-formula.ensures.shown in
     let right = subst (IsRight g t) c.in-Joint.is c.in_ok-formula.ensures.right in
     record {
       x = c.in-Joint.x.bits;
       y = c.in-Joint.y.bits;
+      settled = c.in-Joint.settled;
       hedge = c.in-Joint.hedge;
       pair = c.in-Joint.pair;
-      joint = effect;
+      joint = right.effect;
+      not_fixed = right.not_fixed;
+      no_formula = right.no_formula;
+      settled_is = right.settled_is;
+      differs = right.target;
       found = record { right = right.hedge; evidence = shown.hedge; stop = shown.stop; built = shown.built; models = shown.models };
       prints = c.in_ok-joint_text-in-Joint.ensures.text;
       reads_back = c.in_ok-joint_text-in-Joint.ensures.reads_back;

@@ -6,45 +6,55 @@ use Rattle.prob_expr.specs.Listed.{masks_of}
 use Rattle.prob_expr.specs.View.{formula_view}
 use Rattle.do_derivation.specs.View.{derivation_view}
 use Rattle.identify_text.specs.Answers.{formula_answer}
-use Rattle.surrogates.specs.Answers.{IsRightWith, IfFormula, IfStopped, IsStopShown, is_stopped}
+use Rattle.surrogates.specs.Answers.{IsRightWith, IfFormula, IfStopped, IfCommon, IsStopShown, IsBlockShown, IsBlockedTogether, HasCommon, is_stopped}
 use Rattle.surrogate_theory.specs.Surrogates.{IsSurrogate, IsSurrogateBySteps, SomeBlocked}
 use Rattle.surrogate_command.specs.Answers.{ShowsFormula, ShowsStop}
-use Rattle.surrogate_command.proofs.Stops.{hedge_named, district_named}
+use Rattle.surrogate_command.proofs.Stops.{hedge_named, district_named, common_named}
 use Rattle.surrogate_command.proofs.reply.decide.Goals as goal
 
 pub identify_with-requires-clause-few : goal.identify_with-requires-clause-few
 identify_with-requires-clause-few c = subst (λ l. length l ≤ 8) (sym c.as_slice-experiments.ensures.value) c.requires.few
 
-pub stop_answer-requires-clause-district : goal.stop_answer-requires-clause-district
-stop_answer-requires-clause-district c =
-    let g = graph_of c.args.seen.now.graph in let zs = masks_of c.as_slice-experiments.result.now in let x = c.args.sets.now.x.bits in let y = c.args.sets.now.y.bits in
-    district_named g zs x y c.in-Stopped.district c.in-Stopped.hedge c.in-Stopped.pair (length c.args.seen.now.names) c.requires.named c.args.seen.now.graph.small
+pub stopped_text-requires-clause-district : goal.stopped_text-requires-clause-district
+stopped_text-requires-clause-district c =
+    let g = graph_of c.args.seen.now.graph in
+    let zs = masks_of c.as_slice-experiments.result.now in
+    let x = c.args.sets.now.x.bits in
+    let y = c.args.sets.now.y.bits in
+    district_named g zs x y c.in-Stopped.district c.in-Stopped.hedge c.in-Stopped.pair
+    (length c.args.seen.now.names) c.requires.named c.args.seen.now.graph.small
     (subst (λ a. IfStopped a (IsStopShown g zs x y)) c.in-Stopped.is c.in_ok-formula.ensures.stopped)
 
-pub stop_answer-requires-clause-big : goal.stop_answer-requires-clause-big
-stop_answer-requires-clause-big c =
-    let g = graph_of c.args.seen.now.graph in let zs = masks_of c.as_slice-experiments.result.now in let x = c.args.sets.now.x.bits in let y = c.args.sets.now.y.bits in
-    (hedge_named g zs x y c.in-Stopped.district c.in-Stopped.hedge c.in-Stopped.pair (length c.args.seen.now.names) c.requires.named c.args.seen.now.graph.small
-    (subst (λ a. IfStopped a (IsStopShown g zs x y)) c.in-Stopped.is c.in_ok-formula.ensures.stopped)).big
+pub stopped_text-requires-clause-hedge : goal.stopped_text-requires-clause-hedge
+stopped_text-requires-clause-hedge c =
+    let g = graph_of c.args.seen.now.graph in
+    let zs = masks_of c.as_slice-experiments.result.now in
+    let x = c.args.sets.now.x.bits in
+    let y = c.args.sets.now.y.bits in
+    hedge_named g zs x y c.in-Stopped.district c.in-Stopped.hedge c.in-Stopped.pair
+    (length c.args.seen.now.names) c.requires.named c.args.seen.now.graph.small
+    (subst (λ a. IfStopped a (IsStopShown g zs x y)) c.in-Stopped.is c.in_ok-formula.ensures.stopped)
 
-pub stop_answer-requires-clause-small : goal.stop_answer-requires-clause-small
-stop_answer-requires-clause-small c =
-    let g = graph_of c.args.seen.now.graph in let zs = masks_of c.as_slice-experiments.result.now in let x = c.args.sets.now.x.bits in let y = c.args.sets.now.y.bits in
-    (hedge_named g zs x y c.in-Stopped.district c.in-Stopped.hedge c.in-Stopped.pair (length c.args.seen.now.names) c.requires.named c.args.seen.now.graph.small
-    (subst (λ a. IfStopped a (IsStopShown g zs x y)) c.in-Stopped.is c.in_ok-formula.ensures.stopped)).small
-
-pub stop_answer-requires-clause-roots : goal.stop_answer-requires-clause-roots
-stop_answer-requires-clause-roots c =
-    let g = graph_of c.args.seen.now.graph in let zs = masks_of c.as_slice-experiments.result.now in let x = c.args.sets.now.x.bits in let y = c.args.sets.now.y.bits in
-    (hedge_named g zs x y c.in-Stopped.district c.in-Stopped.hedge c.in-Stopped.pair (length c.args.seen.now.names) c.requires.named c.args.seen.now.graph.small
-    (subst (λ a. IfStopped a (IsStopShown g zs x y)) c.in-Stopped.is c.in_ok-formula.ensures.stopped)).roots
+pub stopped_text-requires-clause-common : goal.stopped_text-requires-clause-common
+stopped_text-requires-clause-common c =
+    let g = graph_of c.args.seen.now.graph in
+    let zs = masks_of c.as_slice-experiments.result.now in
+    let x = c.args.sets.now.x.bits in
+    let y = c.args.sets.now.y.bits in
+    common_named g c.args.seen.now.graph.valid zs x y c.in-Stopped.district c.in-Stopped.common
+    (length c.args.seen.now.names) c.requires.named c.args.seen.now.graph.small
+    c.requires.y (subst (IsRightWith g zs x y) c.in-Stopped.is c.in_ok-formula.ensures.right).1
+    (subst (λ a. IfCommon a (IsBlockShown g zs x y)) c.in-Stopped.is c.in_ok-formula.ensures.blocked)
 
 pub formula_answer-requires-clause-given : goal.formula_answer-requires-clause-given
 formula_answer-requires-clause-given c = λ v h. absurd (let bits : c.effect_of.result.given.bits ≡ 0 = c.effect_of.ensures.given in let e : has c.effect_of.result.given.bits v ≡ false = ap (λ m. has m v) bits ∙ has-zero v in cc)
 
 pub returns-in-Formula : goal.returns-in-Formula
 returns-in-Formula c =
-    let g = graph_of c.args.seen.now.graph in let zs = masks_of c.as_slice-experiments.result.now in let x = c.args.sets.now.x.bits in let y = c.args.sets.now.y.bits in
+    let g = graph_of c.args.seen.now.graph in
+    let zs = masks_of c.as_slice-experiments.result.now in
+    let x = c.args.sets.now.x.bits in
+    let y = c.args.sets.now.y.bits in
     subst (λ l. ShowsFormula g c.args.seen.now.names (masks_of l) x y c.in_ok-formula_answer-in-Formula.field-0.items) c.as_slice-experiments.ensures.value (record {
       formula = formula_view c.in-Formula.formula;
       derivation = derivation_view c.in-Formula.field-1;
@@ -58,12 +68,21 @@ returns-in-Formula c =
 
 pub returns : goal.returns
 returns c =
-    let g = graph_of c.args.seen.now.graph in let zs = masks_of c.as_slice-experiments.result.now in let x = c.args.sets.now.x.bits in let y = c.args.sets.now.y.bits in
-    subst (λ l. ShowsStop g c.args.seen.now.names (masks_of l) x y c.in_ok-stop_answer-in-Stopped.field-0.items) c.as_slice-experiments.ensures.value (record {
+    let g = graph_of c.args.seen.now.graph in
+    let zs = masks_of c.as_slice-experiments.result.now in
+    let x = c.args.sets.now.x.bits in
+    let y = c.args.sets.now.y.bits in
+    let right = subst (IsRightWith g zs x y) c.in-Stopped.is c.in_ok-formula.ensures.right in
+    subst (λ l. ShowsStop g c.args.seen.now.names (masks_of l) x y c.args.models c.in_ok-stopped_text-in-Stopped.field-0.items)
+    c.as_slice-experiments.ensures.value (record {
       district = c.in-Stopped.district;
       hedge = c.in-Stopped.hedge;
       pair = c.in-Stopped.pair;
-      right = subst (IsRightWith g zs x y) c.in-Stopped.is c.in_ok-formula.ensures.right;
+      common = c.in-Stopped.common;
+      right = right.0;
       stop = subst (λ a. IfStopped a (IsStopShown g zs x y)) c.in-Stopped.is c.in_ok-formula.ensures.stopped;
-      prints = c.in_ok-stop_answer-in-Stopped.ensures;
+      blocked = right.1;
+      shown = subst (λ a. IfCommon a (IsBlockShown g zs x y)) c.in-Stopped.is c.in_ok-formula.ensures.blocked;
+      exact = subst (λ a. HasCommon a ↔ IsBlockedTogether g zs x y) c.in-Stopped.is c.in_ok-formula.ensures.common;
+      prints = c.in_ok-stopped_text-in-Stopped.ensures;
     })

@@ -1,4 +1,6 @@
 use Rattle.surrogate_theory.proofs.Answered.{derived_is_surrogate, surrogate_is_accepted, surrogate_is_formed, stop_has_hedge, stop_is_first_blocked, blocked_excludes_formula, one_surrogate, one_stop_with, plain_comes_first}
+use Rattle.surrogate_theory.proofs.Around.{around_is_apart, each_is_harmless}
+use Rattle.surrogate_theory.proofs.Blocked.{stop_under_has_hedge}
 use Rattle.surrogate_theory.proofs.theory.laws.Goals as goal
 
 pub returns : goal.returns
@@ -7,6 +9,9 @@ returns c = record {
   accepted = surrogate_is_accepted;
   formed = surrogate_is_formed;
   hedge = stop_has_hedge;
+  hedge_under = stop_under_has_hedge;
+  around = around_is_apart;
+  harmless = each_is_harmless;
   first_blocked = stop_is_first_blocked;
   excludes = blocked_excludes_formula;
   one_formula = one_surrogate;

@@ -1,20 +1,16 @@
-use Rattle.std.proofs.Common.{ℕ, ◌≡◌, ◌≢◌, ◌≤◌, ◌^◌, ◌<◌, true, false, eqb-true, inl, inr, sym, subst, ◌∙◌, length, arith}
+use Rattle.std.proofs.Common.{ℕ, eqb-true, inl, inr, sym, ◌∙◌, arith}
 use Rattle.mixed_graph.specs.Shown.{graph_of}
-use Rattle.mixed_graph.specs.declared.sets.VSet.{VSet}
 use Rattle.districts.specs.Linked.{AreDistricts}
 use Rattle.districts.specs.Listed.{first_masks}
 use Rattle.prob_expr.specs.Listed.{masks_of}
 use Rattle.do_derivation.specs.View.{listed}
 use Rattle.id_recursion.proofs.Orders.{districts_by}
 use Rattle.id_recursion.proofs.RightAnswers.{target_from}
-use Rattle.hedge.specs.Shapes.{AreSetsOfHedge}
 use Rattle.identification.specs.Procedure.{IsTarget}
-use Rattle.identification_answers.specs.Laws.{AreRoots}
-use Rattle.surrogate_theory.proofs.Answered.{stop_has_hedge}
 use Rattle.surrogate_theory.specs.Surrogates.{IsStoppedWith, StopsWith}
-use Rattle.surrogates.specs.Answers.{IsStopShown}
 use Rattle.surrogates.proofs.Assembled.{by_steps}
-use Rattle.surrogates.proofs.RightAnswers.{stop_shown}
+use Rattle.surrogates.proofs.Together.{stops_at_district}
+use Rattle.surrogates.specs.Tries.{IsDistrictFrom}
 use Rattle.surrogates.proofs.identifying.answer.Goals as goal
 use Rattle.surrogates.proofs.identifying.answer.Goals.{After-order_of-order, After-districts-parts}
 
@@ -59,19 +55,17 @@ returns-in_ok-formula-in-Ok c = record {
   );
 }
 
-pub hedge_of-requires-clause-hedge : goal.hedge_of-requires-clause-hedge
-hedge_of-requires-clause-hedge c =
-    let here = goal.at.hedge_of-requires-clause-hedge c in
-    let stop = stop_at here.After-districts-parts c.in-Err-At.small.bits c.in-Err-At.big.bits (rw c.in-Err-At.field-0-is at c.in-Err-At.ensures) in
-    let u : (roots : ℕ) → AreRoots (graph_of c.args.g.now) c.in-Err-At.small.bits roots → AreSetsOfHedge (graph_of c.args.g.now) c.args.x.bits c.args.y.bits c.in-Err-At.big.bits c.in-Err-At.small.bits roots =
-    λ roots r. stop_has_hedge (graph_of c.args.g.now) c.args.g.now.valid (masks_of c.args.experiments.now) c.args.x.bits c.args.y.bits c.in-Err-At.small.bits c.in-Err-At.big.bits roots (target here.After-order_of-order) stop r in
-    rw (c.in-Err-At.small-is, c.in-Err-At.big-is) u
+pub stopped_answer-requires-clause-stop : goal.stopped_answer-requires-clause-stop
+stopped_answer-requires-clause-stop c =
+    let here = goal.at.stopped_answer-requires-clause-stop c in
+    rw (c.in-Err-At.small-is, c.in-Err-At.big-is)
+    (stop_at here.After-districts-parts c.in-Err-At.small.bits c.in-Err-At.big.bits (rw c.in-Err-At.field-0-is at c.in-Err-At.ensures))
 
-pub returns-in_ok-hedge-in-Err-At : goal.returns-in_ok-hedge-in-Err-At
-returns-in_ok-hedge-in-Err-At c =
-    let here = goal.at.returns-in_ok-hedge-in-Err-At c in
-    let stop = stop_at here.After-districts-parts c.in-Err-At.small.bits c.in-Err-At.big.bits (rw c.in-Err-At.field-0-is at c.in-Err-At.ensures) in
-    let is = c.in_ok-hedge-in-Err-At.ensures in
-    subst (λ (w : VSet). IsStopShown (graph_of c.args.g.now) (masks_of c.args.experiments.now) c.args.x.bits c.args.y.bits w c.in_ok-hedge-in-Err-At.hedge c.in_ok-hedge-in-Err-At.pair) (sym c.in-Err-At.small-is)
-    (stop_shown (graph_of c.args.g.now) c.args.g.now.valid (masks_of c.args.experiments.now) c.args.x.bits c.args.y.bits (target here.After-order_of-order) c.in-Err-At.small c.in-Err-At.big stop
-    c.in_ok-hedge-in-Err-At.hedge c.in_ok-hedge-in-Err-At.pair (is.small ∙ c.in-Err-At.small-is) (is.big ∙ c.in-Err-At.big-is) is.data is.hedge is.pair)
+pub stopped_answer-requires-clause-district : goal.stopped_answer-requires-clause-district
+stopped_answer-requires-clause-district c =
+    let is : IsDistrictFrom (graph_of c.args.g.now) c.in-Err-At.small.bits 0 =
+    stops_at_district (graph_of c.args.g.now) (masks_of c.args.experiments.now) c.ancestors_outside-d.result.bits
+    (first_masks c.districts-parts.result.sets c.districts-parts.result.count)
+    c.in-Err-At.small.bits c.in-Err-At.big.bits (λ v i. (c.ancestors_outside-d.ensures.sound v i).vertex) c.districts-parts.ensures.maximal
+    (rw c.in-Err-At.field-0-is at c.in-Err-At.ensures) in
+    rw c.in-Err-At.small-is is

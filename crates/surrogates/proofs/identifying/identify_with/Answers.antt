@@ -4,7 +4,7 @@ use Rattle.prob_expr.specs.Listed.{masks_of}
 use Rattle.id_recursion.proofs.RightAnswers.{target_from, if_ok}
 use Rattle.surrogate_theory.proofs.Answered.{derived_is_surrogate, surrogate_is_formed}
 use Rattle.surrogates.specs.Answers.{IsAnswerWith}
-use Rattle.surrogates.proofs.RightAnswers.{if_formula, right, exact, plain, stopped}
+use Rattle.surrogates.proofs.RightAnswers.{if_formula, right, exact, common, plain, stopped, blocked}
 use Rattle.surrogates.proofs.identifying.identify_with.Goals as goal
 
 pub returns : goal.returns
@@ -27,4 +27,6 @@ returns c =
       formed = if_formula g zs x y r _ (λ f t i. surrogate_is_formed g valid zs sets x y target f (derived_is_surrogate g zs x y f t i)) c.answer.ensures;
       plain = λ f i. if_ok r (IsAnswerWith g zs x y) _ (plain g valid small x y target off zs sets f i) c.answer.ensures;
       stopped = if_ok r (IsAnswerWith g zs x y) _ (stopped g zs x y) c.answer.ensures;
+      common = if_ok r (IsAnswerWith g zs x y) _ (common g valid small x y target off zs sets) c.answer.ensures;
+      blocked = if_ok r (IsAnswerWith g zs x y) _ (blocked g zs x y) c.answer.ensures;
     }

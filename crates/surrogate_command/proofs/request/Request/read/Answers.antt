@@ -1,4 +1,4 @@
-use Rattle.std.proofs.Common.{refl, rules}
+use Rattle.std.proofs.Common.{sym, refl, rules}
 use Rattle.surrogate_command.specs.Requests.{surrogate_row}
 use Rattle.surrogate_command.proofs.request.Request.read.Goals as goal
 
@@ -14,4 +14,5 @@ returns-clause-ok c = λ uses g. let s = c.in_ok-file.ensures.ok surrogate_row u
   x = s.is_x;
   y = s.is_y;
   experiments = c.in_ok-experiments.ensures.ok surrogate_row uses g refl;
+  models = sym (c.flag-models.ensures surrogate_row uses g refl);
 }

@@ -1,0 +1,50 @@
+"""A script as a user writes it, for `mypy --strict`: each answer has the type that its documentation says."""
+from fractions import Fraction
+from typing import Dict, List, Optional, Tuple
+
+import causal
+from causal import Diagram, Effect, Effects, Formula, Hedge, Implication, Value
+
+
+def width(effects: Effects) -> float:
+    """How wide the widest bounds are."""
+    return max(upper - lower for lower, upper in (effect.value.floats() for effect in effects))
+
+
+diagram = Diagram.from_edges([("S", "T"), ("S", "R"), ("T", "R")], exposure="T", outcome=["R"])
+numbers = Diagram.from_edges([(1, 2)], exposure=1, outcome=2)
+data: Dict[str, List[int]] = {"S": [0, 1] * 8, "T": [0, 0, 1, 1] * 4, "R": [0, 1, 1, 0, 1] * 3 + [0]}
+
+answer = diagram.identify()
+if isinstance(answer, Hedge):
+    sets: Tuple[Tuple[str, ...], Tuple[str, ...]] = (answer.big, answer.small)
+else:
+    formula: Formula = answer
+    latex: Optional[str] = formula.latex
+
+separated: bool = bool(diagram.separated("S", "R", given="T")) or diagram.is_separated(["S"], "R")
+first_set: Tuple[str, ...] = diagram.adjustment_sets()[0]
+some_sets: Tuple[Tuple[str, ...], ...] = diagram.adjustment_sets()[:2]
+
+effects: Effects = diagram.effects(data, exact=True)
+first: Effect = effects[0]
+value: Value = first.value
+exact: Fraction = value.exact
+some: Tuple[Effect, ...] = effects[1:]
+contrast = diagram.contrast(data, treated=1, control=0, outcome=1)
+risk: float = float(contrast.difference)
+ratio: Optional[Value] = contrast.ratio
+pair: Implication = Diagram("dag { A -> B -> C }").implications()[0]
+given: Tuple[str, ...] = pair.given
+interval = diagram.bootstrap(data, resamples=10, seed=1).contrast({"R": 1}, {"T": 1}, {"T": 0}).difference
+lower: Optional[float] = None if interval is None else interval.lower
+
+try:
+    diagram.effects("counts.csv", at={"Z": 1})
+except causal.EvaluationError as error:
+    number: Optional[int] = error.number
+
+reply = causal.run(["graph", "g"], {"g": "dag { A }"})
+status: int = reply.status
+written: bytes = reply.out + causal.run(["graph", b"g"], {b"g": b"dag {}"}).err
+print(numbers, separated, first_set, some_sets, exact, some, risk, ratio, given, lower, status, written, width(effects))

@@ -1,0 +1,39 @@
+# Answers in documents of knitr: a formula in LaTeX, tables as tables. The package knitr isn't needed; where it is loaded, its generic
+# gets these methods.
+
+.onLoad <- function(libname, pkgname) {
+  register <- function(...) {
+    for (class in names(knit_methods)) registerS3method("knit_print", class, knit_methods[[class]], envir = asNamespace("knitr"))
+  }
+  if (isNamespaceLoaded("knitr")) register()
+  setHook(packageEvent("knitr", "onLoad"), register)
+}
+
+# Text that knitr puts into the document as it is.
+as_it_is <- function(lines) structure(paste(c("", lines, ""), collapse = "\n"), class = "knit_asis", knit_cacheable = NA)
+
+knit_formula <- function(x, ...) {
+  if (is.null(x$latex)) return(knit_text(x))
+  free <- if (length(x$free)) paste0("Free: ", paste(x$free, collapse = ", "), ".")
+  as_it_is(c("$$", "\\begin{gathered}", paste(x$latex, collapse = " \\\\\n"), "\\end{gathered}", "$$", "", free))
+}
+
+knit_text <- function(x, ...) as_it_is(c("```", utils::capture.output(print(x)), "```"))
+
+# A table of markdown, with what it rests on below it.
+knit_table <- function(x, ...) {
+  columns <- as.data.frame(x)
+  columns[] <- lapply(columns, function(column) if (is.double(column)) formatC(column, digits = 4, format = "g") else as.character(column))
+  cells <- lapply(columns, gsub, pattern = "|", replacement = "\\|", fixed = TRUE)
+  rows <- if (nrow(columns)) paste0("| ", do.call(paste, c(unname(cells), list(sep = " | "))), " |")
+  head <- c(paste0("| ", paste(names(columns), collapse = " | "), " |"), paste0("|", strrep("---|", ncol(columns))))
+  notes <- c(head_notes(x), foot_notes(x))
+  as_it_is(c(head, rows, "", if (length(notes)) paste0(notes, "\n")))
+}
+
+knit_methods <- c(
+  list(causal_formula = knit_formula),
+  sapply(c("causal_answer", "causal_diagram", "causal_path"), function(class) knit_text, simplify = FALSE),
+  sapply(c("causal_effects", "causal_contrast", "causal_means", "causal_spread", "causal_implications", "causal_tests"),
+         function(class) knit_table, simplify = FALSE)
+)

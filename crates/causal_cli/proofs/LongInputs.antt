@@ -1,0 +1,78 @@
+-- Of a second input that is too long each command answers the same, whatever its bytes are.
+use Rattle.std.proofs.Common.{◌≤◌, ◌<◌, inl, inr, ℕ, Bool, List, Option, length, arith}
+use Rattle.mixed_graph.specs.Graphs.{MixedGraph}
+use Rattle.dag_reader.specs.declared.graph.ReadGraph.{ReadGraph}
+use Rattle.replies.specs.declared.outcome.Outcome.{Outcome}
+use Rattle.replies.specs.declared.outcome.Outcome.TheVariants.{Yes, No, Second, Evaluation}
+use Rattle.targets.specs.declared.query.Sets.{Sets}
+use Rattle.count_rows.specs.Records.{Field}
+use Rattle.count_answers.specs.Reads.{AreRefusedCounts, too_long, faulty}
+use Rattle.check_command.specs.Answers as check
+use Rattle.evaluate_command.specs.Answers as evaluate
+use Rattle.evaluate_command.specs.Effects.{PlainEffect}
+use Rattle.equivalent_command.specs.Answers as equivalent
+use Rattle.implications_command.specs.Answers as implications
+use Rattle.implications_command.specs.Pairs.{PlainPairs}
+
+-- an answer on bytes that are at most so many isn't one on more
+no_more : {A : Type 0} (n : ℕ) (a : List ℕ) → n < length a → length a ≤ n → A
+no_more n a long short = absurd (omega (arith, long, short))
+
+-- ---- counts
+
+refused_counts : (names : List (List ℕ)) (used : ℕ) (count : Option Field) (a b line : List ℕ) → 67108864 < length a → 67108864 < length b
+    → AreRefusedCounts names used count a line → AreRefusedCounts names used count b line
+refused_counts names used count a b line la lb (too_long l e) = too_long lb e
+refused_counts names used count a b line la lb (faulty fault short p q e) = no_more 67108864 a la short
+
+-- ---- check
+
+certificate_short : (q : MixedGraph) (names : List (List ℕ)) (bytes : List ℕ) (o : Outcome) (text : List ℕ) → check.CertificateAnswer q names bytes o text → length bytes ≤ 67108864
+certificate_short q names bytes o text (check.of_formula t f d read answer) = read.small
+certificate_short q names bytes o text (check.of_hedge t h entries read answer) = read.small
+
+observed_short : (g : ReadGraph) (bytes : List ℕ) (o : Outcome) (text : List ℕ) → check.ObservedAnswer g bytes o text → length bytes ≤ 67108864
+observed_short g bytes o text h = certificate_short _ _ bytes o text h.2
+
+refused_certificate : (names : List (List ℕ)) (a b line : List ℕ) → 67108864 < length a → 67108864 < length b
+    → check.IsCertificateRefusal names a line → check.IsCertificateRefusal names b line
+refused_certificate names a b line la lb (check.too_long l e) = check.too_long lb e
+refused_certificate names a b line la lb (check.faulty fault short p q e) = no_more 67108864 a la short
+
+pub check_long : (g : ReadGraph) (a b : List ℕ) → 67108864 < length a → 67108864 < length b → (o : Outcome) (text : List ℕ) → check.CheckAnswer g a o text → check.CheckAnswer g b o text
+check_long g a b la lb Yes text h = no_more 67108864 a la (observed_short g a Yes text h)
+check_long g a b la lb No text h = no_more 67108864 a la (observed_short g a No text h)
+check_long g a b la lb Second text h = refused_certificate _ a b text la lb h
+check_long g a b la lb o text h = absurd h
+
+-- ---- evaluate
+
+values_long : (is_exact : Bool) (e : PlainEffect) (count : Option Field) (a b : List ℕ) → 67108864 < length a → 67108864 < length b → (o : Outcome) (text : List ℕ)
+    → evaluate.CountsAnswer is_exact e count a o text → evaluate.CountsAnswer is_exact e count b o text
+values_long is_exact e count a b la lb Yes text h = no_more 67108864 a la h.1.small
+values_long is_exact e count a b la lb Second text h = refused_counts _ _ count a b text la lb h
+values_long is_exact e count a b la lb Evaluation text h = no_more 67108864 a la h.1.small
+values_long is_exact e count a b la lb o text h = absurd h
+
+-- ---- implications
+
+differences_long : (p : PlainPairs) (count : Option Field) (a b : List ℕ) → 67108864 < length a → 67108864 < length b → (o : Outcome) (text : List ℕ)
+    → implications.CountsAnswer p count a o text → implications.CountsAnswer p count b o text
+differences_long p count a b la lb Yes text h = no_more 67108864 a la h.1.small
+differences_long p count a b la lb Second text h = refused_counts _ _ count a b text la lb h
+differences_long p count a b la lb o text h = absurd h
+
+-- ---- equivalent
+
+refused_second : (a b line : List ℕ) → 1048576 < length a → 1048576 < length b → equivalent.IsSecondRefusal a line → equivalent.IsSecondRefusal b line
+refused_second a b line la lb (equivalent.too_long l e) = equivalent.too_long lb e
+refused_second a b line la lb (equivalent.faulty fault short p q e) = no_more 1048576 a la short
+
+held_short : {A : Type 0} (g : ReadGraph) (s : Option Sets) (a : List ℕ) (o : Outcome) (text : List ℕ) → 1048576 < length a → equivalent.HoldsAnswer g s a o text → A
+held_short g s a o text la h = no_more 1048576 a la h.1.small
+
+pub second_long : (g : ReadGraph) (s : Option Sets) (a b : List ℕ) → 1048576 < length a → 1048576 < length b → (o : Outcome) (text : List ℕ)
+    → equivalent.SecondAnswer g s a o text → equivalent.SecondAnswer g s b o text
+second_long g s a b la lb Second text (inl h) = inl (refused_second a b text la lb h)
+second_long g s a b la lb Second text (inr h) = held_short g s a Second text la h
+second_long g s a b la lb o text h = held_short g s a o text la h

@@ -1,0 +1,213 @@
+-- From the end of a run to what it refutes in the diagram as drawn.
+use Rattle.std.proofs.Common.{◌≡◌, ℕ, List, [], ◌∷◌, Option, Some, None, refl, subst, arith}
+use Rattle.std.specs.Prelude.{IfSome}
+use Rattle.std.specs.Io.KnownBytes.{Appends}
+use Rattle.mixed_graph.specs.Bits.{has}
+use Rattle.mixed_graph.specs.Graphs.{MixedGraph}
+use Rattle.mixed_graph.specs.Shown.{graph_of}
+use Rattle.finite_models.specs.Data.{meaning}
+use Rattle.do_rules.specs.Rules.{left_of, right_of}
+use Rattle.word_forms.specs.Form.{Use}
+use Rattle.prob_expr.specs.Differences.{DifferOnTarget}
+use Rattle.prob_expr.specs.Tree.{PlainTarget}
+use Rattle.counter_models.specs.Events.{AreCounterModels}
+use Rattle.counter_models.specs.declared.counter_pair.CounterPair.{CounterPair}
+use Rattle.counter_models.proofs.Excluded.{differ_on}
+use Rattle.dag_reader.specs.declared.graph.ReadGraph.{ReadGraph}
+use Rattle.certificate.specs.Plain as certificates
+use Rattle.hidden_theory.proofs.Drawing.{difference_is_drawn, formula_as_drawn_fixes}
+use Rattle.hidden_theory.proofs.Statements.{dependence_is_drawn, failure_is_drawn}
+use Rattle.id_recursion.specs.Answers.{effect_on}
+use Rattle.replies.proofs.OneGraph.{observed_is_mixed}
+use Rattle.replies.specs.declared.outcome.Outcome.{Outcome}
+use Rattle.replies.specs.declared.outcome.Outcome.TheVariants.{Yes, No}
+use Rattle.replies.specs.Observed.{Names, HoldsGraph, IsObservedGraph, observed_names}
+use Rattle.replies.specs.Outcomes.{code_of}
+use Rattle.effect_answers.specs.Hedges as hedges
+use Rattle.identify_command.specs.declared.form.Form.{Form}
+use Rattle.identify_command.specs.Answers.{ShowsHedge, IdentifyAnswer}
+use Rattle.identify_command.specs.Conditions.{IdentifyAnswerGiven}
+use Rattle.identify_command.specs.Requests.{IsRequest}
+use Rattle.check_command.specs.Answers.{IsRead, CheckAnswer, of_formula, of_hedge}
+use Rattle.evaluate_command.specs.Answers.{EvaluateFirst}
+use Rattle.separate_command.specs.Answers.{SeparateAnswer}
+use Rattle.separate_command.specs.Requests.{Request as SeparateRequest}
+use Rattle.separate_command.specs.Requests as separate_requests
+use Rattle.rule_command.specs.Answers.{RuleAnswer}
+use Rattle.rule_command.specs.Requests.{Request as RuleRequest}
+use Rattle.rule_command.specs.Requests as rule_requests
+use Rattle.command_run.proofs.Deliveries.{mapped}
+use Rattle.command_run.specs.Answers.{HoldsAnswer, DefinedWith}
+use Rattle.command_run.specs.Commands.{of}
+use Rattle.command_run.specs.Run.{Run, Ends}
+use Rattle.causal_cli.specs.Commands.{commands}
+use Rattle.causal_cli.specs.declared.commands.Command.TheVariants.{Identify, Evaluate, Separate, Rule}
+use Rattle.causal_cli.specs.Headline.{WrittenFor, IsRightCertificate, Checked, HeadlineOfCheck}
+use Rattle.causal_cli.specs.Refuted.{IsNotIdentifiable, IsHedgeAsDrawn, IsUnidentifiedAsDrawn, UnevaluatedAsDrawn, IsHedgeCertificateAsDrawn, CheckedHedgeAsDrawn, IsDependenceAsDrawn}
+use Rattle.causal_cli.specs.Refuted.{IsFailureAsDrawn, RefutedAsDrawn}
+use Rattle.causal_cli.proofs.CallAnswers.{CallAnswer, on_words, on_file, on_both, call_answer, under_name, under_names, written_for}
+use Rattle.causal_cli.proofs.DrawnRuns.{same_read, same_hedge_target}
+
+-- two models that show an effect not to be identifiable in the observed graph show it of any target on which they differ, in the diagram as drawn
+not_identifiable : (g : ReadGraph) (q : MixedGraph) → IsObservedGraph g q → (x y : ℕ) (pair : CounterPair) → AreCounterModels q x y pair
+    → (t : PlainTarget) → DifferOnTarget (meaning q pair.first) (meaning q pair.second) t → IsNotIdentifiable g t
+not_identifiable g q observed x y pair m t differ =
+    difference_is_drawn (graph_of g.graph) g.graph.valid (has g.latent.bits) q observed (meaning q pair.first) (meaning q pair.second)
+    m.first.fits m.second.fits m.two.0 m.two.1 m.first.positive m.second.positive m.observed t differ
+
+-- the effect itself is one
+effect_lost : (g : ReadGraph) (q : MixedGraph) → IsObservedGraph g q → (x y : ℕ) (pair : CounterPair) → AreCounterModels q x y pair → IsNotIdentifiable g (effect_on x y)
+effect_lost g q observed x y pair m =
+    not_identifiable g q observed x y pair m (effect_on x y) (differ_on q (observed_is_mixed g q observed) x y pair m)
+
+-- ---- identify and evaluate
+
+bare_refuted : (form : Form) (bytes : List ℕ) (x y : Names) (text : List ℕ) (g : ReadGraph) → HoldsGraph bytes g → IdentifyAnswer form g x y No text
+    → IsHedgeAsDrawn (ShowsHedge form) bytes x y text
+bare_refuted form bytes x y text g holds (q, observed, h) = record {
+  graph = g;
+  holds = holds;
+  seen = q;
+  observed = observed;
+  sets = record { x = h.x; y = h.y; sets = h.sets; answer = (h.answer, effect_lost g q observed h.x h.y h.answer.pair h.answer.found.right.counter) };
+}
+
+given_refuted : (form : Form) (bytes : List ℕ) (x y given : Names) (text : List ℕ) (g : ReadGraph) → HoldsGraph bytes g → IdentifyAnswerGiven form g x y given No text
+    → IsUnidentifiedAsDrawn form bytes x y given text
+given_refuted form bytes x y None text g holds h = bare_refuted form bytes x y text g holds h
+given_refuted form bytes x y (Some []) text g holds h = bare_refuted form bytes x y text g holds h
+given_refuted form bytes x y (Some (n ∷ ns)) text g holds (q, observed, h) =
+    let a = h.answer in record {
+      graph = g;
+      holds = holds;
+      seen = q;
+      observed = observed;
+      target = h.target;
+      sets = h.sets;
+      shows = a;
+      joint = effect_lost g q observed a.x a.y a.pair a.found.right.counter;
+      no_formula = λ f free equal. a.not_fixed
+          (λ one two fit fit' serves serves' positive positive' agreed s within. formula_as_drawn_fixes (graph_of g.graph) g.graph.valid (has g.latent.bits) q observed
+          h.target f free equal one two fit fit' serves serves' positive positive' agreed s within);
+      differs = λ settled. not_identifiable g q observed a.x a.y a.pair a.found.right.counter h.target (a.differs settled);
+    }
+
+identified : (r : Run) (uses : List Use) (text : List ℕ) → Appends r.out.before r.out.after text → CallAnswer r Identify uses No text
+    → WrittenFor IsRequest (λ q. q.file) (λ q bytes line. IsUnidentifiedAsDrawn q.form bytes q.x q.y q.given line) r uses
+identified r uses text = written_for r Identify uses No text (λ q. q.file) (λ q bytes line. IsUnidentifiedAsDrawn q.form bytes q.x q.y q.given line) (λ q h. h) (λ q. refl) (λ q. refl)
+    (λ q is bytes a. given_refuted q.form bytes q.x q.y q.given text a.graph a.holds a.answer)
+
+evaluated_on : (bytes : List ℕ) (x y : Names) (text : List ℕ) (g : ReadGraph) → HoldsGraph bytes g → EvaluateFirst g x y No text → IsHedgeAsDrawn hedges.ShowsHedge bytes x y text
+evaluated_on bytes x y text g holds (q, observed, h) = record {
+  graph = g;
+  holds = holds;
+  seen = q;
+  observed = observed;
+  sets = record { x = h.x; y = h.y; sets = h.sets; answer = (h.answer, effect_lost g q observed h.x h.y h.answer.pair h.answer.found.right.counter) };
+}
+
+if_told : (told : Option (List ℕ)) (P : Type 0) → P → IfSome told (λ other. P)
+if_told (Some other) P p = p
+if_told None P p = tt
+
+-- a no is given on the file alone: where there is a formula, the counts have values or stop
+evaluated : (r : Run) (uses : List Use) (text : List ℕ) → Appends r.out.before r.out.after text → CallAnswer r Evaluate uses No text → UnevaluatedAsDrawn r uses
+evaluated r uses text whole (on_words q is h) = absurd h
+evaluated r uses text whole (on_file q is file names h) = record {
+  request = q;
+  text = text;
+  asks = is;
+  right = under_name r.held q.file file (λ bytes. HoldsAnswer commands (of Evaluate q) bytes No text)
+      (λ bytes. IfSome (r.held q.counts) (λ other. IsHedgeAsDrawn hedges.ShowsHedge bytes q.x q.y text))
+      (λ bytes a. if_told (r.held q.counts) (IsHedgeAsDrawn hedges.ShowsHedge bytes q.x q.y text) (evaluated_on bytes q.x q.y text a.graph a.holds a.answer)) names h;
+  whole = whole;
+}
+evaluated r uses text whole (on_both q is file second names names_second h) = record {
+  request = q;
+  text = text;
+  asks = is;
+  right = under_names r.held q.file file q.counts second (λ bytes other. DefinedWith commands (of Evaluate q) bytes other No text)
+      (λ bytes other. IsHedgeAsDrawn hedges.ShowsHedge bytes q.x q.y text) (λ bytes other d. absurd d.3.2) names names_second h;
+  whole = whole;
+}
+
+-- ---- check
+
+-- an accepted certificate of a hedge says so of its effect
+hedge_as_drawn : (g : ReadGraph) (other text : List ℕ) → CheckAnswer g other Yes text
+    → (t : PlainTarget) (h : certificates.PlainHedge) → IsRead (observed_names g) other (certificates.hedge t h) → IsNotIdentifiable g (effect_on t.x t.y)
+hedge_as_drawn g other text (q, observed, of_formula u f d read answer) t h is =
+    let same = same_read _ (certificates.formula u f d) (certificates.hedge t h) read.reads is.reads in absurd (cc same)
+hedge_as_drawn g other text (q, observed, of_hedge u k entries read answer) t h is =
+    let same = same_read _ (certificates.hedge u (certificates.hedge_view k)) (certificates.hedge t h) read.reads is.reads in
+    subst (λ x. IsNotIdentifiable g (effect_on x.x x.y)) (same_hedge_target u t (certificates.hedge_view k) h same) (effect_lost g q observed u.x u.y answer.pair answer.models)
+
+checked : (r : Run) (uses : List Use) → Checked r uses → CheckedHedgeAsDrawn r uses
+checked r uses h = record {
+  request = h.request;
+  asks = h.asks;
+  right = mapped (r.held h.request.file) (λ bytes. IfSome (r.held h.request.certificate) (λ other. IsRightCertificate bytes other h.text))
+      (λ bytes. IfSome (r.held h.request.certificate) (λ other. IsHedgeCertificateAsDrawn bytes other))
+      (λ bytes a. mapped (r.held h.request.certificate) (λ other. IsRightCertificate bytes other h.text) (λ other. IsHedgeCertificateAsDrawn bytes other)
+      (λ other b. record { graph = b.graph; holds = b.holds; not_identifiable = hedge_as_drawn b.graph other h.text b.accepted }) a) h.right;
+}
+
+-- ---- separate and rule
+
+separated_on : (q : SeparateRequest) (bytes text : List ℕ) (g : ReadGraph) → HoldsGraph bytes g → SeparateAnswer g q.x q.y q.given No text → IsDependenceAsDrawn q bytes text
+separated_on q bytes text g holds (p, observed, h) = record {
+  graph = g;
+  holds = holds;
+  seen = p;
+  observed = observed;
+  x = h.x;
+  y = h.y;
+  w = h.w;
+  sets = h.sets;
+  shows = h.answer;
+  dependent = dependence_is_drawn (graph_of g.graph) g.graph.valid (has g.latent.bits) p observed (has h.x) (has h.y) (has h.w) h.answer.dependent;
+}
+
+separated : (r : Run) (uses : List Use) (text : List ℕ) → Appends r.out.before r.out.after text → CallAnswer r Separate uses No text
+    → WrittenFor separate_requests.IsRequest (λ q. q.file) IsDependenceAsDrawn r uses
+separated r uses text = written_for r Separate uses No text (λ q. q.file) IsDependenceAsDrawn (λ q h. h) (λ q. refl) (λ q. refl)
+    (λ q is bytes a. separated_on q bytes text a.graph a.holds a.answer)
+
+ruled_on : (q : RuleRequest) (bytes text : List ℕ) (g : ReadGraph) → HoldsGraph bytes g → RuleAnswer q.rule g q.y q.done q.z q.given No text → IsFailureAsDrawn q bytes text
+ruled_on q bytes text g holds (p, observed, h) = record {
+  graph = g;
+  holds = holds;
+  seen = p;
+  observed = observed;
+  y = h.y;
+  doing = h.done;
+  z = h.z;
+  given = h.given;
+  sets = h.sets;
+  shows = h.answer;
+  fails = failure_is_drawn (graph_of g.graph) g.graph.valid (has g.latent.bits) p observed (left_of q.rule (has h.done) (has h.y) (has h.z) (has h.given))
+      (right_of q.rule (has h.done) (has h.y) (has h.z) (has h.given)) h.answer.fails;
+}
+
+ruled : (r : Run) (uses : List Use) (text : List ℕ) → Appends r.out.before r.out.after text → CallAnswer r Rule uses No text
+    → WrittenFor rule_requests.IsRequest (λ q. q.file) IsFailureAsDrawn r uses
+ruled r uses text = written_for r Rule uses No text (λ q. q.file) IsFailureAsDrawn (λ q h. h) (λ q. refl) (λ q. refl)
+    (λ q is bytes a. ruled_on q bytes text a.graph a.holds a.answer)
+
+-- ---- a run
+
+pub refuted_as_drawn_of : (r : Run) (code : ℕ) (o : Outcome) (text : List ℕ) → code ≡ code_of o → Ends commands r o text → HeadlineOfCheck r code → RefutedAsDrawn r code
+refuted_as_drawn_of r code No text c h accepted = record {
+  identified = λ uses call one. identified r uses text h.whole (call_answer r Identify uses call No text h.answers);
+  evaluated = λ uses call one. evaluated r uses text h.whole (call_answer r Evaluate uses call No text h.answers);
+  checked = λ uses call zero. absurd (omega (arith, c, zero));
+  separated = λ uses call one. separated r uses text h.whole (call_answer r Separate uses call No text h.answers);
+  ruled = λ uses call one. ruled r uses text h.whole (call_answer r Rule uses call No text h.answers);
+}
+refuted_as_drawn_of r code o text c h accepted = record {
+  identified = λ uses call one. absurd (omega (arith, c, one));
+  evaluated = λ uses call one. absurd (omega (arith, c, one));
+  checked = λ uses call zero. checked r uses (accepted uses call zero);
+  separated = λ uses call one. absurd (omega (arith, c, one));
+  ruled = λ uses call one. absurd (omega (arith, c, one));
+}

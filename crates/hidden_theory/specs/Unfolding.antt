@@ -1,0 +1,43 @@
+-- Models of the diagram as drawn that a model of the observed graph folds, and what two of them show.
+use Rattle.std.specs.Prelude.{ℕ, ◌*◌, ◌≡◌, ◌<◌, Bool, true, false}
+use Rattle.mixed_graph.specs.Bits.{has}
+use Rattle.mixed_graph.specs.Graphs.{MixedGraph}
+use Rattle.fractions.specs.Fractions.{IsEqual}
+use Rattle.finite_models.specs.Models.{FiniteModel, Fits, IsAssignment, total}
+use Rattle.prob_expr.specs.Terms.{is_do_free}
+use Rattle.prob_expr.specs.Tree.{PlainFormula, PlainTarget}
+use Rattle.prob_expr.specs.Values.{term_value}
+use Rattle.hidden_theory.specs.Folding.{Folds, IsObservedPositive, drawn_weights}
+use Rattle.hidden_theory.specs.Laws.{EqualsAsDrawn}
+
+-- a model of the graph that m, a model of its observed graph, folds
+pub record IsFoldedFrom (g : MixedGraph) (l : ℕ → Bool) (m : FiniteModel) : Type 0 where
+  pub drawn : FiniteModel
+  pub fits : Fits g drawn
+  pub folds : Folds l drawn m
+
+-- two models of the diagram as drawn have the observed vertices with equal sizes, and equal observed probabilities
+pub record AgreeAsDrawn (l : ℕ → Bool) (m₁ m₂ : FiniteModel) : Type 0 where
+  pub vertices : (drawn_weights l m₁).vertices ≡ (drawn_weights l m₂).vertices
+  pub sizes : (k : ℕ) → k < (drawn_weights l m₁).vertices → (drawn_weights l m₁).size k ≡ (drawn_weights l m₂).size k
+  pub weights : (s : ℕ → ℕ) → IsAssignment (drawn_weights l m₁).vertices (drawn_weights l m₁).size s
+      → (drawn_weights l m₁).weight (λ k. false) (λ k. true) s * total m₂ ≡ (drawn_weights l m₂).weight (λ k. false) (λ k. true) s * total m₁
+
+-- values of the observed vertices, in their new numbers, at which the effect has two values
+pub record DifferOnAsDrawn (l : ℕ → Bool) (m₁ m₂ : FiniteModel) (t : PlainTarget) : Type 0 where
+  pub at : ℕ → ℕ
+  pub within : IsAssignment (drawn_weights l m₁).vertices (drawn_weights l m₁).size at
+  pub unequal : IsEqual (term_value (drawn_weights l m₁) t.y t.x t.given at) (term_value (drawn_weights l m₂) t.y t.x t.given at) → ⊥
+
+-- two models of the diagram as drawn, positive on the observed vertices, have equal observed probabilities and, under every value of x, different effects; so no formula without interventions equals the effect in all of them
+pub record NotIdentifiableAsDrawn (g : MixedGraph) (l : ℕ → Bool) (t : PlainTarget) : Type 0 where
+  pub first : FiniteModel
+  pub second : FiniteModel
+  pub first_fits : Fits g first
+  pub second_fits : Fits g second
+  pub first_positive : IsObservedPositive l first
+  pub second_positive : IsObservedPositive l second
+  pub observed : AgreeAsDrawn l first second
+  pub effects : (a : ℕ → ℕ) → IsAssignment (drawn_weights l first).vertices (drawn_weights l first).size a
+      → (d : DifferOnAsDrawn l first second t) × ((v : ℕ) → has t.x v ≡ true → d.at v ≡ a v)
+  pub no_formula : (f : PlainFormula) → is_do_free f ≡ true → EqualsAsDrawn g l t f → ⊥

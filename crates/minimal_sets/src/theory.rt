@@ -1,0 +1,6 @@
+ghost use Rattle.minimal_sets.specs.MinimalSets.{MinimalIsExact};
+
+/// What minimal admissible sets are in models.
+pub fn laws()
+    ensures { MinimalIsExact }
+{}

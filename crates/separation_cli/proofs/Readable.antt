@@ -1,8 +1,0 @@
--- `clap` reads the table: what it makes of the rows is computed.
-use Rattle.std.proofs.Common.{refl}
-use Rattle.word_values.specs.Readable.{IsReadable}
-use Rattle.word_values.proofs.Tables.{readable}
-use Rattle.separation_cli.specs.Commands.{table}
-
-pub table_readable : IsReadable table
-table_readable = readable table refl refl (record { defaults = refl; valid = refl }) refl (λ words. refl) (λ words. refl)
