@@ -3,6 +3,7 @@
  * It asks which inputs the words may ask for, reads the file, and runs the words; where the answer goes on with the second input, it
  * reads that too and runs them again. An input that is named twice is read once. An input that can't be read is left out: the call
  * itself says then that a read failed. */
+#include <errno.h>
 #include <signal.h>
 #include <stdio.h>
 #include <stdlib.h>
@@ -109,8 +110,9 @@ static int read_open(question *q, FILE *file, uint64_t most) {
 /* Reads the input of a name; 0 where that fails, -1 where memory is refused. */
 static int read_input(question *q, causal_span name, uint64_t most) {
   const char *word = word_of(q, name);
+  errno = 0;
   FILE *file = !word ? NULL : strcmp(word, "-") ? open_named(word) : stdin;
-  if (!file) return 0;
+  if (!file) return errno == ENOMEM ? -1 : 0;
   setvbuf(file, NULL, _IONBF, 0);
   size_t start = q->length;
   int end = read_open(q, file, most);
@@ -150,7 +152,7 @@ static int run_over_files(question *q, answer *a) {
   size_t names = q->length;
   if (!has_room(q, names + 1)) return -1;
   int status = causal_inputs(q->bytes, names, q->words, q->word_count, q->bytes + names, names, &wanted);
-  if (status == CAUSAL_NO_WORDS) return -1;
+  if (status == CAUSAL_NO_MEMORY || status == CAUSAL_NO_WORDS) return -1;
   if (status != CAUSAL_YES || wanted.count == 0) return run(q, a);
   q->length += wanted.file + wanted.second;
   causal_span file = {names, names + wanted.file}, second = {file.end, file.end + wanted.second};

@@ -115,10 +115,19 @@ typedef struct ODD { uint64_t v; } M8;
 #define RW(a) double_of(R8(a))
 #define PW(a, x) P8(a, bits_of(x))
 
+/* Where gcc for x86 knows a size over 32 it writes string instructions, which take longer than a call of the library: it isn't told. */
+#if GNU_BUILTINS && !defined(__clang__) && (defined(__x86_64__) || defined(__i386__))
+#define HIDE(size) if (__builtin_constant_p(size) && size > 32) __asm__("" : "+r"(size))
+#else
+#define HIDE(size) (void)0
+#endif
+
 INLINE void move(L to, L from, L size) {
+  HIDE(size);
   if (size) memmove((void *)(uintptr_t)to, (const void *)(uintptr_t)from, (size_t)size);
 }
 INLINE void fill(L to, I byte, L size) {
+  HIDE(size);
   if (size) memset((void *)(uintptr_t)to, (int)(byte & 255), (size_t)size);
 }
 

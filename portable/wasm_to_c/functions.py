@@ -3,6 +3,7 @@ from __future__ import annotations
 
 import re
 from dataclasses import dataclass
+from string import ascii_lowercase
 from typing import TYPE_CHECKING
 
 from expressions import SMALL, Value, applied, beside, calculated, choice, constant, double, filled, literal, variable, vector
@@ -16,15 +17,14 @@ if TYPE_CHECKING:
 
 EMPTY = -64  # the type of a block without a result
 ZERO = {"I": "0", "L": "0", "W": "0", "V": "{0,0}"}
-# Names of locals: no c, d or f, which other names begin with. All names but these have a digit behind them.
-LETTERS = "abeghijklmnopqrstuvwxyz"
 # x = x + y is written x += y where y has none of these in it.
 OPERATORS = {"+": 4, "-": 4, "*": 3, "&": 8, "|": 10, "^": 9}
 UNSAFE_BEHIND = re.compile(r"[-+&|^*<>=?~ ]")
 
 
 def local_name(index: int) -> str:
-    return LETTERS[index] if index < len(LETTERS) else f"a{index}"
+    """A letter, as long as there are some; variables that aren't locals have a number behind theirs."""
+    return ascii_lowercase[index] if index < 26 else f"a{index}"
 
 
 def assignment(name: str, v: Value) -> str:

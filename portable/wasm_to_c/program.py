@@ -3,6 +3,7 @@ from __future__ import annotations
 
 import re
 import struct
+from collections import Counter
 from typing import Iterator
 
 from functions import Function, local_name
@@ -13,6 +14,19 @@ CALLED = {"rattle_alloc", "rattle_realloc", "rattle_dealloc", "__multi3", "__lsh
 MOST_ALIGNED = 16
 WRITABLE = 2  # a flag of a segment
 WIDTH = 118
+GENERIC = re.compile(r"::<.*")
+
+
+def identifiers(names: dict[int, str]) -> dict[int, str]:
+    """Names for the C: the last two words of what the compiler calls a function, with a number where others have them too."""
+    found: dict[int, str] = {}
+    met: Counter[str] = Counter()
+    for index, name in sorted(names.items()):
+        words = re.findall(r"[A-Za-z0-9_]+", GENERIC.sub("", name))
+        short = "r_" + "_".join(words[-2:])
+        met[short] += 1
+        found[index] = short if met[short] == 1 else f"{short}_{met[short]}"
+    return found
 
 
 class Program:
@@ -21,6 +35,7 @@ class Program:
     def __init__(self, module: Module) -> None:
         self.module = module
         self.names = module.function_names()
+        self.identifiers = identifiers(self.names)
         self.exported = {index: f"{name}_code" for index, name in module.exported().items()}
         self.functions: dict[int, Function] = {}
         self.segments: set[int] = set()
@@ -33,7 +48,7 @@ class Program:
         if index in self.exported:
             return self.exported[index]
         if index >= len(self.module.imports):
-            return f"f{index}"
+            return self.identifiers.get(index, f"r_{index}")
         name = self.module.imports[index]
         if name not in CALLED:
             stop(f"a call of {name}, which portable.h doesn't have")
