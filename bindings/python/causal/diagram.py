@@ -503,17 +503,18 @@ class Diagram:
     ) -> Effects:
         """The effects of x on y in the data: the values of the formula of `identify` over the counts.
 
-        The data is a DataFrame (of pandas or polars), a table of pyarrow, a mapping of columns, or the path of a CSV file, with a
-        column for each variable of the formula; `count` names a column of counts, and without it each record counts 1. Values are
+        The data is a DataFrame (of pandas or polars), a table of pyarrow, a mapping of columns, the path of a CSV file, or a pair
+        of a connection of the DB-API and the name of a table, of which the database counts the records (see `counts_query`). It has
+        a column for each variable of the formula; `count` names a column of counts, and without it each record counts 1. Values are
         bounds of 18 digits, or with `exact` fractions. Each value is proved to be the formula's value over the counts, and so to
         cover the effect in each positive model that fits the diagram and that the counts match. That the counts are those of the
         data is tested: Python counts the records, but those of a plain file, which the library reads itself. Nothing is said of
         sampling error: see `bootstrap`.
 
         Levels are the values of a column, whatever they are, in order of first appearance; those of a `Categorical` in the order
-        of its categories, of which those without a record are left out. A variable that the formula reads beside x and y is
-        pinned at its first level in order (numbers by size, texts by their characters, a `Categorical` by its categories), or at
-        the one that `at` gives, as in `at={"Z": 1}`: see `spread`.
+        of its categories, of which those without a record are left out; those of a database in order. A variable that the formula
+        reads beside x and y is pinned at its first level in order (numbers by size, texts by their characters, a `Categorical` by
+        its categories), or at the one that `at` gives, as in `at={"Z": 1}`: see `spread`.
 
         A missing value in a used column, an empty field of a file too, is refused as `MissingValues`; with `missing="drop"` its
         record is left out, and the answer's `dropped` counts these (which estimates the effect among complete records: whether
