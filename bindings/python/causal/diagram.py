@@ -18,7 +18,7 @@ if TYPE_CHECKING:
     import networkx
     import pandas
 
-    from causal.bootstrap import Bootstrap
+    from causal.bootstrap import Bootstrap, Progress
     from causal.columns import Data
     from causal.effects import Contrast, Effects, Level, Spread
     from causal.implications import Implications
@@ -608,6 +608,7 @@ class Diagram:
         level: float = 0.95,
         seed: int = 0,
         kind: str = "percentile",
+        progress: Optional[Progress] = None,
     ) -> Bootstrap:
         """The effects with intervals by the bootstrap: percentiles of resampled tables of counts, or with `kind="bca"` percentiles
         that are corrected for bias and accelerated, which asks once more for each cell of the table.
@@ -617,7 +618,9 @@ class Diagram:
         variables that the data has; a level of another variable that isn't drawn is left out of that draw. A draw with a cell
         that has no value is left out and counted (`without_value`): where these are many, the interval says little.
 
-        The same data, seed and number of resamples give the same interval.
+        The same data, seed and number of resamples give the same interval. `progress` is called after each table that was asked
+        about, with how many were and of how many: `lambda done, of: print(done, of)`, or what moves a bar. What it raises ends the
+        bootstrap.
 
         >>> from causal import Diagram
         >>> data = {"T": ["A", "B"] * 40, "R": [1, 0, 1, 1] * 20}
@@ -632,4 +635,4 @@ class Diagram:
             raise RequestError("resamples is at least 1, and level lies between 0 and 1")
         if kind not in ("percentile", "bca"):
             raise RequestError(f"kind is 'percentile' or 'bca', and not {kind!r}")
-        return Evaluation(self, x, y, count, missing).bootstrap(data, resamples, level, seed, at, kind)
+        return Evaluation(self, x, y, count, missing).bootstrap(data, resamples, level, seed, at, kind, progress)

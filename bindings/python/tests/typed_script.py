@@ -37,7 +37,8 @@ risk: float = float(contrast.difference)
 ratio: Optional[Value] = contrast.ratio
 pair: Implication = Diagram("dag { A -> B -> C }").implications()[0]
 given: Tuple[str, ...] = pair.given
-interval = diagram.bootstrap(data, resamples=10, seed=1).contrast({"R": 1}, {"T": 1}, {"T": 0}).difference
+drawn = diagram.bootstrap(data, resamples=10, seed=1, progress=lambda done, of: print(done, of))
+interval = drawn.contrast({"R": 1}, {"T": 1}, {"T": 0}).difference
 lower: Optional[float] = None if interval is None else interval.lower
 query: str = causal.counts_query(diagram, ("main", "records"), missing="drop")
 query += causal.counts_query(diagram.adjusts("S"), "records")
