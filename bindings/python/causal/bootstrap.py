@@ -18,8 +18,9 @@ from causal.tables import Cell
 if TYPE_CHECKING:
     import pandas
 
-# Where the variance of a number of successes is larger, half of the trials are told apart first.
-WIDE = 10_000
+# Where the variance of a number of successes is larger, half of the trials are told apart first; also where the trials are more:
+# the logarithm of the gamma function is too large there to say what is near 1.
+WIDE, MANY = 10_000, 10**9
 # What computes a number of the values of all effects, or gives None where there is none.
 Measure = Callable[[Sequence[float]], Optional[float]]
 # Is told how many tables have been asked about, and of how many.
@@ -43,8 +44,8 @@ class Interval:
 def binomial(source: random.Random, n: int, p: float) -> int:
     """A draw of how many of n trials succeed, each with probability p.
 
-    A trial's success is that a uniform number is at most p. Where the number of successes is widely spread, the middle one of the
-    n numbers is drawn first (by its beta distribution), which leaves about half of them to ask about.
+    A trial's success is that a uniform number is at most p. Where the number of successes is widely spread, or the trials
+    are many, the middle one of the n numbers is drawn first (by its beta distribution), which leaves about half to ask about.
 
     >>> import random
     >>> from causal.bootstrap import binomial
@@ -52,7 +53,7 @@ def binomial(source: random.Random, n: int, p: float) -> int:
     (0, 10)
     """
     successes = 0
-    while n * p * (1 - p) > WIDE:
+    while 0 < p < 1 and (n > MANY or n * p * (1 - p) > WIDE):
         below = n // 2 + 1
         middle = source.betavariate(below, n + 1 - below)
         if middle <= p:

@@ -18,7 +18,7 @@ class Draws(unittest.TestCase):
 
     def test_binomial(self):
         source = random.Random(5)
-        for n, p in ((1, 0.5), (12, 0.1), (13, 0.9), (100, 0.3), (10**6, 0.001), (10**6, 0.5), (10**12, 10**-11), (10**12, 0.5)):
+        for n, p in ((1, 0.5), (12, 0.1), (13, 0.9), (100, 0.3), (10**6, 0.001), (10**6, 0.5), (10**12, 0.5), (10**15, 10**-14)):
             with self.subTest(n=n, p=p):
                 draws = [binomial(source, n, p) for _ in range(2000)]
                 self.assertTrue(all(0 <= draw <= n for draw in draws))
