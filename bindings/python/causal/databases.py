@@ -46,7 +46,7 @@ def table_identifier(table: TableName, quote: str = '"') -> str:
     >>> table_identifier("all records"), table_identifier(("main", "records"))
     ('"all records"', '"main"."records"')
     """
-    parts = [table] if isinstance(table, str) else list(table)
+    parts = list(table) if isinstance(table, (list, tuple)) else [table]
     if not parts:
         raise RequestError("a table has a name")
     return ".".join(identifier(part, quote) for part in parts)
@@ -130,6 +130,7 @@ class DatabaseTable:
             raise CountsError(COUNTS[5], 5)
         heads = [*names, count_name(names) if count is None else count]
         held = [[_plain(row[place]) for row in rows] for place in range(len(heads) + 1)]
+        self._check_texts(names, held)
         return {name: column_of(name, values) for name, values in zip(heads, held)}, held[-1]
 
     def columns(self) -> List[str]:
@@ -150,6 +151,21 @@ class DatabaseTable:
         wrong = f"{column} < 0 OR {column} <> CAST({column} AS BIGINT)"
         if self._rows(f"SELECT COUNT(*) FROM {table} {_ALIAS} WHERE {wrong}", 1)[0][0]:
             raise CountsError(f"the column {count} has a count that isn't a whole number from 0 to 10^15", 4, count)
+
+    def _check_texts(self, names: Sequence[str], held: Sequence[Sequence[Any]]) -> None:
+        """Refuses texts that the engine takes for one, as a collation without case does: a row has one of them for all."""
+        texts = {name: {value for value in values if isinstance(value, str)} for name, values in zip(names, held)}
+        asked = [name for name in names if texts[name]]
+        if not asked:
+            return
+        chosen = ", ".join(f"COUNT(DISTINCT {_ALIAS}.{identifier(name)})" for name in asked)
+        numbers = self._rows(f"SELECT {chosen} FROM {table_identifier(self.table)} {_ALIAS}", 1)[0]
+        for name, number in zip(asked, numbers):
+            if len(texts[name]) > number:
+                raise RequestError(
+                    f"the database takes several texts of the column {name} for one, as a collation without case does;"
+                    " give a view that writes each level in one way"
+                )
 
     def _rows(self, query: str, most: int) -> List[Sequence[Any]]:
         return list(self._execute(query).fetchmany(most))

@@ -35,7 +35,8 @@ def counts_query(
     Names are quoted as identifiers, by `quote`: '"', or '`' where an engine wants that. The table is named by one name, or with
     its schema as in `("schema", "table")`. `count` names a column of counts of the table itself, which are summed, under its name.
     With `missing="drop"` records that lack a value are left out; else they are counted by themselves, and it is for what reads the
-    counts to refuse them or to make them a level.
+    counts to refuse them or to make them a level. Levels are those that the engine holds apart: where a collation takes several
+    texts for one, each level has to be written in one way first.
 
     >>> from causal import Diagram, counts_query
     >>> kidney = Diagram("dag { T [exposure] R [outcome]  S -> T -> R <- S }")

@@ -219,6 +219,18 @@ class Refusals(unittest.TestCase):
                 KIDNEY.effects(held({**COUNTS, "n": [*COUNTS["n"][:-1], wrong]}), count="n")
             self.assertEqual(caught.exception.number, 4)
 
+    def test_texts_that_the_engine_takes_for_one(self):
+        connection = sqlite3.connect(":memory:")
+        connection.execute("CREATE TABLE records (X TEXT COLLATE NOCASE, Y)")
+        connection.executemany("INSERT INTO records VALUES (?, ?)", [("a", 1), ("A", 0), ("b", 1), ("b", 0)])
+        connection.execute("CREATE VIEW apart AS SELECT X COLLATE BINARY AS X, Y FROM records")
+        connection.execute("CREATE VIEW alike AS SELECT LOWER(X) AS X, Y FROM records")
+        diagram = Diagram("dag { X -> Y }")
+        with self.assertRaisesRegex(causal.RequestError, "the column X"):
+            diagram.effects((connection, "records"), "X", "Y")
+        self.assertEqual(diagram.effects((connection, "apart"), "X", "Y").levels["X"], ["A", "a", "b"])
+        self.assertEqual([float(it.value) for it in diagram.effects((connection, "alike"), "X", "Y", exact=True)], [0.5] * 4)
+
     def test_too_many_levels(self):
         connection = sqlite3.connect(":memory:")
         numbers = "WITH RECURSIVE k(n) AS (SELECT 0 UNION ALL SELECT n + 1 FROM k LIMIT 1048577) SELECT n AS X FROM k"
@@ -244,8 +256,9 @@ class Refusals(unittest.TestCase):
         for table in ("", (), ("a", ""), "a\0b"):
             with self.assertRaises(causal.RequestError):
                 counts_query(answer, table)
-        with self.assertRaises(causal.RequestError):
-            KIDNEY.effects((sqlite3.connect(":memory:"), ""))
+        for table in ("", None, 3):
+            with self.assertRaises(causal.RequestError):
+                KIDNEY.effects((sqlite3.connect(":memory:"), table))
 
 
 if __name__ == "__main__":
