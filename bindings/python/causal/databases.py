@@ -178,7 +178,12 @@ class DatabaseTable:
 
 
 def _plain(value: Any) -> Any:
-    """The value, or a whole number where an engine gives a sum as a decimal one."""
+    """The value, or a whole number where an engine gives a sum as a decimal one.
+
+    >>> from causal.databases import _plain
+    >>> _plain(Decimal("5.0")), _plain(Decimal("0.5")), _plain("5")
+    (5, Decimal('0.5'), '5')
+    """
     return int(value) if isinstance(value, Decimal) and value.is_finite() and value == value.to_integral_value() else value
 
 

@@ -101,6 +101,17 @@ class Answers(unittest.TestCase):
                 self.assertEqual(by_cell(found), by_cell(expected))
             self.assertEqual(len(NAPKIN.spread(there)), 2)
 
+    def test_evaluate(self):
+        try:
+            import pandas
+        except ImportError:
+            self.skipTest("no pandas")
+        found, expected = [KIDNEY.evaluate(data, count="n", exact=True) for data in (held(COUNTS), COUNTS)]
+        order = ["T", "R"]
+        pandas.testing.assert_frame_equal(
+            found.sort_values(order).reset_index(drop=True), expected.sort_values(order).reset_index(drop=True)
+        )
+
     def test_contrast(self):
         asked = {"treated": "A", "control": "B", "outcome": "success", "count": "n", "exact": True}
         self.assertEqual(KIDNEY.contrast(held(COUNTS), **asked), KIDNEY.contrast(COUNTS, **asked))
