@@ -38,6 +38,7 @@ if TYPE_CHECKING:
     from causal.effects import Contrast, Effect, Effects, Mean, Spread, Value
     from causal.implications import Difference, Implication, Implications
     from causal.independence import IndependenceTest, IndependenceTests
+    from causal.queries import counts_query
 
 __version__ = VERSION
 
@@ -84,6 +85,7 @@ __all__ = [
     "Term",
     "UnreadableAnswer",
     "Value",
+    "counts_query",
     "run",
 ]
 
@@ -104,6 +106,7 @@ _LATER = {
     "Implications": "causal.implications",
     "IndependenceTest": "causal.independence",
     "IndependenceTests": "causal.independence",
+    "counts_query": "causal.queries",
 }
 
 

@@ -4,6 +4,7 @@ The values of each draw are those of the library. The draws and the interval are
 """
 from __future__ import annotations
 
+import math
 import random
 from dataclasses import dataclass, field
 from operator import itemgetter
@@ -17,9 +18,13 @@ from causal.tables import Cell
 if TYPE_CHECKING:
     import pandas
 
-SMALL = 12
+# Where the variance of a number of successes is larger, half of the trials are told apart first; also where the trials are more:
+# the logarithm of the gamma function is too large there to say what is near 1.
+WIDE, MANY = 10_000, 10**9
 # What computes a number of the values of all effects, or gives None where there is none.
 Measure = Callable[[Sequence[float]], Optional[float]]
+# Is told how many tables have been asked about, and of how many.
+Progress = Callable[[int, int], object]
 
 
 @dataclass(frozen=True)
@@ -39,18 +44,16 @@ class Interval:
 def binomial(source: random.Random, n: int, p: float) -> int:
     """A draw of how many of n trials succeed, each with probability p.
 
-    A trial's success is that a uniform number is at most p. The middle one of the n numbers is drawn first (by its beta
-    distribution), which leaves about half of them to ask about.
+    A trial's success is that a uniform number is at most p. Where the number of successes is widely spread, or the trials
+    are many, the middle one of the n numbers is drawn first (by its beta distribution), which leaves about half to ask about.
 
     >>> import random
     >>> from causal.bootstrap import binomial
     >>> binomial(random.Random(1), 10, 0.0), binomial(random.Random(1), 10, 1.0)
     (0, 10)
     """
-    if p <= 0:
-        return 0
     successes = 0
-    while n > SMALL and p < 1:
+    while 0 < p < 1 and (n > MANY or n * p * (1 - p) > WIDE):
         below = n // 2 + 1
         middle = source.betavariate(below, n + 1 - below)
         if middle <= p:
@@ -60,7 +63,30 @@ def binomial(source: random.Random, n: int, p: float) -> int:
         else:
             n = below - 1
             p /= middle
-    return successes + (n if p >= 1 else sum(source.random() < p for _ in range(n)))
+    if p <= 0 or n == 0:
+        return successes
+    return successes + (n if p >= 1 else _near_mode(source.random(), n, p))
+
+
+def _near_mode(left: float, n: int, p: float) -> int:
+    """The number of successes that a uniform number stands for: it is used up by the probabilities, from the mode outward."""
+    mode = min(int((n + 1) * p), n)
+    odds = p / (1 - p)
+    chances = math.lgamma(n + 1) - math.lgamma(mode + 1) - math.lgamma(n - mode + 1)
+    up = down = math.exp(chances + mode * math.log(p) + (n - mode) * math.log1p(-p))
+    left -= up
+    low = high = mode
+    # (beyond 0 and n the probabilities are 0; rounding may leave something when all are used up)
+    while left > 0 and up + down > 1e-20:
+        up *= odds * (n - high) / (high + 1)
+        high += 1
+        left -= up
+        if left <= 0:
+            return high
+        down *= low / (odds * (n - low + 1))
+        low -= 1
+        left -= down
+    return low if left <= 0 else mode
 
 
 def drawn(source: random.Random, counts: Mapping[Cell, int]) -> Dict[Cell, int]:

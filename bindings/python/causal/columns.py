@@ -10,7 +10,7 @@ from typing import Any, Callable, Dict, Hashable, Iterable, List, Mapping, Optio
 
 from causal.errors import CountsError, RequestError
 
-# A DataFrame or a table, a mapping of columns, or the path of a CSV file.
+# A DataFrame or a table, a mapping of columns, the path of a CSV file, or a connection with the name of a table.
 Data = Union[str, "os.PathLike[str]", Mapping[str, Any], Any]
 
 _NUMBER = re.compile(r"\s*[-+]?([0-9]+\.?[0-9]*|\.[0-9]+)([eE][-+]?[0-9]+)?\s*")
@@ -147,7 +147,7 @@ def columns_of(data: Data, used: Sequence[str]) -> Dict[str, Column]:
     >>> columns_of(None, ["Y"])
     Traceback (most recent call last):
         ...
-    causal.errors.RequestError: data is a DataFrame, a mapping of columns or the path of a CSV file, and no NoneType
+    causal.errors.RequestError: data is a DataFrame, a mapping of columns, the path of a file or (connection, table), and no NoneType
     """
     path = path_of(data)
     if path is not None:
@@ -175,7 +175,7 @@ def _reader_of(data: Any) -> Tuple[List[Any], Callable[[int], Any]]:
         return list(data.column_names), data.column
     hint = "; collect() gives the DataFrame of a lazy one" if hasattr(data, "collect") else ""
     hint = "; an array has no names of columns" if hasattr(data, "shape") and not hint else hint
-    kinds = "data is a DataFrame, a mapping of columns or the path of a CSV file"
+    kinds = "data is a DataFrame, a mapping of columns, the path of a file or (connection, table)"
     raise RequestError(f"{kinds}, and no {type(data).__name__}{hint}")
 
 

@@ -18,7 +18,7 @@ if TYPE_CHECKING:
     import networkx
     import pandas
 
-    from causal.bootstrap import Bootstrap
+    from causal.bootstrap import Bootstrap, Progress
     from causal.columns import Data
     from causal.effects import Contrast, Effects, Level, Spread
     from causal.implications import Implications
@@ -503,17 +503,18 @@ class Diagram:
     ) -> Effects:
         """The effects of x on y in the data: the values of the formula of `identify` over the counts.
 
-        The data is a DataFrame (of pandas or polars), a table of pyarrow, a mapping of columns, or the path of a CSV file, with a
-        column for each variable of the formula; `count` names a column of counts, and without it each record counts 1. Values are
+        The data is a DataFrame (of pandas or polars), a table of pyarrow, a mapping of columns, the path of a CSV file, or a pair
+        of a connection of the DB-API and the name of a table, of which the database counts the records (see `counts_query`). It has
+        a column for each variable of the formula; `count` names a column of counts, and without it each record counts 1. Values are
         bounds of 18 digits, or with `exact` fractions. Each value is proved to be the formula's value over the counts, and so to
         cover the effect in each positive model that fits the diagram and that the counts match. That the counts are those of the
         data is tested: Python counts the records, but those of a plain file, which the library reads itself. Nothing is said of
         sampling error: see `bootstrap`.
 
         Levels are the values of a column, whatever they are, in order of first appearance; those of a `Categorical` in the order
-        of its categories, of which those without a record are left out. A variable that the formula reads beside x and y is
-        pinned at its first level in order (numbers by size, texts by their characters, a `Categorical` by its categories), or at
-        the one that `at` gives, as in `at={"Z": 1}`: see `spread`.
+        of its categories, of which those without a record are left out; those of a database in order. A variable that the formula
+        reads beside x and y is pinned at its first level in order (numbers by size, texts by their characters, a `Categorical` by
+        its categories), or at the one that `at` gives, as in `at={"Z": 1}`: see `spread`.
 
         A missing value in a used column, an empty field of a file too, is refused as `MissingValues`; with `missing="drop"` its
         record is left out, and the answer's `dropped` counts these (which estimates the effect among complete records: whether
@@ -607,6 +608,7 @@ class Diagram:
         level: float = 0.95,
         seed: int = 0,
         kind: str = "percentile",
+        progress: Optional[Progress] = None,
     ) -> Bootstrap:
         """The effects with intervals by the bootstrap: percentiles of resampled tables of counts, or with `kind="bca"` percentiles
         that are corrected for bias and accelerated, which asks once more for each cell of the table.
@@ -616,7 +618,9 @@ class Diagram:
         variables that the data has; a level of another variable that isn't drawn is left out of that draw. A draw with a cell
         that has no value is left out and counted (`without_value`): where these are many, the interval says little.
 
-        The same data, seed and number of resamples give the same interval.
+        The same data, seed and number of resamples give the same interval. `progress` is called after each table that was asked
+        about, with how many were and of how many: `lambda done, of: print(done, of)`, or what moves a bar. What it raises ends the
+        bootstrap.
 
         >>> from causal import Diagram
         >>> data = {"T": ["A", "B"] * 40, "R": [1, 0, 1, 1] * 20}
@@ -631,4 +635,4 @@ class Diagram:
             raise RequestError("resamples is at least 1, and level lies between 0 and 1")
         if kind not in ("percentile", "bca"):
             raise RequestError(f"kind is 'percentile' or 'bca', and not {kind!r}")
-        return Evaluation(self, x, y, count, missing).bootstrap(data, resamples, level, seed, at, kind)
+        return Evaluation(self, x, y, count, missing).bootstrap(data, resamples, level, seed, at, kind, progress)

@@ -2,11 +2,11 @@
 from __future__ import annotations
 
 import random
-from itertools import product
-from typing import TYPE_CHECKING, Any, Dict, Iterator, Mapping, Optional, Sequence, Tuple
+from itertools import chain, product
+from typing import TYPE_CHECKING, Any, Dict, Iterable, Iterator, Mapping, Optional, Sequence, Tuple
 
 from causal._library import Text
-from causal.bootstrap import Bootstrap, drawn
+from causal.bootstrap import Bootstrap, Progress, drawn
 from causal.columns import Data, may_have_blanks, path_of, read_bytes
 from causal.diagram import options
 from causal.effects import Effects, Level, LevelOf, Spread, read_effects, split_levels
@@ -66,19 +66,22 @@ class Evaluation:
                 without.append({name: table.levels_of(name)[place] for name, place in pins.items()})
         return Spread(tuple(found), tuple(without))
 
-    def bootstrap(self, data: Data, resamples: int, level: float, seed: int, at: Pins, kind: str) -> Bootstrap:
+    def bootstrap(
+        self, data: Data, resamples: int, level: float, seed: int, at: Pins, kind: str, progress: Optional[Progress] = None
+    ) -> Bootstrap:
         """The effects with intervals: see `Diagram.bootstrap`."""
         table = self.pinned(self.table(data), at)
         estimate = self.over_table(table, exact=False)
         source = random.Random(seed)
-        draws = [self.over_counts(table, drawn(source, table.counts)) for _ in range(resamples)]
-        return Bootstrap(estimate, tuple(draws), level, seed, kind, tuple(self.left_out(table)) if kind == "bca" else ())
-
-    def left_out(self, table: Table) -> Iterator[Tuple[int, Optional[Tuple[float, ...]]]]:
-        """The values without one record, for each cell of the table, with how many records it has."""
-        for cell, count in table.counts.items():
-            if count:
-                yield count, self.over_counts(table, {**table.counts, cell: count - 1})
+        cells = [cell for cell, count in table.counts.items() if count] if kind == "bca" else []
+        tables = chain((drawn(source, table.counts) for _ in range(resamples)), without_one(table.counts, cells))
+        values = []
+        for done, counts in enumerate(tables, 1):
+            values.append(self.over_counts(table, counts))
+            if progress is not None:
+                progress(done, resamples + len(cells))
+        left_out = [(table.counts[cell], value) for cell, value in zip(cells, values[resamples:])]
+        return Bootstrap(estimate, tuple(values[:resamples]), level, seed, kind, tuple(left_out))
 
     # How data is read.
 
@@ -161,6 +164,16 @@ class Evaluation:
             return tuple(float(effect.value) for effect in self.over_table(table, exact=False, text=text))
         except EvaluationError:
             return None
+
+
+def without_one(counts: Mapping[Cell, int], cells: Iterable[Cell]) -> Iterator[Dict[Cell, int]]:
+    """The counts without one record of each of these cells in turn.
+
+    >>> from causal.evaluation import without_one
+    >>> list(without_one({(0,): 3, (1,): 2}, [(1,)]))
+    [{(0,): 3, (1,): 1}]
+    """
+    return ({**counts, cell: counts[cell] - 1} for cell in cells)
 
 
 def levels_at(names: Sequence[str], levels: Any) -> Dict[str, Level]:

@@ -55,6 +55,27 @@ def read_term(cursor: Cursor) -> Term:
     return Term(y, x, given)
 
 
+def parts_of(text: str) -> Tuple[List[Term], Set[str]]:
+    """The terms of a formula's text, and the names over which it sums.
+
+    >>> from causal.formula import parts_of
+    >>> terms, summed = parts_of("sum{W} P(W) * P(Y|do(Z),X)")
+    >>> [str(term) for term in terms], summed
+    (['P(W)', 'P(Y|do(Z),X)'], {'W'})
+    """
+    cursor = Cursor(text)
+    terms: List[Term] = []
+    summed: Set[str] = set()
+    while not cursor.is_done():
+        if text.startswith("P(", cursor.at):
+            terms.append(read_term(cursor))
+        elif cursor.accept("sum"):
+            summed.update(cursor.set())
+        else:
+            cursor.at += 1
+    return terms, summed
+
+
 def variables_of(text: str) -> Set[str]:
     """The names in the terms and sums of a formula's text.
 
@@ -62,17 +83,8 @@ def variables_of(text: str) -> Set[str]:
     >>> sorted(variables_of('sum{"a b"} P("a b") * P(Y|X,"a b") / q0'))
     ['X', 'Y', 'a b']
     """
-    cursor = Cursor(text)
-    names: Set[str] = set()
-    while not cursor.is_done():
-        if text.startswith("P(", cursor.at):
-            term = read_term(cursor)
-            names.update(term.y, term.x, term.given)
-        elif cursor.accept("sum"):
-            names.update(cursor.set())
-        else:
-            cursor.at += 1
-    return names
+    terms, summed = parts_of(text)
+    return summed.union(*((*term.y, *term.x, *term.given) for term in terms))
 
 
 @dataclass(frozen=True)
@@ -122,6 +134,17 @@ class Formula:
         ['X', 'Y', 'Z']
         """
         return {*self.target.y, *self.target.x, *variables_of(self.expression)}.union(*map(variables_of, self.definitions))
+
+    @property
+    def experiments(self) -> Set[Tuple[str, ...]]:
+        """The experiments under which terms of the formula are: those that `surrogate` was asked about and that it uses.
+
+        >>> from causal import Diagram
+        >>> Diagram("dag { X -> Z -> Y X <-> Z Z <-> Y }").surrogate("Z", "Y", experiments="Z").experiments
+        {('Z',)}
+        """
+        texts = (self.expression, *self.definitions)
+        return {term.x for text in texts for term in parts_of(text)[0] if term.x}
 
     @property
     def latex(self) -> Optional[str]:

@@ -10,6 +10,7 @@ from operator import index
 from typing import Any, Callable, Dict, Hashable, Iterable, List, Mapping, Optional, Sequence, Tuple
 
 from causal.columns import Column, Data, columns_of, csv_columns
+from causal.databases import DatabaseTable, database_of
 from causal.errors import CausalError, CountsError, MissingValues, RequestError
 
 Cell = Tuple[int, ...]
@@ -74,6 +75,20 @@ class Table:
         ranked = tuple(tuple(moved(place, at) for place in order) for order, at in zip(self.ranked, places))
         return replace(self, levels=levels, counts=counts, ranked=ranked)
 
+    def ordered(self) -> "Table":
+        """The table with its levels in order, and its cells in the order of these.
+
+        >>> from causal.tables import table_of
+        >>> table = table_of({"X": ["b", "a", "b"], "Y": [1, 1, 1]}, ["X", "Y"]).ordered()
+        >>> table.levels, table.counts
+        ((['a', 'b'], [1]), {(0, 0): 1, (1, 0): 2})
+        """
+        places = [{old: new for new, old in enumerate(order)} for order in self.ranked]
+        levels = tuple([held[place] for place in order] for held, order in zip(self.levels, self.ranked))
+        counts = {tuple(place[code] for place, code in zip(places, cell)): count for cell, count in self.counts.items()}
+        ranked = tuple(tuple(range(len(order))) for order in self.ranked)
+        return replace(self, levels=levels, counts=dict(sorted(counts.items())), ranked=ranked)
+
     def text(self, counts: Optional[Mapping[Cell, int]] = None, kept: Optional[Iterable[str]] = None) -> bytes:
         """The counts as CSV: this table's, or those given in its place.
 
@@ -119,7 +134,16 @@ def check_request(names: Sequence[str], count: Optional[str], missing: str) -> N
 def table_of(data: Data, names: Sequence[str], count: Optional[str] = None, missing: str = "error") -> Table:
     """The table of the named variables in data of any kind: see `table_from`."""
     check_request(names, count, missing)
+    database = database_of(data)
+    if database is not None:
+        return table_of_database(database, names, count, missing)
     return table_from(columns_of(data, [*names, *([count] if count is not None else [])]), names, count, missing)
+
+
+def table_of_database(database: DatabaseTable, names: Sequence[str], count: Optional[str], missing: str) -> Table:
+    """The table of what the database has counted. Its levels are in order, since an engine gives its rows in any."""
+    columns, records = database.grouped(names, count)
+    return table_from(columns, names, list(columns)[-1], missing, records).ordered()
 
 
 def table_of_file(
@@ -138,14 +162,20 @@ def table_of_file(
     return table_from(columns, names, count, missing)
 
 
-def table_from(columns: Mapping[str, Column], names: Sequence[str], count: Optional[str] = None, missing: str = "error") -> Table:
+def table_from(
+    columns: Mapping[str, Column],
+    names: Sequence[str],
+    count: Optional[str] = None,
+    missing: str = "error",
+    records: Optional[Sequence[int]] = None,
+) -> Table:
     """The table of the named variables in columns.
 
     The levels of a `Categorical` are its categories that occur, in their order; of any other column its values in order of first
     appearance. A missing value (None, NaN, NaT, NA, an empty field of a file) in a used column is refused; with `missing="drop"` its
-    record is left out, and with "level" it is a level.
+    record is left out, and with "level" it is a level. `records` says how many records each row stands for, where it isn't one.
     """
-    kept, dropped = _kept_records(columns, missing)
+    kept, dropped = _kept_records(columns, missing, records)
     counts = _record_counts(columns[count].values, kept) if count is not None else [1] * len(kept)
     factors = [columns[name].factor(kept) for name in names]
     summed: Counter[Cell] = Counter()
@@ -155,19 +185,22 @@ def table_from(columns: Mapping[str, Column], names: Sequence[str], count: Optio
     return Table(tuple(names), tuple(levels for _, levels in factors), dict(summed), ranked, dropped)
 
 
-def _kept_records(columns: Mapping[str, Column], missing: str) -> Tuple[Sequence[int], int]:
+def _kept_records(
+    columns: Mapping[str, Column], missing: str, records: Optional[Sequence[int]] = None
+) -> Tuple[Sequence[int], int]:
     size = max((len(column.values) for column in columns.values()), default=0)
     lacking = [column for column in columns.values() if any(column.missing)]
     if not lacking or missing == "level":
         return range(size), 0
+    weights = [1] * size if records is None else records
     if missing == "error":
-        name, records = lacking[0].name, sum(lacking[0].missing)
+        name, without = lacking[0].name, sum(weights[k] for k in range(size) if lacking[0].missing[k])
         raise MissingValues(
-            f'the column {name} has no value in {records} of {size} records; give missing="drop" to leave such records out',
-            place=(name, records),
+            f'the column {name} has no value in {without} of {sum(weights)} records; give missing="drop" to leave such records out',
+            place=(name, without),
         )
     kept = [k for k in range(size) if not any(column.missing[k] for column in lacking)]
-    return kept, size - len(kept)
+    return kept, sum(weights) - sum(weights[k] for k in kept)
 
 
 def _record_counts(values: Sequence[Any], kept: Sequence[int]) -> List[int]:

@@ -2,6 +2,7 @@
 import random
 import unittest
 from collections import Counter
+from statistics import NormalDist
 
 from worked import read_example
 
@@ -17,7 +18,7 @@ class Draws(unittest.TestCase):
 
     def test_binomial(self):
         source = random.Random(5)
-        for n, p in ((1, 0.5), (12, 0.1), (13, 0.9), (100, 0.3), (10**6, 0.001), (10**12, 0.5)):
+        for n, p in ((1, 0.5), (12, 0.1), (13, 0.9), (100, 0.3), (10**6, 0.001), (10**6, 0.5), (10**12, 0.5), (10**15, 10**-14)):
             with self.subTest(n=n, p=p):
                 draws = [binomial(source, n, p) for _ in range(2000)]
                 self.assertTrue(all(0 <= draw <= n for draw in draws))
@@ -28,12 +29,21 @@ class Draws(unittest.TestCase):
                 self.assertLess(abs(spread / deviation**2 - 1), 0.2)
 
     def test_binomial_frequencies(self):
-        source, n, p = random.Random(6), 20, 0.3
-        counts = Counter(binomial(source, n, p) for _ in range(20000))
-        chance = (1 - p) ** n
-        for k in range(n + 1):
-            self.assertLess(abs(counts[k] - 20000 * chance), 6 * (20000 * chance) ** 0.5 + 1)
-            chance *= (n - k) / (k + 1) * p / (1 - p)
+        source = random.Random(6)
+        for n, p in ((20, 0.3), (3, 0.999), (1000, 0.4)):
+            counts = Counter(binomial(source, n, p) for _ in range(20000))
+            chance = (1 - p) ** n
+            for k in range(n + 1):
+                with self.subTest(n=n, p=p, k=k):
+                    self.assertLess(abs(counts[k] - 20000 * chance), 6 * (20000 * chance) ** 0.5 + 1)
+                chance *= (n - k) / (k + 1) * p / (1 - p)
+
+    def test_binomial_of_many_trials(self):
+        source = random.Random(8)
+        draws = [binomial(source, 10**6 + 1, 0.5) for _ in range(4000)]
+        for share in (0.1, 0.5, 0.75):
+            part = NormalDist(500000.5, 500).inv_cdf(share)
+            self.assertLess(abs(sum(draw < part for draw in draws) / 4000 - share), 0.035)
 
     def test_drawn(self):
         counts = {("a",): 5, ("b",): 0, ("c",): 1000}
@@ -115,6 +125,23 @@ class Coverage(unittest.TestCase):
         answer = Diagram("dag { X -> Y }").bootstrap(data, "X", "Y", count="n", resamples=200)
         contrast = answer.contrast({"Y": 1}, {"X": 1}, {"X": 0})
         self.assertLess(contrast.ratio.draws, contrast.difference.draws)
+
+    def test_progress(self):
+        data = {"X": [0, 1, 0, 1], "Y": [0, 0, 1, 1], "n": [5, 5, 5, 0]}
+        for kind, total in (("percentile", 3), ("bca", 6)):
+            told = []
+            answer = Diagram("dag { X -> Y }").bootstrap(
+                data, "X", "Y", count="n", resamples=3, kind=kind, progress=lambda done, of: told.append((done, of))
+            )
+            self.assertEqual(told, [(done, total) for done in range(1, total + 1)])
+            self.assertEqual((answer.resamples, [count for count, _ in answer.left_out]), (3, [5] * (total - 3)))
+
+    def test_what_progress_raises_ends_it(self):
+        def stop(done, of):
+            raise KeyboardInterrupt
+
+        with self.assertRaises(KeyboardInterrupt):
+            NAPKIN.bootstrap(napkin_data(random.Random(2), 300), resamples=10, progress=stop)
 
     def test_requests(self):
         for wrong in ({"resamples": 0}, {"level": 1.0}, {"level": 0.0}):

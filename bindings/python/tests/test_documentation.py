@@ -1,4 +1,4 @@
-"""The examples of the docstrings and of the README."""
+"""The examples of the docstrings, of the README and of the tutorials."""
 import doctest
 import importlib
 import os
@@ -46,9 +46,11 @@ def load_tests(loader, tests, pattern):
         for test in finder.find(module):
             if test.examples:
                 tests.addTest(example(test))
-    with open(os.path.join(HERE, "..", "README.md"), encoding="utf-8") as file:
-        readme = doctest.DocTestParser().get_doctest(file.read(), {}, "README.md", "README.md", 0)
-    tests.addTest(example(readme))
+    top = os.path.join(HERE, "..")
+    tutorials = sorted(os.listdir(os.path.join(top, "tutorial")))
+    for name in ["README.md", *(os.path.join("tutorial", name) for name in tutorials if name.endswith(".md"))]:
+        with open(os.path.join(top, name), encoding="utf-8") as file:
+            tests.addTest(example(doctest.DocTestParser().get_doctest(file.read(), {}, name, name, 0)))
     return tests
 
 

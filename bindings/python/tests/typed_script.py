@@ -1,4 +1,5 @@
 """A script as a user writes it, for `mypy --strict`: each answer has the type that its documentation says."""
+import sqlite3
 from fractions import Fraction
 from typing import Dict, List, Optional, Tuple
 
@@ -36,8 +37,14 @@ risk: float = float(contrast.difference)
 ratio: Optional[Value] = contrast.ratio
 pair: Implication = Diagram("dag { A -> B -> C }").implications()[0]
 given: Tuple[str, ...] = pair.given
-interval = diagram.bootstrap(data, resamples=10, seed=1).contrast({"R": 1}, {"T": 1}, {"T": 0}).difference
+drawn = diagram.bootstrap(data, resamples=10, seed=1, progress=lambda done, of: print(done, of))
+interval = drawn.contrast({"R": 1}, {"T": 1}, {"T": 0}).difference
 lower: Optional[float] = None if interval is None else interval.lower
+query: str = causal.counts_query(diagram, ("main", "records"), missing="drop")
+query += causal.counts_query(diagram.adjusts("S"), "records")
+connection: sqlite3.Connection = sqlite3.connect(":memory:")
+connection.execute("CREATE TABLE records AS SELECT 0 AS S, 0 AS T, 0 AS R")
+counted: Effects = diagram.effects((connection, "records"))
 
 try:
     diagram.effects("counts.csv", at={"Z": 1})
@@ -47,4 +54,5 @@ except causal.EvaluationError as error:
 reply = causal.run(["graph", "g"], {"g": "dag { A }"})
 status: int = reply.status
 written: bytes = reply.out + causal.run(["graph", b"g"], {b"g": b"dag {}"}).err
+print(query, counted)
 print(numbers, separated, first_set, some_sets, exact, some, risk, ratio, given, lower, status, written, width(effects))
