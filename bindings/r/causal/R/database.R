@@ -67,7 +67,9 @@ header_of <- function(data) {
 # The counts of a table, as a data frame with the counts last, in an order that doesn't depend on the database.
 fetch_counts <- function(data, used, count) {
   check_counts_there(data, count)
-  found <- DBI::dbGetQuery(data$connection, query_text(used, data$table, count, data$connection))
+  query <- query_text(used, data$table, count, data$connection)
+  # a column of several types is read with a warning that some values became others
+  found <- tryCatch(DBI::dbGetQuery(data$connection, query), warning = function(it) stop("the counts can't be read as they are: ", conditionMessage(it)))
   columns <- stats::setNames(lapply(found, plain_column), c(used, count_name(list(names = used))))
   columns[[length(columns)]] <- as.numeric(columns[[length(columns)]])
   order <- do.call(order, c(unname(columns[used]), list(method = "radix")))

@@ -37,6 +37,7 @@ write_table <- function(name, data) {
   DBI::dbWriteTable(connection, name, data)
   database_table(connection, name)
 }
+execute <- function(query) invisible(DBI::dbExecute(connection, query))
 sorted <- function(data) data[do.call(order, c(unname(as.list(data)), list(method = "radix"))), , drop = FALSE]
 ordered_stones <- sorted(kidney_stones[c("T", "R", "S", "count")])
 counted <- write_table("counted", kidney_stones)
@@ -92,17 +93,18 @@ answer <- evaluate(stones, holes, exact = TRUE, missing = "drop")
 same(answer$fraction, wanted$fraction)
 same(attr(answer, "dropped"), 3)
 odd <- write_table("t2", stats::setNames(ordered_stones, c("\u00c5", "R `s", "stone, size", "count\"")))
-same(evaluate("dag { \"stone, size\" -> \u00c5 \"stone, size\" -> \"R `s\" \u00c5 -> \"R `s\" }", odd, "\u00c5", "R `s", count = "count\"", exact = TRUE)$fraction,
-     wanted$fraction)
+odd_diagram <- "dag { \"stone, size\" -> \u00c5 \"stone, size\" -> \"R `s\" \u00c5 -> \"R `s\" }"
+same(evaluate(odd_diagram, odd, "\u00c5", "R `s", count = "count\"", exact = TRUE)$fraction, wanted$fraction)
 large <- write_table("large", transform(ordered_stones, count = count * 1e9))
-DBI::dbExecute(connection, "UPDATE large SET count = CAST(count AS INTEGER)")
+execute("UPDATE large SET count = CAST(count AS INTEGER)")
 same(evaluate(stones, large, count = "count", exact = TRUE)$fraction, wanted$fraction)
-DBI::dbExecute(connection, "CREATE TABLE whole (T BIGINT, R INT, S INT, n BIGINT)")
-DBI::dbExecute(connection, "INSERT INTO whole SELECT CASE T WHEN 'A' THEN -8000000000 ELSE 8000000000 END, R = 'success', S = 'small', count * 1000000000 FROM counted")
+execute("CREATE TABLE whole (T BIGINT, R INT, S INT, n BIGINT)")
+execute(paste("INSERT INTO whole SELECT CASE T WHEN 'A' THEN -8000000000 ELSE 8000000000 END, R = 'success', S = 'small',",
+              "count * 1000000000 FROM counted"))
 answer <- evaluate(stones, database_table(connection, "whole"), count = "n", exact = TRUE)
 same(answer$fraction, wanted$fraction)
 same(unique(answer$T), c(-8e9, 8e9))
-DBI::dbExecute(connection, "UPDATE whole SET T = T * 1000000000 + 1")
+execute("UPDATE whole SET T = T * 1000000000 + 1")
 stopifnot(grepl("can't tell apart", refusal(evaluate(stones, database_table(connection, "whole"), count = "n"))))
 
 # Refusals: the same faults; a column that isn't there is no text; sums hide no wrong count
@@ -115,6 +117,9 @@ for (wrong in c(-1, 0.5, NA)) {
   DBI::dbWriteTable(connection, "wrong", rbind(kidney_stones, transform(kidney_stones[1, ], count = wrong)), overwrite = TRUE)
   stopifnot(grepl("1 row of the table have no count", refusal(evaluate(stones, database_table(connection, "wrong"), count = "count"))))
 }
+execute("CREATE TABLE mixed (T, R, S)")
+execute("INSERT INTO mixed SELECT CASE T WHEN 'A' THEN 0 ELSE 'zero' END, R, S FROM counted")
+stopifnot(grepl("can't be read as they are", refusal(evaluate(stones, database_table(connection, "mixed")))))
 for (count in list(NULL, "count")) {
   DBI::dbWriteTable(connection, "empty", kidney_stones[0, ], overwrite = TRUE)
   caught <- tryCatch(evaluate(stones, database_table(connection, "empty"), count = count), causal_counts_fault = identity)
