@@ -2,6 +2,7 @@
 
 .onLoad <- function(libname, pkgname) {
   register_with("knitr", list(knit_print = knit_methods))
+  register_with("ggplot2", list(autoplot = autoplot_methods))
   register_with("generics", list(tidy = tidy_methods, glance = glance_methods))
 }
 
