@@ -26,12 +26,17 @@ count_table <- function(diagram, words, data, count, missing, command = "evaluat
     count <- utils::tail(make.unique(c(names(dimnames(data)), "count")), 1)
     data <- as.data.frame(data, responseName = count, stringsAsFactors = TRUE)
   }
-  if (!is.data.frame(data)) stop("`data` has to be a data frame or a table")
-  if (!is.null(count) && (!is.character(count) || length(count) != 1 || is.na(count))) stop("`count` is the name of one column")
+  is_remote <- inherits(data, "causal_table")
+  if (!is.data.frame(data) && !is_remote) stop("`data` has to be a data frame, a table, or what `database_table` gives")
+  check_count_name(count)
   used <- used_columns(diagram, words, command)
   if (is.null(used)) return(NULL)
-  if (!is.null(count) && enc2utf8(count) %in% used) stop("the column ", count, " can't hold the counts: it is a variable that the answer needs")
-  check_header(diagram, words, names(data), count, command)
+  if (!is.null(count)) refuse_used(enc2utf8(count), used)
+  check_header(diagram, words, header_of(data), count, command)
+  if (is_remote) {
+    data <- fetch_counts(data, used, count)
+    count <- names(data)[ncol(data)]
+  }
   columns <- lapply(stats::setNames(used, used), function(name) data[[match(name, enc2utf8(names(data)))]])
   if (!all(vapply(columns, is_plain, NA))) stop("a column that the answer needs is no vector")
   weights <- if (is.null(count)) rep(1, nrow(data)) else check_counts(data[[match(count, names(data))]])
@@ -43,7 +48,15 @@ count_table <- function(diagram, words, data, count, missing, command = "evaluat
   first <- !duplicated(rows)
   counts <- vapply(split(weights[is_whole], factor(rows, unique(rows))), sum, 0)
   structure(list(names = used, levels = levels, codes = do.call(cbind, lapply(codes, `[`, first)), rows = rows[first],
-                 counts = as.vector(counts), dropped = sum(!is_whole)), class = "causal_counts")
+                 counts = as.vector(counts), dropped = if (is_remote) sum(weights[!is_whole]) else sum(!is_whole)), class = "causal_counts")
+}
+
+check_count_name <- function(count) {
+  if (!is.null(count) && (!is.character(count) || length(count) != 1 || is.na(count))) stop("`count` is the name of one column")
+}
+
+refuse_used <- function(count, used) {
+  if (count %in% used) stop("the column ", count, " can't hold the counts: it is a variable that the answer needs")
 }
 
 # The library refuses a header that lacks a column, or has one twice.

@@ -1,13 +1,5 @@
 # Answers in documents of knitr: a formula in LaTeX, tables as tables. The package knitr isn't needed; where it is loaded, its generic
-# gets these methods.
-
-.onLoad <- function(libname, pkgname) {
-  register <- function(...) {
-    for (class in names(knit_methods)) registerS3method("knit_print", class, knit_methods[[class]], envir = asNamespace("knitr"))
-  }
-  if (isNamespaceLoaded("knitr")) register()
-  setHook(packageEvent("knitr", "onLoad"), register)
-}
+# gets these methods (see registered.R).
 
 # Text that knitr puts into the document as it is.
 as_it_is <- function(lines) structure(paste(c("", lines, ""), collapse = "\n"), class = "knit_asis", knit_cacheable = NA)

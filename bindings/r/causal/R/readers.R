@@ -86,6 +86,13 @@ read_formula <- function(lines) {
        free = if (is.null(free)) character() else read_names(free))
 }
 
+# The variables in the terms of a formula: of its target, its expression and its definitions.
+formula_names <- function(formula) {
+  terms <- all_of(target_form, paste(c(formula$target, formula$expression, formula$definitions), collapse = " "))
+  words <- all_of(paste0("do\\(|", name_form), paste(substring(terms, 3), collapse = " "))
+  unique(unquote(words[words != "do("]))
+}
+
 is_hedge <- function(lines) length(lines) > 0 && !is.null(parts(paste0(target_form, " is not identifiable"), lines[1]))
 
 # The sets of a hedge.

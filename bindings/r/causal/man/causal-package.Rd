@@ -15,7 +15,9 @@
   implies of data (\code{\link{implications}}), and whether it implies the same as another (\code{\link{equivalent}}). Over a data frame
   \code{\link{evaluate}} gives the value of an effect, \code{\link{pin_spread}} its values where a variable may be pinned at any
   level, \code{\link{contrast}} differences and ratios of effects and \code{\link{effect_means}} means of a numeric outcome, with
-  intervals, and \code{\link{test_implications}} tests of what the diagram implies.
+  intervals, and \code{\link{test_implications}} tests of what the diagram implies. The data may stay in a database
+  (\code{\link{database_table}}). Answers become plain data frames by \code{tidy} and \code{glance} (\code{\link{tidy.causal_answer}}),
+  and drawings of \pkg{ggplot2} by \code{autoplot} (\code{\link{autoplot.causal_diagram}}).
 
   \strong{What is proved, and what isn't.} The status, the answer and the line that the library gives for its words and inputs
   are proved. This package hands it text and reads its printed answers; that, the drawings, and all arithmetic with R's

@@ -17,7 +17,7 @@ evaluate(diagram, data, x = NULL, y = NULL, count = NULL, exact = FALSE,
 \arguments{
   \item{diagram}{a diagram, or what \code{\link{as_causal_diagram}} takes.}
   \item{data}{a data frame with a column for each vertex that the formula, \code{x} or \code{y} names; other columns don't
-    matter. Or a contingency table (class \code{table}).}
+    matter. Or a contingency table (class \code{table}), or a table of a database, as \code{\link{database_table}} gives it.}
   \item{x, y}{names of the exposures and of the outcomes; \code{NULL} for the vertices with these marks. In the method \code{x} is
     an answer.}
   \item{count}{the name of the column of counts, which is no variable of the formula; \code{NULL} where each row is one record.}

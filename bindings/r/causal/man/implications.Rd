@@ -16,7 +16,7 @@ implications(diagram, data = NULL, count = NULL,
 }
 \arguments{
   \item{diagram}{a diagram, or what \code{\link{as_causal_diagram}} takes.}
-  \item{data}{\code{NULL}, or a data frame or a contingency table with a column for each vertex of a pair or of its set; other
+  \item{data}{\code{NULL}, or a data frame, a contingency table or a \code{\link{database_table}} with a column for each vertex of a pair or of its set; other
     columns don't matter.}
   \item{count, missing}{as in \code{\link{evaluate}}.}
   \item{x}{an answer.}
