@@ -236,12 +236,16 @@ def of_128_bits() -> Iterator[Case]:
 
 def runs() -> Iterator[Case]:
     """A vector that is loaded byte by byte."""
-    run = "(v128.load8_splat (local.get $l))"
-    for lane in range(1, 16):
-        run = f"(v128.load8_lane offset={lane} {lane} (local.get $l) {run})"
+    def loaded(lanes: list[int]) -> str:
+        run = "(v128.load8_splat (local.get $l))"
+        for lane in lanes:
+            run = f"(v128.load8_lane offset={lane} {lane} (local.get $l) {run})"
+        return run
+    run = loaded([*range(1, 16)])
     yield Case("16 bytes that follow each other", "LL", in_frame(out_of("V", run)))
     yield Case("16 bytes, one of them another", "LL", in_frame(out_of("V", run.replace("offset=9 ", "offset=10 "))))
     yield Case("16 bytes, one of them in another lane", "LL", in_frame(out_of("V", run.replace("offset=9 9", "offset=9 8"))))
+    yield Case("15 of 16 bytes", "LL", in_frame(out_of("V", loaded([*range(1, 9), *range(10, 16)]))))
 
 
 def orders() -> list[Case]:
