@@ -1,7 +1,7 @@
 """Builds the package with the proved library in it, compiled from C: a C compiler is all that it takes.
 
-The C stands in `native`. In the repository that is a copy of `portable`, `include/causal.h` and `VERSION`, which each build takes
-anew; a source distribution has it in itself.
+The C stands in `native`. In the repository that is a copy of `portable`, `include/causal.h`, `VERSION` and `bindings/LICENSE`, which
+each build takes anew; a source distribution has it in itself.
 """
 import glob
 import os
@@ -33,7 +33,7 @@ LIBRARY = {"win32": "causal.dll", "darwin": "libcausal.dylib"}.get(sys.platform,
 def take_sources():
     """Copies the C and the version of the repository to `native`, where that is one, and gives the C files."""
     if os.path.isfile(os.path.join(TOP, "portable", "causal_code.c")):
-        taken = [os.path.join(TOP, "VERSION"), os.path.join(TOP, "include", "causal.h")]
+        taken = [os.path.join(TOP, "VERSION"), os.path.join(TOP, "include", "causal.h"), os.path.join(TOP, "bindings", "LICENSE")]
         taken += glob.glob(os.path.join(TOP, "portable", "*.[ch]"))
         taken = [path for path in taken if os.path.basename(path) not in PROGRAM]
         os.makedirs(NATIVE, exist_ok=True)
@@ -100,8 +100,14 @@ class WheelOfOnePlatform(bdist_wheel):
 
 
 SOURCES = take_sources()
-with open(os.path.join(NATIVE, "VERSION"), encoding="utf-8") as told:
-    VERSION = told.read().strip()
+
+
+def told_in(name):
+    """What a file of `native` tells."""
+    with open(os.path.join(NATIVE, name), encoding="utf-8") as told:
+        return told.read().strip()
+
+
 
 library = Extension(
     "causal.libcausal",
@@ -111,7 +117,9 @@ library = Extension(
     export_symbols=calls(),
 )
 setup(
-    version=VERSION,
+    version=told_in("VERSION"),
+    license=told_in("LICENSE"),
+    license_files=["native/LICENSE"],
     ext_modules=[library],
     cmdclass={"build_py": BuildWithVersion, "build_ext": BuildLibrary, "bdist_wheel": WheelOfOnePlatform},
 )

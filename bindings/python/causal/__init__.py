@@ -21,6 +21,7 @@ from causal.errors import (
     CertificateError,
     CountsError,
     DiagramError,
+    DiagramWarning,
     EvaluationError,
     LibraryMissing,
     MissingValues,
@@ -36,6 +37,7 @@ from causal.version import VERSION
 if TYPE_CHECKING:
     from causal.bootstrap import Bootstrap, ContrastInterval, Interval, MeanInterval
     from causal.effects import Contrast, Effect, Effects, Mean, Spread, Value
+    from causal.forms import read
     from causal.implications import Difference, Implication, Implications
     from causal.independence import IndependenceTest, IndependenceTests
     from causal.queries import counts_query
@@ -54,6 +56,7 @@ __all__ = [
     "CountsError",
     "Diagram",
     "DiagramError",
+    "DiagramWarning",
     "Difference",
     "Effect",
     "Effects",
@@ -86,6 +89,7 @@ __all__ = [
     "UnreadableAnswer",
     "Value",
     "counts_query",
+    "read",
     "run",
 ]
 
@@ -107,6 +111,7 @@ _LATER = {
     "IndependenceTest": "causal.independence",
     "IndependenceTests": "causal.independence",
     "counts_query": "causal.queries",
+    "read": "causal.forms",
 }
 
 

@@ -237,9 +237,10 @@ class MeanInterval:
     value: Value
     interval: Optional[Interval]
     x: Dict[str, Level] = field(default_factory=dict)
+    given: Dict[str, Level] = field(default_factory=dict)
 
     def __str__(self) -> str:
-        at = "".join(f"{name}={level}, " for name, level in self.x.items())
+        at = "".join(f"{name}={level}, " for name, level in (*self.x.items(), *self.given.items()))
         return f"{at}mean {_told(self.value, self.interval)}"
 
 
@@ -302,9 +303,13 @@ class Bootstrap:
         return [self.interval(itemgetter(place)) for place in range(len(self.effects))]
 
     def contrast(
-        self, outcome: Mapping[str, Level], treated: Mapping[str, Level], control: Mapping[str, Level]
+        self,
+        outcome: Mapping[str, Level],
+        treated: Mapping[str, Level],
+        control: Mapping[str, Level],
+        given: Optional[Mapping[str, Level]] = None,
     ) -> ContrastInterval:
-        """The contrast of two levels of the exposures, with intervals from the same draws.
+        """The contrast of two levels of the exposures, at levels of what is given, with intervals from the same draws.
 
         >>> from causal import Diagram
         >>> data = {"X": ["a", "b"] * 50, "Y": [0, 0, 1, 1] * 25}
@@ -313,7 +318,7 @@ class Bootstrap:
         >>> contrast.difference.lower < 0 < contrast.difference.upper
         True
         """
-        first, second = self.effects.place(outcome, treated), self.effects.place(outcome, control)
+        first, second = [self.effects.place(outcome, x, given) for x in (treated, control)]
 
         def ratio(above: float, below: float) -> Optional[float]:
             return above / below if below > 0 else None
@@ -322,7 +327,7 @@ class Bootstrap:
             return a * (1 - b) / ((1 - a) * b) if a < 1 and 0 < b < 1 else None
 
         return ContrastInterval(
-            self.effects.contrast(outcome, treated, control),
+            self.effects.contrast(outcome, treated, control, given),
             self.interval(lambda values: values[first] - values[second]),
             self.interval(lambda values: ratio(values[first], values[second])),
             self.interval(lambda values: odds_ratio(values[first], values[second])),
@@ -337,9 +342,13 @@ class Bootstrap:
         >>> [float(mean.value) for mean in answer.means()], answer.means()[0].interval.lower < 5 < answer.means()[0].interval.upper
         ([5.0, 10.0], True)
         """
-        return tuple(MeanInterval(mean.value, self.interval(self._mean_at(mean.x)), mean.x) for mean in self.effects.means())
+        return tuple(
+            MeanInterval(mean.value, self.interval(self._mean_at(mean.x, mean.given)), mean.x, mean.given) for mean in self.effects.means()
+        )
 
-    def mean_difference(self, treated: Mapping[str, Level], control: Mapping[str, Level]) -> MeanInterval:
+    def mean_difference(
+        self, treated: Mapping[str, Level], control: Mapping[str, Level], given: Optional[Mapping[str, Level]] = None
+    ) -> MeanInterval:
         """The difference of the means of a numeric outcome under two levels of the exposures.
 
         >>> from causal import Diagram
@@ -348,14 +357,15 @@ class Bootstrap:
         >>> float(answer.mean_difference({"X": "b"}, {"X": "a"}).value)
         5.0
         """
-        first, second = self._mean_at(treated), self._mean_at(control)
-        value = self.effects.mean(treated).minus(self.effects.mean(control))
+        first, second = [self._mean_at(x, given or {}) for x in (treated, control)]
+        value = self.effects.mean(treated, given).minus(self.effects.mean(control, given))
         return MeanInterval(value, self.interval(lambda values: first(values) - second(values)))
 
-    def _mean_at(self, x: Mapping[str, Level]) -> Callable[[Sequence[float]], float]:
+    def _mean_at(self, x: Mapping[str, Level], given: Mapping[str, Level]) -> Callable[[Sequence[float]], float]:
         """What computes a mean of the values of all effects."""
         of, name = self.effects.numbers, self.effects.formula.target.y[0]
-        weights = [float(of[effect.y[name]]) if effect.x == dict(x) else 0.0 for effect in self.effects]
+        at = dict(x), dict(given)
+        weights = [float(of[effect.y[name]]) if (effect.x, effect.given) == at else 0.0 for effect in self.effects]
         return lambda values: sum(weight * value for weight, value in zip(weights, values))
 
     HEADS = ("estimate", "lower", "upper", "draws")
@@ -391,7 +401,7 @@ class Bootstrap:
     def _repr_html_(self) -> str:
         heads = [*self.effects.names, *self.HEADS]
         rows = [
-            [*effect.x.values(), *effect.y.values(), *_estimated(effect.value, interval)]
+            [*effect.under.values(), *effect.y.values(), *_estimated(effect.value, interval)]
             for effect, interval in zip(self.effects, self.intervals)
         ]
         return html_table(heads, rows, self.notes)

@@ -45,7 +45,7 @@ def _pairs_of(edges: Iterable[Sequence[Name]]) -> List[Pair]:
     return pairs
 
 
-def _texts_of(labels: Iterable[Any]) -> Dict[Any, str]:
+def texts_of(labels: Iterable[Any]) -> Dict[Any, str]:
     """The name of each label. Two labels may not have one name."""
     names = {label: str(label) for label in labels}
     if len(set(names.values())) < len(names):
@@ -53,7 +53,7 @@ def _texts_of(labels: Iterable[Any]) -> Dict[Any, str]:
     return names
 
 
-def _labelled(members: Any, names: Mapping[Any, str]) -> List[str]:
+def labelled(members: Any, names: Mapping[Any, str]) -> List[str]:
     """The names of one label, or of several. What is no label is a name."""
     try:
         if members in names:
@@ -71,8 +71,8 @@ def text_of_networkx(graph: Any, roles: Mapping[str, Any]) -> str:
         raise RequestError(f"a graph of networkx is needed, and no {type(graph).__name__}")
     if not graph.is_directed():
         raise RequestError("the graph isn't directed")
-    names = _texts_of(graph.nodes)
-    marks = {role: _labelled(members, names) for role, members in roles.items()}
+    names = texts_of(graph.nodes)
+    marks = {role: labelled(members, names) for role, members in roles.items()}
     for label, attributes in graph.nodes(data=True):
         own = [attributes.get("role"), "latent" if attributes.get("latent") else None]
         for role in dict.fromkeys(role for role in own if role):
@@ -88,15 +88,15 @@ def text_of_pandas(adjacency: Any, bidirected: Iterable[Sequence[Name]], roles: 
     """The text of the diagram of an adjacency matrix."""
     if not hasattr(adjacency, "columns") or not hasattr(adjacency, "index"):
         raise RequestError(f"an adjacency matrix is a DataFrame of pandas, and no {type(adjacency).__name__}")
-    texts = _texts_of(adjacency.columns)
+    texts = texts_of(adjacency.columns)
     names = list(texts.values())
-    if names != list(_texts_of(adjacency.index).values()):
+    if names != list(texts_of(adjacency.index).values()):
         raise RequestError("the rows and columns of an adjacency matrix have the same names in the same order")
     if adjacency.isna().to_numpy().any():
         raise RequestError("an adjacency matrix has no missing values")
     entries = adjacency.to_numpy().tolist()
     edges = [(a, b) for a, row in zip(names, entries) for b, entry in zip(names, row) if entry]
-    return text_of_edges(edges, bidirected, names, {role: _labelled(members, texts) for role, members in roles.items()})
+    return text_of_edges(edges, bidirected, names, {role: labelled(members, texts) for role, members in roles.items()})
 
 
 def to_networkx(content: GraphText, mixed: bool) -> Any:

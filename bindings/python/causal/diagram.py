@@ -1,12 +1,14 @@
 """Diagrams, and the questions about them."""
 from __future__ import annotations
 
+import warnings
 from dataclasses import dataclass
 from typing import TYPE_CHECKING, Any, Dict, Iterable, List, Mapping, Optional, Sequence, Tuple, Union
 
 from causal import answers, formula
 from causal._library import KeptDiagram, Text, as_bytes, ask
-from causal.errors import RequestError
+from causal.doubts import doubts_of
+from causal.errors import DiagramWarning, RequestError
 from causal.formula import Formula, Hedge, HedgeSets
 from causal.names import Name, Names, list_word, names_of
 from causal.surrogates import Stopped, StoppedHedge, experiments_word, read_surrogate
@@ -59,6 +61,8 @@ class Diagram:
     Sets are given as one name or as several; `()` is the empty set.
 
     `source` is the text as it was given, in bytes; it is what each question is asked of. The library reads it once, and keeps it.
+    Where something in the text may be a typing error that has cost an edge, a `DiagramWarning` says so: a statement `name = value`
+    that was dropped (but `bb`, which DAGitty writes), and a vertex without an edge whose name is made of signs.
 
     >>> from causal import Diagram
     >>> diagram = Diagram("dag { T [exposure] R [outcome] S -> T -> R <- S }")
@@ -69,8 +73,13 @@ class Diagram:
     """
 
     def __init__(self, text: Text) -> None:
-        self.source = as_bytes(text)
-        self._text = ask("graph", self.source)[1]
+        self._read(as_bytes(text))
+        for doubt in doubts_of(self.source, self._content):
+            warnings.warn(doubt, DiagramWarning, stacklevel=2)
+
+    def _read(self, source: bytes) -> None:
+        self.source = source
+        self._text = ask("graph", source)[1]
         self._content = answers.read_graph(self._text)
         self._kept: Optional[KeptDiagram] = None
 
@@ -160,6 +169,56 @@ class Diagram:
 
         return cls(text_of_pandas(adjacency, bidirected, roles))
 
+    @classmethod
+    def from_igraph(cls, graph: Any, **roles: Any) -> "Diagram":
+        """The diagram of a directed graph of igraph.
+
+        A vertex has its attribute `name`, or `label`, or else its number as its name. Its attribute `role` may be a mark; true
+        attributes `latent`, `exposure` and so on mark it, and so does `observed` that is false. An edge with a true attribute
+        `bidirected` is one; so are two edges, one each way, that both have the `description` "U". Marks can be given as in
+        `from_edges`.
+
+        >>> import igraph
+        >>> from causal import Diagram
+        >>> graph = igraph.Graph([(0, 1)], directed=True, vertex_attrs={"name": ["X", "Y"]})
+        >>> Diagram.from_igraph(graph, exposure="X").edges
+        (('X', 'Y'),)
+        """
+        from causal.forms import text_of_igraph
+
+        return cls(text_of_igraph(graph, roles))
+
+    @classmethod
+    def from_dot(cls, text: str, **roles: Any) -> "Diagram":
+        """The diagram of a text of Graphviz: a `digraph`, whose comments are passed over. A vertex is named by its attribute `name`
+        where it has one, as igraph writes it, and else as it stands there, whatever its label.
+
+        An edge with `dir=both` (or `bidirected=true`) is bidirected, with `dir=back` it is turned round; without a direction it is
+        refused. Attributes of vertices, and marks, are as in `from_igraph`.
+
+        >>> from causal import Diagram
+        >>> Diagram.from_dot('digraph { X -> Y; U [latent=true]; U -> {X Y}; "a b" -> X [dir=both] }').bidirected
+        (('X', 'a b'),)
+        """
+        from causal.forms import text_of_dot
+
+        return cls(text_of_dot(text, roles))
+
+    @classmethod
+    def from_gml(cls, text: str, **roles: Any) -> "Diagram":
+        """The diagram of a text in GML, with `directed 1`. A vertex has its `label`, or `name`, or `id` as its name.
+
+        Attributes of vertices and edges, and marks, are as in `from_igraph`.
+
+        >>> from causal import Diagram
+        >>> text = 'graph [ directed 1 node [ id 0 label "X" ] node [ id 1 label "Y" ] edge [ source 0 target 1 ] ]'
+        >>> Diagram.from_gml(text, exposure="X", outcome="Y").roles
+        {'X': 'exposure', 'Y': 'outcome'}
+        """
+        from causal.forms import text_of_gml
+
+        return cls(text_of_gml(text, roles))
+
     # What a diagram is.
 
     @property
@@ -211,7 +270,9 @@ class Diagram:
         >>> Diagram("dag { U [latent] U -> X U -> Y X -> Y }").project().bidirected
         (('X', 'Y'),)
         """
-        return Diagram(self._ask("graph", "--project")[1])
+        projected = Diagram.__new__(Diagram)
+        projected._read(as_bytes(self._ask("graph", "--project")[1]))
+        return projected
 
     def to_networkx(self, mixed: bool = False) -> "networkx.DiGraph":
         """The diagram as a graph of networkx; marks are the attribute `role`.
@@ -474,6 +535,8 @@ class Diagram:
         exact: bool = False,
         missing: str = "error",
         at: Optional[Mapping[str, Level]] = None,
+        adjust_for: Optional[Names] = None,
+        given: Optional[Names] = None,
     ) -> "pandas.DataFrame":
         """The effects of x on y in the data, as a DataFrame (it needs pandas): see `effects`, which says what is proved, and
         `Effects.frame` for the columns.
@@ -488,7 +551,8 @@ class Diagram:
         2  B  good       1.0     1
         3  B   bad       0.0     0
         """
-        return self.effects(data, x, y, count=count, exact=exact, missing=missing, at=at).frame()
+        words: Dict[str, Any] = {"count": count, "exact": exact, "missing": missing, "at": at, "adjust_for": adjust_for, "given": given}
+        return self.effects(data, x, y, **words).frame()
 
     def effects(
         self,
@@ -500,6 +564,8 @@ class Diagram:
         exact: bool = False,
         missing: str = "error",
         at: Optional[Mapping[str, Level]] = None,
+        adjust_for: Optional[Names] = None,
+        given: Optional[Names] = None,
     ) -> Effects:
         """The effects of x on y in the data: the values of the formula of `identify` over the counts.
 
@@ -516,6 +582,10 @@ class Diagram:
         reads beside x and y is pinned at its first level in order (numbers by size, texts by their characters, a `Categorical` by
         its categories), or at the one that `at` gives, as in `at={"Z": 1}`: see `spread`.
 
+        With `adjust_for` the formula is that of a set, which has to be admissible: see `adjusts`. With `given` the effect is that among
+        those with the same values of these variables, `P(y | do(x), given)`: where a rule of do-calculus doesn't make it an effect whose
+        values the library gives, it is a quotient of such values, computed here, exactly or outward.
+
         A missing value in a used column, an empty field of a file too, is refused as `MissingValues`; with `missing="drop"` its
         record is left out, and the answer's `dropped` counts these (which estimates the effect among complete records: whether
         that is the effect wanted isn't decided here); with `missing="level"` it is a level.
@@ -530,10 +600,13 @@ class Diagram:
         P(R=bad|do(T=A)) = 1/4
         P(R=good|do(T=B)) = 1/2
         P(R=bad|do(T=B)) = 1/2
+        >>> among = Diagram("dag { S -> T -> R <- S }").effects(data, "T", "R", given="S", exact=True)
+        >>> print(among.at({"R": "good"}, {"T": "A"}, {"S": "small"}))
+        = 1/1
         """
         from causal.evaluation import Evaluation
 
-        return Evaluation(self, x, y, count, missing).effects(data, exact, at)
+        return Evaluation(self, x, y, count, missing, adjust_for, given).effects(data, exact, at)
 
     def spread(
         self,
@@ -576,11 +649,13 @@ class Diagram:
         exact: bool = False,
         missing: str = "error",
         at: Optional[Mapping[str, Level]] = None,
+        adjust_for: Optional[Names] = None,
+        given: Optional[Mapping[str, Level]] = None,
     ) -> Contrast:
         """The risk difference, the risk ratio and the odds ratio of two levels of x, for a level of y.
 
         The levels are given as they stand in the data; where x or y has several variables, as a mapping or in the order of the
-        target. Both effects are proved, as `effects` says; the difference and the ratios are computed from them, outward where
+        target. `given` is a mapping of variables to levels, as in `given={"sex": "f"}`, and `adjust_for` as in `effects`. Both effects are proved, as `effects` says; the difference and the ratios are computed from them, outward where
         they are bounds. For intervals see `bootstrap(..).contrast(..)`.
 
         >>> from causal import Diagram
@@ -591,9 +666,11 @@ class Diagram:
         """
         from causal.evaluation import levels_at
 
-        found = self.effects(data, x, y, count=count, exact=exact, missing=missing, at=at)
+        words: Dict[str, Any] = {"count": count, "exact": exact, "missing": missing, "at": at, "adjust_for": adjust_for}
+        found = self.effects(data, x, y, given=None if given is None else list(given), **words)
         target = found.formula.target
-        return found.contrast(levels_at(target.y, outcome), levels_at(target.x, treated), levels_at(target.x, control))
+        arms = [levels_at(target.x, levels) for levels in (treated, control)]
+        return found.contrast(levels_at(target.y, outcome), *arms, given)
 
     def bootstrap(
         self,
@@ -609,6 +686,8 @@ class Diagram:
         seed: int = 0,
         kind: str = "percentile",
         progress: Optional[Progress] = None,
+        adjust_for: Optional[Names] = None,
+        given: Optional[Names] = None,
     ) -> Bootstrap:
         """The effects with intervals by the bootstrap: percentiles of resampled tables of counts, or with `kind="bca"` percentiles
         that are corrected for bias and accelerated, which asks once more for each cell of the table.
@@ -635,4 +714,4 @@ class Diagram:
             raise RequestError("resamples is at least 1, and level lies between 0 and 1")
         if kind not in ("percentile", "bca"):
             raise RequestError(f"kind is 'percentile' or 'bca', and not {kind!r}")
-        return Evaluation(self, x, y, count, missing).bootstrap(data, resamples, level, seed, at, kind, progress)
+        return Evaluation(self, x, y, count, missing, adjust_for, given).bootstrap(data, resamples, level, seed, at, kind, progress)

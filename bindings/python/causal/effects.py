@@ -4,7 +4,7 @@ from __future__ import annotations
 import math
 import numbers
 import re
-from dataclasses import dataclass
+from dataclasses import dataclass, field
 from decimal import Decimal
 from fractions import Fraction
 from typing import TYPE_CHECKING, Any, Callable, Dict, Hashable, Iterator, List, Mapping, Optional, Sequence, Tuple, Union, overload
@@ -141,38 +141,48 @@ def number_of(level: Level) -> Optional[Fraction]:
 
 @dataclass(frozen=True)
 class Mean:
-    """The mean of a numeric outcome under levels of the exposures. It is computed of proved probabilities, exactly or outward."""
+    """The mean of a numeric outcome under levels of the exposures, and of what is given. It is computed of proved probabilities,
+    exactly or outward."""
 
     x: Dict[str, Level]
     value: Value
+    given: Dict[str, Level] = field(default_factory=dict)
 
     def __str__(self) -> str:
-        return f"mean at {_levels_text(self.x)} {self.value}" if self.x else f"mean {self.value}"
+        under = {**self.x, **self.given}
+        return f"mean at {levels_text(under)} {self.value}" if under else f"mean {self.value}"
 
 
 @dataclass(frozen=True)
 class Effect:
-    """One probability `P(y | do(x))`: the levels of y and of x, and its value."""
+    """One probability `P(y | do(x), given)`: the levels of y, of x and of what is given, and its value."""
 
     y: Dict[str, Level]
     x: Dict[str, Level]
     value: Value
+    given: Dict[str, Level] = field(default_factory=dict)
 
     @property
     def cell(self) -> str:
         """The probability, as it is printed."""
-        return _cell_text(self.y, self.x)
+        return _cell_text(self.y, self.x, self.given)
+
+    @property
+    def under(self) -> Dict[str, Level]:
+        """The levels of x and of what is given."""
+        return {**self.x, **self.given}
 
     def __str__(self) -> str:
         return f"{self.cell} {self.value}"
 
 
-def _levels_text(cell: Mapping[str, Level]) -> str:
+def levels_text(cell: Mapping[str, Level]) -> str:
     return ",".join(f"{printed_name(name)}={level}" for name, level in cell.items())
 
 
-def _cell_text(y: Mapping[str, Level], x: Mapping[str, Level]) -> str:
-    return f"P({_levels_text(y)}|do({_levels_text(x)}))" if x else f"P({_levels_text(y)})"
+def _cell_text(y: Mapping[str, Level], x: Mapping[str, Level], given: Mapping[str, Level]) -> str:
+    conditions = [*([f"do({levels_text(x)})"] if x else []), *([levels_text(given)] if given else [])]
+    return f"P({levels_text(y)}{'|' if conditions else ''}{','.join(conditions)})"
 
 
 @dataclass(frozen=True)
@@ -180,7 +190,8 @@ class Effects(Sequence[Effect]):
     """The effects of a formula over counts, at each level of the exposures and the outcomes.
 
     Each value is proved: it is the formula's value over the counts, exactly or within the bounds, and so covers the effect in
-    each positive model that fits the diagram and that the counts match. That the counts are those of the data is tested. How far
+    each positive model that fits the diagram and that the counts match. (Under a condition it may be a quotient of such values, which
+    is computed here, exactly or outward.) That the counts are those of the data is tested. How far
     the counts of a sample are from those of the population isn't in it: see `Diagram.bootstrap`.
 
     `formula` is the formula; `pinned` has the level at which each variable stands that the formula reads beside the target's
@@ -244,33 +255,39 @@ class Effects(Sequence[Effect]):
         >>> Diagram("dag{ X -> Y }").effects({"X": ["a", "a", "b"], "Y": [0, 1, 1]}, "X", "Y").levels
         {'Y': [0, 1], 'X': ['a', 'b']}
         """
-        found: Dict[str, Dict[Level, None]] = {name: {} for name in (*self.formula.target.y, *self.formula.target.x)}
+        found: Dict[str, Dict[Level, None]] = {name: {} for name in (*self.formula.target.y, *self.names[: -len(self.formula.target.y)])}
         for effect in self.effects:
-            for name, level in (*effect.y.items(), *effect.x.items()):
+            for name, level in (*effect.y.items(), *effect.under.items()):
                 found[name][level] = None
         return {name: list(levels) for name, levels in found.items()}
 
-    def place(self, y: Mapping[str, Level], x: Mapping[str, Level]) -> int:
+    def place(self, y: Mapping[str, Level], x: Mapping[str, Level], given: Optional[Mapping[str, Level]] = None) -> int:
         """The number of the effect at these levels."""
         for k, effect in enumerate(self.effects):
-            if effect.y == dict(y) and effect.x == dict(x):
+            if effect.y == dict(y) and effect.x == dict(x) and effect.given == dict(given or {}):
                 return k
         there = [f"{name} has {', '.join(map(repr, levels))}" for name, levels in self.levels.items()]
-        raise RequestError(f"there is no effect {_cell_text(y, x)} in the data, in which {'; '.join(there)}")
+        raise RequestError(f"there is no effect {_cell_text(y, x, given or {})} in the data, in which {'; '.join(there)}")
 
-    def at(self, y: Mapping[str, Level], x: Mapping[str, Level]) -> Value:
+    def at(self, y: Mapping[str, Level], x: Mapping[str, Level], given: Optional[Mapping[str, Level]] = None) -> Value:
         """The value at these levels."""
-        return self.effects[self.place(y, x)].value
+        return self.effects[self.place(y, x, given)].value
 
-    def contrast(self, outcome: Mapping[str, Level], treated: Mapping[str, Level], control: Mapping[str, Level]) -> "Contrast":
-        """The contrast of two levels of the exposures.
+    def contrast(
+        self,
+        outcome: Mapping[str, Level],
+        treated: Mapping[str, Level],
+        control: Mapping[str, Level],
+        given: Optional[Mapping[str, Level]] = None,
+    ) -> "Contrast":
+        """The contrast of two levels of the exposures, at levels of what is given.
 
         >>> from causal import Diagram
         >>> effects = Diagram("dag{ X -> Y }").effects({"X": ["a", "a", "b"], "Y": [0, 1, 1]}, "X", "Y", exact=True)
         >>> effects.contrast({"Y": 1}, {"X": "a"}, {"X": "b"}).difference.exact
         Fraction(-1, 2)
         """
-        return Contrast(self.at(outcome, treated), self.at(outcome, control))
+        return Contrast(self.at(outcome, treated, given), self.at(outcome, control, given))
 
     @property
     def numbers(self) -> Dict[Level, Fraction]:
@@ -297,21 +314,21 @@ class Effects(Sequence[Effect]):
         sums: Dict[Tuple[Level, ...], Mean] = {}
         for effect in self.effects:
             term = effect.value.times(of[effect.y[name]])
-            key = tuple(effect.x.values())
-            sums[key] = Mean(effect.x, sums[key].value.plus(term) if key in sums else term)
+            key = tuple(effect.under.values())
+            sums[key] = Mean(effect.x, sums[key].value.plus(term) if key in sums else term, effect.given)
         return tuple(sums.values())
 
-    def mean(self, x: Mapping[str, Level]) -> Value:
-        """The mean of the outcome under these levels of the exposures."""
+    def mean(self, x: Mapping[str, Level], given: Optional[Mapping[str, Level]] = None) -> Value:
+        """The mean of the outcome under these levels of the exposures, and of what is given."""
         for mean in self.means():
-            if mean.x == dict(x):
+            if mean.x == dict(x) and mean.given == dict(given or {}):
                 return mean.value
-        raise RequestError(f"there is no mean at {_levels_text(x)} in the data")
+        raise RequestError(f"there is no mean at {levels_text({**x, **(given or {})})} in the data")
 
     def frame(self) -> "pandas.DataFrame":
         """A DataFrame with a row for each effect (it needs pandas).
 
-        Its columns are the pinned variables, the exposures and the outcomes, then `estimate`, a float, and either `exact`, a
+        Its columns are the pinned variables, the exposures, what is given and the outcomes, then `estimate`, a float, and either `exact`, a
         `Fraction`, or `from` and `to`, the bounds as floats that are rounded outward. These are bounds for rounding, and no
         confidence interval. A value's column whose name a variable has is followed by `_`. What the values rest on stands in its
         `attrs`: `pinned`, the pinned levels, and `dropped`, how many records were left out.
@@ -333,21 +350,21 @@ class Effects(Sequence[Effect]):
     def frame_with(self, heads: Sequence[str], values: Sequence[Sequence[Any]]) -> "pandas.DataFrame":
         """A DataFrame of the levels with further columns."""
         pandas = _pandas()
-        names = [*self.pinned, *self.formula.target.x, *self.formula.target.y]
-        rows = [[*self.pinned.values(), *e.x.values(), *e.y.values(), *value] for e, value in zip(self.effects, values)]
+        names = [*self.pinned, *self.names]
+        rows = [[*self.pinned.values(), *e.under.values(), *e.y.values(), *value] for e, value in zip(self.effects, values)]
         frame = pandas.DataFrame(rows, columns=[*names, *(_apart(head, names) for head in heads)])
         frame.attrs.update(pinned=dict(self.pinned), dropped=self.dropped)
         return frame
 
     @property
     def names(self) -> Tuple[str, ...]:
-        """The variables of x and of y."""
-        return (*self.formula.target.x, *self.formula.target.y)
+        """The variables of x, of what is given, and of y."""
+        return (*self.formula.target.x, *self.formula.target.given, *self.formula.target.y)
 
     def _repr_html_(self) -> str:
         heads = ("estimate", "exact") if self.exact else ("estimate", "from", "to")
         values = [[str(e.value.exact)] if self.exact else [repr(bound) for bound in e.value.floats()] for e in self]
-        rows = [[*e.x.values(), *e.y.values(), float(e.value), *value] for e, value in zip(self, values)]
+        rows = [[*e.under.values(), *e.y.values(), float(e.value), *value] for e, value in zip(self, values)]
         return html_table([*self.names, *heads], rows, self.notes)
 
 
@@ -407,7 +424,7 @@ class Spread(Sequence[Effects]):
 
     def __str__(self) -> str:
         parts = [effects.text for effects in self.effects]
-        parts += [f"no value at {_levels_text(levels)}" for levels in self.without_value]
+        parts += [f"no value at {levels_text(levels)}" for levels in self.without_value]
         return "\n".join([*parts, f"at most {self.widest:.6g} apart"])
 
     def frame(self) -> "pandas.DataFrame":
@@ -416,10 +433,10 @@ class Spread(Sequence[Effects]):
 
     def _repr_html_(self) -> str:
         if not self.effects:
-            return html_table([], [], [f"no value at {_levels_text(levels)}" for levels in self.without_value])
+            return html_table([], [], [f"no value at {levels_text(levels)}" for levels in self.without_value])
         free, names = list(self.effects[0].pinned), self.effects[0].names
-        rows = [[*es.pinned.values(), *e.x.values(), *e.y.values(), float(e.value)] for es in self.effects for e in es]
-        notes = [f"no value at {_levels_text(levels)}" for levels in self.without_value]
+        rows = [[*es.pinned.values(), *e.under.values(), *e.y.values(), float(e.value)] for es in self.effects for e in es]
+        notes = [f"no value at {levels_text(levels)}" for levels in self.without_value]
         return html_table([*free, *names, "estimate"], rows, [*notes, f"at most {self.widest:.6g} apart"])
 
 

@@ -40,6 +40,19 @@ class CausalError(Exception):
         return f"{text}\n{self.excerpt}" if self.excerpt else text
 
 
+class DiagramWarning(UserWarning):
+    """A text that is read as a diagram, though something in it may be a typing error that has cost an edge.
+
+    >>> import warnings
+    >>> from causal import Diagram, DiagramWarning
+    >>> with warnings.catch_warnings(record=True) as caught:
+    ...     warnings.simplefilter("always")
+    ...     diagram = Diagram("dag { X Y == Z }")
+    >>> issubclass(caught[0].category, DiagramWarning), str(caught[0].message)
+    (True, "'Y ==' at line 1, column 9 says nothing of the diagram, and was dropped; an edge is written ->, <- or <->")
+    """
+
+
 class TextPlace(NamedTuple):
     """A place in a text: the number of bytes before it, and its line and column, counted in characters from 1."""
 

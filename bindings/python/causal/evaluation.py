@@ -6,12 +6,12 @@ from itertools import chain, product
 from typing import TYPE_CHECKING, Any, Dict, Iterable, Iterator, Mapping, Optional, Sequence, Tuple
 
 from causal._library import Text
+from causal.asked import asked_of
 from causal.bootstrap import Bootstrap, Progress, drawn
 from causal.columns import Data, may_have_blanks, path_of, read_bytes
 from causal.diagram import options
 from causal.effects import Effects, Level, LevelOf, Spread, read_effects, split_levels
-from causal.errors import EvaluationError, NotIdentifiable, RequestError
-from causal.formula import Hedge
+from causal.errors import EvaluationError, RequestError
 from causal.names import Names
 from causal.tables import Cell, Table, check_request, table_of, table_of_file
 
@@ -31,15 +31,20 @@ class Evaluation:
     """
 
     def __init__(
-        self, diagram: "Diagram", x: Optional[Names], y: Optional[Names], count: Optional[str] = None, missing: str = "error"
+        self,
+        diagram: "Diagram",
+        x: Optional[Names],
+        y: Optional[Names],
+        count: Optional[str] = None,
+        missing: str = "error",
+        adjust_for: Optional[Names] = None,
+        given: Optional[Names] = None,
     ) -> None:
-        answer = diagram.identify(x, y)
-        if isinstance(answer, Hedge):
-            raise NotIdentifiable(f"{answer.target} is not identifiable", place=answer)
-        self.diagram = diagram
-        self.formula = answer
+        self.asked = asked_of(diagram, x, y, adjust_for, given)
+        self.diagram = self.asked.diagram
+        self.formula = self.asked.evaluated
         # The variables that the formula reads, in the order of the vertices, as answers list them.
-        self.used = tuple(name for name in diagram.vertices if name in answer.variables)
+        self.used = tuple(name for name in self.diagram.vertices if name in self.formula.variables)
         self.count = count
         self.missing = missing
         check_request(self.used, count, missing)
@@ -154,7 +159,7 @@ class Evaluation:
 
         lists = options(x=self.formula.target.x, y=self.formula.target.y)
         answer = self.diagram._ask("evaluate", *lists, *words, second=text, levels=cell)[1]
-        return read_effects(answer, self.formula, level_of, dropped)
+        return self.asked.answer(read_effects(answer, self.formula, level_of, dropped))
 
     def over_counts(self, table: Table, counts: Mapping[Cell, int]) -> Optional[Tuple[float, ...]]:
         """The effects over other counts of a table, or None where some cell has no value."""

@@ -13,6 +13,7 @@ from causal.errors import (
     EvaluationPlace,
     RequestError,
     TargetError,
+    TextPlace,
     UnreadableAnswer,
     caret_under,
 )
@@ -71,6 +72,31 @@ EVALUATION = {
 }
 
 
+# Other kinds of texts, by the word with which they begin.
+KINDS = {
+    "pdag": "the text is a pdag, which stands for several diagrams; give one of them, as a dag",
+    "mag": "the text is a mag, whose edges say less than those of a dag; a dag is read",
+    "pag": "the text is a pag, which stands for several diagrams; a dag is read",
+    "graph": "the text is a graph without directions; a dag is read",
+    "digraph": "the text is DOT, as Graphviz has it: Diagram.from_dot reads it",
+}
+COMMENT = "a comment stands here, and comments aren't read"
+_WORD = re.compile(rb"(?:strict\s+)?([a-z]+)", re.IGNORECASE)
+
+
+def graph_sentence(number: int, text: bytes, place: Any) -> str:
+    """What a fault of a diagram's text says. A comment, and a text of another kind, are named.
+
+    >>> from causal.faults import graph_sentence
+    >>> graph_sentence(4, b"pdag { A -- B }", None)
+    'the text is a pdag, which stands for several diagrams; give one of them, as a dag'
+    """
+    if number == 2 and isinstance(place, TextPlace) and text[place.byte :].startswith((b"//", b"/*", b"#")):
+        return COMMENT
+    word = _WORD.match(text.strip()) if number == 4 else None
+    return KINDS.get(word.group(1).decode().lower(), GRAPH[4]) if word else GRAPH[number]
+
+
 class Sources(NamedTuple):
     """The texts and names that a run was about, so that a refusal can be shown in them."""
 
@@ -124,9 +150,10 @@ def _graph_error(fault: Fault, sources: Sources) -> CausalError:
         names = (" -> ".join(place),)
     elif number in (7, 8, 10):
         place = names = (unquoted(detail),)
-    elif detail.startswith("byte "):
-        place, excerpt = caret_under(sources.second if second else sources.text, int(detail[5:]))
-    error = DiagramError(GRAPH[number].format(*names), number, place, excerpt)
+    text = sources.second if second else sources.text
+    if place is None and detail.startswith("byte "):
+        place, excerpt = caret_under(text, int(detail[5:]))
+    error = DiagramError(graph_sentence(number, text, place).format(*names), number, place, excerpt)
     error.stage = fault.stage
     return error
 

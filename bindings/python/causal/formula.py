@@ -309,9 +309,31 @@ class Hedge(HedgeSets):
         return self.text
 
     @property
+    def settled(self) -> Optional[bool]:
+        """Where a condition was given: whether the two models differ on the conditional effect too, and not on the joint one alone.
+
+        None where no condition was given, and where the library doesn't tell it.
+
+        >>> from causal import Diagram
+        >>> Diagram("dag{ X -> Y X <-> Y }").identify("X", "Y").settled is None
+        True
+        """
+        return None if self.conditional is None else is_settled(self._ask)
+
+    @property
     def certificate(self) -> Optional[str]:
         """The certificate (JSON) of the hedge, where `identify` gave it, and else None."""
         return self._ask("--certificate") if self._ask else None
+
+
+def is_settled(ask: Optional[AskForm]) -> Optional[bool]:
+    """What the library tells of `Hedge.settled`. It tells nothing so far: a call that does is asked here.
+
+    >>> from causal.formula import is_settled
+    >>> is_settled(None) is None
+    True
+    """
+    return None
 
 
 def read_hedge_line(line: str) -> Tuple[Tuple[str, ...], Tuple[str, ...], Tuple[str, ...]]:

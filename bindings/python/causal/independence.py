@@ -8,6 +8,7 @@ import math
 import random
 from collections import Counter
 from dataclasses import dataclass, replace
+from statistics import NormalDist
 from typing import TYPE_CHECKING, Callable, Dict, Iterator, List, Optional, Sequence, Tuple, Union, overload
 
 from causal.columns import Data
@@ -18,6 +19,7 @@ from causal.names import printed_name, printed_set
 from causal.tables import Table
 
 if TYPE_CHECKING:
+    import matplotlib.axes
     import pandas
 
     from causal.diagram import Diagram
@@ -26,6 +28,8 @@ METHODS = ("auto", "chi-squared", "permutation")
 # A table is too thin for the chi-squared distribution where more than this part of its cells is expected to have fewer than FEW
 # records, or one fewer than 1.
 FEW, THIN_PART = 5, 0.2
+# From here on a noncentral chi-squared distribution is approximated.
+LARGE = 500
 
 
 @dataclass(frozen=True)
@@ -65,6 +69,17 @@ class Stratum:
         across, down = self.sums
         cells = sum(_weighted_log(count) for row in self.rows for count in row)
         return max(2 * (cells + _weighted_log(sum(across)) - sum(map(_weighted_log, [*across, *down]))), 0.0)
+
+
+    def largest(self) -> float:
+        """How many records a cell has more or less than expected, at most.
+
+        >>> from causal.independence import Stratum
+        >>> Stratum(((2, 0), (0, 2))).largest()
+        1.0
+        """
+        pairs = [pair for row in zip(self.rows, self.expected()) for pair in zip(*row)]
+        return max(abs(count - mean) for count, mean in pairs)
 
 
 def _weighted_log(count: int) -> float:
@@ -173,14 +188,68 @@ def chi_squared() -> Optional[Callable[[float, int], float]]:
     return lambda statistic, degrees: float(chi2.sf(statistic, degrees))
 
 
+def noncentral_below(statistic: float, degrees: int, shift: float) -> float:
+    """How likely a noncentral chi-squared statistic is smaller: a sum over a Poisson distribution, or for large ones Sankaran's
+    approximation.
+
+    >>> from causal.independence import noncentral_below
+    >>> round(noncentral_below(10.0, 4, 5.0), 4), round(noncentral_below(1000.0, 4, 1000.0), 3)
+    (0.6616, 0.479)
+    """
+    if statistic > LARGE:
+        return sankaran_below(statistic, degrees, shift)
+    if statistic <= 0:
+        return 0.0
+    half, mean = statistic / 2, shift / 2
+    below = total = 0.0
+    for n in range(int(half + 12 * math.sqrt(half) + 40)):
+        below += math.exp(n * math.log(mean) - mean - math.lgamma(n + 1)) if mean else float(n == 0)
+        a = degrees / 2 + n
+        total += below * math.exp(a * math.log(half) - half - math.lgamma(a + 1))
+    return min(total, 1.0)
+
+
+def sankaran_below(statistic: float, degrees: int, shift: float) -> float:
+    """The same by Sankaran's approximation with a normal distribution."""
+    mean, half = degrees + shift, degrees + 2 * shift
+    power = 1 - 2 * mean * (degrees + 3 * shift) / (3 * half**2)
+    spread, bend = half / mean**2, (power - 1) * (1 - 3 * power)
+    middle = 1 + power * spread * (power - 1 - 0.5 * (2 - power) * bend * spread)
+    wide = power * math.sqrt(2 * spread) * (1 + 0.5 * bend * spread)
+    return NormalDist().cdf(((statistic / mean) ** power - middle) / wide)
+
+
+def shift_at(statistic: float, degrees: int, part: float) -> float:
+    """How far the statistic's distribution is shifted where this part of it lies below the statistic; 0 where none is so low.
+
+    >>> from causal.independence import shift_at
+    >>> shift_at(3.0, 4, 0.5), round(shift_at(30.0, 4, 0.5), 1)
+    (0.0, 26.6)
+    """
+    low, high = 0.0, 1.0
+    if statistic <= 0 or noncentral_below(statistic, degrees, 0.0) <= part:
+        return 0.0
+    while noncentral_below(statistic, degrees, high) > part:
+        high *= 2
+    for _ in range(45):
+        middle = (low + high) / 2
+        low, high = (middle, high) if noncentral_below(statistic, degrees, middle) > part else (low, middle)
+    return low
+
+
 @dataclass(frozen=True)
 class IndependenceTest:
     """A test of one independence that a diagram implies. It is computed, and nothing about it is proved.
 
     `statistic` is G² over the levels of what is given, and `degrees` its degrees of freedom; `p` is by the `method`
-    ("chi-squared" or "permutation"), and `adjusted` after Holm's correction for all tests. `effect_size` is Cramér's V over the
-    same levels: 0 where the counts are independent, 1 where the one variable tells the other. Where no level has two levels of
-    both variables nothing can be tested: then `p`, `method` and `adjusted` are None.
+    ("chi-squared" or "permutation"), and `adjusted` after Holm's correction for all tests. Where no level has two levels of both
+    variables nothing can be tested: then `p`, `method` and `adjusted` are None.
+
+    Four sizes say how far the counts are from the independence. `largest_difference` is the largest difference, as a probability:
+    how far the part of the records that a cell has is from the one that the independence gives it, at most. `rmsea` is the root
+    mean square error of approximation, and `rmsea_lower` and `rmsea_upper` are the ends of its interval of 95%, by the noncentral
+    chi-squared distribution (in thin tables it says little). `effect_size` is Cramér's V over the
+    same levels: 0 where the counts are independent, 1 where the one variable tells the other.
     """
 
     a: str
@@ -192,13 +261,22 @@ class IndependenceTest:
     p: Optional[float] = None
     method: Optional[str] = None
     adjusted: Optional[float] = None
+    largest_difference: float = 0.0
+    rmsea: float = 0.0
+    rmsea_lower: float = 0.0
+    rmsea_upper: float = 0.0
+
+    @property
+    def pair(self) -> str:
+        """The pair with its set, as it is printed."""
+        return f"{printed_name(self.a)} from {printed_name(self.b)} given {printed_set(self.given)}"
 
     def __str__(self) -> str:
-        pair = f"{printed_name(self.a)} from {printed_name(self.b)} given {printed_set(self.given)}"
         if self.p is None or self.adjusted is None:
-            return f"{pair}: no test"
+            return f"{self.pair}: no test"
         tested = f"G2 = {self.statistic:.4g}, df = {self.degrees}, p = {self.p:.3g} ({self.method}), Holm {self.adjusted:.3g}"
-        return f"{pair}: {tested}, V = {self.effect_size:.3g}"
+        rmsea = f"RMSEA = {self.rmsea:.3g} [{self.rmsea_lower:.3g}, {self.rmsea_upper:.3g}]"
+        return f"{self.pair}: {tested}, largest difference {self.largest_difference:.3g}, {rmsea}, V = {self.effect_size:.3g}"
 
 
 @dataclass(frozen=True)
@@ -236,7 +314,25 @@ class IndependenceTests(Sequence[IndependenceTest]):
     def __str__(self) -> str:
         return "\n".join(map(str, self.tests)) or "none"
 
-    HEADS = ("a", "b", "given", "statistic", "degrees", "p", "adjusted", "effect_size", "method")
+    HEADS = (
+        *("a", "b", "given", "statistic", "degrees", "p", "adjusted", "effect_size", "method"),
+        *("largest_difference", "rmsea", "rmsea_lower", "rmsea_upper"),
+    )
+
+    def plot(self, ax: Optional["matplotlib.axes.Axes"] = None) -> "matplotlib.axes.Axes":
+        """Draws the size of each difference, the RMSEA with its interval, with matplotlib. Pairs without a test are left out.
+
+        >>> import matplotlib
+        >>> matplotlib.use("Agg")
+        >>> from causal import Diagram
+        >>> tests = Diagram("dag { A -> B -> C }").test_implications({"A": [0, 1] * 9, "B": [0, 0, 1] * 6, "C": [0, 1, 1] * 6})
+        >>> axes = tests.plot()
+        """
+        from causal.plotting import plot_intervals
+
+        known = [test for test in self.tests if test.p is not None]
+        rows = [(test.pair, test.rmsea, test.rmsea_lower, test.rmsea_upper) for test in known]
+        return plot_intervals(rows, "RMSEA, with its 95% interval", ax)
 
     def frame(self) -> "pandas.DataFrame":
         """A DataFrame with a row for each test (it needs pandas)."""
@@ -276,12 +372,20 @@ def tested(pair: Implication, table: Table, method: str, permutations: int, seed
     sides = [len({cell[table.names.index(name)] for cell, count in table.counts.items() if count}) for name in (pair.a, pair.b)]
     records = sum(table.counts.values())
     size = math.sqrt(sum(stratum.pearson() for stratum in strata if stratum.degrees) / (records * (min(sides) - 1)))
+
+    def rmsea(shift: float) -> float:
+        return math.sqrt(max(shift, 0.0) / (degrees * (records - 1)))
+
     tail = None if method == "permutation" or method == "auto" and is_thin(strata) else chi_squared()
     if method == "chi-squared" and tail is None:
         raise RequestError("the chi-squared distribution needs scipy; by permutation the tests need nothing")
     p = tail(statistic, degrees) if tail else permutation_p(strata, statistic, permutations, seed)
     return IndependenceTest(
-        pair.a, pair.b, pair.given, statistic, degrees, size, p, "chi-squared" if tail else "permutation", p
+        *(pair.a, pair.b, pair.given, statistic, degrees, size, p, "chi-squared" if tail else "permutation", p),
+        largest_difference=max(stratum.largest() for stratum in strata) / records,
+        rmsea=rmsea(statistic - degrees),
+        rmsea_lower=rmsea(shift_at(statistic, degrees, 0.975)),
+        rmsea_upper=rmsea(shift_at(statistic, degrees, 0.025)),
     )
 
 

@@ -51,6 +51,23 @@ def plot(
     return axes
 
 
+def plot_intervals(rows: Sequence[Tuple[str, float, float, float]], label: str, ax: Any) -> Any:
+    """Draws numbers with their intervals, the first one on top, on axes of matplotlib, and gives the axes."""
+    try:
+        from matplotlib import pyplot
+    except ImportError as cause:
+        raise ImportError("a drawing needs matplotlib") from cause
+    axes = pyplot.subplots(figsize=(6.4, 1.2 + 0.35 * len(rows)), layout="constrained")[1] if ax is None else ax
+    for place, (_, value, lower, upper) in enumerate(rows):
+        axes.plot([lower, upper], [place, place], color="#333333", linewidth=1.2)
+        axes.plot([value], [place], color="#333333", marker="o", markersize=5)
+    axes.axvline(0, color="#888888", linestyle="--", linewidth=0.8)
+    axes.set_yticks(range(len(rows)), [name.replace("$", r"\$") for name, *_ in rows])
+    axes.set_ylim(len(rows) - 0.5, -0.5)
+    axes.set_xlabel(label)
+    return axes
+
+
 def svg(content: GraphText) -> Optional[str]:
     """The drawing as SVG, or None where matplotlib isn't there."""
     try:

@@ -7,11 +7,12 @@ from __future__ import annotations
 from collections import Counter
 from dataclasses import dataclass, replace
 from operator import index
-from typing import Any, Callable, Dict, Hashable, Iterable, List, Mapping, Optional, Sequence, Tuple
+from typing import Any, Callable, Dict, Hashable, Iterable, List, Mapping, Optional, Sequence, Tuple, Union
 
 from causal.columns import Column, Data, columns_of, csv_columns
 from causal.databases import DatabaseTable, database_of
 from causal.errors import CausalError, CountsError, MissingValues, RequestError
+from causal.frames import Frame, frame_of
 
 Cell = Tuple[int, ...]
 MISSING = ("error", "drop", "level")
@@ -134,15 +135,15 @@ def check_request(names: Sequence[str], count: Optional[str], missing: str) -> N
 def table_of(data: Data, names: Sequence[str], count: Optional[str] = None, missing: str = "error") -> Table:
     """The table of the named variables in data of any kind: see `table_from`."""
     check_request(names, count, missing)
-    database = database_of(data)
-    if database is not None:
-        return table_of_database(database, names, count, missing)
+    source = database_of(data) or frame_of(data)
+    if source is not None:
+        return table_of_source(source, names, count, missing)
     return table_from(columns_of(data, [*names, *([count] if count is not None else [])]), names, count, missing)
 
 
-def table_of_database(database: DatabaseTable, names: Sequence[str], count: Optional[str], missing: str) -> Table:
-    """The table of what the database has counted. Its levels are in order, since an engine gives its rows in any."""
-    columns, records = database.grouped(names, count)
+def table_of_source(source: Union[DatabaseTable, Frame], names: Sequence[str], count: Optional[str], missing: str) -> Table:
+    """The table of what a database or a data frame has counted. Its levels are in order, since an engine gives its rows in any."""
+    columns, records = source.grouped(names, count)
     return table_from(columns, names, list(columns)[-1], missing, records).ordered()
 
 

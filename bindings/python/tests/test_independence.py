@@ -8,7 +8,7 @@ from collections import Counter
 
 import causal
 from causal import Diagram
-from causal.independence import Stratum, chi_squared, holm, hypergeometric, is_thin, permutation_p, shuffled
+from causal.independence import Stratum, chi_squared, holm, hypergeometric, is_thin, noncentral_below, permutation_p, shift_at, shuffled
 
 try:
     import scipy.stats
@@ -51,6 +51,48 @@ class Statistics(unittest.TestCase):
         stratum = Stratum(((9, 5), (3, 8)))
         self.assertAlmostEqual(test.statistic, stratum.deviance())
         self.assertAlmostEqual(test.effect_size, math.sqrt(stratum.pearson() / 34))
+        # the cell (0, 0) has 9 of 34 records, and 14 * 12 / 25 are expected
+        self.assertAlmostEqual(test.largest_difference, (9 - 14 * 12 / 25) / 34)
+        self.assertAlmostEqual(test.rmsea, math.sqrt((stratum.deviance() - 1) / 33))
+        self.assertLess(test.rmsea_lower, test.rmsea)
+        self.assertLess(test.rmsea, test.rmsea_upper)
+
+    def test_the_interval_of_the_rmsea(self):
+        # quantiles of noncentral chi-squared distributions, as tables have them
+        for statistic, degrees, shift, below in ((3.841459, 1, 0.0, 0.95), (9.487729, 4, 0.0, 0.95), (3.841459, 1, 7.848861, 0.2)):
+            self.assertAlmostEqual(noncentral_below(statistic, degrees, shift), below, places=5)
+        test = CHAIN.test_implications(chain_data(random.Random(4), 1000), method="permutation", permutations=9)[0]
+        self.assertEqual(test.rmsea_lower, 0.0)
+        test = CHAIN.test_implications(chain_data(random.Random(4), 1000, 0.4), method="permutation", permutations=9)[0]
+        self.assertGreater(test.rmsea_lower, 0.05)
+
+    @needs_scipy
+    def test_the_interval_as_scipy_has_it(self):
+        for degrees in (1, 2, 6, 30):
+            for shift in (0.5, 5.0, 80.0, 5000.0):
+                for part in (0.05, 0.5, 0.975):
+                    statistic = float(scipy.stats.ncx2.ppf(part, degrees, shift))
+                    self.assertAlmostEqual(noncentral_below(statistic, degrees, shift), part, delta=1e-8 if statistic < 500 else 2e-3)
+                    if shift > 1:
+                        self.assertAlmostEqual(noncentral_below(statistic, degrees, shift_at(statistic, degrees, part)), part)
+
+    def test_the_drawing(self):
+        try:
+            import matplotlib
+        except ImportError:
+            self.skipTest("no matplotlib")
+        matplotlib.use("Agg")
+        from matplotlib import pyplot
+
+        data = {**chain_data(random.Random(1), 100), "D$": [0, 1] * 50}
+        tests = Diagram('dag { A -> B -> C "D$" -> C }').test_implications(data, method="permutation", permutations=9)
+        axes = tests.plot()
+        self.assertEqual([text.get_text().replace("\\", "") for text in axes.get_yticklabels()], [test.pair for test in tests])
+        points = [line for line in axes.lines if line.get_marker() == "o"]
+        self.assertEqual([float(line.get_xdata()[0]) for line in points], [test.rmsea for test in tests])
+        self.assertIs(tests.plot(axes), axes)
+        axes.figure.canvas.draw()
+        pyplot.close("all")
 
     @needs_scipy
     def test_as_scipy_has_it(self):

@@ -15,6 +15,12 @@ autoplot_methods <- list(
     caption <- paste0("treated: ", level_text(attr(object, "treated")), "; control: ", level_text(attr(object, "control")))
     interval_drawing(tidied[tidied$term == term, ], length(attr(object, "outcomes")), term, if (term == "difference") 0 else 1, caption)
   },
+  causal_tests = function(object, ...) {
+    known <- shown_tests(object)
+    pairs <- paste0(known$a, " from ", known$b, " given ", known$given)
+    tidied <- list(pair = pairs, estimate = known$rmsea, conf.low = known$rmsea_lower, conf.high = known$rmsea_upper)
+    interval_drawing(frame_of(tidied), 1, "RMSEA, with its 95% interval", 0, NULL, pairs)
+  },
   causal_means = function(object, ...) {
     tidied <- tidy_methods$causal_means(object)
     interval_drawing(tidied[tidied$term == "mean", ], ncol(object) - 6, paste("mean of", attr(object, "outcome")), NULL, NULL)
@@ -25,14 +31,17 @@ autoplot_methods <- list(
 mapped <- function(...) do.call(ggplot2::aes, lapply(list(...), as.name))
 
 # A point for each cell with its interval; the cells are told by the first columns. A line shows where nothing differs.
-interval_drawing <- function(tidied, levels, label, none, caption) {
-  cells <- vapply(seq_len(nrow(tidied)), function(row) level_text(lapply(as.list(tidied)[seq_len(levels)], `[`, row)), "")
+interval_drawing <- function(tidied, levels, label, none, caption, cells = cell_texts(tidied, levels)) {
   shown <- frame_of(list(cell = factor(cells, rev(unique(cells))), estimate = tidied$estimate, low = tidied$conf.low, high = tidied$conf.high))
   ggplot2::ggplot(shown[!is.na(shown$estimate), ], mapped(x = "estimate", y = "cell")) +
     (if (!is.null(none)) ggplot2::geom_vline(xintercept = none, linetype = "dashed", colour = "#888888")) +
     ggplot2::geom_linerange(mapped(xmin = "low", xmax = "high"), na.rm = TRUE) +
     ggplot2::geom_point(size = 2) +
     ggplot2::labs(x = label, y = NULL, caption = caption)
+}
+
+cell_texts <- function(tidied, levels) {
+  vapply(seq_len(nrow(tidied)), function(row) level_text(lapply(as.list(tidied)[seq_len(levels)], `[`, row)), "")
 }
 
 diagram_drawing <- function(diagram, path = NULL, hedge = NULL, layout = NULL) {

@@ -2,28 +2,40 @@
 # arithmetic.
 
 contrast <- function(diagram, data, x = NULL, y = NULL, treated = NULL, control = NULL, count = NULL, level = 0.95, resamples = 1000,
-                     seed = NULL, missing = c("error", "drop"), at = NULL, interval = c("percentile", "bca")) {
-  drawn <- bootstrapped(diagram, data, x, y, count, match.arg(missing), at, level, resamples, seed, match.arg(interval))
+                     seed = NULL, missing = c("error", "drop"), at = NULL, interval = c("percentile", "bca"), set = NULL, given = NULL,
+                     progress = NULL) {
+  asked <- asked_of(diagram, x, y, set, given)
+  drawn <- bootstrapped(asked, data, count, match.arg(missing), at, level, resamples, seed, match.arg(interval), progress)
   contrast_frame(drawn, arms_of(drawn$effects, drawn$table, treated, control))
 }
 
 # The means of a numeric outcome under each level of the exposures, and their differences from that under `control`.
 effect_means <- function(diagram, data, x = NULL, y = NULL, control = NULL, count = NULL, level = 0.95, resamples = 1000, seed = NULL,
-                         missing = c("error", "drop"), at = NULL, interval = c("percentile", "bca")) {
-  drawn <- bootstrapped(diagram, data, x, y, count, match.arg(missing), at, level, resamples, seed, match.arg(interval))
+                         missing = c("error", "drop"), at = NULL, interval = c("percentile", "bca"), set = NULL, given = NULL,
+                         progress = NULL) {
+  asked <- asked_of(diagram, x, y, set, given)
+  drawn <- bootstrapped(asked, data, count, match.arg(missing), at, level, resamples, seed, match.arg(interval), progress)
   means_frame(drawn, control)
 }
 
 # The effects over the data, over resamples of its records, and for the interval "bca" without one record of each cell.
-bootstrapped <- function(diagram, data, x, y, count, missing, at, level, resamples, seed, kind) {
-  diagram <- as_causal_diagram(diagram)
+bootstrapped <- function(asked, data, count, missing, at, level, resamples, seed, kind, progress) {
   check_numbers(level, resamples)
-  words <- c(option("x", x), option("y", y))
-  table <- effect_table(diagram, x, y, data, count, missing)
-  table <- pin(table, first_places(table, free_variables(diagram, words), at))
-  effects <- effects_of(diagram, words, table)
-  drawn <- with_seed(seed, resampled_values(diagram, words, table, effects, resamples))
-  left_out <- if (kind == "bca" && resamples > 0) values_without_one(diagram, words, table, effects)
+  table <- effect_table(asked, data, count, missing)
+  table <- pin(table, first_places(table, free_variables(asked), at))
+  effects <- effects_of(asked, table)
+  cells <- if (kind == "bca" && resamples > 0) which(table$counts > 0)
+  # `progress` is told how many tables have been asked about, and of how many
+  done <- 0
+  values <- values_over(asked, table, effects)
+  told_values <- function(counts) {
+    found <- values(counts)
+    done <<- done + 1
+    if (!is.null(progress)) progress(done, resamples + length(cells))
+    found
+  }
+  drawn <- with_seed(seed, resampled_values(told_values, table, effects, resamples))
+  left_out <- if (length(cells)) values_without_one(told_values, table, cells)
   list(effects = effects, table = table, values = values_of(effects), drawn = drawn, left_out = left_out, level = level, seed = seed, kind = kind)
 }
 
@@ -66,31 +78,28 @@ with_seed <- function(seed, value) {
 }
 
 # One row for each resample of the table of counts: the values of all cells, or NA where the resample has none.
-resampled_values <- function(diagram, words, table, effects, resamples) {
+resampled_values <- function(values, table, effects, resamples) {
   size <- sum(table$counts)
   if (size > .Machine$integer.max) stop("the bootstrap draws at most ", .Machine$integer.max, " records; use resamples = 0")
-  values <- values_over(diagram, words, table, effects)
   do.call(rbind, c(list(matrix(NA_real_, 0, length(effects$from))),
                    lapply(seq_len(resamples), function(k) values(stats::rmultinom(1, size, table$counts)[, 1]))))
 }
 
 # The same, for each cell of the table without one of its records; the attribute `records` says how many it has.
-values_without_one <- function(diagram, words, table, effects) {
-  values <- values_over(diagram, words, table, effects)
-  cells <- which(table$counts > 0)
+values_without_one <- function(values, table, cells) {
   without <- lapply(cells, function(cell) values(replace(table$counts, cell, table$counts[cell] - 1)))
   structure(do.call(rbind, without), records = table$counts[cells])
 }
 
 # What gives the values of all cells over other counts. Exposures, outcomes and pinned variables keep their levels; of the others
 # there are those that the counts have.
-values_over <- function(diagram, words, table, effects) {
-  whole <- unique(c(names(effects$x[[1]]), names(effects$y[[1]]), names(effects$pinned)))
-  words <- c(words, "--count", count_name(table))
+values_over <- function(asked, table, effects) {
+  whole <- unique(c(names(effects$x[[1]]), names(effects$y[[1]]), asked$given, names(effects$pinned)))
+  words <- c(asked$words, "--count", count_name(table))
   cells <- cells_of(effects$lines)
   function(counts) {
-    told <- ask_counts(diagram, words, counts_text(table, counts, whole), hand_back = 5)
-    if (told$status == 0) cell_values(told$lines, cells) else rep(NA_real_, length(effects$from))
+    told <- ask_counts(asked$diagram, words, counts_text(table, counts, whole), hand_back = 5)
+    if (told$status == 0) shares_of(cell_values(told$lines, cells), effects$groups) else rep(NA_real_, length(effects$from))
   }
 }
 
@@ -117,14 +126,14 @@ contrast_frame <- function(drawn, arms) {
   computed <- lapply(measures, function(measure) {
     measured(drawn, function(values) measure(values[, arms$treated, drop = FALSE], values[, arms$control, drop = FALSE]))
   })
-  columns <- c(columns_of(effects$y[arms$treated], table), list(treated = drawn$values[arms$treated], control = drawn$values[arms$control]))
+  columns <- c(columns_of(effects$given[arms$treated], table), columns_of(effects$y[arms$treated], table), list(treated = drawn$values[arms$treated], control = drawn$values[arms$control]))
   for (name in names(measures)) {
     one <- computed[[name]]
     columns <- c(columns, stats::setNames(list(one$value, one$lower, one$upper), paste0(name, c("", "_lower", "_upper"))))
   }
   structure(frame_of(columns), class = c("causal_contrast", "data.frame"), level = drawn$level, resamples = nrow(drawn$drawn),
             interval = drawn$kind, without_value = sum(is.na(drawn$drawn[, 1])), without_ratio = computed$ratio$without, seed = drawn$seed,
-            outcomes = names(effects$y[[1]]),
+            outcomes = c(if (length(effects$given)) names(effects$given[[1]]), names(effects$y[[1]])),
             treated = levels_at(table, effects$x[[arms$treated[1]]]), control = levels_at(table, effects$x[[arms$control[1]]]),
             pinned = levels_at(table, effects$pinned), dropped = table$dropped)
 }
@@ -172,19 +181,20 @@ means_frame <- function(drawn, control) {
   outcome <- names(effects$y[[1]])
   if (length(outcome) != 1) stop("a mean is of one outcome")
   numbers <- numbers_of(table, outcome)[vapply(effects$y, function(cell) as.integer(cell[[outcome]]), 0L)]
-  keys <- vapply(effects$x, paste, "", collapse = ",")
+  given <- if (length(effects$given)) vapply(effects$given, paste, "", collapse = ",") else rep("", length(effects$x))
+  keys <- paste(vapply(effects$x, paste, "", collapse = ","), given, sep = "|")
   rows <- which(!duplicated(keys))
   mean_at <- function(values, key) rowSums(values[, keys == key, drop = FALSE] * rep(numbers[keys == key], each = nrow(values)))
   means <- function(values) matrix(vapply(keys[rows], mean_at, numeric(nrow(values)), values = values), nrow(values), length(rows))
-  reference <- match(reference_key(drawn, control), keys[rows])
+  reference <- match(paste(reference_key(drawn, control), given[rows], sep = "|"), keys[rows])
   mean <- measured(drawn, means)
-  difference <- measured(drawn, function(values) means(values) - means(values)[, reference])
-  difference[c("lower", "upper")] <- lapply(difference[c("lower", "upper")], replace, reference, NA)
-  columns <- c(columns_of(effects$x[rows], table), list(mean = mean$value, lower = mean$lower, upper = mean$upper),
+  difference <- measured(drawn, function(values) means(values) - means(values)[, reference, drop = FALSE])
+  difference[c("lower", "upper")] <- lapply(difference[c("lower", "upper")], replace, unique(reference), NA)
+  columns <- c(columns_of(effects$x[rows], table), columns_of(effects$given[rows], table), list(mean = mean$value, lower = mean$lower, upper = mean$upper),
                list(difference = difference$value, difference_lower = difference$lower, difference_upper = difference$upper))
   structure(frame_of(columns), class = c("causal_means", "data.frame"), outcome = outcome, level = drawn$level, resamples = nrow(drawn$drawn),
             interval = drawn$kind, without_value = sum(is.na(drawn$drawn[, 1])), seed = drawn$seed,
-            control = levels_at(table, effects$x[[rows[reference]]]), pinned = levels_at(table, effects$pinned), dropped = table$dropped)
+            control = levels_at(table, effects$x[[rows[reference[1]]]]), pinned = levels_at(table, effects$pinned), dropped = table$dropped)
 }
 
 # Which levels of the exposures the means are compared with: the first, unless they are given.

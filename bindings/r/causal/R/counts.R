@@ -26,15 +26,15 @@ count_table <- function(diagram, words, data, count, missing, command = "evaluat
     count <- utils::tail(make.unique(c(names(dimnames(data)), "count")), 1)
     data <- as.data.frame(data, responseName = count, stringsAsFactors = TRUE)
   }
-  is_remote <- inherits(data, "causal_table")
-  if (!is.data.frame(data) && !is_remote) stop("`data` has to be a data frame, a table, or what `database_table` gives")
+  is_remote <- inherits(data, "causal_table") || is_lazy(data)
+  if (!is.data.frame(data) && !is_remote) stop("`data` has to be a data frame, a table, a lazy table of dplyr, or what `database_table` gives")
   check_count_name(count)
   used <- used_columns(diagram, words, command)
   if (is.null(used)) return(NULL)
   if (!is.null(count)) refuse_used(enc2utf8(count), used)
   check_header(diagram, words, header_of(data), count, command)
   if (is_remote) {
-    data <- fetch_counts(data, used, count)
+    data <- if (is_lazy(data)) fetch_lazy_counts(data, used, count) else fetch_counts(data, used, count)
     count <- names(data)[ncol(data)]
   }
   columns <- lapply(stats::setNames(used, used), function(name) data[[match(name, enc2utf8(names(data)))]])

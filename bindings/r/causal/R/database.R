@@ -2,16 +2,17 @@
 # Which variables these are the library tells.
 
 # The query. Without a connection names are quoted as standard SQL has it, else as its database does.
-counts_query <- function(diagram, table, x = NULL, y = NULL, count = NULL, set = NULL, of = c("effect", "implications"), connection = NULL) {
+counts_query <- function(diagram, table, x = NULL, y = NULL, count = NULL, set = NULL, of = c("effect", "implications"), connection = NULL,
+                         given = NULL) {
   diagram <- as_causal_diagram(diagram)
   of <- match.arg(of)
   check_count_name(count)
-  if (of == "implications" && !(is.null(x) && is.null(y) && is.null(set))) stop("implications have no `x`, no `y` and no `set`")
+  if (of == "implications" && !all(vapply(list(x, y, set, given), is.null, NA))) stop("implications have no `x`, no `y`, no `set` and no `given`")
   used <- if (of == "implications") used_columns(diagram, character(), "implications")
-          else if (is.null(set)) used_columns(diagram, c(option("x", x), option("y", y)), "evaluate")
+          else if (is.null(set)) used_columns(diagram, asked_of(diagram, x, y, NULL, given)$words, "evaluate")
           else adjustment_columns(diagram, set, x, y)
   if (is.null(used) && of == "implications") stop("the diagram implies no independence, so there is nothing to count")
-  if (is.null(used)) stop(not_identifiable(diagram, x, y))
+  if (is.null(used)) stop(not_identifiable(identify_effect(diagram, x, y)))
   if (!is.null(count)) refuse_used(enc2utf8(count), used)
   query_text(used, table, count, connection)
 }
@@ -61,6 +62,7 @@ query_text <- function(used, table, count, connection) {
 # The names of the columns of data.
 header_of <- function(data) {
   if (is.data.frame(data)) return(names(data))
+  if (is_lazy(data)) return(colnames(data))
   names(DBI::dbGetQuery(data$connection, paste("SELECT * FROM", quote_table(data$table, data$connection), "WHERE 0 = 1")))
 }
 
@@ -70,7 +72,11 @@ fetch_counts <- function(data, used, count) {
   query <- query_text(used, data$table, count, data$connection)
   # a column of several types is read with a warning that some values became others
   found <- tryCatch(DBI::dbGetQuery(data$connection, query), warning = function(it) stop("the counts can't be read as they are: ", conditionMessage(it)))
-  columns <- stats::setNames(lapply(found, plain_column), c(used, count_name(list(names = used))))
+  ordered_counts(stats::setNames(found, c(used, count_name(list(names = used)))), used)
+}
+
+ordered_counts <- function(found, used) {
+  columns <- lapply(found, plain_column)
   columns[[length(columns)]] <- as.numeric(columns[[length(columns)]])
   order <- do.call(order, c(unname(columns[used]), list(method = "radix")))
   frame_of(lapply(columns, `[`, order))
@@ -82,7 +88,11 @@ check_counts_there <- function(data, count) {
   name <- paste0("records.", quote_name(count, data$connection))
   wrong <- DBI::dbGetQuery(data$connection, paste0("SELECT COUNT(*) FROM ", quote_table(data$table, data$connection), " records WHERE ", name,
                                                    " IS NULL OR ", name, " < 0 OR ", name, " <> ROUND(", name, ")"))
-  if (as.numeric(wrong[[1]]) > 0) stop(counted(as.numeric(wrong[[1]]), "row"), " of the table have no count that is a whole number from 0")
+  refuse_wrong_counts(as.numeric(wrong[[1]]))
+}
+
+refuse_wrong_counts <- function(rows) {
+  if (rows > 0) stop(counted(rows, "row"), " of the table have no count that is a whole number from 0")
 }
 
 # Large whole numbers of a database as numbers of R, where these can hold them.

@@ -1,19 +1,34 @@
 # Diagrams: a text that the library reads, with its vertices and edges as the library tells them.
 
-causal_diagram <- function(text) {
+causal_diagram <- function(text, format = c("dag", "dot", "gml"), ...) {
   if (inherits(text, "causal_diagram")) return(text)
-  diagram_of(as_bytes(text))
+  format <- match.arg(format)
+  if (format == "dag" && ...length()) stop("the text of a diagram has its own marks; none are given beside it")
+  bytes <- as_bytes(text)
+  switch(format, dag = diagram_of(bytes), dot = causal_diagram(read_dot(form_bytes(bytes), ...)), gml = causal_diagram(read_gml(form_bytes(bytes), ...)))
 }
 
-read_diagram <- function(file) {
-  if (inherits(file, "connection")) return(causal_diagram(readLines(file, encoding = "UTF-8", warn = FALSE)))
-  diagram_of(readBin(file, "raw", n = file.size(file)))
+# The text of bytes in another form, which may begin with a mark of the order of bytes.
+form_bytes <- function(bytes) {
+  if (length(bytes) > 2 && identical(bytes[1:3], as.raw(c(0xef, 0xbb, 0xbf)))) bytes <- bytes[-(1:3)]
+  as_text(bytes)
 }
 
-diagram_of <- function(bytes) {
+# The form of a file is told by the end of its name, unless it is given.
+read_diagram <- function(file, format = NULL, ...) {
+  is_connection <- inherits(file, "connection")
+  end <- if (is_connection) "" else tolower(sub("^.*[.]", "", basename(file)))
+  if (is.null(format)) format <- switch(end, dot = , gv = "dot", gml = "gml", "dag")
+  text <- if (is_connection) readLines(file, encoding = "UTF-8", warn = FALSE) else readBin(file, "raw", n = file.size(file))
+  causal_diagram(text, format, ...)
+}
+
+diagram_of <- function(bytes, doubts = TRUE) {
   if (any(bytes == 0)) stop("the text of a diagram has a null byte in it, which R's texts can't hold")
   told <- ask("graph", list(text = bytes))
-  structure(c(list(text = as_text(bytes)), read_graph(told$lines)), class = "causal_diagram")
+  diagram <- structure(c(list(text = as_text(bytes)), read_graph(told$lines)), class = "causal_diagram")
+  if (doubts) warn_of_doubts(diagram$text, diagram)
+  diagram
 }
 
 as_causal_diagram <- function(x, ...) UseMethod("as_causal_diagram")
@@ -74,7 +89,7 @@ graph_text <- function(names, edges, exposure = character(), outcome = character
 
 project <- function(diagram) {
   diagram <- as_causal_diagram(diagram)
-  causal_diagram(ask("graph", diagram, "--project")$lines)
+  diagram_of(as_bytes(ask("graph", diagram, "--project")$lines), doubts = FALSE)
 }
 
 has_role <- function(diagram, role) diagram$vertices$name[diagram$vertices$role == role]

@@ -1,22 +1,21 @@
 # Effects over a table of counts. Each value is the library's; what is made of it as a number of R is rounded.
 
-evaluate <- function(diagram, data, x = NULL, y = NULL, count = NULL, exact = FALSE, missing = c("error", "drop"), at = NULL) {
-  diagram <- as_causal_diagram(diagram)
-  words <- c(option("x", x), option("y", y))
-  table <- effect_table(diagram, x, y, data, count, match.arg(missing))
-  table <- pin(table, first_places(table, free_variables(diagram, words), at))
-  effects_frame(effects_of(diagram, words, table, exact), table)
+evaluate <- function(diagram, data, x = NULL, y = NULL, count = NULL, exact = FALSE, missing = c("error", "drop"), at = NULL, set = NULL,
+                     given = NULL) {
+  asked <- asked_of(diagram, x, y, set, given)
+  table <- effect_table(asked, data, count, match.arg(missing))
+  table <- pin(table, first_places(table, free_variables(asked), at))
+  effects_frame(effects_of(asked, table, exact), table)
 }
 
 # The value at each level at which the formula's free variables may be pinned: in the population all are the same.
 pin_spread <- function(diagram, data, x = NULL, y = NULL, count = NULL, exact = FALSE, missing = c("error", "drop")) {
-  diagram <- as_causal_diagram(diagram)
-  words <- c(option("x", x), option("y", y))
-  table <- effect_table(diagram, x, y, data, count, match.arg(missing))
-  free <- free_variables(diagram, words)
+  asked <- asked_of(diagram, x, y)
+  table <- effect_table(asked, data, count, match.arg(missing))
+  free <- free_variables(asked)
   if (!length(free)) stop("the formula reads no variable beside x and y that could have another level")
   places <- expand.grid(rev(lapply(table$levels[free], level_order)))[rev(seq_along(free))]
-  rows <- lapply(seq_len(nrow(places)), function(k) spread_rows(diagram, words, pin(table, unlist(places[k, , drop = FALSE])), free, exact))
+  rows <- lapply(seq_len(nrow(places)), function(k) spread_rows(asked, pin(table, unlist(places[k, , drop = FALSE])), free, exact))
   has_value <- !vapply(rows, is.null, NA)
   frame <- if (any(has_value)) do.call(rbind, rows[has_value]) else data.frame()
   structure(frame, class = c("causal_spread", "data.frame"), dropped = table$dropped, free = free,
@@ -24,8 +23,8 @@ pin_spread <- function(diagram, data, x = NULL, y = NULL, count = NULL, exact = 
 }
 
 # The effects at one choice of levels, with these levels in front; NULL where some cell has no value.
-spread_rows <- function(diagram, words, table, free, exact) {
-  effects <- tryCatch(effects_of(diagram, words, table, exact), causal_evaluation_fault = function(fault) NULL)
+spread_rows <- function(asked, table, free, exact) {
+  effects <- tryCatch(effects_of(asked, table, exact), causal_evaluation_fault = function(fault) NULL)
   if (is.null(effects)) return(NULL)
   values <- effects_frame(effects, table)
   pinned <- lapply(stats::setNames(free, free), function(name) rep(level_of(table, name, 1), nrow(values)))
@@ -46,14 +45,19 @@ print.causal_spread <- function(x, ...) {
 }
 
 # The table of counts of an effect, which has to have a formula.
-effect_table <- function(diagram, x, y, data, count, missing) {
-  table <- count_table(diagram, c(option("x", x), option("y", y)), data, count, missing)
-  if (is.null(table)) stop(not_identifiable(diagram, x, y))
+effect_table <- function(asked, data, count, missing) {
+  table <- count_table(asked$diagram, asked$words, data, count, missing)
+  if (is.null(table)) stop(not_identifiable(hedge_of(asked)))
   table
 }
 
+hedge_of <- function(asked) {
+  certificate <- sub("\n$", "", ask("identify", asked$diagram, c(asked$words, "--certificate"))$out)
+  new_hedge(ask("identify", asked$diagram, asked$words), certificate, asked$diagram)
+}
+
 # The variables that the formula reads beside x and y.
-free_variables <- function(diagram, words) read_formula(ask("identify", diagram, words)$lines)$free
+free_variables <- function(asked) read_formula(ask("identify", asked$diagram, asked$words)$lines)$free
 
 # The places of the levels at which they are pinned: those that are given, or the first in order.
 first_places <- function(table, free, at) {
@@ -71,16 +75,17 @@ first_places <- function(table, free, at) {
 }
 
 # The condition that an effect can't be computed from observations, with its hedge.
-not_identifiable <- function(diagram, x, y) {
-  hedge <- identify_effect(diagram, x = x, y = y)
-  message <- paste0(hedge$target, " is not identifiable: no observations determine it. The hedge is in the condition's `hedge`")
+not_identifiable <- function(hedge) {
+  target <- if (is.null(hedge$conditional)) hedge$target else hedge$conditional
+  message <- paste0(target, " is not identifiable: no observations determine it. The hedge is in the condition's `hedge`")
   structure(class = c("causal_not_identifiable", "error", "condition"), list(message = message, call = NULL, hedge = hedge))
 }
 
-effects_of <- function(diagram, words, table, exact = FALSE) {
-  told <- ask_counts(diagram, c(words, "--count", count_name(table), flag("exact", exact)), counts_text(table), hand_back = 5)
-  if (told$status == 5) stop(with_levels(causal_fault(told, list(diagram = diagram$text)), table))
-  c(read_effects(told$lines), list(lines = told$lines))
+effects_of <- function(asked, table, exact = FALSE) {
+  words <- c(asked$words, "--count", count_name(table), flag("exact", exact))
+  told <- ask_counts(asked$diagram, words, counts_text(table), hand_back = 5)
+  if (told$status == 5) stop(with_levels(causal_fault(told, list(diagram = asked$diagram$text)), table))
+  answer_of(c(read_effects(told$lines), list(lines = told$lines)), asked)
 }
 
 # A fault's cell with the levels of the data in place of their numbers.
@@ -101,7 +106,7 @@ levels_at <- function(table, codes) {
 }
 
 effects_frame <- function(effects, table) {
-  columns <- c(columns_of(effects$x, table), columns_of(effects$y, table))
+  columns <- c(columns_of(effects$x, table), columns_of(effects$given, table), columns_of(effects$y, table))
   is_exact <- all(nzchar(effects$fraction))
   columns <- c(columns, list(value = values_of(effects)),
                if (is_exact) list(fraction = effects$fraction) else list(from = effects$from, to = effects$to))
@@ -109,7 +114,7 @@ effects_frame <- function(effects, table) {
 }
 
 columns_of <- function(cells, table) {
-  names <- names(cells[[1]])
+  names <- if (length(cells)) names(cells[[1]])
   lapply(stats::setNames(names, names), function(name) level_of(table, name, vapply(cells, `[[`, "", name)))
 }
 

@@ -66,8 +66,31 @@ causal_fault <- function(answer, inputs) {
   number <- as.integer(found[3])
   fault <- list(stage = stage, second = nzchar(found[1]), number = number, sentence = sentences[[stage]][number], printed = line,
                 status = answer$status)
-  fault <- c(fault, place_of(stage, number, found[4], inputs[[if (fault$second) "other" else "diagram"]]))
+  text <- inputs[[if (fault$second) "other" else "diagram"]]
+  fault <- c(fault, place_of(stage, number, found[4], text))
+  if (stage == "graph") fault$sentence <- named_sentence(fault, text)
   new_fault(fault, sentence_text(fault))
+}
+
+# Other kinds of texts, by the word with which they begin.
+other_kinds <- c(
+  pdag = "the text is a pdag, which stands for several diagrams; give one of them, as a dag",
+  mag = "the text is a mag, whose edges say less than those of a dag; a dag is read",
+  pag = "the text is a pag, which stands for several diagrams; a dag is read",
+  graph = "the text is a graph without directions; a dag is read",
+  digraph = "the text is DOT, as Graphviz has it; it is read with format = \"dot\""
+)
+
+# What a fault of a diagram's text says. A comment, and a text of another kind, are named.
+named_sentence <- function(fault, text) {
+  bytes <- as_bytes(text)
+  if (fault$number == 2 && !is.null(fault$byte)) {
+    here <- as_text(bytes[fault$byte + seq_len(min(2, length(bytes) - fault$byte))])
+    if (grepl("^(//|/[*]|#)", here)) return("a comment stands here, and comments are not read")
+  }
+  word <- if (fault$number == 4) all_of("^[A-Za-z]+", sub("^strict[ \t\r\n]+", "", trimws(as_text(bytes))))
+  kind <- other_kinds[tolower(word)]
+  if (length(kind) && !is.na(kind)) unname(kind) else fault$sentence
 }
 
 plain_fault <- function(status, line) {

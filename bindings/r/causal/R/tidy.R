@@ -20,7 +20,8 @@ tidy_methods <- list(
   causal_implications = function(x, ...) as.data.frame(x),
   causal_tests = function(x, ...) {
     frame_of(list(a = x$a, b = x$b, given = as.character(x$given), estimate = x$effect, statistic = x$statistic, parameter = x$df,
-                  p.value = x$p, adj.p.value = x$p_holm, method = x$method))
+                  p.value = x$p, adj.p.value = x$p_holm, method = x$method, largest = x$largest, rmsea = x$rmsea,
+                  rmsea.low = x$rmsea_lower, rmsea.high = x$rmsea_upper))
   },
   # The levels of a cell, then its value; what follows bounds the rounding, and is no interval.
   causal_effects = function(x, ...) with_estimate(x),

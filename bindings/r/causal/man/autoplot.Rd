@@ -3,12 +3,13 @@
 \alias{autoplot.causal_contrast}
 \title{Draw with ggplot2}
 \description{
-  Methods for \code{autoplot} of the package \pkg{ggplot2}: a diagram with its open path or hedge, or the intervals of a contrast or of
-  means, as an object to which layers and themes can be added.
+  Methods for \code{autoplot} of the package \pkg{ggplot2}: a diagram with its open path or hedge, or the intervals of a contrast, of
+  means or of tests, as an object to which layers and themes can be added.
 }
 \details{
   The package \pkg{ggplot2} isn't needed; where it is loaded, its generic takes diagrams, the answers that
-  \code{\link{plot.causal_diagram}} draws, and those of \code{\link{contrast}} and \code{\link{effect_means}}.
+  \code{\link{plot.causal_diagram}} draws, and those of \code{\link{contrast}}, \code{\link{effect_means}} and
+  \code{\link{test_implications}}.
 
   \code{autoplot(diagram, path, hedge, layout)} has the arguments of \code{\link{plot.causal_diagram}}, and its colours. The methods
   for answers take \code{layout} alone. \code{autoplot(contrast, term)} shows one of \code{"difference"}, \code{"ratio"} and

@@ -10,17 +10,20 @@
 contrast(diagram, data, x = NULL, y = NULL, treated = NULL, control = NULL,
          count = NULL, level = 0.95, resamples = 1000, seed = NULL,
          missing = c("error", "drop"), at = NULL,
-         interval = c("percentile", "bca"))
+         interval = c("percentile", "bca"), set = NULL,
+         given = NULL, progress = NULL)
 \method{print}{causal_contrast}(x, digits = 4, ...)
 }
 \arguments{
-  \item{diagram, data, x, y, count, missing, at}{as in \code{\link{evaluate}}; in the method \code{x} is an answer.}
+  \item{diagram, data, x, y, count, missing, at, set, given}{as in \code{\link{evaluate}}; in the method \code{x} is an answer.}
   \item{treated, control}{the levels of \code{x} in both arms: a value, or for several exposures a vector or list named by them.
     Where there is one exposure with two levels the second is \code{treated} and the first \code{control} by default.}
   \item{level}{the level of the intervals.}
   \item{resamples}{how many resamples are drawn; 0 for none.}
   \item{interval}{\code{"percentile"} for percentiles of the resamples, or \code{"bca"} for percentiles that are corrected for bias
     and accelerated, which evaluates the effect once more for each row of the table of counts.}
+  \item{progress}{a function that is called after each table of counts that was evaluated, with how many were and of how many, as
+    \code{function(done, of) cat("\\r", done, "of", of)}; \code{NULL} for none.}
   \item{digits}{how many digits are shown.}
   \item{...}{passed on to \code{\link{print.data.frame}}.}
   \item{seed}{a seed for this computation alone, or \code{NULL} to go on with the session's random numbers.}
@@ -37,7 +40,7 @@ contrast(diagram, data, x = NULL, y = NULL, treated = NULL, control = NULL,
   about their level where the sample is large. The bounds' middles stand for the effects; they are right to some 15 digits.
 }
 \value{
-  A data frame of the class \code{causal_contrast} with a row for each level of \code{y}: its columns, \code{treated} and
+  A data frame of the class \code{causal_contrast} with a row for each level of \code{y}, and of what is given: their columns, \code{treated} and
   \code{control}, the probabilities under both interventions, \code{difference}, \code{ratio} and \code{odds_ratio}, each followed by
   the ends of its interval, as \code{difference_lower} and \code{difference_upper}. Attributes: \code{level}, \code{interval},
   \code{resamples}, \code{without_value} (how many resamples had no value), \code{without_ratio} (how many had no ratio, for

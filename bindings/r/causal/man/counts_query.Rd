@@ -12,7 +12,7 @@ database_table(connection, table)
 
 counts_query(diagram, table, x = NULL, y = NULL, count = NULL,
              set = NULL, of = c("effect", "implications"),
-             connection = NULL)
+             connection = NULL, given = NULL)
 
 \method{print}{causal_table}(x, ...)
 }
@@ -25,6 +25,7 @@ counts_query(diagram, table, x = NULL, y = NULL, count = NULL,
   \item{count}{the name of a column of counts, or \code{NULL} where each row is one record.}
   \item{set}{names of the vertices to adjust for, or \code{NULL} for the formula of \code{\link{identify_effect}}. A set that
     can't be adjusted for is an error.}
+  \item{given}{names of vertices that a conditional effect is given, as in \code{\link{evaluate}}.}
   \item{of}{whether the counts are for an effect, or for \code{\link{implications}} and their tests.}
   \item{...}{not used.}
 }
@@ -34,6 +35,9 @@ counts_query(diagram, table, x = NULL, y = NULL, count = NULL,
   \code{\link{test_implications}}. One query with one \code{GROUP BY} counts the records in the database, and the answer is that over
   the counts as a data frame. Resamples and permutations are drawn from the counts, so no record is ever fetched. A query for the
   names of the columns goes before, and with \code{count} one that tells whether each row's count is a whole number.
+
+  A lazy table of the package \pkg{dplyr}, as \pkg{dbplyr} and \pkg{sparklyr} make them, is data too: it is counted by dplyr's own
+  verbs. That is tested with \pkg{dbplyr} over SQLite.
 
   Or run \code{counts_query} where the data are, and hand on what it gives: \code{evaluate(diagram, counts, count = "count")}. The
   column of counts has the name \code{count}, with points behind it where a variable has that name.

@@ -10,14 +10,15 @@
 effect_means(diagram, data, x = NULL, y = NULL, control = NULL,
              count = NULL, level = 0.95, resamples = 1000, seed = NULL,
              missing = c("error", "drop"), at = NULL,
-             interval = c("percentile", "bca"))
+             interval = c("percentile", "bca"), set = NULL,
+             given = NULL, progress = NULL)
 \method{print}{causal_means}(x, digits = 4, ...)
 }
 \arguments{
-  \item{diagram, data, x, y, count, missing, at}{as in \code{\link{evaluate}}, with one outcome whose levels are numbers, or are
+  \item{diagram, data, x, y, count, missing, at, set, given}{as in \code{\link{evaluate}}, with one outcome whose levels are numbers, or are
     written as such; in the method \code{x} is an answer.}
   \item{control}{the levels of \code{x} with which the others are compared, as in \code{\link{contrast}}; the first by default.}
-  \item{level, resamples, seed, interval, digits}{as in \code{\link{contrast}}.}
+  \item{level, resamples, seed, interval, progress, digits}{as in \code{\link{contrast}}.}
   \item{...}{passed on to \code{\link{print.data.frame}}.}
 }
 \details{
@@ -26,7 +27,7 @@ effect_means(diagram, data, x = NULL, y = NULL, control = NULL,
   and the intervals are \strong{only computed}, with R's numbers.
 }
 \value{
-  A data frame of the class \code{causal_means} with a row for each level of the exposures: their columns, \code{mean},
+  A data frame of the class \code{causal_means} with a row for each level of the exposures, and of what is given: their columns, \code{mean},
   \code{lower} and \code{upper}, and \code{difference}, \code{difference_lower} and \code{difference_upper}. Attributes:
   \code{outcome}, \code{control}, \code{level}, \code{interval}, \code{resamples}, \code{without_value}, \code{seed},
   \code{pinned} and \code{dropped}.

@@ -10,14 +10,16 @@
 \description{Computes the effect of \code{x} on \code{y} over a data frame, in bounds that hold or in exact fractions.}
 \usage{
 evaluate(diagram, data, x = NULL, y = NULL, count = NULL, exact = FALSE,
-         missing = c("error", "drop"), at = NULL)
+         missing = c("error", "drop"), at = NULL, set = NULL,
+         given = NULL)
 
 \method{as.data.frame}{causal_effects}(x, ...)
 }
 \arguments{
   \item{diagram}{a diagram, or what \code{\link{as_causal_diagram}} takes.}
   \item{data}{a data frame with a column for each vertex that the formula, \code{x} or \code{y} names; other columns don't
-    matter. Or a contingency table (class \code{table}), or a table of a database, as \code{\link{database_table}} gives it.}
+    matter. Or a contingency table (class \code{table}), a table of a database, as \code{\link{database_table}} gives it, or a lazy
+    table of the package \pkg{dplyr}.}
   \item{x, y}{names of the exposures and of the outcomes; \code{NULL} for the vertices with these marks. In the method \code{x} is
     an answer.}
   \item{count}{the name of the column of counts, which is no variable of the formula; \code{NULL} where each row is one record.}
@@ -27,6 +29,9 @@ evaluate(diagram, data, x = NULL, y = NULL, count = NULL, exact = FALSE,
     out is right only where what is missing is missing completely at random. To keep them, make missing a level of its own
     (\code{\link{addNA}}).}
   \item{...}{not used.}
+  \item{set}{names of vertices to adjust for, in place of the formula of \code{\link{identify_effect}}. A set that can't be adjusted
+    for (\code{\link{adjusts}}) is an error.}
+  \item{given}{names of vertices: the effect is that among those with the same values of these.}
   \item{at}{the levels at which the formula's free variables are pinned, as \code{list(Z = 1)}; the first in order by default.}
 }
 \details{
@@ -43,13 +48,17 @@ evaluate(diagram, data, x = NULL, y = NULL, count = NULL, exact = FALSE,
   positive model that fits the diagram and that the counts match. \strong{What is only computed} or tested: that the data frame
   became these counts, and \code{value}, the nearest number of R.
 
+  With \code{given} a condition that may as well be an intervention, by rule 2 of the do-calculus, becomes one, and the values are
+  the library's. With another condition they are quotients of those of a joint effect, which are computed, and bounds alone: they
+  have 12 digits, and are rounded outward.
+
   A value is a plug-in value: it says nothing about its sampling error. See \code{\link{contrast}} for intervals.
 
   A cell that no record supports is an error of the class \code{causal_evaluation_fault} with its \code{cell}; an effect that
   isn't identifiable one of the class \code{causal_not_identifiable} with its \code{hedge}.
 }
 \value{
-  A data frame of the class \code{causal_effects}: a column for each vertex of \code{x} and of \code{y}, then \code{value}, and
+  A data frame of the class \code{causal_effects}: a column for each vertex of \code{x}, \code{given} and \code{y}, then \code{value}, and
   \code{fraction} or the bounds \code{from} and \code{to} of 18 digits as text. A vertex with one of these names keeps it, and
   the computed column gets a number. The attribute \code{pinned} is a list of the pinned levels, and \code{dropped} the number
   of rows left out. \code{as.data.frame} gives a plain data frame of it, and of the other answers over data: a row for each cell,

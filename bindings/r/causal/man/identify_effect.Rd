@@ -48,7 +48,8 @@ identify_effect(diagram, x = NULL, y = NULL, given = NULL)
   bits of the \code{first} and the \code{second} model, each the sum of its terms modulo 2, the vertices of the \code{event}
   that the sum of their bits is even, its probabilities under the intervention, \code{in_first} and \code{in_second}, and
   their \code{difference}, the \code{certificate} and the printed \code{text}. Where \code{given} was asked about, \code{target} is
-  the joint effect, and \code{conditional} the one that was asked for. \code{summary} leaves the models out.
+  the joint effect, \code{conditional} the one that was asked for, and \code{settled} whether the two models differ on
+  that one too (\code{NA} where the library doesn't tell it). \code{summary} leaves the models out.
 }
 \seealso{\code{\link{check_certificate}}, \code{\link{evaluate}}, \code{\link{surrogate}}}
 \examples{

@@ -1,6 +1,7 @@
 \name{test_implications}
 \alias{test_implications}
 \alias{print.causal_tests}
+\alias{plot.causal_tests}
 \title{Are Data Far from What a Diagram Implies?}
 \description{
   Tests each independence that a diagram implies over data: by G squared and the chi-squared distribution, or by permutations
@@ -13,6 +14,7 @@ test_implications(diagram, data, count = NULL,
                   missing = c("error", "drop"))
 
 \method{print}{causal_tests}(x, digits = 3, ...)
+\method{plot}{causal_tests}(x, ...)
 }
 \arguments{
   \item{diagram, data, count, missing}{as in \code{\link{implications}}.}
@@ -21,7 +23,7 @@ test_implications(diagram, data, count = NULL,
   \item{permutations}{how many tables are drawn.}
   \item{seed}{a seed for this computation alone, or \code{NULL} to go on with the session's random numbers.}
   \item{x}{an answer.}
-  \item{digits, ...}{passed on to \code{\link{print.data.frame}}.}
+  \item{digits, ...}{passed on to \code{\link{print.data.frame}}, or to \code{\link{title}}.}
 }
 \details{
   The pairs and their sets are those of \code{\link{implications}}, and proved; the tests are only computed. For each pair G squared
@@ -36,7 +38,10 @@ test_implications(diagram, data, count = NULL,
   A data frame of the class \code{causal_tests} with a row for each pair: \code{a}, \code{b} and \code{given}, as in
   \code{\link{implications}}; \code{statistic}, G squared, and \code{df}; \code{p}, and \code{p_holm} after Holm's correction;
   \code{effect}, Cramer's V over the levels of the set, 0 where the counts are independent and 1 where the one variable tells the
-  other; and \code{method}. Where no level of the set has two levels of both variables \code{p} is \code{NA}. Attributes:
+  other; \code{method}; \code{largest}, the largest difference as a probability: how far the part of the records that a cell has is
+  from the one that the independence gives it, at most; and \code{rmsea}, the root mean square error of approximation, with the ends
+  of its interval of 95\%, \code{rmsea_lower} and \code{rmsea_upper}, by the noncentral chi-squared distribution (in thin tables it says
+  little). \code{plot} draws these intervals. Where no level of the set has two levels of both variables \code{p} is \code{NA}. Attributes:
   \code{permutations}, \code{seed} and \code{dropped}.
 }
 \seealso{\code{\link{implications}}}

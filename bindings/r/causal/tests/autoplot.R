@@ -51,3 +51,9 @@ means <- effect_means(stones, transform(kidney_stones, R = R == "success", T = f
 layers <- drawn(autoplot(means))
 same(sort(layers[[2]]$x), sort(means$mean))
 same(sort(layers[[1]]$xmax), sort(means$upper))
+
+# Tests of implications: the size of each difference
+tests <- test_implications("dag { S -> T -> R }", kidney_stones, count = "count", seed = 1)
+layers <- drawn(autoplot(tests))
+same(layers[[3]]$x, tests$rmsea)
+same(c(layers[[2]]$xmin, layers[[2]]$xmax), c(tests$rmsea_lower, tests$rmsea_upper))

@@ -21,6 +21,17 @@ near(test$statistic, 2 * sum(counts * log(counts / expected)))
 same(c(test$df, test$a, test$b, test$given[[1]]), c("1", "A", "C", "B"))
 near(test$effect, sqrt(sum((counts - expected)^2 / expected) / 34))
 same(test$method, "permutation")
+near(test$largest, (9 - 14 * 12 / 25) / 34)
+near(test$rmsea, sqrt((test$statistic - 1) / 33))
+stopifnot(test$rmsea_lower < test$rmsea, test$rmsea < test$rmsea_upper)
+
+# The interval of the RMSEA, as R's own noncentral distribution has it
+for (df in c(1, 2, 6, 30)) for (shift in c(0.5, 5, 80, 5000)) for (part in c(0.05, 0.5, 0.975)) {
+  statistic <- qchisq(part, df, shift)
+  near(own("noncentral_below")(statistic, df, shift), part, if (statistic < 500) 1e-8 else 2e-3)
+  if (shift > 1) near(own("noncentral_below")(statistic, df, own("shift_at")(statistic, df, part)), part, 1e-6)
+}
+same(own("shift_at")(3, 4, 0.5), 0)
 
 # As R's own tests have it
 data <- chain_data(4000, 0.02, 3)
@@ -54,6 +65,11 @@ same(class(plain), "data.frame")
 same(plain$given, as.character(tests$given))
 same(read.csv(text = capture.output(write.csv(tests, row.names = FALSE)))$given, plain$given)
 print(tests)
+pdf(NULL)
+drawn <- plot(tests, main = "pairs")
+same(drawn$rmsea, tests$rmsea[!is.na(tests$p)])
+plot(test_implications("dag { A -> B }", data))
+invisible(dev.off())
 missing <- test_implications(chain, rbind(data[1:3], NA), missing = "drop", permutations = 9)
 same(attr(missing, "dropped"), 1L)
 stopifnot(inherits(try(test_implications(chain, rbind(data[1:3], NA)), silent = TRUE), "try-error"))

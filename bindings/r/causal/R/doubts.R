@@ -1,0 +1,40 @@
+# Warnings of what in a text may be a typing error, though the library reads it: it may have cost an edge.
+
+bare_form <- "[^ \\t\\r\\n{}\\[\\]\";=,<>@()|*/-]+"
+white_form <- "[ \\t\\r\\n]*"
+
+# The statements `name = value` of a text that is read as a diagram, with the byte at which each begins. Attributes in brackets are none.
+dropped_in <- function(text) {
+  none <- frame_of(list(name = character(), text = character(), byte = numeric()))
+  if (!grepl("=", text, fixed = TRUE)) return(none)
+  name <- paste0("(?:\"[^\"\\r\\n]*\"|", bare_form, ")")
+  statement <- paste0(name, white_form, "=", white_form, "(?:\"[^\"\\r\\n]*\"|[^ \\t\\r\\n,\\]};\"]+)")
+  form <- paste0("\\[(?:\"[^\"\\r\\n]*\"|[^\\]\"])*\\]|", statement, "|\"[^\"\\r\\n]*\"")
+  found <- gregexpr(form, text, perl = TRUE)[[1]]
+  if (found[1] < 0) return(none)
+  texts <- substring(text, found, found + attr(found, "match.length") - 1)
+  is_statement <- grepl(paste0("^", statement, "$"), texts, perl = TRUE)
+  if (!any(is_statement)) return(none)
+  texts <- texts[is_statement]
+  names <- unquote(vapply(texts, function(it) all_of(paste0("^", name), it), "", USE.NAMES = FALSE))
+  frame_of(list(name = names, text = texts, byte = nchar(substring(text, 1, found[is_statement] - 1), "bytes")))
+}
+
+# Whether a name has neither a letter nor a digit.
+is_of_signs <- function(names) !grepl("[\\p{L}\\p{N}]", names, perl = TRUE)
+
+# A sentence for each doubt. `bb` is what DAGitty writes into each text.
+doubts_of <- function(text, graph) {
+  edges <- "an edge is written ->, <- or <->"
+  dropped <- dropped_in(text)
+  dropped <- dropped[dropped$name != "bb", , drop = FALSE]
+  places <- lapply(dropped$byte, place_in_text, text = text)
+  where <- vapply(places, function(place) paste0("at line ", place$line, ", column ", place$column), "")
+  lone <- setdiff(graph$vertices$name[is_of_signs(graph$vertices$name)], c(graph$edges$from, graph$edges$to))
+  c(paste0("'", dropped$text, "' ", where, " says nothing of the diagram, and was dropped; ", edges, recycle0 = TRUE),
+    paste0("the vertex ", lone, " has no edge, and its name is made of signs; ", edges, recycle0 = TRUE))
+}
+
+warn_of_doubts <- function(text, graph) {
+  for (doubt in doubts_of(text, graph)) warning(structure(class = c("causal_doubt", "warning", "condition"), list(message = doubt, call = NULL)))
+}
