@@ -2,9 +2,10 @@
 from __future__ import annotations
 
 from dataclasses import dataclass
-from typing import Dict, Iterator, List, Optional, Sequence, Tuple, Union, overload
+from typing import Any, Dict, Iterator, List, Optional, Sequence, Tuple, Union, overload
 
 from causal.formula import Formula, HedgeSets, Term, read_formula, read_hedge_sets, read_term
+from causal.framed import Framed
 from causal.names import Cursor, printed_name, printed_set
 
 STEP_FAULTS = {
@@ -118,7 +119,7 @@ def read_path(line: str, head: str = "open: ") -> Path:
 
 
 @dataclass(frozen=True)
-class Separation:
+class Separation(Framed):
     """Whether two sets are separated given a third: it counts as true where they are. Else `path` is open.
 
     That it is separated is proved to say that no walk is open, and so that the sets are independent in every finite model that
@@ -167,7 +168,7 @@ def read_separation(text: str) -> Separation:
 
 
 @dataclass(frozen=True)
-class RuleAnswer:
+class RuleAnswer(Framed):
     """Whether a rule of do-calculus applies: it counts as true where it does. Else `path` is open in the rule's cut graph.
 
     Where it applies it is proved that both sides are equal in every positive finite model that fits the diagram.
@@ -246,7 +247,7 @@ class Refusal:
 
 
 @dataclass(frozen=True)
-class Check:
+class Check(Framed):
     """Whether a certificate is accepted: it counts as true where it is. Else `refusal` says why not.
 
     Where it is accepted with a `formula`, it is proved that the formula has no intervention and equals the effect in every
@@ -326,7 +327,7 @@ def read_check(text: str) -> Check:
 
 
 @dataclass(frozen=True)
-class Adjustment:
+class Adjustment(Framed):
     """Whether a set may be adjusted for: it counts as true where it may, and then `formula` is the effect.
 
     Else `forbidden` is a member that may not be in the set, or `path` is one that the set leaves open against the criterion. Each
@@ -377,7 +378,7 @@ def read_adjustment(text: str) -> Adjustment:
 
 
 @dataclass(frozen=True)
-class AdjustmentSets(Sequence[Tuple[str, ...]]):
+class AdjustmentSets(Framed, Sequence[Tuple[str, ...]]):
     """The minimal sets that may be adjusted for, and whether there are `more` than were asked for.
 
     It is proved that the sets are exactly the minimal admissible ones, each once: all of them, or as many as were asked for.
@@ -409,6 +410,9 @@ class AdjustmentSets(Sequence[Tuple[str, ...]]):
     def __str__(self) -> str:
         return "\n".join([*map(printed_set, self.sets), *(["more"] if self.more else [])]) or "none"
 
+    def _table(self) -> Tuple[Sequence[str], List[List[Any]]]:
+        return ("set", "term"), [[number, name] for number, members in enumerate(self.sets, 1) for name in members]
+
 
 def read_sets(text: str) -> AdjustmentSets:
     """Reads a listing of `adjust`.
@@ -430,7 +434,7 @@ def read_sets(text: str) -> AdjustmentSets:
 
 
 @dataclass(frozen=True)
-class Equivalence:
+class Equivalence(Framed):
     """Whether two diagrams imply the same: it counts as true where they do. Else the first difference.
 
     `kind` is "edge" or "collider", `vertices` its two or three vertices, and `first` whether the first diagram has it;

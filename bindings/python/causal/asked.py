@@ -7,7 +7,7 @@ from typing import TYPE_CHECKING, Dict, List, Optional, Sequence, Tuple
 
 from causal.effects import Effect, Effects, Level, Value, levels_text
 from causal.errors import EvaluationError, EvaluationPlace, NotIdentifiable, RequestError, UnreadableAnswer
-from causal.formula import Formula, Hedge
+from causal.formula import Formula, Hedge, parts_of
 from causal.names import Names
 
 if TYPE_CHECKING:
@@ -101,7 +101,8 @@ def _formula_of(diagram: "Diagram", x: Optional[Names], y: Optional[Names], give
 
 
 def _by_adjustment(diagram: "Diagram", x: Optional[Names], y: Optional[Names], adjust_for: Names) -> Asked:
-    """The adjustment formula. The library evaluates it as the formula of the diagram in which the set alone confounds."""
+    """The adjustment formula. The library evaluates it as the formula of the diagram in which the set alone confounds: the same one, in
+    which joint probabilities may be written by the chain rule."""
     from causal.diagram import Diagram
 
     answer = diagram.adjusts(adjust_for, x, y)
@@ -116,6 +117,38 @@ def _by_adjustment(diagram: "Diagram", x: Optional[Names], y: Optional[Names], a
         vertices=[name for name in diagram.vertices if name in used],
     )
     formula = _formula_of(alone, target.x, target.y, None)
-    if formula.text != answer.formula.text:
+    if not is_chained(answer.formula, formula):
         raise UnreadableAnswer(f"the library has another formula for this set: {formula.text}")
     return Asked(alone, answer.formula, formula)
+
+
+def is_chained(formula: Formula, chained: Formula) -> bool:
+    """Whether a formula of one sum is another one in which each joint probability is written by the chain rule.
+
+    >>> from causal.asked import is_chained
+    >>> from causal.formula import read_formula
+    >>> joint = read_formula("P(Y|do(X)) = sum{Z,W} P(Z,W) * P(Y|X,Z,W)")
+    >>> is_chained(joint, read_formula("P(Y|do(X)) = sum{Z,W} P(Z) * P(W|Z) * P(Y|X,Z,W)"))
+    True
+    >>> is_chained(joint, read_formula("P(Y|do(X)) = sum{Z,W} P(Z) * P(W) * P(Y|X,Z,W)"))
+    False
+    """
+    texts = (formula.expression, chained.expression)
+    heads = [text[: text.index("P(")] for text in texts]
+    terms = [parts_of(text)[0] for text in texts]
+    if len({*heads}) != 1 or any(text != head + " * ".join(map(str, held)) for text, head, held in zip(texts, heads, terms)):
+        return False
+    if (formula.target, formula.definitions, formula.free) != (chained.target, chained.definitions, chained.free):
+        return False
+    left = list(terms[1])
+    for term in terms[0]:
+        links = sorted((it for it in left if set(it.y) <= set(term.y)), key=lambda it: len(it.given))
+        behind = set(term.given)
+        for link in links:
+            if set(link.given) != behind or link.x:
+                return False
+            behind.update(link.y)
+            left.remove(link)
+        if behind != {*term.given, *term.y}:
+            return False
+    return not left

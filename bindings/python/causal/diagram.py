@@ -669,8 +669,8 @@ class Diagram:
         words: Dict[str, Any] = {"count": count, "exact": exact, "missing": missing, "at": at, "adjust_for": adjust_for}
         found = self.effects(data, x, y, given=None if given is None else list(given), **words)
         target = found.formula.target
-        arms = [levels_at(target.x, levels) for levels in (treated, control)]
-        return found.contrast(levels_at(target.y, outcome), *arms, given)
+        treated, control = levels_at(target.x, treated), levels_at(target.x, control)
+        return found.contrast(levels_at(target.y, outcome), treated, control, given)
 
     def bootstrap(
         self,

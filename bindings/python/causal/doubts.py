@@ -31,10 +31,10 @@ def dropped_in(text: str) -> Iterator[Dropped]:
     ['bb="0,0,1,1"', 'Z =>']
     """
     at, name, start, is_inside = 0, "", 0, False
-    while True:
+    while "=" in text:
         token = _TOKEN.search(text, at)
         if token is None:
-            return
+            break
         at = token.end()
         if token.group() in "[]":
             is_inside = token.group() == "["

@@ -12,6 +12,7 @@ from typing import TYPE_CHECKING, Any, Callable, Dict, Hashable, Iterator, List,
 from causal.display import html_table
 from causal.errors import RequestError, UnreadableAnswer
 from causal.formula import Formula, Term
+from causal.framed import Framed
 from causal.names import printed_name
 
 if TYPE_CHECKING:
@@ -441,7 +442,7 @@ class Spread(Sequence[Effects]):
 
 
 @dataclass(frozen=True)
-class Contrast:
+class Contrast(Framed):
     """Two effects compared: the risk difference, the risk ratio and the odds ratio of `treated` and `control`.
 
     Both effects are proved; the difference and the ratios are computed here from their fractions, exactly or outward.
@@ -477,6 +478,11 @@ class Contrast:
         """
         treated, control = self.treated.odds(), self.control.odds()
         return treated.over(control) if treated and control else None
+
+    def _table(self) -> Tuple[Sequence[str], List[List[Any]]]:
+        measures = {"risk difference": self.difference, "risk ratio": self.ratio, "odds ratio": self.odds_ratio}
+        ends = [(name, (None, None) if value is None else value.floats(), value) for name, value in measures.items()]
+        return ("measure", "estimate", "from", "to"), [[name, None if value is None else float(value), *end] for name, end, value in ends]
 
 
 _EXACT = r" = ([0-9]+)/([0-9]+)"

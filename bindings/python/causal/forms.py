@@ -53,7 +53,7 @@ def read(path: Union[str, "os.PathLike[str]"], form: Optional[str] = None, **rol
 
 
 def _says_yes(value: Any) -> bool:
-    return str(value).strip().lower() not in ("", "0", "no", "false", "none")
+    return str(value).strip().lower() not in ("", "0", "no", "false", "none", "nan")
 
 
 def _marks_in(attributes: Attributes) -> List[str]:

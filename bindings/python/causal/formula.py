@@ -2,8 +2,9 @@
 from __future__ import annotations
 
 from dataclasses import dataclass, field
-from typing import TYPE_CHECKING, Callable, List, Optional, Set, Tuple, Union
+from typing import TYPE_CHECKING, Any, Callable, List, Optional, Sequence, Set, Tuple, Union
 
+from causal.framed import Framed
 from causal.names import Cursor, printed_name, printed_set
 
 if TYPE_CHECKING:
@@ -88,7 +89,7 @@ def variables_of(text: str) -> Set[str]:
 
 
 @dataclass(frozen=True)
-class Formula:
+class Formula(Framed):
     """A formula for an effect, without interventions but those of experiments that were asked about.
 
     Where `identify` gives it, it is proved that the formula equals the effect in every positive finite model that fits the
@@ -124,6 +125,10 @@ class Formula:
 
     def __str__(self) -> str:
         return self.text
+
+    def _table(self) -> Tuple[Sequence[str], List[List[Any]]]:
+        definitions = [[f"q{number}", text] for number, text in enumerate(self.definitions)]
+        return ("term", "expression"), [[str(self.target), self.expression], *definitions]
 
     @property
     def variables(self) -> Set[str]:
@@ -197,7 +202,7 @@ def read_formula(text: str, ask: Optional[AskForm] = None) -> Formula:
 
 
 @dataclass(frozen=True)
-class HedgeSets:
+class HedgeSets(Framed):
     """The sets of a hedge.
 
     >>> from causal import Diagram
@@ -215,6 +220,10 @@ class HedgeSets:
 
     def __bool__(self) -> bool:
         return False
+
+    def _table(self) -> Tuple[Sequence[str], List[List[Any]]]:
+        sets = {"big": self.big, "small": self.small, "roots": self.roots}
+        return ("set", "term"), [[kind, name] for kind, members in sets.items() for name in members]
 
     def __str__(self) -> str:
         return (

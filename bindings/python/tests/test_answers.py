@@ -3,7 +3,7 @@ import unittest
 
 from worked import all_cases
 
-from causal import answers, effects, errors, faults, formula, implications, surrogates
+from causal import Diagram, answers, effects, errors, faults, formula, implications, surrogates
 from causal.names import Cursor
 
 
@@ -246,6 +246,36 @@ class Lines(unittest.TestCase):
 
     def test_words(self):
         self.assertIsInstance(self.error(b"causal: words not understood; ..\n", 2), errors.RequestError)
+
+
+class Frames(unittest.TestCase):
+    """Each answer as a DataFrame."""
+
+    def test_each_answer(self):
+        try:
+            import pandas  # noqa: F401
+        except ImportError:
+            self.skipTest("no pandas")
+        diagram = Diagram("dag { X -> Y X <- Z -> Y W -> Z W -> X }")
+        bow = Diagram("dag { X -> Y X <-> Y }")
+        napkin = Diagram("dag { W -> Z -> X -> Y W <-> X W <-> Y }")
+        data = {"X": [0, 0, 1, 1], "Y": [0, 1, 1, 1]}
+        contrast = Diagram("dag { X -> Y }").contrast(data, "X", "Y", treated=1, control=0, outcome=1)
+        for answer, wanted in (
+            (diagram.separated("X", "Z"), [False, "X <- Z"]),
+            (diagram.rule(2, "Y", "X", given="Z"), [True, None]),
+            (bow.check(bow.identify("X", "Y")), [True, None]),
+            (diagram.adjusts((), "X", "Y"), [False, "X <- Z -> Y"]),
+            (bow.identify("X", "Y"), ["big", "X"]),
+            (napkin.identify("X", "Y"), ["P(Y|do(X))", "q0 / (sum{Y} q0)"]),
+            (diagram.adjustment_sets("X", "Y"), [1, "Z"]),
+            (Diagram("dag { A -> B }").equivalent(Diagram("dag { A <- B }")), [True, None]),
+            (contrast, ["risk difference", 0.5]),
+        ):
+            with self.subTest(answer):
+                self.assertEqual(answer.frame().values.tolist()[0][:2], wanted)
+        self.assertEqual(napkin.identify("X", "Y").frame()["term"].tolist(), ["P(Y|do(X))", "q0"])
+        self.assertEqual(contrast.frame()["estimate"].tolist()[:2], [0.5, 2.0])
 
 
 if __name__ == "__main__":

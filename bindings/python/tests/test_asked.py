@@ -72,7 +72,7 @@ class Adjusting(unittest.TestCase):
                     answer = diagram.adjusts(members, x, y)
                     if answer:
                         tried += 1
-                        self.assertEqual(asked_of(diagram, x, y, members).formula.text, answer.formula.text)
+                        self.assertEqual(asked_of(diagram, x, y, members).formula, answer.formula)
         self.assertGreater(tried, 60)
 
     def test_intervals_and_contrasts(self):

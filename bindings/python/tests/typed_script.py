@@ -40,11 +40,23 @@ given: Tuple[str, ...] = pair.given
 drawn = diagram.bootstrap(data, resamples=10, seed=1, progress=lambda done, of: print(done, of))
 interval = drawn.contrast({"R": 1}, {"T": 1}, {"T": 0}).difference
 lower: Optional[float] = None if interval is None else interval.lower
+among: Effects = diagram.effects(data, given="S")
+at_level: Value = among.at({"R": 1}, {"T": 1}, {"S": 0})
+by_set = diagram.contrast(data, treated=1, control=0, outcome=1, adjust_for=["S"])
+in_stratum = diagram.bootstrap(data, resamples=10, given=["S"]).contrast({"R": 1}, {"T": 1}, {"T": 0}, {"S": 1}).ratio
+from_dot: Diagram = Diagram.from_dot("digraph { X -> Y }", exposure="X")
+tests = Diagram("dag { T -> S -> R }").test_implications(data, permutations=9)
+size: float = tests[0].largest_difference + tests[0].rmsea_upper
 query: str = causal.counts_query(diagram, ("main", "records"), missing="drop")
 query += causal.counts_query(diagram.adjusts("S"), "records")
 connection: sqlite3.Connection = sqlite3.connect(":memory:")
 connection.execute("CREATE TABLE records AS SELECT 0 AS S, 0 AS T, 0 AS R")
 counted: Effects = diagram.effects((connection, "records"))
+
+try:
+    from_file: Diagram = causal.read("diagram.gml", outcome=["Y"])
+except FileNotFoundError:
+    from_file = from_dot
 
 try:
     diagram.effects("counts.csv", at={"Z": 1})
@@ -54,5 +66,5 @@ except causal.EvaluationError as error:
 reply = causal.run(["graph", "g"], {"g": "dag { A }"})
 status: int = reply.status
 written: bytes = reply.out + causal.run(["graph", b"g"], {b"g": b"dag {}"}).err
-print(query, counted)
+print(query, counted, at_level, by_set, in_stratum, size, from_file)
 print(numbers, separated, first_set, some_sets, exact, some, risk, ratio, given, lower, status, written, width(effects))

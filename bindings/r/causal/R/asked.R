@@ -27,7 +27,8 @@ asked_of <- function(diagram, x, y, set = NULL, given = NULL) {
 # The names that were given, or else those with the mark.
 marked <- function(diagram, names, role) if (is.null(names)) has_role(diagram, role) else as.character(names)
 
-# The adjustment formula. The library evaluates it as the formula of the diagram in which the set alone confounds.
+# The adjustment formula. The library evaluates it as the formula of the diagram in which the set alone confounds: the same one, in which
+# joint probabilities may be written by the chain rule.
 asked_by_set <- function(diagram, x, y, set) {
   answer <- adjusts(diagram, set, x, y)
   if (!answer$holds) stop("this set can't be adjusted for: ", answer$text)
@@ -43,9 +44,31 @@ asked_by_set <- function(diagram, x, y, set) {
   edges <- rbind(joined(set, x, "->"), joined(set, y, "->"), joined(x, y, "->"), within(set), within(y))
   alone <- diagram_of(as_bytes(graph_text(names, edges)), doubts = FALSE)
   words <- c(option("x", x), option("y", y))
-  if (!identical(ask("identify", alone, words)$lines, strsplit(answer$text, "\n", fixed = TRUE)[[1]][-1]))
-    stop("the library has another formula for this set")
+  if (!is_chained(answer$expression, read_formula(ask("identify", alone, words)$lines)$expression)) stop("the library has another formula for this set")
   list(diagram = alone, words = words, given = character(), rest = character())
+}
+
+# Whether a formula of one sum is another one in which each joint probability is written by the chain rule.
+is_chained <- function(formula, chained) {
+  texts <- c(formula, chained)
+  heads <- sub("(?s)P\\(.*$", "", texts, perl = TRUE)
+  term_form <- paste0("P\\((", name_form, "(?:,", name_form, ")*)(?:\\|(", name_form, "(?:,", name_form, ")*))?\\)")
+  terms <- lapply(texts, all_of, form = term_form)
+  if (heads[1] != heads[2] || !all(texts == paste0(heads, vapply(terms, paste, "", collapse = " * ")))) return(FALSE)
+  split <- lapply(terms, function(found) lapply(found, function(term) lapply(parts_of(term_form, term), read_names)))
+  left <- split[[2]]
+  for (term in split[[1]]) {
+    is_link <- vapply(left, function(link) all(link[[1]] %in% term[[1]]), NA)
+    links <- left[is_link]
+    left <- left[!is_link]
+    behind <- term[[2]]
+    for (link in links[order(vapply(links, function(link) length(link[[2]]), 0L))]) {
+      if (!setequal(link[[2]], behind)) return(FALSE)
+      behind <- c(behind, link[[1]])
+    }
+    if (!setequal(behind, unlist(term))) return(FALSE)
+  }
+  !length(left)
 }
 
 # The effects that were asked for, of those that the library gave: under a condition each is a part of the sum over the outcomes.

@@ -31,6 +31,7 @@ doubts_of <- function(text, graph) {
   places <- lapply(dropped$byte, place_in_text, text = text)
   where <- vapply(places, function(place) paste0("at line ", place$line, ", column ", place$column), "")
   lone <- setdiff(graph$vertices$name[is_of_signs(graph$vertices$name)], c(graph$edges$from, graph$edges$to))
+  lone <- ifelse(grepl(paste0("^", bare_form, "$"), lone, perl = TRUE), lone, paste0("\"", lone, "\"", recycle0 = TRUE))
   c(paste0("'", dropped$text, "' ", where, " says nothing of the diagram, and was dropped; ", edges, recycle0 = TRUE),
     paste0("the vertex ", lone, " has no edge, and its name is made of signs; ", edges, recycle0 = TRUE))
 }

@@ -33,6 +33,10 @@ same(drawn[[1]], drawn[[2]])
 
 # The formula of a set is evaluated as the library proved it
 own <- getFromNamespace("asked_of", "causal")
+chained <- getFromNamespace("is_chained", "causal")
+joint <- "sum{Z,\"W |\"} P(Z,\"W |\") * P(Y|X,Z,\"W |\")"
+stopifnot(chained(joint, "sum{Z,\"W |\"} P(Z) * P(\"W |\"|Z) * P(Y|X,Z,\"W |\")"), chained(joint, joint))
+stopifnot(!chained(joint, "sum{Z,\"W |\"} P(Z) * P(\"W |\") * P(Y|X,Z,\"W |\")"), !chained(joint, "sum{Z} P(Z) * P(Y|X,Z)"))
 set.seed(7)
 names <- paste0("v", 1:6)
 tried <- 0

