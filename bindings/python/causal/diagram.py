@@ -569,8 +569,9 @@ class Diagram:
     ) -> Effects:
         """The effects of x on y in the data: the values of the formula of `identify` over the counts.
 
-        The data is a DataFrame (of pandas or polars), a table of pyarrow, a mapping of columns, the path of a CSV file, or a pair
-        of a connection of the DB-API and the name of a table, of which the database counts the records (see `counts_query`). It has
+        The data is a DataFrame (of pandas; or of Dask, polars or Spark, which count their own records), a table of pyarrow, a mapping of
+        columns, the path of a CSV file, or a pair of a connection of the DB-API and the name of a table, of which the database counts
+        the records (see `counts_query`). It has
         a column for each variable of the formula; `count` names a column of counts, and without it each record counts 1. Values are
         bounds of 18 digits, or with `exact` fractions. Each value is proved to be the formula's value over the counts, and so to
         cover the effect in each positive model that fits the diagram and that the counts match. That the counts are those of the
@@ -578,7 +579,7 @@ class Diagram:
         sampling error: see `bootstrap`.
 
         Levels are the values of a column, whatever they are, in order of first appearance; those of a `Categorical` in the order
-        of its categories, of which those without a record are left out; those of a database in order. A variable that the formula
+        of its categories, of which those without a record are left out; those that an engine counted in order. A variable that the formula
         reads beside x and y is pinned at its first level in order (numbers by size, texts by their characters, a `Categorical` by
         its categories), or at the one that `at` gives, as in `at={"Z": 1}`: see `spread`.
 

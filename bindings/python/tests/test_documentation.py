@@ -1,14 +1,18 @@
 """The examples of the docstrings, of the README and of the tutorials."""
 import doctest
-import importlib
+import importlib.machinery
+import importlib.util
 import os
 import pkgutil
+import subprocess
+import sys
+import tempfile
 import unittest
 
 import causal
 
 HERE = os.path.dirname(os.path.abspath(__file__))
-OPTIONAL = ("pandas", "networkx", "matplotlib")
+OPTIONAL = ("pandas", "networkx", "matplotlib", "igraph")
 # Calls that need a package which their example doesn't name.
 CALLS = {"networkx": "to_networkx(", "matplotlib": ".plot("}
 
@@ -54,6 +58,19 @@ def load_tests(loader, tests, pattern):
     return tests
 
 
+class Scripts(unittest.TestCase):
+    """The scripts beside the tutorials."""
+
+    def test_a_hundred_million_with_fewer(self):
+        top = os.path.join(HERE, "..")
+        with tempfile.TemporaryDirectory() as folder:
+            command = [sys.executable, os.path.join(top, "tutorial", "hundred_million.py"), os.path.join(folder, "patients.db"), "20000"]
+            environment = {**os.environ, "PYTHONPATH": os.pathsep.join([top, os.environ.get("PYTHONPATH", "")])}
+            told = subprocess.run(command, env=environment, stdout=subprocess.PIPE, check=True, universal_newlines=True).stdout
+        self.assertIn("12 rows stand for 20000 records", told)
+        self.assertRegex(told, r"risk difference 0\.\d+, from 0\.\d+ to 0\.\d+")
+
+
 class EachPublicName(unittest.TestCase):
     """Each public function and class of the package has a docstring, and is listed."""
 
@@ -61,6 +78,13 @@ class EachPublicName(unittest.TestCase):
         self.assertLessEqual({*causal.__all__, "__version__"}, set(dir(causal)))
         for name in dir(causal):
             self.assertIsNotNone(getattr(causal, name, None) or name == "annotations", name)
+
+    def test_the_site_has_each(self):
+        loader = importlib.machinery.SourceFileLoader("build", os.path.join(HERE, "..", "docs", "build"))
+        build = importlib.util.module_from_spec(importlib.util.spec_from_loader("build", loader))
+        loader.exec_module(build)
+        self.assertEqual(sorted(causal.__all__), sorted(name for _, names in build.REFERENCE.values() for name in names))
+        self.assertEqual(build.inline("a `b` and [c](tutorial/d.md)"), "a ``b`` and :doc:`c <d>`")
 
     def test_docstrings(self):
         for name in causal.__all__:
