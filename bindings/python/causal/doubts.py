@@ -6,10 +6,10 @@ from typing import Iterator, List, NamedTuple
 
 from causal.answers import GraphText
 from causal.errors import caret_under
-from causal.names import BARE_TEXT, printed_name
+from causal.names import _BARE_TEXT, printed_name
 
 EDGES = "an edge is written ->, <- or <->"
-_TOKEN = re.compile(rf'"[^"\r\n]*"|{BARE_TEXT}|[][=]')
+_TOKEN = re.compile(rf'"[^"\r\n]*"|{_BARE_TEXT}|[][=]')
 _VALUE = re.compile(r'[ \t\r\n]*("[^"\r\n]*"|[^ \t\r\n,\]}};"]+)')
 # The corners of DAGitty's picture, which it writes into each text.
 EXPECTED = "bb"
@@ -62,8 +62,8 @@ def doubts_of(source: bytes, content: GraphText) -> List[str]:
 
     >>> from causal.answers import read_graph
     >>> from causal.doubts import doubts_of
-    >>> doubts_of("dag { X \\u2192 Y }".encode(), read_graph("dag {\\nX\\n\\u2192\\nY\\n}\\n"))
-    ['the vertex \\u2192 has no edge, and its name is made of signs; an edge is written ->, <- or <->']
+    >>> doubts_of(b"dag { X + Y }", read_graph("dag {\\nX\\n+\\nY\\n}\\n"))
+    ['the vertex + has no edge, and its name is made of signs; an edge is written ->, <- or <->']
     """
     text = source.decode("utf-8", "replace")
     found = []

@@ -9,11 +9,11 @@ from causal.errors import RequestError, UnreadableAnswer
 Name = Union[str, int]
 Names = Union[Name, Iterable[Name]]
 
-BARE_TEXT = r'[^ \t\r\n{}\[\]";=,<>\-@()|*/]+'
+_BARE_TEXT = r'[^ \t\r\n{}\[\]";=,<>\-@()|*/]+'
 _QUOTED_TEXT = r'"[^"\r\n]+"'
-_BARE = re.compile(BARE_TEXT)
-_NAME = re.compile(rf'"([^"\r\n]+)"|({BARE_TEXT})')
-_NAMES = re.compile(f"(?:{_QUOTED_TEXT}|{BARE_TEXT})(?:,(?:{_QUOTED_TEXT}|{BARE_TEXT}))*")
+_BARE = re.compile(_BARE_TEXT)
+_NAME = re.compile(rf'"([^"\r\n]+)"|({_BARE_TEXT})')
+_NAMES = re.compile(f"(?:{_QUOTED_TEXT}|{_BARE_TEXT})(?:,(?:{_QUOTED_TEXT}|{_BARE_TEXT}))*")
 _QUOTABLE = re.compile(r'[^"\r\n]+')
 _NUMBER = re.compile(r"[0-9]+")
 _MARK = re.compile(r" (<->|->|<-) ")

@@ -52,7 +52,7 @@ class Doubts(unittest.TestCase):
             found = doubts(f"dag {{ X {name} Y }}")
             if found is not None:
                 self.assertEqual(len(found), 1)
-                self.assertIn(f"the vertex {name} has no edge", found[0])
+                self.assertIn(f"{name} has no edge", found[0].replace('"', ""))
         self.assertEqual(len(doubts('dag { "--" "=" X }')), 2)
 
     def test_where_the_warning_points(self):

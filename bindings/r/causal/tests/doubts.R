@@ -30,7 +30,7 @@ for (text in c("dag { bb=\"0,0,1,1\" X [pos=\"1,2\"] X -> Y }", "dag { bb=0 X }"
 # Names of signs
 for (name in c("\u2192", "+", "!&")) {
   found <- doubts(paste("dag { X", name, "Y }"))
-  if (!is.null(found)) stopifnot(length(found) == 1, startsWith(found, paste("the vertex", name, "has no edge")))
+  if (!is.null(found)) stopifnot(length(found) == 1, startsWith(gsub("\"", "", found), paste("the vertex", name, "has no edge")))
 }
 same(length(doubts("dag { \"--\" \"=\" X }")), 2L)
 
