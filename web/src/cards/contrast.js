@@ -7,6 +7,7 @@ const DRAWS = 1000;
 const PART = 50; // draws in a message to the worker
 const SOON_MS = 3000; // draws that take longer are made when they are asked for
 const SEED = 1;
+const YES = /=(1|yes|true|success)$/i; // the outcome that is looked at first
 
 /** @typedef {{y: string, x: string, value: number}} Cell */
 /** @typedef {{ctx: import("./parts.js").Context, words: string[], name: string, table: import("../statistics/table.js").Table,
@@ -18,7 +19,7 @@ export function contrastPart(order) {
   if (settings.length < 2) return null;
   const now = memory.contrast ?? {}, pick = (value, list, other) => (list.includes(value) ? value : other);
   const choice = {
-    y: pick(now.y, outcomes, outcomes.at(-1)), a: pick(now.a, settings, settings[1]), b: pick(now.b, settings, settings[0]),
+    y: pick(now.y, outcomes, outcomes.find((y) => YES.test(y)) ?? outcomes.at(-1)), a: pick(now.a, settings, settings[1]), b: pick(now.b, settings, settings[0]),
   };
   const choose = (key, label, list) => h("label", {}, label, " ", h("select", { data: { key: `contrast ${key}` }, onchange: (e) => {
     memory.contrast = { ...choice, [key]: e.target.value };
