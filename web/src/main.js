@@ -194,12 +194,24 @@ addEventListener("afterprint", () => diagram.fit());
 
 document.addEventListener("keydown", (e) => {
   if (e.key === "Escape") drawing.endEdge() || answers.disarm() || drawing.endSelection();
+  handToHovered(e);
   const key = e.key.toLowerCase();
   if (!(e.ctrlKey || e.metaKey) || (key !== "z" && key !== "y") || e.target.closest("#panel textarea")) return;
   e.preventDefault();
   if (key === "y" || e.shiftKey) draft.redo();
   else draft.undo();
 });
+
+const TAKES_KEYS = "input, textarea, select, .menu, dialog, .vertex, #tabs, .splitter";
+
+/** A key that nothing else takes is for the vertex under the pointer. */
+function handToHovered(e) {
+  if (e.ctrlKey || e.metaKey || e.altKey || /^(Enter|Tab|Escape|Shift| )$/.test(e.key) || e.target.closest?.(TAKES_KEYS)) return;
+  const vertex = document.querySelector("#drawing .vertex:hover");
+  if (!vertex) return;
+  e.preventDefault();
+  vertex.dispatchEvent(new KeyboardEvent("keydown", { key: e.key, shiftKey: e.shiftKey }));
+}
 
 async function start() {
   const { text, card } = readLink();
