@@ -63,8 +63,8 @@ return [seen, [...found.values()]];
 """
 
 # What is shown before the texts are measured: an example, a card, and a script.
-KEY = """const v = [...document.querySelectorAll('#drawing .vertex')].find((v) => v.querySelector('text').textContent === '%s');
-    v.focus(); v.dispatchEvent(new KeyboardEvent('keydown', {key: '%s', bubbles: true}));"""
+KEY = """{ const v = [...document.querySelectorAll('#drawing .vertex')].find((v) => v.querySelector('text').textContent === '%s');
+    v.focus(); v.dispatchEvent(new KeyboardEvent('keydown', {key: '%s', bubbles: true})); }"""
 SHOWN = {
     "a formula with all that opens": ("napkin", "effect", "document.querySelectorAll('#panel details').forEach((el) => (el.open = true))"),
     "a hedge": ("bow", "effect", ""),

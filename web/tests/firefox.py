@@ -17,6 +17,7 @@ import time
 
 from selenium import webdriver
 from selenium.webdriver.firefox.options import Options
+from selenium.webdriver.remote.file_detector import UselessFileDetector
 
 FIREFOX = "/usr/bin/firefox-esr"
 PREFERENCES = {
@@ -150,6 +151,7 @@ def start(width=1400, height=900, downloads=None):
                                env=os.environ | size, stdout=subprocess.DEVNULL, stderr=subprocess.DEVNULL)
     server = server_for(Marionette(port))
     driver = webdriver.Remote(f"http://127.0.0.1:{server.server_port}", options=Options())
+    driver.file_detector = UselessFileDetector()  # files are named, and not sent
     driver.set_script_timeout(120)
 
     def end():

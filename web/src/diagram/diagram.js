@@ -430,7 +430,7 @@ function putInOrder(layer, children) {
 function dropOthers(map, kept) {
   for (const [key, item] of map) {
     if (kept.has(key)) continue;
-    item.group.remove();
     map.delete(key);
+    item.group.remove(); // its focus goes, and whoever hears that may draw again
   }
 }

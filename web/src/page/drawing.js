@@ -89,7 +89,7 @@ export class Drawing {
   /** Shows what leads to the vertex under the pointer, which the program tells. */
   #hover(name) {
     clearTimeout(this.#waiting);
-    if (this.diagram.ancestors.size) this.diagram.show({ ancestors: new Set() });
+    if (this.diagram.ancestors.size) queueMicrotask(() => this.diagram.show({ ancestors: new Set() }));
     if (name && this.ways) this.#waiting = setTimeout(() => this.#showAncestors(name), HOVER_MS);
   }
 
