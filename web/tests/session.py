@@ -493,7 +493,7 @@ def lists_what_is_implied(s):
     s.run(drop, "A,B,C,count\n0,0,0,4\n0,0,1,2\n1,0,0,2\n1,0,1,1\n0,1,0,1\n0,1,1,3\n1,1,0,2\n1,1,1,1\n")
     s.soon("the largest difference", lambda: "A=0,C=0,B=1" in s.one("table.pairs").text, s.panel)
     s.check("with its command line", s.command() == "$ causal implications diagram.dag fork.csv --count=count", s.command())
-    s.check("as a probability beside the counts", "(" in s.all("table.pairs tbody td")[4].text, s.all("table.pairs tbody td")[4].text)
+    s.check("as a probability beside the counts", "(" in s.all("table.pairs tbody td")[3].text, s.all("table.pairs tbody td")[3].text)
     s.check("with a test", "0." in s.all("table.pairs tbody td")[2].text, s.panel())
     s.check("and what it is worth", "speaks against the diagram" in s.panel() and "not proved" in s.panel(), s.panel())
     s.run(drop, "A,C\n0,1\n")
@@ -582,9 +582,12 @@ def contrasts_with_intervals(s):
     rows = lambda: s.run("return [...document.querySelectorAll('.contrasts tbody tr')].map((row) => [...row.cells].map((el) => el.textContent))")
     s.soon("the difference", lambda: ["risk difference", "0.0537"] == rows()[2][:2], rows)
     s.check("the ratio", ["risk ratio", "1.0689"] == rows()[3][:2], rows())
-    if s.all("#draw"):
-        s.one("#draw").click()
-    s.check("their intervals", wait(lambda: " to " in rows()[2][2], 120), rows())
+    def drawn():
+        if s.all("#draw"):
+            s.one("#draw").click()
+        return " to " in rows()[2][2]
+
+    s.check("their intervals", wait(drawn, 120), rows())
     low, high = map(float, rows()[2][2].split(" to "))
     s.check("as the packages give them", abs(low + 0.0115) < 0.008 and abs(high - 0.1196) < 0.008, rows())
     s.check("said to be computed", "not proved" in s.panel(), s.panel())

@@ -4,14 +4,14 @@ import { button, h } from "../dom.js";
 import { intervalOf } from "../statistics/bootstrap.js";
 
 const DRAWS = 1000;
-const PART = 50; // draws in a message to the worker
-const SOON_MS = 3000; // draws that take longer are made when they are asked for
+const PART = 25; // draws in a message to the worker
+const SOON_MS = 4000; // draws that take longer are made when they are asked for
 const SEED = 1;
 const YES = /=(1|yes|true|success)$/i; // the outcome that is looked at first
 
 /** @typedef {{y: string, x: string, value: number}} Cell */
 /** @typedef {{ctx: import("./parts.js").Context, words: string[], name: string, table: import("../statistics/table.js").Table,
- *   count: string, cells: Cell[], ms: number}} Order the draws of a table, which the words name */
+ *   count: string, cells: Cell[]}} Order the draws of a table, which the words name */
 
 /** The part of a card that contrasts two values of the exposure. @param {Order} order */
 export function contrastPart(order) {
@@ -35,17 +35,18 @@ const unique = (list) => [...new Set(list)];
 
 /** Shows the values now, and their intervals when the draws are there. */
 function fill(box, order, choice) {
-  const kept = keptDraws(order), show = (values) => box.replaceChildren(table(order, choice, values), says(order, kept));
-  show(kept.values);
-  if (kept.isReady) return;
-  kept.heard = () => box.isConnected && show(kept.values);
+  const kept = keptDraws(order);
+  const goOn = () => {
+    kept.isAsked = true;
+    draw(order, kept);
+    show();
+  };
+  const show = () => box.replaceChildren(table(order, choice, kept), says(kept), kept.isReady || kept.isRunning ? ""
+    : button(`Intervals (about ${Math.ceil(kept.left / 1000)} s)`, goOn, { id: "draw", data: { key: "draw" } }));
+  kept.heard = () => box.isConnected && show();
   kept.isWanted = order.ctx.isShown;
-  if (!kept.isRunning && order.ms * DRAWS > SOON_MS) {
-    box.append(button(`Intervals (about ${Math.ceil((order.ms * DRAWS) / 1000)} s)`, (e) => {
-      e.target.remove();
-      draw(order, kept);
-    }, { id: "draw", data: { key: "draw" } }));
-  } else draw(order, kept);
+  if (!kept.isReady && !kept.left) draw(order, kept);
+  show();
 }
 
 const drawsOf = new Map(); // the last ones, by what they are of
@@ -54,26 +55,33 @@ function keptDraws({ ctx, words, table, name }) {
   const key = JSON.stringify([ctx.text, words, name, table]);
   if (!drawsOf.has(key)) {
     if (drawsOf.size > 8) drawsOf.delete(drawsOf.keys().next().value);
-    drawsOf.set(key, { values: [], isReady: false, isRunning: false, heard: () => {}, isWanted: () => true });
+    drawsOf.set(key, { values: [], isReady: false, isRunning: false, isAsked: false, left: 0, heard: () => {}, isWanted: () => true });
   }
   return drawsOf.get(key);
 }
 
+/** Draws until there are enough, or until it is seen that this takes long and wasn't asked for. */
 async function draw({ ctx, words, name, table, count }, kept) {
   if (kept.isRunning) return;
-  kept.isRunning = true;
+  Object.assign(kept, { isRunning: true, left: 0 });
+  const began = performance.now(), had = kept.values.length;
   while (kept.values.length < DRAWS && kept.isWanted()) {
     const part = await ctx.compute({ compute: "draws", words, name, table, count, from: kept.values.length, draws: PART, seed: SEED });
     if (!part.values) break; // the worker was given up for a newer question
     kept.values.push(...part.values);
+    const left = ((performance.now() - began) / (kept.values.length - had)) * (DRAWS - kept.values.length);
+    if (!kept.isAsked && left > SOON_MS) {
+      kept.left = left;
+      break;
+    }
   }
   Object.assign(kept, { isRunning: false, isReady: kept.values.length >= DRAWS });
   kept.heard();
 }
 
-function table({ cells }, { y, a, b }, draws) {
+function table({ cells }, { y, a, b }, { values, isReady, isRunning }) {
   const at = (x) => cells.findIndex((c) => c.y === y && c.x === x), [i, j] = [at(a), at(b)];
-  const isReady = draws.length >= DRAWS, drawn = isReady ? draws.filter(Boolean) : [], point = cells.map((c) => c.value);
+  const drawn = isReady ? values.filter(Boolean) : [], point = cells.map((c) => c.value);
   const rows = [
     [`P(${y}) when ${a} is set`, (v) => v[i]], [`P(${y}) when ${b} is set`, (v) => v[j]],
     ["risk difference", (v) => v[i] - v[j]], ["risk ratio", (v) => v[i] / v[j]],
@@ -81,7 +89,7 @@ function table({ cells }, { y, a, b }, draws) {
   const row = ([label, measure]) => {
     const value = measure(point), interval = isReady ? intervalOf(drawn.map(measure)) : null;
     return h("tr", {}, h("th", { scope: "row" }, label), h("td", { class: "number" }, shown(value)),
-      h("td", { class: "number" }, !isReady ? "…" : interval ? `${shown(interval[0])} to ${shown(interval[1])}` : "none"));
+      h("td", { class: "number" }, !isReady ? (isRunning ? "…" : "") : interval ? `${shown(interval[0])} to ${shown(interval[1])}` : "none"));
   };
   return h("table", { class: "values contrasts" },
     h("thead", {}, h("tr", {}, ["", "value", "95% interval"].map((text) => h("th", { scope: "col" }, text)))),
@@ -90,7 +98,7 @@ function table({ cells }, { y, a, b }, draws) {
 
 const shown = (value) => (Number.isFinite(value) ? value.toFixed(4) : "none");
 
-function says(_, { values, isReady }) {
+function says({ values, isReady }) {
   const lost = values.filter((v) => !v).length;
   return h("p", { class: "small-print" }, "Computed here, not proved: percentiles of ", `${DRAWS} draws of the table's records with replacement `
     + `(seed ${SEED}). Each draw's values are the program's. The intervals hold in about 95% of large samples, if the diagram is right.`,

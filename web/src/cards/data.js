@@ -172,11 +172,9 @@ function formulaRow(ctx, sets, by) {
 }
 
 /** The contrast of two values of the exposure, with draws of the table. */
-function contrasts({ ctx, words, bounds, exact }, cells) {
+function contrasts({ ctx, words }, cells) {
   const table = cellsOf(ctx), count = countName(table.names), name = "draw.csv";
-  return contrastPart({
-    ctx, name, table, count, cells, words: ["evaluate", words[1], name, `--count=${count}`], ms: bounds.status === 0 ? bounds.ms : exact.ms,
-  });
+  return contrastPart({ ctx, name, table, count, cells, words: ["evaluate", words[1], name, `--count=${count}`] });
 }
 
 function values(found) {

@@ -74,7 +74,7 @@ function head(pairs) {
 
 /** @param {Implication[]} pairs */
 function table(ctx, pairs, tests) {
-  const hasData = pairs.some((pair) => pair.difference), names = hasData ? ["p", "after Holm", "largest difference", "at"] : [];
+  const hasData = pairs.some((pair) => pair.difference), names = hasData ? ["p", "largest difference"] : [];
   const columns = ["pair", "given", ...names].map((text) => h("th", { scope: "col" }, text));
   const left = pairs.length - MOST_ROWS;
   return h("table", { class: "pairs" },
@@ -99,8 +99,8 @@ function row(ctx, { a, b, given, difference, at }, hasData, test) {
   }, h("td", {}, h("b", {}, a), " and ", h("b", {}, b)),
   h("td", {}, given.join(", ") || "–", " ", furtherButton(ctx, a, b)),
   hasData ? [
-    h("td", { class: "number", title: statistic }, part(test?.p)), h("td", { class: "number" }, part(test?.adjusted)),
-    h("td", { class: "number" }, share === null ? difference : `${share.toFixed(4)} (${difference})`), h("td", {}, at),
+    h("td", { class: "number", title: statistic }, part(test?.p), h("small", {}, `Holm ${part(test?.adjusted)}`)),
+    h("td", {}, h("span", { class: "number" }, share === null ? difference : `${share.toFixed(4)} (${difference})`), h("small", {}, `at ${at}`)),
   ] : null);
 }
 
