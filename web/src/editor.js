@@ -63,6 +63,7 @@ export class Editor {
     const list = byId("text-notes");
     list.replaceChildren(...sentences.map((sentence) => h("li", {}, sentence)));
     list.hidden = !sentences.length;
+    document.body.classList.toggle("warned", sentences.length > 0);
   }
 
   /** A button that tells a place of the text, and goes there. */

@@ -171,10 +171,16 @@ export class Diagram {
     return { from: this.places.get(e.a), to: this.places.get(e.b), bend: this.#bends.get(keyOf(e)) };
   }
 
+  /** The pixels at the top and the bottom on which buttons and the legend lie. */
+  #covered() {
+    const high = (css) => this.element.parentElement?.querySelector(`:scope > ${css}`)?.offsetHeight;
+    return { top: Math.max(45, (high(".tools") ?? 0) + 20), bottom: Math.max(45, (high(".below") ?? 0) + 8) };
+  }
+
   /** The pixels that a drawing may take. */
   room() {
-    const { width, height } = this.element.getBoundingClientRect();
-    return { width: Math.max(1, width - 60), height: Math.max(1, height - 90) };
+    const { width, height } = this.element.getBoundingClientRect(), { top, bottom } = this.#covered();
+    return { width: Math.max(1, width - 60), height: Math.max(1, height - top - bottom) };
   }
 
   /** Fits the view to the drawing. */
@@ -184,7 +190,7 @@ export class Diagram {
     if (!this.target.size || !box.width) return;
     const { left, right, top, bottom } = this.bounds(this.target);
     const room = this.room(), k = Math.min(1.3, room.width / (right - left), room.height / (bottom - top));
-    const x = box.width / 2 - (k * (left + right)) / 2, y = box.height / 2 - (k * (top + bottom)) / 2;
+    const x = box.width / 2 - (k * (left + right)) / 2, y = this.#covered().top + room.height / 2 - (k * (top + bottom)) / 2;
     select(this.element).call(this.#zoom.transform, zoomIdentity.translate(x, y).scale(k));
   }
 
