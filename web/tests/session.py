@@ -113,6 +113,11 @@ class Session:
             area.dispatchEvent(new Event('input'));""", text)
         time.sleep(0.7)
 
+    def reset(self):
+        """Ends what an earlier part left open."""
+        self.run("""document.getElementById('menu')?.remove();
+            for (let i = 0; i < 3; i++) document.dispatchEvent(new KeyboardEvent('keydown', { key: 'Escape' }));""")
+
     def lacks(self, what):
         """Whether the program doesn't know a question yet; then its steps are skipped, by name."""
         time.sleep(0.4)
@@ -228,6 +233,7 @@ def breaks_the_text(s):
 
 
 def chooses_sets(s):
+    s.example("napkin")
     s.tab("separation")
     s.check("separation", "not separated: {X} from {Y} given {}" in s.printed(), s.printed())
     s.one("button[data-key='arm given']").click()
@@ -897,6 +903,7 @@ def main():
                 if wanted and part.__name__ not in wanted:
                     continue
                 try:
+                    session.reset()
                     part(session)
                 except Exception as error:  # the other parts are still tried
                     session.check(part.__name__, False, f"{type(error).__name__}: {error}")
