@@ -1,9 +1,12 @@
 /* The heap and the memory functions of the module. Blocks are of powers of two, and a freed one is kept by its size. */
-typedef unsigned long size_t;
-typedef unsigned char u8;
-_Static_assert(sizeof(size_t) == 8, "a 64-bit memory");
+#include <stdlib.h>
+#include <string.h>
 
-enum { HEAD = 16, LEAST = 4, MOST = 32, PAGE = 16, LEAST_GROWTH = 64, MOST_PAGES = 65535 };
+typedef unsigned char u8;
+typedef unsigned long long u64;
+_Static_assert(sizeof(size_t) == 4, "a 32-bit memory");
+
+enum { HEAD = 16, LEAST = 4, MOST = 31, PAGE = 16, LEAST_GROWTH = 64 };
 
 struct block {
   size_t class; /* it holds 2^class bytes */
@@ -12,7 +15,7 @@ struct block {
 
 extern u8 __heap_base;
 static u8 *next, *end; /* what was never given out */
-static struct block *freed[64];
+static struct block *freed[32];
 
 /* Makes room for so many bytes behind `next`; 0 where the memory doesn't grow. */
 static int make_room(size_t size) {
@@ -23,16 +26,14 @@ static int make_room(size_t size) {
   if (size <= (size_t)(end - next)) return 1;
   size_t pages = (size - (size_t)(end - next) + (1 << PAGE) - 1) >> PAGE;
   if (pages < LEAST_GROWTH) pages = LEAST_GROWTH;
-  if (pages > MOST_PAGES) return 0;
-  /* A memory of 32 bits, as binaryen makes one of this, says with 2^32 - 1 that it did not grow. */
-  if ((__builtin_wasm_memory_grow(0, pages) & 0xffffffff) == 0xffffffff) return 0;
+  if (__builtin_wasm_memory_grow(0, pages) == (size_t)-1) return 0;
   end += pages << PAGE;
   return 1;
 }
 
-static void *take(size_t size) {
-  size_t class = size <= (1 << LEAST) ? LEAST : 64 - __builtin_clzl(size - 1);
-  if (class > MOST) return 0;
+void *malloc(size_t size) {
+  size_t class = size <= (1 << LEAST) ? LEAST : 32 - __builtin_clz(size - 1);
+  if (class >= MOST) return 0;
   struct block *block = freed[class];
   if (block) {
     freed[class] = block->link;
@@ -48,8 +49,6 @@ static void *take(size_t size) {
 
 static struct block *block_of(void *p) { return (struct block *)((u8 *)p - HEAD); }
 
-void *malloc(size_t size) { return take(size); }
-
 void free(void *p) {
   if (!p) return;
   struct block *block = block_of(p);
@@ -58,15 +57,22 @@ void free(void *p) {
 }
 
 void *realloc(void *p, size_t size) {
-  if (!p) return take(size);
+  if (!p) return malloc(size);
   size_t room = (size_t)1 << block_of(p)->class;
   if (size <= room) return p;
-  void *q = take(size);
+  void *q = malloc(size);
   if (!q) return 0;
-  __builtin_memcpy(q, p, room);
+  memcpy(q, p, room);
   free(p);
   return q;
 }
+
+void abort(void) { __builtin_trap(); }
+
+/* With bulk memory these are an instruction each. */
+void *memcpy(void *to, const void *from, size_t n) { return __builtin_memcpy(to, from, n); }
+void *memmove(void *to, const void *from, size_t n) { return __builtin_memmove(to, from, n); }
+void *memset(void *to, int byte, size_t n) { return __builtin_memset(to, byte, n); }
 
 int memcmp(const void *a, const void *b, size_t n) {
   const u8 *x = a, *y = b;
@@ -75,25 +81,11 @@ int memcmp(const void *a, const void *b, size_t n) {
   return 0;
 }
 
-int bcmp(const void *a, const void *b, size_t n) { return memcmp(a, b, n); }
-
-/* What the toolchain's heap gives over `malloc`: whether there is memory, and where. */
-struct tried {
-  size_t ok;
-  void *p;
-};
-static u8 nothing;
-static struct tried tried(void *p) { return (struct tried){p != 0, p ? p : &nothing}; }
-
-struct tried rattle_alloc(size_t size, size_t align) { return tried(malloc(size ? size : align)); }
-
-struct tried rattle_realloc(void *p, size_t kept, size_t size, size_t align) {
-  return tried(realloc(p, size ? size : align));
+/* The product of numbers of 128 bits, which the compiler calls by this name. */
+void __multi3(u64 *to, u64 a, u64 a_high, u64 b, u64 b_high) {
+  const u64 low = 0xffffffffu;
+  u64 first = (a & low) * (b & low), second = (a >> 32) * (b & low) + (first >> 32);
+  u64 third = (a & low) * (b >> 32) + (second & low);
+  to[0] = third << 32 | (first & low);
+  to[1] = (a >> 32) * (b >> 32) + (second >> 32) + (third >> 32) + a * b_high + a_high * b;
 }
-
-void rattle_dealloc(void *p) { free(p); }
-
-/* What the page calls: room for what it passes. */
-void *page_alloc(size_t size) { return malloc(size); }
-
-void page_free(void *p) { free(p); }

@@ -72,7 +72,7 @@ export class Answers {
   /** Forgets what was chosen for another diagram: the condition of the effect, and the trials. */
   forgetChoices() {
     const { sets } = this.#memory;
-    for (const key of Object.keys(sets)) if (/^(condition|experiment \d+)$/.test(key)) delete sets[key];
+    for (const key of Object.keys(sets)) if (/^(condition|also set|experiment \d+)$/.test(key)) delete sets[key];
     this.#memory.experiments = 1;
   }
 
@@ -172,11 +172,15 @@ export class Answers {
       asked.push([words, answer.status, answer.out, answer.err]);
       return answer;
     };
+    const turn = this.#turn;
     const ctx = {
       ...this.around, graph, text, ask, memory: this.#memory,
       observed: this.#observed(),
       put: (name, content) => this.program.put(name, content),
+      askAbout: (other, words) => this.program.ask(other, words),
+      compute: (message) => this.program.compute({ text, ...message }),
       refresh: () => this.refresh(),
+      isShown: () => turn === this.#turn,
       show: (id) => this.show(id),
       mark: (marks) => diagram.mark(marks ?? this.#marks),
       take: (file) => this.take(file),

@@ -42,44 +42,44 @@ export async function load(bytes) {
 }
 
 function call(exports, name, words, inputs, room) {
-  const { memory, page_alloc, page_free } = exports;
+  const { memory, malloc, free } = exports;
   const texts = [...words, ...Object.entries(inputs).flat()].map(bytesOf);
   const length = texts.reduce((sum, text) => sum + text.length, 0);
   const places = [];
   const place = (size) => {
-    const at = page_alloc(BigInt(size + 16));
-    if (at === 0n) throw new Error("no memory");
+    const at = malloc(size + 16) >>> 0;
+    if (!at) throw new Error("no memory");
     places.push(at);
-    return Number(at);
+    return at;
   };
   try {
-    const bytes = place(length), spans = place(16 * texts.length), sizes = place(16);
+    const bytes = place(length), spans = place(SPAN * texts.length), sizes = place(SPAN);
     for (;;) {
       const out = place(room), err = place(room);
       lay(memory, texts, bytes, spans);
-      const inputsAt = spans + 16 * words.length, inputCount = (texts.length - words.length) / 2;
-      const status = exports[name](
-        ...[bytes, length, spans, words.length, inputsAt, inputCount, out, room, err, room, sizes].map(BigInt),
-      );
+      const inputsAt = spans + SPAN * words.length, inputCount = (texts.length - words.length) / 2;
+      const status = exports[name](bytes, length, spans, words.length, inputsAt, inputCount, out, room, err, room, sizes);
       if (status === 9) throw new Error("a word is not UTF-8");
       if (status === 10) throw new Error("no memory for the words");
-      const [wrote, said] = [...new BigUint64Array(memory.buffer, sizes, 2)].map(Number);
+      const [wrote, said] = new Uint32Array(memory.buffer, sizes, 2);
       const text = (at, size) => decoder.decode(new Uint8Array(memory.buffer, at, size));
       if (Math.max(wrote, said) <= room) return { status, out: text(out, wrote), err: text(err, said) };
       room = Math.max(wrote, said);
     }
   } finally {
-    places.forEach((at) => page_free(at));
+    places.forEach((at) => free(at));
   }
 }
 
+const SPAN = 8; // bytes of a span, or of a pair of sizes
+
 /** Lays the texts behind one another, and where each begins and ends. */
 function lay(memory, texts, bytes, spans) {
-  const all = new Uint8Array(memory.buffer), ends = new BigUint64Array(memory.buffer, spans, 2 * texts.length);
+  const all = new Uint8Array(memory.buffer), ends = new Uint32Array(memory.buffer, spans, 2 * texts.length);
   let at = 0;
   texts.forEach((text, i) => {
     all.set(text, bytes + at);
-    ends[2 * i] = BigInt(at);
-    ends[2 * i + 1] = BigInt((at += text.length));
+    ends[2 * i] = at;
+    ends[2 * i + 1] = at += text.length;
   });
 }

@@ -31,7 +31,7 @@ export function speak(sentence) {
   byId("spoken").textContent = sentence;
 }
 
-/** Saves a text as a file of the user's. */
+/** Saves a text, or bytes, as a file of the user's. */
 export function save(name, text, type) {
   const link = h("a", { href: URL.createObjectURL(new Blob([text], { type })), download: name });
   link.click();

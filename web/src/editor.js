@@ -1,6 +1,7 @@
 import { button, byId, h } from "./dom.js";
 import { placesOf } from "./faults.js";
 import { ROLES } from "./text/printed.js";
+import { taken } from "./text/taken.js";
 import { isEdgeMark, isMark, tokens } from "./text/tokens.js";
 
 const LINE_HEIGHT = 21.6;
@@ -13,12 +14,13 @@ export class Editor {
   #lines = []; // as they are painted
   #saying;
 
-  /** @param {{typed: (text: string) => void, opened: () => void, judged: () => void}} on */
+  /** @param {{typed: (text: string) => void, pasted: (text: string) => void, opened: () => void, judged: () => void}} on */
   constructor(on) {
     this.on = on;
-    this.#area.addEventListener("input", () => {
+    this.#area.addEventListener("input", (e) => {
       this.paint();
-      on.typed(this.text);
+      if (e.inputType === "insertFromPaste") on.pasted(this.text);
+      else on.typed(this.text);
     });
     this.#area.addEventListener("scroll", () => this.#scroll());
     byId("text-pane").addEventListener("click", (e) => e.target === e.currentTarget && this.#area.focus());
@@ -34,7 +36,7 @@ export class Editor {
     this.paint();
   }
 
-  /** Says a fault under the text, with its place and its number; null where there's none. */
+  /** Says a fault under the text, with its place; null where there's none. */
   judge(fault, text, typed) {
     clearTimeout(this.#saying);
     if (fault && typed) this.#saying = setTimeout(() => this.#say(fault, text), PATIENCE_MS);
@@ -49,10 +51,19 @@ export class Editor {
     this.on.judged();
     if (!fault) return this.paint();
     if (!fault.number) return line.replaceChildren(fault.sentence);
-    const marks = placesOf(fault, text);
+    const marks = placesOf(fault, text), other = taken(text);
+    line.title = fault.line;
     line.replaceChildren(this.#placeButton(marks[0], text), ` ${fault.sentence} `,
-      h("span", { class: "number" }, `fault ${fault.number}`));
+      other ? button("Write it as the program reads it", () => this.on.pasted(text), { data: { key: "take text" } }) : "");
     this.paint(marks);
+  }
+
+  /** Says what else there is to say of the text; an empty list ends it. @param {(string | Node)[]} sentences */
+  note(sentences) {
+    const list = byId("text-notes");
+    list.replaceChildren(...sentences.map((sentence) => h("li", {}, sentence)));
+    list.hidden = !sentences.length;
+    document.body.classList.toggle("warned", sentences.length > 0);
   }
 
   /** A button that tells a place of the text, and goes there. */

@@ -1,7 +1,7 @@
 // The program's fault lines as sentences. The numbers are those of its tables of faults.
 import { bare, isEdgeMark, tokens } from "./text/tokens.js";
 
-/** @typedef {{sentence: string, number: number, second: boolean, detail: string, graph: boolean, table?: string}} Fault */
+/** @typedef {{sentence: string, number: number, second: boolean, detail: string, graph: boolean, table?: string, line: string}} Fault */
 /** @typedef {{start: number, end: number}} Mark a place in a text */
 
 const circle = (names) => {
@@ -11,8 +11,8 @@ const circle = (names) => {
 
 const GRAPH = {
   1: () => "These bytes aren't UTF-8.",
-  2: () => "No token can stand here. Comments aren't part of this syntax; a name with unusual characters stands "
-    + "between quotes.",
+  2: () => "No token can stand here. Comments aren't part of this syntax, an edge is written ->, <- or <->, and a name with "
+    + "unusual characters stands between quotes.",
   3: () => "This doesn't fit here. A statement is a name, perhaps with [attributes], or an edge such as X -> Y or "
     + "X <-> Y.",
   4: () => "The text begins with the word dag and a brace: dag { … }.",
@@ -71,12 +71,12 @@ export function readFault(line) {
   const m = /^causal: ((second )?\w+ fault) (\d+)(?:: (.*))?$/s.exec(line.trim());
   const table = m && TABLES.find(([head]) => head.test(m[1]))?.[1];
   if (!table?.[m[3]]) {
-    return { sentence: line.trim() || "No answer.", number: 0, second: false, detail: "", graph: false };
+    return { sentence: line.trim() || "No answer.", number: 0, second: false, detail: "", graph: false, line: line.trim() };
   }
   const detail = m[4]?.replace(/^(byte|row|cycle) /, "") ?? "";
   return {
     sentence: table[m[3]](detail), number: Number(m[3]), second: Boolean(m[2]), detail, graph: table === GRAPH,
-    table: m[1].split(" ").at(-2),
+    table: m[1].split(" ").at(-2), line: line.trim(),
   };
 }
 
@@ -90,8 +90,16 @@ export function placesOf(fault, text) {
   return [list.find((t) => bare(t.text) === name) ?? end];
 }
 
+/** Where a byte of the text stands, as words. */
+export function placeName(byte, text) {
+  const before = beforeByte(byte, text).split("\n");
+  return `line ${before.length}, column ${before.at(-1).length + 1}`;
+}
+
+const beforeByte = (byte, text) => new TextDecoder().decode(new TextEncoder().encode(text).slice(0, byte));
+
 function atByte(byte, list, text) {
-  const start = new TextDecoder().decode(new TextEncoder().encode(text).slice(0, byte)).length;
+  const start = beforeByte(byte, text).length;
   const token = list.find((t) => t.start <= start && start < t.end);
   return { start, end: token?.end ?? Math.max(start, text.length) };
 }

@@ -1,17 +1,23 @@
 import { Answers } from "./answers.js";
 import { byId, copy, h, save } from "./dom.js";
 import { summary } from "./diagram/describe.js";
-import { saveDrawing } from "./diagram/export.js";
+import { waysToSave } from "./diagram/export.js";
 import { Draft } from "./draft.js";
 import { Editor } from "./editor.js";
 import { Acts } from "./page/acts.js";
 import { Drawing } from "./page/drawing.js";
+import { openMenu } from "./page/menu.js";
 import { toast } from "./page/notices.js";
 import { Kept, titleOf } from "./page/kept.js";
+import { resizePanes } from "./page/panes.js";
 import { followLink, partOf, readLink, writeLink } from "./page/link.js";
+import { pathClasses } from "./paths.js";
 import { Places } from "./places.js";
 import { Program } from "./program.js";
 import { Runner } from "./runner.js";
+import { taken } from "./text/taken.js";
+import { warningsOf } from "./text/warnings.js";
+import { Ways } from "./ways.js";
 
 const inlined = (id) => byId(id).textContent.trim();
 const examples = JSON.parse(inlined("examples"));
@@ -21,6 +27,8 @@ const drawing = new Drawing(), { diagram } = drawing;
 const places = new Places(new Runner(inlined("arranger-source")), diagram);
 
 const kept = new Kept();
+const askAbout = (text, words) => program.ask(text, words);
+let turnOfPaths = null;
 let drawn = null; // when the drawing is right; nothing else waits for it
 
 const draft = new Draft(program, {
@@ -38,12 +46,17 @@ const draft = new Draft(program, {
     byId("drawing").setAttribute("aria-label",
       `Diagram of ${summary(graph)}. Tab goes through the vertices, Enter opens a vertex's menu`);
     sayOrigin(graph);
+    editor.note([...(text === rewritten.text ? [rewritten.words] : []), ...warningsOf(text, graph)]);
     drawn = places.draw(graph, text, fit);
+    drawing.follow(graph);
+    drawing.ways = new Ways(askAbout, graph);
     await answers.update(graph, text);
+    colourPaths(graph);
   },
 });
 const editor = new Editor({
-  typed: (text) => draft.follow(text), opened: () => toggleText(true), judged: () => drawing.sayWaiting(),
+  typed: (text) => draft.follow(text), pasted: (text) => take(text), opened: () => toggleText(true),
+  judged: () => drawing.sayWaiting(),
 });
 const acts = new Acts(draft, places, diagram);
 drawing.use(acts);
@@ -90,6 +103,16 @@ byId("licences-box").ontoggle = () => (byId("licences-text").textContent = inlin
 
 const MOST_BYTES = 2e6; // the program says the fault of a text that is only a little too long
 let origin = { source: "", graph: "" };
+let rewritten = { text: null, words: "" };
+
+/** Shows a text that came from elsewhere, written as the program reads it; what was pasted comes back by undo. */
+async function take(text) {
+  const found = taken(text);
+  await draft.show(text, { typed: !found });
+  if (!found) return;
+  rewritten = { text: found.text, words: `Written as the program reads it: ${found.changes.join("; ")}. Undo brings the pasted text back.` };
+  await draft.show(found.text, { fit: true });
+}
 
 /** Shows another diagram. */
 function open(text, source = "") {
@@ -97,7 +120,7 @@ function open(text, source = "") {
   answers.forgetChoices();
   origin = { source, graph: "" };
   kept.begin(text);
-  return draft.show(text, { fit: true });
+  return taken(text) ? take(text) : draft.show(text, { fit: true });
 }
 
 /** Says where an example comes from, while it has the vertices and edges that it had when it was opened. */
@@ -141,21 +164,54 @@ byId("arrange").onclick = () => acts.arrange();
 byId("fit").onclick = () => diagram.fit();
 byId("in").onclick = () => diagram.zoomBy(1.3);
 byId("out").onclick = () => diagram.zoomBy(1 / 1.3);
-byId("export").onclick = () => saveDrawing(diagram);
+byId("export").onclick = (e) => {
+  const { left, bottom } = e.currentTarget.getBoundingClientRect();
+  if (diagram.graph.vertices.length) openMenu({ x: left, y: bottom + 6 }, "Save as", waysToSave(diagram, draft.accepted.text), e.currentTarget);
+  else toast("There is nothing to save yet.");
+};
+byId("paths").onclick = () => {
+  const isOn = byId("paths").getAttribute("aria-pressed") !== "true";
+  byId("paths").setAttribute("aria-pressed", String(isOn));
+  colourPaths(draft.accepted.graph);
+};
+
+/** Colours the edges on causal and biasing paths, where that is wanted. */
+async function colourPaths(graph) {
+  const isOn = byId("paths").getAttribute("aria-pressed") === "true", mine = (turnOfPaths = {});
+  document.body.classList.toggle("with-paths", isOn);
+  if (!isOn) return diagram.show({ colours: new Map() });
+  const { classes, isAll } = await pathClasses(askAbout, graph);
+  if (mine !== turnOfPaths) return;
+  diagram.show({ colours: classes });
+  byId("ways-cut").hidden = isAll;
+}
 addEventListener("resize", () => diagram.fit());
+resizePanes(() => diagram.fit());
 addEventListener("beforeprint", () => diagram.fitToPaper());
 addEventListener("afterprint", () => diagram.fit());
 
 // ---- Keys and links
 
 document.addEventListener("keydown", (e) => {
-  if (e.key === "Escape") drawing.endEdge() || answers.disarm();
+  if (e.key === "Escape") drawing.endEdge() || answers.disarm() || drawing.endSelection();
+  handToHovered(e);
   const key = e.key.toLowerCase();
   if (!(e.ctrlKey || e.metaKey) || (key !== "z" && key !== "y") || e.target.closest("#panel textarea")) return;
   e.preventDefault();
   if (key === "y" || e.shiftKey) draft.redo();
   else draft.undo();
 });
+
+const TAKES_KEYS = "input, textarea, select, .menu, dialog, .vertex, #tabs, .splitter";
+
+/** A key that nothing else takes is for the vertex under the pointer. */
+function handToHovered(e) {
+  if (e.ctrlKey || e.metaKey || e.altKey || /^(Enter|Tab|Escape|Shift| )$/.test(e.key) || e.target.closest?.(TAKES_KEYS)) return;
+  const vertex = document.querySelector("#drawing .vertex:hover");
+  if (!vertex) return;
+  e.preventDefault();
+  vertex.dispatchEvent(new KeyboardEvent("keydown", { key: e.key, shiftKey: e.shiftKey }));
+}
 
 async function start() {
   const { text, card } = readLink();

@@ -50,6 +50,15 @@ export class Program {
     for (const reading of this.#readings.values()) reading.forget(name);
   }
 
+  /** Asks about a text that isn't shown; nothing is kept. @returns {Promise<import("./runner.js").Answer>} */
+  ask(text, words) {
+    return this.#runner.ask(text, words);
+  }
+
+  compute(message) {
+    return this.#runner.compute(message);
+  }
+
   giveUpAfter(ms) {
     this.#runner.giveUpAfter(ms);
   }

@@ -69,6 +69,11 @@ export class Runner {
     }
   }
 
+  /** Has something computed beside the program's answers; an empty object where it was given up. */
+  compute(message) {
+    return this.#send(message);
+  }
+
   /** Places for a graph's outline; null where they take longer. @returns {Promise<Map<string, {x: number, y: number}> | null>} */
   async arrange(outline, ms) {
     const late = setTimeout(() => this.giveUpAfter(0), ms);

@@ -3,8 +3,11 @@
 //   {name, text}             a file that later questions may name; text is null where it goes
 //   {id, text, questions}    lists of words about diagram.dag with this text, those of the call that explains behind the
 //                            word `explain`; answered by {id, answers}
+//   {id, compute: "draws", text, words, name, ..}   values over draws of a table, which the words name; {id, values}
+//   {id, compute: "tests", table, pairs, seed}      tests of independences; {id, tests}
 import { load } from "./causal.mjs";
 import { DIAGRAM, EXPLAIN } from "./names.js";
+import { drawValues, testPairs } from "./statistics/work.js";
 
 const files = new Map();
 let causal;
@@ -16,9 +19,9 @@ async function unpack(packed) {
   return new Uint8Array(await new Response(stream).arrayBuffer());
 }
 
-function answer(program, words, text) {
+function answer(program, words, text, more = {}) {
   const named = words.filter((word) => files.has(word));
-  const inputs = { ...Object.fromEntries(named.map((name) => [name, files.get(name)])), [DIAGRAM]: text };
+  const inputs = { ...Object.fromEntries(named.map((name) => [name, files.get(name)])), [DIAGRAM]: text, ...more };
   const start = performance.now(), explains = words[0] === EXPLAIN;
   try {
     const said = explains ? program.explain(words.slice(1), inputs) : program.run(words, inputs);
@@ -33,6 +36,11 @@ onmessage = async ({ data }) => {
   else if (data.questions) {
     const program = await causal;
     postMessage({ id: data.id, answers: data.questions.map((words) => answer(program, words, data.text)) });
-  } else if (data.text === null) files.delete(data.name);
+  } else if (data.compute === "draws") {
+    const program = await causal;
+    const evaluate = (csv) => answer(program, data.words, data.text, { [data.name]: csv });
+    postMessage({ id: data.id, values: drawValues(data, evaluate) });
+  } else if (data.compute === "tests") postMessage({ id: data.id, tests: testPairs(data) });
+  else if (data.text === null) files.delete(data.name);
   else files.set(data.name, data.text);
 };

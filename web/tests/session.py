@@ -1,4 +1,7 @@
-"""A user's afternoon with the page, in headless Chromium."""
+"""A user's afternoon with the page, in headless Chromium, or with the word `firefox` in Firefox.
+
+    session.py [firefox] [PART..]
+"""
 import functools
 import http.server
 import json
@@ -14,6 +17,7 @@ from selenium.webdriver.common.by import By
 from selenium.webdriver.common.keys import Keys
 
 import browser
+import firefox
 from browser import wait
 
 TOP = browser.WEB.parent
@@ -68,6 +72,10 @@ class Session:
         return self.run("""return [...document.querySelectorAll('#drawing .vertex')]
             .find((v) => v.querySelector('text').textContent === arguments[0])""", name)
 
+    def click(self, name):
+        """Clicks a vertex, by the pointer: Firefox's driver clicks no group of shapes."""
+        ActionChains(self.driver).move_to_element(self.vertex(name)).click().perform()
+
     def names(self):
         return [el.text for el in self.all("#drawing .vertex text")]
 
@@ -104,6 +112,11 @@ class Session:
             area.value = arguments[0];
             area.dispatchEvent(new Event('input'));""", text)
         time.sleep(0.7)
+
+    def reset(self):
+        """Ends what an earlier part left open."""
+        self.run("""document.getElementById('menu')?.remove();
+            for (let i = 0; i < 3; i++) document.dispatchEvent(new KeyboardEvent('keydown', { key: 'Escape' }));""")
 
     def lacks(self, what):
         """Whether the program doesn't know a question yet; then its steps are skipped, by name."""
@@ -202,25 +215,30 @@ def breaks_the_text(s):
     area.send_keys(Keys.CONTROL, Keys.END)
     area.send_keys(Keys.ARROW_UP, Keys.END)
     area.send_keys(" --")
-    s.soon("a fault is said with its number", lambda: "fault 5" in s.one("#fault").text, lambda: s.one("#fault").text)
+    s.soon("a fault is said", lambda: "Edges are ->, <- or <->" in s.one("#fault").text, lambda: s.one("#fault").text)
+    s.check("without a code", "fault" not in s.one("#fault").text, s.one("#fault").text)
     s.check("at its place", s.one("#paint .fault").text == "--", s.one("#paint").get_attribute("innerHTML"))
     s.check("the answers are said to be older", "last text without a fault" in s.one("#hint").text)
     area.send_keys(Keys.BACKSPACE * 3)
     s.soon("and goes", lambda: not s.one("#fault").is_displayed())
     area.send_keys(Keys.ARROW_UP, Keys.END, "\nY -> W")
-    s.soon("a circle is said", lambda: "fault 11" in s.one("#fault").text, lambda: s.one("#fault").text)
+    s.soon("a circle is said", lambda: "in a circle" in s.one("#fault").text, lambda: s.one("#fault").text)
     marked = s.run("return [...document.querySelectorAll('#paint .fault')].map((m) => m.textContent.trim()).join('')")
     s.check("all its names are marked", all(name in marked for name in "WZXY"), marked)
-    s.undo()
+    for _ in range(8):  # what is typed slowly is several steps back
+        if s.one("#fault").is_displayed():
+            s.undo()
+            time.sleep(0.3)
     s.soon("and taken back", lambda: not s.one("#fault").is_displayed())
 
 
 def chooses_sets(s):
+    s.example("napkin")
     s.tab("separation")
     s.check("separation", "not separated: {X} from {Y} given {}" in s.printed(), s.printed())
     s.one("button[data-key='arm given']").click()
     time.sleep(0.3)
-    s.vertex("W").click()
+    s.click("W")
     s.soon("choosing by a click", lambda: "given {W}" in s.printed(), s.printed)
     s.check("the path is drawn", len(s.all("#drawing .over path.open")) > 0)
     s.keys(Keys.ESCAPE)
@@ -237,19 +255,19 @@ def chooses_sets(s):
 
 def draws(s):
     s.example("front_door")
-    s.vertex("M").click()
+    s.click("M")
     s.check("a menu", s.one("#menu").is_displayed())
     s.item("Adjusted")
     s.soon("a role into the text", lambda: "M [adjusted" in s.text(), s.text)
-    s.vertex("M").click()
+    s.click("M")
     s.item("Rename")
     field = s.one("#menu input")
     field.send_keys(Keys.CONTROL, "a")
     field.send_keys("tar in lungs", Keys.ENTER)
     s.soon("renaming quotes", lambda: 'X -> "tar in lungs" -> Y' in s.text(), s.text)
-    s.vertex("Y").click()
+    s.click("Y")
     s.item("Arrow")
-    s.vertex("X").click()
+    s.click("X")
     s.soon("a circle is refused", lambda: "circle" in s.one("#toast").text, lambda: s.one("#toast").text)
     s.check("and changes nothing", "Y -> X" not in s.text(), s.text())
     box = s.one("#drawing").size
@@ -257,17 +275,17 @@ def draws(s):
         s.one("#drawing"), -box["width"] // 4, box["height"] // 4).double_click().perform()
     s.soon("a double click adds", lambda: "A [pos=" in s.text(), s.text)
     s.keys(Keys.ESCAPE)
-    s.vertex("A").click()
+    s.click("A")
     s.item("Common")
-    s.vertex("Y").click()
+    s.click("Y")
     s.soon("an edge is drawn", lambda: "A <-> Y" in s.text(), s.text)
-    s.vertex("A").click()
+    s.click("A")
     s.item("Its edges")
     s.item("A ↔ Y")
     s.item("Make it an arrow")
     s.soon("an edge changes in its place", lambda: "A -> Y" in s.text() and "<-> Y" in s.text(), s.text)
     s.check("chains stay", 'X -> "tar in lungs" -> Y' in s.text(), s.text())
-    s.vertex("A").click()
+    s.click("A")
     s.item("Delete")
     s.soon("a vertex goes", lambda: "A" not in s.names(), s.text)
 
@@ -302,11 +320,15 @@ def uses_keys_alone(s):
 
 def names_and_deletes(s):
     s.example("front_door")
-    s.vertex("M").click()
+    s.click("M")
     s.keys("a")
     s.soon("a key chooses in the open menu", lambda: "M [adjusted" in s.text() and not s.all("#menu"), s.text)
+    s.run("document.activeElement.blur()")
+    ActionChains(s.driver).move_to_element(s.one("#undo")).move_to_element(s.vertex("M")).perform()
+    s.keys("0")
+    s.soon("a key is for the vertex under the pointer", lambda: "M [adjusted" not in s.text(), s.text)
     for fresh, why in (("", "a character at least"), ('a"b', "quotation mark")):
-        s.vertex("M").click()
+        s.click("M")
         s.item("Rename")
         s.one("#menu input").send_keys(Keys.CONTROL, "a")
         s.one("#menu input").send_keys(fresh or Keys.BACKSPACE, Keys.ENTER)
@@ -415,7 +437,8 @@ def says_it_plainly(s):
     s.write("dag { X [exposure] Y X -> Y }")
     s.soon("no raw code", lambda: "No outcome is chosen" in s.panel() and "fault" not in s.panel(), s.panel)
     s.example("bow")
-    s.soon("the plain reason first", lambda: s.panel().split("\n")[1].startswith("What is observed doesn't settle"), s.panel)
+    s.soon("the plain reason first", lambda: s.panel().split("\n")[1].startswith(
+        "An unmeasured cause acts on both X and Y, and nothing that is measured breaks it. What is observed doesn't settle"), s.panel)
 
 
 def adjusts_and_compares(s):
@@ -476,7 +499,9 @@ def lists_what_is_implied(s):
     s.run(drop, "A,B,C,count\n0,0,0,4\n0,0,1,2\n1,0,0,2\n1,0,1,1\n0,1,0,1\n0,1,1,3\n1,1,0,2\n1,1,1,1\n")
     s.soon("the largest difference", lambda: "A=0,C=0,B=1" in s.one("table.pairs").text, s.panel)
     s.check("with its command line", s.command() == "$ causal implications diagram.dag fork.csv --count=count", s.command())
-    s.check("warned that it is no test", "no test" in s.panel(), s.panel())
+    s.check("as a probability beside the counts", "(" in s.all("table.pairs tbody td")[3].text, s.all("table.pairs tbody td")[3].text)
+    s.check("with a test", "0." in s.all("table.pairs tbody td")[2].text, s.panel())
+    s.check("and what it is worth", "speaks against the diagram" in s.panel() and "not proved" in s.panel(), s.panel())
     s.run(drop, "A,C\n0,1\n")
     s.soon("a table that lacks a column", lambda: "no column named B" in s.panel(), s.panel)
     s.check("the pairs stay", s.printed() == "A from C given {B}", s.printed())
@@ -490,7 +515,7 @@ def takes_trials(s):
     s.soon("trials are asked for", lambda: "set in a trial" in s.panel(), s.panel)
     s.write("dag { X [exposure] Y [outcome] Z -> X -> Y Z <-> X Z <-> Y }")
     s.one("[data-key='arm experiment 0']").click()
-    s.vertex("Z").click()
+    s.click("Z")
     if s.lacks("surrogate"):
         return
     s.soon("a formula", lambda: s.printed() == "P(Y|do(X)) = P(Y|do(Z),X)\nfree {Z}", s.panel)
@@ -511,7 +536,7 @@ def asks_under_a_condition(s):
     s.one("summary[data-key='condition']").click()
     s.soon("a condition may be chosen", lambda: s.all("[data-key='arm condition']"), s.panel)
     s.one("[data-key='arm condition']").click()
-    s.vertex("Z").click()
+    s.click("Z")
     if s.lacks("condition"):
         return
     s.soon("under a condition", lambda: s.printed() == "P(Y|do(X),Z) = P(Y|X,Z)", s.panel)
@@ -526,15 +551,217 @@ def asks_under_a_condition(s):
 
 
 def saves_the_drawing_and_a_link(s):
-    s.one("#export").click()
+    s.example("napkin")
+    for item in ("SVG", "PNG", "PDF", "TikZ", "R code"):
+        s.one("#export").click()
+        s.item(item)
+        time.sleep(0.3)
     path = s.saved("diagram.svg")
     s.check("the drawing is saved", path and "<svg" in path.read_text() and ">X</text>" in path.read_text())
+    path = s.saved("diagram.png")
+    s.check("as a picture", path and path.read_bytes().startswith(b"\x89PNG"), path)
+    path = s.saved("diagram.pdf")
+    pdf = path.read_bytes() if path else b""
+    s.check("as PDF", pdf.startswith(b"%PDF-1.4") and b"(X) Tj" in pdf and pdf.rstrip().endswith(b"%%EOF"), pdf[:80])
+    path = s.saved("diagram.tex")
+    s.check("as TikZ", path and r"\node[exposure]" in path.read_text() and r"\draw[<->, dashed]" in path.read_text(), path)
+    path = s.saved("diagram.R")
+    s.check("as R code", path and 'text <- r"(dag {' in path.read_text() and "identify_effect" in path.read_text(), path)
     text = s.text()
     s.one("#share").click()
     time.sleep(0.3)
     link = s.run("return location.href")
     browser.open_page(s.driver, fragment="#" + link.split("#")[1])
     s.check("the link carries the diagram", s.text() == text, s.text())
+
+
+def contrasts_with_intervals(s):
+    s.example("kidney_stones")
+    s.tab("data")
+    if s.all("#sample"):
+        s.one("#sample").click()
+    s.soon("a contrast", lambda: s.all(".contrasts"), s.panel)
+    for key, value in (("y", "R=success"), ("a", "T=A"), ("b", "T=B")):
+        s.run("""const el = document.querySelector(`[data-key="contrast ${arguments[0]}"]`);
+            el.value = arguments[1]; el.dispatchEvent(new Event('change'))""", key, value)
+        time.sleep(0.4)
+    rows = lambda: s.run("return [...document.querySelectorAll('.contrasts tbody tr')].map((row) => [...row.cells].map((el) => el.textContent))")
+    s.soon("the difference", lambda: ["risk difference", "0.0537"] == rows()[2][:2], rows)
+    s.check("the ratio", ["risk ratio", "1.0689"] == rows()[3][:2], rows())
+    def drawn():
+        if s.all("#draw"):
+            s.one("#draw").click()
+        return " to " in rows()[2][2]
+
+    s.check("their intervals", wait(drawn, 120), rows())
+    low, high = map(float, rows()[2][2].split(" to "))
+    s.check("as the packages give them", abs(low + 0.0115) < 0.008 and abs(high - 0.1196) < 0.008, rows())
+    s.check("said to be computed", "not proved" in s.panel(), s.panel())
+    s.run("const el = document.getElementById('by'); el.value = '{S}'; el.dispatchEvent(new Event('change'))")
+    s.soon("the formula of a set", lambda: s.command() == "$ causal evaluate adjusted.dag kidney_stones.csv --count=count --exact", s.command)
+    s.soon("has the same value here", lambda: rows()[2][1] == "0.0537", rows)
+    s.run("const el = document.getElementById('by'); el.value = ''; el.dispatchEvent(new Event('change'))")
+
+
+def takes_other_texts(s):
+    """What DAGitty and R write, pasted: it is rewritten, and said so."""
+    s.tab("effect")
+
+    def paste(text):
+        s.run("""const area = document.getElementById('text');
+            area.value = arguments[0];
+            area.dispatchEvent(new InputEvent('input', { inputType: 'insertFromPaste' }));""", text)
+        time.sleep(0.7)
+
+    paste('g <- dagitty("dag {\\n X [exposure]\\n Y [outcome]\\n X -> Y\\n}")')
+    s.soon("R's call", lambda: s.text().startswith("dag {\n X [exposure]") and sorted(s.names()) == ["X", "Y"], s.text)
+    s.check("is said", "taken out of R's call" in s.one("#text-notes").text, s.one("#text-notes").text)
+    s.undo()
+    s.soon("and comes back", lambda: s.text().startswith("g <- dagitty"), s.text)
+    paste("E E @-2.2,1.5\nD O @1.4,1.5\nA%20B A @-2.2,-1.5\nU U @0,0\n\nA%20B E D\nE D @0.1,0.2\nU E D\n")
+    s.soon("the older form", lambda: sorted(s.names()) == ["A B", "D", "E", "U"] and "U [latent" in s.text() and "E -> D" in s.text(), s.text)
+    s.check("its places are kept", s.text().count("pos=") == 4, s.text())
+    paste("dag { # what acts\n X [exposure] /* and */ Y [outcome] // here\n X → Y }")
+    s.soon("comments and arrows", lambda: "#" not in s.text() and "X -> Y" in s.text(), s.text)
+    s.write("dag { X [exposure] Y [outcome] X -> Y // typed\n }")
+    s.soon("what is typed is offered to be rewritten", lambda: s.all("#fault [data-key='take text']"), lambda: s.one("#fault").text)
+    s.one("#fault [data-key='take text']").click()
+    s.soon("and is", lambda: "typed" not in s.text() and not s.one("#fault").is_displayed(), s.text)
+    s.write("dag { X [exposure] Y [outcome] Z -> X Z => Y X -> Y }")
+    told = lambda: s.one("#text-notes").text + s.one("#fault").text
+    s.soon("a dropped edge is told", lambda: "Z = > says nothing" in told() or s.one("#fault").is_displayed(), told)
+    s.write('dag { bb="0,0,1,1"\n X [exposure] Y [outcome] X -> Y "=>" note="a" }')
+    s.soon("a name of signs is told", lambda: "=> is read as a vertex" in told(), told)
+    s.check("and each statement that is dropped", "note = " in told() and "bb" not in told(), told())
+    s.write("dag { X [exposure] Y [outcome] X -> Y }")
+    s.soon("else nothing is", lambda: not told().strip(), told)
+
+
+def asks_for_a_direct_effect(s):
+    s.tab("effect")
+    s.write("dag { X [exposure] Y [outcome] X -> M -> Y X -> Y C -> M C -> Y M -> K }")
+    s.soon("the effect", lambda: s.command() == "$ causal identify diagram.dag", s.command)
+    s.one("summary[data-key='direct']").click()
+    s.soon("more may be set", lambda: s.all("[data-key='take mediators']"), s.panel)
+    s.one("[data-key='take mediators']").click()
+    s.soon("what is on the way is set too", lambda: s.command() == "$ causal identify diagram.dag --x X,M", s.command)
+    s.check("its formula", s.printed().startswith("P(Y|do(X,M)) = sum{C} P(C) * P(Y|"), s.printed())
+    s.one("#check").click()
+    s.soon("check accepts", lambda: "accepted" in s.one(".checked").text, lambda: s.one(".checked").text)
+    s.one("[data-key='also set M']").click()
+    s.soon("and left again", lambda: s.command() == "$ causal identify diagram.dag", s.command)
+    s.one("summary[data-key='direct']").click()
+
+
+def adjusts_with_what_is_marked(s):
+    s.tab("adjustment")
+    s.write("dag { X [exposure] Y [outcome] M [adjusted] A -> X A -> M B -> M B -> Y X -> Y }")
+    sets = lambda: [chip.text for chip in s.all("[data-key^='with ']")]
+    s.soon("sets that contain what is marked", lambda: sorted(sets()) == ["M, A", "M, B"], sets)
+    s.all("[data-key^='with ']")[0].click()
+    s.soon("one is taken", lambda: s.text().count("adjusted") == 2 and "Admissible" in s.panel(), s.panel)
+    s.write("dag { X [exposure] Y [outcome] M [adjusted] X -> M -> Y M -> K }")
+    s.soon("why a mediator isn't", lambda: "M lies on the way from" in s.panel(), s.panel)
+    s.write("dag { X [exposure] Y [outcome] K [adjusted] X -> M -> Y M -> K }")
+    s.soon("why what is behind it isn't", lambda: "K lies behind a vertex that is on the way" in s.panel(), s.panel)
+    s.write("dag { X [exposure] Y [outcome] Frailty [latent] X -> Y Frailty -> X Frailty -> Y }")
+    s.tab("effect")
+    s.soon("the plain reason", lambda: s.panel().split("\n")[1].startswith(
+        "Unmeasured Frailty acts on both X and Y, and nothing that is measured breaks it."), s.panel)
+
+
+def lists_separating_sets(s):
+    s.tab("separation")
+    s.write("dag { X [exposure] Y [outcome] X -> A -> B -> Y X -> C -> Y }")
+    sets = lambda: [chip.text for chip in s.all("[data-key^='separates ']")]
+    s.soon("several sets", lambda: sorted(sets()) == ["A, C", "B, C"], sets)
+    s.all("[data-key^='separates ']")[0].click()
+    s.soon("one is taken", lambda: s.printed().startswith("separated"), s.printed)
+    s.tab("implications")
+    s.soon("a pair leads there", lambda: s.all("table.pairs tbody button"), s.panel)
+    s.all("table.pairs tbody button")[0].click()
+    s.soon("with its own sets", lambda: s.all("[data-key^='separates ']"), s.panel)
+    s.tab("effect")
+
+
+EDGES = """return [...document.querySelectorAll('#drawing .edge')].filter((e) => e.classList.contains(arguments[0])
+    && e.classList.contains('blocked') === arguments[1]).map((e) => e.dataset.edge).sort()"""
+
+
+def colours_paths(s):
+    s.write("dag { X [exposure] Y [outcome] X -> M -> Y Z -> X Z -> Y M -> K }")
+    s.one("#paths").click()
+    s.soon("causal paths", lambda: s.run(EDGES, "causal", False) == ["M→Y", "X→M"], lambda: s.run(EDGES, "causal", False))
+    s.check("biasing paths", s.run(EDGES, "biasing", False) == ["Z→X", "Z→Y"], s.run(EDGES, "biasing", False))
+    s.check("in the legend", s.all(".legend .way")[0].is_displayed())
+    s.run("arguments[0].focus()", s.vertex("Z"))
+    s.keys("a")
+    s.soon("a set blocks", lambda: s.run(EDGES, "biasing", True) == ["Z→X", "Z→Y"], lambda: s.run(EDGES, "biasing", True))
+    s.run("arguments[0].focus()", s.vertex("M"))
+    s.keys("a")
+    s.soon("also the causal one", lambda: s.run(EDGES, "causal", True) == ["M→Y", "X→M"], lambda: s.run(EDGES, "causal", True))
+    s.example("m_bias")
+    s.soon("a collider that isn't adjusted for opens nothing", lambda: s.run(EDGES, "causal", False) and not s.run(EDGES, "biasing", False),
+           lambda: s.run(EDGES, "biasing", False))
+    s.run("arguments[0].focus()", s.vertex("M"))
+    s.keys("a")
+    s.soon("and one that is opens a path", lambda: len(s.run(EDGES, "biasing", False)) == 4, lambda: s.run(EDGES, "biasing", False))
+    s.one("#paths").click()
+    s.soon("colours go", lambda: not s.run(EDGES, "biasing", False) and not s.run(EDGES, "causal", False))
+    s.write("dag { A -> B -> C D -> C U [latent] U -> B }")
+    s.run("document.activeElement.blur()")
+    ActionChains(s.driver).move_to_element(s.vertex("B")).perform()
+    s.soon("ancestors on hover", lambda: sorted(s.run(MARKED, "ancestor")) == ["A", "U"], lambda: s.run(MARKED, "ancestor"))
+    ActionChains(s.driver).move_to_element(s.one("#undo")).perform()
+    s.soon("and they go", lambda: not s.run(MARKED, "ancestor"))
+
+
+def changes_several(s):
+    s.example("napkin")
+    for name in ("W", "Z"):
+        ActionChains(s.driver).key_down(Keys.SHIFT).click(s.vertex(name)).key_up(Keys.SHIFT).perform()
+    s.soon("two are chosen", lambda: sorted(s.run(MARKED, "selected")) == ["W", "Z"], lambda: s.run(MARKED, "selected"))
+    s.one("#selected").click()
+    s.item("Adjusted")
+    s.soon("both are marked", lambda: s.text().count("adjusted") == 2, s.text)
+    place = lambda name: s.run("return document.activeElement && arguments[0].getBoundingClientRect().y", s.vertex(name))
+    before = [place("W"), place("Z"), place("X")]
+    ActionChains(s.driver).drag_and_drop_by_offset(s.vertex("W"), 0, 60).perform()
+    time.sleep(0.6)
+    moved = [round(place(name) - was) for name, was in zip(("W", "Z", "X"), before)]
+    s.check("both move", moved[0] > 30 and abs(moved[0] - moved[1]) < 3 and moved[2] < moved[0] - 20, moved)
+    s.keys(Keys.ESCAPE)
+    s.soon("escape ends it", lambda: not s.run(MARKED, "selected") and not s.one("#selected").is_displayed())
+    s.one("#fit").click()
+    s.one("#select").click()
+    box = s.one("#drawing").rect
+    ActionChains(s.driver).move_to_element_with_offset(s.one("#drawing"), -int(box["width"] * 0.49), -int(box["height"] * 0.35)).click_and_hold(
+        ).move_by_offset(int(box["width"] * 0.97), int(box["height"] * 0.72)).release().perform()
+    s.soon("a frame chooses", lambda: len(s.run(MARKED, "selected")) == 4, lambda: s.run(MARKED, "selected"))
+    s.run("arguments[0].focus()", s.vertex("X"))
+    s.keys(Keys.DELETE)
+    s.soon("all go", lambda: not s.names(), s.text)
+    s.undo()
+    s.soon("and come back", lambda: len(s.names()) == 4, s.text)
+    s.keys(Keys.ESCAPE)
+
+
+def resizes_panes(s):
+    width = lambda pane: round(s.one(pane).rect["width"])
+    was = width("#answers-pane")
+    ActionChains(s.driver).drag_and_drop_by_offset(s.one("#split-answers"), -80, 0).perform()
+    s.soon("the answers get wider", lambda: abs(width("#answers-pane") - was - 80) < 4, lambda: width("#answers-pane"))
+    s.run("document.getElementById('split-text').focus()")
+    was = width("#text-pane")
+    s.keys(Keys.ARROW_RIGHT, Keys.ARROW_RIGHT)
+    s.soon("the text by keys", lambda: width("#text-pane") == was + 32, lambda: width("#text-pane"))
+    s.check("told to a screen reader", s.one("#split-text").get_attribute("aria-valuenow") == str(was + 32))
+    browser.open_page(s.driver)
+    s.check("it stays so", width("#text-pane") == was + 32, width("#text-pane"))
+    for border in ("split-text", "split-answers"):
+        s.run("document.getElementById(arguments[0]).focus()", border)
+        s.keys(Keys.HOME)
+    s.soon("and goes back", lambda: width("#text-pane") == was, lambda: width("#text-pane"))
 
 
 def keeps_the_work(s):
@@ -653,28 +880,40 @@ PARTS = [
     reads_a_formula, drags_and_takes_back, fits_places, draws_large_texts, breaks_the_text, chooses_sets, draws,
     uses_keys_alone, names_and_deletes, saves_a_certificate, drops_a_table, reads_other_tables, says_it_plainly,
     adjusts_and_compares, shows_a_hedge, lists_what_is_implied, takes_trials, asks_under_a_condition,
-    saves_the_drawing_and_a_link, keeps_the_work, is_accessible, sends_nothing, is_served,
+    contrasts_with_intervals, takes_other_texts, asks_for_a_direct_effect, adjusts_with_what_is_marked, lists_separating_sets,
+    colours_paths, changes_several, resizes_panes, saves_the_drawing_and_a_link, keeps_the_work, is_accessible, sends_nothing, is_served,
 ]
 
 
+# What only Chromium tells, or only its driver does.
+CHROMIUM_ALONE = [is_accessible, sends_nothing]
+
+
 def main():
+    words = sys.argv[1:]
+    in_firefox = words[:1] == ["firefox"]
+    parts = [part for part in PARTS if not in_firefox or part not in CHROMIUM_ALONE]
+    wanted = words[1:] if in_firefox else words
     with tempfile.TemporaryDirectory() as folder:
-        driver = browser.start(downloads=pathlib.Path(folder))
+        driver = (firefox if in_firefox else browser).start(downloads=pathlib.Path(folder))
         try:
             browser.open_page(driver)
             session = Session(driver, pathlib.Path(folder))
-            for part in PARTS:
-                if sys.argv[1:] and part.__name__ not in sys.argv[1:]:
+            for part in parts:
+                if wanted and part.__name__ not in wanted:
                     continue
                 try:
+                    session.reset()
                     part(session)
                 except Exception as error:  # the other parts are still tried
                     session.check(part.__name__, False, f"{type(error).__name__}: {error}")
         finally:
             driver.quit()
-    phone = works_by_touch()
-    done, failed = session.done + phone.done, session.failed + phone.failed
-    print(f"{done} steps of a session, {failed} wrong")
+    done, failed = session.done, session.failed
+    if not in_firefox and (not wanted or "works_by_touch" in wanted):
+        phone = works_by_touch()
+        done, failed = done + phone.done, failed + phone.failed
+    print(f"{done} steps of a session{' in Firefox' if in_firefox else ''}, {failed} wrong")
     sys.exit(bool(failed))
 
 

@@ -18,6 +18,24 @@ new MutationObserver((_, observer) => {
 area.value = text;
 area.dispatchEvent(new Event("input"));
 """
+LARGE = """
+const [text, done] = arguments;
+const area = document.getElementById("text"), panel = document.getElementById("panel"), start = performance.now();
+const svg = document.getElementById("drawing");
+let answered;
+new MutationObserver((_, observer) => {
+  observer.disconnect();
+  answered = performance.now() - start;
+}).observe(panel, { childList: true });
+const look = () => {
+  const isDrawn = svg.querySelectorAll(".edge").length === Number(arguments[2]) && !svg.classList.contains("late");
+  if (answered && isDrawn) done([answered, performance.now() - start]);
+  else setTimeout(look, 5);
+};
+area.value = text;
+area.dispatchEvent(new Event("input"));
+setTimeout(look, 5);
+""".replace("const [text, done] = arguments;", "const text = arguments[0], done = arguments[arguments.length - 1];")
 REPEATS = 4
 PAUSE = 1
 
@@ -64,11 +82,37 @@ def with_places(text):
     return "\n".join(lines)
 
 
+def large(vertices=64, edges=820):
+    """A diagram of so many vertices and edges, each arrow from an earlier vertex to a later one, as text."""
+    state, pairs = 1, [(i, j) for i in range(vertices) for j in range(i + 1, vertices)]
+    while len(pairs) > edges:
+        state = (state * 6364136223846793005 + 1442695040888963407) % 2**64
+        pairs.pop((state >> 33) % len(pairs))
+    lines = ["v0 [exposure]", f"v{vertices - 1} [outcome]", *[f"v{i} -> v{j}" for i, j in pairs]]
+    return "dag {\n" + "\n".join(lines) + "\n}\n"
+
+
+def large_text():
+    """Milliseconds from a text of 64 vertices and 820 edges to its answer, and until it is drawn as well."""
+    figures = []
+    for _ in range(REPEATS):
+        driver = browser.start()
+        try:
+            browser.open_page(driver)
+            figures.append(driver.execute_async_script(LARGE, large(), 820))
+        finally:
+            driver.quit()
+    return figures
+
+
 def main():
     print(f"web/dist/causal.html: {browser.PAGE.stat().st_size} bytes")
     fresh, again = opened()
     spread("opening to the first answer, in a fresh browser", fresh)
     spread("the same, opened again", again)
+    figures = large_text()
+    spread("a text of 64 vertices and 820 edges to its answer", [f[0] for f in figures])
+    spread("  until it is drawn as well", [f[1] for f in figures])
     for answer, ends in {"a hedge": (0, 39), "a formula": (36, 38)}.items():
         # a further edge, so that the answer and the layout change
         more = [[f"v{k} -> v{k + 20}", f"v{k} -> v{k + 19}"] for k in range(REPEATS)]

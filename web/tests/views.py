@@ -23,6 +23,18 @@ VIEWS = {
     "hidden": ("hidden_cause", "separation", ""),
     "rules": ("front_door", "rules", ""),
     "data": ("kidney_stones", "data", "document.getElementById('sample')?.click()"),
+    "contrast": ("kidney_stones", "data", """document.getElementById('sample')?.click();
+        setTimeout(() => document.querySelector('.contrasts')?.scrollIntoView({block: 'center'}), 700)"""),
+    "tests": ("fork", "implications", """const data = new DataTransfer();
+        data.items.add(new File(["A,B,C,count\\n0,0,0,40\\n0,0,1,22\\n1,0,0,12\\n1,0,1,31\\n0,1,0,15\\n0,1,1,33\\n1,1,0,29\\n1,1,1,11\\n"], "fork.csv"));
+        document.body.dispatchEvent(new DragEvent('drop', {dataTransfer: data, bubbles: true, cancelable: true}))"""),
+    "paths": ("exported", "adjustment", "document.getElementById('paths').click()"),
+    "several": ("napkin", "effect", """for (const v of [...document.querySelectorAll('#drawing .vertex')].slice(0, 2)) {
+        v.dispatchEvent(new KeyboardEvent('keydown', {key: 's', bubbles: true})); }
+        document.getElementById('selected').click()"""),
+    "direct": ("front_door", "effect", "document.querySelector('summary[data-key=direct]').click(); document.querySelector('summary[data-key=direct]').scrollIntoView()"),
+    "warning": ("napkin", "effect", """const t = document.getElementById('text');
+        t.value = t.value.replace('}', 'note = x\\n~\\n}'); t.dispatchEvent(new Event('input'))"""),
     "compare": ("chain", "compare", """const t = document.querySelector('textarea.second');
         t.value = 'dag { A -> B <- C }'; t.dispatchEvent(new Event('input'))"""),
     "fault": ("napkin", "effect", """const t = document.getElementById('text');
@@ -33,9 +45,10 @@ VIEWS = {
 }
 SHAPES = {
     "light": ({}, list(VIEWS)),
-    "dark": ({"dark": True}, ["effect", "rule", "hedge", "biased", "data", "compare", "fault", "menu"]),
-    "phone": ({"width": 400, "height": 860}, ["effect", "hedge", "adjust", "data", "fault", "menu"]),
-    "tablet": ({"width": 900, "height": 1100}, ["effect", "data"]),
+    "dark": ({"dark": True}, ["effect", "rule", "hedge", "biased", "data", "contrast", "tests", "paths", "several", "warning", "compare", "fault", "menu"]),
+    "phone": ({"width": 400, "height": 860}, ["effect", "hedge", "adjust", "data", "contrast", "paths", "several", "warning", "fault", "menu"]),
+    "laptop": ({"width": 1280, "height": 720}, ["effect", "contrast", "paths", "several"]),
+    "tablet": ({"width": 900, "height": 1100}, ["effect", "data", "paths"]),
 }
 
 

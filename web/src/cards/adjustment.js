@@ -3,6 +3,8 @@ import { adjustmentLatex } from "../explain.js";
 import { readFault } from "../faults.js";
 import { DIAGRAM } from "../names.js";
 import { listWord, openPath, readSet } from "../text/printed.js";
+import { Ways } from "../ways.js";
+import { setsWith } from "./containing.js";
 import { formulaBox, isRefused, listed, pathMarks, printedOf, refused, source, verdict, withRole } from "./parts.js";
 
 const LIST = ["adjust", DIAGRAM];
@@ -17,10 +19,12 @@ async function answer(ctx) {
   if (!sets.includes(memory.set)) memory.set = sets[0] ?? null;
   const chosen = memory.set && [...LIST, "--set", listWord(readSet(memory.set))];
   const [formula, tex] = chosen ? await Promise.all([ctx.ask(chosen), adjustmentLatex(ctx, chosen)]) : [null, []];
+  const forbidden = tested.out.match(/^forbidden: (.*)$/m)?.[1], name = forbidden?.replace(/^"|"$/g, "");
   const found = {
     ctx, said, sets, hasMore: lines.includes("more"), adjusted, test, tested, chosen, formula, tex,
-    path: openPath(tested.out),
-    forbidden: tested.out.match(/^forbidden: (.*)$/m)?.[1],
+    path: openPath(tested.out), forbidden,
+    isOnTheWay: name && (await new Ways(ctx.askAbout, ctx.graph).leadsToAny(name, withRole(ctx, "outcome"))),
+    containing: adjusted.length && tested.status === 1 && !forbidden ? await setsWith(ctx, adjusted) : [],
   };
   const isTestFirst = !sets.length || (adjusted.length && tested.status === 1);
   const isOnTest = memory.shows ? memory.shows === "test" : isTestFirst;
@@ -96,16 +100,36 @@ function tested(found, isOnTest) {
       h("input", { type: "checkbox", checked: memory.backDoor, data: { key: "back-door" }, onchange: byBackDoor }),
       " by the back-door criterion (one exposure)"),
     testVerdict(found),
+    containingPart(found),
     !isOnTest && said.status < 2
       && h("p", {}, button("Show this in the drawing", show, { data: { key: "show test" } })),
     source(test, printedOf(said)));
 }
 
-function testVerdict({ tested: said, path, forbidden }) {
+/** Sets that contain what is marked, where that alone isn't admissible. */
+function containingPart({ ctx, containing, adjusted, tested: said, forbidden }) {
+  if (!adjusted.length || said.status !== 1 || forbidden) return null;
+  if (!containing.length) return h("p", {}, "No admissible set that contains it was found.");
+  const chip = (set) => h("button", {
+    type: "button", class: "chip", data: { key: `with ${set}` }, title: "Mark this set",
+    onclick: () => ctx.acts.setAdjusted(set), onpointerenter: () => ctx.mark(marksOf(set)), onpointerleave: () => ctx.mark(),
+    onfocus: () => ctx.mark(marksOf(set)), onblur: () => ctx.mark(),
+  }, set.join(", "));
+  return h("div", { class: "stack" },
+    h("p", {}, "With what is marked in them these are admissible, and without any one of the others they aren't (each was tested by "
+      + "the program). There may be further ones."),
+    h("div", { class: "chips", role: "group", "aria-label": "Admissible sets that contain what is marked" }, containing.map(chip)));
+}
+
+const marksOf = (set) => ({ vertices: new Map(set.map((name) => [name, "chosen"])) });
+
+function testVerdict({ tested: said, path, forbidden, isOnTheWay }) {
   if (said.status === 0) return verdict("yes", "Admissible");
   if (said.status > 1) return verdict("ask", readFault(said.err).sentence);
   return forbidden
-    ? verdict("no", "Not admissible", h("b", {}, forbidden), " is excluded by the criterion.")
+    ? verdict("no", "Not admissible", h("b", {}, forbidden), isOnTheWay
+      ? " lies on the way from the exposure to the outcome: adjusting for it takes away a part of the effect, or biases what is left."
+      : " lies behind a vertex that is on the way from the exposure to the outcome: adjusting for it biases the effect.")
     : verdict("no", "Not admissible", "This path stays open: ", h("code", {}, path));
 }
 

@@ -1,7 +1,7 @@
 import { button, h, svg } from "../dom.js";
 import { Diagram } from "../diagram/diagram.js";
 import { summary } from "../diagram/describe.js";
-import { readFault } from "../faults.js";
+import { placeName, readFault } from "../faults.js";
 import { DIAGRAM, SECOND } from "../names.js";
 import { readDifference, readGraph } from "../text/printed.js";
 import { listed, printedOf, source, verdict } from "./parts.js";
@@ -21,7 +21,7 @@ async function answer(ctx) {
   const places = second && (await placesFor(ctx, second));
   return {
     dot: "", marks: own,
-    view: () => h("div", {}, judged(said, difference), secondHead(ctx), secondText(ctx),
+    view: () => h("div", {}, judged(said, difference, memory.second), secondHead(ctx), secondText(ctx),
       second && picture(second, places, other), source(WORDS, printedOf(said))),
   };
 }
@@ -43,7 +43,7 @@ function differenceMarks({ kind, names, graph }, first, second) {
   return [first, second].map((side) => ({ vertices, edges: side === shown ? edges : [] }));
 }
 
-function judged(said, difference) {
+function judged(said, difference, second) {
   if (said.status === 0) {
     return verdict("yes", "Equivalent", "Both join the same pairs and have the same unshielded colliders (Verma and "
       + "Pearl), and so imply the same separations.");
@@ -59,7 +59,7 @@ function judged(said, difference) {
   }
   const fault = readFault(said.err), hasPlace = fault.graph && fault.detail && fault.number < FIRST_OF_TEXT;
   return verdict("ask", `${fault.second ? "Second diagram: " : ""}${fault.sentence}`,
-    ...(hasPlace ? [`At byte ${fault.detail} (fault ${fault.number}).`] : []));
+    ...(hasPlace ? [`At ${placeName(Number(fault.detail), second)}.`] : []));
 }
 
 function secondHead(ctx) {

@@ -1,9 +1,12 @@
 import { button, h, save } from "../dom.js";
 import { readFault } from "../faults.js";
-import { DIAGRAM } from "../names.js";
+import { ADJUSTED, DIAGRAM } from "../names.js";
+import { countName, tableOf } from "../statistics/table.js";
 import { headerOf, levelsOf, missingIn, readRows, tooFine } from "../text/csv.js";
-import { readCells } from "../text/printed.js";
-import { fold, printedOf, source, verdict } from "./parts.js";
+import { readCells, readSet } from "../text/printed.js";
+import { adjustedText, putAdjusted } from "./adjusted.js";
+import { contrastPart } from "./contrast.js";
+import { fold, listed, printedOf, source, verdict, withRole } from "./parts.js";
 import { dotPlot } from "./plot.js";
 
 const COUNT_NAMES = /^(count|counts|n|freq|frequency|weight)$/i;
@@ -12,11 +15,14 @@ const MOST_DIGITS = 15; // of a fraction in the table
 
 /** @param {import("./parts.js").Context} ctx */
 async function answer(ctx) {
-  const { csv } = ctx.memory;
-  if (!csv) return { dot: "", view: () => invitation(ctx) };
-  const words = wordsOf(ctx), exactWords = [...words, "--exact"];
+  const { memory } = ctx;
+  if (!memory.csv) return { dot: "", view: () => invitation(ctx) };
+  const sets = (await ctx.ask(["adjust", DIAGRAM])).out.split("\n").filter((line) => line.startsWith("{"));
+  const by = sets.includes(memory.by) ? memory.by : "";
+  if (by) putAdjusted(ctx, adjustedText(withRole(ctx, "exposure"), withRole(ctx, "outcome"), readSet(by)));
+  const words = wordsOf(ctx, by), exactWords = [...words, "--exact"];
   const [bounds, exact] = await Promise.all([ctx.ask(words), ctx.ask(exactWords)]);
-  const found = { ctx, words, exactWords, bounds, exact };
+  const found = { ctx, words, exactWords, bounds, exact, sets, by };
   if (bounds.status === 1) return { dot: "no", view: () => notIdentifiable(found) };
   if (bounds.status !== 0 && exact.status !== 0) return { dot: "no", view: () => noValue(found) };
   return { dot: "yes", view: () => values(found) };
@@ -32,7 +38,7 @@ export function countWords(ctx) {
   return memory.count ? [`--count=${memory.count}`] : [];
 }
 
-const wordsOf = (ctx) => ["evaluate", DIAGRAM, tableName(ctx.memory.csv.name), ...countWords(ctx)];
+const wordsOf = (ctx, by) => ["evaluate", by ? ADJUSTED : DIAGRAM, tableName(ctx.memory.csv.name), ...countWords(ctx)];
 
 const otherColumns = ({ memory, observed }) => headerOf(memory.csv.text).filter((c) => !observed.includes(c));
 
@@ -116,6 +122,13 @@ function tableLevels({ memory, observed }) {
   return levels;
 }
 
+/** The table's cells over the columns that are vertices. */
+export function cellsOf(ctx) {
+  tableLevels(ctx);
+  const { rows } = readTables.get(ctx.memory.csv), names = rows[0].filter((column) => ctx.observed.includes(column));
+  return tableOf(rows, names, ctx.memory.count ?? "");
+}
+
 /** The levels of the columns that are vertices, with their counts. */
 function levels(ctx) {
   const found = tableLevels(ctx), { rows } = readTables.get(ctx.memory.csv);
@@ -132,10 +145,10 @@ const notIdentifiable = ({ ctx, words, bounds }) => h("div", {}, tableRow(ctx),
   verdict("no", "Not identifiable", "The table isn't read. See Effect for the two models that differ."),
   source(words, bounds.out));
 
-function noValue({ ctx, words, bounds }) {
+function noValue({ ctx, words, bounds, sets, by }) {
   const fault = readFault(bounds.err), fine = fault.table === "evaluation" && fault.number === 1 ? tooFine(tableLevels(ctx)) : [];
   const many = fine.map(([column, count]) => `${column} has ${count} different values`).join(", ");
-  return h("div", {}, tableRow(ctx), fine.length
+  return h("div", {}, tableRow(ctx), formulaRow(ctx, sets, by), fine.length
     ? verdict("no", `Group ${fine.map(([column]) => column).join(" and ")} first`, `${many}, so most combinations have no row. `
       + "Put a few groups in their place in the table, and take it again.")
     : verdict("no", "No value", fault.sentence), source(words, printedOf(bounds)));
@@ -143,16 +156,39 @@ function noValue({ ctx, words, bounds }) {
 
 // ---- The effect
 
-function values({ ctx, words, exactWords, bounds, exact }) {
+/** The choice of the formula: the one that is found, or that of a set. */
+function formulaRow(ctx, sets, by) {
+  if (!sets.length) return null;
+  const choose = (e) => {
+    ctx.memory.by = e.target.value;
+    ctx.refresh();
+  };
+  const option = (set) => h("option", { value: set, selected: set === by }, set === "{}" ? "of adjusting for nothing" : `of adjusting for ${readSet(set).join(", ")}`);
+  return h("div", {}, h("label", { class: "count" }, "Formula ", h("select", { id: "by", data: { key: "by" }, onchange: choose },
+    h("option", { value: "" }, "as under Effect"), sets.map(option))),
+  by ? h("p", { class: "small-print" }, "Evaluated in the diagram ", h("b", {}, ADJUSTED), ", in which ", by === "{}" ? "nothing" : listed(readSet(by)),
+    " alone acts on both: there the effect is this adjustment formula. ",
+    button("Save it", () => save(ADJUSTED, ctx.memory.adjustedText, "text/plain"))) : null);
+}
+
+/** The contrast of two values of the exposure, with draws of the table. */
+function contrasts({ ctx, words }, cells) {
+  const table = cellsOf(ctx), count = countName(table.names), name = "draw.csv";
+  return contrastPart({ ctx, name, table, count, cells, words: ["evaluate", words[1], name, `--count=${count}`] });
+}
+
+function values(found) {
+  const { ctx, words, exactWords, bounds, exact, sets, by } = found;
   const isExact = exact.status === 0, best = isExact ? exact : bounds, cells = readCells(best.out);
   const pinned = [...best.out.matchAll(/^pinned (.*)$/gm)].map((m) => m[1]);
-  return h("div", {}, tableRow(ctx),
+  return h("div", {}, tableRow(ctx), formulaRow(ctx, sets, by),
     verdict("warn", "Plug-in values", "The formula's value with the table's proportions in it, without sampling error. "
       + "A small table can be far from the truth."),
     dotPlot(cells),
     pinned.length ? h("p", {}, "Pinned at its first level (in a population that fits the diagram the value doesn't "
       + "depend on it; in a sample it may): ", h("code", {}, pinned.join(", "))) : null,
     h("div", { class: "scroll" }, valuesTable(cells, isExact)),
+    contrasts(found, cells),
     source(isExact ? exactWords : words, best.out),
     isExact && bounds.status === 0 ? fold(ctx, "bounds", "Bounds of 18 digits", () => source(words, bounds.out)) : null,
     isExact ? null : h("p", {}, readFault(exact.err).sentence));

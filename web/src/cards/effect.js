@@ -1,9 +1,10 @@
-import { h } from "../dom.js";
+import { button, h } from "../dom.js";
 import { DIAGRAM } from "../names.js";
 import { listWord, readNotes } from "../text/printed.js";
 import { derivation } from "./derivation.js";
 import { hedge } from "./hedge.js";
 import { certificateRow, fold, formulaBox, isRefused, listed, refused, source, verdict, withRole } from "./parts.js";
+import { Ways } from "../ways.js";
 import { chosenSet, howToChoose } from "./sets.js";
 
 const IDENTIFY = ["identify", DIAGRAM];
@@ -11,16 +12,19 @@ const IN_LATEX = [...IDENTIFY, "--latex"];
 
 /** @param {import("./parts.js").Context} ctx */
 async function answer(ctx) {
-  const given = chosenSet(ctx, "condition", "Given", []), { names } = given;
-  const words = names.length ? [...IDENTIFY, "--given", listWord(names)] : IDENTIFY;
+  const given = chosenSet(ctx, "condition", "Given", []), { names } = given, xs = withRole(ctx, "exposure");
+  const also = chosenSet(ctx, "also set", "Also set", []), doing = [...xs, ...also.names.filter((name) => !xs.includes(name))];
+  const isDirect = doing.length > xs.length;
+  const words = [...IDENTIFY, ...(isDirect ? ["--x", listWord(doing)] : []), ...(names.length ? ["--given", listWord(names)] : [])];
+  const more = () => [directPart(ctx, also), condition(ctx, given)];
   const [said, latex] = await Promise.all([ctx.ask(words), ctx.ask([...words, "--latex"])]);
-  if (isRefused(said)) return refused(words, said, () => (names.length ? condition(ctx, given) : null));
-  if (said.status === 1) return hedge(ctx, words, said, condition(ctx, given));
+  if (isRefused(said)) return refused(words, said, () => (names.length || isDirect ? h("div", { class: "stack" }, more()) : null));
+  if (said.status === 1) return hedge(ctx, words, said, ...more());
   const tex = latex.out.trimEnd().split("\n").filter((line) => !line.startsWith("free "));
-  const isUnchanged = !names.length && (await leavesUnchanged(ctx));
+  const isUnchanged = !names.length && !isDirect && (await leavesUnchanged(ctx));
   return {
-    dot: "yes", view: () => view(ctx, words, said.out, tex, given, isUnchanged),
-    marks: names.length ? { vertices: new Map(names.map((name) => [name, "chosen"])) } : {},
+    dot: "yes", view: () => view({ ctx, words, printed: said.out, tex, given, doing, isDirect, isUnchanged, more }),
+    marks: { vertices: new Map([...names.map((name) => [name, "chosen"]), ...also.names.map((name) => [name, "from"])]) },
   };
 }
 
@@ -32,6 +36,21 @@ async function leavesUnchanged(ctx) {
   return (await ctx.ask(["rule", DIAGRAM, "--rule", "3", ...sets])).status === 0;
 }
 
+/** The choice of further variables that are set: with those on the way, what is left is a direct effect. */
+function directPart(ctx, also) {
+  const take = async () => {
+    const { memory, observed, graph } = ctx, xs = withRole(ctx, "exposure"), ys = withRole(ctx, "outcome");
+    const between = await new Ways(ctx.askAbout, graph).between(xs, ys);
+    memory.sets["also set"] = observed.filter((name) => between.includes(name));
+    ctx.refresh();
+  };
+  return fold(ctx, "direct", "A direct effect: set what is on the way too", () => h("div", { class: "stack" },
+    h("p", {}, "The effect of the exposure when these are set as well. With all that is on the way set, it is the part that goes no way "
+      + "round (the controlled direct effect)."),
+    h("div", { class: "pickers" }, also.row()),
+    h("p", {}, button("Take what is on the way", take, { data: { key: "take mediators" } })), howToChoose()));
+}
+
 /** The choice of a condition: the effect among those with the same values of some variables. */
 function condition(ctx, given) {
   return fold(ctx, "condition", "Given the values of other variables", () => h("div", { class: "stack" },
@@ -39,11 +58,11 @@ function condition(ctx, given) {
     h("div", { class: "pickers" }, given.row()), howToChoose()));
 }
 
-function view(ctx, words, printed, tex, given, isUnchanged) {
-  const xs = withRole(ctx, "exposure"), ys = withRole(ctx, "outcome"), notes = notesOn(printed, xs, ys);
+function view({ ctx, words, printed, tex, given, doing: xs, isDirect, isUnchanged, more }) {
+  const ys = withRole(ctx, "outcome"), notes = notesOn(printed, xs, ys);
   const [effect] = printed.split(" = "), among = given.names.length ? [" given ", listed(given.names)] : "";
   const claim = xs.length
-    ? ["The effect of ", listed(xs), " on ", listed(ys), among, ": ", h("code", {}, effect), " equals this formula at every "
+    ? [isDirect ? "The effect of setting " : "The effect of ", listed(xs), " on ", listed(ys), among, ": ", h("code", {}, effect), " equals this formula at every "
       + "assignment in every positive finite model that fits the diagram."]
     : ["No exposure is marked, so this is the plain distribution of ", listed(ys), among, "."];
   return h("div", {},
@@ -54,7 +73,7 @@ function view(ctx, words, printed, tex, given, isUnchanged) {
     notes.length ? h("ul", { class: "notes" }, notes) : null,
     source(words, printed),
     fold(ctx, "derivation", "Derivation in the do-calculus", () => derivation(ctx, words)),
-    condition(ctx, given),
+    ...more(),
     certificateRow(ctx, words));
 }
 

@@ -1,4 +1,5 @@
 import { h } from "../dom.js";
+import { route } from "../diagram/route.js";
 import { parse } from "../expression.js";
 import { readHedge, readSet } from "../text/printed.js";
 import { certificateRow, listed, source, verdict } from "./parts.js";
@@ -19,7 +20,7 @@ export function hedge(ctx, words, answer, ...more) {
 function view(ctx, words, printed, found, more) {
   const { asked, effect, big, small, roots } = found;
   return h("div", {},
-    verdict("no", asked ? "Not identified" : "Not identifiable", "What is observed doesn't settle ", h("code", {}, effect),
+    verdict("no", asked ? "Not identified" : "Not identifiable", plainReason(ctx.graph, found), "What is observed doesn't settle ", h("code", {}, effect),
     ": two positive finite models fit the diagram, agree on all observations, and differ on it. So no formula over what is "
       + "observed equals it in both.",
     asked ? [" For ", h("code", {}, asked), " no formula was found; more isn't claimed of it."] : ""),
@@ -31,6 +32,29 @@ function view(ctx, words, printed, found, more) {
       + "Hidden causes, each 0 or 1: ", found.causes.map(causeText), "."),
     source(words, printed),
     certificateRow(ctx, words), ...more);
+}
+
+const MOST_NAMED = 3;
+
+/** Which hidden causes the hedge rests on, by the names that the drawing has for them. */
+function plainReason(graph, { links }) {
+  if (!links.length) return null;
+  const hidden = new Set(graph.vertices.filter((v) => v.role === "latent").map((v) => v.name));
+  const named = (link) => [...new Set((route(graph, link) ?? []).flatMap((e) => [e.a, e.b]))].filter((name) => hidden.has(name));
+  const one = (link, i) => {
+    const names = named(link), ends = listed([link.a, link.b]);
+    const lead = names.length ? ["unmeasured ", listed(names)] : ["an unmeasured cause"];
+    return [i ? "; " : "", lead, names.length > 1 ? " act on both " : " acts on both ", ends];
+  };
+  const shown = links.slice(0, MOST_NAMED).map(one), left = links.length - MOST_NAMED;
+  return h("span", { class: "reason" }, capital(shown), left > 0 ? ` (and ${left} more)` : "", ", and nothing that is measured breaks ",
+    links.length > 1 ? "them. " : "it. ");
+}
+
+/** The parts of a sentence, with a capital at its beginning. */
+function capital([first, ...rest]) {
+  const [join, [head, ...more], ...end] = first;
+  return [[join, [head[0].toUpperCase() + head.slice(1), ...more], ...end], ...rest];
 }
 
 const causeText = ([number, on, zero, one], i) => [

@@ -24,6 +24,9 @@ import { readPath } from "../text/printed.js";
  * @property {any} memory what the cards keep between answers
  * @property {(words: string[]) => Promise<import("../runner.js").Answer>} ask
  * @property {(name: string, text: string) => void} put gives the program a second input
+ * @property {(text: string, words: string[]) => Promise<import("../runner.js").Answer>} askAbout asks about another text
+ * @property {(message: object) => Promise<any>} compute has the worker compute, beside the program
+ * @property {() => boolean} isShown whether no newer question came
  * @property {() => void} refresh shows the card anew, after a choice in it
  * @property {(id: string) => void} show shows another card
  * @property {(marks?: Marks) => void} mark shows something else in the drawing; nothing gives the card's own again

@@ -24,9 +24,9 @@ function neighbours(graph) {
 }
 
 /** One vertex with its mark and its edges. */
-export function describe({ name, role }, graph, mark) {
+export function describe({ name, role }, graph, mark, isSelected) {
   const { to, from, both } = neighbours(graph).get(name);
-  const head = [name, ROLE_WORDS[role], MARK_WORDS[mark]].filter(Boolean).join(", ");
+  const head = [name, ROLE_WORDS[role], MARK_WORDS[mark], isSelected && "selected"].filter(Boolean).join(", ");
   const rest = [
     to.length && `arrow to ${list(to)}`, from.length && `arrow from ${list(from)}`,
     both.length && `common hidden cause with ${list(both)}`,

@@ -16,13 +16,15 @@ import { routed } from "./route.js";
 /**
  * @typedef {object} Listeners
  * @property {() => void} [moved] a vertex was dragged to its new place
- * @property {(name: string, el: Element) => void} [vertex] one was clicked, or chosen by Enter
+ * @property {(name: string, el: Element, withShift?: boolean) => void} [vertex] one was clicked, or chosen by Enter
  * @property {(edge: Edge, at: Point) => void} [edge]
  * @property {(at: Point) => void} [empty] the ground was clicked twice
  * @property {(name: string, e: KeyboardEvent) => void} [key]
+ * @property {(name: string | null) => void} [hover] the pointer or the focus came to one, or left it
+ * @property {(names: string[]) => void} [framed] a frame was drawn round these
  */
 
-const HEADS = ["edge", "open", "hedge", "chosen", "difference", "left"];
+const HEADS = ["edge", "open", "hedge", "chosen", "difference", "left", "causal", "biasing"];
 const MOST_ANIMATED = 30;
 const FRAMES_MS = 260;
 
@@ -32,6 +34,10 @@ export class Diagram {
   /** @type {Map<string, Point>} */ places = new Map();
   /** @type {Map<string, Point>} where a movement ends */ target = this.places;
   /** @type {Marks} */ marks = {};
+  /** @type {Set<string>} chosen to be changed together */ selected = new Set();
+  /** @type {Set<string>} those that lead to the one under the pointer */ ancestors = new Set();
+  /** @type {Map<string, string>} classes of edges, by their keys */ colours = new Map();
+  /** Whether dragging the ground draws a frame. */ isFraming = false;
   #halves = new Map();
   #bends = new Map(); // by an edge's key, the control point of its curve
   #arranged = ""; // the places and widths for which the bends were chosen
@@ -49,17 +55,42 @@ export class Diagram {
     element.replaceChildren(svg("defs", {}, HEADS.map((name) => head(this.id, name))));
     this.layers = Object.fromEntries(["edges", "over", "vertices"].map((name) => [name, svg("g", { class: name })]));
     this.ghostLine = svg("path", { class: "ghost" });
-    this.view = svg("g", { class: "view" }, this.layers.edges, this.layers.over, this.ghostLine, this.layers.vertices);
+    this.frame = svg("rect", { class: "frame" });
+    this.view = svg("g", { class: "view" }, this.layers.edges, this.layers.over, this.ghostLine, this.layers.vertices, this.frame);
     element.append(this.view);
     this.#listen();
   }
 
   #listen() {
     const { element, view, on } = this;
-    this.#zoom = zoom().scaleExtent([0.15, 4]).on("zoom", () => view.setAttribute("transform", d3event.transform));
+    const isOurs = (e) => Boolean(on.framed) && (e.shiftKey || this.isFraming) && e.target === element;
+    this.#zoom = zoom().scaleExtent([0.15, 4])
+      .filter(() => !d3event.ctrlKey && !d3event.button && !(isOurs(d3event) && d3event.type !== "wheel"))
+      .on("zoom", () => view.setAttribute("transform", d3event.transform));
+    element.addEventListener("pointerdown", (e) => isOurs(e) && e.button === 0 && this.#frameFrom(e));
     select(element).call(this.#zoom).on("dblclick.zoom", null);
     element.addEventListener("dblclick", (e) => e.target === element && on.empty?.(this.#at(e)));
     element.addEventListener("pointermove", (e) => this.#ghost && this.#drawGhost(this.#at(e)));
+  }
+
+  /** Draws a frame from here until the pointer goes up, and chooses what stands in it. */
+  #frameFrom(down) {
+    const p = this.#at(down), { element } = this;
+    const sides = (e) => {
+      const q = this.#at(e);
+      return { x: Math.min(p.x, q.x), y: Math.min(p.y, q.y), width: Math.abs(p.x - q.x), height: Math.abs(p.y - q.y) };
+    };
+    const move = (e) => this.#set(this.frame, { ...sides(e), class: "frame on" });
+    const up = (e) => {
+      for (const [kind, listener] of [["pointermove", move], ["pointerup", up]]) element.removeEventListener(kind, listener);
+      this.#set(this.frame, { class: "frame" });
+      const { x, y, width, height } = sides(e), isIn = ([, v]) => v.x >= x && v.x <= x + width && v.y >= y && v.y <= y + height;
+      this.on.framed([...this.places].filter(isIn).map(([name]) => name));
+    };
+    down.preventDefault();
+    element.setPointerCapture?.(down.pointerId);
+    element.addEventListener("pointermove", move);
+    element.addEventListener("pointerup", up);
   }
 
   #drag() {
@@ -78,9 +109,14 @@ export class Diagram {
       });
   }
 
+  /** Moves a vertex, and those that are chosen with it. */
   #moveTo(name, point) {
-    this.places.set(name, point);
-    const at = (e) => e.a === name || e.b === name;
+    const from = this.places.get(name), names = this.selected.has(name) ? [...this.selected] : [name];
+    for (const other of names) {
+      const p = this.places.get(other);
+      if (p) this.places.set(other, { x: p.x + point.x - from.x, y: p.y + point.y - from.y });
+    }
+    const at = (e) => names.includes(e.a) || names.includes(e.b);
     for (const e of this.graph.edges) if (at(e)) this.#bends.delete(keyOf(e));
     this.#bendMissing();
     this.#render();
@@ -124,10 +160,27 @@ export class Diagram {
     this.#render();
   }
 
+  /** Shows something beside the marks of an answer. @param {{selected?: Set<string>, ancestors?: Set<string>, colours?: Map<string, string>}} what */
+  show(what) {
+    Object.assign(this, what);
+    this.#render();
+  }
+
+  /** An edge's curve without its ends, for files: where it begins, is drawn to, and ends. */
+  curveOf(e) {
+    return { from: this.places.get(e.a), to: this.places.get(e.b), bend: this.#bends.get(keyOf(e)) };
+  }
+
+  /** The pixels at the top and the bottom on which buttons and the legend lie. */
+  #covered() {
+    const high = (css) => this.element.parentElement?.querySelector(`:scope > ${css}`)?.offsetHeight;
+    return { top: Math.max(45, (high(".tools") ?? 0) + 20), bottom: Math.max(45, (high(".below") ?? 0) + 8) };
+  }
+
   /** The pixels that a drawing may take. */
   room() {
-    const { width, height } = this.element.getBoundingClientRect();
-    return { width: Math.max(1, width - 60), height: Math.max(1, height - 90) };
+    const { width, height } = this.element.getBoundingClientRect(), { top, bottom } = this.#covered();
+    return { width: Math.max(1, width - 60), height: Math.max(1, height - top - bottom) };
   }
 
   /** Fits the view to the drawing. */
@@ -137,7 +190,7 @@ export class Diagram {
     if (!this.target.size || !box.width) return;
     const { left, right, top, bottom } = this.bounds(this.target);
     const room = this.room(), k = Math.min(1.3, room.width / (right - left), room.height / (bottom - top));
-    const x = box.width / 2 - (k * (left + right)) / 2, y = box.height / 2 - (k * (top + bottom)) / 2;
+    const x = box.width / 2 - (k * (left + right)) / 2, y = this.#covered().top + room.height / 2 - (k * (top + bottom)) / 2;
     select(this.element).call(this.#zoom.transform, zoomIdentity.translate(x, y).scale(k));
   }
 
@@ -243,12 +296,14 @@ export class Diagram {
       seen.add(key);
       const item = getOrMake(this.#shown.edges, key, () => this.#newEdge());
       item.edge = edge;
-      const classes = ["edge", edge.both && "both", over.has(key) && "under", left && !left.has(key) && "cut"];
+      const colour = left ? "" : this.colours.get(key);
+      const classes = ["edge", edge.both && "both", colour, over.has(key) && "under", left && !left.has(key) && "cut"];
       this.#set(item.group, {
         class: classes.filter(Boolean).join(" "), "data-edge": `${edge.a}${edge.both ? "↔" : "→"}${edge.b}`,
       });
       this.#set(item.grip, { d: path });
-      this.#set(item.line, { d: path, "marker-end": end, "marker-start": edge.both ? end : null });
+      const tip = colour ? `url(#${this.id}-${colour.split(" ")[0]})` : end;
+      this.#set(item.line, { d: path, "marker-end": tip, "marker-start": edge.both ? tip : null });
       if (!item.group.parentNode) layers.edges.append(item.group);
     }
     dropOthers(this.#shown.edges, seen);
@@ -283,9 +338,12 @@ export class Diagram {
       const item = getOrMake(this.#shown.vertices, name, () => this.#newVertex(name));
       const lead = role === "exposure" || role === "outcome";
       this.#set(item.group, {
-        class: ["vertex", role, marks.vertices?.get(name), kept && !kept.has(name) && "gone"].filter(Boolean).join(" "),
+        class: [
+          "vertex", role, marks.vertices?.get(name), kept && !kept.has(name) && "gone", this.selected.has(name) && "selected",
+          this.ancestors.has(name) && "ancestor",
+        ].filter(Boolean).join(" "),
         transform: `translate(${p.x.toFixed(1)},${p.y.toFixed(1)})`,
-        "aria-label": describe(vertex, graph, marks.vertices?.get(name)),
+        "aria-label": describe(vertex, graph, marks.vertices?.get(name), this.selected.has(name)),
       });
       this.#set(item.halo, box(half, 5));
       this.#set(item.shape, box(half, 0));
@@ -306,7 +364,10 @@ export class Diagram {
       item.halo, item.shape, item.mark, item.text, shownName(name) === name ? null : svg("title", {}, name));
     const selection = select(item.group).datum(name);
     if (this.on.moved) selection.call(this.#drag());
-    selection.on("click", () => d3event.defaultPrevented || this.on.vertex?.(name, item.group));
+    selection.on("click", () => d3event.defaultPrevented || this.on.vertex?.(name, item.group, d3event.shiftKey));
+    for (const [kind, whom] of [["pointerenter", name], ["pointerleave", null], ["focus", name], ["blur", null]]) {
+      item.group.addEventListener(kind, () => this.on.hover?.(whom));
+    }
     item.group.addEventListener("keydown", (e) => {
       if (e.key !== "Enter" && e.key !== " ") return this.on.key?.(name, e);
       e.preventDefault();
@@ -340,7 +401,7 @@ const box = (half, grow) => ({
 });
 
 function head(id, name) {
-  const size = name === "edge" ? 8 : 5;
+  const size = name === "edge" ? 8 : name === "causal" || name === "biasing" ? 6 : 5;
   return svg("marker", {
     id: `${id}-${name}`, class: `head ${name}`, viewBox: "0 0 10 10", refX: 8.5, refY: 5,
     markerWidth: size, markerHeight: size, orient: "auto-start-reverse",
@@ -375,7 +436,7 @@ function putInOrder(layer, children) {
 function dropOthers(map, kept) {
   for (const [key, item] of map) {
     if (kept.has(key)) continue;
-    item.group.remove();
     map.delete(key);
+    item.group.remove(); // its focus goes, and whoever hears that may draw again
   }
 }

@@ -40,6 +40,23 @@ export class Acts {
     return !refused;
   }
 
+  /** Gives several vertices a mark. */
+  setRoles(names, role) {
+    return this.#propose(change(this.#text, new Map(names.map((name) => [name, { role }]))));
+  }
+
+  /** Takes several vertices away. */
+  removeVertices(names) {
+    let text = this.#text, graph = this.graph;
+    for (const name of names) {
+      text = removeVertex(text, graph, name);
+      graph = {
+        vertices: graph.vertices.filter((v) => v.name !== name), edges: graph.edges.filter((e) => e.a !== name && e.b !== name),
+      };
+    }
+    return this.#propose(text, graph.vertices[0]?.name);
+  }
+
   setRole(name, role) {
     return this.#propose(change(this.#text, new Map([[name, { role }]])), name);
   }
@@ -91,9 +108,13 @@ export class Acts {
     return this.#propose(this.places.write(this.#text), focus);
   }
 
+  /** Moves a vertex, and those that are chosen with it. */
   moveBy(name, dx, dy) {
-    const p = this.diagram.target.get(name);
-    this.diagram.target.set(name, { x: p.x + dx, y: p.y + dy });
+    const { target, selected } = this.diagram;
+    for (const other of selected.has(name) ? selected : [name]) {
+      const p = target.get(other);
+      target.set(other, { x: p.x + dx, y: p.y + dy });
+    }
     return this.keepPlaces(name);
   }
 

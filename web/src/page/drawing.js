@@ -13,12 +13,14 @@ const ROLES = [
 const ARROWS = { ArrowLeft: [-1, 0], ArrowRight: [1, 0], ArrowUp: [0, -1], ArrowDown: [0, 1] };
 const STEP = 10;
 const PAN = 60;
+const HOVER_MS = 350;
 
 const edgeText = (e) => `${e.a} ${e.both ? "↔" : "→"} ${e.b}`;
 
 /** What the drawing does on clicks and keys: menus, new edges, and choosing of sets. */
 export class Drawing {
   /** Where clicks choose a set: {label, toggle}. */ pick = null;
+  /** @type {import("../ways.js").Ways | null} the ways of the graph that is drawn */ ways = null;
   #drawn = null; // the edge that waits for its other end: {from, both}
 
   constructor() {
@@ -26,9 +28,75 @@ export class Drawing {
       moved: () => this.acts.keepPlaces(),
       empty: (at) => this.add(at),
       edge: (edge, at) => this.#edgeMenu(edge, at),
-      vertex: (name, el) => this.#choose(name, el),
+      vertex: (name, el, withShift) => this.#choose(name, el, withShift),
       key: (name, e) => this.#key(name, e),
+      hover: (name) => this.#hover(name),
+      framed: (names) => this.select(names),
     });
+    byId("select").onclick = () => this.#frame(!this.diagram.isFraming);
+    byId("selected").onclick = (e) => this.#selectedMenu(e.currentTarget);
+  }
+
+  // ---- Several vertices at once
+
+  /** Chooses vertices to be changed together. */
+  select(names) {
+    this.diagram.show({ selected: new Set(names) });
+    byId("selected").hidden = !names.length;
+    byId("selected").textContent = names.length === 1 ? "1 vertex …" : `${names.length} vertices …`;
+    this.sayWaiting();
+  }
+
+  #toggle(name) {
+    const { selected } = this.diagram;
+    this.select(selected.has(name) ? [...selected].filter((other) => other !== name) : [...selected, name]);
+  }
+
+  /** Whether clicks choose several vertices. */
+  #frame(isOn) {
+    this.diagram.isFraming = isOn;
+    byId("select").setAttribute("aria-pressed", String(isOn));
+    this.sayWaiting();
+  }
+
+  /** Ends the choosing of several. @returns {boolean} whether there was any */
+  endSelection() {
+    if (!this.diagram.selected.size && !this.diagram.isFraming) return false;
+    this.select([]);
+    this.#frame(false);
+    return true;
+  }
+
+  /** Drops from the choice what left the diagram. */
+  follow({ vertices }) {
+    const names = new Set(vertices.map((v) => v.name)), { selected } = this.diagram, left = [...selected].filter((name) => names.has(name));
+    if (left.length < selected.size) this.select(left);
+  }
+
+  #selectedMenu(el) {
+    const { acts } = this, names = [...this.diagram.selected], box = el.getBoundingClientRect();
+    openMenu({ x: box.left, y: box.bottom + 6 }, names.join(", "), [
+      ...ROLES.map(({ role, text, key }) => ({ text, key, act: () => acts.setRoles(names, role), cls: `role ${role ?? "plain"}` })),
+      { text: "Delete", key: "Delete", act: () => acts.removeVertices(names), cls: "first" },
+      { text: "Choose none", act: () => this.endSelection() },
+    ], el);
+  }
+
+  // ---- Ancestors
+
+  #waiting;
+
+  /** Shows what leads to the vertex under the pointer, which the program tells. */
+  #hover(name) {
+    clearTimeout(this.#waiting);
+    if (this.diagram.ancestors.size) queueMicrotask(() => this.diagram.show({ ancestors: new Set() }));
+    if (name && this.ways) this.#waiting = setTimeout(() => this.#showAncestors(name), HOVER_MS);
+  }
+
+  async #showAncestors(name) {
+    const ways = this.ways, mine = this.#waiting, found = await ways.before([name]);
+    found.delete(name);
+    if (this.ways === ways && this.#waiting === mine && found.size) this.diagram.show({ ancestors: found });
   }
 
   /** @param {import("./acts.js").Acts} acts */
@@ -42,7 +110,8 @@ export class Drawing {
     if (name && el.classList.contains("vertex")) this.#askName(name, el);
   }
 
-  #choose(name, el) {
+  #choose(name, el, withShift) {
+    if (!this.pick && !this.#drawn && (withShift || this.diagram.isFraming)) return this.#toggle(name);
     if (this.pick && this.acts.role(name) === "latent") return toast(`${name} is hidden; choose observed vertices.`);
     if (this.pick) return this.pick.toggle(name);
     if (!this.#drawn) return this.#vertexMenu(name, el);
@@ -74,7 +143,8 @@ export class Drawing {
     else if (this.pick) hint(`Choose vertices: ${this.pick.label} (Esc ends this)`);
     else if (document.body.classList.contains("faulty")) {
       hint("The drawing and the answers are those of the last text without a fault");
-    } else hint("");
+    } else if (this.diagram.isFraming) hint("Click vertices, or drag a frame round them (Esc ends this)");
+    else hint("");
   }
 
   #vertexMenu(name, el) {
@@ -116,13 +186,15 @@ export class Drawing {
   #key(name, e) {
     if (e.ctrlKey || e.metaKey || e.altKey) return;
     const { acts } = this, el = e.currentTarget, role = ROLES.find(({ key }) => key === e.key), arrow = ARROWS[e.key];
-    if (role) acts.setRole(name, role.role);
+    const { selected } = this.diagram, isOne = !selected.has(name) || selected.size < 2;
+    if (role) isOne ? acts.setRole(name, role.role) : acts.setRoles([...selected], role.role);
+    else if (e.key === "s") this.#toggle(name);
     else if (e.key === "c" || e.key === "b") this.#startEdge(name, e.key === "b");
     else if (e.key === "r") {
       e.preventDefault();
       this.#askName(name, el);
     } else if (e.key === "x") this.#edgesMenu(name, el);
-    else if (e.key === "Delete" || e.key === "Backspace") acts.removeVertex(name);
+    else if (e.key === "Delete" || e.key === "Backspace") isOne ? acts.removeVertex(name) : acts.removeVertices([...selected]);
     else if (e.key === "n") this.add();
     else if (e.key === "f") this.diagram.fit();
     else if (e.key === "+" || e.key === "-") this.diagram.zoomBy(e.key === "+" ? 1.3 : 1 / 1.3);

@@ -6,8 +6,10 @@
 import { ROLES } from "./printed.js";
 import { bare, survey } from "./tokens.js";
 
-const nameText = (name) =>
-  /^[^\s{}[\]";=,<>\-@]+$/.test(name) && !/^(\/\/|\/\*|#)/.test(name) ? name : `"${name}"`;
+/** How a name may not begin without quotes: as a comment, or as an arrow of Unicode. */
+const ODD_FRONT = /^(\/\/|\/\*|#|[\u2190-\u21ff\u27f0-\u27ff\u2900-\u297f])/;
+
+const nameText = (name) => (/^[^\s{}[\]";=,<>\-@]+$/.test(name) && !ODD_FRONT.test(name) ? name : `"${name}"`);
 
 const edgeText = ({ a, b, both }) => `${nameText(a)} ${both ? "<->" : "->"} ${nameText(b)}`;
 

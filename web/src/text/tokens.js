@@ -36,6 +36,7 @@ class Surveyor {
   /** @type {VertexStatement[]} */ vertices = [];
   /** @type {EdgeStatement[]} */ edges = [];
   /** @type {Token[]} */ names = [];
+  /** Statements such as bb="0,0,1,1", which say nothing of the graph. @type {{name: string, value: string}[]} */ dropped = [];
   #at;
 
   constructor(text) {
@@ -50,7 +51,10 @@ class Surveyor {
   #statement() {
     const first = this.list[this.#at], next = this.list[this.#at + 1];
     if (first.text === ";") this.#at++;
-    else if (next?.text === "=") this.#at += 3;
+    else if (next?.text === "=") {
+      this.dropped.push({ name: bare(first.text), value: this.list[this.#at + 2]?.text ?? "" });
+      this.#at += 3;
+    }
     else if (!isMark(first) && !isEdgeMark(next)) {
       this.names.push(first);
       this.#at++;

@@ -1,0 +1,40 @@
+// Admissible sets that contain given vertices, found by the program's test alone: a set that is large enough loses vertices one by
+// one, as long as the test says that it stays admissible.
+import { DIAGRAM } from "../names.js";
+import { listWord } from "../text/printed.js";
+import { Ways } from "../ways.js";
+import { withRole } from "./parts.js";
+
+const MOST_ORDERS = 8;
+
+/** Admissible sets that contain these vertices, and from which no other vertex can be left out. @returns {Promise<string[][]>} */
+export async function setsWith(ctx, wanted) {
+  const xs = withRole(ctx, "exposure"), ys = withRole(ctx, "outcome"), test = (set) => isAdmissible(ctx, set);
+  const before = await new Ways(ctx.askAbout, ctx.graph).before([...xs, ...ys, ...wanted]);
+  const others = ctx.observed.filter((name) => before.has(name) && ![...xs, ...ys, ...wanted].includes(name));
+  const allowed = [];
+  for (const name of others) if (!(await isForbidden(ctx, name))) allowed.push(name);
+  if (!(await test([...wanted, ...allowed]))) return [];
+  const found = new Map();
+  for (let i = 0; i < Math.min(MOST_ORDERS, Math.max(1, allowed.length)); i++) {
+    let kept = [...allowed.slice(i), ...allowed.slice(0, i)];
+    for (const name of [...kept]) {
+      const less = kept.filter((other) => other !== name);
+      if (await test([...wanted, ...less])) kept = less;
+    }
+    const set = ctx.observed.filter((name) => wanted.includes(name) || kept.includes(name));
+    found.set(set.join("\n"), set);
+  }
+  return [...found.values()];
+}
+
+const words = (set) => ["adjust", DIAGRAM, "--set", listWord(set)];
+
+async function isAdmissible(ctx, set) {
+  return (await ctx.ask(words(set))).status === 0;
+}
+
+/** Whether the criterion excludes a vertex from every set. */
+async function isForbidden(ctx, name) {
+  return /^forbidden: /m.test((await ctx.ask(words([name]))).out);
+}

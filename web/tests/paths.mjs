@@ -1,0 +1,90 @@
+// Random small diagrams: the ways and the paths that the page colours by the program's answers, beside all paths one by one.
+//   node paths.mjs MODULE.wasm [GRAPHS]
+import { readFileSync } from "node:fs";
+import { keyOf } from "../src/diagram/geometry.js";
+import { load } from "../src/causal.mjs";
+import { DIAGRAM } from "../src/names.js";
+import { pathClasses } from "../src/paths.js";
+import { Ways } from "../src/ways.js";
+
+const causal = await load(readFileSync(process.argv[2]));
+const GRAPHS = Number(process.argv[3] ?? 300);
+const ask = async (text, words) => causal.run(words, { [DIAGRAM]: text });
+
+let seed = 5;
+const random = (n) => (seed = (seed * 1103515245 + 12345) % 2147483648) % n;
+
+function randomGraph() {
+  const names = ["A", "B", "C", "D", "E", "F"].slice(0, 4 + random(3)), roles = ["exposure", "outcome", "adjusted", "latent", null, null];
+  const edges = names.flatMap((a, i) => names.slice(i + 1).flatMap((b) => [0, 1, 2].filter(() => !random(5)).slice(0, 1).map((k) => ({ a, b, both: k === 2 }))));
+  const order = names.map((_, i) => i).sort(() => random(3) - 1);
+  return { vertices: names.map((name, i) => ({ name, role: roles[order[i]] ?? null })), edges };
+}
+
+/** The names that a directed way leads to, themselves included. */
+function behind({ edges }, names) {
+  const found = new Set(names);
+  for (let grew = true; grew; ) {
+    const more = edges.filter((e) => !e.both && found.has(e.a) && !found.has(e.b));
+    for (const e of more) found.add(e.b);
+    grew = more.length > 0;
+  }
+  return found;
+}
+
+/** All paths from x to y, as lists of edges. */
+function pathsOf(graph, x, y) {
+  const found = [];
+  const walk = (at, seen, path) => {
+    if (at === y) return found.push(path);
+    for (const e of graph.edges) {
+      const to = e.a === at ? e.b : e.b === at ? e.a : null;
+      if (to && !seen.includes(to)) walk(to, [...seen, to], [...path, { e, from: at, to }]);
+    }
+  };
+  walk(x, [x], []);
+  return found;
+}
+
+const pointsAt = ({ e }, name) => e.both || e.b === name;
+
+/** Whether a path is open given a set: each collider has a vertex of the set behind it, and no other vertex is in the set. */
+const isOpen = (graph, path, set) => path.slice(1).every((step, i) => {
+  const name = step.from, isCollider = pointsAt(path[i], name) && pointsAt(step, name);
+  return isCollider ? [...behind(graph, [name])].some((n) => set.includes(n)) : !set.includes(name);
+});
+
+function expected(graph) {
+  const marked = (role) => graph.vertices.filter((v) => v.role === role).map((v) => v.name), [xs, ys, set] = ["exposure", "outcome", "adjusted"].map(marked);
+  const classes = new Map();
+  if (!xs.length || !ys.length) return classes;
+  const all = (g) => xs.flatMap((x) => ys.flatMap((y) => pathsOf(g, x, y)));
+  const directed = all(graph).filter((path) => path.every(({ e, from }) => !e.both && e.a === from));
+  const firsts = new Set(directed.map((path) => path[0].e)), rest = { ...graph, edges: graph.edges.filter((e) => !firsts.has(e)) };
+  const put = (paths, cls) => paths.flat().forEach(({ e }) => classes.set(keyOf(e), cls));
+  put(directed, "causal blocked");
+  put(all(rest).filter((path) => isOpen(rest, path, [])), "biasing blocked");
+  put(directed.filter((path) => path.every(({ from, to }) => !set.includes(from) && !set.includes(to))), "causal");
+  put(all(rest).filter((path) => isOpen(rest, path, set)), "biasing");
+  return classes;
+}
+
+const listed = (classes) => JSON.stringify([...classes].sort());
+let wrong = 0, edges = 0, compared = 0;
+for (let k = 0; k < GRAPHS; k++) {
+  const graph = randomGraph(), { classes, isAll } = await pathClasses(ask, graph), wanted = expected(graph);
+  edges += wanted.size;
+  if (isAll) compared++;
+  if (isAll && listed(classes) !== listed(wanted)) {
+    wrong++;
+    console.log(`differs: ${JSON.stringify(graph)}: ${listed(classes)}, wanted ${listed(wanted)}`);
+  }
+  if ([...classes.keys()].some((key) => !wanted.has(key))) wrong++;
+  const ways = new Ways(ask, graph), [{ name }] = graph.vertices, found = [...(await ways.behind([name]))].sort().join();
+  if (found !== [...behind(graph, [name])].sort().join()) {
+    wrong++;
+    console.log(`differs: behind ${name} in ${JSON.stringify(graph)}: ${found}`);
+  }
+}
+console.log(`${edges} edges on paths of ${GRAPHS} random diagrams (${compared} with all paths), ${wrong} wrong`);
+process.exit(wrong ? 1 : 0);
