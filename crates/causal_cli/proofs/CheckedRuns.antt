@@ -21,14 +21,14 @@ on_yes r uses text whole (on_file q is file names h) = record {
   request = q;
   text = text;
   asks = is;
-  right = under_name r.held q.file file (λ bytes. HoldsAnswer commands (of Check q) bytes Yes text) (λ bytes. IfSome (r.held q.certificate) (λ other. IsRightCertificate bytes other text)) (λ bytes a. absurd a.answer) names h;
+  right = under_name r.held q.file file (λ bytes. HoldsAnswer commands (of Check q) bytes Yes text) (λ bytes. IfSome (r.held q.certificate) (λ other. IsRightCertificate q.experiments bytes other text)) (λ bytes a. absurd a.answer) names h;
   whole = whole;
 }
 on_yes r uses text whole (on_both q is file second names names_second h) = record {
   request = q;
   text = text;
   asks = is;
-  right = under_names r.held q.file file q.certificate second (λ bytes other. DefinedWith commands (of Check q) bytes other Yes text) (λ bytes other. IsRightCertificate bytes other text)
+  right = under_names r.held q.file file q.certificate second (λ bytes other. DefinedWith commands (of Check q) bytes other Yes text) (λ bytes other. IsRightCertificate q.experiments bytes other text)
       (λ bytes other d. record { graph = d.0; holds = d.1; accepted = d.3 }) names names_second h;
   whole = whole;
 }

@@ -31,7 +31,7 @@ use Rattle.effect_answers.specs.Effects.{effect_lists}
 use Rattle.identify_command.specs.declared.form.Form.{Form}
 use Rattle.identify_command.specs.Answers.{formula_text, IdentifyAnswer}
 use Rattle.identify_command.specs.Conditions.{target_lists, AreTargetSets, IdentifyAnswerGiven}
-use Rattle.check_command.specs.Answers.{IsRead, CheckAnswer, of_formula, of_hedge}
+use Rattle.check_command.specs.Answers.{IsRead, ObservedAnswer, of_formula, of_hedge}
 use Rattle.adjust_command.specs.Answers.{AdjustAnswer, SetsAnswer}
 use Rattle.adjust_command.specs.Queries.{Query, by_set, by_back_door, listing}
 use Rattle.adjust_command.specs.Requests.{Request as AdjustRequest}
@@ -116,22 +116,23 @@ pub same_read : (r : Result PlainCertificate CertFault) (a b : PlainCertificate)
 same_read r a b p q = let e : Ok a ≡ Ok b = sym p ∙ q in cc
 
 -- an accepted certificate of a formula is right in the diagram as drawn
-certificate_as_drawn : (g : ReadGraph) (other text : List ℕ) → CheckAnswer g other Yes text
+certificate_as_drawn : (g : ReadGraph) (zs other text : List ℕ) → ObservedAnswer g zs other Yes text
     → (t : PlainTarget) (f : PlainFormula) (d : PlainDerivation) → IsRead (observed_names g) other (certificates.formula t f d) → IsRightAsDrawn g t f
-certificate_as_drawn g other text (q, observed, of_formula u h e read answer) t f d is =
+certificate_as_drawn g zs other text (q, observed, of_formula u h e read answer) t f d is =
     let same = same_read _ (certificates.formula u h e) (certificates.formula t f d) read.reads is.reads in
     let right = drawn g q observed u h answer.effect in
     subst (λ x. IsRightAsDrawn g x f) (same_target u t h f e d same) (subst (λ x. IsRightAsDrawn g u x) (same_formula u t h f e d same) right)
-certificate_as_drawn g other text (q, observed, of_hedge u h entries read answer) t f d is =
+certificate_as_drawn g zs other text (q, observed, of_hedge u h entries read answer) t f d is =
     let same = same_read _ (certificates.hedge u (certificates.hedge_view h)) (certificates.formula t f d) read.reads is.reads in absurd (cc same)
 
 checked : (r : Run) (uses : List Use) → Checked r uses → CheckedAsDrawn r uses
 checked r uses h = record {
   request = h.request;
   asks = h.asks;
-  right = mapped (r.held h.request.file) (λ bytes. IfSome (r.held h.request.certificate) (λ other. IsRightCertificate bytes other h.text)) (λ bytes. IfSome (r.held h.request.certificate) (λ other. IsCertificateAsDrawn bytes other))
-      (λ bytes a. mapped (r.held h.request.certificate) (λ other. IsRightCertificate bytes other h.text) (λ other. IsCertificateAsDrawn bytes other)
-      (λ other b. record { graph = b.graph; holds = b.holds; right = certificate_as_drawn b.graph other h.text b.accepted }) a) h.right;
+  right = mapped (r.held h.request.file) (λ bytes. IfSome (r.held h.request.certificate) (λ other. IsRightCertificate h.request.experiments bytes other h.text))
+      (λ bytes. IfSome (r.held h.request.certificate) (λ other. IsCertificateAsDrawn bytes other))
+      (λ bytes a. mapped (r.held h.request.certificate) (λ other. IsRightCertificate h.request.experiments bytes other h.text) (λ other. IsCertificateAsDrawn bytes other)
+      (λ other b. record { graph = b.graph; holds = b.holds; right = certificate_as_drawn b.graph b.accepted.sets other h.text b.accepted.answer }) a) h.right;
 }
 
 -- ---- adjust
@@ -155,7 +156,7 @@ adjusted r uses text = written_for r Adjust uses Yes text (λ q. q.file) IsAdjus
 
 -- ---- surrogate
 
-surrogated_on : (q : SurrogateRequest) (bytes text : List ℕ) (g : ReadGraph) → HoldsGraph bytes g → SurrogateAnswer g q.x q.y q.experiments q.models Yes text → IsSurrogateAsDrawn q bytes text
+surrogated_on : (q : SurrogateRequest) (bytes text : List ℕ) (g : ReadGraph) → HoldsGraph bytes g → SurrogateAnswer q.form g q.x q.y q.experiments Yes text → IsSurrogateAsDrawn q bytes text
 surrogated_on q bytes text g holds (p, observed, h) = record {
   graph = g;
   holds = holds;
@@ -164,6 +165,7 @@ surrogated_on q bytes text g holds (p, observed, h) = record {
   experiments = h.experiments;
   sets = h.sets;
   formula = h.answer.formula;
+  derivation = h.answer.derivation;
   right = drawn g p observed (effect_on h.x h.y) h.answer.formula h.answer.right.effect;
   prints = h.answer.prints;
 }

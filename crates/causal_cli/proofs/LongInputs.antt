@@ -7,6 +7,7 @@ use Rattle.replies.specs.declared.outcome.Outcome.TheVariants.{Yes, No, Second, 
 use Rattle.targets.specs.declared.query.Sets.{Sets}
 use Rattle.count_rows.specs.Records.{Field}
 use Rattle.count_answers.specs.Reads.{AreRefusedCounts, too_long, faulty}
+use Rattle.experiment_lists.specs.Words.{Lists}
 use Rattle.check_command.specs.Answers as check
 use Rattle.evaluate_command.specs.Answers as evaluate
 use Rattle.evaluate_command.specs.Effects.{PlainEffect}
@@ -27,23 +28,27 @@ refused_counts names used count a b line la lb (faulty fault short p q e) = no_m
 
 -- ---- check
 
-certificate_short : (q : MixedGraph) (names : List (List ℕ)) (bytes : List ℕ) (o : Outcome) (text : List ℕ) → check.CertificateAnswer q names bytes o text → length bytes ≤ 67108864
-certificate_short q names bytes o text (check.of_formula t f d read answer) = read.small
-certificate_short q names bytes o text (check.of_hedge t h entries read answer) = read.small
+certificate_short : (q : MixedGraph) (names : List (List ℕ)) (zs bytes : List ℕ) (o : Outcome) (text : List ℕ) → check.CertificateAnswer q names zs bytes o text → length bytes ≤ 67108864
+certificate_short q names zs bytes o text (check.of_formula t f d read answer) = read.small
+certificate_short q names zs bytes o text (check.of_hedge t h entries read answer) = read.small
 
-observed_short : (g : ReadGraph) (bytes : List ℕ) (o : Outcome) (text : List ℕ) → check.ObservedAnswer g bytes o text → length bytes ≤ 67108864
-observed_short g bytes o text h = certificate_short _ _ bytes o text h.2
+observed_short : (g : ReadGraph) (zs bytes : List ℕ) (o : Outcome) (text : List ℕ) → check.ObservedAnswer g zs bytes o text → length bytes ≤ 67108864
+observed_short g zs bytes o text h = certificate_short _ _ zs bytes o text h.2
 
 refused_certificate : (names : List (List ℕ)) (a b line : List ℕ) → 67108864 < length a → 67108864 < length b
     → check.IsCertificateRefusal names a line → check.IsCertificateRefusal names b line
 refused_certificate names a b line la lb (check.too_long l e) = check.too_long lb e
 refused_certificate names a b line la lb (check.faulty fault short p q e) = no_more 67108864 a la short
 
-pub check_long : (g : ReadGraph) (a b : List ℕ) → 67108864 < length a → 67108864 < length b → (o : Outcome) (text : List ℕ) → check.CheckAnswer g a o text → check.CheckAnswer g b o text
-check_long g a b la lb Yes text h = no_more 67108864 a la (observed_short g a Yes text h)
-check_long g a b la lb No text h = no_more 67108864 a la (observed_short g a No text h)
-check_long g a b la lb Second text h = refused_certificate _ a b text la lb h
-check_long g a b la lb o text h = absurd h
+over_long : (g : ReadGraph) (zs a b : List ℕ) → 67108864 < length a → 67108864 < length b → (o : Outcome) (text : List ℕ) → check.AnswerOver g zs a o text → check.AnswerOver g zs b o text
+over_long g zs a b la lb Yes text h = no_more 67108864 a la (observed_short g zs a Yes text h)
+over_long g zs a b la lb No text h = no_more 67108864 a la (observed_short g zs a No text h)
+over_long g zs a b la lb Second text h = refused_certificate _ a b text la lb h
+over_long g zs a b la lb o text h = absurd h
+
+pub check_long : (g : ReadGraph) (experiments : Lists) (a b : List ℕ) → 67108864 < length a → 67108864 < length b → (o : Outcome) (text : List ℕ)
+    → check.CheckAnswer g experiments a o text → check.CheckAnswer g experiments b o text
+check_long g experiments a b la lb o text h = record { sets = h.sets; are = h.are; answer = over_long g h.sets a b la lb o text h.answer }
 
 -- ---- evaluate
 

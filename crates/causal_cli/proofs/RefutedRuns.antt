@@ -1,6 +1,6 @@
 -- From the end of a run to what it refutes in the diagram as drawn.
-use Rattle.std.proofs.Common.{◌≡◌, ℕ, List, [], ◌∷◌, Option, Some, None, refl, subst, arith}
-use Rattle.std.specs.Prelude.{IfSome}
+use Rattle.std.proofs.Common.{◌≡◌, ℕ, List, [], ◌∷◌, Option, Some, None, refl, sym, subst, arith}
+use Rattle.std.specs.Prelude.{IsSome, IfSome}
 use Rattle.std.specs.Io.KnownBytes.{Appends}
 use Rattle.mixed_graph.specs.Bits.{has}
 use Rattle.mixed_graph.specs.Graphs.{MixedGraph}
@@ -9,13 +9,14 @@ use Rattle.finite_models.specs.Data.{meaning}
 use Rattle.do_rules.specs.Rules.{left_of, right_of}
 use Rattle.word_forms.specs.Form.{Use}
 use Rattle.prob_expr.specs.Differences.{DifferOnTarget}
+use Rattle.prob_expr.specs.Experiments.{AgreeUnderAll}
 use Rattle.prob_expr.specs.Tree.{PlainTarget}
 use Rattle.counter_models.specs.Events.{AreCounterModels}
 use Rattle.counter_models.specs.declared.counter_pair.CounterPair.{CounterPair}
 use Rattle.counter_models.proofs.Excluded.{differ_on}
 use Rattle.dag_reader.specs.declared.graph.ReadGraph.{ReadGraph}
 use Rattle.certificate.specs.Plain as certificates
-use Rattle.hidden_theory.proofs.Drawing.{difference_is_drawn, formula_as_drawn_fixes}
+use Rattle.hidden_theory.proofs.Drawing.{difference_is_drawn, difference_over_is_drawn, formula_as_drawn_fixes}
 use Rattle.hidden_theory.proofs.Statements.{dependence_is_drawn, failure_is_drawn}
 use Rattle.id_recursion.specs.Answers.{effect_on}
 use Rattle.replies.proofs.OneGraph.{observed_is_mixed}
@@ -28,7 +29,14 @@ use Rattle.identify_command.specs.declared.form.Form.{Form}
 use Rattle.identify_command.specs.Answers.{ShowsHedge, IdentifyAnswer}
 use Rattle.identify_command.specs.Conditions.{IdentifyAnswerGiven}
 use Rattle.identify_command.specs.Requests.{IsRequest}
-use Rattle.check_command.specs.Answers.{IsRead, CheckAnswer, of_formula, of_hedge}
+use Rattle.check_command.specs.Answers.{IsRead, ObservedAnswer, of_formula, of_hedge}
+use Rattle.experiment_lists.specs.Words.{Lists}
+use Rattle.experiment_lists.proofs.OneSet.{one_by_one}
+use Rattle.surrogates.specs.Answers.{IsRightBlock}
+use Rattle.surrogates.specs.declared.answer.CommonHedge.{CommonHedge}
+use Rattle.surrogate_command.specs.Answers.{SurrogateAnswer}
+use Rattle.surrogate_command.specs.Requests.{Request as SurrogateRequest}
+use Rattle.surrogate_command.specs.Requests as surrogate_requests
 use Rattle.evaluate_command.specs.Answers.{EvaluateFirst}
 use Rattle.separate_command.specs.Answers.{SeparateAnswer}
 use Rattle.separate_command.specs.Requests.{Request as SeparateRequest}
@@ -41,9 +49,9 @@ use Rattle.command_run.specs.Answers.{HoldsAnswer, DefinedWith}
 use Rattle.command_run.specs.Commands.{of}
 use Rattle.command_run.specs.Run.{Run, Ends}
 use Rattle.causal_cli.specs.Commands.{commands}
-use Rattle.causal_cli.specs.declared.commands.Command.TheVariants.{Identify, Evaluate, Separate, Rule}
+use Rattle.causal_cli.specs.declared.commands.Command.TheVariants.{Identify, Evaluate, Surrogate, Separate, Rule}
 use Rattle.causal_cli.specs.Headline.{WrittenFor, IsRightCertificate, Checked, HeadlineOfCheck}
-use Rattle.causal_cli.specs.Refuted.{IsNotIdentifiable, IsHedgeAsDrawn, IsUnidentifiedAsDrawn, UnevaluatedAsDrawn, IsHedgeCertificateAsDrawn, CheckedHedgeAsDrawn, IsDependenceAsDrawn}
+use Rattle.causal_cli.specs.Refuted.{IsNotIdentifiable, IsNotIdentifiableOver, IsStopAsDrawn, IsHedgeAsDrawn, IsUnidentifiedAsDrawn, UnevaluatedAsDrawn, IsHedgeCertificateAsDrawn, CheckedHedgeAsDrawn, IsDependenceAsDrawn}
 use Rattle.causal_cli.specs.Refuted.{IsFailureAsDrawn, RefutedAsDrawn}
 use Rattle.causal_cli.proofs.CallAnswers.{CallAnswer, on_words, on_file, on_both, call_answer, under_name, under_names, written_for}
 use Rattle.causal_cli.proofs.DrawnRuns.{same_read, same_hedge_target}
@@ -59,6 +67,14 @@ not_identifiable g q observed x y pair m t differ =
 effect_lost : (g : ReadGraph) (q : MixedGraph) → IsObservedGraph g q → (x y : ℕ) (pair : CounterPair) → AreCounterModels q x y pair → IsNotIdentifiable g (effect_on x y)
 effect_lost g q observed x y pair m =
     not_identifiable g q observed x y pair m (effect_on x y) (differ_on q (observed_is_mixed g q observed) x y pair m)
+
+-- where they agree under experiments too, it isn't identifiable by these either
+effect_lost_over : (g : ReadGraph) (q : MixedGraph) → IsObservedGraph g q → (x y : ℕ) (pair : CounterPair) → AreCounterModels q x y pair
+    → (zs : List ℕ) → AgreeUnderAll zs (meaning q pair.first) (meaning q pair.second) → IsNotIdentifiableOver g zs (effect_on x y)
+effect_lost_over g q observed x y pair m zs under =
+    difference_over_is_drawn (graph_of g.graph) g.graph.valid (has g.latent.bits) q observed (meaning q pair.first) (meaning q pair.second)
+    m.first.fits m.second.fits m.two.0 m.two.1 m.first.positive m.second.positive m.observed zs under (effect_on x y)
+    (differ_on q (observed_is_mixed g q observed) x y pair m)
 
 -- ---- identify and evaluate
 
@@ -134,23 +150,71 @@ evaluated r uses text whole (on_both q is file second names names_second h) = re
 -- ---- check
 
 -- an accepted certificate of a hedge says so of its effect
-hedge_as_drawn : (g : ReadGraph) (other text : List ℕ) → CheckAnswer g other Yes text
+hedge_as_drawn : (g : ReadGraph) (zs other text : List ℕ) → ObservedAnswer g zs other Yes text
     → (t : PlainTarget) (h : certificates.PlainHedge) → IsRead (observed_names g) other (certificates.hedge t h) → IsNotIdentifiable g (effect_on t.x t.y)
-hedge_as_drawn g other text (q, observed, of_formula u f d read answer) t h is =
+hedge_as_drawn g zs other text (q, observed, of_formula u f d read answer) t h is =
     let same = same_read _ (certificates.formula u f d) (certificates.hedge t h) read.reads is.reads in absurd (cc same)
-hedge_as_drawn g other text (q, observed, of_hedge u k entries read answer) t h is =
+hedge_as_drawn g zs other text (q, observed, of_hedge u k entries read answer) t h is =
     let same = same_read _ (certificates.hedge u (certificates.hedge_view k)) (certificates.hedge t h) read.reads is.reads in
     subst (λ x. IsNotIdentifiable g (effect_on x.x x.y)) (same_hedge_target u t (certificates.hedge_view k) h same) (effect_lost g q observed u.x u.y answer.pair answer.models)
+
+-- and of the experiments with which it was accepted
+hedge_over_as_drawn : (g : ReadGraph) (zs other text : List ℕ) → ObservedAnswer g zs other Yes text
+    → (t : PlainTarget) (h : certificates.PlainHedge) → IsRead (observed_names g) other (certificates.hedge t h) → IsNotIdentifiableOver g zs (effect_on t.x t.y)
+hedge_over_as_drawn g zs other text (q, observed, of_formula u f d read answer) t h is =
+    let same = same_read _ (certificates.formula u f d) (certificates.hedge t h) read.reads is.reads in absurd (cc same)
+hedge_over_as_drawn g zs other text (q, observed, of_hedge u k entries read answer) t h is =
+    let same = same_read _ (certificates.hedge u (certificates.hedge_view k)) (certificates.hedge t h) read.reads is.reads in
+    subst (λ x. IsNotIdentifiableOver g zs (effect_on x.x x.y)) (same_hedge_target u t (certificates.hedge_view k) h same)
+    (effect_lost_over g q observed u.x u.y answer.pair answer.models zs answer.under)
+
+certificate_refutes : (experiments : Lists) (bytes other text : List ℕ) → IsRightCertificate experiments bytes other text → IsHedgeCertificateAsDrawn experiments bytes other
+certificate_refutes experiments bytes other text b =
+    let a = b.accepted in record {
+      graph = b.graph;
+      holds = b.holds;
+      not_identifiable = hedge_as_drawn b.graph a.sets other text a.answer;
+      not_identifiable_over = λ t h is zs are. subst (λ (ws : List ℕ). IsNotIdentifiableOver b.graph ws (effect_on t.x t.y))
+          (sym (one_by_one (observed_names b.graph) experiments a.sets zs a.are.sets are.sets)) (hedge_over_as_drawn b.graph a.sets other text a.answer t h is);
+    }
 
 checked : (r : Run) (uses : List Use) → Checked r uses → CheckedHedgeAsDrawn r uses
 checked r uses h = record {
   request = h.request;
   asks = h.asks;
-  right = mapped (r.held h.request.file) (λ bytes. IfSome (r.held h.request.certificate) (λ other. IsRightCertificate bytes other h.text))
-      (λ bytes. IfSome (r.held h.request.certificate) (λ other. IsHedgeCertificateAsDrawn bytes other))
-      (λ bytes a. mapped (r.held h.request.certificate) (λ other. IsRightCertificate bytes other h.text) (λ other. IsHedgeCertificateAsDrawn bytes other)
-      (λ other b. record { graph = b.graph; holds = b.holds; not_identifiable = hedge_as_drawn b.graph other h.text b.accepted }) a) h.right;
+  right = mapped (r.held h.request.file) (λ bytes. IfSome (r.held h.request.certificate) (λ other. IsRightCertificate h.request.experiments bytes other h.text))
+      (λ bytes. IfSome (r.held h.request.certificate) (λ other. IsHedgeCertificateAsDrawn h.request.experiments bytes other))
+      (λ bytes a. mapped (r.held h.request.certificate) (λ other. IsRightCertificate h.request.experiments bytes other h.text)
+      (λ other. IsHedgeCertificateAsDrawn h.request.experiments bytes other)
+      (λ other b. certificate_refutes h.request.experiments bytes other h.text b) a) h.right;
 }
+
+-- ---- surrogate
+
+common_lost : (g : ReadGraph) (q : MixedGraph) → IsObservedGraph g q → (zs : List ℕ) (x y : ℕ) (common : Option CommonHedge)
+    → IfSome common (λ k. IsRightBlock q zs x y k.hedge k.pair) → IsSome common → IsNotIdentifiableOver g zs (effect_on x y)
+common_lost g q observed zs x y None right some = absurd (cc some)
+common_lost g q observed zs x y (Some k) right some = effect_lost_over g q observed x y k.pair right.hedge.counter zs right.under
+
+surrogated_on : (q : SurrogateRequest) (bytes text : List ℕ) (g : ReadGraph) → HoldsGraph bytes g → SurrogateAnswer q.form g q.x q.y q.experiments No text → IsStopAsDrawn q bytes text
+surrogated_on q bytes text g holds (p, observed, h) = record {
+  graph = g;
+  holds = holds;
+  seen = p;
+  observed = observed;
+  x = h.x;
+  y = h.y;
+  experiments = h.experiments;
+  sets = h.sets;
+  shows = h.answer;
+  not_identifiable = effect_lost g p observed h.x h.y h.answer.pair h.answer.right.counter;
+  not_identifiable_over = common_lost g p observed h.experiments h.x h.y h.answer.common h.answer.blocked;
+}
+
+surrogated : (r : Run) (uses : List Use) (text : List ℕ) → Appends r.out.before r.out.after text → CallAnswer r Surrogate uses No text
+    → WrittenFor surrogate_requests.IsRequest (λ q. q.file) IsStopAsDrawn r uses
+surrogated r uses text = written_for r Surrogate uses No text (λ q. q.file) IsStopAsDrawn (λ q h. h) (λ q. refl) (λ q. refl)
+    (λ q is bytes a. surrogated_on q bytes text a.graph a.holds a.answer)
 
 -- ---- separate and rule
 
@@ -201,6 +265,7 @@ refuted_as_drawn_of r code No text c h accepted = record {
   identified = λ uses call one. identified r uses text h.whole (call_answer r Identify uses call No text h.answers);
   evaluated = λ uses call one. evaluated r uses text h.whole (call_answer r Evaluate uses call No text h.answers);
   checked = λ uses call zero. absurd (omega (arith, c, zero));
+  surrogated = λ uses call one. surrogated r uses text h.whole (call_answer r Surrogate uses call No text h.answers);
   separated = λ uses call one. separated r uses text h.whole (call_answer r Separate uses call No text h.answers);
   ruled = λ uses call one. ruled r uses text h.whole (call_answer r Rule uses call No text h.answers);
 }
@@ -208,6 +273,7 @@ refuted_as_drawn_of r code o text c h accepted = record {
   identified = λ uses call one. absurd (omega (arith, c, one));
   evaluated = λ uses call one. absurd (omega (arith, c, one));
   checked = λ uses call zero. checked r uses (accepted uses call zero);
+  surrogated = λ uses call one. absurd (omega (arith, c, one));
   separated = λ uses call one. absurd (omega (arith, c, one));
   ruled = λ uses call one. absurd (omega (arith, c, one));
 }

@@ -25,6 +25,7 @@ use Rattle.survey_command.specs.Command.{survey_command}
 use Rattle.survey_command.specs.Requests as of_survey
 use Rattle.surrogate_command.specs.Command.{surrogate_command}
 use Rattle.surrogate_command.specs.Requests as of_surrogate
+use Rattle.prob_expr.specs.Listed.{masks_of}
 use Rattle.evaluate_command.specs.Effects.{effect_view}
 use Rattle.implications_command.specs.Pairs.{pairs_view}
 use Rattle.causal_cli.specs.declared.commands.Command.{Command}
@@ -94,7 +95,7 @@ request_of (request.Surrogate q) = of command.Surrogate (of_surrogate.request_of
 
 -- what is left to answer
 abbrev pub left_of : SecondInput → Remainder
-left_of (input.Check g certificate) = check_left g certificate.now
+left_of (input.Check g experiments certificate) = check_left g (masks_of experiments.items) certificate.now
 left_of (input.Evaluate found counts count exact) = evaluate_left (effect_view found) counts.now (option_map (λ s. s.now) count) exact
 left_of (input.Equivalent g sets second) = equivalent_left g sets second.now
 left_of (input.Implications pairs counts count) = implications_left (pairs_view pairs) counts.now (option_map (λ s. s.now) count)

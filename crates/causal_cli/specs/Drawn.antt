@@ -27,7 +27,6 @@ use Rattle.count_table.specs.Cells.{total}
 use Rattle.count_eval.specs.Programs.{weights_in, is_used, cell_of}
 use Rattle.count_answers.specs.Reads as counts
 use Rattle.replies.specs.Observed.{Names, HoldsGraph, observed_names}
-use Rattle.identify_text.specs.Answers.{formula_answer}
 use Rattle.identify_command.specs.declared.form.Form.{Form}
 use Rattle.identify_command.specs.Answers.{formula_text}
 use Rattle.identify_command.specs.Conditions.{target_lists, AreTargetSets}
@@ -41,6 +40,7 @@ use Rattle.adjust_command.specs.Queries.{Query, listing}
 use Rattle.adjust_command.specs.Requests.{adjust_row}
 use Rattle.adjust_command.specs.Requests as adjust_requests
 use Rattle.surrogate_command.specs.Asked.{surrogate_lists}
+use Rattle.surrogate_command.specs.Lines as surrogate_lines
 use Rattle.surrogate_command.specs.Requests.{surrogate_row}
 use Rattle.surrogate_command.specs.Requests as surrogate_requests
 use Rattle.surrogate_command.specs.Sets.{AreSurrogateSets}
@@ -144,8 +144,9 @@ pub record IsSurrogateAsDrawn (q : surrogate_requests.Request) (bytes text : Lis
   pub experiments : List ℕ
   pub sets : AreSurrogateSets (surrogate_lists graph q.x q.y q.experiments) x y experiments
   pub formula : PlainFormula
+  pub derivation : PlainDerivation
   pub right : IsRightAsDrawn graph (effect_on x y) formula
-  pub prints : text ≡ formula_answer (observed_names graph) (effect_on x y) formula
+  pub prints : text ≡ surrogate_lines.formula_text q.form (observed_names graph) (effect_on x y) formula derivation
 
 -- such a text was written for the bytes of the file that these uses ask for
 abbrev pub SurrogatedAsDrawn : Run → List Use → Type 0

@@ -12,6 +12,7 @@ use Rattle.identify_command.specs.Requests.{IsRequest, identify_row}
 use Rattle.check_command.specs.Answers.{CheckAnswer}
 use Rattle.check_command.specs.Requests.{check_row}
 use Rattle.check_command.specs.Requests as check_requests
+use Rattle.experiment_lists.specs.Words.{Lists}
 use Rattle.command_run.specs.Run.{Run}
 use Rattle.causal_cli.specs.Commands.{table}
 
@@ -41,19 +42,19 @@ pub record Headline (r : Run) (code : ℕ) : Type 0 where
   pub hedge : (uses : List Use) → IsCall table r.words identify_row uses → value_of uses (codes "given") ≡ None → code ≡ 1 → Identified r uses No
 
 -- The bytes of the file hold a graph, and those of the certificate are accepted in its observed graph, as the text says:
--- its formula has no intervention and equals its effect at each assignment in each positive finite model that fits,
--- or its hedge has two positive finite models that fit, agree on all observations, and differ on the effect.
-pub record IsRightCertificate (bytes other : List ℕ) (text : List ℕ) : Type 0 where
+-- each term of its formula is observed or under one of the experiments, and it equals its effect at each assignment in each positive finite model that fits,
+-- or its hedge has two positive finite models that fit, agree on all observations and under each of the experiments, and differ on the effect.
+pub record IsRightCertificate (experiments : Lists) (bytes other : List ℕ) (text : List ℕ) : Type 0 where
   pub graph : ReadGraph
   pub holds : HoldsGraph bytes graph
-  pub accepted : CheckAnswer graph other Yes text
+  pub accepted : CheckAnswer graph experiments other Yes text
 
--- a certificate that these uses ask about was accepted for the file that they ask for, and the text was written
+-- a certificate that these uses ask about was accepted for the file and the experiments that they ask for, of which there may be none, and the text was written
 pub record Checked (r : Run) (uses : List Use) : Type 0 where
   pub request : check_requests.Request
   pub text : List ℕ
   pub asks : check_requests.IsRequest uses request
-  pub right : IfSome (r.held request.file) (λ bytes. IfSome (r.held request.certificate) (λ other. IsRightCertificate bytes other text))
+  pub right : IfSome (r.held request.file) (λ bytes. IfSome (r.held request.certificate) (λ other. IsRightCertificate request.experiments bytes other text))
   pub whole : Appends r.out.before r.out.after text
 
 -- where the words ask for `check`, status 0 says that the certificate is right

@@ -15,6 +15,7 @@ ghost use Rattle.causal_cli.specs.Commands.{commands, table, row_for, request_of
 use crate::commands::{Command, command_named, rows};
 use crate::second::SecondInput;
 use adjust_command::adjust_reply;
+use check_command::accept_experiments;
 use command_run::{AfterFile, AfterWords};
 use dag_reader::ReadGraph;
 use equivalent_command::accept_first;
@@ -122,7 +123,7 @@ fn read_values<'a>(
         Command::Separate => Ok(Request::Separate(separate_command::Request::read(alloc, values)?)),
         Command::Rule => Ok(Request::Rule(rule_command::Request::read(alloc, values)?)),
         Command::Identify => Ok(Request::Identify(identify_command::Request::read(alloc, values)?)),
-        Command::Check => Ok(Request::Check(check_command::Request::read(values)?)),
+        Command::Check => Ok(Request::Check(check_command::Request::read(alloc, values)?)),
         Command::Adjust => Ok(Request::Adjust(adjust_command::Request::read(alloc, values)?)),
         Command::Evaluate => Ok(Request::Evaluate(evaluate_command::Request::read(alloc, values)?)),
         Command::Equivalent => Ok(Request::Equivalent(equivalent_command::Request::read(
@@ -173,10 +174,7 @@ fn reply_on<'a>(
             asked.given,
             asked.form,
         )),
-        Request::Check(asked) => Ok(AfterFile::Continues(SecondInput::Check {
-            graph,
-            certificate: asked.certificate,
-        })),
+        Request::Check(asked) => check_over(alloc, graph, asked),
         Request::Adjust(asked) => replied(adjust_reply(alloc, &graph, asked)),
         Request::Evaluate(asked) => evaluate_over(alloc, &graph, asked),
         Request::Equivalent(asked) => compare_with(alloc, graph, asked),
@@ -224,6 +222,26 @@ fn replied<'a>(made: Result<Reply, AllocError>) -> Result<AfterFile<SecondInput<
     match made {
         Ok(reply) => Ok(AfterFile::Replied(reply)),
         Err(refused) => Err(refused),
+    }
+}
+
+/// What a certificate gives on its graph.
+fn check_over<'a>(
+    alloc: Global,
+    graph: ReadGraph,
+    asked: check_command::Request<'a>,
+) -> Result<AfterFile<SecondInput<'a>>, AllocError>
+    ensures { IfOk result (GivesOn left_of commands (request_of (Request.Check asked.entry)) graph) }
+{
+    match accept_experiments(alloc, &graph, &asked.experiments)? {
+        check_command::Acceptance::Refused(reply) => Ok(AfterFile::Replied(reply)),
+        check_command::Acceptance::Accepted(experiments) => Ok(AfterFile::Continues(
+            SecondInput::Check {
+                graph,
+                experiments,
+                certificate: asked.certificate,
+            },
+        )),
     }
 }
 

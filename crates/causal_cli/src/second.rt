@@ -8,6 +8,7 @@ use dag_reader::ReadGraph;
 use equivalent_command::{equivalent_reply, long_second_graph};
 use evaluate_command::{Identified, evaluate_reply, long_counts};
 use implications_command::{Pairs, differences_reply};
+use mixed_graph::VSet;
 use replies::Reply;
 use std::alloc::{AllocError, Global};
 use targets::Sets;
@@ -15,9 +16,10 @@ use targets::Sets;
 /// What is left to answer once the file was accepted, where a second input is read.
 #[derive(Drop)]
 pub enum SecondInput<'a> {
-    /// Whether a certificate is accepted.
+    /// Whether a certificate is accepted, with experiments on these sets.
     Check {
         graph: ReadGraph,
+        experiments: Vec<VSet>,
         certificate: &'a str,
     },
     /// The values of an effect over counts, whose column may have a name, in exact fractions or in bounds.
@@ -64,7 +66,11 @@ impl<'a> command_run::SecondInput for SecondInput<'a> {
 
     fn reply(&self, alloc: Global, other: &[u8]) -> Result<Reply, AllocError> {
         match self {
-            SecondInput::Check { graph, .. } => check_reply(alloc, graph, other),
+            SecondInput::Check {
+                graph,
+                experiments,
+                ..
+            } => check_reply(alloc, graph, experiments, other),
             SecondInput::Evaluate {
                 found,
                 count,

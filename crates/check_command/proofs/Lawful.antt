@@ -1,30 +1,34 @@
 -- The command's words ask for one request, and its answers have one outcome.
-use Rattle.std.proofs.Common.{◌≡◌, List, refl, sym, ◌∙◌}
+use Rattle.std.proofs.Common.{◌≡◌, ℕ, List, refl, sym, ◌∙◌}
+use Rattle.std.specs.Prelude.{codes}
 use Rattle.std.proofs.lemmas.Option.{same_Some}
-use Rattle.word_forms.specs.Form.{Use}
+use Rattle.word_forms.specs.Form.{Use, value_of}
 use Rattle.dag_reader.specs.declared.graph.ReadGraph.{ReadGraph}
 use Rattle.replies.specs.Command.{IsLeft}
 use Rattle.replies.proofs.Commands.{IsLawful, lawful_on_two_inputs}
 use Rattle.check_command.specs.Requests.{Request, IsRequest}
 use Rattle.check_command.specs.Command.{check_command, check_left}
-use Rattle.check_command.proofs.Outcomes.{check_answered}
-use Rattle.check_command.proofs.Exclusive.{check_once}
+use Rattle.experiment_lists.proofs.OneWord.{one_optional}
+use Rattle.check_command.specs.Answers.{AreExperimentsOn}
+use Rattle.check_command.proofs.Outcomes.{check_answered, first_answered}
+use Rattle.check_command.proofs.Exclusive.{check_once, first_alone, first_once}
 
 -- the uses ask for one request
 one_request : (uses : List Use) (q r : Request) → IsRequest uses q → IsRequest uses r → r ≡ q
 one_request uses q r a b = λ i. record {
   file = same_Some r.file q.file (sym b.file ∙ a.file) i;
   certificate = same_Some r.certificate q.certificate (sym b.certificate ∙ a.certificate) i;
+  experiments = one_optional (value_of uses (codes "experiments")) q.experiments r.experiments a.experiments b.experiments i;
 }
 
 -- what holds of each command holds of it
 pub check_lawful : IsLawful check_command
 check_lawful = lawful_on_two_inputs one_request
-    (λ q g o text a. absurd a)
-    (λ q g other. check_answered g other)
-    (λ q bytes o p text line a b. absurd a.given)
-    (λ q bytes other. check_once bytes other)
-    (λ q name g h same names o text a n. a)
+    (λ q g. first_answered g q.experiments)
+    (λ q g other. check_answered g q.experiments other)
+    (λ q bytes. first_once bytes q.experiments)
+    (λ q bytes other. check_once bytes other q.experiments)
+    (λ q name g h same names o text a n. first_alone g h same q.experiments n.0 o text a n.1)
 
-pub check_is_left : (q : Request) (g : ReadGraph) → IsLeft check_command q g (check_left g q.certificate)
-check_is_left q g = record { named = refl; continues = tt; known = tt; answers = λ other o text a. a }
+pub check_is_left : (q : Request) (g : ReadGraph) (zs : List ℕ) → AreExperimentsOn g q.experiments zs → IsLeft check_command q g (check_left g zs q.certificate)
+check_is_left q g zs are = record { named = refl; continues = (zs, are); known = (q.experiments, are); answers = λ other o text a. record { sets = zs; are = are; answer = a } }

@@ -1,4 +1,6 @@
 pub mod Answering
+pub mod Harmless
+pub mod Headings
 pub mod LowPaths
 pub mod ReadFormulas
 pub mod ReadTargets

@@ -1,5 +1,5 @@
 -- What the checks ask of a target that was read, and what a fault that isn't want of memory says.
-use Rattle.std.proofs.Common.{◌≡◌, ℕ, Bool, true, false, ◌&&◌, Result, Err, refl, sym, ◌∙◌, []}
+use Rattle.std.proofs.Common.{◌≡◌, ℕ, Bool, true, false, ◌&&◌, Result, Err, refl, sym, ◌∙◌, List}
 use Rattle.mixed_graph.specs.Bits.{has}
 use Rattle.mixed_graph.specs.Graphs.{MixedGraph, IsMixedGraph}
 use Rattle.mixed_graph.specs.Sets.{Within, Apart}
@@ -42,12 +42,12 @@ sets_apart n t h v e = go (has t.y v) refl
     go false k = refl
 
 -- the path of the fault of a check lies in the graph
-pub low_unless : (g : MixedGraph) → IsMixedGraph g → (t : PlainTarget) (f : PlainFormula) (d : PlainDerivation) (fault : CheckFault) → UnlessNoMemory fault (AcceptsNot g [] t f d fault)
+pub low_unless : (g : MixedGraph) → IsMixedGraph g → (zs : List ℕ) (t : PlainTarget) (f : PlainFormula) (d : PlainDerivation) (fault : CheckFault) → UnlessNoMemory fault (AcceptsNot g zs t f d fault)
     → IsLowFault g.vertices fault
-low_unless g valid t f d (checks.Step place why) h = fault_low g valid [] t f d (checks.Step place why) h
-low_unless g valid t f d (checks.EndDiffers k) h = tt
-low_unless g valid t f d checks.DoLeft h = tt
-low_unless g valid t f d checks.NoMemory h = tt
+low_unless g valid zs t f d (checks.Step place why) h = fault_low g valid zs t f d (checks.Step place why) h
+low_unless g valid zs t f d (checks.EndDiffers k) h = tt
+low_unless g valid zs t f d checks.DoLeft h = tt
+low_unless g valid zs t f d checks.NoMemory h = tt
 
 pub told : (fault : CheckFault) (P : Type 0) → UnlessNoMemory fault P → (fault ≡ checks.NoMemory → ⊥) → P
 told (checks.Step place why) P h other = h

@@ -1,5 +1,5 @@
 -- The lines of a check.
-use Rattle.std.specs.Prelude.{ℕ, nat_lt, ◌==◌, List, [], ◌++◌, length, Option, Some, None, if◌then◌else◌, codes}
+use Rattle.std.specs.Prelude.{ℕ, nat_lt, ◌==◌, List, [], ◌∷◌, ◌++◌, length, Option, Some, None, if◌then◌else◌, codes}
 use Rattle.std.specs.Fmt.{decimal}
 use Rattle.mixed_graph.specs.Names.{name_of}
 use Rattle.name_text.specs.Printing.{printed}
@@ -9,8 +9,11 @@ use Rattle.do_derivation.specs.declared.faults.StepFault.TheVariants.{NotATerm, 
 use Rattle.do_derivation.specs.declared.faults.StepPlace.{StepPlace}
 use Rattle.do_derivation.specs.declared.faults.CheckFault.{CheckFault}
 use Rattle.do_derivation.specs.declared.faults.CheckFault.TheVariants.{Step, EndDiffers, DoLeft, NoMemory}
+use Rattle.hedge.specs.declared.hedge.Hedge.{Hedge}
 use Rattle.hedge.specs.declared.hedge.HedgeFault.{HedgeFault}
 use Rattle.hedge.specs.declared.hedge.HedgeFault.TheVariants as hedges
+use Rattle.identify_text.specs.HedgeLines.{sets_line, heading_text}
+use Rattle.experiment_lists.specs.Lines.{unidentifiable_with_line}
 
 -- what is accepted, and its text
 abbrev pub accepted_text : List ℕ → List ℕ
@@ -84,3 +87,12 @@ at_vertex names (hedges.Root v) = codes " at " ++ name_or_dash names v
 -- `refused: hedge fault 4 at X`
 abbrev pub hedge_text : List (List ℕ) → HedgeFault → List ℕ
 hedge_text names fault = codes "refused: hedge fault " ++ (hedge_digit fault ++ (at_vertex names fault ++ codes "\n"))
+
+-- where there are experiments, the first line speaks of them
+abbrev pub heading_over : List (List ℕ) → List ℕ → (x y : ℕ) → Hedge → List ℕ
+heading_over names [] x y h = heading_text names x y h
+heading_over names (z ∷ zs) x y h = unidentifiable_with_line names x y ++ sets_line names h
+
+-- a hedge that an experiment meets
+abbrev pub met_text : List ℕ
+met_text = codes "refused: hedge fault 7\n"

@@ -1,7 +1,9 @@
 -- What the parts of a check ask and reply.
-use Rattle.std.specs.Prelude.{ℕ, ◌≡◌, true, List, None}
+use Rattle.std.specs.Prelude.{ℕ, ◌≡◌, ◌||◌, Bool, true, not, List, None}
 use Rattle.mixed_graph.specs.Graphs.{MixedGraph}
+use Rattle.mixed_graph.specs.Masks.{is_apart}
 use Rattle.prob_expr.specs.Check.{fault_in}
+use Rattle.prob_expr.specs.Listed.{masks_of}
 use Rattle.prob_expr.specs.Terms.{is_term}
 use Rattle.prob_expr.specs.Tree.{PlainFormula, PlainTarget}
 use Rattle.do_derivation.specs.Accepts.{are_sets, sets_of}
@@ -13,7 +15,11 @@ use Rattle.do_derivation.specs.declared.faults.CheckFault.TheVariants.{Step, End
 use Rattle.hedge.specs.declared.hedge.Hedge.{Hedge}
 use Rattle.replies.specs.declared.outcome.Reply.{Reply}
 use Rattle.replies.specs.Lines.{IsPrintablePath}
-use Rattle.check_command.specs.Answers.{FormulaAnswer, HedgeAnswer}
+use Rattle.dag_reader.specs.declared.graph.ReadGraph.{ReadGraph}
+use Rattle.experiment_lists.specs.Words.{Lists}
+use Rattle.check_command.specs.declared.accepting.Acceptance.{Acceptance}
+use Rattle.check_command.specs.declared.accepting.Acceptance.TheVariants as acceptance
+use Rattle.check_command.specs.Answers.{FormulaAnswer, HedgeAnswer, CheckFirst, AreExperimentsOn}
 
 -- the target of a certificate that was read: its sets are below n and don't meet, and y isn't empty
 abbrev pub IsSoundTarget : ℕ → PlainTarget → Type 0
@@ -46,9 +52,18 @@ IsLowFault n DoLeft = Unit {0}
 IsLowFault n NoMemory = Unit {0}
 
 -- the reply is the answer for a formula with its derivation
-abbrev pub AnswersFormula : MixedGraph → List (List ℕ) → PlainTarget → PlainFormula → PlainDerivation → Reply → Type 0
-AnswersFormula q names t f d reply = FormulaAnswer q names t f d reply.outcome reply.text.items
+abbrev pub AnswersFormula : MixedGraph → List (List ℕ) → List ℕ → PlainTarget → PlainFormula → PlainDerivation → Reply → Type 0
+AnswersFormula q names zs t f d reply = FormulaAnswer q names zs t f d reply.outcome reply.text.items
 
 -- the reply is the answer for a hedge
-abbrev pub AnswersHedge : MixedGraph → List (List ℕ) → PlainTarget → Hedge → Reply → Type 0
-AnswersHedge q names t h reply = HedgeAnswer q names t h reply.outcome reply.text.items
+abbrev pub AnswersHedge : MixedGraph → List (List ℕ) → List ℕ → PlainTarget → Hedge → Reply → Type 0
+AnswersHedge q names zs t h reply = HedgeAnswer q names zs t h reply.outcome reply.text.items
+
+-- the experiment leaves the larger set alone, or sets a member of the smaller one
+abbrev pub is_harmless : Hedge → ℕ → Bool
+is_harmless h z = is_apart h.big.bits z || not (is_apart h.small.bits z)
+
+-- the reply that refuses the lists, or the sets that they name
+abbrev pub IsAcceptance : ReadGraph → Lists → Acceptance → Type 0
+IsAcceptance g experiments (acceptance.Refused reply) = CheckFirst g experiments reply.outcome reply.text.items
+IsAcceptance g experiments (acceptance.Accepted sets) = AreExperimentsOn g experiments (masks_of sets.items)

@@ -1,24 +1,28 @@
 -- What `check` is asked for.
 use Rattle.std.specs.Prelude.{◌≡◌, List, Some, [], ◌∷◌, codes}
-use Rattle.word_forms.specs.Form.{Text, Row, Use, word_of}
+use Rattle.word_forms.specs.Form.{Text, Row, Use, word_of, value_of}
 use Rattle.request_values.specs.Values as values
+use Rattle.experiment_lists.specs.Views.{lists_in}
+use Rattle.experiment_lists.specs.Words.{Lists, AreOptionalExperiments}
 use Rattle.check_command.specs.declared.request.Request.{Request as CodeRequest}
 
--- `check FILE CERTIFICATE`
+-- `check FILE CERTIFICATE [--experiments E]`
 abbrev pub check_row : Row
-check_row = record { name = codes "check"; positionals = codes "file" ∷ codes "certificate" ∷ []; extra = []; needed = []; options = []; flags = [] }
+check_row = record { name = codes "check"; positionals = codes "file" ∷ codes "certificate" ∷ []; extra = []; needed = []; options = codes "experiments" ∷ []; flags = [] }
 
 -- a request
 pub record Request : Type 0 where
   pub file : Text
   pub certificate : Text
+  pub experiments : Lists
 
 -- the request
 abbrev pub request_of : CodeRequest → Request
-request_of r = record { file = r.file.now; certificate = r.certificate.now }
+request_of r = record { file = r.file.now; certificate = r.certificate.now; experiments = lists_in r.experiments }
 
 -- the uses ask for this
 pub record IsRequest (uses : List Use) (r : Request) : Type 0 where
   pub file : word_of check_row uses (codes "file") ≡ Some r.file
   pub certificate : word_of check_row uses (codes "certificate") ≡ Some r.certificate
   pub inputs : values.AreTwoInputs r.file r.certificate
+  pub experiments : AreOptionalExperiments (value_of uses (codes "experiments")) r.experiments

@@ -1,21 +1,24 @@
 ghost use Rattle.std.specs.Prelude.{◌≡◌, IfOk, length};
 ghost use Rattle.mixed_graph.specs.Shown.{graph_of};
+ghost use Rattle.prob_expr.specs.Listed.{masks_of};
 ghost use Rattle.prob_expr.specs.View.{formula_view, target_view};
 ghost use Rattle.do_derivation.specs.View.{derivation_view};
 ghost use Rattle.check_command.specs.Replies.{IsSoundTarget, IsSoundFormula, IsSoundDerivation, AnswersFormula};
 
 use crate::lines::{accepted_text, derivation_text};
-use do_derivation::{Derivation, check};
+use do_derivation::{Derivation, check_with};
 use identify_text::formula_answer;
 use latent_projection::Observed;
+use mixed_graph::VSet;
 use prob_expr::{Formula, Target};
 use replies::{Outcome, Reply};
 use std::alloc::{AllocError, Global};
 
-/// The answer for a formula with its derivation.
+/// The answer for a formula with its derivation, where terms may stand under the experiments.
 pub fn check_formula(
     alloc: Global,
     seen: &Observed,
+    experiments: &[VSet],
     target: &Target,
     formula: &Formula,
     derivation: &Derivation,
@@ -24,9 +27,9 @@ pub fn check_formula(
     requires target { IsSoundTarget (length seen.now.names) (target_view target.now) }
     requires formula { IsSoundFormula (length seen.now.names) (formula_view formula.now) }
     requires derivation { IsSoundDerivation (length seen.now.names) (derivation_view derivation.now) }
-    ensures { IfOk result (AnswersFormula (graph_of seen.now.graph) seen.now.names (target_view target.now) (formula_view formula.now) (derivation_view derivation.now)) }
+    ensures { IfOk result (AnswersFormula (graph_of seen.now.graph) seen.now.names (masks_of experiments.now) (target_view target.now) (formula_view formula.now) (derivation_view derivation.now)) }
 {
-    match check(alloc, &seen.graph, target, formula, derivation) {
+    match check_with(alloc, &seen.graph, target, experiments, formula, derivation) {
         Ok(()) => {
             let answer = formula_answer(alloc, formula, target, &seen.names)?;
             Ok(Reply {

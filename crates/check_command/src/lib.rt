@@ -1,11 +1,13 @@
 //! The command `check`: whether the derivation or the hedge of a certificate shows what it says of an effect.
 #![tactic(auto)]
 
+mod accepting;
 mod formula;
 mod hedge_data;
 mod lines;
 mod reply;
 mod request;
 
+pub use accepting::{Acceptance, accept_experiments};
 pub use reply::{check_reply, long_certificate};
 pub use request::{ROW, Request};

@@ -1,32 +1,50 @@
 ghost use Rattle.std.specs.Prelude.{◌≤◌, ◌<◌, ℕ, List, IfOk, length};
-ghost use Rattle.check_command.specs.Answers.{CheckAnswer};
+ghost use Rattle.prob_expr.specs.Listed.{masks_of};
+ghost use Rattle.check_command.specs.Answers.{AnswerOver};
 
 use crate::formula::check_formula;
 use crate::hedge_data::check_hedge;
 use certificate::{CertFault, Certificate, read_answer};
 use dag_reader::ReadGraph;
 use latent_projection::observed;
+use mixed_graph::VSet;
 use replies::{Outcome, Reply};
 use std::alloc::{AllocError, Global};
 
 /// Whether a certificate shows what it says of an effect, in the observed graph.
 ///
-/// Yes where the steps make the formula of the effect, or where the hedge is one; no with the first fault. A certificate that isn't read is
-/// refused with its line.
+/// Yes where the steps make the formula of the effect, whose terms are observed or under an experiment, or where the hedge is one that each
+/// experiment leaves alone or meets in its smaller set; no with the first fault. A certificate that isn't read is refused with its line.
 pub fn check_reply(
     alloc: Global,
     graph: &ReadGraph,
+    experiments: &Vec<VSet>,
     certificate: &[u8],
 ) -> Result<Reply, AllocError>
     requires { length certificate.now ≤ 67108864 }
-    ensures { IfOk result (λ r. CheckAnswer graph.now certificate.now r.outcome r.text.items) }
+    ensures { IfOk result (λ r. AnswerOver graph.now (masks_of experiments.now.items) certificate.now r.outcome r.text.items) }
+{
+    check_over(alloc, graph, experiments.as_slice(), certificate)
+}
+
+/// The same, with the experiments of a slice.
+fn check_over(
+    alloc: Global,
+    graph: &ReadGraph,
+    experiments: &[VSet],
+    certificate: &[u8],
+) -> Result<Reply, AllocError>
+    requires { length certificate.now ≤ 67108864 }
+    ensures { IfOk result (λ r. AnswerOver graph.now (masks_of experiments.now) certificate.now r.outcome r.text.items) }
 {
     let seen = observed(alloc, &graph.names, &graph.graph, graph.latent)?;
     match read_answer(alloc, certificate, &seen.names) {
         Ok(Certificate::Formula(target, formula, derivation)) => {
-            check_formula(alloc, &seen, &target, &formula, &derivation)
+            check_formula(alloc, &seen, experiments, &target, &formula, &derivation)
         }
-        Ok(Certificate::Hedge(target, hedge)) => check_hedge(alloc, &seen, &target, &hedge),
+        Ok(Certificate::Hedge(target, hedge)) => {
+            check_hedge(alloc, &seen, experiments, &target, &hedge)
+        }
         Err(fault) => Ok(Reply {
             outcome: Outcome::Second,
             text: fault.line(alloc)?,
@@ -36,7 +54,7 @@ pub fn check_reply(
 
 /// The answer where a certificate has more than 67,108,864 bytes.
 pub fn long_certificate(alloc: Global, graph: &ReadGraph) -> Result<Reply, AllocError>
-    ensures { IfOk result (λ r. (certificate : List ℕ) → 67108864 < length certificate → CheckAnswer graph.now certificate r.outcome r.text.items) }
+    ensures { IfOk result (λ r. (experiments certificate : List ℕ) → 67108864 < length certificate → AnswerOver graph.now experiments certificate r.outcome r.text.items) }
 {
     Ok(Reply {
         outcome: Outcome::Second,

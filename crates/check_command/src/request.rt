@@ -1,26 +1,31 @@
-ghost use Rattle.std.specs.Prelude.{◌≡◌, List, IfOk, IsErrOf};
-ghost use Rattle.word_forms.specs.Form.{Use};
+ghost use Rattle.std.specs.Prelude.{◌≡◌, ℕ, List, true, IfOk, IsErrOf};
+ghost use Rattle.word_forms.specs.Form.{Row, Use, is_among, value_names, value_of};
 ghost use Rattle.word_values.specs.Gives.{HoldsCall};
+ghost use Rattle.experiment_lists.specs.Views.{lists_in};
+ghost use Rattle.experiment_lists.specs.Words.{AreOptionalExperiments, Lists};
 
+use experiment_lists::read_experiments;
 use request_values::{RequestFault, needed_word, second_input};
+use std::alloc::Global;
 use word_forms::Entry;
 use word_values::Values;
 
-/// `check FILE CERTIFICATE`
+/// `check FILE CERTIFICATE [--experiments E]`
 pub const ROW: Entry = Entry {
     name: "check",
     positionals: &["file", "certificate"],
     extra: &[],
     needed: &[],
-    options: &[],
+    options: &["experiments"],
     flags: &[],
 };
 
 /// What is asked for.
-#[derive(Clone, Copy, Debug, PartialEq, Eq)]
+#[derive(Drop)]
 pub struct Request<'a> {
     pub file: &'a str,
     pub certificate: &'a str,
+    pub experiments: Vec<Vec<Vec<u8>>>,
 }
 
 impl<'a> Request<'a> {
@@ -29,12 +34,37 @@ impl<'a> Request<'a> {
     ghost use Rattle.check_command.specs.Requests.{check_row, request_of, IsRequest};
 
     /// What the words ask for, exactly where their values are what they have to be.
-    pub fn read(values: &Values<'a>) -> Result<Self, RequestFault>
+    pub fn read(alloc: Global, values: &Values<'a>) -> Result<Self, RequestFault>
         ensures ok { (uses : List Use) → HoldsCall check_row uses values.now → IfOk result (λ r. IsRequest uses (request_of r)) }
         ensures none { (uses : List Use) → HoldsCall check_row uses values.now → IsErrOf result RequestFault.NotUnderstood → AsksNothing check_command uses }
     {
         let file = needed_word(values, "file")?;
         let certificate = second_input(values, file, "certificate")?;
-        Ok(Request { file, certificate })
+        let experiments = optional_experiments(alloc, values, "experiments")?;
+        Ok(Request {
+            file,
+            certificate,
+            experiments,
+        })
+    }
+}
+
+/// The experiments that the value of an option lists; none where it is missing.
+fn optional_experiments(
+    alloc: Global,
+    values: &Values<'_>,
+    name: &str,
+) -> Result<Vec<Vec<Vec<u8>>>, RequestFault>
+    ensures ok { (row : Row) (uses : List Use) → HoldsCall row uses values.now → is_among (value_names row) name.now ≡ true → IfOk result (λ v. AreOptionalExperiments (value_of uses name.now) (lists_in v)) }
+    ensures none { (row : Row) (uses : List Use) → HoldsCall row uses values.now → is_among (value_names row) name.now ≡ true → IsErrOf result RequestFault.NotUnderstood
+        → (lists : Lists) → AreOptionalExperiments (value_of uses name.now) lists → ⊥ }
+{
+    match values.option(name) {
+        None => Ok(Vec::new(alloc)),
+        Some(text) => match read_experiments(alloc, text) {
+            Ok(Some(experiments)) => Ok(experiments),
+            Ok(None) => Err(RequestFault::NotUnderstood),
+            Err(_) => Err(RequestFault::NoMemory),
+        },
     }
 }

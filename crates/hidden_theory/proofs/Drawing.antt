@@ -1,12 +1,12 @@
 -- Models of the observed graph whose causes serve two vertices at most fold models of the diagram as drawn; so two that tell an effect apart do so there.
-use Rattle.std.proofs.Common.{ℕ, ◌*◌, ◌≡◌, ◌<◌, ◌≤◌, Bool, true, false, not, cond, ◌||◌, refl, sym, ap, ap₂, ◌∙◌, arith, subst, length, mul-pos}
+use Rattle.std.proofs.Common.{ℕ, List, ◌*◌, ◌≡◌, ◌<◌, ◌≤◌, Bool, true, false, not, cond, ◌||◌, refl, sym, ap, ap₂, ◌∙◌, arith, subst, length, mul-pos}
 use Rattle.std.proofs.Math.Nat.{eq_of_mul-eq-mul_left}
 use Rattle.mixed_graph.specs.Bits.{has}
 use Rattle.mixed_graph.specs.Sets.{Apart}
 use Rattle.mixed_graph.specs.Graphs.{MixedGraph, IsMixedGraph}
 use Rattle.fractions.specs.Fractions.{over, IsEqual}
 use Rattle.fractions.proofs.FractionLaws.{equal_sym, equal_trans}
-use Rattle.finite_models.specs.Agreement.{AgreeObserved}
+use Rattle.finite_models.specs.Agreement.{AgreeObserved, AgreeUnder}
 use Rattle.finite_models.specs.Models.{FiniteModel, Fits, IsAssignment, IsPositiveModel, event_weight, weight_of, total}
 use Rattle.finite_models.proofs.Following.{follows_of}
 use Rattle.finite_models.proofs.Positive.{positive_weight}
@@ -16,15 +16,17 @@ use Rattle.latent_projection.specs.Renumbering.{observed_below, renumbered_set, 
 use Rattle.latent_projection.proofs.Numbering.{IsMixedGraph-renumbered}
 use Rattle.latent_projection.proofs.Projected.{IsMixedGraph-projection}
 use Rattle.prob_expr.specs.Differences.{DifferOn, DifferOnTarget}
-use Rattle.prob_expr.specs.Terms.{is_do_free}
+use Rattle.prob_expr.specs.Experiments.{AgreeUnderAll}
+use Rattle.prob_expr.specs.Terms.{is_allowed, is_do_free}
 use Rattle.prob_expr.specs.Tree.{PlainFormula, PlainTarget}
 use Rattle.prob_expr.specs.Values.{weights_of, term_value, value_of, effect}
+use Rattle.prob_expr.proofs.Allowed.{experiments_fix_value}
 use Rattle.prob_expr.proofs.Observed.{observed_fixes_value}
 use Rattle.hidden_theory.specs.Folding.{Folds, IsObservedPositive, values_after, values_before, drawn_weights, drawn_effect}
 use Rattle.hidden_theory.specs.Laws.{EqualsAsDrawn}
 use Rattle.finite_models.specs.Served.{ServesTwo}
-use Rattle.hidden_theory.specs.Unfolding.{IsFoldedFrom, AgreeAsDrawn, DifferOnAsDrawn, NotIdentifiableAsDrawn}
-use Rattle.hidden_theory.specs.UnfoldingLaws.{EachIsFolded, UnfoldedIsPositive, DifferenceIsDrawn, FormulaAsDrawnFixes}
+use Rattle.hidden_theory.specs.Unfolding.{IsFoldedFrom, AgreeAsDrawn, AgreeUnderAsDrawn, DifferOnAsDrawn, NotIdentifiableAsDrawn, NotIdentifiableOverAsDrawn}
+use Rattle.hidden_theory.specs.UnfoldingLaws.{EachIsFolded, UnfoldedIsPositive, DifferenceIsDrawn, DifferenceOverIsDrawn, FormulaAsDrawnFixes}
 use Rattle.prob_expr.proofs.Alike.{left_positive}
 use Rattle.hidden_theory.proofs.Depends.{weight_depends}
 use Rattle.hidden_theory.proofs.Drawn.{after_within, before_within, drawn_weight, keeps_value, keeps_effect, keeps_term}
@@ -159,19 +161,23 @@ module _ (g : MixedGraph) (ok : IsMixedGraph g) (l : ℕ → Bool) (q : MixedGra
   out₂ : (s : ℕ → ℕ) → IsAssignment m₂.vertices m₂.size s → IsAssignment (drawn_weights l d₂.drawn).vertices (drawn_weights l d₂.drawn).size s
   out₂ s hs k kl = let kl' = subst (λ n. k < n) (sym d₂.folds.vertices) kl in subst (λ n. s k < n) (d₂.folds.sizes k kl') (hs k kl')
 
-  pub agree_drawn : AgreeAsDrawn l d₁.drawn d₂.drawn
-  agree_drawn = record {
+  -- under an intervention under which both agree the models of the diagram as drawn do
+  agree_under_drawn : (z : ℕ → Bool) → AgreeUnder z m₁ m₂ → AgreeUnderAsDrawn l z d₁.drawn d₂.drawn
+  agree_under_drawn z alike = record {
     vertices = sym d₁.folds.vertices ∙ agreed.vertices ∙ d₂.folds.vertices;
     sizes = λ k kl. let k₁ = subst (λ n. k < n) (sym d₁.folds.vertices) kl in sym (d₁.folds.sizes k k₁) ∙ agreed.sizes k k₁
         ∙ d₂.folds.sizes k (subst (λ n. k < n) agreed.vertices k₁);
     weights = λ s hs. let h₁ = into₁ s hs in
-        crossed ((drawn_weights l d₁.drawn).weight (λ k. false) (λ k. true) s) ((drawn_weights l d₂.drawn).weight (λ k. false) (λ k. true) s)
-        (weight_of m₁ (λ v. false) (λ v. true) s) (weight_of m₂ (λ v. false) (λ v. true) s) (total m₁) (total m₂) (total d₁.drawn) (total d₂.drawn)
+        crossed ((drawn_weights l d₁.drawn).weight z (λ k. true) s) ((drawn_weights l d₂.drawn).weight z (λ k. true) s)
+        (weight_of m₁ z (λ v. true) s) (weight_of m₂ z (λ v. true) s) (total m₁) (total m₂) (total d₁.drawn) (total d₂.drawn)
         (mul-pos (total_positive q m₁ f₁) (total_positive q m₂ f₂))
-        (drawn_weight g ok l q is d₁.drawn m₁ d₁.fits f₁ d₁.folds (λ k. false) (λ k. true) s h₁)
-        (drawn_weight g ok l q is d₂.drawn m₂ d₂.fits f₂ d₂.folds (λ k. false) (λ k. true) s (second s h₁))
-        (agreed.weights s h₁);
+        (drawn_weight g ok l q is d₁.drawn m₁ d₁.fits f₁ d₁.folds z (λ k. true) s h₁)
+        (drawn_weight g ok l q is d₂.drawn m₂ d₂.fits f₂ d₂.folds z (λ k. true) s (second s h₁))
+        (alike.weights s h₁);
   }
+
+  pub agree_drawn : AgreeAsDrawn l d₁.drawn d₂.drawn
+  agree_drawn = agree_under_drawn (λ v. false) agreed
 
   module _ (t : PlainTarget) where
     differ_drawn : DifferOn m₁ m₂ t → DifferOnAsDrawn l d₁.drawn d₂.drawn t
@@ -257,6 +263,24 @@ module _ (g : MixedGraph) (ok : IsMixedGraph g) (l : ℕ → Bool) (q : MixedGra
       no_formula = none differ;
     }
 
+    -- a formula over experiments under which both models agree has one value in both too
+    one_value_over : (zs : List ℕ) → AgreeUnderAll zs m₁ m₂ → (f : PlainFormula) → is_allowed zs f ≡ true → EqualsAsDrawn g l t f
+        → (s : ℕ → ℕ) → IsAssignment m₁.vertices m₁.size s → IsEqual (effect m₁ t s) (effect m₂ t s)
+    one_value_over zs alike f allowed h s hs =
+        equal_trans (effect m₁ t s) (value_of (weights_of m₁) f (turned s)) (effect m₂ t s)
+        (equal_sym (value_of (weights_of m₁) f (turned s)) (effect m₁ t s) (equals_folded f h m₁ f₁ p₁ d₁ positive₁ s hs))
+        (equal_trans (value_of (weights_of m₁) f (turned s)) (value_of (weights_of m₂) f (turned s)) (effect m₂ t s)
+        (experiments_fix_value q (q_mixed g ok l q is) m₁ m₂ f₁ f₂ p₁ p₂ agreed zs alike f allowed (turned s) (turned_within s hs))
+        (equals_folded f h m₂ f₂ p₂ d₂ positive₂ s (second s hs)))
+
+    pub shown_over : (zs : List ℕ) → AgreeUnderAll zs m₁ m₂ → DifferOnTarget m₁ m₂ t → NotIdentifiableOverAsDrawn g l zs t
+    unfolding shown
+    shown_over zs alike differ = record {
+      shown = shown differ;
+      under = λ z listed. agree_under_drawn (has z) (alike z listed);
+      no_formula_over = λ f allowed h. let d = (differ (λ v. 0) (λ v vl. f₁.positive_size v vl)).0 in d.unequal (one_value_over zs alike f allowed h d.at d.within);
+    }
+
 pub difference_is_drawn : DifferenceIsDrawn
 difference_is_drawn = λ g ok l q is m₁ m₂ f₁ f₂ two₁ two₂ p₁ p₂ agreed t differ.
     shown g ok l q is m₁ m₂ f₁ f₂ p₁ p₂ agreed (each_is_folded g ok l q is m₁ f₁ two₁) (each_is_folded g ok l q is m₂ f₂ two₂) t differ
@@ -264,3 +288,7 @@ difference_is_drawn = λ g ok l q is m₁ m₂ f₁ f₂ two₁ two₂ p₁ p₂
 pub formula_as_drawn_fixes : FormulaAsDrawnFixes
 formula_as_drawn_fixes = λ g ok l q is t f free h m₁ m₂ f₁ f₂ two₁ two₂ p₁ p₂ agreed s hs.
     one_value g ok l q is m₁ m₂ f₁ f₂ p₁ p₂ agreed (each_is_folded g ok l q is m₁ f₁ two₁) (each_is_folded g ok l q is m₂ f₂ two₂) t f free h s hs
+
+pub difference_over_is_drawn : DifferenceOverIsDrawn
+difference_over_is_drawn = λ g ok l q is m₁ m₂ f₁ f₂ two₁ two₂ p₁ p₂ agreed zs alike t differ.
+    shown_over g ok l q is m₁ m₂ f₁ f₂ p₁ p₂ agreed (each_is_folded g ok l q is m₁ f₁ two₁) (each_is_folded g ok l q is m₂ f₂ two₂) t zs alike differ

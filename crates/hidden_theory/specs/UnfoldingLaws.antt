@@ -1,10 +1,11 @@
 -- What is true of models of the diagram as drawn that a model of the observed graph folds.
-use Rattle.std.specs.Prelude.{ℕ, ◌≡◌, Bool, true}
+use Rattle.std.specs.Prelude.{ℕ, ◌≡◌, Bool, true, List}
 use Rattle.mixed_graph.specs.Graphs.{MixedGraph, IsMixedGraph}
 use Rattle.finite_models.specs.Models.{FiniteModel, Fits, IsAssignment, IsPositiveModel}
 use Rattle.finite_models.specs.Agreement.{AgreeObserved}
 use Rattle.latent_projection.specs.Renumbering.{IsObserved}
 use Rattle.prob_expr.specs.Differences.{DifferOnTarget}
+use Rattle.prob_expr.specs.Experiments.{AgreeUnderAll}
 use Rattle.fractions.specs.Fractions.{IsEqual}
 use Rattle.prob_expr.specs.Terms.{is_do_free}
 use Rattle.prob_expr.specs.Tree.{PlainFormula, PlainTarget}
@@ -12,7 +13,7 @@ use Rattle.prob_expr.specs.Values.{effect}
 use Rattle.hidden_theory.specs.Laws.{EqualsAsDrawn}
 use Rattle.hidden_theory.specs.Folding.{Folds, IsObservedPositive}
 use Rattle.finite_models.specs.Served.{ServesTwo}
-use Rattle.hidden_theory.specs.Unfolding.{IsFoldedFrom, NotIdentifiableAsDrawn}
+use Rattle.hidden_theory.specs.Unfolding.{IsFoldedFrom, NotIdentifiableAsDrawn, NotIdentifiableOverAsDrawn}
 
 -- every model of the observed graph each of whose causes serves one vertex or two folds a model of the diagram as drawn
 abbrev pub EachIsFolded : Type 0
@@ -36,3 +37,10 @@ abbrev pub FormulaAsDrawnFixes : Type 0
 FormulaAsDrawnFixes = (g : MixedGraph) → IsMixedGraph g → (l : ℕ → Bool) (q : MixedGraph) → IsObserved g l q → (t : PlainTarget) (f : PlainFormula) → is_do_free f ≡ true
     → EqualsAsDrawn g l t f → (m₁ m₂ : FiniteModel) → Fits q m₁ → Fits q m₂ → ServesTwo m₁ → ServesTwo m₂ → IsPositiveModel m₁ → IsPositiveModel m₂
     → AgreeObserved m₁ m₂ → (s : ℕ → ℕ) → IsAssignment m₁.vertices m₁.size s → IsEqual (effect m₁ t s) (effect m₂ t s)
+
+-- two that agree under experiments too show it of formulas over these
+abbrev pub DifferenceOverIsDrawn : Type 0
+DifferenceOverIsDrawn = (g : MixedGraph) → IsMixedGraph g → (l : ℕ → Bool) (q : MixedGraph) → IsObserved g l q → (m₁ m₂ : FiniteModel) → Fits q m₁ → Fits q m₂
+    → ServesTwo m₁ → ServesTwo m₂
+    → IsPositiveModel m₁ → IsPositiveModel m₂ → AgreeObserved m₁ m₂ → (zs : List ℕ) → AgreeUnderAll zs m₁ m₂ → (t : PlainTarget) → DifferOnTarget m₁ m₂ t
+    → NotIdentifiableOverAsDrawn g l zs t

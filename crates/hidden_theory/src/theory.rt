@@ -1,5 +1,5 @@
 ghost use Rattle.hidden_theory.specs.Laws.{EachHasFolded, FoldedIsPositive, FoldedKeepsWeights, FoldedKeepsValues, FoldedKeepsEffects, RightAsDrawn};
-ghost use Rattle.hidden_theory.specs.UnfoldingLaws.{EachIsFolded, UnfoldedIsPositive, DifferenceIsDrawn, FormulaAsDrawnFixes};
+ghost use Rattle.hidden_theory.specs.UnfoldingLaws.{EachIsFolded, UnfoldedIsPositive, DifferenceIsDrawn, DifferenceOverIsDrawn, FormulaAsDrawnFixes};
 ghost use Rattle.hidden_theory.specs.Statements.{IndependenceIsDrawn, DependenceIsDrawn, EquationIsDrawn, FailureIsDrawn};
 
 /// What is true of the models of a diagram with hidden vertices.
@@ -22,6 +22,7 @@ pub fn laws()
 
     // So what isn't identifiable in the observed graph isn't in the diagram as drawn.
     ensures not_identifiable { DifferenceIsDrawn }
+    ensures over_experiments { DifferenceOverIsDrawn }
     ensures fixes { FormulaAsDrawnFixes }
 
     // And what separations and rules say is said of the diagram as drawn, where they hold and where they don't.

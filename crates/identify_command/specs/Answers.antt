@@ -1,5 +1,5 @@
 -- The answer of `identify`: whether the effect of x on y can be computed from observations, in the observed graph of the one that was read.
-use Rattle.std.specs.Prelude.{ℕ, ◌≡◌, List, ◌++◌, codes, Ok}
+use Rattle.std.specs.Prelude.{ℕ, ◌≡◌, List, Ok}
 use Rattle.mixed_graph.specs.Graphs.{MixedGraph}
 use Rattle.dag_reader.specs.declared.graph.ReadGraph.{ReadGraph}
 use Rattle.targets.specs.Targets.{EffectLists}
@@ -16,6 +16,7 @@ use Rattle.identify_text.specs.Answers.{formula_answer, latex_answer}
 use Rattle.identify_text.specs.PairLines.{hedge_answer}
 use Rattle.effect_answers.specs.Effects.{effect_lists, IsOfSets, IsEffectRefusal}
 use Rattle.effect_answers.specs.Hedges.{IsFoundHedge}
+use Rattle.effect_certificates.specs.Lines.{certificate_line}
 use Rattle.certificate.specs.Plain.{PlainCertificate, hedge_view}
 use Rattle.certificate.specs.Plain as plain
 use Rattle.certificate.specs.Reading.{certificate_in}
@@ -24,10 +25,6 @@ use Rattle.identify_command.specs.declared.form.Form.{Form}
 use Rattle.identify_command.specs.declared.form.Form.TheVariants.{Plain, Certificate, Latex}
 
 -- ---- texts
-
--- a certificate on a line of its own
-abbrev pub certificate_line : List (List ℕ) → PlainCertificate → List ℕ
-certificate_line names c = certificate_text names c ++ codes "\n"
 
 -- the text of a formula for a target: the formula, its certificate or its LaTeX
 abbrev pub formula_text : Form → List (List ℕ) → PlainTarget → PlainFormula → PlainDerivation → List ℕ

@@ -27,7 +27,8 @@ use Rattle.certificate.specs.Plain.{hedge_view}
 use Rattle.certificate.specs.Plain as plain
 use Rattle.identify_command.specs.declared.form.Form.{Form}
 use Rattle.identify_command.specs.declared.form.Form.TheVariants.{Plain, Certificate, Latex}
-use Rattle.identify_command.specs.Answers.{certificate_line, formula_text, ReadsBack, IdentifyAnswer}
+use Rattle.effect_certificates.specs.Lines.{certificate_line}
+use Rattle.identify_command.specs.Answers.{formula_text, ReadsBack, IdentifyAnswer}
 
 -- ---- lists
 

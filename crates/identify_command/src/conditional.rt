@@ -10,10 +10,10 @@ ghost use Rattle.word_lists.specs.Views.{names_in};
 ghost use Rattle.identify_command.specs.Conditions.{ConditionalAnswer, TargetAnswer};
 
 use crate::form::Form;
-use crate::reply::sized;
 use crate::texts::{formula_text, joint_text};
 use conditional_id::{Conditional, identify_given};
 use dag_reader::ReadGraph;
+use effect_certificates::sized;
 use latent_projection::Observed;
 use prob_expr::Target;
 use replies::{AskedLists, Outcome, Reply, asked_lists, refuse};

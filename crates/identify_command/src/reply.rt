@@ -11,7 +11,7 @@ use crate::form::Form;
 use crate::texts::{formula_text, hedge_text, target_of};
 use dag_reader::ReadGraph;
 use effect_answers::{Asked, asked_effect};
-use hedge::Hedge;
+use effect_certificates::sized;
 use id_recursion::{Answer, identify};
 use latent_projection::Observed;
 use replies::{Outcome, Reply};
@@ -87,13 +87,4 @@ fn decide(alloc: Global, seen: &Observed, sets: EffectSets, form: Form) -> Resul
             })
         }
     }
-}
-
-/// How many places a hedge has for links.
-pub fn sized(hedge: &Hedge)
-    ensures found { length hedge.now.links.found ≡ 64 }
-    ensures partner { length hedge.now.links.partner ≡ 64 }
-{
-    let _ = hedge.links.found[0];
-    let _ = hedge.links.partner[0];
 }

@@ -1,6 +1,6 @@
 //! The texts of the answers.
 
-ghost use Rattle.std.specs.Prelude.{◌≡◌, ◌++◌, length, codes, None, IfOk, Ok};
+ghost use Rattle.std.specs.Prelude.{◌≡◌, length, None, IfOk};
 ghost use Rattle.mixed_graph.specs.Bits.{has};
 ghost use Rattle.mixed_graph.specs.Sets.{Within};
 ghost use Rattle.prob_expr.specs.Check.{fault_in};
@@ -8,18 +8,16 @@ ghost use Rattle.prob_expr.specs.View.{target_view, formula_view};
 ghost use Rattle.do_derivation.specs.View.{derivation_view};
 ghost use Rattle.id_recursion.specs.Answers.{effect_on};
 ghost use Rattle.identify_text.specs.Below.{IsHedgeBelow, ArePairBelow};
-ghost use Rattle.certificate.specs.Plain.{certificate_view, hedge_view, formula as formula_case, hedge as hedge_case};
-ghost use Rattle.certificate.specs.Reading.{certificate_in};
-ghost use Rattle.certificate_writing.specs.Writable.{IsTargetWithin, IsBareTarget, IsDerivationWithin, IsHedgeWithin, IsWritable, IsShallow, IsFormulaShallow};
-ghost use Rattle.certificate_writing.specs.Written.{certificate_text};
-ghost use Rattle.identify_command.specs.Answers.{certificate_line, formula_text, hedge_text, ReadsBack};
+ghost use Rattle.certificate.specs.Plain.{hedge_view, formula as formula_case, hedge as hedge_case};
+ghost use Rattle.certificate_writing.specs.Writable.{IsTargetWithin, IsBareTarget, IsDerivationWithin, IsHedgeWithin, IsFormulaShallow};
+ghost use Rattle.identify_command.specs.Answers.{formula_text, hedge_text, ReadsBack};
 ghost use Rattle.identify_command.specs.Conditions.{joint_text};
 
 use crate::form::Form;
 use certificate::Certificate;
-use certificate_writing::write_answer;
 use counter_models::CounterPair;
 use do_derivation::Derivation;
+use effect_certificates::certificate_line;
 use hedge::Hedge;
 use identify_text::{formula_answer, hedge_answer, joint_answer, latex_answer};
 use mixed_graph::{Names, VSet};
@@ -36,22 +34,6 @@ pub fn target_of(sets: EffectSets) -> Target
         y: sets.y,
         given: VSet::EMPTY,
     }
-}
-
-/// A certificate, and a line feed.
-fn certificate_line(
-    alloc: Global,
-    certificate: &Certificate,
-    names: &Names,
-) -> Result<Vec<u8>, AllocError>
-    requires writable { IsWritable (length names.now) (certificate_view certificate.now) }
-    requires shallow { IsShallow (certificate_view certificate.now) }
-    ensures line { IfOk result (λ v. v.items ≡ certificate_line names.now (certificate_view certificate.now)) }
-    ensures reads_back { IfOk result (λ v. certificate_in names.now (certificate_text names.now (certificate_view certificate.now)) ≡ Ok (certificate_view certificate.now)) }
-{
-    let mut text = write_answer(alloc, certificate, names)?;
-    text.push(b'\n')?;
-    Ok(text)
 }
 
 /// The text of a formula with its derivation.

@@ -1,10 +1,6 @@
-pub mod Quotes
-pub mod Joining
 pub mod Walked
-pub mod Filled
 pub mod Stops
 pub mod Answering
 pub mod Outcomes
 pub mod Exclusive
-pub mod OneWord
 pub mod Lawful

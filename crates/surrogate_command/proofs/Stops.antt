@@ -10,6 +10,10 @@ use Rattle.counter_models.specs.declared.counter_pair.CounterPair.{CounterPair}
 use Rattle.identify_text.specs.Below.{IsHedgeBelow, ArePairBelow}
 use Rattle.identify_text.proofs.Belows.{hedge_below}
 use Rattle.effect_answers.proofs.Belows.{pair_below}
+use Rattle.certificate.specs.Plain.{hedge_view}
+use Rattle.certificate_writing.specs.Writable.{IsHedgeWithin}
+use Rattle.effect_certificates.proofs.Writing.{hedge_within}
+use Rattle.surrogate_command.specs.Commons.{IsCommonBelow}
 use Rattle.surrogates.specs.Answers.{IsRightBlock, IsBlockShown, IsStopShown}
 use Rattle.surrogates.specs.declared.answer.CommonHedge.{CommonHedge}
 
@@ -26,9 +30,10 @@ pub common_named : (g : MixedGraph) → IsMixedGraph g → (zs : List ℕ) (x y 
     → (n : ℕ) → n ≡ g.vertices → g.vertices ≤ 64 → Within g.vertices (has y)
     → IfSome common (λ k. IsRightBlock g zs x y k.hedge k.pair)
     → IfSome common (λ k. IsBlockShown g zs x y district k.hedge k.pair)
-    → IfSome common (λ k. IsHedgeBelow n k.hedge × ArePairBelow n k.pair)
+    → IfSome common (IsCommonBelow n)
 common_named g valid zs x y district None n e few in_y right shown = tt
-common_named g valid zs x y district (Some k) n e few in_y right shown = (
-  subst (λ m. IsHedgeBelow m k.hedge) (sym e) (hedge_below g x y k.hedge few shown.hedge),
-  subst (λ m. ArePairBelow m k.pair) (sym e) (pair_below g valid x y k.hedge k.pair in_y shown.models right.hedge.counter),
-)
+common_named g valid zs x y district (Some k) n e few in_y right shown = record {
+  hedge = subst (λ m. IsHedgeBelow m k.hedge) (sym e) (hedge_below g x y k.hedge few shown.hedge);
+  models = subst (λ m. ArePairBelow m k.pair) (sym e) (pair_below g valid x y k.hedge k.pair in_y shown.models right.hedge.counter);
+  written = λ found partner. subst (λ m. IsHedgeWithin m (hedge_view k.hedge)) (sym e) (hedge_within g x y k.hedge found partner shown.hedge);
+}

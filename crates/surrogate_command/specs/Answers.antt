@@ -1,5 +1,5 @@
 -- The answer of `surrogate`: whether the procedure over experiments finds a formula for the effect of x on y, in the observed graph of the one that was read.
-use Rattle.std.specs.Prelude.{ℕ, ◌≡◌, ◌↔◌, Bool, List, Option, IsSome, IfSome}
+use Rattle.std.specs.Prelude.{ℕ, ◌≡◌, ◌↔◌, List, Option, IsSome, IfSome}
 use Rattle.mixed_graph.specs.Graphs.{MixedGraph}
 use Rattle.mixed_graph.specs.declared.sets.VSet.{VSet}
 use Rattle.dag_reader.specs.declared.graph.ReadGraph.{ReadGraph}
@@ -12,20 +12,22 @@ use Rattle.hedge.specs.declared.hedge.Hedge.{Hedge}
 use Rattle.counter_models.specs.declared.counter_pair.CounterPair.{CounterPair}
 use Rattle.identification.specs.Procedure.{IsIdentified}
 use Rattle.id_recursion.specs.Answers.{effect_on, IsRightHedge}
-use Rattle.identify_text.specs.Answers.{formula_answer}
+use Rattle.certificate.specs.Plain.{hedge_view}
+use Rattle.certificate.specs.Plain as certificates
 use Rattle.surrogate_theory.specs.Surrogates.{IsSurrogate, IsSurrogateBySteps, SomeBlocked}
 use Rattle.surrogates.specs.Answers.{IsRightFormulaWith, IsRightBlock, IsStopShown, IsBlockShown, IsBlockedTogether}
 use Rattle.surrogates.specs.declared.answer.CommonHedge.{CommonHedge}
 use Rattle.surrogate_command.specs.Asked.{surrogate_lists, IsOfSets, IsRefusal}
-use Rattle.surrogate_command.specs.Experiments.{Lists}
-use Rattle.surrogate_command.specs.Lines.{stopped_text}
+use Rattle.experiment_lists.specs.Words.{Lists}
+use Rattle.surrogate_command.specs.Lines.{formula_text, stopped_text, ReadsBack}
+use Rattle.surrogate_command.specs.declared.form.Form.{Form}
 use Rattle.surrogate_command.specs.Sets.{SurrogateLists}
 
 -- ---- answers for sets of the observed graph q, with experiments on the sets zs
 
 -- Yes: each term of the formula is observed or under an experiment, the derivation turns P(y | do(x)) into it, and it equals the effect in each positive model that fits q.
--- It is that of the procedure over experiments, which meets no blocked district, and where observations alone give a formula it is that one. The text shows it.
-pub record ShowsFormula (q : MixedGraph) (names : List (List ℕ)) (zs : List ℕ) (x y : ℕ) (text : List ℕ) : Type 0 where
+-- It is that of the procedure over experiments, which meets no blocked district, and where observations alone give a formula it is that one. The text shows it, or is its certificate.
+pub record ShowsFormula (form : Form) (q : MixedGraph) (names : List (List ℕ)) (zs : List ℕ) (x y : ℕ) (text : List ℕ) : Type 0 where
   pub formula : PlainFormula
   pub derivation : PlainDerivation
   pub right : IsRightFormulaWith q zs x y formula derivation
@@ -33,12 +35,13 @@ pub record ShowsFormula (q : MixedGraph) (names : List (List ℕ)) (zs : List �
   pub derived : IsSurrogateBySteps q zs x y formula derivation
   pub unblocked : SomeBlocked q zs x y → ⊥
   pub plain : (f : PlainFormula) → IsIdentified q x y f → formula ≡ f
-  pub prints : text ≡ formula_answer names (effect_on x y) formula
+  pub prints : text ≡ formula_text form names (effect_on x y) formula derivation
+  pub reads_back : ReadsBack form names (certificates.formula (effect_on x y) formula derivation)
 
 -- No: the district is the first that no experiment frees. The hedge is that for it without experiment; its two models are positive, fit q, agree on all observations and differ on the effect.
 -- Where the district's factor stops under all experiments that leave the district alone at once, and only there, there is a common hedge: its two models agree under each experiment too, so no formula
--- over what is observed and the experiments equals the effect. The text shows the district and the hedge's sets; or, where models are asked for and there is one, the common hedge with its models.
-pub record ShowsStop (q : MixedGraph) (names : List (List ℕ)) (zs : List ℕ) (x y : ℕ) (models : Bool) (text : List ℕ) : Type 0 where
+-- over what is observed and the experiments equals the effect. The text shows the district and the hedge's sets; or, where models or the certificate are asked for and there is one, the common hedge with its models, or its certificate.
+pub record ShowsStop (form : Form) (q : MixedGraph) (names : List (List ℕ)) (zs : List ℕ) (x y : ℕ) (text : List ℕ) : Type 0 where
   pub district : VSet
   pub hedge : Hedge
   pub pair : CounterPair
@@ -48,27 +51,28 @@ pub record ShowsStop (q : MixedGraph) (names : List (List ℕ)) (zs : List ℕ) 
   pub blocked : IfSome common (λ k. IsRightBlock q zs x y k.hedge k.pair)
   pub shown : IfSome common (λ k. IsBlockShown q zs x y district k.hedge k.pair)
   pub exact : IsSome common ↔ IsBlockedTogether q zs x y
-  pub prints : text ≡ stopped_text names models x y district.bits hedge common
+  pub prints : text ≡ stopped_text form names x y district.bits hedge common
+  pub reads_back : IfSome common (λ k. ReadsBack form names (certificates.hedge (effect_on x y) (hedge_view k.hedge)))
 
 -- the answer for the sets x and y, with experiments on zs
-abbrev pub SetsAnswer : MixedGraph → List (List ℕ) → List ℕ → (x y : ℕ) → (models : Bool) → Outcome → List ℕ → Type 0
-SetsAnswer q names zs x y models Yes text = ShowsFormula q names zs x y text
-SetsAnswer q names zs x y models No text = ShowsStop q names zs x y models text
-SetsAnswer q names zs x y models o text = ⊥
+abbrev pub SetsAnswer : Form → MixedGraph → List (List ℕ) → List ℕ → (x y : ℕ) → Outcome → List ℕ → Type 0
+SetsAnswer form q names zs x y Yes text = ShowsFormula form q names zs x y text
+SetsAnswer form q names zs x y No text = ShowsStop form q names zs x y text
+SetsAnswer form q names zs x y o text = ⊥
 
 -- ---- answers on a graph that was read
 
 -- the lists name sets, for which the answer is given
-abbrev pub IsAnswerOfSets : MixedGraph → SurrogateLists → (models : Bool) → Outcome → List ℕ → Type 0
-IsAnswerOfSets q l models o text = IsOfSets l (λ x y zs. SetsAnswer q l.effect.observed zs x y models o text)
+abbrev pub IsAnswerOfSets : Form → MixedGraph → SurrogateLists → Outcome → List ℕ → Type 0
+IsAnswerOfSets form q l o text = IsOfSets l (λ x y zs. SetsAnswer form q l.effect.observed zs x y o text)
 
 -- the answer for lists of names
-abbrev pub ListsAnswer : MixedGraph → SurrogateLists → (models : Bool) → Outcome → List ℕ → Type 0
-ListsAnswer q l models Yes text = IsAnswerOfSets q l models Yes text
-ListsAnswer q l models No text = IsAnswerOfSets q l models No text
-ListsAnswer q l models Graph text = IsRefusal l text
-ListsAnswer q l models o text = ⊥
+abbrev pub ListsAnswer : Form → MixedGraph → SurrogateLists → Outcome → List ℕ → Type 0
+ListsAnswer form q l Yes text = IsAnswerOfSets form q l Yes text
+ListsAnswer form q l No text = IsAnswerOfSets form q l No text
+ListsAnswer form q l Graph text = IsRefusal l text
+ListsAnswer form q l o text = ⊥
 
 -- the answer on a graph that was read, in its observed graph
-abbrev pub SurrogateAnswer : ReadGraph → Names → Names → Lists → (models : Bool) → Outcome → List ℕ → Type 0
-SurrogateAnswer g x y experiments models o text = (q : MixedGraph) × IsObservedGraph g q × ListsAnswer q (surrogate_lists g x y experiments) models o text
+abbrev pub SurrogateAnswer : Form → ReadGraph → Names → Names → Lists → Outcome → List ℕ → Type 0
+SurrogateAnswer form g x y experiments o text = (q : MixedGraph) × IsObservedGraph g q × ListsAnswer form q (surrogate_lists g x y experiments) o text

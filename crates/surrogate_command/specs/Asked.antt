@@ -13,7 +13,7 @@ use Rattle.targets.specs.FaultTexts.{target_fault_text}
 use Rattle.replies.specs.declared.outcome.Outcome.TheVariants.{Graph}
 use Rattle.replies.specs.Observed.{Names, observed_names, IsObservedGraph}
 use Rattle.effect_answers.specs.Effects.{effect_lists}
-use Rattle.surrogate_command.specs.Experiments.{Lists}
+use Rattle.experiment_lists.specs.Words.{Lists}
 use Rattle.surrogate_command.specs.Sets.{SurrogateLists, AreSurrogateSets, IsSurrogateFault}
 use Rattle.surrogate_command.specs.declared.effect.SurrogateEffect.{SurrogateEffect}
 use Rattle.surrogate_command.specs.declared.effect.Asked.{Asked}

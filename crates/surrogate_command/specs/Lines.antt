@@ -1,13 +1,24 @@
--- What is printed where a district stops.
-use Rattle.std.specs.Prelude.{ℕ, Bool, true, false, List, ◌++◌, Option, Some, None, codes}
+-- What is printed.
+use Rattle.std.specs.Prelude.{ℕ, ◌≡◌, List, ◌++◌, Option, Some, None, Ok, codes}
 use Rattle.answer_text.specs.Texts.{set_text}
 use Rattle.expr_text.specs.Write.{text_of}
+use Rattle.prob_expr.specs.Tree.{PlainFormula, PlainTarget}
+use Rattle.do_derivation.specs.Plans.{PlainDerivation}
 use Rattle.hedge.specs.declared.hedge.Hedge.{Hedge}
 use Rattle.counter_models.specs.declared.counter_pair.CounterPair.{CounterPair}
-use Rattle.identify_text.specs.Answers.{effect}
+use Rattle.id_recursion.specs.Answers.{effect_on}
+use Rattle.identify_text.specs.Answers.{effect, formula_answer}
 use Rattle.identify_text.specs.HedgeLines.{sets_line}
 use Rattle.identify_text.specs.PairLines.{models_text}
+use Rattle.experiment_lists.specs.Lines.{unidentifiable_with_line}
+use Rattle.certificate.specs.Plain.{PlainCertificate, hedge_view}
+use Rattle.certificate.specs.Plain as plain
+use Rattle.certificate.specs.Reading.{certificate_in}
+use Rattle.certificate_writing.specs.Written.{certificate_text}
+use Rattle.effect_certificates.specs.Lines.{certificate_line}
 use Rattle.surrogates.specs.declared.answer.CommonHedge.{CommonHedge}
+use Rattle.surrogate_command.specs.declared.form.Form.{Form}
+use Rattle.surrogate_command.specs.declared.form.Form.TheVariants.{Plain, Models, Certificate}
 
 -- `P(Y|do(X)) has no formula found from these experiments`
 abbrev pub unfound_line : List (List ℕ) → (x y : ℕ) → List ℕ
@@ -21,17 +32,24 @@ district_line names district = codes "district " ++ (set_text names district ++ 
 abbrev pub stop_answer : List (List ℕ) → (x y district : ℕ) → Hedge → List ℕ
 stop_answer names x y district h = unfound_line names x y ++ (district_line names district ++ sets_line names h)
 
--- `P(Y|do(X)) is not identifiable from these experiments`
-abbrev pub unidentifiable_with_line : List (List ℕ) → (x y : ℕ) → List ℕ
-unidentifiable_with_line names x y = text_of names (effect x y) ++ codes " is not identifiable from these experiments\n"
-
 -- that no formula equals the effect, the district that stops, and the common hedge with its two models
 abbrev pub common_answer : List (List ℕ) → (x y district : ℕ) → Hedge → CounterPair → List ℕ
 common_answer names x y district h pair =
     unidentifiable_with_line names x y ++ (district_line names district ++ (sets_line names h ++ models_text names h pair))
 
--- the text of a stop: with the common hedge and its models, where models are asked for and there is one
-abbrev pub stopped_text : List (List ℕ) → (models : Bool) → (x y district : ℕ) → Hedge → Option CommonHedge → List ℕ
-stopped_text names false x y district h common = stop_answer names x y district h
-stopped_text names true x y district h None = stop_answer names x y district h
-stopped_text names true x y district h (Some common) = common_answer names x y district common.hedge common.pair
+-- the text of a formula: the formula, or its certificate
+abbrev pub formula_text : Form → List (List ℕ) → PlainTarget → PlainFormula → PlainDerivation → List ℕ
+formula_text Plain names t f d = formula_answer names t f
+formula_text Models names t f d = formula_answer names t f
+formula_text Certificate names t f d = certificate_line names (plain.formula t f d)
+
+-- the text of a stop: where models or the certificate are asked for and there is a common hedge, that with its models, or its certificate
+abbrev pub stopped_text : Form → List (List ℕ) → (x y district : ℕ) → Hedge → Option CommonHedge → List ℕ
+stopped_text form names x y district h None = stop_answer names x y district h
+stopped_text Plain names x y district h (Some common) = stop_answer names x y district h
+stopped_text Models names x y district h (Some common) = common_answer names x y district common.hedge common.pair
+stopped_text Certificate names x y district h (Some common) = certificate_line names (plain.hedge (effect_on x y) (hedge_view common.hedge))
+
+-- where the form is the certificate, this one is read back from its text
+abbrev pub ReadsBack : Form → List (List ℕ) → PlainCertificate → Type 0
+ReadsBack form names c = form ≡ Certificate → certificate_in names (certificate_text names c) ≡ Ok c

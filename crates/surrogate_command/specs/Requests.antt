@@ -1,16 +1,18 @@
 -- What `surrogate` is asked for.
-use Rattle.std.specs.Prelude.{◌≡◌, Bool, List, Some, [], ◌∷◌, codes, option_map}
+use Rattle.std.specs.Prelude.{◌≡◌, List, Some, [], ◌∷◌, codes, option_map}
 use Rattle.word_forms.specs.Form.{Text, Row, Use, word_of, value_of, has_flag}
 use Rattle.request_values.specs.Values as values
 use Rattle.replies.specs.Observed.{Names}
 use Rattle.word_lists.specs.Views.{names_in}
-use Rattle.surrogate_command.specs.Experiments.{Lists, AreNeededExperiments}
-use Rattle.surrogate_command.specs.Views.{lists_in}
+use Rattle.experiment_lists.specs.Words.{Lists, AreNeededExperiments}
+use Rattle.experiment_lists.specs.Views.{lists_in}
+use Rattle.surrogate_command.specs.declared.form.Form.{Form}
+use Rattle.surrogate_command.specs.Forms.{IsForm}
 use Rattle.surrogate_command.specs.declared.request.Request.{Request as CodeRequest}
 
--- `surrogate FILE [--x L] [--y L] --experiments E [--models]`
+-- `surrogate FILE [--x L] [--y L] --experiments E [--models] [--certificate]`
 abbrev pub surrogate_row : Row
-surrogate_row = record { name = codes "surrogate"; positionals = codes "file" ∷ []; extra = []; needed = codes "experiments" ∷ []; options = codes "x" ∷ codes "y" ∷ []; flags = codes "models" ∷ [] }
+surrogate_row = record { name = codes "surrogate"; positionals = codes "file" ∷ []; extra = []; needed = codes "experiments" ∷ []; options = codes "x" ∷ codes "y" ∷ []; flags = codes "models" ∷ codes "certificate" ∷ [] }
 
 -- a request
 pub record Request : Type 0 where
@@ -18,11 +20,11 @@ pub record Request : Type 0 where
   pub x : Names
   pub y : Names
   pub experiments : Lists
-  pub models : Bool
+  pub form : Form
 
 -- the request
 abbrev pub request_of : CodeRequest → Request
-request_of r = record { file = r.file.now; x = option_map names_in r.x; y = option_map names_in r.y; experiments = lists_in r.experiments; models = r.models }
+request_of r = record { file = r.file.now; x = option_map names_in r.x; y = option_map names_in r.y; experiments = lists_in r.experiments; form = r.form }
 
 -- the uses ask for this
 pub record IsRequest (uses : List Use) (r : Request) : Type 0 where
@@ -30,4 +32,4 @@ pub record IsRequest (uses : List Use) (r : Request) : Type 0 where
   pub x : values.IsListed (value_of uses (codes "x")) r.x
   pub y : values.IsListed (value_of uses (codes "y")) r.y
   pub experiments : AreNeededExperiments (value_of uses (codes "experiments")) r.experiments
-  pub models : has_flag uses (codes "models") ≡ r.models
+  pub form : IsForm (has_flag uses (codes "models")) (has_flag uses (codes "certificate")) r.form

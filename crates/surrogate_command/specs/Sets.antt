@@ -1,8 +1,9 @@
 -- What the lists of an effect over experiments stand for: sets of vertices, or the first fault.
-use Rattle.std.specs.Prelude.{ℕ, ◌≡◌, false, List, [], ◌∷◌, Option, None}
+use Rattle.std.specs.Prelude.{ℕ, ◌≡◌, List, Option, None}
 use Rattle.targets.specs.declared.fault.TargetFault.{TargetFault}
 use Rattle.targets.specs.declared.fault.TargetFault.TheVariants.{EmptyX}
-use Rattle.targets.specs.Targets.{NameFault, first_fault, or_fault, IsListedSet, IsFaultOfTarget, EffectLists, effect_fault, AreEffectSets}
+use Rattle.targets.specs.Targets.{NameFault, or_fault, IsFaultOfTarget, EffectLists, effect_fault, AreEffectSets}
+use Rattle.experiment_lists.specs.Sets.{experiments_fault, AreExperimentSets}
 
 -- the lists of an effect, and one for each experiment
 pub record SurrogateLists : Type 0 where
@@ -13,21 +14,9 @@ pub record SurrogateLists : Type 0 where
 abbrev pub lists_of : (all observed x y : List (List ℕ)) → List (List (List ℕ)) → SurrogateLists
 lists_of all observed x y experiments = record { effect = record { all = all; observed = observed; x = x; y = y }; experiments = experiments }
 
--- the first name at fault of experiments in turn, each of which may share names with the others
-abbrev pub experiments_fault : (all observed : List (List ℕ)) → List (List (List ℕ)) → Option NameFault
-experiments_fault all observed [] = None
-experiments_fault all observed (e ∷ es) = or_fault (first_fault all observed (λ n. false) e) (experiments_fault all observed es)
-
 -- the first name at fault: x first, then y, then each experiment, which may share names with x and y
 abbrev pub surrogate_fault : SurrogateLists → Option NameFault
 surrogate_fault l = or_fault (effect_fault l.effect) (experiments_fault l.effect.all l.effect.observed l.experiments)
-
--- the masks hold the observed vertices whose names the experiments list, one for each
-abbrev pub AreExperimentSets : (observed : List (List ℕ)) → List (List (List ℕ)) → List ℕ → Type 0
-AreExperimentSets observed [] [] = Unit {0}
-AreExperimentSets observed [] (z ∷ zs) = ⊥
-AreExperimentSets observed (e ∷ es) [] = ⊥
-AreExperimentSets observed (e ∷ es) (z ∷ zs) = IsListedSet observed e z × AreExperimentSets observed es zs
 
 -- the sets of an effect over experiments: no name is at fault, and y isn't empty
 pub record AreSurrogateSets (l : SurrogateLists) (x y : ℕ) (zs : List ℕ) : Type 0 where

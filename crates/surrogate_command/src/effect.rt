@@ -3,7 +3,7 @@
 ghost use Rattle.std.specs.Prelude.{IfOk, map, option_map};
 ghost use Rattle.word_lists.specs.Views.{names_in};
 ghost use Rattle.surrogate_command.specs.Asked.{IsAsked};
-ghost use Rattle.surrogate_command.specs.Experiments.{AreFilled};
+ghost use Rattle.experiment_lists.specs.Words.{AreFilled};
 
 use crate::sets::{SurrogateSets, find_surrogate_sets};
 use dag_reader::ReadGraph;

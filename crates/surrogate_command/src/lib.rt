@@ -2,11 +2,12 @@
 #![tactic(auto)]
 
 mod effect;
-mod experiments;
+mod form;
 mod reply;
 mod request;
 mod sets;
 mod texts;
 
+pub use form::Form;
 pub use reply::surrogate_reply;
 pub use request::{ROW, Request};

@@ -3,24 +3,20 @@ ghost use Rattle.mixed_graph.specs.Bits.{has};
 ghost use Rattle.mixed_graph.specs.Sets.{Within, Apart};
 ghost use Rattle.mixed_graph.specs.Shown.{graph_of};
 ghost use Rattle.prob_expr.specs.Listed.{masks_of};
-ghost use Rattle.prob_expr.specs.View.{target_view};
 ghost use Rattle.do_derivation.specs.Accepts.{are_sets};
-ghost use Rattle.id_recursion.specs.Answers.{effect_on};
 ghost use Rattle.word_lists.specs.Views.{names_in};
 ghost use Rattle.surrogate_command.specs.Answers.{SurrogateAnswer, SetsAnswer};
-ghost use Rattle.surrogate_command.specs.Experiments.{AreFilled};
+ghost use Rattle.experiment_lists.specs.Words.{AreFilled};
 ghost use Rattle.surrogate_command.specs.Requests.{request_of};
-ghost use Rattle.surrogate_command.specs.Views.{lists_in};
+ghost use Rattle.experiment_lists.specs.Views.{lists_in};
 
 use crate::effect::{Asked, asked_effect};
+use crate::form::Form;
 use crate::request::Request;
 use crate::sets::SurrogateSets;
-use crate::texts::stopped_text;
+use crate::texts::{effect_of, formula_text, stopped_text};
 use dag_reader::ReadGraph;
-use identify_text::formula_answer;
 use latent_projection::Observed;
-use mixed_graph::VSet;
-use prob_expr::Target;
 use replies::{Outcome, Reply};
 use std::alloc::{AllocError, Global};
 use surrogates::{Surrogate, identify_with};
@@ -29,7 +25,8 @@ use surrogates::{Surrogate, identify_with};
 /// P(y | do(x)), or the first district that no experiment frees (Bareinboim and Pearl 2012).
 ///
 /// Where models are asked for, and the district stops under all experiments that leave it alone at once, the answer
-/// shows the hedge at which it does, and its two models.
+/// shows the hedge at which it does, and its two models. Where the certificate is asked for, it is that of the formula,
+/// or of that hedge.
 ///
 /// A list that is missing is that of the exposures or of the outcomes. The only error is want of memory.
 pub fn surrogate_reply(
@@ -37,7 +34,7 @@ pub fn surrogate_reply(
     graph: &ReadGraph,
     request: Request<'_>,
 ) -> Result<Reply, AllocError>
-    ensures { IfOk result (λ r. SurrogateAnswer graph.now (request_of request.entry).x (request_of request.entry).y (request_of request.entry).experiments (request_of request.entry).models r.outcome r.text.items) }
+    ensures { IfOk result (λ r. SurrogateAnswer (request_of request.entry).form graph.now (request_of request.entry).x (request_of request.entry).y (request_of request.entry).experiments r.outcome r.text.items) }
 {
     reply_for(
         alloc,
@@ -45,7 +42,7 @@ pub fn surrogate_reply(
         request.x,
         request.y,
         request.experiments,
-        request.models,
+        request.form,
     )
 }
 
@@ -56,13 +53,13 @@ fn reply_for(
     x: Option<Vec<Vec<u8>>>,
     y: Option<Vec<Vec<u8>>>,
     experiments: Vec<Vec<Vec<u8>>>,
-    models: bool,
+    form: Form,
 ) -> Result<Reply, AllocError>
     requires { AreFilled (lists_in experiments) }
-    ensures { IfOk result (λ r. SurrogateAnswer graph.now (option_map names_in x) (option_map names_in y) (lists_in experiments) models r.outcome r.text.items) }
+    ensures { IfOk result (λ r. SurrogateAnswer form graph.now (option_map names_in x) (option_map names_in y) (lists_in experiments) r.outcome r.text.items) }
 {
     match asked_effect(alloc, graph, x, y, &experiments)? {
-        Asked::Effect(effect) => decide(alloc, &effect.seen, &effect.sets, models),
+        Asked::Effect(effect) => decide(alloc, &effect.seen, &effect.sets, form),
         Asked::Refused(reply) => Ok(reply),
     }
 }
@@ -72,7 +69,7 @@ fn decide(
     alloc: Global,
     seen: &Observed,
     sets: &SurrogateSets,
-    models: bool,
+    form: Form,
 ) -> Result<Reply, AllocError>
     requires named { length seen.now.names ≡ seen.now.graph.n }
     requires x { Within seen.now.graph.n (has sets.now.x.bits) }
@@ -81,13 +78,20 @@ fn decide(
     requires some { 0 < sets.now.y.bits }
     requires few { length sets.now.experiments.items ≤ 8 }
     requires experiments { are_sets seen.now.graph.n (masks_of sets.now.experiments.items) ≡ true }
-    ensures { IfOk result (λ r. SetsAnswer (graph_of seen.now.graph) seen.now.names (masks_of sets.now.experiments.items) sets.now.x.bits sets.now.y.bits models r.outcome r.text.items) }
+    ensures { IfOk result (λ r. SetsAnswer form (graph_of seen.now.graph) seen.now.names (masks_of sets.now.experiments.items) sets.now.x.bits sets.now.y.bits r.outcome r.text.items) }
 {
     let experiments = sets.experiments.as_slice();
     match identify_with(alloc, &seen.graph, sets.x, sets.y, experiments)? {
-        Surrogate::Formula(formula, _) => Ok(Reply {
+        Surrogate::Formula(formula, derivation) => Ok(Reply {
             outcome: Outcome::Yes,
-            text: formula_answer(alloc, &formula, &effect_of(sets), &seen.names)?,
+            text: formula_text(
+                alloc,
+                &seen.names,
+                effect_of(sets),
+                formula,
+                derivation,
+                form,
+            )?,
         }),
         Surrogate::Stopped {
             district,
@@ -96,21 +100,7 @@ fn decide(
             ..
         } => Ok(Reply {
             outcome: Outcome::No,
-            text: stopped_text(alloc, sets, district, &hedge, &common, models, &seen.names)?,
+            text: stopped_text(alloc, sets, district, &hedge, common, form, &seen.names)?,
         }),
-    }
-}
-
-/// The effect of the sets.
-fn effect_of(sets: &SurrogateSets) -> Target
-    ensures view { target_view result ≡ effect_on sets.now.x.bits sets.now.y.bits }
-    ensures x { result.x ≡ sets.now.x }
-    ensures y { result.y ≡ sets.now.y }
-    ensures given { result.given.bits ≡ 0 }
-{
-    Target {
-        x: sets.x,
-        y: sets.y,
-        given: VSet::EMPTY,
     }
 }

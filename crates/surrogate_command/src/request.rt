@@ -1,23 +1,26 @@
-ghost use Rattle.std.specs.Prelude.{◌≡◌, ℕ, List, true, IfOk, IsErrOf};
+ghost use Rattle.std.specs.Prelude.{◌≡◌, ℕ, List, true, IfOk, IfSome, IfNone, IsErrOf};
 ghost use Rattle.word_forms.specs.Form.{Row, Use, is_among, value_names, value_of};
 ghost use Rattle.word_values.specs.Gives.{HoldsCall};
-ghost use Rattle.surrogate_command.specs.Experiments.{AreFilled, AreNeededExperiments, Lists};
-ghost use Rattle.surrogate_command.specs.Views.{lists_in};
+ghost use Rattle.experiment_lists.specs.Words.{AreFilled, AreNeededExperiments, Lists};
+ghost use Rattle.experiment_lists.specs.Views.{lists_in};
+ghost use Rattle.surrogate_command.specs.Forms.{IsForm};
+ghost use Rattle.surrogate_command.specs.declared.form.Form as asked;
 
-use crate::experiments::read_experiments;
+use crate::form::Form;
+use experiment_lists::read_experiments;
 use request_values::{RequestFault, Subject};
 use std::alloc::Global;
 use word_forms::Entry;
 use word_values::Values;
 
-/// `surrogate FILE [--x L] [--y L] --experiments E [--models]`
+/// `surrogate FILE [--x L] [--y L] --experiments E [--models] [--certificate]`
 pub const ROW: Entry = Entry {
     name: "surrogate",
     positionals: &["file"],
     extra: &[],
     needed: &["experiments"],
     options: &["x", "y"],
-    flags: &["models"],
+    flags: &["models", "certificate"],
 };
 
 /// What is asked for.
@@ -27,7 +30,7 @@ pub struct Request<'a> {
     pub x: Option<Vec<Vec<u8>>>,
     pub y: Option<Vec<Vec<u8>>>,
     pub experiments: Vec<Vec<Vec<u8>>>,
-    pub models: bool,
+    pub form: Form,
     pub ghost filled: { AreFilled (lists_in experiments) },
 }
 
@@ -42,6 +45,10 @@ impl<'a> Request<'a> {
         ensures none { (uses : List Use) → HoldsCall surrogate_row uses values.now → IsErrOf result RequestFault.NotUnderstood → AsksNothing surrogate_command uses }
     {
         let models = values.flag("models");
+        let certificate = values.flag("certificate");
+        let Some(form) = read_form(models, certificate) else {
+            return Err(RequestFault::NotUnderstood);
+        };
         let Subject { file, x, y } = Subject::read(alloc, values)?;
         let experiments = needed_experiments(alloc, values, "experiments")?;
         Ok(Request {
@@ -49,8 +56,21 @@ impl<'a> Request<'a> {
             x,
             y,
             experiments,
-            models,
+            form,
         })
+    }
+}
+
+/// The form of an answer, where at most one is asked for.
+fn read_form(models: bool, certificate: bool) -> Option<Form>
+    ensures some { IfSome result (λ f. IsForm models certificate f) }
+    ensures none { IfNone result ((f : asked.Form) → IsForm models certificate f → ⊥) }
+{
+    match (models, certificate) {
+        (false, false) => Some(Form::Plain),
+        (true, false) => Some(Form::Models),
+        (false, true) => Some(Form::Certificate),
+        (true, true) => None,
     }
 }
 

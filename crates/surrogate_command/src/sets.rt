@@ -1,40 +1,16 @@
 //! The sets that the lists of an effect over experiments name.
 
-ghost use Rattle.std.specs.Prelude.{◌≡◌, None, IfOk, IfErr, OnOk, map};
+ghost use Rattle.std.specs.Prelude.{IfOk, IfErr, map};
 ghost use Rattle.mixed_graph.specs.Names.{texts};
 ghost use Rattle.prob_expr.specs.Listed.{masks_of};
-ghost use Rattle.targets.specs.Targets.{IsNameFault, OrMemory};
+ghost use Rattle.targets.specs.Targets.{OrMemory};
 ghost use Rattle.word_lists.specs.Views.{names_in};
-ghost use Rattle.surrogate_command.specs.Sets.{experiments_fault, AreExperimentSets, AreSurrogateSets, IsSurrogateFault, lists_of};
+ghost use Rattle.surrogate_command.specs.Sets.{AreSurrogateSets, IsSurrogateFault, lists_of};
 
+use experiment_lists::experiment_sets;
 use mixed_graph::{Names, VSet};
 use std::alloc::Global;
-use targets::{TargetFault, walk, walk_two};
-
-/// The sets that experiments name, each walked by itself; else the first name at fault.
-fn experiment_sets(
-    alloc: Global,
-    all: &Names,
-    observed: &Names,
-    experiments: &[Vec<Vec<u8>>],
-) -> Result<Vec<VSet>, TargetFault>
-    ensures none { OnOk result (experiments_fault all.now observed.now (map names_in experiments.now) ≡ None) }
-    ensures sets { IfOk result (λ v. AreExperimentSets observed.now (map names_in experiments.now) (masks_of v.items)) }
-    ensures fault { IfErr result (IsNameFault (experiments_fault all.now observed.now (map names_in experiments.now))) }
-{
-    let mut sets = Vec::new(alloc);
-    for experiment in experiments {
-        let set = match walk(alloc, all, observed, VSet::empty(), experiment.as_slice()) {
-            Ok(set) => set,
-            Err(fault) => return Err(fault),
-        };
-        match sets.push(set) {
-            Ok(()) => {}
-            Err(_) => return Err(TargetFault::NoMemory),
-        }
-    }
-    Ok(sets)
-}
+use targets::{TargetFault, walk_two};
 
 /// The sets of an effect of x on y over experiments.
 #[derive(Drop)]

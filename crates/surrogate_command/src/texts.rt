@@ -1,16 +1,33 @@
-//! The text of a stop.
+//! The texts of the answers.
 
-ghost use Rattle.std.specs.Prelude.{◌≡◌, ◌++◌, OnOk, IfOk, IfSome, length};
+ghost use Rattle.std.specs.Prelude.{◌≡◌, ◌++◌, OnOk, IfOk, IfSome, Ok, None, length};
 ghost use Rattle.mixed_graph.specs.Bits.{has};
 ghost use Rattle.mixed_graph.specs.Sets.{Within};
+ghost use Rattle.prob_expr.specs.Check.{fault_in};
+ghost use Rattle.prob_expr.specs.View.{target_view, formula_view};
+ghost use Rattle.do_derivation.specs.View.{derivation_view};
+ghost use Rattle.id_recursion.specs.Answers.{effect_on};
 ghost use Rattle.identify_text.specs.Below.{IsHedgeBelow, ArePairBelow};
-ghost use Rattle.surrogate_command.specs.Lines.{unfound_line, unidentifiable_with_line, district_line, stop_answer, common_answer, stopped_text};
+ghost use Rattle.certificate.specs.Plain.{hedge_view, formula as formula_case, hedge as hedge_case};
+ghost use Rattle.certificate.specs.Reading.{certificate_in};
+ghost use Rattle.certificate_writing.specs.Writable.{IsTargetWithin, IsBareTarget, IsDerivationWithin, IsHedgeWithin, IsFormulaShallow};
+ghost use Rattle.certificate_writing.specs.Written.{certificate_text};
+ghost use Rattle.effect_certificates.specs.Lines.{certificate_line};
+ghost use Rattle.surrogate_command.specs.Commons.{IsCommonBelow};
+ghost use Rattle.surrogate_command.specs.Lines.{unfound_line, district_line, stop_answer, common_answer, formula_text, stopped_text, ReadsBack};
 
+use crate::form::Form;
 use crate::sets::SurrogateSets;
 use answer_text::push_set;
+use certificate::Certificate;
+use counter_models::CounterPair;
+use do_derivation::Derivation;
+use effect_certificates::{certificate_line, sized};
+use experiment_lists::unidentifiable_text;
 use hedge::Hedge;
-use identify_text::{effect_text, push_hedge_sets, push_models};
+use identify_text::{effect_text, formula_answer, push_hedge_sets, push_models};
 use mixed_graph::{Names, VSet};
+use prob_expr::{Formula, Target};
 use std::alloc::{AllocError, Global};
 use surrogates::CommonHedge;
 
@@ -22,17 +39,6 @@ fn unfound(alloc: Global, names: &Names, x: VSet, y: VSet) -> Result<Vec<u8>, Al
 {
     let mut text = effect_text(alloc, x, y, names)?;
     text.extend_from_slice(b" has no formula found from these experiments\n")?;
-    Ok(text)
-}
-
-/// The line that no formula equals the effect.
-fn unidentifiable(alloc: Global, names: &Names, x: VSet, y: VSet) -> Result<Vec<u8>, AllocError>
-    requires x { Within (length names.now) (has x.bits) }
-    requires y { Within (length names.now) (has y.bits) }
-    ensures { IfOk result (λ v. v.items ≡ unidentifiable_with_line names.now x.bits y.bits) }
-{
-    let mut text = effect_text(alloc, x, y, names)?;
-    text.extend_from_slice(b" is not identifiable from these experiments\n")?;
     Ok(text)
 }
 
@@ -77,48 +83,114 @@ fn stop_answer(
 /// Each line ends with a line feed.
 fn common_answer(
     alloc: Global,
-    x: VSet,
-    y: VSet,
-    district: VSet,
-    common: &CommonHedge,
-    names: &Names,
-) -> Result<Vec<u8>, AllocError>
-    requires x { Within (length names.now) (has x.bits) }
-    requires y { Within (length names.now) (has y.bits) }
-    requires district { Within (length names.now) (has district.bits) }
-    requires hedge { IsHedgeBelow (length names.now) common.now.hedge }
-    requires models { ArePairBelow (length names.now) common.now.pair }
-    ensures { IfOk result (λ v. v.items ≡ common_answer names.now x.bits y.bits district.bits common.now.hedge common.now.pair) }
-{
-    let mut text = unidentifiable(alloc, names, x, y)?;
-    push_district(&mut text, names, district)?;
-    push_hedge_sets(&mut text, names, &common.hedge)?;
-    push_models(alloc, &mut text, names, &common.hedge, &common.pair)?;
-    Ok(text)
-}
-
-/// The text of a stop: with the common hedge and its models, where models are asked for and there is one.
-pub fn stopped_text(
-    alloc: Global,
     sets: &SurrogateSets,
     district: VSet,
     hedge: &Hedge,
-    common: &Option<CommonHedge>,
-    models: bool,
+    pair: &CounterPair,
     names: &Names,
 ) -> Result<Vec<u8>, AllocError>
     requires x { Within (length names.now) (has sets.now.x.bits) }
     requires y { Within (length names.now) (has sets.now.y.bits) }
     requires district { Within (length names.now) (has district.bits) }
     requires hedge { IsHedgeBelow (length names.now) hedge.now }
-    requires common { IfSome common.now (λ k. IsHedgeBelow (length names.now) k.hedge × ArePairBelow (length names.now) k.pair) }
-    ensures { IfOk result (λ v. v.items ≡ stopped_text names.now models sets.now.x.bits sets.now.y.bits district.bits hedge.now common.now) }
+    requires models { ArePairBelow (length names.now) pair.now }
+    ensures { IfOk result (λ v. v.items ≡ common_answer names.now sets.now.x.bits sets.now.y.bits district.bits hedge.now pair.now) }
 {
-    if !models {
-        return stop_answer(alloc, sets.x, sets.y, district, hedge, names);
+    let mut text = unidentifiable_text(alloc, names, sets.x, sets.y)?;
+    push_district(&mut text, names, district)?;
+    push_hedge_sets(&mut text, names, hedge)?;
+    push_models(alloc, &mut text, names, hedge, pair)?;
+    Ok(text)
+}
+
+/// The effect of the sets.
+pub fn effect_of(sets: &SurrogateSets) -> Target
+    ensures view { target_view result ≡ effect_on sets.now.x.bits sets.now.y.bits }
+    ensures x { result.x ≡ sets.now.x }
+    ensures y { result.y ≡ sets.now.y }
+    ensures given { result.given.bits ≡ 0 }
+{
+    Target {
+        x: sets.x,
+        y: sets.y,
+        given: VSet::EMPTY,
     }
-    match common {
-        Some(common) => common_answer(alloc, sets.x, sets.y, district, common, names),
-        None => stop_answer(alloc, sets.x, sets.y, district, hedge, names),
+}
+
+/// The text of a formula with its derivation.
+pub fn formula_text(
+    alloc: Global,
+    names: &Names,
+    target: Target,
+    formula: Formula,
+    derivation: Derivation,
+    form: Form,
+) -> Result<Vec<u8>, AllocError>
+    requires what { Within (length names.now) (has target.y.bits) }
+    requires doing { Within (length names.now) (has target.x.bits) }
+    requires given { Within (length names.now) (has target.given.bits) }
+    requires target { IsTargetWithin (length names.now) (target_view target) }
+    requires formula { fault_in (length names.now) (formula_view formula) ≡ None }
+    requires derivation { IsDerivationWithin (length names.now) (derivation_view derivation) }
+    requires shallow { IsFormulaShallow (formula_view formula) (derivation_view derivation) }
+    ensures text { IfOk result (λ v. v.items ≡ formula_text form names.now (target_view target) (formula_view formula) (derivation_view derivation)) }
+    ensures reads_back { IfOk result (λ v. ReadsBack form names.now (formula_case (target_view target) (formula_view formula) (derivation_view derivation))) }
+{
+    match form {
+        Form::Plain | Form::Models => formula_answer(alloc, &formula, &target, names),
+        Form::Certificate => {
+            let certificate = Certificate::Formula(target, formula, derivation);
+            certificate_line(alloc, &certificate, names)
+        }
+    }
+}
+
+/// The certificate of a hedge for an effect.
+fn hedge_certificate(
+    alloc: Global,
+    names: &Names,
+    target: Target,
+    hedge: Hedge,
+) -> Result<Vec<u8>, AllocError>
+    requires target { IsBareTarget (length names.now) (target_view target) }
+    requires data { length hedge.links.found ≡ 64 → length hedge.links.partner ≡ 64 → IsHedgeWithin (length names.now) (hedge_view hedge) }
+    ensures text { IfOk result (λ v. v.items ≡ certificate_line names.now (hedge_case (target_view target) (hedge_view hedge))) }
+    ensures reads_back { IfOk result (λ v. certificate_in names.now (certificate_text names.now (hedge_case (target_view target) (hedge_view hedge))) ≡ Ok (hedge_case (target_view target) (hedge_view hedge))) }
+{
+    sized(&hedge);
+    let certificate = Certificate::Hedge(target, hedge);
+    certificate_line(alloc, &certificate, names)
+}
+
+/// The text of a stop. Where there is a common hedge, and it is asked for, that with its models, or its certificate.
+pub fn stopped_text(
+    alloc: Global,
+    sets: &SurrogateSets,
+    district: VSet,
+    hedge: &Hedge,
+    common: Option<CommonHedge>,
+    form: Form,
+    names: &Names,
+) -> Result<Vec<u8>, AllocError>
+    requires x { Within (length names.now) (has sets.now.x.bits) }
+    requires y { Within (length names.now) (has sets.now.y.bits) }
+    requires target { IsBareTarget (length names.now) (effect_on sets.now.x.bits sets.now.y.bits) }
+    requires district { Within (length names.now) (has district.bits) }
+    requires hedge { IsHedgeBelow (length names.now) hedge.now }
+    requires common { IfSome common (λ k. IsCommonBelow (length names.now) k) }
+    ensures text { IfOk result (λ v. v.items ≡ stopped_text form names.now sets.now.x.bits sets.now.y.bits district.bits hedge.now common) }
+    ensures reads_back { IfOk result (λ v. IfSome common (λ k. ReadsBack form names.now (hedge_case (effect_on sets.now.x.bits sets.now.y.bits) (hedge_view k.hedge)))) }
+{
+    let Some(common) = common else {
+        return stop_answer(alloc, sets.x, sets.y, district, hedge, names);
+    };
+    let CommonHedge {
+        hedge: shared,
+        pair,
+    } = common;
+    match form {
+        Form::Plain => stop_answer(alloc, sets.x, sets.y, district, hedge, names),
+        Form::Models => common_answer(alloc, sets, district, &shared, &pair, names),
+        Form::Certificate => hedge_certificate(alloc, names, effect_of(sets), shared),
     }
 }

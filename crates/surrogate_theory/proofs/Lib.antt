@@ -6,4 +6,5 @@ pub mod Formed
 pub mod Induced
 pub mod PlainFirst
 pub mod Rooms
+pub mod Shallow
 pub mod Unique

@@ -8,6 +8,7 @@ use Rattle.do_derivation.specs.Accepts.{Accepts, are_sets}
 use Rattle.do_derivation.specs.Plans.{PlainDerivation}
 use Rattle.identification.specs.Depth.{is_plan_within, are_lemmas_within}
 use Rattle.identification.specs.Procedure.{IsTarget, IsIdentified}
+use Rattle.identification_answers.specs.Depth.{is_tree_within, are_defs_within}
 use Rattle.identification_answers.specs.Laws.{AreRoots}
 use Rattle.surrogate_theory.specs.Surrogates.{IsSurrogate, IsSurrogateBySteps, IsStoppedWith, IsFirstBlockedFor, SomeBlocked}
 
@@ -28,6 +29,11 @@ SurrogateIsAccepted = (g : MixedGraph) → IsMixedGraph g → (zs : List ℕ) �
 -- it has no fault
 abbrev pub SurrogateIsFormed : Type 0
 SurrogateIsFormed = (g : MixedGraph) → IsMixedGraph g → (zs : List ℕ) → are_sets g.vertices zs ≡ true → (x y : ℕ) → IsTarget g x y → (f : PlainFormula) → IsSurrogate g zs x y f → fault_in g.vertices f ≡ None
+
+-- its nodes nest at most 7 deep in main, and at most 5 in a definition, for any number of vertices and experiments
+abbrev pub SurrogateIsShallow : Type 0
+SurrogateIsShallow = (g : MixedGraph) (zs : List ℕ) (x y : ℕ) (f : PlainFormula) → IsSurrogate g zs x y f
+    → IsTrue (are_defs_within 5 f.defs) × IsTrue (is_tree_within 7 f.main)
 
 -- where the procedure stops there is a hedge for the effect
 abbrev pub StopHasHedge : Type 0

@@ -1,5 +1,5 @@
 ghost use Rattle.surrogate_theory.specs.Common.{StopUnderHasHedge, AroundIsApart, EachIsHarmless};
-ghost use Rattle.surrogate_theory.specs.Laws.{DerivedIsSurrogate, SurrogateIsAccepted, SurrogateIsFormed, StopHasHedge, StopIsFirstBlocked, BlockedExcludesFormula, OneSurrogate, OneStopWith, PlainComesFirst};
+ghost use Rattle.surrogate_theory.specs.Laws.{DerivedIsSurrogate, SurrogateIsAccepted, SurrogateIsFormed, SurrogateIsShallow, StopHasHedge, StopIsFirstBlocked, BlockedExcludesFormula, OneSurrogate, OneStopWith, PlainComesFirst};
 
 /// What follows from the definition of the procedure over experiments, about each formula that it
 /// answers and each place where it stops.
@@ -7,6 +7,7 @@ pub fn laws()
     ensures derived { DerivedIsSurrogate }
     ensures accepted { SurrogateIsAccepted }
     ensures formed { SurrogateIsFormed }
+    ensures shallow { SurrogateIsShallow }
     ensures hedge { StopHasHedge }
     ensures hedge_under { StopUnderHasHedge }
     ensures around { AroundIsApart }

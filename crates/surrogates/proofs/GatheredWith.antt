@@ -29,4 +29,4 @@ tried_goes_on g zs c k (Err (Stopped big)) is fault = λ ts. StopsWith.first fau
 tried_goes_on g zs c k (Err NoMemory) is fault = tt
 
 pub factors_of : (g : MixedGraph) (zs ts : List ℕ) (made : Factors) → Gathered (AreDerivedWith g zs) (StopsWith g zs) ts made → AreFactorsWith g zs ts made
-factors_of g zs ts made s = record { derived = gathered_derived (AreDerivedWith g zs) (StopsWith g zs) (λ k. AreDerivedWith.none) ts made s; counted = s.listed }
+factors_of g zs ts made s = record { derived = gathered_derived (AreDerivedWith g zs) (StopsWith g zs) (λ k. AreDerivedWith.none) ts made s; counted = s.listed; few = s.few }

@@ -23,11 +23,12 @@ use Rattle.counter_models.specs.declared.counter_pair.CounterPair.{CounterPair}
 use Rattle.hedge.specs.Hedges.{IsHedge}
 use Rattle.hedge.specs.declared.hedge.Hedge.{Hedge}
 use Rattle.id_recursion.proofs.RightAnswers.{if_ok, right_hedge, target_term}
-use Rattle.id_recursion.specs.Answers.{effect_on}
+use Rattle.id_recursion.specs.Answers.{effect_on, AreShallowSteps, IsShallowFormula}
 use Rattle.id_recursion.specs.Hedged.{IsHedgeOf}
 use Rattle.surrogate_theory.proofs.Answered.{derived_is_surrogate, surrogate_is_accepted, stop_is_first_blocked, blocked_excludes_formula, one_surrogate, plain_comes_first}
 use Rattle.surrogate_theory.proofs.Around.{around_is_apart, each_is_harmless}
 use Rattle.surrogate_theory.proofs.Blocked.{stop_under_has_hedge}
+use Rattle.surrogate_theory.proofs.Shallow.{surrogate_is_shallow}
 use Rattle.surrogate_theory.proofs.Unique.{first_blocked_one}
 use Rattle.surrogate_theory.specs.Common.{around}
 use Rattle.surrogate_theory.specs.Surrogates.{IsAmong, IsBlocked, IsFirstBlocked, IsFirstBlockedFor, IsStoppedUnder, IsStoppedWith, IsSurrogateBySteps, SomeBlocked}
@@ -92,6 +93,19 @@ if_formula g zs x y r P holds found = if_ok r (IsAnswerWith g zs x y) (λ a. IfF
     each : (a : Surrogate) → IsAnswerWith g zs x y a → IfFormula a P
     each (Formula f t) i = holds (formula_view f) (derivation_view t) i
     each (Stopped district h pair common) i = tt
+
+-- steps of its derivation nest little
+pub shallow_steps : (g : MixedGraph) → IsMixedGraph g → (zs : List ℕ) → are_sets g.vertices zs ≡ true → (x y : ℕ) → IsTarget g x y
+    → (f : PlainFormula) (t : PlainDerivation) → IsSurrogateBySteps g zs x y f t → AreShallowSteps t
+shallow_steps g valid zs sets x y target f t i =
+    let k = surrogate_is_accepted g valid zs sets x y target f t i in
+    record { main = k.main_deep; lemmas = k.lemmas_deep }
+
+-- and so do its nodes
+pub shallow_formula : (g : MixedGraph) (zs : List ℕ) (x y : ℕ) (f : PlainFormula) (t : PlainDerivation) → IsSurrogateBySteps g zs x y f t → IsShallowFormula f
+shallow_formula g zs x y f t i =
+    let k = surrogate_is_shallow g zs x y f (derived_is_surrogate g zs x y f t i) in
+    record { main = k.1; defs = k.0 }
 
 -- a district that is answered is the one at which the procedure stops
 pub stopped : (g : MixedGraph) (zs : List ℕ) (x y : ℕ) (a : Surrogate) → IsAnswerWith g zs x y a → IfStopped a (IsStopShown g zs x y)

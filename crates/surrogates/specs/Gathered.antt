@@ -1,5 +1,5 @@
 -- What the factors of the districts over experiments have to be, and where one stops.
-use Rattle.std.specs.Prelude.{ℕ, ◌≡◌, List, length, map}
+use Rattle.std.specs.Prelude.{ℕ, ◌≡◌, ◌≤◌, ◌*◌, List, length, map}
 use Rattle.mixed_graph.specs.Graphs.{MixedGraph}
 use Rattle.prob_expr.specs.View.{view, views}
 use Rattle.do_derivation.specs.View.{lemma_view}
@@ -9,10 +9,11 @@ use Rattle.id_recursion.specs.declared.answer.Factors.{Factors}
 use Rattle.id_recursion.specs.declared.answer.Stop.{Stop}
 use Rattle.surrogate_theory.specs.Surrogates.{AreDerivedWith, StopsWith}
 
--- the factors of these districts over the experiments, with their definitions and derivations
+-- the factors of these districts over the experiments, with their definitions, at most 64 for each, and derivations
 pub record AreFactorsWith (g : MixedGraph) (zs districts : List ℕ) (f : Factors) : Type 0 where
   pub derived : AreDerivedWith g zs 0 districts (map view f.defs.items) (views f.values.items) (map lemma_view f.lemmas.items) (lists_view f.lists.items)
   pub counted : length f.lists.items ≡ length districts
+  pub few : length f.defs.items ≤ 64 * length districts
 
 -- the first district all of whose tries stop, and where it does without experiment
 abbrev pub IsStopWith : MixedGraph → (zs districts : List ℕ) → Stop → Type 0

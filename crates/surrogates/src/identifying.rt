@@ -8,6 +8,7 @@ ghost use Rattle.prob_expr.specs.Check.{fault_in};
 ghost use Rattle.prob_expr.specs.Listed.{masks_of};
 ghost use Rattle.prob_expr.specs.Tree.{PlainFormula};
 ghost use Rattle.do_derivation.specs.Accepts.{are_sets};
+ghost use Rattle.id_recursion.specs.Answers.{AreShallowSteps, IsShallowFormula};
 ghost use Rattle.identification.specs.Procedure.{IsIdentified};
 ghost use Rattle.surrogate_theory.specs.Surrogates.{IsSurrogate, IsSurrogateBySteps, IsStoppedWith, SomeBlocked};
 ghost use Rattle.surrogates.specs.Answers.{IsAnswerWith, IsRightWith, IfFormula, IfStopped, IfCommon, IsStopShown, IsBlockShown, IsCommonShown, IsBlockedTogether, is_stopped, HasCommon};
@@ -95,7 +96,8 @@ fn stopped_answer(
     requires some { 0 < y.bits }
     requires stop { IsStoppedWith (graph_of g.now) (masks_of experiments.now) x.bits y.bits small.bits big.bits }
     requires district { IsDistrictFrom (graph_of g.now) small.bits 0 }
-    ensures { IfOk result (IsAnswerWith (graph_of g.now) (masks_of experiments.now) x.bits y.bits) }
+    ensures answer { IfOk result (IsAnswerWith (graph_of g.now) (masks_of experiments.now) x.bits y.bits) }
+    ensures few { IfOk result (λ a. IfFormula a (λ f t. length f.defs ≤ 4096)) }
 {
     let common = common_hedge(alloc, g, x, y, experiments, small, big)?;
     let (hedge, pair) = hedge_of(alloc, g, x, y, small, big)?;
@@ -119,7 +121,8 @@ fn answer(
     requires y_within { Within g.now.n (has y.bits) }
     requires apart { Apart (has x.bits) (has y.bits) }
     requires some { 0 < y.bits }
-    ensures { IfOk result (IsAnswerWith (graph_of g.now) (masks_of experiments.now) x.bits y.bits) }
+    ensures answer { IfOk result (IsAnswerWith (graph_of g.now) (masks_of experiments.now) x.bits y.bits) }
+    ensures few { IfOk result (λ a. IfFormula a (λ f t. length f.defs ≤ 4096)) }
 {
     let order = order_of(g);
     if x.is_empty() {
@@ -170,6 +173,9 @@ pub fn identify_with(
     ensures formula { IfOk result (λ a. IfFormula a (λ f t. IsSurrogate (graph_of g.now) (masks_of experiments.now) x.bits y.bits f)) }
     ensures derived { IfOk result (λ a. IfFormula a (IsSurrogateBySteps (graph_of g.now) (masks_of experiments.now) x.bits y.bits)) }
     ensures formed { IfOk result (λ a. IfFormula a (λ f t. fault_in g.now.n f ≡ None)) }
+    ensures shallow_steps { IfOk result (λ a. IfFormula a (λ f t. AreShallowSteps t)) }
+    ensures shallow_formula { IfOk result (λ a. IfFormula a (λ f t. IsShallowFormula f)) }
+    ensures few { IfOk result (λ a. IfFormula a (λ f t. length f.defs ≤ 4096)) }
     ensures plain { (f : PlainFormula) → IsIdentified (graph_of g.now) x.bits y.bits f → IfOk result (λ a. (is_stopped a ≡ true → ⊥) × IfFormula a (λ h t. h ≡ f)) }
 
     // The district is the first that is blocked; the hedge is that for it without experiment, with its two models.

@@ -1,12 +1,16 @@
 use Rattle.std.proofs.Common.{IfOk, sym, subst}
 use Rattle.command_run.specs.Answers.{GivesOn}
 use Rattle.causal_cli.specs.Commands.{commands, request_of, left_of}
-use Rattle.causal_cli.specs.declared.request.Request.TheVariants.{Graph, Rule, Identify, Adjust, Surrogate}
+use Rattle.causal_cli.specs.declared.request.Request.TheVariants.{Graph, Separate, Rule, Identify, Adjust, Surrogate}
 use Rattle.causal_cli.proofs.request.reply_on.Goals as goal
 
 pub returns-in-Graph : goal.returns-in-Graph
 returns-in-Graph c = subst (λ q. IfOk c.replied.result (GivesOn left_of commands (request_of q) c.args.graph)) (sym c.in-Graph.is)
     (c.replied.ensures (request_of (Graph c.in-Graph.asked)) c.args.graph c.graph_reply.ensures)
+
+pub returns-in-Separate : goal.returns-in-Separate
+returns-in-Separate c = subst (λ q. IfOk c.replied-in-Separate.result (GivesOn left_of commands (request_of q) c.args.graph)) (sym c.in-Separate.is)
+    (c.replied-in-Separate.ensures (request_of (Separate c.in-Separate.asked)) c.args.graph c.separate_reply.ensures)
 
 pub returns-in-Rule : goal.returns-in-Rule
 returns-in-Rule c =

@@ -1,4 +1,4 @@
-use Rattle.hidden_theory.proofs.Drawing.{each_is_folded, unfolded_is_positive, difference_is_drawn, formula_as_drawn_fixes}
+use Rattle.hidden_theory.proofs.Drawing.{each_is_folded, unfolded_is_positive, difference_is_drawn, difference_over_is_drawn, formula_as_drawn_fixes}
 use Rattle.hidden_theory.proofs.Drawn.{folded_is_positive, folded_keeps_weights, folded_keeps_values, folded_keeps_effects, right_as_drawn}
 use Rattle.hidden_theory.proofs.Folded.{each_has_folded}
 use Rattle.hidden_theory.proofs.Statements.{independence_is_drawn, dependence_is_drawn, equation_is_drawn, failure_is_drawn}
@@ -15,6 +15,7 @@ returns c = record {
   unfolded = each_is_folded;
   unfolded_positive = unfolded_is_positive;
   not_identifiable = difference_is_drawn;
+  over_experiments = difference_over_is_drawn;
   fixes = formula_as_drawn_fixes;
   independent = independence_is_drawn;
   dependent = dependence_is_drawn;

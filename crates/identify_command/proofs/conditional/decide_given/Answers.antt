@@ -15,9 +15,9 @@ use Rattle.certificate.specs.Plain.{hedge_view}
 use Rattle.certificate_writing.specs.Writable.{IsTargetWithin, IsBareTarget, IsDerivationWithin, IsHedgeWithin}
 use Rattle.effect_answers.proofs.Belows.{pair_below}
 use Rattle.identify_command.proofs.Lists.{with_member}
-use Rattle.identify_command.proofs.Shallow.{given_shallow}
-use Rattle.identify_command.proofs.Within.{derivation_within}
-use Rattle.identify_command.proofs.Writing.{target_within, bare_target, hedge_within}
+use Rattle.effect_certificates.proofs.Shallow.{given_shallow}
+use Rattle.effect_certificates.proofs.Within.{derivation_within}
+use Rattle.effect_certificates.proofs.Writing.{target_within, bare_target, hedge_within}
 use Rattle.identify_command.proofs.conditional.decide_given.Goals as goal
 
 pub formula_text-requires-clause-what : goal.formula_text-requires-clause-what

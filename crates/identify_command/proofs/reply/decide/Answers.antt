@@ -11,10 +11,10 @@ use Rattle.id_recursion.specs.Answers.{effect_on, IfFormula, IfHedge, AreShallow
 use Rattle.identify_text.proofs.Free.{none_within}
 use Rattle.certificate.specs.Plain.{hedge_view}
 use Rattle.certificate_writing.specs.Writable.{IsTargetWithin, IsBareTarget, IsDerivationWithin, IsHedgeWithin}
-use Rattle.identify_command.proofs.Shallow.{formula_shallow}
-use Rattle.identify_command.proofs.Within.{derivation_within}
+use Rattle.effect_certificates.proofs.Shallow.{formula_shallow}
+use Rattle.effect_certificates.proofs.Within.{derivation_within}
 use Rattle.effect_answers.proofs.Found.{found, hedge_named, pair_named}
-use Rattle.identify_command.proofs.Writing.{bare_target, hedge_within}
+use Rattle.effect_certificates.proofs.Writing.{bare_target, hedge_within}
 use Rattle.identify_command.proofs.reply.decide.Goals as goal
 
 pub formula_text-requires-clause-what : goal.formula_text-requires-clause-what

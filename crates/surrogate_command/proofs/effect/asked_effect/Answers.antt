@@ -11,9 +11,9 @@ use Rattle.word_lists.specs.Views.{names_in}
 use Rattle.targets.proofs.Faults.{not_memory}
 use Rattle.targets.proofs.Parts.{same_effect_lists}
 use Rattle.surrogate_command.specs.Asked.{surrogate_lists}
-use Rattle.surrogate_command.specs.Experiments.{Lists}
+use Rattle.experiment_lists.specs.Words.{Lists}
 use Rattle.surrogate_command.specs.Sets.{SurrogateLists, lists_of, AreSurrogateSets, IsSurrogateFault}
-use Rattle.surrogate_command.proofs.Filled.{one_set_each, sets_filled}
+use Rattle.experiment_lists.proofs.Filled.{one_set_each, sets_filled}
 use Rattle.surrogate_command.proofs.Walked.{after_effect}
 use Rattle.surrogate_command.proofs.effect.asked_effect.Goals as goal
 

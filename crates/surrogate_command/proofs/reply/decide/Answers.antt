@@ -1,14 +1,22 @@
-use Rattle.std.proofs.Common.{◌≤◌, ◌≡◌, ◌↔◌, true, false, length, sym, ap, ◌∙◌, subst, IsTrue}
+use Rattle.std.proofs.Common.{◌≤◌, ◌≡◌, ◌↔◌, true, length, refl, sym, subst, IsTrue}
 use Rattle.mixed_graph.specs.Bits.{has}
-use Rattle.mixed_graph.proofs.Masks.{has-zero}
+use Rattle.mixed_graph.specs.Sets.{Within}
 use Rattle.mixed_graph.specs.Shown.{graph_of}
 use Rattle.prob_expr.specs.Listed.{masks_of}
+use Rattle.prob_expr.specs.Tree.{PlainTarget}
 use Rattle.prob_expr.specs.View.{formula_view}
 use Rattle.do_derivation.specs.View.{derivation_view}
-use Rattle.identify_text.specs.Answers.{formula_answer}
+use Rattle.id_recursion.specs.Answers.{effect_on, AreShallowSteps, IsShallowFormula}
+use Rattle.identify_text.proofs.Free.{none_within}
+use Rattle.certificate.specs.Plain.{formula}
+use Rattle.certificate_writing.specs.Writable.{IsTargetWithin, IsBareTarget, IsDerivationWithin}
+use Rattle.effect_certificates.proofs.Shallow.{formula_shallow}
+use Rattle.effect_certificates.proofs.Within.{derivation_within}
+use Rattle.effect_certificates.proofs.Writing.{bare_target}
 use Rattle.surrogates.specs.Answers.{IsRightWith, IfFormula, IfStopped, IfCommon, IsStopShown, IsBlockShown, IsBlockedTogether, HasCommon, is_stopped}
 use Rattle.surrogate_theory.specs.Surrogates.{IsSurrogate, IsSurrogateBySteps, SomeBlocked}
 use Rattle.surrogate_command.specs.Answers.{ShowsFormula, ShowsStop}
+use Rattle.surrogate_command.specs.Lines.{formula_text, ReadsBack}
 use Rattle.surrogate_command.proofs.Stops.{hedge_named, district_named, common_named}
 use Rattle.surrogate_command.proofs.reply.decide.Goals as goal
 
@@ -46,8 +54,43 @@ stopped_text-requires-clause-common c =
     c.requires.y (subst (IsRightWith g zs x y) c.in-Stopped.is c.in_ok-formula.ensures.right).1
     (subst (λ a. IfCommon a (IsBlockShown g zs x y)) c.in-Stopped.is c.in_ok-formula.ensures.blocked)
 
-pub formula_answer-requires-clause-given : goal.formula_answer-requires-clause-given
-formula_answer-requires-clause-given c = λ v h. absurd (let bits : c.effect_of.result.given.bits ≡ 0 = c.effect_of.ensures.given in let e : has c.effect_of.result.given.bits v ≡ false = ap (λ m. has m v) bits ∙ has-zero v in cc)
+pub stopped_text-requires-clause-target : goal.stopped_text-requires-clause-target
+stopped_text-requires-clause-target c = subst (λ n. IsBareTarget n (effect_on c.args.sets.now.x.bits c.args.sets.now.y.bits)) (sym c.requires.named)
+    (bare_target c.args.seen.now.graph.n c.args.sets.now.x.bits c.args.sets.now.y.bits c.requires.x c.requires.y c.requires.apart c.requires.some)
+
+pub formula_text-requires-clause-what : goal.formula_text-requires-clause-what
+formula_text-requires-clause-what c = subst (λ (t : PlainTarget). Within (length c.args.seen.now.names) (has t.y)) (sym c.effect_of.ensures.view)
+    (subst (λ n. Within n (has c.args.sets.now.y.bits)) (sym c.requires.named) c.requires.y)
+
+pub formula_text-requires-clause-doing : goal.formula_text-requires-clause-doing
+formula_text-requires-clause-doing c = subst (λ (t : PlainTarget). Within (length c.args.seen.now.names) (has t.x)) (sym c.effect_of.ensures.view)
+    (subst (λ n. Within n (has c.args.sets.now.x.bits)) (sym c.requires.named) c.requires.x)
+
+pub formula_text-requires-clause-given : goal.formula_text-requires-clause-given
+formula_text-requires-clause-given c = subst (λ (t : PlainTarget). Within (length c.args.seen.now.names) (has t.given)) (sym c.effect_of.ensures.view)
+    (λ v i. none_within (length c.args.seen.now.names) 0 v refl i)
+
+pub formula_text-requires-clause-target : goal.formula_text-requires-clause-target
+formula_text-requires-clause-target c = subst (IsTargetWithin (length c.args.seen.now.names)) (sym c.effect_of.ensures.view)
+    (subst (λ n. IsTargetWithin n (effect_on c.args.sets.now.x.bits c.args.sets.now.y.bits)) (sym c.requires.named)
+    (bare_target c.args.seen.now.graph.n c.args.sets.now.x.bits c.args.sets.now.y.bits c.requires.x c.requires.y c.requires.apart c.requires.some).sets)
+
+pub formula_text-requires-clause-derivation : goal.formula_text-requires-clause-derivation
+formula_text-requires-clause-derivation c =
+    let g = graph_of c.args.seen.now.graph in
+    let zs = masks_of c.as_slice-experiments.result.now in
+    let x = c.args.sets.now.x.bits in
+    let y = c.args.sets.now.y.bits in
+    let right = subst (IsRightWith g zs x y) c.in-Formula.is c.in_ok-formula.ensures.right in
+    subst (λ n. IsDerivationWithin n (derivation_view c.in-Formula.derivation)) (sym c.requires.named)
+    (derivation_within g c.args.seen.now.graph.valid zs (effect_on x y) (formula_view c.in-Formula.formula) (derivation_view c.in-Formula.derivation)
+    (bare_target c.args.seen.now.graph.n x y c.requires.x c.requires.y c.requires.apart c.requires.some).sets right.accepted)
+
+pub formula_text-requires-clause-shallow : goal.formula_text-requires-clause-shallow
+formula_text-requires-clause-shallow c = formula_shallow (formula_view c.in-Formula.formula) (derivation_view c.in-Formula.derivation)
+    (subst (λ a. IfFormula a (λ f d. length f.defs ≤ 4096)) c.in-Formula.is c.in_ok-formula.ensures.few)
+    (subst (λ a. IfFormula a (λ f d. IsShallowFormula f)) c.in-Formula.is c.in_ok-formula.ensures.shallow_formula)
+    (subst (λ a. IfFormula a (λ f d. AreShallowSteps d)) c.in-Formula.is c.in_ok-formula.ensures.shallow_steps)
 
 pub returns-in-Formula : goal.returns-in-Formula
 returns-in-Formula c =
@@ -55,15 +98,19 @@ returns-in-Formula c =
     let zs = masks_of c.as_slice-experiments.result.now in
     let x = c.args.sets.now.x.bits in
     let y = c.args.sets.now.y.bits in
-    subst (λ l. ShowsFormula g c.args.seen.now.names (masks_of l) x y c.in_ok-formula_answer-in-Formula.field-0.items) c.as_slice-experiments.ensures.value (record {
+    subst (λ l. ShowsFormula c.args.form g c.args.seen.now.names (masks_of l) x y c.in_ok-formula_text-in-Formula.field-0.items) c.as_slice-experiments.ensures.value (record {
       formula = formula_view c.in-Formula.formula;
-      derivation = derivation_view c.in-Formula.field-1;
+      derivation = derivation_view c.in-Formula.derivation;
       right = subst (IsRightWith g zs x y) c.in-Formula.is c.in_ok-formula.ensures.right;
       stated = subst (λ a. IfFormula a (λ f t. IsSurrogate g zs x y f)) c.in-Formula.is c.in_ok-formula.ensures.formula;
       derived = subst (λ a. IfFormula a (IsSurrogateBySteps g zs x y)) c.in-Formula.is c.in_ok-formula.ensures.derived;
       unblocked = λ blocked. let bad = (subst (λ a. IsTrue (is_stopped a) ↔ SomeBlocked g zs x y) c.in-Formula.is c.in_ok-formula.ensures.exact).1 blocked in cc bad;
       plain = λ f is. (subst (λ a. (is_stopped a ≡ true → ⊥) × IfFormula a (λ h t. h ≡ f)) c.in-Formula.is (c.in_ok-formula.ensures.plain f is)).1;
-      prints = subst (λ t. c.in_ok-formula_answer-in-Formula.field-0.items ≡ formula_answer c.args.seen.now.names t (formula_view c.in-Formula.formula)) c.effect_of.ensures.view c.in_ok-formula_answer-in-Formula.ensures;
+      prints = subst (λ t. c.in_ok-formula_text-in-Formula.field-0.items
+          ≡ formula_text c.args.form c.args.seen.now.names t (formula_view c.in-Formula.formula) (derivation_view c.in-Formula.derivation)) c.effect_of.ensures.view
+          c.in_ok-formula_text-in-Formula.ensures.text;
+      reads_back = subst (λ t. ReadsBack c.args.form c.args.seen.now.names (formula t (formula_view c.in-Formula.formula) (derivation_view c.in-Formula.derivation)))
+          c.effect_of.ensures.view c.in_ok-formula_text-in-Formula.ensures.reads_back;
     })
 
 pub returns : goal.returns
@@ -73,7 +120,7 @@ returns c =
     let x = c.args.sets.now.x.bits in
     let y = c.args.sets.now.y.bits in
     let right = subst (IsRightWith g zs x y) c.in-Stopped.is c.in_ok-formula.ensures.right in
-    subst (λ l. ShowsStop g c.args.seen.now.names (masks_of l) x y c.args.models c.in_ok-stopped_text-in-Stopped.field-0.items)
+    subst (λ l. ShowsStop c.args.form g c.args.seen.now.names (masks_of l) x y c.in_ok-stopped_text-in-Stopped.field-0.items)
     c.as_slice-experiments.ensures.value (record {
       district = c.in-Stopped.district;
       hedge = c.in-Stopped.hedge;
@@ -84,5 +131,6 @@ returns c =
       blocked = right.1;
       shown = subst (λ a. IfCommon a (IsBlockShown g zs x y)) c.in-Stopped.is c.in_ok-formula.ensures.blocked;
       exact = subst (λ a. HasCommon a ↔ IsBlockedTogether g zs x y) c.in-Stopped.is c.in_ok-formula.ensures.common;
-      prints = c.in_ok-stopped_text-in-Stopped.ensures;
+      prints = c.in_ok-stopped_text-in-Stopped.ensures.text;
+      reads_back = c.in_ok-stopped_text-in-Stopped.ensures.reads_back;
     })

@@ -8,5 +8,5 @@ use Rattle.surrogate_command.proofs.reply.reply_for.Goals as goal
 pub returns-in-Effect : goal.returns-in-Effect
 returns-in-Effect c =
     let g = c.args.graph.now in let x = option_map names_in c.args.x in let y = option_map names_in c.args.y in let experiments = map names_in c.deref.result.now in
-    subst (λ l. IfOk c.decide.result (λ k. SurrogateAnswer g x y (map names_in l) c.args.models k.outcome k.text.items)) c.deref.ensures.value
-    (answer_on g x y experiments c.args.models c.in-Effect.effect (subst (IsAsked g x y experiments) c.in-Effect.is c.in_ok-effect.ensures) c.decide.result c.decide.ensures)
+    subst (λ l. IfOk c.decide.result (λ k. SurrogateAnswer c.args.form g x y (map names_in l) k.outcome k.text.items)) c.deref.ensures.value
+    (answer_on g x y experiments c.args.form c.in-Effect.effect (subst (IsAsked g x y experiments) c.in-Effect.is c.in_ok-effect.ensures) c.decide.result c.decide.ensures)

@@ -1,7 +1,7 @@
 use Rattle.std.proofs.Common.{sym, subst}
-use Rattle.surrogate_command.specs.Experiments.{AreNeededExperiments}
-use Rattle.surrogate_command.specs.Views.{lists_in}
-use Rattle.surrogate_command.proofs.Joining.{are_filled}
+use Rattle.experiment_lists.specs.Words.{AreNeededExperiments}
+use Rattle.experiment_lists.specs.Views.{lists_in}
+use Rattle.experiment_lists.proofs.Joining.{are_filled}
 use Rattle.surrogate_command.proofs.request.needed_experiments.Goals as goal
 
 pub returns-in-None-clause-none : goal.returns-in-None-clause-none

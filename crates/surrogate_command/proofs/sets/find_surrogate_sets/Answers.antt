@@ -4,7 +4,8 @@ use Rattle.word_lists.specs.Views.{names_in}
 use Rattle.targets.specs.Targets.{effect_fault, IsNameFault}
 use Rattle.targets.proofs.Walking.{fault_first, texts-none}
 use Rattle.targets.proofs.Queries.{from_empty}
-use Rattle.surrogate_command.specs.Sets.{SurrogateLists, lists_of, experiments_fault}
+use Rattle.surrogate_command.specs.Sets.{SurrogateLists, lists_of}
+use Rattle.experiment_lists.specs.Sets.{experiments_fault}
 use Rattle.surrogate_command.proofs.Walked.{surrogate_fault_named, after_effect}
 use Rattle.surrogate_command.proofs.sets.find_surrogate_sets.Goals as goal
 use Rattle.surrogate_command.proofs.sets.find_surrogate_sets.Goals.{After-experiment_sets}

@@ -1,6 +1,7 @@
 use Rattle.surrogate_theory.proofs.Answered.{derived_is_surrogate, surrogate_is_accepted, surrogate_is_formed, stop_has_hedge, stop_is_first_blocked, blocked_excludes_formula, one_surrogate, one_stop_with, plain_comes_first}
 use Rattle.surrogate_theory.proofs.Around.{around_is_apart, each_is_harmless}
 use Rattle.surrogate_theory.proofs.Blocked.{stop_under_has_hedge}
+use Rattle.surrogate_theory.proofs.Shallow.{surrogate_is_shallow}
 use Rattle.surrogate_theory.proofs.theory.laws.Goals as goal
 
 pub returns : goal.returns
@@ -8,6 +9,7 @@ returns c = record {
   derived = derived_is_surrogate;
   accepted = surrogate_is_accepted;
   formed = surrogate_is_formed;
+  shallow = surrogate_is_shallow;
   hedge = stop_has_hedge;
   hedge_under = stop_under_has_hedge;
   around = around_is_apart;

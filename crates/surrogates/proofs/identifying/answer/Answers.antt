@@ -1,9 +1,12 @@
-use Rattle.std.proofs.Common.{ℕ, eqb-true, inl, inr, sym, ◌∙◌, arith}
+use Rattle.std.proofs.Common.{ℕ, eqb-true, inl, inr, sym, ◌∙◌, length-take, map, arith}
 use Rattle.mixed_graph.specs.Shown.{graph_of}
+use Rattle.mixed_graph.specs.declared.sets.VSet.{VSet}
 use Rattle.districts.specs.Linked.{AreDistricts}
 use Rattle.districts.specs.Listed.{first_masks}
 use Rattle.prob_expr.specs.Listed.{masks_of}
-use Rattle.do_derivation.specs.View.{listed}
+use Rattle.prob_expr.specs.View.{formula_view}
+use Rattle.do_derivation.specs.View.{derivation_view, listed}
+use Rattle.id_recursion.proofs.Composed.{few_defs}
 use Rattle.id_recursion.proofs.Orders.{districts_by}
 use Rattle.id_recursion.proofs.RightAnswers.{target_from}
 use Rattle.identification.specs.Procedure.{IsTarget}
@@ -34,8 +37,8 @@ stop_at c small big stops = record {
   stops = stops;
 }
 
-pub returns-then-is_empty : goal.returns-then-is_empty
-returns-then-is_empty c = record {
+pub returns-then-is_empty-clause-answer : goal.returns-then-is_empty-clause-answer
+returns-then-is_empty-clause-answer c = record {
   order = listed c.order_of-order.result;
   is_order = c.order_of-order.ensures.listed;
   answer = inl (eqb-true c.args.x.bits 0 (sym c.is_empty.ensures.mask ∙ c.if-is_empty.true), c.observed-formula.ensures.formula, c.observed-formula.ensures.derivation);
@@ -44,16 +47,26 @@ returns-then-is_empty c = record {
 pub assembled-requires-clause-counted : goal.assembled-requires-clause-counted
 assembled-requires-clause-counted c = c.in-Ok.ensures.counted
 
-pub returns-in_ok-formula-in-Ok : goal.returns-in_ok-formula-in-Ok
-returns-in_ok-formula-in-Ok c = record {
+pub returns-in_ok-formula-in-Ok-clause-answer : goal.returns-in_ok-formula-in-Ok-clause-answer
+returns-in_ok-formula-in-Ok-clause-answer c = record {
   order = listed c.order_of-order.result;
   is_order = c.order_of-order.ensures.listed;
   answer = inr (
     λ z. absurd (let e = c.is_empty.ensures.mask in let f = c.if-is_empty.false in grind (arith, z, e, f)),
     by_steps (graph_of c.args.g.now) (masks_of c.args.experiments.now) (listed c.order_of-order.result) (first_masks c.districts-parts.result.sets c.districts-parts.result.count) c.args.x.bits c.args.y.bits c.ancestors_outside-d.result.bits c.in-Ok.made
-        c.ancestors_outside-d.ensures (are_districts (goal.at.returns-in_ok-formula-in-Ok c).After-districts-parts) c.in-Ok.ensures _ _ c.in_ok-formula-in-Ok.ensures,
+        c.ancestors_outside-d.ensures (are_districts (goal.at.returns-in_ok-formula-in-Ok-clause-answer c).After-districts-parts) c.in-Ok.ensures _ _ c.in_ok-formula-in-Ok.ensures,
   );
 }
+
+pub returns-in_ok-formula-in-Ok-clause-few : goal.returns-in_ok-formula-in-Ok-clause-few
+returns-in_ok-formula-in-Ok-clause-few c =
+    let sets = c.districts-parts.result.sets in
+    let n = c.districts-parts.result.count in
+    let most = c.districts-parts.result.in_range in
+    let few = few_defs c.args.g.now.n (listed c.order_of-order.result) (first_masks sets n) c.args.x.bits c.args.y.bits c.ancestors_outside-d.result.bits c.in-Ok.made c.in-Ok.ensures.few
+    (formula_view c.in_ok-formula-in-Ok.formula) (derivation_view c.in_ok-formula-in-Ok.derivation) c.in_ok-formula-in-Ok.ensures in
+    let size = length-take n (map (λ (s : VSet). s.bits) sets) in
+    omega (arith, most, few, size)
 
 pub stopped_answer-requires-clause-stop : goal.stopped_answer-requires-clause-stop
 stopped_answer-requires-clause-stop c =

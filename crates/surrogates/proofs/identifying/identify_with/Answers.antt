@@ -4,7 +4,7 @@ use Rattle.prob_expr.specs.Listed.{masks_of}
 use Rattle.id_recursion.proofs.RightAnswers.{target_from, if_ok}
 use Rattle.surrogate_theory.proofs.Answered.{derived_is_surrogate, surrogate_is_formed}
 use Rattle.surrogates.specs.Answers.{IsAnswerWith}
-use Rattle.surrogates.proofs.RightAnswers.{if_formula, right, exact, common, plain, stopped, blocked}
+use Rattle.surrogates.proofs.RightAnswers.{if_formula, right, exact, common, plain, shallow_steps, shallow_formula, stopped, blocked}
 use Rattle.surrogates.proofs.identifying.identify_with.Goals as goal
 
 pub returns : goal.returns
@@ -19,14 +19,18 @@ returns c =
     let sets = c.requires.experiments in
     let target = target_from g x c.args.y.bits c.requires.x_within c.requires.y_within off c.requires.some (omega arith) in
     let r = c.answer.result in
+    let found = c.answer.ensures.answer in
     record {
-      right = if_ok r (IsAnswerWith g zs x y) _ (right g valid small x y target off zs sets) c.answer.ensures;
-      exact = if_ok r (IsAnswerWith g zs x y) _ (exact g valid small x y target off zs sets) c.answer.ensures;
-      formula = if_formula g zs x y r _ (λ f t i. derived_is_surrogate g zs x y f t i) c.answer.ensures;
-      derived = if_formula g zs x y r _ (λ f t i. i) c.answer.ensures;
-      formed = if_formula g zs x y r _ (λ f t i. surrogate_is_formed g valid zs sets x y target f (derived_is_surrogate g zs x y f t i)) c.answer.ensures;
-      plain = λ f i. if_ok r (IsAnswerWith g zs x y) _ (plain g valid small x y target off zs sets f i) c.answer.ensures;
-      stopped = if_ok r (IsAnswerWith g zs x y) _ (stopped g zs x y) c.answer.ensures;
-      common = if_ok r (IsAnswerWith g zs x y) _ (common g valid small x y target off zs sets) c.answer.ensures;
-      blocked = if_ok r (IsAnswerWith g zs x y) _ (blocked g zs x y) c.answer.ensures;
+      right = if_ok r (IsAnswerWith g zs x y) _ (right g valid small x y target off zs sets) found;
+      exact = if_ok r (IsAnswerWith g zs x y) _ (exact g valid small x y target off zs sets) found;
+      formula = if_formula g zs x y r _ (λ f t i. derived_is_surrogate g zs x y f t i) found;
+      derived = if_formula g zs x y r _ (λ f t i. i) found;
+      formed = if_formula g zs x y r _ (λ f t i. surrogate_is_formed g valid zs sets x y target f (derived_is_surrogate g zs x y f t i)) found;
+      shallow_steps = if_formula g zs x y r _ (λ f t i. shallow_steps g valid zs sets x y target f t i) found;
+      shallow_formula = if_formula g zs x y r _ (λ f t i. shallow_formula g zs x y f t i) found;
+      few = c.answer.ensures.few;
+      plain = λ f i. if_ok r (IsAnswerWith g zs x y) _ (plain g valid small x y target off zs sets f i) found;
+      stopped = if_ok r (IsAnswerWith g zs x y) _ (stopped g zs x y) found;
+      common = if_ok r (IsAnswerWith g zs x y) _ (common g valid small x y target off zs sets) found;
+      blocked = if_ok r (IsAnswerWith g zs x y) _ (blocked g zs x y) found;
     }

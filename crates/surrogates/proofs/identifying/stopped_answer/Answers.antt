@@ -13,8 +13,8 @@ hedge_of-requires-clause-hedge c =
     λ roots are. stop_has_hedge g c.args.g.now.valid
     (masks_of c.args.experiments.now) c.args.x.bits c.args.y.bits c.args.small.bits c.args.big.bits roots target c.requires.stop are
 
-pub returns : goal.returns
-returns c =
+pub returns-clause-answer : goal.returns-clause-answer
+returns-clause-answer c =
     let g = graph_of c.args.g.now in
     let zs = masks_of c.args.experiments.now in
     let target = target_from g c.args.x.bits c.args.y.bits c.requires.x_within c.requires.y_within c.requires.apart c.requires.some (omega arith) in

@@ -11,9 +11,13 @@ returns-in_err-certificate-clause-none c = λ uses g e. record {
   nothing = λ r is. c.in_err-certificate.ensures.none check_row uses g refl (search rules) r.certificate is.certificate (with_file _ _ _ _ is.file (c.in_ok-file.ensures.ok check_row uses g refl) is.inputs);
 }
 
+pub returns-in_err-experiments-clause-none : goal.returns-in_err-experiments-clause-none
+returns-in_err-experiments-clause-none c = λ uses g e. record { nothing = λ r is. c.in_err-experiments.ensures.none check_row uses g refl (search rules) r.experiments is.experiments }
+
 pub returns-clause-ok : goal.returns-clause-ok
 returns-clause-ok c = λ uses g. record {
   file = c.in_ok-file.ensures.ok check_row uses g refl;
   certificate = c.in_ok-certificate.ensures.ok check_row uses g refl;
   inputs = c.in_ok-certificate.ensures.inputs;
+  experiments = c.in_ok-experiments.ensures.ok check_row uses g refl;
 }

@@ -1,6 +1,15 @@
-use Rattle.std.proofs.Common.{sym, refl, rules}
+use Rattle.std.proofs.Common.{sym, refl, subst, codes, rules}
+use Rattle.word_forms.specs.Form.{has_flag}
+use Rattle.surrogate_command.specs.Forms.{IsForm}
 use Rattle.surrogate_command.specs.Requests.{surrogate_row}
 use Rattle.surrogate_command.proofs.request.Request.read.Goals as goal
+
+pub returns-in_default-clause-none : goal.returns-in_default-clause-none
+returns-in_default-clause-none c = λ uses g e. record {
+  nothing = λ r is.
+      c.in_default.ensures.none r.form (subst (λ b. IsForm b c.flag-certificate.result r.form) (sym (c.flag-models.ensures surrogate_row uses g refl))
+      (subst (λ b. IsForm (has_flag uses (codes "models")) b r.form) (sym (c.flag-certificate.ensures surrogate_row uses g refl)) is.form));
+}
 
 pub returns-in_err-file-clause-none : goal.returns-in_err-file-clause-none
 returns-in_err-file-clause-none c = λ uses g e. record { nothing = λ r is. c.in_err-file.ensures.none surrogate_row uses g (refl, refl, refl) (search rules) r.file r.x r.y (record { is_file = is.file; is_x = is.x; is_y = is.y }) }
@@ -14,5 +23,6 @@ returns-clause-ok c = λ uses g. let s = c.in_ok-file.ensures.ok surrogate_row u
   x = s.is_x;
   y = s.is_y;
   experiments = c.in_ok-experiments.ensures.ok surrogate_row uses g refl;
-  models = sym (c.flag-models.ensures surrogate_row uses g refl);
+  form = subst (λ b. IsForm b (has_flag uses (codes "certificate")) c.in-Some.form) (c.flag-models.ensures surrogate_row uses g refl)
+      (subst (λ b. IsForm c.flag-models.result b c.in-Some.form) (c.flag-certificate.ensures surrogate_row uses g refl) c.in-Some.ensures.some);
 }

@@ -1,0 +1,5 @@
+pub mod Words
+pub mod Parts
+pub mod Views
+pub mod Sets
+pub mod Lines

@@ -1,6 +1,0 @@
-use Rattle.std.proofs.Common.{◌≡◌, Some, true, take}
-use Rattle.surrogate_command.specs.Parts.{outside_after}
-use Rattle.surrogate_command.proofs.experiments.part_end.Given as goal
-
-abbrev pub invariant-loop-i : goal.invariant-loop-i
-invariant-loop-i l = outside_after true (take l.i l.text) ≡ Some l.outside

@@ -1,9 +1,0 @@
-use Rattle.std.proofs.Common.{◌≡◌, length}
-use denote.Text.{Utf8}
-use denote.Shadow.{shadow}
-use Rattle.surrogate_command.specs.Views.{lists_in}
-use Rattle.surrogate_command.proofs.Joining.{IsReading}
-use Rattle.surrogate_command.proofs.experiments.read_experiments.Given as goal
-
-abbrev pub invariant-loop : goal.invariant-loop
-invariant-loop l = shadow (Utf8 l.left) × (length l.experiments.items ≡ l.counter) × IsReading l.fn.text (lists_in l.experiments) l.left
