@@ -27,13 +27,13 @@ Answers questions about causal diagrams with hidden confounders, by a proved pro
     separate FILE [--x L] [--y L] [--given L]
     rule FILE --rule N --y L --z L [--do L] [--given L]
     identify FILE [--x L] [--y L] [--given L] [--certificate] [--latex]
-    check FILE CERTIFICATE
+    check FILE CERTIFICATE [--experiments E]
     adjust FILE [--x L] [--y L] [--set L] [--back-door] [--most N]
     evaluate FILE COUNTS [--x L] [--y L] [--count NAME] [--exact]
     equivalent FILE FILE2 [--x L] [--y L] [--given L]
     implications FILE [COUNTS] [--count NAME]
     survey N
-    surrogate FILE [--x L] [--y L] --experiments E [--models]
+    surrogate FILE [--x L] [--y L] --experiments E [--models] [--certificate]
 
 FILE is a graph text, in the form of DAGitty; - is standard input. A list L is names joined by
 commas, {} for none. Where x and y aren't listed, they are the vertices marked exposure and
