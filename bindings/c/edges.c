@@ -177,6 +177,48 @@ static void kept(void) {
     HOLDS(causal_keep((const uint8_t *)text, sizeof text - 1, &diagram, NULL, 0, &size) == CAUSAL_YES && size == sizeof lines - 1);
 }
 
+/* A text of exactly 1,048,576 bytes is kept, and one of a byte more isn't. */
+static void kept_at_the_limit(void) {
+    enum { most = 1048576 };
+    causal_diagram diagram = {0};
+    uint8_t names[8], *long_text = malloc(most + 1);
+    size_t size = 9;
+    HOLDS(long_text != NULL);
+    memset(long_text, ' ', most + 1);
+    memcpy(long_text, "dag{A->B}", 9);
+    HOLDS(causal_keep(long_text, most, &diagram, names, sizeof names, &size) == CAUSAL_YES && size == 4 && memcmp(names, "A\nB\n", 4) == 0);
+    HOLDS(diagram.observed.vertices == 2 && diagram.observed.children[0] == 2);
+    HOLDS(causal_keep(long_text, most + 1, &diagram, names, sizeof names, &size) == CAUSAL_GRAPH && size == 0 && diagram.observed.vertices == 2);
+    free(long_text);
+}
+
+/* A second input of one byte over its limit is refused, and so is one of a run. */
+static void second_over_its_limit(void) {
+    enum { most = 1048576, words_end = 13 };
+    static const char line[] = "equivalent|gc", diagram_text[] = "dag{X->Y}";
+    static const char refusal[] = "causal: second graph fault 12: over 1048576 bytes\n";
+    const causal_span words[] = {{0, 10}, {11, 12}, {12, 13}};
+    causal_diagram diagram = {0};
+    causal_sizes sizes;
+    uint8_t names[8], out[64], err[64], *bytes = malloc(words_end + most + 1);
+    size_t size;
+    HOLDS(bytes != NULL);
+    HOLDS(causal_keep((const uint8_t *)diagram_text, sizeof diagram_text - 1, &diagram, names, sizeof names, &size) == CAUSAL_YES);
+    memset(bytes, ' ', words_end + most + 1);
+    memcpy(bytes, line, words_end);
+    memcpy(bytes + words_end, diagram_text, sizeof diagram_text - 1);
+    for (size_t more = 0; more < 2; more++) {
+        causal_input inputs[] = {{{12, 13}, {words_end, words_end + most + more}}, {{11, 12}, {words_end, words_end + sizeof diagram_text - 1}}};
+        uint8_t wanted = more ? CAUSAL_SECOND : CAUSAL_YES;
+        size_t all = words_end + most + more;
+        HOLDS(causal_ask(&diagram, names, size, bytes, all, words, 3, inputs, 2, out, sizeof out, err, sizeof err, &sizes) == wanted);
+        HOLDS(sizes.err == (more ? sizeof refusal - 1 : 0) && (!more || memcmp(err, refusal, sizes.err) == 0));
+        HOLDS(causal_run(bytes, all, words, 3, inputs, 2, out, sizeof out, err, sizeof err, &sizes) == wanted);
+        HOLDS(sizes.err == (more ? sizeof refusal - 1 : 0) && (!more || memcmp(err, refusal, sizes.err) == 0));
+    }
+    free(bytes);
+}
+
 /* Asks a diagram that is kept by words with a blank between them, with a second input c; `fewer` leaves out bytes of its names. */
 static result ask_in(const char *text, size_t fewer, const char *line, const char *second) {
     causal_diagram diagram = {0};
@@ -240,6 +282,8 @@ int main(void) {
     explained();
     explained_more();
     kept();
+    kept_at_the_limit();
+    second_over_its_limit();
     asked();
     threads();
     puts("edges: all hold");
