@@ -49,7 +49,7 @@ enum causal_status {
     CAUSAL_WORDS = 2,      /* the words aren't understood; `err` has a line */
     CAUSAL_GRAPH = 3,      /* the graph or the target is refused; the line in `err` has the fault, and its place or name */
     CAUSAL_SECOND = 4,     /* the second input is refused, likewise */
-    CAUSAL_NO_VALUE = 5,   /* the formula has no value over the counts; the line in `err` has the cell */
+    CAUSAL_NO_VALUE = 5,   /* the formula has no value over the counts; where a support is missing the line in `err` has the cell */
     CAUSAL_NO_INPUT = 6,   /* the words name an input that isn't there; `err` has a line */
     CAUSAL_CUT_SHORT = 7,  /* memory was refused while the answer was stored: `out` has a front of it, `err` a line */
     CAUSAL_NO_MEMORY = 8,  /* memory was refused before; `err` has a line */

@@ -478,7 +478,9 @@ class Diagram:
         return answers.read_equivalence(self._ask("equivalent", *options(x=x, y=y, given=given), second=other.source)[1])
 
     def implications(self, data: Optional[Data] = None, count: Optional[str] = None, *, missing: str = "error") -> Implications:
-        """The testable implications: each pair of variables that some set separates, with one such set.
+        """The testable independences: each pair of variables that some set separates, with one such set.
+
+        A diagram may have other testable constraints, as the napkin's, which aren't listed.
 
         With data, each pair has the largest difference of the counts from its independence, and the levels where it is. The data,
         `count` and `missing` are as in `effects`, with a column for each variable of the pairs and their sets. A difference is no
@@ -504,7 +506,7 @@ class Diagram:
         permutations: int = 1000,
         seed: int = 0,
     ) -> IndependenceTests:
-        """Tests of the testable implications: whether the data is farther from each than chance lets expect.
+        """Tests of the pairs of `implications`: whether the data is farther from each than chance lets expect.
 
         For each pair of `implications` G² is summed over the levels of its set, and compared with the chi-squared distribution of
         its degrees of freedom (it needs scipy), or, where the tables are too thin or scipy isn't there, with tables that are drawn

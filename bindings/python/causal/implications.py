@@ -63,7 +63,8 @@ class Implication:
 
 @dataclass(frozen=True)
 class Implications(Sequence[Implication]):
-    """The testable implications of a diagram: each pair of variables that some set separates, with one such set.
+    """The testable independences of a diagram: each pair of variables that some set separates, with one such set. A diagram may
+    have other testable constraints, which aren't listed.
 
     It is proved that the pairs are exactly those that some set separates, each once, and that the two are independent given
     their set in every finite model that fits the diagram; and that each difference is the largest one over the counts, and is 0
