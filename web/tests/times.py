@@ -28,7 +28,7 @@ new MutationObserver((_, observer) => {
   answered = performance.now() - start;
 }).observe(panel, { childList: true });
 const look = () => {
-  const isDrawn = svg.querySelectorAll(".edge").length === Number(arguments[2]) && !svg.classList.contains("late");
+  const isDrawn = svg.querySelectorAll(".edges > *").length === Number(arguments[1]) && !svg.classList.contains("late");
   if (answered && isDrawn) done([answered, performance.now() - start]);
   else setTimeout(look, 5);
 };
