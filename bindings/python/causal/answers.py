@@ -27,6 +27,7 @@ HEDGE_FAULTS = {
     4: "the choice of a child isn't a hedge's",
     5: "the links don't join the sets as a hedge's do",
     6: "a root has no directed path to the outcomes outside the exposures",
+    7: "an experiment sets a member of the big set and none of the small one",
 }
 
 
@@ -236,7 +237,7 @@ class Refusal:
 
     def __str__(self) -> str:
         if self.of_hedge:
-            has_vertex = self.number >= 4
+            has_vertex = 4 <= self.number <= 6
             at = "-" if self.vertex is None else printed_name(self.vertex)
             return f"refused: hedge fault {self.number}" + (f" at {at}" if has_vertex else "")
         place = "main" if self.lemma is None else f"lemma {self.lemma}"

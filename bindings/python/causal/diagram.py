@@ -39,7 +39,7 @@ def options(**lists: Optional[Names]) -> List[Text]:
 
 @dataclass(frozen=True)
 class OtherForm:
-    """Asks for another form of an answer of `identify`: `--latex` or `--certificate`.
+    """Asks for another form of an answer of a command: `--latex` or `--certificate`; None where the command has no such form.
 
     >>> from causal.diagram import Diagram, OtherForm
     >>> OtherForm(Diagram("dag { X -> Y }"), ("--x=X", "--y=Y"))("--latex")
@@ -48,9 +48,12 @@ class OtherForm:
 
     diagram: "Diagram"
     words: Tuple[Text, ...]
+    command: str = "identify"
 
-    def __call__(self, form: str) -> str:
-        return self.diagram._ask("identify", *self.words, form)[1].rstrip("\n")
+    def __call__(self, form: str) -> Optional[str]:
+        if self.command == "surrogate" and form != "--certificate":
+            return None
+        return self.diagram._ask(self.command, *self.words, form)[1].rstrip("\n")
 
 
 class Diagram:
@@ -415,11 +418,16 @@ class Diagram:
         P(Y|do(X)) = P(Y|do(Z),X)
         free {Z}
         """
-        words = [*options(x=x, y=y), "--experiments", experiments_word(experiments), *(["--models"] if models else [])]
-        return read_surrogate(self._ask("surrogate", *words)[1])
+        words = [*options(x=x, y=y), "--experiments", experiments_word(experiments)]
+        text = self._ask("surrogate", *words, *(["--models"] if models else []))[1]
+        return read_surrogate(text, OtherForm(self, tuple(words), "surrogate"))
 
-    def check(self, certificate: Union[Text, Formula, Hedge]) -> answers.Check:
+    def check(
+        self, certificate: Union[Text, Formula, Hedge], experiments: Union[str, Iterable[Names]] = ()
+    ) -> answers.Check:
         """Whether a certificate is accepted, whoever wrote it: the answer counts as true where it is.
+
+        With `experiments` the terms of a formula may stand under one of them, and the two models of a hedge agree under each.
 
         >>> from causal import Diagram
         >>> diagram = Diagram("dag { X -> Y X <-> Y }")
@@ -430,8 +438,10 @@ class Diagram:
         """
         text = certificate.certificate if isinstance(certificate, (Formula, Hedge)) else certificate
         if text is None:
-            raise RequestError("this answer has no certificate: only those of identify have one")
-        return answers.read_check(self._ask("check", second=as_bytes(text))[1])
+            raise RequestError("this answer has no certificate: only those of identify and surrogate have one")
+        word = experiments_word(experiments)
+        words = ["--experiments", word] if word else []
+        return answers.read_check(self._ask("check", *words, second=as_bytes(text))[1])
 
     def adjustment_sets(
         self, x: Optional[Names] = None, y: Optional[Names] = None, most: Optional[int] = None

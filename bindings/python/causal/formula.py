@@ -10,8 +10,8 @@ from causal.names import Cursor, printed_name, printed_set
 if TYPE_CHECKING:
     from fractions import Fraction
 
-# Asks the program for another form of the same answer: "--latex" or "--certificate".
-AskForm = Callable[[str], str]
+# Asks the program for another form of the same answer: "--latex" or "--certificate"; None where its command has no such form.
+AskForm = Callable[[str], Optional[str]]
 
 
 @dataclass(frozen=True)
@@ -158,7 +158,7 @@ class Formula(Framed):
 
     @property
     def certificate(self) -> Optional[str]:
-        """The certificate (JSON) with the derivation, where `identify` gave the formula, and else None.
+        """The certificate (JSON) with the derivation, where `identify` or `surrogate` gave the formula, and else None.
 
         >>> from causal import Diagram
         >>> diagram = Diagram("dag{ Z -> X Z -> Y X -> Y }")
@@ -217,6 +217,7 @@ class HedgeSets(Framed):
     roots: Tuple[str, ...]
 
     identifiable = False
+    over_experiments = False
 
     def __bool__(self) -> bool:
         return False
@@ -227,7 +228,7 @@ class HedgeSets(Framed):
 
     def __str__(self) -> str:
         return (
-            f"{self.target} is not identifiable\n"
+            f"{self.target} is not identifiable{' from these experiments' if self.over_experiments else ''}\n"
             f"hedge {printed_set(self.big)} over {printed_set(self.small)} with roots {printed_set(self.roots)}"
         )
 
@@ -331,7 +332,7 @@ class Hedge(HedgeSets):
 
     @property
     def certificate(self) -> Optional[str]:
-        """The certificate (JSON) of the hedge, where `identify` gave it, and else None."""
+        """The certificate (JSON) of the hedge, where `identify` or `surrogate` gave it, and else None."""
         return self._ask("--certificate") if self._ask else None
 
 
@@ -363,6 +364,21 @@ def read_hedge_line(line: str) -> Tuple[Tuple[str, ...], Tuple[str, ...], Tuple[
     return big, small, roots
 
 
+@dataclass(frozen=True)
+class ExperimentHedgeSets(HedgeSets):
+    """The sets of a hedge whose two models agree under each of some experiments too.
+
+    >>> from causal import Diagram
+    >>> diagram = Diagram("dag { Z -> X -> Y Z <-> X Z <-> Y X <-> Y }")
+    >>> stopped = diagram.surrogate("X", "Y", experiments="Z", models=True)
+    >>> print(diagram.check(stopped, experiments="Z").hedge)
+    P(Y|do(X)) is not identifiable from these experiments
+    hedge {X,Y} over {Y} with roots {Y}
+    """
+
+    over_experiments = True
+
+
 def read_hedge_sets(text: str) -> HedgeSets:
     """Reads the first two lines of a hedge.
 
@@ -374,8 +390,9 @@ def read_hedge_sets(text: str) -> HedgeSets:
     cursor = Cursor(head)
     target = read_term(cursor)
     cursor.take(" is not identifiable")
+    kind = ExperimentHedgeSets if cursor.accept(" from these experiments") else HedgeSets
     cursor.end()
-    return HedgeSets(target, *read_hedge_line(sets))
+    return kind(target, *read_hedge_line(sets))
 
 
 def _read_pair(line: str, head: str, mark: str) -> Tuple[str, str]:

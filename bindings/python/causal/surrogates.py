@@ -2,9 +2,9 @@
 from __future__ import annotations
 
 from dataclasses import dataclass, fields
-from typing import Iterable, Tuple, Union
+from typing import Iterable, Optional, Tuple, Union
 
-from causal.formula import Formula, Hedge, HedgeSets, read_formula, read_hedge, read_hedge_line, read_term
+from causal.formula import AskForm, Formula, Hedge, HedgeSets, read_formula, read_hedge, read_hedge_line, read_term
 from causal.names import Cursor, Names, list_word, printed_set
 
 _FROM = " from these experiments"
@@ -75,14 +75,14 @@ def _read_district(line: str) -> Tuple[str, ...]:
     return members
 
 
-def _read_stopped_hedge(text: str) -> StoppedHedge:
+def _read_stopped_hedge(text: str, ask: Optional[AskForm]) -> StoppedHedge:
     head, district, rest = text.split("\n", 2)
-    hedge = read_hedge(f"{head[: -len(_FROM)]}\n{rest}")
+    hedge = read_hedge(f"{head[: -len(_FROM)]}\n{rest}", ask)
     parts = {part.name: getattr(hedge, part.name) for part in fields(Hedge)}
     return StoppedHedge(**parts, district=_read_district(district))
 
 
-def read_surrogate(text: str) -> Union[Formula, Stopped, StoppedHedge]:
+def read_surrogate(text: str, ask: Optional[AskForm] = None) -> Union[Formula, Stopped, StoppedHedge]:
     """Reads the answer of `surrogate`.
 
     >>> from causal.surrogates import read_surrogate
@@ -94,8 +94,8 @@ def read_surrogate(text: str) -> Union[Formula, Stopped, StoppedHedge]:
     target = read_term(cursor)
     if cursor.accept(_NONE):
         cursor.end()
-        return _read_stopped_hedge(text)
+        return _read_stopped_hedge(text, ask)
     if not cursor.accept(" has no formula found from these experiments"):
-        return read_formula(text)
+        return read_formula(text, ask)
     cursor.end()
     return Stopped(target, *read_hedge_line(lines[2]), _read_district(lines[1]))

@@ -105,7 +105,7 @@ class Questions(unittest.TestCase):
         return getattr(answer, form[0]) if form and hasattr(answer, form[0]) else answer
 
     def ask_check(self, diagram, second, options, folder):
-        return diagram.check(second)
+        return diagram.check(second, **options)
 
     def ask_adjust(self, diagram, second, options, folder):
         if "set" not in options:
@@ -118,7 +118,11 @@ class Questions(unittest.TestCase):
         return diagram.equivalent(causal.Diagram(second) if second is not None else diagram, **options)
 
     def ask_surrogate(self, diagram, second, options, folder):
-        return diagram.surrogate(**options)
+        wants_certificate = options.pop("certificate", False)
+        if not wants_certificate:
+            return diagram.surrogate(**options)
+        answer = diagram.surrogate(models=True, **options)
+        return getattr(answer, "certificate", None) or diagram.surrogate(**options)
 
     def file_of(self, second, folder):
         path = os.path.join(folder, "counts.csv")

@@ -9,7 +9,7 @@ from unittest import mock
 import causal
 from causal import Diagram, _library
 from causal.errors import CausalError, CountsError, RequestError, UnreadableAnswer
-from causal.formula import Term, read_hedge
+from causal.formula import Term, read_formula, read_hedge
 from causal.implications import read_implications
 from causal.surrogates import experiments_word, read_surrogate
 
@@ -166,10 +166,16 @@ class Experiments(unittest.TestCase):
         self.assertEqual(library.words, [["surrogate", "diagram", "--x", '"X"', "--y", '"Y"', "--experiments", '"Z"']])
         self.assertTrue(found)
         self.assertEqual((found.expression, found.free, found.variables), ("P(Y|do(Z),X)", ("Z",), {"X", "Y", "Z"}))
-        self.assertEqual((found.latex, found.certificate), (None, None))
+        self.assertIsNone(found.latex)
         self.assertEqual(f"{found}\n", text)
+
+    def test_certificates(self):
+        diagram = Diagram("dag { Z -> X -> Y Z <-> X Z <-> Y }")
+        found = diagram.surrogate("X", "Y", experiments="Z")
+        self.assertTrue(diagram.check(found, experiments="Z"))
+        self.assertFalse(diagram.check(found))
         with self.assertRaises(RequestError):
-            Diagram("dag { Z -> X -> Y }").check(found)
+            diagram.check(read_formula("P(Y|do(X)) = P(Y|X)\n"))
 
     def test_none_found(self):
         with answering((1, STOPPED, "")):
@@ -186,7 +192,6 @@ class Experiments(unittest.TestCase):
         self.assertFalse(found)
         self.assertEqual((found.district, found.big, found.noise), (("Y",), ("X", "Y"), 3))
         self.assertEqual(f"{found}\n", STOPPED_HEDGE)
-        self.assertIsNone(found.certificate)
 
     def test_experiments(self):
         self.assertEqual(experiments_word("a;b"), '"a;b"')
