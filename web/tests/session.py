@@ -552,10 +552,14 @@ def asks_under_a_condition(s):
 
 def saves_the_drawing_and_a_link(s):
     s.example("napkin")
-    for item in ("SVG", "PNG", "PDF", "TikZ", "R code"):
-        s.one("#export").click()
-        s.item(item)
-        time.sleep(0.3)
+    # A browser may hold back a download that follows another at once; so each is waited for, and asked for again.
+    for item, name in (("SVG", "svg"), ("PNG", "png"), ("PDF", "pdf"), ("TikZ", "tex"), ("R code", "R")):
+        for _ in range(4):
+            s.one("#export").click()
+            s.item(item)
+            if s.saved(f"diagram.{name}"):
+                break
+            time.sleep(1)
     path = s.saved("diagram.svg")
     s.check("the drawing is saved", path and "<svg" in path.read_text() and ">X</text>" in path.read_text())
     path = s.saved("diagram.png")
