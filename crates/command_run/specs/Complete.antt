@@ -7,9 +7,9 @@ use Rattle.replies.specs.Outcomes.{code_of, IsAnswered}
 use Rattle.command_run.specs.Commands.{CommandSet, Request, Asks, AskOnce}
 use Rattle.command_run.specs.Run.{Run, Answers, IsRead}
 
--- no count of failures rose: of the reads of a name, or of the writes
-pub record NothingFailed (r : Run) : Type 0 where
-  pub reads : (name : Text) → Rose (r.read_faults name) (r.read_faults_after name) → ⊥
+-- no count of failures rose: of the inputs that a request of the words reads, or of the writes
+pub record NothingFailed (s : CommandSet) (r : Run) : Type 0 where
+  pub reads : (q : Request s) → Asks s r.words q → (name : Text) → IsRead s r q name → Rose (r.read_faults name) (r.read_faults_after name) → ⊥
   pub writes : Rose r.out.faults r.out.faults_after → ⊥
 
 -- the status is that of the defined answer to what the words ask for
@@ -31,8 +31,8 @@ IsExact s r code = (o : Outcome) (text : List ℕ) → Answers s r o text → (c
 -- Where the words ask for nothing, the status is 2; where they ask for something and nothing failed, it is that of a defined answer, and, where the inputs are told, of each defined answer. Or memory was refused.
 pub record Complete (s : CommandSet) (r : Run) (code : ℕ) : Type 0 where
   pub refused : ((q : Request s) → Asks s r.words q → ⊥) → (code ≡ 2) ⊎ (code ≡ 8)
-  pub answered : (q : Request s) → Asks s r.words q → NothingFailed r → Answered s r code ⊎ (code ≡ 8)
-  pub exact : IsTold s r → NothingFailed r → IsExact s r code
+  pub answered : (q : Request s) → Asks s r.words q → NothingFailed s r → Answered s r code ⊎ (code ≡ 8)
+  pub exact : IsTold s r → NothingFailed s r → IsExact s r code
 
 -- words ask for one call at most
 abbrev pub WordsAskOnce : CommandSet → Type 0

@@ -10,4 +10,4 @@ returns-clause-write g c = (sure_end g.R.Request.commands _ _ _ (λ name. refl) 
 
 pub returns-clause-exact : goal.returns-clause-exact
 returns-clause-exact g c = c.run.ensures.complete.exact (λ q asks name is_read there. (_, refl))
-    (record { reads = λ name rose. absurd (omega (arith, rose)); writes = λ rose. absurd (omega (arith, rose)) })
+    (record { reads = λ q asks name is_read rose. absurd (omega (arith, rose)); writes = λ rose. absurd (omega (arith, rose)) })
