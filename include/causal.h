@@ -111,6 +111,7 @@ uint8_t causal_inputs(const uint8_t *bytes, size_t length,
  *     steps FILE CERTIFICATE [--graphs]                       the steps of a derivation
  *     rule FILE --rule N --y L --z L [--do L] [--given L]     the graph in which a rule of the do-calculus is asked
  *     adjust FILE --set L [--x L] [--y L] [--back-door]       an adjustment formula in LaTeX
+ *     settled FILE --given L [--x L] [--y L]                  of which kind the answer of `identify --given` is
  *
  * each in the observed graph of FILE. A list L and a number N are those of the commands, and so are the defaults of x and y.
  *
@@ -134,6 +135,12 @@ uint8_t causal_inputs(const uint8_t *bytes, size_t length,
  *
  * adjust. At CAUSAL_YES the set meets the adjustment criterion, or with --back-door the back-door criterion, and `out` has
  * `P(..) = ..` in LaTeX, as `identify --latex` prints one. CAUSAL_NO comes with `not admissible`.
+ *
+ * settled. What `identify FILE --given L` answers with the same lists for P(y | do(x), given) is one of three: CAUSAL_NO comes with
+ * `formula` where it prints a formula. Else no formula over observations exists, and it prints a joint effect with a hedge and two
+ * models, which agree on all observations and differ on that joint effect. CAUSAL_YES comes with `settled` where these two models differ
+ * on P(y | do(x), given) too: where the joint effect has no given vertex left, or those that are left have an effect with a formula.
+ * CAUSAL_NO comes with `unsettled` elsewhere: then two other models differ on it, and of the printed ones that isn't said.
  *
  * CAUSAL_WORDS, CAUSAL_GRAPH, CAUSAL_SECOND (steps alone), CAUSAL_NO_INPUT, CAUSAL_NO_MEMORY, CAUSAL_NOT_TEXT and
  * CAUSAL_NO_WORDS are as above; the others don't come. */

@@ -149,7 +149,32 @@ static void explained_more(void) {
                 "P(Y \\mid \\mathrm{do}(X)) = P(Y \\mid X)\n", ""));
     HOLDS(tells(explain_in("adjust g --set M", front, ""), CAUSAL_NO, "not admissible\n", ""));
     HOLDS(tells(explain_in("adjust g --set {} --x X,M --back-door", front, ""), CAUSAL_GRAPH, "", "causal: target fault 6\n"));
-    HOLDS(tells(explain_in("adjust g", front, ""), CAUSAL_WORDS, "", "causal: words: steps, rule or adjust\n"));
+    HOLDS(tells(explain_in("adjust g", front, ""), CAUSAL_WORDS, "", "causal: words: steps, rule, adjust or settled\n"));
+}
+
+/* of which kind the answer under a condition is */
+static void settled(void) {
+    static const char turning[] = "dag{X [exposure] Y [outcome] X->Y X<->Y Z->Y}", known[] = "dag{X->Y X<->Y Z->Y Z<->Y}",
+                      unknown[] = "dag{X->Y X<->Y Y->Z}", hidden[] = "dag{X [exposure] Y [outcome] X<-U->Y U [latent] X->Y->Z}";
+    HOLDS(tells(explain_in("settled g --given Z", "dag{X [exposure] Y [outcome] Z->X Z->Y X->Y}", ""), CAUSAL_NO, "formula\n", ""));
+    /* Z may as well be set: no observation is left */
+    HOLDS(tells(explain_in("settled g --given Z", turning, ""), CAUSAL_YES, "settled\n", ""));
+    /* Z is left, and P(Z|do(X)) is P(Z) */
+    HOLDS(tells(explain_in("settled g --given Z --x X --y Y", known, ""), CAUSAL_YES, "settled\n", ""));
+    /* Z is left, and P(Z|do(X)) has a hedge */
+    HOLDS(tells(explain_in("settled g --y Y --x X --given {Z}", unknown, ""), CAUSAL_NO, "unsettled\n", ""));
+    HOLDS(tells(explain_in("settled g --given Z", hidden, ""), CAUSAL_NO, "unsettled\n", ""));
+    /* nothing given, or nothing done: as `identify` has it */
+    HOLDS(tells(explain_in("settled g --given {}", turning, ""), CAUSAL_YES, "settled\n", ""));
+    HOLDS(tells(explain_in("settled g --given Z --x {} --y Y", turning, ""), CAUSAL_NO, "formula\n", ""));
+    /* refusals */
+    HOLDS(tells(explain_in("settled g --given U", hidden, ""), CAUSAL_GRAPH, "", "causal: target fault 2: U\n"));
+    HOLDS(tells(explain_in("settled g --given X", turning, ""), CAUSAL_GRAPH, "", "causal: target fault 3: X\n"));
+    HOLDS(tells(explain_in("settled g --given Z", unknown, ""), CAUSAL_GRAPH, "", "causal: target fault 4\n"));
+    HOLDS(tells(explain_in("settled g --given Z", "dag{X-->Y}", ""), CAUSAL_GRAPH, "", "causal: graph fault 2: byte 5\n"));
+    HOLDS(tells(explain_in("settled h --given Z", turning, ""), CAUSAL_NO_INPUT, "", "causal: read failed\n"));
+    HOLDS(tells(explain_in("settled g", turning, ""), CAUSAL_WORDS, "", "causal: words: steps, rule, adjust or settled\n"));
+    HOLDS(explain_in("settled g --given Z --latex", turning, "").status == CAUSAL_WORDS);
 }
 
 static void kept(void) {
@@ -281,6 +306,7 @@ int main(void) {
     statuses();
     explained();
     explained_more();
+    settled();
     kept();
     kept_at_the_limit();
     second_over_its_limit();

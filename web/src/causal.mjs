@@ -36,7 +36,7 @@ export async function load(bytes) {
     /** Runs a command line of the program `causal`. */
     run: (words, inputs, room) => ask("causal_run", words, inputs, room),
 
-    /** Explains: the words are `steps`, `rule` or `adjust` with what include/causal.h lists. */
+    /** Explains: the words are `steps`, `rule`, `adjust` or `settled` with what include/causal.h lists. */
     explain: (words, inputs, room) => ask("causal_explain", words, inputs, room),
   };
 }

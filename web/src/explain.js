@@ -1,5 +1,6 @@
 // What the program explains beside its answers, by the call causal_explain: the steps of a derivation with the graphs of
-// its rules, the graph in which a rule is asked, and an adjustment formula in LaTeX. Nothing of it is made here.
+// its rules, the graph in which a rule is asked, an adjustment formula in LaTeX, and of which kind an answer under a condition is.
+// Nothing of it is made here.
 import { CERTIFICATE, DIAGRAM, EXPLAIN } from "./names.js";
 import { keyOf } from "./diagram/geometry.js";
 import { readSteps } from "./steps.js";
@@ -26,6 +27,15 @@ export async function derivationOf(ctx, certificate) {
 export async function ruleGraph(ctx, words) {
   const told = await ctx.ask([EXPLAIN, ...words]);
   return told.status === 0 ? readGraph(told.out) : null;
+}
+
+/**
+ * Of which kind the answer under a condition is: `formula`, `settled` or `unsettled`; empty where the program tells none.
+ * @param {Context} ctx @param {string[]} words those of `identify` with `--given`
+ */
+export async function kindOf(ctx, words) {
+  const told = await ctx.ask([EXPLAIN, "settled", ...words.slice(1)]);
+  return told.status < 2 ? told.out.trim() : "";
 }
 
 /** The edges of the observed diagram that another printed graph lacks. @returns {Promise<Edge[]>} */

@@ -9,7 +9,7 @@
 /** A name as the program writes it in LaTeX. */
 function escape(name) {
   const named = { "\\": "\\textbackslash{}", "^": "\\^{}", "~": "\\~{}" };
-  const quoted = /[\s{}[\]";=,<>\-@()|*/]|^#/.test(name) ? `"${name}"` : name;
+  const quoted = /[\s{}[\]";=,<>\-@()|*/]|^[#\u2190-\u21FF\u27F0-\u27FF\u2900-\u297F]/.test(name) ? `"${name}"` : name;
   return quoted.replace(/[\\_#&$%{}^~]/g, (c) => named[c] ?? `\\${c}`);
 }
 

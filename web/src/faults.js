@@ -11,8 +11,8 @@ const circle = (names) => {
 
 const GRAPH = {
   1: () => "These bytes aren't UTF-8.",
-  2: () => "No token can stand here. Comments aren't part of this syntax, an edge is written ->, <- or <->, and a name with "
-    + "unusual characters stands between quotes.",
+  2: () => "No token can stand here. Comments aren't part of this syntax; a name with unusual characters stands "
+    + "between quotes, and so does a value behind = that isn't an edge.",
   3: () => "This doesn't fit here. A statement is a name, perhaps with [attributes], or an edge such as X -> Y or "
     + "X <-> Y.",
   4: () => "The text begins with the word dag and a brace: dag { … }.",

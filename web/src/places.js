@@ -5,7 +5,7 @@ import { change, positions } from "./text/edit.js";
 /** @typedef {import("./text/printed.js").Graph} Graph  @typedef {{x: number, y: number}} Point */
 
 const WAIT_MS = 25; // how long the drawing waits for a layout before it shows the new graph at its old places
-const PATIENCE_MS = 2000; // a layout that takes longer is given up for a circle
+const PATIENCE_MS = 1000; // a layout that takes longer is given up for a circle
 const STALE_MS = 300; // a layout of an older text that has taken as long is given up for a newer one
 const NEAR = 2; // pixels
 const USUAL_SCALE = 100; // pixels to a unit of `pos`

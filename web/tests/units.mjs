@@ -199,6 +199,7 @@ const KNOWN = {
   given: knows(["identify", "g", "--given", "{}"]), implications: knows(["implications", "g"]),
   surrogate: knows(["surrogate", "g", "--experiments", "A"]),
 };
+const KINDS = { 0: ["formula"], 1: ["settled", "unsettled"] };
 
 function testCondition(text, order, x, y) {
   const z = shuffled(order).find((name) => name !== x && name !== y);
@@ -208,6 +209,9 @@ function testCondition(text, order, x, y) {
   same("a condition", said.status < 2, true, said.err + text);
   if (said.status === 0) testDerivation(text, words);
   if (said.status === 1) same("what was asked", Boolean(readHedge(said.out).asked), true, said.out);
+  const kind = causal.explain(["settled", ...words.slice(1)], { g: text });
+  same("its kind", KINDS[said.status].includes(kind.out.trim()), true, kind.out + kind.err + said.out + text);
+  same("its status", kind.status, kind.out === "settled\n" ? 0 : 1, kind.out + text);
 }
 
 function testImplications(text, order) {

@@ -62,7 +62,7 @@ def library_path() -> str:
 
 
 class _Calls(NamedTuple):
-    """The module `ctypes`, and the calls of the library; `inputs` is None where it is of a version that has no such call."""
+    """The module `ctypes`, and the calls of the library; `inputs` or `explain` is None where it is of a version that has no such call."""
 
     ctypes: Any
     run: Any
@@ -70,6 +70,7 @@ class _Calls(NamedTuple):
     separated: Any
     ask: Any
     inputs: Any
+    explain: Any
 
 
 @functools.lru_cache(maxsize=None)
@@ -83,7 +84,7 @@ def _load() -> _Calls:
         known = library.causal_run, library.causal_keep, library.causal_separated, library.causal_ask
     except (OSError, AttributeError) as cause:
         raise LibraryMissing(f"the library at {path} can't be used: {cause}") from cause
-    calls = _Calls(ctypes, *known, getattr(library, "causal_inputs", None))
+    calls = _Calls(ctypes, *known, *(getattr(library, name, None) for name in ("causal_inputs", "causal_explain")))
     size, spans, room, bits = ctypes.c_size_t, ctypes.c_void_p, ctypes.c_char_p, ctypes.c_uint64
     asked = [ctypes.c_char_p, size, spans, size, spans, size, room, size, room, size, ctypes.c_void_p]
     calls.run.argtypes = asked
@@ -92,6 +93,8 @@ def _load() -> _Calls:
     calls.ask.argtypes = [ctypes.c_void_p, ctypes.c_char_p, size, *asked]
     if calls.inputs is not None:
         calls.inputs.argtypes = [ctypes.c_char_p, size, spans, size, room, size, ctypes.POINTER(_wanted_type())]
+    if calls.explain is not None:
+        calls.explain.argtypes = asked
     for call in calls[1:]:
         if call is not None:
             call.restype = ctypes.c_uint8
@@ -155,6 +158,18 @@ def run(words: Iterable[Text], inputs: Optional[Inputs] = None) -> Reply:
     Reply(status=0, out=b'P(Y|do(X)) = sum{Z} P(Z) * P(Y|Z,X)\\n', err=b'')
     """
     return _run(_load().run, words, inputs or {})
+
+
+def explain(words: Iterable[Text], inputs: Inputs) -> Optional[Reply]:
+    """Explains an answer by words of the call `causal_explain` (include/causal.h), as `run` runs a command; None where the library is
+    of a version that has no such call.
+
+    >>> from causal._library import explain
+    >>> explain(["settled", "g", "--x", "X", "--y", "Y", "--given", "Z"], {"g": "dag{X->Y X<->Y Y->Z}"})
+    Reply(status=1, out=b'unsettled\\n', err=b'')
+    """
+    call = _load().explain
+    return None if call is None else _run(call, words, inputs)
 
 
 def _run(call: Callable[..., int], words: Iterable[Text], named: Inputs) -> Reply:

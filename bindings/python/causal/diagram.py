@@ -6,10 +6,10 @@ from dataclasses import dataclass
 from typing import TYPE_CHECKING, Any, Dict, Iterable, List, Mapping, Optional, Sequence, Tuple, Union
 
 from causal import answers, formula
-from causal._library import KeptDiagram, Text, as_bytes, ask
+from causal._library import KeptDiagram, Text, as_bytes, ask, explain
 from causal.doubts import doubts_of
 from causal.errors import DiagramWarning, RequestError
-from causal.formula import Formula, Hedge, HedgeSets
+from causal.formula import SETTLED, Formula, Hedge, HedgeSets
 from causal.names import Name, Names, list_word, names_of
 from causal.surrogates import Stopped, StoppedHedge, experiments_word, read_surrogate
 
@@ -39,11 +39,14 @@ def options(**lists: Optional[Names]) -> List[Text]:
 
 @dataclass(frozen=True)
 class OtherForm:
-    """Asks for another form of an answer of a command: `--latex` or `--certificate`; None where the command has no such form.
+    """Asks for another form of an answer of a command: `--latex` or `--certificate`; or with `settled` of which kind the answer of
+    `identify` under a condition is. None where the command has no such form, or the library doesn't tell.
 
     >>> from causal.diagram import Diagram, OtherForm
     >>> OtherForm(Diagram("dag { X -> Y }"), ("--x=X", "--y=Y"))("--latex")
     'P(Y \\\\mid \\\\mathrm{do}(X)) = P(Y \\\\mid X)'
+    >>> OtherForm(Diagram("dag { X -> Y X <-> Y Y -> Z }"), ("--x=X", "--y=Y", "--given=Z"))("settled")
+    'unsettled'
     """
 
     diagram: "Diagram"
@@ -53,6 +56,8 @@ class OtherForm:
     def __call__(self, form: str) -> Optional[str]:
         if self.command == "surrogate" and form != "--certificate":
             return None
+        if form == SETTLED:
+            return self.diagram._explain(form, *self.words)
         return self.diagram._ask(self.command, *self.words, form)[1].rstrip("\n")
 
 
@@ -360,6 +365,11 @@ class Diagram:
     def _ask(self, command: str, *words: Text, second: Optional[bytes] = None, levels: Any = None) -> Tuple[int, str]:
         """Asks the diagram that is kept: see `ask`."""
         return ask(command, self.source, *words, second=second, levels=levels, kept=self._keep())
+
+    def _explain(self, word: str, *words: Text) -> Optional[str]:
+        """What the library explains by this word: see `explain`. None where it doesn't."""
+        reply = explain([word, "diagram", *words], {"diagram": self.source})
+        return None if reply is None or reply.status > 1 else reply.out.decode("utf-8", "surrogateescape").rstrip("\n")
 
     def rule(self, number: int, y: Names, z: Names, do: Names = (), given: Names = ()) -> answers.RuleAnswer:
         """Whether a rule of do-calculus applies: the answer counts as true where it does, and else has an open path.

@@ -24,7 +24,7 @@ _LINE = re.compile(rb"causal: (" + _STAGES + rb") fault ([0-9]+)(?:: (.*))?\n", 
 
 GRAPH = {
     1: "the text isn't UTF-8",
-    2: "no token begins here: a quote that isn't closed, a comment, or an arrow that there is not",
+    2: "no token begins here: a quote that isn't closed, a comment, an arrow that there is not, or a value that may be an edge",
     3: "something else is expected here",
     4: 'the text doesn\'t begin with the word "dag"',
     5: "only ->, <- and <-> are edges",

@@ -10,8 +10,10 @@ from causal.names import Cursor, printed_name, printed_set
 if TYPE_CHECKING:
     from fractions import Fraction
 
-# Asks the program for another form of the same answer: "--latex" or "--certificate"; None where its command has no such form.
+# Asks the program for another form of the same answer: "--latex" or "--certificate", or of which kind it is: `SETTLED`. None where its
+# command has no such form.
 AskForm = Callable[[str], Optional[str]]
+SETTLED = "settled"
 
 
 @dataclass(frozen=True)
@@ -271,7 +273,7 @@ class Hedge(HedgeSets):
 
     Where a condition was given, `conditional` is the effect that was asked for, and `target` the joint effect of which the hedge
     speaks: by it the joint effect can't be computed from observations. It is proved that no formula over observations equals the
-    conditional one either, in every model of the diagram.
+    conditional one either, in every model of the diagram; `settled` says whether the very two models show that too.
 
     >>> from causal import Diagram
     >>> hedge = Diagram("dag{ X -> Y X <-> Y }").identify("X", "Y")
@@ -320,11 +322,14 @@ class Hedge(HedgeSets):
 
     @property
     def settled(self) -> Optional[bool]:
-        """Where a condition was given: whether the two models differ on the conditional effect too, and not on the joint one alone.
-
-        None where no condition was given, and where the library doesn't tell it.
+        """Where a condition was given: whether it is proved that the very two models differ on the conditional effect too. Else two other
+        models do, which aren't printed. None where no condition was given, and where the library is of a version that doesn't tell it.
 
         >>> from causal import Diagram
+        >>> Diagram("dag{ X -> Y X <-> Y Z -> Y Z <-> Y }").identify("X", "Y", given="Z").settled
+        True
+        >>> Diagram("dag{ X -> Y X <-> Y Y -> Z }").identify("X", "Y", given="Z").settled
+        False
         >>> Diagram("dag{ X -> Y X <-> Y }").identify("X", "Y").settled is None
         True
         """
@@ -337,13 +342,14 @@ class Hedge(HedgeSets):
 
 
 def is_settled(ask: Optional[AskForm]) -> Optional[bool]:
-    """What the library tells of `Hedge.settled`. It tells nothing so far: a call that does is asked here.
+    """What the library tells of `Hedge.settled`; None where it doesn't.
 
     >>> from causal.formula import is_settled
-    >>> is_settled(None) is None
-    True
+    >>> is_settled(lambda form: "unsettled"), is_settled(None) is None
+    (False, True)
     """
-    return None
+    kind = ask(SETTLED) if ask else None
+    return kind == SETTLED if kind in (SETTLED, "unsettled") else None
 
 
 def read_hedge_line(line: str) -> Tuple[Tuple[str, ...], Tuple[str, ...], Tuple[str, ...]]:

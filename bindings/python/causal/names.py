@@ -14,6 +14,8 @@ _QUOTED_TEXT = r'"[^"\r\n]+"'
 _BARE = re.compile(_BARE_TEXT)
 _NAME = re.compile(rf'"([^"\r\n]+)"|({_BARE_TEXT})')
 _NAMES = re.compile(f"(?:{_QUOTED_TEXT}|{_BARE_TEXT})(?:,(?:{_QUOTED_TEXT}|{_BARE_TEXT}))*")
+# No bare name begins so: formulas have no # there, and graph texts no arrow of Unicode.
+_NO_FRONT = re.compile("[#\u2190-\u21ff\u27f0-\u27ff\u2900-\u297f]")
 _QUOTABLE = re.compile(r'[^"\r\n]+')
 _NUMBER = re.compile(r"[0-9]+")
 _MARK = re.compile(r" (<->|->|<-) ")
@@ -50,10 +52,10 @@ def printed_name(name: str) -> str:
     """The name as it is printed: in quotes where it needs them.
 
     >>> from causal.names import printed_name
-    >>> printed_name("age"), printed_name("blood pressure")
-    ('age', '"blood pressure"')
+    >>> printed_name("age"), printed_name("blood pressure"), printed_name("\u2192")
+    ('age', '"blood pressure"', '"\u2192"')
     """
-    bare = _BARE.fullmatch(name) is not None and not name.startswith("#")
+    bare = _BARE.fullmatch(name) is not None and not _NO_FRONT.match(name)
     return name if bare else f'"{name}"'
 
 

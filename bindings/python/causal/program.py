@@ -28,11 +28,11 @@ Answers questions about causal diagrams with hidden confounders, by a proved pro
     rule FILE --rule N --y L --z L [--do L] [--given L]
     identify FILE [--x L] [--y L] [--given L] [--certificate] [--latex]
     check FILE CERTIFICATE [--experiments E]
-    adjust FILE [--x L] [--y L] [--set L] [--back-door] [--most N]
+    adjust FILE [--x L] [--y L] [--set L [--back-door] | --most N]
     evaluate FILE COUNTS [--x L] [--y L] [--count NAME] [--exact]
     equivalent FILE FILE2 [--x L] [--y L] [--given L]
-    implications FILE [COUNTS] [--count NAME]
     survey N
+    implications FILE [COUNTS] [--count NAME]
     surrogate FILE [--x L] [--y L] --experiments E [--models] [--certificate]
 
 FILE is a graph text, in the form of DAGitty; - is standard input. A list L is names joined by

@@ -15,9 +15,11 @@ LISTS = ("x", "y", "z", "do", "given", "set")
 
 
 def names_of(word):
-    """The names that a word lists."""
+    """The names that a word lists, which may stand between braces."""
     if word == "{}":
         return []
+    if word.startswith("{") and word.endswith("}"):
+        word = word[1:-1]
     cursor, names = Cursor(word), []
     while not names or cursor.accept(","):
         names.append(cursor.name() if cursor.text[cursor.at] == '"' else word[cursor.at :].split(",")[0])

@@ -3,6 +3,7 @@
 The library's own answers are compared with the worked cases, and the examples of the docstrings run it; here a stand-in for the
 call on a kept diagram answers, so that words and answers of any kind can be tried.
 """
+import random
 import unittest
 from unittest import mock
 
@@ -239,6 +240,32 @@ class Conditions(unittest.TestCase):
         self.assertFalse(found)
         self.assertEqual((str(found.conditional), str(found.target)), ("P(Y|do(X),Z)", "P(Y,Z|do(X))"))
         self.assertEqual(f"{found}\n", NOT_IDENTIFIED)
+
+    def test_whether_the_models_differ_on_it(self):
+        text = "dag { X -> Y X <-> Y Y -> Z }"
+        told = {(0, b"settled\n", b""): True, (1, b"unsettled\n", b""): False, (2, b"", b"causal: words: ..\n"): None, (): None}
+        for parts, settled in told.items():
+            reply = _library.Reply(*parts) if parts else None
+            with self.subTest(reply), answering((1, NOT_IDENTIFIED, "")), mock.patch("causal.diagram.explain", return_value=reply) as explained:
+                self.assertIs(Diagram(text).identify("X", "Y", "Z").settled, settled)
+            explained.assert_called_once_with(["settled", "diagram", "--x", '"X"', "--y", '"Y"', "--given", '"Z"'], {"diagram": text.encode()})
+
+    def test_which_models_differ_on_it(self):
+        """By the definition: they do where no given vertex is left in the joint effect, or those that are left have a formula."""
+        names, seen = "XYZW", set()
+        pairs = [(a, b) for place, a in enumerate(names) for b in names[place + 1 :]]
+        for number in range(300):
+            chosen = random.Random(number)
+            order = dict(zip(names, chosen.sample(names, 4)))
+            drawn = [(f"{order[a]} -> {order[b]} " * chosen.randrange(2)) + f"{a} <-> {b} " * chosen.randrange(2) for a, b in pairs]
+            diagram = Diagram(f"dag {{ {' '.join(names)} {''.join(drawn)}}}")
+            found = diagram.identify("X", "Y", chosen.sample("ZW", chosen.randrange(1, 3)))
+            if found:
+                continue
+            left = [name for name in found.target.y if name != "Y"]
+            self.assertIs(found.settled, not left or bool(diagram.identify(found.target.x, left)), f"{diagram} {found.conditional}")
+            seen.add((bool(left), found.settled))
+        self.assertEqual(seen, {(False, True), (True, True), (True, False)})
 
     def test_no_condition(self):
         found = read_hedge(NOT_IDENTIFIED.replace("P(Y|do(X),Z) not identified; ", ""))

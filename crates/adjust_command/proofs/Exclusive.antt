@@ -25,7 +25,8 @@ use Rattle.replies.proofs.OneGraph.{observed_named}
 use Rattle.replies.proofs.OneOutcome.{IsOneOf, one_of_three, one_for_lists}
 use Rattle.replies.proofs.OneTarget.{sets_refused, same_three}
 use Rattle.adjust_command.specs.Queries.{Query, by_set, by_back_door, listing}
-use Rattle.adjust_command.specs.Answers.{texts_of, ShowsAdmissible, ShowsFault, ShowsBackDoorSet, ShowsBackDoorFault, ShowsSets, ShowsNone, SetsAnswer, adjust_lists, IsAnswerOfSets, ListsAnswer, AdjustAnswer}
+use Rattle.adjust_command.specs.Answers.{texts_of, ShowsAdmissible, ShowsFault, ShowsBackDoorSet, ShowsBackDoorFault, ShowsSets, ShowsNone}
+use Rattle.adjust_command.specs.Answers.{SetsAnswer, adjust_lists, IsAnswerOfSets, ListsAnswer, AdjustAnswer}
 use Rattle.adjust_command.proofs.Lists.{three_sets}
 
 -- two vertices with one mask are the same
@@ -52,14 +53,22 @@ module _ (q : MixedGraph) (names : List (List ℕ)) where
   back_door_or_not x y z text line a b = meets_or_not a.v y z b.fault a.meets
       (subst (λ (v : ℕ). IsBackDoorFault q v (has y) (has z) b.fault) (same_one b.v a.v (sym b.exposure ∙ a.exposure)) b.breaks)
 
-  some_or_none : (l : Lists) (x y z most : ℕ) (text line : List ℕ) → length l.observed ≡ q.vertices → AreSets l x y z → ShowsSets q names x y most text → ShowsNone q x y line → ⊥
+  some_or_none : (l : Lists) (x y z most : ℕ) (text line : List ℕ) → length l.observed ≡ q.vertices → AreSets l x y z → ShowsSets q names x y most text
+      → ShowsNone q x y line → ⊥
   some_or_none l x y z most text line named s a b = go a.sets a.some a.listed.each
     where
       go : (sets : List VSet) → (sets ≡ [] → ⊥) → All (λ t. IsMinimalSet q (has x) (has y) (has t.bits)) sets → ⊥
       go [] some each = some refl
       go (t ∷ ts) some each =
           let m = each 0 t (omega arith) in let d = three_sets l q.vertices x y z named s in
-          b.none (has t.bits) (record { x_within = d.x_within; y_within = d.y_within; w_within = m.within; x_y = d.x_y; x_w = apart_back (has t.bits) (has x) m.x_apart; y_w = apart_back (has t.bits) (has y) m.y_apart })
+          b.none (has t.bits) (record {
+            x_within = d.x_within;
+            y_within = d.y_within;
+            w_within = m.within;
+            x_y = d.x_y;
+            x_w = apart_back (has t.bits) (has x) m.x_apart;
+            y_w = apart_back (has t.bits) (has y) m.y_apart;
+          })
           m.admissible
 
   module _ (l : Lists) (x y z : ℕ) (named : length l.observed ≡ q.vertices) (sets : AreSets l x y z) (text line : List ℕ) where
@@ -79,7 +88,8 @@ module _ (q : MixedGraph) (names : List (List ℕ)) where
     no_refused (listing most) a b = b
 
 -- what a query can't be answered
-none_else : (query : Query) (q : MixedGraph) (names : List (List ℕ)) (x y z : ℕ) (o : Outcome) (text : List ℕ) → SetsAnswer query q names x y z o text → IsOneOf Yes No Graph o
+none_else : (query : Query) (q : MixedGraph) (names : List (List ℕ)) (x y z : ℕ) (o : Outcome) (text : List ℕ) → SetsAnswer query q names x y z o text
+    → IsOneOf Yes No Graph o
 none_else query q names x y z Yes text h = inl refl
 none_else query q names x y z No text h = inr (inl refl)
 none_else query q names x y z Graph text h = inr (inr refl)

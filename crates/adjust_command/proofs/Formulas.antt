@@ -3,7 +3,7 @@ use Rattle.std.proofs.Common.{◌≡◌, ℕ, ◌<◌, Bool, true, false, cond, 
 use Rattle.mixed_graph.specs.Bits.{has}
 use Rattle.finite_models.proofs.Bools.{and_first, and_second}
 use Rattle.do_rules.specs.Rules.{AreThreeSets}
-use Rattle.mixed_graph.specs.Masks.{join, is_empty, is_below}
+use Rattle.mixed_graph.specs.Masks.{union, is_empty, is_below}
 use Rattle.prob_expr.specs.TermSets.{are_term_sets}
 use Rattle.prob_expr.specs.Tree.{Tree, prob, sum, product, no_trees, tree}
 use Rattle.prob_expr.specs.Check.{◌>>=◌, next_node, check_tree, check_trees, fault_of, fault_in}
@@ -54,7 +54,7 @@ module _ (n x y z : ℕ) (s : AreThreeSets n (has x) (has y) (has z)) (some : y 
     doing_given = λ v h. has_none v;
   }
 
-  of_both : IsTerm n y 0 (join x z)
+  of_both : IsTerm n y 0 (union x z)
   of_both = record {
     of_below = s.y_within;
     doing_below = nothing;
@@ -65,14 +65,15 @@ module _ (n x y z : ℕ) (s : AreThreeSets n (has x) (has y) (has z)) (some : y 
   }
 
   -- the factors have none
-  factors_sound : (node : ℕ) → (z ≡ 0 → ⊥) → check_trees n None 0 (tree (prob z 0 0) (tree (prob y 0 (join x z)) no_trees)) node ≡ Ok (next_node (next_node node))
+  factors_sound : (node : ℕ) → (z ≡ 0 → ⊥) → check_trees n None 0 (tree (prob z 0 0) (tree (prob y 0 (union x z)) no_trees)) node
+      ≡ Ok (next_node (next_node node))
   factors_sound node full =
-      ap (λ r. r >>= check_trees n None 0 (tree (prob y 0 (join x z)) no_trees)) (term_sound n z 0 0 node of_z full)
-      ∙ ap (λ r. r >>= check_trees n None 0 no_trees) (term_sound n y 0 (join x z) (next_node node) of_both some)
+      ap (λ r. r >>= check_trees n None 0 (tree (prob y 0 (union x z)) no_trees)) (term_sound n z 0 0 node of_z full)
+      ∙ ap (λ r. r >>= check_trees n None 0 no_trees) (term_sound n y 0 (union x z) (next_node node) of_both some)
 
   sum_sound : is_empty z ≡ false → check_tree n None 0 (adjusted_sum x y z) 0 ≡ Ok (next_node (next_node (next_node (next_node 0))))
   sum_sound e =
-      sum_step n z 0 (product (tree (prob z 0 0) (tree (prob y 0 (join x z)) no_trees))) (below_from n z s.w_within) e
+      sum_step n z 0 (product (tree (prob z 0 0) (tree (prob y 0 (union x z)) no_trees))) (below_from n z s.w_within) e
       ∙ factors_sound (next_node (next_node 0)) (filled_from z (ap not e))
 
   formula_cases : (b : Bool) → is_empty z ≡ b → fault_of (check_tree n None 0 (cond b (prob y 0 x) (adjusted_sum x y z)) 0) ≡ None

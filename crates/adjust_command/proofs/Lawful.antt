@@ -1,9 +1,9 @@
 -- The command's words ask for one request, and its answers have one outcome.
 use Rattle.std.proofs.Common.{◌≡◌, ℕ, List, sym, ap, ◌∙◌}
-use Rattle.std.specs.Prelude.{codes}
+use Rattle.std.specs.Prelude.{codes, is_some}
 use Rattle.std.proofs.lemmas.Option.{same_Some}
-use Rattle.word_forms.specs.Form.{Use, value_of, has_flag}
-use Rattle.request_values.proofs.OneValue.{one_listed, one_number_or}
+use Rattle.command_words.specs.Form.{Use, value_of, has_flag}
+use Rattle.command_words.proofs.OneValue.{one_listed, one_number_or}
 use Rattle.replies.specs.Observed.{Names}
 use Rattle.adjust_command.specs.Queries.{query_for}
 use Rattle.replies.proofs.Commands.{IsLawful, lawful_on_file}
@@ -16,7 +16,10 @@ one_adjusting : (uses : List Use) (q r : Request) → IsRequest uses q → IsReq
 one_adjusting uses q r a b =
     let sets : b.set ≡ a.set = one_listed (value_of uses (codes "set")) a.set b.set a.is_set b.is_set in
     let most : b.most ≡ a.most = one_number_or 100 (value_of uses (codes "most")) 1 10000 a.most b.most a.is_most b.is_most in
-    same_Some r.query q.query (sym b.is_query ∙ ap (λ (s : Names). query_for s (has_flag uses (codes "back-door")) b.most) sets ∙ ap (λ (m : ℕ). query_for a.set (has_flag uses (codes "back-door")) m) most ∙ a.is_query)
+    let back_door = has_flag uses (codes "back-door") in
+    let counted = is_some (value_of uses (codes "most")) in
+    same_Some r.query q.query (sym b.is_query ∙ ap (λ (s : Names). query_for s back_door counted b.most) sets
+    ∙ ap (λ (m : ℕ). query_for a.set back_door counted m) most ∙ a.is_query)
 
 -- the uses ask for one request
 one_request : (uses : List Use) (q r : Request) → IsRequest uses q → IsRequest uses r → r ≡ q

@@ -6,7 +6,7 @@ use Rattle.mixed_graph.specs.Bits.{has}
 use Rattle.mixed_graph.specs.Graphs.{MixedGraph}
 use Rattle.do_rules.specs.Rules.{AreThreeSets}
 use Rattle.dag_reader.specs.declared.graph.ReadGraph.{ReadGraph}
-use Rattle.name_text.specs.Lines.{line_of}
+use Rattle.answer_text.specs.Lines.{line_of}
 use Rattle.targets.specs.declared.fault.TargetFault.{TargetFault}
 use Rattle.targets.specs.declared.fault.TargetFault.TheVariants.{NoMemory}
 use Rattle.targets.specs.FaultTexts.{target_fault_text}
@@ -27,14 +27,18 @@ three_sets l n x y given e s =
 
 module _ (g : ReadGraph) (x y : Names) (given : List (List ℕ)) where
   -- lists of these parts are those of the query
-  pub same_lists : (observed xs ys zs : List (List ℕ)) → observed ≡ observed_names g → xs ≡ listed g.names g.exposures.bits x → ys ≡ listed g.names g.outcomes.bits y → zs ≡ given
+  pub same_lists : (observed xs ys zs : List (List ℕ)) → observed ≡ observed_names g → xs ≡ listed g.names g.exposures.bits x → ys
+      ≡ listed g.names g.outcomes.bits y → zs ≡ given
       → lists_of g.names observed xs ys zs ≡ query_lists g x y given
   same_lists observed xs ys zs e f h k = λ i. record { all = g.names; observed = e i; x = f i; y = h i; given = k i }
 
   -- a fault of them is answered by its refusal
-  pub lists_refused : {E : Type 0} (q : MixedGraph) → IsObservedGraph g q → (answer : MixedGraph → (x y z : ℕ) → Outcome → List ℕ → Type 0) (l : Lists) → l ≡ query_lists g x y given
-      → (fault : TargetFault) → OrMemory (IsTargetFault l) fault → (r : Result Reply E) → IfOk r (λ (p : Reply). p.outcome ≡ Graph) → IfOk r (λ (p : Reply). p.text.items ≡ line_of (target_fault_text fault))
-      → OnOk r (fault ≡ NoMemory → ⊥) → IfOk r (λ (p : Reply). (q : MixedGraph) × IsObservedGraph g q × AnswerForSets (query_lists g x y given) (answer q) p.outcome p.text.items)
+  pub lists_refused : {E : Type 0} (q : MixedGraph) → IsObservedGraph g q → (answer : MixedGraph → (x y z : ℕ) → Outcome → List ℕ → Type 0) (l : Lists) → l
+      ≡ query_lists g x y given
+      → (fault : TargetFault) → OrMemory (IsTargetFault l) fault → (r : Result Reply E) → IfOk r (λ (p : Reply). p.outcome ≡ Graph)
+      → IfOk r (λ (p : Reply). p.text.items ≡ line_of (target_fault_text fault))
+      → OnOk r (fault ≡ NoMemory → ⊥) → IfOk r (λ (p : Reply). (q : MixedGraph) × IsObservedGraph g q
+      × AnswerForSets (query_lists g x y given) (answer q) p.outcome p.text.items)
   lists_refused q observed answer l same fault is (Err e) outcome line memory = tt
   lists_refused q observed answer l same fault is (Ok p) outcome line memory =
       let refusal : IsTargetRefusal (query_lists g x y given) p.text.items = record {
@@ -42,7 +46,8 @@ module _ (g : ReadGraph) (x y : Names) (given : List (List ℕ)) where
         is_fault = not_memory (IsTargetFault (query_lists g x y given)) fault memory (subst (λ (k : Lists). OrMemory (IsTargetFault k) fault) same is);
         prints = line;
       } in
-      subst (λ (o : Outcome). (q : MixedGraph) × IsObservedGraph g q × AnswerForSets (query_lists g x y given) (answer q) o p.text.items) (sym outcome) (q, observed, inl refusal)
+      subst (λ (o : Outcome). (q : MixedGraph) × IsObservedGraph g q × AnswerForSets (query_lists g x y given) (answer q) o p.text.items) (sym outcome)
+      (q, observed, inl refusal)
 
 -- three texts one after another
 pub three_written : (a b d : List ℕ) (old one two out : List ℕ) → one ≡ old ++ a → two ≡ one ++ b → out ≡ two ++ d → out ≡ old ++ (a ++ (b ++ d))

@@ -6,8 +6,8 @@ use Rattle.mixed_graph.specs.declared.sets.VSet.{VSet}
 use Rattle.do_rules.specs.Rules.{AreThreeSets}
 use Rattle.do_derivation.proofs.TermSets.{apart_back}
 use Rattle.adjustment.specs.Criteria.{IsAdmissible}
-use Rattle.vertex_separators.specs.Separators.{IsPart}
-use Rattle.vertex_separators.specs.Listings.{IsListingOf}
+use Rattle.minimal_sets.specs.Separators.{IsPart}
+use Rattle.minimal_sets.specs.Listings.{IsListingOf}
 use Rattle.minimal_sets.specs.MinimalSets.{IsMinimalSet}
 
 -- the number of members below n
@@ -52,7 +52,8 @@ module _ (g : MixedGraph) (x y : ℕ → Bool) where
   }
 
   -- an admissible set has a minimal one in it
-  none_below : ((z : ℕ → Bool) → IsMinimalSet g x y z → ⊥) → (k : ℕ) (z : ℕ → Bool) → size z g.vertices < k → AreThreeSets g.vertices x y z → IsAdmissible g x y z → ⊥
+  none_below : ((z : ℕ → Bool) → IsMinimalSet g x y z → ⊥) → (k : ℕ) (z : ℕ → Bool) → size z g.vertices < k → AreThreeSets g.vertices x y z
+      → IsAdmissible g x y z → ⊥
   none_below none zero z h s a = absurd (omega arith)
   none_below none (suc k) z h s a = none z (record {
     within = s.w_within;
@@ -61,12 +62,15 @@ module _ (g : MixedGraph) (x y : ℕ → Bool) where
     admissible = a;
     minimal = λ p part fits v here. elim (cases_Bool (p v)) [
       | inl held ↦ held
-      | inr out ↦ absurd (none_below none k p (let fewer = size_lt p z part v out here g.vertices (s.w_within v here) in omega (arith, fewer)) (part_sets p z part s) fits)
+      | inr out ↦ absurd (none_below none k p (let fewer = size_lt p z part v out here g.vertices (s.w_within v here) in omega (arith, fewer))
+          (part_sets p z part s) fits)
     ];
   })
 
   -- an empty listing of at least one set
-  pub none_admissible : (most : ℕ) (sets : List VSet) (more : Bool) → 1 ≤ most → IsListingOf (IsMinimalSet g x y) most sets more → length sets ≡ 0 → (z : ℕ → Bool) → AreThreeSets g.vertices x y z → IsAdmissible g x y z → ⊥
+  pub none_admissible : (most : ℕ) (sets : List VSet) (more : Bool) → 1 ≤ most → IsListingOf (IsMinimalSet g x y) most sets more → length sets ≡ 0
+      → (z : ℕ → Bool) → AreThreeSets g.vertices x y z → IsAdmissible g x y z → ⊥
   none_admissible most sets true some l e z s a = let full : length sets ≡ most = l.full refl in absurd (omega (arith, full, e, some))
-  none_admissible most [] false some l e z s a = none_below (λ w minimal. let found = l.all refl w minimal in absurd (omega (arith, found.2))) (suc (size z g.vertices)) z (omega arith) s a
+  none_admissible most [] false some l e z s a = none_below (λ w minimal. let found = l.all refl w minimal in absurd (omega (arith, found.2)))
+      (suc (size z g.vertices)) z (omega arith) s a
   none_admissible most (t ∷ rest) false some l e z s a = absurd (omega (arith, e))

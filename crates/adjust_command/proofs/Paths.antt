@@ -9,11 +9,13 @@ use Rattle.replies.proofs.PathsBelow.{path_printable}
 use Rattle.adjust_command.specs.Faults.{IsPrintable}
 
 -- what breaks the adjustment criterion
-pub adjustment_printable : (g : MixedGraph) → IsMixedGraph g → (x y z : ℕ → Bool) → Within g.vertices z → (f : AdjFault) → IsAdjustmentFault g x y z f → IsPrintable g.vertices f
+pub adjustment_printable : (g : MixedGraph) → IsMixedGraph g → (x y z : ℕ → Bool) → Within g.vertices z → (f : AdjFault) → IsAdjustmentFault g x y z f
+    → IsPrintable g.vertices f
 adjustment_printable g valid x y z w (Forbidden v) h = w v h.member
 adjustment_printable g valid x y z w (Unblocked p) h = path_printable g valid x y z p h.1.open_path
 
 -- what breaks the back-door criterion
-pub back_door_printable : (g : MixedGraph) → IsMixedGraph g → (x : ℕ) (y z : ℕ → Bool) → Within g.vertices z → (f : AdjFault) → IsBackDoorFault g x y z f → IsPrintable g.vertices f
+pub back_door_printable : (g : MixedGraph) → IsMixedGraph g → (x : ℕ) (y z : ℕ → Bool) → Within g.vertices z → (f : AdjFault) → IsBackDoorFault g x y z f
+    → IsPrintable g.vertices f
 back_door_printable g valid x y z w (Forbidden v) h = w v h.member
 back_door_printable g valid x y z w (Unblocked p) h = path_printable g valid (λ u. u == x) y z p h.1.open_path

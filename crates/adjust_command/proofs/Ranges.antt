@@ -1,5 +1,6 @@
 -- How many sets a listing may ask for.
-use Rattle.std.proofs.Common.{ℕ, ◌≤◌, List, refl, ap, subst}
+use Rattle.std.proofs.Common.{◌≡◌, ℕ, ◌≤◌, Bool, List, Option, Some, None, refl, ap, subst, ◌∙◌}
+use Rattle.std.specs.Prelude.{is_some, option_map}
 use Rattle.adjust_command.specs.Queries.{Query, by_set, by_back_door, listing, IsInRange, HasRange}
 
 abbrev number_of : Query → ℕ
@@ -19,3 +20,8 @@ range_of_set names k e = absurd (cc e)
 
 pub range_of_back_door : (names : List (List ℕ)) → HasRange (by_back_door names)
 range_of_back_door names k e = absurd (cc e)
+
+-- a value is there where its text is
+pub some_of_value : {A B : Type 0} (f : A → B) (o : Option A) → is_some (option_map f o) ≡ is_some o
+some_of_value f None = refl
+some_of_value f (Some x) = refl

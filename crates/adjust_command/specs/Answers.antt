@@ -1,4 +1,5 @@
--- The answer of `adjust`: whether a set may be adjusted for to compute the effect of x on y, or the minimal such sets, in the observed graph of the one that was read.
+-- The answer of `adjust`: whether a set may be adjusted for to compute the effect of x on y, or the minimal such sets, in the observed graph of the
+-- one that was read.
 use Rattle.std.specs.Prelude.{ℕ, ◌≡◌, ◌↔◌, Bool, true, false, List, [], All, codes}
 use Rattle.mixed_graph.specs.Bits.{has}
 use Rattle.mixed_graph.specs.Graphs.{MixedGraph}
@@ -7,7 +8,7 @@ use Rattle.dag_reader.specs.declared.graph.ReadGraph.{ReadGraph}
 use Rattle.do_rules.specs.Rules.{AreThreeSets}
 use Rattle.targets.specs.declared.fault.TargetFault.TheVariants.{NotOneX}
 use Rattle.targets.specs.Targets.{Lists}
-use Rattle.name_text.specs.Lines.{line_of}
+use Rattle.answer_text.specs.Lines.{line_of}
 use Rattle.targets.specs.FaultTexts.{target_fault_text}
 use Rattle.replies.specs.declared.outcome.Outcome.{Outcome}
 use Rattle.replies.specs.declared.outcome.Outcome.TheVariants.{Yes, No, Graph}
@@ -18,8 +19,9 @@ use Rattle.prob_expr.specs.Values.{EqualsEffect}
 use Rattle.adjustment.specs.declared.criteria.AdjFault.{AdjFault}
 use Rattle.adjustment.specs.Criteria.{IsAdmissible, IsBackDoorSet}
 use Rattle.adjustment.specs.Faults.{IsAdjustmentFault, IsBackDoorFault}
-use Rattle.adjustment.specs.Formulas.{adjustment_formula, effect_on}
-use Rattle.vertex_separators.specs.Listings.{IsListingOf}
+use Rattle.prob_expr.specs.Tree.{effect_on}
+use Rattle.adjustment.specs.Formulas.{adjustment_formula}
+use Rattle.minimal_sets.specs.Listings.{IsListingOf}
 use Rattle.minimal_sets.specs.MinimalSets.{IsMinimalSet, IsMinimalAdjustment}
 use Rattle.adjust_command.specs.Queries.{Query, by_set, by_back_door, listing}
 use Rattle.adjust_command.specs.Lines.{admissible_text, not_admissible_text, listing_text}
@@ -54,7 +56,8 @@ SetAnswer q texts x y z Yes text = ShowsAdmissible q texts x y z text
 SetAnswer q texts x y z No text = ShowsFault q texts x y z text
 SetAnswer q texts x y z o text = ⊥
 
--- Yes: v is the one exposure, for which z meets the back-door criterion; its formula equals P(y | do(v)) in each positive model that fits q, and the text shows it
+-- Yes: v is the one exposure, for which z meets the back-door criterion; its formula equals P(y | do(v)) in each positive model that fits q, and the
+-- text shows it
 pub record ShowsBackDoorSet (q : MixedGraph) (texts : SetTexts) (x y z : ℕ) (text : List ℕ) : Type 0 where
   pub v : ℕ
   pub exposure : x ≡ one v
@@ -87,8 +90,10 @@ abbrev pub CriterionAnswer : (back_door : Bool) → MixedGraph → SetTexts → 
 CriterionAnswer false q texts x y z o text = SetAnswer q texts x y z o text
 CriterionAnswer true q texts x y z o text = BackDoorAnswer q texts x y z o text
 
--- Yes: these are the minimal admissible sets, of which there is one or more: all of them, or `most` where there are more; the formula of each equals P(y | do(x)) in each
--- positive model that fits q, and the text shows them. The minimal admissible sets are exactly the minimal sets of which this is so, whatever criterion one thinks of.
+-- Yes: these are the minimal admissible sets, of which there is one or more: all of them, or `most` where there are more; the formula of each equals
+-- P(y | do(x)) in each
+-- positive model that fits q, and the text shows them. The minimal admissible sets are exactly the minimal sets of which this is so, whatever
+-- criterion one thinks of.
 pub record ShowsSets (q : MixedGraph) (names : List (List ℕ)) (x y most : ℕ) (text : List ℕ) : Type 0 where
   pub sets : List VSet
   pub more : Bool

@@ -2,13 +2,15 @@
 use Rattle.std.specs.Prelude.{ℕ, Bool, true, false, List, [], ◌∷◌, ◌++◌, codes}
 use Rattle.mixed_graph.specs.Names.{name_of}
 use Rattle.mixed_graph.specs.declared.sets.VSet.{VSet}
-use Rattle.name_text.specs.Printing.{printed}
+use Rattle.answer_text.specs.Printing.{printed}
 use Rattle.answer_text.specs.Texts.{set_text}
 use Rattle.replies.specs.Lines.{open_text}
 use Rattle.adjustment.specs.declared.criteria.AdjFault.{AdjFault}
 use Rattle.adjustment.specs.declared.criteria.AdjFault.TheVariants.{Forbidden, Unblocked}
-use Rattle.adjustment.specs.Formulas.{adjustment_formula, effect_on}
-use Rattle.identify_text.specs.Answers.{formula_answer}
+use Rattle.prob_expr.specs.Tree.{effect_on}
+use Rattle.adjustment.specs.Formulas.{adjustment_formula}
+use Rattle.answer_text.specs.declared.signs.Notation.TheVariants as notations
+use Rattle.identify_text.specs.Answers.{answer_in}
 
 -- a set on a line of its own
 abbrev pub set_line : List (List ℕ) → ℕ → List ℕ
@@ -16,7 +18,7 @@ set_line names set = set_text names set ++ codes "\n"
 
 -- `admissible: {Z}`, and then the effect with the adjustment formula of that set
 abbrev pub admissible_text : List (List ℕ) → (x y z : ℕ) → List ℕ
-admissible_text names x y z = codes "admissible: " ++ (set_line names z ++ formula_answer names (effect_on x y) (adjustment_formula x y z))
+admissible_text names x y z = codes "admissible: " ++ (set_line names z ++ answer_in notations.Plain names (effect_on x y) (adjustment_formula x y z))
 
 -- `forbidden: Z`, with a member that is forbidden
 abbrev pub forbidden_line : List (List ℕ) → ℕ → List ℕ

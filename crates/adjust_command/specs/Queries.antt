@@ -1,6 +1,6 @@
 -- What `adjust` is asked.
-use Rattle.std.specs.Prelude.{ℕ, ◌≡◌, ◌≤◌, Bool, true, false, List, Option, Some, None}
-use Rattle.word_lists.specs.Views.{names_in}
+use Rattle.std.specs.Prelude.{ℕ, ◌≡◌, ◌≤◌, Bool, List, Option, Some, None, if◌then◌else◌}
+use Rattle.command_words.specs.ListViews.{names_in}
 use Rattle.adjust_command.specs.declared.query.Query.{Query as CodeQuery}
 use Rattle.adjust_command.specs.declared.query.Query.TheVariants as query
 
@@ -25,9 +25,7 @@ IsInRange q = Unit {0}
 abbrev pub HasRange : Query → Type 0
 HasRange q = (k : ℕ) → q ≡ listing k → (1 ≤ k) × (k ≤ 10000)
 
--- what is asked for a set, by one of the two criteria, or without one; the back-door criterion needs a set
-abbrev pub query_for : Option (List (List ℕ)) → (back_door : Bool) → (most : ℕ) → Option Query
-query_for (Some names) false most = Some (by_set names)
-query_for (Some names) true most = Some (by_back_door names)
-query_for None false most = Some (listing most)
-query_for None true most = None
+-- what is asked for a set, by one of the two criteria, or without one; the back-door criterion needs a set, and a set has no number of sets beside it
+abbrev pub query_for : Option (List (List ℕ)) → (back_door counted : Bool) → (most : ℕ) → Option Query
+query_for (Some names) back_door counted most = if counted then None else (if back_door then Some (by_back_door names) else Some (by_set names))
+query_for None back_door counted most = if back_door then None else Some (listing most)

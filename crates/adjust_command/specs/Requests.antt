@@ -1,15 +1,22 @@
 -- What `adjust` is asked for.
-use Rattle.std.specs.Prelude.{ℕ, ◌≡◌, List, Some, [], ◌∷◌, codes, option_map}
-use Rattle.word_forms.specs.Form.{Text, Row, Use, word_of, value_of, has_flag}
-use Rattle.request_values.specs.Values as values
+use Rattle.std.specs.Prelude.{ℕ, ◌≡◌, List, Some, [], ◌∷◌, codes, option_map, is_some}
+use Rattle.command_words.specs.Form.{Text, Row, Use, word_of, value_of, has_flag}
+use Rattle.command_words.specs.Values as values
 use Rattle.replies.specs.Observed.{Names}
-use Rattle.word_lists.specs.Views.{names_in}
+use Rattle.command_words.specs.ListViews.{names_in}
 use Rattle.adjust_command.specs.Queries.{Query, query_of, query_for}
 use Rattle.adjust_command.specs.declared.request.Request.{Request as CodeRequest}
 
--- `adjust FILE [--x L] [--y L] [--set L] [--back-door] [--most N]`
+-- `adjust FILE [--x L] [--y L] [--set L [--back-door] | --most N]`
 abbrev pub adjust_row : Row
-adjust_row = record { name = codes "adjust"; positionals = codes "file" ∷ []; extra = []; needed = []; options = codes "x" ∷ codes "y" ∷ codes "set" ∷ codes "most" ∷ []; flags = codes "back-door" ∷ [] }
+adjust_row = record {
+  name = codes "adjust";
+  positionals = codes "file" ∷ [];
+  optional = [];
+  required = [];
+  options = codes "x" ∷ codes "y" ∷ codes "set" ∷ codes "most" ∷ [];
+  flags = codes "back-door" ∷ [];
+}
 
 -- a request
 pub record Request : Type 0 where
@@ -31,4 +38,4 @@ pub record IsRequest (uses : List Use) (r : Request) : Type 0 where
   pub is_set : values.IsListed (value_of uses (codes "set")) set
   pub most : ℕ
   pub is_most : values.IsNumberOr 100 (value_of uses (codes "most")) 1 10000 most
-  pub is_query : query_for set (has_flag uses (codes "back-door")) most ≡ Some r.query
+  pub is_query : query_for set (has_flag uses (codes "back-door")) (is_some (value_of uses (codes "most"))) most ≡ Some r.query

@@ -7,11 +7,13 @@ use Rattle.prob_expr.specs.Failing.{FailsSomewhere}
 use Rattle.prob_expr.specs.Values.{EqualsEffect}
 use Rattle.adjustment.specs.Criteria.{IsAdmissible, IsBackDoorSet}
 use Rattle.adjustment.specs.Faults.{IsAdjustmentFault, IsBackDoorFault}
-use Rattle.adjustment.specs.Formulas.{adjustment_formula, effect_on}
+use Rattle.prob_expr.specs.Tree.{effect_on}
+use Rattle.adjustment.specs.Formulas.{adjustment_formula}
 use Rattle.adjust_command.specs.declared.criteria.Verdict.{Verdict}
 use Rattle.adjust_command.specs.declared.criteria.Verdict.TheVariants.{Meets, Breaks, NotOne}
 
--- z meets the adjustment criterion, or the back-door criterion for the one exposure v, and its formula is the effect; or this breaks the criterion, and the formula of what breaks the first isn't the effect in some positive model; or the exposures aren't one vertex
+-- z meets the adjustment criterion, or the back-door criterion for the one exposure v, and its formula is the effect; or this breaks the criterion,
+-- and the formula of what breaks the first isn't the effect in some positive model; or the exposures aren't one vertex
 abbrev pub IsVerdict : (back_door : Bool) → MixedGraph → (x y z : ℕ) → Verdict → Type 0
 IsVerdict false q x y z Meets = IsAdmissible q (has x) (has y) (has z) × EqualsEffect q (effect_on x y) (adjustment_formula x y z)
 IsVerdict false q x y z (Breaks fault) = IsAdjustmentFault q (has x) (has y) (has z) fault × FailsSomewhere q (effect_on x y) (adjustment_formula x y z)

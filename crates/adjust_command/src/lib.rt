@@ -1,6 +1,7 @@
 //! The command `adjust`: whether a set may be adjusted for, or the minimal sets that may.
 #![tactic(auto)]
 
+mod choosing;
 mod criteria;
 mod listing;
 mod query;

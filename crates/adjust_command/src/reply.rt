@@ -1,9 +1,11 @@
+//! The answer of `adjust`.
+
 ghost use Rattle.std.specs.Prelude.{◌≡◌, ◌<◌, IfOk, length, option_map};
 ghost use Rattle.mixed_graph.specs.Bits.{has};
 ghost use Rattle.mixed_graph.specs.Names.{texts};
 ghost use Rattle.mixed_graph.specs.Shown.{graph_of};
 ghost use Rattle.do_rules.specs.Rules.{AreThreeSets};
-ghost use Rattle.word_lists.specs.Views.{names_in};
+ghost use Rattle.command_words.specs.ListViews.{names_in};
 ghost use Rattle.adjust_command.specs.Queries.{query_of, IsInRange};
 ghost use Rattle.adjust_command.specs.Answers.{set_of, SetsAnswer, AdjustAnswer};
 ghost use Rattle.adjust_command.specs.Requests.{request_of};

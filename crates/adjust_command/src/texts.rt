@@ -1,3 +1,5 @@
+//! The texts of `adjust`: a set that is admissible, what breaks a criterion, and a listing.
+
 ghost use Rattle.std.specs.Prelude.{ℕ, ◌≡◌, ◌++◌, ◌<◌, IfOk, OnOk, All, length};
 ghost use Rattle.mixed_graph.specs.Bits.{has};
 ghost use Rattle.mixed_graph.specs.Sets.{Within};
@@ -6,8 +8,8 @@ ghost use Rattle.adjust_command.specs.Faults.{IsPrintable};
 ghost use Rattle.adjust_command.specs.Lines.{set_line, set_lines, admissible_text, forbidden_line, fault_line, not_admissible_text, listing_text};
 
 use adjustment::{AdjFault, formula_for};
-use answer_text::{push_set, push_vertex};
-use identify_text::formula_answer;
+use answer_text::{Notation, push_set, push_vertex};
+use identify_text::answer_in;
 use mixed_graph::{Names, VSet};
 use prob_expr::Target;
 use replies::push_open;
@@ -36,7 +38,7 @@ pub fn admissible_text(alloc: Global, names: &Names, sets: Sets) -> Result<Vec<u
         y: sets.y,
         given: VSet::EMPTY,
     };
-    let answer = formula_answer(alloc, &formula, &effect, names)?;
+    let answer = answer_in(alloc, Notation::Plain, &formula, &effect, names)?;
     let mut text = Vec::from_slice(alloc, b"admissible: ")?;
     push_line(&mut text, names, sets.given)?;
     text.extend_from_slice(answer.as_slice())?;

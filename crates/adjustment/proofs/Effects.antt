@@ -5,7 +5,7 @@ use Rattle.mixed_graph.specs.Bits.{has}
 use Rattle.mixed_graph.specs.Graphs.{MixedGraph, IsMixedGraph, IsAncestor, IsDescendant}
 use Rattle.mixed_graph.proofs.Masks.{has-zero, has-pow}
 use Rattle.m_separation.specs.Walks.{IsSeparated}
-use Rattle.surgery.specs.Cuts.{cut_into, cut_out}
+use Rattle.do_rules.specs.Cuts.{cut_into, cut_out}
 use Rattle.fractions.specs.Fractions.{Fraction, over, IsEqual}
 use Rattle.finite_models.specs.Sums.{sum_over, set_at}
 use Rattle.finite_models.specs.Models.{FiniteModel, Fits, IsAssignment, IsPositiveModel, event_weight, weight_of, total}
@@ -16,17 +16,17 @@ use Rattle.finite_models.proofs.SumLaws.{along, set_at-other}
 use Rattle.finite_models.proofs.Tested.{Test, tested, stable}
 use Rattle.finite_models.proofs.Weights.{weight-none}
 use Rattle.do_rules.specs.Rules.{AreThreeSets}
-use Rattle.mixed_graph.specs.Masks.{join, one, is_empty}
-use Rattle.prob_expr.specs.Tree.{prob, product, tree, no_trees}
+use Rattle.mixed_graph.specs.Masks.{union, one, is_empty}
+use Rattle.prob_expr.specs.Tree.{prob, product, tree, no_trees, effect_on}
 use Rattle.prob_expr.specs.Values.{weights_of, value, value_of, effect, EqualsEffect}
 use Rattle.prob_expr.proofs.Boxes.{assignment_set, add_over_whole}
 use Rattle.prob_expr.proofs.ValueLaws.{value_positive, formula_positive, term_positive}
-use Rattle.proper_paths.specs.Proper.{IsBetween}
-use Rattle.proper_paths.proofs.Causal.{below_from, between_first}
-use Rattle.proper_paths.proofs.FirstEdges.{cut_arrows, firsts}
+use Rattle.adjustment.specs.Proper.{IsBetween}
+use Rattle.adjustment.proofs.Causal.{below_from, between_first}
+use Rattle.adjustment.proofs.FirstEdges.{cut_arrows, firsts}
 use Rattle.adjustment.specs.Criteria.{IsForbidden, IsAdmissible}
 use Rattle.adjustment.specs.Faults.{IsClearOf}
-use Rattle.adjustment.specs.Formulas.{adjusted_sum, adjustment_formula, effect_on}
+use Rattle.adjustment.specs.Formulas.{adjusted_sum, adjustment_formula}
 use Rattle.adjustment.proofs.Observed.{no_bits, turned, turned_pair, turned_one, joined, whole, observed, all_worlds}
 use Rattle.adjustment.proofs.Held.{hold_arrows, term_is, sum_is_effect}
 use Rattle.adjustment.proofs.Separating.{clear_of_firsts, separated_from, clear_of_out}
@@ -65,8 +65,10 @@ module _ (g : MixedGraph) (ok : IsMixedGraph g) (x y z : ℕ) (sets : AreThreeSe
         → event_weight m (λ v. has x v || (has y v || has z v)) c * event_weight m (has z) c ≡ event_weight m (λ v. has x v || has z v) c * part c
     unfolding part
     term c same =
-        with_rank g ok (event_weight m (λ v. has x v || (has y v || has z v)) c * event_weight m (has z) c) (event_weight m (λ v. has x v || has z v) c * event_weight (hold_arrows m E s) (λ v. has y v || has z v) c)
-        (λ rank ranked. term_is g m rank ok ranked (follows_of g m fit) s within E (has x) (has y) (has z) tails clear cover sets.x_y sets.x_w sets.y_w sets.x_within sets.y_within sets.w_within sep c same)
+        with_rank g ok (event_weight m (λ v. has x v || (has y v || has z v)) c * event_weight m (has z) c)
+        (event_weight m (λ v. has x v || has z v) c * event_weight (hold_arrows m E s) (λ v. has y v || has z v) c)
+        (λ rank ranked. term_is g m rank ok ranked (follows_of g m fit) s within E (has x) (has y) (has z)
+        tails clear cover sets.x_y sets.x_w sets.y_w sets.x_within sets.y_within sets.w_within sep c same)
 
     sum_is : sum_over (has z) m.size m.vertices part s ≡ weight_of m (has x) (λ v. has y v || has 0 v) s
     unfolding part
@@ -79,14 +81,18 @@ module _ (g : MixedGraph) (ok : IsMixedGraph g) (x y z : ℕ) (sets : AreThreeSe
     total_positive = let p = (term_positive g ok m fit positive y x 0 s within).bottom in subst (λ t. 1 ≤ t) (whole m x s) p
 
     each_term : (c : ℕ → ℕ) → IsAssignment m.vertices m.size c → ((v : ℕ) → has z v ≡ false → c v ≡ s v)
-        → IsEqual (value (weights_of m) (λ j t. over 1 1) (product (tree (prob z 0 0) (tree (prob y 0 (join x z)) no_trees))) c) (over (part c) (total m))
+        → IsEqual (value (weights_of m) (λ j t. over 1 1) (product (tree (prob z 0 0) (tree (prob y 0 (union x z)) no_trees))) c) (over (part c) (total m))
     each_term c inside same = record {
-      left_bottom = (value_positive g ok m fit positive (λ j t. over 1 1) (λ k t w. record { top = omega arith; bottom = omega arith }) (product (tree (prob z 0 0) (tree (prob y 0 (join x z)) no_trees))) c inside).bottom;
+      left_bottom = (value_positive g ok m fit positive (λ j t. over 1 1) (λ k t w. record { top = omega arith; bottom = omega arith })
+          (product (tree (prob z 0 0) (tree (prob y 0 (union x z)) no_trees))) c inside).bottom;
       right_bottom = total_positive;
-      products = scaled (event_weight m (has z) c) (event_weight m (λ v. has x v || (has y v || has z v)) c) (event_weight m (λ v. has x v || has z v) c) (part c) (total m)
-          (weight_of m (has 0) (λ v. has z v || has 0 v) c) (weight_of m (has 0) (has 0) c) (weight_of m (has 0) (λ v. has y v || has (join x z) v) c) (weight_of m (has 0) (has (join x z)) c)
-          (observed m (λ v. has z v || has 0 v) (has z) c (no_bits (has z))) (all_worlds m c) (observed m (λ v. has y v || has (join x z) v) (λ v. has x v || (has y v || has z v)) c (turned x y z))
-          (observed m (has (join x z)) (λ v. has x v || has z v) c (joined x z)) (term c same);
+      products = scaled (event_weight m (has z) c) (event_weight m (λ v. has x v || (has y v || has z v)) c) (event_weight m (λ v. has x v || has z v) c)
+          (part c) (total m)
+          (weight_of m (has 0) (λ v. has z v || has 0 v) c) (weight_of m (has 0) (has 0) c) (weight_of m (has 0) (λ v. has y v || has (union x z) v) c)
+          (weight_of m (has 0) (has (union x z)) c)
+          (observed m (λ v. has z v || has 0 v) (has z) c (no_bits (has z))) (all_worlds m c)
+          (observed m (λ v. has y v || has (union x z) v) (λ v. has x v || (has y v || has z v)) c (turned x y z))
+          (observed m (has (union x z)) (λ v. has x v || has z v) c (joined x z)) (term c same);
     }
 
     -- c is an assignment that differs from s on z at most
@@ -101,17 +107,21 @@ module _ (g : MixedGraph) (ok : IsMixedGraph g) (x y z : ℕ) (sets : AreThreeSe
 
     sum_equal : IsEqual (value (weights_of m) (λ j t. over 1 1) (adjusted_sum x y z) s) (effect m (effect_on x y) s)
     sum_equal =
-        moved (value (weights_of m) (λ j t. over 1 1) (adjusted_sum x y z) s) (sum_over (has z) m.size m.vertices part s) (total m) (weight_of m (has x) (λ v. has y v || has 0 v) s) (weight_of m (has x) (has 0) s)
+        moved (value (weights_of m) (λ j t. over 1 1) (adjusted_sum x y z) s) (sum_over (has z) m.size m.vertices part s) (total m)
+        (weight_of m (has x) (λ v. has y v || has 0 v) s) (weight_of m (has x) (has 0) s)
         sum_is (sym (whole m x s))
-        (add_over_whole (has z) m.size IsNearby m.vertices (total m) (value (weights_of m) (λ j t. over 1 1) (product (tree (prob z 0 0) (tree (prob y 0 (join x z)) no_trees)))) part s total_positive
+        (add_over_whole (has z) m.size IsNearby m.vertices (total m) (value (weights_of m) (λ j t. over 1 1)
+        (product (tree (prob z 0 0) (tree (prob y 0 (union x z)) no_trees)))) part s total_positive
         stays_nearby (within, λ v out. refl) (λ c p. each_term c p.0 p.1))
 
     simple_equal : ((v : ℕ) → has z v ≡ false) → IsEqual (value (weights_of m) (λ j t. over 1 1) (prob y 0 x) s) (effect m (effect_on x y) s)
     simple_equal none = record {
       left_bottom = (term_positive g ok m fit positive y 0 x s within).bottom;
       right_bottom = (term_positive g ok m fit positive y x 0 s within).bottom;
-      products = subst (λ t. weight_of m (has 0) (λ v. has y v || has x v) s * t ≡ weight_of m (has x) (λ v. has y v || has 0 v) s * weight_of m (has 0) (has x) s) (sym (whole m x s))
-          (unscaled (event_weight m (has z) s) (event_weight m (λ v. has x v || (has y v || has z v)) s) (event_weight m (λ v. has x v || has z v) s) (part s) (total m)
+      products = subst (λ t. weight_of m (has 0) (λ v. has y v || has x v) s * t
+          ≡ weight_of m (has x) (λ v. has y v || has 0 v) s * weight_of m (has 0) (has x) s) (sym (whole m x s))
+          (unscaled (event_weight m (has z) s) (event_weight m (λ v. has x v || (has y v || has z v)) s) (event_weight m (λ v. has x v || has z v) s) (part s)
+          (total m)
           (weight_of m (has 0) (λ v. has y v || has x v) s) (weight_of m (has 0) (has x) s) (weight_of m (has x) (λ v. has y v || has 0 v) s)
           (weight-none m (has z) s none) (observed m (λ v. has y v || has x v) (λ v. has x v || (has y v || has z v)) s (turned_pair x y z none))
           (observed m (has x) (λ v. has x v || has z v) s (turned_one x z none))
@@ -121,7 +131,8 @@ module _ (g : MixedGraph) (ok : IsMixedGraph g) (x y z : ℕ) (sets : AreThreeSe
     formula_equal : IsEqual (value_of (weights_of m) (adjustment_formula x y z) s) (effect m (effect_on x y) s)
     formula_equal = go (is_empty z) refl
       where
-        go : (p : Bool) → is_empty z ≡ p → IsEqual (value (weights_of m) (λ j t. over 1 1) (cond p (prob y 0 x) (adjusted_sum x y z)) s) (effect m (effect_on x y) s)
+        go : (p : Bool) → is_empty z ≡ p → IsEqual (value (weights_of m) (λ j t. over 1 1) (cond p (prob y 0 x) (adjusted_sum x y z)) s)
+            (effect m (effect_on x y) s)
         go true e = simple_equal (λ v. ap (λ b. has b v) (eqb-true z 0 e) ∙ has-zero v)
         go false e = sum_equal
 
@@ -143,17 +154,20 @@ module _ (g : MixedGraph) (ok : IsMixedGraph g) (x y z : ℕ) (sets : AreThreeSe
   admissible_adjusts adm m fit positive s within = record {
     left_bottom = (formula_positive g ok m fit positive (adjustment_formula x y z) s within).bottom;
     right_bottom = (term_positive g ok m fit positive y x 0 s within).bottom;
-    products = stable ((value_of (weights_of m) (adjustment_formula x y z) s).top * (effect m (effect_on x y) s).bottom) ((effect m (effect_on x y) s).top * (value_of (weights_of m) (adjustment_formula x y z) s).bottom)
+    products = stable ((value_of (weights_of m) (adjustment_formula x y z) s).top * (effect m (effect_on x y) s).bottom)
+        ((effect m (effect_on x y) s).top * (value_of (weights_of m) (adjustment_formula x y z) s).bottom)
         (λ differ. tested (IsBetween g (has x) (has y)) g.vertices (λ t. differ (with_test t m fit positive s within).products));
   }
     where
       with_test : Test (IsBetween g (has x) (has y)) g.vertices → EqualsEffect g (effect_on x y) (adjustment_formula x y z)
       with_test t =
-          let is_between : (v : ℕ) → IsTrue (t.test v) ↔ IsBetween g (has x) (has y) v = λ v. (t.sound v, λ b. t.complete v (below_from g ok (has x) (has y) sets.x_within v b).vertex b) in
+          let is_between : (v : ℕ) → IsTrue (t.test v) ↔ IsBetween g (has x) (has y) v =
+          λ v. (t.sound v, λ b. t.complete v (below_from g ok (has x) (has y) sets.x_within v b).vertex b) in
           separating_adjusts t.test is_between adm.clear (separated_from g ok (has x) (has y) sets.x_within sets.x_y t.test is_between (has z) sets.x_w adm)
 
 -- the formula of a set that separates once the arrows out of x are cut, without a descendant of x
-pub unconfounded_adjusts : (g : MixedGraph) → IsMixedGraph g → (x y z : ℕ) → AreThreeSets g.vertices (has (one x)) (has y) (has z) → IsClearOf (IsDescendant g (λ u. u == x)) (has z)
+pub unconfounded_adjusts : (g : MixedGraph) → IsMixedGraph g → (x y z : ℕ) → AreThreeSets g.vertices (has (one x)) (has y) (has z)
+    → IsClearOf (IsDescendant g (λ u. u == x)) (has z)
     → IsSeparated (cut_out g (has (one x))) (has (one x)) (has y) (has z) → EqualsEffect g (effect_on (one x) y) (adjustment_formula (one x) y z)
 unconfounded_adjusts g ok x y z sets clear sep =
     equals_effect g ok (one x) y z sets (λ u v. has (one x) u) (λ u v e. e)

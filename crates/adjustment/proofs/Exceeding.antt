@@ -3,18 +3,18 @@ use Rattle.std.proofs.Common.{ℕ, ◌+◌, ◌*◌, ◌≡◌, ◌<◌, ◌≤�
 use Rattle.std.proofs.Math.Nat.{mul-le-mul_left}
 use Rattle.mixed_graph.specs.Bits.{has}
 use Rattle.mixed_graph.specs.Graphs.{MixedGraph, IsMixedGraph}
-use Rattle.mixed_graph.specs.Masks.{join, is_empty}
+use Rattle.mixed_graph.specs.Masks.{union, is_empty}
 use Rattle.mixed_graph.proofs.Masks.{has-zero}
 use Rattle.fractions.specs.Fractions.{Fraction, over, IsEqual, IsPositive}
 use Rattle.finite_models.specs.Models.{FiniteModel, IsAssignment, event_weight, weight_of, total}
 use Rattle.finite_models.proofs.Weights.{weight-none, weight_of-none}
-use Rattle.prob_expr.specs.Tree.{prob, product, tree, no_trees}
+use Rattle.prob_expr.specs.Tree.{prob, product, tree, no_trees, effect_on}
 use Rattle.prob_expr.specs.Values.{weights_of, value, effect, add_over}
 use Rattle.prob_expr.specs.Failing.{FailsSomewhere}
 use Rattle.prob_expr.proofs.Boxes.{assignment_set}
 use Rattle.prob_expr.proofs.ValueLaws.{value_positive}
 use Rattle.walk_models.specs.Laws.{IsBelowSomewhere, event}
-use Rattle.adjustment.specs.Formulas.{adjusted_sum, adjustment_formula, effect_on}
+use Rattle.adjustment.specs.Formulas.{adjusted_sum, adjustment_formula}
 use Rattle.adjustment.proofs.Observed.{no_bits, turned, turned_pair, turned_one, joined, whole, observed, all_worlds}
 use Rattle.adjustment.proofs.SingleTerms.{IsAtMost, single_term}
 
@@ -61,11 +61,11 @@ module _ (g : MixedGraph) (ok : IsMixedGraph g) (x y z : ℕ) (d : Exceeds g (ha
 
   -- ---- one term of the sum
   abbrev term : (ℕ → ℕ) → Fraction
-  term c = value (weights_of m) (λ j t. over 1 1) (product (tree (prob z 0 0) (tree (prob y 0 (join x z)) no_trees))) c
+  term c = value (weights_of m) (λ j t. over 1 1) (product (tree (prob z 0 0) (tree (prob y 0 (union x z)) no_trees))) c
 
   positive : (c : ℕ → ℕ) → IsAssignment m.vertices m.size c → IsPositive (term c)
   positive c within = value_positive g ok m d.fits d.positive (λ j t. over 1 1) (λ k t w. record { top = omega arith; bottom = omega arith })
-      (product (tree (prob z 0 0) (tree (prob y 0 (join x z)) no_trees))) c within
+      (product (tree (prob z 0 0) (tree (prob y 0 (union x z)) no_trees))) c within
 
   at_most : IsAtMost (term s) (add_over (has z) m.size m.vertices term s)
   at_most = single_term (has z) m.size (IsAssignment m.vertices m.size) term positive m.vertices s d.less.within
@@ -80,8 +80,8 @@ module _ (g : MixedGraph) (ok : IsMixedGraph g) (x y z : ℕ) (d : Exceeds g (ha
       (rw (
         sym (observed m (λ v. has z v || has 0 v) (has z) s (no_bits (has z))),
         sym (all_worlds m s),
-        sym (observed m (λ v. has y v || has (join x z) v) (λ v. has x v || (has y v || has z v)) s (turned x y z)),
-        sym (observed m (has (join x z)) (λ v. has x v || has z v) s (joined x z)),
+        sym (observed m (λ v. has y v || has (union x z) v) (λ v. has x v || (has y v || has z v)) s (turned x y z)),
+        sym (observed m (has (union x z)) (λ v. has x v || has z v) s (joined x z)),
       ) at_most.products)
       (ap (λ n. sum.top * n) (sym (whole m x s)) ∙ e.products ∙ ap (λ n. n * sum.bottom) effect_top)
 

@@ -1,5 +1,6 @@
 -- What breaks the adjustment criterion makes one stratum exceed the effect.
-use Rattle.std.proofs.Common.{◌⊎◌, inl, inr, ℕ, zero, suc, ◌≡◌, ◌<◌, ◌≤◌, Bool, true, false, ◌&&◌, List, [], ◌∷◌, length, refl, sym, ap, ◌∙◌, subst, IsTrue, slice_index, arith}
+use Rattle.std.proofs.Common.{◌⊎◌, inl, inr, ℕ, zero, suc, ◌≡◌, ◌<◌, ◌≤◌, Bool, true, false, ◌&&◌, List, [], ◌∷◌, length, refl, sym, ap, ◌∙◌, subst}
+use Rattle.std.proofs.Common.{IsTrue, slice_index, arith}
 use Rattle.mixed_graph.specs.Bits.{has}
 use Rattle.mixed_graph.specs.Graphs.{MixedGraph, IsMixedGraph, IsDirectedPath}
 use Rattle.std.proofs.lemmas.Bool.{cases_lt}
@@ -8,7 +9,7 @@ use Rattle.m_separation.specs.Walks.{Step, IsWalk, IsOpenWalk, last, heads_first
 use Rattle.m_separation.proofs.Going.{passed_from_start}
 use Rattle.finite_models.proofs.Bools.{not_both}
 use Rattle.do_rules.specs.Rules.{AreThreeSets}
-use Rattle.proper_paths.specs.Proper.{AreOutside, IsCausal, IsOn, IsProperPath}
+use Rattle.adjustment.specs.Proper.{AreOutside, IsCausal, IsOn, IsProperPath}
 use Rattle.walk_models.specs.Visits.{vertex_at}
 use Rattle.walk_models.specs.Strict.{AreStrictFrom, IsCausalOutside, IsLate}
 use Rattle.walk_models.proofs.Firsts.{search}
@@ -20,7 +21,8 @@ use Rattle.adjustment.specs.declared.criteria.AdjFault.{AdjFault}
 use Rattle.adjustment.specs.declared.criteria.AdjFault.TheVariants.{Forbidden, Unblocked}
 use Rattle.adjustment.specs.Criteria.{IsForbidden}
 use Rattle.adjustment.specs.Faults.{IsAdjustmentFault, steps_of}
-use Rattle.adjustment.specs.Formulas.{adjustment_formula, effect_on}
+use Rattle.prob_expr.specs.Tree.{effect_on}
+use Rattle.adjustment.specs.Formulas.{adjustment_formula}
 use Rattle.adjustment.specs.Laws.{FaultsFail, AdjustsExactly}
 use Rattle.adjustment.proofs.Effects.{admissible_adjusts}
 use Rattle.adjustment.proofs.Exceeding.{Exceeds, exceeds_fails}

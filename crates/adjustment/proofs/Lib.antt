@@ -5,5 +5,7 @@ pub mod Held
 pub mod Effects
 mod Observed
 mod SingleTerms
-mod Exceeding
+pub mod Exceeding
 pub mod FaultWalks
+pub mod Causal
+pub mod FirstEdges

@@ -2,7 +2,7 @@
 use Rattle.std.proofs.Common.{ℕ, ◌≡◌, Bool, true, false, refl, sym, ap, ◌∙◌, ◌||◌}
 use mathlib.Core.Path.{fun_ext}
 use Rattle.mixed_graph.specs.Bits.{has}
-use Rattle.mixed_graph.specs.Masks.{join}
+use Rattle.mixed_graph.specs.Masks.{union}
 use Rattle.mixed_graph.proofs.Masks.{has-zero, has-or}
 use Rattle.finite_models.specs.Models.{FiniteModel, event_weight, weight_of, intervene, total}
 use Rattle.finite_models.proofs.Weights.{weight-none, weight_of-none}
@@ -14,7 +14,7 @@ no_bits a = fun_ext (λ v. go (a v) (has 0 v) (has-zero v))
     go true q e = refl
     go false q e = e
 
-pub turned : (x y z : ℕ) → ◌≡◌ {A = ℕ → Bool} (λ v. has y v || has (join x z) v) (λ v. has x v || (has y v || has z v))
+pub turned : (x y z : ℕ) → ◌≡◌ {A = ℕ → Bool} (λ v. has y v || has (union x z) v) (λ v. has x v || (has y v || has z v))
 turned x y z = fun_ext (λ v. ap (λ t. has y v || t) (has-or x z v) ∙ go (has x v) (has y v) (has z v))
   where
     go : (p q r : Bool) → (q || (p || r)) ≡ (p || (q || r))
@@ -38,7 +38,7 @@ turned_one x z none = fun_ext (λ v. go (has x v) (has z v) (none v))
     go true r e = refl
     go false r e = sym e
 
-pub joined : (x z : ℕ) → has (join x z) ≡ (λ v. has x v || has z v)
+pub joined : (x z : ℕ) → has (union x z) ≡ (λ v. has x v || has z v)
 joined x z = fun_ext (λ v. has-or x z v)
 
 -- the weight of no event is the total

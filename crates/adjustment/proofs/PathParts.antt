@@ -9,8 +9,8 @@ use Rattle.m_separation.specs.declared.paths.OpenPath.{OpenPath}
 use Rattle.m_separation.specs.Walks.{Step, IsWalk, last, heads_second, ArePassed, IsPath, IsOpenWalk}
 use Rattle.m_separation.specs.Paths.{steps_from, IsOpenPath}
 use Rattle.m_separation.proofs.Going.{joined_below, passed_inside}
-use Rattle.proper_paths.specs.Proper.{AreOutside, IsCausal, IsBetween}
-use Rattle.proper_paths.proofs.FirstEdges.{cut_arrows, firsts}
+use Rattle.adjustment.specs.Proper.{AreOutside, IsCausal, IsBetween}
+use Rattle.adjustment.proofs.FirstEdges.{cut_arrows, firsts}
 use Rattle.adjustment.specs.Faults.{steps_of, IsUnblockedPath}
 use Rattle.adjustment.specs.Parts.{BeginsIn, IsLastPart}
 use Rattle.adjustment.proofs.Walks.{open_more}
@@ -23,27 +23,34 @@ pub steps_from_same : (a : List ℕ) (m : List Mark) (i : ℕ) (b : List ℕ) (n
 steps_from_same a m i b n j zero hv hm = refl
 steps_from_same a m i b n j (suc k) hv hm =
     let rest = steps_from_same a m (i + 1) b n (j + 1) k
-    (λ t le. subst (λ p. get_or a p 0 ≡ get_or b (j + 1 + t) 0) (let e : i + (1 + t) ≡ i + 1 + t = omega arith in e) (subst (λ p. get_or a (i + (1 + t)) 0 ≡ get_or b p 0) (let e : j + (1 + t) ≡ j + 1 + t = omega arith in e) (hv (1 + t) (omega arith))))
-    (λ t lt. subst (λ p. get_or m p Out ≡ get_or n (j + 1 + t) Out) (let e : i + (1 + t) ≡ i + 1 + t = omega arith in e) (subst (λ p. get_or m (i + (1 + t)) Out ≡ get_or n p Out) (let e : j + (1 + t) ≡ j + 1 + t = omega arith in e) (hm (1 + t) (omega arith)))) in
+    (λ t le. subst (λ p. get_or a p 0 ≡ get_or b (j + 1 + t) 0) (let e : i + (1 + t) ≡ i + 1 + t = omega arith in e)
+    (subst (λ p. get_or a (i + (1 + t)) 0 ≡ get_or b p 0) (let e : j + (1 + t) ≡ j + 1 + t = omega arith in e) (hv (1 + t) (omega arith))))
+    (λ t lt. subst (λ p. get_or m p Out ≡ get_or n (j + 1 + t) Out) (let e : i + (1 + t) ≡ i + 1 + t = omega arith in e)
+    (subst (λ p. get_or m (i + (1 + t)) Out ≡ get_or n p Out) (let e : j + (1 + t) ≡ j + 1 + t = omega arith in e) (hm (1 + t) (omega arith)))) in
     let v : get_or a (i + 1) 0 ≡ get_or b (j + 1) 0 = hv 1 (omega arith) in
-    let h : get_or m i Out ≡ get_or n j Out = subst (λ p. get_or m p Out ≡ get_or n j Out) (let e : i + 0 ≡ i = omega arith in e) (subst (λ p. get_or m (i + 0) Out ≡ get_or n p Out) (let e : j + 0 ≡ j = omega arith in e) (hm 0 (omega arith))) in
+    let h : get_or m i Out ≡ get_or n j Out = subst (λ p. get_or m p Out ≡ get_or n j Out) (let e : i + 0 ≡ i = omega arith in e)
+    (subst (λ p. get_or m (i + 0) Out ≡ get_or n p Out) (let e : j + 0 ≡ j = omega arith in e) (hm 0 (omega arith))) in
     cc
 
 -- each vertex of a walk is one of the graph's
-pub vertices_below : (g : MixedGraph) → IsMixedGraph g → (a : List ℕ) (m : List Mark) (i k : ℕ) → get_or a i 0 < g.vertices → IsWalk g (get_or a i 0) (steps_from a m i k)
+pub vertices_below : (g : MixedGraph) → IsMixedGraph g → (a : List ℕ) (m : List Mark) (i k : ℕ) → get_or a i 0 < g.vertices
+    → IsWalk g (get_or a i 0) (steps_from a m i k)
     → (t : ℕ) → i ≤ t → t ≤ i + k → get_or a t 0 < g.vertices
 vertices_below g ok a m i zero below walk t low high = let e : i ≡ t = omega arith in subst (λ p. get_or a p 0 < g.vertices) e below
 vertices_below g ok a m i (suc k) below walk t low high = elim (cases_eq i t) [
   | inl e ↦ subst (λ p. get_or a p 0 < g.vertices) e below
-  | inr d ↦ vertices_below g ok a m (i + 1) k (joined_below g ok (get_or a i 0) (get_or m i Out) (get_or a (i + 1) 0) walk.0) walk.1 t (omega arith) (omega arith)
+  | inr d ↦ vertices_below g ok a m (i + 1) k (joined_below g ok (get_or a i 0) (get_or m i Out) (get_or a (i + 1) 0) walk.0) walk.1 t (omega arith)
+      (omega arith)
 ]
 
 -- a path may be asked for its last vertex in x
-pub path_begins : (g : MixedGraph) → IsMixedGraph g → g.vertices ≤ 64 → (X Y W : ℕ → Bool) (p : OpenPath) → IsOpenPath g X Y W p.vertices p.marks p.count → BeginsIn X p
+pub path_begins : (g : MixedGraph) → IsMixedGraph g → g.vertices ≤ 64 → (X Y W : ℕ → Bool) (p : OpenPath) → IsOpenPath g X Y W p.vertices p.marks p.count
+    → BeginsIn X p
 path_begins g ok small X Y W p o = record {
   some = o.some;
   few = o.few;
-  vertices = λ i lt. let s = o.some in let b = vertices_below g ok p.vertices p.marks 0 (p.count - 1) o.walk.vertex o.walk.walk i (omega arith) (omega arith) in omega (arith, b, small);
+  vertices = λ i lt. let s = o.some in let b = vertices_below g ok p.vertices p.marks 0 (p.count - 1) o.walk.vertex o.walk.walk i (omega arith)
+      (omega arith) in omega (arith, b, small);
   begins = o.walk.begins;
 }
 
@@ -67,7 +74,8 @@ rest_at g W a m end n zero k e r = subst (λ j. Rest g W a m end 0 j) (let f : n
 rest_at g W a m end n (suc p) k e r =
     subst (λ j. Rest g W a m end j k) (let f : p + 1 ≡ suc p = omega arith in f) (rest_next g W a m end p k (rest_at g W a m end n p (suc k) (omega arith) r))
 
-outside_steps : (X : ℕ → Bool) (a : List ℕ) (m : List Mark) (i k : ℕ) → ((j : ℕ) → i < j → j ≤ i + k → X (get_or a j 0) ≡ false) → AreOutside X (steps_from a m i k)
+outside_steps : (X : ℕ → Bool) (a : List ℕ) (m : List Mark) (i k : ℕ) → ((j : ℕ) → i < j → j ≤ i + k → X (get_or a j 0) ≡ false)
+    → AreOutside X (steps_from a m i k)
 outside_steps X a m i zero h = tt
 outside_steps X a m i (suc k) h = (h (i + 1) (omega arith) (omega arith), outside_steps X a m (i + 1) k (λ j lt le. h j (omega arith) (omega arith)))
 
@@ -78,14 +86,18 @@ record IsAgainst (g : MixedGraph) (X Y Z : ℕ → Bool) (v : ℕ) (r : List Ste
   outside : AreOutside X r
   not_causal : IsCausal r → ⊥
 
-module _ (g : MixedGraph) (ok : IsMixedGraph g) (X Y : ℕ → Bool) (within : Within g.vertices X) (apart : Apart X Y) (B : ℕ → Bool) (is_between : (v : ℕ) → IsTrue (B v) ↔ IsBetween g X Y v) (Z : ℕ → Bool) (x_out : Apart X Z) where
+module _ (g : MixedGraph) (ok : IsMixedGraph g) (X Y : ℕ → Bool) (within : Within g.vertices X) (apart : Apart X Y) (B : ℕ → Bool)
+    (is_between : (v : ℕ) → IsTrue (B v) ↔ IsBetween g X Y v) (Z : ℕ → Bool) (x_out : Apart X Z) where
   module _ (path part : OpenPath) (o : IsOpenPath (cut_arrows g (firsts X B)) X Y Z path.vertices path.marks path.count) (l : IsLastPart X path part) where
-    rest : Rest (cut_arrows g (firsts X B)) Z path.vertices path.marks (last (get_or path.vertices 0 0) (steps_from path.vertices path.marks 0 (path.count - 1))) l.0 (part.count - 1)
-    rest = rest_at (cut_arrows g (firsts X B)) Z path.vertices path.marks (last (get_or path.vertices 0 0) (steps_from path.vertices path.marks 0 (path.count - 1))) (path.count - 1) l.0 (part.count - 1)
+    rest : Rest (cut_arrows g (firsts X B)) Z path.vertices path.marks
+        (last (get_or path.vertices 0 0) (steps_from path.vertices path.marks 0 (path.count - 1))) l.0 (part.count - 1)
+    rest = rest_at (cut_arrows g (firsts X B)) Z path.vertices path.marks
+        (last (get_or path.vertices 0 0) (steps_from path.vertices path.marks 0 (path.count - 1))) (path.count - 1) l.0 (part.count - 1)
         (let e = l.2.count in let b = l.1.below in omega arith) (record { walk = o.walk.walk; passed = o.walk.passed; path = o.path; ends = refl })
 
     outside_rest : AreOutside X (steps_from path.vertices path.marks l.0 (part.count - 1))
-    outside_rest = outside_steps X path.vertices path.marks l.0 (part.count - 1) (λ j lt le. l.1.last j lt (let e = l.2.count in let b = l.1.below in omega arith))
+    outside_rest = outside_steps X path.vertices path.marks l.0 (part.count - 1)
+        (λ j lt le. l.1.last j lt (let e = l.2.count in let b = l.1.below in omega arith))
 
     against : IsAgainst g X Y Z (get_or path.vertices l.0 0) (steps_from path.vertices path.marks l.0 (part.count - 1))
     against = record {
@@ -100,7 +112,8 @@ module _ (g : MixedGraph) (ok : IsMixedGraph g) (X Y : ℕ → Bool) (within : W
       });
       path = rest.path;
       outside = outside_rest;
-      not_causal = not_causal g ok X Y within apart B is_between Z (get_or path.vertices l.0 0) (steps_from path.vertices path.marks l.0 (part.count - 1)) l.1.member
+      not_causal = not_causal g ok X Y within apart B is_between Z (get_or path.vertices l.0 0) (steps_from path.vertices path.marks l.0 (part.count - 1))
+          l.1.member
           (rw rest.ends o.walk.ends) rest.walk rest.path outside_rest;
     }
 
@@ -109,10 +122,13 @@ module _ (g : MixedGraph) (ok : IsMixedGraph g) (X Y : ℕ → Bool) (within : W
 
     against_part : IsAgainst g X Y Z (get_or part.vertices 0 0) (steps_of part)
     against_part = moved (get_or path.vertices l.0 0) (get_or part.vertices 0 0) (steps_from path.vertices path.marks l.0 (part.count - 1)) (steps_of part)
-        (let e = l.2.count in let b = l.1.below in let f : l.0 ≡ l.0 + 0 = omega arith in ap (λ p. get_or path.vertices p 0) f ∙ sym (l.2.vertices 0 (omega arith)))
+        (let e = l.2.count in let b = l.1.below in let f : l.0 ≡ l.0 + 0 = omega arith in ap (λ p. get_or path.vertices p 0) f
+        ∙ sym (l.2.vertices 0 (omega arith)))
         (steps_from_same path.vertices path.marks l.0 part.vertices part.marks 0 (part.count - 1)
-        (λ t le. let e = l.2.count in let b = l.1.below in let f : t ≡ 0 + t = omega arith in sym (l.2.vertices t (omega arith)) ∙ ap (λ p. get_or part.vertices p 0) f)
-        (λ t lt. let e = l.2.count in let b = l.1.below in let f : t ≡ 0 + t = omega arith in sym (l.2.marks t (omega arith)) ∙ ap (λ p. get_or part.marks p Out) f))
+        (λ t le. let e = l.2.count in let b = l.1.below in let f : t ≡ 0 + t = omega arith in sym (l.2.vertices t (omega arith))
+        ∙ ap (λ p. get_or part.vertices p 0) f)
+        (λ t lt. let e = l.2.count in let b = l.1.below in let f : t ≡ 0 + t = omega arith in sym (l.2.marks t (omega arith))
+        ∙ ap (λ p. get_or part.marks p Out) f))
         against
 
     -- the last part of an open path of the back-door graph breaks the criterion

@@ -12,9 +12,9 @@ use Rattle.m_separation.specs.declared.paths.OpenPath.{OpenPath}
 use Rattle.m_separation.proofs.Going.{passed_inside, passed_from_start}
 use Rattle.m_separation.proofs.OpenPaths.{open_path_from}
 use Rattle.finite_models.proofs.Bools.{not_both}
-use Rattle.proper_paths.specs.Proper.{AreOutside, IsCausal, IsBetween}
-use Rattle.proper_paths.proofs.Causal.{below_from}
-use Rattle.proper_paths.proofs.FirstEdges.{cut_arrows, firsts, on_here}
+use Rattle.adjustment.specs.Proper.{AreOutside, IsCausal, IsBetween}
+use Rattle.adjustment.proofs.Causal.{below_from}
+use Rattle.adjustment.proofs.FirstEdges.{cut_arrows, firsts, on_here}
 use Rattle.adjustment.specs.Criteria.{IsForbidden, IsAdmissible, BeginsInto, IsBackDoorSet}
 use Rattle.adjustment.specs.Faults.{IsClearOf, steps_of, IsBackDoorPath}
 use Rattle.adjustment.proofs.Walks.{graph_arrows, walk_more, open_more, IsClear, open_less}
@@ -30,7 +30,8 @@ record Part (g : MixedGraph) (X W : ℕ → Bool) (end : ℕ) : Type 0 where
   path : IsPath first steps
   ends : last first steps ≡ end
 
-part_or_outside : (g : MixedGraph) (X W : ℕ → Bool) (h : Bool) (v : ℕ) (r : List Step) → IsWalk g v r → ArePassedFrom g W h v r → IsPath v r → AreOutside X r ⊎ Part g X W (last v r)
+part_or_outside : (g : MixedGraph) (X W : ℕ → Bool) (h : Bool) (v : ℕ) (r : List Step) → IsWalk g v r → ArePassedFrom g W h v r → IsPath v r → AreOutside X r
+    ⊎ Part g X W (last v r)
 part_or_outside g X W h v [] w p q = inl tt
 part_or_outside g X W h v (s ∷ r) w p q = elim (part_or_outside g X W (heads_second s.mark) s.to r w.1 p.1 q.1) [
   | inl o ↦ go (X s.to) refl o
@@ -38,7 +39,16 @@ part_or_outside g X W h v (s ∷ r) w p q = elim (part_or_outside g X W (heads_s
 ]
   where
     go : (b : Bool) → X s.to ≡ b → AreOutside X r → AreOutside X (s ∷ r) ⊎ Part g X W (last s.to r)
-    go true e o = inr (record { first = s.to; steps = r; begins = e; outside = o; walk = w.1; passed = passed_inside g W (heads_second s.mark) s.to r p.1; path = q.1; ends = refl })
+    go true e o = inr (record {
+      first = s.to;
+      steps = r;
+      begins = e;
+      outside = o;
+      walk = w.1;
+      passed = passed_inside g W (heads_second s.mark) s.to r p.1;
+      path = q.1;
+      ends = refl;
+    })
     go false e o = inl (e, o)
 
 part_of : (g : MixedGraph) (X Y W : ℕ → Bool) (v : ℕ) (r : List Step) → IsOpenWalk g X Y W v r → IsPath v r → Part g X W (last v r)
@@ -49,7 +59,8 @@ part_of g X Y W v r o q = elim (part_or_outside g X W false v r o.walk (passed_f
 
 -- ---- the adjustment criterion
 -- the forbidden vertices are the descendants of those between
-pub forbidden_is : (g : MixedGraph) → IsMixedGraph g → (X Y : ℕ → Bool) → Within g.vertices X → (B bad : ℕ → Bool) → ((v : ℕ) → IsTrue (B v) ↔ IsBetween g X Y v)
+pub forbidden_is : (g : MixedGraph) → IsMixedGraph g → (X Y : ℕ → Bool) → Within g.vertices X → (B bad : ℕ → Bool)
+    → ((v : ℕ) → IsTrue (B v) ↔ IsBetween g X Y v)
     → ((v : ℕ) → IsTrue (bad v) ↔ IsDescendant g B v) → (v : ℕ) → IsTrue (bad v) ↔ IsForbidden g X Y v
 forbidden_is g ok X Y within B bad is_between below v = (
   λ e. let d = (below v).0 e in record { from = d.start; between = (is_between d.start).0 d.inside; path = d.path; leads = d.leads },
@@ -62,12 +73,14 @@ forbidden_is g ok X Y within B bad is_between below v = (
   }),
 )
 
-module _ (g : MixedGraph) (ok : IsMixedGraph g) (X Y : ℕ → Bool) (within : Within g.vertices X) (apart : Apart X Y) (B : ℕ → Bool) (is_between : (v : ℕ) → IsTrue (B v) ↔ IsBetween g X Y v) (Z : ℕ → Bool) where
+module _ (g : MixedGraph) (ok : IsMixedGraph g) (X Y : ℕ → Bool) (within : Within g.vertices X) (apart : Apart X Y) (B : ℕ → Bool)
+    (is_between : (v : ℕ) → IsTrue (B v) ↔ IsBetween g X Y v) (Z : ℕ → Bool) where
   pub clear_of_firsts : IsClearOf (IsForbidden g X Y) Z → IsClear g (firsts X B) Z
   clear_of_firsts clear u v a e t p l z = clear t z (record { from = v; between = (is_between v).0 (and_parts (X u) (B v) e).1; path = p; leads = l })
 
   -- a proper path of the back-door graph isn't causal
-  pub not_causal : (v : ℕ) (r : List Step) → X v ≡ true → Y (last v r) ≡ true → IsWalk (cut_arrows g (firsts X B)) v r → IsPath v r → AreOutside X r → IsCausal r → ⊥
+  pub not_causal : (v : ℕ) (r : List Step) → X v ≡ true → Y (last v r) ≡ true → IsWalk (cut_arrows g (firsts X B)) v r → IsPath v r → AreOutside X r
+      → IsCausal r → ⊥
   not_causal v [] x y w p o c = not_both (Y v) y (apart v x)
   not_causal v (s ∷ r) x y w p o c =
       let a : (g.arrow v s.to && not (X v && B s.to)) ≡ true = subst (λ m. IsJoined (cut_arrows g (firsts X B)) v m s.to) c.0 w.0 in
@@ -92,7 +105,15 @@ module _ (g : MixedGraph) (ok : IsMixedGraph g) (X Y : ℕ → Bool) (within : W
       (record { begins = p.begins; ends = y; walk = walk_more g (firsts X B) p.first p.steps p.walk; path = p.path; outside = p.outside })
       (not_causal p.first p.steps p.begins y p.walk p.path p.outside)
       (open_more g (firsts X B) X Y Z p.first p.steps
-      (record { vertex = within p.first p.begins; begins = p.begins; ends = y; first_outside = x_out p.first p.begins; last_outside = rw p.ends q.1.last_outside; walk = p.walk; passed = p.passed }))
+      (record {
+        vertex = within p.first p.begins;
+        begins = p.begins;
+        ends = y;
+        first_outside = x_out p.first p.begins;
+        last_outside = rw p.ends q.1.last_outside;
+        walk = p.walk;
+        passed = p.passed;
+      }))
 
   -- z is admissible if no member is forbidden and it separates x and y in that graph
   pub admissible_from : IsClearOf (IsForbidden g X Y) Z → IsSeparated (cut_arrows g (firsts X B)) X Y Z → IsAdmissible g X Y Z

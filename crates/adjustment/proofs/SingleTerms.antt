@@ -7,7 +7,7 @@ use Rattle.fractions.proofs.FractionLaws.{add_below_positive}
 use Rattle.finite_models.specs.Sums.{set_at}
 use Rattle.finite_models.proofs.SumLaws.{set_at-own}
 use Rattle.prob_expr.specs.Values.{add_over}
-use Rattle.prob_expr.proofs.Boxes.{IsKept, along_box, add_over_positive}
+use Rattle.prob_expr.proofs.Boxes.{IsStable, along_box, add_over_positive}
 
 -- f is at most g, in products
 pub record IsAtMost (f g : Fraction) : Type 0 where
@@ -46,7 +46,7 @@ summand (suc k) f x lt h = elim (cases_eq x k) [
 
 -- sums over the points with P
 module _ (u : ℕ → Bool) (s : ℕ → ℕ) (P : (ℕ → ℕ) → Type 0) (f : (ℕ → ℕ) → Fraction) (positive : (c : ℕ → ℕ) → P c → IsPositive (f c)) where
-  pub single_term : (n : ℕ) (b : ℕ → ℕ) → ((i : ℕ) → i < n → b i < s i) → IsKept n u s P → P b → IsAtMost (f b) (add_over u s n f b)
+  pub single_term : (n : ℕ) (b : ℕ → ℕ) → ((i : ℕ) → i < n → b i < s i) → IsStable n u s P → P b → IsAtMost (f b) (add_over u s n f b)
   single_term zero b within kept p = at_most_same (f b)
   single_term (suc n) b within kept p = go (u n) refl (single_term n b (λ i lt. within i (omega (arith, lt))) (λ c i x lt. kept c i x (omega (arith, lt))) p)
     where

@@ -5,10 +5,10 @@ use Rattle.mixed_graph.specs.Graphs.{MixedGraph, IsMixedGraph, IsDirectedPath}
 use Rattle.m_separation.specs.declared.marks.Mark.{Mark}
 use Rattle.m_separation.specs.declared.marks.Mark.TheVariants.{Out, Into, Both}
 use Rattle.m_separation.specs.Walks.{Step, IsJoined, IsWalk, heads_first, heads_second, IsPassed, ArePassedFrom, ArePassed, IsOpenWalk}
-use Rattle.surgery.proofs.Fewer.{HasFewer, graph_of_fewer}
+use Rattle.do_rules.proofs.Fewer.{HasFewer, graph_of_fewer}
 use Rattle.finite_models.proofs.Bools.{not_both}
-use Rattle.proper_paths.specs.Proper.{AreOutside, IsCausal}
-use Rattle.proper_paths.proofs.FirstEdges.{cut_arrows}
+use Rattle.adjustment.specs.Proper.{AreOutside, IsCausal}
+use Rattle.adjustment.proofs.FirstEdges.{cut_arrows}
 
 module _ (g : MixedGraph) (E : ℕ → ℕ → Bool) where
   -- ---- what the graph without the arrows of E has, g has
@@ -69,7 +69,11 @@ module _ (g : MixedGraph) (E : ℕ → ℕ → Bool) where
   module _ (Z : ℕ → Bool) (clear : IsClear Z) where
     path_less : (v : ℕ) (xs : List ℕ) (t : ℕ) → IsDirectedPath g v xs t → Z t ≡ true → IsDirectedPath (cut_arrows g E) v xs t
     path_less v [] t p z = p
-    path_less v (x ∷ xs) t p z = (and_from (g.arrow v x) (not (E v x)) p.0 (not_from_false (E v x) (false_from_ne_true (E v x) (λ e. clear v x p.0 e t xs p.1 z))), path_less x xs t p.1 z)
+    path_less v (x ∷ xs) t p z = (
+      and_from (g.arrow v x) (not (E v x)) p.0
+          (not_from_false (E v x) (false_from_ne_true (E v x) (λ e. clear v x p.0 e t xs p.1 z))),
+      path_less x xs t p.1 z,
+    )
 
     passed_less : (v : ℕ) (h l : Bool) → IsPassed g Z v h l → IsPassed (cut_arrows g E) Z v h l
     passed_less v true true a = record { vertex = a.vertex; path = a.path; end = a.end; leads = path_less v a.path a.end a.leads a.inside; inside = a.inside }
@@ -85,7 +89,8 @@ module _ (g : MixedGraph) (E : ℕ → ℕ → Bool) where
     passed_all_less (s ∷ r) p = passed_from_less (heads_second s.mark) s.to r p
 
     -- a walk that comes by a cut arrow and isn't causal from there on isn't open
-    turned : (b : ℕ) (r : List Step) → ((t : ℕ) (p : List ℕ) → IsDirectedPath g b p t → Z t ≡ true → ⊥) → IsWalk g b r → (IsCausal r → ⊥) → ArePassedFrom g Z true b r → ⊥
+    turned : (b : ℕ) (r : List Step) → ((t : ℕ) (p : List ℕ) → IsDirectedPath g b p t → Z t ≡ true → ⊥) → IsWalk g b r → (IsCausal r → ⊥)
+        → ArePassedFrom g Z true b r → ⊥
     turned b [] d w n p = n tt
     turned b (s ∷ r) d w n p = go s.mark refl w.0 p.0 p.1 (λ d' n' k. turned s.to r d' w.1 n' k)
       where
@@ -109,7 +114,8 @@ module _ (g : MixedGraph) (E : ℕ → ℕ → Bool) where
       walk_less v (s ∷ r) o a w = (joined_less v s.mark s.to o a.0 w.0, walk_less s.to r a.0 a.1 w.1)
 
       -- an open walk that leaves X at once for good, and isn't causal, has no cut arrow
-      pub open_less : (Y : ℕ → Bool) (v : ℕ) (r : List Step) → AreOutside X r → (IsCausal r → ⊥) → IsOpenWalk g X Y Z v r → IsOpenWalk (cut_arrows g E) X Y Z v r
+      pub open_less : (Y : ℕ → Bool) (v : ℕ) (r : List Step) → AreOutside X r → (IsCausal r → ⊥) → IsOpenWalk g X Y Z v r
+          → IsOpenWalk (cut_arrows g E) X Y Z v r
       open_less Y v [] a n o = absurd (n tt)
       open_less Y v (s ∷ r) a n o = record {
         vertex = o.vertex;

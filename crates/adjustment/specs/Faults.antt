@@ -4,7 +4,7 @@ use Rattle.mixed_graph.specs.Graphs.{MixedGraph, IsDescendant}
 use Rattle.m_separation.specs.declared.paths.OpenPath.{OpenPath}
 use Rattle.m_separation.specs.Paths.{IsOpenPath, steps_from}
 use Rattle.m_separation.specs.Walks.{Step}
-use Rattle.proper_paths.specs.Proper.{IsProperPath, IsCausal}
+use Rattle.adjustment.specs.Proper.{IsProperPath, IsCausal}
 use Rattle.adjustment.specs.declared.criteria.AdjFault.{AdjFault}
 use Rattle.adjustment.specs.declared.criteria.AdjFault.TheVariants.{Forbidden, Unblocked}
 use Rattle.adjustment.specs.Criteria.{IsForbidden, BeginsInto}

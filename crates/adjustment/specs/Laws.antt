@@ -3,16 +3,17 @@ use Rattle.std.specs.Prelude.{ℕ, ◌==◌, Bool, ◌↔◌}
 use Rattle.mixed_graph.specs.Bits.{has}
 use Rattle.mixed_graph.specs.Graphs.{MixedGraph, IsMixedGraph, IsDescendant}
 use Rattle.m_separation.specs.Walks.{IsSeparated}
-use Rattle.surgery.specs.Cuts.{cut_out}
+use Rattle.do_rules.specs.Cuts.{cut_out}
 use Rattle.do_rules.specs.Rules.{AreThreeSets}
-use Rattle.proper_paths.specs.Proper.{IsBackDoorGraph}
+use Rattle.adjustment.specs.Proper.{IsBackDoorGraph}
 use Rattle.mixed_graph.specs.Masks.{one}
 use Rattle.prob_expr.specs.Values.{EqualsEffect}
 use Rattle.prob_expr.specs.Failing.{FailsSomewhere}
 use Rattle.adjustment.specs.declared.criteria.AdjFault.{AdjFault}
 use Rattle.adjustment.specs.Criteria.{IsForbidden, IsAdmissible, IsBackDoorSet}
 use Rattle.adjustment.specs.Faults.{IsClearOf, IsAdjustmentFault}
-use Rattle.adjustment.specs.Formulas.{adjustment_formula, effect_on}
+use Rattle.prob_expr.specs.Tree.{effect_on}
+use Rattle.adjustment.specs.Formulas.{adjustment_formula}
 
 -- a set is admissible exactly where none of its members is forbidden and it separates x from y in the back-door graph
 abbrev pub AdmissibleIsSeparating : Type 0

@@ -3,3 +3,4 @@ pub mod Faults
 pub mod Formulas
 pub mod Laws
 pub mod Parts
+pub mod Proper

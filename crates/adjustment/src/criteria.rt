@@ -1,3 +1,5 @@
+//! The adjustment criterion and the back-door criterion (Pearl; Shpitser, VanderWeele and Robins).
+
 ghost use Rattle.std.specs.Prelude.{ℕ, ◌<◌, ◌==◌, IfErr, IfSome, IfNone, OnOk, IsTrue};
 ghost use Rattle.mixed_graph.specs.Bits.{has};
 ghost use Rattle.mixed_graph.specs.Shown.{graph_of};
@@ -7,13 +9,14 @@ ghost use Rattle.prob_expr.specs.Failing.{FailsSomewhere};
 ghost use Rattle.prob_expr.specs.Values.{EqualsEffect};
 ghost use Rattle.adjustment.specs.Criteria.{IsAdmissible, IsBackDoorSet};
 ghost use Rattle.adjustment.specs.Faults.{IsLowestIn, IsClearOf, IsAdjustmentFault, IsBackDoorFault};
-ghost use Rattle.adjustment.specs.Formulas.{adjustment_formula, effect_on};
+ghost use Rattle.prob_expr.specs.Tree.{effect_on};
+ghost use Rattle.adjustment.specs.Formulas.{adjustment_formula};
 
 use crate::parts::last_part;
+use crate::proper_paths::{back_door_graph, proper_causal};
+use do_rules::cuts::cut_out;
 use m_separation::{OpenPath, open_path};
 use mixed_graph::{Graph, VSet};
-use proper_paths::{back_door_graph, proper_causal};
-use surgery::cut_out;
 
 /// What breaks a criterion.
 #[derive(Clone, Copy)]

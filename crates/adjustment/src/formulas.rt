@@ -1,5 +1,7 @@
+//! The adjustment formula.
+
 ghost use Rattle.std.specs.Prelude.{◌≡◌, IfOk};
-ghost use Rattle.mixed_graph.specs.Masks.{join};
+ghost use Rattle.mixed_graph.specs.Masks.{union};
 ghost use Rattle.prob_expr.specs.Tree.{prob, tree, no_trees};
 ghost use Rattle.prob_expr.specs.View.{view, views, formula_view};
 ghost use Rattle.adjustment.specs.Formulas.{adjusted_sum, adjustment_formula};
@@ -21,7 +23,7 @@ fn observed(of: VSet, given: VSet) -> Expr
 
 /// The factors P(z) and P(y | x, z).
 fn factors(alloc: Global, x: VSet, y: VSet, z: VSet) -> Result<Vec<Expr>, AllocError>
-    ensures { IfOk result (λ v. views v.items ≡ tree (prob z.bits 0 0) (tree (prob y.bits 0 (join x.bits z.bits)) no_trees)) }
+    ensures { IfOk result (λ v. views v.items ≡ tree (prob z.bits 0 0) (tree (prob y.bits 0 (union x.bits z.bits)) no_trees)) }
 {
     let mut factors = Vec::new(alloc);
     factors.push(observed(z, VSet::EMPTY))?;

@@ -6,6 +6,7 @@
 mod criteria;
 mod formulas;
 mod parts;
+pub mod proper_paths;
 mod theory;
 
 pub use criteria::{AdjFault, adjusts, back_door};

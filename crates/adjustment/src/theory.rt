@@ -1,3 +1,5 @@
+//! The laws of the two criteria.
+
 ghost use Rattle.adjustment.specs.Laws.{AdmissibleIsSeparating, BackDoorIsSeparating, AdmissibleAdjusts, BackDoorAdjusts, FaultsFail, AdjustsExactly};
 
 /// The laws of the two criteria.

@@ -3,7 +3,7 @@ use Rattle.std.proofs.Common.{Bool, codes, append-nil, ◌≡◌, ℕ, ◌+◌, 
 use Rattle.std.specs.Prelude.{suc, slice_index, slice_index_or}
 use Rattle.std.proofs.lemmas.List.{append_assoc}
 use Rattle.mixed_graph.specs.Bits.{has, members_below}
-use Rattle.name_text.specs.Printing.{printed}
+use Rattle.answer_text.specs.Printing.{printed}
 use Rattle.m_separation.specs.declared.marks.Mark.{Mark}
 use Rattle.m_separation.specs.declared.marks.Mark.TheVariants.{Out}
 use Rattle.answer_text.specs.declared.signs.Notation.{Notation}
@@ -23,7 +23,8 @@ names_in-first w names v (u ∷ vs) = refl
 pub record IsWriting (w : Notation) (names : List (List ℕ)) (old out : List ℕ) (set rest : ℕ) : Type 0 where
   pub text : out ++ names_in w (member_names names (has rest)) ≡ old ++ names_in w (member_names names (has set))
 
-pub writing_more : (w : Notation) (names : List (List ℕ)) (old out : List ℕ) (set rest rest' v : ℕ) → members_below (has rest) 64 ≡ v ∷ members_below (has rest') 64 →
+pub writing_more : (w : Notation) (names : List (List ℕ)) (old out : List ℕ) (set rest rest' v : ℕ) → members_below (has rest) 64 ≡ v
+    ∷ members_below (has rest') 64 →
     IsWriting w names old out set rest →
     IsWriting w names old (out ++ name_in w (name_of names v) ++ comma_in w (members_below (has rest') 64)) set rest'
 writing_more w names old out set rest rest' v first is = record {
@@ -34,7 +35,8 @@ writing_more w names old out set rest rest' v first is = record {
       ∙ is.text;
 }
 
-pub writing_done : (w : Notation) (names : List (List ℕ)) (old out : List ℕ) (set rest : ℕ) → members_below (has rest) 64 ≡ [] → IsWriting w names old out set rest →
+pub writing_done : (w : Notation) (names : List (List ℕ)) (old out : List ℕ) (set rest : ℕ) → members_below (has rest) 64 ≡ []
+    → IsWriting w names old out set rest →
     out ≡ old ++ names_in w (member_names names (has set))
 writing_done w names old out set rest none is = sym (append-nil out) ∙ ap (λ vs. out ++ names_in w (map (name_of names) vs)) (sym none) ∙ is.text
 
@@ -51,7 +53,8 @@ steps_more names vertices marks old out i e =
     ∙ ap (λ k. old ++ steps_text names vertices marks k) {x = suc i} {y = i + 1} (omega arith)
 
 -- names behind a sign, and what stands behind the bar, by whether a set has members
-pub none_behind : (w : Notation) (sign : Sign) (names : List (List ℕ)) (set : ℕ → Bool) → members_below set 64 ≡ [] → names_behind w sign (member_names names set) ≡ []
+pub none_behind : (w : Notation) (sign : Sign) (names : List (List ℕ)) (set : ℕ → Bool) → members_below set 64 ≡ []
+    → names_behind w sign (member_names names set) ≡ []
 none_behind w sign names set e = rw e refl
 
 pub some_behind : (w : Notation) (sign : Sign) (names : List (List ℕ)) (set : ℕ → Bool) (v : ℕ) (vs : List ℕ) → members_below set 64 ≡ v ∷ vs →
@@ -71,7 +74,8 @@ done_first w names b c v vs e = rw e refl
 pub appended_two : (old a b : List ℕ) {out one : List ℕ} → one ≡ old ++ a → out ≡ one ++ b → out ≡ old ++ (a ++ b)
 appended_two old a b e f = f ∙ ap (λ t. t ++ b) e ∙ append_assoc old a b
 
-pub appended_five : (old a b c d e : List ℕ) {out one two three four : List ℕ} → one ≡ old ++ a → two ≡ one ++ b → three ≡ two ++ c → four ≡ three ++ d → out ≡ four ++ e →
+pub appended_five : (old a b c d e : List ℕ) {out one two three four : List ℕ} → one ≡ old ++ a → two ≡ one ++ b → three ≡ two ++ c → four ≡ three ++ d → out
+    ≡ four ++ e →
     out ≡ old ++ (a ++ (b ++ (c ++ (d ++ e))))
 appended_five old a b c d e p q r s t =
     t ∙ ap (λ x. x ++ e) (s ∙ ap (λ x. x ++ d) (r ∙ ap (λ x. x ++ c) (q ∙ ap (λ x. x ++ b) p))) ∙ simp append_assoc

@@ -1,2 +1,4 @@
 pub mod Notations
 pub mod Texts
+pub mod Printing
+pub mod Lines

@@ -1,6 +1,6 @@
 -- How names and signs are written in each notation: as plain text, or as LaTeX.
 use Rattle.std.specs.Prelude.{ℕ, Bool, ◌||◌, ◌==◌, List, [], ◌∷◌, ◌++◌, if◌then◌else◌, codes}
-use Rattle.name_text.specs.Printing.{printed}
+use Rattle.answer_text.specs.Printing.{printed}
 use Rattle.answer_text.specs.declared.signs.Notation.{Notation}
 use Rattle.answer_text.specs.declared.signs.Notation.TheVariants.{Plain, Latex}
 use Rattle.answer_text.specs.declared.signs.Sign.{Sign}

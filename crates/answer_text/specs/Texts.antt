@@ -4,7 +4,7 @@ use Rattle.mixed_graph.specs.Bits.{has, members_below}
 use Rattle.mixed_graph.specs.Names.{name_of}
 use Rattle.m_separation.specs.declared.marks.Mark.{Mark}
 use Rattle.m_separation.specs.declared.marks.Mark.TheVariants.{Out, Into, Both}
-use Rattle.name_text.specs.Printing.{printed}
+use Rattle.answer_text.specs.Printing.{printed}
 use Rattle.answer_text.specs.declared.signs.Notation.{Notation}
 use Rattle.answer_text.specs.declared.signs.Notation.TheVariants.{Plain}
 use Rattle.answer_text.specs.declared.signs.Sign.{Sign}

@@ -1,8 +1,10 @@
+//! Names as LaTeX prints them.
+
 ghost use Rattle.std.specs.Prelude.{◌≡◌, ◌++◌, ◌∷◌, [], OnOk};
-ghost use Rattle.name_text.specs.Printing.{printed};
+ghost use Rattle.answer_text.specs.Printing.{printed};
 ghost use Rattle.answer_text.specs.Notations.{byte_latex, is_special, escaped};
 
-use name_text::is_plain;
+use crate::names::is_plain;
 use std::alloc::AllocError;
 
 /// Whether LaTeX wants a backslash before the character.

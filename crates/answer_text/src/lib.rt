@@ -7,17 +7,18 @@ ghost use Rattle.std.specs.Prelude.{◌≡◌, ◌++◌, ◌<◌, ◌≤◌, ◌
 ghost use Rattle.mixed_graph.specs.Bits.{has, members_below};
 ghost use Rattle.mixed_graph.specs.Names.{name_of};
 ghost use Rattle.mixed_graph.specs.Sets.{Within};
-ghost use Rattle.name_text.specs.Printing.{printed};
+ghost use Rattle.answer_text.specs.Printing.{printed};
 ghost use Rattle.answer_text.specs.Notations.{name_in, sign_text};
 ghost use Rattle.answer_text.specs.Texts.{comma_in, names_in, names_behind, set_in, set_text, mark_text, steps_text, path_text, member_names, conditions_in, term_in, term_text};
 
 mod latex;
+pub mod names;
 mod signs;
 
+use crate::names::push_name;
 use latex::push_latex_name;
 use m_separation::Mark;
 use mixed_graph::{Names, VSet};
-use name_text::push_name;
 pub use signs::{Notation, Sign, push_sign};
 use std::alloc::AllocError;
 

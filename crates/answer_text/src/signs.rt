@@ -1,3 +1,5 @@
+//! The two notations, and the signs that each writes in its own way.
+
 ghost use Rattle.std.specs.Prelude.{◌≡◌, ◌++◌, OnOk};
 ghost use Rattle.answer_text.specs.Notations.{by_notation, sign_text};
 

@@ -8,9 +8,10 @@ mod differences;
 
 ghost use Rattle.std.specs.Prelude.{◌≡◌, ◌<◌, ◌^◌, IfOk, length, sum};
 
+use count_eval::tables::prepare;
 use count_eval::{is_cell, is_evaluable, value_by_nodes};
+use count_table::lane_sums::masked_sum;
 use count_table::{CountFault, Counts, marginal, read_counts};
-use lane_sums::masked_sum;
 use mixed_graph::{Names, VSet};
 use prob_expr::{Expr, Formula};
 use quantity::Bounds;
@@ -18,7 +19,6 @@ use std::alloc::{AllocError, Global};
 use std::io::Read;
 use std::rt::Clock;
 use std::{env, io};
-use value_tables::prepare;
 
 /// The used vertices of the bench's table.
 const VERTICES: [&str; 4] = ["stone", "treatment", "sex", "year"];

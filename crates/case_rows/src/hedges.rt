@@ -1,3 +1,5 @@
+//! The hedge of a row.
+
 use crate::reading::{bytes, set, vertex};
 use hedge::{Choice, Hedge, Links};
 use mixed_graph::VSet;

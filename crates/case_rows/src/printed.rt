@@ -1,3 +1,5 @@
+//! What rows have printed so far.
+
 use std::alloc::{AllocError, Global};
 use std::fmt;
 

@@ -1,3 +1,5 @@
+//! The members of a row: numbers, sets, graphs.
+
 ghost use Rattle.std.specs.Prelude.{◌<◌, ◌↔◌, IsTrue, All};
 
 use mixed_graph::{BuildFault, Graph, Names, VSet};

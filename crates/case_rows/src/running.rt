@@ -1,3 +1,5 @@
+//! The run of a list of rows.
+
 use crate::reading::text;
 use anyhow::{Context, Result};
 use serde_json::Value;

@@ -1,3 +1,5 @@
+//! Sets, paths and graphs as rows print them.
+
 use m_separation::{Mark, OpenPath};
 use mixed_graph::{Graph, VSet};
 use std::fmt;

@@ -5,8 +5,8 @@ ghost use Rattle.std.specs.Prelude.{◌≡◌, ◌≤◌, ◌⊎◌, List, ℕ};
 ghost use Rattle.mixed_graph.specs.Bits.{has};
 ghost use Rattle.m_separation.specs.Walks.{IsSeparated, HasOpenWalk};
 ghost use Rattle.dag_reader.specs.declared.graph.ReadGraph.{ReadGraph};
-ghost use Rattle.kept_graph.specs.Kept.{AreAskable, IsKept, IsNoGraphText, Keeps, graph_in};
-ghost use Rattle.kept_call.specs.Asked.{Asked, HasKept};
+ghost use Rattle.kept_graph.specs.Kept.{AreAskable, KeepsText, IsNoGraphText, Keeps, graph_in};
+ghost use Rattle.span_call.specs.Asked.{Asked, HasKept};
 ghost use Rattle.span_call.specs.Called.{Called, LacksInput, IsCutShort};
 ghost use Rattle.span_call.specs.Ends.{IsEnd};
 ghost use Rattle.span_call.specs.Wanted.{TellsInputs, AskForNothing};
@@ -14,9 +14,9 @@ ghost use Rattle.spans.specs.Words.{AreTexts, IsNoText};
 ghost use Rattle.explain_call.specs.Calls.{Explained};
 
 use explain_call::explain_spans;
-use kept_call::ask_kept;
 use kept_graph::{KeepFault, KeptDiagram, ReadDiagram, Separation};
 use mixed_graph::VSet;
+use span_call::kept::ask_kept;
 use span_call::{Arguments, Sizes, Wanted, run_spans, show, wanted_spans};
 use spans::{Input, Span};
 use std::alloc::Global;
@@ -74,7 +74,7 @@ pub extern "C" fn causal_inputs(
     end.status
 }
 
-/// The steps of the derivation of a certificate: answers the words `steps FILE CERTIFICATE`, shows what was written, and gives the status.
+/// Explains an answer: answers the words `steps`, `rule`, `adjust` or `settled` over the inputs, shows what was written, and gives the status.
 #[unsafe(no_mangle)]
 pub extern "C" fn causal_explain(
     alloc: Global,
@@ -175,7 +175,7 @@ pub extern "C" fn causal_ask(
     ensures kept { result ≤ 7 → (g : ReadGraph) × Keeps kept.now names.now g }
     ensures not_kept { result ≡ 11 → (g : ReadGraph) → Keeps kept.now names.now g → ⊥ }
     ensures known { result ≤ 11 }
-    ensures asked { result ≤ 8 → (text : List ℕ) → IsKept text kept.now names.now
+    ensures asked { result ≤ 8 → (text : List ℕ) → KeepsText text kept.now names.now
         → Asked text bytes.now words.now inputs.now out.old out.new err.old err.new sizes.new result }
 {
     let arguments = Arguments {

@@ -1,39 +1,41 @@
 -- From the end of a run to what it says of a certificate.
-use Rattle.std.proofs.Common.{◌≡◌, ℕ, List, arith}
+use Rattle.std.proofs.Common.{◌≡◌, ℕ, ◌≤◌, List, arith}
 use Rattle.std.specs.Prelude.{IfSome}
 use Rattle.std.specs.Io.KnownBytes.{Appends}
-use Rattle.word_forms.specs.Form.{Use}
+use Rattle.command_words.specs.Form.{Use}
 use Rattle.replies.specs.declared.outcome.Outcome.{Outcome}
 use Rattle.replies.specs.declared.outcome.Outcome.TheVariants.{Yes}
 use Rattle.replies.specs.Outcomes.{code_of}
 use Rattle.command_run.specs.Answers.{HoldsAnswer, DefinedWith}
 use Rattle.command_run.specs.Commands.{of}
-use Rattle.command_run.specs.Run.{Run, Ends}
 use Rattle.causal_cli.specs.Commands.{commands}
+use Rattle.causal_cli.specs.Calls.{Call}
 use Rattle.causal_cli.specs.Headline.{IsRightCertificate, Checked, HeadlineOfCheck}
 use Rattle.causal_cli.specs.declared.commands.Command.TheVariants.{Check}
-use Rattle.causal_cli.proofs.CallAnswers.{CallAnswer, on_words, on_file, on_both, call_answer, under_name, under_names}
+use Rattle.causal_cli.proofs.CallAnswers.{CallAnswer, on_words, on_file, on_both, Gave, under_name, under_names}
 
 -- a yes to a request of `check` is given on both inputs, and says that the certificate is right
-on_yes : (r : Run) (uses : List Use) (text : List ℕ) → Appends r.out.before r.out.after text → CallAnswer r Check uses Yes text → Checked r uses
+on_yes : (r : Call) (uses : List Use) (text : List ℕ) → Appends r.before r.after text → CallAnswer r Check uses Yes text → Checked r uses
 on_yes r uses text whole (on_words q is h) = absurd h
 on_yes r uses text whole (on_file q is file names h) = record {
   request = q;
   text = text;
   asks = is;
-  right = under_name r.held q.file file (λ bytes. HoldsAnswer commands (of Check q) bytes Yes text) (λ bytes. IfSome (r.held q.certificate) (λ other. IsRightCertificate q.experiments bytes other text)) (λ bytes a. absurd a.answer) names h;
+  right = under_name r.held q.file file (λ bytes. HoldsAnswer commands (of Check q) bytes Yes text)
+      (λ bytes. IfSome (r.held_second q.certificate) (λ other. IsRightCertificate q.experiments bytes other text)) (λ bytes a. absurd a.answer) names h;
   whole = whole;
 }
 on_yes r uses text whole (on_both q is file second names names_second h) = record {
   request = q;
   text = text;
   asks = is;
-  right = under_names r.held q.file file q.certificate second (λ bytes other. DefinedWith commands (of Check q) bytes other Yes text) (λ bytes other. IsRightCertificate q.experiments bytes other text)
+  right = under_names r.held r.held_second q.file file q.certificate second (λ bytes other. DefinedWith commands (of Check q) bytes other Yes text)
+      (λ bytes other. IsRightCertificate q.experiments bytes other text)
       (λ bytes other d. record { graph = d.0; holds = d.1; accepted = d.3 }) names names_second h;
   whole = whole;
 }
 
 -- status 0 is that of a yes
-pub checked : (r : Run) (code : ℕ) (o : Outcome) (text : List ℕ) → code ≡ code_of o → Ends commands r o text → HeadlineOfCheck r code
-checked r code Yes text c h = λ uses call zero. on_yes r uses text h.whole (call_answer r Check uses call Yes text h.answers)
-checked r code o text c h = λ uses call zero. absurd (omega (arith, c, zero))
+pub checked : (r : Call) (code : ℕ) (o : Outcome) (text : List ℕ) → code ≡ code_of o → (code ≤ 1 → Gave r o text) → HeadlineOfCheck r code
+checked r code Yes text c g = let h = g (omega (arith, c)) in λ uses call zero. on_yes r uses text h.whole (h.answers Check uses call)
+checked r code o text c g = λ uses call zero. absurd (omega (arith, c, zero))

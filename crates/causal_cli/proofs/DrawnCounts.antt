@@ -1,5 +1,5 @@
 -- What the counts cover in the diagram as drawn.
-use Rattle.std.proofs.Common.{◌≡◌, ℕ, ◌*◌, ◌<◌, ◌≤◌, Bool, true, false, List, ◌++◌, ◌||◌, refl, sym, ap, ap₂, ◌∙◌, subst, arith}
+use Rattle.std.proofs.Common.{◌≡◌, ℕ, ◌*◌, ◌<◌, ◌≤◌, Bool, true, false, List, ◌||◌, refl, sym, ap, ap₂, ◌∙◌, subst, arith}
 use Rattle.std.proofs.Math.Nat.{eq_of_mul-eq-mul_left}
 use Rattle.std.proofs.lemmas.List.Elements.{All-weaker}
 use Rattle.mixed_graph.specs.Bits.{has}
@@ -9,15 +9,14 @@ use Rattle.fractions.specs.Fractions.{Fraction, over, IsEqual}
 use Rattle.finite_models.specs.Models.{FiniteModel, Fits, weight_of, total}
 use Rattle.finite_models.proofs.Following.{follows_of}
 use Rattle.latent_projection.specs.Renumbering.{IsObserved}
-use Rattle.prob_expr.specs.Tree.{PlainTarget}
+use Rattle.prob_expr.specs.Tree.{PlainTarget, effect_on}
 use Rattle.prob_expr.specs.Values.{Weights, effect}
 use Rattle.dag_reader.specs.declared.graph.ReadGraph.{ReadGraph}
-use Rattle.hidden_theory.specs.Folding.{Folds, IsMatchedAsDrawn, drawn_weights, drawn_effect, values_after}
-use Rattle.hidden_theory.proofs.Depends.{weight_depends}
-use Rattle.hidden_theory.proofs.Drawn.{drawn_weight, folded_is_positive, folded_keeps_effects}
-use Rattle.hidden_theory.proofs.Folded.{each_has_folded}
-use Rattle.hidden_theory.proofs.Totals.{total_positive}
-use Rattle.id_recursion.specs.Answers.{effect_on}
+use Rattle.hidden_models.specs.Folding.{Folds, IsMatchedAsDrawn, drawn_weights, drawn_effect, values_after}
+use Rattle.hidden_models.proofs.Depends.{weight_depends}
+use Rattle.hidden_models.proofs.Drawn.{drawn_weight, folded_is_positive, folded_keeps_effects}
+use Rattle.hidden_models.proofs.Folded.{each_has_folded}
+use Rattle.hidden_models.proofs.Totals.{total_positive}
 use Rattle.quantity.specs.Exacts.{exact, Equals}
 use Rattle.quantity.specs.Intervals.{bounds, Covers}
 use Rattle.quantity.specs.Kinds.{Pair, Kind}
@@ -30,59 +29,66 @@ use Rattle.count_eval.specs.Laws.{IsMatched}
 use Rattle.count_eval.specs.Programs.{weights_in, is_used, cell_of}
 use Rattle.replies.specs.declared.outcome.Outcome.TheVariants.{Yes}
 use Rattle.replies.specs.Observed.{Names, IsObservedGraph}
-use Rattle.evaluate_command.specs.Answers.{CoversEffect, ShowsValues, QuantityAnswer}
+use Rattle.evaluate_command.specs.Answers.{CoversEffect, QuantityAnswer}
 use Rattle.evaluate_command.specs.Cells.{CellValue}
 use Rattle.evaluate_command.specs.Effects.{PlainEffect, Identifies}
-use Rattle.evaluate_command.specs.Lines.{sign_of, pinned_lines}
-use Rattle.causal_cli.specs.Drawn.{CoversAsDrawn, ShowsValuesAsDrawn, ShowsQuantitiesAsDrawn}
+use Rattle.causal_cli.specs.Drawn.{CoversAsDrawn, EachCoversAsDrawn}
 
 -- a factor is carried from one proportion to another
 carried : (d n w a t t' : ℕ) → 1 ≤ t → d * t' ≡ n * t → d * a ≡ w * t → n * a ≡ w * t'
 carried d n w a t t' pos e f = eq_of_mul-eq-mul_left t pos (n * a) (w * t')
-    ((let r : t * (n * a) ≡ (n * t) * a = omega arith in r) ∙ ap (λ k. k * a) (sym e) ∙ (let r : (d * t') * a ≡ (d * a) * t' = omega arith in r) ∙ ap (λ k. k * t') f
+    ((let r : t * (n * a) ≡ (n * t) * a = omega arith in r) ∙ ap (λ k. k * a) (sym e) ∙ (let r : (d * t') * a ≡ (d * a) * t' = omega arith in r)
+    ∙ ap (λ k. k * t') f
     ∙ (let r : (w * t) * t' ≡ t * (w * t') = omega arith in r))
 
-module _ (g : MixedGraph) (ok : IsMixedGraph g) (l : ℕ → Bool) (q : MixedGraph) (is : IsObserved g l q) (m m' : FiniteModel) (fit : Fits g m) (fit' : Fits q m') (folds : Folds l m m') where
+module _ (g : MixedGraph) (ok : IsMixedGraph g) (l : ℕ → Bool) (q : MixedGraph) (is : IsObserved g l q) (m m' : FiniteModel) (fit : Fits g m)
+    (fit' : Fits q m') (folds : Folds l m m') where
   -- what folds a model that the counts match is matched by them
-  matched_folded : (used : ℕ → Bool) (w : Weights) (all : ℕ) → IsMatchedAsDrawn l used w all m → IsMatched used w all m'
+  pub matched_folded : (used : ℕ → Bool) (w : Weights) (all : ℕ) → IsMatchedAsDrawn l used w all m → IsMatched used w all m'
   matched_folded used w all h = record {
     vertices = h.vertices ∙ sym folds.vertices;
     sizes = λ v lt u. h.sizes v (subst (λ n. v < n) (sym (h.vertices ∙ sym folds.vertices)) lt) u ∙ sym (folds.sizes v lt);
     some = h.some;
-    weights = λ a u s hs. carried ((drawn_weights l m).weight (λ k. false) a s) (weight_of m' (λ k. false) a s) (w.weight (λ k. false) a s) all (total m) (total m') (total_positive g m fit)
+    weights = λ a u s hs. carried ((drawn_weights l m).weight (λ k. false) a s) (weight_of m' (λ k. false) a s) (w.weight (λ k. false) a s) all (total m)
+        (total m') (total_positive g m fit)
         (drawn_weight g ok l q is m m' fit fit' folds (λ k. false) a s hs)
-        (h.weights a u s (λ k lt. let lt' : k < m'.vertices = subst (λ n. k < n) (sym folds.vertices) lt in subst (λ n. s k < n) (folds.sizes k lt') (hs k lt')));
+        (h.weights a u s (λ k lt. let lt' : k < m'.vertices = subst (λ n. k < n) (sym folds.vertices) lt in
+        subst (λ n. s k < n) (folds.sizes k lt') (hs k lt')));
   }
 
 -- an effect depends on the values of the model's vertices alone
-same_effect : (q : MixedGraph) → IsMixedGraph q → (m : FiniteModel) → Fits q m → (t : PlainTarget) (s r : ℕ → ℕ) → ((v : ℕ) → v < m.vertices → s v ≡ r v) → effect m t s ≡ effect m t r
+same_effect : (q : MixedGraph) → IsMixedGraph q → (m : FiniteModel) → Fits q m → (t : PlainTarget) (s r : ℕ → ℕ) → ((v : ℕ) → v < m.vertices → s v ≡ r v)
+    → effect m t s ≡ effect m t r
 same_effect q ok m fit t s r same = ap₂ (λ x y. over x y)
-    (weight_depends q m ok (follows_of q m fit) (has t.x) (has t.x) (λ v. has t.y v || has t.given v) (λ v. has t.y v || has t.given v) s r (λ v lt. refl) (λ v lt. refl) (λ v lt e. same v lt) (λ v lt e. same v lt))
-    (weight_depends q m ok (follows_of q m fit) (has t.x) (has t.x) (has t.given) (has t.given) s r (λ v lt. refl) (λ v lt. refl) (λ v lt e. same v lt) (λ v lt e. same v lt))
+    (weight_depends q m ok (follows_of q m fit) (has t.x) (has t.x) (λ v. has t.y v || has t.given v) (λ v. has t.y v || has t.given v) s r (λ v lt. refl)
+    (λ v lt. refl) (λ v lt e. same v lt) (λ v lt e. same v lt))
+    (weight_depends q m ok (follows_of q m fit) (has t.x) (has t.x) (has t.given) (has t.given) s r (λ v lt. refl) (λ v lt. refl) (λ v lt e. same v lt)
+    (λ v lt e. same v lt))
 
 -- what covers the effect in each model of the observed graph that the counts match covers it in the diagram as drawn
-covers_as_drawn : (kind : Kind) (covers : Pair → Fraction → Type 0) → IsLawful kind covers → (g : ReadGraph) (e : PlainEffect) → IsObservedGraph g e.graph → IsMixedGraph e.graph
+covers_as_drawn : (kind : Kind) (covers : Pair → Fraction → Type 0) → IsLawful kind covers → (g : ReadGraph) (e : PlainEffect) → IsObservedGraph g e.graph
+    → IsMixedGraph e.graph
     → (t : Table) (v : CellValue) → CoversEffect covers e t v → CoversAsDrawn covers g e t v
 covers_as_drawn kind covers lawful g e is ok t v h m fit observed matched s hs at =
     let l = has g.latent.bits in
     let f = each_has_folded (graph_of g.graph) g.graph.valid l e.graph is m fit in
     let positive = folded_is_positive (graph_of g.graph) g.graph.valid l e.graph is m f.folded fit f.fits f.folds observed in
-    let match = matched_folded (graph_of g.graph) g.graph.valid l e.graph is m f.folded fit f.fits f.folds (is_used t) (weights_in e.graph.vertices t) (cells.total t.rows) matched in
+    let match = matched_folded (graph_of g.graph) g.graph.valid l e.graph is m f.folded fit f.fits f.folds (is_used t) (weights_in e.graph.vertices t)
+    (cells.total t.rows) matched in
     let same : effect f.folded (effect_on e.x e.y) (values_after l m.vertices s) ≡ effect f.folded (effect_on e.x e.y) (cell_of v.cell) =
-    same_effect e.graph ok f.folded f.fits (effect_on e.x e.y) (values_after l m.vertices s) (cell_of v.cell) (λ k lt. at k (subst (λ n. k < n) f.fits.vertices lt)) in
-    lawful.keeps.equal v.quantity (effect f.folded (effect_on e.x e.y) (cell_of v.cell)) (drawn_effect l m (effect_on e.x e.y) s) (h f.folded f.fits positive match)
-    (subst (λ x. IsEqual x (drawn_effect l m (effect_on e.x e.y) s)) same (folded_keeps_effects (graph_of g.graph) g.graph.valid l e.graph is m f.folded fit f.fits f.folds observed (effect_on e.x e.y) s hs))
+    same_effect e.graph ok f.folded f.fits (effect_on e.x e.y) (values_after l m.vertices s) (cell_of v.cell)
+    (λ k lt. at k (subst (λ n. k < n) f.fits.vertices lt)) in
+    lawful.keeps.equal v.quantity (effect f.folded (effect_on e.x e.y) (cell_of v.cell)) (drawn_effect l m (effect_on e.x e.y) s)
+    (h f.folded f.fits positive match)
+    (subst (λ x. IsEqual x (drawn_effect l m (effect_on e.x e.y) s)) same
+    (folded_keeps_effects (graph_of g.graph) g.graph.valid l e.graph is m f.folded fit f.fits f.folds observed (effect_on e.x e.y) s hs))
 
-shows_values : (kind : Kind) (covers : Pair → Fraction → Type 0) → IsLawful kind covers → (sign : List ℕ) (g : ReadGraph) (e : PlainEffect) → IsObservedGraph g e.graph → IsMixedGraph e.graph → (t : Table) (text : List ℕ)
-    → ShowsValues kind covers sign e t text → ShowsValuesAsDrawn kind covers sign g e t text
-shows_values kind covers lawful sign g e is ok t text h = record {
-  values = h.values.values;
-  evaluated = h.values.evaluated;
-  effects = All-weaker (CoversEffect covers e t) (CoversAsDrawn covers g e t) (λ v c. covers_as_drawn kind covers lawful g e is ok t v c) h.values.values h.values.effects;
-  prints = subst (λ lines. text ≡ pinned_lines e t ++ lines) h.values.prints h.prints;
-}
-
--- the answer of the command is so, in either kind of quantity
-pub shows_quantities : (is_exact : Bool) (g : ReadGraph) (e : PlainEffect) (t : Table) (text : List ℕ) (x y : Names) → Identifies g x y e → QuantityAnswer is_exact e t Yes text → ShowsQuantitiesAsDrawn is_exact g e t text
-shows_quantities true g e t text x y id h = shows_values exact Equals exact_lawful (sign_of true) g e id.graph id.identified.graph t text h
-shows_quantities false g e t text x y id h = shows_values bounds Covers bounds_lawful (sign_of false) g e id.graph id.identified.graph t text h
+-- each value of the answer is so, in either kind of quantity
+pub each_covers : (is_exact : Bool) (g : ReadGraph) (e : PlainEffect) (t : Table) (text : List ℕ) (x y : Names) → Identifies g x y e
+    → (shows : QuantityAnswer is_exact e t Yes text) → EachCoversAsDrawn is_exact g e t text shows
+each_covers true g e t text x y id h =
+    All-weaker (CoversEffect Equals e t) (CoversAsDrawn Equals g e t) (λ v c.
+    covers_as_drawn exact Equals exact_lawful g e id.graph id.identified.graph t v c) h.values.values h.values.effects
+each_covers false g e t text x y id h =
+    All-weaker (CoversEffect Covers e t) (CoversAsDrawn Covers g e t) (λ v c.
+    covers_as_drawn bounds Covers bounds_lawful g e id.graph id.identified.graph t v c) h.values.values h.values.effects

@@ -1,52 +1,103 @@
 -- From the end of a run to its headline.
-use Rattle.std.proofs.Common.{◌≡◌, ℕ, List, Option, Some, None, ◌<◌, refl, sym, subst, codes, arith}
-use Rattle.std.proofs.lemmas.Option.{none-some}
+use Rattle.std.proofs.Common.{◌≡◌, ℕ, List, [], ◌∷◌, Some, None, ◌<◌, ◌≤◌, refl, arith}
+use Rattle.std.specs.Prelude.{unwrap_or}
 use Rattle.std.specs.Io.KnownBytes.{Appends}
-use Rattle.word_forms.specs.Form.{Text, Use, value_of}
-use Rattle.request_values.specs.Values.{IsListed}
+use Rattle.mixed_graph.specs.Bits.{has}
+use Rattle.mixed_graph.specs.Graphs.{MixedGraph}
+use Rattle.mixed_graph.specs.Shown.{graph_of}
+use Rattle.command_words.specs.Form.{Use}
+use Rattle.prob_expr.specs.Tree.{PlainFormula, PlainTarget, effect_on}
+use Rattle.prob_expr.specs.Values.{EqualsEffect}
+use Rattle.dag_reader.specs.declared.graph.ReadGraph.{ReadGraph}
+use Rattle.hidden_models.proofs.Drawn.{right_as_drawn}
 use Rattle.replies.specs.declared.outcome.Outcome.{Outcome}
 use Rattle.replies.specs.declared.outcome.Outcome.TheVariants.{Yes, No}
 use Rattle.replies.specs.Outcomes.{code_of}
+use Rattle.replies.specs.Observed.{Names, HoldsGraph, IsObservedGraph}
+use Rattle.identify_command.specs.declared.form.Form.{Form}
+use Rattle.identify_command.specs.Answers.{IdentifyAnswer}
 use Rattle.identify_command.specs.Conditions.{IdentifyAnswerGiven}
 use Rattle.identify_command.specs.Requests.{Request as Asked}
-use Rattle.replies.specs.Observed.{Names}
-use Rattle.command_run.specs.Answers.{Defined, HoldsAnswer}
-use Rattle.command_run.specs.Commands.{of}
-use Rattle.command_run.specs.Run.{Run, Ends}
-use Rattle.causal_cli.specs.Commands.{commands}
+use Rattle.causal_cli.specs.Calls.{Call}
 use Rattle.causal_cli.specs.declared.commands.Command.TheVariants.{Identify}
-use Rattle.causal_cli.specs.Headline.{IsRightText, Identified, Headline}
-use Rattle.causal_cli.proofs.CallAnswers.{CallAnswer, call_answer, written_for}
+use Rattle.causal_cli.specs.Headline.{IsRightAsDrawn, ShowsRightFormula, ShowsRightHedge, IsShown, Identified, Headline}
+use Rattle.causal_cli.proofs.CallAnswers.{CallAnswer, Gave, written_for}
 
--- where no list is given, nothing is
-nothing_given : (given : Names) → (text : Option Text) → text ≡ None → IsListed text given → given ≡ None
-nothing_given given (Some t) none is = absurd (none-some t (sym none))
-nothing_given None None none is = refl
-nothing_given (Some names) None none is = absurd is
+-- what equals an effect in the observed graph is right in the diagram as drawn
+pub drawn : (g : ReadGraph) (q : MixedGraph) → IsObservedGraph g q → (t : PlainTarget) (f : PlainFormula) → EqualsEffect q t f → IsRightAsDrawn g t f
+drawn g q observed t f right = right_as_drawn (graph_of g.graph) g.graph.valid (has g.latent.bits) q observed t f right
 
-right_on : (q : Asked) (o : Outcome) (text bytes : List ℕ) → q.given ≡ None → HoldsAnswer commands (of Identify q) bytes o text → IsRightText q.form bytes q.x q.y o text
-right_on q o text bytes none h = record { graph = h.graph; holds = h.holds; answer = subst (λ given. IdentifyAnswerGiven q.form h.graph q.x q.y given o text) none h.answer }
+-- where nothing is given, the answer is that for an effect
+bare : (form : Form) (g : ReadGraph) (x y given : Names) (o : Outcome) (text : List ℕ) → unwrap_or given [] ≡ [] → IdentifyAnswerGiven form g x y given o text
+    → IdentifyAnswer form g x y o text
+bare form g x y None o text none h = h
+bare form g x y (Some []) o text none h = h
+bare form g x y (Some (n ∷ ns)) o text none h = absurd (cc none)
 
--- the answer to a request of `identify`, on its file, is right
-identified : (r : Run) (uses : List Use) → value_of uses (codes "given") ≡ None → (text : List ℕ) (o : Outcome) → ((q : Asked) (bytes : List ℕ) → Defined commands (of Identify q) bytes o text → HoldsAnswer commands (of Identify q) bytes o text)
-    → Appends r.out.before r.out.after text → CallAnswer r Identify uses o text → Identified r uses o
-identified r uses bare text o held = written_for r Identify uses o text (λ q. q.file) (λ q bytes line. IsRightText q.form bytes q.x q.y o line) (λ q h. h) (λ q. refl) (λ q. refl)
-    (λ q is bytes a. right_on q o text bytes (nothing_given q.given (value_of uses (codes "given")) bare is.given) (held q bytes a))
+shown_formula : (q : Asked) (bytes text : List ℕ) (g : ReadGraph) → HoldsGraph bytes g → IdentifyAnswer q.form g q.x q.y Yes text
+    → IsShown ShowsRightFormula q bytes text
+shown_formula q bytes text g holds (seen, observed, h) = record {
+  graph = g;
+  holds = holds;
+  seen = seen;
+  observed = observed;
+  sets = record {
+    x = h.x;
+    y = h.y;
+    sets = h.sets;
+    answer = record {
+      formula = h.answer.formula;
+      derivation = h.answer.derivation;
+      right = h.answer.right;
+      drawn = drawn g seen observed (effect_on h.x h.y) h.answer.formula h.answer.right.effect;
+      prints = h.answer.prints;
+    };
+  };
+}
+
+shown_hedge : (q : Asked) (bytes text : List ℕ) (g : ReadGraph) → HoldsGraph bytes g → IdentifyAnswer q.form g q.x q.y No text
+    → IsShown ShowsRightHedge q bytes text
+shown_hedge q bytes text g holds (seen, observed, h) = record {
+  graph = g;
+  holds = holds;
+  seen = seen;
+  observed = observed;
+  sets = record {
+    x = h.x;
+    y = h.y;
+    sets = h.sets;
+    answer = record { hedge = h.answer.hedge; models = h.answer.pair; right = h.answer.found.right; prints = h.answer.prints };
+  };
+}
+
+-- a yes to a request of `identify`, on its file, shows a right formula
+formula_written : (r : Call) (uses : List Use) (text : List ℕ) → Appends r.before r.after text → CallAnswer r Identify uses Yes text
+    → Identified ShowsRightFormula r uses
+formula_written r uses text = written_for r Identify uses Yes text (λ q. q.file)
+    (λ q bytes line. unwrap_or q.given [] ≡ [] → IsShown ShowsRightFormula q bytes line) (λ q h. h) (λ q. refl) (λ q. refl)
+    (λ q is bytes a none. shown_formula q bytes text a.graph a.holds (bare q.form a.graph q.x q.y q.given Yes text none a.answer))
+
+-- and a no a right hedge
+hedge_written : (r : Call) (uses : List Use) (text : List ℕ) → Appends r.before r.after text → CallAnswer r Identify uses No text
+    → Identified ShowsRightHedge r uses
+hedge_written r uses text = written_for r Identify uses No text (λ q. q.file)
+    (λ q bytes line. unwrap_or q.given [] ≡ [] → IsShown ShowsRightHedge q bytes line) (λ q h. h) (λ q. refl) (λ q. refl)
+    (λ q is bytes a none. shown_hedge q bytes text a.graph a.holds (bare q.form a.graph q.x q.y q.given No text none a.answer))
 
 -- a status that is none of an answer says nothing
-other_status : (r : Run) (code : ℕ) → 1 < code → Headline r code
+other_status : (r : Call) (code : ℕ) → 1 < code → Headline r code
 other_status r code high = record {
-  formula = λ uses call bare e. absurd (omega (arith, high, e));
-  hedge = λ uses call bare e. absurd (omega (arith, high, e));
+  formula = λ uses call e. absurd (omega (arith, high, e));
+  hedge = λ uses call e. absurd (omega (arith, high, e));
 }
 
-pub headline : (r : Run) (code : ℕ) (o : Outcome) (text : List ℕ) → code ≡ code_of o → Ends commands r o text → Headline r code
-headline r code Yes text c h = record {
-  formula = λ uses call bare zero. identified r uses bare text Yes (λ q bytes a. a) h.whole (call_answer r Identify uses call Yes text h.answers);
-  hedge = λ uses call bare one. absurd (omega (arith, c, one));
+pub headline : (r : Call) (code : ℕ) (o : Outcome) (text : List ℕ) → code ≡ code_of o → (code ≤ 1 → Gave r o text) → Headline r code
+headline r code Yes text c g = let h = g (omega (arith, c)) in record {
+  formula = λ uses call zero. formula_written r uses text h.whole (h.answers Identify uses call);
+  hedge = λ uses call one. absurd (omega (arith, c, one));
 }
-headline r code No text c h = record {
-  formula = λ uses call bare zero. absurd (omega (arith, c, zero));
-  hedge = λ uses call bare one. identified r uses bare text No (λ q bytes a. a) h.whole (call_answer r Identify uses call No text h.answers);
+headline r code No text c g = let h = g (omega (arith, c)) in record {
+  formula = λ uses call zero. absurd (omega (arith, c, zero));
+  hedge = λ uses call one. hedge_written r uses text h.whole (h.answers Identify uses call);
 }
-headline r code o text c h = other_status r code (omega (arith, c))
+headline r code o text c g = other_status r code (omega (arith, c))

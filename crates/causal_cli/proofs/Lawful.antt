@@ -3,11 +3,11 @@ use Rattle.std.specs.Prelude.{◌≡◌, Option, Some, refl, find}
 use Rattle.std.specs.Str.{bytes_eq}
 use Rattle.std.proofs.Common.{sym, ap, ◌∙◌}
 use Rattle.std.proofs.lemmas.Option.{same_Some}
-use Rattle.word_forms.specs.Form.{Text}
+use Rattle.command_words.specs.Form.{Text}
 use Rattle.replies.proofs.Commands.{IsLawful}
-use Rattle.graph_command.proofs.Lawful.{graph_lawful}
-use Rattle.separate_command.proofs.Lawful.{separate_lawful}
-use Rattle.rule_command.proofs.Lawful.{rule_lawful}
+use Rattle.separation_commands.proofs.GraphLawful.{graph_lawful}
+use Rattle.separation_commands.proofs.SeparateLawful.{separate_lawful}
+use Rattle.separation_commands.proofs.RuleLawful.{rule_lawful}
 use Rattle.identify_command.proofs.Lawful.{identify_lawful}
 use Rattle.check_command.proofs.Lawful.{check_lawful}
 use Rattle.adjust_command.proofs.Lawful.{adjust_lawful}

@@ -1,9 +1,12 @@
 pub mod Lawful
-mod CallAnswers
-mod CheckedRuns
+pub mod CallAnswers
+pub mod CheckedRuns
 mod DrawnCounts
-mod DrawnRuns
-mod Headlines
+mod DrawnPairs
+pub mod DrawnRuns
+pub mod Headlines
 pub mod LongInputs
+mod OneDerivation
 mod Readable
-mod RefutedRuns
+pub mod RefutedRuns
+mod Texts

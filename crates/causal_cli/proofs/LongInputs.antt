@@ -28,7 +28,8 @@ refused_counts names used count a b line la lb (faulty fault short p q e) = no_m
 
 -- ---- check
 
-certificate_short : (q : MixedGraph) (names : List (List ℕ)) (zs bytes : List ℕ) (o : Outcome) (text : List ℕ) → check.CertificateAnswer q names zs bytes o text → length bytes ≤ 67108864
+certificate_short : (q : MixedGraph) (names : List (List ℕ)) (zs bytes : List ℕ) (o : Outcome) (text : List ℕ)
+    → check.CertificateAnswer q names zs bytes o text → length bytes ≤ 67108864
 certificate_short q names zs bytes o text (check.of_formula t f d read answer) = read.small
 certificate_short q names zs bytes o text (check.of_hedge t h entries read answer) = read.small
 
@@ -40,7 +41,8 @@ refused_certificate : (names : List (List ℕ)) (a b line : List ℕ) → 671088
 refused_certificate names a b line la lb (check.too_long l e) = check.too_long lb e
 refused_certificate names a b line la lb (check.faulty fault short p q e) = no_more 67108864 a la short
 
-over_long : (g : ReadGraph) (zs a b : List ℕ) → 67108864 < length a → 67108864 < length b → (o : Outcome) (text : List ℕ) → check.AnswerOver g zs a o text → check.AnswerOver g zs b o text
+over_long : (g : ReadGraph) (zs a b : List ℕ) → 67108864 < length a → 67108864 < length b → (o : Outcome) (text : List ℕ) → check.AnswerOver g zs a o text
+    → check.AnswerOver g zs b o text
 over_long g zs a b la lb Yes text h = no_more 67108864 a la (observed_short g zs a Yes text h)
 over_long g zs a b la lb No text h = no_more 67108864 a la (observed_short g zs a No text h)
 over_long g zs a b la lb Second text h = refused_certificate _ a b text la lb h
@@ -52,7 +54,8 @@ check_long g experiments a b la lb o text h = record { sets = h.sets; are = h.ar
 
 -- ---- evaluate
 
-values_long : (is_exact : Bool) (e : PlainEffect) (count : Option Field) (a b : List ℕ) → 67108864 < length a → 67108864 < length b → (o : Outcome) (text : List ℕ)
+values_long : (is_exact : Bool) (e : PlainEffect) (count : Option Field) (a b : List ℕ) → 67108864 < length a → 67108864 < length b
+    → (o : Outcome) (text : List ℕ)
     → evaluate.CountsAnswer is_exact e count a o text → evaluate.CountsAnswer is_exact e count b o text
 values_long is_exact e count a b la lb Yes text h = no_more 67108864 a la h.1.small
 values_long is_exact e count a b la lb Second text h = refused_counts _ _ count a b text la lb h
@@ -73,7 +76,8 @@ refused_second : (a b line : List ℕ) → 1048576 < length a → 1048576 < leng
 refused_second a b line la lb (equivalent.too_long l e) = equivalent.too_long lb e
 refused_second a b line la lb (equivalent.faulty fault short p q e) = no_more 1048576 a la short
 
-held_short : {A : Type 0} (g : ReadGraph) (s : Option Sets) (a : List ℕ) (o : Outcome) (text : List ℕ) → 1048576 < length a → equivalent.HoldsAnswer g s a o text → A
+held_short : {A : Type 0} (g : ReadGraph) (s : Option Sets) (a : List ℕ) (o : Outcome) (text : List ℕ) → 1048576 < length a
+    → equivalent.HoldsAnswer g s a o text → A
 held_short g s a o text la h = no_more 1048576 a la h.1.small
 
 pub second_long : (g : ReadGraph) (s : Option Sets) (a b : List ℕ) → 1048576 < length a → 1048576 < length b → (o : Outcome) (text : List ℕ)

@@ -1,24 +1,28 @@
 -- From the end of a run to what it refutes in the diagram as drawn.
-use Rattle.std.proofs.Common.{◌≡◌, ℕ, List, [], ◌∷◌, Option, Some, None, refl, sym, subst, arith}
+use Rattle.std.proofs.Common.{◌≡◌, ℕ, ◌≤◌, List, [], ◌∷◌, Option, Some, None, refl, sym, subst, arith}
 use Rattle.std.specs.Prelude.{IsSome, IfSome}
 use Rattle.std.specs.Io.KnownBytes.{Appends}
 use Rattle.mixed_graph.specs.Bits.{has}
 use Rattle.mixed_graph.specs.Graphs.{MixedGraph}
 use Rattle.mixed_graph.specs.Shown.{graph_of}
 use Rattle.finite_models.specs.Data.{meaning}
-use Rattle.do_rules.specs.Rules.{left_of, right_of}
-use Rattle.word_forms.specs.Form.{Use}
+use Rattle.do_rules.specs.Rules.{AreThreeSets, left_of, right_of}
+use Rattle.command_words.specs.Form.{Use}
 use Rattle.prob_expr.specs.Differences.{DifferOnTarget}
 use Rattle.prob_expr.specs.Experiments.{AgreeUnderAll}
-use Rattle.prob_expr.specs.Tree.{PlainTarget}
+use Rattle.prob_expr.specs.Tree.{PlainTarget, effect_on}
 use Rattle.counter_models.specs.Events.{AreCounterModels}
 use Rattle.counter_models.specs.declared.counter_pair.CounterPair.{CounterPair}
 use Rattle.counter_models.proofs.Excluded.{differ_on}
 use Rattle.dag_reader.specs.declared.graph.ReadGraph.{ReadGraph}
 use Rattle.certificate.specs.Plain as certificates
-use Rattle.hidden_theory.proofs.Drawing.{difference_is_drawn, difference_over_is_drawn, formula_as_drawn_fixes}
-use Rattle.hidden_theory.proofs.Statements.{dependence_is_drawn, failure_is_drawn}
-use Rattle.id_recursion.specs.Answers.{effect_on}
+use Rattle.hidden_models.specs.FoldingLaws.{EqualsAsDrawn}
+use Rattle.hidden_models.proofs.Drawing.{difference_is_drawn, difference_over_is_drawn, formula_as_drawn_fixes, formula_failure_is_drawn}
+use Rattle.hidden_models.proofs.Statements.{dependence_is_drawn, failure_is_drawn}
+use Rattle.adjustment.specs.Criteria.{IsAdmissible}
+use Rattle.adjustment.specs.Formulas.{adjustment_formula}
+use Rattle.adjustment.proofs.Exceeding.{Exceeds, exceeds_fails}
+use Rattle.adjustment.proofs.FaultWalks.{forbidden_exceeds, unblocked_exceeds}
 use Rattle.replies.proofs.OneGraph.{observed_is_mixed}
 use Rattle.replies.specs.declared.outcome.Outcome.{Outcome}
 use Rattle.replies.specs.declared.outcome.Outcome.TheVariants.{Yes, No}
@@ -29,7 +33,7 @@ use Rattle.identify_command.specs.declared.form.Form.{Form}
 use Rattle.identify_command.specs.Answers.{ShowsHedge, IdentifyAnswer}
 use Rattle.identify_command.specs.Conditions.{IdentifyAnswerGiven}
 use Rattle.identify_command.specs.Requests.{IsRequest}
-use Rattle.check_command.specs.Answers.{IsRead, ObservedAnswer, of_formula, of_hedge}
+use Rattle.check_command.specs.Answers.{HoldsCertificate, ObservedAnswer, of_formula, of_hedge}
 use Rattle.experiment_lists.specs.Words.{Lists}
 use Rattle.experiment_lists.proofs.OneSet.{one_by_one}
 use Rattle.surrogates.specs.Answers.{IsRightBlock}
@@ -38,22 +42,27 @@ use Rattle.surrogate_command.specs.Answers.{SurrogateAnswer}
 use Rattle.surrogate_command.specs.Requests.{Request as SurrogateRequest}
 use Rattle.surrogate_command.specs.Requests as surrogate_requests
 use Rattle.evaluate_command.specs.Answers.{EvaluateFirst}
-use Rattle.separate_command.specs.Answers.{SeparateAnswer}
-use Rattle.separate_command.specs.Requests.{Request as SeparateRequest}
-use Rattle.separate_command.specs.Requests as separate_requests
-use Rattle.rule_command.specs.Answers.{RuleAnswer}
-use Rattle.rule_command.specs.Requests.{Request as RuleRequest}
-use Rattle.rule_command.specs.Requests as rule_requests
+use Rattle.separation_commands.specs.SeparateAnswers.{SeparateAnswer}
+use Rattle.separation_commands.specs.SeparateRequests.{Request as SeparateRequest}
+use Rattle.separation_commands.specs.SeparateRequests as separate_requests
+use Rattle.separation_commands.specs.RuleAnswers.{RuleAnswer}
+use Rattle.separation_commands.specs.RuleRequests.{Request as RuleRequest}
+use Rattle.separation_commands.specs.RuleRequests as rule_requests
+use Rattle.adjust_command.specs.Answers.{AdjustAnswer, SetsAnswer}
+use Rattle.adjust_command.specs.Queries.{Query, by_set, by_back_door, listing}
+use Rattle.adjust_command.specs.Requests.{Request as AdjustRequest}
+use Rattle.adjust_command.specs.Requests as adjust_requests
 use Rattle.command_run.proofs.Deliveries.{mapped}
 use Rattle.command_run.specs.Answers.{HoldsAnswer, DefinedWith}
 use Rattle.command_run.specs.Commands.{of}
-use Rattle.command_run.specs.Run.{Run, Ends}
 use Rattle.causal_cli.specs.Commands.{commands}
-use Rattle.causal_cli.specs.declared.commands.Command.TheVariants.{Identify, Evaluate, Surrogate, Separate, Rule}
-use Rattle.causal_cli.specs.Headline.{WrittenFor, IsRightCertificate, Checked, HeadlineOfCheck}
-use Rattle.causal_cli.specs.Refuted.{IsNotIdentifiable, IsNotIdentifiableOver, IsStopAsDrawn, IsHedgeAsDrawn, IsUnidentifiedAsDrawn, UnevaluatedAsDrawn, IsHedgeCertificateAsDrawn, CheckedHedgeAsDrawn, IsDependenceAsDrawn}
-use Rattle.causal_cli.specs.Refuted.{IsFailureAsDrawn, RefutedAsDrawn}
-use Rattle.causal_cli.proofs.CallAnswers.{CallAnswer, on_words, on_file, on_both, call_answer, under_name, under_names, written_for}
+use Rattle.causal_cli.specs.declared.commands.Command.TheVariants.{Identify, Evaluate, Surrogate, Separate, Rule, Adjust}
+use Rattle.causal_cli.specs.Calls.{Call, WrittenFor}
+use Rattle.causal_cli.specs.Headline.{IsRightCertificate, Checked, HeadlineOfCheck}
+use Rattle.causal_cli.specs.Refuted.{IsNotIdentifiable, IsNotIdentifiableOver, IsStopAsDrawn, IsHedgeAsDrawn, IsUnidentifiedAsDrawn}
+use Rattle.causal_cli.specs.Refuted.{UnevaluatedAsDrawn, IsHedgeCertificateAsDrawn, CheckedHedgeAsDrawn, IsDependenceAsDrawn}
+use Rattle.causal_cli.specs.Refuted.{IsFailureAsDrawn, RefutesAdjustment, IsNoAdjustmentAsDrawn, RefutedAsDrawn}
+use Rattle.causal_cli.proofs.CallAnswers.{CallAnswer, on_words, on_file, on_both, Gave, under_name, under_names, written_for}
 use Rattle.causal_cli.proofs.DrawnRuns.{same_read, same_hedge_target}
 
 -- two models that show an effect not to be identifiable in the observed graph show it of any target on which they differ, in the diagram as drawn
@@ -64,7 +73,8 @@ not_identifiable g q observed x y pair m t differ =
     m.first.fits m.second.fits m.two.0 m.two.1 m.first.positive m.second.positive m.observed t differ
 
 -- the effect itself is one
-effect_lost : (g : ReadGraph) (q : MixedGraph) → IsObservedGraph g q → (x y : ℕ) (pair : CounterPair) → AreCounterModels q x y pair → IsNotIdentifiable g (effect_on x y)
+effect_lost : (g : ReadGraph) (q : MixedGraph) → IsObservedGraph g q → (x y : ℕ) (pair : CounterPair) → AreCounterModels q x y pair
+    → IsNotIdentifiable g (effect_on x y)
 effect_lost g q observed x y pair m =
     not_identifiable g q observed x y pair m (effect_on x y) (differ_on q (observed_is_mixed g q observed) x y pair m)
 
@@ -88,7 +98,8 @@ bare_refuted form bytes x y text g holds (q, observed, h) = record {
   sets = record { x = h.x; y = h.y; sets = h.sets; answer = (h.answer, effect_lost g q observed h.x h.y h.answer.pair h.answer.found.right.counter) };
 }
 
-given_refuted : (form : Form) (bytes : List ℕ) (x y given : Names) (text : List ℕ) (g : ReadGraph) → HoldsGraph bytes g → IdentifyAnswerGiven form g x y given No text
+given_refuted : (form : Form) (bytes : List ℕ) (x y given : Names) (text : List ℕ) (g : ReadGraph) → HoldsGraph bytes g
+    → IdentifyAnswerGiven form g x y given No text
     → IsUnidentifiedAsDrawn form bytes x y given text
 given_refuted form bytes x y None text g holds h = bare_refuted form bytes x y text g holds h
 given_refuted form bytes x y (Some []) text g holds h = bare_refuted form bytes x y text g holds h
@@ -103,17 +114,20 @@ given_refuted form bytes x y (Some (n ∷ ns)) text g holds (q, observed, h) =
       shows = a;
       joint = effect_lost g q observed a.x a.y a.pair a.found.right.counter;
       no_formula = λ f free equal. a.not_fixed
-          (λ one two fit fit' serves serves' positive positive' agreed s within. formula_as_drawn_fixes (graph_of g.graph) g.graph.valid (has g.latent.bits) q observed
+          (λ one two fit fit' serves serves' positive positive' agreed s within. formula_as_drawn_fixes (graph_of g.graph) g.graph.valid (has g.latent.bits)
+          q observed
           h.target f free equal one two fit fit' serves serves' positive positive' agreed s within);
       differs = λ settled. not_identifiable g q observed a.x a.y a.pair a.found.right.counter h.target (a.differs settled);
     }
 
-identified : (r : Run) (uses : List Use) (text : List ℕ) → Appends r.out.before r.out.after text → CallAnswer r Identify uses No text
+identified : (r : Call) (uses : List Use) (text : List ℕ) → Appends r.before r.after text → CallAnswer r Identify uses No text
     → WrittenFor IsRequest (λ q. q.file) (λ q bytes line. IsUnidentifiedAsDrawn q.form bytes q.x q.y q.given line) r uses
-identified r uses text = written_for r Identify uses No text (λ q. q.file) (λ q bytes line. IsUnidentifiedAsDrawn q.form bytes q.x q.y q.given line) (λ q h. h) (λ q. refl) (λ q. refl)
+identified r uses text = written_for r Identify uses No text (λ q. q.file) (λ q bytes line. IsUnidentifiedAsDrawn q.form bytes q.x q.y q.given line)
+    (λ q h. h) (λ q. refl) (λ q. refl)
     (λ q is bytes a. given_refuted q.form bytes q.x q.y q.given text a.graph a.holds a.answer)
 
-evaluated_on : (bytes : List ℕ) (x y : Names) (text : List ℕ) (g : ReadGraph) → HoldsGraph bytes g → EvaluateFirst g x y No text → IsHedgeAsDrawn hedges.ShowsHedge bytes x y text
+evaluated_on : (bytes : List ℕ) (x y : Names) (text : List ℕ) (g : ReadGraph) → HoldsGraph bytes g → EvaluateFirst g x y No text
+    → IsHedgeAsDrawn hedges.ShowsHedge bytes x y text
 evaluated_on bytes x y text g holds (q, observed, h) = record {
   graph = g;
   holds = holds;
@@ -127,22 +141,23 @@ if_told (Some other) P p = p
 if_told None P p = tt
 
 -- a no is given on the file alone: where there is a formula, the counts have values or stop
-evaluated : (r : Run) (uses : List Use) (text : List ℕ) → Appends r.out.before r.out.after text → CallAnswer r Evaluate uses No text → UnevaluatedAsDrawn r uses
+evaluated : (r : Call) (uses : List Use) (text : List ℕ) → Appends r.before r.after text → CallAnswer r Evaluate uses No text → UnevaluatedAsDrawn r uses
 evaluated r uses text whole (on_words q is h) = absurd h
 evaluated r uses text whole (on_file q is file names h) = record {
   request = q;
   text = text;
   asks = is;
   right = under_name r.held q.file file (λ bytes. HoldsAnswer commands (of Evaluate q) bytes No text)
-      (λ bytes. IfSome (r.held q.counts) (λ other. IsHedgeAsDrawn hedges.ShowsHedge bytes q.x q.y text))
-      (λ bytes a. if_told (r.held q.counts) (IsHedgeAsDrawn hedges.ShowsHedge bytes q.x q.y text) (evaluated_on bytes q.x q.y text a.graph a.holds a.answer)) names h;
+      (λ bytes. IfSome (r.held_second q.counts) (λ other. IsHedgeAsDrawn hedges.ShowsHedge bytes q.x q.y text))
+      (λ bytes a. if_told (r.held_second q.counts) (IsHedgeAsDrawn hedges.ShowsHedge bytes q.x q.y text)
+      (evaluated_on bytes q.x q.y text a.graph a.holds a.answer)) names h;
   whole = whole;
 }
 evaluated r uses text whole (on_both q is file second names names_second h) = record {
   request = q;
   text = text;
   asks = is;
-  right = under_names r.held q.file file q.counts second (λ bytes other. DefinedWith commands (of Evaluate q) bytes other No text)
+  right = under_names r.held r.held_second q.file file q.counts second (λ bytes other. DefinedWith commands (of Evaluate q) bytes other No text)
       (λ bytes other. IsHedgeAsDrawn hedges.ShowsHedge bytes q.x q.y text) (λ bytes other d. absurd d.3.2) names names_second h;
   whole = whole;
 }
@@ -151,16 +166,19 @@ evaluated r uses text whole (on_both q is file second names names_second h) = re
 
 -- an accepted certificate of a hedge says so of its effect
 hedge_as_drawn : (g : ReadGraph) (zs other text : List ℕ) → ObservedAnswer g zs other Yes text
-    → (t : PlainTarget) (h : certificates.PlainHedge) → IsRead (observed_names g) other (certificates.hedge t h) → IsNotIdentifiable g (effect_on t.x t.y)
+    → (t : PlainTarget) (h : certificates.PlainHedge) → HoldsCertificate (observed_names g) other (certificates.hedge t h)
+    → IsNotIdentifiable g (effect_on t.x t.y)
 hedge_as_drawn g zs other text (q, observed, of_formula u f d read answer) t h is =
     let same = same_read _ (certificates.formula u f d) (certificates.hedge t h) read.reads is.reads in absurd (cc same)
 hedge_as_drawn g zs other text (q, observed, of_hedge u k entries read answer) t h is =
     let same = same_read _ (certificates.hedge u (certificates.hedge_view k)) (certificates.hedge t h) read.reads is.reads in
-    subst (λ x. IsNotIdentifiable g (effect_on x.x x.y)) (same_hedge_target u t (certificates.hedge_view k) h same) (effect_lost g q observed u.x u.y answer.pair answer.models)
+    subst (λ x. IsNotIdentifiable g (effect_on x.x x.y)) (same_hedge_target u t (certificates.hedge_view k) h same)
+    (effect_lost g q observed u.x u.y answer.pair answer.models)
 
 -- and of the experiments with which it was accepted
 hedge_over_as_drawn : (g : ReadGraph) (zs other text : List ℕ) → ObservedAnswer g zs other Yes text
-    → (t : PlainTarget) (h : certificates.PlainHedge) → IsRead (observed_names g) other (certificates.hedge t h) → IsNotIdentifiableOver g zs (effect_on t.x t.y)
+    → (t : PlainTarget) (h : certificates.PlainHedge) → HoldsCertificate (observed_names g) other (certificates.hedge t h)
+    → IsNotIdentifiableOver g zs (effect_on t.x t.y)
 hedge_over_as_drawn g zs other text (q, observed, of_formula u f d read answer) t h is =
     let same = same_read _ (certificates.formula u f d) (certificates.hedge t h) read.reads is.reads in absurd (cc same)
 hedge_over_as_drawn g zs other text (q, observed, of_hedge u k entries read answer) t h is =
@@ -168,25 +186,30 @@ hedge_over_as_drawn g zs other text (q, observed, of_hedge u k entries read answ
     subst (λ x. IsNotIdentifiableOver g zs (effect_on x.x x.y)) (same_hedge_target u t (certificates.hedge_view k) h same)
     (effect_lost_over g q observed u.x u.y answer.pair answer.models zs answer.under)
 
-certificate_refutes : (experiments : Lists) (bytes other text : List ℕ) → IsRightCertificate experiments bytes other text → IsHedgeCertificateAsDrawn experiments bytes other
+certificate_refutes : (experiments : Lists) (bytes other text : List ℕ) → IsRightCertificate experiments bytes other text
+    → IsHedgeCertificateAsDrawn experiments bytes other text
 certificate_refutes experiments bytes other text b =
     let a = b.accepted in record {
       graph = b.graph;
       holds = b.holds;
+      accepted = a;
       not_identifiable = hedge_as_drawn b.graph a.sets other text a.answer;
       not_identifiable_over = λ t h is zs are. subst (λ (ws : List ℕ). IsNotIdentifiableOver b.graph ws (effect_on t.x t.y))
           (sym (one_by_one (observed_names b.graph) experiments a.sets zs a.are.sets are.sets)) (hedge_over_as_drawn b.graph a.sets other text a.answer t h is);
     }
 
-checked : (r : Run) (uses : List Use) → Checked r uses → CheckedHedgeAsDrawn r uses
+checked : (r : Call) (uses : List Use) → Checked r uses → CheckedHedgeAsDrawn r uses
 checked r uses h = record {
   request = h.request;
+  text = h.text;
   asks = h.asks;
-  right = mapped (r.held h.request.file) (λ bytes. IfSome (r.held h.request.certificate) (λ other. IsRightCertificate h.request.experiments bytes other h.text))
-      (λ bytes. IfSome (r.held h.request.certificate) (λ other. IsHedgeCertificateAsDrawn h.request.experiments bytes other))
-      (λ bytes a. mapped (r.held h.request.certificate) (λ other. IsRightCertificate h.request.experiments bytes other h.text)
-      (λ other. IsHedgeCertificateAsDrawn h.request.experiments bytes other)
+  right = mapped (r.held h.request.file) (λ bytes. IfSome (r.held_second h.request.certificate)
+      (λ other. IsRightCertificate h.request.experiments bytes other h.text))
+      (λ bytes. IfSome (r.held_second h.request.certificate) (λ other. IsHedgeCertificateAsDrawn h.request.experiments bytes other h.text))
+      (λ bytes a. mapped (r.held_second h.request.certificate) (λ other. IsRightCertificate h.request.experiments bytes other h.text)
+      (λ other. IsHedgeCertificateAsDrawn h.request.experiments bytes other h.text)
       (λ other b. certificate_refutes h.request.experiments bytes other h.text b) a) h.right;
+  whole = h.whole;
 }
 
 -- ---- surrogate
@@ -196,7 +219,8 @@ common_lost : (g : ReadGraph) (q : MixedGraph) → IsObservedGraph g q → (zs :
 common_lost g q observed zs x y None right some = absurd (cc some)
 common_lost g q observed zs x y (Some k) right some = effect_lost_over g q observed x y k.pair right.hedge.counter zs right.under
 
-surrogated_on : (q : SurrogateRequest) (bytes text : List ℕ) (g : ReadGraph) → HoldsGraph bytes g → SurrogateAnswer q.form g q.x q.y q.experiments No text → IsStopAsDrawn q bytes text
+surrogated_on : (q : SurrogateRequest) (bytes text : List ℕ) (g : ReadGraph) → HoldsGraph bytes g → SurrogateAnswer q.form g q.x q.y q.experiments No text
+    → IsStopAsDrawn q bytes text
 surrogated_on q bytes text g holds (p, observed, h) = record {
   graph = g;
   holds = holds;
@@ -211,14 +235,15 @@ surrogated_on q bytes text g holds (p, observed, h) = record {
   not_identifiable_over = common_lost g p observed h.experiments h.x h.y h.answer.common h.answer.blocked;
 }
 
-surrogated : (r : Run) (uses : List Use) (text : List ℕ) → Appends r.out.before r.out.after text → CallAnswer r Surrogate uses No text
+surrogated : (r : Call) (uses : List Use) (text : List ℕ) → Appends r.before r.after text → CallAnswer r Surrogate uses No text
     → WrittenFor surrogate_requests.IsRequest (λ q. q.file) IsStopAsDrawn r uses
 surrogated r uses text = written_for r Surrogate uses No text (λ q. q.file) IsStopAsDrawn (λ q h. h) (λ q. refl) (λ q. refl)
     (λ q is bytes a. surrogated_on q bytes text a.graph a.holds a.answer)
 
 -- ---- separate and rule
 
-separated_on : (q : SeparateRequest) (bytes text : List ℕ) (g : ReadGraph) → HoldsGraph bytes g → SeparateAnswer g q.x q.y q.given No text → IsDependenceAsDrawn q bytes text
+separated_on : (q : SeparateRequest) (bytes text : List ℕ) (g : ReadGraph) → HoldsGraph bytes g → SeparateAnswer g q.x q.y q.given No text
+    → IsDependenceAsDrawn q bytes text
 separated_on q bytes text g holds (p, observed, h) = record {
   graph = g;
   holds = holds;
@@ -232,48 +257,95 @@ separated_on q bytes text g holds (p, observed, h) = record {
   dependent = dependence_is_drawn (graph_of g.graph) g.graph.valid (has g.latent.bits) p observed (has h.x) (has h.y) (has h.w) h.answer.dependent;
 }
 
-separated : (r : Run) (uses : List Use) (text : List ℕ) → Appends r.out.before r.out.after text → CallAnswer r Separate uses No text
+separated : (r : Call) (uses : List Use) (text : List ℕ) → Appends r.before r.after text → CallAnswer r Separate uses No text
     → WrittenFor separate_requests.IsRequest (λ q. q.file) IsDependenceAsDrawn r uses
 separated r uses text = written_for r Separate uses No text (λ q. q.file) IsDependenceAsDrawn (λ q h. h) (λ q. refl) (λ q. refl)
     (λ q is bytes a. separated_on q bytes text a.graph a.holds a.answer)
 
-ruled_on : (q : RuleRequest) (bytes text : List ℕ) (g : ReadGraph) → HoldsGraph bytes g → RuleAnswer q.rule g q.y q.done q.z q.given No text → IsFailureAsDrawn q bytes text
+ruled_on : (q : RuleRequest) (bytes text : List ℕ) (g : ReadGraph) → HoldsGraph bytes g → RuleAnswer q.rule g q.y q.x q.z q.given No text
+    → IsFailureAsDrawn q bytes text
 ruled_on q bytes text g holds (p, observed, h) = record {
   graph = g;
   holds = holds;
   seen = p;
   observed = observed;
   y = h.y;
-  doing = h.done;
+  doing = h.x;
   z = h.z;
   given = h.given;
   sets = h.sets;
   shows = h.answer;
-  fails = failure_is_drawn (graph_of g.graph) g.graph.valid (has g.latent.bits) p observed (left_of q.rule (has h.done) (has h.y) (has h.z) (has h.given))
-      (right_of q.rule (has h.done) (has h.y) (has h.z) (has h.given)) h.answer.fails;
+  fails = failure_is_drawn (graph_of g.graph) g.graph.valid (has g.latent.bits) p observed (left_of q.rule (has h.x) (has h.y) (has h.z) (has h.given))
+      (right_of q.rule (has h.x) (has h.y) (has h.z) (has h.given)) h.answer.fails;
 }
 
-ruled : (r : Run) (uses : List Use) (text : List ℕ) → Appends r.out.before r.out.after text → CallAnswer r Rule uses No text
+ruled : (r : Call) (uses : List Use) (text : List ℕ) → Appends r.before r.after text → CallAnswer r Rule uses No text
     → WrittenFor rule_requests.IsRequest (λ q. q.file) IsFailureAsDrawn r uses
 ruled r uses text = written_for r Rule uses No text (λ q. q.file) IsFailureAsDrawn (λ q h. h) (λ q. refl) (λ q. refl)
     (λ q is bytes a. ruled_on q bytes text a.graph a.holds a.answer)
 
+-- ---- adjust
+
+-- a set whose formula is the effect in the diagram as drawn is admissible
+admissible_as_drawn : (g : ReadGraph) (q : MixedGraph) → IsObservedGraph g q → (x y z : ℕ) → AreThreeSets q.vertices (has x) (has y) (has z)
+    → EqualsAsDrawn (graph_of g.graph) (has g.latent.bits) (effect_on x y) (adjustment_formula x y z) → IsAdmissible q (has x) (has y) (has z)
+admissible_as_drawn g q observed x y z sets right =
+    let ok = observed_is_mixed g q observed in
+    let breaks = λ (d : Exceeds q (has x) (has y) (has z)).
+    let u = formula_failure_is_drawn (graph_of g.graph) g.graph.valid (has g.latent.bits) q observed (effect_on x y) (adjustment_formula x y z)
+    (exceeds_fails q ok x y z d) in
+    u.unequal (right u.model u.fits u.positive u.at u.within) in
+    record {
+      clear = λ v inside f. breaks (forbidden_exceeds q ok (has x) (has y) (has z) sets v inside f);
+      blocked = λ v r p not_causal o. breaks (unblocked_exceeds q ok (has x) (has y) (has z) sets v r p not_causal o);
+    }
+
+refutes_adjustment : (g : ReadGraph) (q : MixedGraph) → IsObservedGraph g q → (query : Query) (x y z : ℕ) (text : List ℕ)
+    → SetsAnswer query q (observed_names g) x y z No text → RefutesAdjustment query g q x y z
+refutes_adjustment g q observed (by_set set) x y z text h =
+    formula_failure_is_drawn (graph_of g.graph) g.graph.valid (has g.latent.bits) q observed (effect_on x y) (adjustment_formula x y z) h.fails
+refutes_adjustment g q observed (by_back_door set) x y z text h = tt
+refutes_adjustment g q observed (listing most) x y z text h = λ w sets right. h.none (has w) sets (admissible_as_drawn g q observed x y w sets right)
+
+adjusted_on : (q : AdjustRequest) (bytes text : List ℕ) (g : ReadGraph) → HoldsGraph bytes g → AdjustAnswer g q.x q.y q.query No text
+    → IsNoAdjustmentAsDrawn q bytes text
+adjusted_on q bytes text g holds (p, observed, h) = record {
+  graph = g;
+  holds = holds;
+  seen = p;
+  observed = observed;
+  x = h.x;
+  y = h.y;
+  z = h.z;
+  sets = h.sets;
+  shows = h.answer;
+  refutes = refutes_adjustment g p observed q.query h.x h.y h.z text h.answer;
+}
+
+adjusted : (r : Call) (uses : List Use) (text : List ℕ) → Appends r.before r.after text → CallAnswer r Adjust uses No text
+    → WrittenFor adjust_requests.IsRequest (λ q. q.file) IsNoAdjustmentAsDrawn r uses
+adjusted r uses text = written_for r Adjust uses No text (λ q. q.file) IsNoAdjustmentAsDrawn (λ q h. h) (λ q. refl) (λ q. refl)
+    (λ q is bytes a. adjusted_on q bytes text a.graph a.holds a.answer)
+
 -- ---- a run
 
-pub refuted_as_drawn_of : (r : Run) (code : ℕ) (o : Outcome) (text : List ℕ) → code ≡ code_of o → Ends commands r o text → HeadlineOfCheck r code → RefutedAsDrawn r code
-refuted_as_drawn_of r code No text c h accepted = record {
-  identified = λ uses call one. identified r uses text h.whole (call_answer r Identify uses call No text h.answers);
-  evaluated = λ uses call one. evaluated r uses text h.whole (call_answer r Evaluate uses call No text h.answers);
+pub refuted_as_drawn_of : (r : Call) (code : ℕ) (o : Outcome) (text : List ℕ) → code ≡ code_of o → (code ≤ 1 → Gave r o text) → HeadlineOfCheck r code
+    → RefutedAsDrawn r code
+refuted_as_drawn_of r code No text c g accepted = let h = g (omega (arith, c)) in record {
+  identified = λ uses call one. identified r uses text h.whole (h.answers Identify uses call);
+  evaluated = λ uses call one. evaluated r uses text h.whole (h.answers Evaluate uses call);
   checked = λ uses call zero. absurd (omega (arith, c, zero));
-  surrogated = λ uses call one. surrogated r uses text h.whole (call_answer r Surrogate uses call No text h.answers);
-  separated = λ uses call one. separated r uses text h.whole (call_answer r Separate uses call No text h.answers);
-  ruled = λ uses call one. ruled r uses text h.whole (call_answer r Rule uses call No text h.answers);
+  surrogated = λ uses call one. surrogated r uses text h.whole (h.answers Surrogate uses call);
+  separated = λ uses call one. separated r uses text h.whole (h.answers Separate uses call);
+  ruled = λ uses call one. ruled r uses text h.whole (h.answers Rule uses call);
+  adjusted = λ uses call one. adjusted r uses text h.whole (h.answers Adjust uses call);
 }
-refuted_as_drawn_of r code o text c h accepted = record {
+refuted_as_drawn_of r code o text c g accepted = record {
   identified = λ uses call one. absurd (omega (arith, c, one));
   evaluated = λ uses call one. absurd (omega (arith, c, one));
   checked = λ uses call zero. checked r uses (accepted uses call zero);
   surrogated = λ uses call one. absurd (omega (arith, c, one));
   separated = λ uses call one. absurd (omega (arith, c, one));
   ruled = λ uses call one. absurd (omega (arith, c, one));
+  adjusted = λ uses call one. absurd (omega (arith, c, one));
 }

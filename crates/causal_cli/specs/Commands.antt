@@ -1,14 +1,14 @@
 -- The commands: one list, and of each what it is, which stands in its own crate; and what the code's values stand for.
 use Rattle.std.specs.Prelude.{List, [], ◌∷◌, map, option_map}
-use Rattle.word_forms.specs.Form.{Row}
+use Rattle.command_words.specs.Form.{Row}
 use Rattle.replies.specs.Command.{CommandForm, Remainder}
 use Rattle.command_run.specs.Commands.{CommandSet, Request, of}
-use Rattle.graph_command.specs.Command.{graph_command}
-use Rattle.graph_command.specs.Requests as of_graph
-use Rattle.separate_command.specs.Command.{separate_command}
-use Rattle.separate_command.specs.Requests as of_separate
-use Rattle.rule_command.specs.Command.{rule_command}
-use Rattle.rule_command.specs.Requests as of_rule
+use Rattle.separation_commands.specs.GraphCommand.{graph_command}
+use Rattle.separation_commands.specs.GraphRequests as of_graph
+use Rattle.separation_commands.specs.SeparateCommand.{separate_command}
+use Rattle.separation_commands.specs.SeparateRequests as of_separate
+use Rattle.separation_commands.specs.RuleCommand.{rule_command}
+use Rattle.separation_commands.specs.RuleRequests as of_rule
 use Rattle.identify_command.specs.Command.{identify_command}
 use Rattle.identify_command.specs.Requests as of_identify
 use Rattle.check_command.specs.Command.{check_command, check_left}
@@ -39,7 +39,8 @@ use Rattle.causal_cli.specs.declared.second.SecondInput.TheVariants as input
 
 -- all commands, in the order of the table
 abbrev pub all_commands : List Command
-all_commands = command.Graph ∷ command.Separate ∷ command.Rule ∷ command.Identify ∷ command.Check ∷ command.Adjust ∷ command.Evaluate ∷ command.Equivalent ∷ command.Implications ∷ command.Survey ∷ command.Surrogate ∷ []
+all_commands = command.Graph ∷ command.Separate ∷ command.Rule ∷ command.Identify ∷ command.Check ∷ command.Adjust ∷ command.Evaluate ∷ command.Equivalent
+    ∷ command.Survey ∷ command.Implications ∷ command.Surrogate ∷ []
 
 -- the row of a command
 abbrev pub row_for : Command → Row
@@ -51,8 +52,8 @@ row_for command.Check = of_check.check_row
 row_for command.Adjust = of_adjust.adjust_row
 row_for command.Evaluate = of_evaluate.evaluate_row
 row_for command.Equivalent = of_equivalent.equivalent_row
-row_for command.Implications = of_implications.implications_row
 row_for command.Survey = of_survey.survey_row
+row_for command.Implications = of_implications.implications_row
 row_for command.Surrogate = of_surrogate.surrogate_row
 
 -- the table of commands
@@ -69,8 +70,8 @@ form_of command.Check = check_command
 form_of command.Adjust = adjust_command
 form_of command.Evaluate = evaluate_command
 form_of command.Equivalent = equivalent_command
-form_of command.Implications = implications_command
 form_of command.Survey = survey_command
+form_of command.Implications = implications_command
 form_of command.Surrogate = surrogate_command
 
 -- the commands, with their names where words ask for nothing

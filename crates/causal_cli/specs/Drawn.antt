@@ -1,100 +1,118 @@
--- What status 0 of `identify`, `check`, `adjust`, `surrogate`, `evaluate`, `separate` and `rule` says of the diagram as drawn, with its hidden vertices.
-use Rattle.std.specs.Prelude.{ℕ, ◌≡◌, ◌<◌, List, [], ◌++◌, All, Bool, true, false, Ok, IfSome, unwrap_or}
+-- What status 0 of `identify`, `check`, `adjust`, `surrogate`, `evaluate`, `separate`, `rule` and `implications` says of the diagram as drawn, with
+-- its hidden vertices.
+-- Each is said of the very answer that the command gives: of its formula, its sets or its values, and beside what the answer says of the observed graph.
+use Rattle.std.specs.Prelude.{ℕ, ◌≡◌, ◌<◌, List, [], ◌∷◌, All, Bool, true, false, Option, Some, None, IfSome, pos}
 use Rattle.std.specs.Io.KnownBytes.{Appends}
-use Rattle.std.specs.List.{flat_map}
 use Rattle.mixed_graph.specs.Bits.{has}
+use Rattle.mixed_graph.specs.Graphs.{MixedGraph}
 use Rattle.mixed_graph.specs.Shown.{graph_of}
-use Rattle.mixed_graph.specs.declared.sets.VSet.{VSet}
 use Rattle.fractions.specs.Fractions.{Fraction}
 use Rattle.finite_models.specs.Models.{FiniteModel, Fits, IsAssignment}
-use Rattle.word_forms.specs.Form.{Use, IsCall}
-use Rattle.prob_expr.specs.Tree.{PlainFormula, PlainTarget}
+use Rattle.command_words.specs.Form.{Text, Use}
+use Rattle.prob_expr.specs.Tree.{PlainFormula, PlainTarget, effect_on}
 use Rattle.do_derivation.specs.Plans.{PlainDerivation}
 use Rattle.dag_reader.specs.declared.graph.ReadGraph.{ReadGraph}
 use Rattle.do_rules.specs.Rules.{left_of, right_of}
 use Rattle.targets.specs.Targets.{AreSets, AreRuleSets}
 use Rattle.certificate.specs.Plain as certificates
-use Rattle.hidden_theory.specs.Folding.{IsObservedPositive, IsMatchedAsDrawn, values_after, drawn_effect}
-use Rattle.hidden_theory.specs.Laws.{EqualsAsDrawn}
-use Rattle.hidden_theory.specs.Statements.{AreIndependentAsDrawn, AreEqualSidesAsDrawn}
-use Rattle.id_recursion.specs.Answers.{effect_on}
+use Rattle.hidden_models.specs.Folding.{IsObservedPositive, IsMatchedAsDrawn, values_after, drawn_effect}
+use Rattle.hidden_models.specs.Statements.{AreIndependentAsDrawn, AreEqualSidesAsDrawn}
 use Rattle.adjustment.specs.Formulas.{adjustment_formula}
-use Rattle.quantity.specs.Kinds.{Pair, Kind}
-use Rattle.quantity.specs.Exacts.{exact, Equals}
-use Rattle.quantity.specs.Intervals.{bounds, Covers}
+use Rattle.quantity.specs.Kinds.{Pair}
+use Rattle.quantity.specs.Exacts.{Equals}
+use Rattle.quantity.specs.Intervals.{Covers}
 use Rattle.count_rows.specs.Rows.{Table}
 use Rattle.count_table.specs.Cells.{total}
 use Rattle.count_eval.specs.Programs.{weights_in, is_used, cell_of}
 use Rattle.count_answers.specs.Reads as counts
-use Rattle.replies.specs.Observed.{Names, HoldsGraph, observed_names}
+use Rattle.implications.specs.Separable.{only}
+use Rattle.implications.specs.declared.pairs.Implication.{Implication}
+use Rattle.implied_differences.specs.declared.largest.Difference.{Difference}
+use Rattle.replies.specs.declared.outcome.Outcome.TheVariants.{Yes}
+use Rattle.replies.specs.Observed.{Names, HoldsGraph, IsObservedGraph, observed_names}
+use Rattle.effect_answers.specs.Effects.{effect_lists, IsOfSets}
 use Rattle.identify_command.specs.declared.form.Form.{Form}
-use Rattle.identify_command.specs.Answers.{formula_text}
-use Rattle.identify_command.specs.Conditions.{target_lists, AreTargetSets}
+use Rattle.identify_command.specs.Answers.{ShowsFormula}
+use Rattle.identify_command.specs.Conditions.{target_lists, AreTargetSets, ShowsConditional}
 use Rattle.identify_command.specs.Requests.{IsRequest, identify_row}
-use Rattle.check_command.specs.Answers.{IsRead}
+use Rattle.check_command.specs.Answers.{HoldsCertificate, CheckAnswer}
+use Rattle.experiment_lists.specs.Words.{Lists}
 use Rattle.check_command.specs.Requests.{check_row}
 use Rattle.check_command.specs.Requests as check_requests
-use Rattle.adjust_command.specs.Answers.{adjust_lists}
-use Rattle.adjust_command.specs.Lines.{admissible_text, listing_text}
+use Rattle.adjust_command.specs.Answers.{adjust_lists, SetsAnswer}
 use Rattle.adjust_command.specs.Queries.{Query, listing}
 use Rattle.adjust_command.specs.Requests.{adjust_row}
 use Rattle.adjust_command.specs.Requests as adjust_requests
+use Rattle.surrogate_command.specs.Answers as surrogates
 use Rattle.surrogate_command.specs.Asked.{surrogate_lists}
-use Rattle.surrogate_command.specs.Lines as surrogate_lines
 use Rattle.surrogate_command.specs.Requests.{surrogate_row}
 use Rattle.surrogate_command.specs.Requests as surrogate_requests
 use Rattle.surrogate_command.specs.Sets.{AreSurrogateSets}
-use Rattle.evaluate_command.specs.Cells.{CellValue, value_in, values_at, printed_cells}
+use Rattle.evaluate_command.specs.Answers.{QuantityAnswer}
+use Rattle.evaluate_command.specs.Cells.{CellValue}
 use Rattle.evaluate_command.specs.Effects.{PlainEffect, Identifies, used_in}
-use Rattle.evaluate_command.specs.Lines.{sign_of, value_line, pinned_lines}
 use Rattle.evaluate_command.specs.Requests.{evaluate_row}
 use Rattle.evaluate_command.specs.Requests as evaluate_requests
-use Rattle.separate_command.specs.Answers.{separation_lists}
-use Rattle.separate_command.specs.Lines.{separated_text}
-use Rattle.separate_command.specs.Requests.{separate_row}
-use Rattle.separate_command.specs.Requests as separate_requests
-use Rattle.rule_command.specs.Answers.{rule_lists}
-use Rattle.rule_command.specs.Lines.{rule_holds_text}
-use Rattle.rule_command.specs.Requests.{rule_row}
-use Rattle.rule_command.specs.Requests as rule_requests
-use Rattle.command_run.specs.Run.{Run}
-use Rattle.causal_cli.specs.Commands.{table}
-use Rattle.causal_cli.specs.Headline.{WrittenFor}
-
--- The formula equals the effect of the target in the diagram as drawn: in every model of the graph that was read, whatever the mechanisms of its hidden vertices, that is positive on the observed ones, at each assignment. Its terms are taken in that model.
-abbrev pub IsRightAsDrawn : ReadGraph → PlainTarget → PlainFormula → Type 0
-IsRightAsDrawn g t f = EqualsAsDrawn (graph_of g.graph) (has g.latent.bits) t f
+use Rattle.separation_commands.specs.SeparateAnswers.{separation_lists, ShowsSeparation}
+use Rattle.separation_commands.specs.SeparateRequests.{separate_row}
+use Rattle.separation_commands.specs.SeparateRequests as separate_requests
+use Rattle.separation_commands.specs.RuleAnswers.{rule_lists, ShowsEquation}
+use Rattle.separation_commands.specs.RuleRequests.{rule_row}
+use Rattle.separation_commands.specs.RuleRequests as rule_requests
+use Rattle.implications_command.specs.Answers.{ShowsPairs, ShowsDifferences}
+use Rattle.implications_command.specs.Pairs.{PlainPairs, ArePairsOf}
+use Rattle.implications_command.specs.Requests.{implications_row}
+use Rattle.implications_command.specs.Requests as implications_requests
+use Rattle.implications_command.specs.Used as pair_columns
+use Rattle.causal_cli.specs.Calls.{Call, IsCallOf, WrittenFor, WrittenForBoth}
+use Rattle.causal_cli.specs.Headline.{IsRightAsDrawn}
 
 -- ---- identify
 
--- the bytes hold a graph; the lists name a target, with nothing given where no list says so; and the text shows a formula for it that equals it in the diagram as drawn
-pub record IsTextAsDrawn (form : Form) (bytes : List ℕ) (x y given : Names) (text : List ℕ) : Type 0 where
+-- the bytes hold a graph, the lists name two sets, and the formula of the answer for them equals their effect in the diagram as drawn
+pub record IsFormulaAsDrawn (form : Form) (bytes : List ℕ) (x y : Names) (text : List ℕ) : Type 0 where
   pub graph : ReadGraph
   pub holds : HoldsGraph bytes graph
+  pub seen : MixedGraph
+  pub observed : IsObservedGraph graph seen
+  pub sets : IsOfSets (effect_lists graph x y) (λ on of. (shows : ShowsFormula form seen (observed_names graph) on of text)
+      × IsRightAsDrawn graph (effect_on on of) shows.formula)
+
+-- the same of the answer for a target with a condition
+pub record IsConditionalAsDrawn (form : Form) (bytes : List ℕ) (x y : Names) (given : List (List ℕ)) (text : List ℕ) : Type 0 where
+  pub graph : ReadGraph
+  pub holds : HoldsGraph bytes graph
+  pub seen : MixedGraph
+  pub observed : IsObservedGraph graph seen
   pub target : PlainTarget
-  pub sets : AreTargetSets (target_lists graph x y (unwrap_or given [])) target
-  pub formula : PlainFormula
-  pub derivation : PlainDerivation
-  pub right : IsRightAsDrawn graph target formula
-  pub prints : text ≡ formula_text form (observed_names graph) target formula derivation
+  pub sets : AreTargetSets (target_lists graph x y given) target
+  pub shows : ShowsConditional form seen (observed_names graph) target text
+  pub right : IsRightAsDrawn graph target shows.formula
+
+-- the one or the other, by whether something is given
+abbrev pub IsTextAsDrawn : Form → (bytes : List ℕ) → (x y given : Names) → (text : List ℕ) → Type 0
+IsTextAsDrawn form bytes x y None text = IsFormulaAsDrawn form bytes x y text
+IsTextAsDrawn form bytes x y (Some []) text = IsFormulaAsDrawn form bytes x y text
+IsTextAsDrawn form bytes x y (Some (n ∷ ns)) text = IsConditionalAsDrawn form bytes x y (n ∷ ns) text
 
 -- such a text was written for the bytes of the file, and for the lists and the form, that these uses ask for
-abbrev pub IdentifiedAsDrawn : Run → List Use → Type 0
+abbrev pub IdentifiedAsDrawn : Call → List Use → Type 0
 IdentifiedAsDrawn = WrittenFor IsRequest (λ q. q.file) (λ q bytes text. IsTextAsDrawn q.form bytes q.x q.y q.given text)
 
 -- ---- check
 
--- the bytes of the file hold a graph; and where those of the certificate are the certificate of a formula, that equals the effect of its target in the diagram as drawn
-pub record IsCertificateAsDrawn (bytes other : List ℕ) : Type 0 where
+-- the bytes of the file hold a graph; those of the certificate are accepted in it; and where they are the certificate of a formula, that equals the
+-- effect of its target in the diagram as drawn
+pub record IsCertificateAsDrawn (experiments : Lists) (bytes other text : List ℕ) : Type 0 where
   pub graph : ReadGraph
   pub holds : HoldsGraph bytes graph
-  pub right : (t : PlainTarget) (f : PlainFormula) (d : PlainDerivation) → IsRead (observed_names graph) other (certificates.formula t f d) → IsRightAsDrawn graph t f
+  pub accepted : CheckAnswer graph experiments other Yes text
+  pub right : (t : PlainTarget) (f : PlainFormula) (d : PlainDerivation) → HoldsCertificate (observed_names graph) other (certificates.formula t f d)
+      → IsRightAsDrawn graph t f
 
--- a certificate that these uses ask about is so for the file that they ask for
-pub record CheckedAsDrawn (r : Run) (uses : List Use) : Type 0 where
-  pub request : check_requests.Request
-  pub asks : check_requests.IsRequest uses request
-  pub right : IfSome (r.held request.file) (λ bytes. IfSome (r.held request.certificate) (λ other. IsCertificateAsDrawn bytes other))
+-- such a text was written for the bytes of the file and of the certificate, and for the experiments, that these uses ask for
+abbrev pub CheckedAsDrawn : Call → List Use → Type 0
+CheckedAsDrawn = WrittenForBoth check_requests.IsRequest (λ q. q.file) (λ q. q.certificate) (λ q. IsCertificateAsDrawn q.experiments)
 
 -- ---- adjust
 
@@ -102,129 +120,168 @@ pub record CheckedAsDrawn (r : Run) (uses : List Use) : Type 0 where
 abbrev pub AdjustsAsDrawn : ReadGraph → (x y z : ℕ) → Type 0
 AdjustsAsDrawn g x y z = IsRightAsDrawn g (effect_on x y) (adjustment_formula x y z)
 
--- the text shows z with its adjustment formula, which is so
-pub record ShowsSetAsDrawn (g : ReadGraph) (x y z : ℕ) (text : List ℕ) : Type 0 where
-  pub right : AdjustsAsDrawn g x y z
-  pub prints : text ≡ admissible_text (observed_names g) x y z
+-- so does the formula of each set of the answer: of z, or of the minimal sets that it lists
+abbrev pub EachAdjustsAsDrawn : (query : Query) (g : ReadGraph) (q : MixedGraph) (x y z : ℕ) (text : List ℕ)
+    → SetsAnswer query q (observed_names g) x y z Yes text → Type 0
+EachAdjustsAsDrawn (listing most) g q x y z text shows = All (λ s. AdjustsAsDrawn g x y s.bits) shows.sets
+EachAdjustsAsDrawn query g q x y z text shows = AdjustsAsDrawn g x y z
 
--- the text shows sets, of each of which it is so
-pub record ListsSetsAsDrawn (g : ReadGraph) (x y : ℕ) (text : List ℕ) : Type 0 where
-  pub sets : List VSet
-  pub more : Bool
-  pub right : All (λ s. AdjustsAsDrawn g x y s.bits) sets
-  pub prints : text ≡ listing_text (observed_names g) sets more
-
--- the text for a set by either criterion, or for the minimal sets
-abbrev pub ShowsAdjustmentAsDrawn : Query → ReadGraph → (x y z : ℕ) → List ℕ → Type 0
-ShowsAdjustmentAsDrawn (listing most) g x y z text = ListsSetsAsDrawn g x y text
-ShowsAdjustmentAsDrawn query g x y z text = ShowsSetAsDrawn g x y z text
-
--- the bytes hold a graph, the lists name these sets, and the text is such a one for them
+-- the bytes hold a graph, the lists name these sets, and the answer for them is so
 pub record IsAdjustmentAsDrawn (q : adjust_requests.Request) (bytes text : List ℕ) : Type 0 where
   pub graph : ReadGraph
   pub holds : HoldsGraph bytes graph
+  pub seen : MixedGraph
+  pub observed : IsObservedGraph graph seen
   pub x : ℕ
   pub y : ℕ
   pub z : ℕ
   pub sets : AreSets (adjust_lists graph q.x q.y q.query) x y z
-  pub shows : ShowsAdjustmentAsDrawn q.query graph x y z text
+  pub shows : SetsAnswer q.query seen (observed_names graph) x y z Yes text
+  pub right : EachAdjustsAsDrawn q.query graph seen x y z text shows
 
 -- such a text was written for the bytes of the file that these uses ask for
-abbrev pub AdjustedAsDrawn : Run → List Use → Type 0
+abbrev pub AdjustedAsDrawn : Call → List Use → Type 0
 AdjustedAsDrawn = WrittenFor adjust_requests.IsRequest (λ q. q.file) IsAdjustmentAsDrawn
 
 -- ---- surrogate
 
--- the bytes hold a graph, the lists name these sets and experiments, and the text shows a formula over them that equals the effect in the diagram as drawn
+-- the bytes hold a graph, the lists name these sets and experiments, and the formula of the answer for them equals the effect in the diagram as drawn
 pub record IsSurrogateAsDrawn (q : surrogate_requests.Request) (bytes text : List ℕ) : Type 0 where
   pub graph : ReadGraph
   pub holds : HoldsGraph bytes graph
+  pub seen : MixedGraph
+  pub observed : IsObservedGraph graph seen
   pub x : ℕ
   pub y : ℕ
   pub experiments : List ℕ
   pub sets : AreSurrogateSets (surrogate_lists graph q.x q.y q.experiments) x y experiments
-  pub formula : PlainFormula
-  pub derivation : PlainDerivation
-  pub right : IsRightAsDrawn graph (effect_on x y) formula
-  pub prints : text ≡ surrogate_lines.formula_text q.form (observed_names graph) (effect_on x y) formula derivation
+  pub shows : surrogates.ShowsFormula q.form seen (observed_names graph) experiments x y text
+  pub right : IsRightAsDrawn graph (effect_on x y) shows.formula
 
 -- such a text was written for the bytes of the file that these uses ask for
-abbrev pub SurrogatedAsDrawn : Run → List Use → Type 0
+abbrev pub SurrogatedAsDrawn : Call → List Use → Type 0
 SurrogatedAsDrawn = WrittenFor surrogate_requests.IsRequest (λ q. q.file) IsSurrogateAsDrawn
 
 -- ---- evaluate
 
--- The quantity covers P(y | do(x)) at the cell in the diagram as drawn: in every model of the graph that was read that is positive on the observed vertices and whose observed weights are those of the counts, up to one factor, at each assignment in which the observed vertices have the levels of the cell.
+-- The quantity covers P(y | do(x)) at the cell in the diagram as drawn: in every model of the graph that was read that is positive on the observed
+-- vertices and whose observed weights are those of the counts, up to one factor, at each assignment in which the observed vertices have the levels of
+-- the cell.
 abbrev pub CoversAsDrawn : (Pair → Fraction → Type 0) → ReadGraph → PlainEffect → Table → CellValue → Type 0
 CoversAsDrawn covers g e t v = (m : FiniteModel) → Fits (graph_of g.graph) m → IsObservedPositive (has g.latent.bits) m
     → IsMatchedAsDrawn (has g.latent.bits) (is_used t) (weights_in e.graph.vertices t) (total t.rows) m
     → (s : ℕ → ℕ) → IsAssignment m.vertices m.size s → ((k : ℕ) → k < e.graph.vertices → values_after (has g.latent.bits) m.vertices s k ≡ cell_of v.cell k)
     → covers v.quantity (drawn_effect (has g.latent.bits) m (effect_on e.x e.y) s)
 
--- the text shows the values of the formula over the counts at the printed cells, each of which covers the effect so
-pub record ShowsValuesAsDrawn (kind : Kind) (covers : Pair → Fraction → Type 0) (sign : List ℕ) (g : ReadGraph) (e : PlainEffect) (t : Table) (text : List ℕ) : Type 0 where
-  pub values : List CellValue
-  pub evaluated : values_at (value_in kind e t) (printed_cells e t) ≡ Ok values
-  pub effects : All (CoversAsDrawn covers g e t) values
-  pub prints : text ≡ pinned_lines e t ++ flat_map (value_line kind sign e t) values
+-- so does each value of the answer, in exact fractions or else in bounds
+abbrev pub EachCoversAsDrawn : (is_exact : Bool) (g : ReadGraph) (e : PlainEffect) (t : Table) (text : List ℕ) → QuantityAnswer is_exact e t Yes text → Type 0
+EachCoversAsDrawn true g e t text shows = All (CoversAsDrawn Equals g e t) shows.values.values
+EachCoversAsDrawn false g e t text shows = All (CoversAsDrawn Covers g e t) shows.values.values
 
--- in exact fractions, or else in bounds
-abbrev pub ShowsQuantitiesAsDrawn : Bool → ReadGraph → PlainEffect → Table → List ℕ → Type 0
-ShowsQuantitiesAsDrawn true = ShowsValuesAsDrawn exact Equals (sign_of true)
-ShowsQuantitiesAsDrawn false = ShowsValuesAsDrawn bounds Covers (sign_of false)
-
--- the bytes hold a graph, the lists name an effect that has a formula, the other bytes hold a table of its counts, and the text is such a one for them
+-- the bytes hold a graph, the lists name an effect that has a formula, which equals it in the diagram as drawn, the other bytes hold a table of its
+-- counts, and the values of the answer over it are so
 pub record IsEvaluationAsDrawn (q : evaluate_requests.Request) (bytes other text : List ℕ) : Type 0 where
   pub graph : ReadGraph
   pub holds : HoldsGraph bytes graph
   pub effect : PlainEffect
   pub identifies : Identifies graph q.x q.y effect
+  pub formula : IsRightAsDrawn graph (effect_on effect.x effect.y) effect.formula
   pub counted : Table
-  pub read : counts.IsRead effect.names (used_in effect) q.count other counted
-  pub shows : ShowsQuantitiesAsDrawn q.exact graph effect counted text
+  pub read : counts.HoldsCounts effect.names (used_in effect) q.count other counted
+  pub shows : QuantityAnswer q.exact effect counted Yes text
+  pub right : EachCoversAsDrawn q.exact graph effect counted text shows
 
 -- such a text was written for the bytes of the file and of the counts that these uses ask for
-pub record EvaluatedAsDrawn (r : Run) (uses : List Use) : Type 0 where
-  pub request : evaluate_requests.Request
-  pub text : List ℕ
-  pub asks : evaluate_requests.IsRequest uses request
-  pub right : IfSome (r.held request.file) (λ bytes. IfSome (r.held request.counts) (λ other. IsEvaluationAsDrawn request bytes other text))
-  pub whole : Appends r.out.before r.out.after text
+abbrev pub EvaluatedAsDrawn : Call → List Use → Type 0
+EvaluatedAsDrawn = WrittenForBoth evaluate_requests.IsRequest (λ q. q.file) (λ q. q.counts) IsEvaluationAsDrawn
 
 -- ---- separate and rule
 
--- the bytes hold a graph, the lists name these sets, x and y are independent given w in every model of the diagram as drawn, and the text says that they are separated
+-- the bytes hold a graph, the lists name these sets, which are separated, and x and y are independent given w in every model of the diagram as drawn
 pub record IsSeparationAsDrawn (q : separate_requests.Request) (bytes text : List ℕ) : Type 0 where
   pub graph : ReadGraph
   pub holds : HoldsGraph bytes graph
+  pub seen : MixedGraph
+  pub observed : IsObservedGraph graph seen
   pub x : ℕ
   pub y : ℕ
   pub w : ℕ
   pub sets : AreSets (separation_lists graph q.x q.y q.given) x y w
+  pub shows : ShowsSeparation seen (observed_names graph) x y w text
   pub independent : AreIndependentAsDrawn (graph_of graph.graph) (has graph.latent.bits) (has x) (has y) (has w)
-  pub prints : text ≡ separated_text (observed_names graph) x y w
 
--- the bytes hold a graph, the lists name these sets, the rule's equation holds in every model of the diagram as drawn that is positive on the observed vertices, and the text says so
+-- the bytes hold a graph, the lists name these sets, for which the rule holds, and its equation holds in every model of the diagram as drawn that is
+-- positive on the observed vertices
 pub record IsEquationAsDrawn (q : rule_requests.Request) (bytes text : List ℕ) : Type 0 where
   pub graph : ReadGraph
   pub holds : HoldsGraph bytes graph
+  pub seen : MixedGraph
+  pub observed : IsObservedGraph graph seen
   pub y : ℕ
   pub doing : ℕ
   pub z : ℕ
   pub given : ℕ
-  pub sets : AreRuleSets (rule_lists graph q.y q.done q.z q.given) y doing z given
+  pub sets : AreRuleSets (rule_lists graph q.y q.x q.z q.given) y doing z given
+  pub shows : ShowsEquation q.rule seen (observed_names graph) y doing z given text
   pub equation : AreEqualSidesAsDrawn (graph_of graph.graph) (has graph.latent.bits) (left_of q.rule (has doing) (has y) (has z) (has given))
       (right_of q.rule (has doing) (has y) (has z) (has given))
-  pub prints : text ≡ rule_holds_text q.rule (observed_names graph) (has doing) (has y) (has z) (has given)
+
+-- ---- implications
+
+-- the vertices of the pair are independent given its set in every model of the diagram as drawn
+abbrev pub IsIndependentAsDrawn : ReadGraph → Implication → Type 0
+IsIndependentAsDrawn g i = AreIndependentAsDrawn (graph_of g.graph) (has g.latent.bits) (only i.a) (only i.b) (has i.given.bits)
+
+-- the bytes hold a graph, and each pair of the answer is so
+pub record ArePairsAsDrawn (bytes text : List ℕ) : Type 0 where
+  pub graph : ReadGraph
+  pub holds : HoldsGraph bytes graph
+  pub shows : ShowsPairs graph text
+  pub independent : All (IsIndependentAsDrawn graph) shows.pairs.list
+
+-- the difference is 0 wherever a model of the diagram as drawn, positive or not, has the counts of the observed vertices: its observed weights are
+-- those of the counts, up to one factor
+abbrev pub IsZeroAsDrawn : ReadGraph → MixedGraph → Table → Difference → Type 0
+IsZeroAsDrawn g q t d = (m : FiniteModel) → Fits (graph_of g.graph) m → IsMatchedAsDrawn (has g.latent.bits) (is_used t) (weights_in q.vertices t)
+    (total t.rows) m → d.value ≡ pos 0
+
+-- the bytes hold a graph with these pairs, the other bytes hold a table of their counts, each pair is so, and so is its largest difference
+pub record AreDifferencesAsDrawn (count : Option Text) (bytes other text : List ℕ) : Type 0 where
+  pub graph : ReadGraph
+  pub holds : HoldsGraph bytes graph
+  pub pairs : PlainPairs
+  pub are : ArePairsOf graph pairs
+  pub independent : All (IsIndependentAsDrawn graph) pairs.list
+  pub counted : Table
+  pub read : counts.HoldsCounts pairs.names (pair_columns.used_in pairs.list) count other counted
+  pub shows : ShowsDifferences pairs counted text
+  pub zero : All (λ m. IsZeroAsDrawn graph pairs.graph counted m.difference) shows.measured
+
+-- the one or the other, by whether counts are given
+abbrev pub AreImpliedAsDrawn : Call → (file : Text) (second count : Option Text) → List ℕ → Type 0
+AreImpliedAsDrawn r file None count text = IfSome (r.held file) (λ bytes. ArePairsAsDrawn bytes text)
+AreImpliedAsDrawn r file (Some second) count text = IfSome (r.held file)
+    (λ bytes. IfSome (r.held_second second) (λ other. AreDifferencesAsDrawn count bytes other text))
+
+-- such a text was written for the bytes of the file, and of the counts where there are some, that these uses ask for
+pub record ImpliedAsDrawn (r : Call) (uses : List Use) : Type 0 where
+  pub request : implications_requests.Request
+  pub text : List ℕ
+  pub asks : implications_requests.IsRequest uses request
+  pub right : AreImpliedAsDrawn r request.file request.counts request.count text
+  pub whole : Appends r.before r.after text
 
 -- ---- a run
 
--- where the words ask for `identify`, `check`, `adjust`, `surrogate`, `evaluate`, `separate` or `rule`, status 0 says that what is shown is right in the diagram as drawn
-pub record RightAsDrawn (r : Run) (code : ℕ) : Type 0 where
-  pub identified : (uses : List Use) → IsCall table r.words identify_row uses → code ≡ 0 → IdentifiedAsDrawn r uses
-  pub checked : (uses : List Use) → IsCall table r.words check_row uses → code ≡ 0 → CheckedAsDrawn r uses
-  pub adjusted : (uses : List Use) → IsCall table r.words adjust_row uses → code ≡ 0 → AdjustedAsDrawn r uses
-  pub surrogated : (uses : List Use) → IsCall table r.words surrogate_row uses → code ≡ 0 → SurrogatedAsDrawn r uses
-  pub evaluated : (uses : List Use) → IsCall table r.words evaluate_row uses → code ≡ 0 → EvaluatedAsDrawn r uses
-  pub separated : (uses : List Use) → IsCall table r.words separate_row uses → code ≡ 0 → WrittenFor separate_requests.IsRequest (λ q. q.file) IsSeparationAsDrawn r uses
-  pub ruled : (uses : List Use) → IsCall table r.words rule_row uses → code ≡ 0 → WrittenFor rule_requests.IsRequest (λ q. q.file) IsEquationAsDrawn r uses
+-- where the words ask for `identify`, `check`, `adjust`, `surrogate`, `evaluate`, `separate`, `rule` or `implications`, status 0 says that what is
+-- shown is right in the diagram as drawn
+pub record RightAsDrawn (r : Call) (code : ℕ) : Type 0 where
+  pub identified : (uses : List Use) → IsCallOf identify_row r.words uses → code ≡ 0 → IdentifiedAsDrawn r uses
+  pub checked : (uses : List Use) → IsCallOf check_row r.words uses → code ≡ 0 → CheckedAsDrawn r uses
+  pub adjusted : (uses : List Use) → IsCallOf adjust_row r.words uses → code ≡ 0 → AdjustedAsDrawn r uses
+  pub surrogated : (uses : List Use) → IsCallOf surrogate_row r.words uses → code ≡ 0 → SurrogatedAsDrawn r uses
+  pub evaluated : (uses : List Use) → IsCallOf evaluate_row r.words uses → code ≡ 0 → EvaluatedAsDrawn r uses
+  pub separated : (uses : List Use) → IsCallOf separate_row r.words uses → code ≡ 0
+      → WrittenFor separate_requests.IsRequest (λ q. q.file) IsSeparationAsDrawn r uses
+  pub ruled : (uses : List Use) → IsCallOf rule_row r.words uses → code ≡ 0 → WrittenFor rule_requests.IsRequest (λ q. q.file) IsEquationAsDrawn r uses
+  pub implied : (uses : List Use) → IsCallOf implications_row r.words uses → code ≡ 0 → ImpliedAsDrawn r uses

@@ -1,45 +1,66 @@
 -- The headline, on a run: what words that ask for `identify`, and for `check`, are answered.
-use Rattle.std.specs.Prelude.{ℕ, ◌≡◌, List, None, IfSome, codes}
-use Rattle.std.specs.Io.KnownBytes.{Appends}
-use Rattle.word_forms.specs.Form.{Text, Use, IsCall, value_of}
+use Rattle.std.specs.Prelude.{ℕ, ◌≡◌, List, [], unwrap_or}
+use Rattle.mixed_graph.specs.Bits.{has}
+use Rattle.mixed_graph.specs.Graphs.{MixedGraph}
+use Rattle.mixed_graph.specs.Shown.{graph_of}
+use Rattle.command_words.specs.Form.{Use}
+use Rattle.prob_expr.specs.Tree.{PlainFormula, PlainTarget, effect_on}
+use Rattle.do_derivation.specs.Plans.{PlainDerivation}
 use Rattle.dag_reader.specs.declared.graph.ReadGraph.{ReadGraph}
-use Rattle.replies.specs.declared.outcome.Outcome.{Outcome}
-use Rattle.replies.specs.declared.outcome.Outcome.TheVariants.{Yes, No}
-use Rattle.replies.specs.Observed.{Names, HoldsGraph}
+use Rattle.hedge.specs.declared.hedge.Hedge.{Hedge}
+use Rattle.counter_models.specs.declared.counter_pair.CounterPair.{CounterPair}
+use Rattle.hidden_models.specs.FoldingLaws.{EqualsAsDrawn}
+use Rattle.identify.specs.Answers.{IsRightFormula, IsRightHedge}
+use Rattle.replies.specs.declared.outcome.Outcome.TheVariants.{Yes}
+use Rattle.replies.specs.Observed.{HoldsGraph, IsObservedGraph, observed_names}
+use Rattle.effect_answers.specs.Effects.{effect_lists, IsOfSets}
 use Rattle.identify_command.specs.declared.form.Form.{Form}
-use Rattle.identify_command.specs.Answers.{IdentifyAnswer}
-use Rattle.identify_command.specs.Requests.{IsRequest, identify_row}
+use Rattle.identify_command.specs.Answers.{formula_text, hedge_text}
+use Rattle.identify_command.specs.Requests.{Request, IsRequest, identify_row}
 use Rattle.check_command.specs.Answers.{CheckAnswer}
 use Rattle.check_command.specs.Requests.{check_row}
 use Rattle.check_command.specs.Requests as check_requests
 use Rattle.experiment_lists.specs.Words.{Lists}
-use Rattle.command_run.specs.Run.{Run}
-use Rattle.causal_cli.specs.Commands.{table}
+use Rattle.causal_cli.specs.Calls.{Call, IsCallOf, WrittenFor, WrittenForBoth}
 
--- a text was written for a request that these uses ask for, and on the bytes of the request's file it is one that shows what it is to
-pub record WrittenFor {Asked : Type 0} (asks_for : List Use → Asked → Type 0) (file : Asked → Text) (shows : Asked → (bytes text : List ℕ) → Type 0) (r : Run) (uses : List Use) : Type 0 where
-  pub request : Asked
-  pub text : List ℕ
-  pub asks : asks_for uses request
-  pub right : IfSome (r.held (file request)) (λ bytes. shows request bytes text)
-  pub whole : Appends r.out.before r.out.after text
+-- The formula equals the effect of the target in the diagram as drawn: in every model of the graph that was read, whatever the mechanisms of its
+-- hidden vertices, that is positive on the observed ones, at each assignment. Its terms are taken in that model.
+abbrev pub IsRightAsDrawn : ReadGraph → PlainTarget → PlainFormula → Type 0
+IsRightAsDrawn g t f = EqualsAsDrawn (graph_of g.graph) (has g.latent.bits) t f
 
--- The bytes hold a graph, and the text answers for it and for the sets x and y of these lists, in the observed graph.
--- Yes: it shows a formula without interventions, with a derivation that the checker accepts, which equals P(y | do(x)) at each assignment in each positive finite model that fits.
--- No: it shows a hedge with two positive finite models that fit, agree on all observations, and differ on P(y | do(x)).
-pub record IsRightText (form : Form) (bytes : List ℕ) (x y : Names) (o : Outcome) (text : List ℕ) : Type 0 where
+-- The text shows a formula for P(y | do(x)). It has no intervention, and a derivation that the checker accepts; it equals the effect at each
+-- assignment in each positive finite model that fits the observed graph q, and in the diagram as drawn.
+pub record ShowsRightFormula (form : Form) (g : ReadGraph) (q : MixedGraph) (x y : ℕ) (text : List ℕ) : Type 0 where
+  pub formula : PlainFormula
+  pub derivation : PlainDerivation
+  pub right : IsRightFormula q x y formula derivation
+  pub drawn : IsRightAsDrawn g (effect_on x y) formula
+  pub prints : text ≡ formula_text form (observed_names g) (effect_on x y) formula derivation
+
+-- The text shows a hedge for P(y | do(x)), whose two positive finite models fit the observed graph q, agree on all observations, and differ on the
+-- effect under every value of x.
+pub record ShowsRightHedge (form : Form) (g : ReadGraph) (q : MixedGraph) (x y : ℕ) (text : List ℕ) : Type 0 where
+  pub hedge : Hedge
+  pub models : CounterPair
+  pub right : IsRightHedge q x y hedge models
+  pub prints : text ≡ hedge_text form (observed_names g) x y hedge models
+
+-- the bytes hold a graph, in whose observed graph the lists of the request name two sets, for which the text is such a one; where nothing is given
+pub record IsShown (shows : Form → ReadGraph → MixedGraph → (x y : ℕ) → List ℕ → Type 0) (q : Request) (bytes text : List ℕ) : Type 0 where
   pub graph : ReadGraph
   pub holds : HoldsGraph bytes graph
-  pub answer : IdentifyAnswer form graph x y o text
+  pub seen : MixedGraph
+  pub observed : IsObservedGraph graph seen
+  pub sets : IsOfSets (effect_lists graph q.x q.y) (λ x y. shows q.form graph seen x y text)
 
--- a right text was written for the bytes of the file, and for the lists and the form, that these uses ask for
-abbrev pub Identified : Run → List Use → Outcome → Type 0
-Identified r uses o = WrittenFor IsRequest (λ q. q.file) (λ q bytes text. IsRightText q.form bytes q.x q.y o text) r uses
+-- such a text was written for the bytes of the file that these uses ask for; nothing is said where they give a condition
+abbrev pub Identified : (Form → ReadGraph → MixedGraph → (x y : ℕ) → List ℕ → Type 0) → Call → List Use → Type 0
+Identified shows = WrittenFor IsRequest (λ q. q.file) (λ q bytes text. unwrap_or q.given [] ≡ [] → IsShown shows q bytes text)
 
 -- where the words ask for `identify` without a condition, status 0 says that a right formula was written, and status 1 that a right hedge was
-pub record Headline (r : Run) (code : ℕ) : Type 0 where
-  pub formula : (uses : List Use) → IsCall table r.words identify_row uses → value_of uses (codes "given") ≡ None → code ≡ 0 → Identified r uses Yes
-  pub hedge : (uses : List Use) → IsCall table r.words identify_row uses → value_of uses (codes "given") ≡ None → code ≡ 1 → Identified r uses No
+pub record Headline (r : Call) (code : ℕ) : Type 0 where
+  pub formula : (uses : List Use) → IsCallOf identify_row r.words uses → code ≡ 0 → Identified ShowsRightFormula r uses
+  pub hedge : (uses : List Use) → IsCallOf identify_row r.words uses → code ≡ 1 → Identified ShowsRightHedge r uses
 
 -- The bytes of the file hold a graph, and those of the certificate are accepted in its observed graph, as the text says:
 -- each term of its formula is observed or under one of the experiments, and it equals its effect at each assignment in each positive finite model that fits,
@@ -50,13 +71,9 @@ pub record IsRightCertificate (experiments : Lists) (bytes other : List ℕ) (te
   pub accepted : CheckAnswer graph experiments other Yes text
 
 -- a certificate that these uses ask about was accepted for the file and the experiments that they ask for, of which there may be none, and the text was written
-pub record Checked (r : Run) (uses : List Use) : Type 0 where
-  pub request : check_requests.Request
-  pub text : List ℕ
-  pub asks : check_requests.IsRequest uses request
-  pub right : IfSome (r.held request.file) (λ bytes. IfSome (r.held request.certificate) (λ other. IsRightCertificate request.experiments bytes other text))
-  pub whole : Appends r.out.before r.out.after text
+abbrev pub Checked : Call → List Use → Type 0
+Checked = WrittenForBoth check_requests.IsRequest (λ q. q.file) (λ q. q.certificate) (λ q. IsRightCertificate q.experiments)
 
 -- where the words ask for `check`, status 0 says that the certificate is right
-abbrev pub HeadlineOfCheck : Run → ℕ → Type 0
-HeadlineOfCheck r code = (uses : List Use) → IsCall table r.words check_row uses → code ≡ 0 → Checked r uses
+abbrev pub HeadlineOfCheck : Call → ℕ → Type 0
+HeadlineOfCheck r code = (uses : List Use) → IsCallOf check_row r.words uses → code ≡ 0 → Checked r uses

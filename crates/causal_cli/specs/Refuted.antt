@@ -1,20 +1,21 @@
--- What status 1 of `identify`, `evaluate`, `surrogate`, `separate` and `rule`, and status 0 of `check` on a hedge, say of the diagram as drawn, with its hidden vertices.
-use Rattle.std.specs.Prelude.{ℕ, ◌≡◌, true, List, [], ◌∷◌, IsTrue, IsSome, IfSome, Some, None}
-use Rattle.std.specs.Io.KnownBytes.{Appends}
+-- What status 1 of `identify`, `evaluate`, `surrogate`, `separate`, `rule` and `adjust`, and status 0 of `check` on a hedge, say of the diagram as
+-- drawn, with its hidden vertices.
+use Rattle.std.specs.Prelude.{ℕ, ◌≡◌, true, List, [], ◌∷◌, IsTrue, IsSome, Some, None}
 use Rattle.mixed_graph.specs.Bits.{has}
 use Rattle.mixed_graph.specs.Graphs.{MixedGraph}
 use Rattle.mixed_graph.specs.Shown.{graph_of}
-use Rattle.word_forms.specs.Form.{Use, IsCall}
+use Rattle.command_words.specs.Form.{Use}
 use Rattle.prob_expr.specs.Terms.{is_do_free}
-use Rattle.prob_expr.specs.Tree.{PlainFormula, PlainTarget}
-use Rattle.do_rules.specs.Rules.{left_of, right_of}
+use Rattle.prob_expr.specs.Tree.{PlainFormula, PlainTarget, effect_on}
+use Rattle.do_rules.specs.Rules.{AreThreeSets, left_of, right_of}
 use Rattle.dag_reader.specs.declared.graph.ReadGraph.{ReadGraph}
 use Rattle.targets.specs.Targets.{AreSets, AreRuleSets}
 use Rattle.certificate.specs.Plain as certificates
-use Rattle.hidden_theory.specs.Laws.{EqualsAsDrawn}
-use Rattle.hidden_theory.specs.Statements.{AreDependentAsDrawn, DifferSomewhereAsDrawn}
-use Rattle.hidden_theory.specs.Unfolding.{NotIdentifiableAsDrawn, NotIdentifiableOverAsDrawn}
-use Rattle.id_recursion.specs.Answers.{effect_on}
+use Rattle.hidden_models.specs.FoldingLaws.{EqualsAsDrawn}
+use Rattle.hidden_models.specs.Statements.{AreDependentAsDrawn, DifferSomewhereAsDrawn}
+use Rattle.hidden_models.specs.Unfolding.{NotIdentifiableAsDrawn, NotIdentifiableOverAsDrawn, FailsSomewhereAsDrawn}
+use Rattle.adjustment.specs.Formulas.{adjustment_formula}
+use Rattle.replies.specs.declared.outcome.Outcome.TheVariants.{Yes, No}
 use Rattle.replies.specs.Observed.{Names, HoldsGraph, IsObservedGraph, observed_names}
 use Rattle.effect_answers.specs.Effects.{effect_lists, IsOfSets}
 use Rattle.effect_answers.specs.Hedges as hedges
@@ -22,7 +23,7 @@ use Rattle.identify_command.specs.declared.form.Form.{Form}
 use Rattle.identify_command.specs.Answers.{ShowsHedge}
 use Rattle.identify_command.specs.Conditions.{target_lists, AreTargetSets, ShowsJoint}
 use Rattle.identify_command.specs.Requests.{IsRequest, identify_row}
-use Rattle.check_command.specs.Answers.{IsRead, AreExperimentsOn}
+use Rattle.check_command.specs.Answers.{HoldsCertificate, CheckAnswer, AreExperimentsOn}
 use Rattle.check_command.specs.Requests.{check_row}
 use Rattle.check_command.specs.Requests as check_requests
 use Rattle.evaluate_command.specs.Requests.{evaluate_row}
@@ -33,19 +34,22 @@ use Rattle.surrogate_command.specs.Asked.{surrogate_lists}
 use Rattle.surrogate_command.specs.Requests.{surrogate_row}
 use Rattle.surrogate_command.specs.Requests as surrogate_requests
 use Rattle.surrogate_command.specs.Sets.{AreSurrogateSets}
-use Rattle.separate_command.specs.Answers.{separation_lists}
-use Rattle.separate_command.specs.Answers as separations
-use Rattle.separate_command.specs.Requests.{separate_row}
-use Rattle.separate_command.specs.Requests as separate_requests
-use Rattle.rule_command.specs.Answers.{rule_lists}
-use Rattle.rule_command.specs.Answers as rules
-use Rattle.rule_command.specs.Requests.{rule_row}
-use Rattle.rule_command.specs.Requests as rule_requests
-use Rattle.command_run.specs.Run.{Run}
-use Rattle.causal_cli.specs.Commands.{table}
-use Rattle.causal_cli.specs.Headline.{WrittenFor}
+use Rattle.separation_commands.specs.SeparateAnswers.{separation_lists}
+use Rattle.separation_commands.specs.SeparateAnswers as separations
+use Rattle.separation_commands.specs.SeparateRequests.{separate_row}
+use Rattle.separation_commands.specs.SeparateRequests as separate_requests
+use Rattle.separation_commands.specs.RuleAnswers.{rule_lists}
+use Rattle.separation_commands.specs.RuleAnswers as rules
+use Rattle.separation_commands.specs.RuleRequests.{rule_row}
+use Rattle.separation_commands.specs.RuleRequests as rule_requests
+use Rattle.adjust_command.specs.Answers.{adjust_lists, SetsAnswer}
+use Rattle.adjust_command.specs.Queries.{Query, by_set, by_back_door, listing}
+use Rattle.adjust_command.specs.Requests.{adjust_row}
+use Rattle.adjust_command.specs.Requests as adjust_requests
+use Rattle.causal_cli.specs.Calls.{Call, IsCallOf, WrittenFor, WrittenForBoth}
 
--- In the diagram as drawn the target isn't identifiable: two models of the graph that was read, positive on the observed vertices, agree on all observations and differ on the target, under every value of its x.
+-- In the diagram as drawn the target isn't identifiable: two models of the graph that was read, positive on the observed vertices, agree on all
+-- observations and differ on the target, under every value of its x.
 abbrev pub IsNotIdentifiable : ReadGraph → PlainTarget → Type 0
 IsNotIdentifiable g t = NotIdentifiableAsDrawn (graph_of g.graph) (has g.latent.bits) t
 
@@ -53,13 +57,15 @@ IsNotIdentifiable g t = NotIdentifiableAsDrawn (graph_of g.graph) (has g.latent.
 abbrev pub HasNoFormulaAsDrawn : ReadGraph → PlainTarget → Type 0
 HasNoFormulaAsDrawn g t = (f : PlainFormula) → is_do_free f ≡ true → EqualsAsDrawn (graph_of g.graph) (has g.latent.bits) t f → ⊥
 
--- Nor is it by the experiments on the sets zs: the two models agree under each of them too, so no formula whose terms are observed or under one of them equals the target.
+-- Nor is it by the experiments on the sets zs: the two models agree under each of them too, so no formula whose terms are observed or under one of
+-- them equals the target.
 abbrev pub IsNotIdentifiableOver : ReadGraph → List ℕ → PlainTarget → Type 0
 IsNotIdentifiableOver g zs t = NotIdentifiableOverAsDrawn (graph_of g.graph) (has g.latent.bits) zs t
 
 -- ---- identify and evaluate
 
--- the bytes hold a graph, the lists name two sets, and the text shows, in the words of its command, a hedge for an effect that isn't identifiable in the diagram as drawn
+-- the bytes hold a graph, the lists name two sets, and the text shows, in the words of its command, a hedge for an effect that isn't identifiable in
+-- the diagram as drawn
 pub record IsHedgeAsDrawn (shows : MixedGraph → List (List ℕ) → (x y : ℕ) → List ℕ → Type 0) (bytes : List ℕ) (x y : Names) (text : List ℕ) : Type 0 where
   pub graph : ReadGraph
   pub holds : HoldsGraph bytes graph
@@ -88,32 +94,31 @@ IsUnidentifiedAsDrawn form bytes x y (Some []) text = IsHedgeAsDrawn (ShowsHedge
 IsUnidentifiedAsDrawn form bytes x y (Some (n ∷ ns)) text = IsJointAsDrawn form bytes x y (n ∷ ns) text
 
 -- such a text was written for the bytes of the file that these uses ask for, where they and those of the counts are told
-pub record UnevaluatedAsDrawn (r : Run) (uses : List Use) : Type 0 where
-  pub request : evaluate_requests.Request
-  pub text : List ℕ
-  pub asks : evaluate_requests.IsRequest uses request
-  pub right : IfSome (r.held request.file) (λ bytes. IfSome (r.held request.counts) (λ other. IsHedgeAsDrawn hedges.ShowsHedge bytes request.x request.y text))
-  pub whole : Appends r.out.before r.out.after text
+abbrev pub UnevaluatedAsDrawn : Call → List Use → Type 0
+UnevaluatedAsDrawn = WrittenForBoth evaluate_requests.IsRequest (λ q. q.file) (λ q. q.counts)
+    (λ q bytes other text. IsHedgeAsDrawn hedges.ShowsHedge bytes q.x q.y text)
 
 -- ---- check
 
--- the bytes of the file hold a graph; and where those of the certificate are the certificate of a hedge, its effect isn't identifiable in the diagram as drawn, nor by the experiments that the lists name
-pub record IsHedgeCertificateAsDrawn (experiments : Lists) (bytes other : List ℕ) : Type 0 where
+-- the bytes of the file hold a graph; those of the certificate are accepted in it; and where they are the certificate of a hedge, its effect isn't
+-- identifiable in the diagram as drawn, nor by the experiments that the lists name
+pub record IsHedgeCertificateAsDrawn (experiments : Lists) (bytes other text : List ℕ) : Type 0 where
   pub graph : ReadGraph
   pub holds : HoldsGraph bytes graph
-  pub not_identifiable : (t : PlainTarget) (h : certificates.PlainHedge) → IsRead (observed_names graph) other (certificates.hedge t h) → IsNotIdentifiable graph (effect_on t.x t.y)
-  pub not_identifiable_over : (t : PlainTarget) (h : certificates.PlainHedge) → IsRead (observed_names graph) other (certificates.hedge t h)
+  pub accepted : CheckAnswer graph experiments other Yes text
+  pub not_identifiable : (t : PlainTarget) (h : certificates.PlainHedge) → HoldsCertificate (observed_names graph) other (certificates.hedge t h)
+      → IsNotIdentifiable graph (effect_on t.x t.y)
+  pub not_identifiable_over : (t : PlainTarget) (h : certificates.PlainHedge) → HoldsCertificate (observed_names graph) other (certificates.hedge t h)
       → (zs : List ℕ) → AreExperimentsOn graph experiments zs → IsNotIdentifiableOver graph zs (effect_on t.x t.y)
 
--- a certificate that these uses ask about is so for the file and the experiments that they ask for
-pub record CheckedHedgeAsDrawn (r : Run) (uses : List Use) : Type 0 where
-  pub request : check_requests.Request
-  pub asks : check_requests.IsRequest uses request
-  pub right : IfSome (r.held request.file) (λ bytes. IfSome (r.held request.certificate) (λ other. IsHedgeCertificateAsDrawn request.experiments bytes other))
+-- such a text was written for the bytes of the file and of the certificate, and for the experiments, that these uses ask for
+abbrev pub CheckedHedgeAsDrawn : Call → List Use → Type 0
+CheckedHedgeAsDrawn = WrittenForBoth check_requests.IsRequest (λ q. q.file) (λ q. q.certificate) (λ q. IsHedgeCertificateAsDrawn q.experiments)
 
 -- ---- surrogate
 
--- The bytes hold a graph, the lists name these sets and experiments, the text shows where the procedure stops, and the effect isn't identifiable in the diagram as drawn.
+-- The bytes hold a graph, the lists name these sets and experiments, the text shows where the procedure stops, and the effect isn't identifiable in
+-- the diagram as drawn.
 -- Where there is a common hedge, it isn't by the experiments either.
 pub record IsStopAsDrawn (q : surrogate_requests.Request) (bytes text : List ℕ) : Type 0 where
   pub graph : ReadGraph
@@ -153,19 +158,48 @@ pub record IsFailureAsDrawn (q : rule_requests.Request) (bytes text : List ℕ) 
   pub doing : ℕ
   pub z : ℕ
   pub given : ℕ
-  pub sets : AreRuleSets (rule_lists graph q.y q.done q.z q.given) y doing z given
+  pub sets : AreRuleSets (rule_lists graph q.y q.x q.z q.given) y doing z given
   pub shows : rules.ShowsOpenPath q.rule seen (observed_names graph) y doing z given text
   pub fails : DifferSomewhereAsDrawn (graph_of graph.graph) (has graph.latent.bits) (left_of q.rule (has doing) (has y) (has z) (has given))
       (right_of q.rule (has doing) (has y) (has z) (has given))
 
+-- ---- adjust
+
+-- What is said of models, by the query. By the adjustment criterion: the adjustment formula of z isn't the effect of x on y in some model of the
+-- diagram as drawn.
+-- Where sets are listed: that of no set is it in all of them. By the back-door criterion nothing is: the formula may be right for other reasons.
+abbrev pub RefutesAdjustment : Query → ReadGraph → (seen : MixedGraph) → (x y z : ℕ) → Type 0
+RefutesAdjustment (by_set set) g q x y z = FailsSomewhereAsDrawn (graph_of g.graph) (has g.latent.bits) (effect_on x y) (adjustment_formula x y z)
+RefutesAdjustment (by_back_door set) g q x y z = Unit {0}
+RefutesAdjustment (listing most) g q x y z = (w : ℕ) → AreThreeSets q.vertices (has x) (has y) (has w)
+    → EqualsAsDrawn (graph_of g.graph) (has g.latent.bits) (effect_on x y) (adjustment_formula x y w) → ⊥
+
+-- the bytes hold a graph, the lists name these sets, the text is the answer to the query that nothing may be adjusted for, or not z, and this is said of models
+pub record IsNoAdjustmentAsDrawn (q : adjust_requests.Request) (bytes text : List ℕ) : Type 0 where
+  pub graph : ReadGraph
+  pub holds : HoldsGraph bytes graph
+  pub seen : MixedGraph
+  pub observed : IsObservedGraph graph seen
+  pub x : ℕ
+  pub y : ℕ
+  pub z : ℕ
+  pub sets : AreSets (adjust_lists graph q.x q.y q.query) x y z
+  pub shows : SetsAnswer q.query seen (observed_names graph) x y z No text
+  pub refutes : RefutesAdjustment q.query graph seen x y z
+
 -- ---- a run
 
--- where the words ask for `identify`, `evaluate`, `surrogate`, `separate` or `rule`, status 1 says that what is refuted is so in the diagram as drawn; and status 0 of `check` says so of a hedge
-pub record RefutedAsDrawn (r : Run) (code : ℕ) : Type 0 where
-  pub identified : (uses : List Use) → IsCall table r.words identify_row uses → code ≡ 1
+-- where the words ask for `identify`, `evaluate`, `surrogate`, `separate`, `rule` or `adjust`, status 1 says that what is refuted is so in the
+-- diagram as drawn; and status 0 of `check` says so of a hedge
+pub record RefutedAsDrawn (r : Call) (code : ℕ) : Type 0 where
+  pub identified : (uses : List Use) → IsCallOf identify_row r.words uses → code ≡ 1
       → WrittenFor IsRequest (λ q. q.file) (λ q bytes text. IsUnidentifiedAsDrawn q.form bytes q.x q.y q.given text) r uses
-  pub evaluated : (uses : List Use) → IsCall table r.words evaluate_row uses → code ≡ 1 → UnevaluatedAsDrawn r uses
-  pub checked : (uses : List Use) → IsCall table r.words check_row uses → code ≡ 0 → CheckedHedgeAsDrawn r uses
-  pub surrogated : (uses : List Use) → IsCall table r.words surrogate_row uses → code ≡ 1 → WrittenFor surrogate_requests.IsRequest (λ q. q.file) IsStopAsDrawn r uses
-  pub separated : (uses : List Use) → IsCall table r.words separate_row uses → code ≡ 1 → WrittenFor separate_requests.IsRequest (λ q. q.file) IsDependenceAsDrawn r uses
-  pub ruled : (uses : List Use) → IsCall table r.words rule_row uses → code ≡ 1 → WrittenFor rule_requests.IsRequest (λ q. q.file) IsFailureAsDrawn r uses
+  pub evaluated : (uses : List Use) → IsCallOf evaluate_row r.words uses → code ≡ 1 → UnevaluatedAsDrawn r uses
+  pub checked : (uses : List Use) → IsCallOf check_row r.words uses → code ≡ 0 → CheckedHedgeAsDrawn r uses
+  pub surrogated : (uses : List Use) → IsCallOf surrogate_row r.words uses → code ≡ 1
+      → WrittenFor surrogate_requests.IsRequest (λ q. q.file) IsStopAsDrawn r uses
+  pub separated : (uses : List Use) → IsCallOf separate_row r.words uses → code ≡ 1
+      → WrittenFor separate_requests.IsRequest (λ q. q.file) IsDependenceAsDrawn r uses
+  pub ruled : (uses : List Use) → IsCallOf rule_row r.words uses → code ≡ 1 → WrittenFor rule_requests.IsRequest (λ q. q.file) IsFailureAsDrawn r uses
+  pub adjusted : (uses : List Use) → IsCallOf adjust_row r.words uses → code ≡ 1
+      → WrittenFor adjust_requests.IsRequest (λ q. q.file) IsNoAdjustmentAsDrawn r uses

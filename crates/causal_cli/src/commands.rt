@@ -1,12 +1,12 @@
 // The commands: each one's row and request stand in its crate.
 
 ghost use Rattle.std.specs.Prelude.{◌≡◌, map, option_map};
-ghost use Rattle.word_forms.specs.Form.{row_named};
-ghost use Rattle.word_forms.specs.Views.{row_of};
-ghost use Rattle.word_values.specs.Readable.{IsReadable};
+ghost use Rattle.command_words.specs.Form.{row_named};
+ghost use Rattle.command_words.specs.Views.{row_of};
+ghost use Rattle.command_words.specs.Readable.{IsReadable};
 ghost use Rattle.causal_cli.specs.Commands.{all_commands, row_for, table};
 
-use word_forms::Entry;
+use command_words::forms::Entry;
 
 /// A command.
 #[derive(Clone, Copy)]
@@ -19,8 +19,8 @@ pub enum Command {
     Adjust,
     Evaluate,
     Equivalent,
-    Implications,
     Survey,
+    Implications,
     Surrogate,
 }
 
@@ -33,22 +33,22 @@ static COMMANDS: [Command; 11] = [
     Command::Adjust,
     Command::Evaluate,
     Command::Equivalent,
-    Command::Implications,
     Command::Survey,
+    Command::Implications,
     Command::Surrogate,
 ];
 
 static TABLE: [Entry; 11] = [
-    graph_command::ROW,
-    separate_command::ROW,
-    rule_command::ROW,
+    separation_commands::graph::ROW,
+    separation_commands::separate::ROW,
+    separation_commands::rule::ROW,
     identify_command::ROW,
     check_command::ROW,
     adjust_command::ROW,
     evaluate_command::ROW,
     equivalent_command::ROW,
-    implications_command::ROW,
     survey_command::ROW,
+    implications_command::ROW,
     surrogate_command::ROW,
 ];
 
@@ -57,16 +57,16 @@ fn row_for(command: Command) -> Entry
     ensures { row_of result ≡ row_for command }
 {
     match command {
-        Command::Graph => graph_command::ROW,
-        Command::Separate => separate_command::ROW,
-        Command::Rule => rule_command::ROW,
+        Command::Graph => separation_commands::graph::ROW,
+        Command::Separate => separation_commands::separate::ROW,
+        Command::Rule => separation_commands::rule::ROW,
         Command::Identify => identify_command::ROW,
         Command::Check => check_command::ROW,
         Command::Adjust => adjust_command::ROW,
         Command::Evaluate => evaluate_command::ROW,
         Command::Equivalent => equivalent_command::ROW,
-        Command::Implications => implications_command::ROW,
         Command::Survey => survey_command::ROW,
+        Command::Implications => implications_command::ROW,
         Command::Surrogate => surrogate_command::ROW,
     }
 }

@@ -1,7 +1,7 @@
 // The inputs that words may ask for.
 
 ghost use Rattle.std.specs.Prelude.{◌≡◌, IfOk, IsErrOf, Some, None, option_map};
-ghost use Rattle.word_forms.specs.Views.{texts_of};
+ghost use Rattle.command_words.specs.Views.{texts_of};
 ghost use Rattle.command_run.specs.Commands as asked;
 ghost use Rattle.command_run.specs.Commands.{Asks};
 ghost use Rattle.causal_cli.specs.Commands.{commands, request_of};
@@ -9,7 +9,7 @@ ghost use Rattle.causal_cli.specs.Inputs.{AreInputs, AreInputsOf};
 
 use crate::request::Request;
 use command_run::read_request;
-use request_values::RequestFault;
+use command_words::typed::RequestFault;
 use std::alloc::Global;
 
 /// The most bytes of a certificate, and of a table of counts.

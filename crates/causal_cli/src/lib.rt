@@ -15,6 +15,6 @@ pub use inputs::{Inputs, inputs_of};
 pub use request::Request;
 pub use second::SecondInput;
 pub use sure::run_surely;
-pub use survey_graph::survey_graph;
+pub use survey_command::random_graph::survey_graph;
 pub use theory::laws;
 pub use top::run;

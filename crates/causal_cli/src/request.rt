@@ -1,10 +1,10 @@
 // What words ask for, and what a request gives on its graph.
 
 ghost use Rattle.std.specs.Prelude.{◌≡◌, List, None, IfOk, IsErrOf, map, option_map};
-ghost use Rattle.word_forms.specs.Form.{Use, row_named};
-ghost use Rattle.word_forms.specs.Views.{row_of};
-ghost use Rattle.word_values.specs.Gives.{HoldsCall};
-ghost use Rattle.word_values.specs.Readable.{IsReadable};
+ghost use Rattle.command_words.specs.Form.{Use, row_named};
+ghost use Rattle.command_words.specs.Views.{row_of};
+ghost use Rattle.command_words.specs.Gives.{HoldsCall};
+ghost use Rattle.command_words.specs.Readable.{IsReadable};
 ghost use Rattle.dag_reader.specs.declared.graph.ReadGraph.{ReadGraph as Read};
 ghost use Rattle.command_run.specs.Lines.{words_line};
 ghost use Rattle.command_run.specs.Commands as asked;
@@ -17,28 +17,28 @@ use crate::second::SecondInput;
 use adjust_command::adjust_reply;
 use check_command::accept_experiments;
 use command_run::{AfterFile, AfterWords};
+use command_words::forms::Entry;
+use command_words::typed::RequestFault;
+use command_words::values::Values;
 use dag_reader::ReadGraph;
 use equivalent_command::accept_first;
 use evaluate_command::identify_first;
-use graph_command::graph_reply;
 use identify_command::identify_reply;
 use implications_command::{counted_pairs, pairs_reply};
 use replies::Reply;
-use request_values::RequestFault;
-use rule_command::rule_reply;
-use separate_command::separate_reply;
+use separation_commands::graph::graph_reply;
+use separation_commands::rule::rule_reply;
+use separation_commands::separate::separate_reply;
 use std::alloc::{AllocError, Global};
 use surrogate_command::surrogate_reply;
 use survey_command::survey_reply;
-use word_forms::Entry;
-use word_values::Values;
 
 /// What words ask for.
 #[derive(Drop)]
 pub enum Request<'a> {
-    Graph(graph_command::Request<'a>),
-    Separate(separate_command::Request<'a>),
-    Rule(rule_command::Request<'a>),
+    Graph(separation_commands::graph::Request<'a>),
+    Separate(separation_commands::separate::Request<'a>),
+    Rule(separation_commands::rule::Request<'a>),
     Identify(identify_command::Request<'a>),
     Check(check_command::Request<'a>),
     Adjust(adjust_command::Request<'a>),
@@ -70,7 +70,7 @@ impl<'a> command_run::Request<'a> for Request<'a> {
     fn words_line() -> &'static [u8]
         ensures { result.now ≡ words_line commands }
     {
-        b"causal: words not understood; commands are graph separate rule identify check adjust evaluate equivalent implications survey surrogate\n"
+        b"causal: words not understood; commands are graph separate rule identify check adjust evaluate equivalent survey implications surrogate\n"
     }
 
     fn named(name: &str) -> Option<Command>
@@ -119,9 +119,13 @@ fn read_values<'a>(
     ensures none { (uses : List Use) → HoldsCall (row_for command) uses values.now → IsErrOf result RequestFault.NotUnderstood → AsksNothing commands command uses }
 {
     match command {
-        Command::Graph => Ok(Request::Graph(graph_command::Request::read(values)?)),
-        Command::Separate => Ok(Request::Separate(separate_command::Request::read(alloc, values)?)),
-        Command::Rule => Ok(Request::Rule(rule_command::Request::read(alloc, values)?)),
+        Command::Graph => Ok(Request::Graph(separation_commands::graph::Request::read(values)?)),
+        Command::Separate => Ok(Request::Separate(separation_commands::separate::Request::read(
+            alloc, values,
+        )?)),
+        Command::Rule => Ok(Request::Rule(separation_commands::rule::Request::read(
+            alloc, values,
+        )?)),
         Command::Identify => Ok(Request::Identify(identify_command::Request::read(alloc, values)?)),
         Command::Check => Ok(Request::Check(check_command::Request::read(alloc, values)?)),
         Command::Adjust => Ok(Request::Adjust(adjust_command::Request::read(alloc, values)?)),
@@ -162,7 +166,7 @@ fn reply_on<'a>(
             &graph,
             asked.rule,
             &asked.y,
-            &asked.done,
+            &asked.x,
             &asked.z,
             &asked.given,
         )),

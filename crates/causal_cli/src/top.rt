@@ -1,7 +1,10 @@
+//! The run of all commands, with the headline.
+
 ghost use Rattle.std.specs.Prelude.{◌≡◌};
-ghost use Rattle.word_forms.specs.Views.{texts_of};
+ghost use Rattle.command_words.specs.Views.{texts_of};
 ghost use Rattle.command_run.specs.Run.{Ended, run_on, stream_of, reads_of, ReadsAsAsked};
 ghost use Rattle.command_run.specs.Complete.{Complete};
+ghost use Rattle.causal_cli.specs.Calls.{call_on};
 ghost use Rattle.causal_cli.specs.Commands.{commands};
 ghost use Rattle.causal_cli.specs.Headline.{Headline, HeadlineOfCheck};
 ghost use Rattle.causal_cli.specs.Drawn.{RightAsDrawn};
@@ -25,14 +28,10 @@ pub fn run<S: Shelf, O: Sink, E: Sink>(
         (stream_of (O.written out.old) (O.written out.new) (O.faults out.old) (O.faults out.new))) (stream_of (E.written err.old) (E.written err.new) (E.faults err.old) (E.faults err.new)) result.code }
     ensures complete { Complete commands (run_on (texts_of words.now) (S.held shelf.old) (S.lacks shelf.old) (S.faults shelf.old) (S.faults shelf.new)
         (stream_of (O.written out.old) (O.written out.new) (O.faults out.old) (O.faults out.new))) result.code }
-    ensures headline { Headline (run_on (texts_of words.now) (S.held shelf.old) (S.lacks shelf.old) (S.faults shelf.old) (S.faults shelf.new)
-        (stream_of (O.written out.old) (O.written out.new) (O.faults out.old) (O.faults out.new))) result.code }
-    ensures checked { HeadlineOfCheck (run_on (texts_of words.now) (S.held shelf.old) (S.lacks shelf.old) (S.faults shelf.old) (S.faults shelf.new)
-        (stream_of (O.written out.old) (O.written out.new) (O.faults out.old) (O.faults out.new))) result.code }
-    ensures drawn { RightAsDrawn (run_on (texts_of words.now) (S.held shelf.old) (S.lacks shelf.old) (S.faults shelf.old) (S.faults shelf.new)
-        (stream_of (O.written out.old) (O.written out.new) (O.faults out.old) (O.faults out.new))) result.code }
-    ensures refuted { RefutedAsDrawn (run_on (texts_of words.now) (S.held shelf.old) (S.lacks shelf.old) (S.faults shelf.old) (S.faults shelf.new)
-        (stream_of (O.written out.old) (O.written out.new) (O.faults out.old) (O.faults out.new))) result.code }
+    ensures headline { Headline (call_on (texts_of words.now) (S.held shelf.old) (O.written out.old) (O.written out.new)) result.code }
+    ensures checked { HeadlineOfCheck (call_on (texts_of words.now) (S.held shelf.old) (O.written out.old) (O.written out.new)) result.code }
+    ensures drawn { RightAsDrawn (call_on (texts_of words.now) (S.held shelf.old) (O.written out.old) (O.written out.new)) result.code }
+    ensures refuted { RefutedAsDrawn (call_on (texts_of words.now) (S.held shelf.old) (O.written out.old) (O.written out.new)) result.code }
     ensures reads { ReadsAsAsked commands (run_on (texts_of words.now) (S.held shelf.old) (S.lacks shelf.old) (S.faults shelf.old) (S.faults shelf.new)
         (stream_of (O.written out.old) (O.written out.new) (O.faults out.old) (O.faults out.new))) (reads_of (S.reads shelf.old) (S.reads shelf.new) (S.given shelf.old) (S.given shelf.new)) }
     ensures holds { S.held shelf.new ≡ S.held shelf.old }

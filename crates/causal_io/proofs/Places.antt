@@ -8,7 +8,8 @@ use Rattle.causal_io.specs.declared.faults.FaultCount.{FaultCount}
 use Rattle.causal_io.specs.Words.{count_at, times_of}
 
 -- two names at one place are one
-pub names_apart : {X : Type 0} (name : X → List ℕ) (xs : List X) (n m : List ℕ) (i : ℕ) → position (λ x. bytes_eq (name x) n) xs ≡ Some i → position (λ x. bytes_eq (name x) m) xs ≡ Some i → n ≡ m
+pub names_apart : {X : Type 0} (name : X → List ℕ) (xs : List X) (n m : List ℕ) (i : ℕ) → position (λ x. bytes_eq (name x) n) xs ≡ Some i
+    → position (λ x. bytes_eq (name x) m) xs ≡ Some i → n ≡ m
 names_apart name [] n m i p q = cc
 names_apart name (x ∷ xs) n m i p q =
     let a = (position-Some (λ t. bytes_eq (name t) n) (x ∷ xs) i x p).1 in
@@ -24,6 +25,7 @@ slice_get-set_other (x ∷ xs) (suc i) zero v apart = refl
 slice_get-set_other (x ∷ xs) (suc i) (suc j) v apart = slice_get-set_other xs i j v (λ e. apart (ap suc e))
 
 -- a count that is written leaves the others
-pub count_at-set_other : (counts : List FaultCount) (i : ℕ) (v : FaultCount) (p : Option ℕ) → (p ≡ Some i → ⊥) → count_at (slice_set counts i v) p ≡ count_at counts p
+pub count_at-set_other : (counts : List FaultCount) (i : ℕ) (v : FaultCount) (p : Option ℕ) → (p ≡ Some i → ⊥) → count_at (slice_set counts i v) p
+    ≡ count_at counts p
 count_at-set_other counts i v None apart = refl
 count_at-set_other counts i v (Some j) apart = ap times_of (slice_get-set_other counts i j v (λ e. apart (ap Some e)))

@@ -1,5 +1,6 @@
 -- Tables of 64 entries, and pairs of entries.
-use Rattle.std.proofs.Common.{◌≡◌, ◌≢◌, ◌<◌, ◌≤◌, ◌+◌, ℕ, inl, inr, List, [], ◌∷◌, ◌++◌, length, get_or, take, set, replicate, refl, ap, ap₂, ◌∙◌, arith, length-take, get_or-set_other}
+use Rattle.std.proofs.Common.{◌≡◌, ◌≢◌, ◌<◌, ◌≤◌, ◌+◌, ℕ, inl, inr, List, [], ◌∷◌, ◌++◌, length, get_or, take, set, replicate, refl, ap, ap₂, ◌∙◌}
+use Rattle.std.proofs.Common.{arith, length-take, get_or-set_other}
 use Rattle.std.specs.List.{zip}
 use Rattle.std.proofs.lemmas.Bool.{cases_lt}
 use Rattle.std.proofs.lemmas.List.{get_or-replicate, get_or_past, take_more_set}

@@ -5,7 +5,7 @@ use Rattle.prob_expr.specs.Tree.{PlainTarget, PlainFormula}
 use Rattle.prob_expr.specs.View.{target_view, formula_view}
 use Rattle.do_derivation.specs.Plans.{PlainDerivation}
 use Rattle.do_derivation.specs.View.{derivation_view}
-use Rattle.districts.specs.declared.lists.Links.{Links}
+use Rattle.hedge.specs.declared.joined_sets.lists.Links.{Links}
 use Rattle.hedge.specs.declared.hedge.Hedge.{Hedge}
 use Rattle.certificate.specs.declared.values.Certificate.{Certificate}
 use Rattle.certificate.specs.declared.values.Certificate.TheVariants as cases

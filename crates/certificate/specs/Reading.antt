@@ -1,10 +1,11 @@
 -- Reading a certificate: the keys in their order, each with what it has to be, and the first fault.
-use Rattle.std.specs.Prelude.{ℕ, ◌^◌, ◌==◌, Bool, false, ◌&&◌, ◌||◌, List, [], ◌∷◌, ◌++◌, length, Option, Some, None, is_ok, option_and_then, Result, Ok, Err, if◌then◌else◌, codes}
+use Rattle.std.specs.Prelude.{ℕ, ◌^◌, ◌==◌, Bool, false, ◌&&◌, ◌||◌, List, [], ◌∷◌, ◌++◌, length, Option, Some, None, is_ok, option_and_then, Result}
+use Rattle.std.specs.Prelude.{Ok, Err, if◌then◌else◌, codes}
 use Rattle.std.specs.Result.{result_ok}
 use Rattle.std.specs.Str.{bytes_eq, is_utf8}
 use Rattle.prob_expr.specs.Tree.{Tree, PlainTarget, PlainFormula}
 use Rattle.prob_expr.specs.Check.{check_tree, cap}
-use Rattle.mixed_graph.specs.Masks.{join}
+use Rattle.mixed_graph.specs.Masks.{union}
 use Rattle.do_derivation.specs.Plans.{PlainLemma, PlainDerivation}
 use Rattle.expr_text.specs.Read.{expr_of}
 use Rattle.serde_json.specs.Data.{Data, Items, no_items, item, Members}
@@ -89,7 +90,7 @@ unfoldable pub target_in : List (List ℕ) → (version : ℕ) → Data → Resu
 target_in names version d = do
   x ← member_by keys.X (codes "x") (set_in names 0) d
   y ← member_by keys.Y (codes "y") (filled_set_in names x) d
-  given ← given_in names version (join x y) d
+  given ← given_in names version (union x y) d
   Ok (record { x = x; y = y; given = given })
 
 -- main names no definition that isn't there

@@ -1,10 +1,12 @@
+//! Why a text isn't read as a certificate.
+
 ghost use Rattle.std.specs.Prelude.{◌≡◌, ◌++◌, codes, IfOk, OnOk};
-ghost use Rattle.name_text.specs.Lines.{line_of};
+ghost use Rattle.answer_text.specs.Lines.{line_of};
 ghost use Rattle.certificate.specs.Faults.{fault_at};
 ghost use Rattle.certificate.specs.FaultTexts.{key_text, cert_fault_text, cert_size_text};
 
+use answer_text::names::{refusal_line, with_name, with_number};
 use mixed_graph::Text;
-use name_text::{refusal_line, with_name, with_number};
 use std::alloc::{AllocError, Global};
 use step_json::ValueFault;
 

@@ -1,3 +1,5 @@
+//! The formula of a certificate, with its definitions and lemmas.
+
 ghost use Rattle.std.specs.Prelude.{◌≡◌, ◌≤◌, ◌^◌, [], map, length, is_ok, Option, None, Some};
 ghost use Rattle.serde_json.specs.View.{view as data_view, items_view};
 ghost use Rattle.prob_expr.specs.Check.{check_tree, cap};

@@ -1,3 +1,5 @@
+//! The hedge of a certificate: its choice of children and its links.
+
 ghost use Rattle.std.specs.Prelude.{◌≡◌, ◌<◌, ◌+◌, ◌++◌, ◌∷◌, [], length, set, replicate, IfOk};
 ghost use Rattle.serde_json.specs.View.{view as data_view, items_view};
 ghost use Rattle.step_json.specs.Reading.{Gives, list_by, vertex_in};

@@ -1,3 +1,5 @@
+//! The members of a certificate, by key.
+
 ghost use Rattle.std.specs.Prelude.{◌≡◌, ◌==◌, codes, map, option_and_then};
 ghost use Rattle.serde_json.specs.View.{view as data_view};
 ghost use Rattle.serde_json.specs.Find.{get};

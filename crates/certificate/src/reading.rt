@@ -1,3 +1,5 @@
+//! A whole certificate.
+
 ghost use Rattle.std.specs.Prelude.{◌≡◌};
 ghost use Rattle.serde_json.specs.View.{view};
 ghost use Rattle.certificate.specs.Faults.{Gives, or_fault};

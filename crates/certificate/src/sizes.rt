@@ -1,3 +1,5 @@
+//! How many members an object has.
+
 ghost use Rattle.std.specs.Prelude.{◌≡◌};
 ghost use Rattle.serde_json.specs.View.{view as data_view, items_view};
 ghost use Rattle.serde_json.specs.Find.{as_object};

@@ -1,3 +1,5 @@
+//! Certificates as values.
+
 use do_derivation::Derivation;
 use hedge::Hedge;
 use prob_expr::{Formula, Target};

@@ -68,7 +68,8 @@ exprs_whole names [] = refl
 exprs_whole names (t ∷ ts) = exprs_whole names ts
 
 lemma_whole : (names : List (List ℕ)) (l : PlainLemma) → has_float (lemma_value names l) ≡ false
-lemma_whole names l = neither (has_float (set_value names l.set)) _ (set_whole names l.set) (one (has_float (step_value names l.plan)) (step_whole names l.plan))
+lemma_whole names l = neither (has_float (set_value names l.set)) _ (set_whole names l.set)
+    (one (has_float (step_value names l.plan)) (step_whole names l.plan))
 
 lemmas_whole : (names : List (List ℕ)) (ls : List PlainLemma) → items_have_float (lemma_items names ls) ≡ false
 lemmas_whole names [] = refl
@@ -93,7 +94,8 @@ no_float names (formula t f d) =
         (neither (has_float (set_value names t.x)) _ (set_whole names t.x)
         (one (has_float (set_value names t.y)) (set_whole names t.y))))
 
-    given_whole : (bare : Bool) → members_have_float (cond bare (derivation_members names t d) (member (codes "given") (set_value names t.given) (derivation_members names t d))) ≡ false
+    given_whole : (bare : Bool) → members_have_float (cond bare (derivation_members names t d)
+        (member (codes "given") (set_value names t.given) (derivation_members names t d))) ≡ false
     given_whole true = rest_whole
     given_whole false = neither (has_float (set_value names t.given)) _ (set_whole names t.given) rest_whole
 no_float names (hedge t h) =

@@ -1,5 +1,6 @@
 -- What is written for a formula and its derivation is read again.
-use Rattle.std.proofs.Common.{◌≡◌, ◌≤◌, ◌<◌, ◌+◌, ◌^◌, ℕ, Bool, true, false, cond, not, ltb, ◌&&◌, List, [], ◌∷◌, ◌++◌, length, Option, Some, None, Result, Ok, Err, is_ok, refl, sym, ap, ◌∙◌, append_assoc, append-nil, length-append, arith, ltb-true, lt-ltb}
+use Rattle.std.proofs.Common.{◌≡◌, ◌≤◌, ◌<◌, ◌+◌, ◌^◌, ℕ, Bool, true, false, cond, not, ltb, ◌&&◌, List, [], ◌∷◌, ◌++◌, length, Option, Some, None}
+use Rattle.std.proofs.Common.{Result, Ok, Err, is_ok, refl, sym, ap, ◌∙◌, append_assoc, append-nil, length-append, arith, ltb-true, lt-ltb}
 use Rattle.std.specs.Result.{result_ok}
 use Rattle.mixed_graph.specs.Names.{AreNames}
 use Rattle.mixed_graph.specs.Masks.{is_empty, is_below, is_apart}
@@ -31,7 +32,8 @@ Checked = Result ℕ ExprFault
 
 -- ---- a formula may be checked with a higher limit
 
-past_guards : (b c : Bool) (e f : ExprFault) (r s : Checked) (j : ℕ) → (r ≡ Ok j → s ≡ Ok j) → cond (not b) (Err e) (cond c (Err f) r) ≡ Ok j → cond (not b) (Err e) (cond c (Err f) s) ≡ Ok j
+past_guards : (b c : Bool) (e f : ExprFault) (r s : Checked) (j : ℕ) → (r ≡ Ok j → s ≡ Ok j) → cond (not b) (Err e) (cond c (Err f) r) ≡ Ok j
+    → cond (not b) (Err e) (cond c (Err f) s) ≡ Ok j
 past_guards false c e f r s j next h = absurd cc
 past_guards true true e f r s j next h = absurd cc
 past_guards true false e f r s j next h = next h
@@ -40,7 +42,8 @@ past_guard : (b : Bool) (e : ExprFault) (r s : Checked) (j : ℕ) → (r ≡ Ok 
 past_guard true e r s j next h = next h
 past_guard false e r s j next h = absurd cc
 
-past_first : (r s : Checked) (f g : ℕ → Checked) (j : ℕ) → ((i : ℕ) → r ≡ Ok i → s ≡ Ok i) → ((i : ℕ) → f i ≡ Ok j → g i ≡ Ok j) → (r >>= f) ≡ Ok j → (s >>= g) ≡ Ok j
+past_first : (r s : Checked) (f g : ℕ → Checked) (j : ℕ) → ((i : ℕ) → r ≡ Ok i → s ≡ Ok i) → ((i : ℕ) → f i ≡ Ok j → g i ≡ Ok j) → (r >>= f) ≡ Ok j
+    → (s >>= g) ≡ Ok j
 past_first (Ok i) s f g j first next h = ap (λ r. r >>= g) (first i refl) ∙ next i h
 past_first (Err e) s f g j first next h = absurd cc
 
@@ -55,9 +58,11 @@ mutual
   higher : (n : ℕ) (def : Option ℕ) (l m : ℕ) (t : Tree) (node j : ℕ) → l ≤ m → check_tree n def l t node ≡ Ok j → check_tree n def m t node ≡ Ok j
   higher n def l m (prob a b c) node j le h = h
   higher n def l m (sum u e) node j le h =
-      past_guards (is_below n u) (is_empty u) _ _ (check_tree n def l e (next_node node)) (check_tree n def m e (next_node node)) j (λ k. higher n def l m e (next_node node) j le k) h
+      past_guards (is_below n u) (is_empty u) _ _ (check_tree n def l e (next_node node)) (check_tree n def m e (next_node node)) j
+      (λ k. higher n def l m e (next_node node) j le k) h
   higher n def l m (product ts) node j le h =
-      past_guard (are_two ts) _ (check_trees n def l ts (next_node node)) (check_trees n def m ts (next_node node)) j (λ k. higher_each n def l m ts (next_node node) j le k) h
+      past_guard (are_two ts) _ (check_trees n def l ts (next_node node)) (check_trees n def m ts (next_node node)) j
+      (λ k. higher_each n def l m ts (next_node node) j le k) h
   higher n def l m (quotient p q) node j le h =
       past_first (check_tree n def l p (next_node node)) (check_tree n def m p (next_node node)) (check_tree n def l q) (check_tree n def m q) j
       (λ i k. higher n def l m p (next_node node) i le k) (λ i k. higher n def l m q i j le k) h
@@ -75,14 +80,16 @@ no_fault (Err e) h = absurd cc
 
 -- ---- expressions
 
-expr_back : (names : List (List ℕ)) (def : Option ℕ) (limit : ℕ) (t : Tree) → AreNames names → fault_of (check_tree (length names) def limit t 0) ≡ None → limit ≤ 2 ^ 32 → nesting t ≤ 60
+expr_back : (names : List (List ℕ)) (def : Option ℕ) (limit : ℕ) (t : Tree) → AreNames names → fault_of (check_tree (length names) def limit t 0) ≡ None
+    → limit ≤ 2 ^ 32 → nesting t ≤ 60
     → expr_in names (string (text_of names t)) ≡ Ok t
 unfolding expr_in
 expr_back names def limit t are ok room nests =
     ap (λ r. or_form (result_ok r)) (reads_back names t are (sound_from (length names) def limit t ok) (numbered_from (length names) def limit t room ok) nests)
 
 -- an expression that is checked up to one limit is read up to a higher one
-read_up_to : (names : List (List ℕ)) (def : Option ℕ) (low limit : ℕ) (t : Tree) → AreNames names → fault_of (check_tree (length names) def low t 0) ≡ None → low ≤ limit → low ≤ 2 ^ 32 → nesting t ≤ 60
+read_up_to : (names : List (List ℕ)) (def : Option ℕ) (low limit : ℕ) (t : Tree) → AreNames names → fault_of (check_tree (length names) def low t 0) ≡ None
+    → low ≤ limit → low ≤ 2 ^ 32 → nesting t ≤ 60
     → value.◌>>=◌ (expr_in names (string (text_of names t))) (sound names def limit) ≡ Ok t
 read_up_to names def low limit t are ok le room nests =
     let found = no_fault (check_tree (length names) def low t 0) ok in
@@ -101,14 +108,16 @@ whole_back n f ok =
     let found = no_fault (check_tree n None (length f.defs) f.main 0) parts.1 in
     ap is_ok found.1
 
-pub defs_back : (names : List (List ℕ)) (ds before : List Tree) (k : ℕ) → AreNames names → length before ≡ k → fault_in_defs (length names) k ds ≡ None → k + length ds ≤ 2 ^ 32 → nesting_all ds ≤ 60
+pub defs_back : (names : List (List ℕ)) (ds before : List Tree) (k : ℕ) → AreNames names → length before ≡ k → fault_in_defs (length names) k ds ≡ None → k
+    + length ds ≤ 2 ^ 32 → nesting_all ds ≤ 60
     → more_defs names before (expr_items names ds) ≡ Ok (before ++ ds)
 defs_back names [] before k are at ok room nests = ap (λ l. Ok l) (sym (append-nil before))
 defs_back names (d ∷ ds) before k are at ok room nests =
     let n = length names in
     let parts = neither (fault_of (check_tree n (Some (cap k)) k d 0)) (fault_in_defs n (k + 1) ds) ok in
     ap (λ i. value.◌>>=◌ (def_in names i (string (text_of names d))) (λ t. more_defs names (before ++ t ∷ []) (expr_items names ds))) at
-    ∙ ap (λ r. value.◌>>=◌ r (λ t. more_defs names (before ++ t ∷ []) (expr_items names ds))) (read_up_to names (Some (cap k)) k k d are parts.0 (omega arith) (omega (arith, room)) (omega (arith, nests)))
+    ∙ ap (λ r. value.◌>>=◌ r (λ t. more_defs names (before ++ t ∷ []) (expr_items names ds)))
+    (read_up_to names (Some (cap k)) k k d are parts.0 (omega arith) (omega (arith, room)) (omega (arith, nests)))
     ∙ defs_back names ds (before ++ d ∷ []) (k + 1) are (omega (arith, at, length-append before (d ∷ []))) parts.1 (omega (arith, room)) (omega (arith, nests))
     ∙ ap (λ l. Ok l) (append_assoc before (d ∷ []) ds)
 
@@ -121,7 +130,8 @@ filled_by set h = go (is_empty set) h
     go true e = absurd cc
     go false e = refl
 
-pub filled_back : (names : List (List ℕ)) (barred set : ℕ) → AreNames names → is_below (length names) set ≡ true → is_apart barred set ≡ true → not (is_empty set) ≡ true
+pub filled_back : (names : List (List ℕ)) (barred set : ℕ) → AreNames names → is_below (length names) set ≡ true → is_apart barred set ≡ true
+    → not (is_empty set) ≡ true
     → filled_set_in names barred (set_value names set) ≡ Ok set
 filled_back names barred set are within apart some =
     ap (λ r. value.◌>>=◌ r filled) (set_reads_back names barred set are within apart) ∙ filled_by set some
@@ -144,6 +154,7 @@ lemmas_back names (l ∷ ls) before are sets within short nests apart =
     let own = and_true (is_below n l.set) (not (is_empty l.set)) s.0 in
     let w = and_true (step.is_within n l.plan) (are_steps_within n ls) within in
     let k = and_true (step.is_short l.plan) (are_steps_short ls) short in
-    ap (λ r. value.◌>>=◌ r (λ x. each (lemma_in names) (before ++ x ∷ []) (lemma_items names ls))) (lemma_back names l are own.0 own.1 w.0 k.0 nests.0 (apart l.set))
+    ap (λ r. value.◌>>=◌ r (λ x. each (lemma_in names) (before ++ x ∷ []) (lemma_items names ls)))
+    (lemma_back names l are own.0 own.1 w.0 k.0 nests.0 (apart l.set))
     ∙ lemmas_back names ls (before ++ l ∷ []) are s.1 w.1 k.1 nests.1 apart
     ∙ ap (λ l. Ok l) (append_assoc before (l ∷ []) ls)

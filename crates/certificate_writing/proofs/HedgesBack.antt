@@ -1,5 +1,6 @@
 -- What is written for the choice and the links of a hedge is read again.
-use Rattle.std.proofs.Common.{◌≡◌, ◌<◌, ◌≤◌, ◌+◌, ◌==◌, ℕ, suc, Bool, true, false, cond, List, [], ◌∷◌, ◌++◌, length, get_or, set, replicate, Ok, Err, refl, sym, ap, ◌∙◌, append_assoc, append-nil, length-append, arith, lt-ltb, eqb-true}
+use Rattle.std.proofs.Common.{◌≡◌, ◌<◌, ◌≤◌, ◌+◌, ◌==◌, ℕ, suc, Bool, true, false, cond, List, [], ◌∷◌, ◌++◌, length, get_or, set, replicate, Ok, Err}
+use Rattle.std.proofs.Common.{refl, sym, ap, ◌∙◌, append_assoc, append-nil, length-append, arith, lt-ltb, eqb-true}
 use Rattle.std.specs.Prelude.{All}
 use Rattle.std.proofs.lemmas.Bool.{false≢true}
 use Rattle.mixed_graph.specs.Names.{AreNames, name_of}
@@ -14,7 +15,8 @@ use Rattle.certificate_writing.proofs.Pairs.{IsWithin}
 
 -- a pair is read again
 pair_back : {B : Type 0} (names : List (List ℕ)) (v u : ℕ) (next : ℕ → ℕ → B) → AreNames names → v < length names → u < length names
-    → first_by (vertex_in names) (λ v. first_by (vertex_in names) (λ u. alone (next v u))) (item (string (name_of names v)) (item (string (name_of names u)) no_items)) ≡ Ok (next v u)
+    → first_by (vertex_in names) (λ v. first_by (vertex_in names) (λ u. alone (next v u)))
+    (item (string (name_of names v)) (item (string (name_of names u)) no_items)) ≡ Ok (next v u)
 pair_back names v u next are lv lu =
     ap (λ r. r >>= λ v. first_by (vertex_in names) (λ u. alone (next v u)) (item (string (name_of names u)) no_items)) (vertex_back names v are lv)
     ∙ ap (λ r. r >>= λ u. alone (next v u) no_items) (vertex_back names u are lu)
@@ -30,7 +32,8 @@ links_more_back names [] before are all le = ap (λ l. Ok l) (sym (append-nil be
 links_more_back names (l ∷ ls) before are all le =
     let here = all 0 l (omega arith) in
     let rest = pair_items names ls in
-    ap (λ b. cond b (list_by (link_of names) (names_value names (l.0 ∷ l.1 ∷ [])) >>= λ l. more_links names (before ++ l ∷ []) rest) (Err Form)) (lt-ltb (length before) 64 (omega arith))
+    ap (λ b. cond b (list_by (link_of names) (names_value names (l.0 ∷ l.1 ∷ [])) >>= λ l. more_links names (before ++ l ∷ []) rest) (Err Form))
+    (lt-ltb (length before) 64 (omega arith))
     ∙ ap (λ r. r >>= λ l. more_links names (before ++ l ∷ []) rest) (pair_back names l.0 l.1 (λ v u. (v, u)) are here.0 here.1)
     ∙ links_more_back names ls (before ++ l ∷ []) are (within_rest (length names) l ls all) (omega (arith, length-append before (l ∷ [])))
     ∙ ap (λ l. Ok l) (append_assoc before (l ∷ []) ls)
@@ -53,10 +56,12 @@ set_end : (done rest : List ℕ) (c : ℕ) → set (done ++ 64 ∷ rest) (length
 set_end [] rest c = refl
 set_end (x ∷ done) rest c = ap (λ l. x ∷ l) (set_end done rest c)
 
-choice_more_back : (names : List (List ℕ)) (k c : ℕ) (next after : List ℕ) → AreNames names → k < length names → c < length names → get_or next k 0 ≡ 64 → set next k c ≡ after
+choice_more_back : (names : List (List ℕ)) (k c : ℕ) (next after : List ℕ) → AreNames names → k < length names → c < length names → get_or next k 0 ≡ 64
+    → set next k c ≡ after
     → list_by (with_choice names next) (names_value names (k ∷ c ∷ [])) ≡ Ok after
 choice_more_back names k c next after are lk lc free is =
-    ap (λ r. (r >>= unchosen next) >>= λ v. first_by (vertex_in names) (λ u. alone (set next v u)) (item (string (name_of names c)) no_items)) (vertex_back names k are lk)
+    ap (λ r. (r >>= unchosen next) >>= λ v. first_by (vertex_in names) (λ u. alone (set next v u)) (item (string (name_of names c)) no_items))
+    (vertex_back names k are lk)
     ∙ ap (λ b. cond (b == 64) (Ok k) (Err Form) >>= λ v. first_by (vertex_in names) (λ u. alone (set next v u)) (item (string (name_of names c)) no_items)) free
     ∙ ap (λ r. r >>= λ u. alone (set next k u) no_items) (vertex_back names c are lc)
     ∙ ap (λ l. Ok l) is
@@ -64,7 +69,8 @@ choice_more_back names k c next after are lk lc free is =
 -- the choices from one vertex on, where those behind it are read again
 choice_and_more : (names : List (List ℕ)) (c : ℕ) (cs done : List ℕ) (count k : ℕ) → AreNames names → k ≡ length done → count ≤ k → k < 64
     → ((c ≡ 64 → ⊥) → (k < length names) × (c < length names))
-    → ((n : ℕ) → n ≤ k + 1 → more_choices names n ((done ++ c ∷ []) ++ replicate (length cs) 64) (pair_items names (choices_from (k + 1) cs)) ≡ Ok ((done ++ c ∷ []) ++ cs))
+    → ((n : ℕ) → n ≤ k + 1 → more_choices names n ((done ++ c ∷ []) ++ replicate (length cs) 64) (pair_items names (choices_from (k + 1) cs))
+    ≡ Ok ((done ++ c ∷ []) ++ cs))
     → more_choices names count (done ++ 64 ∷ replicate (length cs) 64) (pair_items names (choices_from k (c ∷ cs))) ≡ Ok (done ++ c ∷ cs)
 choice_and_more names c cs done count k are place le room within behind = go (c == 64) refl
   where
@@ -78,14 +84,18 @@ choice_and_more names c cs done count k are place le room within behind = go (c 
         ∙ ap (λ l. Ok l) (append_assoc done (c ∷ []) cs)
 
     go : (b : Bool) → (c == 64) ≡ b
-        → more_choices names count (done ++ 64 ∷ rest) (pair_items names (cond b (choices_from (k + 1) cs) ((k, c) ∷ choices_from (k + 1) cs))) ≡ Ok (done ++ c ∷ cs)
-    go true e = ap (λ x. more_choices names count (done ++ x ∷ rest) (pair_items names (choices_from (k + 1) cs))) (sym (eqb-true c 64 e)) ∙ others count (omega (arith, le))
+        → more_choices names count (done ++ 64 ∷ rest) (pair_items names (cond b (choices_from (k + 1) cs) ((k, c) ∷ choices_from (k + 1) cs)))
+        ≡ Ok (done ++ c ∷ cs)
+    go true e = ap (λ x. more_choices names count (done ++ x ∷ rest) (pair_items names (choices_from (k + 1) cs))) (sym (eqb-true c 64 e))
+        ∙ others count (omega (arith, le))
     go false e =
         let p = within (λ is. false≢true (sym e ∙ ap (λ n. n == 64) is)) in
         let at : get_or (done ++ 64 ∷ rest) k 0 ≡ 64 = ap (λ n. get_or (done ++ 64 ∷ rest) n 0) place ∙ at_end done rest in
         let after : set (done ++ 64 ∷ rest) k c ≡ done ++ c ∷ rest = ap (λ n. set (done ++ 64 ∷ rest) n c) place ∙ set_end done rest c in
-        ap (λ b. cond b (list_by (with_choice names (done ++ 64 ∷ rest)) (names_value names (k ∷ c ∷ [])) >>= λ more. more_choices names (count + 1) more (pair_items names (choices_from (k + 1) cs))) (Err Form)) (lt-ltb count 64 (omega (arith, le, room)))
-        ∙ ap (λ r. r >>= λ more. more_choices names (count + 1) more (pair_items names (choices_from (k + 1) cs))) (choice_more_back names k c (done ++ 64 ∷ rest) (done ++ c ∷ rest) are p.0 p.1 at after)
+        ap (λ b. cond b (list_by (with_choice names (done ++ 64 ∷ rest)) (names_value names (k ∷ c ∷ [])) >>= λ more. more_choices names (count + 1) more
+        (pair_items names (choices_from (k + 1) cs))) (Err Form)) (lt-ltb count 64 (omega (arith, le, room)))
+        ∙ ap (λ r. r >>= λ more. more_choices names (count + 1) more (pair_items names (choices_from (k + 1) cs)))
+        (choice_more_back names k c (done ++ 64 ∷ rest) (done ++ c ∷ rest) are p.0 p.1 at after)
         ∙ others (count + 1) (omega (arith, le))
 
 choices_more_back : (names : List (List ℕ)) (cs done : List ℕ) (count k : ℕ) → AreNames names → k ≡ length done → count ≤ k → k + length cs ≤ 64
@@ -103,4 +113,5 @@ pub choice_back : (names : List (List ℕ)) (cs : List ℕ) → AreNames names �
 unfolding choice_in
 choice_back names cs are size within =
     ap (λ n. more_choices names 0 (replicate n 64) (pair_items names (choices_from 0 cs))) (sym size)
-    ∙ choices_more_back names cs [] 0 0 are refl (omega arith) (omega (arith, size)) (λ i lt other. let p = within i (omega (arith, size)) other in (omega (arith, p.0), p.1))
+    ∙ choices_more_back names cs [] 0 0 are refl (omega arith) (omega (arith, size))
+    (λ i lt other. let p = within i (omega (arith, size)) other in (omega (arith, p.0), p.1))

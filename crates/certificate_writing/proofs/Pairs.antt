@@ -1,5 +1,6 @@
 -- Pairs of vertices.
-use Rattle.std.proofs.Common.{◌≡◌, ◌<◌, ◌≤◌, ◌+◌, ◌==◌, ℕ, zero, suc, Bool, true, false, cond, List, [], ◌∷◌, ◌++◌, length, get_or, take, drop, refl, sym, ap, ap₂, ◌∙◌, append_assoc, append-nil, arith, length-take}
+use Rattle.std.proofs.Common.{◌≡◌, ◌<◌, ◌≤◌, ◌+◌, ◌==◌, ℕ, zero, suc, Bool, true, false, cond, List, [], ◌∷◌, ◌++◌, length, get_or, take, drop, refl}
+use Rattle.std.proofs.Common.{sym, ap, ap₂, ◌∙◌, append_assoc, append-nil, arith, length-take}
 use Rattle.std.specs.Prelude.{All}
 use Rattle.std.specs.List.{zip}
 use Rattle.std.proofs.lemmas.Bool.{false≢true}
@@ -33,7 +34,8 @@ all_more P p ps here rest zero d lt = here
 all_more P p ps here rest (suc k) d lt = rest k d (omega arith)
 
 -- where each vertex from v on that chooses is below n, and what it chooses, so are all pairs
-pub choices_within : (n v : ℕ) (cs : List ℕ) → ((i : ℕ) → i < length cs → (get_or cs i 0 ≡ 64 → ⊥) → (v + i < n) × (get_or cs i 0 < n)) → All (IsWithin n) (choices_from v cs)
+pub choices_within : (n v : ℕ) (cs : List ℕ) → ((i : ℕ) → i < length cs → (get_or cs i 0 ≡ 64 → ⊥) → (v + i < n) × (get_or cs i 0 < n))
+    → All (IsWithin n) (choices_from v cs)
 choices_within n v [] h = all_none (IsWithin n)
 choices_within n v (c ∷ cs) h =
     go (c == 64) refl (choices_within n (v + 1) cs (λ i lt other. let p = h (suc i) (omega arith) other in (omega (arith, p.0), p.1)))
@@ -41,7 +43,8 @@ choices_within n v (c ∷ cs) h =
     go : (b : Bool) → (c == 64) ≡ b → All (IsWithin n) (choices_from (v + 1) cs)
         → All (IsWithin n) (cond b (choices_from (v + 1) cs) ((v, c) ∷ choices_from (v + 1) cs))
     go true e rest = rest
-    go false e rest = let p = h 0 (omega arith) (λ is. false≢true (sym e ∙ ap (λ n. n == 64) is)) in all_more (IsWithin n) (v, c) (choices_from (v + 1) cs) (omega (arith, p.0), p.1) rest
+    go false e rest = let p = h 0 (omega arith) (λ is. false≢true (sym e ∙ ap (λ n. n == 64) is)) in
+        all_more (IsWithin n) (v, c) (choices_from (v + 1) cs) (omega (arith, p.0), p.1) rest
 
 one_choice : (v c : ℕ) (b : Bool) (rest : List (ℕ × ℕ)) → cond b rest ((v, c) ∷ rest) ≡ cond b [] ((v, c) ∷ []) ++ rest
 one_choice v c true rest = refl

@@ -1,5 +1,6 @@
 -- The text of an expression is UTF-8.
-use Rattle.std.proofs.Common.{◌<◌, ℕ, zero, suc, ◌/◌, ◌%◌, ◌==◌, Bool, true, false, cond, inl, inr, List, [], ◌∷◌, ◌++◌, map, length, codes, decimal, arith, subst, sym}
+use Rattle.std.proofs.Common.{◌<◌, ℕ, zero, suc, ◌/◌, ◌%◌, ◌==◌, Bool, true, false, cond, inl, inr, List, [], ◌∷◌, ◌++◌, map, length, codes, decimal}
+use Rattle.std.proofs.Common.{arith, subst, sym}
 use Rattle.std.specs.Str.{IsUtf8, IsAscii}
 use Rattle.std.specs.Fmt.{digits, digits_onto, digit_glyph}
 use Rattle.std.proofs.lemmas.Bool.{cases_lt}
@@ -8,7 +9,7 @@ use Rattle.std.proofs.lemmas.Str.{IsUtf8-nil, IsUtf8-from_ascii, IsUtf8-from_is_
 use Rattle.std.proofs.lemmas.Str.Ascii.{IsAscii-cons, IsAscii-nil}
 use Rattle.mixed_graph.specs.Bits.{has, members_below}
 use Rattle.mixed_graph.specs.Names.{AreNames, name_of}
-use Rattle.name_text.specs.Printing.{is_plain, printed}
+use Rattle.answer_text.specs.Printing.{is_plain, printed}
 use Rattle.answer_text.specs.declared.signs.Notation.TheVariants.{Plain}
 use Rattle.answer_text.specs.Texts.{names_in, set_text, conditions_in, term_text}
 use Rattle.prob_expr.specs.Tree.{Tree, prob, sum, product, quotient, named, Trees, no_trees, tree}
@@ -27,7 +28,8 @@ onto_ascii : (k n : ℕ) (acc : List ℕ) → IsAscii acc → IsAscii (digits_on
 onto_ascii zero n acc h = h
 onto_ascii (suc k) n acc h =
     let more = IsAscii-cons (digit_glyph false (n % 10)) acc (glyph_low (n % 10) (omega arith)) h in
-    either (n / 10 == 0) (digit_glyph false (n % 10) ∷ acc) (digits_onto k 10 false (n / 10) (digit_glyph false (n % 10) ∷ acc)) more (onto_ascii k (n / 10) (digit_glyph false (n % 10) ∷ acc) more)
+    either (n / 10 == 0) (digit_glyph false (n % 10) ∷ acc) (digits_onto k 10 false (n / 10) (digit_glyph false (n % 10) ∷ acc)) more
+    (onto_ascii k (n / 10) (digit_glyph false (n % 10) ∷ acc) more)
   where
     either : (b : Bool) (xs ys : List ℕ) → IsAscii xs → IsAscii ys → IsAscii (cond b xs ys)
     either true xs ys p q = p
@@ -84,7 +86,8 @@ conditions_utf8 names [] [] are = IsUtf8-nil
 conditions_utf8 names [] (c ∷ cs) are = join (codes "|") _ bar (names_utf8 names (c ∷ cs) are)
 conditions_utf8 names (b ∷ bs) [] are = join (codes "|do(") _ do_mark (join _ (codes ")") (names_utf8 names (b ∷ bs) are) closing)
 conditions_utf8 names (b ∷ bs) (c ∷ cs) are =
-    join (codes "|do(") _ do_mark (join _ _ (names_utf8 names (b ∷ bs) are) (join (codes "),") _ (behind 41 _ (omega arith) (ascii1 44 (omega arith))) (names_utf8 names (c ∷ cs) are)))
+    join (codes "|do(") _ do_mark (join _ _ (names_utf8 names (b ∷ bs) are)
+    (join (codes "),") _ (behind 41 _ (omega arith) (ascii1 44 (omega arith))) (names_utf8 names (c ∷ cs) are)))
 
 term_utf8 : (names : List (List ℕ)) (a b c : ℕ → Bool) → AreNames names → IsUtf8 (term_text names a b c)
 term_utf8 names a b c are =

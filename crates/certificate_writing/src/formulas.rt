@@ -1,3 +1,5 @@
+//! The members of a formula's certificate.
+
 ghost use Rattle.std.specs.Prelude.{◌≡◌, true, length, map, IfOk};
 ghost use Rattle.mixed_graph.specs.Names.{AreNames};
 ghost use Rattle.serde_json.specs.Data.{string, array, item, no_items};

@@ -1,3 +1,5 @@
+//! The members of a hedge's certificate.
+
 ghost use Rattle.std.specs.Prelude.{◌≡◌, ℕ, ◌<◌, ◌++◌, ◌∷◌, [], length, slice_index, All, IfOk, OnOk};
 ghost use Rattle.std.specs.List.{zip};
 ghost use Rattle.serde_json.specs.Data.{array};

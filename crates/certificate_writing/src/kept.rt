@@ -1,3 +1,5 @@
+//! What the types of a certificate's parts keep. Only the prover needs these walks.
+
 ghost use Rattle.std.specs.Prelude.{◌≡◌, ◌≤◌, ◌^◌, true, ltb, leb, length, map};
 ghost use Rattle.do_derivation.specs.View.{step_view, steps_view, lemma_view, listed, numbers_of};
 ghost use Rattle.step_json.specs.Laws.{are_below, groups_below, is_short, are_short};

@@ -1,3 +1,5 @@
+//! A whole certificate.
+
 ghost use Rattle.std.specs.Prelude.{◌≡◌, length, codes, IfOk, Ok, None};
 ghost use Rattle.mixed_graph.specs.Names.{AreNames};
 ghost use Rattle.serde_json.specs.Data.{array, put};

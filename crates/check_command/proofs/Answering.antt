@@ -13,20 +13,23 @@ use Rattle.replies.specs.declared.outcome.Outcome.TheVariants.{Yes, No}
 use Rattle.replies.specs.declared.outcome.Reply.{Reply}
 use Rattle.replies.proofs.Results.{mapped}
 use Rattle.replies.specs.Observed.{observed_names, IsObservedGraph}
-use Rattle.check_command.specs.Answers.{IsRead, FormulaAnswer, HedgeAnswer, HasEntries, CertificateAnswer, of_formula, of_hedge, ObservedAnswer, AnswerOver}
+use Rattle.check_command.specs.Answers.{HoldsCertificate, FormulaAnswer, HedgeAnswer, HasEntries, CertificateAnswer, of_formula, of_hedge, ObservedAnswer, AnswerOver}
 use Rattle.check_command.specs.Replies.{AnswersFormula, AnswersHedge}
 
-module _ (g : ReadGraph) (q : MixedGraph) (names : List (List ℕ)) (zs bytes : List ℕ) (observed : IsObservedGraph g q) (named : names ≡ observed_names g) (small : length bytes ≤ 67108864) where
+module _ (g : ReadGraph) (q : MixedGraph) (names : List (List ℕ)) (zs bytes : List ℕ) (observed : IsObservedGraph g q) (named : names ≡ observed_names g)
+    (small : length bytes ≤ 67108864) where
   in_graph : (o : Outcome) (text : List ℕ) → CertificateAnswer q names zs bytes o text → ObservedAnswer g zs bytes o text
   in_graph o text a = (q, observed, subst (λ n. CertificateAnswer q n zs bytes o text) named a)
 
-  formula_case : (t : PlainTarget) (f : PlainFormula) (d : PlainDerivation) → IsRead names bytes (formula t f d) → (o : Outcome) (text : List ℕ) → FormulaAnswer q names zs t f d o text
+  formula_case : (t : PlainTarget) (f : PlainFormula) (d : PlainDerivation) → HoldsCertificate names bytes (formula t f d) → (o : Outcome) (text : List ℕ)
+      → FormulaAnswer q names zs t f d o text
       → AnswerOver g zs bytes o text
   formula_case t f d r Yes text a = in_graph Yes text (of_formula t f d r a)
   formula_case t f d r No text a = in_graph No text (of_formula t f d r a)
   formula_case t f d r o text a = absurd a
 
-  hedge_case : (t : PlainTarget) (h : Hedge) → HasEntries h → IsRead names bytes (hedge t (hedge_view h)) → (o : Outcome) (text : List ℕ) → HedgeAnswer q names zs t h o text → AnswerOver g zs bytes o text
+  hedge_case : (t : PlainTarget) (h : Hedge) → HasEntries h → HoldsCertificate names bytes (hedge t (hedge_view h)) → (o : Outcome) (text : List ℕ)
+      → HedgeAnswer q names zs t h o text → AnswerOver g zs bytes o text
   hedge_case t h n r Yes text a = in_graph Yes text (of_hedge t h n r a)
   hedge_case t h n r No text a = in_graph No text (of_hedge t h n r a)
   hedge_case t h n r o text a = absurd a

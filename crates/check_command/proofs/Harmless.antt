@@ -1,5 +1,6 @@
 -- The test of experiments, and what it says of a hedge.
-use Rattle.std.proofs.Common.{◌≡◌, ◌<◌, ◌≤◌, ◌^◌, ◌⊎◌, ℕ, Bool, true, false, not, ◌&&◌, eqb, List, [], ◌∷◌, inl, inr, refl, sym, ap, ◌∙◌, arith, eqb-true, ltb-true}
+use Rattle.std.proofs.Common.{◌≡◌, ◌<◌, ◌≤◌, ◌^◌, ◌⊎◌, ℕ, Bool, true, false, not, ◌&&◌, eqb, List, [], ◌∷◌, inl, inr, refl, sym, ap, ◌∙◌, arith}
+use Rattle.std.proofs.Common.{eqb-true, ltb-true}
 use Rattle.std.specs.List.{list_all}
 use Rattle.std.proofs.lemmas.Bool.{and_parts, both_ways, eq-eqb, or_cases, or_left, or_right, false_from_ne_true}
 use Rattle.std.proofs.lemmas.Nat.{and_le_r}
@@ -50,7 +51,8 @@ module _ (h : Hedge) where
 
   pub each_harmless : (zs : List ℕ) → list_all (is_harmless h) zs ≡ true → (z : ℕ) → is_listed z zs ≡ true → is_harmless h z ≡ true
   each_harmless [] e z l = absurd (grind (arith, l))
-  each_harmless (w ∷ zs) e z l = go (or_cases (eqb z w) (is_listed z zs) l) (λ k. each_harmless zs (and_parts (is_harmless h w) (list_all (is_harmless h) zs) e).1 z k)
+  each_harmless (w ∷ zs) e z l = go (or_cases (eqb z w) (is_listed z zs) l)
+      (λ k. each_harmless zs (and_parts (is_harmless h w) (list_all (is_harmless h) zs) e).1 z k)
     where
       go : (eqb z w ≡ true) ⊎ (is_listed z zs ≡ true) → (is_listed z zs ≡ true → is_harmless h z ≡ true) → is_harmless h z ≡ true
       go (inl q) ih = ap (is_harmless h) (eqb-true z w q) ∙ (and_parts (is_harmless h w) (list_all (is_harmless h) zs) e).0

@@ -12,6 +12,7 @@ module _ (names : List (List ℕ)) (x y : ℕ) (h : Hedge) where
   heading_without [] e = refl
   heading_without (s ∷ sets) e = absurd (omega (arith, e))
 
-  pub heading_with : (sets : List VSet) → (length sets ≡ 0 → ⊥) → heading_over names (masks_of sets) x y h ≡ unidentifiable_with_line names x y ++ sets_line names h
+  pub heading_with : (sets : List VSet) → (length sets ≡ 0 → ⊥) → heading_over names (masks_of sets) x y h ≡ unidentifiable_with_line names x y
+      ++ sets_line names h
   heading_with [] n = absurd (n refl)
   heading_with (s ∷ sets) n = refl

@@ -2,7 +2,7 @@
 use Rattle.std.proofs.Common.{◌≡◌, ℕ, List, refl, sym, ◌∙◌}
 use Rattle.std.specs.Prelude.{codes}
 use Rattle.std.proofs.lemmas.Option.{same_Some}
-use Rattle.word_forms.specs.Form.{Use, value_of}
+use Rattle.command_words.specs.Form.{Use, value_of}
 use Rattle.dag_reader.specs.declared.graph.ReadGraph.{ReadGraph}
 use Rattle.replies.specs.Command.{IsLeft}
 use Rattle.replies.proofs.Commands.{IsLawful, lawful_on_two_inputs}
@@ -31,4 +31,9 @@ check_lawful = lawful_on_two_inputs one_request
     (λ q name g h same names o text a n. first_alone g h same q.experiments n.0 o text a n.1)
 
 pub check_is_left : (q : Request) (g : ReadGraph) (zs : List ℕ) → AreExperimentsOn g q.experiments zs → IsLeft check_command q g (check_left g zs q.certificate)
-check_is_left q g zs are = record { named = refl; continues = (zs, are); known = (q.experiments, are); answers = λ other o text a. record { sets = zs; are = are; answer = a } }
+check_is_left q g zs are = record {
+  named = refl;
+  continues = (zs, are);
+  known = (q.experiments, are);
+  answers = λ other o text a. record { sets = zs; are = are; answer = a };
+}

@@ -10,8 +10,8 @@ use Rattle.std.proofs.lemmas.Slice.Zip.{firsts-zip, seconds-zip}
 use Rattle.mixed_graph.specs.Bits.{has}
 use Rattle.mixed_graph.specs.Graphs.{MixedGraph}
 use Rattle.mixed_graph.specs.declared.sets.VSet.{VSet}
-use Rattle.districts.specs.declared.lists.Links.{Links}
-use Rattle.districts.specs.declared.lists.Choice.{Choice}
+use Rattle.hedge.specs.declared.joined_sets.lists.Links.{Links}
+use Rattle.hedge.specs.declared.joined_sets.lists.Choice.{Choice}
 use Rattle.hedge.specs.Faults.{IsFirstHedgeFault, IsWrongLink}
 use Rattle.hedge.specs.Hedges.{IsHedge}
 use Rattle.hedge.specs.declared.hedge.Hedge.{Hedge}
@@ -24,13 +24,22 @@ use Rattle.check_command.specs.Answers.{HasEntries}
 
 -- what links keep
 abbrev Keeps : (found partner : List ℕ) (count : ℕ) → Type 0
-Keeps found partner count = (count ≤ 64) × ((i : ℕ) → count ≤ i → slice_index found i ≡ 0) × ((i : ℕ) → count ≤ i → slice_index partner i ≡ 0) × (slice_index partner 0 ≡ 0)
+Keeps found partner count = (count ≤ 64) × ((i : ℕ) → count ≤ i → slice_index found i ≡ 0) × ((i : ℕ) → count ≤ i → slice_index partner i ≡ 0)
+    × (slice_index partner 0 ≡ 0)
 
 one_way : (found partner : List ℕ) (count : ℕ) (a b : Keeps found partner count) → a ≡ b
 one_way found partner count = hlevel (le_prop, ℕ_set)
 
 abbrev links_with : (found partner : List ℕ) (count : ℕ) → Keeps found partner count → Links
-links_with found partner count k = record { found = found; partner = partner; count = count; in_range = k.0; blank_found = k.1; blank_partner = k.2; start = k.3 }
+links_with found partner count k = record {
+  found = found;
+  partner = partner;
+  count = count;
+  in_range = k.0;
+  blank_found = k.1;
+  blank_partner = k.2;
+  start = k.3;
+}
 
 links_same : (l m : Links) → m.found ≡ l.found → m.partner ≡ l.partner → m.count ≡ l.count → m ≡ l
 links_same l m e f c =
@@ -73,20 +82,25 @@ seconds : (l : Links) → length l.found ≡ 64 → length l.partner ≡ 64 → 
 seconds l f p = seconds-zip (take l.count l.found) (take l.count l.partner) (front l l.partner p ∙ sym (front l l.found f))
 
 -- arrays with the same front, and 0 behind it, are the same
-same_array : (n : ℕ) (xs ys : List ℕ) → length xs ≡ 64 → length ys ≡ 64 → take n ys ≡ take n xs → ((i : ℕ) → n ≤ i → slice_index xs i ≡ 0) → ((i : ℕ) → n ≤ i → slice_index ys i ≡ 0) → ys ≡ xs
+same_array : (n : ℕ) (xs ys : List ℕ) → length xs ≡ 64 → length ys ≡ 64 → take n ys ≡ take n xs → ((i : ℕ) → n ≤ i → slice_index xs i ≡ 0)
+    → ((i : ℕ) → n ≤ i → slice_index ys i ≡ 0) → ys ≡ xs
 same_array n xs ys a b e x y = same_number_lists ys xs (b ∙ sym a) (λ k h. elim (cases_lt k n) [
   | inl lt ↦ sym (get_or-take n ys k 0 lt) ∙ ap (λ (zs : List ℕ). get_or zs k 0) e ∙ get_or-take n xs k 0 lt
   | inr ge ↦ y k ge ∙ sym (x k ge)
 ])
 
-links_from_view : (l m : Links) → length l.found ≡ 64 → length l.partner ≡ 64 → length m.found ≡ 64 → length m.partner ≡ 64 → links_view m ≡ links_view l → m ≡ l
+links_from_view : (l m : Links) → length l.found ≡ 64 → length l.partner ≡ 64 → length m.found ≡ 64 → length m.partner ≡ 64 → links_view m ≡ links_view l → m
+    ≡ l
 links_from_view l m lf lp mf mp same =
-    let found : take m.count m.found ≡ take l.count l.found = sym (firsts m mf mp) ∙ ap (λ (ps : List (ℕ × ℕ)). map (λ (p : ℕ × ℕ). p.0) ps) same ∙ firsts l lf lp in
-    let partner : take m.count m.partner ≡ take l.count l.partner = sym (seconds m mf mp) ∙ ap (λ (ps : List (ℕ × ℕ)). map (λ (p : ℕ × ℕ). p.1) ps) same ∙ seconds l lf lp in
+    let found : take m.count m.found ≡ take l.count l.found = sym (firsts m mf mp) ∙ ap (λ (ps : List (ℕ × ℕ)). map (λ (p : ℕ × ℕ). p.0) ps) same
+    ∙ firsts l lf lp in
+    let partner : take m.count m.partner ≡ take l.count l.partner = sym (seconds m mf mp) ∙ ap (λ (ps : List (ℕ × ℕ)). map (λ (p : ℕ × ℕ). p.1) ps) same
+    ∙ seconds l lf lp in
     let count : m.count ≡ l.count = sym (front m m.found mf) ∙ ap (λ (xs : List ℕ). length xs) found ∙ front l l.found lf in
     links_same l m
     (same_array l.count l.found m.found lf mf (ap (λ (n : ℕ). take n m.found) (sym count) ∙ found) l.blank_found (λ i h. m.blank_found i (omega arith)))
-    (same_array l.count l.partner m.partner lp mp (ap (λ (n : ℕ). take n m.partner) (sym count) ∙ partner) l.blank_partner (λ i h. m.blank_partner i (omega arith)))
+    (same_array l.count l.partner m.partner lp mp (ap (λ (n : ℕ). take n m.partner) (sym count) ∙ partner) l.blank_partner
+    (λ i h. m.blank_partner i (omega arith)))
     count
 
 pub hedge_from_view : (h k : Hedge) → HasEntries h → HasEntries k → hedge_view k ≡ hedge_view h → k ≡ h
@@ -95,7 +109,8 @@ hedge_from_view h k a b e =
     ∙ ap (λ (s : VSet). hedge_with h.big s k.roots k.choice k.links) (set_same h.small k.small (ap (λ (v : PlainHedge). v.small) e))
     ∙ ap (λ (s : VSet). hedge_with h.big h.small s k.choice k.links) (set_same h.roots k.roots (ap (λ (v : PlainHedge). v.roots) e))
     ∙ ap (λ (c : Choice). hedge_with h.big h.small h.roots c k.links) (choice_same h.choice k.choice (ap (λ (v : PlainHedge). v.choice) e))
-    ∙ ap (λ (l : Links). hedge_with h.big h.small h.roots h.choice l) (links_from_view h.links k.links a.found a.partner b.found b.partner (ap (λ (v : PlainHedge). v.links) e))
+    ∙ ap (λ (l : Links). hedge_with h.big h.small h.roots h.choice l) (links_from_view h.links k.links a.found a.partner b.found b.partner
+    (ap (λ (v : PlainHedge). v.links) e))
 
 -- ---- a hedge has no fault
 

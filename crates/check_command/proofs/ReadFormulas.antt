@@ -1,5 +1,6 @@
 -- A formula that was read has no fault, and the sets of lemmas that were read lie below the number of names.
-use Rattle.std.proofs.Common.{◌≡◌, ℕ, ◌+◌, Bool, true, false, not, ◌&&◌, List, [], ◌∷◌, ◌++◌, length, Option, Some, None, Result, Ok, Err, if◌then◌else◌, is_ok, refl, ap, subst, codes, arith}
+use Rattle.std.proofs.Common.{◌≡◌, ℕ, ◌+◌, Bool, true, false, not, ◌&&◌, List, [], ◌∷◌, ◌++◌, length, Option, Some, None, Result, Ok, Err}
+use Rattle.std.proofs.Common.{if◌then◌else◌, is_ok, refl, ap, subst, codes, arith}
 use Rattle.std.specs.Prelude.{◌==◌}
 use Rattle.prob_expr.specs.Check.{check_tree, cap, fault_of, or_else, fault_in_defs}
 use Rattle.mixed_graph.specs.Masks.{is_below, is_empty}
@@ -18,7 +19,9 @@ use Rattle.certificate.specs.declared.fault.CertFault.{CertFault}
 use Rattle.certificate.specs.declared.fault.CertFault.TheVariants.{NotJson, Member, Version}
 use Rattle.certificate.specs.Faults.{◌>>=◌, or_fault}
 use Rattle.certificate.specs.Plain.{PlainHedge, PlainCertificate, formula, hedge}
-use Rattle.certificate.specs.Reading.{member_by, expr_in, sound, main_in, def_in, more_defs, defs_in, lemma_of, lemma_items, lemma_in, lemmas_in, target_in, whole, formula_in, derivation_in, hedge_in, member_count, key_count, formula_certificate_in, hedge_certificate_in, is_answer, version_in, answer_in, is_version, value_certificate, json_of, certificate_in}
+use Rattle.certificate.specs.Reading.{member_by, expr_in, sound, main_in, def_in, more_defs, defs_in, lemma_of, lemma_items, lemma_in, lemmas_in}
+use Rattle.certificate.specs.Reading.{target_in, whole, formula_in, derivation_in, hedge_in, member_count, key_count, formula_certificate_in}
+use Rattle.certificate.specs.Reading.{hedge_certificate_in, is_answer, version_in, answer_in, is_version, value_certificate, json_of, certificate_in}
 use Rattle.check_command.specs.Replies.{IsSoundTarget, IsSoundFormula, IsSoundDerivation}
 use Rattle.check_command.proofs.ReadTargets.{ok_is, then_ok, value_ok, bind_ok, list_ok, member_ok, both, set_below, filled_new, target_sound}
 
@@ -54,9 +57,11 @@ def_sound : (names : List (List ℕ)) (k : ℕ) (d : Data) (t : Tree) → def_in
 def_sound names k d t h =
     let b = value_ok (expr_in names d) (sound names (Some (cap k)) k) t h in
     let s = then_ok (is_ok (check_tree (length names) (Some (cap k)) k b.0 0)) Form (Ok b.0) t b.2 in
-    subst (λ e. fault_of (check_tree (length names) (Some (cap k)) k e 0) ≡ None) (ok_is {E = ValueFault} b.0 t s.1) (no_fault (check_tree (length names) (Some (cap k)) k b.0 0) s.0)
+    subst (λ e. fault_of (check_tree (length names) (Some (cap k)) k e 0) ≡ None) (ok_is {E = ValueFault} b.0 t s.1)
+    (no_fault (check_tree (length names) (Some (cap k)) k b.0 0) s.0)
 
-defs_sound : (names : List (List ℕ)) (before : List Tree) (ds : Items) (all : List Tree) → fault_in_defs (length names) 0 before ≡ None → more_defs names before ds ≡ Ok all
+defs_sound : (names : List (List ℕ)) (before : List Tree) (ds : Items) (all : List Tree) → fault_in_defs (length names) 0 before ≡ None
+    → more_defs names before ds ≡ Ok all
     → fault_in_defs (length names) 0 all ≡ None
 defs_sound names before no_items all h e = subst (λ l. fault_in_defs (length names) 0 l ≡ None) (ok_is {E = ValueFault} before all e) h
 defs_sound names before (item d ds) all h e =
@@ -73,7 +78,8 @@ formula_sound : (names : List (List ℕ)) (d : Data) (f : PlainFormula) → form
 unfolding formula_in
 formula_sound names d f h =
     let made : Tree → List Tree → PlainFormula = λ main defs. record { defs = defs; main = main } in
-    let m = bind_ok (member_by keys.Formula (codes "formula") (main_in names) d) (λ main. member_by keys.Defs (codes "defs") (defs_in names) d >>= λ defs. whole names (made main defs)) f h in
+    let m = bind_ok (member_by keys.Formula (codes "formula") (main_in names) d)
+    (λ main. member_by keys.Defs (codes "defs") (defs_in names) d >>= λ defs. whole names (made main defs)) f h in
     let ds = bind_ok (member_by keys.Defs (codes "defs") (defs_in names) d) (λ defs. whole names (made m.0 defs)) f m.2 in
     let read = member_ok keys.Defs (codes "defs") (defs_in names) d ds.0 ds.1 in
     let w = then_ok (is_ok (check_tree (length names) None (length ds.0) m.0 0)) (Member keys.Formula) (Ok (made m.0 ds.0)) f ds.2 in
@@ -86,7 +92,8 @@ formula_sound names d f h =
 abbrev is_set : ℕ → ℕ → Bool
 is_set n s = is_below n s && not (is_empty s)
 
-more_sets : (n : ℕ) (ls : List PlainLemma) (l : PlainLemma) → are_sets n (sets_of ls) ≡ true → is_set n l.set ≡ true → are_sets n (sets_of (ls ++ l ∷ [])) ≡ true
+more_sets : (n : ℕ) (ls : List PlainLemma) (l : PlainLemma) → are_sets n (sets_of ls) ≡ true → is_set n l.set ≡ true → are_sets n (sets_of (ls ++ l ∷ []))
+    ≡ true
 more_sets n [] l h new = both (is_set n l.set) true new refl
 more_sets n (k ∷ ks) l h new =
     let parts = and_true (is_set n k.set) (are_sets n (sets_of ks)) h in
@@ -127,7 +134,8 @@ derivation_sound : (names : List (List ℕ)) (d : Data) (p : PlainDerivation) �
 unfolding derivation_in
 derivation_sound names d p h =
     let made : List PlainLemma → Plan → PlainDerivation = λ lemmas main. record { lemmas = lemmas; main = main } in
-    let ls = bind_ok (member_by keys.Lemmas (codes "lemmas") (lemmas_in names) d) (λ lemmas. member_by keys.Main (codes "main") (step_in names) d >>= λ main. Ok (made lemmas main)) p h in
+    let ls = bind_ok (member_by keys.Lemmas (codes "lemmas") (lemmas_in names) d)
+    (λ lemmas. member_by keys.Main (codes "main") (step_in names) d >>= λ main. Ok (made lemmas main)) p h in
     let m = bind_ok (member_by keys.Main (codes "main") (step_in names) d) (λ main. Ok (made ls.0 main)) p ls.2 in
     let read = member_ok keys.Lemmas (codes "lemmas") (lemmas_in names) d ls.0 ls.1 in
     subst (IsSoundDerivation (length names)) (ok_is {E = CertFault} (made ls.0 m.0) p m.2) (lemmas_in_sound names read.0 ls.0 read.1)
@@ -148,10 +156,12 @@ triple_sound : (n : ℕ) (t : PlainTarget) (f : PlainFormula) (d : PlainDerivati
     → ◌≡◌ {A = Result PlainCertificate CertFault} (Ok (formula t f d)) (Ok c) → IsSound n c
 triple_sound n t f d c h e = subst (IsSound n) (ok_is {E = CertFault} (formula t f d) c e) h
 
-formula_case : (names : List (List ℕ)) (version : ℕ) (d : Data) (c : PlainCertificate) → formula_certificate_in names version d ≡ Ok c → IsSound (length names) c
+formula_case : (names : List (List ℕ)) (version : ℕ) (d : Data) (c : PlainCertificate) → formula_certificate_in names version d ≡ Ok c
+    → IsSound (length names) c
 unfolding formula_certificate_in
 formula_case names version d c h =
-    let end : PlainTarget → PlainFormula → PlainDerivation → Result PlainCertificate CertFault = λ t f p. if member_count (as_object d) == key_count version then Ok (formula t f p) else Err (Member keys.Extra) in
+    let end : PlainTarget → PlainFormula → PlainDerivation → Result PlainCertificate CertFault =
+    λ t f p. if member_count (as_object d) == key_count version then Ok (formula t f p) else Err (Member keys.Extra) in
     let t = bind_ok (target_in names version d) (λ t. formula_in names d >>= λ f. derivation_in names d >>= λ p. end t f p) c h in
     let f = bind_ok (formula_in names d) (λ f. derivation_in names d >>= λ p. end t.0 f p) c t.2 in
     let p = bind_ok (derivation_in names d) (λ p. end t.0 f.0 p) c f.2 in
@@ -162,14 +172,16 @@ formula_case names version d c h =
 hedge_case : (names : List (List ℕ)) (d : Data) (c : PlainCertificate) → hedge_certificate_in names d ≡ Ok c → IsSound (length names) c
 unfolding hedge_certificate_in
 hedge_case names d c h =
-    let end : PlainTarget → PlainHedge → Result PlainCertificate CertFault = λ t k. if member_count (as_object d) == 9 then Ok (hedge t k) else Err (Member keys.Extra) in
+    let end : PlainTarget → PlainHedge → Result PlainCertificate CertFault =
+    λ t k. if member_count (as_object d) == 9 then Ok (hedge t k) else Err (Member keys.Extra) in
     let t = bind_ok (target_in names 1 d) (λ t. hedge_in names d >>= λ k. end t k) c h in
     let k = bind_ok (hedge_in names d) (λ k. end t.0 k) c t.2 in
     let count = then_ok (member_count (as_object d) == 9) (Member keys.Extra) (Ok (hedge t.0 k.0)) c k.2 in
     subst (IsSound (length names)) (ok_is {E = CertFault} (hedge t.0 k.0) c count.1) (target_sound names 1 d t.0 t.1)
 
 by_answer : (names : List (List ℕ)) (version : ℕ) (d : Data) (c : PlainCertificate) (p q : Bool)
-    → (if p then formula_certificate_in names version d else (if q then hedge_certificate_in names d else Err (Member keys.Answer))) ≡ Ok c → IsSound (length names) c
+    → (if p then formula_certificate_in names version d else (if q then hedge_certificate_in names d else Err (Member keys.Answer))) ≡ Ok c
+    → IsSound (length names) c
 by_answer names version d c true q h = formula_case names version d c h
 by_answer names version d c false true h = hedge_case names d c h
 by_answer names version d c false false h = cc h

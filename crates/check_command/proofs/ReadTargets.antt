@@ -1,11 +1,12 @@
 -- Sets that were read lie below the number of names, and the sets of a target don't meet.
-use Rattle.std.proofs.Common.{◌≡◌, ℕ, ◌+◌, ◌<◌, ◌⊎◌, Bool, true, false, not, ◌&&◌, ◌||◌, List, [], ◌∷◌, length, Result, Ok, Err, if◌then◌else◌, cond, inl, inr, refl, sym, ap, subst, ◌∙◌, codes, arith}
+use Rattle.std.proofs.Common.{◌≡◌, ℕ, ◌+◌, ◌<◌, ◌⊎◌, Bool, true, false, not, ◌&&◌, ◌||◌, List, [], ◌∷◌, length, Result, Ok, Err, if◌then◌else◌, cond}
+use Rattle.std.proofs.Common.{inl, inr, refl, sym, ap, subst, ◌∙◌, codes, arith}
 use Rattle.std.specs.Prelude.{nat_lt, eqb, ◌==◌}
 use Rattle.std.specs.List.{list_any, position_or_len}
 use Rattle.std.specs.Str.{bytes_eq}
 use Rattle.mixed_graph.specs.Bits.{has}
 use Rattle.mixed_graph.specs.Names.{is_named, index_of}
-use Rattle.mixed_graph.specs.Masks.{join, one, is_empty, is_below, is_apart}
+use Rattle.mixed_graph.specs.Masks.{union, one, is_empty, is_below, is_apart}
 use Rattle.prob_expr.specs.TermSets.{are_term_sets}
 use Rattle.prob_expr.specs.Terms.{is_term}
 use Rattle.prob_expr.specs.Tree.{PlainTarget}
@@ -55,7 +56,8 @@ at_ok key (Ok x) y h = ap Ok (ok_is x y h)
 at_ok key (Err e) y h = cc h
 
 -- what is read of the member of a key is read of some value
-pub member_ok : {A : Type 0} (key : Key) (name : List ℕ) (f : Data → Result A ValueFault) (d : Data) (y : A) → member_by key name f d ≡ Ok y → (v : Data) × (f v ≡ Ok y)
+pub member_ok : {A : Type 0} (key : Key) (name : List ℕ) (f : Data → Result A ValueFault) (d : Data) (y : A) → member_by key name f d ≡ Ok y → (v : Data)
+    × (f v ≡ Ok y)
 member_ok key name f d y h =
     let b = bind_ok (or_fault (Member key) (get name d)) (λ v. at_key key (f v)) y h in
     (b.0, at_ok key (f b.0) y b.2)
@@ -66,7 +68,8 @@ place_low : (p : List ℕ → Bool) (names : List (List ℕ)) → list_any p nam
 place_low p [] h = cc h
 place_low p (x ∷ xs) h = by (p x) h (place_low p xs)
   where
-    by : (b : Bool) → (b || list_any p xs) ≡ true → (list_any p xs ≡ true → position_or_len p xs < length xs) → cond (not b) (1 + position_or_len p xs) 0 < length (x ∷ xs)
+    by : (b : Bool) → (b || list_any p xs) ≡ true → (list_any p xs ≡ true → position_or_len p xs < length xs)
+        → cond (not b) (1 + position_or_len p xs) 0 < length (x ∷ xs)
     by true k rest = omega arith
     by false k rest = let r = rest k in omega (arith, r)
 
@@ -93,13 +96,13 @@ second_out : (a b : Bool) → (a || b) ≡ false → b ≡ false
 second_out true b h = absurd cc
 second_out false b h = h
 
-member_of : (set v u : ℕ) → has (join set (one v)) u ≡ true → (has set u ≡ true) ⊎ (u ≡ v)
+member_of : (set v u : ℕ) → has (union set (one v)) u ≡ true → (has set u ≡ true) ⊎ (u ≡ v)
 member_of set v u h = elim (in_either (has set u) (has (one v) u) (sym (has_join set (one v) u) ∙ h)) [
   | inl e ↦ inl e
   | inr e ↦ inr (let k : eqb u v ≡ true = sym (has_one v u) ∙ e in grind (arith, k))
 ]
 
-more_new : (n barred set v : ℕ) → AreNew n barred set → v < n → has (join barred set) v ≡ false → AreNew n barred (join set (one v))
+more_new : (n barred set v : ℕ) → AreNew n barred set → v < n → has (union barred set) v ≡ false → AreNew n barred (union set (one v))
 more_new n barred set v h lt free = record {
   low = λ u e. elim (member_of set v u e) [ inl k ↦ h.low u k | inr k ↦ subst (λ i. i < n) (sym k) lt ];
   apart = λ u e. elim (member_of set v u e) [
@@ -108,7 +111,8 @@ more_new n barred set v h lt free = record {
   ];
 }
 
-members_new : (names : List (List ℕ)) (barred count set : ℕ) (ds : Items) (all : ℕ) → AreNew (length names) barred set → more_of_set names barred count set ds ≡ Ok all
+members_new : (names : List (List ℕ)) (barred count set : ℕ) (ds : Items) (all : ℕ) → AreNew (length names) barred set → more_of_set names barred count set ds
+    ≡ Ok all
     → AreNew (length names) barred all
 members_new names barred count set no_items all h e = subst (AreNew (length names) barred) (ok_is {E = ValueFault} set all e) h
 members_new names barred count set (item d ds) all h e =
@@ -116,9 +120,9 @@ members_new names barred count set (item d ds) all h e =
     let room = then_ok (nat_lt count 64) Form (value.◌>>=◌ (vertex_in names d) (λ v. value.◌>>=◌ (with_member barred set v) next)) all e in
     let v = value_ok (vertex_in names d) (λ v. value.◌>>=◌ (with_member barred set v) next) all room.1 in
     let m = value_ok (with_member barred set v.0) next all v.2 in
-    let free = else_ok (has (join barred set) v.0) Form (Ok (join set (one v.0))) m.0 m.1 in
+    let free = else_ok (has (union barred set) v.0) Form (Ok (union set (one v.0))) m.0 m.1 in
     let more = more_new (length names) barred set v.0 h (vertex_low names d v.0 v.1) free.0 in
-    members_new names barred (count + 1) m.0 ds all (subst (AreNew (length names) barred) (ok_is {E = ValueFault} (join set (one v.0)) m.0 free.1) more) m.2
+    members_new names barred (count + 1) m.0 ds all (subst (AreNew (length names) barred) (ok_is {E = ValueFault} (union set (one v.0)) m.0 free.1) more) m.2
 
 none_new : (n barred : ℕ) → AreNew n barred 0
 none_new n barred = record { low = λ v e. let no = has_none v in cc (sym no ∙ e); apart = λ v e. let no = has_none v in cc (sym no ∙ e) }
@@ -148,7 +152,8 @@ pub set_below : (n barred set : ℕ) → AreNew n barred set → is_below n set 
 set_below n barred set h = below_from n set h.low
 
 -- what is given is empty, or was read
-given_new : (names : List (List ℕ)) (version barred : ℕ) (d : Data) (given : ℕ) → given_in names version barred d ≡ Ok given → AreNew (length names) barred given
+given_new : (names : List (List ℕ)) (version barred : ℕ) (d : Data) (given : ℕ) → given_in names version barred d ≡ Ok given
+    → AreNew (length names) barred given
 unfolding given_in
 given_new names version barred d given = go (version == 2)
   where
@@ -164,10 +169,10 @@ outside set other h = apart_from set other (λ v e. go v e (has other v) refl)
     go v e true k = let no = h v k in cc (e, no)
     go v e false k = k
 
-term_of_sets : (n x y given : ℕ) → is_below n x ≡ true → IsFilled n x y → AreNew n (join x y) given → is_term n y x given ≡ true
+term_of_sets : (n x y given : ℕ) → is_below n x ≡ true → IsFilled n x y → AreNew n (union x y) given → is_term n y x given ≡ true
 term_of_sets n x y given low h new =
     let ly = set_below n x y h.members in
-    let lg = set_below n (join x y) given new in
+    let lg = set_below n (union x y) given new in
     let yx = apart_from y x h.members.apart in
     let yg = outside y given (λ v e. second_out (has x v) (has y v) (sym (has_join x y v) ∙ new.apart v e)) in
     let xg = outside x given (λ v e. in_neither (has x v) (has y v) (sym (has_join x y v) ∙ new.apart v e)) in
@@ -182,11 +187,12 @@ unfolding target_in
 target_sound names version d t h =
     let made : ℕ → ℕ → ℕ → PlainTarget = λ x y given. record { x = x; y = y; given = given } in
     let xs = bind_ok (member_by keys.X (codes "x") (set_in names 0) d)
-    (λ x. member_by keys.Y (codes "y") (filled_set_in names x) d >>= λ y. given_in names version (join x y) d >>= λ given. Ok (made x y given)) t h in
+    (λ x. member_by keys.Y (codes "y") (filled_set_in names x) d >>= λ y. given_in names version (union x y) d >>= λ given. Ok (made x y given)) t h in
     let x = member_ok keys.X (codes "x") (set_in names 0) d xs.0 xs.1 in
-    let ys = bind_ok (member_by keys.Y (codes "y") (filled_set_in names xs.0) d) (λ y. given_in names version (join xs.0 y) d >>= λ given. Ok (made xs.0 y given)) t xs.2 in
+    let ys = bind_ok (member_by keys.Y (codes "y") (filled_set_in names xs.0) d)
+    (λ y. given_in names version (union xs.0 y) d >>= λ given. Ok (made xs.0 y given)) t xs.2 in
     let y = member_ok keys.Y (codes "y") (filled_set_in names xs.0) d ys.0 ys.1 in
-    let gs = bind_ok (given_in names version (join xs.0 ys.0) d) (λ given. Ok (made xs.0 ys.0 given)) t ys.2 in
+    let gs = bind_ok (given_in names version (union xs.0 ys.0) d) (λ given. Ok (made xs.0 ys.0 given)) t ys.2 in
     subst (IsSoundTarget (length names)) (ok_is {E = CertFault} (made xs.0 ys.0 gs.0) t gs.2)
     (term_of_sets (length names) xs.0 ys.0 gs.0 (set_below (length names) 0 xs.0 (set_new names 0 x.0 xs.0 x.1)) (filled_new names xs.0 y.0 ys.0 y.1)
-    (given_new names version (join xs.0 ys.0) d gs.0 gs.1))
+    (given_new names version (union xs.0 ys.0) d gs.0 gs.1))

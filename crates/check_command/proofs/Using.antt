@@ -42,7 +42,8 @@ sets_apart n t h v e = go (has t.y v) refl
     go false k = refl
 
 -- the path of the fault of a check lies in the graph
-pub low_unless : (g : MixedGraph) → IsMixedGraph g → (zs : List ℕ) (t : PlainTarget) (f : PlainFormula) (d : PlainDerivation) (fault : CheckFault) → UnlessNoMemory fault (AcceptsNot g zs t f d fault)
+pub low_unless : (g : MixedGraph) → IsMixedGraph g → (zs : List ℕ) (t : PlainTarget) (f : PlainFormula) (d : PlainDerivation) (fault : CheckFault)
+    → UnlessNoMemory fault (AcceptsNot g zs t f d fault)
     → IsLowFault g.vertices fault
 low_unless g valid zs t f d (checks.Step place why) h = fault_low g valid zs t f d (checks.Step place why) h
 low_unless g valid zs t f d (checks.EndDiffers k) h = tt

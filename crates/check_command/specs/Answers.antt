@@ -22,8 +22,9 @@ use Rattle.certificate.specs.Plain.{PlainCertificate, formula, hedge, hedge_view
 use Rattle.certificate.specs.Reading.{certificate_in}
 use Rattle.certificate.specs.declared.fault.CertFault.{CertFault}
 use Rattle.certificate.specs.declared.fault.CertFault.TheVariants.{NoMemory}
-use Rattle.identify_text.specs.Answers.{formula_answer}
-use Rattle.name_text.specs.Lines.{line_of}
+use Rattle.answer_text.specs.declared.signs.Notation.TheVariants as notations
+use Rattle.identify_text.specs.Answers.{answer_in}
+use Rattle.answer_text.specs.Lines.{line_of}
 use Rattle.certificate.specs.FaultTexts.{cert_fault_text, cert_size_text}
 use Rattle.dag_reader.specs.declared.graph.ReadGraph.{ReadGraph}
 use Rattle.replies.specs.declared.outcome.Outcome.{Outcome}
@@ -36,25 +37,30 @@ use Rattle.experiment_lists.specs.Words.{Lists}
 use Rattle.check_command.specs.Lines.{accepted_text, derivation_text, hedge_text, heading_over, met_text}
 
 -- the bytes are the text of this certificate, and at most 67,108,864
-pub record IsRead (names : List (List ℕ)) (bytes : List ℕ) (c : PlainCertificate) : Type 0 where
+pub record HoldsCertificate (names : List (List ℕ)) (bytes : List ℕ) (c : PlainCertificate) : Type 0 where
   pub small : length bytes ≤ 67108864
   pub reads : certificate_in names bytes ≡ Ok c
 
--- yes: the derivation is accepted for the formula, each of whose terms is observed or under one of the experiments, and which is the effect P(y | do(x), given) at each assignment in each positive model that fits the graph
-pub record AcceptsFormula (q : MixedGraph) (names : List (List ℕ)) (zs : List ℕ) (t : PlainTarget) (f : PlainFormula) (d : PlainDerivation) (text : List ℕ) : Type 0 where
+-- yes: the derivation is accepted for the formula, each of whose terms is observed or under one of the experiments, and which is the effect P(y |
+-- do(x), given) at each assignment in each positive model that fits the graph
+pub record AcceptsFormula (q : MixedGraph) (names : List (List ℕ)) (zs : List ℕ) (t : PlainTarget) (f : PlainFormula) (d : PlainDerivation)
+    (text : List ℕ) : Type 0 where
   pub accepted : Accepts q zs t f d
   pub allowed : is_allowed zs f ≡ true
   pub effect : EqualsEffect q t f
-  pub prints : text ≡ accepted_text (formula_answer names t f)
+  pub prints : text ≡ accepted_text (answer_in notations.Plain names t f)
 
 -- no: the derivation has this first fault
-pub record RefusesFormula (q : MixedGraph) (names : List (List ℕ)) (zs : List ℕ) (t : PlainTarget) (f : PlainFormula) (d : PlainDerivation) (text : List ℕ) : Type 0 where
+pub record RefusesFormula (q : MixedGraph) (names : List (List ℕ)) (zs : List ℕ) (t : PlainTarget) (f : PlainFormula) (d : PlainDerivation)
+    (text : List ℕ) : Type 0 where
   pub fault : CheckFault
   pub is_fault : AcceptsNot q zs t f d fault
   pub prints : text ≡ derivation_text names (length d.lemmas) fault
 
--- Yes: its sets form a hedge for the effect (Shpitser and Pearl), of which the choice of children and the links are the evidence; two positive models that fit the graph agree on all observations and differ on the effect under every value of x, so that no formula without interventions equals it.
--- Each of the experiments leaves the larger set alone or sets a member of the smaller one. So the two models agree under each experiment too, and no formula whose terms are observed or under one of them equals the effect.
+-- Yes: its sets form a hedge for the effect (Shpitser and Pearl), of which the choice of children and the links are the evidence; two positive models
+-- that fit the graph agree on all observations and differ on the effect under every value of x, so that no formula without interventions equals it.
+-- Each of the experiments leaves the larger set alone or sets a member of the smaller one. So the two models agree under each experiment too, and no
+-- formula whose terms are observed or under one of them equals the effect.
 pub record AcceptsHedge (q : MixedGraph) (names : List (List ℕ)) (zs : List ℕ) (t : PlainTarget) (h : Hedge) (text : List ℕ) : Type 0 where
   pub forms : FormHedge q t.x t.y h.big.bits h.small.bits h.roots.bits
   pub evidence : IsHedge q t.x t.y h
@@ -99,15 +105,16 @@ pub record HasEntries (h : Hedge) : Type 0 where
 
 -- the bytes are a certificate of a formula or of a hedge, and this is its answer with experiments on the sets zs
 pub data CertificateAnswer (q : MixedGraph) (names : List (List ℕ)) (zs bytes : List ℕ) (o : Outcome) (text : List ℕ) : Type 0 where
-  of_formula : (t : PlainTarget) (f : PlainFormula) (d : PlainDerivation) → IsRead names bytes (formula t f d) → FormulaAnswer q names zs t f d o text
+  of_formula : (t : PlainTarget) (f : PlainFormula) (d : PlainDerivation) → HoldsCertificate names bytes (formula t f d) → FormulaAnswer q names zs t f d o text
       → CertificateAnswer q names zs bytes o text
-  of_hedge : (t : PlainTarget) (h : Hedge) → HasEntries h → IsRead names bytes (hedge t (hedge_view h)) → HedgeAnswer q names zs t h o text
+  of_hedge : (t : PlainTarget) (h : Hedge) → HasEntries h → HoldsCertificate names bytes (hedge t (hedge_view h)) → HedgeAnswer q names zs t h o text
       → CertificateAnswer q names zs bytes o text
 
 -- the bytes are no certificate: they are too many, or their text has a fault
 pub data IsCertificateRefusal (names : List (List ℕ)) (bytes line : List ℕ) : Type 0 where
   too_long : 67108864 < length bytes → line ≡ line_of cert_size_text → IsCertificateRefusal names bytes line
-  faulty : (fault : CertFault) → length bytes ≤ 67108864 → (fault ≡ NoMemory → ⊥) → certificate_in names bytes ≡ Err fault → line ≡ line_of (cert_fault_text fault)
+  faulty : (fault : CertFault) → length bytes ≤ 67108864 → (fault ≡ NoMemory → ⊥) → certificate_in names bytes ≡ Err fault → line
+      ≡ line_of (cert_fault_text fault)
       → IsCertificateRefusal names bytes line
 
 -- the answer of a certificate in the observed graph

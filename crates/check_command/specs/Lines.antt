@@ -2,7 +2,7 @@
 use Rattle.std.specs.Prelude.{ℕ, nat_lt, ◌==◌, List, [], ◌∷◌, ◌++◌, length, Option, Some, None, if◌then◌else◌, codes}
 use Rattle.std.specs.Fmt.{decimal}
 use Rattle.mixed_graph.specs.Names.{name_of}
-use Rattle.name_text.specs.Printing.{printed}
+use Rattle.answer_text.specs.Printing.{printed}
 use Rattle.replies.specs.Lines.{open_text}
 use Rattle.do_derivation.specs.declared.faults.StepFault.{StepFault}
 use Rattle.do_derivation.specs.declared.faults.StepFault.TheVariants.{NotATerm, Sets, Unblocked, BadOrder, Grouping, NoLemma, NoPlace, Shape}
@@ -49,7 +49,8 @@ path_line names Shape = []
 -- `refused: lemma 2 step 7 fault 3`, with the line of an open path
 abbrev pub step_text : List (List ℕ) → StepPlace → StepFault → List ℕ
 step_text names place fault = codes "refused: "
-    ++ (place_text place.lemma ++ (codes " step " ++ (decimal place.number ++ (codes " fault " ++ (fault_digit fault ++ (codes "\n" ++ path_line names fault))))))
+    ++ (place_text place.lemma ++ (codes " step " ++ (decimal place.number
+    ++ (codes " fault " ++ (fault_digit fault ++ (codes "\n" ++ path_line names fault))))))
 
 -- the place of another end: lemma k, or main where k is the number of lemmas
 abbrev pub end_place : (lemmas k : ℕ) → Option ℕ

@@ -1,14 +1,21 @@
 -- What `check` is asked for.
 use Rattle.std.specs.Prelude.{◌≡◌, List, Some, [], ◌∷◌, codes}
-use Rattle.word_forms.specs.Form.{Text, Row, Use, word_of, value_of}
-use Rattle.request_values.specs.Values as values
+use Rattle.command_words.specs.Form.{Text, Row, Use, word_of, value_of}
+use Rattle.command_words.specs.Values as values
 use Rattle.experiment_lists.specs.Views.{lists_in}
 use Rattle.experiment_lists.specs.Words.{Lists, AreOptionalExperiments}
 use Rattle.check_command.specs.declared.request.Request.{Request as CodeRequest}
 
 -- `check FILE CERTIFICATE [--experiments E]`
 abbrev pub check_row : Row
-check_row = record { name = codes "check"; positionals = codes "file" ∷ codes "certificate" ∷ []; extra = []; needed = []; options = codes "experiments" ∷ []; flags = [] }
+check_row = record {
+  name = codes "check";
+  positionals = codes "file" ∷ codes "certificate" ∷ [];
+  optional = [];
+  required = [];
+  options = codes "experiments" ∷ [];
+  flags = [];
+}
 
 -- a request
 pub record Request : Type 0 where

@@ -1,3 +1,5 @@
+//! The sets that the lists of experiments of a check name.
+
 ghost use Rattle.std.specs.Prelude.{IfOk};
 ghost use Rattle.experiment_lists.specs.Views.{lists_in};
 ghost use Rattle.check_command.specs.Replies.{IsAcceptance};

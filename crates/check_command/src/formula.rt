@@ -1,3 +1,5 @@
+//! The answer for a formula with its derivation.
+
 ghost use Rattle.std.specs.Prelude.{◌≡◌, IfOk, length};
 ghost use Rattle.mixed_graph.specs.Shown.{graph_of};
 ghost use Rattle.prob_expr.specs.Listed.{masks_of};
@@ -6,8 +8,9 @@ ghost use Rattle.do_derivation.specs.View.{derivation_view};
 ghost use Rattle.check_command.specs.Replies.{IsSoundTarget, IsSoundFormula, IsSoundDerivation, AnswersFormula};
 
 use crate::lines::{accepted_text, derivation_text};
+use answer_text::Notation;
 use do_derivation::{Derivation, check_with};
-use identify_text::formula_answer;
+use identify_text::answer_in;
 use latent_projection::Observed;
 use mixed_graph::VSet;
 use prob_expr::{Formula, Target};
@@ -31,7 +34,7 @@ pub fn check_formula(
 {
     match check_with(alloc, &seen.graph, target, experiments, formula, derivation) {
         Ok(()) => {
-            let answer = formula_answer(alloc, formula, target, &seen.names)?;
+            let answer = answer_in(alloc, Notation::Plain, formula, target, &seen.names)?;
             Ok(Reply {
                 outcome: Outcome::Yes,
                 text: accepted_text(alloc, &answer)?,

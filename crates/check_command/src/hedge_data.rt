@@ -1,3 +1,5 @@
+//! The answer for a hedge.
+
 ghost use Rattle.std.specs.Prelude.{◌≡◌, true, IfOk, length};
 ghost use Rattle.std.specs.List.{list_all};
 ghost use Rattle.mixed_graph.specs.Bits.{has};

@@ -1,3 +1,5 @@
+//! The lines of `check`: what is accepted, and the first fault.
+
 ghost use Rattle.std.specs.Prelude.{◌≡◌, ◌++◌, OnOk, IfOk, length};
 ghost use Rattle.check_command.specs.Lines.{accepted_text, place_text, fault_digit, path_line, step_text, end_place, derivation_text, name_or_dash, hedge_digit, at_vertex, hedge_text};
 ghost use Rattle.check_command.specs.Replies.{HasLowPath, IsLowFault};

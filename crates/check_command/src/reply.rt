@@ -1,3 +1,5 @@
+//! The answer of `check`.
+
 ghost use Rattle.std.specs.Prelude.{◌≤◌, ◌<◌, ℕ, List, IfOk, length};
 ghost use Rattle.prob_expr.specs.Listed.{masks_of};
 ghost use Rattle.check_command.specs.Answers.{AnswerOver};

@@ -1,21 +1,23 @@
+//! What `check` is asked.
+
 ghost use Rattle.std.specs.Prelude.{◌≡◌, ℕ, List, true, IfOk, IsErrOf};
-ghost use Rattle.word_forms.specs.Form.{Row, Use, is_among, value_names, value_of};
-ghost use Rattle.word_values.specs.Gives.{HoldsCall};
+ghost use Rattle.command_words.specs.Form.{Row, Use, is_among, value_names, value_of};
+ghost use Rattle.command_words.specs.Gives.{HoldsCall};
 ghost use Rattle.experiment_lists.specs.Views.{lists_in};
 ghost use Rattle.experiment_lists.specs.Words.{AreOptionalExperiments, Lists};
 
+use command_words::forms::Entry;
+use command_words::typed::{RequestFault, required_word, second_input};
+use command_words::values::Values;
 use experiment_lists::read_experiments;
-use request_values::{RequestFault, needed_word, second_input};
 use std::alloc::Global;
-use word_forms::Entry;
-use word_values::Values;
 
 /// `check FILE CERTIFICATE [--experiments E]`
 pub const ROW: Entry = Entry {
     name: "check",
     positionals: &["file", "certificate"],
-    extra: &[],
-    needed: &[],
+    optional: &[],
+    required: &[],
     options: &["experiments"],
     flags: &[],
 };
@@ -38,7 +40,7 @@ impl<'a> Request<'a> {
         ensures ok { (uses : List Use) → HoldsCall check_row uses values.now → IfOk result (λ r. IsRequest uses (request_of r)) }
         ensures none { (uses : List Use) → HoldsCall check_row uses values.now → IsErrOf result RequestFault.NotUnderstood → AsksNothing check_command uses }
     {
-        let file = needed_word(values, "file")?;
+        let file = required_word(values, "file")?;
         let certificate = second_input(values, file, "certificate")?;
         let experiments = optional_experiments(alloc, values, "experiments")?;
         Ok(Request {

@@ -2,7 +2,7 @@
 use Rattle.std.proofs.Common.{◌≡◌, ℕ, ◌<◌, List, Some, length, arith}
 use Rattle.std.specs.Prelude.{suc, replicate}
 use Rattle.std.proofs.lemmas.List.{length-replicate}
-use Rattle.word_forms.specs.Form.{Text}
+use Rattle.command_words.specs.Form.{Text}
 use Rattle.dag_reader.specs.declared.graph.ReadGraph.{ReadGraph}
 use Rattle.replies.specs.declared.outcome.Outcome.{Outcome}
 use Rattle.replies.specs.declared.outcome.Outcome.TheVariants.{Words, Read, Write, Memory}
@@ -16,7 +16,8 @@ use Rattle.command_run.specs.Ends.{Says}
 use Rattle.command_run.specs.Answers.{WordsAnswer, GraphAnswer, Defined, Continues, DefinedWith, GivesSecond, IsAnsweredWith, IsLeft, IsLeftOf}
 
 -- the outcome of the answer on all bytes of a second input that are more than its limit
-pub long_answered : (l : Remainder) (reply : Reply) → IsAnsweredWith l → ((other : List ℕ) → l.limit < length other → GivesSecond l other reply) → IsAnswered reply.outcome
+pub long_answered : (l : Remainder) (reply : Reply) → IsAnsweredWith l → ((other : List ℕ) → l.limit < length other → GivesSecond l other reply)
+    → IsAnswered reply.outcome
 long_answered l reply only gives =
     let long : List ℕ = replicate (suc l.limit) 0 in
     let e : length long ≡ suc l.limit = length-replicate (suc l.limit) 0 in
@@ -24,7 +25,8 @@ long_answered l reply only gives =
 
 module _ (s : CommandSet) where
   -- an answer is what a reply with its outcome says
-  pub said : (words : List Text) (answers : Outcome → List ℕ → Type 0) (unread : Type 0) (o : Outcome) (text : List ℕ) → IsAnswered o → answers o text → Says s words answers unread o text
+  pub said : (words : List Text) (answers : Outcome → List ℕ → Type 0) (unread : Type 0) (o : Outcome) (text : List ℕ) → IsAnswered o → answers o text
+      → Says s words answers unread o text
   said words answers unread Words text only a = absurd only
   said words answers unread Read text only a = absurd only
   said words answers unread Write text only a = absurd only
@@ -63,7 +65,8 @@ module _ (s : CommandSet) (laws : AreLawful s) where
 
   -- the outcome of the answer on the file alone
   pub defined_answered : (w : Request s) (bytes : List ℕ) (o : Outcome) (text : List ℕ) → Defined s w bytes o text → IsAnswered o
-  defined_answered w bytes o text = answered (λ k. Defined s w bytes k text) (λ h. graph_answer w h.graph Words text h.answer) (λ h. graph_answer w h.graph Read text h.answer)
+  defined_answered w bytes o text = answered (λ k. Defined s w bytes k text) (λ h. graph_answer w h.graph Words text h.answer)
+      (λ h. graph_answer w h.graph Read text h.answer)
       (λ h. graph_answer w h.graph Write text h.answer) (λ h. graph_answer w h.graph Memory text h.answer) o
 
   -- its outcomes are those that a command answers

@@ -6,7 +6,7 @@ use Rattle.replies.specs.Outcomes.{code_of}
 use Rattle.command_run.specs.Commands.{CommandSet, Request, Asks}
 use Rattle.command_run.specs.Laws.{AreLawful}
 use Rattle.command_run.specs.Run.{Run, Answers, by_words, by_file, by_both, Ends}
-use Rattle.command_run.specs.Complete.{NothingFailed, Answered, IsTold, IsExact, Complete}
+use Rattle.command_run.specs.Complete.{NothingFailed, Answered, InputsAreKnown, IsExact, Complete}
 use Rattle.command_run.proofs.OneAnswer.{one_answer, asked}
 
 module _ (s : CommandSet) (laws : AreLawful s) where
@@ -28,7 +28,8 @@ module _ (s : CommandSet) (laws : AreLawful s) where
     refused Write text c h none = absurd (none_answered h.0.outcome h.0.text none h.0.answers)
     refused Memory text c h none = inr c
 
-    given : (o : Outcome) (text : List ℕ) → code ≡ code_of o → Ends s r o text → (q : Request s) → Asks s r.words q → NothingFailed s r → Answered s r code ⊎ (code ≡ 8)
+    given : (o : Outcome) (text : List ℕ) → code ≡ code_of o → Ends s r o text → (q : Request s) → Asks s r.words q → NothingFailed s r → Answered s r code
+        ⊎ (code ≡ 8)
     given Yes text c h q a f = inl (record { outcome = Yes; text = text; status = c; answered = tt; answers = h.answers })
     given No text c h q a f = inl (record { outcome = No; text = text; status = c; answered = tt; answers = h.answers })
     given Words text c h q a f = absurd (h.0.no_request q a)
@@ -40,7 +41,7 @@ module _ (s : CommandSet) (laws : AreLawful s) where
     given Memory text c h q a f = inr c
 
     -- the inputs have one defined answer, so the status is that of each
-    exactly : (o : Outcome) (text : List ℕ) → code ≡ code_of o → Ends s r o text → IsTold s r → NothingFailed s r → IsExact s r code
+    exactly : (o : Outcome) (text : List ℕ) → code ≡ code_of o → Ends s r o text → InputsAreKnown s r → NothingFailed s r → IsExact s r code
     exactly o text c h told f k line answers = let q = asked s r k line answers in elim (given o text c h q.0 q.1 f) [
       | inl found ↦ inl (found.status ∙ ap code_of (one_answer s laws r told found.outcome k found.text line found.answers answers))
       | inr memory ↦ inr memory

@@ -1,10 +1,11 @@
 -- From what was read to the reply, and from a reply that was delivered to the end of the run.
-use Rattle.std.proofs.Common.{◌≡◌, ℕ, ◌<◌, ◌≤◌, arith, Bool, true, false, List, Option, Some, None, IfSome, IfOk, Result, Ok, Err, length, inl, ◌∙◌, refl, sym, subst}
+use Rattle.std.proofs.Common.{◌≡◌, ℕ, ◌<◌, ◌≤◌, arith, Bool, true, false, List, Option, Some, None, IfSome, IfOk, Result, Ok, Err, length, inl, ◌∙◌}
+use Rattle.std.proofs.Common.{refl, sym, subst}
 use Rattle.std.specs.Prelude.{IfErr, OnOk, OnErr, take}
 use Rattle.std.proofs.Math.Seq.{take-length}
 use Rattle.std.proofs.lemmas.Bool.{false≢true}
 use Rattle.std.specs.Global.{Vec}
-use Rattle.word_forms.specs.Form.{Text}
+use Rattle.command_words.specs.Form.{Text}
 use Rattle.causal_io.specs.Causes.{Rose}
 use Rattle.causal_io.specs.Reading.{AnswersAll}
 use Rattle.causal_io.specs.declared.ReadError.{ReadError}
@@ -17,9 +18,11 @@ use Rattle.replies.specs.declared.outcome.Reply.{Reply}
 use Rattle.command_run.specs.Commands.{CommandSet, Request, Asks, file_of}
 use Rattle.command_run.specs.Laws.{AreLawful}
 use Rattle.replies.specs.Command.{Remainder}
-use Rattle.command_run.specs.Answers.{WordsAnswer, Defined, too_long, Continues, DefinedWith, GivesSecond, IsAnsweredWith, IsLeftOf}
+use Rattle.replies.specs.Refusals.{too_long}
+use Rattle.command_run.specs.Answers.{WordsAnswer, Defined, Continues, DefinedWith, GivesSecond, IsAnsweredWith, IsLeftOf}
 use Rattle.command_run.specs.Run.{Stream, Run, Answers, Received, ReceivedLine, by_words, by_file, by_both, file as reads_file, second, Ends}
-use Rattle.command_run.specs.Ends.{FailedRead, Replied, RepliesWith, IsReadOf, TellsUnread, IsMade, GivesOnRead, told_of, EndsWith, Delivers, written, unwritten, refused, IsTooLongLine, Proceeds, replied, unread, no_memory}
+use Rattle.command_run.specs.Ends.{FailedRead, Replied, RepliesWith, IsReadOf, TellsUnread, IsMade, GivesOnRead, written_for, EndsWith, Delivers, written}
+use Rattle.command_run.specs.Ends.{unwritten, refused, IsTooLongLine, Proceeds, replied, unread, no_memory}
 use Rattle.command_run.proofs.Answered.{words_answered, defined_answered, long_answered, said, named, continues, defined_with}
 
 -- what holds of the bytes that were read holds of those that are held, where they are told
@@ -57,23 +60,28 @@ module _ (s : CommandSet) (laws : AreLawful s) where
 
   -- the reply on the words alone
   pub replied_words : (r : Run) (w : Request s) (reply : Reply) → Asks s r.words w → WordsAnswer s w reply.outcome reply.text.items → RepliesWith s r reply
-  replied_words r w reply asks a = an_answer r reply.outcome reply.text.items (words_answered s laws w reply.outcome reply.text.items a) (by_words (record { request = w; asks = asks; answer = a }))
+  replied_words r w reply asks a = an_answer r reply.outcome reply.text.items (words_answered s laws w reply.outcome reply.text.items a)
+      (by_words (record { request = w; asks = asks; answer = a }))
 
   -- the reply on the file alone
-  pub replied_file : (r : Run) (w : Request s) (file : Text) (bytes : List ℕ) (reply : Reply) → Asks s r.words w → file_of s w ≡ Some file → r.lacks file ≡ false →
+  pub replied_file : (r : Run) (w : Request s) (file : Text) (bytes : List ℕ) (reply : Reply) → Asks s r.words w → file_of s w ≡ Some file → r.lacks file
+      ≡ false →
       IfSome (r.held file) (λ all. bytes ≡ all) → Defined s w bytes reply.outcome reply.text.items → RepliesWith s r reply
-  replied_file r w file bytes reply asks names there held d = an_answer r reply.outcome reply.text.items (defined_answered s laws w bytes reply.outcome reply.text.items d) (by_file (record {
-    request = w;
-    asks = asks;
-    file = file;
-    names_it = names;
-    there = there;
-    defined = told (r.held file) bytes (λ all. Defined s w all reply.outcome reply.text.items) held d;
-  }))
+  replied_file r w file bytes reply asks names there held d = an_answer r reply.outcome reply.text.items
+      (defined_answered s laws w bytes reply.outcome reply.text.items d) (by_file (record {
+        request = w;
+        asks = asks;
+        file = file;
+        names_it = names;
+        there = there;
+        defined = told (r.held file) bytes (λ all. Defined s w all reply.outcome reply.text.items) held d;
+      }))
 
   -- the second input was read, over the shelf as the first read left it
-  module _ (r : Run) (w : Request s) (file : Text) (bytes : List ℕ) (l : Remainder) (reply : Reply) (held : Text → Option (List ℕ)) (lacks : Text → Bool) (faults : Text → ℕ)
-      (asks : Asks s r.words w) (names : file_of s w ≡ Some file) (there : r.lacks file ≡ false) (told_it : IfSome (r.held file) (λ all. bytes ≡ all)) (is : IsLeftOf s w bytes l)
+  module _ (r : Run) (w : Request s) (file : Text) (bytes : List ℕ) (l : Remainder) (reply : Reply) (held : Text → Option (List ℕ)) (lacks : Text → Bool)
+      (faults : Text → ℕ)
+      (asks : Asks s r.words w) (names : file_of s w ≡ Some file) (there : r.lacks file ≡ false) (told_it : IfSome (r.held file) (λ all. bytes ≡ all))
+      (is : IsLeftOf s w bytes l)
       (same_held : held ≡ r.held) (same_lacks : lacks ≡ r.lacks) (grown : (name : Text) → r.read_faults name ≤ faults name) where
     accepted_file : IfSome (r.held file) (λ all. Continues s w all)
     accepted_file = told (r.held file) bytes (λ all. Continues s w all) told_it (continues s w bytes l is)
@@ -105,7 +113,8 @@ module _ (s : CommandSet) (laws : AreLawful s) where
     proceeded (no_memory same) = no_room r reply same
 
   -- the reply to a text that is too long
-  long_file : (r : Run) (w : Request s) (file : Text) → Asks s r.words w → file_of s w ≡ Some file → r.lacks file ≡ false → IfSome (r.held file) (λ all. 1048576 < length all) →
+  long_file : (r : Run) (w : Request s) (file : Text) → Asks s r.words w → file_of s w ≡ Some file → r.lacks file ≡ false
+      → IfSome (r.held file) (λ all. 1048576 < length all) →
       (o : Outcome) (text : List ℕ) → IsTooLongLine o text → Replied s r o text
   long_file r w file asks names there held Graph line long = by_file (record {
     request = w;
@@ -119,10 +128,12 @@ module _ (s : CommandSet) (laws : AreLawful s) where
   long_file r w file asks names there held o line long = absurd long
 
   -- the file couldn't be read whole
-  pub unread_file : (r : Run) (w : Request s) (name : Text) (f : ReadError) (reply : Reply) → Asks s r.words w → file_of s w ≡ Some name → IsReadOf (r.held name) (r.lacks name) (r.read_faults name) (r.read_faults_after name) 1048576 (Err f)
+  pub unread_file : (r : Run) (w : Request s) (name : Text) (f : ReadError) (reply : Reply) → Asks s r.words w → file_of s w ≡ Some name
+      → IsReadOf (r.held name) (r.lacks name) (r.read_faults name) (r.read_faults_after name) 1048576 (Err f)
       → TellsUnread f reply → RepliesWith s r reply
   unread_file r w name Fault reply asks names h is =
-      let failed : FailedRead s r = record { request = w; asks = asks; name = name; is_read = reads_file names; rose = h.failed refl } in subst (λ o. Replied s r o reply.text.items) (sym is) failed
+      let failed : FailedRead s r = record { request = w; asks = asks; name = name; is_read = reads_file names; rose = h.failed refl } in
+      subst (λ o. Replied s r o reply.text.items) (sym is) failed
   unread_file r w name (TooLong most) reply asks names h long =
       long_file r w name asks names (not_true (r.lacks name) (λ t. let e = h.lacked t in cc e)) h.answer.1 reply.outcome reply.text.items long
   unread_file r w name NoMemory reply asks names h is = no_room r reply is
@@ -130,18 +141,23 @@ module _ (s : CommandSet) (laws : AreLawful s) where
 -- ---- the second input
 
 -- bytes that were read before are what is read of an input of the same name
-pub read_again : (held : Option (List ℕ)) (lacks : Bool) (faults limit : ℕ) (bytes : List ℕ) (r : Result (Vec ℕ) ReadError) → IfSome held (λ all. bytes ≡ all) → lacks ≡ false → length bytes ≤ limit
+pub read_again : (held : Option (List ℕ)) (lacks : Bool) (faults limit : ℕ) (bytes : List ℕ) (r : Result (Vec ℕ) ReadError) → IfSome held (λ all. bytes ≡ all)
+    → lacks ≡ false → length bytes ≤ limit
     → IfOk r (λ copy. copy.items ≡ bytes) → IfErr r (λ f. f ≡ NoMemory) → IsReadOf held lacks faults faults limit r
 read_again held lacks faults limit bytes (Ok copy) told_it there small same memory = record {
-  answer = (subst (λ (xs : List ℕ). length xs ≤ limit) (sym same) small, mapped held (λ all. bytes ≡ all) (λ all. copy.items ≡ all) (λ all e. same ∙ e) told_it);
+  answer = (
+    subst (λ (xs : List ℕ). length xs ≤ limit) (sym same) small,
+    mapped held (λ all. bytes ≡ all) (λ all. copy.items ≡ all) (λ all e. same ∙ e) told_it,
+  );
   lacked = λ t. absurd (false≢true (sym there ∙ t));
   failed = λ e. cc e;
 }
-read_again held lacks faults limit bytes (Err f) told_it there small same memory = subst (λ (k : ReadError). IsReadOf held lacks faults faults limit (Err k)) (sym memory) (record {
-  answer = tt;
-  lacked = λ t. absurd (false≢true (sym there ∙ t));
-  failed = λ e. cc e;
-})
+read_again held lacks faults limit bytes (Err f) told_it there small same memory =
+    subst (λ (k : ReadError). IsReadOf held lacks faults faults limit (Err k)) (sym memory) (record {
+      answer = tt;
+      lacked = λ t. absurd (false≢true (sym there ∙ t));
+      failed = λ e. cc e;
+    })
 
 -- what was read is within the limit
 pub within : (held : Option (List ℕ)) (limit : ℕ) (r : Result (Vec ℕ) ReadError) → AnswersAll held limit r → IfOk r (λ other. length other.items ≤ limit)
@@ -151,8 +167,10 @@ within held limit (Err f) a = tt
 module _ (held : Text → Option (List ℕ)) (lacks : Text → Bool) (faults faults_after : Text → ℕ) (l : Remainder) (only : IsAnsweredWith l) where
   -- the reply on what was read of the second input
   given_on : (reply : Reply) (read : Result (Vec ℕ) ReadError)
-      → IsReadOf (held l.second) (lacks l.second) (faults l.second) (faults_after l.second) (l.limit) read → GivesOnRead l read reply → Proceeds held lacks faults faults_after l reply
-  given_on reply (Ok other) h gives = replied (only other.items reply.outcome reply.text.items gives) (not_true (lacks l.second) (λ t. let e = h.lacked t in cc e))
+      → IsReadOf (held l.second) (lacks l.second) (faults l.second) (faults_after l.second) (l.limit) read → GivesOnRead l read reply
+      → Proceeds held lacks faults faults_after l reply
+  given_on reply (Ok other) h gives = replied (only other.items reply.outcome reply.text.items gives)
+      (not_true (lacks l.second) (λ t. let e = h.lacked t in cc e))
       (told (held l.second) other.items (λ all. GivesSecond l all reply) h.answer.1 gives)
   given_on reply (Err (TooLong most)) h gives = replied (long_answered l reply only gives) (not_true (lacks l.second) (λ t. let e = h.lacked t in cc e))
       (mapped (held l.second) (λ all. l.limit < length all) (λ all. GivesSecond l all reply) gives h.answer.1)
@@ -160,10 +178,13 @@ module _ (held : Text → Option (List ℕ)) (lacks : Text → Bool) (faults fau
   given_on reply (Err NoMemory) h is = absurd is
 
   -- or that memory was refused for it
-  pub given_second : {E : Type 0} (name : Text) (limit : ℕ) (read : Result (Vec ℕ) ReadError) (made : Result Reply E) (reply : Reply) → name ≡ l.second → limit ≡ l.limit
-      → IsReadOf (held name) (lacks name) (faults name) (faults_after name) limit read → IfOk made (GivesOnRead l read) → IsMade made reply → Proceeds held lacks faults faults_after l reply
+  pub given_second : {E : Type 0} (name : Text) (limit : ℕ) (read : Result (Vec ℕ) ReadError) (made : Result Reply E) (reply : Reply) → name ≡ l.second
+      → limit ≡ l.limit
+      → IsReadOf (held name) (lacks name) (faults name) (faults_after name) limit read → IfOk made (GivesOnRead l read) → IsMade made reply
+      → Proceeds held lacks faults faults_after l reply
   given_second name limit read (Ok made) reply en el h gives is =
-      let at = subst (λ n. IsReadOf (held n) (lacks n) (faults n) (faults_after n) (l.limit) read) en (subst (λ k. IsReadOf (held name) (lacks name) (faults name) (faults_after name) k read) el h) in
+      let at = subst (λ n. IsReadOf (held n) (lacks n) (faults n) (faults_after n) (l.limit) read) en
+      (subst (λ k. IsReadOf (held name) (lacks name) (faults name) (faults_after name) k read) el h) in
       subst (Proceeds held lacks faults faults_after l) (sym is) (given_on made read at gives)
   given_second name limit read (Err e) reply en el h gives is = no_memory is
 
@@ -171,7 +192,8 @@ module _ (held : Text → Option (List ℕ)) (lacks : Text → Bool) (faults fau
 
 module _ (s : CommandSet) where
   -- a reply that was written whole
-  whole_end : (r : Run) (o : Outcome) (text : List ℕ) → code_of o ≤ 1 → Replied s r o text → Appends r.out.before r.out.after text → Ends s r o (told_of s o text)
+  whole_end : (r : Run) (o : Outcome) (text : List ℕ) → code_of o ≤ 1 → Replied s r o text → Appends r.out.before r.out.after text
+      → Ends s r o (written_for s o text)
   whole_end r Yes text low a whole = record { answers = a; whole = whole }
   whole_end r No text low a whole = record { answers = a; whole = whole }
   whole_end r o text low a whole = absurd (omega (arith, low))
@@ -183,11 +205,21 @@ module _ (s : CommandSet) where
   front_of r o text low a = absurd (omega (arith, low))
 
   -- one of which nothing was written
-  refused_end : (r : Run) (o : Outcome) (text : List ℕ) → 2 ≤ code_of o → Replied s r o text → r.out.after ≡ r.out.before → Ends s r o (told_of s o text)
+  refused_end : (r : Run) (o : Outcome) (text : List ℕ) → 2 ≤ code_of o → Replied s r o text → r.out.after ≡ r.out.before → Ends s r o (written_for s o text)
   refused_end r Yes text high a nothing = absurd (omega (arith, high))
   refused_end r No text high a nothing = absurd (omega (arith, high))
   refused_end r Words text high a nothing = (record { no_request = a; nothing = nothing }, refl)
-  refused_end r Read text high a nothing = (record { request = a.request; asks = a.asks; name = a.name; is_read = a.is_read; rose = a.rose; nothing = nothing }, refl)
+  refused_end r Read text high a nothing = (
+    record {
+      request = a.request;
+      asks = a.asks;
+      name = a.name;
+      is_read = a.is_read;
+      rose = a.rose;
+      nothing = nothing;
+    },
+    refl,
+  )
   refused_end r Write text high a nothing = absurd a
   refused_end r Memory text high a nothing = (nothing, refl)
   refused_end r o text high a nothing = record { answers = a; nothing = nothing }
@@ -196,7 +228,7 @@ module _ (s : CommandSet) where
   pub delivered : (r : Run) (reply last : Reply) → RepliesWith s r reply → Delivers r.out reply last → EndsWith s r last
   delivered r reply last a (written same low whole) = subst (EndsWith s r) (sym same) (whole_end r reply.outcome reply.text.items low a whole)
   delivered r reply last a (refused same high nothing) = subst (EndsWith s r) (sym same) (refused_end r reply.outcome reply.text.items high a nothing)
-  delivered r reply last a (unwritten is low count within front rose) = subst (λ o. Ends s r o (told_of s o last.text.items)) (sym is) (
+  delivered r reply last a (unwritten is low count within front rose) = subst (λ o. Ends s r o (written_for s o last.text.items)) (sym is) (
     record {
       outcome = reply.outcome;
       text = reply.text.items;
@@ -214,7 +246,8 @@ module _ (s : CommandSet) where
 
 -- what was written of a line was received: all of it, or a front of it where a write failed
 line_received : {A E : Type 0} (err : Stream) (line : List ℕ) (r : Result A E) → OnOk r (Appends err.before err.after line)
-    → OnErr r ((count : ℕ) × (count ≤ length line) × Appends err.before err.after (take count line)) → OnErr r (Rose err.faults err.faults_after) → ReceivedLine err line
+    → OnErr r ((count : ℕ) × (count ≤ length line) × Appends err.before err.after (take count line)) → OnErr r (Rose err.faults err.faults_after)
+    → ReceivedLine err line
 line_received err line (Ok x) whole front rose = record {
   count = length line;
   within = omega arith;
@@ -223,8 +256,10 @@ line_received err line (Ok x) whole front rose = record {
 }
 line_received err line (Err e) whole front rose = record { count = front.0; within = front.1; front = front.2; whole = λ none. absurd (none rose) }
 
-pub received : {A E : Type 0} (err : Stream) (o : Outcome) (line : List ℕ) (r : Result A E) → (o ≡ Yes → ⊥) → (o ≡ No → ⊥) → OnOk r (Appends err.before err.after line)
-    → OnErr r ((count : ℕ) × (count ≤ length line) × Appends err.before err.after (take count line)) → OnErr r (Rose err.faults err.faults_after) → Received err o line
+pub received : {A E : Type 0} (err : Stream) (o : Outcome) (line : List ℕ) (r : Result A E) → (o ≡ Yes → ⊥) → (o ≡ No → ⊥)
+    → OnOk r (Appends err.before err.after line)
+    → OnErr r ((count : ℕ) × (count ≤ length line) × Appends err.before err.after (take count line)) → OnErr r (Rose err.faults err.faults_after)
+    → Received err o line
 received err Yes line r not_yes not_no whole front rose = absurd (not_yes refl)
 received err No line r not_yes not_no whole front rose = absurd (not_no refl)
 received err o line r not_yes not_no whole front rose = line_received err line r whole front rose

@@ -5,5 +5,5 @@ mod ReadCounts
 mod NeverFails
 mod OneCommand
 pub mod OneRequest
-mod OneAnswer
+pub mod OneAnswer
 mod CompleteRuns

@@ -1,6 +1,6 @@
 -- Over an input and an output whose counts of failures are 0, no failed read and no failed write is answered.
 use Rattle.std.proofs.Common.{◌≡◌, ℕ, sym, ◌∙◌, arith, List}
-use Rattle.word_forms.specs.Form.{Text}
+use Rattle.command_words.specs.Form.{Text}
 use Rattle.causal_io.specs.Causes.{Rose}
 use Rattle.replies.specs.declared.outcome.Outcome.{Outcome}
 use Rattle.replies.specs.declared.outcome.Outcome.TheVariants.{Read, Write}
@@ -20,5 +20,9 @@ unwritten : (s : CommandSet) (r : Run) → r.out.faults_after ≡ 0 → (o : Out
 unwritten s r write Write text c h = not_risen r.out.faults r.out.faults_after write h.0.rose
 unwritten s r write o text c h = absurd (omega (arith, c))
 
-pub sure_end : (s : CommandSet) (r : Run) (err : Stream) (code : ℕ) → ((name : Text) → r.read_faults_after name ≡ 0) → r.out.faults_after ≡ 0 → Ended s r err code → (code ≡ 6 → ⊥) × (code ≡ 7 → ⊥)
-sure_end s r err code read write e = (λ c. unread s r read e.outcome e.text (sym c ∙ e.status) e.ends, λ c. unwritten s r write e.outcome e.text (sym c ∙ e.status) e.ends)
+pub sure_end : (s : CommandSet) (r : Run) (err : Stream) (code : ℕ) → ((name : Text) → r.read_faults_after name ≡ 0) → r.out.faults_after ≡ 0
+    → Ended s r err code → (code ≡ 6 → ⊥) × (code ≡ 7 → ⊥)
+sure_end s r err code read write e = (
+  λ c. unread s r read e.outcome e.text (sym c ∙ e.status) e.ends,
+  λ c. unwritten s r write e.outcome e.text (sym c ∙ e.status) e.ends,
+)

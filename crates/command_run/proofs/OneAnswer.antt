@@ -2,7 +2,7 @@
 use Rattle.std.proofs.Common.{◌≡◌, ◌⊎◌, ℕ, List, Option, Some, inl, inr, refl, sym, ap, ◌∙◌, subst, arith}
 use Rattle.std.proofs.lemmas.Option.{same_Some}
 use Rattle.std.specs.Prelude.{IfSome}
-use Rattle.word_forms.specs.Form.{Text}
+use Rattle.command_words.specs.Form.{Text}
 use Rattle.dag_reader.specs.declared.graph.ReadGraph.{ReadGraph}
 use Rattle.dag_reader.specs.RoundTrip.{AreSame}
 use Rattle.replies.specs.declared.outcome.Outcome.{Outcome}
@@ -13,9 +13,11 @@ use Rattle.dag_reader.proofs.OneReading.{reads_either}
 use Rattle.replies.proofs.OneGraph.{one_reading}
 use Rattle.command_run.specs.Commands.{CommandSet, Request, of, file_of, second_of, Asks}
 use Rattle.command_run.specs.Laws.{AreLawful}
-use Rattle.command_run.specs.Answers.{WordsAnswer, GraphAnswer, NeedsSecond, SecondAnswer, IsGraphRefusal, too_long, faulty, HoldsAnswer, Defined, Continues, DefinedWith}
-use Rattle.command_run.specs.Run.{Run, AnswersFile, AnswersBoth, Answers, by_words, by_file, by_both, IsRead}
-use Rattle.command_run.specs.Complete.{IsTold}
+use Rattle.command_run.specs.Answers.{WordsAnswer, GraphAnswer, NeedsSecond, SecondAnswer, HoldsAnswer, Defined}
+use Rattle.replies.specs.Refusals.{IsGraphRefusal, too_long, faulty}
+use Rattle.command_run.specs.Answers.{Continues, DefinedWith}
+use Rattle.command_run.specs.Run.{Run, AnswersFile, AnswersBoth, Answers, by_words, by_file, by_both, ReadsName}
+use Rattle.command_run.specs.Complete.{InputsAreKnown}
 use Rattle.command_run.proofs.OneRequest.{one_request}
 
 -- the answer to a request, by the bytes of its file, or by those of both inputs
@@ -53,17 +55,18 @@ asked s r o text (by_file a) = (a.request, a.asks)
 asked s r o text (by_both a) = (a.request, a.asks)
 
 -- one name holds one run of bytes
-same_bytes : (r : Run) (name : Option Text) (file other : Text) (bytes more : List ℕ) → name ≡ Some file → name ≡ Some other → r.held file ≡ Some bytes → r.held other ≡ Some more → more ≡ bytes
+same_bytes : (r : Run) (name : Option Text) (file other : Text) (bytes more : List ℕ) → name ≡ Some file → name ≡ Some other → r.held file ≡ Some bytes
+    → r.held other ≡ Some more → more ≡ bytes
 same_bytes r name file other bytes more a b c d = same_Some more bytes (sym d ∙ ap (λ (n : Text). r.held n) (same_Some other file (sym b ∙ a)) ∙ c)
 
 module _ (s : CommandSet) (laws : AreLawful s) where
   -- ---- what each command answers
 
-  words_once : (w : Request s) → OneOutcome (WordsAnswer s w)
+  pub words_once : (w : Request s) → OneOutcome (WordsAnswer s w)
   words_once (of c q) = (laws.each c).words_once q
 
   -- a request that words alone answer has no file
-  words_alone : (w : Request s) (file : Text) (o : Outcome) (text : List ℕ) → WordsAnswer s w o text → file_of s w ≡ Some file → ⊥
+  pub words_alone : (w : Request s) (file : Text) (o : Outcome) (text : List ℕ) → WordsAnswer s w o text → file_of s w ≡ Some file → ⊥
   words_alone (of c q) file o text a names = (laws.each c).no_file q o text a file names
 
   on_graph : (w : Request s) (bytes : List ℕ) → OneOutcome (IsAnswerOn bytes (λ g. GraphAnswer s w g))
@@ -73,7 +76,8 @@ module _ (s : CommandSet) (laws : AreLawful s) where
   on_both (of c q) bytes other = (laws.each c).both_once q bytes other
 
   -- a request that the file alone answers reads no second input
-  file_alone : (w : Request s) (second : Text) (g h : ReadGraph) → AreSame g h → second_of s w ≡ Some second → (o : Outcome) (text : List ℕ) → GraphAnswer s w g o text → NeedsSecond s w h → ⊥
+  file_alone : (w : Request s) (second : Text) (g h : ReadGraph) → AreSame g h → second_of s w ≡ Some second → (o : Outcome) (text : List ℕ)
+      → GraphAnswer s w g o text → NeedsSecond s w h → ⊥
   file_alone (of c q) second g h same names o text a n = (laws.each c).file_alone q second g h same names o text a n
 
   -- ---- what bytes answer
@@ -84,33 +88,37 @@ module _ (s : CommandSet) (laws : AreLawful s) where
   held_or_refused bytes g line h (faulty fault short ne reads is) = reads_either bytes g fault h.reads ne reads
 
   -- a defined answer is a refused graph, or one on a graph
-  split : (w : Request s) (bytes : List ℕ) (o : Outcome) (text : List ℕ) → Defined s w bytes o text → ((o ≡ Graph) × IsGraphRefusal bytes text) ⊎ HoldsAnswer s w bytes o text
+  split : (w : Request s) (bytes : List ℕ) (o : Outcome) (text : List ℕ) → Defined s w bytes o text → ((o ≡ Graph) × IsGraphRefusal bytes text)
+      ⊎ HoldsAnswer s w bytes o text
   split w bytes Graph text (inl r) = inl (refl, r)
   split w bytes Graph text (inr h) = inr h
   split w bytes o text h = inr h
 
-  defined_once : (w : Request s) (bytes : List ℕ) → OneOutcome (Defined s w bytes)
+  pub defined_once : (w : Request s) (bytes : List ℕ) → OneOutcome (Defined s w bytes)
   defined_once w bytes o p text line a b = go (split w bytes o text a) (split w bytes p line b)
     where
-      go : ((o ≡ Graph) × IsGraphRefusal bytes text) ⊎ HoldsAnswer s w bytes o text → ((p ≡ Graph) × IsGraphRefusal bytes line) ⊎ HoldsAnswer s w bytes p line → o ≡ p
+      go : ((o ≡ Graph) × IsGraphRefusal bytes text) ⊎ HoldsAnswer s w bytes o text → ((p ≡ Graph) × IsGraphRefusal bytes line) ⊎ HoldsAnswer s w bytes p line
+          → o ≡ p
       go (inl x) (inl y) = x.0 ∙ sym y.0
       go (inl x) (inr y) = absurd (held_or_refused bytes y.graph text y.holds x.1)
       go (inr x) (inl y) = absurd (held_or_refused bytes x.graph line x.holds y.1)
-      go (inr x) (inr y) = on_graph w bytes o p text line (record { graph = x.graph; holds = x.holds; given = x.answer }) (record { graph = y.graph; holds = y.holds; given = y.answer })
+      go (inr x) (inr y) = on_graph w bytes o p text line (record { graph = x.graph; holds = x.holds; given = x.answer })
+          (record { graph = y.graph; holds = y.holds; given = y.answer })
 
   -- where the file alone is answered, the second input isn't read
-  alone : (w : Request s) (second : Text) (bytes : List ℕ) (o : Outcome) (text : List ℕ) → second_of s w ≡ Some second → Defined s w bytes o text → Continues s w bytes → ⊥
+  pub alone : (w : Request s) (second : Text) (bytes : List ℕ) (o : Outcome) (text : List ℕ) → second_of s w ≡ Some second → Defined s w bytes o text
+      → Continues s w bytes → ⊥
   alone w second bytes o text names a c = go (split w bytes o text a)
     where
       go : ((o ≡ Graph) × IsGraphRefusal bytes text) ⊎ HoldsAnswer s w bytes o text → ⊥
       go (inl x) = held_or_refused bytes c.0 text c.1 x.1
       go (inr x) = file_alone w second x.graph c.0 (one_reading bytes x.graph c.0 x.holds c.1) names o text x.answer c.2
 
-  with_once : (w : Request s) (bytes other : List ℕ) → OneOutcome (DefinedWith s w bytes other)
+  pub with_once : (w : Request s) (bytes other : List ℕ) → OneOutcome (DefinedWith s w bytes other)
   with_once w bytes other o p text line a b =
       on_both w bytes other o p text line (record { graph = a.0; holds = a.1; given = a.3 }) (record { graph = b.0; holds = b.1; given = b.3 })
 
-  module _ (r : Run) (told : IsTold s r) (w : Request s) (asks : Asks s r.words w) (o : Outcome) (text : List ℕ) where
+  module _ (r : Run) (told : InputsAreKnown s r) (w : Request s) (asks : Asks s r.words w) (o : Outcome) (text : List ℕ) where
     same : (q : Request s) → Asks s r.words q → q ≡ w
     same q a = one_request s laws r.words w q asks a
 
@@ -118,12 +126,13 @@ module _ (s : CommandSet) (laws : AreLawful s) where
     from_file a =
         let e = same a.request a.asks in
         let names : file_of s w ≡ Some a.file = subst (λ (q : Request s). file_of s q ≡ Some a.file) e a.names_it in
-        let held = told w asks a.file (IsRead.file names) a.there in record {
+        let held = told w asks a.file (ReadsName.file names) a.there in record {
           file = a.file;
           bytes = held.0;
           names = names;
           held = held.1;
-          defined = of_told (r.held a.file) held.0 (λ bytes. Defined s w bytes o text) held.1 (subst (λ (q : Request s). IfSome (r.held a.file) (λ bytes. Defined s q bytes o text)) e a.defined);
+          defined = of_told (r.held a.file) held.0 (λ bytes. Defined s w bytes o text) held.1
+              (subst (λ (q : Request s). IfSome (r.held a.file) (λ bytes. Defined s q bytes o text)) e a.defined);
         }
 
     from_both : AnswersBoth s r o text → ByBoth s r w o text
@@ -131,11 +140,13 @@ module _ (s : CommandSet) (laws : AreLawful s) where
         let e = same a.request a.asks in
         let names : file_of s w ≡ Some a.file = subst (λ (q : Request s). file_of s q ≡ Some a.file) e a.names_it in
         let names_second : second_of s w ≡ Some a.second = subst (λ (q : Request s). second_of s q ≡ Some a.second) e a.names_second in
-        let accepted : IfSome (r.held a.file) (λ bytes. Continues s w bytes) = subst (λ (q : Request s). IfSome (r.held a.file) (λ bytes. Continues s q bytes)) e a.accepted in
-        let held = told w asks a.file (IsRead.file names) a.there in
-        let held_second = told w asks a.second (IsRead.second a.file names names_second a.there accepted) a.second_there in
+        let accepted : IfSome (r.held a.file) (λ bytes. Continues s w bytes) =
+        subst (λ (q : Request s). IfSome (r.held a.file) (λ bytes. Continues s q bytes)) e a.accepted in
+        let held = told w asks a.file (ReadsName.file names) a.there in
+        let held_second = told w asks a.second (ReadsName.second a.file names names_second a.there accepted) a.second_there in
         let defined = of_told (r.held a.file) held.0 (λ bytes. IfSome (r.held a.second) (λ other. DefinedWith s w bytes other o text)) held.1
-        (subst (λ (q : Request s). IfSome (r.held a.file) (λ bytes. IfSome (r.held a.second) (λ other. DefinedWith s q bytes other o text))) e a.defined) in record {
+        (subst (λ (q : Request s). IfSome (r.held a.file) (λ bytes. IfSome (r.held a.second) (λ other. DefinedWith s q bytes other o text))) e a.defined) in
+        record {
           file = a.file;
           second = a.second;
           bytes = held.0;
@@ -156,7 +167,8 @@ module _ (s : CommandSet) (laws : AreLawful s) where
   module _ (r : Run) (w : Request s) (o p : Outcome) (text line : List ℕ) where
     two_files : ByFile s r w o text → ByFile s r w p line → o ≡ p
     two_files a b = defined_once w a.bytes o p text line a.defined
-        (subst (λ (bytes : List ℕ). Defined s w bytes p line) (same_bytes r (file_of s w) a.file b.file a.bytes b.bytes a.names b.names a.held b.held) b.defined)
+        (subst (λ (bytes : List ℕ). Defined s w bytes p line) (same_bytes r (file_of s w) a.file b.file a.bytes b.bytes a.names b.names a.held b.held)
+        b.defined)
 
     file_and_both : ByFile s r w o text → ByBoth s r w p line → ⊥
     file_and_both a b = alone w b.second a.bytes o text b.names_second a.defined
@@ -164,8 +176,10 @@ module _ (s : CommandSet) (laws : AreLawful s) where
 
     two_both : ByBoth s r w o text → ByBoth s r w p line → o ≡ p
     two_both a b = with_once w a.bytes a.other o p text line a.defined
-        (subst (λ (bytes : List ℕ). DefinedWith s w bytes a.other p line) (same_bytes r (file_of s w) a.file b.file a.bytes b.bytes a.names b.names a.held b.held)
-        (subst (λ (other : List ℕ). DefinedWith s w b.bytes other p line) (same_bytes r (second_of s w) a.second b.second a.other b.other a.names_second b.names_second a.held_second b.held_second) b.defined))
+        (subst (λ (bytes : List ℕ). DefinedWith s w bytes a.other p line)
+        (same_bytes r (file_of s w) a.file b.file a.bytes b.bytes a.names b.names a.held b.held)
+        (subst (λ (other : List ℕ). DefinedWith s w b.bytes other p line)
+        (same_bytes r (second_of s w) a.second b.second a.other b.other a.names_second b.names_second a.held_second b.held_second) b.defined))
 
   joined : (r : Run) (w : Request s) (o p : Outcome) (text line : List ℕ) → ByAny s r w o text → ByAny s r w p line → o ≡ p
   joined r w o p text line (inl a) (inl b) = words_once w o p text line a b
@@ -179,7 +193,7 @@ module _ (s : CommandSet) (laws : AreLawful s) where
   joined r w o p text line (inr (inr a)) (inr (inr b)) = two_both r w o p text line a b
 
   -- the defined answer of a run whose inputs are told has one outcome
-  pub one_answer : (r : Run) → IsTold s r → OneOutcome (Answers s r)
+  pub one_answer : (r : Run) → InputsAreKnown s r → OneOutcome (Answers s r)
   one_answer r told o p text line a b =
       let q = asked s r o text a in
       joined r q.0 o p text line (from_any r told q.0 q.1 o text a) (from_any r told q.0 q.1 p line b)

@@ -1,7 +1,7 @@
 -- Words are one call at most, and ask for one request at most.
 use Rattle.std.proofs.Common.{◌≡◌, List, sym, ap, subst}
-use Rattle.word_forms.specs.Form.{Text, Use}
-use Rattle.word_forms.proofs.Exact.{one_call}
+use Rattle.command_words.specs.Form.{Text, Use}
+use Rattle.command_words.proofs.Exact.{one_call}
 use Rattle.command_run.specs.Commands.{CommandSet, table, Request, of, command_of, IsRequest, Asks}
 use Rattle.command_run.specs.Complete.{WordsAskOnce}
 use Rattle.command_run.specs.Laws.{AreLawful}
@@ -16,7 +16,8 @@ module _ (s : CommandSet) (laws : AreLawful s) where
   -- the uses of a command ask for one request
   one_of_uses : (uses : List Use) (q r : Request s) → command_of s q ≡ command_of s r → IsRequest s uses q → IsRequest s uses r → r ≡ q
   one_of_uses uses (of c q) (of d r) e a b =
-      subst (λ (k : s.Command). (w : (s.form_of k).Request) → IsRequest s uses (of k w) → AreSame (of k w) (of c q)) e (λ w h. ap {0, 0} (λ (v : (s.form_of c).Request). of c v) ((laws.each c).one_request uses q w a h)) r b
+      subst (λ (k : s.Command). (w : (s.form_of k).Request) → IsRequest s uses (of k w) → AreSame (of k w) (of c q)) e
+      (λ w h. ap {0, 0} (λ (v : (s.form_of c).Request). of c v) ((laws.each c).one_request uses q w a h)) r b
 
   pub one_request : (words : List Text) (q r : Request s) → Asks s words q → Asks s words r → r ≡ q
   one_request words q r a b =

@@ -1,20 +1,15 @@
 -- The defined answer of a command: by its words alone, on the bytes of its file, or on those of both inputs; and what the code's values say of it.
-use Rattle.std.specs.Prelude.{ℕ, ◌≡◌, ◌<◌, ◌≤◌, ◌⊎◌, List, length, Some, Err}
+use Rattle.std.specs.Prelude.{ℕ, ◌≡◌, ◌⊎◌, List, Some}
 use Rattle.dag_reader.specs.declared.graph.ReadGraph.{ReadGraph}
-use Rattle.dag_reader.specs.declared.faults.GraphFault.{GraphFault}
-use Rattle.dag_reader.specs.declared.faults.GraphFault.TheVariants.{NoMemory}
-use Rattle.dag_reader.specs.Reads.{Reads}
-use Rattle.name_text.specs.Lines.{line_of}
-use Rattle.dag_reader.specs.FaultTexts.{graph_fault_text}
 use Rattle.replies.specs.declared.outcome.Outcome.{Outcome}
 use Rattle.replies.specs.declared.outcome.Outcome.TheVariants.{Graph}
 use Rattle.replies.specs.declared.outcome.Reply.{Reply}
 use Rattle.replies.specs.Observed.{HoldsGraph}
+use Rattle.replies.specs.Refusals.{IsGraphRefusal}
 use Rattle.replies.specs.Outcomes.{IsAnswered}
 use Rattle.replies.specs.Command.{Remainder}
 use Rattle.replies.specs.Command as forms
 use Rattle.command_run.specs.Commands.{CommandSet, Request, of, file_of}
-use Rattle.command_run.specs.Lines.{size_line}
 use Rattle.command_run.specs.declared.request.AfterWords.{AfterWords}
 use Rattle.command_run.specs.declared.request.AfterWords.TheVariants as words
 use Rattle.command_run.specs.declared.request.AfterFile.{AfterFile}
@@ -35,12 +30,6 @@ NeedsSecond s (of c q) g = (s.form_of c).continues q g
 -- the answer of a command on a graph that was read and the bytes of its second input
 abbrev pub SecondAnswer : (s : CommandSet) → Request s → ReadGraph → List ℕ → Outcome → List ℕ → Type 0
 SecondAnswer s (of c q) g other o text = (s.form_of c).by_both q g other o text
-
--- the bytes are no graph: they are too many, or their text has a fault
-pub data IsGraphRefusal (bytes line : List ℕ) : Type 0 where
-  too_long : 1048576 < length bytes → line ≡ size_line → IsGraphRefusal bytes line
-  faulty : (fault : GraphFault) → length bytes ≤ 1048576 → (fault ≡ NoMemory → ⊥) → Reads bytes (Err fault) → line ≡ line_of (graph_fault_text fault)
-      → IsGraphRefusal bytes line
 
 -- the answer of a command on a graph that the bytes hold
 pub record HoldsAnswer (s : CommandSet) (w : Request s) (bytes : List ℕ) (o : Outcome) (text : List ℕ) : Type 0 where

@@ -1,11 +1,12 @@
 -- The commands of a program: one list, and of each its row and what it is, which stands in its own crate; and when words ask for a request.
 use Rattle.std.specs.Prelude.{◌≡◌, List, Option, map}
-use Rattle.word_forms.specs.Form.{Text, Row, Use, IsCall}
-use Rattle.word_requests.specs.Asks.{AsksBy}
+use Rattle.command_words.specs.Form.{Text, Row, Use, IsCall}
+use Rattle.command_words.specs.Asks.{AsksBy}
 use Rattle.replies.specs.Command.{CommandForm}
 use Rattle.replies.specs.Command as forms
 
--- The commands: all of them in the order of the table, and of each its row, and what it is asked for and what it answers; and the names that are told where words ask for nothing.
+-- The commands: all of them in the order of the table, and of each its row, and what it is asked for and what it answers; and the names that are told
+-- where words ask for nothing.
 pub record CommandSet : Type 1 where
   pub Command : Type 0
   pub all : List Command
@@ -47,7 +48,8 @@ Asks s = AsksBy (table s) (λ q. s.row_for (command_of s q)) (IsRequest s)
 
 -- words are one call at most
 abbrev pub AskOnce : CommandSet → List Text → Type 0
-AskOnce s words = (row other : Row) (uses others : List Use) → IsCall (table s) words row uses → IsCall (table s) words other others → (other ≡ row) × (others ≡ uses)
+AskOnce s words = (row other : Row) (uses others : List Use) → IsCall (table s) words row uses → IsCall (table s) words other others → (other ≡ row)
+    × (others ≡ uses)
 
 -- each command has a row of its own
 abbrev pub AreApart : CommandSet → Type 0

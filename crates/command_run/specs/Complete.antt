@@ -1,15 +1,15 @@
 -- The other way round: which status a run has to have.
 use Rattle.std.specs.Prelude.{ℕ, ◌≡◌, ◌⊎◌, false, List, Some}
 use Rattle.causal_io.specs.Causes.{Rose}
-use Rattle.word_forms.specs.Form.{Text}
+use Rattle.command_words.specs.Form.{Text}
 use Rattle.replies.specs.declared.outcome.Outcome.{Outcome}
 use Rattle.replies.specs.Outcomes.{code_of, IsAnswered}
 use Rattle.command_run.specs.Commands.{CommandSet, Request, Asks, AskOnce}
-use Rattle.command_run.specs.Run.{Run, Answers, IsRead}
+use Rattle.command_run.specs.Run.{Run, Answers, ReadsName}
 
 -- no count of failures rose: of the inputs that a request of the words reads, or of the writes
 pub record NothingFailed (s : CommandSet) (r : Run) : Type 0 where
-  pub reads : (q : Request s) → Asks s r.words q → (name : Text) → IsRead s r q name → Rose (r.read_faults name) (r.read_faults_after name) → ⊥
+  pub reads : (q : Request s) → Asks s r.words q → (name : Text) → ReadsName s r q name → Rose (r.read_faults name) (r.read_faults_after name) → ⊥
   pub writes : Rose r.out.faults r.out.faults_after → ⊥
 
 -- the status is that of the defined answer to what the words ask for
@@ -21,18 +21,19 @@ pub record Answered (s : CommandSet) (r : Run) (code : ℕ) : Type 0 where
   pub answers : Answers s r outcome text
 
 -- each input that a request of the words reads tells what it holds
-abbrev pub IsTold : CommandSet → Run → Type 0
-IsTold s r = (q : Request s) → Asks s r.words q → (name : Text) → IsRead s r q name → r.lacks name ≡ false → (bytes : List ℕ) × (r.held name ≡ Some bytes)
+abbrev pub InputsAreKnown : CommandSet → Run → Type 0
+InputsAreKnown s r = (q : Request s) → Asks s r.words q → (name : Text) → ReadsName s r q name → r.lacks name ≡ false → (bytes : List ℕ) × (r.held name ≡ Some bytes)
 
 -- whatever is the defined answer, the status is that of its outcome; or memory was refused
 abbrev pub IsExact : CommandSet → Run → ℕ → Type 0
 IsExact s r code = (o : Outcome) (text : List ℕ) → Answers s r o text → (code ≡ code_of o) ⊎ (code ≡ 8)
 
--- Where the words ask for nothing, the status is 2; where they ask for something and nothing failed, it is that of a defined answer, and, where the inputs are told, of each defined answer. Or memory was refused.
+-- Where the words ask for nothing, the status is 2; where they ask for something and nothing failed, it is that of a defined answer, and, where the
+-- inputs are told, of each defined answer. Or memory was refused.
 pub record Complete (s : CommandSet) (r : Run) (code : ℕ) : Type 0 where
   pub refused : ((q : Request s) → Asks s r.words q → ⊥) → (code ≡ 2) ⊎ (code ≡ 8)
   pub answered : (q : Request s) → Asks s r.words q → NothingFailed s r → Answered s r code ⊎ (code ≡ 8)
-  pub exact : IsTold s r → NothingFailed s r → IsExact s r code
+  pub exact : InputsAreKnown s r → NothingFailed s r → IsExact s r code
 
 -- words ask for one call at most
 abbrev pub WordsAskOnce : CommandSet → Type 0

@@ -6,14 +6,16 @@ use Rattle.causal_io.specs.Causes.{Rose}
 use Rattle.causal_io.specs.Reading.{AnswersAll}
 use Rattle.causal_io.specs.declared.ReadError.{ReadError}
 use Rattle.causal_io.specs.declared.ReadError.TheVariants.{Fault, TooLong, NoMemory}
-use Rattle.word_forms.specs.Form.{Text}
+use Rattle.command_words.specs.Form.{Text}
+use Rattle.answer_text.specs.Lines.{line_of}
+use Rattle.dag_reader.specs.FaultTexts.{size_text}
 use Rattle.replies.specs.declared.outcome.Outcome.{Outcome}
 use Rattle.replies.specs.declared.outcome.Outcome.TheVariants.{Words, Graph, Read, Write, Memory}
 use Rattle.replies.specs.declared.outcome.Reply.{Reply}
 use Rattle.replies.specs.Outcomes.{code_of, IsAnswered}
 use Rattle.command_run.specs.Commands.{CommandSet, Request, Asks}
-use Rattle.command_run.specs.Lines.{words_line, size_line, read_line, write_line, memory_line}
-use Rattle.command_run.specs.Run.{Stream, Run, Answers, IsRead, Reads, IsNotRead, IsReadAtMostOnce, Ends}
+use Rattle.command_run.specs.Lines.{words_line, read_line, write_line, memory_line}
+use Rattle.command_run.specs.Run.{Stream, Run, Answers, ReadsName, Reads, IsNotRead, IsReadAtMostOnce, Ends}
 use Rattle.replies.specs.Command.{Remainder}
 use Rattle.command_run.specs.Answers.{GivesSecond}
 
@@ -22,10 +24,11 @@ pub record FailedRead (s : CommandSet) (r : Run) : Type 0 where
   pub request : Request s
   pub asks : Asks s r.words request
   pub name : Text
-  pub is_read : IsRead s r request name
+  pub is_read : ReadsName s r request name
   pub rose : Rose (r.read_faults name) (r.read_faults_after name)
 
--- what a reply says, by its outcome, where words have these answers: it is one of them, or the words ask for nothing, or an input isn't read, or memory was refused
+-- what a reply says, by its outcome, where words have these answers: it is one of them, or the words ask for nothing, or an input isn't read, or
+-- memory was refused
 abbrev pub Says : (s : CommandSet) (words : List Text) (answers : Outcome → List ℕ → Type 0) (unread : Type 0) → Outcome → List ℕ → Type 0
 Says s words answers unread Words text = (q : Request s) → Asks s words q → ⊥
 Says s words answers unread Read text = unread
@@ -54,7 +57,7 @@ pub record Stays (held held_after : Text → Option (List ℕ)) (lacks lacks_aft
 
 -- the line says that the graph's text is too long; want of memory may stand in its place
 abbrev pub IsTooLongLine : Outcome → List ℕ → Type 0
-IsTooLongLine Graph line = line ≡ size_line
+IsTooLongLine Graph line = line ≡ line_of size_text
 IsTooLongLine Memory line = Unit {0}
 IsTooLongLine o line = ⊥
 
@@ -88,23 +91,24 @@ pub record ReadsSecond (held : Text → Option (List ℕ)) (q : Reads) (file sec
 
 -- the reply where the second input is read: that on the bytes that it holds; or a read failed; or memory was refused
 pub data Proceeds (held : Text → Option (List ℕ)) (lacks : Text → Bool) (faults faults_after : Text → ℕ) (l : Remainder) (reply : Reply) : Type 0 where
-  replied : IsAnswered reply.outcome → lacks l.second ≡ false → IfSome (held l.second) (λ other. GivesSecond l other reply) → Proceeds held lacks faults faults_after l reply
+  replied : IsAnswered reply.outcome → lacks l.second ≡ false → IfSome (held l.second) (λ other. GivesSecond l other reply)
+      → Proceeds held lacks faults faults_after l reply
   unread : reply.outcome ≡ Read → Rose (faults l.second) (faults_after l.second) → Proceeds held lacks faults faults_after l reply
   no_memory : reply.outcome ≡ Memory → Proceeds held lacks faults faults_after l reply
 
 -- ---- what is written
 
 -- what is told of an outcome: the text or the line of a command's answer, or the line of an outcome of the run alone
-abbrev pub told_of : CommandSet → Outcome → List ℕ → List ℕ
-told_of s Words text = words_line s
-told_of s Read text = read_line
-told_of s Write text = write_line
-told_of s Memory text = memory_line
-told_of s o text = text
+abbrev pub written_for : CommandSet → Outcome → List ℕ → List ℕ
+written_for s Words text = words_line s
+written_for s Read text = read_line
+written_for s Write text = write_line
+written_for s Memory text = memory_line
+written_for s o text = text
 
 -- what is told of a reply
 abbrev pub text_of : CommandSet → Reply → List ℕ
-text_of s reply = told_of s reply.outcome reply.text.items
+text_of s reply = written_for s reply.outcome reply.text.items
 
 -- the run ends with this reply
 abbrev pub EndsWith : CommandSet → Run → Reply → Type 0
@@ -113,6 +117,7 @@ EndsWith s r reply = Ends s r reply.outcome (text_of s reply)
 -- a command's reply was written, or a front of it where the count of faults rose; nothing is written of a refusal
 pub data Delivers (out : Stream) (reply last : Reply) : Type 0 where
   written : last ≡ reply → code_of reply.outcome ≤ 1 → Appends out.before out.after reply.text.items → Delivers out reply last
-  unwritten : last.outcome ≡ Write → code_of reply.outcome ≤ 1 → (count : ℕ) → count ≤ length reply.text.items → Appends out.before out.after (take count reply.text.items)
+  unwritten : last.outcome ≡ Write → code_of reply.outcome ≤ 1 → (count : ℕ) → count ≤ length reply.text.items
+      → Appends out.before out.after (take count reply.text.items)
       → Rose out.faults out.faults_after → Delivers out reply last
   refused : last ≡ reply → 2 ≤ code_of reply.outcome → out.after ≡ out.before → Delivers out reply last

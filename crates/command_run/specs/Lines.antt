@@ -1,16 +1,12 @@
 -- The lines of refusals that are no command's own.
 use Rattle.std.specs.Prelude.{ℕ, List, ◌∷◌, ◌++◌, codes}
 use Rattle.std.specs.List.{flat_map}
-use Rattle.name_text.specs.Lines.{line_of}
+use Rattle.answer_text.specs.Lines.{line_of}
 use Rattle.command_run.specs.Commands.{CommandSet}
 
 -- words that set no task, with the names of the commands
 abbrev pub words_line : CommandSet → List ℕ
 words_line s = line_of (codes "words not understood; commands are" ++ flat_map (λ name. 32 ∷ name) s.names)
-
--- a graph text of more than 1,048,576 bytes
-abbrev pub size_line : List ℕ
-size_line = line_of (codes "graph fault 12: over 1048576 bytes")
 
 -- a read that failed
 abbrev pub read_line : List ℕ

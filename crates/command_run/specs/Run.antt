@@ -3,7 +3,7 @@ use Rattle.std.specs.Prelude.{ℕ, ◌≡◌, ◌≤◌, Bool, false, List, leng
 use Rattle.std.specs.Io.KnownBytes.{Appends}
 use Rattle.causal_io.specs.Causes.{Rose}
 use Rattle.causal_io.specs.Reading.{IsReadOnce}
-use Rattle.word_forms.specs.Form.{Text}
+use Rattle.command_words.specs.Form.{Text}
 use Rattle.replies.specs.declared.outcome.Outcome.{Outcome}
 use Rattle.replies.specs.declared.outcome.Outcome.TheVariants.{Yes, No, Words, Graph, Second, Evaluation, Read, Write, Memory}
 use Rattle.replies.specs.Outcomes.{code_of}
@@ -33,7 +33,14 @@ pub record Run : Type 0 where
 
 -- the run on these words, over an input with what it holds and lacks and its counts of faults before and after, and an output
 abbrev pub run_on : (words : List Text) (held : Text → Option (List ℕ)) (lacks : Text → Bool) (faults faults_after : Text → ℕ) (out : Stream) → Run
-run_on words held lacks faults faults_after out = record { words = words; held = held; lacks = lacks; read_faults = faults; read_faults_after = faults_after; out = out }
+run_on words held lacks faults faults_after out = record {
+  words = words;
+  held = held;
+  lacks = lacks;
+  read_faults = faults;
+  read_faults_after = faults_after;
+  out = out;
+}
 
 -- the words ask for a request without an input, and this is its answer
 pub record AnswersWords (s : CommandSet) (words : List Text) (o : Outcome) (text : List ℕ) : Type 0 where
@@ -85,9 +92,10 @@ pub record NotUnderstood (s : CommandSet) (r : Run) : Type 0 where
   pub nothing : r.out.after ≡ r.out.before
 
 -- the request reads this name: it is that of its file, or that of its second input, where the file is accepted
-pub data IsRead (s : CommandSet) (r : Run) (w : Request s) (name : Text) : Type 0 where
-  file : file_of s w ≡ Some name → IsRead s r w name
-  second : (file : Text) → file_of s w ≡ Some file → second_of s w ≡ Some name → r.lacks file ≡ false → IfSome (r.held file) (λ bytes. Continues s w bytes) → IsRead s r w name
+pub data ReadsName (s : CommandSet) (r : Run) (w : Request s) (name : Text) : Type 0 where
+  file : file_of s w ≡ Some name → ReadsName s r w name
+  second : (file : Text) → file_of s w ≡ Some file → second_of s w ≡ Some name → r.lacks file ≡ false → IfSome (r.held file) (λ bytes. Continues s w bytes)
+      → ReadsName s r w name
 
 -- how often each name was read before and after a run, and how many bytes of it were given, where the input tells
 pub record Reads : Type 0 where
@@ -111,7 +119,7 @@ IsReadAtMostOnce held q name = IfSome (held name) (λ all. IsReadOnce (q.calls n
 
 -- what was read: no name but those that a request of the words reads, and none more than once, also where it is named twice
 pub record ReadsAsAsked (s : CommandSet) (r : Run) (q : Reads) : Type 0 where
-  pub only : (name : Text) → ((w : Request s) → Asks s r.words w → IsRead s r w name → ⊥) → IsNotRead q name
+  pub only : (name : Text) → ((w : Request s) → Asks s r.words w → ReadsName s r w name → ⊥) → IsNotRead q name
   pub once : (name : Text) → IsReadAtMostOnce r.held q name
 
 -- a read of an input failed
@@ -119,7 +127,7 @@ pub record Unread (s : CommandSet) (r : Run) : Type 0 where
   pub request : Request s
   pub asks : Asks s r.words request
   pub name : Text
-  pub is_read : IsRead s r request name
+  pub is_read : ReadsName s r request name
   pub rose : Rose (r.read_faults name) (r.read_faults_after name)
   pub nothing : r.out.after ≡ r.out.before
 

@@ -1,3 +1,5 @@
+//! The line of a reply.
+
 ghost use Rattle.std.specs.Prelude.{◌≡◌};
 ghost use Rattle.command_run.specs.Ends.{text_of};
 

@@ -1,22 +1,22 @@
 // What a program says of its commands.
 
 ghost use Rattle.std.specs.Prelude.{◌≡◌, ◌<◌, ◌≤◌, ℕ, List, None, length, map, option_map, IfOk, IsErrOf};
-ghost use Rattle.word_forms.specs.Form.{Use, row_named};
-ghost use Rattle.word_forms.specs.Views.{row_of};
-ghost use Rattle.word_values.specs.Gives.{HoldsCall};
-ghost use Rattle.word_values.specs.Readable.{IsReadable};
+ghost use Rattle.command_words.specs.Form.{Use, row_named};
+ghost use Rattle.command_words.specs.Views.{row_of};
+ghost use Rattle.command_words.specs.Gives.{HoldsCall};
+ghost use Rattle.command_words.specs.Readable.{IsReadable};
 ghost use Rattle.replies.specs.Command.{Remainder};
 ghost use Rattle.command_run.specs.Commands.{CommandSet, table, command_of, file_of, IsRequest, AsksNothing};
 ghost use Rattle.command_run.specs.Commands as asked;
 ghost use Rattle.command_run.specs.Lines.{words_line};
 ghost use Rattle.command_run.specs.Answers.{GivesOnWords, GivesOn, GivesSecond};
 
+use command_words::forms::Entry;
+use command_words::typed::RequestFault;
+use command_words::values::Values;
 use dag_reader::ReadGraph;
 use replies::Reply;
-use request_values::RequestFault;
 use std::alloc::{AllocError, Global};
-use word_forms::Entry;
-use word_values::Values;
 
 /// What the words alone give.
 #[derive(Drop)]

@@ -1,5 +1,7 @@
+//! The run of any commands over an input and an output that never fail.
+
 ghost use Rattle.std.specs.Prelude.{◌≡◌, ◌≢◌, false, None};
-ghost use Rattle.word_forms.specs.Views.{texts_of};
+ghost use Rattle.command_words.specs.Views.{texts_of};
 ghost use Rattle.causal_io.specs.SureShelf.{held_surely};
 ghost use Rattle.command_run.specs.Laws.{AreLawful};
 ghost use Rattle.command_run.specs.Complete.{IsExact};

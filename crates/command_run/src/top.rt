@@ -1,6 +1,8 @@
+//! The run of any commands: words are read, inputs are read, and the answer is written.
+
 ghost use Rattle.std.specs.Prelude.{◌≡◌, ◌≤◌, List, Some, None, false, length, IfOk, IfErr, IfSome};
-ghost use Rattle.word_forms.specs.Form.{Text};
-ghost use Rattle.word_forms.specs.Views.{texts_of};
+ghost use Rattle.command_words.specs.Form.{Text};
+ghost use Rattle.command_words.specs.Views.{texts_of};
 ghost use Rattle.replies.specs.Outcomes.{code_of};
 ghost use Rattle.command_run.specs.Run.{Stream, Ended, Received, run_on, stream_of, reads_of, ReadsAsAsked};
 ghost use Rattle.command_run.specs.Complete.{Complete};
@@ -14,8 +16,8 @@ use crate::replying::{or_memory, reply_on_file, reply_on_second};
 use crate::request::{AfterFile, AfterWords, Request, SecondInput};
 use crate::words::read_request;
 use causal_io::{ReadError, Shelf, Sink, read_all, write_all};
+use command_words::typed::RequestFault;
 use replies::{Outcome, Reply};
-use request_values::RequestFault;
 use std::alloc::Global;
 
 /// The most bytes of a graph text.

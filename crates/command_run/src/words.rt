@@ -1,19 +1,19 @@
 // What words ask for.
 
 ghost use Rattle.std.specs.Prelude.{List, ◌≡◌, Some, None, IfOk, IsErrOf};
-ghost use Rattle.word_forms.specs.Form.{Row, Use, row_named};
-ghost use Rattle.word_forms.specs.Views.{row_of, texts_of};
-ghost use Rattle.word_values.specs.Gives.{HoldsCall};
+ghost use Rattle.command_words.specs.Form.{Row, Use, row_named};
+ghost use Rattle.command_words.specs.Views.{row_of, texts_of};
+ghost use Rattle.command_words.specs.Gives.{HoldsCall};
 ghost use Rattle.command_run.specs.Commands.{table, command_of, IsRequest, Asks};
 ghost use Rattle.command_run.specs.Commands as asked;
 ghost use Rattle.command_run.specs.Laws.{AreLawful};
 
 use crate::request::Request;
-use request_values::RequestFault;
+use command_words::forms::Entry;
+use command_words::requests::words_found;
+use command_words::typed::RequestFault;
+use command_words::values::Values;
 use std::alloc::Global;
-use word_forms::Entry;
-use word_requests::words_found;
-use word_values::Values;
 
 /// What the words ask for.
 pub fn read_request<'a, R: Request<'a>>(

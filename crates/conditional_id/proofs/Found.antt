@@ -5,23 +5,23 @@ use Rattle.mixed_graph.specs.Bits.{has}
 use Rattle.mixed_graph.specs.Graphs.{MixedGraph}
 use Rattle.mixed_graph.proofs.Masks.{has-zero, positive_from_has, some_member}
 use Rattle.do_rules.specs.Rules.{AreThreeSets}
-use Rattle.mixed_graph.specs.Masks.{join}
-use Rattle.prob_expr.specs.Tree.{PlainFormula, PlainTarget}
+use Rattle.mixed_graph.specs.Masks.{union}
+use Rattle.prob_expr.specs.Tree.{PlainFormula, PlainTarget, effect_on}
 use Rattle.do_derivation.specs.Plans.{PlainDerivation}
-use Rattle.identification.proofs.Bools.{clash}
-use Rattle.identification.specs.Derivations.{IsDerived}
+use Rattle.identification_theory.proofs.Bools.{clash}
+use Rattle.identification_theory.specs.Derivations.{IsDerived}
 use Rattle.hedge.specs.Hedges.{IsHedge}
 use Rattle.hedge.specs.declared.hedge.Hedge.{Hedge}
 use Rattle.prob_expr.specs.View.{formula_view}
-use Rattle.id_recursion.specs.Answers.{effect_on, is_hedge, IsRight}
-use Rattle.id_recursion.specs.declared.answer.Answer.{Answer}
-use Rattle.id_recursion.specs.declared.answer.Answer.TheVariants as answers
-use Rattle.conditional_theory.proofs.Answered.{one_turned}
-use Rattle.conditional_theory.proofs.Dividing.{divided_defs, join-zero}
-use Rattle.conditional_theory.proofs.Turning.{joint_target, targeted, turned_target}
-use Rattle.conditional_theory.specs.Settled.{IsSettled}
-use Rattle.conditional_theory.specs.Conditionals.AreTurned.{still}
-use Rattle.conditional_theory.specs.Conditionals.{AreTurned, IsConditionalBySteps, IsConditionalTarget, IsTurned, divided, divided_derivation}
+use Rattle.identify.specs.Answers.{is_hedge, IsRight}
+use Rattle.identify.specs.declared.answer.Answer.{Answer}
+use Rattle.identify.specs.declared.answer.Answer.TheVariants as answers
+use Rattle.conditional_id.proofs.Answered.{one_turned}
+use Rattle.conditional_id.proofs.DividingLaw.{divided_defs, join-zero}
+use Rattle.conditional_id.proofs.TurningLaw.{joint_target, targeted, turned_target}
+use Rattle.conditional_id.specs.Settled.{IsSettled}
+use Rattle.conditional_id.specs.Conditionals.AreTurned.{still}
+use Rattle.conditional_id.specs.Conditionals.{AreTurned, IsConditionalBySteps, IsConditionalTarget, IsTurned, divided, divided_derivation}
 use Rattle.conditional_id.specs.Answers.{SomeJointHedge}
 use Rattle.conditional_id.specs.Moves.{AreMoved}
 use Rattle.conditional_id.specs.declared.answer.Turned.{Turned}
@@ -38,7 +38,7 @@ pub target_with : (g : MixedGraph) (x y z : ℕ) → AreThreeSets g.vertices (ha
 target_with g x y z sets some fits = record { sets = sets; some = some_member y (λ e. absurd (omega (arith, e, some))) fits }
 
 -- the sets of the joint effect
-pub joint_sets : (g : MixedGraph) (x y z : ℕ) → IsConditionalTarget g (targeted x y z) → (r : Turned) → AreMoved g y x z r → (w : ℕ) → w ≡ join y r.left.bits
+pub joint_sets : (g : MixedGraph) (x y z : ℕ) → IsConditionalTarget g (targeted x y z) → (r : Turned) → AreMoved g y x z r → (w : ℕ) → w ≡ union y r.left.bits
     → IsConditionalTarget g (targeted r.doing.bits w 0)
 joint_sets g x y z k r m w e = subst (λ u. IsConditionalTarget g (targeted r.doing.bits u 0)) (sym e)
     (joint_target g r.doing.bits y r.left.bits (turned_target g y x z r.doing.bits r.left.bits m.moved m.turned k))
@@ -47,7 +47,7 @@ pub some_positive : (g : MixedGraph) (t : PlainTarget) → IsConditionalTarget g
 some_positive g t k = positive_from_has t.y k.some.0 k.some.1
 
 -- a hedge is answered for the joint effect exactly where there is one for some turned sets
-pub exact_for : (g : MixedGraph) (t : PlainTarget) (x' z' : ℕ) (vs : List ℕ) → IsTurned g t x' z' vs → (w : ℕ) → w ≡ join t.y z' → (a b : Answer) → a ≡ b
+pub exact_for : (g : MixedGraph) (t : PlainTarget) (x' z' : ℕ) (vs : List ℕ) → IsTurned g t x' z' vs → (w : ℕ) → w ≡ union t.y z' → (a b : Answer) → a ≡ b
     → IsTrue (is_hedge a) ↔ ((h : Hedge) × IsHedge g x' w h) → IsTrue (is_hedge b) ↔ SomeJointHedge g t
 exact_for g t x' z' vs turned w e a b same exact = (λ i. found (of_b.0 i), λ s. of_b.1 (back s))
   where
@@ -59,7 +59,7 @@ exact_for g t x' z' vs turned w e a b same exact = (λ i. found (of_b.0 i), λ s
 
     back : SomeJointHedge g t → (h : Hedge) × IsHedge g x' w h
     back s = let o = one_turned g t s.doing s.left x' z' s.moved vs s.turned turned in
-        (s.hedge, subst (λ u. IsHedge g u w s.hedge) o.0 (subst (λ u. IsHedge g s.doing u s.hedge) (ap (join t.y) o.1 ∙ sym e) s.is_hedge))
+        (s.hedge, subst (λ u. IsHedge g u w s.hedge) o.0 (subst (λ u. IsHedge g s.doing u s.hedge) (ap (union t.y) o.1 ∙ sym e) s.is_hedge))
 
 -- the same where nothing is given
 pub exact_plain : (g : MixedGraph) (x y : ℕ) (a b : Answer) → a ≡ b → IsTrue (is_hedge a) ↔ ((h : Hedge) × IsHedge g x y h)
@@ -68,7 +68,7 @@ exact_plain g x y a b same exact = exact_for g (effect_on x y) x 0 [] (turned_no
 
 -- the divided formula, from that of the joint effect
 pub given_formula : (g : MixedGraph) (t : PlainTarget) → t.given ≢ 0 → t.x ≢ 0 → (x' z' : ℕ) (vs : List ℕ) → AreTurned g t.y t.x t.given x' z' vs → (w : ℕ)
-    → w ≡ join t.y z' → (joint : PlainFormula) (e : PlainDerivation)
+    → w ≡ union t.y z' → (joint : PlainFormula) (e : PlainDerivation)
     → IsDerived g x' w joint e → length joint.defs ≤ 4096 → (f : PlainFormula) (d : PlainDerivation) → f ≡ divided t.y z' joint
     → d ≡ divided_derivation vs t.y z' e → IsConditionalBySteps g t f d × (length f.defs ≤ 4096)
 given_formula g t some doing x' z' vs turned w is joint e derived few f d formula steps = (

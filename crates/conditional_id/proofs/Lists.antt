@@ -1,14 +1,14 @@
 -- The steps of the divided formula, as lists.
 use Rattle.std.proofs.Common.{ℕ, ◌≡◌, true, false, refl, sym, ap, ap₂, ◌∙◌, List, [], ◌∷◌, ◌++◌}
 use Rattle.std.specs.Global.{Box, Vec}
-use Rattle.conditional_theory.specs.Conditionals.{divided, divided_steps, steps_of, summed_steps}
+use Rattle.conditional_id.specs.Conditionals.{divided, divided_steps, steps_of, summed_steps}
 use Rattle.do_derivation.proofs.StepViews.{step-Split, step-Widen}
 use Rattle.do_derivation.specs.Plans.{Move, Plan, no_plans, plan}
 use Rattle.do_derivation.specs.View.{step_view, steps_view}
 use Rattle.do_derivation.specs.declared.steps.Step.{At, Split, Step, Then, Widen}
-use Rattle.district_factors.proofs.Steps.{onto_append, onto_more, onto_nothing, step-At, step-Then}
-use Rattle.district_factors.specs.Lists.{onto}
-use Rattle.identification.specs.Derivations.{single}
+use Rattle.identify.proofs.Steps.{onto_append, onto_more, onto_nothing, step-At, step-Then}
+use Rattle.identify.specs.Lists.{onto}
+use Rattle.identification_theory.specs.Derivations.{single}
 use Rattle.mixed_graph.specs.declared.sets.VSet.{VSet}
 use Rattle.mixed_graph.specs.Masks.{is_empty}
 use Rattle.prob_expr.specs.Tree.{PlainFormula, quotient, sum}
@@ -22,7 +22,8 @@ divided_parts y z f e = rw e refl
 
 -- ---- the steps
 pub list_steps : (out : List Step) (l : Vec Step) → steps_view (out ++ l.items) ≡ onto out (steps_of (step_view (Then l)))
-list_steps out l = sym (onto_nothing (out ++ l.items)) ∙ (onto_append out l.items no_plans ∙ (ap (onto out) (onto_nothing l.items) ∙ sym (ap (λ p. onto out (steps_of p)) (step-Then l))))
+list_steps out l = sym (onto_nothing (out ++ l.items)) ∙ (onto_append out l.items no_plans
+    ∙ (ap (onto out) (onto_nothing l.items) ∙ sym (ap (λ p. onto out (steps_of p)) (step-Then l))))
 
 pub alone_steps : (out : List Step) (s : Step) → steps_of (step_view s) ≡ single (step_view s) → steps_view (out ++ s ∷ []) ≡ onto out (steps_of (step_view s))
 alone_steps out s e = sym (onto_nothing (out ++ s ∷ [])) ∙ (onto_more out s no_plans ∙ ap (onto out) (sym e))
@@ -35,7 +36,8 @@ summed y b = ap₂ (λ p q. plan p (plan q no_plans)) (step-Widen y) (step-At 0 
 
 pub parted : (y z : ℕ) (out : List Step) (below : Vec Step) (p : Plan) → is_empty z ≡ false → steps_view below.items ≡ summed_steps y p
     → onto out (plan (step_view Split) (plan (Plan.At 0 p) (single (Plan.At 1 (step_view (Then below)))))) ≡ onto out (divided_steps y z p)
-parted y z out below p e sums = ap₂ (λ q r. onto out (plan q (plan (Plan.At 0 p) (single (Plan.At 1 r))))) step-Split (step-Then below ∙ ap Plan.Then sums) ∙ here
+parted y z out below p e sums = ap₂ (λ q r. onto out (plan q (plan (Plan.At 0 p) (single (Plan.At 1 r))))) step-Split (step-Then below ∙ ap Plan.Then sums)
+    ∙ here
   where
     here : onto out (plan (Plan.Make Move.Split) (plan (Plan.At 0 p) (single (Plan.At 1 (Plan.Then (summed_steps y p)))))) ≡ onto out (divided_steps y z p)
     here = rw e refl

@@ -1,25 +1,26 @@
 -- Observations that turn into interventions one after the other: what the rest turns into, all turns into.
-use Rattle.std.proofs.Common.{ℕ, ◌+◌, ◌≡◌, ◌<◌, Bool, true, false, not, refl, sym, ap, subst, ◌∙◌, ◌&&◌, inl, inr, List, [], ◌∷◌, ◌++◌, append_assoc, append-nil, arith}
+use Rattle.std.proofs.Common.{ℕ, ◌+◌, ◌≡◌, ◌<◌, Bool, true, false, not, refl, sym, ap, subst, ◌∙◌, ◌&&◌, inl, inr, List, [], ◌∷◌, ◌++◌, append_assoc}
+use Rattle.std.proofs.Common.{append-nil, arith}
 use Rattle.std.proofs.lemmas.Bool.{cases_lt}
 use Rattle.conditional_id.specs.Moves.{AreMoved, IsLowestTurning, NoneTurns}
 use Rattle.conditional_id.specs.declared.answer.Turned.{Turned}
-use Rattle.conditional_theory.proofs.Turning.{moved_target, targeted}
-use Rattle.conditional_theory.specs.Conditionals.AreTurned.{move, still}
-use Rattle.conditional_theory.specs.Conditionals.{AreTurned, IsConditionalTarget, IsTurning, turned_steps}
+use Rattle.conditional_id.proofs.TurningLaw.{moved_target, targeted}
+use Rattle.conditional_id.specs.Conditionals.AreTurned.{move, still}
+use Rattle.conditional_id.specs.Conditionals.{AreTurned, IsConditionalTarget, IsTurning, turned_steps}
 use Rattle.do_derivation.proofs.StepViews.{step-Rule2Do}
 use Rattle.do_derivation.specs.Plans.{Move, Plan, Plans, plan}
 use Rattle.do_derivation.specs.declared.steps.Step.{Rule2Do, Step}
 use Rattle.do_rules.specs.Rules.{AreFourSets, AreThreeSets, IsBlockedFor, IsOpenFor}
 use Rattle.do_rules.specs.declared.rules.Rule.TheVariants.{Two}
-use Rattle.district_factors.proofs.Steps.{onto_more}
-use Rattle.district_factors.specs.Lists.{onto}
-use Rattle.identification.proofs.Bools.{and_l, clash, not_e, and_r}
-use Rattle.identification.proofs.Sets.{has-minus, one-is, one-self, smaller}
+use Rattle.identify.proofs.Steps.{onto_more}
+use Rattle.identify.specs.Lists.{onto}
+use Rattle.identification_theory.proofs.Bools.{and_l, clash, not_e, and_r}
+use Rattle.identification_theory.proofs.Sets.{has-minus, one-is, one-self, smaller}
 use Rattle.m_separation.specs.declared.paths.OpenPath.{OpenPath}
 use Rattle.mixed_graph.specs.Bits.{has}
 use Rattle.mixed_graph.specs.Graphs.{MixedGraph}
 use Rattle.mixed_graph.specs.declared.sets.VSet.{VSet}
-use Rattle.mixed_graph.specs.Masks.{join, minus, one}
+use Rattle.mixed_graph.specs.Masks.{union, minus, one}
 
 -- ---- the sets of a rule
 not_true : (p : Bool) → (p ≡ true → ⊥) → p ≡ false
@@ -47,14 +48,20 @@ four_sets n x y z v k i = record {
         (and_l (has z u) (not (has (one v) u)) q, not_e (has (one v) u) (and_r (has z u) (not (has (one v) u)) q))
 
 -- the same of sets that are made so
-pub four_of : (n x y z v alone rest : ℕ) → alone ≡ one v → rest ≡ minus z alone → AreThreeSets n (has x) (has y) (has z) → has z v ≡ true → AreFourSets n (has x) (has y) (has alone) (has rest)
-four_of n x y z v alone rest e f k i = subst (λ r. AreFourSets n (has x) (has y) (has alone) (has r)) (sym (f ∙ ap (minus z) e)) (subst (λ a. AreFourSets n (has x) (has y) (has a) (has (minus z (one v)))) (sym e) (four_sets n x y z v k i))
+pub four_of : (n x y z v alone rest : ℕ) → alone ≡ one v → rest ≡ minus z alone → AreThreeSets n (has x) (has y) (has z) → has z v ≡ true
+    → AreFourSets n (has x) (has y) (has alone) (has rest)
+four_of n x y z v alone rest e f k i = subst (λ r. AreFourSets n (has x) (has y) (has alone) (has r)) (sym (f ∙ ap (minus z) e))
+    (subst (λ a. AreFourSets n (has x) (has y) (has a) (has (minus z (one v)))) (sym e) (four_sets n x y z v k i))
 
-pub blocked_to : (g : MixedGraph) (x y z v alone rest : ℕ) → alone ≡ one v → rest ≡ minus z alone → IsBlockedFor Two g (has x) (has y) (has alone) (has rest) → IsTurning g x y z v
-blocked_to g x y z v alone rest e f h = subst (λ r. IsBlockedFor Two g (has x) (has y) (has (one v)) (has r)) (f ∙ ap (minus z) e) (subst (λ a. IsBlockedFor Two g (has x) (has y) (has a) (has rest)) e h)
+pub blocked_to : (g : MixedGraph) (x y z v alone rest : ℕ) → alone ≡ one v → rest ≡ minus z alone → IsBlockedFor Two g (has x) (has y) (has alone) (has rest)
+    → IsTurning g x y z v
+blocked_to g x y z v alone rest e f h = subst (λ r. IsBlockedFor Two g (has x) (has y) (has (one v)) (has r)) (f ∙ ap (minus z) e)
+    (subst (λ a. IsBlockedFor Two g (has x) (has y) (has a) (has rest)) e h)
 
-pub open_to : (g : MixedGraph) (x y z v alone rest : ℕ) (p : OpenPath) → alone ≡ one v → rest ≡ minus z alone → IsOpenFor Two g (has x) (has y) (has alone) (has rest) p → IsOpenFor Two g (has x) (has y) (has (one v)) (has (minus z (one v))) p
-open_to g x y z v alone rest p e f h = subst (λ r. IsOpenFor Two g (has x) (has y) (has (one v)) (has r) p) (f ∙ ap (minus z) e) (subst (λ a. IsOpenFor Two g (has x) (has y) (has a) (has rest) p) e h)
+pub open_to : (g : MixedGraph) (x y z v alone rest : ℕ) (p : OpenPath) → alone ≡ one v → rest ≡ minus z alone
+    → IsOpenFor Two g (has x) (has y) (has alone) (has rest) p → IsOpenFor Two g (has x) (has y) (has (one v)) (has (minus z (one v))) p
+open_to g x y z v alone rest p e f h = subst (λ r. IsOpenFor Two g (has x) (has y) (has (one v)) (has r) p) (f ∙ ap (minus z) e)
+    (subst (λ a. IsOpenFor Two g (has x) (has y) (has a) (has rest) p) e h)
 
 -- what a move leaves is a smaller number
 pub move_smaller : (z v : ℕ) → has z v ≡ true → minus z (one v) < z
@@ -89,23 +96,27 @@ pub record Moving (g : MixedGraph) (y x z x1 z1 : ℕ) (steps : List Step) : Typ
 pub moving_none : (g : MixedGraph) (y x z : ℕ) → IsConditionalTarget g (targeted x y z) → (steps : List Step) → steps ≡ [] → Moving g y x z x z steps
 moving_none g y x z k steps e = record { done = []; moves = λ x' z' vs t. t; are = λ rest. ap (λ l. onto l rest) e; target = k }
 
-moving_one : (g : MixedGraph) (y x z x1 z1 v : ℕ) (steps : List Step) (alone : VSet) → alone.bits ≡ one v → Moving g y x z x1 z1 steps → IsLowestTurning g x1 y z1 v
-    → Moving g y x z (join x1 (one v)) (minus z1 (one v)) (steps ++ Rule2Do alone ∷ [])
+moving_one : (g : MixedGraph) (y x z x1 z1 v : ℕ) (steps : List Step) (alone : VSet) → alone.bits ≡ one v → Moving g y x z x1 z1 steps
+    → IsLowestTurning g x1 y z1 v
+    → Moving g y x z (union x1 (one v)) (minus z1 (one v)) (steps ++ Rule2Do alone ∷ [])
 moving_one g y x z x1 z1 v steps alone e m l = record {
   done = m.done ++ v ∷ [];
-  moves = λ x' z' vs r. subst (λ w. AreTurned g y x z x' z' w) (sym (append_assoc m.done (v ∷ []) vs)) (m.moves x' z' (v ∷ vs) (move l.member l.turns l.lowest r));
+  moves = λ x' z' vs r. subst (λ w. AreTurned g y x z x' z' w) (sym (append_assoc m.done (v ∷ []) vs))
+      (m.moves x' z' (v ∷ vs) (move l.member l.turns l.lowest r));
   are = λ rest. onto_more steps (Rule2Do alone) rest ∙ (ap (λ p. onto steps (plan p rest)) (step-Rule2Do alone ∙ ap (λ w. Plan.Make (Move.Rule2Do w)) e)
       ∙ (m.are (plan (Plan.Make (Move.Rule2Do (one v))) rest) ∙ sym (steps_more m.done v rest)));
   target = moved_target g y x1 z1 v l.member m.target;
 }
 
-pub moving_more : (g : MixedGraph) (y x z x1 z1 v : ℕ) (steps : List Step) (alone : VSet) → alone.bits ≡ one v → Moving g y x z x1 z1 steps → IsLowestTurning g x1 y z1 v
-    → (x2 z2 : ℕ) (more : List Step) → x2 ≡ join x1 alone.bits → z2 ≡ minus z1 alone.bits → more ≡ steps ++ Rule2Do alone ∷ [] → Moving g y x z x2 z2 more
+pub moving_more : (g : MixedGraph) (y x z x1 z1 v : ℕ) (steps : List Step) (alone : VSet) → alone.bits ≡ one v → Moving g y x z x1 z1 steps
+    → IsLowestTurning g x1 y z1 v
+    → (x2 z2 : ℕ) (more : List Step) → x2 ≡ union x1 alone.bits → z2 ≡ minus z1 alone.bits → more ≡ steps ++ Rule2Do alone ∷ [] → Moving g y x z x2 z2 more
 moving_more g y x z x1 z1 v steps alone e m l x2 z2 more a b d =
-    subst (λ u. Moving g y x z u z2 more) (sym (a ∙ ap (join x1) e)) (subst (λ u. Moving g y x z (join x1 (one v)) u more) (sym (b ∙ ap (minus z1) e))
-    (subst (λ u. Moving g y x z (join x1 (one v)) (minus z1 (one v)) u) (sym d) (moving_one g y x z x1 z1 v steps alone e m l)))
+    subst (λ u. Moving g y x z u z2 more) (sym (a ∙ ap (union x1) e)) (subst (λ u. Moving g y x z (union x1 (one v)) u more) (sym (b ∙ ap (minus z1) e))
+    (subst (λ u. Moving g y x z (union x1 (one v)) (minus z1 (one v)) u) (sym d) (moving_one g y x z x1 z1 v steps alone e m l)))
 
-pub moving_all : (g : MixedGraph) (y x z : ℕ) (r : Turned) → Moving g y x z r.doing.bits r.left.bits r.steps.items → NoneTurns g r.doing.bits y r.left.bits → AreMoved g y x z r
+pub moving_all : (g : MixedGraph) (y x z : ℕ) (r : Turned) → Moving g y x z r.doing.bits r.left.bits r.steps.items → NoneTurns g r.doing.bits y r.left.bits
+    → AreMoved g y x z r
 moving_all g y x z r m none = record {
   moved = m.done;
   turned = subst (λ w. AreTurned g y x z r.doing.bits r.left.bits w) (append-nil m.done) (m.moves r.doing.bits r.left.bits [] (still none));

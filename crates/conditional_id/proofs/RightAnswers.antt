@@ -5,29 +5,29 @@ use Rattle.mixed_graph.specs.Bits.{has}
 use Rattle.mixed_graph.specs.Graphs.{MixedGraph, IsMixedGraph}
 use Rattle.mixed_graph.specs.declared.sets.VSet.{VSet}
 use Rattle.mixed_graph.proofs.Masks.{has-zero}
-use Rattle.mixed_graph.specs.Masks.{join}
+use Rattle.mixed_graph.specs.Masks.{union}
 use Rattle.finite_models.specs.Data.{meaning}
 use Rattle.prob_expr.specs.Differences.{DifferOnTarget, HasNoFormula}
-use Rattle.prob_expr.specs.Tree.{PlainFormula, PlainTarget}
+use Rattle.prob_expr.specs.Tree.{PlainFormula, PlainTarget, effect_on}
 use Rattle.prob_expr.specs.View.{formula_view}
 use Rattle.prob_expr.proofs.Excluded.{difference_excludes_formula}
 use Rattle.do_derivation.specs.Plans.{PlainDerivation}
 use Rattle.do_derivation.specs.View.{derivation_view}
-use Rattle.identification.proofs.Bools.{clash}
-use Rattle.identification.specs.Derivations.{IsDerived}
+use Rattle.identification_theory.proofs.Bools.{clash}
+use Rattle.identification_theory.specs.Derivations.{IsDerived}
 use Rattle.hedge.specs.declared.hedge.Hedge.{Hedge}
 use Rattle.counter_models.specs.Events.{AreCounterModels}
 use Rattle.counter_models.proofs.Excluded.{differ_on}
 use Rattle.counter_models.specs.declared.counter_pair.CounterPair.{CounterPair}
-use Rattle.id_recursion.specs.Answers.{effect_on, IsRightHedge}
-use Rattle.id_recursion.proofs.RightAnswers.{if_ok}
-use Rattle.conditional_theory.proofs.Answered.{conditional_is_right, turned_is_same, turned_is_target}
-use Rattle.conditional_theory.proofs.Dividing.{join-zero}
-use Rattle.conditional_theory.proofs.Settling.{joint_settles_target}
-use Rattle.conditional_theory.proofs.Turning.{none_moves}
-use Rattle.conditional_theory.specs.Conditionals.{IsConditionalBySteps, IsConditionalTarget, IsTurned}
-use Rattle.conditional_hedges.specs.Laws.{IsFixed}
-use Rattle.conditional_hedges.proofs.Given.{hedges_exclude_turned, hedges_exclude_formula}
+use Rattle.identify.specs.Answers.{IsRightHedge}
+use Rattle.identify.proofs.RightAnswers.{if_ok}
+use Rattle.conditional_id.proofs.Answered.{conditional_is_right, turned_is_same, turned_is_target}
+use Rattle.conditional_id.proofs.DividingLaw.{join-zero}
+use Rattle.conditional_id.proofs.Settling.{joint_settles_target}
+use Rattle.conditional_id.proofs.TurningLaw.{none_moves}
+use Rattle.conditional_id.specs.Conditionals.{IsConditionalBySteps, IsConditionalTarget, IsTurned}
+use Rattle.conditional_id.specs.HedgeLaws.{IsFixed}
+use Rattle.conditional_id.proofs.Given.{hedges_exclude_turned, hedges_exclude_formula}
 use Rattle.conditional_id.specs.Answers.{IsAnswerGiven, IsRight, IsJointEffect, IsJointShown, SomeFormula, SomeJointHedge, IfFormula, IfJoint, is_joint}
 use Rattle.conditional_id.specs.declared.answer.Conditional.{Conditional}
 use Rattle.conditional_id.specs.declared.answer.Conditional.TheVariants.{Formula, Joint}
@@ -40,7 +40,7 @@ turned_plain g t x' z' vs e (inr c) = let n = none_moves g t.y t.x t.given x' z'
 -- and the joint effect is that of the target
 pub plain_sets : (g : MixedGraph) (t : PlainTarget) → t.given ≡ 0 → (x y : VSet) (settled : Bool) (h : Hedge) (pair : CounterPair)
     → IsJointShown g t x y settled h pair → (x.bits ≡ t.x) × (y.bits ≡ t.y)
-plain_sets g t e x y settled h pair i = let n = turned_plain g t x.bits i.left i.moved e i.turned in (n.0, i.joint ∙ (ap (join t.y) n.1 ∙ join-zero t.y))
+plain_sets g t e x y settled h pair i = let n = turned_plain g t x.bits i.left i.moved e i.turned in (n.0, i.joint ∙ (ap (union t.y) n.1 ∙ join-zero t.y))
 
 -- without interventions the turned sets have none, and no hedge meets it
 pub no_joint_hedge : (g : MixedGraph) (t : PlainTarget) → t.x ≡ 0 → SomeJointHedge g t → ⊥
@@ -79,7 +79,8 @@ module _ (g : MixedGraph) (valid : IsMixedGraph g) (t : PlainTarget) (k : IsCond
       (subst (λ w. DifferOnTarget (meaning g pair.first) (meaning g pair.second) (effect_on x.bits w)) i.joint (differ_on g valid x.bits y.bits pair two))
 
   module _ (few : g.vertices ≤ 64) where
-    -- two models that agree on all observations give the target two values: those of the joint effect, or, where it isn't settled, two of the hedge for what is left
+    -- two models that agree on all observations give the target two values: those of the joint effect, or, where it isn't settled, two of the hedge
+    -- for what is left
     pub joint_not_fixed : (x y : VSet) (settled : Bool) (h : Hedge) (pair : CounterPair) → IsJointShown g t x y settled h pair
         → AreCounterModels g x.bits y.bits pair → IsFixed g t → ⊥
     joint_not_fixed x y true h pair i two fixed =

@@ -7,8 +7,8 @@ use Rattle.do_derivation.specs.declared.steps.Step.{Step, Then, roll-Step}
 use Rattle.do_derivation.specs.declared.steps.Step.TheFolds.{fold_out-Step, map-Step}
 use Rattle.do_derivation.specs.declared.steps.Step.TheOpen.{Step-F}
 use Rattle.do_derivation.specs.declared.steps.Step.TheViews.{out-Step, roll-out-Step, rolls-Then}
-use Rattle.identification.specs.Derivations.{single}
-use Rattle.conditional_theory.specs.Conditionals.{steps_of}
+use Rattle.identification_theory.specs.Derivations.{single}
+use Rattle.conditional_id.specs.Conditionals.{steps_of}
 
 pub alone_from : (s : Step) → ((l : Vec Step) → s ≡ Then l → ⊥) → steps_of (step_view s) ≡ single (step_view s)
 alone_from s other = subst (λ p. steps_of p ≡ single p) (sym (fold_out-Step Plan node_view s)) (go (out-Step s) refl)

@@ -2,26 +2,26 @@
 use Rattle.std.specs.Prelude.{ℕ, ◌≡◌, ◌≤◌, ◌↔◌, Bool, true, false, List, length, IsTrue}
 use Rattle.mixed_graph.specs.Graphs.{MixedGraph}
 use Rattle.mixed_graph.specs.declared.sets.VSet.{VSet}
-use Rattle.mixed_graph.specs.Masks.{join}
+use Rattle.mixed_graph.specs.Masks.{union}
 use Rattle.finite_models.specs.Data.{meaning}
 use Rattle.prob_expr.specs.Differences.{DifferOnTarget, HasNoFormula}
 use Rattle.prob_expr.specs.Terms.{is_do_free}
-use Rattle.prob_expr.specs.Tree.{PlainFormula, PlainTarget}
+use Rattle.prob_expr.specs.Tree.{PlainFormula, PlainTarget, effect_on}
 use Rattle.prob_expr.specs.Values.{EqualsEffect}
 use Rattle.prob_expr.specs.View.{formula_view}
 use Rattle.do_derivation.specs.Plans.{PlainDerivation}
 use Rattle.do_derivation.specs.View.{derivation_view}
-use Rattle.identification.specs.Procedure.{IsUnidentified}
+use Rattle.identification_theory.specs.Procedure.{IsUnidentified}
 use Rattle.hedge.specs.Hedges.{IsHedge}
 use Rattle.hedge.specs.declared.hedge.Hedge.{Hedge}
 use Rattle.counter_models.specs.Pairs.{IsPairOf}
 use Rattle.counter_models.specs.declared.counter_pair.CounterPair.{CounterPair}
-use Rattle.id_recursion.specs.Answers.{effect_on, IsRightHedge}
-use Rattle.id_recursion.specs.Hedged.{IsHedgeOf}
-use Rattle.conditional_theory.specs.Conditionals.{IsConditionalTarget, IsTurned, IsConditionalBySteps, AreEqualEffects}
-use Rattle.conditional_theory.specs.Laws.{IsRightGiven}
-use Rattle.conditional_theory.specs.Settled.{IsSettled}
-use Rattle.conditional_hedges.specs.Laws.{IsFixed}
+use Rattle.identify.specs.Answers.{IsRightHedge}
+use Rattle.identify.specs.Hedged.{IsHedgeOf}
+use Rattle.conditional_id.specs.Conditionals.{IsConditionalTarget, IsTurned, IsConditionalBySteps, AreEqualEffects}
+use Rattle.conditional_id.specs.TurnLaws.{IsRightGiven}
+use Rattle.conditional_id.specs.Settled.{IsSettled}
+use Rattle.conditional_id.specs.HedgeLaws.{IsFixed}
 use Rattle.conditional_id.specs.declared.answer.Conditional.{Conditional}
 use Rattle.conditional_id.specs.declared.answer.Conditional.TheVariants as answers
 
@@ -30,11 +30,12 @@ pub record IsJointEffect (g : MixedGraph) (t : PlainTarget) (x y : ℕ) : Type 0
   pub left : ℕ
   pub moved : List ℕ
   pub turned : IsTurned g t x left moved
-  pub joint : y ≡ join t.y left
+  pub joint : y ≡ union t.y left
   pub target : IsConditionalTarget g (effect_on x y)
   pub same : AreEqualEffects g t (record { x = x; y = t.y; given = left })
 
--- x and y are the joint effect into which the observations turn; big and small form a hedge for it, and its two models, which are positive and of the graph, agree on all observations and differ on it
+-- x and y are the joint effect into which the observations turn; big and small form a hedge for it, and its two models, which are positive and of the
+-- graph, agree on all observations and differ on it
 -- The target itself isn't identifiable.
 pub record IsRightJoint (g : MixedGraph) (t : PlainTarget) (x y : ℕ) (settled : Bool) (h : Hedge) (pair : CounterPair) : Type 0 where
   pub effect : IsJointEffect g t x y
@@ -47,7 +48,9 @@ pub record IsRightJoint (g : MixedGraph) (t : PlainTarget) (x y : ℕ) (settled 
   pub settled_is : IsTrue settled ↔ IsSettled g x effect.left
   pub target : IsTrue settled → DifferOnTarget (meaning g pair.first) (meaning g pair.second) t
 
--- A right answer is either a formula without interventions, with an accepted derivation, that equals P(y | do(x), given) in each positive model of the graph; or a hedge for the joint effect into which the observations turn, with its two models. Where a joint effect is answered, no formula without interventions equals P(y | do(x), given). Where `settled`, the two models of the hedge show it, since they differ on the target too.
+-- A right answer is either a formula without interventions, with an accepted derivation, that equals P(y | do(x), given) in each positive model of
+-- the graph; or a hedge for the joint effect into which the observations turn, with its two models. Where a joint effect is answered, no formula
+-- without interventions equals P(y | do(x), given). Where `settled`, the two models of the hedge show it, since they differ on the target too.
 abbrev pub IsRight : MixedGraph → PlainTarget → Conditional → Type 0
 IsRight g t (answers.Formula f d) = IsRightGiven g t (formula_view f) (derivation_view d)
 IsRight g t (answers.Joint x y settled h pair) = IsRightJoint g t x.bits y.bits settled h pair
@@ -78,14 +81,15 @@ pub record SomeJointHedge (g : MixedGraph) (t : PlainTarget) : Type 0 where
   pub moved : List ℕ
   pub turned : IsTurned g t doing left moved
   pub hedge : Hedge
-  pub is_hedge : IsHedge g doing (join t.y left) hedge
+  pub is_hedge : IsHedge g doing (union t.y left) hedge
 
--- the joint effect, whether it is settled, the hedge at which its identification stops, with its data, and its two models; and where it isn't settled, a hedge for the observations that are left
+-- the joint effect, whether it is settled, the hedge at which its identification stops, with its data, and its two models; and where it isn't
+-- settled, a hedge for the observations that are left
 pub record IsJointShown (g : MixedGraph) (t : PlainTarget) (x y : VSet) (settled : Bool) (h : Hedge) (pair : CounterPair) : Type 0 where
   pub left : ℕ
   pub moved : List ℕ
   pub turned : IsTurned g t x.bits left moved
-  pub joint : y.bits ≡ join t.y left
+  pub joint : y.bits ≡ union t.y left
   pub settled_is : IsTrue settled ↔ IsSettled g x.bits left
   pub unsettled : settled ≡ false → (k : Hedge) × IsHedge g x.bits left k
   pub stop : IsUnidentified g x.bits y.bits h.small.bits h.big.bits

@@ -3,8 +3,8 @@ use Rattle.std.specs.Prelude.{ℕ, ◌≡◌, ◌<◌, List, IsTrue}
 use Rattle.mixed_graph.specs.Bits.{has}
 use Rattle.mixed_graph.specs.Graphs.{MixedGraph}
 use Rattle.do_derivation.specs.Plans.{Plans}
-use Rattle.district_factors.specs.Lists.{onto}
-use Rattle.conditional_theory.specs.Conditionals.{IsTurning, AreTurned, turned_steps}
+use Rattle.identify.specs.Lists.{onto}
+use Rattle.conditional_id.specs.Conditionals.{IsTurning, AreTurned, turned_steps}
 use Rattle.conditional_id.specs.declared.answer.Turned.{Turned}
 
 -- no observation may become an intervention

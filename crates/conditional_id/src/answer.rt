@@ -1,3 +1,5 @@
+//! What is found for an effect under a condition.
+
 use counter_models::CounterPair;
 use do_derivation::{Derivation, Step};
 use hedge::Hedge;

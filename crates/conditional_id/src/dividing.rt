@@ -4,8 +4,8 @@ ghost use Rattle.std.specs.Prelude.{◌≡◌, IfOk, OnOk};
 ghost use Rattle.prob_expr.specs.View.{formula_view};
 ghost use Rattle.do_derivation.specs.Plans.{Plan, Plans, plan};
 ghost use Rattle.do_derivation.specs.View.{step_view, steps_view};
-ghost use Rattle.conditional_theory.specs.Conditionals.{divided, divided_steps, steps_of, summed_steps};
-ghost use Rattle.district_factors.specs.Lists.{onto};
+ghost use Rattle.conditional_id.specs.Conditionals.{divided, divided_steps, steps_of, summed_steps};
+ghost use Rattle.identify.specs.Lists.{onto};
 
 use crate::copying::copy_step;
 use do_derivation::Step;

@@ -7,33 +7,33 @@ ghost use Rattle.mixed_graph.specs.Sets.{Within, Apart};
 ghost use Rattle.mixed_graph.specs.Shown.{graph_of};
 ghost use Rattle.do_rules.specs.Rules.{AreThreeSets};
 ghost use Rattle.prob_expr.specs.Check.{fault_in};
-ghost use Rattle.mixed_graph.specs.Masks.{join};
+ghost use Rattle.mixed_graph.specs.Masks.{union};
 ghost use Rattle.prob_expr.specs.Differences.{HasNoFormula};
 ghost use Rattle.prob_expr.specs.Terms.{is_do_free};
-ghost use Rattle.prob_expr.specs.Tree.{prob};
+ghost use Rattle.prob_expr.specs.Tree.{prob, effect_on};
 ghost use Rattle.prob_expr.specs.Values.{EqualsEffect};
 ghost use Rattle.prob_expr.specs.View.{formula_view, target_view};
 ghost use Rattle.do_derivation.specs.Accepts.{Accepts};
 ghost use Rattle.do_derivation.specs.Plans.{Plan, Plans, no_plans};
 ghost use Rattle.do_derivation.specs.View.{derivation_view};
-ghost use Rattle.identification.specs.Derivations.{IsDerived};
-ghost use Rattle.identification_answers.specs.Names.{FormulaNamesOnly};
+ghost use Rattle.identification_theory.specs.Derivations.{IsDerived};
+ghost use Rattle.identification_theory.specs.Names.{FormulaNamesOnly};
 ghost use Rattle.hedge.specs.Hedges.{IsHedge};
 ghost use Rattle.hedge.specs.declared.hedge.Hedge.{Hedge};
 ghost use Rattle.counter_models.specs.Events.{AreCounterModels};
-ghost use Rattle.id_recursion.specs.Answers.{effect_on, is_hedge};
-ghost use Rattle.district_factors.specs.Lists.{onto};
-ghost use Rattle.conditional_theory.specs.Conditionals.{divided, divided_derivation, turned_steps, IsConditionalTarget, IsConditional, IsConditionalBySteps};
-ghost use Rattle.conditional_theory.specs.Laws.{IsShallowGiven};
-ghost use Rattle.conditional_theory.specs.Settled.{IsSettled};
-ghost use Rattle.conditional_hedges.specs.Laws.{IsFixed};
+ghost use Rattle.identify.specs.Answers.{is_hedge};
+ghost use Rattle.identify.specs.Lists.{onto};
+ghost use Rattle.conditional_id.specs.Conditionals.{divided, divided_derivation, turned_steps, IsConditionalTarget, IsConditional, IsConditionalBySteps};
+ghost use Rattle.conditional_id.specs.TurnLaws.{IsShallowGiven};
+ghost use Rattle.conditional_id.specs.Settled.{IsSettled};
+ghost use Rattle.conditional_id.specs.HedgeLaws.{IsFixed};
 ghost use Rattle.conditional_id.specs.Answers.{IsAnswerGiven, IsRight, IsJointEffect, IsJointShown, SomeFormula, SomeJointHedge, IfFormula, IfJoint, is_joint};
 
 use crate::answer::{Conditional, Turned};
 use crate::dividing::{divided, divided_steps};
 use crate::turning::turned;
 use do_derivation::{Derivation, Step};
-use id_recursion::{Answer, identify};
+use identify::{Answer, identify};
 use mixed_graph::{Graph, VSet};
 use prob_expr::{Expr, Formula, Target};
 use std::alloc::{AllocError, Global};
@@ -199,7 +199,7 @@ pub fn identify_given(alloc: Global, g: &Graph, t: &Target) -> Result<Conditiona
     ensures accepted { IfOk result (λ a. IfFormula a (Accepts (graph_of g.now) [] (target_view t.now))) }
     ensures formed { IfOk result (λ a. IfFormula a (λ f d. fault_in g.now.n f ≡ None)) }
     ensures do_free { IfOk result (λ a. IfFormula a (λ f d. is_do_free f ≡ true)) }
-    ensures names { IfOk result (λ a. IfFormula a (λ f d. FormulaNamesOnly (IsAncestor (graph_of g.now) (has (join t.now.y.bits t.now.given.bits))) f)) }
+    ensures names { IfOk result (λ a. IfFormula a (λ f d. FormulaNamesOnly (IsAncestor (graph_of g.now) (has (union t.now.y.bits t.now.given.bits))) f)) }
     ensures effect { IfOk result (λ a. IfFormula a (λ f d. EqualsEffect (graph_of g.now) (target_view t.now) f)) }
     ensures shallow { IfOk result (λ a. IfFormula a IsShallowGiven) }
     ensures few { IfOk result (λ a. IfFormula a (λ f d. length f.defs ≤ 4096)) }

@@ -7,7 +7,9 @@
 mod answer;
 mod copying;
 mod dividing;
+pub mod hedges;
 mod identifying;
+pub mod theory;
 mod turning;
 
 pub use answer::Conditional;

@@ -4,7 +4,7 @@ ghost use Rattle.std.specs.Prelude.{◌≡◌, ℕ, ◌<◌, ◌↔◌, IsTrue, 
 ghost use Rattle.mixed_graph.specs.Bits.{has};
 ghost use Rattle.mixed_graph.specs.Shown.{graph_of};
 ghost use Rattle.do_rules.specs.Rules.{AreThreeSets};
-ghost use Rattle.conditional_theory.specs.Conditionals.{IsTurning};
+ghost use Rattle.conditional_id.specs.Conditionals.{IsTurning};
 ghost use Rattle.conditional_id.specs.Moves.{NoneTurns, IsLowestTurning, AreMoved};
 
 use crate::answer::Turned;

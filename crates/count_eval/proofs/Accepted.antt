@@ -1,5 +1,6 @@
 -- What check says of the definitions that a formula names.
-use Rattle.std.proofs.Common.{ℕ, suc, ◌+◌, ◌≡◌, Bool, true, false, ltb, not, Option, Some, None, Result, Ok, Err, if◌then◌else◌, List, [], ◌∷◌, length, refl, subst, arith}
+use Rattle.std.proofs.Common.{ℕ, suc, ◌+◌, ◌≡◌, Bool, true, false, ltb, not, Option, Some, None, Result, Ok, Err, if◌then◌else◌, List, [], ◌∷◌}
+use Rattle.std.proofs.Common.{length, refl, subst, arith}
 use Rattle.std.proofs.lemmas.Bool.{ltb-true}
 use Rattle.mixed_graph.specs.Masks.{is_empty, is_below}
 use Rattle.prob_expr.specs.Tree.{Tree, prob, sum, product, quotient, named, Trees, no_trees, tree, PlainFormula}
@@ -59,5 +60,6 @@ accepted_ordered n f h = ordered n 0 f.defs (neither (fault_in_defs n 0 f.defs) 
 -- and main those that are there
 pub accepted_below : (n : ℕ) (f : PlainFormula) → fault_in n f ≡ None → IsBelow (length f.defs) f.main
 accepted_below n f h =
-    let main = no_fault (check_tree n None (length f.defs) f.main 0) (neither (fault_in_defs n 0 f.defs) (fault_of (check_tree n None (length f.defs) f.main 0)) h).1 in
+    let main = no_fault (check_tree n None (length f.defs) f.main 0) (neither (fault_in_defs n 0 f.defs)
+    (fault_of (check_tree n None (length f.defs) f.main 0)) h).1 in
     below_tree n None (length f.defs) f.main 0 main.0 main.1

@@ -1,5 +1,6 @@
 -- Steps of the evaluator, over plain variables.
-use Rattle.std.proofs.Common.{ℕ, zero, suc, ◌+◌, ◌-◌, ◌≡◌, ◌<◌, ◌≤◌, Bool, true, false, cond, eqb, eq-eqb, refl, sym, ap, ap₂, ◌∙◌, subst, arith, Option, None, Result, Ok, Err, List, length, get_or, set, replicate, get_or-set_same, get_or-set_other, eqb-true}
+use Rattle.std.proofs.Common.{ℕ, zero, suc, ◌+◌, ◌-◌, ◌≡◌, ◌<◌, ◌≤◌, Bool, true, false, cond, eqb, eq-eqb, refl, sym, ap, ap₂, ◌∙◌, subst, arith}
+use Rattle.std.proofs.Common.{Option, None, Result, Ok, Err, List, length, get_or, set, replicate, get_or-set_same, get_or-set_other, eqb-true}
 use mathlib.Core.Path.{fun_ext}
 use Rattle.finite_models.specs.Sums.{set_at}
 use Rattle.mixed_graph.specs.Bits.{has}
@@ -18,15 +19,19 @@ use Rattle.count_eval.specs.Spots.{value_at, cell_added, cells_from}
 
 module _ (k : Kind) (w : Weights) (ds : List Tree) (at : Spot) where
   -- the value of a sum, by its body at all cells
-  pub sum_is : (over : VSet) (e : Tree) → after (cells_from k w ds (record { at = at; over = over }) e 0 at.cell None) (whole (k.from_ratio 0 1)) ≡ value_at k w ds at (sum over.bits e)
+  pub sum_is : (over : VSet) (e : Tree) → after (cells_from k w ds (record { at = at; over = over }) e 0 at.cell None) (whole (k.from_ratio 0 1))
+      ≡ value_at k w ds at (sum over.bits e)
   sum_is over e =
-      ap (λ n. after (each_cell (has over.bits) w.size n 0 (cell_added k w ds at e) (cell_of at.cell) None) (whole (k.from_ratio 0 1))) (let r : w.vertices - 0 ≡ w.vertices = omega arith in r)
+      ap (λ n. after (each_cell (has over.bits) w.size n 0 (cell_added k w ds at e) (cell_of at.cell) None) (whole (k.from_ratio 0 1)))
+      (let r : w.vertices - 0 ≡ w.vertices = omega arith in r)
 
   -- the value of a quotient, by those of its parts
   pub quotient_is : (x y : Tree) (a b : Pair) (first second : ℕ) → first ≡ next_node at.node → second ≡ node_behind x first
-      → Ok a ≡ value_at k w ds (record at { node = first }) x → Ok b ≡ value_at k w ds (record at { node = second }) y → placed at.def at.node (cell_of at.cell) (k.div a b) ≡ value_at k w ds at (quotient x y)
+      → Ok a ≡ value_at k w ds (record at { node = first }) x → Ok b ≡ value_at k w ds (record at { node = second }) y
+      → placed at.def at.node (cell_of at.cell) (k.div a b) ≡ value_at k w ds at (quotient x y)
   quotient_is x y a b first second ef es ea eb =
-      ap₂ (λ u v. after u (λ a'. after v (λ b'. placed at.def at.node (cell_of at.cell) (k.div a' b')))) (ea ∙ ap (λ i. value_at k w ds (record at { node = i }) x) ef)
+      ap₂ (λ u v. after u (λ a'. after v (λ b'. placed at.def at.node (cell_of at.cell) (k.div a' b'))))
+      (ea ∙ ap (λ i. value_at k w ds (record at { node = i }) x) ef)
       (eb ∙ ap (λ i. value_at k w ds (record at { node = i }) y) (es ∙ ap (node_behind x) ef))
 
 module _ (U : ℕ → Bool) (size : ℕ → ℕ) (f : (ℕ → ℕ) → Option Pair → Result (Option Pair) Stop) (n m v : ℕ) (s : ℕ → ℕ) (o : Option Pair) (en : n ≡ suc m) where
@@ -46,7 +51,8 @@ false_true : false ≡ true → ⊥
 false_true e = cc
 
 -- a level that has no value ends the run
-pub stays : (step : ℕ → Option Pair → Result (Option Pair) Stop) (o : Option Pair) (e : Stop) (x n : ℕ) → x ≤ n → Err e ≡ each_level x step o → Err e ≡ each_level n step o
+pub stays : (step : ℕ → Option Pair → Result (Option Pair) Stop) (o : Option Pair) (e : Stop) (x n : ℕ) → x ≤ n → Err e ≡ each_level x step o → Err e
+    ≡ each_level n step o
 stays step o e x zero le h = subst (λ m. Err e ≡ each_level m step o) (let r : x ≡ 0 = omega arith in r) h
 stays step o e x (suc n) le h = go (eqb x (suc n)) refl (λ lt. stays step o e x n lt h)
   where
@@ -54,7 +60,8 @@ stays step o e x (suc n) le h = go (eqb x (suc n)) refl (λ lt. stays step o e x
     go true t ih = subst (λ m. Err e ≡ each_level m step o) (eqb-true x (suc n) t) h
     go false t ih = ap (λ r. after r (step n)) (ih (grind (arith, t)))
 
-pub one_level : (step : ℕ → Option Pair → Result (Option Pair) Stop) (o p : Option Pair) (x : ℕ) (r : Result (Option Pair) Stop) → each_level x step o ≡ Ok p → r ≡ step x p → each_level (x + 1) step o ≡ r
+pub one_level : (step : ℕ → Option Pair → Result (Option Pair) Stop) (o p : Option Pair) (x : ℕ) (r : Result (Option Pair) Stop) → each_level x step o ≡ Ok p
+    → r ≡ step x p → each_level (x + 1) step o ≡ r
 one_level step o p x r before e = ap (λ m. each_level m step o) (let k : x + 1 ≡ suc x = omega arith in k) ∙ ap (λ y. after y (step x)) before ∙ sym e
 
 pub cell_of-set : (cell : List ℕ) (v x : ℕ) → v < length cell → cell_of (set cell v x) ≡ set_at (cell_of cell) v x
@@ -78,17 +85,20 @@ module _ (k : Kind) (w : Weights) (ds : List Tree) (summing : Summing) (e : Tree
 
     -- a vertex that isn't summed over is passed
     pub skip : has summing.over.bits v ≡ false → (o : Option Pair) → cells_from k w ds summing e (v + 1) cell o ≡ cells_from k w ds summing e v cell o
-    skip shut o = skipped (has summing.over.bits) w.size (cell_added k w ds summing.at e) (w.vertices - v) (w.vertices - (v + 1)) v (cell_of cell) o count_more shut
+    skip shut o = skipped (has summing.over.bits) w.size (cell_added k w ds summing.at e) (w.vertices - v) (w.vertices - (v + 1)) v (cell_of cell)
+        o count_more shut
 
     module _ (long : v < length cell) (free : has summing.over.bits v ≡ true) (o : Option Pair) where
       all_levels : each_level (w.size v) level_at o ≡ cells_from k w ds summing e v cell o
       all_levels =
           let U = has summing.over.bits in let f = cell_added k w ds summing.at e in let m = w.vertices - (v + 1) in
-          ap (λ (step : ℕ → Option Pair → Result (Option Pair) Stop). each_level (w.size v) step o) (fun_ext (λ x. ap (λ (s : ℕ → ℕ). each_cell U w.size m (v + 1) f s) (cell_of-set cell v x long)))
+          ap (λ (step : ℕ → Option Pair → Result (Option Pair) Stop). each_level (w.size v) step o)
+          (fun_ext (λ x. ap (λ (s : ℕ → ℕ). each_cell U w.size m (v + 1) f s) (cell_of-set cell v x long)))
           ∙ spread U w.size f (w.vertices - v) m v (cell_of cell) o count_more free
 
       -- a level without a value ends the run
-      pub loop_err : (p : Option Pair) (x : ℕ) (r : Result (Option Pair) Stop) (stop : Stop) → x < w.size v → each_level x level_at o ≡ Ok p → r ≡ level_at x p → Err stop ≡ r → Err stop ≡ cells_from k w ds summing e v cell o
+      pub loop_err : (p : Option Pair) (x : ℕ) (r : Result (Option Pair) Stop) (stop : Stop) → x < w.size v → each_level x level_at o ≡ Ok p → r
+          ≡ level_at x p → Err stop ≡ r → Err stop ≡ cells_from k w ds summing e v cell o
       loop_err p x r stop lt before er ee =
           stays level_at o stop (x + 1) (w.size v) (omega arith) (ee ∙ sym (one_level level_at o p x r before er)) ∙ all_levels
 

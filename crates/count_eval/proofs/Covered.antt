@@ -1,5 +1,6 @@
 -- A value in a lawful kind of quantity covers the true value.
-use Rattle.std.proofs.Common.{ℕ, zero, suc, ◌+◌, ◌*◌, ◌≡◌, ◌≢◌, ◌≤◌, Bool, true, false, cond, not, ◌&&◌, ◌||◌, eqb, refl, sym, ap, ap₂, ◌∙◌, subst, arith, ne_eqb, mul-pos, Option, Some, None, Result, Ok, Err, List, [], ◌∷◌}
+use Rattle.std.proofs.Common.{ℕ, zero, suc, ◌+◌, ◌*◌, ◌≡◌, ◌≢◌, ◌≤◌, Bool, true, false, cond, not, ◌&&◌, ◌||◌, eqb, refl, sym, ap, ap₂, ◌∙◌, subst}
+use Rattle.std.proofs.Common.{arith, ne_eqb, mul-pos, Option, Some, None, Result, Ok, Err, List, [], ◌∷◌}
 use Rattle.std.proofs.lemmas.Bool.{and_from, and_left, and_right}
 use Rattle.finite_models.specs.Sums.{set_at, all_below}
 use Rattle.mixed_graph.specs.Bits.{has}
@@ -19,18 +20,21 @@ use Rattle.count_eval.proofs.Orders
 
 -- ---- the two orders of a sum
 plus_comm : (f g : Fraction) → add f g ≡ add g f
-plus_comm f g = ap₂ over (let r : f.top * g.bottom + g.top * f.bottom ≡ g.top * f.bottom + f.top * g.bottom = omega arith in r) (let r : f.bottom * g.bottom ≡ g.bottom * f.bottom = omega arith in r)
+plus_comm f g = ap₂ over (let r : f.top * g.bottom + g.top * f.bottom ≡ g.top * f.bottom + f.top * g.bottom = omega arith in r)
+    (let r : f.bottom * g.bottom ≡ g.bottom * f.bottom = omega arith in r)
 
 plus_assoc : (f g h : Fraction) → add f (add g h) ≡ add (add f g) h
 plus_assoc f g h =
-    ap₂ over (let r : f.top * (g.bottom * h.bottom) + (g.top * h.bottom + h.top * g.bottom) * f.bottom ≡ (f.top * g.bottom + g.top * f.bottom) * h.bottom + h.top * (f.bottom * g.bottom) = omega arith in r)
+    ap₂ over (let r : f.top * (g.bottom * h.bottom) + (g.top * h.bottom + h.top * g.bottom) * f.bottom ≡ (f.top * g.bottom + g.top * f.bottom) * h.bottom
+    + h.top * (f.bottom * g.bottom) = omega arith in r)
     (let r : f.bottom * (g.bottom * h.bottom) ≡ (f.bottom * g.bottom) * h.bottom = omega arith in r)
 
 plus_zero : (f : Fraction) → add (over 0 1) f ≡ f
 plus_zero f = ap₂ over (let r : 0 * f.bottom + f.top * 1 ≡ f.top = omega arith in r) (let r : 1 * f.bottom ≡ f.bottom = omega arith in r)
 
 times_assoc : (f g h : Fraction) → mul f (mul g h) ≡ mul (mul f g) h
-times_assoc f g h = ap₂ over (let r : f.top * (g.top * h.top) ≡ (f.top * g.top) * h.top = omega arith in r) (let r : f.bottom * (g.bottom * h.bottom) ≡ (f.bottom * g.bottom) * h.bottom = omega arith in r)
+times_assoc f g h = ap₂ over (let r : f.top * (g.top * h.top) ≡ (f.top * g.top) * h.top = omega arith in r)
+    (let r : f.bottom * (g.bottom * h.bottom) ≡ (f.bottom * g.bottom) * h.bottom = omega arith in r)
 
 times_one : (f : Fraction) → mul (over 1 1) f ≡ f
 times_one f = ap₂ over (let r : 1 * f.top ≡ f.top = omega arith in r) (let r : 1 * f.bottom ≡ f.bottom = omega arith in r)
@@ -71,7 +75,8 @@ pub record Joins (covers : Pair → Fraction → Type 0) (Z : Fraction → Type 
   pub found : (o : Option Pair) → r ≡ Ok o → (h ≡ true) × Holds covers Z o f
   pub none : (e : Stop) → r ≡ Err e → e.why ≡ ZeroBelow → h ≡ false
 
-module _ (covers : Pair → Fraction → Type 0) (Z : Fraction → Type 0) (op : Pair → Pair → Result Pair QuantityFault) (join : Fraction → Fraction → Fraction) (one : Fraction)
+module _ (covers : Pair → Fraction → Type 0) (Z : Fraction → Type 0) (op : Pair → Pair → Result Pair QuantityFault) (join : Fraction → Fraction → Fraction)
+    (one : Fraction)
     (assoc : (f g h : Fraction) → join f (join g h) ≡ join (join f g) h) (unit : (f : Fraction) → join f one ≡ f)
     (start : (c : Pair) (f g : Fraction) → Z f → covers c g → covers c (join f g))
     (more : (a b c : Pair) (f g : Fraction) → covers a f → covers b g → op a b ≡ Ok c → covers c (join f g))
@@ -82,7 +87,8 @@ module _ (covers : Pair → Fraction → Type 0) (Z : Fraction → Type 0) (op :
     none = λ e' e why. absurd (cc);
   }
 
-  joined_good : (d : Option ℕ) (i : ℕ) (s : ℕ → ℕ) (h : Bool) (f g : Fraction) (o : Option Pair) (c : Pair) → Holds covers Z o f → h ≡ true → covers c g → Joins covers Z h (join f g) (joined op d i s o c)
+  joined_good : (d : Option ℕ) (i : ℕ) (s : ℕ → ℕ) (h : Bool) (f g : Fraction) (o : Option Pair) (c : Pair) → Holds covers Z o f → h ≡ true → covers c g
+      → Joins covers Z h (join f g) (joined op d i s o c)
   joined_good d i s h f g None c hold t k = record {
     found = λ o' e. (t, subst (λ x. Holds covers Z x (join f g)) (let k' : Some c ≡ o' = cc in k') (start c f g hold k));
     none = λ e' e why. absurd (cc);
@@ -96,10 +102,12 @@ module _ (covers : Pair → Fraction → Type 0) (Z : Fraction → Type 0) (op :
       }
       go (Err x) e = record {
         found = λ o' e'. absurd (cc);
-        none = λ e' e'' why. absurd (never a c (e ∙ ap (λ y. Err y) (let k' : x ≡ ZeroBelow = ap (λ (y : Stop). y.why) (let m : stop x d i s ≡ e' = cc in m) ∙ why in k')));
+        none = λ e' e'' why. absurd (never a c (e ∙ ap (λ y. Err y) (let k' : x ≡ ZeroBelow = ap (λ (y : Stop). y.why) (let m : stop x d i s ≡ e' = cc in m)
+            ∙ why in k')));
       }
 
-  one_more_good : (d : Option ℕ) (i : ℕ) (s : ℕ → ℕ) (h : Bool) (g : Fraction) (r : Result Pair Stop) → Good covers h g r → (o : Option Pair) (f : Fraction) → Holds covers Z o f
+  one_more_good : (d : Option ℕ) (i : ℕ) (s : ℕ → ℕ) (h : Bool) (g : Fraction) (r : Result Pair Stop) → Good covers h g r → (o : Option Pair) (f : Fraction)
+      → Holds covers Z o f
       → Joins covers Z h (join f g) (one_more op d i s r o)
   one_more_good d i s h g (Ok c) good o f hold = let k = good.found c refl in joined_good d i s h f g o c hold k.0 k.1
   one_more_good d i s h g (Err x) good o f hold = record {
@@ -108,7 +116,8 @@ module _ (covers : Pair → Fraction → Type 0) (Z : Fraction → Type 0) (op :
   }
 
   combine : (hA hB : Bool) (f A B : Fraction) (r : Result (Option Pair) Stop) (step : Option Pair → Result (Option Pair) Stop) → Joins covers Z hA (join f A) r
-      → ((o : Option Pair) → Holds covers Z o (join f A) → Joins covers Z hB (join (join f A) B) (step o)) → Joins covers Z (hA && hB) (join f (join A B)) (after r step)
+      → ((o : Option Pair) → Holds covers Z o (join f A) → Joins covers Z hB (join (join f A) B) (step o))
+      → Joins covers Z (hA && hB) (join f (join A B)) (after r step)
   combine hA hB f A B (Ok o) step j next =
       let k = j.found o refl in let m = next o k.1 in
       record {
@@ -122,7 +131,8 @@ module _ (covers : Pair → Fraction → Type 0) (Z : Fraction → Type 0) (op :
 
   level_good : (n : ℕ) (F : ℕ → Fraction) (H : ℕ → Bool) (step : ℕ → Option Pair → Result (Option Pair) Stop)
       → ((x : ℕ) (o : Option Pair) (f : Fraction) → Holds covers Z o f → Joins covers Z (H x) (join f (F x)) (step x o))
-      → (o : Option Pair) (f : Fraction) → Holds covers Z o f → Joins covers Z (Orders.big (λ x y. x && y) true n H) (join f (Orders.big join one n F)) (each_level n step o)
+      → (o : Option Pair) (f : Fraction) → Holds covers Z o f → Joins covers Z (Orders.big (λ x y. x && y) true n H) (join f (Orders.big join one n F))
+      (each_level n step o)
   level_good zero F H step good o f hold = subst (λ x. Joins covers Z true x (Ok o)) (sym (unit f)) (here o f hold)
   level_good (suc n) F H step good o f hold =
       combine (Orders.big (λ x y. x && y) true n H) (H n) f (Orders.big join one n F) (F n) (each_level n step o) (step n) (level_good n F H step good o f hold)
@@ -136,14 +146,20 @@ module _ (covers : Pair → Fraction → Type 0) (Z : Fraction → Type 0) (op :
   cell_good U size (suc k) v F H g good s o f hold =
       go (U v) (λ t o' f' hold'. cell_good U size k (suc v) F H g good t o' f' hold')
     where
-      go : (p : Bool) → ((t : ℕ → ℕ) (o : Option Pair) (f : Fraction) → Holds covers Z o f → Joins covers Z (Orders.up (λ x y. x && y) true U size k (suc v) H t) (join f (Orders.up join one U size k (suc v) F t)) (each_cell U size k (suc v) g t o))
-          → Joins covers Z (cond p (Orders.big (λ x y. x && y) true (size v) (λ x. Orders.up (λ x y. x && y) true U size k (suc v) H (set_at s v x))) (Orders.up (λ x y. x && y) true U size k (suc v) H s))
+      go : (p : Bool) → ((t : ℕ → ℕ) (o : Option Pair) (f : Fraction) → Holds covers Z o f
+          → Joins covers Z (Orders.up (λ x y. x && y) true U size k (suc v) H t) (join f (Orders.up join one U size k (suc v) F t))
+          (each_cell U size k (suc v) g t o))
+          → Joins covers Z (cond p (Orders.big (λ x y. x && y) true (size v) (λ x. Orders.up (λ x y. x && y) true U size k (suc v) H (set_at s v x)))
+          (Orders.up (λ x y. x && y) true U size k (suc v) H s))
           (join f (cond p (Orders.big join one (size v) (λ x. Orders.up join one U size k (suc v) F (set_at s v x))) (Orders.up join one U size k (suc v) F s)))
           (cond p (each_level (size v) (λ x. each_cell U size k (suc v) g (set_at s v x)) o) (each_cell U size k (suc v) g s o))
-      go true ih = level_good (size v) (λ x. Orders.up join one U size k (suc v) F (set_at s v x)) (λ x. Orders.up (λ x y. x && y) true U size k (suc v) H (set_at s v x)) (λ x. each_cell U size k (suc v) g (set_at s v x)) (λ x. ih (set_at s v x)) o f hold
+      go true ih = level_good (size v) (λ x. Orders.up join one U size k (suc v) F (set_at s v x))
+          (λ x. Orders.up (λ x y. x && y) true U size k (suc v) H (set_at s v x)) (λ x. each_cell U size k (suc v) g (set_at s v x)) (λ x. ih (set_at s v x))
+          o f hold
       go false ih = ih s o f hold
 
-  whole_good : (empty : Pair) → ((f : Fraction) → Z f → covers empty f) → (h : Bool) (f : Fraction) (r : Result (Option Pair) Stop) → Joins covers Z h f r → Good covers h f (after r (whole empty))
+  whole_good : (empty : Pair) → ((f : Fraction) → Z f → covers empty f) → (h : Bool) (f : Fraction) (r : Result (Option Pair) Stop) → Joins covers Z h f r
+      → Good covers h f (after r (whole empty))
   whole_good empty zero_is h f (Ok None) j = let k = j.found None refl in record {
     found = λ c e. (k.0, subst (λ x. covers x f) (let m : empty ≡ c = cc in m) (zero_is f k.1));
     none = λ e' e why. absurd (cc);
@@ -158,7 +174,8 @@ module _ (covers : Pair → Fraction → Type 0) (Z : Fraction → Type 0) (op :
   }
 
 -- the test not (bottom is 0), and the value there
-not_zero : (p n : ℕ) (covers : Pair → Fraction → Type 0) (d : Option ℕ) (i : ℕ) (s : ℕ → ℕ) (c : Pair) (t : Bool) → eqb n 0 ≡ t → (1 ≤ n → covers c (over p n)) → Good covers (not t) (over p n) (cond t (Err (stop ZeroBelow d i s)) (Ok c))
+not_zero : (p n : ℕ) (covers : Pair → Fraction → Type 0) (d : Option ℕ) (i : ℕ) (s : ℕ → ℕ) (c : Pair) (t : Bool) → eqb n 0 ≡ t
+    → (1 ≤ n → covers c (over p n)) → Good covers (not t) (over p n) (cond t (Err (stop ZeroBelow d i s)) (Ok c))
 not_zero p n covers d i s c true e h = record {
   found = λ c' e'. absurd (cc);
   none = λ e' e'' why. refl;
@@ -203,7 +220,8 @@ module _ (kind : Kind) (covers : Pair → Fraction → Type 0) (law : IsLawful k
   first_factor c f g e k = subst (λ x. covers c x) (sym (ap (λ y. mul y g) e ∙ times_one g)) k
 
   empty_sum : (f : Fraction) → IsNone f → covers (kind.from_ratio 0 1) f
-  empty_sum f none = law.keeps.equal (kind.from_ratio 0 1) (over 0 1) f (law.keeps.ratio 0 1 (omega arith)) (record { left_bottom = omega arith; right_bottom = none.1; products = (let e = none.0 in omega (arith, e)) })
+  empty_sum f none = law.keeps.equal (kind.from_ratio 0 1) (over 0 1) f (law.keeps.ratio 0 1 (omega arith))
+      (record { left_bottom = omega arith; right_bottom = none.1; products = (let e = none.0 in omega (arith, e)) })
 
   empty_product : (f : Fraction) → IsOne f → covers (kind.from_ratio 1 1) f
   empty_product f e = subst (λ x. covers (kind.from_ratio 1 1) x) (sym e) (law.keeps.ratio 1 1 (omega arith))
@@ -220,7 +238,8 @@ module _ (kind : Kind) (covers : Pair → Fraction → Type 0) (law : IsLawful k
   }
   quotient_good d i s hx hy f g (Ok a) (Ok b) gx gy = go (kind.div a b) refl (gx.found a refl) (gy.found b refl)
     where
-      go : (r : Result Pair QuantityFault) → kind.div a b ≡ r → (hx ≡ true) × covers a f → (hy ≡ true) × covers b g → Good covers (hx && (hy && not (eqb g.top 0))) (div f g) (placed d i s r)
+      go : (r : Result Pair QuantityFault) → kind.div a b ≡ r → (hx ≡ true) × covers a f → (hy ≡ true) × covers b g
+          → Good covers (hx && (hy && not (eqb g.top 0))) (div f g) (placed d i s r)
       go (Ok x) e ka kb = record {
         found = λ c e'. (
           and_from hx (hy && not (eqb g.top 0)) ka.0 (and_from hy (not (eqb g.top 0)) kb.0
@@ -235,14 +254,17 @@ module _ (kind : Kind) (covers : Pair → Fraction → Type 0) (law : IsLawful k
       go (Err x) e ka kb = record {
         found = λ c e'. absurd (cc);
         none = λ e' e'' why. and_right hx (hy && not (eqb g.top 0)) (and_right hy (not (eqb g.top 0))
-            (ap not (eqb_of g.top ((law.div_zero a b f g ka.1 kb.1).0 (e ∙ ap (λ y. Err y) (ap (λ (y : Stop). y.why) (let m : stop x d i s ≡ e' = cc in m) ∙ why))))));
+            (ap not (eqb_of g.top ((law.div_zero a b f g ka.1 kb.1).0 (e
+            ∙ ap (λ y. Err y) (ap (λ (y : Stop). y.why) (let m : stop x d i s ≡ e' = cc in m) ∙ why))))));
       }
 
-  module _ (w : Weights) (qv : ℕ → (ℕ → ℕ) → Fraction) (h : ℕ → (ℕ → ℕ) → Bool) (q : ℕ → (ℕ → ℕ) → Result Pair Stop) (each_named : (j : ℕ) (t : ℕ → ℕ) → Good covers (h j t) (qv j t) (q j t)) where
+  module _ (w : Weights) (qv : ℕ → (ℕ → ℕ) → Fraction) (h : ℕ → (ℕ → ℕ) → Bool) (q : ℕ → (ℕ → ℕ) → Result Pair Stop)
+      (each_named : (j : ℕ) (t : ℕ → ℕ) → Good covers (h j t) (qv j t) (q j t)) where
     mutual
       expr_good : (e : Tree) (d : Option ℕ) (i : ℕ) (s : ℕ → ℕ) → Good covers (has_value w qv h e s) (value w qv e s) (evaluated kind w q d i e s)
       expr_good (prob a b c) d i s =
-          not_zero (w.weight (has b) (λ v. has a v || has c v) s) (w.weight (has b) (has c) s) covers d i s (kind.from_ratio (w.weight (has b) (λ v. has a v || has c v) s) (w.weight (has b) (has c) s))
+          not_zero (w.weight (has b) (λ v. has a v || has c v) s) (w.weight (has b) (has c) s) covers d i s
+          (kind.from_ratio (w.weight (has b) (λ v. has a v || has c v) s) (w.weight (has b) (has c) s))
           (eqb (w.weight (has b) (has c) s) 0) refl (λ le. law.keeps.ratio (w.weight (has b) (λ v. has a v || has c v) s) (w.weight (has b) (has c) s) le)
       expr_good (sum u e) d i s =
           let F = value w qv e in
@@ -250,41 +272,53 @@ module _ (kind : Kind) (covers : Pair → Fraction → Type 0) (law : IsLawful k
           let g : (ℕ → ℕ) → Option Pair → Result (Option Pair) Stop = λ t. one_more kind.add d i s (evaluated kind w q d (next_node i) e t) in
           let r = each_cell (has u) w.size w.vertices 0 g s None in
           let j = cell_good covers IsNone kind.add add (over 0 1) plus_assoc zero_unit first_term law.keeps.add law.add_never (has u) w.size w.vertices 0 F H g
-          (λ t o f hold. one_more_good covers IsNone kind.add add (over 0 1) plus_assoc zero_unit first_term law.keeps.add law.add_never d i s (H t) (F t) (evaluated kind w q d (next_node i) e t) (expr_good e d (next_node i) t) o f hold)
+          (λ t o f hold. one_more_good covers IsNone kind.add add (over 0 1) plus_assoc zero_unit first_term law.keeps.add law.add_never d i s (H t) (F t)
+          (evaluated kind w q d (next_node i) e t) (expr_good e d (next_node i) t) o f hold)
           s None (over 0 1) (refl, omega arith) in
           subst (λ x. Good covers x (add_over (has u) w.size w.vertices F s) (after r (whole (kind.from_ratio 0 1))))
           (Orders.up_down (λ x y. x && y) true and_comm and_assoc true_and (has u) w.size w.vertices H s ∙ down_all (has u) w.size w.vertices H s)
           (subst (λ x. Good covers (Orders.up (λ x y. x && y) true (has u) w.size w.vertices 0 H s) x (after r (whole (kind.from_ratio 0 1))))
-          (plus_zero (Orders.up add (over 0 1) (has u) w.size w.vertices 0 F s) ∙ Orders.up_down add (over 0 1) plus_comm plus_assoc plus_zero (has u) w.size w.vertices F s ∙ down_add (has u) w.size w.vertices F s)
+          (plus_zero (Orders.up add (over 0 1) (has u) w.size w.vertices 0 F s)
+          ∙ Orders.up_down add (over 0 1) plus_comm plus_assoc plus_zero (has u) w.size w.vertices F s ∙ down_add (has u) w.size w.vertices F s)
           (whole_good covers IsNone kind.add add (over 0 1) plus_assoc zero_unit first_term law.keeps.add law.add_never (kind.from_ratio 0 1) empty_sum
           (Orders.up (λ x y. x && y) true (has u) w.size w.vertices 0 H s) (add (over 0 1) (Orders.up add (over 0 1) (has u) w.size w.vertices 0 F s)) r j))
       expr_good (product fs) d i s =
-          subst (λ x. Good covers (have_values w qv h fs s) x (after (factors_evaluated kind w q d i (next_node i) fs s None) (whole (kind.from_ratio 1 1)))) (times_one (product_value w qv fs s))
+          subst (λ x. Good covers (have_values w qv h fs s) x (after (factors_evaluated kind w q d i (next_node i) fs s None) (whole (kind.from_ratio 1 1))))
+          (times_one (product_value w qv fs s))
           (whole_good covers IsOne kind.mul mul (over 1 1) times_assoc one_times first_factor law.keeps.mul law.mul_never (kind.from_ratio 1 1) empty_product
-          (have_values w qv h fs s) (mul (over 1 1) (product_value w qv fs s)) (factors_evaluated kind w q d i (next_node i) fs s None) (factors_good fs d i (next_node i) s None (over 1 1) refl))
+          (have_values w qv h fs s) (mul (over 1 1) (product_value w qv fs s)) (factors_evaluated kind w q d i (next_node i) fs s None)
+          (factors_good fs d i (next_node i) s None (over 1 1) refl))
       expr_good (quotient x y) d i s =
-          quotient_good d i s (has_value w qv h x s) (has_value w qv h y s) (value w qv x s) (value w qv y s) (evaluated kind w q d (next_node i) x s) (evaluated kind w q d (node_behind x (next_node i)) y s)
+          quotient_good d i s (has_value w qv h x s) (has_value w qv h y s) (value w qv x s) (value w qv y s) (evaluated kind w q d (next_node i) x s)
+          (evaluated kind w q d (node_behind x (next_node i)) y s)
           (expr_good x d (next_node i) s) (expr_good y d (node_behind x (next_node i)) s)
       expr_good (named j) d i s = each_named j s
 
       factors_good : (fs : Trees) (d : Option ℕ) (i j : ℕ) (s : ℕ → ℕ) (o : Option Pair) (f : Fraction) → Holds covers IsOne o f
           → Joins covers IsOne (have_values w qv h fs s) (mul f (product_value w qv fs s)) (factors_evaluated kind w q d i j fs s o)
       factors_good no_trees d i j s o f hold =
-          subst (λ x. Joins covers IsOne true x (Ok o)) (sym (one_times f)) (here covers IsOne kind.mul mul (over 1 1) times_assoc one_times first_factor law.keeps.mul law.mul_never o f hold)
+          subst (λ x. Joins covers IsOne true x (Ok o)) (sym (one_times f))
+          (here covers IsOne kind.mul mul (over 1 1) times_assoc one_times first_factor law.keeps.mul law.mul_never o f hold)
       factors_good (tree e fs) d i j s o f hold =
-          combine covers IsOne kind.mul mul (over 1 1) times_assoc one_times first_factor law.keeps.mul law.mul_never (has_value w qv h e s) (have_values w qv h fs s) f (value w qv e s) (product_value w qv fs s)
+          combine covers IsOne kind.mul mul (over 1 1) times_assoc one_times first_factor law.keeps.mul law.mul_never (has_value w qv h e s)
+          (have_values w qv h fs s) f (value w qv e s) (product_value w qv fs s)
           (one_more kind.mul d i s (evaluated kind w q d j e s) o) (factors_evaluated kind w q d i (node_behind e j) fs s)
-          (one_more_good covers IsOne kind.mul mul (over 1 1) times_assoc one_times first_factor law.keeps.mul law.mul_never d i s (has_value w qv h e s) (value w qv e s) (evaluated kind w q d j e s) (expr_good e d j s) o f hold)
+          (one_more_good covers IsOne kind.mul mul (over 1 1) times_assoc one_times first_factor law.keeps.mul law.mul_never d i s (has_value w qv h e s)
+          (value w qv e s) (evaluated kind w q d j e s) (expr_good e d j s) o f hold)
           (λ o' hold'. factors_good fs d i (node_behind e j) s o' (mul f (value w qv e s)) hold')
 
-  defs_good : (w : Weights) (ds : List Tree) (n : ℕ) (qv : ℕ → (ℕ → ℕ) → Fraction) (h : ℕ → (ℕ → ℕ) → Bool) (q : ℕ → (ℕ → ℕ) → Result Pair Stop) → ((j : ℕ) (t : ℕ → ℕ) → Good covers (h j t) (qv j t) (q j t))
+  defs_good : (w : Weights) (ds : List Tree) (n : ℕ) (qv : ℕ → (ℕ → ℕ) → Fraction) (h : ℕ → (ℕ → ℕ) → Bool) (q : ℕ → (ℕ → ℕ) → Result Pair Stop)
+      → ((j : ℕ) (t : ℕ → ℕ) → Good covers (h j t) (qv j t) (q j t))
       → (j : ℕ) (t : ℕ → ℕ) → Good covers (supported_from w qv h n ds j t) (values_from w qv n ds j t) (evaluated_from kind w q n ds j t)
   defs_good w [] n qv h q good = good
   defs_good w (e ∷ es) n qv h q good =
-      defs_good w es (suc n) (λ j s. cond (eqb j n) (value w qv e s) (qv j s)) (λ j s. cond (eqb j n) (has_value w qv h e s) (h j s)) (λ j s. cond (eqb j n) (evaluated kind w q (Some (cap n)) 0 e s) (q j s))
-      (λ j t. at (eqb j n) (has_value w qv h e t) (h j t) (value w qv e t) (qv j t) (evaluated kind w q (Some (cap n)) 0 e t) (q j t) (expr_good w qv h q good e (Some (cap n)) 0 t) (good j t))
+      defs_good w es (suc n) (λ j s. cond (eqb j n) (value w qv e s) (qv j s)) (λ j s. cond (eqb j n) (has_value w qv h e s) (h j s))
+      (λ j s. cond (eqb j n) (evaluated kind w q (Some (cap n)) 0 e s) (q j s))
+      (λ j t. at (eqb j n) (has_value w qv h e t) (h j t) (value w qv e t) (qv j t) (evaluated kind w q (Some (cap n)) 0 e t) (q j t)
+      (expr_good w qv h q good e (Some (cap n)) 0 t) (good j t))
     where
-      at : (b : Bool) (h h' : Bool) (f f' : Fraction) (r r' : Result Pair Stop) → Good covers h f r → Good covers h' f' r' → Good covers (cond b h h') (cond b f f') (cond b r r')
+      at : (b : Bool) (h h' : Bool) (f f' : Fraction) (r r' : Result Pair Stop) → Good covers h f r → Good covers h' f' r'
+          → Good covers (cond b h h') (cond b f f') (cond b r r')
       at true h h' f f' r r' x y = x
       at false h h' f f' r r' x y = y
 
@@ -294,7 +328,10 @@ module _ (kind : Kind) (covers : Pair → Fraction → Type 0) (law : IsLawful k
     none = λ e' e why. absurd (cc);
   }
 
-  pub formula_good : (w : Weights) (f : PlainFormula) (s : ℕ → ℕ) → Good covers (has_value w (values_from w (λ j s. over 1 1) 0 f.defs) (supported_from w (λ j s. over 1 1) (λ j s. true) 0 f.defs) f.main s) (value_of w f s) (formula_value kind w f s)
+  pub formula_good : (w : Weights) (f : PlainFormula) (s : ℕ → ℕ) → Good covers
+      (has_value w (values_from w (λ j s. over 1 1) 0 f.defs) (supported_from w (λ j s. over 1 1) (λ j s. true) 0 f.defs) f.main s) (value_of w f s)
+      (formula_value kind w f s)
   formula_good w f s =
-      expr_good w (values_from w (λ j s. over 1 1) 0 f.defs) (supported_from w (λ j s. over 1 1) (λ j s. true) 0 f.defs) (evaluated_from kind w (λ j t. Ok (kind.from_ratio 1 1)) 0 f.defs)
+      expr_good w (values_from w (λ j s. over 1 1) 0 f.defs) (supported_from w (λ j s. over 1 1) (λ j s. true) 0 f.defs)
+      (evaluated_from kind w (λ j t. Ok (kind.from_ratio 1 1)) 0 f.defs)
       (defs_good w f.defs 0 (λ j s. over 1 1) (λ j s. true) (λ j t. Ok (kind.from_ratio 1 1)) before) f.main None 0 s

@@ -10,3 +10,6 @@ pub mod Used
 pub mod WholeValues
 pub mod Within
 pub mod Uses
+pub mod Agreeing
+pub mod Room
+pub mod TableLaws

@@ -1,5 +1,6 @@
 -- What the definitions below a limit weigh, and what they are.
-use Rattle.std.proofs.Common.{ℕ, zero, suc, ◌+◌, ◌*◌, ◌≡◌, ◌<◌, ◌≤◌, Bool, true, cond, eqb, ne_eqb, refl, sym, ap, ap₂, ◌∙◌, subst, arith, List, [], ◌∷◌, map, take, length, get_or, Some, Result, Ok}
+use Rattle.std.proofs.Common.{ℕ, zero, suc, ◌+◌, ◌*◌, ◌≡◌, ◌<◌, ◌≤◌, Bool, true, cond, eqb, ne_eqb, refl, sym, ap, ap₂, ◌∙◌, subst, arith, List, []}
+use Rattle.std.proofs.Common.{◌∷◌, map, take, length, get_or, Some, Result, Ok}
 use Rattle.std.proofs.lemmas.List.{get_or_default, length-map}
 use Rattle.prob_expr.specs.Tree.{Tree, prob, sum, product, quotient, named, Trees, no_trees, tree}
 use Rattle.prob_expr.specs.Values.{Weights}
@@ -40,7 +41,8 @@ before_at (suc k) (suc limit) (d ∷ ds) e lt il at = let r = before_at k limit 
 pub ordered_at : (j k : ℕ) (ds : List Tree) (e : Tree) → AreOrdered j ds → k < length ds → e ≡ get_or ds k e → IsBelow (j + k) e
 ordered_at j k [] e o il at = absurd (omega arith)
 ordered_at j zero (d ∷ ds) e o il at = subst (IsBelow (j + 0)) (sym at) (subst (λ n. IsBelow n d) (let r : j ≡ j + 0 = omega arith in r) o.0)
-ordered_at j (suc k) (d ∷ ds) e o il at = subst (λ n. IsBelow n e) (let r : suc j + k ≡ j + suc k = omega arith in r) (ordered_at (suc j) k ds e o.1 (omega arith) at)
+ordered_at j (suc k) (d ∷ ds) e o il at = subst (λ n. IsBelow n e) (let r : suc j + k ≡ j + suc k = omega arith in r)
+    (ordered_at (suc j) k ds e o.1 (omega arith) at)
 
 pub used_at : (used : ℕ → Bool) (k : ℕ) (ds : List Tree) (e : Tree) → AllUsed used ds → k < length ds → e ≡ get_or ds k e → IsUsed used e
 used_at used k [] e u il at = absurd (omega arith)
@@ -53,7 +55,8 @@ untouched k w (d ∷ ds) q n j s lt =
     untouched k w ds (λ j s. cond (eqb j n) (evaluated k w q (Some (cap n)) 0 d s) (q j s)) (suc n) j s (omega arith)
     ∙ ap (λ b. cond b (evaluated k w q (Some (cap n)) 0 d s) (q j s)) (ne_eqb j n (λ e. absurd (omega arith)))
 
-known_from : (k : Kind) (w : Weights) (ds : List Tree) (q : ℕ → (ℕ → ℕ) → Result Pair Stop) (n j limit : ℕ) (e : Tree) (s : ℕ → ℕ) → j < limit → j < length ds → e ≡ get_or ds j e
+known_from : (k : Kind) (w : Weights) (ds : List Tree) (q : ℕ → (ℕ → ℕ) → Result Pair Stop) (n j limit : ℕ) (e : Tree) (s : ℕ → ℕ) → j < limit → j < length ds
+    → e ≡ get_or ds j e
     → evaluated_from k w q n (take limit ds) (n + j) s ≡ evaluated k w (evaluated_from k w q n (take j ds)) (Some (cap (n + j))) 0 e s
 known_from k w [] q n j limit e s lt il at = absurd (omega arith)
 known_from k w (d ∷ ds) q n j zero e s lt il at = absurd (omega arith)
@@ -82,7 +85,8 @@ get_or-map f (x ∷ xs) zero d = refl
 get_or-map f (x ∷ xs) (suc i) d = get_or-map f xs i d
 
 -- a definition has the same value among those below any limit above it
-pub known_below : (k : Kind) (w : Weights) (ds : List Tree) (j limit : ℕ) (s : ℕ → ℕ) → j < limit → limit ≤ length ds → known k w ds limit j s ≡ known k w ds (length ds) j s
+pub known_below : (k : Kind) (w : Weights) (ds : List Tree) (j limit : ℕ) (s : ℕ → ℕ) → j < limit → limit ≤ length ds → known k w ds limit j s
+    ≡ known k w ds (length ds) j s
 known_below k w ds j limit s lt le =
     let e = get_or ds j (named 0) in
     let at = get_or_default ds j (named 0) e (omega arith) in

@@ -26,19 +26,23 @@ module _ {A : Type 0} (op : A → A → A) (e : A) where
   big-congr (suc n) f g h = ap₂ op (big-congr n f g h) (h n)
 
   -- sizes of vertices that aren't summed over don't matter
-  pub same_down : (U : ℕ → Bool) (s t : ℕ → ℕ) (n : ℕ) → ((v : ℕ) → v < n → U v ≡ true → s v ≡ t v) → (F G : (ℕ → ℕ) → A) → ((c : ℕ → ℕ) → F c ≡ G c) → (b : ℕ → ℕ) → down U s n F b ≡ down U t n G b
+  pub same_down : (U : ℕ → Bool) (s t : ℕ → ℕ) (n : ℕ) → ((v : ℕ) → v < n → U v ≡ true → s v ≡ t v) → (F G : (ℕ → ℕ) → A) → ((c : ℕ → ℕ) → F c ≡ G c)
+      → (b : ℕ → ℕ) → down U s n F b ≡ down U t n G b
   same_down U s t zero sizes F G h b = h b
   same_down U s t (suc n) sizes F G h b = go (U n) refl (λ c. same_down U s t n (λ v lt u. sizes v (omega (arith, lt)) u) F G h c)
     where
       go : (p : Bool) → U n ≡ p → ((c : ℕ → ℕ) → down U s n F c ≡ down U t n G c)
           → cond p (big (s n) (λ x. down U s n F (set_at b n x))) (down U s n F b) ≡ cond p (big (t n) (λ x. down U t n G (set_at b n x))) (down U t n G b)
-      go true e ih = ap (λ k. big k (λ x. down U s n F (set_at b n x))) (sizes n (omega arith) e) ∙ big-congr (t n) (λ x. down U s n F (set_at b n x)) (λ x. down U t n G (set_at b n x)) (λ x. ih (set_at b n x))
+      go true e ih = ap (λ k. big k (λ x. down U s n F (set_at b n x))) (sizes n (omega arith) e)
+          ∙ big-congr (t n) (λ x. down U s n F (set_at b n x)) (λ x. down U t n G (set_at b n x)) (λ x. ih (set_at b n x))
       go false e ih = ih b
 
   -- what is made by the same steps is the same
   module _ (below : ℕ → (ℕ → A) → A) (none : (f : ℕ → A) → below zero f ≡ e) (more : (k : ℕ) (f : ℕ → A) → below (suc k) f ≡ op (below k f) (f k))
-      (over : (ℕ → Bool) → (ℕ → ℕ) → ℕ → ((ℕ → ℕ) → A) → (ℕ → ℕ) → A) (over_none : (U : ℕ → Bool) (s : ℕ → ℕ) (F : (ℕ → ℕ) → A) (b : ℕ → ℕ) → over U s zero F b ≡ F b)
-      (over_more : (U : ℕ → Bool) (s : ℕ → ℕ) (n : ℕ) (F : (ℕ → ℕ) → A) (b : ℕ → ℕ) → over U s (suc n) F b ≡ cond (U n) (below (s n) (λ x. over U s n F (set_at b n x))) (over U s n F b)) where
+      (over : (ℕ → Bool) → (ℕ → ℕ) → ℕ → ((ℕ → ℕ) → A) → (ℕ → ℕ) → A) (over_none : (U : ℕ → Bool) (s : ℕ → ℕ) (F : (ℕ → ℕ) → A) (b : ℕ → ℕ)
+      → over U s zero F b ≡ F b)
+      (over_more : (U : ℕ → Bool) (s : ℕ → ℕ) (n : ℕ) (F : (ℕ → ℕ) → A) (b : ℕ → ℕ) → over U s (suc n) F b
+      ≡ cond (U n) (below (s n) (λ x. over U s n F (set_at b n x))) (over U s n F b)) where
     big_is : (k : ℕ) (f g : ℕ → A) → ((x : ℕ) → f x ≡ g x) → big k f ≡ below k g
     big_is zero f g h = sym (none g)
     big_is (suc k) f g h = ap₂ op (big_is k f g h) (h k) ∙ sym (more k g)
@@ -52,7 +56,8 @@ module _ {A : Type 0} (op : A → A → A) (e : A) where
         go true k ih = big_is k (λ x. down U s n F (set_at b n x)) (λ x. over U s n F (set_at b n x)) (λ x. ih (set_at b n x))
         go false k ih = ih b
 
-module _ {A : Type 0} (op : A → A → A) (e : A) (comm : (a b : A) → op a b ≡ op b a) (assoc : (a b c : A) → op a (op b c) ≡ op (op a b) c) (unit : (a : A) → op e a ≡ a) where
+module _ {A : Type 0} (op : A → A → A) (e : A) (comm : (a b : A) → op a b ≡ op b a) (assoc : (a b c : A) → op a (op b c) ≡ op (op a b) c)
+    (unit : (a : A) → op e a ≡ a) where
   big-unit : (n : ℕ) → big op e n (λ x. e) ≡ e
   big-unit zero = refl
   big-unit (suc n) = ap (λ a. op a e) (big-unit n) ∙ unit e
@@ -82,7 +87,8 @@ module _ {A : Type 0} (op : A → A → A) (e : A) (comm : (a b : A) → op a b 
   one-swap false false k l i j F b ne = refl
 
   -- the last vertex may come first
-  last : (U : ℕ → Bool) (s : ℕ → ℕ) (k v j : ℕ) (F : (ℕ → ℕ) → A) (b : ℕ → ℕ) → j ≡ v + k → up op e U s (suc k) v F b ≡ one op e (U j) (s j) j (up op e U s k v F) b
+  last : (U : ℕ → Bool) (s : ℕ → ℕ) (k v j : ℕ) (F : (ℕ → ℕ) → A) (b : ℕ → ℕ) → j ≡ v + k → up op e U s (suc k) v F b
+      ≡ one op e (U j) (s j) j (up op e U s k v F) b
   last U s zero v j F b at = ap (λ i. one op e (U i) (s i) i F b) (let r : v ≡ j = omega arith in r)
   last U s (suc k) v j F b at =
       one-congr (U v) (s v) v (up op e U s (suc k) (suc v) F) (one op e (U j) (s j) j (up op e U s k (suc v) F)) b (λ c. last U s k (suc v) j F c (omega arith))

@@ -1,5 +1,6 @@
 -- The used vertices of a table are those that have levels.
-use Rattle.std.proofs.Common.{ℕ, zero, suc, ◌≡◌, ◌<◌, ◌≤◌, Bool, true, false, cond, eqb, eqb-true, ne_eqb, ◌||◌, ◌++◌, List, [], ◌∷◌, length, refl, sym, ap, ◌∙◌, subst, arith}
+use Rattle.std.proofs.Common.{ℕ, zero, suc, ◌≡◌, ◌<◌, ◌≤◌, Bool, true, false, cond, eqb, eqb-true, ne_eqb, ◌||◌, ◌++◌, List, [], ◌∷◌, length, refl}
+use Rattle.std.proofs.Common.{sym, ap, ◌∙◌, subst, arith}
 use Rattle.std.specs.Prelude.{All, nat_lt}
 use Rattle.std.proofs.lemmas.Bool.{lt-ltb}
 use Rattle.std.proofs.lemmas.List.Elements.{All-head, All-tail}
@@ -54,7 +55,8 @@ among-members s v (suc k) lt = among-append v (members_below s k) (cond (s k) (k
     go false e ih = ap (λ b. among v (members_below s k) || b) (among-other v k (s k) e) ∙ or_false (among v (members_below s k)) ∙ ih (grind (arith, e))
 
 -- exactly the numbers in the list of vertices have levels
-pub with_levels : (vs : List ℕ) (levels : List (List Field)) (v : ℕ) → length levels ≡ length vs → All (λ ys. 0 < length ys) levels → nat_lt 0 (length (levels_in vs levels v)) ≡ among v vs
+pub with_levels : (vs : List ℕ) (levels : List (List Field)) (v : ℕ) → length levels ≡ length vs → All (λ ys. 0 < length ys) levels
+    → nat_lt 0 (length (levels_in vs levels v)) ≡ among v vs
 with_levels [] levels v same some = refl
 with_levels (u ∷ us) [] v same some = absurd (omega arith)
 with_levels (u ∷ us) (ys ∷ levels) v same some = go (eqb u v) (with_levels us levels v (omega arith) (λ i d lt. some (suc i) d (omega arith)))

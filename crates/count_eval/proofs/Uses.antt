@@ -17,7 +17,7 @@ use Rattle.count_table.specs.Tables.{AreCounts}
 use Rattle.count_eval.specs.Answers.{IsEvaluable}
 use Rattle.count_eval.specs.Laws.{IsUsed, AreUsed, AllUsed}
 use Rattle.count_eval.specs.Programs.{is_used}
-use Rattle.count_eval.specs.Uses.{uses_only, use_only, defs_use_only, formula_uses_only}
+use Rattle.prob_expr.specs.Uses.{uses_only, use_only, defs_use_only, formula_uses_only}
 use Rattle.count_eval.proofs.Used.{used_is, used_in_range}
 
 -- the members of a mask are those with the property
@@ -32,23 +32,34 @@ part_inside set a used same h = inside_from a set (λ v m. same v ∙ h v m)
 
 mutual
   tree_used : (set : ℕ) (used : ℕ → Bool) → Same set used → (t : Tree) → uses_only set t ≡ true → IsUsed used t
-  tree_used set used same (prob a b c) h = (part_used set a used same (and_first (is_inside a set) (is_inside c set) h), part_used set c used same (and_second (is_inside a set) (is_inside c set) h))
-  tree_used set used same (sum u e) h =
-      (part_used set u used same (and_first (is_inside u set) (uses_only set e) h), tree_used set used same e (and_second (is_inside u set) (uses_only set e) h))
+  tree_used set used same (prob a b c) h = (
+    part_used set a used same (and_first (is_inside a set) (is_inside c set) h),
+    part_used set c used same (and_second (is_inside a set) (is_inside c set) h),
+  )
+  tree_used set used same (sum u e) h = (
+    part_used set u used same (and_first (is_inside u set) (uses_only set e) h),
+    tree_used set used same e (and_second (is_inside u set) (uses_only set e) h),
+  )
   tree_used set used same (product ts) h = trees_used set used same ts h
-  tree_used set used same (quotient p q) h =
-      (tree_used set used same p (and_first (uses_only set p) (uses_only set q) h), tree_used set used same q (and_second (uses_only set p) (uses_only set q) h))
+  tree_used set used same (quotient p q) h = (
+    tree_used set used same p (and_first (uses_only set p) (uses_only set q) h),
+    tree_used set used same q (and_second (uses_only set p) (uses_only set q) h),
+  )
   tree_used set used same (named k) h = tt
 
   trees_used : (set : ℕ) (used : ℕ → Bool) → Same set used → (ts : Trees) → use_only set ts ≡ true → AreUsed used ts
   trees_used set used same no_trees h = tt
-  trees_used set used same (tree t ts) h =
-      (tree_used set used same t (and_first (uses_only set t) (use_only set ts) h), trees_used set used same ts (and_second (uses_only set t) (use_only set ts) h))
+  trees_used set used same (tree t ts) h = (
+    tree_used set used same t (and_first (uses_only set t) (use_only set ts) h),
+    trees_used set used same ts (and_second (uses_only set t) (use_only set ts) h),
+  )
 
 defs_used : (set : ℕ) (used : ℕ → Bool) → Same set used → (ds : List Tree) → defs_use_only set ds ≡ true → AllUsed used ds
 defs_used set used same [] h = tt
-defs_used set used same (d ∷ ds) h =
-    (tree_used set used same d (and_first (uses_only set d) (defs_use_only set ds) h), defs_used set used same ds (and_second (uses_only set d) (defs_use_only set ds) h))
+defs_used set used same (d ∷ ds) h = (
+  tree_used set used same d (and_first (uses_only set d) (defs_use_only set ds) h),
+  defs_used set used same ds (and_second (uses_only set d) (defs_use_only set ds) h),
+)
 
 mutual
   tree_only : (set : ℕ) (used : ℕ → Bool) → Same set used → (t : Tree) → IsUsed used t → uses_only set t ≡ true
@@ -91,15 +102,18 @@ evaluable n t f u are e fits few low accepted free only =
     }
 
 -- where the vertices of the graph lack a used one, or the formula has others, it can't be evaluated
-pub not_low : (n : ℕ) (t : Table) (f : PlainFormula) (u : ℕ) → AreCounts t → members_below (has u) 64 ≡ t.vertices → u < 2 ^ 64 → is_below n u ≡ false → IsEvaluable n t f → ⊥
+pub not_low : (n : ℕ) (t : Table) (f : PlainFormula) (u : ℕ) → AreCounts t → members_below (has u) 64 ≡ t.vertices → u < 2 ^ 64 → is_below n u ≡ false
+    → IsEvaluable n t f → ⊥
 not_low n t f u are e fits high h =
     let same : Same u (is_used t) = same_members t u are e fits in
     cc (sym high ∙ below_from n u (λ v m. h.below v (sym (same v) ∙ m)))
 
-pub not_only : (n : ℕ) (t : Table) (f : PlainFormula) (u : ℕ) → AreCounts t → members_below (has u) 64 ≡ t.vertices → u < 2 ^ 64 → formula_uses_only u f ≡ false → IsEvaluable n t f → ⊥
+pub not_only : (n : ℕ) (t : Table) (f : PlainFormula) (u : ℕ) → AreCounts t → members_below (has u) 64 ≡ t.vertices → u < 2 ^ 64 → formula_uses_only u f
+    ≡ false → IsEvaluable n t f → ⊥
 not_only n t f u are e fits other h =
     let same : Same u (is_used t) = same_members t u are e fits in
-    cc (sym other ∙ and_from (defs_use_only u f.defs) (uses_only u f.main) (defs_only u (is_used t) same f.defs h.defs) (tree_only u (is_used t) same f.main h.main))
+    cc (sym other ∙ and_from (defs_use_only u f.defs) (uses_only u f.main) (defs_only u (is_used t) same f.defs h.defs)
+    (tree_only u (is_used t) same f.main h.main))
 
 -- what gave no error has no fault
 pub no_error : {A : Type 0} → (r : Result A ExprFault) → is_err r ≡ false → fault_of r ≡ None

@@ -27,7 +27,8 @@ use Rattle.count_eval.proofs.Matched.{matched_has_value}
 use Rattle.count_eval.proofs.Used.{used_is}
 
 -- main's value over all definitions is the formula's
-pub main_value : (k : Kind) (w : Weights) (f : Formula) (defs : List Expr) (cell : List ℕ) (s : ℕ → ℕ) (o : Result Pair Stop) → defs ≡ f.defs.items → ((v : ℕ) → cell_of cell v ≡ s v)
+pub main_value : (k : Kind) (w : Weights) (f : Formula) (defs : List Expr) (cell : List ℕ) (s : ℕ → ℕ) (o : Result Pair Stop) → defs ≡ f.defs.items
+    → ((v : ℕ) → cell_of cell v ≡ s v)
     → o ≡ value_at k w (map view defs) (record { def = None; node = 0; cell = cell }) (view f.main) → formula_value k w (formula_view f) s ≡ o
 main_value k w f defs cell s o e same h =
     let ds = map view f.defs.items in
@@ -36,34 +37,39 @@ main_value k w f defs cell s o e same h =
     ∙ ap (formula_value k w (formula_view f)) (fun_ext same))
 
 -- the cell as an array has the levels that the cell has
-pub levels_kept : (t : Table) (of : ℕ → Bool) (at cell : List ℕ) → length at ≤ length cell → ((v : ℕ) → get_or cell v 0 ≡ get_or at v 0) → HasLevels t of at → HasLevels t of cell
+pub levels_kept : (t : Table) (of : ℕ → Bool) (at cell : List ℕ) → length at ≤ length cell → ((v : ℕ) → get_or cell v 0 ≡ get_or at v 0)
+    → HasLevels t of at → HasLevels t of cell
 levels_kept t of at cell le same h v member =
     let (within, below) = h v member in
     let e = same v in
     (omega (arith, within, le), omega (arith, below, e))
 
 -- a fault over the set of a table's vertices is one over the table
-pub fault_over : (t : Table) (u : ℕ) (e : EvalFault) (s : Stop) → AreCounts t → members_below (has u) 64 ≡ t.vertices → IsEvaluationFault (has u) e s → IsEvaluationFault (is_used t) e s
+pub fault_over : (t : Table) (u : ℕ) (e : EvalFault) (s : Stop) → AreCounts t → members_below (has u) 64 ≡ t.vertices → IsEvaluationFault (has u) e s
+    → IsEvaluationFault (is_used t) e s
 fault_over t u (NoSupport cell place) s are e h = (h.0, h.1, λ v lt. h.2 v lt ∙ ap (λ (b : Bool). cond b (s.cell v) 0) (used_is t u v are e lt))
 fault_over t u (TooWide place) s are e h = h
 fault_over t u (TooFine place) s are e h = h
 fault_over t u NoMemory s are e h = h
 
 -- a value covers the true one over the counts
-pub covers_counts : (k : Kind) (covers : Pair → Fraction → Type 0) → IsLawful k covers → (n : ℕ) (t : Table) (f : PlainFormula) (s : ℕ → ℕ) (c : Pair) → formula_value k (weights_in n t) f s ≡ Ok c → CoversCounts covers n t f s c
+pub covers_counts : (k : Kind) (covers : Pair → Fraction → Type 0) → IsLawful k covers → (n : ℕ) (t : Table) (f : PlainFormula) (s : ℕ → ℕ) (c : Pair)
+    → formula_value k (weights_in n t) f s ≡ Ok c → CoversCounts covers n t f s c
 covers_counts k covers law n t f s c e =
     let h = (formula_good k covers law (weights_in n t) f s).found c e in
     record { supported = h.0; covered = h.1 }
 
 -- and in each model that the counts match
-pub covers_matches : (k : Kind) (covers : Pair → Fraction → Type 0) → IsLawful k covers → (n : ℕ) (t : Table) (f : PlainFormula) (s : ℕ → ℕ) (c : Pair) → IsEvaluable n t f → formula_value k (weights_in n t) f s ≡ Ok c → CoversMatches covers n t f s c
+pub covers_matches : (k : Kind) (covers : Pair → Fraction → Type 0) → IsLawful k covers → (n : ℕ) (t : Table) (f : PlainFormula) (s : ℕ → ℕ) (c : Pair)
+    → IsEvaluable n t f → formula_value k (weights_in n t) f s ≡ Ok c → CoversMatches covers n t f s c
 covers_matches k covers law n t f s c ok e = λ g mixed m fit positive matched within.
     law.keeps.equal c (value_of (weights_in n t) f s) (value_of (weights_of m) f s)
     ((formula_good k covers law (weights_in n t) f s).found c e).1
     (matched_has_value g mixed m fit positive (is_used t) (weights_in n t) (total t.rows) matched f ok.do_free ok.defs ok.main s within).1
 
 -- a fault is no missing support where the counts match a positive model
-pub denies_matches : (k : Kind) (covers : Pair → Fraction → Type 0) → IsLawful k covers → (n : ℕ) (t : Table) (f : PlainFormula) (s : ℕ → ℕ) (e : EvalFault) (stop : Stop) → IsEvaluable n t f
+pub denies_matches : (k : Kind) (covers : Pair → Fraction → Type 0) → IsLawful k covers
+    → (n : ℕ) (t : Table) (f : PlainFormula) (s : ℕ → ℕ) (e : EvalFault) (stop : Stop) → IsEvaluable n t f
     → formula_value k (weights_in n t) f s ≡ Err stop → IsEvaluationFault (is_used t) e stop → DeniesMatches n t s e
 denies_matches k covers law n t f s (NoSupport cell place) stop ok e h = λ g mixed m fit positive matched within.
     false≢true (sym ((formula_good k covers law (weights_in n t) f s).none stop e h.0)

@@ -55,12 +55,14 @@ pub record CoversCounts (covers : Pair → Fraction → Type 0) (n : ℕ) (t : T
 
 -- in each positive model of a graph whose observed weights are those of the counts, up to one factor, this covers the formula's value
 abbrev pub CoversMatches : (Pair → Fraction → Type 0) → ℕ → Table → PlainFormula → (ℕ → ℕ) → Pair → Type 0
-CoversMatches covers n t f s c = (g : MixedGraph) → IsMixedGraph g → (m : FiniteModel) → Fits g m → IsPositiveModel m → IsMatched (is_used t) (weights_in n t) (total t.rows) m
+CoversMatches covers n t f s c = (g : MixedGraph) → IsMixedGraph g → (m : FiniteModel) → Fits g m → IsPositiveModel m
+    → IsMatched (is_used t) (weights_in n t) (total t.rows) m
     → IsAssignment m.vertices m.size s → covers c (value_of (weights_of m) f s)
 
 -- a denominator is 0 only where no positive model of a graph, of which the cell is an assignment, has the counts' weights up to one factor
 abbrev pub DeniesMatches : ℕ → Table → (ℕ → ℕ) → EvalFault → Type 0
-DeniesMatches n t s (NoSupport cell place) = (g : MixedGraph) → IsMixedGraph g → (m : FiniteModel) → Fits g m → IsPositiveModel m → IsMatched (is_used t) (weights_in n t) (total t.rows) m
+DeniesMatches n t s (NoSupport cell place) = (g : MixedGraph) → IsMixedGraph g → (m : FiniteModel) → Fits g m → IsPositiveModel m
+    → IsMatched (is_used t) (weights_in n t) (total t.rows) m
     → IsAssignment m.vertices m.size s → ⊥
 DeniesMatches n t s (TooWide place) = Unit {0}
 DeniesMatches n t s (TooFine place) = Unit {0}

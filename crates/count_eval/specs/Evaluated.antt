@@ -25,7 +25,8 @@ abbrev mutual
 -- P(a | c) at s
 abbrev pub term_outcome : Kind → Weights → Option ℕ → ℕ → (a b c : ℕ) → (ℕ → ℕ) → Result Pair Stop
 term_outcome k w d i a b c s =
-    if w.weight (has b) (has c) s == 0 then Err (stop ZeroBelow d i s) else (Ok (k.from_ratio (w.weight (has b) (λ v. has a v || has c v) s) (w.weight (has b) (has c) s)))
+    if w.weight (has b) (has c) s == 0 then Err (stop ZeroBelow d i s) else
+    (Ok (k.from_ratio (w.weight (has b) (λ v. has a v || has c v) s) (w.weight (has b) (has c) s)))
 
 -- The expression's value at s, where its root is node i of definition d, and q gives the values of the definitions.
 abbrev mutual

@@ -55,18 +55,22 @@ EachIsCovered kind covers = (w : Weights) (f : PlainFormula) (s : ℕ → ℕ) �
 
 -- in a matching positive model the formula has a value over the counts, and it is the model's
 abbrev pub MatchedHasValue : Type 0
-MatchedHasValue = (g : MixedGraph) → IsMixedGraph g → (m : FiniteModel) → Fits g m → IsPositiveModel m → (used : ℕ → Bool) (w : Weights) (all : ℕ) → IsMatched used w all m
+MatchedHasValue = (g : MixedGraph) → IsMixedGraph g → (m : FiniteModel) → Fits g m → IsPositiveModel m → (used : ℕ → Bool) (w : Weights) (all : ℕ)
+    → IsMatched used w all m
     → (f : PlainFormula) → is_do_free f ≡ true → AllUsed used f.defs → IsUsed used f.main → (s : ℕ → ℕ) → IsAssignment m.vertices m.size s
     → (is_supported w f s ≡ true) × IsEqual (value_of w f s) (value_of (weights_of m) f s)
 
 -- what a kind gives over counts that match a positive model covers the formula's value in the model
 abbrev pub MatchedIsCovered : Kind → (Pair → Fraction → Type 0) → Type 0
-MatchedIsCovered kind covers = (g : MixedGraph) → IsMixedGraph g → (m : FiniteModel) → Fits g m → IsPositiveModel m → (used : ℕ → Bool) (w : Weights) (all : ℕ) → IsMatched used w all m
+MatchedIsCovered kind covers = (g : MixedGraph) → IsMixedGraph g → (m : FiniteModel) → Fits g m → IsPositiveModel m
+    → (used : ℕ → Bool) (w : Weights) (all : ℕ) → IsMatched used w all m
     → (f : PlainFormula) → is_do_free f ≡ true → AllUsed used f.defs → IsUsed used f.main → (s : ℕ → ℕ) → IsAssignment m.vertices m.size s
     → (c : Pair) → formula_value kind w f s ≡ Ok c → covers c (value_of (weights_of m) f s)
 
 -- and where the formula equals an effect in each positive model of the graph, it covers the effect in the model
 abbrev pub MatchedCoversEffect : Kind → (Pair → Fraction → Type 0) → Type 0
-MatchedCoversEffect kind covers = (g : MixedGraph) → IsMixedGraph g → (m : FiniteModel) → Fits g m → IsPositiveModel m → (used : ℕ → Bool) (w : Weights) (all : ℕ) → IsMatched used w all m
-    → (f : PlainFormula) → is_do_free f ≡ true → AllUsed used f.defs → IsUsed used f.main → (t : PlainTarget) → EqualsEffect g t f → (s : ℕ → ℕ) → IsAssignment m.vertices m.size s
+MatchedCoversEffect kind covers = (g : MixedGraph) → IsMixedGraph g → (m : FiniteModel) → Fits g m → IsPositiveModel m
+    → (used : ℕ → Bool) (w : Weights) (all : ℕ) → IsMatched used w all m
+    → (f : PlainFormula) → is_do_free f ≡ true → AllUsed used f.defs → IsUsed used f.main → (t : PlainTarget) → EqualsEffect g t f → (s : ℕ → ℕ)
+    → IsAssignment m.vertices m.size s
     → (c : Pair) → formula_value kind w f s ≡ Ok c → covers c (effect m t s)

@@ -5,5 +5,8 @@ pub mod Supported
 pub mod Laws
 pub mod Programs
 pub mod Answers
-pub mod Uses
+pub mod Levels
 pub mod Spots
+pub mod Preparations
+pub mod Tables
+pub mod Values

@@ -36,13 +36,14 @@ abbrev pub value_at : Kind → Weights → List Tree → Spot → Tree → Resul
 value_at k w defs at e = evaluated k w (known k w defs (limit_of defs at.def)) at.def at.node e (cell_of at.cell)
 
 -- what a joint makes of two
-abbrev pub joins : Kind → Joint → Pair → Pair → Result Pair QuantityFault
-joins k Adding = k.add
-joins k Multiplying = k.mul
+abbrev pub combined : Kind → Joint → Pair → Pair → Result Pair QuantityFault
+combined k Adding = k.add
+combined k Multiplying = k.mul
 
 -- what there is so far of a sum that stands there, and its body at one more cell
 abbrev pub cell_added : Kind → Weights → List Tree → Spot → Tree → (ℕ → ℕ) → Option Pair → Result (Option Pair) Stop
-cell_added k w defs at e s = one_more k.add at.def at.node (cell_of at.cell) (evaluated k w (known k w defs (limit_of defs at.def)) at.def (next_node at.node) e s)
+cell_added k w defs at e s = one_more k.add at.def at.node (cell_of at.cell)
+    (evaluated k w (known k w defs (limit_of defs at.def)) at.def (next_node at.node) e s)
 
 -- what there is so far of a sum, and its body at all cells that differ from this one in the summed vertices from v on
 abbrev pub cells_from : Kind → Weights → List Tree → Summing → Tree → ℕ → List ℕ → Option Pair → Result (Option Pair) Stop

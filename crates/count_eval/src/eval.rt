@@ -1,3 +1,5 @@
+//! The evaluation of a formula at a cell, node by node.
+
 ghost use Rattle.std.specs.Prelude.{ℕ, ◌≡◌, ◌≤◌, map, length, true, None};
 ghost use Rattle.mixed_graph.specs.Bits.{has};
 ghost use Rattle.prob_expr.specs.View.{view, views};

@@ -1,3 +1,5 @@
+//! The first node without a value, and why it has none.
+
 use crate::spot::Spot;
 use prob_expr::Place;
 use quantity::QuantityFault;

@@ -1,9 +1,11 @@
+//! How a node joins the values of its parts.
+
 ghost use Rattle.std.specs.Prelude.{◌≡◌};
 ghost use Rattle.quantity.specs.Kinds.{gives};
 ghost use Rattle.count_eval.specs.Steps.{joined, whole as whole_of};
 ghost use Rattle.count_eval.specs.Stops.{after, placed};
 ghost use Rattle.count_eval.specs.Programs.{cell_of, seen, seen_so_far, seen_more};
-ghost use Rattle.count_eval.specs.Spots.{joins};
+ghost use Rattle.count_eval.specs.Spots.{combined};
 
 use crate::failure::Failure;
 use crate::spot::Spot;
@@ -18,7 +20,7 @@ pub enum Joint {
 
 /// The two, joined.
 fn join<Q: Quantity>(joint: Joint, a: &Q, b: &Q) -> Result<Q, QuantityFault>
-    ensures { gives Q.numbers result ≡ joins Q.kind joint (Q.numbers a.now) (Q.numbers b.now) }
+    ensures { gives Q.numbers result ≡ combined Q.kind joint (Q.numbers a.now) (Q.numbers b.now) }
 {
     match joint {
         Joint::Adding => a.add(b),
@@ -43,7 +45,7 @@ pub fn join_more<Q: Quantity>(
     q: Q,
     at: Spot,
 ) -> Result<Option<Q>, Failure>
-    ensures { seen_more Q.numbers result ≡ joined (joins Q.kind joint) at.def at.node (cell_of at.cell) (seen_so_far Q.numbers so_far) (Q.numbers q) }
+    ensures { seen_more Q.numbers result ≡ joined (combined Q.kind joint) at.def at.node (cell_of at.cell) (seen_so_far Q.numbers so_far) (Q.numbers q) }
 {
     match so_far {
         None => Ok(Some(q)),

@@ -10,6 +10,7 @@ mod joining;
 mod lookup;
 mod nodes;
 mod spot;
+pub mod tables;
 mod values;
 
 pub use eval::{Scope, value_at};

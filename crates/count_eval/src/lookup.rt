@@ -1,3 +1,5 @@
+//! Where an evaluation looks up levels, sums of counts and values of definitions.
+
 ghost use Rattle.std.specs.Prelude.{ℕ, ◌≡◌, length, IfSome};
 ghost use Rattle.mixed_graph.specs.Bits.{has};
 ghost use Rattle.quantity.specs.Kinds.{Pair};

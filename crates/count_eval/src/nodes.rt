@@ -1,3 +1,5 @@
+//! The numbers of nodes, in preorder.
+
 ghost use Rattle.std.specs.Prelude.{◌≡◌};
 ghost use Rattle.prob_expr.specs.View.{view, views};
 ghost use Rattle.prob_expr.specs.Check.{next_node as node_next};

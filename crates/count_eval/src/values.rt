@@ -1,3 +1,5 @@
+//! The value of a formula at a cell, by any lookup.
+
 ghost use Rattle.std.specs.Prelude.{ℕ, ◌≡◌, ◌≢◌, ◌<◌, ◌≤◌, length, IfOk, IfErr, slice_index, if◌then◌else◌};
 ghost use Rattle.mixed_graph.specs.Bits.{has, members_below};
 ghost use Rattle.prob_expr.specs.View.{formula_view};

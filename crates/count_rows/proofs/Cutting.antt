@@ -1,5 +1,6 @@
 -- The records of a text, cut off one by one.
-use Rattle.std.proofs.Common.{ℕ, zero, suc, ◌≡◌, ◌+◌, ◌-◌, ◌<◌, ◌≤◌, List, [], ◌∷◌, ◌++◌, length, Option, Some, None, refl, sym, ap, ◌∙◌, subst, arith, inl, inr}
+use Rattle.std.proofs.Common.{ℕ, zero, suc, ◌≡◌, ◌+◌, ◌-◌, ◌<◌, ◌≤◌, List, [], ◌∷◌, ◌++◌, length, Option, Some, None, refl, sym, ap, ◌∙◌, subst}
+use Rattle.std.proofs.Common.{arith, inl, inr}
 use Rattle.std.proofs.lemmas.Bool.{cases_Bool}
 use Rattle.csv.specs.Machine.{Read, next_record, step, is_end, ends_at_end, fields_after, field_after}
 use Rattle.csv.specs.Reading.{Reached, records_from, records_next}
@@ -17,7 +18,8 @@ state_of None = st.StartRecord
 state_of (Some p) = p.1
 
 -- what follows a record at the end of the text
-at_end : (cfg : Config) (s : State) (fields : List (List ℕ)) (field : List ℕ) (p : Read) → next_record cfg s fields field [] ≡ Some p → (p.1 ≡ st.StartRecord) × (p.2 ≡ [])
+at_end : (cfg : Config) (s : State) (fields : List (List ℕ)) (field : List ℕ) (p : Read) → next_record cfg s fields field [] ≡ Some p → (p.1 ≡ st.StartRecord)
+    × (p.2 ≡ [])
 unfolding next_record
 at_end cfg s fields field p e = elim (cases_Bool (ends_at_end s)) [
   | inl ends ↦
@@ -27,7 +29,8 @@ at_end cfg s fields field p e = elim (cases_Bool (ends_at_end s)) [
 ]
 
 -- a record is followed by less text
-shorter : (cfg : Config) (s : State) (fields : List (List ℕ)) (field xs : List ℕ) (p : Read) → next_record cfg s fields field xs ≡ Some p → length p.2 ≤ length xs - 1
+shorter : (cfg : Config) (s : State) (fields : List (List ℕ)) (field xs : List ℕ) (p : Read) → next_record cfg s fields field xs ≡ Some p
+    → length p.2 ≤ length xs - 1
 unfolding next_record
 shorter cfg s fields field [] p e = let z = (at_end cfg s fields field p e).1 in rw z (omega arith)
 shorter cfg s fields field (c ∷ rest) p e = elim (cases_Bool (is_end (step cfg s c).1)) [
@@ -45,7 +48,8 @@ unfolding next_record records_from
 nothing_left zero cfg = refl
 nothing_left (suc n) cfg = refl
 
-one_turn : (n : ℕ) (cfg : Config) (s : State) (xs : List ℕ) (o : Option Read) → next_record cfg s [] [] xs ≡ o → records_from cfg (suc n) s xs ≡ records_next (records_from cfg n) o
+one_turn : (n : ℕ) (cfg : Config) (s : State) (xs : List ℕ) (o : Option Read) → next_record cfg s [] [] xs ≡ o → records_from cfg (suc n) s xs
+    ≡ records_next (records_from cfg n) o
 unfolding records_from
 one_turn n cfg s xs o e = ap (records_next (records_from cfg n)) e
 
@@ -55,7 +59,8 @@ enough zero m cfg s xs h k = absurd (omega arith)
 enough (suc n) zero cfg s xs h k = absurd (omega arith)
 enough (suc n) (suc m) cfg s xs h k = go (next_record cfg s [] [] xs) refl (λ p l r. enough n m cfg p.1 p.2 l r)
   where
-    after_all : (ys : List ℕ) (p : Read) → xs ≡ ys → next_record cfg s [] [] xs ≡ Some p → (length p.2 < n → length p.2 < m → records_from cfg n p.1 p.2 ≡ records_from cfg m p.1 p.2) →
+    after_all : (ys : List ℕ) (p : Read) → xs ≡ ys → next_record cfg s [] [] xs ≡ Some p
+        → (length p.2 < n → length p.2 < m → records_from cfg n p.1 p.2 ≡ records_from cfg m p.1 p.2) →
         records_from cfg n p.1 p.2 ≡ records_from cfg m p.1 p.2
     after_all [] p e at more =
         let z = at_end cfg s [] [] p (subst (λ (l : List ℕ). next_record cfg s [] [] l ≡ Some p) e at) in
@@ -65,7 +70,8 @@ enough (suc n) (suc m) cfg s xs h k = go (next_record cfg s [] [] xs) refl (λ p
         let l : length xs ≡ suc (length ys) = ap length e in
         more (omega (arith, r, l)) (omega (arith, r, l))
 
-    go : (o : Option Read) → next_record cfg s [] [] xs ≡ o → ((p : Read) → length p.2 < n → length p.2 < m → records_from cfg n p.1 p.2 ≡ records_from cfg m p.1 p.2) →
+    go : (o : Option Read) → next_record cfg s [] [] xs ≡ o → ((p : Read) → length p.2 < n → length p.2 < m → records_from cfg n p.1 p.2
+        ≡ records_from cfg m p.1 p.2) →
         records_from cfg (suc n) s xs ≡ records_from cfg (suc m) s xs
     go None e more = one_turn n cfg s xs None e ∙ sym (one_turn m cfg s xs None e)
     go (Some p) e more =

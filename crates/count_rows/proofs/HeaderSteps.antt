@@ -1,5 +1,6 @@
 -- Names, sought in a header.
-use Rattle.std.proofs.Common.{◌≡◌, ℕ, zero, suc, ◌+◌, ◌<◌, ◌≤◌, Bool, true, false, cond, not, ◌==◌, List, [], ◌∷◌, ◌++◌, length, take, drop, get_or, drop-cons, inl, inr, refl, ap, sym, ◌∙◌, arith, Option, Some, None}
+use Rattle.std.proofs.Common.{◌≡◌, ℕ, zero, suc, ◌+◌, ◌<◌, ◌≤◌, Bool, true, false, cond, not, ◌==◌, List, [], ◌∷◌, ◌++◌, length, take, drop, get_or}
+use Rattle.std.proofs.Common.{drop-cons, inl, inr, refl, ap, sym, ◌∙◌, arith, Option, Some, None}
 use Rattle.std.specs.Prelude.{map, count_by, slice_get}
 use Rattle.std.specs.List.{position_or_len}
 use Rattle.std.specs.Str.{bytes_eq}
@@ -39,7 +40,8 @@ found_at p xs at h e = rw (split_at xs at h) (stop_at (p (get_or xs at [])) (pos
 pub not_at : (p : List ℕ → Bool) (xs : List (List ℕ)) (at : ℕ) → at < length xs → p (get_or xs at []) ≡ false →
     at + position_or_len p (drop at xs) ≡ at + 1 + position_or_len p (drop (at + 1) xs)
 not_at p xs at h e =
-    let s : position_or_len p (drop at xs) ≡ suc (position_or_len p (drop (at + 1) xs)) = rw (split_at xs at h) (step_over (p (get_or xs at [])) (position_or_len p (drop (at + 1) xs)) e) in
+    let s : position_or_len p (drop at xs) ≡ suc (position_or_len p (drop (at + 1) xs)) =
+    rw (split_at xs at h) (step_over (p (get_or xs at [])) (position_or_len p (drop (at + 1) xs)) e) in
     omega (arith, s)
 
 -- what isn't there is there no time
@@ -75,14 +77,17 @@ pub once : (header : List (List ℕ)) (name : List ℕ) (at : ℕ) → at ≡ po
     position_or_len (bytes_eq name) (drop (at + 1) header) ≡ length (drop (at + 1) header) → name_fault header name ≡ None
 once header name at is h e =
     let one : count_by (bytes_eq name) header ≡ 1 =
-    count_some (bytes_eq name) header (omega (arith, is, h)) ∙ ap (λ n. 1 + count_by (bytes_eq name) (drop (n + 1) header)) (sym is) ∙ ap (λ n. 1 + n) (count_none (bytes_eq name) (drop (at + 1) header) e) in
+    count_some (bytes_eq name) header (omega (arith, is, h)) ∙ ap (λ n. 1 + count_by (bytes_eq name) (drop (n + 1) header)) (sym is)
+    ∙ ap (λ n. 1 + n) (count_none (bytes_eq name) (drop (at + 1) header) e) in
     rw (one) refl
 
 pub twice : (header : List (List ℕ)) (name : List ℕ) (at : ℕ) → at ≡ position_or_len (bytes_eq name) header → at < length header →
     position_or_len (bytes_eq name) (drop (at + 1) header) < length (drop (at + 1) header) → name_fault header name ≡ Some (TwoColumns name)
 twice header name at is h e =
-    let more : count_by (bytes_eq name) header ≡ 1 + (1 + count_by (bytes_eq name) (drop (position_or_len (bytes_eq name) (drop (at + 1) header) + 1) (drop (at + 1) header))) =
-    count_some (bytes_eq name) header (omega (arith, is, h)) ∙ ap (λ n. 1 + count_by (bytes_eq name) (drop (n + 1) header)) (sym is) ∙ ap (λ n. 1 + n) (count_some (bytes_eq name) (drop (at + 1) header) e) in
+    let more : count_by (bytes_eq name) header ≡ 1 + (1 + count_by (bytes_eq name)
+    (drop (position_or_len (bytes_eq name) (drop (at + 1) header) + 1) (drop (at + 1) header))) =
+    count_some (bytes_eq name) header (omega (arith, is, h)) ∙ ap (λ n. 1 + count_by (bytes_eq name) (drop (n + 1) header)) (sym is)
+    ∙ ap (λ n. 1 + n) (count_some (bytes_eq name) (drop (at + 1) header) e) in
     let none : (count_by (bytes_eq name) header == 0) ≡ false = ne_eqb _ _ (omega (arith, more)) in
     let one : (count_by (bytes_eq name) header == 1) ≡ false = ne_eqb _ _ (omega (arith, more)) in
     judged (count_by (bytes_eq name) header == 0) (count_by (bytes_eq name) header == 1) none one
@@ -93,10 +98,12 @@ twice header name at is h e =
     judged false false p q = refl
 
 -- the faults of more names
-pub header_fault-append : (header : List (List ℕ)) (xs ys : List (List ℕ)) → header_fault header (xs ++ ys) ≡ or_else (header_fault header xs) (header_fault header ys)
+pub header_fault-append : (header : List (List ℕ)) (xs ys : List (List ℕ)) → header_fault header (xs ++ ys)
+    ≡ or_else (header_fault header xs) (header_fault header ys)
 unfolding header_fault
 header_fault-append header [] ys = refl
-header_fault-append header (x ∷ xs) ys = ap (or_else (name_fault header x)) (header_fault-append header xs ys) ∙ assoc (name_fault header x) (header_fault header xs) (header_fault header ys)
+header_fault-append header (x ∷ xs) ys = ap (or_else (name_fault header x)) (header_fault-append header xs ys)
+    ∙ assoc (name_fault header x) (header_fault header xs) (header_fault header ys)
   where
     assoc : (a b c : Option CountFault) → or_else a (or_else b c) ≡ or_else (or_else a b) c
     assoc None b c = refl
@@ -113,16 +120,19 @@ at_end p xs at h = rw (drop_all xs at h) (omega arith)
     drop_all (y ∷ ys) (suc n) l = drop_all ys n (omega arith)
 
 -- a name more
-pub header_fault-last : (header : List (List ℕ)) (names : List (List ℕ)) (name : List ℕ) → header_fault header names ≡ None → header_fault header (names ++ name ∷ []) ≡ name_fault header name
+pub header_fault-last : (header : List (List ℕ)) (names : List (List ℕ)) (name : List ℕ) → header_fault header names ≡ None
+    → header_fault header (names ++ name ∷ []) ≡ name_fault header name
 unfolding header_fault
-header_fault-last header names name e = header_fault-append header names (name ∷ []) ∙ ap (λ (o : Option CountFault). or_else o (or_else (name_fault header name) None)) e ∙ alone (name_fault header name)
+header_fault-last header names name e = header_fault-append header names (name ∷ [])
+    ∙ ap (λ (o : Option CountFault). or_else o (or_else (name_fault header name) None)) e ∙ alone (name_fault header name)
   where
     alone : (o : Option CountFault) → or_else o None ≡ o
     alone None = refl
     alone (Some f) = refl
 
 -- the first name at fault
-pub header_fault-first : (header : List (List ℕ)) (names more : List (List ℕ)) (name : List ℕ) (fault : CountFault) → header_fault header names ≡ None → name_fault header name ≡ Some fault →
+pub header_fault-first : (header : List (List ℕ)) (names more : List (List ℕ)) (name : List ℕ) (fault : CountFault) → header_fault header names ≡ None
+    → name_fault header name ≡ Some fault →
     header_fault header (names ++ name ∷ more) ≡ Some fault
 unfolding header_fault
 header_fault-first header names more name fault e f =
@@ -142,10 +152,13 @@ names-more names vertices i name h e =
     ∙ ap (λ (x : List ℕ). map (name_of names) (take i vertices) ++ x ∷ []) (get_or_from_slice_get names (get_or vertices i 0) name [] e)
 
 -- all names, from that of one vertex on
-pub names-split : (names : List (List ℕ)) (vertices : List ℕ) (i : ℕ) (name : List ℕ) → i < length vertices → slice_get names (get_or vertices i 0) ≡ Some name →
+pub names-split : (names : List (List ℕ)) (vertices : List ℕ) (i : ℕ) (name : List ℕ) → i < length vertices → slice_get names (get_or vertices i 0)
+    ≡ Some name →
     map (name_of names) vertices ≡ map (name_of names) (take i vertices) ++ name ∷ map (name_of names) (drop (i + 1) vertices)
 names-split names vertices i name h e =
     let k : suc i ≡ i + 1 = omega arith in
-    ap (map (name_of names)) (sym (take-append-drop i vertices) ∙ ap (λ (l : List ℕ). take i vertices ++ l) (drop-cons vertices i 0 h ∙ ap (λ n. get_or vertices i 0 ∷ drop n vertices) k))
+    ap (map (name_of names)) (sym (take-append-drop i vertices) ∙ ap (λ (l : List ℕ). take i vertices ++ l)
+    (drop-cons vertices i 0 h ∙ ap (λ n. get_or vertices i 0 ∷ drop n vertices) k))
     ∙ map-append (name_of names) (take i vertices) (get_or vertices i 0 ∷ drop (i + 1) vertices)
-    ∙ ap (λ (x : List ℕ). map (name_of names) (take i vertices) ++ x ∷ map (name_of names) (drop (i + 1) vertices)) (get_or_from_slice_get names (get_or vertices i 0) name [] e)
+    ∙ ap (λ (x : List ℕ). map (name_of names) (take i vertices) ++ x ∷ map (name_of names) (drop (i + 1) vertices))
+    (get_or_from_slice_get names (get_or vertices i 0) name [] e)

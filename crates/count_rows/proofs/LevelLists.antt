@@ -1,5 +1,6 @@
 -- Levels in order of first appearance.
-use Rattle.std.proofs.Common.{◌≡◌, ℕ, ◌+◌, ◌<◌, ◌^◌, Bool, true, false, cond, ◌||◌, not, List, [], ◌∷◌, ◌++◌, length, length-append, inl, inr, get_or, refl, ap, sym, ◌∙◌, arith}
+use Rattle.std.proofs.Common.{◌≡◌, ℕ, ◌+◌, ◌<◌, ◌^◌, Bool, true, false, cond, ◌||◌, not, List, [], ◌∷◌, ◌++◌, length, length-append, inl, inr, get_or}
+use Rattle.std.proofs.Common.{refl, ap, sym, ◌∙◌, arith}
 use Rattle.std.specs.Prelude.{◌≢◌, map, fold}
 use Rattle.std.specs.Str.{bytes_eq}
 use Rattle.std.proofs.Math.Bool.{or-true}
@@ -13,11 +14,13 @@ use Rattle.count_rows.specs.Levels.{AreLevels}
 use Rattle.count_rows.specs.Records.{Record, field_in, levels_at}
 
 -- levels with a new one behind them are levels
-pub AreLevels-append : (names : List (List ℕ)) (name : List ℕ) → AreLevels names → is_named names name ≡ false → length names + 1 < 2 ^ 32 → AreLevels (names ++ name ∷ [])
+pub AreLevels-append : (names : List (List ℕ)) (name : List ℕ) → AreLevels names → is_named names name ≡ false → length names + 1 < 2 ^ 32
+    → AreLevels (names ++ name ∷ [])
 AreLevels-append names name s new room = record {
   few = let e = length-append names (name ∷ []) in omega (arith, e);
   distinct = all_pairs_push (λ (a : List ℕ) (b : List ℕ). a ≢ b) names name s.distinct (λ k d below same.
-      let there : is_named names name ≡ true = list_any_at (bytes_eq name) names k d below ((bytes_eq-Decides name (get_or names k d)).1 (sym same)) in cc (there, new));
+      let there : is_named names name ≡ true = list_any_at (bytes_eq name) names k d below ((bytes_eq-Decides name (get_or names k d)).1 (sym same)) in
+      cc (there, new));
 }
 
 -- one record more
@@ -39,7 +42,8 @@ index_of-append : (names more : List (List ℕ)) (x : List ℕ) → is_named nam
 index_of-append [] more x h = absurd (cc h)
 index_of-append (y ∷ names) more x h = elim (cases_Bool (bytes_eq x y)) [
   | inl same ↦ here (bytes_eq x y) _ _ same ∙ sym (here (bytes_eq x y) _ _ same)
-  | inr other ↦ ap (λ n. cond (not (bytes_eq x y)) (1 + n) 0) (index_of-append names more x (let e : (bytes_eq x y || is_named names x) ≡ is_named names x = ap (λ b. b || is_named names x) other in sym e ∙ h))
+  | inr other ↦ ap (λ n. cond (not (bytes_eq x y)) (1 + n) 0) (index_of-append names more x
+      (let e : (bytes_eq x y || is_named names x) ≡ is_named names x = ap (λ b. b || is_named names x) other in sym e ∙ h))
 ]
 
 -- and so it does where another is added
@@ -53,7 +57,8 @@ is_named-append : (names more : List (List ℕ)) (x : List ℕ) → is_named nam
 is_named-append names more x h = list_any-append (bytes_eq x) names more ∙ ap (λ b. b || is_named more x) h
 
 is_named-last : (names : List (List ℕ)) (x : List ℕ) → is_named (names ++ x ∷ []) x ≡ true
-is_named-last names x = list_any-append (bytes_eq x) names (x ∷ []) ∙ ap (λ b. is_named names x || (b || false)) ((bytes_eq-Decides x x).1 refl) ∙ or-true (is_named names x)
+is_named-last names x = list_any-append (bytes_eq x) names (x ∷ []) ∙ ap (λ b. is_named names x || (b || false)) ((bytes_eq-Decides x x).1 refl)
+    ∙ or-true (is_named names x)
 
 -- what was there is still there
 pub is_named-with_name : (names : List (List ℕ)) (new x : List ℕ) → is_named names x ≡ true → is_named (with_name names new) x ≡ true

@@ -24,11 +24,13 @@ widths (h ∷ rs) f old new o i n =
     (same, let q : Some (length f) ≡ Some (length h) = sym n ∙ same in cc (q))
 
 -- another record
-pub another : (text : List ℕ) (before : List Record) (a b : Reader (Bor (List ℕ))) (f : Record) → HasRead text before a → ReadRecord (λ s. Some s.now) a b true f → b.first ≡ true → is_flexible b ≡ is_flexible a
+pub another : (text : List ℕ) (before : List Record) (a b : Reader (Bor (List ℕ))) (f : Record) → HasRead text before a
+    → ReadRecord (λ s. Some s.now) a b true f → b.first ≡ true → is_flexible b ≡ is_flexible a
     → GivesNext text before b f next.Record
 unfolding GivesNext
 another text before a b f h r first flexible =
-    let (z, at_z, reached) = rows-more (λ (s : Bor (List ℕ)). Some s.now) a b f default_config st.StartRecord (strip_bom text) h.rest before h.default h.pending h.reached r in
+    let (z, at_z, reached) = rows-more (λ (s : Bor (List ℕ)). Some s.now) a b f default_config st.StartRecord (strip_bom text)
+    h.rest before h.default h.pending h.reached r in
     let e = r.5 refl h.strict in
     let w = widths before f a.expected b.expected h.width e.0 e.1 in (
       record {
@@ -44,24 +46,28 @@ another text before a b f h r first flexible =
       w.1,
     )
 
-pub split : (text : List ℕ) (before : List Record) (a : Reader (Bor (List ℕ))) → (h : HasRead text before a) → records_of text ≡ before ++ records_from default_config (length h.rest + 1) a.state h.rest
+pub split : (text : List ℕ) (before : List Record) (a : Reader (Bor (List ℕ))) → (h : HasRead text before a) → records_of text ≡ before
+    ++ records_from default_config (length h.rest + 1) a.state h.rest
 unfolding records_of
 split text before a h = read_first default_config st.StartRecord a.state (strip_bom text) h.rest before h.reached
 
 -- no other record
-pub all_read : (text : List ℕ) (before : List Record) (a b : Reader (Bor (List ℕ))) (f : Record) → HasRead text before a → ReadRecord (λ s. Some s.now) a b false f
+pub all_read : (text : List ℕ) (before : List Record) (a b : Reader (Bor (List ℕ))) (f : Record) → HasRead text before a
+    → ReadRecord (λ s. Some s.now) a b false f
     → GivesNext text before b f next.End
 unfolding GivesNext
 all_read text before a b f h r =
     split text before a h
-    ∙ ap (λ (l : List Record). before ++ l) (none_left default_config a.state h.rest (rows-end (λ (s : Bor (List ℕ)). Some s.now) a b f default_config h.rest h.default h.pending r))
+    ∙ ap (λ (l : List Record). before ++ l) (none_left default_config a.state h.rest
+    (rows-end (λ (s : Bor (List ℕ)). Some s.now) a b f default_config h.rest h.default h.pending r))
     ∙ append-nil before
 
 next_some : (o : Option Read) (f : List (List ℕ)) (s : State) (z : List ℕ) → NextIs o true f s z → (p : Read) × (o ≡ Some p) × (f ≡ p.0)
 next_some None f s z n = absurd (cc n)
 next_some (Some p) f s z n = (p, refl, n.1)
 
-took : (cfg : Config) (s s2 : State) (y : List ℕ) (f : Record) (k : Option (List ℕ)) → ReadsNext cfg s (Some y) k true f s2 → (p : Read) × (next_record cfg s [] [] y ≡ Some p) × (f ≡ p.0)
+took : (cfg : Config) (s s2 : State) (y : List ℕ) (f : Record) (k : Option (List ℕ)) → ReadsNext cfg s (Some y) k true f s2 → (p : Read)
+    × (next_record cfg s [] [] y ≡ Some p) × (f ≡ p.0)
 took cfg s s2 y f None r = absurd r
 took cfg s s2 y f (Some z) r = next_some (next_record cfg s [] [] y) f s2 z r
 
@@ -72,7 +78,8 @@ differ (h ∷ rs) old expected len f o e d is =
     λ same. d (let q : Some (length h) ≡ Some expected = sym o ∙ e in let w : length h ≡ expected = cc (q) in sym w ∙ sym same ∙ is)
 
 -- a read that failed
-pub failed : (text : List ℕ) (before : List Record) (a b : Reader (Bor (List ℕ))) (f : Record) (k : ErrorKind) → HasRead text before a → ExplainsRead (λ s. Some s.now) a b false k
+pub failed : (text : List ℕ) (before : List Record) (a b : Reader (Bor (List ℕ))) (f : Record) (k : ErrorKind) → HasRead text before a
+    → ExplainsRead (λ s. Some s.now) a b false k
     → GivesNext text before b f (failure_of k)
 unfolding GivesNext
 failed text before a b f (kind.UnequalLengths pos expected len) h why =

@@ -1,3 +1,5 @@
+//! The value of digits.
+
 ghost use Rattle.std.specs.Prelude.{◌≡◌};
 ghost use Rattle.count_rows.specs.Numbers.{count_in};
 

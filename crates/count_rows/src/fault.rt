@@ -1,9 +1,11 @@
+//! Why a text gives no counts.
+
 ghost use Rattle.std.specs.Prelude.{◌≡◌, IfOk, OnOk};
-ghost use Rattle.name_text.specs.Lines.{line_of};
+ghost use Rattle.answer_text.specs.Lines.{line_of};
 ghost use Rattle.count_rows.specs.FaultTexts.{count_fault_text, count_size_text};
 
+use answer_text::names::{refusal_line, with_name, with_number};
 use mixed_graph::Text;
-use name_text::{refusal_line, with_name, with_number};
 use std::alloc::{AllocError, Global};
 
 /// Why a text gives no counts.

@@ -1,3 +1,5 @@
+//! The levels of a vertex.
+
 ghost use Rattle.std.specs.Prelude.{◌≡◌, ◌<◌, List, ℕ, [], length, OnOk, IfOk, slice_get};
 ghost use Rattle.mixed_graph.specs.Names.{with_name, index_of, texts};
 ghost use Rattle.count_rows.specs.Levels.{AreLevels};

@@ -1,3 +1,5 @@
+//! What the records so far give.
+
 ghost use Rattle.std.specs.Prelude.{ℕ, ◌≡◌, ◌<◌, ◌≤◌, ◌+◌, ◌^◌, ◌++◌, ◌∷◌, [], List, None, All, OnOk, IfOk, MatchResult, replicate, not, nat_le, length, slice_index, slice_index_or};
 ghost use Rattle.csv.specs.Records.{fields_of};
 ghost use Rattle.mixed_graph.specs.Names.{with_name, index_of};

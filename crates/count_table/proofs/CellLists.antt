@@ -36,15 +36,18 @@ unfolding cells_of
 length-cells_of [] = refl
 length-cells_of (n ∷ ns) = length-fronted (cells_of ns) 0 n ∙ ap (λ k. n * k) (length-cells_of ns)
 
-get-fronted : (cells : List (List ℕ)) (a n x j : ℕ) (d : List ℕ) → x < n → j < length cells → get_or (fronted cells a n) (x * length cells + j) d ≡ (a + x) ∷ get_or cells j d
+get-fronted : (cells : List (List ℕ)) (a n x j : ℕ) (d : List ℕ) → x < n → j < length cells → get_or (fronted cells a n) (x * length cells + j) d ≡ (a + x)
+    ∷ get_or cells j d
 get-fronted cells a zero x j d h k = absurd (omega arith)
 get-fronted cells a (suc n) zero j d h k =
     ap (λ i. get_or (fronted cells a (suc n)) i d) (let e : zero * length cells + j ≡ j = omega arith in e)
-    ∙ get_or_append_left (map (λ (cell : List ℕ). a ∷ cell) cells) (fronted cells (a + 1) n) d j (let m = length-map cells (λ (cell : List ℕ). a ∷ cell) in omega (arith, m))
+    ∙ get_or_append_left (map (λ (cell : List ℕ). a ∷ cell) cells) (fronted cells (a + 1) n) d j
+    (let m = length-map cells (λ (cell : List ℕ). a ∷ cell) in omega (arith, m))
     ∙ get_or-map (λ (cell : List ℕ). a ∷ cell) cells j d d k
     ∙ ap (λ i. i ∷ get_or cells j d) (let e : a ≡ a + zero = omega arith in e)
 get-fronted cells a (suc n) (suc x) j d h k =
-    get_or-append_right (map (λ (cell : List ℕ). a ∷ cell) cells) (fronted cells (a + 1) n) (length cells) (suc x * length cells + j) d (length-map cells (λ (cell : List ℕ). a ∷ cell)) (omega arith)
+    get_or-append_right (map (λ (cell : List ℕ). a ∷ cell) cells) (fronted cells (a + 1) n) (length cells) (suc x * length cells + j) d
+    (length-map cells (λ (cell : List ℕ). a ∷ cell)) (omega arith)
     ∙ ap (λ i. get_or (fronted cells (a + 1) n) i d) (let e : suc x * length cells + j - length cells ≡ x * length cells + j = omega arith in e)
     ∙ get-fronted cells (a + 1) n x j d (omega arith) k
     ∙ ap (λ i. i ∷ get_or cells j d) (let e : a + 1 + x ≡ a + suc x = omega arith in e)
@@ -63,7 +66,8 @@ cell_at_place (n ∷ ns) (x ∷ xs) d h =
     ∙ ap (λ (c : List ℕ). (0 + x) ∷ c) (cell_at_place ns xs d h.1)
     ∙ ap (λ i. i ∷ xs) (let e : 0 + x ≡ x = omega arith in e)
 
-All-fronted : (P : List ℕ → Type 0) (cells : List (List ℕ)) (a n m : ℕ) → a + n ≤ m → ((k : ℕ) → k < m → All (λ (c : List ℕ). P (k ∷ c)) cells) → All P (fronted cells a n)
+All-fronted : (P : List ℕ → Type 0) (cells : List (List ℕ)) (a n m : ℕ) → a + n ≤ m → ((k : ℕ) → k < m → All (λ (c : List ℕ). P (k ∷ c)) cells)
+    → All P (fronted cells a n)
 All-fronted P cells a zero m le h = All-nil P
 All-fronted P cells a (suc n) m le h =
     All-append P (map (λ (cell : List ℕ). a ∷ cell) cells) (fronted cells (a + 1) n)

@@ -1,5 +1,6 @@
 -- Under the mask of a set, the codes of two cells are one exactly where they agree on it.
-use Rattle.std.proofs.Common.{ℕ, zero, suc, ◌+◌, ◌*◌, ◌-◌, ◌/◌, ◌^◌, ◌≡◌, ◌<◌, ◌≤◌, max, Bool, true, false, ◌&&◌, ◌||◌, not, cond, eqb, IsTrue, List, [], ◌∷◌, ◌++◌, map, All, refl, sym, ap, ◌∙◌, inl, inr, lit<, arith, bit_and, nat_le, mod-eq_of_lt}
+use Rattle.std.proofs.Common.{ℕ, zero, suc, ◌+◌, ◌*◌, ◌-◌, ◌/◌, ◌^◌, ◌≡◌, ◌<◌, ◌≤◌, max, Bool, true, false, ◌&&◌, ◌||◌, not, cond, eqb, IsTrue, List}
+use Rattle.std.proofs.Common.{[], ◌∷◌, ◌++◌, map, All, refl, sym, ap, ◌∙◌, inl, inr, lit<, arith, bit_and, nat_le, mod-eq_of_lt}
 use Rattle.std.specs.List.{flat_map, range_with_len}
 use Rattle.std.proofs.lemmas.List.{map-append}
 use Rattle.std.proofs.lemmas.List.Elements.{All-head, All-tail}
@@ -98,7 +99,8 @@ room-is p m n e pos few fit half =
 square_over : (n : ℕ) → 0 < n → 2 * n ≤ n * n + 1
 square_over (suc zero) h = omega arith
 square_over zero h = absurd (omega arith)
-square_over (suc (suc n)) h = let m : 2 * suc (suc n) ≤ suc (suc n) * suc (suc n) = mul-le-mul_right (suc (suc n)) (let q : 2 ≤ suc (suc n) = omega arith in q) in omega (arith, m)
+square_over (suc (suc n)) h = let m : 2 * suc (suc n) ≤ suc (suc n) * suc (suc n) =
+    mul-le-mul_right (suc (suc n)) (let q : 2 ≤ suc (suc n) = omega arith in q) in omega (arith, m)
 
 square_step : (w n : ℕ) → 0 < n → ((j : ℕ) → w ≡ suc j → 2 ^ j < n) → 2 ^ w ≤ n * n
 square_step zero n pos least = let s = square_over n pos in omega (arith, s)
@@ -154,7 +156,8 @@ squares n p = grind arith
 rooms-square : (ns : List ℕ) → Sized ns → rooms ns ≤ product ns * product ns
 rooms-square [] h = omega arith
 rooms-square (n ∷ ns) (pos, few, rest) =
-    let m : room n * rooms ns ≤ (n * n) * (product ns * product ns) = mul-le (room n) (rooms ns) (n * n) (product ns * product ns) (room-square n pos) (rooms-square ns rest) in
+    let m : room n * rooms ns ≤ (n * n) * (product ns * product ns) = mul-le (room n) (rooms ns) (n * n) (product ns * product ns) (room-square n pos)
+    (rooms-square ns rest) in
     let e : (n * n) * (product ns * product ns) ≡ (n * product ns) * (n * product ns) = squares n (product ns) in
     omega (arith, m, e)
 
@@ -167,7 +170,8 @@ rooms-small ns h few =
 rooms-bits : (ns : List ℕ) → rooms ns ≡ 2 ^ code_bits ns
 unfolding room
 rooms-bits [] = refl
-rooms-bits (n ∷ ns) = ap (λ k. 2 ^ bits_for 20 n * k) (rooms-bits ns) ∙ sym (pow-add 2 (bits_for 20 n) (code_bits ns)) ∙ ap (λ k. 2 ^ k) (sym (sum_by-cons (bits_for 20) n ns))
+rooms-bits (n ∷ ns) = ap (λ k. 2 ^ bits_for 20 n * k) (rooms-bits ns) ∙ sym (pow-add 2 (bits_for 20 n) (code_bits ns))
+    ∙ ap (λ k. 2 ^ k) (sym (sum_by-cons (bits_for 20) n ns))
 
 pub bits-few : (ns : List ℕ) → Sized ns → product ns ≤ 2 ^ 20 → code_bits ns ≤ 40
 bits-few ns h few = elim (cases_lt 40 (code_bits ns)) [
@@ -206,7 +210,8 @@ mask_under-lt [] (n ∷ ns) of = rooms-pos (n ∷ ns)
 mask_under-lt (v ∷ vs) [] of = omega arith
 mask_under-lt (v ∷ vs) (n ∷ ns) of =
     let pos = room-pos n in
-    let b = below_product (mask_under vs ns of) (rooms ns) (room n) (cond (of v) (room n - 1) 0) (mask_under-lt vs ns of) (kept-lt (of v) (room n - 1) (room n) pos (λ _. omega (arith, pos))) in
+    let b = below_product (mask_under vs ns of) (rooms ns) (room n) (cond (of v) (room n - 1) 0) (mask_under-lt vs ns of)
+    (kept-lt (of v) (room n - 1) (room n) pos (λ _. omega (arith, pos))) in
     omega (arith, b)
 
 pub code_under-lt : (vs ns : List ℕ) (of : ℕ → Bool) (at : ℕ → ℕ) → Sized ns → AreBelow vs ns of at → code_under vs ns of at < rooms ns
@@ -216,7 +221,8 @@ code_under-lt (v ∷ vs) [] of at h i = omega arith
 code_under-lt (v ∷ vs) (n ∷ ns) of at (pos, few, rest) (lt, more) =
     let room_pos = room-pos n in
     let fits = room-fits n few in
-    let b = below_product (code_under vs ns of at) (rooms ns) (room n) (cond (of v) (at v) 0) (code_under-lt vs ns of at rest more) (kept-lt (of v) (at v) (room n) room_pos (λ t. let l = lt t in omega (arith, l, fits))) in
+    let b = below_product (code_under vs ns of at) (rooms ns) (room n) (cond (of v) (at v) 0) (code_under-lt vs ns of at rest more)
+    (kept-lt (of v) (at v) (room n) room_pos (λ t. let l = lt t in omega (arith, l, fits))) in
     omega (arith, b)
 
 -- ---- codes tell which cells agree
@@ -245,7 +251,8 @@ eqb_fields a b p q r hp hq = elim (eqb_tells p q) [
   | inr other ↦ ne_eqb (a * r + p) (b * r + q) (λ e. other.1 (offsets_same a b p q r hp hq e)) ∙ sym (ap (λ i. i && eqb a b) other.0)
 ]
 
-field_agrees : (b : Bool) (x a n : ℕ) (rest : Bool) → x < n → n ≤ 2 ^ 20 → eqb (bit_and x (cond b (room n - 1) 0)) (cond b a 0) && rest ≡ ((not b || eqb x a) && rest)
+field_agrees : (b : Bool) (x a n : ℕ) (rest : Bool) → x < n → n ≤ 2 ^ 20 → eqb (bit_and x (cond b (room n - 1) 0)) (cond b a 0) && rest
+    ≡ ((not b || eqb x a) && rest)
 unfolding room
 field_agrees true x a n rest lt few =
     ap (λ i. eqb i a && rest) (and_mask x (bits_for 20 n) ∙ mod-eq_of_lt (let fits = bits-fit 20 n few in omega (arith, fits)))
@@ -277,7 +284,8 @@ codes_tell (v ∷ vs) (n ∷ ns) (x ∷ xs) of at (pos, few, sized_rest) (lt, ce
 
 -- ---- one more field in front
 
-map_map : (f g : List ℕ → ℕ) (h : ℕ → ℕ) (w : List ℕ → List ℕ) (cells : List (List ℕ)) → ((c : List ℕ) → f (w c) ≡ h (g c)) → map f (map w cells) ≡ map h (map g cells)
+map_map : (f g : List ℕ → ℕ) (h : ℕ → ℕ) (w : List ℕ → List ℕ) (cells : List (List ℕ)) → ((c : List ℕ) → f (w c) ≡ h (g c)) → map f (map w cells)
+    ≡ map h (map g cells)
 map_map f g h w [] e = refl
 map_map f g h w (c ∷ cs) e = ap (λ k. k ∷ map f (map w cs)) (e c) ∙ ap (λ (l : List ℕ). h (g c) ∷ l) (map_map f g h w cs e)
 
@@ -290,10 +298,12 @@ fronted_codes : (n a m : ℕ) (ns : List ℕ) (cells : List (List ℕ)) → map 
 fronted_codes n a zero ns cells = refl
 fronted_codes n a (suc m) ns cells =
     map-append (code_of_cell (n ∷ ns)) (map (λ (cell : List ℕ). a ∷ cell) cells) (fronted cells (a + 1) m)
-    ∙ ap (λ (l : List ℕ). l ++ map (code_of_cell (n ∷ ns)) (fronted cells (a + 1) m)) (map_map (code_of_cell (n ∷ ns)) (code_of_cell ns) (λ code. code * room n + a) (λ (cell : List ℕ). a ∷ cell) cells (λ c. code_front n a ns c))
+    ∙ ap (λ (l : List ℕ). l ++ map (code_of_cell (n ∷ ns)) (fronted cells (a + 1) m))
+    (map_map (code_of_cell (n ∷ ns)) (code_of_cell ns) (λ code. code * room n + a) (λ (cell : List ℕ). a ∷ cell) cells (λ c. code_front n a ns c))
     ∙ ap (λ (l : List ℕ). map (λ code. code * room n + a) (map (code_of_cell ns) cells) ++ l) (fronted_codes n (a + 1) m ns cells)
 
-pub codes_step : (n : ℕ) (ns : List ℕ) → map (code_of_cell (n ∷ ns)) (cells_of (n ∷ ns)) ≡ flat_map (λ k. map (λ code. code * room n + k) (map (code_of_cell ns) (cells_of ns))) (range_with_len 0 n)
+pub codes_step : (n : ℕ) (ns : List ℕ) → map (code_of_cell (n ∷ ns)) (cells_of (n ∷ ns))
+    ≡ flat_map (λ k. map (λ code. code * room n + k) (map (code_of_cell ns) (cells_of ns))) (range_with_len 0 n)
 unfolding cells_of
 codes_step n ns = fronted_codes n 0 n ns (cells_of ns)
 

@@ -5,3 +5,15 @@ pub mod TableSteps
 pub mod Filling
 pub mod CountsLaws
 pub mod ReadRows
+pub mod LaneLaws
+pub mod RowLaws
+pub mod AxisLaws
+pub mod Lists
+pub mod Placing
+pub mod Choosing
+pub mod Counting
+pub mod SumCells
+pub mod CellLevels
+pub mod VertexSums
+pub mod SummingSteps
+pub mod MarginSteps

@@ -1,5 +1,6 @@
 -- The rows that were read are rows of a table.
-use Rattle.std.proofs.Common.{ℕ, zero, suc, ◌+◌, ◌*◌, ◌^◌, ◌≡◌, ◌<◌, ◌≤◌, Bool, true, false, cond, ◌||◌, not, eqb, nat_le, List, [], ◌∷◌, ◌++◌, length, get_or, map, All, refl, sym, ap, subst, ◌∙◌, inl, inr, arith, sum, Option, Some, None, length-append}
+use Rattle.std.proofs.Common.{ℕ, zero, suc, ◌+◌, ◌*◌, ◌^◌, ◌≡◌, ◌<◌, ◌≤◌, Bool, true, false, cond, ◌||◌, not, eqb, nat_le, List, [], ◌∷◌, ◌++◌}
+use Rattle.std.proofs.Common.{length, get_or, map, All, refl, sym, ap, subst, ◌∙◌, inl, inr, arith, sum, Option, Some, None, length-append}
 use Rattle.count_rows.specs.Numbers.{most_counted}
 use Rattle.std.specs.Prelude.{◌==◌, fold, is_none, unwrap_or}
 use Rattle.std.specs.List.{flat_map, AllPairs}
@@ -75,7 +76,8 @@ index-lt (y ∷ names) x h = elim (cases_Bool (bytes_eq x y)) [
 ]
 
 -- each field of the rows has a number among the levels of its column
-level_found : (rows : List Record) (place i : ℕ) (d : Record) → i < length rows → index_of (levels_at rows place) (field_in place (get_or rows i d)) < length (levels_at rows place)
+level_found : (rows : List Record) (place i : ℕ) (d : Record) → i < length rows
+    → index_of (levels_at rows place) (field_in place (get_or rows i d)) < length (levels_at rows place)
 unfolding levels_at
 level_found rows place i d lt =
     let fields = map (field_in place) rows in
@@ -84,7 +86,8 @@ level_found rows place i d lt =
     let named = named-all [] fields i [] (omega (arith, lt, long)) in
     index-lt (fold with_name [] fields) (field_in place (get_or rows i d)) (ap (λ (x : Field). is_named (fold with_name [] fields) x) (sym at) ∙ named)
 
-cell-in : (places : List ℕ) (rows : List Record) (r : Record) → ((place : ℕ) → index_of (levels_at rows place) (field_in place r) < length (levels_at rows place))
+cell-in : (places : List ℕ) (rows : List Record) (r : Record) → ((place : ℕ)
+    → index_of (levels_at rows place) (field_in place r) < length (levels_at rows place))
     → IsCell (sizes_of (map (levels_at rows) places)) (map (λ place. index_of (levels_at rows place) (field_in place r)) places)
 cell-in [] rows r h = tt
 cell-in (p ∷ ps) rows r h = (h p, cell-in ps rows r h)
@@ -111,10 +114,12 @@ unfolding row_fault
 row_few w l before r e =
     let t : nat_le (cell_count (levels_of l (before ++ r ∷ []))) most_cells ≡ true =
     third_passed (not (length r == w)) (is_none (count_of l.count_place r)) (nat_le (cell_count (levels_of l (before ++ r ∷ []))) most_cells)
-    (CountFault.NotCsv (length before + 1)) (CountFault.Count (length before + 1)) CountFault.TooLarge (cond (not (nat_le (sum_of l (before ++ r ∷ [])) most_counted)) (Some CountFault.SumTooLarge) None) e in
+    (CountFault.NotCsv (length before + 1)) (CountFault.Count (length before + 1)) CountFault.TooLarge
+    (cond (not (nat_le (sum_of l (before ++ r ∷ [])) most_counted)) (Some CountFault.SumTooLarge) None) e in
     grind (arith, t)
 
-rows_few : (w : ℕ) (l : Layout) (before : List Record) (r : Record) (rows : List Record) → rows_fault w l before (r ∷ rows) ≡ None → cell_count (levels_of l (before ++ r ∷ rows)) ≤ most_cells
+rows_few : (w : ℕ) (l : Layout) (before : List Record) (r : Record) (rows : List Record) → rows_fault w l before (r ∷ rows) ≡ None
+    → cell_count (levels_of l (before ++ r ∷ rows)) ≤ most_cells
 unfolding rows_fault
 rows_few w l before r [] e = row_few w l before r (neither_fault (row_fault w l before r) (rows_fault w l (before ++ r ∷ []) []) e).0
 rows_few w l before r (s ∷ rows) e =
@@ -149,7 +154,8 @@ sum-read : (l : Layout) (rows : List Record) → sum (map (λ (r : Row). r.count
 unfolding rows_in
 sum-read l rows = ap sum (map_map (λ (r : Row). r.count) (row_in l rows) rows) ∙ sum-map (λ (r : Record). unwrap_or (count_of l.count_place r) 0) rows
 
-pub rows-read : (l : Layout) (rows : List Record) (tally : Tally) → HoldsRecords l rows tally → rows_from (length tally.levels.items) tally.cells.items tally.counts.items ≡ rows_in l rows
+pub rows-read : (l : Layout) (rows : List Record) (tally : Tally) → HoldsRecords l rows tally
+    → rows_from (length tally.levels.items) tally.cells.items tally.counts.items ≡ rows_in l rows
 rows-read l rows tally h =
     ap (λ (ys : List (List Field)). rows_from (length ys) tally.cells.items tally.counts.items) h.levels
     ∙ ap (λ (ns : List ℕ). rows_from (length (levels_of l rows)) ns tally.counts.items) h.cells
@@ -158,10 +164,12 @@ rows-read l rows tally h =
 
 cells-in : (l : Layout) (rows : List Record) → All (λ (r : Row). IsCell (sizes_of (levels_of l rows)) r.cell) (rows_in l rows)
 unfolding rows_in
-cells-in l rows = All-map (λ (r : Row). IsCell (sizes_of (levels_of l rows)) r.cell) (row_in l rows) rows (λ i d lt. cell-in l.places rows (get_or rows i d) (λ place. level_found rows place i d lt))
+cells-in l rows = All-map (λ (r : Row). IsCell (sizes_of (levels_of l rows)) r.cell) (row_in l rows) rows
+    (λ i d lt. cell-in l.places rows (get_or rows i d) (λ place. level_found rows place i d lt))
 
 -- without a fault, they are rows of a table
-pub are_rows : (w : ℕ) (l : Layout) (rows : List Record) (tally : Tally) → HoldsRecords l rows tally → tally.sum ≤ 10 ^ 15 → rows_fault w l [] rows ≡ None → empty_fault l rows ≡ None
+pub are_rows : (w : ℕ) (l : Layout) (rows : List Record) (tally : Tally) → HoldsRecords l rows tally → tally.sum ≤ 10 ^ 15 → rows_fault w l [] rows ≡ None
+    → empty_fault l rows ≡ None
     → AreRows tally.levels.items tally.cells.items tally.counts.items
 are_rows w l [] tally h most fine some = absurd (cc some)
 are_rows w l (r ∷ rows) tally h most fine some =
@@ -173,7 +181,8 @@ are_rows w l (r ∷ rows) tally h most fine some =
       few = subst (λ (ys : List (List Field)). cell_count ys ≤ 2 ^ 20) (sym h.levels) (rows_few w l [] r rows fine);
       long =
           ap (λ (ns : List ℕ). length ns) h.cells ∙ flat-length (length (levels_of l (r ∷ rows))) (rows_in l (r ∷ rows)) (cells-long l (r ∷ rows))
-          ∙ ap (λ k. length (levels_of l (r ∷ rows)) * k) (sym (ap (λ (ns : List ℕ). length ns) h.counts ∙ length-map (rows_in l (r ∷ rows)) (λ (x : Row). x.count)))
+          ∙ ap (λ k. length (levels_of l (r ∷ rows)) * k) (sym (ap (λ (ns : List ℕ). length ns) h.counts
+          ∙ length-map (rows_in l (r ∷ rows)) (λ (x : Row). x.count)))
           ∙ ap (λ (ys : List (List Field)). length ys * length tally.counts.items) (sym h.levels);
       cells =
           subst (λ (xs : List Row). All (λ (x : Row). IsCell (sizes_of tally.levels.items) x.cell) xs) (sym (rows-read l (r ∷ rows) tally h))
@@ -182,7 +191,8 @@ are_rows w l (r ∷ rows) tally h most fine some =
       most = omega (arith, sums, held, most);
     }
 
-pub read_are_rows : (records : List Record) (used : List Field) (count : Option Field) (tally : Tally) → HoldsRecords (layout_of (header_of records) used count) (rows_of records) tally → tally.sum ≤ 10 ^ 15
+pub read_are_rows : (records : List Record) (used : List Field) (count : Option Field) (tally : Tally)
+    → HoldsRecords (layout_of (header_of records) used count) (rows_of records) tally → tally.sum ≤ 10 ^ 15
     → records_fault records used count ≡ None → AreRows tally.levels.items tally.cells.items tally.counts.items
 unfolding records_fault
 read_are_rows records used count tally h most fine =
@@ -194,13 +204,15 @@ read_are_rows records used count tally h most fine =
     are_rows w l (rows_of records) tally h most rows some
 
 -- what they make is a table
-pub are_kept : (used : ℕ) (vertices : List ℕ) (levels : List (List Field)) (numbers counts cells codes : List ℕ) → vertices ≡ members_below (has used) 64 → 0 < used → used < 2 ^ 64
+pub are_kept : (used : ℕ) (vertices : List ℕ) (levels : List (List Field)) (numbers counts cells codes : List ℕ) → vertices ≡ members_below (has used) 64
+    → 0 < used → used < 2 ^ 64
     → length levels ≡ length vertices → All AreLevels levels → AreRows levels numbers counts → length cells ≡ cell_count levels
     → ((i : ℕ) → i < cell_count levels → get_or cells i 0 ≡ count_at (sizes_of levels) (rows_from (length levels) numbers counts) i)
     → codes ≡ map (code_of_cell (sizes_of levels)) (cells_of (sizes_of levels)) → IsKeptTable used vertices levels cells codes
 are_kept used vertices levels numbers counts cells codes members pos small matched differ rows long filled coded =
     let sizes = sizes_of levels in
-    let all = total_alike vertices sizes (rows_from (length levels) numbers counts) cells rows.cells long filled ∙ total-rows_from (length levels) numbers counts in
+    let all = total_alike vertices sizes (rows_from (length levels) numbers counts) cells rows.cells long filled
+    ∙ total-rows_from (length levels) numbers counts in
     let least = rows.least in
     let most = rows.most in
     record {

@@ -1,10 +1,11 @@
 -- The rows of a dense table sum up the rows that it was made of.
-use Rattle.std.proofs.Common.{ℕ, zero, suc, ◌+◌, ◌≡◌, ◌≢◌, ◌<◌, Bool, true, false, cond, eqb, List, [], ◌∷◌, length, get_or, map, All, refl, sym, ap, ◌∙◌, arith, bit_and, sum_by, if◌then◌else◌, ◌==◌}
+use Rattle.std.proofs.Common.{ℕ, zero, suc, ◌+◌, ◌≡◌, ◌≢◌, ◌<◌, Bool, true, false, cond, eqb, List, [], ◌∷◌, length, get_or, map, All, refl, sym, ap}
+use Rattle.std.proofs.Common.{◌∙◌, arith, bit_and, sum_by, if◌then◌else◌, ◌==◌}
 use Rattle.std.proofs.lemmas.List.Elements.{All-head, All-tail}
 use Rattle.std.proofs.lemmas.List.Sums.{sum_by-cons}
 use Rattle.std.proofs.lemmas.Bool.{cases_eq, eq-eqb, ne_eqb}
 use Rattle.std.proofs.Common.{inl, inr}
-use Rattle.lane_sums.specs.Sums.{sum_below, if_matched, matched_sum}
+use Rattle.count_table.specs.LaneSums.{sum_below, if_matched, matched_sum}
 use Rattle.count_rows.specs.Records.{product}
 use Rattle.count_rows.specs.Rows.{Row, agrees, counted}
 use Rattle.count_table.specs.Cells.{cells_of, place_of, IsCell, rows_with, total, count_at}
@@ -25,7 +26,8 @@ counts-rows_with [] (n ∷ counts) h = absurd (omega arith)
 counts-rows_with (cell ∷ cells) [] h = absurd (omega arith)
 counts-rows_with (cell ∷ cells) (n ∷ counts) h = ap (λ (l : List ℕ). n ∷ l) (counts-rows_with cells counts (omega arith))
 
-pub codes-rows_with : (f : List ℕ → ℕ) (cells : List (List ℕ)) (counts : List ℕ) → length cells ≡ length counts → map (λ (r : Row). f r.cell) (rows_with cells counts) ≡ map f cells
+pub codes-rows_with : (f : List ℕ → ℕ) (cells : List (List ℕ)) (counts : List ℕ) → length cells ≡ length counts
+    → map (λ (r : Row). f r.cell) (rows_with cells counts) ≡ map f cells
 unfolding rows_with
 codes-rows_with f [] counts h = refl
 codes-rows_with f (cell ∷ cells) [] h = absurd (omega arith)
@@ -95,7 +97,8 @@ other_place : (sizes : List ℕ) (r : Row) (i : ℕ) → i ≢ place_of sizes r.
 other_place sizes r i ne = ap (λ b. cond b r.count 0) (let e : eqb (place_of sizes r.cell) i ≡ false = ne_eqb (place_of sizes r.cell) i (λ s. ne (sym s)) in e)
 
 -- one row, spread over the table
-one_row : (b : ℕ → Bool) (sizes : List ℕ) (r : Row) → IsCell sizes r.cell → sum_below (product sizes) (λ i. cond (b i) (at_own_place sizes r i) 0) ≡ cond (b (place_of sizes r.cell)) r.count 0
+one_row : (b : ℕ → Bool) (sizes : List ℕ) (r : Row) → IsCell sizes r.cell → sum_below (product sizes) (λ i. cond (b i) (at_own_place sizes r i) 0)
+    ≡ cond (b (place_of sizes r.cell)) r.count 0
 one_row b sizes r h =
     only_one (product sizes) (place_of sizes r.cell) (λ i. cond (b i) (at_own_place sizes r i) 0) (place_of-lt sizes r.cell h)
     (λ i lt ne. ap (λ m. cond (b i) m 0) (other_place sizes r i ne) ∙ neither (b i))
@@ -103,15 +106,19 @@ one_row b sizes r h =
 
 all_rows : (vs sizes : List ℕ) (rows : List Row) (of : ℕ → Bool) (at : ℕ → ℕ) → All (λ (r : Row). IsCell sizes r.cell) rows
     → sum_below (product sizes) (λ i. cond (agrees vs (get_or (cells_of sizes) i []) of at) (count_at sizes rows i) 0) ≡ counted vs rows of at
-all_rows vs sizes [] of at h = sum_below-zero (product sizes) (λ i. cond (agrees vs (get_or (cells_of sizes) i []) of at) 0 0) (λ i lt. neither (agrees vs (get_or (cells_of sizes) i []) of at))
+all_rows vs sizes [] of at h = sum_below-zero (product sizes) (λ i. cond (agrees vs (get_or (cells_of sizes) i []) of at) 0 0)
+    (λ i lt. neither (agrees vs (get_or (cells_of sizes) i []) of at))
 all_rows vs sizes (r ∷ rows) of at h =
     let b : ℕ → Bool = λ i. agrees vs (get_or (cells_of sizes) i []) of at in
     let first = All-head (λ (x : Row). IsCell sizes x.cell) r rows h in
     let rest = All-tail (λ (x : Row). IsCell sizes x.cell) r rows h in
-    sum_below-same (product sizes) (λ i. cond (b i) (count_at sizes (r ∷ rows) i) 0) (λ i. cond (b i) (at_own_place sizes r i) 0 + cond (b i) (count_at sizes rows i) 0)
-    (λ i lt. ap (λ m. cond (b i) m 0) (sum_by-cons (λ (x : Row). at_own_place sizes x i) r rows) ∙ either (b i) (at_own_place sizes r i) (count_at sizes rows i))
+    sum_below-same (product sizes) (λ i. cond (b i) (count_at sizes (r ∷ rows) i) 0)
+    (λ i. cond (b i) (at_own_place sizes r i) 0 + cond (b i) (count_at sizes rows i) 0)
+    (λ i lt. ap (λ m. cond (b i) m 0) (sum_by-cons (λ (x : Row). at_own_place sizes x i) r rows)
+    ∙ either (b i) (at_own_place sizes r i) (count_at sizes rows i))
     ∙ sum_below-plus (product sizes) (λ i. cond (b i) (at_own_place sizes r i) 0) (λ i. cond (b i) (count_at sizes rows i) 0)
-    ∙ ap (λ m. m + sum_below (product sizes) (λ i. cond (b i) (count_at sizes rows i) 0)) (one_row b sizes r first ∙ ap (λ (c : List ℕ). cond (agrees vs c of at) r.count 0) (cell_at_place sizes r.cell [] first))
+    ∙ ap (λ m. m + sum_below (product sizes) (λ i. cond (b i) (count_at sizes rows i) 0))
+    (one_row b sizes r first ∙ ap (λ (c : List ℕ). cond (agrees vs c of at) r.count 0) (cell_at_place sizes r.cell [] first))
     ∙ ap (λ m. cond (agrees vs r.cell of at) r.count 0 + m) (all_rows vs sizes rows of at rest)
     ∙ sym (sum_by-cons (λ (x : Row). cond (agrees vs x.cell of at) x.count 0) r rows)
 
@@ -123,7 +130,8 @@ counted_alike vs sizes rows cells of at h long same =
     let many = length-cells_of sizes in
     sum_by-index (λ (r : Row). cond (agrees vs r.cell of at) r.count 0) (cells_of sizes) cells (many ∙ sym long)
     ∙ ap (λ n. sum_below n (λ i. cond (agrees vs (get_or (cells_of sizes) i []) of at) (get_or cells i 0) 0)) many
-    ∙ sum_below-same (product sizes) (λ i. cond (agrees vs (get_or (cells_of sizes) i []) of at) (get_or cells i 0) 0) (λ i. cond (agrees vs (get_or (cells_of sizes) i []) of at) (count_at sizes rows i) 0)
+    ∙ sum_below-same (product sizes) (λ i. cond (agrees vs (get_or (cells_of sizes) i []) of at) (get_or cells i 0) 0)
+    (λ i. cond (agrees vs (get_or (cells_of sizes) i []) of at) (count_at sizes rows i) 0)
     (λ i lt. ap (λ m. cond (agrees vs (get_or (cells_of sizes) i []) of at) m 0) (same i lt))
     ∙ all_rows vs sizes rows of at h
 
@@ -133,9 +141,12 @@ pub masked_is_counted : (vs : List ℕ) (code : List ℕ → ℕ) (mask want : �
     → matched_sum mask want (length rows) (map (λ (r : Row). r.count) rows) (map (λ (r : Row). code r.cell) rows) ≡ counted vs rows of at
 masked_is_counted vs code mask want [] of at h = refl
 masked_is_counted vs code mask want (r ∷ rows) of at h =
-    sum_below-first (length rows) (λ i. if_matched mask want (get_or (r.count ∷ map (λ (x : Row). x.count) rows) i 0) (get_or (code r.cell ∷ map (λ (x : Row). code x.cell) rows) i 0))
-    ∙ ap (λ b. cond b r.count 0 + matched_sum mask want (length rows) (map (λ (x : Row). x.count) rows) (map (λ (x : Row). code x.cell) rows)) (All-head (λ (x : Row). eqb (bit_and (code x.cell) mask) want ≡ agrees vs x.cell of at) r rows h)
-    ∙ ap (λ m. cond (agrees vs r.cell of at) r.count 0 + m) (masked_is_counted vs code mask want rows of at (All-tail (λ (x : Row). eqb (bit_and (code x.cell) mask) want ≡ agrees vs x.cell of at) r rows h))
+    sum_below-first (length rows) (λ i. if_matched mask want (get_or (r.count ∷ map (λ (x : Row). x.count) rows) i 0)
+    (get_or (code r.cell ∷ map (λ (x : Row). code x.cell) rows) i 0))
+    ∙ ap (λ b. cond b r.count 0 + matched_sum mask want (length rows) (map (λ (x : Row). x.count) rows) (map (λ (x : Row). code x.cell) rows))
+    (All-head (λ (x : Row). eqb (bit_and (code x.cell) mask) want ≡ agrees vs x.cell of at) r rows h)
+    ∙ ap (λ m. cond (agrees vs r.cell of at) r.count 0 + m) (masked_is_counted vs code mask want rows
+    of at (All-tail (λ (x : Row). eqb (bit_and (code x.cell) mask) want ≡ agrees vs x.cell of at) r rows h))
     ∙ sym (sum_by-cons (λ (x : Row). cond (agrees vs x.cell of at) x.count 0) r rows)
 
 -- every row agrees on no vertex

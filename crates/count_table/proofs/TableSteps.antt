@@ -1,5 +1,6 @@
 -- Steps of the loops over the levels of a table.
-use Rattle.std.proofs.Common.{ℕ, zero, suc, ◌+◌, ◌*◌, ◌-◌, ◌^◌, ◌≡◌, ◌<◌, ◌≤◌, Bool, true, false, cond, IsTrue, List, [], ◌∷◌, ◌++◌, length, get_or, map, take, drop, All, refl, sym, ap, subst, ◌∙◌, arith, drop-cons, drop_of_length-le}
+use Rattle.std.proofs.Common.{ℕ, zero, suc, ◌+◌, ◌*◌, ◌-◌, ◌^◌, ◌≡◌, ◌<◌, ◌≤◌, Bool, true, false, cond, IsTrue, List, [], ◌∷◌, ◌++◌, length, get_or}
+use Rattle.std.proofs.Common.{map, take, drop, All, refl, sym, ap, subst, ◌∙◌, arith, drop-cons, drop_of_length-le}
 use Rattle.std.specs.List.{flat_map, range_with_len}
 use Rattle.std.proofs.lemmas.List.{append-nil, get_or_read, take_all}
 use Rattle.std.proofs.lemmas.List.Elements.{All-head, All-tail, All-map, All-weaker, All-drop}
@@ -25,7 +26,8 @@ factor_le a b t pos e = let m : a * 1 ≤ a * b = mul-le a 1 a b (omega arith) p
 pub cell_count-pos : (levels : List (List Field)) → All (λ (ys : List Field). 0 < length ys) levels → 0 < cell_count levels
 cell_count-pos [] h = omega arith
 cell_count-pos (ys ∷ levels) h =
-    let m : 1 * 1 ≤ length ys * cell_count levels = mul-le 1 1 (length ys) (cell_count levels) (All-head (λ (zs : List Field). 0 < length zs) ys levels h) (cell_count-pos levels (All-tail (λ (zs : List Field). 0 < length zs) ys levels h)) in
+    let m : 1 * 1 ≤ length ys * cell_count levels = mul-le 1 1 (length ys) (cell_count levels) (All-head (λ (zs : List Field). 0 < length zs) ys levels h)
+    (cell_count-pos levels (All-tail (λ (zs : List Field). 0 < length zs) ys levels h)) in
     omega (arith, m)
 
 regroup : (a b c : ℕ) → a * (b * c) ≡ (a * b) * c
@@ -37,7 +39,8 @@ count_more cells i t levels lt e =
     sym (regroup cells (length (get_or levels i [])) (cell_count (drop (i + 1) levels)))
     ∙ ap (λ (l : List (List Field)). cells * cell_count l) (sym (suffix levels i [] lt)) ∙ e
 
-pub count_fits : (cells i t : ℕ) (levels : List (List Field)) → i < length levels → All (λ (ys : List Field). 0 < length ys) levels → cells * cell_count (drop i levels) ≡ t
+pub count_fits : (cells i t : ℕ) (levels : List (List Field)) → i < length levels → All (λ (ys : List Field). 0 < length ys) levels
+    → cells * cell_count (drop i levels) ≡ t
     → cells * length (get_or levels i []) ≤ t
 count_fits cells i t levels lt pos e =
     factor_le (cells * length (get_or levels i [])) (cell_count (drop (i + 1) levels)) t
@@ -75,17 +78,21 @@ placed_step n x levels xs ys place t e h w =
     sym (horner place n x (cell_count levels) (place_of (sizes_of levels) xs))
     ∙ ap (λ k. place * (k * cell_count levels) + (x * cell_count levels + place_of (sizes_of levels) xs)) (sym e) ∙ w in
     let some = place_of-lt (sizes_of levels) xs h.1 in
-    let m : (place * n + x) * 1 ≤ (place * n + x) * cell_count levels = mul-le (place * n + x) 1 (place * n + x) (cell_count levels) (omega arith) (omega (arith, some)) in
+    let m : (place * n + x) * 1 ≤ (place * n + x) * cell_count levels =
+    mul-le (place * n + x) 1 (place * n + x) (cell_count levels) (omega arith) (omega (arith, some)) in
     (omega (arith, m, sum), sum)
 
-pub place_more : (levels : List (List Field)) (cell : List ℕ) (i place t : ℕ) → i < length levels → i < length cell → IsPlaced levels cell i place t → IsPlacedMore levels cell i place t
+pub place_more : (levels : List (List Field)) (cell : List ℕ) (i place t : ℕ) → i < length levels → i < length cell → IsPlaced levels cell i place t
+    → IsPlacedMore levels cell i place t
 place_more levels cell i place t lt less h =
     let front = suffix levels i [] lt in
     let first = suffix cell i 0 less in
-    let rest = let P : List (List Field) → List ℕ → Type 0 = λ l c. IsCell (sizes_of l) c in subst (λ (c : List ℕ). P (get_or levels i [] ∷ drop (i + 1) levels) c) first (subst (λ (l : List (List Field)). P l (drop i cell)) front h.rest) in
+    let rest = let P : List (List Field) → List ℕ → Type 0 = λ l c. IsCell (sizes_of l) c in
+    subst (λ (c : List ℕ). P (get_or levels i [] ∷ drop (i + 1) levels) c) first (subst (λ (l : List (List Field)). P l (drop i cell)) front h.rest) in
     let whole = (ap (λ (l : List (List Field)). place * cell_count l + place_of (sizes_of l) (get_or cell i 0 ∷ drop (i + 1) cell)) (sym front)
     ∙ ap (λ (c : List ℕ). place * cell_count (drop i levels) + place_of (sizes_of (drop i levels)) c) (sym first) ∙ h.whole) in
-    let (fits, more) = placed_step (length (get_or levels i [])) (get_or cell i 0) (drop (i + 1) levels) (drop (i + 1) cell) (get_or levels i []) place t refl rest whole in
+    let (fits, more) = placed_step (length (get_or levels i [])) (get_or cell i 0) (drop (i + 1) levels) (drop (i + 1) cell) (get_or levels i [])
+    place t refl rest whole in
     record { fits = fits; more = record { rest = rest.1; whole = more } }
 
 -- ---- fields of codes
@@ -99,7 +106,8 @@ product-drop levels zero h = omega arith
 product-drop [] (suc j) h = omega arith
 product-drop (ys ∷ levels) (suc j) h =
     let less = product-drop levels j (All-tail (λ (zs : List Field). 0 < length zs) ys levels h) in
-    let m : 1 * cell_count levels ≤ length ys * cell_count levels = mul-le 1 (cell_count levels) (length ys) (cell_count levels) (All-head (λ (zs : List Field). 0 < length zs) ys levels h) (omega arith) in
+    let m : 1 * cell_count levels ≤ length ys * cell_count levels = mul-le 1 (cell_count levels) (length ys) (cell_count levels)
+    (All-head (λ (zs : List Field). 0 < length zs) ys levels h) (omega arith) in
     omega (arith, less, m)
 
 -- levels of which there are from 1 to 2 ^ 20 cells
@@ -127,15 +135,19 @@ codes-small levels h =
     let bound = rooms-few levels h in
     All-map (λ code. code < 2 ^ 40) (code_of_cell (sizes_of levels)) (cells_of (sizes_of levels))
     (All-weaker (IsCell (sizes_of levels)) (λ (c : List ℕ). code_of_cell (sizes_of levels) c < 2 ^ 40)
-    (λ c cell. let b = code_of_cell-lt (sizes_of levels) c (sized-few levels h) cell in omega (arith, b, bound)) (cells_of (sizes_of levels)) (cells_of-are (sizes_of levels)))
+    (λ c cell. let b = code_of_cell-lt (sizes_of levels) c (sized-few levels h) cell in omega (arith, b, bound)) (cells_of (sizes_of levels))
+    (cells_of-are (sizes_of levels)))
 
 pub mask-small : (vs : List ℕ) (levels : List (List Field)) (of : ℕ → Bool) → AreFew levels → mask_under vs (sizes_of levels) of < 2 ^ 40
 mask-small vs levels of h = let b = mask_under-lt vs (sizes_of levels) of in let bound = rooms-few levels h in omega (arith, b, bound)
 
-pub code-small : (vs : List ℕ) (levels : List (List Field)) (of : ℕ → Bool) (at : ℕ → ℕ) → AreFew levels → AreBelow vs (sizes_of levels) of at → code_under vs (sizes_of levels) of at < 2 ^ 40
-code-small vs levels of at h below = let b = code_under-lt vs (sizes_of levels) of at (sized-few levels h) below in let bound = rooms-few levels h in omega (arith, b, bound)
+pub code-small : (vs : List ℕ) (levels : List (List Field)) (of : ℕ → Bool) (at : ℕ → ℕ) → AreFew levels
+    → AreBelow vs (sizes_of levels) of at → code_under vs (sizes_of levels) of at < 2 ^ 40
+code-small vs levels of at h below = let b = code_under-lt vs (sizes_of levels) of at (sized-few levels h) below in let bound = rooms-few levels h in
+    omega (arith, b, bound)
 
-pub few-one : (levels : List (List Field)) (i : ℕ) → i < length levels → AreFew levels → (0 < length (get_or levels i [])) × (length (get_or levels i []) ≤ 2 ^ 20)
+pub few-one : (levels : List (List Field)) (i : ℕ) → i < length levels → AreFew levels → (0 < length (get_or levels i []))
+    × (length (get_or levels i []) ≤ 2 ^ 20)
 few-one levels i lt h =
     let all = few-drop levels i h in
     let s = subst (λ (l : List (List Field)). Sized (sizes_of l)) (suffix levels i [] lt) (sized-few (drop i levels) all) in
@@ -143,7 +155,8 @@ few-one levels i lt h =
 
 pub mask_more : (vs : List ℕ) (levels : List (List Field)) (of : ℕ → Bool) (i : ℕ) → i < length vs → i < length levels
     → mask_under (drop i vs) (sizes_of (drop i levels)) of
-    ≡ mask_under (drop (i + 1) vs) (sizes_of (drop (i + 1) levels)) of * room (length (get_or levels i [])) + cond (of (get_or vs i 0)) (room (length (get_or levels i [])) - 1) 0
+    ≡ mask_under (drop (i + 1) vs) (sizes_of (drop (i + 1) levels)) of * room (length (get_or levels i []))
+    + cond (of (get_or vs i 0)) (room (length (get_or levels i [])) - 1) 0
 unfolding mask_under
 mask_more vs levels of i hv hl =
     ap (λ (l : List ℕ). mask_under l (sizes_of (drop i levels)) of) (suffix vs i 0 hv)
@@ -151,7 +164,8 @@ mask_more vs levels of i hv hl =
 
 pub code_more : (vs : List ℕ) (levels : List (List Field)) (of : ℕ → Bool) (at : ℕ → ℕ) (i : ℕ) → i < length vs → i < length levels
     → code_under (drop i vs) (sizes_of (drop i levels)) of at
-    ≡ code_under (drop (i + 1) vs) (sizes_of (drop (i + 1) levels)) of at * room (length (get_or levels i [])) + cond (of (get_or vs i 0)) (at (get_or vs i 0)) 0
+    ≡ code_under (drop (i + 1) vs) (sizes_of (drop (i + 1) levels)) of at * room (length (get_or levels i []))
+    + cond (of (get_or vs i 0)) (at (get_or vs i 0)) 0
 unfolding code_under
 code_more vs levels of at i hv hl =
     ap (λ (l : List ℕ). code_under l (sizes_of (drop i levels)) of at) (suffix vs i 0 hv)
@@ -162,12 +176,14 @@ pub mask_end : (vs : List ℕ) (levels : List (List Field)) (of : ℕ → Bool) 
 unfolding mask_under
 mask_end vs levels of n h = ap (λ (l : List ℕ). mask_under l (sizes_of (drop n levels)) of) (drop_of_length-le vs h)
 
-pub code_end : (vs : List ℕ) (levels : List (List Field)) (of : ℕ → Bool) (at : ℕ → ℕ) (n : ℕ) → length vs ≤ n → code_under (drop n vs) (sizes_of (drop n levels)) of at ≡ 0
+pub code_end : (vs : List ℕ) (levels : List (List Field)) (of : ℕ → Bool) (at : ℕ → ℕ) (n : ℕ) → length vs ≤ n
+    → code_under (drop n vs) (sizes_of (drop n levels)) of at ≡ 0
 unfolding code_under
 code_end vs levels of at n h = ap (λ (l : List ℕ). code_under l (sizes_of (drop n levels)) of at) (drop_of_length-le vs h)
 
 -- the values of the members of a set, by index
-pub below_from : (vs ns : List ℕ) (of : ℕ → Bool) (at : ℕ → ℕ) → ((i : ℕ) → i < length vs → IsTrue (of (get_or vs i 0)) → at (get_or vs i 0) < get_or ns i 0) → AreBelow vs ns of at
+pub below_from : (vs ns : List ℕ) (of : ℕ → Bool) (at : ℕ → ℕ) → ((i : ℕ) → i < length vs → IsTrue (of (get_or vs i 0)) → at (get_or vs i 0) < get_or ns i 0)
+    → AreBelow vs ns of at
 below_from [] ns of at h = tt
 below_from (v ∷ vs) [] of at h = tt
 below_from (v ∷ vs) (n ∷ ns) of at h = (λ t. h 0 (omega arith) t, below_from vs ns of at (λ i lt t. h (suc i) (omega arith) t))
@@ -176,7 +192,8 @@ below-none : (vs : List ℕ) (of : ℕ → Bool) (at : ℕ → ℕ) → AreBelow
 below-none [] of at = tt
 below-none (v ∷ vs) of at = tt
 
-pub below-drop : (vs : List ℕ) (levels : List (List Field)) (of : ℕ → Bool) (at : ℕ → ℕ) (j : ℕ) → AreBelow vs (sizes_of levels) of at → AreBelow (drop j vs) (sizes_of (drop j levels)) of at
+pub below-drop : (vs : List ℕ) (levels : List (List Field)) (of : ℕ → Bool) (at : ℕ → ℕ) (j : ℕ)
+    → AreBelow vs (sizes_of levels) of at → AreBelow (drop j vs) (sizes_of (drop j levels)) of at
 below-drop vs levels of at zero h = h
 below-drop [] levels of at (suc j) h = tt
 below-drop (v ∷ vs) [] of at (suc j) h = below-none (drop j vs) of at
@@ -198,14 +215,16 @@ level-more f k =
 
 pub codes_more : (levels : List (List Field)) (i : ℕ) → i < length levels
     → map (code_of_cell (sizes_of (drop i levels))) (cells_of (sizes_of (drop i levels)))
-    ≡ flat_map (λ k. map (λ code. code * room (length (get_or levels i [])) + k) (map (code_of_cell (sizes_of (drop (i + 1) levels))) (cells_of (sizes_of (drop (i + 1) levels))))) (range_with_len 0 (length (get_or levels i [])))
+    ≡ flat_map (λ k. map (λ code. code * room (length (get_or levels i [])) + k)
+    (map (code_of_cell (sizes_of (drop (i + 1) levels))) (cells_of (sizes_of (drop (i + 1) levels))))) (range_with_len 0 (length (get_or levels i [])))
 codes_more levels i lt =
     ap (λ (l : List (List Field)). map (code_of_cell (sizes_of l)) (cells_of (sizes_of l))) (suffix levels i [] lt)
     ∙ codes_step (length (get_or levels i [])) (sizes_of (drop (i + 1) levels))
 
 -- ---- the loops' steps
 
-pub item_length : (levels : List (List Field)) (i n : ℕ) (ys : List Field) → i < length levels → ys ≡ get_or levels i ys → n ≡ length ys → n ≡ length (get_or levels i [])
+pub item_length : (levels : List (List Field)) (i n : ℕ) (ys : List Field) → i < length levels → ys ≡ get_or levels i ys → n ≡ length ys → n
+    ≡ length (get_or levels i [])
 item_length levels i n ys lt e h = h ∙ ap (λ (l : List Field). length l) (get_or_read levels i ys lt e [])
 
 pub placed_end : (levels : List (List Field)) (cell : List ℕ) (i place t : ℕ) → length levels ≤ i → IsPlaced levels cell i place t → place ≡ t
@@ -224,7 +243,8 @@ kept-small true m r h pos = h refl
 kept-small false m r h pos = pos
 
 pub mask_next : (vs : List ℕ) (levels : List (List Field)) (of : ℕ → Bool) (i mask r kept : ℕ) → 0 < i → i ≤ length vs → length levels ≡ length vs
-    → mask ≡ mask_under (drop i vs) (sizes_of (drop i levels)) of → r ≡ room (length (get_or levels (i - 1) [])) → kept ≡ cond (of (get_or vs (i - 1) 0)) (r - 1) 0
+    → mask ≡ mask_under (drop i vs) (sizes_of (drop i levels)) of → r ≡ room (length (get_or levels (i - 1) [])) → kept
+    ≡ cond (of (get_or vs (i - 1) 0)) (r - 1) 0
     → mask * r + kept ≡ mask_under (drop (i - 1) vs) (sizes_of (drop (i - 1) levels)) of
 mask_next vs levels of i mask r kept pos le same m e k =
     ap (λ j. mask * r + j) k
@@ -234,7 +254,8 @@ mask_next vs levels of i mask r kept pos le same m e k =
     ∙ sym (mask_more vs levels of (i - 1) (omega arith) (omega (arith, same)))
 
 pub code_next : (vs : List ℕ) (levels : List (List Field)) (of : ℕ → Bool) (at : ℕ → ℕ) (i code r kept : ℕ) → 0 < i → i ≤ length vs → length levels ≡ length vs
-    → code ≡ code_under (drop i vs) (sizes_of (drop i levels)) of at → r ≡ room (length (get_or levels (i - 1) [])) → kept ≡ cond (of (get_or vs (i - 1) 0)) (at (get_or vs (i - 1) 0)) 0
+    → code ≡ code_under (drop i vs) (sizes_of (drop i levels)) of at → r ≡ room (length (get_or levels (i - 1) [])) → kept
+    ≡ cond (of (get_or vs (i - 1) 0)) (at (get_or vs (i - 1) 0)) 0
     → code * r + kept ≡ code_under (drop (i - 1) vs) (sizes_of (drop (i - 1) levels)) of at
 code_next vs levels of at i code r kept pos le same m e k =
     ap (λ j. code * r + j) k
@@ -249,23 +270,27 @@ pub codes_next : (levels : List (List Field)) (i n : ℕ) (codes made : List ℕ
     → made ≡ map (code_of_cell (sizes_of (drop (i - 1) levels))) (cells_of (sizes_of (drop (i - 1) levels)))
 codes_next levels i n codes made pos le e c m =
     m ∙ ap (λ j. flat_map (λ k. map (λ code. code * room j + k) codes) (range_with_len 0 j)) e
-    ∙ ap (λ (l : List ℕ). flat_map (λ k. map (λ code. code * room (length (get_or levels (i - 1) [])) + k) l) (range_with_len 0 (length (get_or levels (i - 1) []))))
+    ∙ ap (λ (l : List ℕ). flat_map (λ k. map (λ code. code * room (length (get_or levels (i - 1) [])) + k) l)
+    (range_with_len 0 (length (get_or levels (i - 1) []))))
     (c ∙ ap (λ j. map (code_of_cell (sizes_of (drop j levels))) (cells_of (sizes_of (drop j levels)))) (sym (less i pos)))
     ∙ sym (codes_more levels (i - 1) (omega arith))
 
 -- the codes of no vertex
-pub codes_end : (levels : List (List Field)) (i : ℕ) → length levels ≤ i → map (code_of_cell (sizes_of (drop i levels))) (cells_of (sizes_of (drop i levels))) ≡ 0 ∷ []
+pub codes_end : (levels : List (List Field)) (i : ℕ) → length levels ≤ i → map (code_of_cell (sizes_of (drop i levels))) (cells_of (sizes_of (drop i levels)))
+    ≡ 0 ∷ []
 codes_end levels i le = ap (λ (l : List (List Field)). map (code_of_cell (sizes_of l)) (cells_of (sizes_of l))) (drop_of_length-le levels le) ∙ codes_none
 
 -- ---- the levels of a vertex
 
-pub levels_skip : (vs : List ℕ) (levels : List (List Field)) (v i : ℕ) → i < length vs → i < length levels → (get_or vs i 0 ≡ v → ⊥) → levels_in (drop i vs) (drop i levels) v ≡ levels_in (drop (i + 1) vs) (drop (i + 1) levels) v
+pub levels_skip : (vs : List ℕ) (levels : List (List Field)) (v i : ℕ) → i < length vs → i < length levels → (get_or vs i 0 ≡ v → ⊥)
+    → levels_in (drop i vs) (drop i levels) v ≡ levels_in (drop (i + 1) vs) (drop (i + 1) levels) v
 levels_skip vs levels v i hv hl ne =
     ap (λ (l : List ℕ). levels_in l (drop i levels) v) (suffix vs i 0 hv)
     ∙ ap (λ (l : List (List Field)). levels_in (get_or vs i 0 ∷ drop (i + 1) vs) l v) (suffix levels i [] hl)
     ∙ ap (λ (b : Bool). cond b (get_or levels i []) (levels_in (drop (i + 1) vs) (drop (i + 1) levels) v)) (ne_eqb (get_or vs i 0) v ne)
 
-pub levels_found : (vs : List ℕ) (levels : List (List Field)) (v i : ℕ) → i < length vs → i < length levels → get_or vs i 0 ≡ v → levels_in (drop i vs) (drop i levels) v ≡ get_or levels i []
+pub levels_found : (vs : List ℕ) (levels : List (List Field)) (v i : ℕ) → i < length vs → i < length levels → get_or vs i 0 ≡ v
+    → levels_in (drop i vs) (drop i levels) v ≡ get_or levels i []
 levels_found vs levels v i hv hl e =
     ap (λ (l : List ℕ). levels_in l (drop i levels) v) (suffix vs i 0 hv)
     ∙ ap (λ (l : List (List Field)). levels_in (get_or vs i 0 ∷ drop (i + 1) vs) l v) (suffix levels i [] hl)
@@ -279,5 +304,6 @@ pub level_done : (n k i : ℕ) (codes made : List ℕ) → length codes ≤ i
     → made ≡ flat_map (λ j. map (λ code. code * room n + j) codes) (range_with_len 0 k) ++ map (λ code. code * room n + k) (take i codes)
     → made ≡ flat_map (λ j. map (λ code. code * room n + j) codes) (range_with_len 0 (k + 1))
 level_done n k i codes made le e =
-    e ∙ ap (λ (l : List ℕ). flat_map (λ j. map (λ code. code * room n + j) codes) (range_with_len 0 k) ++ map (λ code. code * room n + k) l) (take_all i codes le)
+    e ∙ ap (λ (l : List ℕ). flat_map (λ j. map (λ code. code * room n + j) codes) (range_with_len 0 k) ++ map (λ code. code * room n + k) l)
+    (take_all i codes le)
     ∙ sym (level-more (λ j. map (λ code. code * room n + j) codes) k)

@@ -2,3 +2,6 @@ pub mod Cells
 pub mod Codes
 pub mod Tables
 pub mod Reading
+pub mod LaneSums
+pub mod Axes
+pub mod Sums

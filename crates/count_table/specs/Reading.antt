@@ -15,7 +15,8 @@ layout_in records names used count = layout_of (header_of records) (used_names n
 pub record IsTableOf (text : List ℕ) (names : List Field) (used : ℕ) (count : Option Field) (t : Table) : Type 0 where
   pub vertices : t.vertices ≡ members_below (has used) 64
   pub levels : t.levels ≡ levels_of (layout_in (records_of text) names used count) (rows_of (records_of text))
-  pub rows : (of : ℕ → Bool) (at : ℕ → ℕ) → counted t.vertices t.rows of at ≡ counted t.vertices (rows_in (layout_in (records_of text) names used count) (rows_of (records_of text))) of at
+  pub rows : (of : ℕ → Bool) (at : ℕ → ℕ) → counted t.vertices t.rows of at ≡ counted t.vertices
+      (rows_in (layout_in (records_of text) names used count) (rows_of (records_of text))) of at
 
 -- why a text gives no table
 abbrev pub text_fault : List ℕ → List Field → ℕ → Option Field → Option CountFault

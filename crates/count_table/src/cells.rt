@@ -1,3 +1,5 @@
+//! The cells of a table, and the count of each.
+
 ghost use Rattle.std.specs.Prelude.{ℕ, ◌≡◌, ◌<◌, ◌≤◌, ◌*◌, ◌^◌, All, IfOk, length, map, sum, slice_index};
 ghost use Rattle.count_rows.specs.Levels.{AreLevels};
 ghost use Rattle.count_rows.specs.Records.{cell_count};

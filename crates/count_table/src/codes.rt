@@ -1,3 +1,5 @@
+//! The levels of a cell as one number, a field for each vertex.
+
 ghost use Rattle.std.specs.Prelude.{ℕ, ◌≡◌, ◌<◌, ◌≤◌, ◌+◌, ◌-◌, ◌*◌, ◌^◌, All, IsTrue, IfOk, length, map, slice_index, if◌then◌else◌};
 ghost use Rattle.std.specs.List.{flat_map, range_with_len};
 ghost use Rattle.mixed_graph.specs.Bits.{has};

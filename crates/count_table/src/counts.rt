@@ -1,3 +1,5 @@
+//! A table of counts, and the sums over it.
+
 ghost use Rattle.std.specs.Prelude.{ℕ, ◌≡◌, ◌<◌, ◌≤◌, ◌==◌, Bool, [], Some, All, IsTrue, IfOk, MatchOption, bit_and, length, map, slice_get, slice_index};
 ghost use Rattle.mixed_graph.specs.Bits.{has, members_below};
 ghost use Rattle.count_rows.specs.Rows.{agrees, counted};
@@ -7,8 +9,8 @@ ghost use Rattle.count_table.specs.Tables.{levels_in, AreCounts, AreRows, HasLev
 
 use crate::cells::counts_of;
 use crate::codes::{code_over, codes_of, mask_over};
+use crate::lane_sums::masked_sum;
 use count_rows::{Levels, Tally};
-use lane_sums::masked_sum;
 use mixed_graph::VSet;
 use std::alloc::{AllocError, Global};
 use std::marker::Model;

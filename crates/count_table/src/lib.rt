@@ -6,7 +6,9 @@
 mod cells;
 mod codes;
 mod counts;
+pub mod lane_sums;
 mod reading;
+pub mod sum_tables;
 
 pub use count_rows::CountFault;
 pub use counts::{Counts, marginal};

@@ -34,7 +34,8 @@ module _ (m m' : FiniteModel) (al : Alike m m') where
   pub total_alike : total m ≡ total m'
   total_alike = sum_alike (world_weight m) (world_weight m') weight_alike
 
-  module _ (g : MixedGraph) (graph : IsMixedGraph g) (follows : Follows g m) (follows' : Follows g m') (b : ℕ → Bool) (s : ℕ → ℕ) (within : IsAssignment m.vertices m.size s) where
+  module _ (g : MixedGraph) (graph : IsMixedGraph g) (follows : Follows g m) (follows' : Follows g m') (b : ℕ → Bool) (s : ℕ → ℕ)
+      (within : IsAssignment m.vertices m.size s) where
     rounds_within : (k : ℕ) (u : ℕ → ℕ) → IsWorld m u → IsAssignment m.vertices m.size (rounds (intervene m b s) k u)
     rounds_within zero u w v lt = follows.positive_size v lt
     rounds_within (suc k) u w v lt = (follows_intervene g m b s within follows).below v lt (rounds (intervene m b s) k u) u (rounds_within k u w) w
@@ -57,8 +58,10 @@ module _ (m m' : FiniteModel) (al : Alike m m') where
     solution_alike u w v lt = rounds_alike m.vertices u w v lt ∙ ap (λ k. rounds (intervene m' b s) k u v) al.vertices
 
     pub event_alike : (a : ℕ → Bool) → weight_of m b a s ≡ weight_of m' b a s
-    event_alike a = sum_alike (λ u. cond (agree m.vertices a (solution (intervene m b s) u) s) (world_weight m u) 0) (λ u. cond (agree m'.vertices a (solution (intervene m' b s) u) s) (world_weight m' u) 0)
+    event_alike a = sum_alike (λ u. cond (agree m.vertices a (solution (intervene m b s) u) s) (world_weight m u) 0)
+        (λ u. cond (agree m'.vertices a (solution (intervene m' b s) u) s) (world_weight m' u) 0)
         (λ u w. ap₂ (λ p q. cond p q 0)
-        (all-congr m.vertices (λ v. cond (a v) (eqb (solution (intervene m b s) u v) (s v)) true) (λ v. cond (a v) (eqb (solution (intervene m' b s) u v) (s v)) true) (λ v lt. ap (λ r. cond (a v) (eqb r (s v)) true) (solution_alike u w v lt))
+        (all-congr m.vertices (λ v. cond (a v) (eqb (solution (intervene m b s) u v) (s v)) true)
+        (λ v. cond (a v) (eqb (solution (intervene m' b s) u v) (s v)) true) (λ v lt. ap (λ r. cond (a v) (eqb r (s v)) true) (solution_alike u w v lt))
         ∙ ap (λ k. agree k a (solution (intervene m' b s) u) s) al.vertices)
         (weight_alike u w))

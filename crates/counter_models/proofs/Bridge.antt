@@ -1,5 +1,6 @@
 -- The data of a hedge, as the theory of the two models takes it.
-use Rattle.std.proofs.Common.{ℕ, zero, suc, ◌+◌, ◌-◌, ◌≡◌, ◌≢◌, ◌<◌, ◌≤◌, Bool, true, false, cond, ltb, not, ◌&&◌, ◌⊎◌, inl, inr, refl, sym, ap, ap₂, ◌∙◌, List, slice_index, get_or, arith, lt-ltb, le-ltb}
+use Rattle.std.proofs.Common.{ℕ, zero, suc, ◌+◌, ◌-◌, ◌≡◌, ◌≢◌, ◌<◌, ◌≤◌, Bool, true, false, cond, ltb, not, ◌&&◌, ◌⊎◌, inl, inr, refl, sym, ap, ap₂}
+use Rattle.std.proofs.Common.{◌∙◌, List, slice_index, get_or, arith, lt-ltb, le-ltb}
 use Rattle.std.proofs.lemmas.Bool.{cases_lt, and_from, and_parts}
 use Rattle.mixed_graph.specs.Bits.{has, members_below}
 use Rattle.mixed_graph.specs.Sets.{Apart}
@@ -7,11 +8,11 @@ use Rattle.mixed_graph.specs.Graphs.{MixedGraph, IsMixedGraph}
 use Rattle.hedge.specs.Hedges.{size_of, IsPlaced, IsChildInside, IsHedge}
 use Rattle.hedge.specs.declared.hedge.Hedge.{Hedge}
 use Rattle.finite_models.specs.Parities.{differ}
-use Rattle.parity_models.specs.Links.{is_entry}
-use Rattle.parity_models.specs.Hedges.{ParityHedge, IsParityHedge, IsTree, IsNumbered, IsWholeHedge, AreOuter, links_of, privates}
-use Rattle.parity_models.proofs.Counter.{odd_none}
-use Rattle.counter_models.specs.Kept.{free, CarriesTo, IsKept, AreKept}
-use Rattle.counter_models.specs.Kept.IsKept.{root, next}
+use Rattle.counter_models.specs.Links.{is_entry}
+use Rattle.counter_models.specs.Hedges.{ParityHedge, IsParityHedge, IsTree, IsNumbered, IsWholeHedge, AreOuter, links_of, privates}
+use Rattle.counter_models.proofs.Counter.{odd_none}
+use Rattle.counter_models.specs.Kept.{free, CarriesTo, IsCarrier, AreCarriers}
+use Rattle.counter_models.specs.Kept.IsCarrier.{root, next}
 use Rattle.counter_models.specs.Pairs.{before, small_cause, kept_cause}
 use Rattle.counter_models.specs.Theory.{links_from, inner_entries, inner_of, outer_of, data_of}
 use Rattle.counter_models.proofs.Lists.{before-less}
@@ -33,8 +34,9 @@ on false e = refl
 clash : (p : Bool) → p ≡ true → p ≡ false → ⊥
 clash p e f = absurd (grind (arith, e, f))
 
-module _ (g : MixedGraph) (graph : IsMixedGraph g) (few : g.vertices ≤ 64) (x y : ℕ) (h : Hedge) (hedge : IsHedge g x y h) (x_y : Apart (has x) (has y)) (kept : ℕ) (carry : List ℕ)
-    (are : AreKept g x y h.roots.bits kept carry) where
+module _ (g : MixedGraph) (graph : IsMixedGraph g) (few : g.vertices ≤ 64) (x y : ℕ) (h : Hedge) (hedge : IsHedge g x y h) (x_y : Apart (has x) (has y))
+    (kept : ℕ) (carry : List ℕ)
+    (are : AreCarriers g x y h.roots.bits kept carry) where
   abbrev d : ParityHedge
   d = data_of y h kept carry
 
@@ -56,13 +58,14 @@ module _ (g : MixedGraph) (graph : IsMixedGraph g) (few : g.vertices ≤ 64) (x 
   pub some_entry : 1 ≤ h.links.count
   some_entry = let l = root_placed.listed in omega arith
 
-  kept_low : (v : ℕ) → IsKept g x y h.roots.bits v → v < g.vertices
+  kept_low : (v : ℕ) → IsCarrier g x y h.roots.bits v → v < g.vertices
   kept_low v (root i) = (hedge.roots v i).vertex
   kept_low v (next {u} k o c) = graph.head_below u v (and_parts (g.arrow u v) (free g x u && free g x v) c.arrow).0
 
-  kept_off : (v : ℕ) → IsKept g x y h.roots.bits v → has x v ≡ false
+  kept_off : (v : ℕ) → IsCarrier g x y h.roots.bits v → has x v ≡ false
   kept_off v (root i) = hedge.apart v (hedge.sets.roots_inside v i)
-  kept_off v (next {u} k o c) = off (has x v) (let f = and_parts (free g x u) (free g x v) (and_parts (g.arrow u v) (free g x u && free g x v) c.arrow).1 in last v f.1)
+  kept_off v (next {u} k o c) = off (has x v) (let f = and_parts (free g x u) (free g x v) (and_parts (g.arrow u v) (free g x u && free g x v) c.arrow).1 in
+      last v f.1)
     where
       last : (v : ℕ) → free g x v ≡ true → not (has x v) ≡ true
       last v e = (and_parts _ (not (has x v)) e).1
@@ -74,7 +77,8 @@ module _ (g : MixedGraph) (graph : IsMixedGraph g) (few : g.vertices ≤ 64) (x 
   carries = are.carries
 
   pub links_is : links_of d ≡ h.links.count - 1
-  links_is = ap₂ (λ p q. p + q) (length-links h 1 (inner_entries h - 1)) (length-links h (inner_entries h) (h.links.count - inner_entries h)) ∙ (let s = some_small in let e = some_entry in omega arith)
+  links_is = ap₂ (λ p q. p + q) (length-links h 1 (inner_entries h - 1)) (length-links h (inner_entries h) (h.links.count - inner_entries h))
+      ∙ (let s = some_small in let e = some_entry in omega arith)
 
   own_less : (v : ℕ) → has h.small.bits v ≡ true → before h.small.bits v < size_of h.small.bits
   own_less v e = before-less h.small.bits v 64 e (small_low v e)
@@ -110,10 +114,13 @@ module _ (g : MixedGraph) (graph : IsMixedGraph g) (few : g.vertices ≤ 64) (x 
     choice_small = λ v e r. (child v (small_big v e) r).in_small e;
     carry_arrow = λ v e o. (and_parts (g.arrow v (slice_index carry v)) (free g x v && free g x (slice_index carry v)) (carries v e o).arrow).0;
     carry_kept = λ v e o. are.complete (slice_index carry v) (next (are.sound v e) o (carries v e o));
-    inner_inside = inside g x y h hedge 1 (inner_entries h - 1) (omega arith) (let e = some_entry in let s = some_small in omega arith) (let e = some_entry in let s = some_small in omega arith);
+    inner_inside = inside g x y h hedge 1 (inner_entries h - 1) (omega arith) (let e = some_entry in let s = some_small in omega arith)
+        (let e = some_entry in let s = some_small in omega arith);
     inner_low = below g x y h hedge 1 (inner_entries h - 1) (omega arith) (let e = some_entry in let s = some_small in omega arith);
-    outer_low = below g x y h hedge (inner_entries h) (h.links.count - inner_entries h) (let e = some_entry in let s = some_small in omega arith) (let e = some_entry in let s = some_small in omega arith);
-    outer_rooted = rooted g x y h hedge (has h.small.bits) (inner_entries h) (h.links.count - inner_entries h) (let e = some_entry in let s = some_small in omega arith) (let e = some_entry in let s = some_small in omega arith)
+    outer_low = below g x y h hedge (inner_entries h) (h.links.count - inner_entries h) (let e = some_entry in let s = some_small in omega arith)
+        (let e = some_entry in let s = some_small in omega arith);
+    outer_rooted = rooted g x y h hedge (has h.small.bits) (inner_entries h) (h.links.count - inner_entries h)
+        (let e = some_entry in let s = some_small in omega arith) (let e = some_entry in let s = some_small in omega arith)
         (λ i lt. entry_small g x y h hedge i (omega arith) (omega arith));
     own_low = λ v e. let l = own_less v e in omega arith;
     top_low = λ v e. let l = top_less v e in omega arith;
@@ -122,14 +129,17 @@ module _ (g : MixedGraph) (graph : IsMixedGraph g) (few : g.vertices ≤ 64) (x 
     links_low = let l = links_is in omega arith;
     cut = hedge.meets.vertex;
     cut_x = hedge.meets.in_second;
-    cut_listed = outer_listed hedge.meets.vertex hedge.meets.in_first (true_not (has h.small.bits hedge.meets.vertex) (has x hedge.meets.vertex) (λ s. hedge.apart hedge.meets.vertex s) hedge.meets.in_second);
+    cut_listed = outer_listed hedge.meets.vertex hedge.meets.in_first (true_not (has h.small.bits hedge.meets.vertex) (has x hedge.meets.vertex)
+        (λ s. hedge.apart hedge.meets.vertex s) hedge.meets.in_second);
   }
 
   are_outer : (k c : ℕ) → size_of h.small.bits ≤ k → 0 < k → k + c ≤ h.links.count → AreOuter d (links_from h k c)
   are_outer k zero late pos le = tt
   are_outer k (suc c) late pos le = (
-    and_from (has h.big.bits (slice_index h.links.found k)) (not (has h.small.bits (slice_index h.links.found k))) (hedge.links.inside k (omega arith)) (on (has h.small.bits (slice_index h.links.found k)) (outside (has h.small.bits (slice_index h.links.found k)) refl)),
-    partner_big (hedge.links.partners k pos (omega arith)).place (let q = (hedge.links.partners k pos (omega arith)).earlier in omega arith) (hedge.links.partners k pos (omega arith)).is,
+    and_from (has h.big.bits (slice_index h.links.found k)) (not (has h.small.bits (slice_index h.links.found k))) (hedge.links.inside k (omega arith))
+        (on (has h.small.bits (slice_index h.links.found k)) (outside (has h.small.bits (slice_index h.links.found k)) refl)),
+    partner_big (hedge.links.partners k pos (omega arith)).place (let q = (hedge.links.partners k pos (omega arith)).earlier in omega arith)
+        (hedge.links.partners k pos (omega arith)).is,
     are_outer (suc k) c (omega arith) (omega arith) (omega arith),
   )
     where
@@ -137,7 +147,8 @@ module _ (g : MixedGraph) (graph : IsMixedGraph g) (few : g.vertices ≤ 64) (x 
       outside true e = absurd (let l = small_entry g x y h hedge k (omega arith) e in omega arith)
       outside false e = e
 
-      partner_big : (i : ℕ) → i < h.links.count → slice_index h.links.found i ≡ slice_index h.links.partner k → has h.big.bits (slice_index h.links.partner k) ≡ true
+      partner_big : (i : ℕ) → i < h.links.count → slice_index h.links.found i ≡ slice_index h.links.partner k → has h.big.bits (slice_index h.links.partner k)
+          ≡ true
       partner_big i lt e = sym (ap (has h.big.bits) e) ∙ hedge.links.inside i lt
 
   outer_are : AreOuter d (outer_of h)
@@ -158,7 +169,8 @@ module _ (g : MixedGraph) (graph : IsMixedGraph g) (few : g.vertices ≤ 64) (x 
   }
     where
       inner_listed : (v : ℕ) → has h.small.bits v ≡ true → v ≢ slice_index h.links.found 0 → is_entry (inner_of h) v ≡ true
-      inner_listed v e ne = listed g x y h hedge v p.place 1 (inner_entries h - 1) p.here (pos (cases_lt 0 p.place)) (let l = p.listed in let s = p.small_first.0 e in omega arith)
+      inner_listed v e ne = listed g x y h hedge v p.place 1 (inner_entries h - 1) p.here (pos (cases_lt 0 p.place))
+          (let l = p.listed in let s = p.small_first.0 e in omega arith)
         where
           p : IsPlaced h v
           p = hedge.links.placed v (small_big v e)
@@ -168,10 +180,12 @@ module _ (g : MixedGraph) (graph : IsMixedGraph g) (few : g.vertices ≤ 64) (x 
           pos (inr ge) = absurd (ne (sym p.here ∙ ap (λ i. slice_index h.links.found i) (let z : p.place ≡ 0 = omega arith in z)))
 
   own_at : (v : ℕ) → has h.small.bits v ≡ true → get_or (members_below (has h.small.bits) 64) (small_cause h v - (h.links.count - 1)) 0 ≡ v
-  own_at v e = ap (λ i. get_or (members_below (has h.small.bits) 64) i 0) (let z : small_cause h v - (h.links.count - 1) ≡ before h.small.bits v = omega arith in z) ∙ numbered h.small.bits v 64 e (small_low v e)
+  own_at v e = ap (λ i. get_or (members_below (has h.small.bits) 64) i 0)
+      (let z : small_cause h v - (h.links.count - 1) ≡ before h.small.bits v = omega arith in z) ∙ numbered h.small.bits v 64 e (small_low v e)
 
   top_at : (v : ℕ) → has kept v ≡ true → get_or (members_below (has kept) 64) (kept_cause h kept v - ((h.links.count - 1) + size_of h.small.bits)) 0 ≡ v
-  top_at v e = ap (λ i. get_or (members_below (has kept) 64) i 0) (let z : kept_cause h kept v - ((h.links.count - 1) + size_of h.small.bits) ≡ before kept v = omega arith in z) ∙ numbered kept v 64 e (kept_64 v e)
+  top_at v e = ap (λ i. get_or (members_below (has kept) 64) i 0) (let z : kept_cause h kept v - ((h.links.count - 1) + size_of h.small.bits)
+      ≡ before kept v = omega arith in z) ∙ numbered kept v 64 e (kept_64 v e)
 
   own_side : (v : ℕ) → has h.small.bits v ≡ true → ltb (small_cause h v) ((h.links.count - 1) + size_of h.small.bits) ≡ true
   own_side v e = lt-ltb (small_cause h v) ((h.links.count - 1) + size_of h.small.bits) (let l = own_less v e in omega arith)
@@ -181,14 +195,17 @@ module _ (g : MixedGraph) (graph : IsMixedGraph g) (few : g.vertices ≤ 64) (x 
 
   numbers : IsNumbered d
   numbers = record {
-    holder = λ j. cond (ltb j ((h.links.count - 1) + size_of h.small.bits)) (get_or (members_below (has h.small.bits) 64) (j - (h.links.count - 1)) 0) (get_or (members_below (has kept) 64) (j - ((h.links.count - 1) + size_of h.small.bits)) 0);
+    holder = λ j. cond (ltb j ((h.links.count - 1) + size_of h.small.bits)) (get_or (members_below (has h.small.bits) 64) (j - (h.links.count - 1)) 0)
+        (get_or (members_below (has kept) 64) (j - ((h.links.count - 1) + size_of h.small.bits)) 0);
     is_own = λ j. ltb j ((h.links.count - 1) + size_of h.small.bits);
     own_holder = λ v e. rw (own_side v e) (own_at v e);
     top_holder = λ v e. rw (top_side v) (top_at v e);
     own_is = own_side;
     top_is = λ v e. top_side v;
-    apart = apart g x y h hedge (inner_entries h) (h.links.count - inner_entries h) (let e = some_entry in let s = some_small in omega arith) (let e = some_entry in let s = some_small in omega arith);
-    ordered = ordered g x y h hedge (inner_entries h) (h.links.count - inner_entries h) (let e = some_entry in let s = some_small in omega arith) (let e = some_entry in let s = some_small in omega arith);
+    apart = apart g x y h hedge (inner_entries h) (h.links.count - inner_entries h) (let e = some_entry in let s = some_small in omega arith)
+        (let e = some_entry in let s = some_small in omega arith);
+    ordered = ordered g x y h hedge (inner_entries h) (h.links.count - inner_entries h) (let e = some_entry in let s = some_small in omega arith)
+        (let e = some_entry in let s = some_small in omega arith);
     listed = λ v e. let p = and_parts (has h.big.bits v) (not (has h.small.bits v)) e in outer_listed v p.0 (off (has h.small.bits v) p.1);
   }
 
@@ -200,7 +217,8 @@ module _ (g : MixedGraph) (graph : IsMixedGraph g) (few : g.vertices ≤ 64) (x 
         where
           own : (v : ℕ) × (v < 64) × (has h.small.bits v ≡ true) × (before h.small.bits v ≡ j - (h.links.count - 1)) → privates g.vertices d j ≡ true
           own w = ap₂ differ
-              (odd_single g.vertices (has h.small.bits) (small_cause h) j w.0 (big_low w.0 (small_big w.0 w.2)) w.2 (let b = w.3 in let e = links_is in omega arith)
+              (odd_single g.vertices (has h.small.bits) (small_cause h) j w.0 (big_low w.0 (small_big w.0 w.2)) w.2
+              (let b = w.3 in let e = links_is in omega arith)
               (λ u i q. same_number h.small.bits u w.0 i w.2 (let b = w.3 in let e = links_is in omega arith)))
               (odd_none g.vertices (has kept) (kept_cause h kept) j (λ v e q. absurd (omega arith)))
       go (inr ge) = top (find kept 64 (j - ((h.links.count - 1) + size_of h.small.bits)) (omega arith))
@@ -218,6 +236,7 @@ module _ (g : MixedGraph) (graph : IsMixedGraph g) (few : g.vertices ≤ 64) (x 
     numbered = numbers;
     once = once;
     inner_joined = joined g x y h hedge 1 (inner_entries h - 1) (omega arith) (let e = some_entry in let s = some_small in omega arith);
-    outer_joined = joined g x y h hedge (inner_entries h) (h.links.count - inner_entries h) (let e = some_entry in let s = some_small in omega arith) (let e = some_entry in let s = some_small in omega arith);
+    outer_joined = joined g x y h hedge (inner_entries h) (h.links.count - inner_entries h) (let e = some_entry in let s = some_small in omega arith)
+        (let e = some_entry in let s = some_small in omega arith);
     target_outside = λ v e. true_not (has x v) (has y v) (λ s. x_y v s) e;
   }

@@ -1,10 +1,11 @@
 -- Members of a set by their numbers.
-use Rattle.std.proofs.Common.{ℕ, zero, suc, ◌≡◌, ◌<◌, ◌≤◌, Bool, true, false, cond, eqb, ◌&&◌, ◌⊎◌, inl, inr, refl, sym, ap, ◌∙◌, List, [], ◌∷◌, ◌++◌, get_or, length, arith, eqb-true, eq-eqb}
+use Rattle.std.proofs.Common.{ℕ, zero, suc, ◌≡◌, ◌<◌, ◌≤◌, Bool, true, false, cond, eqb, ◌&&◌, ◌⊎◌, inl, inr, refl, sym, ap, ◌∙◌, List, [], ◌∷◌, ◌++◌}
+use Rattle.std.proofs.Common.{get_or, length, arith, eqb-true, eq-eqb}
 use Rattle.std.proofs.lemmas.Bool.{cases_lt}
 use Rattle.mixed_graph.specs.Bits.{has, members_below}
 use Rattle.mixed_graph.proofs.Members.{one_if, length-members-suc, length-members-zero}
 use Rattle.finite_models.specs.Parities.{odd_below}
-use Rattle.parity_models.proofs.ParityLaws.{odd-congr, odd-one}
+use Rattle.counter_models.proofs.ParityLaws.{odd-congr, odd-one}
 use Rattle.counter_models.specs.Pairs.{before}
 use Rattle.counter_models.proofs.Lists.{before-less, members-suc}
 
@@ -24,10 +25,12 @@ pub numbered : (s v k : ℕ) → has s v ≡ true → v < k → get_or (members_
 numbered s v zero e lt = absurd (omega arith)
 numbered s v (suc k) e lt = ap (λ r. get_or r (before s v) 0) (members-suc (has s) k) ∙ go (cases_lt v k) (numbered s v k e)
   where
-    go : (v < k) ⊎ (k ≤ v) → (v < k → get_or (members_below (has s) k) (before s v) 0 ≡ v) → get_or (members_below (has s) k ++ cond (has s k) (k ∷ []) []) (before s v) 0 ≡ v
+    go : (v < k) ⊎ (k ≤ v) → (v < k → get_or (members_below (has s) k) (before s v) 0 ≡ v)
+        → get_or (members_below (has s) k ++ cond (has s k) (k ∷ []) []) (before s v) 0 ≡ v
     go (inl l) ih = get-first (members_below (has s) k) (cond (has s k) (k ∷ []) []) (before s v) 0 (before-less s v k e l) ∙ ih l
     go (inr ge) ih = let q : k ≡ v = omega arith in
-        ap (λ b. get_or (members_below (has s) k ++ cond b (k ∷ []) []) (before s v) 0) (ap (has s) q ∙ e) ∙ get-last (members_below (has s) k) k (before s v) 0 (ap (before s) (sym q)) ∙ q
+        ap (λ b. get_or (members_below (has s) k ++ cond b (k ∷ []) []) (before s v) 0) (ap (has s) q ∙ e)
+        ∙ get-last (members_below (has s) k) k (before s v) 0 (ap (before s) (sym q)) ∙ q
 
 pub same_number : (s v u : ℕ) → has s v ≡ true → has s u ≡ true → before s v ≡ before s u → v ≡ u
 same_number s v u e f q = go (cases_lt v u) (cases_lt u v)
@@ -41,7 +44,8 @@ pub find : (s k i : ℕ) → i < before s k → (v : ℕ) × (v < k) × (has s v
 find s zero i lt = absurd (let z = length-members-zero (has s) in omega arith)
 find s (suc k) i lt = go (cases_lt i (before s k)) (has s k) refl (find s k i)
   where
-    go : (i < before s k) ⊎ (before s k ≤ i) → (b : Bool) → has s k ≡ b → (i < before s k → (v : ℕ) × (v < k) × (has s v ≡ true) × (before s v ≡ i)) → (v : ℕ) × (v < suc k) × (has s v ≡ true) × (before s v ≡ i)
+    go : (i < before s k) ⊎ (before s k ≤ i) → (b : Bool) → has s k ≡ b → (i < before s k → (v : ℕ) × (v < k) × (has s v ≡ true) × (before s v ≡ i)) → (v : ℕ)
+        × (v < suc k) × (has s v ≡ true) × (before s v ≡ i)
     go (inl l) b e ih = let w = ih l in (w.0, (let t = w.1 in omega arith), w.2, w.3)
     go (inr ge) true e ih = (k, omega arith, e, (let m = length-members-suc (has s) k in let z : one_if (has s k) ≡ 1 = ap one_if e in omega arith))
     go (inr ge) false e ih = absurd (let m = length-members-suc (has s) k in let z : one_if (has s k) ≡ 0 = ap one_if e in omega arith)
@@ -54,7 +58,8 @@ ne_false a b h = go (eqb a b) refl
     go false e = e
 
 -- one member alone has the number j
-pub odd_single : (n : ℕ) (A : ℕ → Bool) (f : ℕ → ℕ) (j v : ℕ) → v < n → A v ≡ true → f v ≡ j → ((w : ℕ) → A w ≡ true → f w ≡ j → w ≡ v) → odd_below n (λ w. A w && eqb j (f w)) ≡ true
+pub odd_single : (n : ℕ) (A : ℕ → Bool) (f : ℕ → ℕ) (j v : ℕ) → v < n → A v ≡ true → f v ≡ j → ((w : ℕ) → A w ≡ true → f w ≡ j → w ≡ v)
+    → odd_below n (λ w. A w && eqb j (f w)) ≡ true
 odd_single n A f j v l i e h = odd-congr n (λ w. A w && eqb j (f w)) (λ w. eqb w v && A w) (λ w lt. same w (A w) refl (eqb w v) refl) ∙ (odd-one n v A l ∙ i)
   where
     same : (w : ℕ) (b : Bool) → A w ≡ b → (c : Bool) → eqb w v ≡ c → (b && eqb j (f w)) ≡ (c && b)

@@ -1,9 +1,10 @@
 -- Distances to a set as tests of numbers, and the nearest child, found among all of them.
-use Rattle.std.proofs.Common.{ℕ, zero, suc, ◌+◌, ◌*◌, ◌/◌, ◌%◌, ◌≡◌, ◌<◌, ◌≤◌, ◌⊎◌, Bool, true, false, cond, ltb, ◌&&◌, ◌||◌, inl, inr, refl, ap, ◌∙◌, List, [], ◌∷◌, length, IsTrue, arith, lt-ltb, le-ltb}
+use Rattle.std.proofs.Common.{ℕ, zero, suc, ◌+◌, ◌*◌, ◌/◌, ◌%◌, ◌≡◌, ◌<◌, ◌≤◌, ◌⊎◌, Bool, true, false, cond, ltb, ◌&&◌, ◌||◌, inl, inr, refl, ap, ◌∙◌}
+use Rattle.std.proofs.Common.{List, [], ◌∷◌, length, IsTrue, arith, lt-ltb, le-ltb}
 use Rattle.std.proofs.lemmas.Bool.{cases_Bool, cases_lt, and_parts, and_from, or_left, or_right, or_cases}
 use Rattle.mixed_graph.specs.Graphs.{MixedGraph, IsDirectedPath}
 use Rattle.finite_models.proofs.Factors.{any_below, any_below_from, any_below_gives}
-use Rattle.districts.specs.Nearest.{IsDistance, IsNearestChild}
+use Rattle.hedge.specs.Nearest.{IsDistance, IsNearestChild}
 
 clash : (b : Bool) → b ≡ true → b ≡ false → ⊥
 clash b e f = absurd (grind (arith, e, f))
@@ -25,7 +26,11 @@ first_is p (suc n) = go (cases_lt (first p n) n) (first_is p n)
   where
     last : (b : Bool) → p n ≡ b → IsFirst p n n → IsFirst p (suc n) (cond b n (suc n))
     last true e i = record { most = omega arith; passes = λ lt. e; none = i.none }
-    last false e i = record { most = omega arith; passes = λ lt. absurd (omega arith); none = λ j lt. elim (cases_lt j n) [ inl l ↦ i.none j l | inr ge ↦ (let q : j ≡ n = omega arith in ap p q ∙ e) ] }
+    last false e i = record {
+      most = omega arith;
+      passes = λ lt. absurd (omega arith);
+      none = λ j lt. elim (cases_lt j n) [ inl l ↦ i.none j l | inr ge ↦ (let q : j ≡ n = omega arith in ap p q ∙ e) ];
+    }
 
     go : (first p n < n) ⊎ (n ≤ first p n) → IsFirst p n (first p n) → IsFirst p (suc n) (cond (ltb (first p n) n) (first p n) (cond (p n) n (suc n)))
     go (inl lt) i = rw (lt-ltb (first p n) n lt) (record { most = (let m = i.most in omega arith); passes = λ l. i.passes lt; none = i.none })
@@ -69,7 +74,8 @@ module _ (g : MixedGraph) (s : ℕ → Bool) where
     by_route zero v (c ∷ rest) end p i l = absurd (omega arith)
     by_route (suc k) v [] end e i l = or_left (s v) (any_below g.vertices (λ c. g.arrow v c && leads_within k c)) (ap s e ∙ i)
     by_route (suc k) v (c ∷ rest) end p i l = or_right (s v) (any_below g.vertices (λ c. g.arrow v c && leads_within k c))
-        (any_below_from g.vertices (λ c. g.arrow v c && leads_within k c) c (heads v c p.0) (and_from (g.arrow v c) (leads_within k c) p.0 (by_route k c rest end p.1 i (omega arith))))
+        (any_below_from g.vertices (λ c. g.arrow v c && leads_within k c) c (heads v c p.0)
+        (and_from (g.arrow v c) (leads_within k c) p.0 (by_route k c rest end p.1 i (omega arith))))
 
     pub leads_further : (k m v : ℕ) → k ≤ m → leads_within k v ≡ true → leads_within m v ≡ true
     leads_further k m v le e = let r = route_of k v e in by_route m v r.path r.end r.leads r.inside (let l = r.long in omega arith)
@@ -108,7 +114,8 @@ module _ (g : MixedGraph) (s : ℕ → Bool) where
           let p = and_parts (g.arrow u w.0) (leads_within k w.0) w.2 in
           let d = distance_of k w.0 p.1 in
           let t = c.distance in
-          by_route k v t.path t.end t.leads t.inside (let l = t.long in let le = d.1 in elim (c.nearest w.0 d.0 p.0 d.2) [ inl lt ↦ omega (arith, lt) | inr q ↦ omega (arith, q.0) ])
+          by_route k v t.path t.end t.leads t.inside (let l = t.long in let le = d.1 in
+          elim (c.nearest w.0 d.0 p.0 d.2) [ inl lt ↦ omega (arith, lt) | inr q ↦ omega (arith, q.0) ])
     ]
 
     -- ---- the nearest child: its distance first, and then its number
@@ -129,7 +136,8 @@ module _ (g : MixedGraph) (s : ℕ → Bool) where
         arrow = p.0;
         arrows = m / 64;
         distance = distance_by (m / 64) (m % 64) p.1 (λ j lt. not_shorter j lt (cases_Bool (leads_within j (m % 64))));
-        nearest = λ u further a d. compare u further (heads v u a) (cases_lt (64 * further + u) m) (ranks_at v further u a (by_route further u d.path d.end d.leads d.inside (let l = d.long in omega arith)));
+        nearest = λ u further a d. compare u further (heads v u a) (cases_lt (64 * further + u) m)
+            (ranks_at v further u a (by_route further u d.path d.end d.leads d.inside (let l = d.long in omega arith)));
       }
         where
           p : IsTrue (g.arrow v (m % 64)) × (leads_within (m / 64) (m % 64) ≡ true)
@@ -139,7 +147,8 @@ module _ (g : MixedGraph) (s : ℕ → Bool) where
           not_shorter j lt (inl t) = absurd (clash (ranks v (64 * j + m % 64)) (ranks_at v j (m % 64) p.0 t) (none (64 * j + m % 64) (omega arith)))
           not_shorter j lt (inr f) = f
 
-          compare : (u further : ℕ) → u < g.vertices → (64 * further + u < m) ⊎ (m ≤ 64 * further + u) → ranks v (64 * further + u) ≡ true → (m / 64 < further) ⊎ ((m / 64 ≡ further) × (m % 64 ≤ u))
+          compare : (u further : ℕ) → u < g.vertices → (64 * further + u < m) ⊎ (m ≤ 64 * further + u) → ranks v (64 * further + u) ≡ true
+              → (m / 64 < further) ⊎ ((m / 64 ≡ further) × (m % 64 ≤ u))
           compare u further low (inl lt) t = absurd (clash (ranks v (64 * further + u)) t (none (64 * further + u) lt))
           compare u further low (inr ge) t = elim (cases_lt (m / 64) further) [ inl l ↦ inl l | inr r ↦ inr (omega arith, omega arith) ]
 

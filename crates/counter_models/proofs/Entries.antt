@@ -6,9 +6,9 @@ use Rattle.mixed_graph.specs.Graphs.{MixedGraph}
 use Rattle.finite_models.proofs.SumLaws.{eqb-refl}
 use Rattle.hedge.specs.Hedges.{size_of, IsPlaced, IsHedge}
 use Rattle.hedge.specs.declared.hedge.Hedge.{Hedge}
-use Rattle.parity_models.specs.Links.{is_entry, IsNoEntry, EndsDiffer, AreOrdered, AreBelow, AreInside, AreRooted, LinksAreEdges}
+use Rattle.counter_models.specs.Links.{is_entry, IsNoEntry, EndsDiffer, AreOrdered, AreBelow, AreInside, AreRooted, LinksAreEdges}
 use Rattle.counter_models.specs.Theory.{links_from}
-use Rattle.parity_models.proofs.CounterFits.{or_first, or_second}
+use Rattle.counter_models.proofs.CounterFits.{or_first, or_second}
 
 pub length-links : (h : Hedge) (k c : ℕ) → length (links_from h k c) ≡ c
 length-links h k zero = refl
@@ -40,7 +40,8 @@ module _ (g : MixedGraph) (x y : ℕ) (h : Hedge) (hedge : IsHedge g x y h) wher
   partner_low i pos il = let p = hedge.links.partners i pos il in rw (sym p.is) (entry_low p.place (let e = p.earlier in omega arith))
 
   pub apart_at : (i : ℕ) → 0 < i → i < h.links.count → found i ≡ partner i → ⊥
-  apart_at i pos il e = let p = hedge.links.partners i pos il in let q = distinct i p.place il (let l = p.earlier in omega arith) (e ∙ sym p.is) in let l = p.earlier in absurd (omega arith)
+  apart_at i pos il e = let p = hedge.links.partners i pos il in let q = distinct i p.place il (let l = p.earlier in omega arith) (e ∙ sym p.is) in let l =
+      p.earlier in absurd (omega arith)
 
   pub below : (k c : ℕ) → 0 < k → k + c ≤ h.links.count → AreBelow g.vertices (links_from h k c)
   below k zero pos le = tt
@@ -61,7 +62,10 @@ module _ (g : MixedGraph) (x y : ℕ) (h : Hedge) (hedge : IsHedge g x y h) wher
 
   no_entry : (v place k c : ℕ) → found place ≡ v → place < k → k + c ≤ h.links.count → IsNoEntry (links_from h k c) v
   no_entry v place k zero e lt le = tt
-  no_entry v place k (suc c) e lt le = ((λ q. let s = distinct place k (omega arith) (omega arith) (e ∙ q) in absurd (omega arith)), no_entry v place (suc k) c e (omega arith) (omega arith))
+  no_entry v place k (suc c) e lt le = (
+    (λ q. let s = distinct place k (omega arith) (omega arith) (e ∙ q) in absurd (omega arith)),
+    no_entry v place (suc k) c e (omega arith) (omega arith),
+  )
 
   pub ordered : (k c : ℕ) → 0 < k → k + c ≤ h.links.count → AreOrdered (links_from h k c)
   ordered k zero pos le = tt
@@ -81,6 +85,7 @@ module _ (g : MixedGraph) (x y : ℕ) (h : Hedge) (hedge : IsHedge g x y h) wher
   listed v place k zero e le lt = absurd (omega arith)
   listed v place k (suc c) e le lt = go (cases_lt k place) (λ l. listed v place (suc k) c e l (omega arith))
     where
-      go : (k < place) ⊎ (place ≤ k) → (suc k ≤ place → is_entry (links_from h (suc k) c) v ≡ true) → (eqb v (found k) || is_entry (links_from h (suc k) c) v) ≡ true
+      go : (k < place) ⊎ (place ≤ k) → (suc k ≤ place → is_entry (links_from h (suc k) c) v ≡ true) → (eqb v (found k) || is_entry (links_from h (suc k) c) v)
+          ≡ true
       go (inl l) ih = or_second (eqb v (found k)) (is_entry (links_from h (suc k) c) v) (ih l)
       go (inr ge) ih = or_first (eqb v (found k)) (is_entry (links_from h (suc k) c) v) (let q : place ≡ k = omega arith in rw (sym e, q) (eqb-refl (found k)))

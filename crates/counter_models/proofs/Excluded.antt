@@ -19,5 +19,6 @@ module _ (g : MixedGraph) (ok : IsMixedGraph g) (x y : ℕ) (pair : CounterPair)
   -- so no formula without interventions equals it
   pub no_formula : HasNoFormula g (record { x = x; y = y; given = 0 })
   no_formula =
-      difference_excludes_formula g ok (meaning g pair.first) (meaning g pair.second) models.first.fits models.second.fits models.first.positive models.second.positive
+      difference_excludes_formula g ok (meaning g pair.first) (meaning g pair.second)
+      models.first.fits models.second.fits models.first.positive models.second.positive
       models.observed (record { x = x; y = y; given = 0 }) differ_on

@@ -1,5 +1,6 @@
 -- The data of each of the two models is sound, and so means a model that fits the graph.
-use Rattle.std.proofs.Common.{ℕ, zero, suc, ◌-◌, ◌≡◌, ◌<◌, ◌≤◌, Bool, true, false, cond, ◌==◌, ◌&&◌, Option, Some, None, refl, sym, ap, ◌∙◌, List, [], ◌∷◌, length, slice_index, get_or, IsTrue, arith}
+use Rattle.std.proofs.Common.{ℕ, zero, suc, ◌-◌, ◌≡◌, ◌<◌, ◌≤◌, Bool, true, false, cond, ◌==◌, ◌&&◌, Option, Some, None, refl, sym, ap, ◌∙◌, List, []}
+use Rattle.std.proofs.Common.{◌∷◌, length, slice_index, get_or, IsTrue, arith}
 use Rattle.std.specs.Prelude.{IsSome}
 use Rattle.std.proofs.lemmas.Bool.{and_parts, and_from}
 use Rattle.std.proofs.lemmas.List.{get_or-map}
@@ -16,7 +17,7 @@ use Rattle.finite_models.specs.declared.model.Mechanism.TheVariants.{Table, Pari
 use Rattle.finite_models.proofs.DataFits.{data_fits}
 use Rattle.hedge.specs.Hedges.{IsHedge}
 use Rattle.hedge.specs.declared.hedge.Hedge.{Hedge}
-use Rattle.parity_models.specs.Hedges.{links_of}
+use Rattle.counter_models.specs.Hedges.{links_of}
 use Rattle.counter_models.specs.Kept.{free, CarriesTo}
 use Rattle.counter_models.specs.Pairs.{kept_cause, IsModelOf, IsMechanismOf, IsPartWhere, IsHedgePart, IsCarriedPart}
 use Rattle.counter_models.specs.Theory.{data_of, inner_entries}
@@ -47,7 +48,8 @@ some_part true P (Some p) e i = refl
 some_part true P None e i = absurd i
 some_part false P o e i = absurd (grind (arith, e))
 
-carried_reads : (g : MixedGraph) (m : Model) (v : ℕ) (b : Bool) (P : Part → Type 0) (a : Option Part) → ((p : Part) → b ≡ true → P p → MayRead g m v p × (IsTrue p.own_hedge → IsSome a)) → (o : Option Part) → IsPartWhere b P o → CarriedMayRead g m v a o
+carried_reads : (g : MixedGraph) (m : Model) (v : ℕ) (b : Bool) (P : Part → Type 0) (a : Option Part)
+    → ((p : Part) → b ≡ true → P p → MayRead g m v p × (IsTrue p.own_hedge → IsSome a)) → (o : Option Part) → IsPartWhere b P o → CarriedMayRead g m v a o
 carried_reads g m v true P a h (Some p) i = h p refl i
 carried_reads g m v true P a h None i = absurd i
 carried_reads g m v false P a h (Some p) i = absurd i
@@ -65,8 +67,10 @@ parts_size true false P Q (Some p) (Some q) i j = absurd j
 parts_size false true P Q None None i j = absurd j
 parts_size false false P Q None (Some q) i j = absurd j
 
-module _ (g : MixedGraph) (graph : IsMixedGraph g) (few : g.vertices ≤ 64) (x y : ℕ) (h : Hedge) (hedge : IsHedge g x y h) (kept : ℕ) (kept_low : (v : ℕ) → has kept v ≡ true → v < g.vertices) (carry : List ℕ)
-    (at_y : (v : ℕ) → v < 64 → has y v ≡ true → slice_index carry v ≡ 64) (carried : (v : ℕ) → has kept v ≡ true → has y v ≡ false → CarriesTo g x y v (slice_index carry v))
+module _ (g : MixedGraph) (graph : IsMixedGraph g) (few : g.vertices ≤ 64) (x y : ℕ) (h : Hedge) (hedge : IsHedge g x y h) (kept : ℕ)
+    (kept_low : (v : ℕ) → has kept v ≡ true → v < g.vertices) (carry : List ℕ)
+    (at_y : (v : ℕ) → v < 64 → has y v ≡ true → slice_index carry v ≡ 64)
+    (carried : (v : ℕ) → has kept v ≡ true → has y v ≡ false → CarriesTo g x y v (slice_index carry v))
     (links_is : links_of (data_of y h kept carry) ≡ h.links.count - 1) (some : 1 ≤ inner_entries h)
     (sources : ℕ → ℕ) (inside : (v k : ℕ) → has (sources v) k ≡ true → has h.big.bits k ≡ true) (m : Model) (is : IsModelOf g h kept carry sources m) where
   two : (j : ℕ) → j < length m.causes.items → length (weights_of m.causes.items j) ≡ 2
@@ -79,11 +83,13 @@ module _ (g : MixedGraph) (graph : IsMixedGraph g) (few : g.vertices ≤ 64) (x 
   carrieds k lt = get_or-map carries m.mechanisms.items k (Parity None None) false (let l = is.all_mechanisms in omega arith)
       ∙ carried_is h kept carry (sources k) k (get_or m.mechanisms.items k (Parity None None)) (is.mechanisms k lt (Parity None None))
 
-  carried_part_reads : (v : ℕ) → v < g.vertices → (a : Option Part) → IsPartWhere (has h.big.bits v) (IsHedgePart h (sources v) v) a → (p : Part) → has kept v ≡ true → IsCarriedPart h kept carry v p → MayRead g m v p × (IsTrue p.own_hedge → IsSome a)
+  carried_part_reads : (v : ℕ) → v < g.vertices → (a : Option Part) → IsPartWhere (has h.big.bits v) (IsHedgePart h (sources v) v) a → (p : Part) → has kept v
+      ≡ true → IsCarriedPart h kept carry v p → MayRead g m v p × (IsTrue p.own_hedge → IsSome a)
   carried_part_reads v vlt a there p kv part = (
     record {
       hedges = λ k i. absurd (let o = part.hedges k in grind (arith, i, o));
-      carrieds = λ k i. let t = and_parts (has kept k) (slice_index carry k == v) (sym (part.carrieds k) ∙ i) in came k t.0 (test_same (slice_index carry k) v t.1) (has y k) refl;
+      carrieds = λ k i. let t = and_parts (has kept k) (slice_index carry k == v) (sym (part.carrieds k) ∙ i) in
+          came k t.0 (test_same (slice_index carry k) v t.1) (has y k) refl;
       causes = λ i lt. rw part.causes (one i (rw part.causes at lt));
     },
     λ o. some_part (has h.big.bits v) (IsHedgePart h (sources v) v) a (hedge.sets.small_inside v (hedge.sets.roots_inside v (sym part.own ∙ o))) there,
@@ -92,7 +98,8 @@ module _ (g : MixedGraph) (graph : IsMixedGraph g) (few : g.vertices ≤ 64) (x 
       came : (k : ℕ) → has kept k ≡ true → slice_index carry k ≡ v → (b : Bool) → has y k ≡ b → (g.arrow k v && has_carried m.mechanisms.items k) ≡ true
       came k kk e true q = absurd (let l = kept_low k kk in let z = at_y k (omega arith) q in omega arith)
       came k kk e false q = let c = carried k kk q in and_from (g.arrow k v) (has_carried m.mechanisms.items k)
-          (sym (ap (g.arrow k) e) ∙ (and_parts (g.arrow k (slice_index carry k)) (free g x k && free g x (slice_index carry k)) c.arrow).0) (carrieds k (kept_low k kk) ∙ kk)
+          (sym (ap (g.arrow k) e) ∙ (and_parts (g.arrow k (slice_index carry k)) (free g x k && free g x (slice_index carry k)) c.arrow).0)
+          (carrieds k (kept_low k kk) ∙ kk)
 
       cause : IsBitCause m v (kept_cause h kept v)
       cause = let l = before-less kept v 64 kv (omega arith) in let n = is.causes.count in
@@ -105,13 +112,15 @@ module _ (g : MixedGraph) (graph : IsMixedGraph g) (few : g.vertices ≤ 64) (x 
   inputs_of : (v : ℕ) → v < g.vertices → (k : Mechanism) → IsMechanismOf h kept carry (sources v) v k → HasInputs g m v k
   inputs_of v lt (Table outputs) i = absurd i
   inputs_of v lt (Parity a b) i = (
-    hedge_reads g m v (has h.big.bits v) (IsHedgePart h (sources v) v) (hedge_part_reads g few x y h hedge kept m is.causes two hedges v lt (sources v) (inside v)) a i.0,
+    hedge_reads g m v (has h.big.bits v) (IsHedgePart h (sources v) v)
+        (hedge_part_reads g few x y h hedge kept m is.causes two hedges v lt (sources v) (inside v)) a i.0,
     carried_reads g m v (has kept v) (IsCarriedPart h kept carry v) a (carried_part_reads v lt a i.0) b i.1,
   )
 
   values_of : (v : ℕ) → v < g.vertices → (k : Mechanism) → IsMechanismOf h kept carry (sources v) v k → HasValues (slice_index m.sizes.items v) k
   values_of v lt (Table outputs) i = absurd i
-  values_of v lt (Parity a b) i = is.sizes v lt ∙ parts_size (has h.big.bits v) (has kept v) (IsHedgePart h (sources v) v) (IsCarriedPart h kept carry v) a b i.0 i.1
+  values_of v lt (Parity a b) i = is.sizes v lt ∙ parts_size (has h.big.bits v) (has kept v) (IsHedgePart h (sources v) v) (IsCarriedPart h kept carry v)
+      a b i.0 i.1
 
   pub sound : IsSoundModel g m
   sound = record {

@@ -9,7 +9,15 @@ use Rattle.finite_models.proofs.Packed.{has-mask}
 
 -- the vector of these items
 abbrev pub vec_of : {X : Type 0} → (xs : List X) → length xs < 2 ^ 63 → Vec X
-vec_of xs few = record { ptr = null_ptr; len = length xs; cap = length xs; alloc = record { memory = record { seal = tt } }; items = xs; ok = (refl, omega arith); small = few }
+vec_of xs few = record {
+  ptr = null_ptr;
+  len = length xs;
+  cap = length xs;
+  alloc = record { memory = record { seal = tt } };
+  items = xs;
+  ok = (refl, omega arith);
+  small = few;
+}
 
 -- the set of the vertices that pass a test
 abbrev pub set_of : (ℕ → Bool) → VSet

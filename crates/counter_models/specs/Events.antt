@@ -10,7 +10,7 @@ use Rattle.finite_models.specs.Faults.{IsSoundModel}
 use Rattle.finite_models.specs.declared.model.Model.{Model}
 use Rattle.finite_models.specs.Agreement.{AgreeObserved}
 use Rattle.finite_models.specs.Served.{ServesTwo}
-use Rattle.parity_models.specs.Laws.{DifferAt, DifferAtEach}
+use Rattle.counter_models.specs.ParityLaws.{DifferAt, DifferAtEach}
 use Rattle.hedge.specs.Hedges.{IsHedge}
 use Rattle.hedge.specs.declared.hedge.Hedge.{Hedge}
 use Rattle.counter_models.specs.Pairs.{IsPairOf}
@@ -31,7 +31,9 @@ pub record IsProperModel (g : MixedGraph) (m : Model) : Type 0 where
   pub fits : Fits g (meaning g m)
   pub positive : IsPositiveModel (meaning g m)
 
--- both are proper models of the graph that agree on all observations; at every value of x the event has under do(x) the probability 1 / 2 in the first and 1 / 2 + 1 / 2 ^ (noise + 1) in the second; so the effects of x on y differ, under every value of x; each cause of either serves two vertices at most
+-- both are proper models of the graph that agree on all observations; at every value of x the event has under do(x) the probability 1 / 2 in the
+-- first and 1 / 2 + 1 / 2 ^ (noise + 1) in the second; so the effects of x on y differ, under every value of x; each cause of either serves two
+-- vertices at most
 pub record AreCounterModels (g : MixedGraph) (x y : ℕ) (pair : CounterPair) : Type 0 where
   pub first : IsProperModel g pair.first
   pub second : IsProperModel g pair.second
@@ -46,7 +48,8 @@ pub record AreCounterModels (g : MixedGraph) (x y : ℕ) (pair : CounterPair) : 
 
 -- the two models of a hedge show that the effect isn't identifiable
 abbrev pub PairsAreCounterModels : Type 0
-PairsAreCounterModels = (g : MixedGraph) → IsMixedGraph g → g.vertices ≤ 64 → (x y : ℕ) (h : Hedge) → IsHedge g x y h → Apart (has x) (has y) → (pair : CounterPair) → IsPairOf g x y h pair → AreCounterModels g x y pair
+PairsAreCounterModels = (g : MixedGraph) → IsMixedGraph g → g.vertices ≤ 64 → (x y : ℕ) (h : Hedge) → IsHedge g x y h → Apart (has x) (has y)
+    → (pair : CounterPair) → IsPairOf g x y h pair → AreCounterModels g x y pair
 
 -- each hedge has two such models, whether or not anybody builds them
 abbrev pub HedgesHavePairs : Type 0

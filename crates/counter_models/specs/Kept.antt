@@ -2,7 +2,7 @@
 use Rattle.std.specs.Prelude.{◌≡◌, ℕ, ◌<◌, ◌⊎◌, Bool, false, not, ◌&&◌, nat_lt, List, IsTrue, slice_index}
 use Rattle.mixed_graph.specs.Bits.{has}
 use Rattle.mixed_graph.specs.Graphs.{MixedGraph, induced}
-use Rattle.districts.specs.Nearest.{IsNearestChild}
+use Rattle.hedge.specs.Nearest.{IsNearestChild}
 
 -- the vertices outside x
 abbrev pub free : MixedGraph → ℕ → ℕ → Bool
@@ -13,14 +13,14 @@ abbrev pub CarriesTo : MixedGraph → (x y u c : ℕ) → Type 0
 CarriesTo g x y u c = IsNearestChild (induced g (free g x)) (has y) u c
 
 -- v is a root, or a kept vertex outside y carries to it
-pub data IsKept (g : MixedGraph) (x y roots : ℕ) : ℕ → Type 0 where
-  root : {v : ℕ} → IsTrue (has roots v) → IsKept g x y roots v
-  next : {u v : ℕ} → IsKept g x y roots u → has y u ≡ false → CarriesTo g x y u v → IsKept g x y roots v
+pub data IsCarrier (g : MixedGraph) (x y roots : ℕ) : ℕ → Type 0 where
+  root : {v : ℕ} → IsTrue (has roots v) → IsCarrier g x y roots v
+  next : {u v : ℕ} → IsCarrier g x y roots u → has y u ≡ false → CarriesTo g x y u v → IsCarrier g x y roots v
 
 -- the mask holds the kept vertices, and the list has for each of them outside y the child to which it carries, and 64 for all others
-pub record AreKept (g : MixedGraph) (x y roots kept : ℕ) (carry : List ℕ) : Type 0 where
-  pub sound : (v : ℕ) → IsTrue (has kept v) → IsKept g x y roots v
-  pub complete : (v : ℕ) → IsKept g x y roots v → IsTrue (has kept v)
+pub record AreCarriers (g : MixedGraph) (x y roots kept : ℕ) (carry : List ℕ) : Type 0 where
+  pub sound : (v : ℕ) → IsTrue (has kept v) → IsCarrier g x y roots v
+  pub complete : (v : ℕ) → IsCarrier g x y roots v → IsTrue (has kept v)
   pub carries : (v : ℕ) → IsTrue (has kept v) → has y v ≡ false → CarriesTo g x y v (slice_index carry v)
   pub others : (v : ℕ) → v < 64 → (has kept v ≡ false) ⊎ IsTrue (has y v) → slice_index carry v ≡ 64
 

@@ -3,3 +3,9 @@ pub mod Experiments
 pub mod Kept
 pub mod Pairs
 pub mod Theory
+pub mod ParityExperiments
+pub mod Hedges
+pub mod ParityLaws
+pub mod Links
+pub mod ParityPairs
+pub mod Parities

@@ -1,5 +1,6 @@
 -- The two models that a hedge gives, as data.
-use Rattle.std.specs.Prelude.{◌≡◌, ℕ, suc, ◌+◌, ◌-◌, ◌<◌, Bool, true, false, if◌then◌else◌, ◌==◌, ◌&&◌, ◌||◌, Option, Some, None, List, [], ◌∷◌, ◌++◌, IsTrue, length, get_or, slice_index}
+use Rattle.std.specs.Prelude.{◌≡◌, ℕ, suc, ◌+◌, ◌-◌, ◌<◌, Bool, true, false, if◌then◌else◌, ◌==◌, ◌&&◌, ◌||◌, Option, Some, None, List, [], ◌∷◌, ◌++◌}
+use Rattle.std.specs.Prelude.{IsTrue, length, get_or, slice_index}
 use Rattle.mixed_graph.specs.Bits.{has, members_below}
 use Rattle.mixed_graph.specs.Graphs.{MixedGraph}
 use Rattle.finite_models.specs.Data.{weights_of, children_of}
@@ -10,7 +11,7 @@ use Rattle.finite_models.specs.declared.model.Mechanism.{Mechanism}
 use Rattle.finite_models.specs.declared.model.Mechanism.TheVariants.{Table, Parity}
 use Rattle.hedge.specs.Hedges.{size_of}
 use Rattle.hedge.specs.declared.hedge.Hedge.{Hedge}
-use Rattle.counter_models.specs.Kept.{AreKept}
+use Rattle.counter_models.specs.Kept.{AreCarriers}
 use Rattle.counter_models.specs.declared.counter_pair.CounterPair.{CounterPair}
 
 -- ---- causes: one of each link in found order, one of each member of small, one of each kept vertex
@@ -19,8 +20,8 @@ abbrev pub links_of : Hedge → ℕ
 links_of h = h.links.count - 1
 
 -- link j is that of entry j + 1: whether it has the end v
-abbrev pub joins : Hedge → ℕ → ℕ → Bool
-joins h j v = (v == slice_index h.links.found (suc j)) || (v == slice_index h.links.partner (suc j))
+abbrev pub is_linked : Hedge → ℕ → ℕ → Bool
+is_linked h j v = (v == slice_index h.links.found (suc j)) || (v == slice_index h.links.partner (suc j))
 
 -- entries are below 64, and so are the partners of all after the first
 pub record HasLowLinks (h : Hedge) : Type 0 where
@@ -47,14 +48,14 @@ pub record IsCauseAt (causes : List Cause) (j : ℕ) (weights : List ℕ) (child
 -- links have the weights 1 1, the others 3 1
 pub record AreCauses (h : Hedge) (kept : ℕ) (causes : List Cause) : Type 0 where
   pub count : length causes ≡ links_of h + size_of h.small.bits + size_of kept
-  pub links : (j : ℕ) → j < links_of h → IsCauseAt causes j (1 ∷ 1 ∷ []) (joins h j)
+  pub links : (j : ℕ) → j < links_of h → IsCauseAt causes j (1 ∷ 1 ∷ []) (is_linked h j)
   pub small : (v : ℕ) → IsTrue (has h.small.bits v) → IsCauseAt causes (small_cause h v) (3 ∷ 1 ∷ []) (λ u. u == v)
   pub kept_ones : (v : ℕ) → IsTrue (has kept v) → IsCauseAt causes (kept_cause h kept v) (3 ∷ 1 ∷ []) (λ u. u == v)
 
 -- ---- bits
 -- the causes of the links of entries in s that have the end v
 abbrev pub link_causes : Hedge → (s v : ℕ) → List ℕ
-link_causes h s v = members_below (λ j. joins h j v && has s (slice_index h.links.found (suc j))) (links_of h)
+link_causes h s v = members_below (λ j. is_linked h j v && has s (slice_index h.links.found (suc j))) (links_of h)
 
 -- the hedge bit of v: the members of s that chose v, the links of entries in s at v, and the cause of v in small
 pub record IsHedgePart (h : Hedge) (s v : ℕ) (p : Part) : Type 0 where
@@ -106,7 +107,7 @@ in_second h v = if has h.small.bits v then h.small.bits else h.big.bits
 -- the two models of a hedge for the effect of x on y
 pub record IsPairOf (g : MixedGraph) (x y : ℕ) (h : Hedge) (pair : CounterPair) : Type 0 where
   pub kept : ℕ
-  pub are_kept : AreKept g x y h.roots.bits kept pair.carry.next
+  pub are_kept : AreCarriers g x y h.roots.bits kept pair.carry.next
   pub first : IsModelOf g h kept pair.carry.next (in_first h) pair.first
   pub second : IsModelOf g h kept pair.carry.next (in_second h) pair.second
   pub event : (v : ℕ) → has pair.event.bits v ≡ (has kept v && has y v)

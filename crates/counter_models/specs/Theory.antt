@@ -5,9 +5,9 @@ use Rattle.mixed_graph.specs.Sets.{Apart}
 use Rattle.mixed_graph.specs.Graphs.{MixedGraph, IsMixedGraph}
 use Rattle.hedge.specs.Hedges.{size_of, IsHedge}
 use Rattle.hedge.specs.declared.hedge.Hedge.{Hedge}
-use Rattle.parity_models.specs.Links.{Link}
-use Rattle.parity_models.specs.Hedges.{ParityHedge, IsWholeHedge}
-use Rattle.counter_models.specs.Kept.{AreKept}
+use Rattle.counter_models.specs.Links.{Link}
+use Rattle.counter_models.specs.Hedges.{ParityHedge, IsWholeHedge}
+use Rattle.counter_models.specs.Kept.{AreCarriers}
 use Rattle.counter_models.specs.Pairs.{links_of, small_cause, kept_cause}
 
 -- the links of `count` entries from the one at place k
@@ -46,5 +46,6 @@ data_of y h kept carry = record {
 
 -- it keeps all that the two models need
 abbrev pub HedgeIsWhole : Type 0
-HedgeIsWhole = (g : MixedGraph) → IsMixedGraph g → g.vertices ≤ 64 → (x y : ℕ) (h : Hedge) → IsHedge g x y h → Apart (has x) (has y) → (kept : ℕ) (carry : List ℕ) → AreKept g x y h.roots.bits kept carry
+HedgeIsWhole = (g : MixedGraph) → IsMixedGraph g → g.vertices ≤ 64 → (x y : ℕ) (h : Hedge) → IsHedge g x y h → Apart (has x) (has y)
+    → (kept : ℕ) (carry : List ℕ) → AreCarriers g x y h.roots.bits kept carry
     → IsWholeHedge g (has x) (data_of y h kept carry)

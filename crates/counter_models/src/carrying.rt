@@ -1,10 +1,12 @@
+//! The vertices that carry the event's parity to y.
+
 ghost use Rattle.std.specs.Prelude.{◌≡◌, ℕ, ◌<◌, ◌&&◌, ◌==◌, cond, nat_lt, IsTrue, slice_index};
 ghost use Rattle.mixed_graph.specs.Bits.{has};
 ghost use Rattle.mixed_graph.specs.Sets.{Within};
 ghost use Rattle.mixed_graph.specs.Shown.{graph_of};
-ghost use Rattle.districts.specs.Linked.{IsSetOf};
+ghost use Rattle.hedge.specs.Linked.{IsSetOf};
 ghost use Rattle.hedge.specs.Hedges.{Reaches};
-ghost use Rattle.counter_models.specs.Kept.{AreKept, IsChosenFrom};
+ghost use Rattle.counter_models.specs.Kept.{AreCarriers, IsChosenFrom};
 
 use hedge::{Choice, child_choice};
 use mixed_graph::{Graph, VSet};
@@ -54,7 +56,7 @@ fn choices_of(choice: &Choice, set: VSet) -> Choice
 /// The vertices that carry the roots' bits to y outside x.
 pub fn carry_toward(g: &Graph, x: VSet, y: VSet, roots: VSet) -> Carrying
     requires roots { (v : ℕ) → IsTrue (has roots.bits v) → Reaches (graph_of g.now) x.bits y.bits v }
-    ensures { AreKept (graph_of g.now) x.bits y.bits roots.bits result.kept.bits result.carry.next }
+    ensures { AreCarriers (graph_of g.now) x.bits y.bits roots.bits result.kept.bits result.carry.next }
 {
     let free = VSet::below(g.n).difference(x);
     let choice = child_choice(g, free, y);

@@ -1,9 +1,11 @@
+//! The hidden causes of both models.
+
 ghost use Rattle.std.specs.Prelude.{◌≡◌, ℕ, ◌+◌, ◌<◌, ◌==◌, [], ◌∷◌, IsTrue, IfOk, OnOk, length};
 ghost use Rattle.mixed_graph.specs.Bits.{has};
 ghost use Rattle.mixed_graph.specs.Sets.{Within};
 ghost use Rattle.hedge.specs.Hedges.{size_of};
 ghost use Rattle.finite_models.specs.Data.{weights_of, children_of};
-ghost use Rattle.counter_models.specs.Pairs.{links_of, joins, before, HasLowLinks, IsCauseAt, AreCauses};
+ghost use Rattle.counter_models.specs.Pairs.{links_of, is_linked, before, HasLowLinks, IsCauseAt, AreCauses};
 
 use finite_models::Cause;
 use hedge::Hedge;
@@ -21,7 +23,7 @@ pub fn count_links(h: &Hedge) -> u32
 fn link_causes(alloc: Global, h: &Hedge) -> Result<Vec<Cause>, AllocError>
     requires { HasLowLinks h.now }
     ensures count { IfOk result (λ v. length v.items ≡ links_of h.now) }
-    ensures links { IfOk result (λ v. (j : ℕ) → j < links_of h.now → IsCauseAt v.items j (1 ∷ 1 ∷ []) (joins h.now j)) }
+    ensures links { IfOk result (λ v. (j : ℕ) → j < links_of h.now → IsCauseAt v.items j (1 ∷ 1 ∷ []) (is_linked h.now j)) }
 {
     let mut causes = Vec::new(alloc);
     for j in 0..count_links(h) as usize {

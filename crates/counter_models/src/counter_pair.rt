@@ -1,3 +1,5 @@
+//! The two models as a value.
+
 use finite_models::Model;
 use hedge::Choice;
 use mixed_graph::VSet;

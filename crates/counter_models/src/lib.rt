@@ -8,6 +8,7 @@ mod causes;
 mod counter_pair;
 mod mechanisms;
 mod pairs;
+pub mod parity;
 mod parts;
 mod theory;
 

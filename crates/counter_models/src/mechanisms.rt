@@ -1,3 +1,5 @@
+//! The mechanisms of both models.
+
 ghost use Rattle.std.specs.Prelude.{◌≡◌, ℕ, ◌<◌, ◌≤◌, IfOk, length, get_or, slice_index};
 ghost use Rattle.mixed_graph.specs.Bits.{has};
 ghost use Rattle.finite_models.specs.declared.model.Mechanism.{Mechanism};

@@ -1,6 +1,8 @@
+//! What the mechanism of one vertex reads.
+
 ghost use Rattle.std.specs.Prelude.{◌≡◌, ℕ, suc, ◌<◌, ◌&&◌, ◌==◌, IsTrue, IfOk, slice_index};
 ghost use Rattle.mixed_graph.specs.Bits.{has};
-ghost use Rattle.counter_models.specs.Pairs.{HasLowLinks, links_of, joins, before, small_cause, kept_cause, link_causes, IsHedgePart, IsCarriedPart};
+ghost use Rattle.counter_models.specs.Pairs.{HasLowLinks, links_of, is_linked, before, small_cause, kept_cause, link_causes, IsHedgePart, IsCarriedPart};
 
 use crate::carrying::Carrying;
 use crate::causes::count_links;
@@ -49,7 +51,7 @@ fn kept_cause_of(h: &Hedge, kept: VSet, v: u8) -> u32
 fn is_link_at(h: &Hedge, s: VSet, v: u8, j: usize) -> bool
     requires low { HasLowLinks h.now }
     requires link { j < links_of h.now }
-    ensures { result ≡ (joins h.now j v && has s.bits (slice_index h.now.links.found (suc j))) }
+    ensures { result ≡ (is_linked h.now j v && has s.bits (slice_index h.now.links.found (suc j))) }
 {
     let entry = h.links.found[j + 1];
     let partner = h.links.partner[j + 1];

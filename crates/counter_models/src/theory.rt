@@ -1,3 +1,5 @@
+//! What the two models of a hedge show (Shpitser and Pearl).
+
 ghost use Rattle.counter_models.specs.Experiments.{PairsAgreeUnder};
 ghost use Rattle.counter_models.specs.Theory.{HedgeIsWhole};
 ghost use Rattle.counter_models.specs.Events.{PairsAreCounterModels, HedgesHavePairs};

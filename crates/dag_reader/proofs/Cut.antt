@@ -1,5 +1,6 @@
 -- The tokens of a written graph.
-use Rattle.std.proofs.Common.{◌≡◌, ◌<◌, ◌+◌, ℕ, true, false, List, [], ◌∷◌, ◌++◌, length, drop, Option, Some, None, refl, sym, ap, subst, ◌∙◌, append_assoc, one-add}
+use Rattle.std.proofs.Common.{◌≡◌, ◌<◌, ◌+◌, ℕ, true, false, List, [], ◌∷◌, ◌++◌, length, drop, Option, Some, None, refl, sym, ap, subst, ◌∙◌}
+use Rattle.std.proofs.Common.{append_assoc, one-add}
 use Rattle.std.specs.Prelude.{cond, codes, not, All}
 use Rattle.std.proofs.lemmas.List.Elements.{All-head, All-tail}
 use Rattle.std.specs.List.{prefix_len}
@@ -7,12 +8,12 @@ use Rattle.dag_reader.specs.declared.marks.Arrow.{Arrow}
 use Rattle.dag_reader.specs.declared.marks.Arrow.TheVariants.{Right, Both}
 use Rattle.dag_reader.specs.declared.marks.Role.{Role}
 use Rattle.dag_reader.specs.declared.marks.Role.TheVariants.{Exposure, Outcome, Adjusted, Latent}
-use Rattle.name_text.specs.Printing.{is_white, is_name_byte}
+use Rattle.answer_text.specs.Printing.{is_white, is_name_byte}
 use Rattle.dag_reader.specs.declared.tokens.Due.{Due}
 use Rattle.dag_reader.specs.declared.tokens.Due.TheVariants as dues
 use Rattle.dag_reader.specs.Tokens.{Tok, open_brace, close_brace, open_bracket, close_bracket, edge, name, end, first, token_of, due_behind, place_of}
 use Rattle.mixed_graph.specs.Names.{IsName}
-use Rattle.name_text.specs.Printing.{is_plain, printed}
+use Rattle.answer_text.specs.Printing.{is_plain, printed}
 use Rattle.dag_reader.specs.Reading.{AreFirst}
 use Rattle.dag_reader.specs.Spelled.{Spelled, kinds}
 use Rattle.dag_reader.specs.Syntax.{Word, single, bare, Attrs, attr_list, Statement, vertex, chain, Text, body_tokens, attrs_tokens, text_tokens, word_token}
@@ -64,7 +65,8 @@ drawn_text d = record { title = None; statements = vertices d.names d.roles (joi
 
 -- ---- cut from the lines
 
-name_cut : (n : List ℕ) (ts : List Tok) (rest : List ℕ) → IsName n → Stops is_name_byte rest → Cut ts rest → Cut (word_token (word_of n) ∷ ts) (printed n ++ rest)
+name_cut : (n : List ℕ) (ts : List Tok) (rest : List ℕ) → IsName n → Stops is_name_byte rest → Cut ts rest
+    → Cut (word_token (word_of n) ∷ ts) (printed n ++ rest)
 name_cut n ts rest form stops c = (rest, refl, printed_first n rest form stops, c)
 
 bracket_cut : (n : List ℕ) (ts : List Tok) (rest : List ℕ) → first dues.Token (n ++ 93 ∷ rest) ≡ (name false n, 93 ∷ rest) → Cut ts rest
@@ -130,7 +132,8 @@ edges_cut a sign is names (e ∷ es) xs rest form within c =
     ∙ sym (append_assoc (printed m) (sign ++ (printed n ++ 10 ∷ lines)) rest))
     (name_cut m (edge a ∷ word_token (word_of n) ∷ more) (sign ++ (printed n ++ 10 ∷ (lines ++ rest))) m_form (is.stops (printed n ++ 10 ∷ (lines ++ rest)))
     (is.cuts n (word_token (word_of n) ∷ more) (10 ∷ (lines ++ rest)) n_form
-    (name_cut n more (10 ∷ (lines ++ rest)) n_form refl (spaced 10 more (lines ++ rest) refl (edges_cut a sign is names es xs rest form (All-tail (λ (p : ℕ × ℕ). (p.0 < length names) × (p.1 < length names)) e es within) c)))))
+    (name_cut n more (10 ∷ (lines ++ rest)) n_form refl (spaced 10 more (lines ++ rest) refl
+    (edges_cut a sign is names es xs rest form (All-tail (λ (p : ℕ × ℕ). (p.0 < length names) × (p.1 < length names)) e es within) c)))))
 
 right_sign : Sign Right (codes " -> ")
 right_sign = record {

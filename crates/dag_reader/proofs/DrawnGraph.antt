@@ -1,11 +1,12 @@
 -- What a written graph says gives that graph.
-use Rattle.std.proofs.Common.{◌≡◌, ◌≢◌, ◌≤◌, ◌<◌, ◌+◌, ◌-◌, ℕ, zero, suc, Bool, true, false, List, [], ◌∷◌, ◌++◌, map, length, get_or, Option, Some, None, inl, inr, refl, sym, ap, subst, ◌∙◌, arith, append-nil, IsTrue}
+use Rattle.std.proofs.Common.{◌≡◌, ◌≢◌, ◌≤◌, ◌<◌, ◌+◌, ◌-◌, ℕ, zero, suc, Bool, true, false, List, [], ◌∷◌, ◌++◌, map, length, get_or, Option, Some}
+use Rattle.std.proofs.Common.{None, inl, inr, refl, sym, ap, subst, ◌∙◌, arith, append-nil, IsTrue}
 use Rattle.std.specs.Prelude.{cond, ◌==◌, ◌||◌, ◌&&◌, nat_lt, find, All}
 use Rattle.std.proofs.lemmas.Bool.{and_parts, eq-eqb, ne_eqb, lt-ltb, cases_eq, cases_lt, cases_Bool, cases_order}
 use Rattle.std.proofs.lemmas.List.{get_or_append_left, get_or_past, map-append}
 use Rattle.mixed_graph.specs.Bits.{has}
 use Rattle.mixed_graph.specs.Graphs.{MixedGraph, IsMixedGraph, IsDirectedPath, IsAcyclic}
-use Rattle.mixed_graph.specs.Pairs.{joins, IsCycle}
+use Rattle.mixed_graph.specs.Pairs.{has_pair, IsCycle}
 use Rattle.mixed_graph.specs.Shown.{graph_of}
 use Rattle.mixed_graph.specs.Built.{IsGraphOf}
 use Rattle.dag_reader.specs.declared.marks.Arrow.{Arrow}
@@ -29,8 +30,10 @@ pub drawn_is : (g : ReadGraph) → IsDrawn (drawn_of g)
 drawn_is g = record {
   names = g.named;
   roles = length-listed (role_at g) g.graph.n ∙ sym g.sized;
-  arrows = subst (λ (n : ℕ). All (λ (p : ℕ × ℕ). (p.0 < n) × (p.1 < n)) (drawn_of g).arrows) (sym g.sized) (pairs_below-ends g.graph.n (graph_of g.graph).arrow);
-  doubles = subst (λ (n : ℕ). All (λ (p : ℕ × ℕ). (p.0 < n) × (p.1 < n)) (drawn_of g).doubles) (sym g.sized) (pairs_below-ends g.graph.n (λ a b. (graph_of g.graph).both a b && nat_lt a b));
+  arrows = subst (λ (n : ℕ). All (λ (p : ℕ × ℕ). (p.0 < n) × (p.1 < n)) (drawn_of g).arrows) (sym g.sized)
+      (pairs_below-ends g.graph.n (graph_of g.graph).arrow);
+  doubles = subst (λ (n : ℕ). All (λ (p : ℕ × ℕ). (p.0 < n) × (p.1 < n)) (drawn_of g).doubles) (sym g.sized)
+      (pairs_below-ends g.graph.n (λ a b. (graph_of g.graph).both a b && nat_lt a b));
 }
 
 -- ---- edges
@@ -44,13 +47,13 @@ both_below x y n false h k = none (nat_lt x n) (nat_lt y n)
     none true false = refl
     none false q = refl
 
-arrow_drawn : (g : MixedGraph) → IsMixedGraph g → (a b : ℕ) → joins (pairs_below g.vertices g.arrow) a b ≡ g.arrow a b
+arrow_drawn : (g : MixedGraph) → IsMixedGraph g → (a b : ℕ) → has_pair (pairs_below g.vertices g.arrow) a b ≡ g.arrow a b
 arrow_drawn g is a b = pairs_below-joins g.vertices g.arrow a b ∙ both_below a b g.vertices (g.arrow a b) (λ t. is.tail_below a b t) (λ t. is.head_below a b t)
 
 upper : MixedGraph → ℕ → ℕ → Bool
 upper g a b = g.both a b && nat_lt a b
 
-upper_drawn : (g : MixedGraph) → IsMixedGraph g → (a b : ℕ) → joins (pairs_below g.vertices (λ x y. g.both x y && nat_lt x y)) a b ≡ (g.both a b && nat_lt a b)
+upper_drawn : (g : MixedGraph) → IsMixedGraph g → (a b : ℕ) → has_pair (pairs_below g.vertices (λ x y. g.both x y && nat_lt x y)) a b ≡ (g.both a b && nat_lt a b)
 upper_drawn g is a b =
     pairs_below-joins g.vertices (λ x y. g.both x y && nat_lt x y) a b
     ∙ both_below a b g.vertices (g.both a b && nat_lt a b)
@@ -64,28 +67,32 @@ one_way g is a b = elim (cases_Bool (g.both a b)) [
     | inr (inl below) ↦ rw (t, lt-ltb a b below) refl
     | inr (inr above) ↦ rw (t, back, lt-ltb b a above) (or_true (nat_lt a b))
   ])
-  | inr f ↦ (let back : g.both b a ≡ false = elim (cases_Bool (g.both b a)) [ inl t ↦ absurd (let h = is.symmetric b a t in cc) | inr e ↦ e ] in rw (f, back) refl)
+  | inr f ↦ (let back : g.both b a ≡ false = elim (cases_Bool (g.both b a)) [ inl t ↦ absurd (let h = is.symmetric b a t in cc) | inr e ↦ e ] in
+      rw (f, back) refl)
 ]
   where
     or_true : (x : Bool) → (x || true) ≡ true
     or_true true = refl
     or_true false = refl
 
-graph_drawn : (g : ReadGraph) → IsGraphOf (length g.names) (arrows_of (drawn_says (drawn_of g)).marks) (doubles_of (drawn_says (drawn_of g)).marks) (graph_of g.graph)
+graph_drawn : (g : ReadGraph) → IsGraphOf (length g.names) (arrows_of (drawn_says (drawn_of g)).marks) (doubles_of (drawn_says (drawn_of g)).marks)
+    (graph_of g.graph)
 graph_drawn g = record {
   size = sym g.sized;
-  arrows = λ a b. sym (ap (λ (l : List (ℕ × ℕ)). joins l a b) (drawn_arrows (drawn_of g)) ∙ arrow_drawn (graph_of g.graph) g.graph.valid a b);
-  spouses = λ a b. sym (ap (λ (l : List (ℕ × ℕ)). joins l a b || joins l b a) (drawn_doubles (drawn_of g))
+  arrows = λ a b. sym (ap (λ (l : List (ℕ × ℕ)). has_pair l a b) (drawn_arrows (drawn_of g)) ∙ arrow_drawn (graph_of g.graph) g.graph.valid a b);
+  spouses = λ a b. sym (ap (λ (l : List (ℕ × ℕ)). has_pair l a b || has_pair l b a) (drawn_doubles (drawn_of g))
       ∙ rw (upper_drawn (graph_of g.graph) g.graph.valid a b, upper_drawn (graph_of g.graph) g.graph.valid b a) (one_way (graph_of g.graph) g.graph.valid a b));
 }
 
 -- ---- no self-loop
 
-no_self_loop : (a : Arrow) (ps : List (ℕ × ℕ)) (more : List Edge) → ((v : ℕ) → joins ps v v ≡ false) → find is_self_loop (as_edges a ps ++ more) ≡ find is_self_loop more
+no_self_loop : (a : Arrow) (ps : List (ℕ × ℕ)) (more : List Edge) → ((v : ℕ) → has_pair ps v v ≡ false) → find is_self_loop (as_edges a ps ++ more)
+    ≡ find is_self_loop more
 no_self_loop a [] more h = refl
 no_self_loop a (p ∷ ps) more h = elim (cases_Bool (p.0 == p.1)) [
-  | inl t ↦ absurd (let there = h p.0 in let here : ((p.0 == p.0) && (p.0 == p.1)) ≡ true = rw (eq-eqb p.0 p.0 refl, t) refl in joined ((p.0 == p.0) && (p.0 == p.1)) (joins ps p.0 p.0) here there)
-  | inr f ↦ rw f (no_self_loop a ps more (λ v. later ((v == p.0) && (v == p.1)) (joins ps v v) (h v)))
+  | inl t ↦ absurd (let there = h p.0 in let here : ((p.0 == p.0) && (p.0 == p.1)) ≡ true = rw (eq-eqb p.0 p.0 refl, t) refl in
+      joined ((p.0 == p.0) && (p.0 == p.1)) (has_pair ps p.0 p.0) here there)
+  | inr f ↦ rw f (no_self_loop a ps more (λ v. later ((v == p.0) && (v == p.1)) (has_pair ps v v) (h v)))
 ]
   where
     joined : (x y : Bool) → x ≡ true → (x || y) ≡ false → ⊥
@@ -103,9 +110,11 @@ loop_free : (g : ReadGraph) → HasNoLoop (drawn_says (drawn_of g)).marks
 loop_free g =
     let d = drawn_of g in
     ap (find is_self_loop) (drawn_edges d)
-    ∙ no_self_loop Right d.arrows (as_edges Both d.doubles) (λ v. arrow_drawn (graph_of g.graph) g.graph.valid v v ∙ no_arrow_loop (graph_of g.graph) g.graph.valid v)
+    ∙ no_self_loop Right d.arrows (as_edges Both d.doubles) (λ v. arrow_drawn (graph_of g.graph) g.graph.valid v v
+    ∙ no_arrow_loop (graph_of g.graph) g.graph.valid v)
     ∙ ap (find is_self_loop) (sym (append-nil (as_edges Both d.doubles)))
-    ∙ no_self_loop Both d.doubles [] (λ v. upper_drawn (graph_of g.graph) g.graph.valid v v ∙ none ((graph_of g.graph).both v v) (nat_lt v v) (g.graph.valid.no_loop v))
+    ∙ no_self_loop Both d.doubles [] (λ v. upper_drawn (graph_of g.graph) g.graph.valid v v
+    ∙ none ((graph_of g.graph).both v v) (nat_lt v v) (g.graph.valid.no_loop v))
   where
     none : (x y : Bool) → x ≡ false → (x && y) ≡ false
     none true y h = cc h
@@ -153,7 +162,8 @@ get_listed f zero v h = absurd (omega arith)
 get_listed f (suc n) v h =
     ap (λ l. get_or l v None) (ap (map f) (members-suc (λ _. true) n) ∙ map-append f (count_up n) (n ∷ []))
     ∙ elim (cases_eq v n) [
-      | inl e ↦ (let size = length-listed f n in ap (λ k. get_or (map f (count_up n) ++ f n ∷ []) k None) (e ∙ sym size) ∙ get_end (map f (count_up n)) (f n) ∙ ap f (sym e))
+      | inl e ↦ (let size = length-listed f n in ap (λ k. get_or (map f (count_up n) ++ f n ∷ []) k None) (e ∙ sym size) ∙ get_end (map f (count_up n)) (f n)
+          ∙ ap f (sym e))
       | inr d ↦ (let size = length-listed f n in get_or_append_left (map f (count_up n)) (f n ∷ []) None v (omega arith) ∙ get_listed f n v (omega arith))
     ]
 
@@ -206,9 +216,12 @@ a_latent false false false false h k m = refl
 
 role_marked : (g : ReadGraph) (r : Role) (v : ℕ) → is_role r (role_at g v) ≡ is_marked g r v
 role_marked g Exposure v = an_exposure (has g.exposures.bits v) (has g.outcomes.bits v) (has g.adjusted.bits v) (has g.latent.bits v)
-role_marked g Outcome v = an_outcome (has g.exposures.bits v) (has g.outcomes.bits v) (has g.adjusted.bits v) (has g.latent.bits v) (g.marked.exposures_outcomes v)
-role_marked g Adjusted v = an_adjusted (has g.exposures.bits v) (has g.outcomes.bits v) (has g.adjusted.bits v) (has g.latent.bits v) (g.marked.exposures_adjusted v) (g.marked.outcomes_adjusted v)
-role_marked g Latent v = a_latent (has g.exposures.bits v) (has g.outcomes.bits v) (has g.adjusted.bits v) (has g.latent.bits v) (g.marked.exposures_latent v) (g.marked.outcomes_latent v) (g.marked.adjusted_latent v)
+role_marked g Outcome v = an_outcome (has g.exposures.bits v) (has g.outcomes.bits v) (has g.adjusted.bits v) (has g.latent.bits v)
+    (g.marked.exposures_outcomes v)
+role_marked g Adjusted v = an_adjusted (has g.exposures.bits v) (has g.outcomes.bits v) (has g.adjusted.bits v) (has g.latent.bits v)
+    (g.marked.exposures_adjusted v) (g.marked.outcomes_adjusted v)
+role_marked g Latent v = a_latent (has g.exposures.bits v) (has g.outcomes.bits v) (has g.adjusted.bits v) (has g.latent.bits v) (g.marked.exposures_latent v)
+    (g.marked.outcomes_latent v) (g.marked.adjusted_latent v)
 
 roles_drawn : (g : ReadGraph) (r : Role) (v : ℕ) → is_marked g r v ≡ has_role (roles_of (drawn_says (drawn_of g)).marks) r v
 roles_drawn g r v =

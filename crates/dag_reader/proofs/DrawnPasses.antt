@@ -24,7 +24,8 @@ fresh_edges : (a : Arrow) (es : List (ℕ × ℕ)) (ms : List Remark) → Fresh 
 fresh_edges a [] ms f = f
 fresh_edges a (e ∷ es) ms f = record { none = refl; same = λ left. refl }
 
-edges_read : (a : Arrow) (es : List (ℕ × ℕ)) (ms : List Remark) (left : List ℕ) → Fresh ms → edges_behind left (edge_marks a es ++ ms) ≡ as_edges a es ++ edges_behind [] ms
+edges_read : (a : Arrow) (es : List (ℕ × ℕ)) (ms : List Remark) (left : List ℕ) → Fresh ms → edges_behind left (edge_marks a es ++ ms) ≡ as_edges a es
+    ++ edges_behind [] ms
 edges_read a [] ms left f = f.same left
 edges_read a (e ∷ es) ms left f =
     let rest = fresh_edges a es ms f in
@@ -35,7 +36,8 @@ role_edges : (r : Option Role) (left : List ℕ) (ms : List Remark) → edges_be
 role_edges None left ms = refl
 role_edges (Some r) left ms = refl
 
-vertices_read : (rs : List (Option Role)) (i : ℕ) (ms : List Remark) (left : List ℕ) → Fresh ms → edges_behind left (vertex_marks i rs ++ ms) ≡ edges_behind [] ms
+vertices_read : (rs : List (Option Role)) (i : ℕ) (ms : List Remark) (left : List ℕ) → Fresh ms → edges_behind left (vertex_marks i rs ++ ms)
+    ≡ edges_behind [] ms
 vertices_read [] i ms left f = f.same left
 vertices_read (r ∷ rs) i ms left f =
     ap (edges_behind (i ∷ [])) (append_assoc (role_marks r) (vertex_marks (i + 1) rs) ms)
@@ -80,11 +82,13 @@ drawn_doubles d = ap (filter_map both_of) (drawn_edges d) ∙ right_doubles d.ar
 
 -- ---- roles
 
-edges_roles : (a : Arrow) (es : List (ℕ × ℕ)) (ms : List Remark) (last : Option ℕ) → ((v : Option ℕ) → roles_behind v ms ≡ []) → roles_behind last (edge_marks a es ++ ms) ≡ []
+edges_roles : (a : Arrow) (es : List (ℕ × ℕ)) (ms : List Remark) (last : Option ℕ) → ((v : Option ℕ) → roles_behind v ms ≡ [])
+    → roles_behind last (edge_marks a es ++ ms) ≡ []
 edges_roles a [] ms last h = h last
 edges_roles a (e ∷ es) ms last h = edges_roles a es ms (Some e.1) h
 
-vertices_roles : (rs : List (Option Role)) (i : ℕ) (ms : List Remark) (last : Option ℕ) → ((v : Option ℕ) → roles_behind v ms ≡ []) → roles_behind last (vertex_marks i rs ++ ms) ≡ given_roles i rs
+vertices_roles : (rs : List (Option Role)) (i : ℕ) (ms : List Remark) (last : Option ℕ) → ((v : Option ℕ) → roles_behind v ms ≡ [])
+    → roles_behind last (vertex_marks i rs ++ ms) ≡ given_roles i rs
 vertices_roles [] i ms last h = h last
 vertices_roles (None ∷ rs) i ms last h = vertices_roles rs (i + 1) ms (Some i) h
 vertices_roles (Some r ∷ rs) i ms last h = ap (λ l. (i, r) ∷ l) (vertices_roles rs (i + 1) ms (Some i) h)

@@ -1,5 +1,6 @@
 -- What a written graph says.
-use Rattle.std.proofs.Common.{◌≡◌, ◌<◌, ◌≤◌, ◌+◌, ℕ, zero, suc, Bool, true, false, List, [], ◌∷◌, ◌++◌, length, get_or, Option, Some, None, Result, Ok, refl, sym, ap, subst, ◌∙◌, inl, inr, arith, append_assoc, append-nil, length-append}
+use Rattle.std.proofs.Common.{◌≡◌, ◌<◌, ◌≤◌, ◌+◌, ℕ, zero, suc, Bool, true, false, List, [], ◌∷◌, ◌++◌, length, get_or, Option, Some, None, Result}
+use Rattle.std.proofs.Common.{Ok, refl, sym, ap, subst, ◌∙◌, inl, inr, arith, append_assoc, append-nil, length-append}
 use Rattle.std.specs.Prelude.{cond, not, ◌&&◌, ◌||◌, nat_le}
 use Rattle.std.specs.List.{list_any, position_or_len}
 use Rattle.std.specs.Str.{bytes_eq}
@@ -59,7 +60,8 @@ role_says (Some Outcome) n names marks = refl
 role_says (Some Adjusted) n names marks = refl
 role_says (Some Latent) n names marks = refl
 
-marks_more : (marks : List Remark) (i : ℕ) (rs more : List Remark) → (((marks ++ Begins ∷ []) ++ Member i ∷ []) ++ rs) ++ more ≡ marks ++ (Begins ∷ Member i ∷ (rs ++ more))
+marks_more : (marks : List Remark) (i : ℕ) (rs more : List Remark) → (((marks ++ Begins ∷ []) ++ Member i ∷ []) ++ rs) ++ more ≡ marks
+    ++ (Begins ∷ Member i ∷ (rs ++ more))
 marks_more marks i rs more = simp append_assoc
 
 vertex_line_says : (n : List ℕ) (r : Option Role) (names : List (List ℕ)) (marks : List Remark) → list_any (bytes_eq n) names ≡ false → length names < 64
@@ -91,7 +93,8 @@ vertices_say (n ∷ ns) (r ∷ rs) xs front marks same new room =
 same_bytes : (n : List ℕ) → bytes_eq n n ≡ true
 same_bytes n = (bytes_eq-Decides n n).1 refl
 
-position-behind : (p : List ℕ → Bool) (front xs : List (List ℕ)) → list_any p front ≡ false → position_or_len p (front ++ xs) ≡ length front + position_or_len p xs
+position-behind : (p : List ℕ → Bool) (front xs : List (List ℕ)) → list_any p front ≡ false → position_or_len p (front ++ xs) ≡ length front
+    + position_or_len p xs
 position-behind p [] xs h = omega arith
 position-behind p (f ∷ fs) xs h = step (p f) (position-behind p fs xs) h
   where
@@ -104,7 +107,8 @@ zero_at : (b : Bool) (n k : ℕ) → b ≡ true → n + cond (not b) k 0 ≡ n +
 zero_at b n k h = rw h refl
 
 -- the index of the name at an index, where each name is new
-index_at : (ns front : List (List ℕ)) (i : ℕ) → all_new front ns ≡ true → i < length ns → position_or_len (bytes_eq (name_of ns i)) (front ++ ns) ≡ length front + i
+index_at : (ns front : List (List ℕ)) (i : ℕ) → all_new front ns ≡ true → i < length ns → position_or_len (bytes_eq (name_of ns i)) (front ++ ns)
+    ≡ length front + i
 index_at [] front i new h = absurd (omega arith)
 index_at (n ∷ ns) front zero new h =
     let both = both_true (not (list_any (bytes_eq n) front)) (all_new (front ++ n ∷ []) ns) new in
@@ -137,7 +141,8 @@ chain_more : (marks : List Remark) (i j : ℕ) (a : Arrow) (more : List Remark)
     → ((((marks ++ Begins ∷ []) ++ Member i ∷ []) ++ Joined a ∷ []) ++ Member j ∷ []) ++ more ≡ marks ++ (Begins ∷ Member i ∷ Joined a ∷ Member j ∷ more)
 chain_more marks i j a more = simp append_assoc
 
-edges_say : (a : Arrow) (names : List (List ℕ)) (es : List (ℕ × ℕ)) (xs : List Statement) (marks : List Remark) → all_new [] names ≡ true → All (λ p. (p.0 < length names) × (p.1 < length names)) es
+edges_say : (a : Arrow) (names : List (List ℕ)) (es : List (ℕ × ℕ)) (xs : List Statement) (marks : List Remark) → all_new [] names ≡ true
+    → All (λ p. (p.0 < length names) × (p.1 < length names)) es
     → statements_say (joined a names es xs) (says names marks) ≡ statements_say xs (says names (marks ++ edge_marks a es))
 unfolding says
 edges_say a names [] xs marks new within = rw append-nil refl
@@ -145,9 +150,11 @@ edges_say a names (e ∷ es) xs marks new within =
     let here = All-head (λ (p : ℕ × ℕ). (p.0 < length names) × (p.1 < length names)) e es within in
     let begun = marks ++ Begins ∷ [] in
     let met = (begun ++ Member e.0 ∷ []) ++ Joined a ∷ [] in
-    ap (λ (v : Result Said Fault). (allowed v >>= (λ u. links_say ((a, single (word_of (name_of names e.1))) ∷ []) u >>= attrs_say None None)) >>= statements_say (joined a names es xs))
+    ap (λ (v : Result Said Fault). (allowed v >>= (λ u. links_say ((a, single (word_of (name_of names e.1))) ∷ []) u >>= attrs_say None None))
+    >>= statements_say (joined a names es xs))
     (vertex_at names e.0 begun new here.0)
-    ∙ ap (λ (v : Result Said Fault). ((allowed v >>= links_say []) >>= attrs_say None None) >>= statements_say (joined a names es xs)) (vertex_at names e.1 met new here.1)
+    ∙ ap (λ (v : Result Said Fault). ((allowed v >>= links_say []) >>= attrs_say None None) >>= statements_say (joined a names es xs))
+    (vertex_at names e.1 met new here.1)
     ∙ edges_say a names es xs (met ++ Member e.1 ∷ []) new (All-tail (λ (p : ℕ × ℕ). (p.0 < length names) × (p.1 < length names)) e es within)
     ∙ ap (λ l. statements_say xs (says names l)) (chain_more marks e.0 e.1 a (edge_marks a es))
 

@@ -10,7 +10,7 @@ use Rattle.mixed_graph.specs.Names.{IsName}
 use Rattle.dag_reader.specs.declared.marks.Role.{Role}
 use Rattle.dag_reader.specs.declared.marks.Role.TheVariants.{Exposure, Outcome, Adjusted, Latent}
 use Rattle.mixed_graph.specs.Names.{name_of}
-use Rattle.name_text.specs.Printing.{is_plain, printed}
+use Rattle.answer_text.specs.Printing.{is_plain, printed}
 use Rattle.dag_reader.specs.Written.{Drawn, IsDrawn, role_text, vertex_lines, edge_lines, written}
 
 ascii_bytes : (bs : List ℕ) → list_all (λ b. nat_lt b 128) bs ≡ true → (i : ℕ) → get_or bs i 0 < 128
@@ -51,7 +51,8 @@ vertices_utf8 (n ∷ ns) (r ∷ rs) form =
     IsUtf8-append (printed n) (role_text r ++ 10 ∷ vertex_lines ns rs) (printed_utf8 n (All-head IsName n ns form))
     (IsUtf8-append (role_text r) (10 ∷ vertex_lines ns rs) (role_utf8 r) (line_then (vertex_lines ns rs) (vertices_utf8 ns rs (All-tail IsName n ns form))))
 
-edges_utf8 : (sign : List ℕ) (names : List (List ℕ)) (es : List (ℕ × ℕ)) → IsUtf8 sign → All IsName names → All (λ p. (p.0 < length names) × (p.1 < length names)) es → IsUtf8 (edge_lines sign names es)
+edges_utf8 : (sign : List ℕ) (names : List (List ℕ)) (es : List (ℕ × ℕ)) → IsUtf8 sign → All IsName names
+    → All (λ p. (p.0 < length names) × (p.1 < length names)) es → IsUtf8 (edge_lines sign names es)
 edges_utf8 sign names [] is form within = IsUtf8-nil
 edges_utf8 sign names (e ∷ es) is form within =
     let here = All-head (λ (p : ℕ × ℕ). (p.0 < length names) × (p.1 < length names)) e es within in

@@ -1,5 +1,6 @@
 -- The rows of edges, group by group.
-use Rattle.std.proofs.Common.{◌≡◌, ◌≤◌, ◌-◌, ℕ, Bool, true, false, List, [], ◌∷◌, ◌++◌, map, length, drop, take, get_or, Option, Some, None, refl, sym, ap, subst, ◌∙◌, append_assoc, arith}
+use Rattle.std.proofs.Common.{◌≡◌, ◌≤◌, ◌-◌, ℕ, Bool, true, false, List, [], ◌∷◌, ◌++◌, map, length, drop, take, get_or, Option, Some, None, refl}
+use Rattle.std.proofs.Common.{sym, ap, subst, ◌∙◌, append_assoc, arith}
 use Rattle.std.specs.Prelude.{◌==◌, ◌||◌, ◌&&◌, nat_lt}
 use Rattle.std.specs.List.{list_any, list_all, filter_map}
 use Rattle.std.proofs.Math.Bool.{or_assoc}
@@ -7,7 +8,7 @@ use Rattle.std.proofs.lemmas.Bool.{and_parts}
 use Rattle.std.proofs.lemmas.List.{take_rest}
 use Rattle.std.proofs.lemmas.List.Folds.{list_any-append}
 use Rattle.mixed_graph.specs.Bits.{has}
-use Rattle.mixed_graph.specs.Pairs.{joins}
+use Rattle.mixed_graph.specs.Pairs.{has_pair}
 use Rattle.dag_reader.specs.declared.marks.Arrow.{Arrow}
 use Rattle.dag_reader.specs.declared.marks.Arrow.TheVariants.{Right, Left, Both}
 use Rattle.dag_reader.specs.declared.marks.Remark.{Remark}
@@ -27,22 +28,23 @@ some_pair g ls rs x y = list_any (λ l. list_any (λ r. (x == (g l r).0) && (y =
 
 one_row : (f : Edge → Option (ℕ × ℕ)) (a : Arrow) (g : ℕ → ℕ → ℕ × ℕ) → ((l r : ℕ) → f (record { left = l; arrow = a; right = r }) ≡ Some (g l r))
     → (l : ℕ) (rs : List ℕ) (more : List Edge) (x y : ℕ)
-    → joins (filter_map f (map (λ r. record { left = l; arrow = a; right = r }) rs ++ more)) x y ≡ (list_any (λ r. (x == (g l r).0) && (y == (g l r).1)) rs || joins (filter_map f more) x y)
+    → has_pair (filter_map f (map (λ r. record { left = l; arrow = a; right = r }) rs ++ more)) x y
+    ≡ (list_any (λ r. (x == (g l r).0) && (y == (g l r).1)) rs || has_pair (filter_map f more) x y)
 one_row f a g is l [] more x y = refl
 one_row f a g is l (r ∷ rs) more x y =
     rw (is l r)
     (ap (λ b. ((x == (g l r).0) && (y == (g l r).1)) || b) (one_row f a g is l rs more x y)
-    ∙ sym (or_assoc ((x == (g l r).0) && (y == (g l r).1)) (list_any (λ r. (x == (g l r).0) && (y == (g l r).1)) rs) (joins (filter_map f more) x y)))
+    ∙ sym (or_assoc ((x == (g l r).0) && (y == (g l r).1)) (list_any (λ r. (x == (g l r).0) && (y == (g l r).1)) rs) (has_pair (filter_map f more) x y)))
 
 pairs_joined : (f : Edge → Option (ℕ × ℕ)) (a : Arrow) (g : ℕ → ℕ → ℕ × ℕ) → ((l r : ℕ) → f (record { left = l; arrow = a; right = r }) ≡ Some (g l r))
     → (ls rs : List ℕ) (more : List Edge) (x y : ℕ)
-    → joins (filter_map f (pairs ls a rs ++ more)) x y ≡ (some_pair g ls rs x y || joins (filter_map f more) x y)
+    → has_pair (filter_map f (pairs ls a rs ++ more)) x y ≡ (some_pair g ls rs x y || has_pair (filter_map f more) x y)
 pairs_joined f a g is [] rs more x y = refl
 pairs_joined f a g is (l ∷ ls) rs more x y =
-    ap (λ es. joins (filter_map f es) x y) (append_assoc (map (λ r. record { left = l; arrow = a; right = r }) rs) (pairs ls a rs) more)
+    ap (λ es. has_pair (filter_map f es) x y) (append_assoc (map (λ r. record { left = l; arrow = a; right = r }) rs) (pairs ls a rs) more)
     ∙ one_row f a g is l rs (pairs ls a rs ++ more) x y
     ∙ ap (λ b. list_any (λ r. (x == (g l r).0) && (y == (g l r).1)) rs || b) (pairs_joined f a g is ls rs more x y)
-    ∙ sym (or_assoc (list_any (λ r. (x == (g l r).0) && (y == (g l r).1)) rs) (some_pair g ls rs x y) (joins (filter_map f more) x y))
+    ∙ sym (or_assoc (list_any (λ r. (x == (g l r).0) && (y == (g l r).1)) rs) (some_pair g ls rs x y) (has_pair (filter_map f more) x y))
 
 row_dropped : (f : Edge → Option (ℕ × ℕ)) (a : Arrow) → ((l r : ℕ) → ◌≡◌ {A = Option (ℕ × ℕ)} (f (record { left = l; arrow = a; right = r })) None)
     → (l : ℕ) (rs : List ℕ) (more : List Edge) → filter_map f (map (λ r. record { left = l; arrow = a; right = r }) rs ++ more) ≡ filter_map f more
@@ -104,29 +106,32 @@ turned_pairs ls rs x y =
 pub record SoFar (marks rest : List Remark) (left : ℕ) (arrows doubles : List ℕ) : Type 0 where
   pub group : List ℕ
   pub same : (v : ℕ) → has left v ≡ list_any (λ u. v == u) group
-  pub arrow_rows : (a b : ℕ) → (row_has arrows a b || joins (filter_map arrow_of (edges_behind group rest)) a b) ≡ joins (arrows_of marks) a b
-  pub double_rows : (a b : ℕ) → (row_has doubles a b || joins (filter_map both_of (edges_behind group rest)) a b) ≡ joins (doubles_of marks) a b
+  pub arrow_rows : (a b : ℕ) → (row_has arrows a b || has_pair (filter_map arrow_of (edges_behind group rest)) a b) ≡ has_pair (arrows_of marks) a b
+  pub double_rows : (a b : ℕ) → (row_has doubles a b || has_pair (filter_map both_of (edges_behind group rest)) a b) ≡ has_pair (doubles_of marks) a b
   pub inside : list_all (is_inside 64) rest ≡ true
 
 false_or : (a b : Bool) → a ≡ false → (a || b) ≡ b
 false_or true b h = cc h
 false_or false b h = refl
 
-pub begin : (marks : List Remark) (left : ℕ) (arrows doubles : List ℕ) → ((v : ℕ) → has left v ≡ false) → ((a b : ℕ) → row_has arrows a b ≡ false) → ((a b : ℕ) → row_has doubles a b ≡ false)
+pub begin : (marks : List Remark) (left : ℕ) (arrows doubles : List ℕ) → ((v : ℕ) → has left v ≡ false) → ((a b : ℕ) → row_has arrows a b ≡ false)
+    → ((a b : ℕ) → row_has doubles a b ≡ false)
     → list_all (is_inside 64) marks ≡ true → SoFar marks marks left arrows doubles
 begin marks left arrows doubles none no_arrows no_doubles inside = record {
   group = [];
   same = none;
-  arrow_rows = λ a b. false_or (row_has arrows a b) (joins (arrows_of marks) a b) (no_arrows a b);
-  double_rows = λ a b. false_or (row_has doubles a b) (joins (doubles_of marks) a b) (no_doubles a b);
+  arrow_rows = λ a b. false_or (row_has arrows a b) (has_pair (arrows_of marks) a b) (no_arrows a b);
+  double_rows = λ a b. false_or (row_has doubles a b) (has_pair (doubles_of marks) a b) (no_doubles a b);
   inside = inside;
 }
 
-pub at_begins : (marks ms : List Remark) (left new : ℕ) (arrows doubles : List ℕ) → SoFar marks (Begins ∷ ms) left arrows doubles → ((v : ℕ) → has new v ≡ false) → SoFar marks ms new arrows doubles
+pub at_begins : (marks ms : List Remark) (left new : ℕ) (arrows doubles : List ℕ) → SoFar marks (Begins ∷ ms) left arrows doubles
+    → ((v : ℕ) → has new v ≡ false) → SoFar marks ms new arrows doubles
 at_begins marks ms left new arrows doubles s none =
     record { group = []; same = none; arrow_rows = s.arrow_rows; double_rows = s.double_rows; inside = s.inside }
 
-pub at_role : (marks ms : List Remark) (left : ℕ) (arrows doubles : List ℕ) (r : _) → SoFar marks (HasRole r ∷ ms) left arrows doubles → SoFar marks ms left arrows doubles
+pub at_role : (marks ms : List Remark) (left : ℕ) (arrows doubles : List ℕ) (r : _) → SoFar marks (HasRole r ∷ ms) left arrows doubles
+    → SoFar marks ms left arrows doubles
 at_role marks ms left arrows doubles r s =
     record { group = s.group; same = s.same; arrow_rows = s.arrow_rows; double_rows = s.double_rows; inside = s.inside }
 
@@ -139,7 +144,8 @@ pub at_member : (marks ms : List Remark) (left new : ℕ) (arrows doubles : List
     → ((v : ℕ) → has new v ≡ (has left v || (v == w))) → SoFar marks ms new arrows doubles
 at_member marks ms left new arrows doubles w s is = record {
   group = s.group ++ w ∷ [];
-  same = λ v. is v ∙ ap (λ b. b || (v == w)) (s.same v) ∙ sym (list_any-append (λ u. v == u) s.group (w ∷ []) ∙ or_none (list_any (λ u. v == u) s.group) (v == w));
+  same = λ v. is v ∙ ap (λ b. b || (v == w)) (s.same v) ∙ sym (list_any-append (λ u. v == u) s.group (w ∷ [])
+      ∙ or_none (list_any (λ u. v == u) s.group) (v == w));
   arrow_rows = s.arrow_rows;
   double_rows = s.double_rows;
   inside = (and_parts (nat_lt w 64) (list_all (is_inside 64) ms) s.inside).1;
@@ -159,22 +165,23 @@ IsGroup group ms = (v : ℕ) → has group v ≡ list_any (λ u. v == u) (member
 rows_joined : (f : Edge → Option (ℕ × ℕ)) (k : Arrow) (g : ℕ → ℕ → ℕ × ℕ) → ((l r : ℕ) → f (record { left = l; arrow = k; right = r }) ≡ Some (g l r))
     → (group : List ℕ) (ms : List Remark) (rows more : List ℕ) (all : List (ℕ × ℕ)) (is_pair : ℕ → ℕ → Bool)
     → ((a b : ℕ) → is_pair a b ≡ some_pair g group (members ms) a b) → ((a b : ℕ) → row_has more a b ≡ (row_has rows a b || is_pair a b))
-    → ((a b : ℕ) → (row_has rows a b || joins (filter_map f (edges_behind group (Joined k ∷ ms))) a b) ≡ joins all a b)
-    → (a b : ℕ) → (row_has more a b || joins (filter_map f (edges_behind [] ms)) a b) ≡ joins all a b
+    → ((a b : ℕ) → (row_has rows a b || has_pair (filter_map f (edges_behind group (Joined k ∷ ms))) a b) ≡ has_pair all a b)
+    → (a b : ℕ) → (row_has more a b || has_pair (filter_map f (edges_behind [] ms)) a b) ≡ has_pair all a b
 rows_joined f k g is group ms rows more all is_pair pairs joined before a b =
-    let rest = joins (filter_map f (edges_behind [] ms)) a b in
-    shift (row_has rows a b) (is_pair a b) rest (joins all a b) (row_has more a b) (joined a b)
+    let rest = has_pair (filter_map f (edges_behind [] ms)) a b in
+    shift (row_has rows a b) (is_pair a b) rest (has_pair all a b) (row_has more a b) (joined a b)
     (ap (λ t. row_has rows a b || t) (ap (λ t. t || rest) (pairs a b) ∙ sym (pairs_joined f k g is group (members ms) (edges_behind [] ms) a b)) ∙ before a b)
 
 -- the same for rows to which an edge of that kind adds nothing
 rows_kept : (f : Edge → Option (ℕ × ℕ)) (k : Arrow) → ((l r : ℕ) → ◌≡◌ {A = Option (ℕ × ℕ)} (f (record { left = l; arrow = k; right = r })) None)
     → (group : List ℕ) (ms : List Remark) (rows : List ℕ) (all : List (ℕ × ℕ))
-    → ((a b : ℕ) → (row_has rows a b || joins (filter_map f (edges_behind group (Joined k ∷ ms))) a b) ≡ joins all a b)
-    → (a b : ℕ) → (row_has rows a b || joins (filter_map f (edges_behind [] ms)) a b) ≡ joins all a b
+    → ((a b : ℕ) → (row_has rows a b || has_pair (filter_map f (edges_behind group (Joined k ∷ ms))) a b) ≡ has_pair all a b)
+    → (a b : ℕ) → (row_has rows a b || has_pair (filter_map f (edges_behind [] ms)) a b) ≡ has_pair all a b
 rows_kept f k is group ms rows all before a b =
-    ap (λ es. row_has rows a b || joins es a b) (sym (pairs_dropped f k is group (members ms) (edges_behind [] ms))) ∙ before a b
+    ap (λ es. row_has rows a b || has_pair es a b) (sym (pairs_dropped f k is group (members ms) (edges_behind [] ms))) ∙ before a b
 
-pub at_right : (marks ms : List Remark) (left right new : ℕ) (arrows more doubles : List ℕ) → SoFar marks (Joined Right ∷ ms) left arrows doubles → IsGroup right ms → ((v : ℕ) → has new v ≡ false)
+pub at_right : (marks ms : List Remark) (left right new : ℕ) (arrows more doubles : List ℕ) → SoFar marks (Joined Right ∷ ms) left arrows doubles
+    → IsGroup right ms → ((v : ℕ) → has new v ≡ false)
     → ((a b : ℕ) → row_has more a b ≡ (row_has arrows a b || (has left a && has right b))) → SoFar marks ms new more doubles
 at_right marks ms left right new arrows more doubles s group none joined = record {
   group = [];
@@ -185,7 +192,8 @@ at_right marks ms left right new arrows more doubles s group none joined = recor
   inside = s.inside;
 }
 
-pub at_left : (marks ms : List Remark) (left right new : ℕ) (arrows more doubles : List ℕ) → SoFar marks (Joined Left ∷ ms) left arrows doubles → IsGroup right ms → ((v : ℕ) → has new v ≡ false)
+pub at_left : (marks ms : List Remark) (left right new : ℕ) (arrows more doubles : List ℕ) → SoFar marks (Joined Left ∷ ms) left arrows doubles
+    → IsGroup right ms → ((v : ℕ) → has new v ≡ false)
     → ((a b : ℕ) → row_has more a b ≡ (row_has arrows a b || (has right a && has left b))) → SoFar marks ms new more doubles
 at_left marks ms left right new arrows more doubles s group none joined = record {
   group = [];
@@ -196,7 +204,8 @@ at_left marks ms left right new arrows more doubles s group none joined = record
   inside = s.inside;
 }
 
-pub at_both : (marks ms : List Remark) (left right new : ℕ) (arrows doubles more : List ℕ) → SoFar marks (Joined Both ∷ ms) left arrows doubles → IsGroup right ms → ((v : ℕ) → has new v ≡ false)
+pub at_both : (marks ms : List Remark) (left right new : ℕ) (arrows doubles more : List ℕ) → SoFar marks (Joined Both ∷ ms) left arrows doubles
+    → IsGroup right ms → ((v : ℕ) → has new v ≡ false)
     → ((a b : ℕ) → row_has more a b ≡ (row_has doubles a b || (has left a && has right b))) → SoFar marks ms new arrows more
 at_both marks ms left right new arrows doubles more s group none joined = record {
   group = [];
@@ -213,13 +222,14 @@ or_false false = refl
 
 -- at the end the rows hold all edges
 pub at_end : (marks rest : List Remark) (left : ℕ) (arrows doubles : List ℕ) → SoFar marks rest left arrows doubles → rest ≡ []
-    → ((a b : ℕ) → row_has arrows a b ≡ joins (arrows_of marks) a b) × ((a b : ℕ) → row_has doubles a b ≡ joins (doubles_of marks) a b)
+    → ((a b : ℕ) → row_has arrows a b ≡ has_pair (arrows_of marks) a b) × ((a b : ℕ) → row_has doubles a b ≡ has_pair (doubles_of marks) a b)
 at_end marks rest left arrows doubles s is =
     let e : SoFar marks [] left arrows doubles = subst (λ (l : List Remark). SoFar marks l left arrows doubles) is s in
     (λ a b. sym (or_false (row_has arrows a b)) ∙ e.arrow_rows a b, λ a b. sym (or_false (row_has doubles a b)) ∙ e.double_rows a b)
 
 -- the rest, as its first mark and the others
-pub opened : (marks rest : List Remark) (left : ℕ) (arrows doubles : List ℕ) (m : Remark) → SoFar marks rest left arrows doubles → 1 ≤ length rest → get_or rest 0 Begins ≡ m
+pub opened : (marks rest : List Remark) (left : ℕ) (arrows doubles : List ℕ) (m : Remark) → SoFar marks rest left arrows doubles → 1 ≤ length rest
+    → get_or rest 0 Begins ≡ m
     → SoFar marks (m ∷ take (length rest - 1) (drop 1 rest)) left arrows doubles
 opened marks [] left arrows doubles m s h is = absurd (omega arith)
 opened marks (x ∷ xs) left arrows doubles m s h is =

@@ -1,12 +1,14 @@
 -- A run of name bytes or an edge behind white space is the first token.
-use Rattle.std.proofs.Common.{◌≡◌, ◌≢◌, ◌<◌, ◌≤◌, ℕ, Bool, true, false, List, [], ◌∷◌, ◌++◌, length, take, drop, get_or, refl, sym, ap, ap₂, subst, ◌∙◌, arith, inl, inr}
-use Rattle.std.proofs.lemmas.Bool.{cases_Bool, ne_eqb}
+use Rattle.std.proofs.Common.{◌≡◌, ◌<◌, ◌≤◌, ℕ, Bool, true, false, List, [], ◌∷◌, ◌++◌, length, take, drop, get_or, refl, sym, ap, ap₂, subst, ◌∙◌, arith, inl}
+use Rattle.std.proofs.Common.{inr}
+use Rattle.std.proofs.lemmas.Bool.{cases_Bool}
 use Rattle.std.proofs.lemmas.Bool.Decides.{nat_tests}
-use Rattle.std.specs.Prelude.{cond, ◌==◌}
+use Rattle.std.specs.Prelude.{cond, ◌==◌, ◌&&◌, ◌||◌, not}
 use Rattle.std.specs.List.{prefix_len, list_all}
 use Rattle.std.specs.Str.{is_utf8}
 use Rattle.mixed_graph.specs.Names.{IsName}
-use Rattle.name_text.specs.Printing.{is_edge_byte, is_name_byte}
+use Rattle.answer_text.specs.Printing.{is_edge_byte, is_name_byte, begins_with_arrow}
+use Rattle.dag_reader.specs.Bytes.{begins_name}
 use Rattle.dag_reader.specs.declared.marks.Arrow.{Arrow}
 use Rattle.dag_reader.specs.declared.marks.Arrow.TheVariants.{Right, Left, Both}
 use Rattle.dag_reader.specs.declared.tokens.Due.TheVariants as dues
@@ -37,17 +39,33 @@ name_is_first (b ∷ bs) run rest is after some =
     third (b == 34) (is_edge_byte b) (is_name_byte b) _ _ (run_at is_name_byte name_token (b ∷ bs)) (sign_token b, bs) other.0 other.1 here
     ∙ ap₂ (λ (l t : List ℕ). (name_token l, t)) (sym is) (sym after)
 
-no_comment_in : (run : List ℕ) → 0 < length run → get_or run 0 0 ≢ 47 → get_or run 0 0 ≢ 35 → name_token run ≡ name false run
-no_comment_in [] some slash hash = absurd (omega arith)
-no_comment_in (b ∷ bs) some slash hash = no_comment b bs (ne_eqb b 47 slash) (ne_eqb b 35 hash)
+-- an arrow begins with the byte 226
+no_arrow : (b : ℕ) (bs : List ℕ) → (b == 226) ≡ false → begins_with_arrow (b ∷ bs) ≡ false
+no_arrow b [] h = refl
+no_arrow b (c ∷ []) h = refl
+no_arrow b (c ∷ d ∷ bs) h = rw h refl
 
--- a bare name that doesn't look like a comment
+-- what a byte is that surely begins a name
+sure_front : (a b c d : Bool) → (a && not (b || c || d)) ≡ true → (b ≡ false) × (c ≡ false) × (d ≡ false)
+sure_front true false false false h = (refl, refl, refl)
+sure_front true true c d h = cc h
+sure_front true false true d h = cc h
+sure_front true false false true h = cc h
+sure_front false b c d h = cc h
+
+pub sure_name : (run : List ℕ) → 0 < length run → begins_name (get_or run 0 0) ≡ true → name_token run ≡ name false run
+sure_name [] some front = absurd (omega arith)
+sure_name (b ∷ bs) some front =
+    let sure = sure_front (is_name_byte b) (b == 47) (b == 35) (b == 226) front in
+    no_comment b bs sure.0 sure.1 (no_arrow b bs sure.2)
+
+-- a bare name whose first byte surely begins one
 pub bare_name_here : (bytes here run rest : List ℕ) → here ≡ past_white bytes → run ≡ take (prefix_len is_name_byte here) here
-    → rest ≡ drop (prefix_len is_name_byte here) here → 0 < length run → get_or run 0 0 ≢ 47 → get_or run 0 0 ≢ 35
+    → rest ≡ drop (prefix_len is_name_byte here) here → 0 < length run → begins_name (get_or run 0 0) ≡ true
     → first dues.Token bytes ≡ (name false run, rest)
 unfolding first
-bare_name_here bytes here run rest behind is after some slash hash =
-    ap (token_of dues.Token) (sym behind) ∙ name_is_first here run rest is after some ∙ ap (λ t. (t, rest)) (no_comment_in run some slash hash)
+bare_name_here bytes here run rest behind is after some front =
+    ap (token_of dues.Token) (sym behind) ∙ name_is_first here run rest is after some ∙ ap (λ t. (t, rest)) (sure_name run some front)
 
 -- a run of name bytes that isn't empty
 pub name_of_run : (run : List ℕ) → 0 < length run → list_all is_name_byte run ≡ true → is_utf8 run ≡ true → IsName run

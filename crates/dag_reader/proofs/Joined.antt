@@ -1,5 +1,6 @@
 -- One member after the other, by its lowest: the rows that it joins, and the pairs of its row.
-use Rattle.std.proofs.Common.{◌≡◌, ℕ, zero, suc, ◌<◌, ◌≤◌, Bool, true, false, List, [], ◌∷◌, ◌++◌, get_or, set, map, length, inl, inr, refl, sym, ap, ◌∙◌, arith, append-nil, append_assoc, nat_lt}
+use Rattle.std.proofs.Common.{◌≡◌, ℕ, zero, suc, ◌<◌, ◌≤◌, Bool, true, false, List, [], ◌∷◌, ◌++◌, get_or, set, map, length, inl, inr, refl, sym, ap}
+use Rattle.std.proofs.Common.{◌∙◌, arith, append-nil, append_assoc, nat_lt}
 use Rattle.std.specs.Prelude.{◌==◌, ◌||◌, ◌&&◌, not, cond}
 use Rattle.std.proofs.lemmas.Bool.{cases_eq, eqb-true, eq-eqb, ne_eqb, lt-ltb, le-ltb}
 use Rattle.std.proofs.lemmas.List.{get_or-set_same, get_or-set_other}
@@ -54,7 +55,8 @@ members-same s t (suc k) same =
 pub members-cut : (s t : ℕ → Bool) (n k : ℕ) → n ≤ k → ((v : ℕ) → t v ≡ (s v && nat_lt v n)) → members_below t k ≡ members_below s n
 members-cut s t n zero fits is = let e : n ≡ zero = omega arith in members-zero t ∙ sym (ap (members_below s) e ∙ members-zero s)
 members-cut s t n (suc k) fits is = elim (cases_eq n (suc k)) [
-  | inl e ↦ members-same t s (suc k) (λ v below. (let p = is v in let b : nat_lt v n ≡ true = lt-ltb v n (omega arith) in grind arith)) ∙ ap (members_below s) (sym e)
+  | inl e ↦ members-same t s (suc k) (λ v below. (let p = is v in let b : nat_lt v n ≡ true = lt-ltb v n (omega arith) in grind arith))
+      ∙ ap (members_below s) (sym e)
   | inr d ↦
       let out : t k ≡ false = (let p = is k in let b : nat_lt k n ≡ false = le-ltb k n (omega arith) in grind arith) in
       members-suc t k ∙ ap (λ b. members_below t k ++ cond b (k ∷ []) []) out ∙ append-nil (members_below t k) ∙ members-cut s t n k (omega arith) is

@@ -8,11 +8,16 @@ use Rattle.dag_reader.specs.declared.marks.Arrow.{Arrow}
 use Rattle.dag_reader.specs.declared.marks.Role.{Role}
 use Rattle.dag_reader.specs.declared.marks.Remark.TheVariants.{Begins, Joined}
 use Rattle.dag_reader.specs.Tokens.{Tok, open_brace, close_brace, open_bracket, close_bracket, semicolon, equals, comma, edge, name, value, end, bad, bad_edge}
-use Rattle.dag_reader.specs.Grammar.{Fault, selected, Said, nothing, with_marks, with_vertex, with_flag, with_role, role_of, Position, behind_braces, step, taken}
-use Rattle.dag_reader.specs.Grammar.{at_start, at_dag, at_title, at_statement, after_name, at_key_value, in_group, group_name, after_first, after_edge, chain_name, after_group, at_attrs, attr_name, at_attr_value, after_attr, after_comma, at_end}
-use Rattle.dag_reader.specs.Syntax.{Word, Inner, inner_semicolon, inner_name, Group, single, braces, Attr, bare, valued, Later, next_attr, comma_attr, Attrs, no_attr, attr_list, Statement, lone_semicolon, dropped, vertex, chain, Text}
-use Rattle.dag_reader.specs.Syntax.{inner_tokens, group_tokens, attr_tokens, later_tokens, attrs_tokens, links_tokens, statement_tokens, body_tokens, title_tokens, text_tokens}
-use Rattle.dag_reader.specs.Syntax.{◌>>=◌, allowed, vertex_says, inner_say, group_says, attr_says, later_say, attrs_say, links_say, statement_says, statements_say, text_says}
+use Rattle.dag_reader.specs.Grammar.{Fault, selected, Said, nothing, with_marks, with_vertex, with_flag, with_role, role_of, Position, behind_braces}
+use Rattle.dag_reader.specs.Grammar.{step, taken}
+use Rattle.dag_reader.specs.Grammar.{at_start, at_dag, at_title, at_statement, after_name, at_key_value, in_group, group_name, after_first}
+use Rattle.dag_reader.specs.Grammar.{after_edge, chain_name, after_group, at_attrs, attr_name, at_attr_value, after_attr, after_comma, at_end}
+use Rattle.dag_reader.specs.Syntax.{Word, Inner, inner_semicolon, inner_name, Group, single, braces, Attr, bare, valued, Later, next_attr, comma_attr}
+use Rattle.dag_reader.specs.Syntax.{Attrs, no_attr, attr_list, Statement, lone_semicolon, dropped, vertex, chain, Text}
+use Rattle.dag_reader.specs.Syntax.{inner_tokens, group_tokens, attr_tokens, later_tokens, attrs_tokens, links_tokens, statement_tokens, body_tokens}
+use Rattle.dag_reader.specs.Syntax.{title_tokens, text_tokens}
+use Rattle.dag_reader.specs.Syntax.{◌>>=◌, allowed, vertex_says, inner_say, group_says, attr_says, later_say, attrs_say, links_say, statement_says}
+use Rattle.dag_reader.specs.Syntax.{statements_say, text_says}
 use Rattle.dag_reader.proofs.LawRun.{ok, then_ok, one_ok, none_ok, bind_ext, bind_assoc, bind_none, settled_first}
 
 -- ---- the name before a token
@@ -27,7 +32,8 @@ chain_turn f n s at bad ts = sym (bind_none (allowed (with_vertex n s)))
 chain_turn f n s at bad_edge ts = sym (bind_none (allowed (with_vertex n s)))
 chain_turn f n s at t ts = settled_first f ts (chain_name n) after_group at t (with_vertex n s) (λ u. refl)
 
-pub pending_chain : (f : ℕ → ℕ) (n : List ℕ) (s : Said) (ts : List Tok) → ok f (chain_name n) s ts ≡ (allowed (with_vertex n s) >>= (λ u. ok f after_group u ts))
+pub pending_chain : (f : ℕ → ℕ) (n : List ℕ) (s : Said) (ts : List Tok) → ok f (chain_name n) s ts
+    ≡ (allowed (with_vertex n s) >>= (λ u. ok f after_group u ts))
 pending_chain f n s [] = no_more f (chain_name n) after_group s _
 pending_chain f n s (t ∷ ts) =
     one_ok f (chain_name n) s t ts ∙ chain_turn f n s (f (length ts)) t ts
@@ -164,7 +170,8 @@ first_read f (single w) s a ts = one_ok f at_statement s (name w.quoted w.text) 
 first_read f (braces is) s a ts =
     one_ok f at_statement s open_brace (inner_tokens is (edge a ∷ ts)) ∙ inner_read f which.First is (with_marks (Begins ∷ []) s) (edge a ∷ ts)
 
-later_group_read : (f : ℕ → ℕ) (g : Group) (s : Said) (more : List Tok) → ok f after_edge s (group_tokens g more) ≡ (group_says g s >>= (λ u. ok f after_group u more))
+later_group_read : (f : ℕ → ℕ) (g : Group) (s : Said) (more : List Tok) → ok f after_edge s (group_tokens g more)
+    ≡ (group_says g s >>= (λ u. ok f after_group u more))
 unfolding step
 later_group_read f (single w) s more = one_ok f after_edge s (name w.quoted w.text) more ∙ pending_chain f w.text s more
 later_group_read f (braces is) s more = one_ok f after_edge s open_brace (inner_tokens is more) ∙ inner_read f which.Later is s more
@@ -197,14 +204,14 @@ attr_read : (f : ℕ → ℕ) (of : Option (List ℕ)) (p : Position) → Enters
     → ok f p s (attr_tokens a ts) ≡ (attr_says of a s >>= (λ u. ok f (after_attr of) u ts))
 unfolding step
 attr_read f of p enters (bare w) s ts h = enters w.quoted w.text s ts ∙ pending_attr f of (f (length ts)) w.text s ts h
-attr_read f of p enters (valued w) s ts h =
-    enters w.quoted w.text s (equals ∷ value ∷ ts)
-    ∙ one_ok f (attr_name of (f (length (equals ∷ value ∷ ts))) w.text) s equals (value ∷ ts)
-    ∙ one_ok f (at_attr_value of) s value ts
+attr_read f of p enters (valued w d) s ts h =
+    enters w.quoted w.text s (equals ∷ value d ∷ ts)
+    ∙ one_ok f (attr_name of (f (length (equals ∷ value d ∷ ts))) w.text) s equals (value d ∷ ts)
+    ∙ one_ok f (at_attr_value of) s (value d) ts
 
 attr_unassigned : (a : Attr) (ts : List Tok) → Unassigned (attr_tokens a ts)
 attr_unassigned (bare w) ts = tt
-attr_unassigned (valued w) ts = tt
+attr_unassigned (valued w d) ts = tt
 
 later_unassigned : (ls : List Later) (more : List Tok) → Unassigned (later_tokens ls more)
 later_unassigned [] more = tt
@@ -261,13 +268,15 @@ statement_read : (f : ℕ → ℕ) (x : Statement) (s : Said) (ts : List Tok) �
 unfolding step
 statement_read f lone_semicolon s ts h = one_ok f at_statement s semicolon ts
 statement_read f (dropped w) s ts h =
-    one_ok f at_statement s (name w.quoted w.text) (equals ∷ value ∷ ts) ∙ one_ok f (after_name w.text) s equals (value ∷ ts) ∙ one_ok f at_key_value s value ts
+    one_ok f at_statement s (name w.quoted w.text) (equals ∷ value true ∷ ts) ∙ one_ok f (after_name w.text) s equals (value true ∷ ts)
+    ∙ one_ok f at_key_value s (value true) ts
 statement_read f (vertex w attrs) s ts h =
     one_ok f at_statement s (name w.quoted w.text) (attrs_tokens attrs ts) ∙ name_attrs_read f w.text attrs s ts h
     ∙ sym (bind_assoc (vertex_says w (with_marks (Begins ∷ []) s)) (attrs_say (Some w.text) attrs) (λ u. ok f at_statement u ts))
 statement_read f (chain g l ls attrs) s ts h =
     let begun = with_marks (Begins ∷ []) s in
-    let all : (u : Said) → ok f after_first u (links_tokens (l ∷ ls) (attrs_tokens attrs ts)) ≡ ((links_say (l ∷ ls) u >>= attrs_say None attrs) >>= (λ v. ok f at_statement v ts)) = λ u.
+    let all : (u : Said) → ok f after_first u (links_tokens (l ∷ ls) (attrs_tokens attrs ts))
+    ≡ ((links_say (l ∷ ls) u >>= attrs_say None attrs) >>= (λ v. ok f at_statement v ts)) = λ u.
     first_links_read f l ls u (attrs_tokens attrs ts)
     ∙ bind_ext (links_say (l ∷ ls) u) (λ v. ok f after_group v (attrs_tokens attrs ts)) _ (λ v. chain_attrs_read f attrs v ts h)
     ∙ sym (bind_assoc (links_say (l ∷ ls) u) (attrs_say None attrs) (λ v. ok f at_statement v ts)) in

@@ -9,9 +9,12 @@ use Rattle.dag_reader.specs.declared.grammar.Braces.TheVariants as which
 use Rattle.dag_reader.specs.declared.marks.Arrow.{Arrow}
 use Rattle.dag_reader.specs.Tokens.{Tok, open_brace, close_brace, open_bracket, close_bracket, semicolon, equals, comma, edge, name, value, end, bad, bad_edge}
 use Rattle.dag_reader.specs.Grammar.{Fault, Said, Position, step, settled, taken, ended, fitted, behind_braces, next, next_statement, noted, is_end}
-use Rattle.dag_reader.specs.Grammar.{at_start, at_dag, at_title, at_statement, after_name, at_key_value, in_group, group_name, after_first, after_edge, chain_name, after_group, at_attrs, attr_name, at_attr_value, after_attr, after_comma, at_end}
-use Rattle.dag_reader.specs.Syntax.{Word, Inner, inner_semicolon, inner_name, Group, single, braces, Attr, bare, valued, Later, next_attr, comma_attr, Attrs, no_attr, attr_list, Statement, lone_semicolon, dropped, vertex, chain, Text}
-use Rattle.dag_reader.specs.Syntax.{inner_tokens, group_tokens, attr_tokens, later_tokens, inside_tokens, attrs_tokens, links_tokens, body_tokens, title_tokens, text_tokens}
+use Rattle.dag_reader.specs.Grammar.{at_start, at_dag, at_title, at_statement, after_name, at_key_value, in_group, group_name, after_first}
+use Rattle.dag_reader.specs.Grammar.{after_edge, chain_name, after_group, at_attrs, attr_name, at_attr_value, after_attr, after_comma, at_end}
+use Rattle.dag_reader.specs.Syntax.{Word, Inner, inner_semicolon, inner_name, Group, single, braces, Attr, bare, valued, Later, next_attr, comma_attr}
+use Rattle.dag_reader.specs.Syntax.{Attrs, no_attr, attr_list, Statement, lone_semicolon, dropped, vertex, chain, Text}
+use Rattle.dag_reader.specs.Syntax.{inner_tokens, group_tokens, attr_tokens, later_tokens, inside_tokens, attrs_tokens, links_tokens, body_tokens}
+use Rattle.dag_reader.specs.Syntax.{title_tokens, text_tokens}
 use Rattle.dag_reader.proofs.LawRun.{ok, then_ok, one_ok, none_ok}
 
 -- ---- what is accepted, as a path through the places
@@ -32,7 +35,8 @@ over_taken f ts p at (Ok u) v h = over f ts p at u v h
 abbrev Goes : (ℕ → ℕ) → List Tok → Option Position → Said → Type 0
 Goes f ts o v = (q : Position) × (u : Said) × (o ≡ Some q) × (ok f q u ts ≡ Some v)
 
-on_fitted : (f : ℕ → ℕ) (ts : List Tok) (p : Position) (at : ℕ) (t : Tok) (o : Option Position) (u v : Said) → then_ok f ts (fitted p at t o u) ≡ Some v → Goes f ts o v
+on_fitted : (f : ℕ → ℕ) (ts : List Tok) (p : Position) (at : ℕ) (t : Tok) (o : Option Position) (u v : Said) → then_ok f ts (fitted p at t o u) ≡ Some v
+    → Goes f ts o v
 on_fitted f ts p at t None u v h = cc h
 on_fitted f ts p at t (Some q) u v h = (q, noted p t u, refl, h)
 
@@ -66,7 +70,8 @@ abbrev pub ChainTail : List Tok → Type 0
 ChainTail ts = (ls : List (Arrow × Group)) × (attrs : Option Attrs) × (rest : List Tok) × (ts ≡ links_tokens ls (attrs_tokens attrs rest)) × Body rest
 
 abbrev pub FirstTail : List Tok → Type 0
-FirstTail ts = (l : Arrow × Group) × (ls : List (Arrow × Group)) × (attrs : Option Attrs) × (rest : List Tok) × (ts ≡ links_tokens (l ∷ ls) (attrs_tokens attrs rest)) × Body rest
+FirstTail ts = (l : Arrow × Group) × (ls : List (Arrow × Group)) × (attrs : Option Attrs) × (rest : List Tok)
+    × (ts ≡ links_tokens (l ∷ ls) (attrs_tokens attrs rest)) × Body rest
 
 abbrev pub GroupTail : Braces → List Tok → Type 0
 GroupTail which.First ts = FirstTail ts
@@ -78,8 +83,13 @@ Inside b ts = (is : List Inner) × (rest : List Tok) × (ts ≡ inner_tokens is 
 abbrev pub LaterTail : List Tok → Type 0
 LaterTail ts = (ls : List Later) × (rest : List Tok) × (ts ≡ later_tokens ls rest) × Body rest
 
+-- a value or none, and then more
+abbrev pub with_value : Option Bool → List Tok → List Tok
+with_value None more = more
+with_value (Some d) more = equals ∷ value d ∷ more
+
 abbrev pub AttrTail : List Tok → Type 0
-AttrTail ts = (v : Bool) × (rest : List Tok) × (ts ≡ (if v then equals ∷ value ∷ rest else rest)) × LaterTail rest
+AttrTail ts = (v : Option Bool) × (rest : List Tok) × (ts ≡ with_value v rest) × LaterTail rest
 
 abbrev pub OneAttr : List Tok → Type 0
 OneAttr ts = (a : Attr) × (rest : List Tok) × (ts ≡ attr_tokens a rest) × LaterTail rest
@@ -88,7 +98,7 @@ abbrev pub InAttrs : List Tok → Type 0
 InAttrs ts = (attrs : Attrs) × (rest : List Tok) × (ts ≡ inside_tokens attrs rest) × Body rest
 
 pub data NameTail : List Tok → Type 0 where
-  is_dropped : {ts : List Tok} (rest : List Tok) → ts ≡ equals ∷ value ∷ rest → Body rest → NameTail ts
+  is_dropped : {ts : List Tok} (rest : List Tok) → ts ≡ equals ∷ value true ∷ rest → Body rest → NameTail ts
   is_vertex : {ts : List Tok} (attrs : Option Attrs) (rest : List Tok) → ts ≡ attrs_tokens attrs rest → Body rest → NameTail ts
   is_chain : {ts : List Tok} → FirstTail ts → NameTail ts
 
@@ -98,7 +108,7 @@ Behind at_dag ts = (title : Option Word) × (xs : List Statement) × (more : Lis
 Behind at_title ts = (xs : List Statement) × (more : List Tok) × (ts ≡ open_brace ∷ body_tokens xs more)
 Behind at_statement ts = Body ts
 Behind (after_name n) ts = NameTail ts
-Behind at_key_value ts = (rest : List Tok) × (ts ≡ value ∷ rest) × Body rest
+Behind at_key_value ts = (rest : List Tok) × (ts ≡ value true ∷ rest) × Body rest
 Behind (in_group b) ts = Inside b ts
 Behind (group_name b n) ts = Inside b ts
 Behind after_first ts = FirstTail ts
@@ -107,7 +117,7 @@ Behind (chain_name n) ts = ChainTail ts
 Behind after_group ts = ChainTail ts
 Behind (at_attrs of) ts = InAttrs ts
 Behind (attr_name of k n) ts = AttrTail ts
-Behind (at_attr_value of) ts = (rest : List Tok) × (ts ≡ value ∷ rest) × LaterTail rest
+Behind (at_attr_value of) ts = (d : Bool) × (rest : List Tok) × (ts ≡ value d ∷ rest) × LaterTail rest
 Behind (after_attr of) ts = LaterTail ts
 Behind (after_comma of) ts = OneAttr ts
 Behind at_end ts = (more : List Tok) × (ts ≡ end ∷ more)
@@ -122,7 +132,7 @@ word q n = record { quoted = q; text = n }
 
 named : (q : Bool) (n : List ℕ) (ts : List Tok) → NameTail ts → Body (name q n ∷ ts)
 unfolding word
-named q n ts (is_dropped rest is b) = (dropped (word q n) ∷ b.0, b.1, ap (λ l. name q n ∷ l) (is ∙ ap (λ l. equals ∷ value ∷ l) b.2))
+named q n ts (is_dropped rest is b) = (dropped (word q n) ∷ b.0, b.1, ap (λ l. name q n ∷ l) (is ∙ ap (λ l. equals ∷ value true ∷ l) b.2))
 named q n ts (is_vertex attrs rest is b) = (vertex (word q n) attrs ∷ b.0, b.1, ap (λ l. name q n ∷ l) (is ∙ ap (attrs_tokens attrs) b.2))
 named q n ts (is_chain c) =
     let b = c.5 in
@@ -159,10 +169,10 @@ unchained ts b = ([], None, ts, refl, b)
 attributed : (ts : List Tok) → InAttrs ts → ChainTail (open_bracket ∷ ts)
 attributed ts a = ([], Some a.0, a.1, ap (λ l. open_bracket ∷ l) a.2, a.3)
 
-pick : (q : Bool) (n : List ℕ) (ts : List Tok) (v : Bool) (rest : List Tok) → ts ≡ (if v then equals ∷ value ∷ rest else rest) → LaterTail rest → OneAttr (name q n ∷ ts)
+pick : (q : Bool) (n : List ℕ) (ts : List Tok) (v : Option Bool) (rest : List Tok) → ts ≡ with_value v rest → LaterTail rest → OneAttr (name q n ∷ ts)
 unfolding word
-pick q n ts true rest is l = (valued (word q n), rest, ap (λ l. name q n ∷ l) is, l)
-pick q n ts false rest is l = (bare (word q n), rest, ap (λ l. name q n ∷ l) is, l)
+pick q n ts None rest is l = (bare (word q n), rest, ap (λ l. name q n ∷ l) is, l)
+pick q n ts (Some d) rest is l = (valued (word q n) d, rest, ap (λ l. name q n ∷ l) is, l)
 
 one_attr : (q : Bool) (n : List ℕ) (ts : List Tok) → AttrTail ts → OneAttr (name q n ∷ ts)
 one_attr q n ts t = pick q n ts t.0 t.1 t.2 t.3
@@ -219,11 +229,13 @@ after_an_attr of at (name k n) ts q is h = later_attr (name k n ∷ ts) (one_att
 after_an_attr of at close_bracket ts q is h = ([], ts, refl, got at_statement q ts is h)
 after_an_attr of at t ts q is h = cc is
 
-after_attr_name : (of : Option (List ℕ)) (k : ℕ) (n : List ℕ) (at : ℕ) (t : Tok) (ts : List Tok) (q : Position) → next (attr_name of k n) at t ≡ Some q → Behind q ts → AttrTail (t ∷ ts)
-after_attr_name of k n at equals ts q is h = let b = got (at_attr_value of) q ts is h in (true, b.0, ap (λ l. equals ∷ l) b.1, b.2)
-after_attr_name of k n at t ts q is h = (false, t ∷ ts, refl, after_an_attr of at t ts q is h)
+after_attr_name : (of : Option (List ℕ)) (k : ℕ) (n : List ℕ) (at : ℕ) (t : Tok) (ts : List Tok) (q : Position) → next (attr_name of k n) at t ≡ Some q
+    → Behind q ts → AttrTail (t ∷ ts)
+after_attr_name of k n at equals ts q is h = let b = got (at_attr_value of) q ts is h in (Some b.0, b.1, ap (λ l. equals ∷ l) b.2, b.3)
+after_attr_name of k n at t ts q is h = (None, t ∷ ts, refl, after_an_attr of at t ts q is h)
 
-dag_first : (n : List ℕ) (ts : List Tok) (q : Position) → (if bytes_eq n (codes "dag") then Some at_dag else None) ≡ Some q → Behind q ts → Behind at_start (name false n ∷ ts)
+dag_first : (n : List ℕ) (ts : List Tok) (q : Position) → (if bytes_eq n (codes "dag") then Some at_dag else None) ≡ Some q → Behind q ts
+    → Behind at_start (name false n ∷ ts)
 dag_first n ts q is h =
     let dag = cond_some _ _ _ is in
     let same : n ≡ codes "dag" = (bytes_eq-Decides n (codes "dag")).0 dag.0 in
@@ -239,7 +251,7 @@ behind_next at_dag at open_brace ts q is h = let b = got at_statement q ts is h 
 behind_next at_title at open_brace ts q is h = let b = got at_statement q ts is h in (b.0, b.1, ap (λ l. open_brace ∷ l) b.2)
 behind_next at_statement at t ts q is h = started t ts q is h
 behind_next (after_name n) at t ts q is h = after_a_name n t ts q is h
-behind_next at_key_value at value ts q is h = (ts, refl, got at_statement q ts is h)
+behind_next at_key_value at (value true) ts q is h = (ts, refl, got at_statement q ts is h)
 behind_next (in_group b) at t ts q is h = in_a_group b t ts q is h
 behind_next (group_name b n) at t ts q is h = in_a_group b t ts q is h
 behind_next after_first at (edge a) ts q is h = linked a ts (got after_edge q ts is h)
@@ -249,7 +261,7 @@ behind_next (chain_name n) at t ts q is h = in_chain after_group t ts q is h
 behind_next after_group at t ts q is h = in_chain after_group t ts q is h
 behind_next (at_attrs of) at t ts q is h = in_attrs of at t ts q is h
 behind_next (attr_name of k n) at t ts q is h = after_attr_name of k n at t ts q is h
-behind_next (at_attr_value of) at value ts q is h = (ts, refl, got (after_attr of) q ts is h)
+behind_next (at_attr_value of) at (value d) ts q is h = (d, ts, refl, got (after_attr of) q ts is h)
 behind_next (after_attr of) at t ts q is h = after_an_attr of at t ts q is h
 behind_next (after_comma of) at (name k n) ts q is h = one_attr k n ts (got (attr_name of at n) q ts is h)
 behind_next p at t ts q is h = cc is

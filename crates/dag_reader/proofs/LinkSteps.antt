@@ -4,7 +4,8 @@ use Rattle.dag_reader.specs.declared.marks.Arrow.{Arrow}
 use Rattle.dag_reader.specs.declared.marks.Remark.TheVariants.{Begins, Joined}
 use Rattle.dag_reader.specs.declared.tokens.Due.TheVariants as dues
 use Rattle.dag_reader.specs.Tokens.{edge, name, first, place_of}
-use Rattle.dag_reader.specs.Grammar.{Fault, ◌>>=◌, Said, Position, at_statement, after_name, chain_name, after_group, after_edge, goes_on, ends, step, taken, settled, with_marks, with_vertex}
+use Rattle.dag_reader.specs.Grammar.{Fault, ◌>>=◌, Said, Position, at_statement, after_name, chain_name, after_group, after_edge, goes_on, ends, step}
+use Rattle.dag_reader.specs.Grammar.{taken, settled, with_marks, with_vertex}
 use Rattle.dag_reader.specs.Reading.{RestSays}
 use Rattle.dag_reader.specs.Links.{IsLink, begins_statement, with_link}
 use Rattle.dag_reader.proofs.TokenSteps.{one_more, last_one}
@@ -46,8 +47,10 @@ behind_name : (size : ℕ) (s w : Said) (bytes left : List ℕ) (a : Arrow) (rig
     → RestSays size dues.Token (chain_name right) w rest r → RestSays size dues.Token (after_name left) s bytes r
 behind_name size s w bytes left a right rest behind_edge (Err e) r is goes edge_here right_here more = cc goes
 behind_name size s w bytes left a right rest behind_edge (Ok u) r is goes edge_here right_here more =
-    one_more size dues.Token (after_name left) after_edge s (with_marks (Joined a ∷ []) u) bytes behind_edge (place_of size bytes) (edge a) r refl (sym edge_here) (edge_goes left s u _ a is)
-    (one_more size dues.Token after_edge (chain_name right) (with_marks (Joined a ∷ []) u) (with_marks (Joined a ∷ []) u) behind_edge rest (place_of size behind_edge) (name false right) r refl (sym right_here)
+    one_more size dues.Token (after_name left) after_edge s (with_marks (Joined a ∷ []) u) bytes behind_edge (place_of size bytes) (edge a) r refl
+    (sym edge_here) (edge_goes left s u _ a is)
+    (one_more size dues.Token after_edge (chain_name right) (with_marks (Joined a ∷ []) u) (with_marks (Joined a ∷ []) u) behind_edge rest
+    (place_of size behind_edge) (name false right) r refl (sym right_here)
     (right_goes right (with_marks (Joined a ∷ []) u) _)
     (subst (λ (x : Said). RestSays size dues.Token (chain_name right) x rest r) (sym (same_said (with_marks (Joined a ∷ []) u) w goes)) more))
 
@@ -57,8 +60,10 @@ link_goes : (size : ℕ) (p : Position) (s w : Said) (bytes left : List ℕ) (a 
     → RestSays size dues.Token (chain_name right) w rest r → RestSays size dues.Token p s bytes r
 link_goes size p s w bytes left a right rest (Err e) r here link is goes more = cc goes
 link_goes size p s w bytes left a right rest (Ok u) r here link is goes more =
-    one_more size dues.Token p (after_name left) s u bytes link.behind_left (place_of size bytes) (name false left) r refl (sym link.left_first) (name_goes p s u _ left here is)
-    (behind_name size u w link.behind_left left a right rest link.behind_edge (with_vertex left (with_marks (Begins ∷ []) u)) r refl goes link.edge_first link.right_first more)
+    one_more size dues.Token p (after_name left) s u bytes link.behind_left (place_of size bytes) (name false left) r refl (sym link.left_first)
+    (name_goes p s u _ left here is)
+    (behind_name size u w link.behind_left left a right rest link.behind_edge (with_vertex left (with_marks (Begins ∷ []) u))
+    r refl goes link.edge_first link.right_first more)
 
 -- what is said behind the edge is what the rest from its first name on says
 pub link_more : (size : ℕ) (p : Position) (s w : Said) (bytes left : List ℕ) (a : Arrow) (right rest : List ℕ) (r : Result Said Fault)
@@ -72,16 +77,19 @@ stops_behind_name : (size : ℕ) (s : Said) (bytes left : List ℕ) (a : Arrow) 
     → first dues.Token bytes ≡ (edge a, behind_edge) → RestSays size dues.Token (after_name left) s bytes (Err e)
 stops_behind_name size s bytes left a behind_edge (Ok u) e is stops edge_here = cc stops
 stops_behind_name size s bytes left a behind_edge (Err f) e is stops edge_here =
-    last_one size dues.Token (after_name left) s bytes behind_edge (place_of size bytes) (edge a) (Err e) refl (sym edge_here) (edge_stops left s _ a e (is ∙ stops))
+    last_one size dues.Token (after_name left) s bytes behind_edge (place_of size bytes) (edge a) (Err e) refl (sym edge_here)
+    (edge_stops left s _ a e (is ∙ stops))
 
 link_stops_at : (size : ℕ) (p : Position) (s : Said) (bytes left : List ℕ) (a : Arrow) (right rest : List ℕ) (v : Result Said Fault) (e : Fault)
     → begins_statement p ≡ true → IsLink bytes left a right rest → settled p (name false left) s ≡ v
     → (v >>= (λ u. with_vertex left (with_marks (Begins ∷ []) u) >>= (λ u. Ok (with_marks (Joined a ∷ []) u)))) ≡ Err e
     → RestSays size dues.Token p s bytes (Err e)
 link_stops_at size p s bytes left a right rest (Err f) e here link is stops =
-    last_one size dues.Token p s bytes link.behind_left (place_of size bytes) (name false left) (Err e) refl (sym link.left_first) (name_stops p s _ left e (is ∙ stops))
+    last_one size dues.Token p s bytes link.behind_left (place_of size bytes) (name false left) (Err e) refl (sym link.left_first)
+    (name_stops p s _ left e (is ∙ stops))
 link_stops_at size p s bytes left a right rest (Ok u) e here link is stops =
-    one_more size dues.Token p (after_name left) s u bytes link.behind_left (place_of size bytes) (name false left) (Err e) refl (sym link.left_first) (name_goes p s u _ left here is)
+    one_more size dues.Token p (after_name left) s u bytes link.behind_left (place_of size bytes) (name false left) (Err e) refl (sym link.left_first)
+    (name_goes p s u _ left here is)
     (stops_behind_name size u link.behind_left left a link.behind_edge (with_vertex left (with_marks (Begins ∷ []) u)) e refl stops link.edge_first)
 
 -- a fault of its names is that of the rest from its first name on

@@ -66,12 +66,14 @@ SetOf p marks = (v : ℕ) → p v ≡ list_any (λ r. v == r) (members (take (le
 
 find_is : (p : ℕ → Bool) (marks : List Remark) (left : List ℕ) → SetOf p marks → find p left ≡ find (λ l. list_any (λ r. l == r) (members (drop 1 marks))) left
 find_is p marks left is =
-    find_same p (λ l. list_any (λ r. l == r) (members (drop 1 marks))) (λ v. is v ∙ ap (λ (ms : List Remark). list_any (λ r. v == r) (members ms)) (whole_rest marks)) left
+    find_same p (λ l. list_any (λ r. l == r) (members (drop 1 marks)))
+    (λ v. is v ∙ ap (λ (ms : List Remark). list_any (λ r. v == r) (members ms)) (whole_rest marks)) left
 
 pub at_found : (p : ℕ → Bool) (left : List ℕ) (marks : List Remark) (a : Arrow) (v : ℕ) → 1 ≤ length marks → get_or marks 0 Begins ≡ Joined a → SetOf p marks
     → Some v ≡ find p left → Some v ≡ looped (edges_behind left marks)
 at_found p left marks a v h joined is found =
-    sym (at_joined left marks a h joined ∙ found_is (find (λ l. list_any (λ r. l == r) (members (drop 1 marks))) left) (looped (edges_behind [] (drop 1 marks))) v
+    sym (at_joined left marks a h joined ∙ found_is (find (λ l. list_any (λ r. l == r) (members (drop 1 marks))) left)
+    (looped (edges_behind [] (drop 1 marks))) v
     (found ∙ find_is p marks left is))
 
 pub at_lost : (p : ℕ → Bool) (left new : List ℕ) (marks : List Remark) (a : Arrow) → 1 ≤ length marks → get_or marks 0 Begins ≡ Joined a → SetOf p marks
@@ -80,5 +82,6 @@ pub at_lost : (p : ℕ → Bool) (left new : List ℕ) (marks : List Remark) (a 
 at_lost p left new marks a h joined is lost empty =
     ap (λ (l : List ℕ). looped (edges_behind l (take (length marks - 1) (drop 1 marks)))) empty
     ∙ ap (λ (ms : List Remark). looped (edges_behind [] ms)) (whole_rest marks)
-    ∙ sym (at_joined left marks a h joined ∙ lost_is (find (λ l. list_any (λ r. l == r) (members (drop 1 marks))) left) (looped (edges_behind [] (drop 1 marks)))
+    ∙ sym (at_joined left marks a h joined ∙ lost_is (find (λ l. list_any (λ r. l == r) (members (drop 1 marks))) left)
+    (looped (edges_behind [] (drop 1 marks)))
     (lost ∙ find_is p marks left is))

@@ -1,6 +1,7 @@
 -- Marks whose members are among the names stay so when names come.
 use Rattle.std.proofs.lemmas.List.{take_rest}
-use Rattle.std.proofs.Common.{◌≡◌, ◌≤◌, ◌<◌, ◌-◌, take, drop, ℕ, zero, suc, Bool, true, false, List, [], ◌∷◌, ◌++◌, length, get_or, refl, arith, length-append, sym, ap, ◌∙◌, subst}
+use Rattle.std.proofs.Common.{◌≡◌, ◌≤◌, ◌<◌, ◌-◌, take, drop, ℕ, zero, suc, Bool, true, false, List, [], ◌∷◌, ◌++◌, length, get_or, refl, arith}
+use Rattle.std.proofs.Common.{length-append, sym, ap, ◌∙◌, subst}
 use Rattle.std.specs.Prelude.{nat_lt, cond, Result, Ok, Err, OnOk, OnErr}
 use Rattle.mixed_graph.specs.declared.names.AddFault.{AddFault}
 use Rattle.std.specs.List.{list_all}
@@ -31,10 +32,12 @@ pub with_name-longer : (names : List (List ℕ)) (name : List ℕ) → length na
 with_name-longer names name = more_or_same (is_named names name) names name
 
 -- the marks stay inside when a name is added, or isn't
-pub inside-add : (r : Result ℕ AddFault) (old new : List (List ℕ)) (name : List ℕ) (marks : List Remark) → OnOk r (new ≡ with_name old name) → OnErr r (new ≡ old)
+pub inside-add : (r : Result ℕ AddFault) (old new : List (List ℕ)) (name : List ℕ) (marks : List Remark) → OnOk r (new ≡ with_name old name)
+    → OnErr r (new ≡ old)
     → list_all (is_inside (length old)) marks ≡ true → list_all (is_inside (length new)) marks ≡ true
 inside-add (Ok i) old new name marks ok err h =
-    subst (λ (l : List (List ℕ)). list_all (is_inside (length l)) marks ≡ true) (sym ok) (all_inside_more (length old) (length (with_name old name)) marks (with_name-longer old name) h)
+    subst (λ (l : List (List ℕ)). list_all (is_inside (length l)) marks ≡ true) (sym ok)
+    (all_inside_more (length old) (length (with_name old name)) marks (with_name-longer old name) h)
 inside-add (Err e) old new name marks ok err h =
     subst (λ (l : List (List ℕ)). list_all (is_inside (length l)) marks ≡ true) (sym err) h
 
@@ -52,7 +55,8 @@ number_below (x ∷ xs) zero h below = ltb-true x 64 (and_parts (nat_lt x 64) (l
 number_below (x ∷ xs) (suc i) h below = number_below xs i (and_parts (nat_lt x 64) (list_all (λ v. nat_lt v 64) xs) h).1 (omega arith)
 
 -- the marks behind the first
-pub inside_behind : (n : ℕ) (marks : List Remark) → list_all (is_inside n) marks ≡ true → 1 ≤ length marks → list_all (is_inside n) (take (length marks - 1) (drop 1 marks)) ≡ true
+pub inside_behind : (n : ℕ) (marks : List Remark) → list_all (is_inside n) marks ≡ true → 1 ≤ length marks
+    → list_all (is_inside n) (take (length marks - 1) (drop 1 marks)) ≡ true
 inside_behind n [] h some = absurd (omega arith)
 inside_behind n (m ∷ ms) h some =
     subst (λ (l : List Remark). list_all (is_inside n) l ≡ true) (sym (take_rest (m ∷ ms) 1)) (and_parts (is_inside n m) (list_all (is_inside n) ms) h).1

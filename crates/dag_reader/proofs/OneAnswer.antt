@@ -1,13 +1,15 @@
 -- Each text has one answer.
-use Rattle.std.proofs.Common.{◌≡◌, ◌<◌, ◌≤◌, ℕ, zero, suc, Bool, true, false, List, [], ◌∷◌, length, drop, take, Option, Some, None, Result, refl, sym, ap, subst, ◌∙◌, arith, one-add, length-drop}
+use Rattle.std.proofs.Common.{◌≡◌, ◌<◌, ◌≤◌, ℕ, zero, suc, Bool, true, false, List, [], ◌∷◌, length, drop, take, Option, Some, None, Result, refl}
+use Rattle.std.proofs.Common.{sym, ap, subst, ◌∙◌, arith, one-add, length-drop}
 use Rattle.std.specs.Prelude.{cond, ◌==◌}
 use Rattle.std.specs.List.{prefix_len}
-use Rattle.name_text.specs.Printing.{is_white, is_edge_byte, is_name_byte}
+use Rattle.answer_text.specs.Printing.{is_white, is_edge_byte, is_name_byte}
 use Rattle.dag_reader.specs.Bytes.{is_run_byte}
 use Rattle.mixed_graph.specs.Names.{is_line_byte}
 use Rattle.dag_reader.specs.declared.tokens.Due.{Due}
 use Rattle.dag_reader.specs.declared.tokens.Due.TheVariants as dues
-use Rattle.dag_reader.specs.Tokens.{Tok, end, value, first, place_of, due_behind, past_white, token_of, token_at, value_at, run_at, quoted_text, closed_by, quoted_name, quoted_value, edge_token, name_token}
+use Rattle.dag_reader.specs.Tokens.{Tok, end, value, first, place_of, due_behind, past_white, token_of, token_at, value_at, run_at, is_droppable, quoted_text}
+use Rattle.dag_reader.specs.Tokens.{closed_by, quoted_name, quoted_value, edge_token, name_token}
 use Rattle.dag_reader.specs.Grammar.{Fault, Said, nothing, Position, at_start, Turn, goes_on, ends, step}
 use Rattle.dag_reader.specs.Reading.{AreFirst, rest_says, on_turn, RestSays, Says}
 use Rattle.dag_reader.proofs.TokenSteps.{one_more, last_one, end_ends}
@@ -49,13 +51,15 @@ chosen_len false x y n f g = g refl
 run_len : (p : ℕ → Bool) (token : List ℕ → Tok) (b : ℕ) (bs : List ℕ) → p b ≡ true → length (run_at p token (b ∷ bs)).1 ≤ length bs
 run_len p token b bs h = rw (h, one-add) (omega (arith, length-drop (prefix_len p bs) bs))
 
-name_len : (bytes : List ℕ) (o : Option (List ℕ × List ℕ)) (after : List ℕ) (text : List ℕ) → o ≡ closed_by text after → length after ≤ length bytes → length (quoted_name bytes o).1 ≤ length bytes
+name_len : (bytes : List ℕ) (o : Option (List ℕ × List ℕ)) (after : List ℕ) (text : List ℕ) → o ≡ closed_by text after → length after ≤ length bytes
+    → length (quoted_name bytes o).1 ≤ length bytes
 name_len bytes None after text is h = omega arith
 name_len bytes (Some p) [] text is h = cc is
 name_len bytes (Some p) (b ∷ bs) text is h = go (b == 34) is
   where
     go : (c : Bool) → Some p ≡ cond c (Some (text, bs)) None → length p.1 ≤ length bytes
-    go true is = let e : ◌≡◌ {A = List ℕ × List ℕ} p (text, bs) = cc is in let l : length p.1 ≡ length bs = ap (λ (x : List ℕ × List ℕ). length x.1) e in omega arith
+    go true is = let e : ◌≡◌ {A = List ℕ × List ℕ} p (text, bs) = cc is in let l : length p.1 ≡ length bs = ap (λ (x : List ℕ × List ℕ). length x.1) e in
+        omega arith
     go false is = cc is
 
 value_len : (bytes : List ℕ) (o : Option (List ℕ × List ℕ)) → length (quoted_value bytes o).1 ≡ length (quoted_name bytes o).1
@@ -76,7 +80,7 @@ token_len b bs =
 value_at_len : (b : ℕ) (bs : List ℕ) → length (value_at b bs).1 ≤ length bs
 value_at_len b bs =
     chosen_len (b == 34) _ _ (length bs) (λ _. omega (arith, value_len bs (quoted_text bs), quoted_len bs))
-    (λ _. chosen_len (is_run_byte b) _ _ (length bs) (run_len is_run_byte (λ _. value) b bs) (λ _. omega arith))
+    (λ _. chosen_len (is_run_byte b) _ _ (length bs) (run_len is_run_byte (λ run. value (is_droppable run)) b bs) (λ _. omega arith))
 
 of_len : (due : Due) (bs : List ℕ) → ((token_of due bs).0 ≡ end → ⊥) → length (token_of due bs).1 < length bs
 of_len due [] h = absurd (h refl)

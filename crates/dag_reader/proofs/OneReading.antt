@@ -1,13 +1,14 @@
 -- A text is read as one graph at most, and has no fault where it is read as one.
 use Rattle.std.proofs.Common.{◌≡◌, ℕ, List, refl, sym, subst, ◌∙◌}
 use Rattle.std.specs.Prelude.{Result, Ok, Err}
-use Rattle.mixed_graph.specs.Pairs.{joins}
+use Rattle.mixed_graph.specs.Pairs.{has_pair}
 use Rattle.mixed_graph.specs.Shown.{graph_of}
 use Rattle.mixed_graph.proofs.Masks.{same_from_has}
 use Rattle.dag_reader.specs.declared.marks.Role.TheVariants.{Exposure, Outcome, Adjusted, Latent}
 use Rattle.dag_reader.specs.declared.graph.ReadGraph.{ReadGraph}
 use Rattle.dag_reader.specs.declared.faults.GraphFault.{GraphFault}
-use Rattle.dag_reader.specs.declared.faults.GraphFault.TheVariants.{NotUtf8, Token, Expected, NotADag, EdgeKind, Flag, Selected, SelfLoop, TooMany, RoleClash, Cycle, NoMemory}
+use Rattle.dag_reader.specs.declared.faults.GraphFault.TheVariants.{NotUtf8, Token, Expected, NotADag, EdgeKind, Flag, Selected, SelfLoop, TooMany}
+use Rattle.dag_reader.specs.declared.faults.GraphFault.TheVariants.{RoleClash, Cycle, NoMemory}
 use Rattle.dag_reader.specs.Grammar.{Fault, Said, token, expected, not_a_dag, edge_kind, flag, selected, too_many}
 use Rattle.dag_reader.specs.Passes.{arrows_of}
 use Rattle.dag_reader.specs.Reading.{Says}
@@ -48,11 +49,14 @@ gives_either s g (SelfLoop n) a ne b = let none = a.0 in let some = b.1 in cc
 gives_either s g (RoleClash n) a ne b = a.1 b.1 b.2.two
 gives_either s g (Cycle ns) a ne b =
     let c = b.2 in
-    no_cycle (graph_of g.graph) c.list c.count a.2.acyclic (cycle_same (joins (arrows_of s.marks)) (graph_of g.graph).arrow c.list c.count (λ u v. sym (a.2.edges.arrows u v)) c.is_cycle)
+    no_cycle (graph_of g.graph) c.list c.count a.2.acyclic (cycle_same (has_pair (arrows_of s.marks)) (graph_of g.graph).arrow c.list c.count
+    (λ u v. sym (a.2.edges.arrows u v)) c.is_cycle)
 gives_either s g f a ne b = b
 
-told_either : (text : List ℕ) (g : ReadGraph) (fault : GraphFault) (s t : Said) → Says text (Ok s) → GivesGraph s (Ok g) → (fault ≡ NoMemory → ⊥) → Says text (Ok t) → GivesGraph t (Err fault) → ⊥
-told_either text g fault s t says a ne says_too b = gives_either s g fault a ne (subst (λ (u : Said). GivesGraph u (Err fault)) (one_said text s t says says_too) b)
+told_either : (text : List ℕ) (g : ReadGraph) (fault : GraphFault) (s t : Said) → Says text (Ok s) → GivesGraph s (Ok g) → (fault ≡ NoMemory → ⊥)
+    → Says text (Ok t) → GivesGraph t (Err fault) → ⊥
+told_either text g fault s t says a ne says_too b = gives_either s g fault a ne
+    (subst (λ (u : Said). GivesGraph u (Err fault)) (one_said text s t says says_too) b)
 
 -- a text that is read as a graph has no fault
 pub reads_either : (text : List ℕ) (g : ReadGraph) (fault : GraphFault) → Reads text (Ok g) → (fault ≡ NoMemory → ⊥) → Reads text (Err fault) → ⊥

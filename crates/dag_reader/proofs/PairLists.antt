@@ -1,12 +1,14 @@
 -- Edges and pairs whose ends are below n, and the pairs of a relation.
-use Rattle.std.proofs.Common.{◌≡◌, ◌<◌, ◌+◌, ◌-◌, ℕ, zero, suc, Bool, true, false, List, [], ◌∷◌, ◌++◌, map, length, get_or, Option, Some, None, inl, inr, refl, sym, ap, subst, ◌∙◌, arith}
+use Rattle.std.proofs.Common.{◌≡◌, ◌<◌, ◌+◌, ◌-◌, ℕ, zero, suc, Bool, true, false, List, [], ◌∷◌, ◌++◌, map, length, get_or, Option, Some, None, inl}
+use Rattle.std.proofs.Common.{inr, refl, sym, ap, subst, ◌∙◌, arith}
 use Rattle.std.specs.Prelude.{cond, ◌==◌, ◌||◌, ◌&&◌, nat_lt, find, option_map, All}
 use Rattle.std.specs.List.{list_any, list_all, flat_map, filter_map, cons_option}
-use Rattle.std.proofs.lemmas.Bool.{and_parts, and_from, ltb-true, lt-ltb, le-ltb, eq-eqb, ne_eqb, eqb-true, cases_eq, cases_lt, cases_Bool, or_cases, or_parts, both_ways}
+use Rattle.std.proofs.lemmas.Bool.{and_parts, and_from, ltb-true, lt-ltb, le-ltb, eq-eqb, ne_eqb, eqb-true, cases_eq, cases_lt, cases_Bool, or_cases}
+use Rattle.std.proofs.lemmas.Bool.{or_parts, both_ways}
 use Rattle.std.proofs.lemmas.List.Folds.{list_any-append, list_all-append}
 use Rattle.std.proofs.lemmas.Grind.{flat_map-append}
 use Rattle.mixed_graph.specs.Bits.{members_below}
-use Rattle.mixed_graph.specs.Pairs.{joins, loop_in, first_loop, IsCycle}
+use Rattle.mixed_graph.specs.Pairs.{has_pair, loop_in, first_loop, IsCycle}
 use Rattle.mixed_graph.specs.Graphs.{MixedGraph}
 use Rattle.mixed_graph.specs.Built.{IsGraphOf}
 use Rattle.dag_reader.specs.declared.marks.Arrow.{Arrow}
@@ -16,7 +18,8 @@ use Rattle.dag_reader.specs.declared.marks.Remark.{Remark}
 use Rattle.dag_reader.specs.declared.marks.Remark.TheVariants.{Begins, Joined, Member, HasRole}
 use Rattle.dag_reader.specs.MarkEnds.{is_inside}
 use Rattle.dag_reader.specs.Rows.{count_up, pairs_below}
-use Rattle.dag_reader.specs.Passes.{Edge, pairs, members, edges_behind, is_self_loop, self_loop, arrow_of, both_of, arrows_of, doubles_of, roles_behind, has_role, same_role}
+use Rattle.dag_reader.specs.Passes.{Edge, pairs, members, edges_behind, is_self_loop, self_loop, arrow_of, both_of, arrows_of, doubles_of}
+use Rattle.dag_reader.specs.Passes.{roles_behind, has_role, same_role}
 use Rattle.dag_reader.proofs.RowPairs.{members-zero, members-suc}
 
 -- ---- edges and their ends
@@ -32,7 +35,8 @@ members_inside n [] h = refl
 members_inside n (Begins ∷ ms) h = refl
 members_inside n (Joined a ∷ ms) h = refl
 members_inside n (Member v ∷ ms) h =
-    let parts = and_parts (nat_lt v n) (list_all (is_inside n) ms) h in and_from (nat_lt v n) (list_all (below n) (members ms)) parts.0 (members_inside n ms parts.1)
+    let parts = and_parts (nat_lt v n) (list_all (is_inside n) ms) h in
+    and_from (nat_lt v n) (list_all (below n) (members ms)) parts.0 (members_inside n ms parts.1)
 members_inside n (HasRole r ∷ ms) h = members_inside n ms h
 
 row_inside : (n l : ℕ) (a : Arrow) (rs : List ℕ) → nat_lt l n ≡ true → list_all (below n) rs ≡ true
@@ -42,14 +46,16 @@ row_inside n l a (r ∷ rs) h k =
     let parts = and_parts (nat_lt r n) (list_all (below n) rs) k in
     and_from (nat_lt l n && nat_lt r n) _ (and_from (nat_lt l n) (nat_lt r n) h parts.0) (row_inside n l a rs h parts.1)
 
-pairs_inside : (n : ℕ) (a : Arrow) (ls rs : List ℕ) → list_all (below n) ls ≡ true → list_all (below n) rs ≡ true → list_all (edge_inside n) (pairs ls a rs) ≡ true
+pairs_inside : (n : ℕ) (a : Arrow) (ls rs : List ℕ) → list_all (below n) ls ≡ true → list_all (below n) rs ≡ true → list_all (edge_inside n) (pairs ls a rs)
+    ≡ true
 pairs_inside n a [] rs h k = refl
 pairs_inside n a (l ∷ ls) rs h k =
     let parts = and_parts (nat_lt l n) (list_all (below n) ls) h in
     list_all-append (edge_inside n) (map (λ r. record { left = l; arrow = a; right = r }) rs) (pairs ls a rs)
     ∙ and_from _ (list_all (edge_inside n) (pairs ls a rs)) (row_inside n l a rs parts.0 k) (pairs_inside n a ls rs parts.1 k)
 
-edges_inside : (n : ℕ) (marks : List Remark) (left : List ℕ) → list_all (below n) left ≡ true → list_all (is_inside n) marks ≡ true → list_all (edge_inside n) (edges_behind left marks) ≡ true
+edges_inside : (n : ℕ) (marks : List Remark) (left : List ℕ) → list_all (below n) left ≡ true → list_all (is_inside n) marks ≡ true
+    → list_all (edge_inside n) (edges_behind left marks) ≡ true
 edges_inside n [] left h k = refl
 edges_inside n (Begins ∷ ms) left h k = edges_inside n ms [] refl k
 edges_inside n (Joined a ∷ ms) left h k =
@@ -57,10 +63,12 @@ edges_inside n (Joined a ∷ ms) left h k =
     ∙ and_from _ (list_all (edge_inside n) (edges_behind [] ms)) (pairs_inside n a left (members ms) h (members_inside n ms k)) (edges_inside n ms [] refl k)
 edges_inside n (Member v ∷ ms) left h k =
     let parts = and_parts (nat_lt v n) (list_all (is_inside n) ms) k in
-    edges_inside n ms (left ++ v ∷ []) (list_all-append (below n) left (v ∷ []) ∙ and_from (list_all (below n) left) (nat_lt v n && true) h (and_from (nat_lt v n) true parts.0 refl)) parts.1
+    edges_inside n ms (left ++ v ∷ []) (list_all-append (below n) left (v ∷ [])
+    ∙ and_from (list_all (below n) left) (nat_lt v n && true) h (and_from (nat_lt v n) true parts.0 refl)) parts.1
 edges_inside n (HasRole r ∷ ms) left h k = edges_inside n ms left h k
 
-chosen_holds : {A : Type 0} (q : A → Bool) (c : Bool) (x e : A) (o : Option A) → q x ≡ true → (o ≡ Some e → q e ≡ true) → cond c (Some x) o ≡ Some e → q e ≡ true
+chosen_holds : {A : Type 0} (q : A → Bool) (c : Bool) (x e : A) (o : Option A) → q x ≡ true → (o ≡ Some e → q e ≡ true) → cond c (Some x) o ≡ Some e → q e
+    ≡ true
 chosen_holds q true x e o h k is = let s : x ≡ e = cc is in subst (λ y. q y ≡ true) s h
 chosen_holds q false x e o h k is = k is
 
@@ -72,7 +80,8 @@ find_holds p q (x ∷ xs) e h is =
 -- the vertex of a self-loop is one of the names'
 pub loop_inside : (n : ℕ) (marks : List Remark) (e : Edge) → list_all (is_inside n) marks ≡ true → self_loop marks ≡ Some e → e.left < n
 loop_inside n marks e h is =
-    ltb-true e.left n (and_parts (nat_lt e.left n) (nat_lt e.right n) (find_holds is_self_loop (edge_inside n) (edges_behind [] marks) e (edges_inside n marks [] refl h) is)).0
+    ltb-true e.left n (and_parts (nat_lt e.left n) (nat_lt e.right n) (find_holds is_self_loop (edge_inside n) (edges_behind [] marks) e
+    (edges_inside n marks [] refl h) is)).0
 
 -- ---- pairs and their ends
 
@@ -98,7 +107,8 @@ both_inside n Right l r h = refl
 both_inside n Left l r h = refl
 both_inside n Both l r h = h
 
-all_inside : (f : Edge → Option (ℕ × ℕ)) (n : ℕ) → ((e : Edge) → edge_inside n e ≡ true → if_pair n (f e) ≡ true) → (es : List Edge) → list_all (edge_inside n) es ≡ true
+all_inside : (f : Edge → Option (ℕ × ℕ)) (n : ℕ) → ((e : Edge) → edge_inside n e ≡ true → if_pair n (f e) ≡ true) → (es : List Edge)
+    → list_all (edge_inside n) es ≡ true
     → list_all (pair_inside n) (filter_map f es) ≡ true
 all_inside f n keeps [] h = refl
 all_inside f n keeps (e ∷ es) h =
@@ -111,11 +121,11 @@ arrows_inside n marks h = all_inside arrow_of n (λ e k. turned_inside n e.arrow
 doubles_inside : (n : ℕ) (marks : List Remark) → list_all (is_inside n) marks ≡ true → list_all (pair_inside n) (doubles_of marks) ≡ true
 doubles_inside n marks h = all_inside both_of n (λ e k. both_inside n e.arrow e.left e.right k) (edges_behind [] marks) (edges_inside n marks [] refl h)
 
-joins_inside : (n : ℕ) (ps : List (ℕ × ℕ)) (a b : ℕ) → list_all (pair_inside n) ps ≡ true → joins ps a b ≡ true → (a < n) × (b < n)
+joins_inside : (n : ℕ) (ps : List (ℕ × ℕ)) (a b : ℕ) → list_all (pair_inside n) ps ≡ true → has_pair ps a b ≡ true → (a < n) × (b < n)
 joins_inside n [] a b h k = cc k
 joins_inside n (p ∷ ps) a b h k =
     let parts = and_parts (pair_inside n p) (list_all (pair_inside n) ps) h in
-    elim (or_cases ((a == p.0) && (b == p.1)) (joins ps a b) k) [
+    elim (or_cases ((a == p.0) && (b == p.1)) (has_pair ps a b) k) [
       | inl here ↦
           let e = and_parts (a == p.0) (b == p.1) here in
           let ends = and_parts (nat_lt p.0 n) (nat_lt p.1 n) parts.0 in
@@ -131,7 +141,7 @@ abbrev hits : ℕ → Option (ℕ × ℕ) → Bool
 hits v None = false
 hits v (Some p) = (v == p.0) && (v == p.1)
 
-joins_kept : (v : ℕ) (o : Option (ℕ × ℕ)) (rest : List (ℕ × ℕ)) → hits v o ≡ false → joins rest v v ≡ false → joins (cons_option o rest) v v ≡ false
+joins_kept : (v : ℕ) (o : Option (ℕ × ℕ)) (rest : List (ℕ × ℕ)) → hits v o ≡ false → has_pair rest v v ≡ false → has_pair (cons_option o rest) v v ≡ false
 joins_kept v None rest h k = k
 joins_kept v (Some p) rest h k = rw (h, k) refl
 
@@ -155,30 +165,35 @@ none_first : (c : Bool) (e : Edge) (o : Option Edge) → ◌≡◌ {A = Option E
 none_first true e o h = cc h
 none_first false e o h = (refl, h)
 
-no_loops : (f : Edge → Option (ℕ × ℕ)) (v : ℕ) → ((e : Edge) → (e.left == e.right) ≡ false → hits v (f e) ≡ false) → (es : List Edge) → ◌≡◌ {A = Option Edge} (find is_self_loop es) None
-    → joins (filter_map f es) v v ≡ false
+no_loops : (f : Edge → Option (ℕ × ℕ)) (v : ℕ) → ((e : Edge) → (e.left == e.right) ≡ false → hits v (f e) ≡ false) → (es : List Edge)
+    → ◌≡◌ {A = Option Edge} (find is_self_loop es) None
+    → has_pair (filter_map f es) v v ≡ false
 no_loops f v misses [] h = refl
 no_loops f v misses (e ∷ es) h =
     let parts = none_first (e.left == e.right) e (find is_self_loop es) h in
     joins_kept v (f e) (filter_map f es) (misses e parts.0) (no_loops f v misses es parts.1)
 
-pub arrows_apart : (marks : List Remark) (v : ℕ) → ◌≡◌ {A = Option Edge} (self_loop marks) None → joins (arrows_of marks) v v ≡ false
+pub arrows_apart : (marks : List Remark) (v : ℕ) → ◌≡◌ {A = Option Edge} (self_loop marks) None → has_pair (arrows_of marks) v v ≡ false
 arrows_apart marks v h = no_loops arrow_of v (λ e k. arrow_misses v e.arrow e.left e.right k) (edges_behind [] marks) h
 
-pub doubles_apart : (marks : List Remark) (v : ℕ) → ◌≡◌ {A = Option Edge} (self_loop marks) None → joins (doubles_of marks) v v ≡ false
+pub doubles_apart : (marks : List Remark) (v : ℕ) → ◌≡◌ {A = Option Edge} (self_loop marks) None → has_pair (doubles_of marks) v v ≡ false
 doubles_apart marks v h = no_loops both_of v (λ e k. both_misses v e.arrow e.left e.right k) (edges_behind [] marks) h
 
-caught : (a : Arrow) (l r : ℕ) (ds bs : List (ℕ × ℕ)) → (l == r) ≡ true → joins (cons_option (arrow_of (record { left = l; arrow = a; right = r })) ds) l l ≡ false
-    → joins (cons_option (both_of (record { left = l; arrow = a; right = r })) bs) l l ≡ false → ⊥
-caught Right l r ds bs same h k = let t = and_from (l == l) (l == r) (eq-eqb l l refl) same in let f = (or_parts ((l == l) && (l == r)) (joins ds l l) h).0 in both_ways _ f t
-caught Left l r ds bs same h k = let t = and_from (l == r) (l == l) same (eq-eqb l l refl) in let f = (or_parts ((l == r) && (l == l)) (joins ds l l) h).0 in both_ways _ f t
-caught Both l r ds bs same h k = let t = and_from (l == l) (l == r) (eq-eqb l l refl) same in let f = (or_parts ((l == l) && (l == r)) (joins bs l l) k).0 in both_ways _ f t
+caught : (a : Arrow) (l r : ℕ) (ds bs : List (ℕ × ℕ)) → (l == r) ≡ true → has_pair (cons_option (arrow_of (record { left = l; arrow = a; right = r })) ds) l l
+    ≡ false
+    → has_pair (cons_option (both_of (record { left = l; arrow = a; right = r })) bs) l l ≡ false → ⊥
+caught Right l r ds bs same h k = let t = and_from (l == l) (l == r) (eq-eqb l l refl) same in let f = (or_parts ((l == l) && (l == r)) (has_pair ds l l) h).0 in
+    both_ways _ f t
+caught Left l r ds bs same h k = let t = and_from (l == r) (l == l) same (eq-eqb l l refl) in let f = (or_parts ((l == r) && (l == l)) (has_pair ds l l) h).0 in
+    both_ways _ f t
+caught Both l r ds bs same h k = let t = and_from (l == l) (l == r) (eq-eqb l l refl) same in let f = (or_parts ((l == l) && (l == r)) (has_pair bs l l) k).0 in
+    both_ways _ f t
 
-left_out : (o : Option (ℕ × ℕ)) (rest : List (ℕ × ℕ)) (v : ℕ) → joins (cons_option o rest) v v ≡ false → joins rest v v ≡ false
+left_out : (o : Option (ℕ × ℕ)) (rest : List (ℕ × ℕ)) (v : ℕ) → has_pair (cons_option o rest) v v ≡ false → has_pair rest v v ≡ false
 left_out None rest v h = h
-left_out (Some p) rest v h = (or_parts ((v == p.0) && (v == p.1)) (joins rest v v) h).1
+left_out (Some p) rest v h = (or_parts ((v == p.0) && (v == p.1)) (has_pair rest v v) h).1
 
-none_looped : (es : List Edge) → ((v : ℕ) → joins (filter_map arrow_of es) v v ≡ false) → ((v : ℕ) → joins (filter_map both_of es) v v ≡ false)
+none_looped : (es : List Edge) → ((v : ℕ) → has_pair (filter_map arrow_of es) v v ≡ false) → ((v : ℕ) → has_pair (filter_map both_of es) v v ≡ false)
     → ◌≡◌ {A = Option Edge} (find is_self_loop es) None
 none_looped [] h k = refl
 none_looped (e ∷ es) h k = elim (cases_Bool (e.left == e.right)) [
@@ -187,7 +202,7 @@ none_looped (e ∷ es) h k = elim (cases_Bool (e.left == e.right)) [
 ]
 
 -- where no vertex is joined to itself there is no self-loop
-pub no_self_loop : (marks : List Remark) → ((v : ℕ) → joins (arrows_of marks) v v ≡ false) → ((v : ℕ) → joins (doubles_of marks) v v ≡ false)
+pub no_self_loop : (marks : List Remark) → ((v : ℕ) → has_pair (arrows_of marks) v v ≡ false) → ((v : ℕ) → has_pair (doubles_of marks) v v ≡ false)
     → ◌≡◌ {A = Option Edge} (self_loop marks) None
 no_self_loop marks h k = none_looped (edges_behind [] marks) h k
 
@@ -239,7 +254,7 @@ members_among s (suc k) y =
     ∙ ap (λ t. (nat_lt y k && s y) || t) (one_among (s k) y k)
     ∙ member_step y k s
 
-row_joins : (a : ℕ) (bs : List ℕ) (x y : ℕ) → joins (map (λ b. (a, b)) bs) x y ≡ ((x == a) && list_any (λ b. y == b) bs)
+row_joins : (a : ℕ) (bs : List ℕ) (x y : ℕ) → has_pair (map (λ b. (a, b)) bs) x y ≡ ((x == a) && list_any (λ b. y == b) bs)
 row_joins a [] x y = none (x == a)
   where
     none : (b : Bool) → false ≡ (b && false)
@@ -251,16 +266,18 @@ row_joins a (b ∷ bs) x y = ap (λ t. ((x == a) && (y == b)) || t) (row_joins a
     shared true q r = refl
     shared false q r = refl
 
-rows_joins : (n : ℕ) (r : ℕ → ℕ → Bool) (k x y : ℕ) → joins (flat_map (λ a. map (λ b. (a, b)) (members_below (r a) n)) (count_up k)) x y ≡ (nat_lt x k && (nat_lt y n && r x y))
+rows_joins : (n : ℕ) (r : ℕ → ℕ → Bool) (k x y : ℕ) → has_pair (flat_map (λ a. map (λ b. (a, b)) (members_below (r a) n)) (count_up k)) x y
+    ≡ (nat_lt x k && (nat_lt y n && r x y))
 rows_joins n r zero x y =
-    rw (le-ltb x zero (omega arith)) (ap (λ l. joins (flat_map (λ a. map (λ b. (a, b)) (members_below (r a) n)) l) x y) (members-zero (λ _. true)))
+    rw (le-ltb x zero (omega arith)) (ap (λ l. has_pair (flat_map (λ a. map (λ b. (a, b)) (members_below (r a) n)) l) x y) (members-zero (λ _. true)))
 rows_joins n r (suc k) x y =
     let row : ℕ → List (ℕ × ℕ) = λ a. map (λ b. (a, b)) (members_below (r a) n) in
-    ap (λ l. joins (flat_map row l) x y) (members-suc (λ _. true) k)
-    ∙ ap (λ l. joins l x y) (flat_map-append row (count_up k) (k ∷ []))
+    ap (λ l. has_pair (flat_map row l) x y) (members-suc (λ _. true) k)
+    ∙ ap (λ l. has_pair l x y) (flat_map-append row (count_up k) (k ∷ []))
     ∙ list_any-append (λ (p : ℕ × ℕ). (x == p.0) && (y == p.1)) (flat_map row (count_up k)) (row k ++ [])
-    ∙ ap (λ t. joins (flat_map row (count_up k)) x y || t)
-    (list_any-append (λ (p : ℕ × ℕ). (x == p.0) && (y == p.1)) (row k) [] ∙ or_none (joins (row k) x y) ∙ row_joins k (members_below (r k) n) x y ∙ ap (λ t. (x == k) && t) (members_among (r k) n y))
+    ∙ ap (λ t. has_pair (flat_map row (count_up k)) x y || t)
+    (list_any-append (λ (p : ℕ × ℕ). (x == p.0) && (y == p.1)) (row k) [] ∙ or_none (has_pair (row k) x y) ∙ row_joins k (members_below (r k) n) x y
+    ∙ ap (λ t. (x == k) && t) (members_among (r k) n y))
     ∙ ap (λ t. t || ((x == k) && (nat_lt y n && r k y))) (rows_joins n r k x y)
     ∙ member_step x k (λ a. nat_lt y n && r a y)
   where
@@ -269,12 +286,13 @@ rows_joins n r (suc k) x y =
     or_none false = refl
 
 -- whether a pair is among those of a relation below n
-pub pairs_below-joins : (n : ℕ) (r : ℕ → ℕ → Bool) (x y : ℕ) → joins (pairs_below n r) x y ≡ (nat_lt x n && (nat_lt y n && r x y))
+pub pairs_below-joins : (n : ℕ) (r : ℕ → ℕ → Bool) (x y : ℕ) → has_pair (pairs_below n r) x y ≡ (nat_lt x n && (nat_lt y n && r x y))
 pairs_below-joins n r x y = rows_joins n r n x y
 
 -- the pairs of rows that hold the edges of pairs below n
-pub pairs_below-same : (n : ℕ) (r : ℕ → ℕ → Bool) (ps : List (ℕ × ℕ)) → ((a b : ℕ) → r a b ≡ joins ps a b) → list_all (pair_inside n) ps ≡ true → (a b : ℕ) → joins (pairs_below n r) a b ≡ joins ps a b
-pairs_below-same n r ps is inside a b = pairs_below-joins n r a b ∙ elim (cases_Bool (joins ps a b)) [
+pub pairs_below-same : (n : ℕ) (r : ℕ → ℕ → Bool) (ps : List (ℕ × ℕ)) → ((a b : ℕ) → r a b ≡ has_pair ps a b) → list_all (pair_inside n) ps ≡ true → (a b : ℕ)
+    → has_pair (pairs_below n r) a b ≡ has_pair ps a b
+pairs_below-same n r ps is inside a b = pairs_below-joins n r a b ∙ elim (cases_Bool (has_pair ps a b)) [
   | inl t ↦ (let ends = joins_inside n ps a b inside t in rw (lt-ltb a n ends.0, lt-ltb b n ends.1, is a b) refl)
   | inr f ↦ rw (is a b, f) (none (nat_lt a n) (nat_lt b n))
 ]
@@ -284,15 +302,15 @@ pairs_below-same n r ps is inside a b = pairs_below-joins n r a b ∙ elim (case
     none true false = refl
     none false q = refl
 
-pub arrows_same : (n : ℕ) (r : ℕ → ℕ → Bool) (marks : List Remark) → ((a b : ℕ) → r a b ≡ joins (arrows_of marks) a b) → list_all (is_inside n) marks ≡ true
-    → (a b : ℕ) → joins (pairs_below n r) a b ≡ joins (arrows_of marks) a b
+pub arrows_same : (n : ℕ) (r : ℕ → ℕ → Bool) (marks : List Remark) → ((a b : ℕ) → r a b ≡ has_pair (arrows_of marks) a b) → list_all (is_inside n) marks ≡ true
+    → (a b : ℕ) → has_pair (pairs_below n r) a b ≡ has_pair (arrows_of marks) a b
 arrows_same n r marks is inside = pairs_below-same n r (arrows_of marks) is (arrows_inside n marks inside)
 
-pub doubles_same : (n : ℕ) (r : ℕ → ℕ → Bool) (marks : List Remark) → ((a b : ℕ) → r a b ≡ joins (doubles_of marks) a b) → list_all (is_inside n) marks ≡ true
-    → (a b : ℕ) → joins (pairs_below n r) a b ≡ joins (doubles_of marks) a b
+pub doubles_same : (n : ℕ) (r : ℕ → ℕ → Bool) (marks : List Remark) → ((a b : ℕ) → r a b ≡ has_pair (doubles_of marks) a b) → list_all (is_inside n) marks ≡ true
+    → (a b : ℕ) → has_pair (pairs_below n r) a b ≡ has_pair (doubles_of marks) a b
 doubles_same n r marks is inside = pairs_below-same n r (doubles_of marks) is (doubles_inside n marks inside)
 
-all_joined : (ps : List (ℕ × ℕ)) (k : ℕ) (d : ℕ × ℕ) → k < length ps → joins ps (get_or ps k d).0 (get_or ps k d).1 ≡ true
+all_joined : (ps : List (ℕ × ℕ)) (k : ℕ) (d : ℕ × ℕ) → k < length ps → has_pair ps (get_or ps k d).0 (get_or ps k d).1 ≡ true
 all_joined [] k d h = absurd (omega arith)
 all_joined (p ∷ ps) zero d h = rw (eq-eqb p.0 p.0 refl, eq-eqb p.1 p.1 refl) refl
 all_joined (p ∷ ps) (suc k) d h = later ((get_or ps k d).0 == p.0 && (get_or ps k d).1 == p.1) (all_joined ps k d (omega arith))
@@ -309,7 +327,7 @@ pairs_below-ends n r = λ k d h.
     let parts = and_parts (nat_lt x n) (nat_lt y n && r x y) there in
     (ltb-true x n parts.0, ltb-true y n (and_parts (nat_lt y n) (r x y) parts.1).0)
 
-loop_joined : (ps : List (ℕ × ℕ)) (v : ℕ) → loop_in ps ≡ Some v → joins ps v v ≡ true
+loop_joined : (ps : List (ℕ × ℕ)) (v : ℕ) → loop_in ps ≡ Some v → has_pair ps v v ≡ true
 loop_joined [] v h = cc h
 loop_joined (p ∷ ps) v h = elim (cases_Bool (p.0 == p.1)) [
   | inl t ↦ (let is : p.0 ≡ v = cc (rw t at h) in
@@ -321,12 +339,13 @@ loop_joined (p ∷ ps) v h = elim (cases_Bool (p.0 == p.1)) [
     later true h = refl
     later false h = h
 
-by_first : (o : Option ℕ) (ds bs : List (ℕ × ℕ)) (v : ℕ) → o ≡ loop_in ds → elim o as (λ _. Option ℕ) [ Some w ↦ Some w | None ↦ loop_in bs ] ≡ Some v → ((joins ds v v ≡ true) → ⊥) → (joins bs v v ≡ true → ⊥) → ⊥
+by_first : (o : Option ℕ) (ds bs : List (ℕ × ℕ)) (v : ℕ) → o ≡ loop_in ds → elim o as (λ _. Option ℕ) [ Some w ↦ Some w | None ↦ loop_in bs ] ≡ Some v
+    → ((has_pair ds v v ≡ true) → ⊥) → (has_pair bs v v ≡ true → ⊥) → ⊥
 by_first (Some w) ds bs v is h d b = let e : w ≡ v = cc h in d (loop_joined ds v (sym is ∙ ap (λ (x : ℕ). Some x) e))
 by_first None ds bs v is h d b = b (loop_joined bs v h)
 
 -- where no vertex is joined to itself there is no first loop
-pub no_first_loop : (ds bs : List (ℕ × ℕ)) (v : ℕ) → first_loop ds bs ≡ Some v → ((u : ℕ) → joins ds u u ≡ false) → ((u : ℕ) → joins bs u u ≡ false) → ⊥
+pub no_first_loop : (ds bs : List (ℕ × ℕ)) (v : ℕ) → first_loop ds bs ≡ Some v → ((u : ℕ) → has_pair ds u u ≡ false) → ((u : ℕ) → has_pair bs u u ≡ false) → ⊥
 no_first_loop ds bs v h d b = by_first (loop_in ds) ds bs v refl h (λ t. (let f = d v in cc)) (λ t. (let f = b v in cc))
 
 -- ---- roles
@@ -347,12 +366,13 @@ role_inside n (HasRole q ∷ ms) (Some w) r v h k t = elim (or_cases ((v == w) &
 
 -- ---- what the builder answers, for the marks
 
-pub graph_same : (n m : ℕ) (ds bs ds' bs' : List (ℕ × ℕ)) (g : MixedGraph) → n ≡ m → ((a b : ℕ) → joins ds a b ≡ joins ds' a b) → ((a b : ℕ) → joins bs a b ≡ joins bs' a b)
+pub graph_same : (n m : ℕ) (ds bs ds' bs' : List (ℕ × ℕ)) (g : MixedGraph) → n ≡ m → ((a b : ℕ) → has_pair ds a b ≡ has_pair ds' a b)
+    → ((a b : ℕ) → has_pair bs a b ≡ has_pair bs' a b)
     → IsGraphOf n ds bs g → IsGraphOf m ds' bs' g
 graph_same n m ds bs ds' bs' g size d b is = record {
   size = is.size ∙ size;
   arrows = λ x y. is.arrows x y ∙ d x y;
-  spouses = λ x y. is.spouses x y ∙ either (joins bs x y) (joins bs y x) (b x y) (b y x);
+  spouses = λ x y. is.spouses x y ∙ either (has_pair bs x y) (has_pair bs y x) (b x y) (b y x);
 }
   where
     either : (p q : Bool) {r s : Bool} → p ≡ r → q ≡ s → (p || q) ≡ (r || s)
@@ -368,7 +388,8 @@ cycle_same p q list count is c = record {
   once = c.once;
 }
 
-pub cycle_inside : (n : ℕ) (marks : List Remark) (list : List ℕ) (count : ℕ) → list_all (is_inside n) marks ≡ true → IsCycle (joins (arrows_of marks)) list count → (i : ℕ) → i < count → get_or list i 0 < n
+pub cycle_inside : (n : ℕ) (marks : List Remark) (list : List ℕ) (count : ℕ) → list_all (is_inside n) marks ≡ true
+    → IsCycle (has_pair (arrows_of marks)) list count → (i : ℕ) → i < count → get_or list i 0 < n
 cycle_inside n marks list count inside c i h = elim (cases_lt (i + 1) count) [
   | inl more ↦ (joins_inside n (arrows_of marks) (get_or list i 0) (get_or list (i + 1) 0) (arrows_inside n marks inside) (c.next i more)).0
   | inr last ↦ (let at : count - 1 ≡ i = omega arith in
@@ -376,10 +397,12 @@ cycle_inside n marks list count inside c i h = elim (cases_lt (i + 1) count) [
       subst (λ (k : ℕ). get_or list k 0 < n) at low)
 ]
 
-by_edge : (n : ℕ) (marks : List Remark) (o : Option Edge) (v : ℕ) → o ≡ self_loop marks → option_map (λ (e : Edge). e.left) o ≡ Some v → list_all (is_inside n) marks ≡ true → v < n
+by_edge : (n : ℕ) (marks : List Remark) (o : Option Edge) (v : ℕ) → o ≡ self_loop marks → option_map (λ (e : Edge). e.left) o ≡ Some v
+    → list_all (is_inside n) marks ≡ true → v < n
 by_edge n marks None v is h inside = cc h
 by_edge n marks (Some e) v is h inside = let low = loop_inside n marks e inside (sym is) in let same : e.left ≡ v = cc h in omega arith
 
 -- the vertex of the first self-loop, as the search found it
-pub loop_found_inside : (n : ℕ) (marks : List Remark) (v : ℕ) → option_map (λ (e : Edge). e.left) (self_loop marks) ≡ Some v → list_all (is_inside n) marks ≡ true → v < n
+pub loop_found_inside : (n : ℕ) (marks : List Remark) (v : ℕ) → option_map (λ (e : Edge). e.left) (self_loop marks) ≡ Some v → list_all (is_inside n) marks
+    ≡ true → v < n
 loop_found_inside n marks v h inside = by_edge n marks (self_loop marks) v refl h inside

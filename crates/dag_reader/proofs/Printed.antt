@@ -4,12 +4,12 @@ use Rattle.std.proofs.lemmas.Bool.Decides.{nat_tests}
 use Rattle.std.specs.Prelude.{if◌then◌else◌, ◌==◌, ◌||◌, ◌&&◌, not, cond}
 use Rattle.std.specs.List.{prefix_len, list_all}
 use Rattle.std.proofs.Math.Seq.{take-append_seam, drop-append_seam}
-use Rattle.name_text.specs.Printing.{is_white, is_edge_byte, is_sign, is_name_byte}
+use Rattle.answer_text.specs.Printing.{is_white, is_edge_byte, is_sign, is_name_byte}
 use Rattle.mixed_graph.specs.Names.{is_line_byte}
 use Rattle.dag_reader.specs.declared.tokens.Due.TheVariants as dues
 use Rattle.dag_reader.specs.Tokens.{Tok, name, name_token, first, token_of, token_at, run_at, quoted_name, quoted_text, sign_token}
 use Rattle.mixed_graph.specs.Names.{IsName}
-use Rattle.name_text.specs.Printing.{is_plain_byte, is_plain, printed}
+use Rattle.answer_text.specs.Printing.{is_plain_byte, is_bare, begins_with_arrow, is_plain, printed}
 
 or_false : (a b : Bool) → (a || b) ≡ false → (a ≡ false) × (b ≡ false)
 or_false true b h = cc h
@@ -49,7 +49,7 @@ run_is p token xs rest h s = rw (prefix_len-stops p xs rest h s, take-append_sea
 third : {A : Type 0} (a b c : Bool) (v w x o : A) → a ≡ false → b ≡ false → c ≡ true → cond a v (cond b w (cond c x o)) ≡ x
 third a b c v w x o ha hb hc = rw (ha, hb, hc) refl
 
--- a bare name, where it doesn't look like a comment
+-- a bare name, where it neither looks like a comment nor begins with an arrow
 pub bare_first : (b : ℕ) (bs rest : List ℕ) → list_all is_name_byte (b ∷ bs) ≡ true → Stops is_name_byte rest → name_token (b ∷ bs) ≡ name false (b ∷ bs)
     → first dues.Token ((b ∷ bs) ++ rest) ≡ (name false (b ∷ bs), rest)
 bare_first b bs rest h s plain =
@@ -67,7 +67,8 @@ closing : (n rest : List ℕ) → list_all is_line_byte n ≡ true → quoted_te
 closing n rest h = rw (prefix_len-stops is_line_byte n (34 ∷ rest) h refl, take-append_seam, drop-append_seam) refl
 
 -- a quoted name
-pub quoted_first : (b : ℕ) (bs rest : List ℕ) → list_all is_line_byte (b ∷ bs) ≡ true → first dues.Token (34 ∷ ((b ∷ bs) ++ 34 ∷ rest)) ≡ (name true (b ∷ bs), rest)
+pub quoted_first : (b : ℕ) (bs rest : List ℕ) → list_all is_line_byte (b ∷ bs) ≡ true → first dues.Token (34 ∷ ((b ∷ bs) ++ 34 ∷ rest))
+    ≡ (name true (b ∷ bs), rest)
 quoted_first b bs rest h =
     first_here 34 ((b ∷ bs) ++ 34 ∷ rest) refl
     ∙ ap (quoted_name ((b ∷ bs) ++ 34 ∷ rest)) (closing (b ∷ bs) rest h)
@@ -82,9 +83,9 @@ list_all-plain (b ∷ bs) h =
     let here = and_true (is_name_byte b) _ both.0 in
     rw (here.0, list_all-plain bs both.1) refl
 
--- it doesn't look like a comment
-pub no_comment : (b : ℕ) (bs : List ℕ) → (b == 47) ≡ false → (b == 35) ≡ false → name_token (b ∷ bs) ≡ name false (b ∷ bs)
-no_comment b bs slash hash = rw (eq_swap b 47 slash, eq_swap b 35 hash) refl
+-- it neither looks like a comment nor begins with an arrow
+pub no_comment : (b : ℕ) (bs : List ℕ) → (b == 47) ≡ false → (b == 35) ≡ false → begins_with_arrow (b ∷ bs) ≡ false → name_token (b ∷ bs) ≡ name false (b ∷ bs)
+no_comment b bs slash hash arrow = rw (eq_swap b 47 slash, eq_swap b 35 hash, arrow) refl
 
 last_of : (a b c d e : Bool) → not (a || b || c || d || e) ≡ true → e ≡ false
 last_of a b c d e h = (or_false _ e (not_true _ h)).1
@@ -92,10 +93,11 @@ last_of a b c d e h = (or_false _ e (not_true _ h)).1
 pub plain_first : (n rest : List ℕ) → is_plain n ≡ true → Stops is_name_byte rest → first dues.Token (n ++ rest) ≡ (name false n, rest)
 plain_first [] rest h s = cc h
 plain_first (b ∷ bs) rest h s =
-    let parts = and_true (list_all is_plain_byte (b ∷ bs)) (not (b == 35)) h in
+    let bare = and_true (is_bare (b ∷ bs)) (not (begins_with_arrow (b ∷ bs))) h in
+    let parts = and_true (list_all is_plain_byte (b ∷ bs)) (not (b == 35)) bare.0 in
     let here = and_true (is_plain_byte b) (list_all is_plain_byte bs) parts.0 in
     let slash = last_of (b == 40) (b == 41) (b == 124) (b == 42) (b == 47) (and_true (is_name_byte b) _ here.0).1 in
-    bare_first b bs rest (list_all-plain (b ∷ bs) parts.0) s (no_comment b bs slash (not_true (b == 35) parts.1))
+    bare_first b bs rest (list_all-plain (b ∷ bs) parts.0) s (no_comment b bs slash (not_true (b == 35) parts.1) (not_true (begins_with_arrow (b ∷ bs)) bare.1))
 
 -- what a printed name reads back as
 abbrev pub read_back : List ℕ → Tok

@@ -27,7 +27,8 @@ ol e o a l h k = grind arith
 al : (e o a l : Bool) → a ≡ true → l ≡ true → two_of e o a l ≡ true
 al e o a l h k = grind arith
 
-pub two_hold : (is : Role → Bool) (first second : Role) → first ≢ second → is first ≡ true → is second ≡ true → two_of (is Exposure) (is Outcome) (is Adjusted) (is Latent) ≡ true
+pub two_hold : (is : Role → Bool) (first second : Role) → first ≢ second → is first ≡ true → is second ≡ true
+    → two_of (is Exposure) (is Outcome) (is Adjusted) (is Latent) ≡ true
 two_hold is Exposure Exposure d h k = absurd (d refl)
 two_hold is Outcome Outcome d h k = absurd (d refl)
 two_hold is Adjusted Adjusted d h k = absurd (d refl)

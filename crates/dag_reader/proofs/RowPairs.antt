@@ -24,7 +24,8 @@ row_pairs a bs = map (λ b. (a, b)) bs
 pub row_begin : (out : List (ℕ × ℕ)) (a : ℕ) (s : ℕ → Bool) → out ≡ out ++ row_pairs a (members_below s 0)
 row_begin out a s = sym (ap (λ l. out ++ row_pairs a l) (members-zero s) ∙ append-nil out)
 
-row_more : (out new init : List (ℕ × ℕ)) (a b : ℕ) (s : ℕ → Bool) (more : List ℕ) → cond (s b) (b ∷ []) [] ≡ more → out ≡ init ++ row_pairs a (members_below s b)
+row_more : (out new init : List (ℕ × ℕ)) (a b : ℕ) (s : ℕ → Bool) (more : List ℕ) → cond (s b) (b ∷ []) [] ≡ more → out ≡ init
+    ++ row_pairs a (members_below s b)
     → new ≡ out ++ row_pairs a more → new ≡ init ++ row_pairs a (members_below s (b + 1))
 row_more out new init a b s more here so is =
     is ∙ ap (λ l. l ++ row_pairs a more) so ∙ append_assoc init (row_pairs a (members_below s b)) (row_pairs a more)
@@ -42,7 +43,8 @@ row_no out new init a b s out_here so is = row_more out new init a b s [] (rw ou
 pub rows_begin : {A : Type 0} (out : List A) (f : ℕ → List A) → out ≡ [] → out ≡ flat_map f (count_up 0)
 rows_begin out f is = is ∙ sym (ap (flat_map f) (members-zero (λ _. true)))
 
-pub rows_more : {A : Type 0} (out new : List A) (f : ℕ → List A) (a : ℕ) → out ≡ flat_map f (count_up a) → new ≡ out ++ f a → new ≡ flat_map f (count_up (a + 1))
+pub rows_more : {A : Type 0} (out new : List A) (f : ℕ → List A) (a : ℕ) → out ≡ flat_map f (count_up a) → new ≡ out ++ f a → new
+    ≡ flat_map f (count_up (a + 1))
 rows_more out new f a so is =
     is ∙ ap (λ l. l ++ f a) so
     ∙ sym (ap (flat_map f) (members-more (λ _. true) a) ∙ flat_map-append f (count_up a) (a ∷ []) ∙ ap (λ l. flat_map f (count_up a) ++ l) (append-nil (f a)))

@@ -1,5 +1,6 @@
 -- Cuts of a text at runs of a class are texts, and runs of name bytes are names.
-use Rattle.std.proofs.Common.{◌≡◌, ◌<◌, ◌≤◌, ◌+◌, ◌-◌, ℕ, zero, suc, Bool, true, false, List, [], ◌∷◌, length, drop, take, get_or, refl, sym, ap, subst, ◌∙◌, arith, one-add}
+use Rattle.std.proofs.Common.{◌≡◌, ◌<◌, ◌≤◌, ◌+◌, ◌-◌, ℕ, zero, suc, Bool, true, false, List, [], ◌∷◌, length, drop, take, get_or, refl, sym, ap}
+use Rattle.std.proofs.Common.{subst, ◌∙◌, arith, one-add}
 use Rattle.std.specs.Prelude.{cond, ◌==◌, ◌||◌, ◌&&◌, not}
 use Rattle.std.specs.List.{prefix_len, list_all}
 use Rattle.std.specs.Str.{is_utf8, IsCharBoundary}
@@ -10,11 +11,12 @@ use Rattle.std.proofs.lemmas.List.Sums.{prefix_len_passes, prefix_len_stops, pre
 use Rattle.mixed_graph.specs.Names.{IsName, is_line_byte}
 use Rattle.dag_reader.specs.declared.tokens.Class.{Class}
 use Rattle.dag_reader.specs.declared.tokens.Class.TheVariants as classes
-use Rattle.name_text.specs.Printing.{is_white, is_edge_byte, is_sign, is_name_byte}
+use Rattle.answer_text.specs.Printing.{is_white, is_edge_byte, is_sign, is_name_byte}
 use Rattle.dag_reader.specs.Bytes.{in_class, is_run_byte}
 use Rattle.dag_reader.specs.Tokens.{past_white}
 
-taken_step : (p : ℕ → Bool) (x : ℕ) (k : ℕ) (xs : List ℕ) (b : Bool) → p x ≡ b → list_all p (take k xs) ≡ true → list_all p (take (cond b (1 + k) 0) (x ∷ xs)) ≡ true
+taken_step : (p : ℕ → Bool) (x : ℕ) (k : ℕ) (xs : List ℕ) (b : Bool) → p x ≡ b → list_all p (take k xs) ≡ true → list_all p (take (cond b (1 + k) 0) (x ∷ xs))
+    ≡ true
 taken_step p x k xs true h rest = rw (one-add, h) rest
 taken_step p x k xs false h rest = refl
 
@@ -43,7 +45,8 @@ cut_low p bs (suc n) low utf8 is =
     let within = prefix_len-le-length p bs in
     let e : n + 1 ≡ suc n = omega arith in
     subst (TwoTexts bs) e
-    (cut_at bs (n + 1) utf8 (IsCharBoundary-after_ascii bs n (IsUtf8-from_is_utf8 bs utf8) (omega arith) (low (get_or bs n 0) (prefix_len_passes p bs n 0 (omega arith)))))
+    (cut_at bs (n + 1) utf8 (IsCharBoundary-after_ascii bs n (IsUtf8-from_is_utf8 bs utf8) (omega arith)
+    (low (get_or bs n 0) (prefix_len_passes p bs n 0 (omega arith)))))
 
 pub white_low : (b : ℕ) → is_white b ≡ true → b < 128
 white_low b h = grind (arith, nat_tests)

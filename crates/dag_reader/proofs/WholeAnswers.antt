@@ -27,17 +27,20 @@ use Rattle.dag_reader.specs.Reads.{Tells, GivesGraph, Reads}
 use Rattle.dag_reader.specs.Builds.{Marked, IsNamed, HoldsMarked, Owns}
 use Rattle.dag_reader.proofs.PairLists.{role_inside}
 
-set_below : (names : List (List ℕ)) (marks : List Remark) (m : MarkedGraph) → Marked names marks m → list_all (is_inside (length names)) marks ≡ true → (r : Role) → Within (length names) (in_set m.roles r)
+set_below : (names : List (List ℕ)) (marks : List Remark) (m : MarkedGraph) → Marked names marks m → list_all (is_inside (length names)) marks ≡ true
+    → (r : Role) → Within (length names) (in_set m.roles r)
 set_below names marks m is inside r = λ v h. role_inside (length names) marks None r v inside (λ w e. absurd (cc e)) (sym (is.roles r v) ∙ h)
 
-sets_apart : (names : List (List ℕ)) (marks : List Remark) (m : MarkedGraph) → Marked names marks m → (r q : Role) → r ≢ q → Apart (in_set m.roles r) (in_set m.roles q)
+sets_apart : (names : List (List ℕ)) (marks : List Remark) (m : MarkedGraph) → Marked names marks m → (r q : Role) → r ≢ q
+    → Apart (in_set m.roles r) (in_set m.roles q)
 sets_apart names marks m is r q d = λ v h. elim (cases_Bool (in_set m.roles q v)) [
   | inl k ↦ absurd (is.no_clash v (record { first = r; second = q; differ = d; has_first = sym (is.roles r v) ∙ h; has_second = sym (is.roles q v) ∙ k }))
   | inr f ↦ f
 ]
 
 -- the roles of marks without a clash are four sets apart
-pub marked_named : (names : List (List ℕ)) (marks : List Remark) (m : MarkedGraph) → Marked names marks m → list_all (is_inside (length names)) marks ≡ true → IsNamed names m
+pub marked_named : (names : List (List ℕ)) (marks : List Remark) (m : MarkedGraph) → Marked names marks m → list_all (is_inside (length names)) marks ≡ true
+    → IsNamed names m
 marked_named names marks m is inside = record {
   are_names = is.are_names;
   sized = sym is.edges.size;
@@ -56,7 +59,8 @@ marked_named names marks m is inside = record {
 }
 
 -- the graph that holds them is the one that the statements say
-pub held_tells : (names : List (List ℕ)) (marks : List Remark) (m : MarkedGraph) (g : ReadGraph) → Marked names marks m → HoldsMarked g names m → Tells (record { names = names; marks = marks }) g
+pub held_tells : (names : List (List ℕ)) (marks : List Remark) (m : MarkedGraph) (g : ReadGraph) → Marked names marks m → HoldsMarked g names m
+    → Tells (record { names = names; marks = marks }) g
 held_tells names marks m g is held = record {
   names = held.names_kept;
   edges = subst (λ x. IsGraphOf (length names) (arrows_of marks) (doubles_of marks) (graph_of x)) (sym held.graph_kept) is.edges;

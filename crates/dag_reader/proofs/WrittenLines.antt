@@ -1,5 +1,6 @@
 -- A written graph, line by line.
-use Rattle.std.proofs.Common.{◌≡◌, ◌<◌, ◌+◌, ℕ, zero, suc, Bool, true, List, [], ◌∷◌, ◌++◌, map, length, drop, get_or, Option, Some, refl, sym, ap, ◌∙◌, arith, append_assoc, drop-cons}
+use Rattle.std.proofs.Common.{◌≡◌, ◌<◌, ◌+◌, ℕ, zero, suc, Bool, true, List, [], ◌∷◌, ◌++◌, map, length, drop, get_or, Option, Some, refl, sym, ap}
+use Rattle.std.proofs.Common.{◌∙◌, arith, append_assoc, drop-cons}
 use Rattle.std.specs.Prelude.{slice_get}
 use Rattle.std.specs.List.{flat_map}
 use Rattle.std.proofs.lemmas.List.{length-map, map-append}
@@ -8,7 +9,7 @@ use Rattle.mixed_graph.specs.Bits.{members_below}
 use Rattle.mixed_graph.proofs.Members.{length-members-suc, length-members-zero}
 use Rattle.dag_reader.specs.declared.marks.Role.{Role}
 use Rattle.mixed_graph.specs.Names.{name_of}
-use Rattle.name_text.specs.Printing.{printed}
+use Rattle.answer_text.specs.Printing.{printed}
 use Rattle.dag_reader.specs.Rows.{count_up, pairs_below}
 use Rattle.dag_reader.specs.Written.{role_text, vertex_lines, edge_lines}
 use Rattle.dag_reader.proofs.RowPairs.{members-zero, members-suc}
@@ -38,8 +39,10 @@ edge_line out new whole sign names edges i d from to below is_from is_to is so =
     ∙ so
 
 -- one more line of a vertex
-pub vertex_line : (out new whole : List ℕ) (names : List (List ℕ)) (roles : List (Option Role)) (i : ℕ) (d : Option Role) (name : List ℕ) → i < length roles → length roles ≡ length names
-    → slice_get names i ≡ Some name → new ≡ out ++ (printed name ++ (role_text (get_or roles i d) ++ 10 ∷ [])) → out ++ vertex_lines (drop i names) (drop i roles) ≡ whole
+pub vertex_line : (out new whole : List ℕ) (names : List (List ℕ)) (roles : List (Option Role)) (i : ℕ) (d : Option Role) (name : List ℕ) → i < length roles
+    → length roles ≡ length names
+    → slice_get names i ≡ Some name → new ≡ out ++ (printed name ++ (role_text (get_or roles i d) ++ 10 ∷ [])) → out
+    ++ vertex_lines (drop i names) (drop i roles) ≡ whole
     → new ++ vertex_lines (drop (i + 1) names) (drop (i + 1) roles) ≡ whole
 vertex_line out new whole names roles i d name below same is_name is so =
     let a : get_or names i [] ≡ name = get_or_from_slice_get names i name [] is_name in
@@ -62,7 +65,8 @@ length-listed f n = (let e : length (map f (count_up n)) ≡ length (count_up n)
 pub listed_begin : {A : Type 0} (out : List A) (f : ℕ → A) → out ≡ [] → out ≡ map f (count_up 0)
 listed_begin out f is = is ∙ sym (ap (map f) (members-zero (λ _. true)))
 
-pub listed_more : {A : Type 0} (out new : List A) (f : ℕ → A) (k : ℕ) (x : A) → out ≡ map f (count_up k) → x ≡ f k → new ≡ out ++ x ∷ [] → new ≡ map f (count_up (k + 1))
+pub listed_more : {A : Type 0} (out new : List A) (f : ℕ → A) (k : ℕ) (x : A) → out ≡ map f (count_up k) → x ≡ f k → new ≡ out ++ x ∷ [] → new
+    ≡ map f (count_up (k + 1))
 listed_more out new f k x so here is =
     let e : k + 1 ≡ suc k = omega arith in
     is ∙ ap (λ l. l ++ x ∷ []) so ∙ ap (λ y. map f (count_up k) ++ y ∷ []) here
@@ -83,5 +87,6 @@ pairs_below-agree n r q is =
     (λ a. ap (map (λ b. (a, b))) (members-same (r a) (q a) (is a) n)) (count_up n)
 
 -- the whole text from its parts
-pub text_whole : (a b c d e : List ℕ) (v x y : List ℕ) → b ≡ a ++ v → c ≡ b ++ x → d ≡ c ++ y → e ≡ d ++ 125 ∷ 10 ∷ [] → e ≡ a ++ (v ++ (x ++ (y ++ 125 ∷ 10 ∷ [])))
+pub text_whole : (a b c d e : List ℕ) (v x y : List ℕ) → b ≡ a ++ v → c ≡ b ++ x → d ≡ c ++ y → e ≡ d ++ 125 ∷ 10 ∷ [] → e ≡ a
+    ++ (v ++ (x ++ (y ++ 125 ∷ 10 ∷ [])))
 text_whole a b c d e v x y p q r s = s ∙ rw (r, q, p) (simp append_assoc)

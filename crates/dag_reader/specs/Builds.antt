@@ -2,7 +2,7 @@
 use Rattle.std.specs.Prelude.{◌≡◌, ℕ, List, length, Some, Result, Ok, Err}
 use Rattle.mixed_graph.specs.Shown.{graph_of}
 use Rattle.mixed_graph.specs.Built.{IsGraphOf}
-use Rattle.mixed_graph.specs.Pairs.{joins}
+use Rattle.mixed_graph.specs.Pairs.{has_pair}
 use Rattle.dag_reader.specs.declared.edges.Edges.{Edges}
 use Rattle.dag_reader.specs.Rows.{row_has}
 use Rattle.mixed_graph.specs.declared.mixed.Graph.{Graph}
@@ -11,7 +11,8 @@ use Rattle.dag_reader.specs.declared.faults.Fault.TheVariants as faults
 use Rattle.dag_reader.specs.declared.faults.ReadFault.{ReadFault}
 use Rattle.dag_reader.specs.declared.faults.ReadFault.TheVariants as errors
 use Rattle.dag_reader.specs.declared.faults.GraphFault.{GraphFault}
-use Rattle.dag_reader.specs.declared.faults.GraphFault.TheVariants.{Token, Expected, NotADag, EdgeKind, Flag, Selected, SelfLoop, TooMany, RoleClash, Cycle, NoMemory}
+use Rattle.dag_reader.specs.declared.faults.GraphFault.TheVariants.{Token, Expected, NotADag, EdgeKind, Flag, Selected, SelfLoop, TooMany, RoleClash}
+use Rattle.dag_reader.specs.declared.faults.GraphFault.TheVariants.{Cycle, NoMemory}
 use Rattle.mixed_graph.specs.Names.{AreNames}
 use Rattle.dag_reader.specs.declared.marks.Role.{Role}
 use Rattle.dag_reader.specs.declared.roles.Roles.{Roles}
@@ -24,8 +25,8 @@ use Rattle.dag_reader.specs.declared.graph.ReadGraph.{ReadGraph}
 
 -- the rows hold the edges that the marks say
 pub record AreEdgesOf (marks : List Remark) (edges : Edges) : Type 0 where
-  pub arrows : (a b : ℕ) → row_has edges.arrows a b ≡ joins (arrows_of marks) a b
-  pub doubles : (a b : ℕ) → row_has edges.doubles a b ≡ joins (doubles_of marks) a b
+  pub arrows : (a b : ℕ) → row_has edges.arrows a b ≡ has_pair (arrows_of marks) a b
+  pub doubles : (a b : ℕ) → row_has edges.doubles a b ≡ has_pair (doubles_of marks) a b
 
 -- the graph of the edges that the marks say, or a cycle of them
 abbrev pub Builds : List (List ℕ) → List Remark → Result Graph GraphFault → Type 0

@@ -1,6 +1,6 @@
 -- The classes of bytes.
-use Rattle.name_text.specs.Printing.{is_white, is_edge_byte, is_name_byte}
-use Rattle.std.specs.Prelude.{ℕ, Bool, not, ◌||◌, ◌==◌}
+use Rattle.answer_text.specs.Printing.{is_white, is_edge_byte, is_name_byte}
+use Rattle.std.specs.Prelude.{ℕ, Bool, not, ◌||◌, ◌&&◌, ◌==◌}
 use Rattle.mixed_graph.specs.Names.{is_line_byte}
 use Rattle.dag_reader.specs.declared.tokens.Class.{Class}
 use Rattle.dag_reader.specs.declared.tokens.Class.TheVariants.{White, Edge, Name, Line, Run}
@@ -8,6 +8,14 @@ use Rattle.dag_reader.specs.declared.tokens.Class.TheVariants.{White, Edge, Name
 -- what a value without quotes is made of: no white space and none of , ] } ; "
 abbrev pub is_run_byte : ℕ → Bool
 is_run_byte b = not (is_white b || b == 44 || b == 93 || b == 125 || b == 59 || b == 34)
+
+-- what an edge or a group of vertices may be written with: < > { (
+abbrev pub is_edge_sign : ℕ → Bool
+is_edge_sign b = b == 60 || b == 62 || b == 123 || b == 40
+
+-- a byte of names with which no comment and no arrow of Unicode begins
+abbrev pub begins_name : ℕ → Bool
+begins_name b = is_name_byte b && not (b == 47 || b == 35 || b == 226)
 
 -- the bytes of a class
 abbrev pub in_class : Class → ℕ → Bool

@@ -116,7 +116,7 @@ next at_dag at open_brace = Some at_statement
 next at_title at open_brace = Some at_statement
 next at_statement at t = next_statement t
 next (after_name n) at t = next_after_name n t
-next at_key_value at value = Some at_statement
+next at_key_value at (value d) = if d then Some at_statement else None
 next (in_group b) at t = next_in_group b t
 next (group_name b n) at t = next_in_group b t
 next after_first at (edge a) = Some after_edge
@@ -127,7 +127,7 @@ next after_group at t = next_in_chain t
 next (at_attrs of) at t = next_in_attrs of at t
 next (attr_name of k n) at equals = Some (at_attr_value of)
 next (attr_name of k n) at t = next_after_attr of at t
-next (at_attr_value of) at value = Some (after_attr of)
+next (at_attr_value of) at (value d) = Some (after_attr of)
 next (after_attr of) at t = next_after_attr of at t
 next (after_comma of) at (name q n) = Some (attr_name of at n)
 next p at t = None
@@ -180,10 +180,11 @@ noted after_group open_brace s = with_marks (Begins ∷ []) s
 noted p (edge a) s = with_marks (Joined a ∷ []) s
 noted p t s = s
 
--- the fault of a token that doesn't fit
-abbrev pub misfit : Position → ℕ → Fault
-misfit at_start at = not_a_dag
-misfit p at = expected at
+-- the fault of a token that doesn't fit; a value that may not be dropped is none of a statement
+abbrev pub misfit : Position → ℕ → Tok → Fault
+misfit at_start at t = not_a_dag
+misfit at_key_value at (value d) = token at
+misfit p at t = expected at
 
 -- ---- one token more
 
@@ -205,11 +206,11 @@ is_end t = false
 -- at the end of the text
 abbrev pub ended : Position → ℕ → Said → Turn
 ended at_end at s = ends (Ok s)
-ended p at s = ends (Err (misfit p at))
+ended p at s = ends (Err (misfit p at end))
 
 -- behind a token that fits, or the fault where it does not
 abbrev pub fitted : Position → ℕ → Tok → Option Position → Said → Turn
-fitted p at t None s = ends (Err (misfit p at))
+fitted p at t None s = ends (Err (misfit p at t))
 fitted p at t (Some q) s = goes_on q (noted p t s)
 
 -- a token behind what the name before it has become

@@ -1,6 +1,7 @@
 -- A place without where its names lie in memory.
 use Rattle.std.specs.Prelude.{ℕ, List, Option, option_map}
-use Rattle.dag_reader.specs.Grammar.{Position, at_start, at_dag, at_title, at_statement, after_name, at_key_value, in_group, group_name, after_first, after_edge, chain_name, after_group, at_attrs, attr_name, at_attr_value, after_attr, after_comma, at_end}
+use Rattle.dag_reader.specs.Grammar.{Position, at_start, at_dag, at_title, at_statement, after_name, at_key_value, in_group, group_name, after_first}
+use Rattle.dag_reader.specs.Grammar.{after_edge, chain_name, after_group, at_attrs, attr_name, at_attr_value, after_attr, after_comma, at_end}
 use Rattle.dag_reader.specs.declared.grammar.Position.TheVariants as places
 use Rattle.dag_reader.specs.declared.grammar.Position.{Position as CodePlace}
 use Rattle.dag_reader.specs.declared.words.Word.{Word}

@@ -5,13 +5,14 @@ use Rattle.std.specs.Str.Lossy.{utf8_valid_len}
 use Rattle.mixed_graph.specs.Bits.{has}
 use Rattle.mixed_graph.specs.Graphs.{IsAcyclic}
 use Rattle.mixed_graph.specs.Shown.{graph_of}
-use Rattle.mixed_graph.specs.Pairs.{joins, IsCycle}
+use Rattle.mixed_graph.specs.Pairs.{has_pair, IsCycle}
 use Rattle.mixed_graph.specs.Built.{IsGraphOf}
 use Rattle.dag_reader.specs.declared.marks.Role.{Role}
 use Rattle.dag_reader.specs.declared.marks.Remark.{Remark}
 use Rattle.dag_reader.specs.declared.graph.ReadGraph.{ReadGraph}
 use Rattle.dag_reader.specs.declared.faults.GraphFault.{GraphFault}
-use Rattle.dag_reader.specs.declared.faults.GraphFault.TheVariants.{NotUtf8, Token, Expected, NotADag, EdgeKind, Flag, Selected, SelfLoop, TooMany, RoleClash, Cycle, NoMemory}
+use Rattle.dag_reader.specs.declared.faults.GraphFault.TheVariants.{NotUtf8, Token, Expected, NotADag, EdgeKind, Flag, Selected, SelfLoop, TooMany}
+use Rattle.dag_reader.specs.declared.faults.GraphFault.TheVariants.{RoleClash, Cycle, NoMemory}
 use Rattle.dag_reader.specs.Grammar.{Said, token, expected, not_a_dag, edge_kind, flag, selected, too_many}
 use Rattle.dag_reader.specs.Reading.{Says}
 use Rattle.dag_reader.specs.RoleSets.{set_of}
@@ -41,7 +42,7 @@ HasNoClash marks = (v : ℕ) → HasTwo (has_role (roles_of marks)) v → ⊥
 pub record IsNamedCycle (names : List (List ℕ)) (marks : List Remark) (cycle : List (List ℕ)) : Type 0 where
   pub list : List ℕ
   pub count : ℕ
-  pub is_cycle : IsCycle (joins (arrows_of marks)) list count
+  pub is_cycle : IsCycle (has_pair (arrows_of marks)) list count
   pub named : cycle ≡ map (name_of names) (take count list)
 
 -- What such statements give: a self-loop, the first in the order of the text; else a clash of roles; else a cycle; else the graph.

@@ -1,5 +1,5 @@
 -- The grammar of graph text: what a text is made of, how it is spelled, and what it says.
-use Rattle.std.specs.Prelude.{ℕ, Bool, false, List, [], ◌∷◌, Option, Some, None, codes, Result, Ok, Err}
+use Rattle.std.specs.Prelude.{ℕ, Bool, true, false, List, [], ◌∷◌, Option, Some, None, codes, Result, Ok, Err}
 use Rattle.dag_reader.specs.declared.marks.Arrow.{Arrow}
 use Rattle.dag_reader.specs.declared.marks.Remark.TheVariants.{Begins, Joined}
 use Rattle.dag_reader.specs.Tokens.{Tok, open_brace, close_brace, open_bracket, close_bracket, semicolon, equals, comma, edge, name, value, end}
@@ -20,10 +20,10 @@ pub data Group : Type 0 where
   single : Word → Group
   braces : List Inner → Group
 
--- attr = name | name "=" value
+-- attr = name | name "=" value, where any value will do
 pub data Attr : Type 0 where
   bare : Word → Attr
-  valued : Word → Attr
+  valued : Word → (droppable : Bool) → Attr
 
 -- [","] attr
 pub data Later : Type 0 where
@@ -35,7 +35,8 @@ pub data Attrs : Type 0 where
   no_attr : Attrs
   attr_list : Attr → List Later → Attrs
 
--- statement = name "=" value | name [attrs] | group edge group { edge group } [attrs], or a ";" among them
+-- statement = name "=" value | name [attrs] | group edge group { edge group } [attrs], or a ";" among them;
+-- a value behind a name alone is one that may be dropped
 pub data Statement : Type 0 where
   lone_semicolon : Statement
   dropped : Word → Statement
@@ -70,7 +71,7 @@ group_tokens (braces is) more = open_brace ∷ inner_tokens is more
 -- an attribute, with its value where it has one
 abbrev pub attr_tokens : Attr → List Tok → List Tok
 attr_tokens (bare w) more = word_token w ∷ more
-attr_tokens (valued w) more = word_token w ∷ equals ∷ value ∷ more
+attr_tokens (valued w d) more = word_token w ∷ equals ∷ value d ∷ more
 
 -- further attributes, each behind a comma or not, and the closing bracket
 abbrev pub later_tokens : List Later → List Tok → List Tok
@@ -96,7 +97,7 @@ links_tokens (l ∷ ls) more = edge l.0 ∷ group_tokens l.1 (links_tokens ls mo
 -- a statement
 abbrev pub statement_tokens : Statement → List Tok → List Tok
 statement_tokens lone_semicolon more = semicolon ∷ more
-statement_tokens (dropped w) more = word_token w ∷ equals ∷ value ∷ more
+statement_tokens (dropped w) more = word_token w ∷ equals ∷ value true ∷ more
 statement_tokens (vertex w attrs) more = word_token w ∷ attrs_tokens attrs more
 statement_tokens (chain g l ls attrs) more = group_tokens g (links_tokens (l ∷ ls) (attrs_tokens attrs more))
 
@@ -145,7 +146,7 @@ group_says (braces is) s = inner_say is s
 -- the attributes of a vertex, or of a chain; a place is in the faults alone
 abbrev pub attr_says : Option (List ℕ) → Attr → Said → Option Said
 attr_says of (bare w) s = allowed (with_flag of 0 w.text s)
-attr_says of (valued w) s = Some s
+attr_says of (valued w d) s = Some s
 
 -- further attributes
 abbrev pub later_say : Option (List ℕ) → List Later → Said → Option Said

@@ -1,13 +1,13 @@
 -- The tokens of a graph text, and where each stands.
-use Rattle.std.specs.Prelude.{ℕ, ◌-◌, Bool, true, false, ◌||◌, ◌==◌, List, [], ◌∷◌, length, take, drop, Option, Some, None, if◌then◌else◌, codes}
+use Rattle.std.specs.Prelude.{ℕ, ◌-◌, Bool, true, false, not, ◌||◌, ◌&&◌, ◌==◌, List, [], ◌∷◌, length, take, drop, Option, Some, None, if◌then◌else◌, codes}
 use Rattle.std.specs.List.{prefix_len, starts_with, list_any}
 use Rattle.std.specs.Str.{bytes_eq}
 use Rattle.dag_reader.specs.declared.marks.Arrow.{Arrow}
 use Rattle.dag_reader.specs.declared.marks.Arrow.TheVariants as arrows
 use Rattle.dag_reader.specs.declared.tokens.Due.{Due}
 use Rattle.dag_reader.specs.declared.tokens.Due.TheVariants as dues
-use Rattle.name_text.specs.Printing.{is_white, is_edge_byte, is_name_byte}
-use Rattle.dag_reader.specs.Bytes.{is_run_byte}
+use Rattle.answer_text.specs.Printing.{is_white, is_edge_byte, is_name_byte, begins_with_arrow}
+use Rattle.dag_reader.specs.Bytes.{is_run_byte, is_edge_sign}
 use Rattle.mixed_graph.specs.Names.{is_line_byte}
 
 -- the tokens
@@ -21,10 +21,10 @@ pub data Tok : Type 0 where
   comma : Tok
   edge : Arrow → Tok
   name : Bool → List ℕ → Tok  -- whether it is quoted, and its characters
-  value : Tok  -- of an attribute or of a dropped statement
+  value : Bool → Tok  -- of an attribute or of a dropped statement; whether it may be dropped
   end : Tok  -- nothing is left
   bad : Tok  -- no token stands there
-  bad_edge : Tok  -- an edge of another kind of graph
+  bad_edge : Tok  -- an edge of another kind of graph, or an arrow of Unicode
 
 -- a run of edge bytes
 abbrev pub edge_token : List ℕ → Tok
@@ -38,9 +38,21 @@ edge_token run =
 abbrev pub begins_with : List ℕ → List ℕ → Bool
 begins_with run front = starts_with (λ a b. a == b) run front
 
--- a run of name bytes; one that looks like a comment is no token
+-- a run of name bytes; one that looks like a comment is no token, and one that begins with an arrow of Unicode is no edge of this language
 abbrev pub name_token : List ℕ → Tok
-name_token run = if (begins_with run (codes "//") || begins_with run (codes "/*") || begins_with run (codes "#")) then bad else name false run
+name_token run =
+    if (begins_with run (codes "//") || begins_with run (codes "/*") || begins_with run (codes "#")) then bad
+    else (if begins_with_arrow run then bad_edge else name false run)
+
+-- a - at the front that no character of a name follows
+abbrev pub begins_with_dash : List ℕ → Bool
+begins_with_dash [] = false
+begins_with_dash (b ∷ []) = b == 45
+begins_with_dash (b ∷ c ∷ bs) = b == 45 && not (is_name_byte c)
+
+-- whether a value without quotes may be dropped, so that no edge is lost with it: it has none of < > { ( and doesn't begin with such a -
+abbrev pub is_droppable : List ℕ → Bool
+is_droppable run = not (list_any is_edge_sign run || begins_with_dash run)
 
 -- a sign, or no token
 abbrev pub sign_token : ℕ → Tok
@@ -76,10 +88,10 @@ abbrev pub quoted_name : List ℕ → Option (List ℕ × List ℕ) → Tok × L
 quoted_name bytes None = (bad, bytes)
 quoted_name bytes (Some p) = (quoted_name_token p.0, p.1)
 
--- a quoted value with what follows, or no token
+-- a quoted value with what follows, or no token; it may be dropped
 abbrev pub quoted_value : List ℕ → Option (List ℕ × List ℕ) → Tok × List ℕ
 quoted_value bytes None = (bad, bytes)
-quoted_value bytes (Some p) = (value, p.1)
+quoted_value bytes (Some p) = (value true, p.1)
 
 -- the token that begins with a byte, and what follows it
 abbrev pub token_at : ℕ → List ℕ → Tok × List ℕ
@@ -93,7 +105,7 @@ token_at b bs =
 abbrev pub value_at : ℕ → List ℕ → Tok × List ℕ
 value_at b bs =
     if b == 34 then quoted_value bs (quoted_text bs)
-    else (if is_run_byte b then run_at is_run_byte (λ _. value) (b ∷ bs)
+    else (if is_run_byte b then run_at is_run_byte (λ run. value (is_droppable run)) (b ∷ bs)
     else (sign_token b, bs))
 
 -- the token at the front, where no white space stands

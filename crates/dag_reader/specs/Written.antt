@@ -2,7 +2,7 @@
 use Rattle.std.specs.Prelude.{◌≡◌, ◌<◌, ℕ, ◌&&◌, List, [], ◌∷◌, ◌++◌, length, map, Option, Some, None, codes, All, nat_lt, if◌then◌else◌}
 use Rattle.dag_reader.specs.declared.marks.Role.{Role}
 use Rattle.dag_reader.specs.declared.marks.Role.TheVariants.{Exposure, Outcome, Adjusted, Latent}
-use Rattle.name_text.specs.Printing.{printed}
+use Rattle.answer_text.specs.Printing.{printed}
 use Rattle.mixed_graph.specs.Names.{AreNames}
 use Rattle.mixed_graph.specs.Bits.{has}
 use Rattle.mixed_graph.specs.Shown.{graph_of}
@@ -37,7 +37,8 @@ edge_lines sign names (e ∷ es) = printed (name_of names e.0) ++ (sign ++ (prin
 
 -- the whole text
 abbrev pub written : Drawn → List ℕ
-written d = codes "dag {" ++ 10 ∷ (vertex_lines d.names d.roles ++ (edge_lines (codes " -> ") d.names d.arrows ++ (edge_lines (codes " <-> ") d.names d.doubles ++ 125 ∷ 10 ∷ [])))
+written d = codes "dag {" ++ 10 ∷ (vertex_lines d.names d.roles ++ (edge_lines (codes " -> ") d.names d.arrows
+    ++ (edge_lines (codes " <-> ") d.names d.doubles ++ 125 ∷ 10 ∷ [])))
 
 -- what holds of each graph that is written
 pub record IsDrawn (d : Drawn) : Type 0 where

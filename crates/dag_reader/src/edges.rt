@@ -1,7 +1,9 @@
+//! The edges of a statement between groups.
+
 ghost use Rattle.std.specs.Prelude.{◌≡◌, ◌<◌, ◌≤◌, ◌&&◌, ◌||◌, ◌==◌, nat_lt, ℕ, List, [], true, false, slice_index, Option, find, option_map, IfOk, All, ◌++◌, map, OnOk};
 ghost use Rattle.std.specs.List.{list_all, list_any};
 ghost use Rattle.mixed_graph.specs.Bits.{has, members_below};
-ghost use Rattle.mixed_graph.specs.Pairs.{joins};
+ghost use Rattle.mixed_graph.specs.Pairs.{has_pair};
 ghost use Rattle.dag_reader.specs.MarkEnds.{is_inside};
 ghost use Rattle.dag_reader.specs.Passes.{Edge, members, self_loop, arrows_of, doubles_of};
 ghost use Rattle.dag_reader.specs.Rows.{row_has, pairs_below};
@@ -85,8 +87,8 @@ pub struct Edges {
 /// The edges that the marks say.
 pub fn edges_in(marks: &[Remark]) -> Edges
     requires { list_all (is_inside 64) marks.now ≡ true }
-    ensures arrows { (a b : ℕ) → row_has result.arrows a b ≡ joins (arrows_of marks.now) a b }
-    ensures doubles { (a b : ℕ) → row_has result.doubles a b ≡ joins (doubles_of marks.now) a b }
+    ensures arrows { (a b : ℕ) → row_has result.arrows a b ≡ has_pair (arrows_of marks.now) a b }
+    ensures doubles { (a b : ℕ) → row_has result.doubles a b ≡ has_pair (doubles_of marks.now) a b }
 {
     let mut arrows = [0u64; 64];
     let mut doubles = [0u64; 64];

@@ -1,12 +1,12 @@
 //! The lines that say why a text is no graph.
 
 ghost use Rattle.std.specs.Prelude.{◌≡◌, ◌++◌, codes, IfOk, OnOk};
-ghost use Rattle.name_text.specs.Lines.{line_of, second};
+ghost use Rattle.answer_text.specs.Lines.{line_of, second};
 ghost use Rattle.dag_reader.specs.FaultTexts.{graph_fault_text, size_text, spaced};
 
 use crate::faults::GraphFault;
+use answer_text::names::{push_name, refusal_line, second_line, with_name, with_number};
 use mixed_graph::Text;
-use name_text::{push_name, refusal_line, second_line, with_name, with_number};
 use std::alloc::{AllocError, Global};
 
 impl GraphFault {

@@ -1,3 +1,5 @@
+//! Why a text of characters says nothing.
+
 ghost use Rattle.std.specs.Prelude.{◌≡◌, option_map};
 ghost use Rattle.dag_reader.specs.declared.faults.ReadFault.TheVariants.{Memory};
 ghost use Rattle.dag_reader.specs.declared.faults.GraphFault.TheVariants.{NoMemory};
@@ -57,12 +59,16 @@ pub fn own_fault<'a>(at: usize, token: Token<'a>) -> Option<Fault<'a>>
     }
 }
 
-/// The fault of a token that doesn't fit.
-pub fn misfit<'a>(place: Position<'a>, at: usize) -> Fault<'a>
-    ensures { fault_view result ≡ misfit (place_view place.entry) at }
+/// The fault of a token that doesn't fit; a value that may not be dropped is none of a statement.
+pub fn misfit<'a>(place: Position<'a>, at: usize, token: Token<'a>) -> Fault<'a>
+    ensures { fault_view result ≡ misfit (place_view place.entry) at (view token.entry) }
 {
     match place {
         Position::Start => Fault::NotADag,
+        Position::KeyValue => match token {
+            Token::Value(_) => Fault::Token(at),
+            _ => Fault::Expected(at),
+        },
         _ => Fault::Expected(at),
     }
 }
@@ -72,13 +78,13 @@ pub fn misfit<'a>(place: Position<'a>, at: usize) -> Fault<'a>
 pub enum GraphFault {
     /// The bytes aren't UTF-8; the first byte that no valid character begins or completes.
     NotUtf8(usize),
-    /// No token stands at this byte.
+    /// No token stands at this byte, or a value that would be dropped though an edge may be meant.
     Token(usize),
     /// The token at this byte, or the end there, doesn't fit the grammar.
     Expected(usize),
     /// The first token isn't the bare word `dag`, or the text has no token.
     NotADag,
-    /// The edge at this byte is `--` or holds `@`.
+    /// The edge at this byte is `--` or holds `@`, or a bare name begins there with an arrow of Unicode.
     EdgeKind(usize),
     /// The bare attribute at this byte isn't allowed in its place.
     Flag(usize),

@@ -1,3 +1,5 @@
+//! The automaton of the grammar: where a reader is between two tokens.
+
 ghost use Rattle.std.specs.Prelude.{◌≡◌, List, ℕ, [], ◌∷◌, Some, None, option_map};
 ghost use Rattle.dag_reader.specs.Tokens.{Tok};
 ghost use Rattle.dag_reader.specs.Grammar.{next_statement, next_in_chain, next_after_name, behind_braces, next_in_group, next_in_attrs, next_after_attr, next};
@@ -5,7 +7,7 @@ ghost use Rattle.dag_reader.specs.Links.{begins_statement};
 ghost use Rattle.dag_reader.specs.Views.{view};
 ghost use Rattle.dag_reader.specs.PlaceView.{place_view, name_view};
 
-use crate::tokens::Token;
+use crate::tokens::{Token, is_droppable};
 use crate::words::Word;
 
 /// Braces of a statement.
@@ -145,7 +147,11 @@ pub fn next<'a>(place: Position<'a>, at: usize, token: Token<'a>) -> Option<Posi
         Position::Statement => next_statement(token),
         Position::AfterName(name) => next_after_name(name, token),
         Position::KeyValue => match token {
-            Token::Value => Some(Position::Statement),
+            Token::Value(run) => if is_droppable(run) {
+                Some(Position::Statement)
+            } else {
+                None
+            },
             _ => None,
         },
         Position::InGroup(braces) | Position::GroupName(braces, _) => next_in_group(braces, token),
@@ -165,7 +171,7 @@ pub fn next<'a>(place: Position<'a>, at: usize, token: Token<'a>) -> Option<Posi
             _ => next_after_attr(of, at, token),
         },
         Position::AttrValue(of) => match token {
-            Token::Value => Some(Position::AfterAttr(of)),
+            Token::Value(_) => Some(Position::AfterAttr(of)),
             _ => None,
         },
         Position::AfterAttr(of) => next_after_attr(of, at, token),

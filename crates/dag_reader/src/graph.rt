@@ -1,3 +1,5 @@
+//! A graph as it was read.
+
 ghost use Rattle.std.specs.Prelude.{◌≡◌, length};
 ghost use Rattle.mixed_graph.specs.Names.{AreNames};
 ghost use Rattle.dag_reader.specs.RoleSets.{AreRoleSets};

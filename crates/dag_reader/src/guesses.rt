@@ -1,3 +1,5 @@
+//! Where names were found last.
+
 ghost use Rattle.std.specs.Prelude.{◌≡◌, ◌<◌, true, length, IfSome};
 ghost use Rattle.mixed_graph.specs.Names.{is_named, index_of};
 

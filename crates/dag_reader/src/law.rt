@@ -1,3 +1,5 @@
+//! The laws that tie reading to the grammar as it is printed.
+
 ghost use Rattle.std.specs.Prelude.{◌≡◌, List, ℕ, Some, Ok, Result};
 ghost use Rattle.dag_reader.specs.Grammar.{Fault, Said};
 ghost use Rattle.dag_reader.specs.Reading.{Says};

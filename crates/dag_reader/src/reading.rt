@@ -1,3 +1,5 @@
+//! A graph read from a text.
+
 ghost use Rattle.std.specs.Prelude.{◌≡◌, true};
 ghost use Rattle.std.specs.Str.{is_utf8};
 ghost use Rattle.dag_reader.specs.SaidView.{said_by};

@@ -1,3 +1,5 @@
+//! The law that what is written is read back.
+
 ghost use Rattle.std.specs.Prelude.{Ok, Result};
 ghost use Rattle.dag_reader.specs.declared.graph.ReadGraph.{ReadGraph};
 ghost use Rattle.dag_reader.specs.declared.faults.GraphFault.{GraphFault};

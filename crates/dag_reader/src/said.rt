@@ -1,3 +1,5 @@
+//! What a text says, as far as it was read.
+
 ghost use Rattle.std.specs.Prelude.{◌≡◌, ◌<◌, List, ℕ, [], ◌∷◌, true, false, length, OnOk};
 ghost use Rattle.std.specs.List.{list_all};
 ghost use Rattle.dag_reader.specs.MarkEnds.{is_inside};
@@ -152,11 +154,11 @@ impl Statements {
         if is_end(token) {
             return match place {
                 Position::End => Ok(None),
-                _ => Err(ReadFault::Fault(misfit(place, at))),
+                _ => Err(ReadFault::Fault(misfit(place, at, Token::End))),
             };
         }
         let Some(after) = next(place, at, token) else {
-            return Err(ReadFault::Fault(misfit(place, at)));
+            return Err(ReadFault::Fault(misfit(place, at, token)));
         };
         self.note(place, token)?;
         Ok(Some(after))

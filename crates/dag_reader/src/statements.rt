@@ -1,3 +1,5 @@
+//! The statements of a text, from left to right.
+
 ghost use Rattle.std.specs.Prelude.{◌≡◌, ◌<◌, true, length, IfSome, IfNone};
 ghost use Rattle.std.specs.Str.{is_utf8};
 ghost use Rattle.dag_reader.specs.declared.tokens.Due.TheVariants as dues;

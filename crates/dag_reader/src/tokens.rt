@@ -1,18 +1,21 @@
+//! The tokens of a text.
+
 ghost use Rattle.std.specs.Prelude.{◌≡◌, ◌≢◌, ◌<◌, ◌≤◌, ◌-◌, ◌+◌, ◌++◌, List, ℕ, [], ◌∷◌, Some, None, IsTrue, true, false, length, take, drop, IfOk, IfSome, IfNone, option_map};
-ghost use Rattle.std.specs.List.{prefix_len, list_all};
+ghost use Rattle.std.specs.List.{prefix_len, list_all, list_any};
 ghost use Rattle.std.specs.Str.{is_utf8};
 ghost use Rattle.mixed_graph.specs.Names.{IsName};
-ghost use Rattle.name_text.specs.Printing.{is_white, is_edge_byte, is_sign, is_name_byte};
-ghost use Rattle.dag_reader.specs.Bytes.{in_class, is_run_byte};
+ghost use Rattle.answer_text.specs.Printing.{is_white, is_edge_byte, is_sign, is_name_byte};
+ghost use Rattle.dag_reader.specs.Bytes.{in_class, is_run_byte, is_edge_sign};
 ghost use Rattle.mixed_graph.specs.Names.{is_line_byte};
-ghost use Rattle.dag_reader.specs.Tokens.{Tok, end, edge, name, edge_token, name_token, quoted_name_token, sign_token, quoted_text, token_at, value_at, token_of, past_white, first, place_of, due_behind};
+ghost use Rattle.dag_reader.specs.Tokens.{Tok, end, edge, name, edge_token, name_token, begins_with_dash, is_droppable, quoted_name_token, sign_token, quoted_text, token_at, value_at, token_of, past_white, first, place_of, due_behind};
 ghost use Rattle.dag_reader.specs.Views.{view};
 ghost use Rattle.dag_reader.specs.Grammar.{is_end};
 ghost use Rattle.dag_reader.specs.Links.{IsLink, sign_of, ends_edge};
 
-use crate::bytes::{is_edge_byte, is_name_byte, is_white};
+use crate::bytes::{begins_name, is_edge_byte, is_name_byte, is_white};
 use crate::marks::Arrow;
 use crate::words::{Link, Word};
+use answer_text::names::begins_with_arrow;
 
 /// The classes of bytes of which runs are made.
 #[derive(Clone, Copy, Debug, PartialEq, Eq)]
@@ -45,12 +48,12 @@ pub enum Token<'a> {
     Edge(Arrow),
     /// Whether it is quoted, and its characters.
     Name(bool, Word<'a>),
-    /// The value of an attribute or of a statement that says nothing.
-    Value,
+    /// The value of an attribute or of a statement that says nothing: its text where it stands without quotes, or nothing.
+    Value(&'a [u8]),
     End,
     /// No token.
     Bad,
-    /// An edge of another kind of graph.
+    /// An edge of another kind of graph, or an arrow of Unicode.
     BadEdge,
 }
 
@@ -126,11 +129,59 @@ fn bare_name(run: &[u8]) -> Token<'_>
     requires { IsName run.now }
     ensures { view result ≡ name_token run.now }
 {
-    if run.starts_with(b"//") || run.starts_with(b"/*") || run.starts_with(b"#") {
-        Token::Bad
-    } else {
-        Token::Name(false, Word { bytes: run })
+    let [byte, ..] = run else {
+        return doubtful_name(run);
+    };
+    if begins_name(*byte) {
+        return Token::Name(false, Word { bytes: run });
     }
+    doubtful_name(run)
+}
+
+/// The same, where the first byte doesn't tell.
+fn doubtful_name(run: &[u8]) -> Token<'_>
+    requires { IsName run.now }
+    ensures { view result ≡ name_token run.now }
+{
+    if run.starts_with(b"//") || run.starts_with(b"/*") || run.starts_with(b"#") {
+        return Token::Bad;
+    }
+    if begins_with_arrow(run) {
+        return Token::BadEdge;
+    }
+    Token::Name(false, Word { bytes: run })
+}
+
+/// Whether an edge or a group of vertices may be written with the byte.
+fn is_edge_sign(byte: u8) -> bool
+    ensures { result ≡ is_edge_sign byte }
+{
+    matches!(byte, b'<' | b'>' | b'{' | b'(')
+}
+
+/// Whether such a byte is among these.
+fn has_edge_sign(run: &[u8]) -> bool
+    ensures { result ≡ list_any is_edge_sign run.now }
+{
+    run.iter().any(|b| is_edge_sign(*b))
+}
+
+/// Whether a `-` is at the front that no character of a name follows.
+fn begins_with_dash(run: &[u8]) -> bool
+    ensures { result ≡ begins_with_dash run.now }
+{
+    match run {
+        [b'-', byte, ..] => !is_name_byte(*byte),
+        [b'-'] => true,
+        _ => false,
+    }
+}
+
+/// Whether a value without quotes may be dropped with its statement.
+pub fn is_droppable(run: &[u8]) -> bool
+    ensures { result ≡ is_droppable run.now }
+{
+    !(has_edge_sign(run) || begins_with_dash(run))
 }
 
 fn quoted_name(text: &[u8]) -> Token<'_>
@@ -218,11 +269,11 @@ fn value_at<'a>(byte: u8, rest: &'a [u8], bytes: &'a [u8]) -> (Token<'a>, &'a [u
         let Some((_, after)) = quoted(rest) else {
             return (Token::Bad, rest);
         };
-        return (Token::Value, after);
+        return (Token::Value(b"".as_slice()), after);
     }
     if is_in(Class::Run, byte) {
-        let (_, after) = split_run(Class::Run, bytes);
-        return (Token::Value, after);
+        let (run, after) = split_run(Class::Run, bytes);
+        return (Token::Value(run), after);
     }
     (sign(byte), rest)
 }
@@ -255,7 +306,7 @@ fn due_behind(token: Token<'_>) -> Due
     }
 }
 
-/// The bare name at the front, behind white space, and what follows it; none of those that may look like a comment.
+/// The bare name at the front, behind white space, and what follows it; none whose first byte doesn't tell that it is one.
 #[inline(always)]
 fn name_first(bytes: &[u8]) -> Option<(Word<'_>, &[u8])>
     requires { is_utf8 bytes.now ≡ true }
@@ -267,10 +318,7 @@ fn name_first(bytes: &[u8]) -> Option<(Word<'_>, &[u8])>
     let [byte, ..] = run else {
         return None;
     };
-    if *byte == b'/' {
-        return None;
-    }
-    if *byte == b'#' {
+    if !begins_name(*byte) {
         return None;
     }
     Some((Word { bytes: run }, rest))

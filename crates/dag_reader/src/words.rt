@@ -1,3 +1,5 @@
+//! Names and edges where they stand in a text.
+
 ghost use Rattle.mixed_graph.specs.Names.{IsName};
 
 use crate::marks::Arrow;

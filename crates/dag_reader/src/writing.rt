@@ -1,13 +1,15 @@
+//! The text of a graph.
+
 ghost use Rattle.std.specs.Prelude.{◌≡◌, ◌<◌, ◌≤◌, ◌++◌, ◌&&◌, nat_lt, List, ℕ, [], ◌∷◌, length, map, All, OnOk, IfOk};
-ghost use Rattle.name_text.specs.Printing.{printed};
+ghost use Rattle.answer_text.specs.Printing.{printed};
 ghost use Rattle.dag_reader.specs.Rows.{row_has, count_up};
 ghost use Rattle.dag_reader.specs.Written.{role_text, vertex_lines, edge_lines, role_at, drawn_of, written};
 
 use crate::edges::pairs_below;
 use crate::graph::ReadGraph;
 use crate::marks::Role;
+use answer_text::names::push_name;
 use mixed_graph::{Names, Rows, VSet};
-use name_text::push_name;
 use std::alloc::{AllocError, Global};
 
 fn push_role(out: &mut Vec<u8>, role: Option<Role>) -> Result<(), AllocError>

@@ -77,22 +77,27 @@ module _ (g : MixedGraph) (lemmas : List ℕ) where
     pub either_made : (p : Plan) (e x : Tree) (n k : ℕ) (f : StepFault) → Makes g lemmas p e x → Refuses g lemmas p e n k f → ⊥
     either_made (Plan.Make move) e x n k f a b = row_either g (row g.vertices lemmas move e) x f a b.1
     either_made (Plan.At i p) e x n k f a b =
-        at_either e i (child e i) (λ c c'. Makes g lemmas p c c') (λ c. Refuses g lemmas p c (n + 1) k f) x ((k ≡ cap (n + 1)) × (f ≡ NoPlace i)) (λ c u. either_made p c u (n + 1) k f) a b
+        at_either e i (child e i) (λ c c'. Makes g lemmas p c c') (λ c. Refuses g lemmas p c (n + 1) k f) x ((k ≡ cap (n + 1)) × (f ≡ NoPlace i))
+        (λ c u. either_made p c u (n + 1) k f) a b
     either_made (Plan.Then ps) e x n k f a b = either_all ps e x n k f a b
 
     either_all : (ps : Plans) (e x : Tree) (n k : ℕ) (f : StepFault) → MakesAll g lemmas ps e x → RefusesAny g lemmas ps e n k f → ⊥
     either_all no_plans e x n k f a b = b
     either_all (plan p ps) e x n k f a (inl b) = either_made p e a.0 n k f a.1 b
-    either_all (plan p ps) e x n k f a (inr b) = either_all ps b.0 x (n + numbered p) k f (subst (λ m. MakesAll g lemmas ps m x) (made_once p e a.0 b.0 a.1 b.1) a.2) b.2
+    either_all (plan p ps) e x n k f a (inr b) = either_all ps b.0 x (n + numbered p) k f
+        (subst (λ m. MakesAll g lemmas ps m x) (made_once p e a.0 b.0 a.1 b.1) a.2) b.2
 
   mutual
-    pub one_fault : (p : Plan) (e : Tree) (n k j : ℕ) (f h : StepFault) → Refuses g lemmas p e n k f → Refuses g lemmas p e n j h → (k ≡ j) × (kind_of f ≡ kind_of h)
+    pub one_fault : (p : Plan) (e : Tree) (n k j : ℕ) (f h : StepFault) → Refuses g lemmas p e n k f → Refuses g lemmas p e n j h → (k ≡ j)
+        × (kind_of f ≡ kind_of h)
     one_fault (Plan.Make move) e n k j f h a b = (a.0 ∙ sym b.0, row_fault g (row g.vertices lemmas move e) f h a.1 b.1)
     one_fault (Plan.At i p) e n k j f h a b =
-        at_fault i (cap (n + 1)) k j f h (child e i) (λ c. Refuses g lemmas p c (n + 1) k f) (λ c. Refuses g lemmas p c (n + 1) j h) (λ c. one_fault p c (n + 1) k j f h) a b
+        at_fault i (cap (n + 1)) k j f h (child e i) (λ c. Refuses g lemmas p c (n + 1) k f) (λ c. Refuses g lemmas p c (n + 1) j h)
+        (λ c. one_fault p c (n + 1) k j f h) a b
     one_fault (Plan.Then ps) e n k j f h a b = one_fault_all ps e n k j f h a b
 
-    one_fault_all : (ps : Plans) (e : Tree) (n k j : ℕ) (f h : StepFault) → RefusesAny g lemmas ps e n k f → RefusesAny g lemmas ps e n j h → (k ≡ j) × (kind_of f ≡ kind_of h)
+    one_fault_all : (ps : Plans) (e : Tree) (n k j : ℕ) (f h : StepFault) → RefusesAny g lemmas ps e n k f → RefusesAny g lemmas ps e n j h → (k ≡ j)
+        × (kind_of f ≡ kind_of h)
     one_fault_all no_plans e n k j f h a b = absurd a
     one_fault_all (plan p ps) e n k j f h (inl a) (inl b) = one_fault p e n k j f h a b
     one_fault_all (plan p ps) e n k j f h (inl a) (inr b) = absurd (either_made p e b.0 n k f b.1 a)
@@ -101,7 +106,8 @@ module _ (g : MixedGraph) (lemmas : List ℕ) where
         one_fault_all ps a.0 (n + numbered p) k j f h a.2 (subst (λ m. RefusesAny g lemmas ps m (n + numbered p) j h) (sym (made_once p e a.0 b.0 a.1 b.1)) b.2)
 
 -- a derivation is accepted or has a first fault, not both
-defines_either : (g : MixedGraph) (before : List ℕ) (k : ℕ) (ls : List PlainLemma) (ds : List Tree) (fault : CheckFault) → Define g before ls ds → DefinesNot g before k ls ds fault → ⊥
+defines_either : (g : MixedGraph) (before : List ℕ) (k : ℕ) (ls : List PlainLemma) (ds : List Tree) (fault : CheckFault) → Define g before ls ds
+    → DefinesNot g before k ls ds fault → ⊥
 defines_either g before k [] [] fault a b = b
 defines_either g before k [] (d ∷ ds) fault a b = a
 defines_either g before k (l ∷ ls) [] fault a b = a
@@ -110,7 +116,8 @@ defines_either g before k (l ∷ ls) (d ∷ ds) fault a (inr (inl b)) = b.2 (mad
 defines_either g before k (l ∷ ls) (d ∷ ds) fault a (inr (inr b)) = defines_either g (before ++ (l.set ∷ [])) (k + 1) ls ds fault a.1 b.1
 
 -- an accepted derivation has no first fault
-pub accepts_either : (g : MixedGraph) (allowed : List ℕ) (t : PlainTarget) (f : PlainFormula) (d : PlainDerivation) (fault : CheckFault) → Accepts g allowed t f d → AcceptsNot g allowed t f d fault → ⊥
+pub accepts_either : (g : MixedGraph) (allowed : List ℕ) (t : PlainTarget) (f : PlainFormula) (d : PlainDerivation) (fault : CheckFault)
+    → Accepts g allowed t f d → AcceptsNot g allowed t f d fault → ⊥
 accepts_either g allowed t f d fault a (inl b) = defines_either g [] 0 d.lemmas f.defs fault a.define b
 accepts_either g allowed t f d fault a (inr b) = ends b.1
   where

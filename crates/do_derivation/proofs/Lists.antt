@@ -1,46 +1,47 @@
 -- Lists of factors, of vertices and of numbers, as loops go over them.
-use Rattle.std.proofs.Common.{ℕ, zero, suc, ◌+◌, ◌^◌, ◌≡◌, ◌<◌, ◌≤◌, Bool, true, false, eqb, ltb, ◌&&◌, refl, sym, ap, ◌∙◌, List, [], ◌∷◌, ◌++◌, length, get_or, set, drop, Option, Some, None, arith, eqb-true}
+use Rattle.std.proofs.Common.{ℕ, zero, suc, ◌+◌, ◌^◌, ◌≡◌, ◌<◌, ◌≤◌, Bool, true, false, eqb, ltb, ◌&&◌, refl, sym, ap, ◌∙◌, List, [], ◌∷◌, ◌++◌}
+use Rattle.std.proofs.Common.{length, get_or, set, drop, Option, Some, None, arith, eqb-true}
 use Rattle.mixed_graph.specs.Bits.{has}
 use Rattle.mixed_graph.proofs.Masks.{has-above}
 use Rattle.finite_models.specs.Sums.{all_below}
 use Rattle.prob_expr.specs.Tree.{Tree, prob, sum, product, quotient, named, Trees, no_trees, tree}
 use Rattle.prob_expr.specs.View.{view, views}
 use Rattle.prob_expr.specs.declared.expr.Expr.{Expr}
-use Rattle.do_derivation.specs.Shapes.{factor_at, with_factor, count_factors, joined, flat, times_in, each_below, or_nothing, gathered, term_with, unchained}
+use Rattle.do_derivation.specs.Shapes.{factor_at, with_factor, count_factors, appended, flat, times_in, each_below, or_nothing, gathered, term_with, unchained}
 
 pub not_above : (m v : ℕ) → m < 2 ^ 64 → 64 ≤ v → has m v ≡ false
 not_above m v lt le = has-above m v lt le
 
 -- ---- factors put behind others
-pub joined-nothing : (ts : Trees) → joined ts no_trees ≡ ts
+pub joined-nothing : (ts : Trees) → appended ts no_trees ≡ ts
 joined-nothing no_trees = refl
 joined-nothing (tree t ts) = ap (λ us. tree t us) (joined-nothing ts)
 
-pub joined_nothing : (ts us : Trees) → joined ts no_trees ≡ us → ts ≡ us
+pub joined_nothing : (ts us : Trees) → appended ts no_trees ≡ us → ts ≡ us
 joined_nothing ts us e = sym (joined-nothing ts) ∙ e
 
 -- a factor at the end of a list may as well stand at the front of what follows it
-pub joined_more : (es : List Expr) (e : Expr) (ts : Trees) → joined (views (es ++ e ∷ [])) ts ≡ joined (views es) (tree (view e) ts)
+pub joined_more : (es : List Expr) (e : Expr) (ts : Trees) → appended (views (es ++ e ∷ [])) ts ≡ appended (views es) (tree (view e) ts)
 joined_more [] e ts = refl
 joined_more (x ∷ es) e ts = ap (λ us. tree (view x) us) (joined_more es e ts)
 
-pub joined_assoc : (ts us vs : Trees) → joined (joined ts us) vs ≡ joined ts (joined us vs)
+pub joined_assoc : (ts us vs : Trees) → appended (appended ts us) vs ≡ appended ts (appended us vs)
 joined_assoc no_trees us vs = refl
 joined_assoc (tree t ts) us vs = ap (λ ws. tree t ws) (joined_assoc ts us vs)
 
-pub views_append : (es fs : List Expr) → views (es ++ fs) ≡ joined (views es) (views fs)
+pub views_append : (es fs : List Expr) → views (es ++ fs) ≡ appended (views es) (views fs)
 views_append [] fs = refl
 views_append (e ∷ es) fs = ap (λ us. tree (view e) us) (views_append es fs)
 
-pub flat_joined : (ts us : Trees) → flat (joined ts us) ≡ joined (flat ts) (flat us)
+pub flat_joined : (ts us : Trees) → flat (appended ts us) ≡ appended (flat ts) (flat us)
 flat_joined no_trees us = refl
-flat_joined (tree (product es) ts) us = ap (λ vs. joined es vs) (flat_joined ts us) ∙ sym (joined_assoc es (flat ts) (flat us))
+flat_joined (tree (product es) ts) us = ap (λ vs. appended es vs) (flat_joined ts us) ∙ sym (joined_assoc es (flat ts) (flat us))
 flat_joined (tree (prob a b c) ts) us = ap (λ vs. tree (prob a b c) vs) (flat_joined ts us)
 flat_joined (tree (sum u e) ts) us = ap (λ vs. tree (sum u e) vs) (flat_joined ts us)
 flat_joined (tree (quotient p q) ts) us = ap (λ vs. tree (quotient p q) vs) (flat_joined ts us)
 flat_joined (tree (named k) ts) us = ap (λ vs. tree (named k) vs) (flat_joined ts us)
 
-pub flat_more : (es : List Expr) (e : Expr) → flat (views (es ++ e ∷ [])) ≡ joined (flat (views es)) (flat (tree (view e) no_trees))
+pub flat_more : (es : List Expr) (e : Expr) → flat (views (es ++ e ∷ [])) ≡ appended (flat (views es)) (flat (tree (view e) no_trees))
 flat_more es e = ap flat (views_append es (e ∷ [])) ∙ flat_joined (views es) (tree (view e) no_trees)
 
 pub count_views : (es : List Expr) → count_factors (views es) ≡ length es

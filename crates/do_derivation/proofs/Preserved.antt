@@ -34,7 +34,8 @@ all_zero n (suc k) u v = refl
 
 single_positive : (n : ℕ) → IsPositiveModel (single n)
 single_positive n s w =
-    subst (λ b. 1 ≤ cond b 1 0) (sym (agree_from n (λ v. true) (solution (single n) (λ j. 0)) s (λ v lt e. all_zero n n (λ j. 0) v ∙ (let l = w v lt in omega (arith, l))))) (omega arith)
+    subst (λ b. 1 ≤ cond b 1 0) (sym (agree_from n (λ v. true) (solution (single n) (λ j. 0)) s
+    (λ v lt e. all_zero n n (λ j. 0) v ∙ (let l = w v lt in omega (arith, l))))) (omega arith)
 
 -- all terms of what a step makes are terms, where those of what it is made of are
 pub step_keeps_terms : StepKeepsTerms
@@ -43,6 +44,9 @@ step_keeps_terms = λ g ok lemmas p e e' terms made.
     let fit = single_fits g in
     let positive = single_positive g.vertices in
     let q : ℕ → (ℕ → ℕ) → Fraction = λ j s. term_value (weights_of m) (get_or lemmas j 0) (minus (all g.vertices) (get_or lemmas j 0)) 0 s in
-    let defined : (j : ℕ) (s : ℕ → ℕ) → IsAssignment m.vertices m.size s → IsPositive (q j s) = λ j s w. term_positive g ok m fit positive (get_or lemmas j 0) (minus (all g.vertices) (get_or lemmas j 0)) 0 s w in
-    let cited : (j : ℕ) (s : ℕ → ℕ) → j < length lemmas → IsAssignment m.vertices m.size s → IsEqual (q j s) (q j s) = λ j s lt w. equal_refl (q j s) (defined j s w).bottom in
-    terms_test g.vertices e' (Keeps.kept_terms g ok m fit positive q defined lemmas cited e e' (Keeps.step_kept g ok m fit positive q defined lemmas cited p e e' (terms_of g.vertices e terms) made))
+    let defined : (j : ℕ) (s : ℕ → ℕ) → IsAssignment m.vertices m.size s → IsPositive (q j s) =
+    λ j s w. term_positive g ok m fit positive (get_or lemmas j 0) (minus (all g.vertices) (get_or lemmas j 0)) 0 s w in
+    let cited : (j : ℕ) (s : ℕ → ℕ) → j < length lemmas → IsAssignment m.vertices m.size s → IsEqual (q j s) (q j s) =
+    λ j s lt w. equal_refl (q j s) (defined j s w).bottom in
+    terms_test g.vertices e' (Keeps.kept_terms g ok m fit positive q defined lemmas cited e e'
+    (Keeps.step_kept g ok m fit positive q defined lemmas cited p e e' (terms_of g.vertices e terms) made))

@@ -5,7 +5,8 @@ use Rattle.mixed_graph.specs.declared.lists.Order.{Order}
 use Rattle.mixed_graph.specs.declared.sets.VSet.{VSet}
 use Rattle.do_derivation.specs.Plans.{Move, Plan}
 use Rattle.do_derivation.specs.View.{step_view, listed, numbers_of}
-use Rattle.do_derivation.specs.declared.steps.Step.{the_lemmas, Rule1In, Rule1Out, Rule2See, Rule2Do, Rule3In, Rule3Out, Chain, Unchain, Group, Widen, Narrow, Split, Cite, Unwrap}
+use Rattle.do_derivation.specs.declared.steps.Step.{the_lemmas, Rule1In, Rule1Out, Rule2See, Rule2Do, Rule3In, Rule3Out, Chain, Unchain, Group, Widen}
+use Rattle.do_derivation.specs.declared.steps.Step.{Narrow, Split, Cite, Unwrap}
 
 pub step-Rule1In : (z : VSet) → step_view (Rule1In z) ≡ Plan.Make (Move.Rule1In z.bits)
 step-Rule1In z = search (rules, the_lemmas)

@@ -4,10 +4,11 @@ use Rattle.std.proofs.lemmas.Bool.{and_from, or_from, false_from_ne_true}
 use Rattle.mixed_graph.specs.Bits.{has}
 use Rattle.finite_models.proofs.Bools.{and_first, and_second, either}
 use Rattle.do_rules.specs.Rules.{AreFourSets}
-use Rattle.mixed_graph.specs.Masks.{join, minus, one, is_empty, is_apart, is_inside, is_below}
+use Rattle.mixed_graph.specs.Masks.{union, minus, one, is_empty, is_apart, is_inside, is_below}
 use Rattle.prob_expr.specs.TermSets.{are_term_sets}
 use Rattle.prob_expr.specs.Terms.{is_term}
-use Rattle.mixed_graph.proofs.MaskLaws.{filled_from, not_empty, has_join, has_minus, has_none, has_one, apart_has, apart_from, inside_has, below_has, below_from}
+use Rattle.mixed_graph.proofs.MaskLaws.{filled_from, not_empty, has_join, has_minus, has_none, has_one, apart_has, apart_from, inside_has, below_has}
+use Rattle.mixed_graph.proofs.MaskLaws.{below_from}
 use Rattle.do_derivation.specs.Table.{is_new}
 
 -- the sets of a term P(a | do(b), c): below n and pairwise disjoint
@@ -46,11 +47,11 @@ four_sets n a b z c t k = record {
 }
 
 -- a member of a union is in the first set or in the second
-pub join_cases : (a b v : ℕ) (C : Type 0) → has (join a b) v ≡ true → (has a v ≡ true → C) → (has b v ≡ true → C) → C
+pub join_cases : (a b v : ℕ) (C : Type 0) → has (union a b) v ≡ true → (has a v ≡ true → C) → (has b v ≡ true → C) → C
 join_cases a b v C e f h = either (has a v) (has b v) C (sym (has_join a b v) ∙ e) f h
 
 -- what is in neither of two sets is not in their union
-pub join_false : (a b v : ℕ) → has a v ≡ false → has b v ≡ false → has (join a b) v ≡ false
+pub join_false : (a b v : ℕ) → has a v ≡ false → has b v ≡ false → has (union a b) v ≡ false
 join_false a b v e f = has_join a b v ∙ or_from (has a v) (has b v) e f
 
 -- what is in a difference is in its first set
@@ -98,8 +99,10 @@ pub term_test : (n a b c : ℕ) → IsTerm n a b c → (a ≡ 0 → ⊥) → is_
 term_test n a b c t full =
     and_from (are_term_sets n a b c) (not (is_empty a))
     (and_from (is_below n a && (is_below n b && is_below n c)) (is_apart a b && (is_apart a c && is_apart b c))
-    (and_from (is_below n a) (is_below n b && is_below n c) (below_from n a t.of_below) (and_from (is_below n b) (is_below n c) (below_from n b t.doing_below) (below_from n c t.given_below)))
-    (and_from (is_apart a b) (is_apart a c && is_apart b c) (apart_from a b t.of_doing) (and_from (is_apart a c) (is_apart b c) (apart_from a c t.of_given) (apart_from b c t.doing_given))))
+    (and_from (is_below n a) (is_below n b && is_below n c) (below_from n a t.of_below)
+    (and_from (is_below n b) (is_below n c) (below_from n b t.doing_below) (below_from n c t.given_below)))
+    (and_from (is_apart a b) (is_apart a c && is_apart b c) (apart_from a b t.of_doing)
+    (and_from (is_apart a c) (is_apart b c) (apart_from a c t.of_given) (apart_from b c t.doing_given))))
     (not_empty a full)
 
 -- a set that passes the test of a new one is below n and disjoint from the term's three sets
@@ -116,7 +119,7 @@ new_from n z a b c e =
     }
 
 module _ (n : ℕ) where
-  pub given_more : (a b c z : ℕ) → IsTerm n a b c → IsNew n z a b c → IsTerm n a b (join c z)
+  pub given_more : (a b c z : ℕ) → IsTerm n a b c → IsNew n z a b c → IsTerm n a b (union c z)
   given_more a b c z t k = record {
     of_below = t.of_below;
     doing_below = t.doing_below;
@@ -126,7 +129,7 @@ module _ (n : ℕ) where
     doing_given = λ v e. join_false c z v (t.doing_given v e) (apart_back (has z) (has b) k.apart_doing v e);
   }
 
-  pub doing_more : (a b c z : ℕ) → IsTerm n a b c → IsNew n z a b c → IsTerm n a (join b z) c
+  pub doing_more : (a b c z : ℕ) → IsTerm n a b c → IsNew n z a b c → IsTerm n a (union b z) c
   doing_more a b c z t k = record {
     of_below = t.of_below;
     doing_below = λ v e. join_cases b z v (v < n) e (t.doing_below v) (k.below v);
@@ -136,7 +139,7 @@ module _ (n : ℕ) where
     doing_given = λ v e. join_cases b z v (has c v ≡ false) e (t.doing_given v) (k.apart_given v);
   }
 
-  pub of_more : (a b c z : ℕ) → IsTerm n a b c → IsNew n z a b c → IsTerm n (join a z) b c
+  pub of_more : (a b c z : ℕ) → IsTerm n a b c → IsNew n z a b c → IsTerm n (union a z) b c
   of_more a b c z t k = record {
     of_below = λ v e. join_cases a z v (v < n) e (t.of_below v) (k.below v);
     doing_below = t.doing_below;
@@ -202,7 +205,7 @@ module _ (n : ℕ) where
   }
 
   -- both sides of a split
-  pub of_and_given : (a b c : ℕ) → IsTerm n a b c → IsTerm n (join a c) b 0
+  pub of_and_given : (a b c : ℕ) → IsTerm n a b c → IsTerm n (union a c) b 0
   of_and_given a b c t = record {
     of_below = λ v e. join_cases a c v (v < n) e (t.of_below v) (t.given_below v);
     doing_below = t.doing_below;
@@ -223,25 +226,27 @@ module _ (n : ℕ) where
   }
 
   -- two neighbours in a chain
-  pub of_next : (a b c a' : ℕ) → IsTerm n a b c → IsTerm n a' b (join c a) → IsTerm n (join a a') b c
+  pub of_next : (a b c a' : ℕ) → IsTerm n a b c → IsTerm n a' b (union c a) → IsTerm n (union a a') b c
   of_next a b c a' t r = record {
     of_below = λ v e. join_cases a a' v (v < n) e (t.of_below v) (r.of_below v);
     doing_below = t.doing_below;
     given_below = t.given_below;
     of_doing = λ v e. join_cases a a' v (has b v ≡ false) e (t.of_doing v) (r.of_doing v);
-    of_given = λ v e. join_cases a a' v (has c v ≡ false) e (t.of_given v) (λ i. false_from_ne_true (has c v) (λ o. absurd (grind (arith, has_join c a v ∙ ap (λ p. p || has a v) o, r.of_given v i))));
+    of_given = λ v e. join_cases a a' v (has c v ≡ false) e (t.of_given v)
+        (λ i. false_from_ne_true (has c v) (λ o. absurd (grind (arith, has_join c a v ∙ ap (λ p. p || has a v) o, r.of_given v i))));
     doing_given = t.doing_given;
   }
 
   -- a member taken from the first set to the given one
-  pub chain_on : (a b c v : ℕ) → IsTerm n a b c → has a v ≡ true → IsTerm n (minus a (one v)) b (join c (one v))
+  pub chain_on : (a b c v : ℕ) → IsTerm n a b c → has a v ≡ true → IsTerm n (minus a (one v)) b (union c (one v))
   chain_on a b c v t i = record {
     of_below = λ w e. t.of_below w (minus_left a (one v) w e);
     doing_below = t.doing_below;
     given_below = λ w e. join_cases c (one v) w (w < n) e (t.given_below w) (λ o. t.of_below w (in_one w o));
     of_doing = λ w e. t.of_doing w (minus_left a (one v) w e);
     of_given = λ w e. join_false c (one v) w (t.of_given w (minus_left a (one v) w e)) (minus_right a (one v) w e);
-    doing_given = λ w e. join_false c (one v) w (t.doing_given w e) (false_from_ne_true (has (one v) w) (λ o. absurd (grind (arith, t.of_doing w (in_one w o), e))));
+    doing_given = λ w e. join_false c (one v) w (t.doing_given w e) (false_from_ne_true (has (one v) w)
+        (λ o. absurd (grind (arith, t.of_doing w (in_one w o), e))));
   }
     where
       in_one : (w : ℕ) → has (one v) w ≡ true → has a w ≡ true

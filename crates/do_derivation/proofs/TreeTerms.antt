@@ -4,11 +4,11 @@ use Rattle.std.proofs.lemmas.Bool.{and_from}
 use Rattle.std.proofs.lemmas.Option.{none-some}
 use Rattle.mixed_graph.specs.Bits.{has}
 use Rattle.finite_models.proofs.Bools.{and_first, and_second}
-use Rattle.mixed_graph.specs.Masks.{minus, one, join, is_below}
+use Rattle.mixed_graph.specs.Masks.{minus, one, union, is_below}
 use Rattle.prob_expr.specs.Terms.{are_terms, are_terms_each}
 use Rattle.prob_expr.specs.Tree.{Tree, prob, sum, product, quotient, named, Trees, no_trees, tree}
 use Rattle.mixed_graph.proofs.MaskLaws.{has_one, filled_has, below_has, below_from}
-use Rattle.do_derivation.specs.Shapes.{is_list_of, chained, picked, as_one, or_nothing, groups_of, factor_at, flat, joined, child, with_child, with_factor}
+use Rattle.do_derivation.specs.Shapes.{is_list_of, chained, picked, as_one, or_nothing, groups_of, factor_at, flat, appended, child, with_child, with_factor}
 use Rattle.do_derivation.proofs.TermSets.{IsTerm, of_part, chain_on, term_from, term_filled, term_test}
 use Rattle.do_derivation.proofs.Children.{some_is}
 
@@ -44,7 +44,7 @@ pub groups_terms : (n : ℕ) (ts : Trees) (l : List (List ℕ)) → AreTermsEach
 groups_terms n ts [] t = tt
 groups_terms n ts (k ∷ l) t = (one_terms n (picked ts k) (picked_terms n ts k t), groups_terms n ts l t)
 
-pub joined_terms : (n : ℕ) (ts us : Trees) → AreTermsEach n ts → AreTermsEach n us → AreTermsEach n (joined ts us)
+pub joined_terms : (n : ℕ) (ts us : Trees) → AreTermsEach n ts → AreTermsEach n us → AreTermsEach n (appended ts us)
 joined_terms n no_trees us t r = r
 joined_terms n (tree e ts) us t r = (t.0, joined_terms n ts us t.1 r)
 
@@ -60,10 +60,12 @@ pub chained_terms : (n : ℕ) (o : List ℕ) (a b c : ℕ) → is_list_of o a �
 chained_terms n [] a b c e t = tt
 chained_terms n (v ∷ o) a b c e t = (
   (
-    of_part n a b c (one v) t (λ w i. subst (λ x. has a x ≡ true) (sym (eqb-true w v (sym (has_one v w) ∙ i))) (and_first (has a v) (is_list_of o (minus a (one v))) e)),
+    of_part n a b c (one v) t (λ w i. subst (λ x. has a x ≡ true) (sym (eqb-true w v (sym (has_one v w) ∙ i)))
+        (and_first (has a v) (is_list_of o (minus a (one v))) e)),
     filled_has (one v) v (has_one v v ∙ eq-eqb v v refl),
   ),
-  chained_terms n o (minus a (one v)) b (join c (one v)) (and_second (has a v) (is_list_of o (minus a (one v))) e) (chain_on n a b c v t (and_first (has a v) (is_list_of o (minus a (one v))) e)),
+  chained_terms n o (minus a (one v)) b (union c (one v)) (and_second (has a v) (is_list_of o (minus a (one v))) e)
+      (chain_on n a b c v t (and_first (has a v) (is_list_of o (minus a (one v))) e)),
 )
 
 -- where all terms of an expression are terms, so are those of each child
@@ -102,7 +104,10 @@ mutual
 
   pub terms_of_each : (n : ℕ) (ts : Trees) → are_terms_each n ts ≡ true → AreTermsEach n ts
   terms_of_each n no_trees h = tt
-  terms_of_each n (tree e ts) h = (terms_of n e (and_first (are_terms n e) (are_terms_each n ts) h), terms_of_each n ts (and_second (are_terms n e) (are_terms_each n ts) h))
+  terms_of_each n (tree e ts) h = (
+    terms_of n e (and_first (are_terms n e) (are_terms_each n ts) h),
+    terms_of_each n ts (and_second (are_terms n e) (are_terms_each n ts) h),
+  )
 
 mutual
   -- an expression all of whose terms are terms passes the test

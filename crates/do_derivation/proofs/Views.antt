@@ -26,19 +26,24 @@ term_of : (n : ℕ) (e : Expr) (a b c : VSet) → e ≡ Prob a b c → are_terms
 term_of n e a b c is t = term_from n a.bits b.bits c.bits (subst (λ x. are_terms n x ≡ true) (ap view is ∙ view-Prob a b c) t)
 
 -- a term with a new set
-pub new_sets : (n : ℕ) (e : Expr) (a b c z : VSet) → e ≡ Prob a b c → are_terms n (view e) ≡ true → is_new n z.bits a.bits b.bits c.bits ≡ true → AreFourSets n (has b.bits) (has a.bits) (has z.bits) (has c.bits)
+pub new_sets : (n : ℕ) (e : Expr) (a b c z : VSet) → e ≡ Prob a b c → are_terms n (view e) ≡ true → is_new n z.bits a.bits b.bits c.bits ≡ true
+    → AreFourSets n (has b.bits) (has a.bits) (has z.bits) (has c.bits)
 new_sets n e a b c z is t k = four_sets n a.bits b.bits z.bits c.bits (term_of n e a b c is t) (new_from n z.bits a.bits b.bits c.bits k)
 
 -- a term with a part of the condition, and the rest of it
-pub given_sets : (n : ℕ) (e : Expr) (a b c z : VSet) (rest : ℕ) → e ≡ Prob a b c → are_terms n (view e) ≡ true → is_part z.bits c.bits ≡ true → rest ≡ minus c.bits z.bits → AreFourSets n (has b.bits) (has a.bits) (has z.bits) (has rest)
+pub given_sets : (n : ℕ) (e : Expr) (a b c z : VSet) (rest : ℕ) → e ≡ Prob a b c → are_terms n (view e) ≡ true → is_part z.bits c.bits ≡ true → rest
+    ≡ minus c.bits z.bits → AreFourSets n (has b.bits) (has a.bits) (has z.bits) (has rest)
 given_sets n e a b c z rest is t k same =
     let s = term_of n e a b c is t in
-    subst (λ r. AreFourSets n (has b.bits) (has a.bits) (has z.bits) (has r)) (sym same) (four_sets n a.bits b.bits z.bits (minus c.bits z.bits) (given_less n a.bits b.bits c.bits z.bits s)
+    subst (λ r. AreFourSets n (has b.bits) (has a.bits) (has z.bits) (has r)) (sym same)
+    (four_sets n a.bits b.bits z.bits (minus c.bits z.bits) (given_less n a.bits b.bits c.bits z.bits s)
     (taken_given n a.bits b.bits c.bits z.bits s (and_second (not (is_empty z.bits)) (is_inside z.bits c.bits) k)))
 
 -- a term with a part of the intervention, and the rest of it
-pub doing_sets : (n : ℕ) (e : Expr) (a b c z : VSet) (rest : ℕ) → e ≡ Prob a b c → are_terms n (view e) ≡ true → is_part z.bits b.bits ≡ true → rest ≡ minus b.bits z.bits → AreFourSets n (has rest) (has a.bits) (has z.bits) (has c.bits)
+pub doing_sets : (n : ℕ) (e : Expr) (a b c z : VSet) (rest : ℕ) → e ≡ Prob a b c → are_terms n (view e) ≡ true → is_part z.bits b.bits ≡ true → rest
+    ≡ minus b.bits z.bits → AreFourSets n (has rest) (has a.bits) (has z.bits) (has c.bits)
 doing_sets n e a b c z rest is t k same =
     let s = term_of n e a b c is t in
-    subst (λ r. AreFourSets n (has r) (has a.bits) (has z.bits) (has c.bits)) (sym same) (four_sets n a.bits (minus b.bits z.bits) z.bits c.bits (doing_less n a.bits b.bits c.bits z.bits s)
+    subst (λ r. AreFourSets n (has r) (has a.bits) (has z.bits) (has c.bits)) (sym same)
+    (four_sets n a.bits (minus b.bits z.bits) z.bits c.bits (doing_less n a.bits b.bits c.bits z.bits s)
     (taken_doing n a.bits b.bits c.bits z.bits s (and_second (not (is_empty z.bits)) (is_inside z.bits b.bits) k)))

@@ -44,14 +44,16 @@ DefinesNot g before k [] [] fault = ⊥
 DefinesNot g before k [] (d ∷ ds) fault = fault ≡ EndDiffers (cap k)
 DefinesNot g before k (l ∷ ls) [] fault = fault ≡ EndDiffers (cap k)
 DefinesNot g before k (l ∷ ls) (d ∷ ds) fault =
-    ((number : ℕ) × (why : StepFault) × Refuses g before l.plan (start_of g.vertices l.set) 0 number why × (fault ≡ Step (record { lemma = Some (cap k); number = number }) why))
+    ((number : ℕ) × (why : StepFault) × Refuses g before l.plan (start_of g.vertices l.set) 0 number why
+    × (fault ≡ Step (record { lemma = Some (cap k); number = number }) why))
     ⊎ ((e : Tree) × Makes g before l.plan (start_of g.vertices l.set) e × (e ≡ d → ⊥) × (fault ≡ EndDiffers (cap k)))
     ⊎ (Makes g before l.plan (start_of g.vertices l.set) d × DefinesNot g (before ++ (l.set ∷ [])) (k + 1) ls ds fault)
 
 -- the first fault of main and of the terms
 abbrev pub EndsNot : MixedGraph → List ℕ → PlainTarget → PlainFormula → PlainDerivation → CheckFault → Type 0
 EndsNot g allowed t f d fault =
-    ((number : ℕ) × (why : StepFault) × Refuses g (sets_of d.lemmas) d.main (term_of t) 0 number why × (fault ≡ Step (record { lemma = None; number = number }) why))
+    ((number : ℕ) × (why : StepFault) × Refuses g (sets_of d.lemmas) d.main (term_of t) 0 number why
+    × (fault ≡ Step (record { lemma = None; number = number }) why))
     ⊎ ((e : Tree) × Makes g (sets_of d.lemmas) d.main (term_of t) e × (e ≡ f.main → ⊥) × (fault ≡ EndDiffers (cap (length d.lemmas))))
     ⊎ (Makes g (sets_of d.lemmas) d.main (term_of t) f.main × (is_allowed allowed f ≡ false) × (fault ≡ DoLeft))
 

@@ -3,7 +3,8 @@ use Rattle.std.specs.Prelude.{ℕ, ◌+◌, List, [], ◌∷◌}
 
 -- what is done to an expression itself
 pub data Move : Type 0 where
-  -- a rule of the do-calculus with the set z: z comes into the condition or leaves it (rule 1), leaves the intervention for the condition or the other way round (rule 2), comes into the intervention or leaves it (rule 3)
+  -- a rule of the do-calculus with the set z: z comes into the condition or leaves it (rule 1), leaves the intervention for the condition or the
+  -- other way round (rule 2), comes into the intervention or leaves it (rule 3)
   Rule1In Rule1Out Rule2See Rule2Do Rule3In Rule3Out : ℕ → Move
   -- a term as the product over a list of its vertices, and back
   Chain : List ℕ → Move

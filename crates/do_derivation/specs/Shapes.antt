@@ -2,7 +2,7 @@
 use Rattle.std.specs.Prelude.{ℕ, zero, suc, ◌+◌, Bool, true, false, not, ◌&&◌, if◌then◌else◌, ◌==◌, ltb, leb, List, [], ◌∷◌, ◌++◌, length, Option, Some, None}
 use Rattle.mixed_graph.specs.Bits.{has}
 use Rattle.finite_models.specs.Sums.{all_below}
-use Rattle.mixed_graph.specs.Masks.{join, minus, one, is_empty, is_apart, is_inside}
+use Rattle.mixed_graph.specs.Masks.{union, minus, one, is_empty, is_apart, is_inside}
 use Rattle.prob_expr.specs.Tree.{Tree, prob, sum, product, quotient, named, Trees, no_trees, tree}
 
 -- the list holds each member of a once, and nothing else
@@ -13,12 +13,12 @@ is_list_of (v ∷ rest) a = has a v && is_list_of rest (minus a (one v))
 -- P(v | do(b), c and the earlier ones) for each v of the list in turn
 abbrev pub chained : (b c : ℕ) → List ℕ → Trees
 chained b c [] = no_trees
-chained b c (v ∷ rest) = tree (prob (one v) b c) (chained b (join c (one v)) rest)
+chained b c (v ∷ rest) = tree (prob (one v) b c) (chained b (union c (one v)) rest)
 
 -- The sets a' of terms P(a' | do(b), c and a and the earlier ones), apart from a and from each other, together with a: `None` for other factors.
 abbrev pub gathered : (a b c : ℕ) → Trees → Option ℕ
 gathered a b c no_trees = Some a
-gathered a b c (tree (prob a' b' c') ts) = if is_apart a' a && (b' == b && c' == join c a) then gathered (join a a') b c ts else None
+gathered a b c (tree (prob a' b' c') ts) = if is_apart a' a && (b' == b && c' == union c a) then gathered (union a a') b c ts else None
 gathered a b c (tree (sum u e) ts) = None
 gathered a b c (tree (product es) ts) = None
 gathered a b c (tree (quotient p q) ts) = None
@@ -46,9 +46,9 @@ factor_at (tree t ts) zero = Some t
 factor_at (tree t ts) (suc i) = factor_at ts i
 
 -- the factors of both lists in turn
-abbrev pub joined : Trees → Trees → Trees
-joined no_trees us = us
-joined (tree t ts) us = tree t (joined ts us)
+abbrev pub appended : Trees → Trees → Trees
+appended no_trees us = us
+appended (tree t ts) us = tree t (appended ts us)
 
 -- the factor, or the product of none
 abbrev pub or_nothing : Option Tree → Tree
@@ -115,7 +115,7 @@ has_product (tree _ ts) = has_product ts
 -- each factor that is a product replaced by its factors
 abbrev pub flat : Trees → Trees
 flat no_trees = no_trees
-flat (tree (product es) ts) = joined es (flat ts)
+flat (tree (product es) ts) = appended es (flat ts)
 flat (tree (prob a b c) ts) = tree (prob a b c) (flat ts)
 flat (tree (sum u e) ts) = tree (sum u e) (flat ts)
 flat (tree (quotient p q) ts) = tree (quotient p q) (flat ts)

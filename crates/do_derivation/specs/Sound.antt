@@ -15,7 +15,8 @@ use Rattle.do_derivation.specs.declared.faults.CheckFault.{CheckFault}
 
 -- definition k has the values q k: those that may be cited have the values of their lemmas' terms, and all are positive
 pub record HaveValues (g : MixedGraph) (m : FiniteModel) (lemmas : List ℕ) (q : ℕ → (ℕ → ℕ) → Fraction) : Type 0 where
-  pub cited : (k : ℕ) (s : ℕ → ℕ) → k < length lemmas → IsAssignment m.vertices m.size s → IsEqual (q k s) (value (weights_of m) q (start_of g.vertices (get_or lemmas k 0)) s)
+  pub cited : (k : ℕ) (s : ℕ → ℕ) → k < length lemmas → IsAssignment m.vertices m.size s
+      → IsEqual (q k s) (value (weights_of m) q (start_of g.vertices (get_or lemmas k 0)) s)
   pub positive : (k : ℕ) (s : ℕ → ℕ) → IsAssignment m.vertices m.size s → IsPositive (q k s)
 
 -- a step keeps the value at each assignment
@@ -26,11 +27,13 @@ StepKeepsValue = (g : MixedGraph) → IsMixedGraph g → (lemmas : List ℕ) (p 
 
 -- what a step makes of an expression all of whose terms are terms is one
 abbrev pub StepKeepsTerms : Type 0
-StepKeepsTerms = (g : MixedGraph) → IsMixedGraph g → (lemmas : List ℕ) (p : Plan) (e e' : Tree) → are_terms g.vertices e ≡ true → Makes g lemmas p e e' → are_terms g.vertices e' ≡ true
+StepKeepsTerms = (g : MixedGraph) → IsMixedGraph g → (lemmas : List ℕ) (p : Plan) (e e' : Tree) → are_terms g.vertices e ≡ true → Makes g lemmas p e e'
+    → are_terms g.vertices e' ≡ true
 
 -- the formula of an accepted derivation is the effect, and its terms are under the allowed interventions
 abbrev pub AcceptedIsEffect : Type 0
-AcceptedIsEffect = (g : MixedGraph) → IsMixedGraph g → (allowed : List ℕ) (t : PlainTarget) (f : PlainFormula) (d : PlainDerivation) → is_term g.vertices t.y t.x t.given ≡ true → Accepts g allowed t f d
+AcceptedIsEffect = (g : MixedGraph) → IsMixedGraph g → (allowed : List ℕ) (t : PlainTarget) (f : PlainFormula) (d : PlainDerivation)
+    → is_term g.vertices t.y t.x t.given ≡ true → Accepts g allowed t f d
     → (is_allowed allowed f ≡ true) × EqualsEffect g t f
 
 -- the fault but for its path, of which there may be several
@@ -56,4 +59,5 @@ StepsAreExact = (g : MixedGraph) (lemmas : List ℕ) (p : Plan) (e : Tree) → I
 
 -- an accepted derivation has no first fault
 abbrev pub AcceptsOrNot : Type 0
-AcceptsOrNot = (g : MixedGraph) (allowed : List ℕ) (t : PlainTarget) (f : PlainFormula) (d : PlainDerivation) (fault : CheckFault) → Accepts g allowed t f d → AcceptsNot g allowed t f d fault → ⊥
+AcceptsOrNot = (g : MixedGraph) (allowed : List ℕ) (t : PlainTarget) (f : PlainFormula) (d : PlainDerivation) (fault : CheckFault) → Accepts g allowed t f d
+    → AcceptsNot g allowed t f d fault → ⊥

@@ -35,11 +35,13 @@ abbrev mutual
   MakesAll g lemmas no_plans e e' = e' ≡ e
   MakesAll g lemmas (plan p ps) e e' = (m : Tree) × Makes g lemmas p e m × MakesAll g lemmas ps m e'
 
--- The step is refused on e at the node `number` by that fault, where `before` nodes were counted before it. Nodes count from 1 in preorder, `Then` isn't counted, and a number that would pass the last of 32 bits is given as that.
+-- The step is refused on e at the node `number` by that fault, where `before` nodes were counted before it. Nodes count from 1 in preorder, `Then`
+-- isn't counted, and a number that would pass the last of 32 bits is given as that.
 abbrev mutual
   pub Refuses : MixedGraph → List ℕ → Plan → Tree → (before number : ℕ) → StepFault → Type 0
   Refuses g lemmas (Plan.Make move) e before number fault = (number ≡ cap (before + 1)) × RowRefuses g (row g.vertices lemmas move e) fault
-  Refuses g lemmas (Plan.At i p) e before number fault = MatchOption (child e i) ((number ≡ cap (before + 1)) × (fault ≡ NoPlace i)) (λ c. Refuses g lemmas p c (before + 1) number fault)
+  Refuses g lemmas (Plan.At i p) e before number fault = MatchOption (child e i) ((number ≡ cap (before + 1)) × (fault ≡ NoPlace i))
+      (λ c. Refuses g lemmas p c (before + 1) number fault)
   Refuses g lemmas (Plan.Then ps) e before number fault = RefusesAny g lemmas ps e before number fault
 
   pub RefusesAny : MixedGraph → List ℕ → Plans → Tree → (before number : ℕ) → StepFault → Type 0

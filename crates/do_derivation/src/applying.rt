@@ -1,3 +1,5 @@
+//! A move made at its place, with the nodes counted.
+
 ghost use Rattle.std.specs.Prelude.{◌≡◌, ◌<◌, ◌+◌, ℕ, List, true, length, Some};
 ghost use Rattle.mixed_graph.specs.Graphs.{MixedGraph};
 ghost use Rattle.mixed_graph.specs.Shown.{graph_of};

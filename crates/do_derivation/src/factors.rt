@@ -1,7 +1,9 @@
+//! The factors of a product.
+
 ghost use Rattle.std.specs.Prelude.{◌≡◌, true, IfOk, OnOk};
 ghost use Rattle.prob_expr.specs.Tree.{product, no_trees, tree};
 ghost use Rattle.prob_expr.specs.View.{view, views};
-ghost use Rattle.do_derivation.specs.Shapes.{has_product, flat, joined, as_one};
+ghost use Rattle.do_derivation.specs.Shapes.{has_product, flat, appended, as_one};
 
 use prob_expr::Expr;
 use std::alloc::{AllocError, Global};
@@ -52,7 +54,7 @@ pub fn as_one(factors: Vec<Expr>) -> Expr
 
 /// Puts the factors of a product, or another factor, behind the others.
 fn push_flat(made: &mut Vec<Expr>, factor: Expr) -> Result<(), AllocError>
-    ensures { OnOk result (views made.new.items ≡ joined (views made.old.items) (flat (tree (view factor) no_trees))) }
+    ensures { OnOk result (views made.new.items ≡ appended (views made.old.items) (flat (tree (view factor) no_trees))) }
 {
     if is_product(&factor) {
         made.append(&mut factors_of(factor))?;

@@ -1,3 +1,5 @@
+//! Why a derivation is refused, and where.
+
 use m_separation::OpenPath;
 
 /// Why a step is refused.

@@ -1,3 +1,5 @@
+//! The moves on products.
+
 ghost use Rattle.std.specs.Prelude.{◌≡◌, ◌+◌, ◌≤◌, ℕ, [], true, length, map, eqb, Some, None, IfOk, OnOk, MatchOption, cond};
 ghost use Rattle.mixed_graph.specs.Shown.{graph_of};
 ghost use Rattle.finite_models.specs.Sums.{all_below};

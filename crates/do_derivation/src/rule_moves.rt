@@ -1,3 +1,5 @@
+//! The moves by the three rules.
+
 ghost use Rattle.std.specs.Prelude.{◌≡◌, [], true};
 ghost use Rattle.mixed_graph.specs.Shown.{graph_of};
 ghost use Rattle.prob_expr.specs.Terms.{are_terms};

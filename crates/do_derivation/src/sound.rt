@@ -1,3 +1,5 @@
+//! The law that steps keep the value, whoever wrote them.
+
 ghost use Rattle.do_derivation.specs.Sound.{StepKeepsValue, StepKeepsTerms, AcceptedIsEffect, StepsAreExact, AcceptsOrNot};
 
 /// What steps and derivations promise, whoever wrote them.

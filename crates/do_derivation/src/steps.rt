@@ -1,3 +1,5 @@
+//! Steps, lemmas and derivations.
+
 use mixed_graph::{Order, VSet};
 
 /// A step that turns one expression into another of the same value.

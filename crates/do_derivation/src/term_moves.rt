@@ -1,3 +1,5 @@
+//! The moves on terms and sums.
+
 ghost use Rattle.std.specs.Prelude.{◌≡◌, ◌<◌, ◌≤◌, ℕ, [], true, length, IfOk, All};
 ghost use Rattle.std.specs.Bool.{OnTrue};
 ghost use Rattle.mixed_graph.specs.Bits.{has};

@@ -1,9 +1,10 @@
 -- Where a path is open some model has its ends dependent, and the equation of its rule fails there.
-use Rattle.std.proofs.Common.{ℕ, suc, ◌+◌, ◌-◌, ◌*◌, ◌≡◌, ◌≢◌, ◌<◌, ◌≤◌, ◌⊎◌, inl, inr, Bool, true, false, not, ◌&&◌, ◌||◌, List, [], ◌∷◌, length, slice_index, refl, sym, ap, ap₂, ◌∙◌, subst, arith}
+use Rattle.std.proofs.Common.{ℕ, suc, ◌+◌, ◌-◌, ◌*◌, ◌≡◌, ◌≢◌, ◌<◌, ◌≤◌, ◌⊎◌, inl, inr, Bool, true, false, not, ◌&&◌, ◌||◌, List, [], ◌∷◌, length}
+use Rattle.std.proofs.Common.{slice_index, refl, sym, ap, ap₂, ◌∙◌, subst, arith}
 use Rattle.std.proofs.lemmas.Bool.{cases_lt, not-true}
 use Rattle.mixed_graph.specs.Graphs.{MixedGraph, IsMixedGraph, IsAncestor, IsDirectedPath}
-use Rattle.surgery.specs.Cuts.{cut_into, cut_out}
-use Rattle.surgery.proofs.Fewer.{HasFewer, fewer_into, fewer_out, graph_into, path_of_fewer}
+use Rattle.do_rules.specs.Cuts.{cut_into, cut_out}
+use Rattle.do_rules.proofs.Fewer.{HasFewer, fewer_into, fewer_out, graph_into, path_of_fewer}
 use Rattle.m_separation.specs.declared.marks.Mark.{Mark}
 use Rattle.m_separation.specs.declared.marks.Mark.TheVariants.{Out, Into, Both}
 use Rattle.m_separation.specs.Walks.{IsJoined, HasOpenWalk, heads_second}
@@ -18,12 +19,14 @@ use Rattle.walk_models.proofs.Stricts.{open_walks_depend}
 use Rattle.walk_models.proofs.Told.{seen_ends_tell}
 use Rattle.walk_models.proofs.Done.{done_ends_tell}
 use Rattle.walk_models.proofs.Free.{done_ends_are_free, given_ends_tell}
-use Rattle.do_rules.specs.Rules.{AreFourSets, AreDependent, DifferSomewhere, IsRuleGraph, IsFarPart, Side, left_of, right_of, OpenRulesFail, IndependenceIsSeparation, PositiveIndependenceIsSeparation, RuleIsSeparation}
+use Rattle.do_rules.specs.Rules.{AreFourSets, AreDependent, DifferSomewhere, IsRuleGraph, IsFarPart, Side, left_of, right_of, OpenRulesFail}
+use Rattle.do_rules.specs.Rules.{IndependenceIsSeparation, PositiveIndependenceIsSeparation, RuleIsSeparation}
 use Rattle.do_rules.specs.declared.rules.Rule.{Rule}
 use Rattle.do_rules.specs.declared.rules.Rule.TheVariants.{One, Two, Three}
 use Rattle.do_rules.proofs.Holds.{independent_holds, rule_holds}
 use Rattle.do_rules.proofs.RuleGraphs.{cut_graph}
-use Rattle.do_rules.proofs.RuleWalks.{Arrival, arrives, walk_to, fewer_twice, joined_more, leads_more, extended, at_low, at_high, mark_low, mark_high, collider_low, collider_high, walk_on, path_at, path_end, path_outside}
+use Rattle.do_rules.proofs.RuleWalks.{Arrival, arrives, walk_to, fewer_twice, joined_more, leads_more, extended, at_low, at_high, mark_low, mark_high}
+use Rattle.do_rules.proofs.RuleWalks.{collider_low, collider_high, walk_on, path_at, path_end, path_outside}
 
 less_differs : (a b : ℕ) → a < b → b ≡ a → ⊥
 less_differs a b lt e = absurd (omega (arith, lt, e))

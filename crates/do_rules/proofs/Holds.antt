@@ -27,7 +27,8 @@ module _ (g : MixedGraph) (ok : IsMixedGraph g) where
   -- sets that w separates are independent given w, in each model that fits the graph
   pub independent_holds : (x y w : ℕ → Bool) → AreThreeSets g.vertices x y w → IsSeparated g x y w → AreIndependent g x y w
   independent_holds x y w sets sep m fit s =
-      with_rank g ok (event_weight m (λ v. x v || (y v || w v)) s * event_weight m w s) (event_weight m (λ v. x v || w v) s * event_weight m (λ v. y v || w v) s)
+      with_rank g ok (event_weight m (λ v. x v || (y v || w v)) s * event_weight m w s)
+      (event_weight m (λ v. x v || w v) s * event_weight m (λ v. y v || w v) s)
       (λ rank ranked. separated_independent g m rank ok ranked (follows_of g m fit) x y w sets.x_within sets.y_within sets.w_within sets.x_w sets.y_w sep s)
 
   module _ (x y z w : ℕ → Bool) (sets : AreFourSets g.vertices x y z w) where
@@ -44,21 +45,26 @@ module _ (g : MixedGraph) (ok : IsMixedGraph g) where
     graph_holds One h is sep m fit pos s within = record {
       left_bottom = positive m fit pos s within x (λ v. z v || w v);
       right_bottom = positive m fit pos s within x w;
-      products = with_rank g ok (weight_of m x (λ v. y v || (z v || w v)) s * weight_of m x w s) (weight_of m x (λ v. y v || w v) s * weight_of m x (λ v. z v || w v) s)
-          (λ rank ranked. rule_1 g m rank ok ranked (follows_of g m fit) s within x y z w sets.x_within sets.y_within sets.z_within sets.w_within y_given z_given
+      products = with_rank g ok (weight_of m x (λ v. y v || (z v || w v)) s * weight_of m x w s)
+          (weight_of m x (λ v. y v || w v) s * weight_of m x (λ v. z v || w v) s)
+          (λ rank ranked. rule_1 g m rank ok ranked (follows_of g m fit)
+          s within x y z w sets.x_within sets.y_within sets.z_within sets.w_within y_given z_given
           (subst (λ k. IsSeparated k y z (λ v. x v || w v)) is sep));
     }
     graph_holds Two h is sep m fit pos s within = record {
       left_bottom = positive m fit pos s within (λ v. x v || z v) w;
       right_bottom = positive m fit pos s within x (λ v. z v || w v);
-      products = with_rank g ok (weight_of m (λ v. x v || z v) (λ v. y v || w v) s * weight_of m x (λ v. z v || w v) s) (weight_of m x (λ v. y v || (z v || w v)) s * weight_of m (λ v. x v || z v) w s)
-          (λ rank ranked. rule_2 g m rank ok ranked (follows_of g m fit) s within x z (flipped x z sets.x_z) y w sets.x_within sets.y_within sets.z_within sets.w_within y_given z_given sets.y_z
+      products = with_rank g ok (weight_of m (λ v. x v || z v) (λ v. y v || w v) s * weight_of m x (λ v. z v || w v) s)
+          (weight_of m x (λ v. y v || (z v || w v)) s * weight_of m (λ v. x v || z v) w s)
+          (λ rank ranked. rule_2 g m rank ok ranked (follows_of g m fit) s within x z (flipped x z sets.x_z)
+          y w sets.x_within sets.y_within sets.z_within sets.w_within y_given z_given sets.y_z
           (subst (λ k. IsSeparated k y z (λ v. x v || w v)) is sep));
     }
     graph_holds Three h is sep m fit pos s within = record {
       left_bottom = positive m fit pos s within (λ v. x v || z v) w;
       right_bottom = positive m fit pos s within x w;
-      products = with_rank g ok (weight_of m (λ v. x v || z v) (λ v. y v || w v) s * weight_of m x w s) (weight_of m x (λ v. y v || w v) s * weight_of m (λ v. x v || z v) w s)
+      products = with_rank g ok (weight_of m (λ v. x v || z v) (λ v. y v || w v) s * weight_of m x w s)
+          (weight_of m x (λ v. y v || w v) s * weight_of m (λ v. x v || z v) w s)
           (λ rank ranked. rule_3 g m rank ok ranked (follows_of g m fit) s within pos x y z w is.0 sets.x_within sets.y_within sets.z_within sets.w_within
           (flipped x y sets.x_y) sets.y_w sets.y_z (flipped x z sets.x_z) sets.z_w (flipped x w sets.x_w) is.1.inside is.1.no_ancestor
           (subst (λ k. IsSeparated k y z (λ v. x v || w v)) is.2 sep));

@@ -10,3 +10,5 @@ pub mod TwoRules
 pub mod Split
 pub mod RuleWalks
 pub mod Failing
+pub mod Fewer
+pub mod Cutting

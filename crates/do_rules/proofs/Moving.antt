@@ -6,7 +6,7 @@ use Rattle.mixed_graph.specs.Graphs.{MixedGraph, IsAncestor}
 use Rattle.m_separation.specs.Paths.{IsOpenPath}
 use Rattle.m_separation.specs.Walks.{IsSeparated}
 use Rattle.m_separation.specs.declared.marks.Mark.{Mark}
-use Rattle.surgery.specs.Cuts.{cut_into}
+use Rattle.do_rules.specs.Cuts.{cut_into}
 use Rattle.finite_models.proofs.Bools.{not_both, and_first, and_second}
 use Rattle.do_rules.specs.Rules.{IsFarPart}
 

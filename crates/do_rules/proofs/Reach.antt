@@ -113,7 +113,15 @@ module _ (g : MixedGraph) (X Y W : ℕ → Bool) where
   -- a walk from v to Y, put behind the reverse of a directed path from v to X outside W, is open
   pub back : (v : ℕ) (xs : List ℕ) (t : ℕ) → t < g.vertices → IsDirectedPath g v xs t → AllOutside g W v xs → X t ≡ true
       → (r : List Step) → Y (last v r) ≡ true → W (last v r) ≡ false → IsWalk g v r → ArePassed g W r → IsSeparated g X Y W → ⊥
-  back v [] t lt p o e r y w k q sep = sep v r (record { vertex = rw p lt; begins = rw p e; ends = y; first_outside = o; last_outside = w; walk = k; passed = q })
+  back v [] t lt p o e r y w k q sep = sep v r (record {
+    vertex = rw p lt;
+    begins = rw p e;
+    ends = y;
+    first_outside = o;
+    last_outside = w;
+    walk = k;
+    passed = q;
+  })
   back v (x ∷ xs) t lt p o e r y w k q sep = back x xs t lt p.1 o.1 e (step Into v ∷ r) y w (p.0, k) (passed_tail v r o.0 q) sep
 
   -- the walk from v, with a step from u to v in front
@@ -125,7 +133,8 @@ module _ (g : MixedGraph) (X Y W : ℕ → Bool) where
       go true a = a
       go false a = a
 
-  module _ (S : ℕ → Bool) (is_graph : IsMixedGraph g) (x_low : (v : ℕ) → X v ≡ true → v < g.vertices) (s_is : (v : ℕ) → S v ≡ true → IsAncestor g (λ v. X v || (Y v || W v)) v)
+  module _ (S : ℕ → Bool) (is_graph : IsMixedGraph g) (x_low : (v : ℕ) → X v ≡ true → v < g.vertices)
+      (s_is : (v : ℕ) → S v ≡ true → IsAncestor g (λ v. X v || (Y v || W v)) v)
       (x_out : (v : ℕ) → X v ≡ true → W v ≡ false) (y_out : (v : ℕ) → Y v ≡ true → W v ≡ false) (sep : IsSeparated g X Y W) where
     -- a walk from u to Y whose first step may be one of a linked pair gives a walk that is ready
     ready_walk : (u : ℕ) → S u ≡ true → (m : Mark) (v : ℕ) (r : List Step) → IsJoined g u m v → (heads_first m ≡ false → W u ≡ false)

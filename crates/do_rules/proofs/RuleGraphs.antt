@@ -5,8 +5,8 @@ use Rattle.std.proofs.lemmas.Bool.{true_from_ne_false}
 use Rattle.mixed_graph.specs.Graphs.{MixedGraph, IsMixedGraph}
 use Rattle.finite_models.proofs.Bools.{same_truth}
 use Rattle.m_separation.specs.Walks.{IsSeparated}
-use Rattle.surgery.specs.Cuts.{cut_into, cut_out}
-use Rattle.surgery.proofs.Fewer.{graph_into, graph_out}
+use Rattle.do_rules.specs.Cuts.{cut_into, cut_out}
+use Rattle.do_rules.proofs.Fewer.{graph_into, graph_out}
 use Rattle.do_rules.specs.Rules.{IsFarPart, IsRuleGraph, IsBlockedFor}
 use Rattle.do_rules.specs.declared.rules.Rule.{Rule}
 use Rattle.do_rules.specs.declared.rules.Rule.TheVariants.{One, Two, Three}
@@ -24,7 +24,8 @@ one_graph Two g x z w h k a b = a ∙ sym b
 one_graph Three g x z w h k a b = a.2 ∙ ap (λ p. cut_into (cut_into g x) p) (far_same g x z w a.0 b.0 a.1 b.1) ∙ sym b.2
 
 -- it is a graph, on the same vertices
-pub cut_graph : (r : Rule) (g : MixedGraph) → IsMixedGraph g → (x z w : ℕ → Bool) (h : MixedGraph) → IsRuleGraph r g x z w h → IsMixedGraph h × (h.vertices ≡ g.vertices)
+pub cut_graph : (r : Rule) (g : MixedGraph) → IsMixedGraph g → (x z w : ℕ → Bool) (h : MixedGraph) → IsRuleGraph r g x z w h → IsMixedGraph h
+    × (h.vertices ≡ g.vertices)
 cut_graph One g valid x z w h is = subst (λ k. IsMixedGraph k × (k.vertices ≡ g.vertices)) (sym is) (graph_into g x valid, refl)
 cut_graph Two g valid x z w h is = subst (λ k. IsMixedGraph k × (k.vertices ≡ g.vertices)) (sym is) (graph_out (cut_into g x) z (graph_into g x valid), refl)
 cut_graph Three g valid x z w h is =
@@ -40,5 +41,6 @@ module _ (g : MixedGraph) (x y z w : ℕ → Bool) where
   asked_of_two sep = record { graph = cut_out (cut_into g x) z; is_graph = refl; separated = sep }
 
   -- what rule 3 asks holds where they do so without the edges into x and into the far part of z
-  pub asked_of_three : (part : ℕ → Bool) → IsFarPart g x z w part → IsSeparated (cut_into (cut_into g x) part) y z (λ v. x v || w v) → IsBlockedFor Three g x y z w
+  pub asked_of_three : (part : ℕ → Bool) → IsFarPart g x z w part → IsSeparated (cut_into (cut_into g x) part) y z (λ v. x v || w v)
+      → IsBlockedFor Three g x y z w
   asked_of_three part far sep = record { graph = cut_into (cut_into g x) part; is_graph = (part, far, refl); separated = sep }

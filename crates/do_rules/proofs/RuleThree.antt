@@ -1,13 +1,14 @@
 -- Rule 3: insertion and deletion of actions.
-use Rattle.std.proofs.Common.{ℕ, zero, suc, ◌+◌, ◌-◌, ◌*◌, ◌≡◌, ◌<◌, ◌≤◌, Bool, true, false, not, refl, sym, ap, ◌∙◌, ◌||◌, ◌&&◌, ◌∷◌, [], List, ◌⊎◌, inl, inr, arith}
+use Rattle.std.proofs.Common.{ℕ, zero, suc, ◌+◌, ◌-◌, ◌*◌, ◌≡◌, ◌<◌, ◌≤◌, Bool, true, false, not, refl, sym, ap, ◌∙◌, ◌||◌, ◌&&◌, ◌∷◌, [], List, ◌⊎◌}
+use Rattle.std.proofs.Common.{inl, inr, arith}
 use mathlib.Core.Path.{fun_ext}
 use Rattle.std.proofs.lemmas.Bool.{and_from, false_from_ne_true, not-true, or_from, or_left, or_right}
 use Rattle.mixed_graph.specs.Graphs.{MixedGraph, IsMixedGraph, IsDirectedPath, IsAncestor}
 use Rattle.m_separation.specs.Walks.{Step, IsJoined, IsWalk, last, heads_first, heads_second, IsPassed, ArePassedFrom, ArePassed, IsSeparated}
 use Rattle.m_separation.specs.declared.marks.Mark.{Mark}
 use Rattle.m_separation.specs.declared.marks.Mark.TheVariants.{Both, Into, Out}
-use Rattle.surgery.specs.Cuts.{cut_into, cut_out}
-use Rattle.surgery.proofs.Fewer.{graph_into}
+use Rattle.do_rules.specs.Cuts.{cut_into, cut_out}
+use Rattle.do_rules.proofs.Fewer.{graph_into}
 use Rattle.finite_models.specs.Models.{FiniteModel, IsAssignment, IsPositiveModel, weight_of}
 use Rattle.finite_models.proofs.Bools.{and_first, and_second, either, not_both}
 use Rattle.finite_models.proofs.Following.{Follows}
@@ -21,7 +22,8 @@ use Rattle.do_rules.proofs.TwoRules.{rule_1, rule_2, further}
 module _ (h g : MixedGraph) (V W : ℕ → Bool) (same : h.vertices ≡ g.vertices)
     (arrows : (u v : ℕ) → h.arrow u v ≡ true → g.arrow u v ≡ true) (boths : (u v : ℕ) → h.both u v ≡ true → g.both u v ≡ true)
     (more : (v : ℕ) → W v ≡ true → V v ≡ true)
-    (headless : (u v : ℕ) → h.arrow u v ≡ true → V v ≡ true → W v ≡ true) (headless_both : (u v : ℕ) → h.both u v ≡ true → (V u ≡ true → W u ≡ true) × (V v ≡ true → W v ≡ true)) where
+    (headless : (u v : ℕ) → h.arrow u v ≡ true → V v ≡ true → W v ≡ true)
+    (headless_both : (u v : ℕ) → h.both u v ≡ true → (V u ≡ true → W u ≡ true) × (V v ≡ true → W v ≡ true)) where
   out_less : (v : ℕ) → V v ≡ false → W v ≡ false
   out_less v e = false_from_ne_true (W v) (λ w. not_both (V v) (more v w) e)
 
@@ -40,7 +42,13 @@ module _ (h g : MixedGraph) (V W : ℕ → Bool) (same : h.vertices ≡ g.vertic
   path_more v (x ∷ xs) t p f = let r = path_more x xs t p.1 (headless v x p.0) in ((arrows v x p.0, r.0), r.1)
 
   ancestor_more : (v : ℕ) → (V v ≡ true → W v ≡ true) → IsAncestor h V v → IsAncestor g W v
-  ancestor_more v f a = let r = path_more v a.path a.end a.leads f in record { vertex = rw (sym same) a.vertex; path = a.path; end = a.end; leads = r.0; inside = r.1 a.inside }
+  ancestor_more v f a = let r = path_more v a.path a.end a.leads f in record {
+    vertex = rw (sym same) a.vertex;
+    path = a.path;
+    end = a.end;
+    leads = r.0;
+    inside = r.1 a.inside;
+  }
 
   walk_more : (v : ℕ) (r : List Step) → IsWalk h v r → IsWalk g v r
   walk_more v [] k = tt
@@ -79,7 +87,8 @@ above x d b le h = omega (arith, product b d le)
 
 -- a positive factor can be cancelled
 pub scaled : (x y b : ℕ) → 1 ≤ b → b * x ≡ b * y → x ≡ y
-scaled x y b le h = stable x y (λ differ. up (λ lt. above x (y - suc x) b le (h ∙ ap (λ n. b * n) (omega arith))) (λ lt. above y (x - suc y) b le (sym h ∙ ap (λ n. b * n) (omega arith))) differ)
+scaled x y b le h = stable x y (λ differ. up (λ lt. above x (y - suc x) b le (h ∙ ap (λ n. b * n) (omega arith)))
+    (λ lt. above y (x - suc y) b le (sym h ∙ ap (λ n. b * n) (omega arith))) differ)
   where
     up : (x < y → ⊥) → (y < x → ⊥) → (x ≡ y → ⊥) → ⊥
     up a b c = c (omega arith)
@@ -103,9 +112,11 @@ cancel a (suc b) c d e f le p q = times_left (a * e) (f * d) (b) (same a (suc b)
     times_left x y b h = scaled x y (suc b) (omega arith) h
 cancel a zero c d e f le p q = absurd (omega arith)
 
-module _ (g : MixedGraph) (m : FiniteModel) (rank : ℕ → ℕ) (is_graph : IsMixedGraph g) (ranked : IsRanked g rank) (follows : Follows g m) (s : ℕ → ℕ) (within : IsAssignment m.vertices m.size s)
+module _ (g : MixedGraph) (m : FiniteModel) (rank : ℕ → ℕ) (is_graph : IsMixedGraph g) (ranked : IsRanked g rank) (follows : Follows g m) (s : ℕ → ℕ)
+    (within : IsAssignment m.vertices m.size s)
     (positive : IsPositiveModel m) (X Y Z W P : ℕ → Bool)
-    (x_low : (v : ℕ) → X v ≡ true → v < g.vertices) (y_low : (v : ℕ) → Y v ≡ true → v < g.vertices) (z_low : (v : ℕ) → Z v ≡ true → v < g.vertices) (w_low : (v : ℕ) → W v ≡ true → v < g.vertices)
+    (x_low : (v : ℕ) → X v ≡ true → v < g.vertices) (y_low : (v : ℕ) → Y v ≡ true → v < g.vertices) (z_low : (v : ℕ) → Z v ≡ true → v < g.vertices)
+    (w_low : (v : ℕ) → W v ≡ true → v < g.vertices)
     (y_x : (v : ℕ) → Y v ≡ true → X v ≡ false) (y_w : (v : ℕ) → Y v ≡ true → W v ≡ false) (y_z : (v : ℕ) → Y v ≡ true → Z v ≡ false)
     (z_x : (v : ℕ) → Z v ≡ true → X v ≡ false) (z_w : (v : ℕ) → Z v ≡ true → W v ≡ false) (w_x : (v : ℕ) → W v ≡ true → X v ≡ false)
     -- P holds the members of Z that are no ancestors of W once the edges into X are cut
@@ -122,10 +133,12 @@ module _ (g : MixedGraph) (m : FiniteModel) (rank : ℕ → ℕ) (is_graph : IsM
   given v = (X v || P v) || W v
 
   given_of : (v : ℕ) → (X v || W v) ≡ true → ((X v || P v) || W v) ≡ true
-  given_of v e = either (X v) (W v) (((X v || P v) || W v) ≡ true) e (λ x. or_left (X v || P v) (W v) (or_left (X v) (P v) x)) (λ w. or_right (X v || P v) (W v) w)
+  given_of v e = either (X v) (W v) (((X v || P v) || W v) ≡ true) e (λ x. or_left (X v || P v) (W v) (or_left (X v) (P v) x))
+      (λ w. or_right (X v || P v) (W v) w)
 
   not_held : (v : ℕ) → not (X v || P v) ≡ true → ((X v || P v) || W v) ≡ true → (X v || W v) ≡ true
-  not_held v n e = either (X v || P v) (W v) ((X v || W v) ≡ true) e (λ h. absurd (not_both (X v || P v) h (not-true (X v || P v) n))) (λ w. or_right (X v) (W v) w)
+  not_held v n e = either (X v || P v) (W v) ((X v || W v) ≡ true) e (λ h. absurd (not_both (X v || P v) h (not-true (X v || P v) n)))
+      (λ w. or_right (X v) (W v) w)
 
   split_not : (x p : Bool) → not (x || p) ≡ true → (not x ≡ true) × (not p ≡ true)
   split_not true p e = absurd (grind (arith, e))
@@ -140,21 +153,24 @@ module _ (g : MixedGraph) (m : FiniteModel) (rank : ℕ → ℕ) (is_graph : IsM
       let nu = split_not (X u) (P u) (and_first (not (X u || P u)) (not (X v || P v)) r) in
       let nv = split_not (X v) (P v) (and_second (not (X u || P u)) (not (X v || P v)) r) in
       and_from (g.both u v && (not (X u) && not (X v))) (not (P u) && not (P v))
-      (and_from (g.both u v) (not (X u) && not (X v)) (and_first (g.both u v) (not (X u || P u) && not (X v || P v)) e) (and_from (not (X u)) (not (X v)) nu.0 nv.0))
+      (and_from (g.both u v) (not (X u) && not (X v)) (and_first (g.both u v) (not (X u || P u) && not (X v || P v)) e)
+      (and_from (not (X u)) (not (X v)) nu.0 nv.0))
       (and_from (not (P u)) (not (P v)) nu.1 nv.1)
 
   rest_in : (v : ℕ) → (Z v && not (P v)) ≡ true → Z v ≡ true
   rest_in v e = and_first (Z v) (not (P v)) e
 
   sep_one : IsSeparated (cut_into g (λ v. X v || P v)) Y (λ v. Z v && not (P v)) (λ v. (X v || P v) || W v)
-  sep_one = separated_less (cut_into g (λ v. X v || P v)) (cut_into (cut_into g X) P) (λ v. (X v || P v) || W v) (λ v. X v || W v) refl arrow_twice both_twice given_of
+  sep_one = separated_less (cut_into g (λ v. X v || P v)) (cut_into (cut_into g X) P) (λ v. (X v || P v) || W v) (λ v. X v || W v)
+      refl arrow_twice both_twice given_of
       (λ u v a e. not_held v (and_second (g.arrow u v) (not (X v || P v)) a) e)
       (λ u v b. let r = and_second (g.both u v) (not (X u || P u) && not (X v || P v)) b in
       (λ e. not_held u (and_first (not (X u || P u)) (not (X v || P v)) r) e, λ e. not_held v (and_second (not (X u || P u)) (not (X v || P v)) r) e))
       Y Z (λ v. Z v && not (P v)) rest_in sep
 
   sep_two : IsSeparated (cut_out (cut_into g (λ v. X v || P v)) (λ v. Z v && not (P v))) Y (λ v. Z v && not (P v)) (λ v. (X v || P v) || W v)
-  sep_two = separated_less (cut_out (cut_into g (λ v. X v || P v)) (λ v. Z v && not (P v))) (cut_into (cut_into g X) P) (λ v. (X v || P v) || W v) (λ v. X v || W v) refl
+  sep_two = separated_less (cut_out (cut_into g (λ v. X v || P v)) (λ v. Z v && not (P v))) (cut_into (cut_into g X) P) (λ v. (X v || P v) || W v)
+      (λ v. X v || W v) refl
       (λ u v a. arrow_twice u v (and_first (g.arrow u v && not (X v || P v)) (not (Z u && not (P u))) a)) both_twice given_of
       (λ u v a e. not_held v (and_second (g.arrow u v) (not (X v || P v)) (and_first (g.arrow u v && not (X v || P v)) (not (Z u && not (P u))) a)) e)
       (λ u v b. let r = and_second (g.both u v) (not (X u || P u) && not (X v || P v)) b in
@@ -172,7 +188,8 @@ module _ (g : MixedGraph) (m : FiniteModel) (rank : ℕ → ℕ) (is_graph : IsM
 
   -- no member of P leads to Y by a path that enters no other member of P
   final : (v : ℕ) (xs : List ℕ) (t : ℕ) → IsDirectedPath (cut_into (cut_into g X) P) v xs t → Y t ≡ true → P v ≡ true → ⊥
-  final v xs t p y z = go (meets_or_not (cut_into (cut_into g X) P) (λ v. X v || W v) (graph_into (cut_into g X) P (graph_into g X is_graph)) v xs t (z_low v (p_in v z)) p)
+  final v xs t p y z = go (meets_or_not (cut_into (cut_into g X) P) (λ v. X v || W v) (graph_into (cut_into g X) P (graph_into g X is_graph)) v xs t
+      (z_low v (p_in v z)) p)
     where
       zv : Z v ≡ true
       zv = p_in v z
@@ -199,7 +216,13 @@ module _ (g : MixedGraph) (m : FiniteModel) (rank : ℕ → ℕ) (is_graph : IsM
 
   above_parent : (p v : ℕ) → (cut_into g X).arrow p v ≡ true → Above v → Above p
   unfolding Above
-  above_parent p v a r = record { vertex = is_graph.tail_below p v (and_first (g.arrow p v) (not (X v)) a); path = v ∷ r.path; end = r.end; leads = (a, r.leads); inside = r.inside }
+  above_parent p v a r = record {
+    vertex = is_graph.tail_below p v (and_first (g.arrow p v) (not (X v)) a);
+    path = v ∷ r.path;
+    end = r.end;
+    leads = (a, r.leads);
+    inside = r.inside;
+  }
 
   dropped : (A : ℕ → Bool) → ((v : ℕ) → A v ≡ true → (Y v || W v) ≡ true) → weight_of m (λ v. X v || P v) A s ≡ weight_of m X A s
   unfolding Above
@@ -208,7 +231,8 @@ module _ (g : MixedGraph) (m : FiniteModel) (rank : ℕ → ℕ) (is_graph : IsM
       (λ differ. tested Above g.vertices (λ C. differ (further g m rank is_graph ranked follows s within X P C.test A
       (λ p v a e. C.complete p (is_graph.tail_below p v (and_first (g.arrow p v) (not (X v)) a)) (above_parent p v a (C.sound v e)))
       (λ v e. false_from_ne_true (P v) (λ z. no_ancestor v z (C.sound v e)))
-      (λ v e. C.complete v (either (Y v) (W v) (v < g.vertices) (part v e) (y_low v) (w_low v)) (record { vertex = either (Y v) (W v) (v < g.vertices) (part v e) (y_low v) (w_low v); path = []; end = v; leads = refl; inside = part v e })))))
+      (λ v e. C.complete v (either (Y v) (W v) (v < g.vertices) (part v e) (y_low v) (w_low v))
+      (record { vertex = either (Y v) (W v) (v < g.vertices) (part v e) (y_low v) (w_low v); path = []; end = v; leads = refl; inside = part v e })))))
 
   whole : (v : ℕ) → ((X v || P v) || (Z v && not (P v))) ≡ (X v || Z v)
   whole v = at (X v) (P v) (Z v) (p_in v)
@@ -224,9 +248,12 @@ module _ (g : MixedGraph) (m : FiniteModel) (rank : ℕ → ℕ) (is_graph : IsM
   rule_3 =
       ap (λ B. weight_of m B (λ v. Y v || W v) s * weight_of m X W s) (sym (fun_ext whole))
       ∙ cancel (weight_of m (λ v. (X v || P v) || (Z v && not (P v))) (λ v. Y v || W v) s) (weight_of m (λ v. X v || P v) (λ v. (Z v && not (P v)) || W v) s)
-      (weight_of m (λ v. X v || P v) (λ v. Y v || ((Z v && not (P v)) || W v)) s) (weight_of m (λ v. (X v || P v) || (Z v && not (P v))) W s) (weight_of m X W s) (weight_of m X (λ v. Y v || W v) s)
+      (weight_of m (λ v. X v || P v) (λ v. Y v || ((Z v && not (P v)) || W v)) s) (weight_of m (λ v. (X v || P v) || (Z v && not (P v))) W s)
+      (weight_of m X W s) (weight_of m X (λ v. Y v || W v) s)
       (positive_each g m rank ranked follows s within positive (λ v. X v || P v) (λ v. (Z v && not (P v)) || W v))
-      (rule_2 g m rank is_graph ranked follows s within (λ v. X v || P v) (λ v. Z v && not (P v)) rest_held Y W held_low y_low rest_low w_low y_given rest_given (λ v y. false_from_ne_true (Z v && not (P v)) (λ r. not_both (Z v) (rest_in v r) (y_z v y))) sep_two)
+      (rule_2 g m rank is_graph ranked follows s within (λ v. X v || P v) (λ v. Z v && not (P v))
+      rest_held Y W held_low y_low rest_low w_low y_given rest_given
+      (λ v y. false_from_ne_true (Z v && not (P v)) (λ r. not_both (Z v) (rest_in v r) (y_z v y))) sep_two)
       (ap (λ r. weight_of m (λ v. X v || P v) (λ v. Y v || ((Z v && not (P v)) || W v)) s * r) (sym (dropped W (λ v w. or_right (Y v) (W v) w)))
       ∙ rule_1 g m rank is_graph ranked follows s within (λ v. X v || P v) Y (λ v. Z v && not (P v)) W held_low y_low rest_low w_low y_given rest_given sep_one
       ∙ ap (λ r. r * weight_of m (λ v. X v || P v) (λ v. (Z v && not (P v)) || W v) s) (dropped (λ v. Y v || W v) (λ v e. e)))

@@ -1,10 +1,11 @@
 -- The walk of an open path in a graph without edges into x, up to its first visit in z; and such a walk with a directed path behind it.
-use Rattle.std.proofs.Common.{◌⊎◌, inl, inr, ℕ, zero, suc, ◌+◌, ◌-◌, ◌≡◌, ◌<◌, ◌≤◌, Bool, true, false, cond, ltb, not, ◌&&◌, ◌||◌, List, [], ◌∷◌, length, refl, sym, ap, ◌∙◌, subst, IsTrue, arith, lt-ltb, le-ltb}
+use Rattle.std.proofs.Common.{◌⊎◌, inl, inr, ℕ, zero, suc, ◌+◌, ◌-◌, ◌≡◌, ◌<◌, ◌≤◌, Bool, true, false, cond, ltb, not, ◌&&◌, ◌||◌, List, [], ◌∷◌}
+use Rattle.std.proofs.Common.{length, refl, sym, ap, ◌∙◌, subst, IsTrue, arith, lt-ltb, le-ltb}
 use Rattle.std.proofs.lemmas.Bool.{cases_lt, false_from_ne_true, not-true, or_left}
 use Rattle.mixed_graph.specs.Graphs.{MixedGraph, IsMixedGraph, IsDirectedPath}
 use Rattle.mixed_graph.specs.Sets.{Apart}
-use Rattle.surgery.specs.Cuts.{cut_into}
-use Rattle.surgery.proofs.Fewer.{HasFewer}
+use Rattle.do_rules.specs.Cuts.{cut_into}
+use Rattle.do_rules.proofs.Fewer.{HasFewer}
 use Rattle.m_separation.specs.declared.marks.Mark.{Mark}
 use Rattle.m_separation.specs.declared.marks.Mark.TheVariants.{Out, Into, Both}
 use Rattle.m_separation.specs.Walks.{IsJoined, last, HasOpenWalk, heads_first, heads_second}

@@ -19,14 +19,21 @@ module _ (g : MixedGraph) (m : FiniteModel) (rank : ℕ → ℕ) (is_graph : IsM
 
   member : (v : ℕ) → (X v || (Y v || W v)) ≡ true → Above v
   unfolding Above
-  member v e = record { vertex = either (X v) (Y v || W v) (v < g.vertices) e (x_low v) (λ r. either (Y v) (W v) (v < g.vertices) r (y_low v) (w_low v)); path = []; end = v; leads = refl; inside = e }
+  member v e = record {
+    vertex = either (X v) (Y v || W v) (v < g.vertices) e (x_low v) (λ r. either (Y v) (W v) (v < g.vertices) r (y_low v) (w_low v));
+    path = [];
+    end = v;
+    leads = refl;
+    inside = e;
+  }
 
   above_parent : (p v : ℕ) → g.arrow p v ≡ true → Above v → Above p
   unfolding Above
   above_parent p v a r = record { vertex = is_graph.tail_below p v a; path = v ∷ r.path; end = r.end; leads = (a, r.leads); inside = r.inside }
 
   -- sets that W separates are independent given W, in a model that follows the graph
-  pub separated_independent : (s : ℕ → ℕ) → event_weight m (λ v. X v || (Y v || W v)) s * event_weight m W s ≡ event_weight m (λ v. X v || W v) s * event_weight m (λ v. Y v || W v) s
+  pub separated_independent : (s : ℕ → ℕ) → event_weight m (λ v. X v || (Y v || W v)) s * event_weight m W s
+      ≡ event_weight m (λ v. X v || W v) s * event_weight m (λ v. Y v || W v) s
   unfolding Above
   separated_independent s =
       stable (event_weight m (λ v. X v || (Y v || W v)) s * event_weight m W s) (event_weight m (λ v. X v || W v) s * event_weight m (λ v. Y v || W v) s)
@@ -42,12 +49,21 @@ module _ (g : MixedGraph) (m : FiniteModel) (rank : ℕ → ℕ) (is_graph : IsM
           (λ e. K.complete u (is_graph.both_below u v b) (by_both su b (K.sound v e))))
           (λ p v sv a o. same_truth (K.test p) (K.test v)
           (λ e. K.complete v (is_graph.head_below p v a) (by_parent sv a o (K.sound p e)))
-          (λ e. K.complete p (is_graph.tail_below p v a) (by_child (S.complete p (is_graph.tail_below p v a) (above_parent p v a (S.sound v sv))) a o (K.sound v e))))
+          (λ e. K.complete p (is_graph.tail_below p v a) (by_child (S.complete p (is_graph.tail_below p v a) (above_parent p v a (S.sound v sv))) a o
+          (K.sound v e))))
           X Y
           (λ v e. S.complete v (x_low v e) (member v (or_left (X v) (Y v || W v) e)))
           (λ v e. S.complete v (y_low v e) (member v (or_right (X v) (Y v || W v) (or_left (Y v) (W v) e))))
           (λ v e. S.complete v (w_low v e) (member v (or_right (X v) (Y v || W v) (or_right (Y v) (W v) e))))
           (λ v e. false_from_ne_true (K.test v) (λ k. let c = reach g X Y W S.test is_graph x_low (λ u su. S.sound u su) x_out y_out sep v (K.sound v k) in
-          sep v c.steps (record { vertex = x_low v e; begins = e; ends = c.ends; first_outside = x_out v e; last_outside = c.last_outside; walk = c.walk; passed = c.passed })))
+          sep v c.steps (record {
+            vertex = x_low v e;
+            begins = e;
+            ends = c.ends;
+            first_outside = x_out v e;
+            last_outside = c.last_outside;
+            walk = c.walk;
+            passed = c.passed;
+          })))
           (λ v e. K.complete v (y_low v e) (here e))
           s

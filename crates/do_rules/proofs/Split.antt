@@ -12,7 +12,8 @@ use Rattle.finite_models.proofs.Indicators.{number}
 use Rattle.finite_models.proofs.Solutions.{IsRanked, IsClosed}
 use Rattle.finite_models.proofs.SumLaws.{over-congr, over-product, product_below-congr, product_below-mul, Ignores, set_at-other}
 
-pub check_congr : (m : FiniteModel) (b : Bool) (v : ℕ) (s t u w : ℕ → ℕ) → (b ≡ true → s v ≡ t v) → (b ≡ true → m.mechanism v s u ≡ m.mechanism v t w) → check m b v s u ≡ check m b v t w
+pub check_congr : (m : FiniteModel) (b : Bool) (v : ℕ) (s t u w : ℕ → ℕ) → (b ≡ true → s v ≡ t v) → (b ≡ true → m.mechanism v s u ≡ m.mechanism v t w)
+    → check m b v s u ≡ check m b v t w
 check_congr m true v s t u w e f = rw (e refl, f refl) refl
 check_congr m false v s t u w e f = refl
 
@@ -42,7 +43,8 @@ module _ (g : MixedGraph) (m : FiniteModel) (rank : ℕ → ℕ) (ranked : IsRan
   not_K v = not (K v)
 
   serves_second : (j v : ℕ) → v < m.vertices → m.serves j v ≡ true → S v ≡ true → K v ≡ true → second j ≡ true
-  serves_second j v b e s k = any_below_from m.vertices (λ v. m.serves j v && (S v && K v)) v b (and_from (m.serves j v) (S v && K v) e (and_from (S v) (K v) s k))
+  serves_second j v b e s k = any_below_from m.vertices (λ v. m.serves j v && (S v && K v)) v b
+      (and_from (m.serves j v) (S v && K v) e (and_from (S v) (K v) s k))
 
   -- a cause of the second group serves no vertex of the first
   apart : (j v : ℕ) → j < m.causes → m.serves j v ≡ true → S v ≡ true → K v ≡ false → second j ≡ true → ⊥
@@ -58,7 +60,8 @@ module _ (g : MixedGraph) (m : FiniteModel) (rank : ℕ → ℕ) (ranked : IsRan
           not_both (K v) (by_both v w s Sw (follows.joined j v w jl e sw ne) ∙ Kw) k
 
   -- the factor of a group does not read the causes of the other
-  reads_causes : (J L : ℕ → Bool) (s : ℕ → ℕ) (P : ℕ → Bool) → ((j v : ℕ) → v < m.vertices → j < m.causes → L j ≡ true → (S v && P v) ≡ true → m.serves j v ≡ true → ⊥)
+  reads_causes : (J L : ℕ → Bool) (s : ℕ → ℕ) (P : ℕ → Bool) → ((j v : ℕ) → v < m.vertices → j < m.causes → L j ≡ true → (S v && P v) ≡ true → m.serves j v
+      ≡ true → ⊥)
       → ((j : ℕ) → L j ≡ true → J j ≡ false) → Ignores m.causes L (factor m J S P s)
   reads_causes J L s P away off u j x jl e =
       ap (λ r. r * checks m (λ v. S v && P v) s (set_at u j x))
@@ -73,7 +76,8 @@ module _ (g : MixedGraph) (m : FiniteModel) (rank : ℕ → ℕ) (ranked : IsRan
       weights i false q = rw q refl
 
   -- the factor of a group does not read the vertices outside W of the other
-  reads_vertices : (J : ℕ → Bool) (P D : ℕ → Bool) → ((i v : ℕ) → D i ≡ true → S v ≡ true → P v ≡ true → (v ≡ i → ⊥) × (g.arrow i v ≡ true → ⊥)) → Ignores m.vertices D (group m J S P)
+  reads_vertices : (J : ℕ → Bool) (P D : ℕ → Bool) → ((i v : ℕ) → D i ≡ true → S v ≡ true → P v ≡ true → (v ≡ i → ⊥) × (g.arrow i v ≡ true → ⊥))
+      → Ignores m.vertices D (group m J S P)
   reads_vertices J P D away s i x il e =
       over-congr J m.values m.causes (factor m J S P (set_at s i x)) (factor m J S P s) (λ j. 0)
       (λ u. ap (λ r. product_below m.causes (λ j. cond (J j) (m.weight j (u j)) 1) * r)
@@ -86,7 +90,10 @@ module _ (g : MixedGraph) (m : FiniteModel) (rank : ℕ → ℕ) (ranked : IsRan
 
   pub first_ignores : (D : ℕ → Bool) → ((i : ℕ) → D i ≡ true → (K i ≡ true) × (W i ≡ false)) → Ignores m.vertices D (group m first S not_K)
   first_ignores D h = reads_vertices first not_K D
-      (λ i v d s k. (λ q. not_both (K i) (h i d).0 (ap K (sym q) ∙ not-true (K v) k), λ a. not_both (K i) (h i d).0 (by_arrow i v s a (h i d).1 ∙ not-true (K v) k)))
+      (λ i v d s k. (
+        λ q. not_both (K i) (h i d).0 (ap K (sym q) ∙ not-true (K v) k),
+        λ a. not_both (K i) (h i d).0 (by_arrow i v s a (h i d).1 ∙ not-true (K v) k),
+      ))
 
   pub second_ignores : (D : ℕ → Bool) → ((i : ℕ) → D i ≡ true → (K i ≡ false) × (W i ≡ false)) → Ignores m.vertices D (group m second S K)
   second_ignores D h = reads_vertices second K D
@@ -95,12 +102,15 @@ module _ (g : MixedGraph) (m : FiniteModel) (rank : ℕ → ℕ) (ranked : IsRan
   in_order : (s u : ℕ → ℕ) → world_weight m u * checks m S s u ≡ factor m first S not_K s u * factor m second S K s u
   in_order s u =
       ap (λ r. r * checks m S s u)
-      (product_below-congr m.causes (λ j. m.weight j (u j)) (λ j. cond (first j) (m.weight j (u j)) 1 * cond (second j) (m.weight j (u j)) 1) (λ j jl. split_weight (second j) (m.weight j (u j)))
+      (product_below-congr m.causes (λ j. m.weight j (u j)) (λ j. cond (first j) (m.weight j (u j)) 1 * cond (second j) (m.weight j (u j)) 1)
+      (λ j jl. split_weight (second j) (m.weight j (u j)))
       ∙ product_below-mul m.causes (λ j. cond (first j) (m.weight j (u j)) 1) (λ j. cond (second j) (m.weight j (u j)) 1))
       ∙ ap (λ r. (product_below m.causes (λ j. cond (first j) (m.weight j (u j)) 1) * product_below m.causes (λ j. cond (second j) (m.weight j (u j)) 1)) * r)
-      (product_below-congr m.vertices (λ v. check m (S v) v s u) (λ v. check m (S v && not_K v) v s u * check m (S v && K v) v s u) (λ v b. split_check (S v) (K v) (eqb (s v) (m.mechanism v s u)))
+      (product_below-congr m.vertices (λ v. check m (S v) v s u) (λ v. check m (S v && not_K v) v s u * check m (S v && K v) v s u)
+      (λ v b. split_check (S v) (K v) (eqb (s v) (m.mechanism v s u)))
       ∙ product_below-mul m.vertices (λ v. check m (S v && not_K v) v s u) (λ v. check m (S v && K v) v s u))
-      ∙ four (product_below m.causes (λ j. cond (first j) (m.weight j (u j)) 1)) (product_below m.causes (λ j. cond (second j) (m.weight j (u j)) 1)) (checks m (λ v. S v && not_K v) s u) (checks m (λ v. S v && K v) s u)
+      ∙ four (product_below m.causes (λ j. cond (first j) (m.weight j (u j)) 1)) (product_below m.causes (λ j. cond (second j) (m.weight j (u j)) 1))
+      (checks m (λ v. S v && not_K v) s u) (checks m (λ v. S v && K v) s u)
 
   or_not : (p : Bool) → true ≡ (not p || p)
   or_not true = refl
@@ -110,7 +120,8 @@ module _ (g : MixedGraph) (m : FiniteModel) (rank : ℕ → ℕ) (ranked : IsRan
   pub two_groups : (s : ℕ → ℕ) → event_weight m S s ≡ group m first S not_K s * group m second S K s
   two_groups s =
       weight_by_checks g m rank ranked follows S s closed
-      ∙ over-congr (λ j. true) m.values m.causes (λ u. world_weight m u * checks m S s u) (λ u. factor m first S not_K s u * factor m second S K s u) (λ j. 0) (in_order s)
+      ∙ over-congr (λ j. true) m.values m.causes (λ u. world_weight m u * checks m S s u) (λ u. factor m first S not_K s u * factor m second S K s u) (λ j. 0)
+      (in_order s)
       ∙ ap (λ U. sum_over U m.values m.causes (λ u. factor m first S not_K s u * factor m second S K s u) (λ j. 0)) (fun_ext (λ j. or_not (second j)))
       ∙ over-product first second m.values m.causes (factor m first S not_K s) (factor m second S K s) (λ j. 0)
       (λ j a b. not_both (second j) b (not-true (second j) a))

@@ -5,7 +5,7 @@ use Rattle.mixed_graph.specs.Sets.{Within, Apart}
 use Rattle.fractions.specs.Fractions.{Fraction, IsEqual}
 use Rattle.finite_models.specs.Models.{FiniteModel, Fits, IsAssignment, IsPositiveModel, event_weight, probability}
 use Rattle.finite_models.specs.Served.{ServesTwo}
-use Rattle.surgery.specs.Cuts.{cut_into, cut_out}
+use Rattle.do_rules.specs.Cuts.{cut_into, cut_out}
 use Rattle.m_separation.specs.Walks.{IsSeparated}
 use Rattle.m_separation.specs.Paths.{IsOpenPath}
 use Rattle.m_separation.specs.declared.paths.OpenPath.{OpenPath}
@@ -14,7 +14,8 @@ use Rattle.do_rules.specs.declared.rules.Rule.TheVariants.{One, Two, Three}
 
 -- x and y are independent given w: at each assignment the weights of x+y+w and of w have the product of those of x+w and of y+w
 abbrev pub IsIndependent : FiniteModel → (x y w : ℕ → Bool) → Type 0
-IsIndependent m x y w = (s : ℕ → ℕ) → event_weight m (λ v. x v || (y v || w v)) s * event_weight m w s ≡ event_weight m (λ v. x v || w v) s * event_weight m (λ v. y v || w v) s
+IsIndependent m x y w = (s : ℕ → ℕ) → event_weight m (λ v. x v || (y v || w v)) s * event_weight m w s
+    ≡ event_weight m (λ v. x v || w v) s * event_weight m (λ v. y v || w v) s
 
 -- they are so in each model that fits the graph
 abbrev pub AreIndependent : MixedGraph → (x y w : ℕ → Bool) → Type 0
@@ -28,7 +29,8 @@ pub record AreDependent (g : MixedGraph) (x y w : ℕ → Bool) : Type 0 where
   pub two : ServesTwo model
   pub at : ℕ → ℕ
   pub within : IsAssignment model.vertices model.size at
-  pub unequal : event_weight model (λ v. x v || (y v || w v)) at * event_weight model w at ≢ event_weight model (λ v. x v || w v) at * event_weight model (λ v. y v || w v) at
+  pub unequal : event_weight model (λ v. x v || (y v || w v)) at * event_weight model w at ≢ event_weight model (λ v. x v || w v) at * event_weight model
+      (λ v. y v || w v) at
 
 -- the three sets are below n and pairwise disjoint
 pub record AreThreeSets (n : ℕ) (x y w : ℕ → Bool) : Type 0 where
@@ -106,7 +108,8 @@ side_value m side s = probability m side.doing side.of side.given s
 
 -- two sides are equal, at each assignment, in each positive model that fits the graph
 abbrev pub AreEqualSides : MixedGraph → (left right : Side) → Type 0
-AreEqualSides g left right = (m : FiniteModel) → Fits g m → IsPositiveModel m → (s : ℕ → ℕ) → IsAssignment m.vertices m.size s → IsEqual (side_value m left s) (side_value m right s)
+AreEqualSides g left right = (m : FiniteModel) → Fits g m → IsPositiveModel m → (s : ℕ → ℕ) → IsAssignment m.vertices m.size s
+    → IsEqual (side_value m left s) (side_value m right s)
 
 -- the equation of a rule
 abbrev pub IsRuleFor : Rule → MixedGraph → (x y z w : ℕ → Bool) → Type 0
@@ -138,5 +141,6 @@ PositiveIndependenceIsSeparation = (g : MixedGraph) → IsMixedGraph g → (x y 
 
 -- in the graph of a rule y and z are separated exactly where the rule's equation holds in each positive model that fits the graph itself
 abbrev pub RuleIsSeparation : Type 0
-RuleIsSeparation = (r : Rule) (g : MixedGraph) → IsMixedGraph g → (x y z w : ℕ → Bool) → AreFourSets g.vertices x y z w → (h : MixedGraph) → IsRuleGraph r g x z w h
+RuleIsSeparation = (r : Rule) (g : MixedGraph) → IsMixedGraph g → (x y z w : ℕ → Bool) → AreFourSets g.vertices x y z w → (h : MixedGraph)
+    → IsRuleGraph r g x z w h
     → IsSeparated h y z (λ v. x v || w v) ↔ IsRuleFor r g x y z w

@@ -3,6 +3,7 @@
 //! `rule2(&graph, x, y, z, w)` says whether z may be observed in place of being done.
 #![tactic(auto)]
 
+pub mod cuts;
 mod rules;
 mod theory;
 

@@ -1,3 +1,5 @@
+//! Independence and the three rules (Pearl 1995).
+
 ghost use Rattle.std.specs.Prelude.{ℕ, ◌≡◌, ◌<◌, ◌≤◌, ◌↔◌, IfErr, OnOk, IsTrue};
 ghost use Rattle.mixed_graph.specs.Bits.{has};
 ghost use Rattle.mixed_graph.specs.Sets.{Within, Apart};
@@ -6,9 +8,9 @@ ghost use Rattle.m_separation.specs.Walks.{IsSeparated};
 ghost use Rattle.m_separation.specs.Paths.{IsOpenPath};
 ghost use Rattle.do_rules.specs.Rules.{AreThreeSets, AreFourSets, AreIndependent, AreDependent, DifferSomewhere, left_of, right_of, IsBlockedFor, IsRuleFor, IsOpenFor};
 
+use crate::cuts::{cut_into, cut_out};
 use m_separation::{OpenPath, open_path};
 use mixed_graph::{Graph, VSet};
-use surgery::{cut_into, cut_out};
 
 /// Whether no vertex is in both sets.
 fn apart(s: VSet, t: VSet) -> bool

@@ -12,7 +12,8 @@ use Rattle.identify_text.specs.Below.{ArePairBelow}
 use Rattle.identify_text.proofs.Belows.{model_below}
 
 -- the two models of a hedge and their event are of the graph's vertices
-pub pair_below : (g : MixedGraph) → IsMixedGraph g → (x y : ℕ) (h : Hedge) (pair : CounterPair) → Within g.vertices (has y) → IsPairOf g x y h pair → AreCounterModels g x y pair → ArePairBelow g.vertices pair
+pub pair_below : (g : MixedGraph) → IsMixedGraph g → (x y : ℕ) (h : Hedge) (pair : CounterPair) → Within g.vertices (has y) → IsPairOf g x y h pair
+    → AreCounterModels g x y pair → ArePairBelow g.vertices pair
 pair_below g graph x y h pair in_y is two = record {
   first = model_below g graph pair.first two.first.sound is.first.all_mechanisms;
   second = model_below g graph pair.second two.second.sound is.second.all_mechanisms;

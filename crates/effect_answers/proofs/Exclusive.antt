@@ -11,10 +11,10 @@ use Rattle.prob_expr.specs.Tree.{PlainFormula}
 use Rattle.do_derivation.specs.Plans.{PlainDerivation}
 use Rattle.hedge.specs.declared.hedge.Hedge.{Hedge}
 use Rattle.counter_models.specs.declared.counter_pair.CounterPair.{CounterPair}
-use Rattle.identification.specs.Derivations.{IsDerived}
-use Rattle.identification.specs.Procedure.{IsTarget, IsUnidentified}
-use Rattle.identification_answers.proofs.Answered.{never_both, derived_is_identified}
-use Rattle.id_recursion.proofs.RightAnswers.{target_of}
+use Rattle.identification_theory.specs.Derivations.{IsDerived}
+use Rattle.identification_theory.specs.Procedure.{IsTarget, IsUnidentified}
+use Rattle.identification_theory.proofs.Answered.{never_both, derived_is_identified}
+use Rattle.identify.proofs.RightAnswers.{target_of}
 use Rattle.replies.specs.Observed.{Names}
 use Rattle.replies.proofs.OneTarget.{some_member, same_two, no_effect_fault}
 use Rattle.effect_answers.specs.Effects.{effect_lists, IsEffectRefusal}
@@ -28,7 +28,8 @@ effect_target q l x y named s =
     target_of q x y in_x in_y (effect_apart l x y s) (some_member q.vertices y in_y (effect_outcome l x y s))
 
 -- for the sets of the same lists the procedure doesn't both answer a formula and stop
-pub formula_or_hedge : (q : MixedGraph) → IsMixedGraph q → (l : EffectLists) → length l.observed ≡ q.vertices → (x y x' y' : ℕ) → AreEffectSets l x y → AreEffectSets l x' y'
+pub formula_or_hedge : (q : MixedGraph) → IsMixedGraph q → (l : EffectLists) → length l.observed ≡ q.vertices → (x y x' y' : ℕ) → AreEffectSets l x y
+    → AreEffectSets l x' y'
     → (f : PlainFormula) (d : PlainDerivation) → IsDerived q x y f d → (h : Hedge) (pair : CounterPair) → IsFoundHedge q x' y' h pair → ⊥
 formula_or_hedge q valid l named x y x' y' s t f d derived h pair found =
     never_both q valid x y h.small.bits h.big.bits (effect_target q l x y named s) f (derived_is_identified q x y f d derived)

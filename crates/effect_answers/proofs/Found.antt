@@ -8,11 +8,11 @@ use Rattle.hedge.specs.declared.hedge.Hedge.{Hedge}
 use Rattle.counter_models.specs.Events.{AreCounterModels}
 use Rattle.counter_models.specs.Pairs.{IsPairOf}
 use Rattle.counter_models.specs.declared.counter_pair.CounterPair.{CounterPair}
-use Rattle.identification.specs.Procedure.{IsUnidentified}
-use Rattle.id_recursion.specs.Answers.{IsRight, IfHedge}
-use Rattle.id_recursion.specs.Hedged.{IsHedgeOf}
-use Rattle.id_recursion.specs.declared.answer.Answer.{Answer}
-use Rattle.id_recursion.specs.declared.answer.Answer.TheVariants as answers
+use Rattle.identification_theory.specs.Procedure.{IsUnidentified}
+use Rattle.identify.specs.Answers.{IsRight, IfHedge}
+use Rattle.identify.specs.Hedged.{IsHedgeOf}
+use Rattle.identify.specs.declared.answer.Answer.{Answer}
+use Rattle.identify.specs.declared.answer.Answer.TheVariants as answers
 use Rattle.identify_text.specs.Below.{IsHedgeBelow, ArePairBelow}
 use Rattle.identify_text.proofs.Belows.{hedge_below}
 use Rattle.effect_answers.specs.Hedges.{IsFoundHedge}
@@ -20,7 +20,8 @@ use Rattle.effect_answers.proofs.Belows.{pair_below}
 
 module _ (q : MixedGraph) (x y : ℕ) {a : Answer} (h : Hedge) (pair : CounterPair) (is : a ≡ answers.Hedge h pair) where
   -- it is the hedge at which the procedure stops, with its data and its models
-  pub found : IsRight q x y a → IfHedge a (λ h pair. IsHedge q x y h) → IfHedge a (λ h pair. IsUnidentified q x y h.small.bits h.big.bits) → IfHedge a (λ h pair. IsHedgeOf q h)
+  pub found : IsRight q x y a → IfHedge a (λ h pair. IsHedge q x y h) → IfHedge a (λ h pair. IsUnidentified q x y h.small.bits h.big.bits)
+      → IfHedge a (λ h pair. IsHedgeOf q h)
       → IfHedge a (IsPairOf q x y) → IsFoundHedge q x y h pair
   found right evidence stop built models = record {
     right = subst (IsRight q x y) is right;
@@ -32,9 +33,12 @@ module _ (q : MixedGraph) (x y : ℕ) {a : Answer} (h : Hedge) (pair : CounterPa
 
   -- its vertices have names, where there is one for each
   pub hedge_named : (n : ℕ) → n ≡ q.vertices → q.vertices ≤ 64 → IfHedge a (λ h pair. IsHedge q x y h) → IsHedgeBelow n h
-  hedge_named n named few evidence = subst (λ k. IsHedgeBelow k h) (sym named) (hedge_below q x y h few (subst (λ b. IfHedge b (λ h pair. IsHedge q x y h)) is evidence))
+  hedge_named n named few evidence = subst (λ k. IsHedgeBelow k h) (sym named)
+      (hedge_below q x y h few (subst (λ b. IfHedge b (λ h pair. IsHedge q x y h)) is evidence))
 
   -- and so have those of its models
-  pub pair_named : (n : ℕ) → n ≡ q.vertices → IsMixedGraph q → Within q.vertices (has y) → IfHedge a (IsPairOf q x y) → IfHedge a (λ h pair. AreCounterModels q x y pair) → ArePairBelow n pair
+  pub pair_named : (n : ℕ) → n ≡ q.vertices → IsMixedGraph q → Within q.vertices (has y) → IfHedge a (IsPairOf q x y)
+      → IfHedge a (λ h pair. AreCounterModels q x y pair) → ArePairBelow n pair
   pair_named n named valid in_y models counter = subst (λ k. ArePairBelow k pair) (sym named)
-      (pair_below q valid x y h pair in_y (subst (λ b. IfHedge b (IsPairOf q x y)) is models) (subst (λ b. IfHedge b (λ h pair. AreCounterModels q x y pair)) is counter))
+      (pair_below q valid x y h pair in_y (subst (λ b. IfHedge b (IsPairOf q x y)) is models)
+      (subst (λ b. IfHedge b (λ h pair. AreCounterModels q x y pair)) is counter))

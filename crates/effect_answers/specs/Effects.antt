@@ -7,7 +7,7 @@ use Rattle.mixed_graph.specs.Shown.{graph_of}
 use Rattle.dag_reader.specs.declared.graph.ReadGraph.{ReadGraph}
 use Rattle.targets.specs.declared.fault.TargetFault.{TargetFault}
 use Rattle.targets.specs.Targets.{listed, EffectLists, AreEffectSets, IsEffectFault}
-use Rattle.name_text.specs.Lines.{line_of}
+use Rattle.answer_text.specs.Lines.{line_of}
 use Rattle.targets.specs.FaultTexts.{target_fault_text}
 use Rattle.replies.specs.declared.outcome.Outcome.TheVariants.{Graph}
 use Rattle.replies.specs.Observed.{Names, observed_names, IsObservedGraph}

@@ -5,12 +5,13 @@ use Rattle.hedge.specs.Hedges.{IsHedge}
 use Rattle.hedge.specs.declared.hedge.Hedge.{Hedge}
 use Rattle.counter_models.specs.Pairs.{IsPairOf}
 use Rattle.counter_models.specs.declared.counter_pair.CounterPair.{CounterPair}
-use Rattle.identification.specs.Procedure.{IsUnidentified}
-use Rattle.id_recursion.specs.Answers.{IsRightHedge}
-use Rattle.id_recursion.specs.Hedged.{IsHedgeOf}
+use Rattle.identification_theory.specs.Procedure.{IsUnidentified}
+use Rattle.identify.specs.Answers.{IsRightHedge}
+use Rattle.identify.specs.Hedged.{IsHedgeOf}
 use Rattle.identify_text.specs.PairLines.{hedge_answer}
 
--- Its sets form a hedge for the effect of x on y, and its two models, which are positive and fit q, agree on all observations and differ on the effect under every value of x.
+-- Its sets form a hedge for the effect of x on y, and its two models, which are positive and fit q, agree on all observations and differ on the
+-- effect under every value of x.
 -- Its choice of children and its links are the evidence. It is the hedge at which the identification procedure stops, with its data and its models.
 pub record IsFoundHedge (q : MixedGraph) (x y : ℕ) (hedge : Hedge) (pair : CounterPair) : Type 0 where
   pub right : IsRightHedge q x y hedge pair

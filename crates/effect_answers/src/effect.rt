@@ -1,5 +1,7 @@
+//! The effect that lists of names ask for.
+
 ghost use Rattle.std.specs.Prelude.{IfOk, option_map};
-ghost use Rattle.word_lists.specs.Views.{names_in};
+ghost use Rattle.command_words.specs.ListViews.{names_in};
 ghost use Rattle.effect_answers.specs.Effects.{IsAsked};
 
 use dag_reader::ReadGraph;

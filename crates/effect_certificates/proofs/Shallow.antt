@@ -6,10 +6,10 @@ use Rattle.prob_expr.specs.Tree.{Tree, prob, sum, product, quotient, named, Tree
 use Rattle.do_derivation.specs.Plans.{Plan, Plans, no_plans, plan, PlainLemma, PlainDerivation}
 use Rattle.expr_text.specs.Write as expr
 use Rattle.step_json.specs.Laws as step
-use Rattle.identification.specs.Depth.{is_plan_within, are_plans_within, are_lemmas_within}
-use Rattle.identification_answers.specs.Depth.{is_tree_within, are_trees_within, are_defs_within}
-use Rattle.id_recursion.specs.Answers.{AreShallowSteps, IsShallowFormula}
-use Rattle.conditional_theory.specs.Laws.{IsShallowGiven}
+use Rattle.identification_theory.specs.Depth.{is_plan_within, are_plans_within, are_lemmas_within}
+use Rattle.identification_theory.specs.AnswerDepth.{is_tree_within, are_trees_within, are_defs_within}
+use Rattle.identify.specs.Answers.{AreShallowSteps, IsShallowFormula}
+use Rattle.conditional_id.specs.TurnLaws.{IsShallowGiven}
 use Rattle.certificate_writing.specs.Writable.{AreStepsShallow, IsFormulaShallow}
 
 -- ---- formulas
@@ -56,7 +56,8 @@ mutual
 
   steps_nest : (d : ℕ) (ps : Plans) → are_plans_within d ps ≡ true → step.nesting_each ps ≤ d
   steps_nest d no_plans h = omega arith
-  steps_nest d (plan p ps) h = max-le (step_nests d p (and_first (is_plan_within d p) (are_plans_within d ps) h)) (steps_nest d ps (and_second (is_plan_within d p) (are_plans_within d ps) h))
+  steps_nest d (plan p ps) h = max-le (step_nests d p (and_first (is_plan_within d p) (are_plans_within d ps) h))
+      (steps_nest d ps (and_second (is_plan_within d p) (are_plans_within d ps) h))
 
 lemmas_shallow : (d : ℕ) (ls : List PlainLemma) → d ≤ 60 → are_lemmas_within d ls ≡ true → AreStepsShallow ls
 lemmas_shallow d [] few h = tt

@@ -28,7 +28,8 @@ so g true r f e h = refl
 so g false r f e h = absurd h
 
 -- what is made of a term alone
-on_a_term : (g : MixedGraph) (f : ℕ → ℕ → ℕ → Row) (P : Type 0) (e e' : Tree) → AreTerms g.vertices e → ((a b c : ℕ) → IsTerm g.vertices a b c → IsMade g (f a b c) e' → P) → IsMade g (on_term f e) e' → P
+on_a_term : (g : MixedGraph) (f : ℕ → ℕ → ℕ → Row) (P : Type 0) (e e' : Tree) → AreTerms g.vertices e
+    → ((a b c : ℕ) → IsTerm g.vertices a b c → IsMade g (f a b c) e' → P) → IsMade g (on_term f e) e' → P
 on_a_term g f P (prob a b c) e' t k h = k a b c t.0 h
 on_a_term g f P (sum u e) e' t k h = absurd h
 on_a_term g f P (product ts) e' t k h = absurd h
@@ -37,7 +38,8 @@ on_a_term g f P (named i) e' t k h = absurd h
 
 new_below : (n z a b c : ℕ) → is_new n z a b c ≡ true → is_below n z ≡ true
 new_below n z a b c e =
-    and_first (is_below n z) (is_apart z a && (is_apart z b && is_apart z c)) (and_second (not (is_empty z)) (is_below n z && (is_apart z a && (is_apart z b && is_apart z c))) e)
+    and_first (is_below n z) (is_apart z a && (is_apart z b && is_apart z c))
+    (and_second (not (is_empty z)) (is_below n z && (is_apart z a && (is_apart z b && is_apart z c))) e)
 
 part_below : (n z b : ℕ) → is_part z b ≡ true → ((v : ℕ) → has b v ≡ true → v < n) → is_below n z ≡ true
 part_below n z b e low = below_from n z (λ v h. low v (inside_has z b v (and_second (not (is_empty z)) (is_inside z b) e) h))
@@ -51,17 +53,24 @@ list_below n (v ∷ o) a e low =
 
 module _ (g : MixedGraph) (ok : IsMixedGraph g) (lemmas : List ℕ) where
   move_within : (m : Move) (e e' : Tree) → AreTerms g.vertices e → IsMade g (row g.vertices lemmas m e) e' → is_move_within g.vertices m ≡ true
-  move_within (Move.Rule1In z) e e' t h = on_a_term g _ (is_below g.vertices z ≡ true) e e' t (λ a b c k made. new_below g.vertices z a b c (so g (is_new g.vertices z a b c) _ _ e' made)) h
-  move_within (Move.Rule1Out z) e e' t h = on_a_term g _ (is_below g.vertices z ≡ true) e e' t (λ a b c k made. part_below g.vertices z c (so g (is_part z c) _ _ e' made) k.given_below) h
-  move_within (Move.Rule2See z) e e' t h = on_a_term g _ (is_below g.vertices z ≡ true) e e' t (λ a b c k made. part_below g.vertices z b (so g (is_part z b) _ _ e' made) k.doing_below) h
-  move_within (Move.Rule2Do z) e e' t h = on_a_term g _ (is_below g.vertices z ≡ true) e e' t (λ a b c k made. part_below g.vertices z c (so g (is_part z c) _ _ e' made) k.given_below) h
-  move_within (Move.Rule3In z) e e' t h = on_a_term g _ (is_below g.vertices z ≡ true) e e' t (λ a b c k made. new_below g.vertices z a b c (so g (is_new g.vertices z a b c) _ _ e' made)) h
-  move_within (Move.Rule3Out z) e e' t h = on_a_term g _ (is_below g.vertices z ≡ true) e e' t (λ a b c k made. part_below g.vertices z b (so g (is_part z b) _ _ e' made) k.doing_below) h
+  move_within (Move.Rule1In z) e e' t h = on_a_term g _ (is_below g.vertices z ≡ true) e e' t
+      (λ a b c k made. new_below g.vertices z a b c (so g (is_new g.vertices z a b c) _ _ e' made)) h
+  move_within (Move.Rule1Out z) e e' t h = on_a_term g _ (is_below g.vertices z ≡ true) e e' t
+      (λ a b c k made. part_below g.vertices z c (so g (is_part z c) _ _ e' made) k.given_below) h
+  move_within (Move.Rule2See z) e e' t h = on_a_term g _ (is_below g.vertices z ≡ true) e e' t
+      (λ a b c k made. part_below g.vertices z b (so g (is_part z b) _ _ e' made) k.doing_below) h
+  move_within (Move.Rule2Do z) e e' t h = on_a_term g _ (is_below g.vertices z ≡ true) e e' t
+      (λ a b c k made. part_below g.vertices z c (so g (is_part z c) _ _ e' made) k.given_below) h
+  move_within (Move.Rule3In z) e e' t h = on_a_term g _ (is_below g.vertices z ≡ true) e e' t
+      (λ a b c k made. new_below g.vertices z a b c (so g (is_new g.vertices z a b c) _ _ e' made)) h
+  move_within (Move.Rule3Out z) e e' t h = on_a_term g _ (is_below g.vertices z ≡ true) e e' t
+      (λ a b c k made. part_below g.vertices z b (so g (is_part z b) _ _ e' made) k.doing_below) h
   move_within (Move.Chain o) e e' t h = on_a_term g _ (are_below g.vertices o ≡ true) e e' t (λ a b c k made.
       list_below g.vertices o a (and_second (leb 2 (length o)) (is_list_of o a) (so g (leb 2 (length o) && is_list_of o a) _ _ e' made)) k.of_below) h
   move_within Move.Unchain e e' t h = refl
   move_within (Move.Group l) e e' t h = refl
-  move_within (Move.Widen u) e e' t h = on_a_term g _ (is_below g.vertices u ≡ true) e e' t (λ a b c k made. new_below g.vertices u a b c (so g (is_new g.vertices u a b c) _ _ e' made)) h
+  move_within (Move.Widen u) e e' t h = on_a_term g _ (is_below g.vertices u ≡ true) e e' t
+      (λ a b c k made. new_below g.vertices u a b c (so g (is_new g.vertices u a b c) _ _ e' made)) h
   move_within Move.Narrow e e' t h = refl
   move_within Move.Split e e' t h = refl
   move_within (Move.Cite k) e e' t h = refl
@@ -86,23 +95,30 @@ module _ (g : MixedGraph) (ok : IsMixedGraph g) (lemmas : List ℕ) where
 
     steps_within : (ps : Plans) (e e' : Tree) → AreTerms g.vertices e → MakesAll g lemmas ps e e' → are_within g.vertices ps ≡ true
     steps_within no_plans e e' t h = refl
-    steps_within (plan p ps) e e' t h = and_from (is_within g.vertices p) (are_within g.vertices ps) (step_within p e h.0 t h.1) (steps_within ps h.0 e' (kept p e h.0 t h.1) h.2)
+    steps_within (plan p ps) e e' t h = and_from (is_within g.vertices p) (are_within g.vertices ps) (step_within p e h.0 t h.1)
+        (steps_within ps h.0 e' (kept p e h.0 t h.1) h.2)
 
 -- and so do the steps of the lemmas
-lemmas_within : (g : MixedGraph) → IsMixedGraph g → (before : List ℕ) (ls : List PlainLemma) (ds : List Tree) → are_sets g.vertices (sets_of ls) ≡ true → Define g before ls ds → are_steps_within g.vertices ls ≡ true
+lemmas_within : (g : MixedGraph) → IsMixedGraph g → (before : List ℕ) (ls : List PlainLemma) (ds : List Tree) → are_sets g.vertices (sets_of ls) ≡ true
+    → Define g before ls ds → are_steps_within g.vertices ls ≡ true
 lemmas_within g ok before [] ds s h = refl
 lemmas_within g ok before (l ∷ ls) [] s h = absurd h
 lemmas_within g ok before (l ∷ ls) (d ∷ ds) s h =
     let here = and_first (is_below g.vertices l.set && not (is_empty l.set)) (are_sets g.vertices (sets_of ls)) s in
     and_from (is_within g.vertices l.plan) (are_steps_within g.vertices ls)
-    (step_within g ok before l.plan (start_of g.vertices l.set) d
-    (start_term g.vertices l.set (and_first (is_below g.vertices l.set) (not (is_empty l.set)) here), filled_from l.set (and_second (is_below g.vertices l.set) (not (is_empty l.set)) here)) h.0)
-    (lemmas_within g ok (before ++ (l.set ∷ [])) ls ds (and_second (is_below g.vertices l.set && not (is_empty l.set)) (are_sets g.vertices (sets_of ls)) s) h.1)
+    (step_within g ok before l.plan (start_of g.vertices l.set) d (
+      start_term g.vertices l.set (and_first (is_below g.vertices l.set) (not (is_empty l.set)) here),
+      filled_from l.set (and_second (is_below g.vertices l.set) (not (is_empty l.set)) here),
+    ) h.0)
+    (lemmas_within g ok (before ++ (l.set ∷ [])) ls ds (and_second (is_below g.vertices l.set && not (is_empty l.set)) (are_sets g.vertices (sets_of ls)) s)
+    h.1)
 
 -- an accepted derivation names vertices of the graph alone
-pub derivation_within : (g : MixedGraph) → IsMixedGraph g → (allowed : List ℕ) (t : PlainTarget) (f : PlainFormula) (d : PlainDerivation) → is_term g.vertices t.y t.x t.given ≡ true → Accepts g allowed t f d → IsDerivationWithin g.vertices d
+pub derivation_within : (g : MixedGraph) → IsMixedGraph g → (allowed : List ℕ) (t : PlainTarget) (f : PlainFormula) (d : PlainDerivation)
+    → is_term g.vertices t.y t.x t.given ≡ true → Accepts g allowed t f d → IsDerivationWithin g.vertices d
 derivation_within g ok allowed t f d term a = record {
   sets = a.sets;
   lemmas = lemmas_within g ok [] d.lemmas f.defs a.sets a.define;
-  main = step_within g ok (sets_of d.lemmas) d.main (term_of t) f.main (term_from g.vertices t.y t.x t.given term, term_filled g.vertices t.y t.x t.given term) a.main;
+  main = step_within g ok (sets_of d.lemmas) d.main (term_of t) f.main
+      (term_from g.vertices t.y t.x t.given term, term_filled g.vertices t.y t.x t.given term) a.main;
 }

@@ -1,5 +1,6 @@
 -- What the texts of an answer need: its vertices have names.
-use Rattle.std.proofs.Common.{ℕ, zero, suc, ◌≡◌, ◌<◌, ◌⊎◌, inl, inr, true, false, List, length, get_or, take, slice_index, All, refl, sym, subst, arith, length-take}
+use Rattle.std.proofs.Common.{ℕ, zero, suc, ◌≡◌, ◌<◌, ◌⊎◌, inl, inr, true, false, List, length, get_or, take, slice_index, All, refl, sym, subst}
+use Rattle.std.proofs.Common.{arith, length-take}
 use Rattle.std.proofs.lemmas.List.{get_or-take}
 use Rattle.std.specs.List.{zip}
 use Rattle.std.proofs.lemmas.Bool.{cases_Bool}
@@ -9,12 +10,11 @@ use Rattle.mixed_graph.specs.Bits.{has}
 use Rattle.mixed_graph.specs.Sets.{Within, Apart}
 use Rattle.mixed_graph.specs.Graphs.{MixedGraph}
 use Rattle.do_rules.specs.Rules.{AreThreeSets}
-use Rattle.prob_expr.specs.Tree.{PlainTarget}
+use Rattle.prob_expr.specs.Tree.{PlainTarget, effect_on}
 use Rattle.mixed_graph.proofs.MaskLaws.{below_from, has_none}
 use Rattle.do_derivation.proofs.TermSets.{apart_back, term_test}
 use Rattle.hedge.specs.Hedges.{IsHedge}
 use Rattle.hedge.specs.declared.hedge.Hedge.{Hedge}
-use Rattle.id_recursion.specs.Answers.{effect_on}
 use Rattle.certificate.specs.Plain.{hedge_view}
 use Rattle.certificate_writing.specs.Writable.{IsTargetWithin, IsBareTarget, IsHedgeWithin}
 
@@ -57,18 +57,30 @@ pairs_within n c found partner first second = All-from_get_or (λ (l : ℕ × �
     let i_found : i < length (take c found) = omega (arith, lt, size) in
     let i_partner : i < length (take c partner) = omega (arith, lt, size) in
     let i_count : i < c = omega (arith, i_found, f) in
-    subst (λ (l : ℕ × ℕ). (l.0 < n) × (l.1 < n)) (sym (get_or-zip (take c found) (take c partner) i (0, 0) i_found i_partner))
-    (subst (λ k. k < n) (sym (get_or-take c found i 0 i_count)) (first i i_count), subst (λ k. k < n) (sym (get_or-take c partner i 0 i_count)) (second i i_count)))
+    subst (λ (l : ℕ × ℕ). (l.0 < n) × (l.1 < n)) (sym (get_or-zip (take c found) (take c partner) i (0, 0) i_found i_partner)) (
+      subst (λ k. k < n) (sym (get_or-take c found i 0 i_count)) (first i i_count),
+      subst (λ k. k < n) (sym (get_or-take c partner i 0 i_count)) (second i i_count),
+    ))
 
 -- a hedge that holds names vertices of the graph alone
-pub hedge_within : (g : MixedGraph) (x y : ℕ) (h : Hedge) → length h.links.found ≡ 64 → length h.links.partner ≡ 64 → IsHedge g x y h → IsHedgeWithin g.vertices (hedge_view h)
+pub hedge_within : (g : MixedGraph) (x y : ℕ) (h : Hedge) → length h.links.found ≡ 64 → length h.links.partner ≡ 64 → IsHedge g x y h
+    → IsHedgeWithin g.vertices (hedge_view h)
 hedge_within g x y h sized_found sized_partner hedge = record {
   big = below_from g.vertices h.big.bits low;
   small = below_from g.vertices h.small.bits (λ v i. low v (hedge.sets.small_inside v i));
   roots = below_from g.vertices h.roots.bits (λ v i. low v (hedge.sets.small_inside v (hedge.sets.roots_inside v i)));
   choice = λ v lt some. choice v lt some (cases_Bool (has h.big.bits v)) (cases_Bool (has h.roots.bits v));
   some = (let few = h.links.in_range in
-      omega (arith, some, few, sized_found, sized_partner, length-zip (take h.links.count h.links.found) (take h.links.count h.links.partner), length-take h.links.count h.links.found, length-take h.links.count h.links.partner));
+      omega (
+        arith,
+        some,
+        few,
+        sized_found,
+        sized_partner,
+        length-zip (take h.links.count h.links.found) (take h.links.count h.links.partner),
+        length-take h.links.count h.links.found,
+        length-take h.links.count h.links.partner,
+      ));
   links = pairs_within g.vertices h.links.count h.links.found h.links.partner (λ i lt. low (get_or h.links.found i 0) (hedge.links.inside i lt)) partner;
 }
   where
@@ -81,7 +93,8 @@ hedge_within g x y h sized_found sized_partner hedge = record {
         let placed = hedge.links.placed root.0 (hedge.sets.small_inside root.0 (hedge.sets.roots_inside root.0 root.1)) in
         let l = placed.listed in omega (arith, l)
 
-    choice : (v : ℕ) → v < 64 → (slice_index h.choice.next v ≡ 64 → ⊥) → (has h.big.bits v ≡ true) ⊎ (has h.big.bits v ≡ false) → (has h.roots.bits v ≡ true) ⊎ (has h.roots.bits v ≡ false)
+    choice : (v : ℕ) → v < 64 → (slice_index h.choice.next v ≡ 64 → ⊥) → (has h.big.bits v ≡ true) ⊎ (has h.big.bits v ≡ false) → (has h.roots.bits v ≡ true)
+        ⊎ (has h.roots.bits v ≡ false)
         → (v < g.vertices) × (slice_index h.choice.next v < g.vertices)
     choice v lt some (inl i) (inr o) = (low v i, low (slice_index h.choice.next v) ((hedge.choices v lt).chosen i o).in_big)
     choice v lt some (inl i) (inl r) = absurd (some ((hedge.choices v lt).none (inr r)))

@@ -1,3 +1,5 @@
+//! The line of a certificate.
+
 ghost use Rattle.std.specs.Prelude.{◌≡◌, length, IfOk, Ok};
 ghost use Rattle.certificate.specs.Plain.{certificate_view};
 ghost use Rattle.certificate.specs.Reading.{certificate_in};

@@ -25,7 +25,8 @@ arrows_alone g l q t is there none u v = false_from_ne_true (t.both u v) (λ e.
     let vs = observed_below l g.vertices in
     let x = get_or vs u 0 in
     let y = get_or vs v 0 in
-    let h = and_parts (nat_lt u (length vs)) (nat_lt v (length vs) && there.projection.both x y) (sym (ap (λ (m : MixedGraph). m.both u v) there.renumbers) ∙ e) in
+    let h = and_parts (nat_lt u (length vs)) (nat_lt v (length vs) && there.projection.both x y)
+    (sym (ap (λ (m : MixedGraph). m.both u v) there.renumbers) ∙ e) in
     let k = and_parts (nat_lt v (length vs)) (there.projection.both x y) h.1 in
     let s = both_same g l is.projection there.projection is.projects there.projects x y k.1 in
     clash (q.both u v) (ap (λ (m : MixedGraph). m.both u v) is.renumbers ∙ and_from (nat_lt u (length vs)) (nat_lt v (length vs) && is.projection.both x y) h.0

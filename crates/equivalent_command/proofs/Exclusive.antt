@@ -19,7 +19,9 @@ use Rattle.equivalent_command.specs.Numbers.{HaveSameNames, on_names}
 use Rattle.equivalent_command.specs.Faults.{IsBidirectedFault, IsOtherName, in_first, in_second}
 use Rattle.equivalent_command.specs.Queries.{lists_on, AreAsked, IsListsFault}
 use Rattle.equivalent_command.specs.Requests.{Query}
-use Rattle.equivalent_command.specs.Answers.{IsAcceptedFirst, IsFirstGraphFault, IsFirstRefusal, AreComparable, IsSame, IsDifferent, edge, collider, ComparedAnswer, ObservedFault, IsUnlike, IsSecondRefusal, too_long, faulty, HoldsAnswer, SecondAnswer, EquivalentAnswer}
+use Rattle.equivalent_command.specs.Answers.{IsAcceptedFirst, IsFirstGraphFault, IsFirstRefusal, AreComparable, IsSame, IsDifferent, edge, collider}
+use Rattle.equivalent_command.specs.Answers.{ComparedAnswer, ObservedFault, IsUnlike, IsSecondRefusal, too_long, faulty, HoldsAnswer, SecondAnswer}
+use Rattle.equivalent_command.specs.Answers.{EquivalentAnswer}
 
 both_ways : (b : Bool) → b ≡ true → b ≡ false → ⊥
 both_ways b e f = absurd (grind (arith, e, f))
@@ -36,16 +38,19 @@ arrows_or_not q names f arrows b = both_ways (q.both b.a b.b) b.first.edge (arro
 lists_or_sets : (g h : ReadGraph) → AreSame g h → (l : Option Query) (s : Option Sets) (f : TargetFault) → IsListsFault g l f → AreAsked h l s → ⊥
 lists_or_sets g h same None s f a b = a
 lists_or_sets g h same (Some q) None f a b = b
-lists_or_sets g h same (Some q) (Some s) f a b = no_fault_of _ q.y q.x f b.no_fault b.some_y b.some_x (subst (λ k. IsTargetFault k f) (sym (same_lists q g h same)) a)
+lists_or_sets g h same (Some q) (Some s) f a b = no_fault_of _ q.y q.x f b.no_fault b.some_y b.some_x
+    (subst (λ k. IsTargetFault k f) (sym (same_lists q g h same)) a)
 
-fault_or_accepted : (g h : ReadGraph) → AreSame g h → (l : Option Query) (s : Option Sets) (f : TargetFault) → IsFirstGraphFault g l f → IsAcceptedFirst h l s → ⊥
+fault_or_accepted : (g h : ReadGraph) → AreSame g h → (l : Option Query) (s : Option Sets) (f : TargetFault) → IsFirstGraphFault g l f → IsAcceptedFirst h l s
+    → ⊥
 fault_or_accepted g h same l s f (IsFirstGraphFault.listed is) a = lists_or_sets g h same l s f is a.asked
 fault_or_accepted g h same l s f (IsFirstGraphFault.bidirected t asked is) a =
     let d = a.directed in
     arrows_or_not is.0 (observed_names g) f (subst HasArrowsAlone (sym (one_observed_graph g h same is.0 d.0 is.1 d.1)) d.2) is.2
 
 -- a first graph that is refused isn't accepted
-pub first_alone : (g h : ReadGraph) → AreSame g h → (l : Option Query) (s : Option Sets) (o : Outcome) (line : List ℕ) → IsFirstRefusal g l o line → IsAcceptedFirst h l s → ⊥
+pub first_alone : (g h : ReadGraph) → AreSame g h → (l : Option Query) (s : Option Sets) (o : Outcome) (line : List ℕ) → IsFirstRefusal g l o line
+    → IsAcceptedFirst h l s → ⊥
 first_alone g h same l s o line r a = fault_or_accepted g h same l s r.fault r.is_fault a
 
 pub first_once : (bytes : List ℕ) (l : Option Query) → OneOutcome (IsAnswerOn bytes (λ g. IsFirstRefusal g l))
@@ -117,7 +122,10 @@ among g a second Second text h = inr (inr refl)
 among g a second o text h = absurd h.2
 
 pub equivalent_once : (bytes second : List ℕ) (l : Option Query) → OneOutcome (IsAnswerOn bytes (λ g. EquivalentAnswer g l second))
-equivalent_once bytes second l = one_of_three Yes No Second (IsAnswerOn bytes (λ g. EquivalentAnswer g l second)) (λ o text h. among h.graph h.given.0 second o text h.given.2)
+equivalent_once bytes second l = one_of_three Yes No Second (IsAnswerOn bytes (λ g. EquivalentAnswer g l second))
+    (λ o text h. among h.graph h.given.0 second o text h.given.2)
     (λ text line x y. yes_no x.graph y.graph (one_reading bytes x.graph y.graph x.holds y.holds) second x.given.0 y.given.0 text line x.given.2 y.given.2)
-    (λ text line x y. answered_or_refused x.graph y.graph (one_reading bytes x.graph y.graph x.holds y.holds) second x.given.0 y.given.0 text line Yes x.given.2.0 x.given.2.1 x.given.2.2 y.given.2)
-    (λ text line x y. answered_or_refused x.graph y.graph (one_reading bytes x.graph y.graph x.holds y.holds) second x.given.0 y.given.0 text line No x.given.2.0 x.given.2.1 x.given.2.2 y.given.2)
+    (λ text line x y. answered_or_refused x.graph y.graph (one_reading bytes x.graph y.graph x.holds y.holds)
+    second x.given.0 y.given.0 text line Yes x.given.2.0 x.given.2.1 x.given.2.2 y.given.2)
+    (λ text line x y. answered_or_refused x.graph y.graph (one_reading bytes x.graph y.graph x.holds y.holds)
+    second x.given.0 y.given.0 text line No x.given.2.0 x.given.2.1 x.given.2.2 y.given.2)

@@ -12,7 +12,8 @@ use Rattle.markov_equivalence.specs.Skeletons.{HasArrowsAlone}
 use Rattle.equivalent_command.specs.Numbers.{HaveSameNames, on_names}
 use Rattle.equivalent_command.specs.Answers.{AreComparable, ComparisonAnswer, GraphsAnswer, SecondAnswer}
 
-held : (g : ReadGraph) (s : Option Sets) (h : ReadGraph) (second : List ℕ) (o : Outcome) (text : List ℕ) → HoldsGraph second h → GraphsAnswer g s h o text → SecondAnswer g s second o text
+held : (g : ReadGraph) (s : Option Sets) (h : ReadGraph) (second : List ℕ) (o : Outcome) (text : List ℕ) → HoldsGraph second h → GraphsAnswer g s h o text
+    → SecondAnswer g s second o text
 held g s h second Second text a b = inr (h, a, b)
 held g s h second o text a b = (h, a, b)
 
@@ -21,7 +22,8 @@ pub held_reply : {E : Type 0} (g : ReadGraph) (s : Option Sets) (h : ReadGraph) 
 held_reply g s h second (Ok p) a b = held g s h second p.outcome p.text.items a b
 held_reply g s h second (Err e) a b = b
 
-compared : (g : ReadGraph) (s : Option Sets) (h : ReadGraph) (p q : MixedGraph) (o : Outcome) (text : List ℕ) → AreComparable g h p q → ComparisonAnswer (observed_names g) p q s o text
+compared : (g : ReadGraph) (s : Option Sets) (h : ReadGraph) (p q : MixedGraph) (o : Outcome) (text : List ℕ) → AreComparable g h p q
+    → ComparisonAnswer (observed_names g) p q s o text
     → GraphsAnswer g s h o text
 compared g s h p q Yes text a b = record { p = p; q = q; comparable = a; answer = b }
 compared g s h p q No text a b = record { p = p; q = q; comparable = a; answer = b }
@@ -34,7 +36,8 @@ compared_result g s h p q (Err e) a b = b
 
 -- p and t are the observed graphs of g and h, with the names that were found for them
 pub compared_reply : {E : Type 0} (g : ReadGraph) (s : Option Sets) (h : ReadGraph) (p t : MixedGraph) (names others : List (List ℕ)) (r : Result Reply E)
-    → names ≡ observed_names g → others ≡ observed_names h → IsObservedGraph g p → HasArrowsAlone p → IsObservedGraph h t → HasArrowsAlone t → HaveSameNames names others
+    → names ≡ observed_names g → others ≡ observed_names h → IsObservedGraph g p → HasArrowsAlone p → IsObservedGraph h t → HasArrowsAlone t
+    → HaveSameNames names others
     → IfOk r (λ x. ComparisonAnswer names p (on_names names others t) s x.outcome x.text.items) → IfOk r (λ x. GraphsAnswer g s h x.outcome x.text.items)
 compared_reply g s h p t names others r e f first first_arrows second second_arrows same a =
     compared_result g s h p (on_names (observed_names g) (observed_names h) t) r

@@ -2,9 +2,9 @@
 use Rattle.std.proofs.Common.{◌≡◌, List, Option, Some, None, refl, sym, ◌∙◌}
 use Rattle.std.specs.Prelude.{codes}
 use Rattle.std.proofs.lemmas.Option.{none-some, same_Some}
-use Rattle.word_forms.specs.Form.{Text, Use, value_of}
-use Rattle.request_values.specs.Values.{IsNeededList}
-use Rattle.request_values.proofs.OneValue.{one_listed_or_empty, one_needed_list}
+use Rattle.command_words.specs.Form.{Text, Use, value_of}
+use Rattle.command_words.specs.Values.{IsRequiredList}
+use Rattle.command_words.proofs.OneValue.{one_listed_or_empty, one_needed_list}
 use Rattle.equivalent_command.specs.Requests.{Query, IsQuery}
 use Rattle.dag_reader.specs.declared.graph.ReadGraph.{ReadGraph}
 use Rattle.replies.specs.Command.{IsLeft}
@@ -17,7 +17,7 @@ use Rattle.equivalent_command.proofs.Outcomes.{first_answered, second_answered}
 use Rattle.equivalent_command.proofs.Exclusive.{equivalent_once, first_alone, first_once}
 
 -- lists that aren't there are no query
-no_query : (x : Option Text) (names : List Text) → x ≡ None → IsNeededList x names → ⊥
+no_query : (x : Option Text) (names : List Text) → x ≡ None → IsRequiredList x names → ⊥
 no_query None names e h = h
 no_query (Some text) names e h = none-some text (sym e)
 
@@ -26,7 +26,11 @@ one_query x y given None None a b = refl
 one_query x y given None (Some r) a b = absurd (no_query x r.x a.0 b.0)
 one_query x y given (Some q) None a b = absurd (no_query x q.x b.0 a.0)
 one_query x y given (Some q) (Some r) a b =
-    λ i. let w : Query = record { x = one_needed_list x q.x r.x a.0 b.0 i; y = one_needed_list y q.y r.y a.1 b.1 i; given = one_listed_or_empty given q.given r.given a.2 b.2 i } in Some w
+    λ i. let w : Query = record {
+      x = one_needed_list x q.x r.x a.0 b.0 i;
+      y = one_needed_list y q.y r.y a.1 b.1 i;
+      given = one_listed_or_empty given q.given r.given a.2 b.2 i;
+    } in Some w
 
 -- the uses ask for one request
 one_request : (uses : List Use) (q r : Request) → IsRequest uses q → IsRequest uses r → r ≡ q
@@ -45,5 +49,6 @@ equivalent_lawful = lawful_on_two_inputs one_request
     (λ q bytes other. equivalent_once bytes other q.query)
     (λ q name g h same names o text a n. first_alone g h same q.query n.0 o text a n.1)
 
-pub equivalent_is_left : (q : Request) (g : ReadGraph) (s : Option Sets) → IsAcceptedFirst g q.query s → IsLeft equivalent_command q g (equivalent_left g s q.second)
+pub equivalent_is_left : (q : Request) (g : ReadGraph) (s : Option Sets) → IsAcceptedFirst g q.query s
+    → IsLeft equivalent_command q g (equivalent_left g s q.second)
 equivalent_is_left q g s is = record { named = refl; continues = (s, is); known = (q.query, is); answers = λ other o text a. (s, is, a) }

@@ -9,7 +9,7 @@ use Rattle.m_separation.specs.Paths.{IsOpenPath, steps_from}
 use Rattle.dag_reader.specs.declared.graph.ReadGraph.{ReadGraph}
 use Rattle.targets.specs.declared.query.Sets.{Sets}
 use Rattle.targets.proofs.Queries.{set_within}
-use Rattle.path_carry.specs.Separations.{IsOpenWithEndsOf}
+use Rattle.markov_equivalence.specs.Separations.{IsOpenWithEndsOf}
 use Rattle.replies.specs.Observed.{observed_names}
 use Rattle.replies.specs.Lines.{IsPrintablePath}
 use Rattle.replies.proofs.PathsBelow.{path_printable}
@@ -28,7 +28,8 @@ asked_below g (Some q) (Some s) a = record {
 }
 
 -- the vertices of an open path are vertices of the graph
-pub open_below : (g : MixedGraph) → IsMixedGraph g → (n : ℕ) → g.vertices ≡ n → (x y w : ℕ → Bool) (p : OpenPath) → IsOpenPath g x y w p.vertices p.marks p.count → IsPrintablePath n p
+pub open_below : (g : MixedGraph) → IsMixedGraph g → (n : ℕ) → g.vertices ≡ n → (x y w : ℕ → Bool) (p : OpenPath)
+    → IsOpenPath g x y w p.vertices p.marks p.count → IsPrintablePath n p
 open_below g valid n e x y w p o = subst (λ k. IsPrintablePath k p) e (path_printable g valid x y w p o)
 
 -- where the steps of a path lead

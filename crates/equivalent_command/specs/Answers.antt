@@ -11,13 +11,13 @@ use Rattle.dag_reader.specs.declared.faults.GraphFault.TheVariants.{NoMemory}
 use Rattle.dag_reader.specs.Reads.{Reads}
 use Rattle.targets.specs.declared.fault.TargetFault.{TargetFault}
 use Rattle.targets.specs.declared.query.Sets.{Sets}
-use Rattle.name_text.specs.Lines.{line_of, second as of_second}
+use Rattle.answer_text.specs.Lines.{line_of, second as of_second}
 use Rattle.dag_reader.specs.FaultTexts.{graph_fault_text, size_text}
 use Rattle.targets.specs.FaultTexts.{target_fault_text}
 use Rattle.markov_equivalence.specs.Skeletons.{HasArrowsAlone, AreEquivalent}
 use Rattle.markov_equivalence.specs.Comparisons.{IsEdgeDifference, IsColliderDifference, IsShown}
 use Rattle.markov_equivalence.specs.declared.comparison.Difference.{Difference}
-use Rattle.path_carry.specs.Separations.{HaveSameSeparations, HaveSameIndependences, IsOpenWithEndsOf}
+use Rattle.markov_equivalence.specs.Separations.{HaveSameSeparations, HaveSameIndependences, IsOpenWithEndsOf}
 use Rattle.replies.specs.declared.outcome.Outcome.{Outcome}
 use Rattle.replies.specs.declared.outcome.Outcome.TheVariants.{Yes, No, Graph, Second}
 use Rattle.replies.specs.Observed.{observed_names, IsObservedGraph, HoldsGraph}
@@ -85,7 +85,8 @@ abbrev pub SetsAnswer : List (List ℕ) → (p q : MixedGraph) → Option Sets �
 SetsAnswer names p q None text = text ≡ equivalent_text
 SetsAnswer names p q (Some s) text = ShowsSeparation names p q s text ⊎ ShowsOpenPaths names p q s text
 
--- the same skeleton and the same unshielded colliders, hence the same separations: any sets are separated in the one graph exactly where they are in the other; and the same independences in models
+-- the same skeleton and the same unshielded colliders, hence the same separations: any sets are separated in the one graph exactly where they are in
+-- the other; and the same independences in models
 pub record IsSame (names : List (List ℕ)) (p q : MixedGraph) (s : Option Sets) (text : List ℕ) : Type 0 where
   pub equivalent : AreEquivalent p q
   pub separations : HaveSameSeparations p q

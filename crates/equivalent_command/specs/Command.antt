@@ -1,6 +1,6 @@
 -- The command `equivalent`.
 use Rattle.std.specs.Prelude.{Option, Some}
-use Rattle.word_forms.specs.Form.{Text}
+use Rattle.command_words.specs.Form.{Text}
 use Rattle.dag_reader.specs.declared.graph.ReadGraph.{ReadGraph}
 use Rattle.replies.specs.Command.{CommandForm, on_two_inputs, Remainder}
 use Rattle.targets.specs.declared.query.Sets.{Sets}
@@ -9,8 +9,14 @@ use Rattle.equivalent_command.specs.Requests.{Query, Request, IsRequest}
 
 -- its request and its answers
 abbrev pub equivalent_command : CommandForm
-equivalent_command = on_two_inputs Request IsRequest (λ q. q.file) (λ q. Some q.second) (λ q g. IsFirstRefusal g q.query) (λ q g. (s : Option Sets) × IsAcceptedFirst g q.query s) (λ q g other. EquivalentAnswer g q.query other)
+equivalent_command = on_two_inputs Request IsRequest (λ q. q.file) (λ q. Some q.second) (λ q g. IsFirstRefusal g q.query)
+    (λ q g. (s : Option Sets) × IsAcceptedFirst g q.query s) (λ q g other. EquivalentAnswer g q.query other)
 
 -- what is left once the first graph was accepted: the comparison with the second one, and what both say of the sets that are asked about
 abbrev pub equivalent_left : ReadGraph → Option Sets → (second : Text) → Remainder
-equivalent_left g s second = record { second = second; limit = 1048576; known = (l : Option Query) × IsAcceptedFirst g l s; answer = λ other. SecondAnswer g s other }
+equivalent_left g s second = record {
+  second = second;
+  limit = 1048576;
+  known = (l : Option Query) × IsAcceptedFirst g l s;
+  answer = λ other. SecondAnswer g s other;
+}

@@ -2,7 +2,7 @@
 use Rattle.std.specs.Prelude.{ℕ, List, [], ◌∷◌, ◌++◌, codes}
 use Rattle.mixed_graph.specs.Names.{name_of}
 use Rattle.m_separation.specs.declared.paths.OpenPath.{OpenPath}
-use Rattle.name_text.specs.Printing.{printed}
+use Rattle.answer_text.specs.Printing.{printed}
 use Rattle.answer_text.specs.Texts.{set_text, path_text}
 use Rattle.markov_equivalence.specs.declared.comparison.Difference.{Difference}
 use Rattle.markov_equivalence.specs.declared.sides.Side.{Side}

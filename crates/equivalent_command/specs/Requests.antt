@@ -1,14 +1,21 @@
 -- What `equivalent` is asked for.
 use Rattle.std.specs.Prelude.{ℕ, ◌≡◌, List, Option, Some, None, [], ◌∷◌, codes, option_map}
-use Rattle.word_forms.specs.Form.{Text, Row, Use, word_of, value_of}
-use Rattle.word_lists.specs.Views.{names_in}
-use Rattle.request_values.specs.Values as values
+use Rattle.command_words.specs.Form.{Text, Row, Use, word_of, value_of}
+use Rattle.command_words.specs.ListViews.{names_in}
+use Rattle.command_words.specs.Values as values
 use Rattle.equivalent_command.specs.declared.request.Query.{Query as CodeQuery}
 use Rattle.equivalent_command.specs.declared.request.Request.{Request as CodeRequest}
 
 -- `equivalent FILE FILE2 [--x L] [--y L] [--given L]`
 abbrev pub equivalent_row : Row
-equivalent_row = record { name = codes "equivalent"; positionals = codes "file" ∷ codes "second" ∷ []; extra = []; needed = []; options = codes "x" ∷ codes "y" ∷ codes "given" ∷ []; flags = [] }
+equivalent_row = record {
+  name = codes "equivalent";
+  positionals = codes "file" ∷ codes "second" ∷ [];
+  optional = [];
+  required = [];
+  options = codes "x" ∷ codes "y" ∷ codes "given" ∷ [];
+  flags = [];
+}
 
 -- the lists of a separation that is asked about
 pub record Query : Type 0 where
@@ -23,7 +30,7 @@ query_of q = record { x = names_in q.x; y = names_in q.y; given = names_in q.giv
 -- the values of the three options list this: x and y are both there, and given may be; or none of the three is
 abbrev pub IsQuery : (x y given : Option Text) → Option Query → Type 0
 IsQuery x y given None = (x ≡ None) × (y ≡ None) × (given ≡ None)
-IsQuery x y given (Some q) = values.IsNeededList x q.x × values.IsNeededList y q.y × values.IsListedOrEmpty given q.given
+IsQuery x y given (Some q) = values.IsRequiredList x q.x × values.IsRequiredList y q.y × values.IsListedOrEmpty given q.given
 
 -- a request
 pub record Request : Type 0 where

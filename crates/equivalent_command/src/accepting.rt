@@ -1,3 +1,5 @@
+//! What the first graph has to be.
+
 ghost use Rattle.std.specs.Prelude.{◌≡◌, IfOk, IfErr, length, option_map};
 ghost use Rattle.mixed_graph.specs.Shown.{graph_of};
 ghost use Rattle.replies.specs.Observed.{observed_names, IsObservedGraph};

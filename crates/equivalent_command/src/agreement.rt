@@ -1,3 +1,5 @@
+//! The texts of equivalent graphs.
+
 ghost use Rattle.std.specs.Prelude.{◌≡◌, ◌++◌, IfOk, IfSome, OnOk, length};
 ghost use Rattle.mixed_graph.specs.Shown.{graph_of};
 ghost use Rattle.markov_equivalence.specs.Skeletons.{HasArrowsAlone, AreEquivalent};
@@ -10,8 +12,8 @@ use crate::printing::which;
 use answer_text::push_path;
 use m_separation::{OpenPath, open_path};
 use markov_equivalence::Side;
+use markov_equivalence::path_carry::carry_path;
 use mixed_graph::{Graph, Names};
-use path_carry::carry_path;
 use replies::push_query;
 use std::alloc::{AllocError, Global};
 use targets::Sets;

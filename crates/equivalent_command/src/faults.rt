@@ -1,3 +1,5 @@
+//! The fault of a graph with a bidirected edge.
+
 ghost use Rattle.std.specs.Prelude.{◌≡◌, ◌<◌, ℕ, IfOk, IfSome, IfNone, length};
 ghost use Rattle.mixed_graph.specs.Names.{is_named, name_of};
 ghost use Rattle.mixed_graph.specs.Shown.{graph_of};

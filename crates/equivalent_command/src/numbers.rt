@@ -1,3 +1,5 @@
+//! Sets of the second graph in the numbers of the first.
+
 ghost use Rattle.std.specs.Prelude.{◌≡◌, ◌<◌, ◌≤◌, ◌&&◌, ℕ, length, nat_lt, slice_index, true};
 ghost use Rattle.mixed_graph.specs.Bits.{has};
 ghost use Rattle.mixed_graph.specs.Names.{index_of, is_named, name_of};

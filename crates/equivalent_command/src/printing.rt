@@ -1,3 +1,5 @@
+//! The texts of a difference.
+
 ghost use Rattle.std.specs.Prelude.{◌≡◌, ◌++◌, ◌∷◌, [], ◌<◌, IfOk, OnOk, length};
 ghost use Rattle.mixed_graph.specs.Bits.{has};
 ghost use Rattle.markov_equivalence.specs.Comparisons.{IsBelow};

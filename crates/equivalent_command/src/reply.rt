@@ -1,3 +1,5 @@
+//! The answer of `equivalent`.
+
 ghost use Rattle.std.specs.Prelude.{◌≡◌, ◌≤◌, ◌<◌, ℕ, List, Option, IfOk, IfSome, IfNone, length};
 ghost use Rattle.dag_reader.specs.declared.graph.ReadGraph.{ReadGraph as FirstGraph};
 ghost use Rattle.replies.specs.Observed.{observed_names, IsObservedGraph};

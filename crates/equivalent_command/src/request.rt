@@ -1,19 +1,23 @@
+//! What `equivalent` is asked.
+
 ghost use Rattle.std.specs.Prelude.{◌≡◌, true, false, IsTrue, List, Option, None, IfOk, IsErrOf, codes, option_map};
-ghost use Rattle.word_forms.specs.Form.{Use, is_among, value_names, value_of};
-ghost use Rattle.word_values.specs.Gives.{HoldsCall};
+ghost use Rattle.command_words.specs.Form.{Use, is_among, value_names, value_of};
+ghost use Rattle.command_words.specs.Gives.{HoldsCall};
 ghost use Rattle.equivalent_command.specs.Requests.{Query as AskedQuery, equivalent_row, query_of, IsQuery};
 
-use request_values::{RequestFault, names_or_empty, needed_names, needed_word, second_input};
+use command_words::forms::Entry;
+use command_words::typed::{
+    RequestFault, names_or_empty, required_names, required_word, second_input,
+};
+use command_words::values::Values;
 use std::alloc::Global;
-use word_forms::Entry;
-use word_values::Values;
 
 /// `equivalent FILE FILE2 [--x L] [--y L] [--given L]`
 pub const ROW: Entry = Entry {
     name: "equivalent",
     positionals: &["file", "second"],
-    extra: &[],
-    needed: &[],
+    optional: &[],
+    required: &[],
     options: &["x", "y", "given"],
     flags: &[],
 };
@@ -74,8 +78,8 @@ fn read_query(alloc: Global, values: &Values<'_>) -> Result<Option<Query>, Reque
     if has_no_list(values) {
         return Ok(None);
     }
-    let x = needed_names(alloc, values, "x")?;
-    let y = needed_names(alloc, values, "y")?;
+    let x = required_names(alloc, values, "x")?;
+    let y = required_names(alloc, values, "y")?;
     let given = names_or_empty(alloc, values, "given")?;
     Ok(Some(Query { x, y, given }))
 }
@@ -90,7 +94,7 @@ impl<'a> Request<'a> {
         ensures ok { (uses : List Use) → HoldsCall equivalent_row uses values.now → IfOk result (λ r. IsRequest uses (request_of r)) }
         ensures none { (uses : List Use) → HoldsCall equivalent_row uses values.now → IsErrOf result RequestFault.NotUnderstood → AsksNothing equivalent_command uses }
     {
-        let file = needed_word(values, "file")?;
+        let file = required_word(values, "file")?;
         let second = second_input(values, file, "second")?;
         let query = read_query(alloc, values)?;
         Ok(Request {

@@ -1,5 +1,6 @@
 -- Lists of cells, and the values there.
-use Rattle.std.proofs.Common.{◌≡◌, ℕ, zero, suc, ◌+◌, ◌-◌, ◌<◌, ◌≤◌, List, [], ◌∷◌, ◌++◌, map, length, set, get_or, drop, Result, Ok, Err, refl, ap, ◌∙◌, arith, zero-add}
+use Rattle.std.proofs.Common.{◌≡◌, ℕ, zero, suc, ◌+◌, ◌-◌, ◌<◌, ◌≤◌, List, [], ◌∷◌, ◌++◌, map, length, set, get_or, drop, Result, Ok, Err, refl, ap}
+use Rattle.std.proofs.Common.{◌∙◌, arith, zero-add}
 use Rattle.std.specs.List.{flat_map, range_with_len}
 use Rattle.std.proofs.lemmas.List.{map-append, append-nil}
 use Rattle.std.proofs.lemmas.List.Concat.{flat_map-append}
@@ -22,15 +23,18 @@ one_number cell v vs k [] = refl
 one_number cell v vs k (ks ∷ tails) = ap (λ (cs : List (List ℕ)). with_levels (set cell v k) vs ks ∷ cs) (one_number cell v vs k tails)
 
 each_number : (cell : List ℕ) (v : ℕ) (vs : List ℕ) (tails : List (List ℕ)) (numbers : List ℕ)
-    → map (with_levels cell (v ∷ vs)) (flat_map (λ k. map (λ (ks : List ℕ). k ∷ ks) tails) numbers) ≡ flat_map (λ k. map (with_levels (set cell v k) vs) tails) numbers
+    → map (with_levels cell (v ∷ vs)) (flat_map (λ k. map (λ (ks : List ℕ). k ∷ ks) tails) numbers)
+    ≡ flat_map (λ k. map (with_levels (set cell v k) vs) tails) numbers
 each_number cell v vs tails [] = refl
 each_number cell v vs tails (k ∷ numbers) =
     map-append (with_levels cell (v ∷ vs)) (map (λ (ks : List ℕ). k ∷ ks) tails) (flat_map (λ j. map (λ (ks : List ℕ). j ∷ ks) tails) numbers)
-    ∙ ap (λ (cs : List (List ℕ)). cs ++ map (with_levels cell (v ∷ vs)) (flat_map (λ j. map (λ (ks : List ℕ). j ∷ ks) tails) numbers)) (one_number cell v vs k tails)
+    ∙ ap (λ (cs : List (List ℕ)). cs ++ map (with_levels cell (v ∷ vs)) (flat_map (λ j. map (λ (ks : List ℕ). j ∷ ks) tails) numbers))
+    (one_number cell v vs k tails)
     ∙ ap (λ (cs : List (List ℕ)). map (with_levels (set cell v k) vs) tails ++ cs) (each_number cell v vs tails numbers)
 
 -- the cells by the level of the first vertex
-pub cells_first : (t : Table) (cell : List ℕ) (v : ℕ) (vs : List ℕ) → cells_along t cell (v ∷ vs) ≡ flat_map (λ k. cells_along t (set cell v k) vs) (range_with_len 0 (level_count t v))
+pub cells_first : (t : Table) (cell : List ℕ) (v : ℕ) (vs : List ℕ) → cells_along t cell (v ∷ vs)
+    ≡ flat_map (λ k. cells_along t (set cell v k) vs) (range_with_len 0 (level_count t v))
 unfolding cells_of
 cells_first t cell v vs = each_number cell v vs (cells_of (map (level_count t) vs)) (range_with_len 0 (level_count t v))
 
@@ -76,7 +80,8 @@ arrange cell (Ok q) (Ok us) (Err s) = refl
 arrange cell (Ok q) (Ok us) (Ok ws) = refl
 
 -- the values of one list and then of another
-values_split : (value : List ℕ → Result Pair Stop) (cs ds : List (List ℕ)) → values_at value (cs ++ ds) ≡ after (values_at value cs) (λ us. after (values_at value ds) (λ ws. Ok (us ++ ws)))
+values_split : (value : List ℕ → Result Pair Stop) (cs ds : List (List ℕ)) → values_at value (cs ++ ds)
+    ≡ after (values_at value cs) (λ us. after (values_at value ds) (λ ws. Ok (us ++ ws)))
 values_split value [] ds = values_whole (values_at value ds)
 values_split value (c ∷ cs) ds =
     ap (λ (r : Result (List CellValue) Stop). after (value c) (λ q. after r (λ vs. Ok (record { cell = c; quantity = q } ∷ vs)))) (values_split value cs ds)
@@ -102,7 +107,8 @@ values_sooner value cs ds s e =
     ∙ ap (λ (r : Result (List CellValue) Stop). after r (λ us. after (values_at value ds) (λ ws. Ok (us ++ ws)))) e
 
 -- a cell alone
-pub values_one : (value : List ℕ → Result Pair Stop) (cell : List ℕ) (q : Pair) → value cell ≡ Ok q → values_at value (cell ∷ []) ≡ Ok (record { cell = cell; quantity = q } ∷ [])
+pub values_one : (value : List ℕ → Result Pair Stop) (cell : List ℕ) (q : Pair) → value cell ≡ Ok q → values_at value (cell ∷ [])
+    ≡ Ok (record { cell = cell; quantity = q } ∷ [])
 values_one value cell q e = ap (λ (r : Result Pair Stop). after r (λ q. after (values_at value []) (λ vs. Ok (record { cell = cell; quantity = q } ∷ vs)))) e
 
 pub stops_one : (value : List ℕ → Result Pair Stop) (cell : List ℕ) (s : Stop) → value cell ≡ Err s → values_at value (cell ∷ []) ≡ Err s

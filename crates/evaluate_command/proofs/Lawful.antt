@@ -2,8 +2,8 @@
 use Rattle.std.proofs.Common.{◌≡◌, List, refl, sym, ◌∙◌}
 use Rattle.std.specs.Prelude.{codes}
 use Rattle.std.proofs.lemmas.Option.{same_Some}
-use Rattle.word_forms.specs.Form.{Use, value_of}
-use Rattle.request_values.proofs.OneValue.{one_listed}
+use Rattle.command_words.specs.Form.{Use, value_of}
+use Rattle.command_words.proofs.OneValue.{one_listed}
 use Rattle.dag_reader.specs.declared.graph.ReadGraph.{ReadGraph}
 use Rattle.replies.specs.Command.{IsLeft}
 use Rattle.replies.proofs.Commands.{IsLawful, lawful_on_two_inputs}
@@ -33,5 +33,6 @@ evaluate_lawful = lawful_on_two_inputs one_request
     (λ q bytes other. evaluate_once bytes other q.exact q.x q.y q.count)
     (λ q name g h same names o text a n. first_alone g h same q.x q.y o text n.0 a n.1)
 
-pub evaluate_is_left : (q : Request) (g : ReadGraph) (e : PlainEffect) → Identifies g q.x q.y e → IsLeft evaluate_command q g (evaluate_left e q.counts q.count q.exact)
+pub evaluate_is_left : (q : Request) (g : ReadGraph) (e : PlainEffect) → Identifies g q.x q.y e
+    → IsLeft evaluate_command q g (evaluate_left e q.counts q.count q.exact)
 evaluate_is_left q g e is = record { named = refl; continues = (e, is); known = is.identified; answers = λ other o text a. (e, is, a) }

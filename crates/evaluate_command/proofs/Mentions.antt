@@ -1,65 +1,33 @@
 -- The vertices that a formula names.
-use Rattle.std.proofs.Common.{◌≡◌, ℕ, ◌+◌, ◌<◌, ◌≤◌, inl, inr, Bool, true, List, [], ◌∷◌, length, map, drop, get_or, sym, ap, ◌∙◌}
+use Rattle.std.proofs.Common.{◌≡◌, ℕ, inl, inr, Bool, true, List, [], ◌∷◌, sym, ◌∙◌}
 use Rattle.std.proofs.lemmas.Bool.{or_cases, or_left, or_right, false≢true}
-use Rattle.std.proofs.lemmas.List.{at_drop_more, at_drop_all}
 use Rattle.mixed_graph.specs.Bits.{has}
-use Rattle.mixed_graph.specs.Masks.{join}
+use Rattle.mixed_graph.specs.Masks.{union}
 use Rattle.prob_expr.specs.Tree.{Tree, prob, sum, product, quotient, named, Trees, no_trees, tree, PlainFormula}
-use Rattle.prob_expr.specs.View.{view, views}
-use Rattle.prob_expr.specs.declared.expr.Expr.{Expr}
-use Rattle.mixed_graph.proofs.MaskLaws.{has_join, has_none, join_assoc, join-zero}
-use Rattle.prob_expr.proofs.Views.{views_more, none_after}
-use Rattle.identification_answers.specs.Names.{NamesOnly, EachNamesOnly, AllNameOnly, FormulaNamesOnly}
+use Rattle.mixed_graph.proofs.MaskLaws.{has_join, has_none}
+use Rattle.identification_theory.specs.Names.{NamesOnly, EachNamesOnly, AllNameOnly, FormulaNamesOnly}
 use Rattle.count_eval.specs.Laws.{IsUsed, AreUsed, AllUsed}
-use Rattle.evaluate_command.specs.Mentioned.{mentioned, mentioned_in, mentioned_in_any, mentioned_in_defs}
+use Rattle.prob_expr.specs.Mentioned.{mentioned, mentioned_in, mentioned_in_any, mentioned_in_defs}
 
 -- ---- members of either set
 
-pub in_left : (a b v : ℕ) → has a v ≡ true → has (join a b) v ≡ true
+pub in_left : (a b v : ℕ) → has a v ≡ true → has (union a b) v ≡ true
 in_left a b v h = has_join a b v ∙ or_left (has a v) (has b v) h
 
-pub in_right : (a b v : ℕ) → has b v ≡ true → has (join a b) v ≡ true
+pub in_right : (a b v : ℕ) → has b v ≡ true → has (union a b) v ≡ true
 in_right a b v h = has_join a b v ∙ or_right (has a v) (has b v) h
 
-pub in_either : (P : Type 0) (a b v : ℕ) → (has a v ≡ true → P) → (has b v ≡ true → P) → has (join a b) v ≡ true → P
+pub in_either : (P : Type 0) (a b v : ℕ) → (has a v ≡ true → P) → (has b v ≡ true → P) → has (union a b) v ≡ true → P
 in_either P a b v f g h = elim (or_cases (has a v) (has b v) (sym (has_join a b v) ∙ h)) [ inl i ↦ f i | inr i ↦ g i ]
 
 pub in_none : (P : Type 0) (v : ℕ) → has 0 v ≡ true → P
 in_none P v h = absurd (false≢true (sym (has_none v) ∙ h))
 
--- ---- loops over factors and definitions
-
-pub factors_step : (before after : ℕ) (es : List Expr) (i : ℕ) (e : Expr) → i < length es → e ≡ get_or es i e → after ≡ join before (mentioned_in (view e))
-    → join after (mentioned_in_any (views (drop (i + 1) es))) ≡ join before (mentioned_in_any (views (drop i es)))
-factors_step before after es i e lt is h =
-    ap (λ x. join x (mentioned_in_any (views (drop (i + 1) es)))) h
-    ∙ join_assoc before (mentioned_in (view e)) (mentioned_in_any (views (drop (i + 1) es)))
-    ∙ sym (ap (λ ts. join before (mentioned_in_any ts)) (views_more es i e lt is))
-
-pub factors_end : (before : ℕ) (es : List Expr) (i : ℕ) → length es ≤ i → before ≡ join before (mentioned_in_any (views (drop i es)))
-factors_end before es i le = sym (ap (λ ts. join before (mentioned_in_any ts)) (none_after es i le) ∙ join-zero before)
-
-defs_more : (es : List Expr) (i : ℕ) (e : Expr) → i < length es → e ≡ get_or es i e
-    → mentioned_in_defs (map view (drop i es)) ≡ join (mentioned_in (view e)) (mentioned_in_defs (map view (drop (i + 1) es)))
-defs_more es i e lt is =
-    at_drop_more (λ (ds : List Expr). mentioned_in_defs (map view ds)) es i e lt
-    ∙ ap (λ x. join (mentioned_in (view x)) (mentioned_in_defs (map view (drop (i + 1) es)))) (sym is)
-
-pub defs_step : (before after : ℕ) (es : List Expr) (i : ℕ) (e : Expr) → i < length es → e ≡ get_or es i e → after ≡ join before (mentioned_in (view e))
-    → join after (mentioned_in_defs (map view (drop (i + 1) es))) ≡ join before (mentioned_in_defs (map view (drop i es)))
-defs_step before after es i e lt is h =
-    ap (λ x. join x (mentioned_in_defs (map view (drop (i + 1) es)))) h
-    ∙ join_assoc before (mentioned_in (view e)) (mentioned_in_defs (map view (drop (i + 1) es)))
-    ∙ sym (ap (λ m. join before m) (defs_more es i e lt is))
-
-pub defs_end : (before : ℕ) (es : List Expr) (i : ℕ) → length es ≤ i → before ≡ join before (mentioned_in_defs (map view (drop i es)))
-defs_end before es i le = sym (ap (λ m. join before m) (at_drop_all (λ (ds : List Expr). mentioned_in_defs (map view ds)) es i le) ∙ join-zero before)
-
 -- ---- what holds of the vertices that a formula names
 
 mutual
   only_tree : (P : ℕ → Type 0) (t : Tree) → NamesOnly P t → (v : ℕ) → has (mentioned_in t) v ≡ true → P v
-  only_tree P (prob a b c) k v h = in_either (P v) (join a b) c v (in_either (P v) a b v (λ i. k.0 v i) (λ i. k.1 v i)) (λ i. k.2 v i) h
+  only_tree P (prob a b c) k v h = in_either (P v) (union a b) c v (in_either (P v) a b v (λ i. k.0 v i) (λ i. k.1 v i)) (λ i. k.2 v i) h
   only_tree P (sum u e) k v h = in_either (P v) u (mentioned_in e) v (λ i. k.0 v i) (λ i. only_tree P e k.1 v i) h
   only_tree P (product ts) k v h = only_trees P ts k v h
   only_tree P (quotient p q) k v h = in_either (P v) (mentioned_in p) (mentioned_in q) v (λ i. only_tree P p k.0 v i) (λ i. only_tree P q k.1 v i) h
@@ -75,25 +43,32 @@ only_defs P (d ∷ ds) k v h = in_either (P v) (mentioned_in d) (mentioned_in_de
 
 -- what holds of all vertices that a formula names holds of each mentioned one
 pub mentioned_only : (P : ℕ → Type 0) (f : PlainFormula) → FormulaNamesOnly P f → (v : ℕ) → has (mentioned f) v ≡ true → P v
-mentioned_only P f k v h = in_either (P v) (mentioned_in_defs f.defs) (mentioned_in f.main) v (λ i. only_defs P f.defs k.0 v i) (λ i. only_tree P f.main k.1 v i) h
+mentioned_only P f k v h = in_either (P v) (mentioned_in_defs f.defs) (mentioned_in f.main) v (λ i. only_defs P f.defs k.0 v i)
+    (λ i. only_tree P f.main k.1 v i) h
 
 -- ---- where the mentioned vertices are used
 
 mutual
   pub used_tree : (used : ℕ → Bool) (t : Tree) → ((v : ℕ) → has (mentioned_in t) v ≡ true → used v ≡ true) → IsUsed used t
-  used_tree used (prob a b c) k = (λ v h. k v (in_left (join a b) c v (in_left a b v h)), λ v h. k v (in_right (join a b) c v h))
+  used_tree used (prob a b c) k = (λ v h. k v (in_left (union a b) c v (in_left a b v h)), λ v h. k v (in_right (union a b) c v h))
   used_tree used (sum u e) k = (λ v h. k v (in_left u (mentioned_in e) v h), used_tree used e (λ v h. k v (in_right u (mentioned_in e) v h)))
   used_tree used (product ts) k = used_trees used ts k
-  used_tree used (quotient p q) k =
-      (used_tree used p (λ v h. k v (in_left (mentioned_in p) (mentioned_in q) v h)), used_tree used q (λ v h. k v (in_right (mentioned_in p) (mentioned_in q) v h)))
+  used_tree used (quotient p q) k = (
+    used_tree used p (λ v h. k v (in_left (mentioned_in p) (mentioned_in q) v h)),
+    used_tree used q (λ v h. k v (in_right (mentioned_in p) (mentioned_in q) v h)),
+  )
   used_tree used (named j) k = tt
 
   used_trees : (used : ℕ → Bool) (ts : Trees) → ((v : ℕ) → has (mentioned_in_any ts) v ≡ true → used v ≡ true) → AreUsed used ts
   used_trees used no_trees k = tt
-  used_trees used (tree t ts) k =
-      (used_tree used t (λ v h. k v (in_left (mentioned_in t) (mentioned_in_any ts) v h)), used_trees used ts (λ v h. k v (in_right (mentioned_in t) (mentioned_in_any ts) v h)))
+  used_trees used (tree t ts) k = (
+    used_tree used t (λ v h. k v (in_left (mentioned_in t) (mentioned_in_any ts) v h)),
+    used_trees used ts (λ v h. k v (in_right (mentioned_in t) (mentioned_in_any ts) v h)),
+  )
 
 pub used_defs : (used : ℕ → Bool) (ds : List Tree) → ((v : ℕ) → has (mentioned_in_defs ds) v ≡ true → used v ≡ true) → AllUsed used ds
 used_defs used [] k = tt
-used_defs used (d ∷ ds) k =
-    (used_tree used d (λ v h. k v (in_left (mentioned_in d) (mentioned_in_defs ds) v h)), used_defs used ds (λ v h. k v (in_right (mentioned_in d) (mentioned_in_defs ds) v h)))
+used_defs used (d ∷ ds) k = (
+  used_tree used d (λ v h. k v (in_left (mentioned_in d) (mentioned_in_defs ds) v h)),
+  used_defs used ds (λ v h. k v (in_right (mentioned_in d) (mentioned_in_defs ds) v h)),
+)

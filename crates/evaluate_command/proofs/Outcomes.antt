@@ -12,5 +12,6 @@ use Rattle.evaluate_command.specs.Effects.{PlainEffect}
 pub first_answered : (g : ReadGraph) (x y : Names) (o : Outcome) (text : List ℕ) → EvaluateFirst g x y o text → IsAnswered o
 first_answered g x y o text = answered (λ k. EvaluateFirst g x y k text) (λ h. h) (λ h. h) (λ h. h) (λ h. h) o
 
-pub counts_answered : (exact : Bool) (e : PlainEffect) (count : Option Field) (bytes : List ℕ) (o : Outcome) (text : List ℕ) → CountsAnswer exact e count bytes o text → IsAnswered o
+pub counts_answered : (exact : Bool) (e : PlainEffect) (count : Option Field) (bytes : List ℕ) (o : Outcome) (text : List ℕ)
+    → CountsAnswer exact e count bytes o text → IsAnswered o
 counts_answered exact e count bytes o text = answered (λ k. CountsAnswer exact e count bytes k text) (λ h. h) (λ h. h) (λ h. h) (λ h. h) o

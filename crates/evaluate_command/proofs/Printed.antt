@@ -1,5 +1,6 @@
 -- Printing cells: one list after another.
-use Rattle.std.proofs.Common.{◌≡◌, ℕ, ◌+◌, ◌-◌, ◌<◌, ◌≤◌, length, set, get_or, drop, inl, inr, List, [], ◌∷◌, ◌++◌, Ok, refl, sym, ap, subst, ◌∙◌, arith, append_assoc}
+use Rattle.std.proofs.Common.{◌≡◌, ℕ, ◌+◌, ◌-◌, ◌<◌, ◌≤◌, length, set, get_or, drop, inl, inr, List, [], ◌∷◌, ◌++◌, Ok, refl, sym, ap, subst, ◌∙◌}
+use Rattle.std.proofs.Common.{arith, append_assoc}
 use Rattle.std.specs.List.{flat_map, range_with_len}
 use Rattle.std.proofs.lemmas.Bool.{cases_Bool}
 use Rattle.std.proofs.lemmas.List.{append-nil}
@@ -8,7 +9,6 @@ use Rattle.std.proofs.lemmas.List.Elements.{All-nil, All-cons, All-append}
 use Rattle.fractions.specs.Fractions.{Fraction}
 use Rattle.finite_models.specs.Models.{FiniteModel, Fits, IsAssignment}
 use Rattle.prob_expr.specs.Values.{effect, weights_of, value_of}
-use Rattle.id_recursion.specs.Answers.{effect_on}
 use Rattle.quantity.specs.Kinds.{Pair, Kind}
 use Rattle.quantity.specs.Lawful.{IsLawful}
 use Rattle.count_rows.specs.Rows.{Table}
@@ -21,8 +21,8 @@ use Rattle.evaluate_command.specs.Cells.{CellValue, IsCell, value_in, cells_alon
 use Rattle.evaluate_command.specs.Effects.{PlainEffect, IsIdentified}
 use Rattle.evaluate_command.specs.Lines.{value_line}
 use Rattle.evaluate_command.specs.Printing.{Appends, IsFailureOf, IsPreparedFor}
-use Rattle.value_tables.specs.Preparations.{Preparation}
-use Rattle.prob_expr.specs.Tree.{PlainFormula}
+use Rattle.count_eval.specs.Preparations.{Preparation}
+use Rattle.prob_expr.specs.Tree.{PlainFormula, effect_on}
 use Rattle.evaluate_command.specs.declared.values.Failure.{Failure}
 use Rattle.evaluate_command.specs.declared.values.Failure.TheVariants.{Evaluation, NoMemory}
 use Rattle.evaluate_command.proofs.CellLists.{values_both, values_later, values_sooner, values_one, cells_at_first, numbers_more, numbers_around}
@@ -30,7 +30,8 @@ use Rattle.evaluate_command.proofs.CellLists.{values_both, values_later, values_
 -- ---- the theorem
 
 -- a cell is an assignment of each model that has the counts
-assigned : (e : PlainEffect) (t : Table) (cell : List ℕ) → IsCell e.graph.vertices t cell → (m : FiniteModel) → Fits e.graph m → IsMatched (is_used t) (weights_in e.graph.vertices t) (total t.rows) m
+assigned : (e : PlainEffect) (t : Table) (cell : List ℕ) → IsCell e.graph.vertices t cell → (m : FiniteModel) → Fits e.graph m
+    → IsMatched (is_used t) (weights_in e.graph.vertices t) (total t.rows) m
     → IsAssignment m.vertices m.size (cell_of cell)
 assigned e t cell is m fits matched v lt = elim (cases_Bool (is_used t v)) [
   | inl h ↦ (let l = (is.levels v h).1 in let s = matched.sizes v lt h in omega (arith, l, s))
@@ -47,7 +48,8 @@ covers_effect kind covers lawful e id t cell is q matches m fits positive matche
     (matches e.graph id.graph m fits positive matched at) (id.right.effect m fits positive (cell_of cell) at)
 
 -- what holds of a prepared formula over its counts holds of the effect's over the table
-pub on_prepared : (P : ℕ → Table → PlainFormula → Type 0) (e : PlainEffect) (t : Table) (p : Preparation) → IsPreparedFor e t p → P p.vertices p.counts p.formula → P e.graph.vertices t e.formula
+pub on_prepared : (P : ℕ → Table → PlainFormula → Type 0) (e : PlainEffect) (t : Table) (p : Preparation) → IsPreparedFor e t p
+    → P p.vertices p.counts p.formula → P e.graph.vertices t e.formula
 on_prepared P e t p is h =
     subst (λ f. P e.graph.vertices t f) is.formula (subst (λ c. P e.graph.vertices c p.formula) is.counts (subst (λ n. P n p.counts p.formula) is.vertices h))
 
@@ -61,7 +63,8 @@ module _ (kind : Kind) (covers : Pair → Fraction → Type 0) (sign : List ℕ)
     text = sym (append-nil old);
   }
 
-  pub appends_one : (cell : List ℕ) (q : Pair) (old new : List ℕ) → value_in kind e t cell ≡ Ok q → CoversCounts covers e.graph.vertices t e.formula (cell_of cell) q
+  pub appends_one : (cell : List ℕ) (q : Pair) (old new : List ℕ) → value_in kind e t cell ≡ Ok q
+      → CoversCounts covers e.graph.vertices t e.formula (cell_of cell) q
       → CoversEffect covers e t (record { cell = cell; quantity = q }) → new ≡ old ++ value_line kind sign e t (record { cell = cell; quantity = q })
       → Appends kind covers sign e t (cell ∷ []) old new
   appends_one cell q old new is counts effects text = record {
@@ -70,7 +73,8 @@ module _ (kind : Kind) (covers : Pair → Fraction → Type 0) (sign : List ℕ)
       values = record { cell = cell; quantity = q } ∷ [];
       evaluated = values_one (value_in kind e t) cell q is;
       prints = sym (append-nil (value_line kind sign e t (record { cell = cell; quantity = q })));
-      counts = All-cons (λ (v : CellValue). CoversCounts covers e.graph.vertices t e.formula (cell_of v.cell) v.quantity) (record { cell = cell; quantity = q }) [] counts (All-nil _);
+      counts = All-cons (λ (v : CellValue). CoversCounts covers e.graph.vertices t e.formula (cell_of v.cell) v.quantity)
+          (record { cell = cell; quantity = q }) [] counts (All-nil _);
       effects = All-cons (CoversEffect covers e t) (record { cell = cell; quantity = q }) [] effects (All-nil _);
     };
     text = text;
@@ -86,7 +90,8 @@ module _ (kind : Kind) (covers : Pair → Fraction → Type 0) (sign : List ℕ)
       prints =
           ap (λ x. x ++ b.added) a.values.prints ∙ ap (λ x. flat_map (value_line kind sign e t) a.values.values ++ x) b.values.prints
           ∙ sym (flat_map-append (value_line kind sign e t) a.values.values b.values.values);
-      counts = All-append (λ (v : CellValue). CoversCounts covers e.graph.vertices t e.formula (cell_of v.cell) v.quantity) a.values.values b.values.values a.values.counts b.values.counts;
+      counts = All-append (λ (v : CellValue). CoversCounts covers e.graph.vertices t e.formula (cell_of v.cell) v.quantity)
+          a.values.values b.values.values a.values.counts b.values.counts;
       effects = All-append (CoversEffect covers e t) a.values.values b.values.values a.values.effects b.values.effects;
     };
     text = b.text ∙ ap (λ x. x ++ b.added) a.text ∙ append_assoc old a.added b.added;
@@ -94,7 +99,8 @@ module _ (kind : Kind) (covers : Pair → Fraction → Type 0) (sign : List ℕ)
 
   -- the cells of one more level
   pub appends_turn : (cell0 cell : List ℕ) (v k : ℕ) (rest old mid new : List ℕ) → ((j : ℕ) → set cell v j ≡ set cell0 v j)
-      → Appends kind covers sign e t (flat_map (λ j. cells_along t (set cell0 v j) rest) (range_with_len 0 k)) old mid → Appends kind covers sign e t (cells_along t (set cell v k) rest) mid new
+      → Appends kind covers sign e t (flat_map (λ j. cells_along t (set cell0 v j) rest) (range_with_len 0 k)) old mid
+      → Appends kind covers sign e t (cells_along t (set cell v k) rest) mid new
       → Appends kind covers sign e t (flat_map (λ j. cells_along t (set cell0 v j) rest) (range_with_len 0 (k + 1))) old new
   appends_turn cell0 cell v k rest old mid new same a b =
       subst (λ (cs : List (List ℕ)). Appends kind covers sign e t cs old new) (sym (numbers_more (λ j. cells_along t (set cell0 v j) rest) k))
@@ -103,22 +109,27 @@ module _ (kind : Kind) (covers : Pair → Fraction → Type 0) (sign : List ℕ)
 
   -- the cells of all levels of the first vertex
   pub appends_all : (cell vs rest : List ℕ) (k : ℕ) (old new : List ℕ) → 1 ≤ length vs → rest ≡ drop 1 vs → k ≡ level_count t (get_or vs 0 0)
-      → Appends kind covers sign e t (flat_map (λ j. cells_along t (set cell (get_or vs 0 0) j) rest) (range_with_len 0 k)) old new → Appends kind covers sign e t (cells_along t cell vs) old new
+      → Appends kind covers sign e t (flat_map (λ j. cells_along t (set cell (get_or vs 0 0) j) rest) (range_with_len 0 k)) old new
+      → Appends kind covers sign e t (cells_along t cell vs) old new
   appends_all cell vs rest k old new some is all a =
       subst (λ (cs : List (List ℕ)). Appends kind covers sign e t cs old new) (sym (cells_at_first t cell vs some))
-      (subst (λ (us : List ℕ). Appends kind covers sign e t (flat_map (λ j. cells_along t (set cell (get_or vs 0 0) j) us) (range_with_len 0 (level_count t (get_or vs 0 0)))) old new) is
+      (subst (λ (us : List ℕ). Appends kind covers sign e t (flat_map (λ j. cells_along t (set cell (get_or vs 0 0) j) us)
+      (range_with_len 0 (level_count t (get_or vs 0 0)))) old new) is
       (subst (λ n. Appends kind covers sign e t (flat_map (λ j. cells_along t (set cell (get_or vs 0 0) j) rest) (range_with_len 0 n)) old new) all a))
 
-  pub failure_later : (cs ds : List (List ℕ)) (old mid : List ℕ) (f : Failure) → Appends kind covers sign e t cs old mid → IsFailureOf kind e t ds f → IsFailureOf kind e t (cs ++ ds) f
+  pub failure_later : (cs ds : List (List ℕ)) (old mid : List ℕ) (f : Failure) → Appends kind covers sign e t cs old mid → IsFailureOf kind e t ds f
+      → IsFailureOf kind e t (cs ++ ds) f
   failure_later cs ds old mid (Evaluation fault) a h = (h.0, values_later (value_in kind e t) cs ds a.values.values h.0 a.values.evaluated h.1, h.2)
   failure_later cs ds old mid NoMemory a h = tt
 
-pub failure_sooner : (kind : Kind) (e : PlainEffect) (t : Table) (cs ds : List (List ℕ)) (f : Failure) → IsFailureOf kind e t cs f → IsFailureOf kind e t (cs ++ ds) f
+pub failure_sooner : (kind : Kind) (e : PlainEffect) (t : Table) (cs ds : List (List ℕ)) (f : Failure) → IsFailureOf kind e t cs f
+    → IsFailureOf kind e t (cs ++ ds) f
 failure_sooner kind e t cs ds (Evaluation fault) h = (h.0, values_sooner (value_in kind e t) cs ds h.0 h.1, h.2)
 failure_sooner kind e t cs ds NoMemory h = tt
 
 -- the failure at the cells of one level is that of all cells
-pub failure_turn : (kind : Kind) (covers : Pair → Fraction → Type 0) (sign : List ℕ) (e : PlainEffect) (t : Table) (cell0 cell vs rest : List ℕ) (k : ℕ) (old mid : List ℕ) (f : Failure)
+pub failure_turn : (kind : Kind) (covers : Pair → Fraction → Type 0) (sign : List ℕ) (e : PlainEffect) (t : Table) (cell0 cell vs rest : List ℕ) (k : ℕ)
+    (old mid : List ℕ) (f : Failure)
     → 1 ≤ length vs
     → rest ≡ drop 1 vs → k < level_count t (get_or vs 0 0) → ((j : ℕ) → set cell (get_or vs 0 0) j ≡ set cell0 (get_or vs 0 0) j)
     → Appends kind covers sign e t (flat_map (λ j. cells_along t (set cell0 (get_or vs 0 0) j) rest) (range_with_len 0 k)) old mid

@@ -1,7 +1,7 @@
 -- The text of a stop, from the fault that says it.
 use Rattle.std.proofs.Common.{◌≡◌, ℕ, ◌<◌, ◌^◌, Bool, cond, List, ◌++◌, codes, sym, ap, subst, ◌∙◌, append-nil, All, IsTrue}
 use Rattle.mixed_graph.specs.Names.{name_of}
-use Rattle.name_text.specs.Printing.{printed}
+use Rattle.answer_text.specs.Printing.{printed}
 use Rattle.mixed_graph.specs.Bits.{has, members_below}
 use Rattle.mixed_graph.proofs.Masks.{below_64}
 use Rattle.prob_expr.specs.declared.expr.Place.{Place}
@@ -33,16 +33,20 @@ fine_text names t s place why is =
     ∙ ap (λ w. codes "evaluation fault " ++ (why_digit w ++ (codes ": " ++ (place_text s.def s.node ++ support_text w names t s.cell)))) (sym why)
 
 -- the levels in a fault's cell are those of the stop's cell
-same_levels : (names : List (List ℕ)) (t : Table) (s : Stop) (cell : List ℕ) (used : ℕ → Bool) → AreCounts t → t.vertices ≡ members_below used 64 → IsCellOf (is_used t) cell s
+same_levels : (names : List (List ℕ)) (t : Table) (s : Stop) (cell : List ℕ) (used : ℕ → Bool) → AreCounts t → t.vertices ≡ members_below used 64
+    → IsCellOf (is_used t) cell s
     → assignments names t (cell_of cell) (members_below used 64) ≡ assignments names t s.cell t.vertices
 same_levels names t s cell used table is at =
     ap with_commas (same_texts (assignment names t (cell_of cell)) (assignment names t s.cell) used 64 (λ v lt h.
-    ap (λ k. printed (name_of names v) ++ (codes "=" ++ level_text t v k)) (at v lt ∙ ap (λ (b : Bool). cond b (s.cell v) 0) (member_used t used is table v lt h))))
+    ap (λ k. printed (name_of names v) ++ (codes "=" ++ level_text t v k))
+    (at v lt ∙ ap (λ (b : Bool). cond b (s.cell v) 0) (member_used t used is table v lt h))))
     ∙ ap (λ (vs : List ℕ). assignments names t s.cell vs) (sym is)
 
-pub support_text_is : (names : List (List ℕ)) (t : Table) (s : Stop) (place : Place) (cell : List ℕ) (used : ℕ → Bool) → s.why ≡ ZeroBelow → IsPlaceOf place s → IsCellOf (is_used t) cell s
+pub support_text_is : (names : List (List ℕ)) (t : Table) (s : Stop) (place : Place) (cell : List ℕ) (used : ℕ → Bool) → s.why ≡ ZeroBelow → IsPlaceOf place s
+    → IsCellOf (is_used t) cell s
     → AreCounts t → t.vertices ≡ members_below used 64
-    → codes "evaluation fault 1: " ++ (place_text place.def place.node ++ (codes " at " ++ assignments names t (cell_of cell) (members_below used 64))) ≡ stop_text names t s
+    → codes "evaluation fault 1: " ++ (place_text place.def place.node ++ (codes " at " ++ assignments names t (cell_of cell) (members_below used 64)))
+    ≡ stop_text names t s
 support_text_is names t s place cell used why is at table vertices =
     ap (λ p. codes "evaluation fault 1: " ++ (p ++ (codes " at " ++ assignments names t (cell_of cell) (members_below used 64)))) (same_place place s is)
     ∙ ap (λ a. codes "evaluation fault 1: " ++ (place_text s.def s.node ++ (codes " at " ++ a))) (same_levels names t s cell used table vertices at)

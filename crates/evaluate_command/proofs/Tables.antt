@@ -1,7 +1,9 @@
 -- Which vertices of a table are used, and what its cells are.
-use Rattle.std.proofs.Common.{◌≡◌, ℕ, zero, suc, ◌<◌, ◌==◌, Bool, true, false, cond, inl, inr, nat_lt, List, [], ◌∷◌, ◌++◌, length, get_or, set, All, refl, sym, ap, subst, ◌∙◌, arith}
+use Rattle.std.proofs.Common.{◌≡◌, ℕ, zero, suc, ◌<◌, ◌==◌, Bool, true, false, cond, inl, inr, nat_lt, List, [], ◌∷◌, ◌++◌, length, get_or, set, All}
+use Rattle.std.proofs.Common.{refl, sym, ap, subst, ◌∙◌, arith}
 use Rattle.std.proofs.lemmas.Bool.{cases_eq, cases_lt, eq-eqb, ne_eqb, lt-ltb, false≢true}
-use Rattle.std.proofs.lemmas.List.{length-set, length-replicate, get_or-replicate, get_or_past, length-append, get_or_append_left, get_or_at, get_or-set_same, get_or-set_other}
+use Rattle.std.proofs.lemmas.List.{length-set, length-replicate, get_or-replicate, get_or_past, length-append, get_or_append_left, get_or_at}
+use Rattle.std.proofs.lemmas.List.{get_or-set_same, get_or-set_other}
 use Rattle.std.proofs.lemmas.List.Elements.{All-nil, All-cons, All-head, All-tail, All-append, All-get_or}
 use Rattle.mixed_graph.specs.Bits.{members_below}
 use Rattle.count_rows.specs.Records.{Field}
@@ -51,7 +53,8 @@ member_stands s (suc k) v lt e = elim (cases_lt v k) [
 pub all_members : (P : ℕ → Type 0) (s : ℕ → Bool) (k : ℕ) → ((v : ℕ) → v < k → s v ≡ true → P v) → All P (members_below s k)
 unfolding members_below
 all_members P s zero h = All-nil P
-all_members P s (suc k) h = All-append P (members_below s k) (cond (s k) (k ∷ []) []) (all_members P s k (λ v lt e. h v (omega (arith, lt)) e)) (last (s k) refl)
+all_members P s (suc k) h = All-append P (members_below s k) (cond (s k) (k ∷ []) []) (all_members P s k (λ v lt e. h v (omega (arith, lt)) e))
+    (last (s k) refl)
   where
     last : (b : Bool) → s k ≡ b → All P (cond b (k ∷ []) [])
     last true e = All-cons P k [] (h k (omega arith) e) (All-nil P)

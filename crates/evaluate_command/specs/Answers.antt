@@ -6,8 +6,8 @@ use Rattle.mixed_graph.specs.Graphs.{MixedGraph}
 use Rattle.finite_models.specs.Models.{FiniteModel, Fits, IsPositiveModel}
 use Rattle.dag_reader.specs.declared.graph.ReadGraph.{ReadGraph}
 use Rattle.prob_expr.specs.Values.{effect}
-use Rattle.id_recursion.specs.Answers.{effect_on}
-use Rattle.name_text.specs.Lines.{line_of}
+use Rattle.prob_expr.specs.Tree.{effect_on}
+use Rattle.answer_text.specs.Lines.{line_of}
 use Rattle.replies.specs.declared.outcome.Outcome.{Outcome}
 use Rattle.replies.specs.declared.outcome.Outcome.TheVariants.{Yes, No, Graph, Second, Evaluation}
 use Rattle.replies.specs.Observed.{Names, observed_names, IsObservedGraph}
@@ -23,14 +23,15 @@ use Rattle.count_eval.specs.Answers.{CoversCounts}
 use Rattle.count_eval.specs.Laws.{IsMatched}
 use Rattle.count_eval.specs.Programs.{weights_in, is_used, cell_of}
 use Rattle.count_eval.specs.Stops.{Stop}
-use Rattle.count_answers.specs.Reads.{IsRead, AreRefusedCounts}
+use Rattle.count_answers.specs.Reads.{HoldsCounts, AreRefusedCounts}
 use Rattle.evaluate_command.specs.Effects.{PlainEffect, Identifies, used_in}
 use Rattle.evaluate_command.specs.Cells.{CellValue, value_in, values_at, printed_cells}
 use Rattle.evaluate_command.specs.Lines.{sign_of, value_line, pinned_lines, stop_text}
 
 -- ---- before the counts
 
--- the answer for which the counts aren't read, in the observed graph: a hedge with its two models, as `identify` shows it, or the line of a listed name that is at fault
+-- the answer for which the counts aren't read, in the observed graph: a hedge with its two models, as `identify` shows it, or the line of a listed
+-- name that is at fault
 abbrev pub EvaluateFirst : ReadGraph → Names → Names → Outcome → List ℕ → Type 0
 EvaluateFirst g x y No text = (q : MixedGraph) × IsObservedGraph g q × IsOfSets (effect_lists g x y) (λ xs ys. ShowsHedge q (observed_names g) xs ys text)
 EvaluateFirst g x y Graph line = (q : MixedGraph) × IsObservedGraph g q × IsEffectRefusal (effect_lists g x y) line
@@ -45,7 +46,8 @@ CoversEffect covers e t v = (m : FiniteModel) → Fits e.graph m → IsPositiveM
 
 -- The cells have these values, and `added` is their lines. Each quantity covers the formula's value over the counts and, where a model of the graph has
 -- these counts, the effect in it.
-pub record AreValues (kind : Kind) (covers : Pair → Fraction → Type 0) (sign : List ℕ) (e : PlainEffect) (t : Table) (cells : List (List ℕ)) (added : List ℕ) : Type 0 where
+pub record AreValues (kind : Kind) (covers : Pair → Fraction → Type 0) (sign : List ℕ) (e : PlainEffect) (t : Table) (cells : List (List ℕ))
+    (added : List ℕ) : Type 0 where
   pub values : List CellValue
   pub evaluated : values_at (value_in kind e t) cells ≡ Ok values
   pub prints : added ≡ flat_map (value_line kind sign e t) values
@@ -79,7 +81,7 @@ QuantityAnswer false = TableAnswer bounds Covers (sign_of false)
 
 -- the table of the bytes, and the answer over it
 abbrev pub AnswersTable : Bool → PlainEffect → Option Field → List ℕ → Outcome → List ℕ → Type 0
-AnswersTable is_exact e count bytes o text = (t : Table) × IsRead e.names (used_in e) count bytes t × QuantityAnswer is_exact e t o text
+AnswersTable is_exact e count bytes o text = (t : Table) × HoldsCounts e.names (used_in e) count bytes t × QuantityAnswer is_exact e t o text
 
 -- the answer for an effect that has a formula: its values, the line of refused counts, or the line of the first printed cell without a value
 abbrev pub CountsAnswer : Bool → PlainEffect → Option Field → List ℕ → Outcome → List ℕ → Type 0

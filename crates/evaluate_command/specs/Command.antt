@@ -1,6 +1,6 @@
 -- The command `evaluate`.
 use Rattle.std.specs.Prelude.{Bool, Option, Some}
-use Rattle.word_forms.specs.Form.{Text}
+use Rattle.command_words.specs.Form.{Text}
 use Rattle.replies.specs.Command.{CommandForm, on_two_inputs, Remainder}
 use Rattle.evaluate_command.specs.Answers.{EvaluateFirst, CountsAnswer, EvaluateAnswer}
 use Rattle.evaluate_command.specs.Effects.{PlainEffect, IsIdentified, Identifies}
@@ -8,7 +8,8 @@ use Rattle.evaluate_command.specs.Requests.{Request, IsRequest}
 
 -- its request and its answers
 abbrev pub evaluate_command : CommandForm
-evaluate_command = on_two_inputs Request IsRequest (λ q. q.file) (λ q. Some q.counts) (λ q g. EvaluateFirst g q.x q.y) (λ q g. (e : PlainEffect) × Identifies g q.x q.y e) (λ q g other. EvaluateAnswer q.exact g q.x q.y q.count other)
+evaluate_command = on_two_inputs Request IsRequest (λ q. q.file) (λ q. Some q.counts) (λ q g. EvaluateFirst g q.x q.y)
+    (λ q g. (e : PlainEffect) × Identifies g q.x q.y e) (λ q g other. EvaluateAnswer q.exact g q.x q.y q.count other)
 
 -- what is left once the effect has a formula: its values over the counts, whose column may have a name, in exact fractions or in bounds
 abbrev pub evaluate_left : PlainEffect → (counts : Text) (count : Option Text) (exact : Bool) → Remainder

@@ -7,14 +7,14 @@ use Rattle.mixed_graph.specs.Shown.{graph_of}
 use Rattle.dag_reader.specs.declared.graph.ReadGraph.{ReadGraph}
 use Rattle.targets.specs.Targets.{AreEffectSets}
 use Rattle.replies.specs.Observed.{Names, observed_names, IsObservedGraph}
-use Rattle.mixed_graph.specs.Masks.{join}
+use Rattle.mixed_graph.specs.Masks.{union}
 use Rattle.prob_expr.specs.Tree.{PlainFormula}
 use Rattle.prob_expr.specs.View.{formula_view}
 use Rattle.do_derivation.specs.Plans.{PlainDerivation}
-use Rattle.identification.specs.Derivations.{IsDerived}
-use Rattle.id_recursion.specs.Answers.{IsRightFormula}
+use Rattle.identification_theory.specs.Derivations.{IsDerived}
+use Rattle.identify.specs.Answers.{IsRightFormula}
 use Rattle.effect_answers.specs.Effects.{effect_lists}
-use Rattle.evaluate_command.specs.Mentioned.{mentioned}
+use Rattle.prob_expr.specs.Mentioned.{mentioned}
 use Rattle.evaluate_command.specs.declared.identified.Identified.{Identified}
 
 -- the effect of x on y in a graph, whose vertices have these names, and a formula for it
@@ -31,13 +31,14 @@ effect_view i = record { names = i.seen.names; graph = graph_of i.seen.graph; x 
 
 -- the vertices whose levels are read: those that the formula names, with x and y
 abbrev pub used_in : PlainEffect → ℕ
-used_in e = join (mentioned e.formula) (join e.x e.y)
+used_in e = union (mentioned e.formula) (union e.x e.y)
 
 -- the vertex is in x, or it is an ancestor of y
 abbrev pub IsColumn : PlainEffect → ℕ → Type 0
 IsColumn e v = IsTrue (has e.x v) ⊎ IsAncestor e.graph (has e.y) v
 
--- x and y lie apart in the graph, and y has a member. The formula is that of the identification procedure, and right: the check of formulas accepts it, it has no intervention, it equals P(y | do(x)) in each
+-- x and y lie apart in the graph, and y has a member. The formula is that of the identification procedure, and right: the check of formulas accepts
+-- it, it has no intervention, it equals P(y | do(x)) in each
 -- positive model that fits the graph, some derivation turns P(y | do(x)) into it, and it names ancestors of y alone.
 -- No column is read but those of x and of ancestors of y.
 pub record IsIdentified (e : PlainEffect) : Type 0 where

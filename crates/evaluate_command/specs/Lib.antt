@@ -1,5 +1,4 @@
 pub mod Effects
-pub mod Mentioned
 pub mod Cells
 pub mod Lines
 pub mod Answers

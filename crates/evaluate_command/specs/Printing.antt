@@ -6,7 +6,7 @@ use Rattle.count_rows.specs.Rows.{Table}
 use Rattle.count_eval.specs.Answers.{IsEvaluationFault}
 use Rattle.count_eval.specs.Programs.{is_used}
 use Rattle.count_eval.specs.Stops.{Stop}
-use Rattle.value_tables.specs.Preparations.{Preparation}
+use Rattle.count_eval.specs.Preparations.{Preparation}
 use Rattle.evaluate_command.specs.Answers.{AreValues}
 use Rattle.evaluate_command.specs.Cells.{value_in, values_at}
 use Rattle.evaluate_command.specs.Effects.{PlainEffect}
@@ -20,7 +20,8 @@ pub record IsPreparedFor (e : PlainEffect) (t : Table) (p : Preparation) : Type 
   pub formula : p.formula ≡ e.formula
 
 -- the lines of the cells, with the values there, are appended
-pub record Appends (kind : Kind) (covers : Pair → Fraction → Type 0) (sign : List ℕ) (e : PlainEffect) (t : Table) (cells : List (List ℕ)) (old new : List ℕ) : Type 0 where
+pub record Appends (kind : Kind) (covers : Pair → Fraction → Type 0) (sign : List ℕ) (e : PlainEffect) (t : Table) (cells : List (List ℕ))
+    (old new : List ℕ) : Type 0 where
   pub added : List ℕ
   pub values : AreValues kind covers sign e t cells added
   pub text : new ≡ old ++ added

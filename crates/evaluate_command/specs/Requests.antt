@@ -1,14 +1,21 @@
 -- What `evaluate` is asked for.
 use Rattle.std.specs.Prelude.{◌≡◌, Bool, List, Option, Some, [], ◌∷◌, codes, option_map}
-use Rattle.word_forms.specs.Form.{Text, Row, Use, word_of, value_of, has_flag}
-use Rattle.request_values.specs.Values as values
+use Rattle.command_words.specs.Form.{Text, Row, Use, word_of, value_of, has_flag}
+use Rattle.command_words.specs.Values as values
 use Rattle.replies.specs.Observed.{Names}
-use Rattle.word_lists.specs.Views.{names_in}
+use Rattle.command_words.specs.ListViews.{names_in}
 use Rattle.evaluate_command.specs.declared.request.Request.{Request as CodeRequest}
 
 -- `evaluate FILE COUNTS [--x L] [--y L] [--count NAME] [--exact]`
 abbrev pub evaluate_row : Row
-evaluate_row = record { name = codes "evaluate"; positionals = codes "file" ∷ codes "counts" ∷ []; extra = []; needed = []; options = codes "x" ∷ codes "y" ∷ codes "count" ∷ []; flags = codes "exact" ∷ [] }
+evaluate_row = record {
+  name = codes "evaluate";
+  positionals = codes "file" ∷ codes "counts" ∷ [];
+  optional = [];
+  required = [];
+  options = codes "x" ∷ codes "y" ∷ codes "count" ∷ [];
+  flags = codes "exact" ∷ [];
+}
 
 -- a request
 pub record Request : Type 0 where
@@ -21,7 +28,14 @@ pub record Request : Type 0 where
 
 -- the request
 abbrev pub request_of : CodeRequest → Request
-request_of r = record { file = r.file.now; counts = r.counts.now; x = option_map names_in r.x; y = option_map names_in r.y; count = option_map (λ s. s.now) r.count; exact = r.exact }
+request_of r = record {
+  file = r.file.now;
+  counts = r.counts.now;
+  x = option_map names_in r.x;
+  y = option_map names_in r.y;
+  count = option_map (λ s. s.now) r.count;
+  exact = r.exact;
+}
 
 -- the uses ask for this
 pub record IsRequest (uses : List Use) (r : Request) : Type 0 where

@@ -3,7 +3,7 @@
 ghost use Rattle.std.specs.Prelude.{ℕ, ◌≡◌, ◌++◌, ◌<◌, ◌≤◌, All, length, OnOk, IfOk};
 ghost use Rattle.mixed_graph.specs.Bits.{has, members_below};
 ghost use Rattle.mixed_graph.specs.Sets.{Within};
-ghost use Rattle.name_text.specs.Lines.{line_of};
+ghost use Rattle.answer_text.specs.Lines.{line_of};
 ghost use Rattle.count_eval.specs.Answers.{IsEvaluationFault};
 ghost use Rattle.count_eval.specs.Programs.{is_used};
 ghost use Rattle.count_eval.specs.Stops.{Stop};

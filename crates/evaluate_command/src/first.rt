@@ -1,14 +1,16 @@
+//! What is known before counts are read: a formula, or a hedge.
+
 ghost use Rattle.std.specs.Prelude.{◌≡◌, ◌<◌, IfOk, length, option_map};
 ghost use Rattle.mixed_graph.specs.Bits.{has};
 ghost use Rattle.mixed_graph.specs.Sets.{Within, Apart};
 ghost use Rattle.mixed_graph.specs.Shown.{graph_of};
-ghost use Rattle.word_lists.specs.Views.{names_in};
+ghost use Rattle.command_words.specs.ListViews.{names_in};
 ghost use Rattle.evaluate_command.specs.Firsts.{IsEffectOrReply, IsFound};
 
 use crate::identified::Identified;
 use dag_reader::ReadGraph;
 use effect_answers::{Asked, Effect, asked_effect};
-use id_recursion::{Answer, identify};
+use identify::{Answer, identify};
 use identify_text::hedge_answer;
 use latent_projection::Observed;
 use prob_expr::Formula;

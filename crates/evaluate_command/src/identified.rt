@@ -1,3 +1,5 @@
+//! An effect that has a formula.
+
 use latent_projection::Observed;
 use prob_expr::Formula;
 use targets::EffectSets;

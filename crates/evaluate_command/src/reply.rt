@@ -1,3 +1,5 @@
+//! The answer of `evaluate`.
+
 ghost use Rattle.std.specs.Prelude.{ℕ, ◌≡◌, ◌<◌, ◌≤◌, List, Bool, Option, IfOk, length, option_map};
 ghost use Rattle.mixed_graph.specs.Bits.{has, members_below};
 ghost use Rattle.count_rows.specs.Records.{Field};
@@ -9,12 +11,12 @@ use crate::identified::Identified;
 use crate::lines::pinned_lines;
 use crate::mentioned::used_in;
 use crate::values::{Failure, push_cells, varied};
+use count_eval::tables::{Prepared, prepare};
 use count_rows::CountFault;
 use count_table::{Counts, read_counts};
 use quantity::{Bounds, Exact, Quantity};
 use replies::{Outcome, Reply};
 use std::alloc::{AllocError, Global};
-use value_tables::{Prepared, prepare};
 
 /// The effect at each level of x and y, from counts in CSV: in exact fractions, or in bounds.
 ///

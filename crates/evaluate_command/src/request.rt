@@ -1,18 +1,20 @@
-ghost use Rattle.std.specs.Prelude.{◌≡◌, List, IfOk, IsErrOf};
-ghost use Rattle.word_forms.specs.Form.{Use};
-ghost use Rattle.word_values.specs.Gives.{HoldsCall};
+//! What `evaluate` is asked.
 
-use request_values::{RequestFault, Subject, second_input, value_bytes};
+ghost use Rattle.std.specs.Prelude.{◌≡◌, List, IfOk, IsErrOf};
+ghost use Rattle.command_words.specs.Form.{Use};
+ghost use Rattle.command_words.specs.Gives.{HoldsCall};
+
+use command_words::forms::Entry;
+use command_words::typed::{RequestFault, Subject, second_input, value_bytes};
+use command_words::values::Values;
 use std::alloc::Global;
-use word_forms::Entry;
-use word_values::Values;
 
 /// `evaluate FILE COUNTS [--x L] [--y L] [--count NAME] [--exact]`
 pub const ROW: Entry = Entry {
     name: "evaluate",
     positionals: &["file", "counts"],
-    extra: &[],
-    needed: &[],
+    optional: &[],
+    required: &[],
     options: &["x", "y", "count"],
     flags: &["exact"],
 };

@@ -10,11 +10,11 @@ ghost use Rattle.evaluate_command.specs.Printing.{Appends, IsFailureOf, IsPrepar
 use crate::identified::Identified;
 use crate::lines::push_value;
 use count_eval::EvalFault;
+use count_eval::tables::Prepared;
 use count_table::Counts;
 use mixed_graph::VSet;
 use quantity::Quantity;
 use std::alloc::{AllocError, Global};
-use value_tables::Prepared;
 
 /// Why there are no lines.
 #[derive(Drop)]

@@ -28,7 +28,8 @@ one_set_each observed (e ∷ es) [] are = absurd are
 one_set_each observed (e ∷ es) (z ∷ zs) are = (let more = one_set_each observed es zs are.1 in omega (arith, more))
 
 -- each of them has a member, and is within the observed vertices
-pub sets_filled : (all observed : List (List ℕ)) (n : ℕ) → length observed ≡ n → (lists : Lists) → list_all is_filled lists ≡ true → experiments_fault all observed lists ≡ None
+pub sets_filled : (all observed : List (List ℕ)) (n : ℕ) → length observed ≡ n → (lists : Lists) → list_all is_filled lists ≡ true
+    → experiments_fault all observed lists ≡ None
     → (zs : List ℕ) → AreExperimentSets observed lists zs → are_sets n zs ≡ true
 sets_filled all observed n e [] filled clear [] are = refl
 sets_filled all observed n e [] filled clear (z ∷ zs) are = absurd are

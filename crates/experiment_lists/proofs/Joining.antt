@@ -1,9 +1,10 @@
 -- Experiments joined by `;`, read from the first to the last.
-use Rattle.std.proofs.Common.{◌≡◌, ◌+◌, ℕ, Bool, true, List, [], ◌∷◌, ◌++◌, length, map, Option, Some, None, Result, Ok, Err, IfOk, IfSome, IfNone, refl, sym, ap, subst, ◌∙◌, append_assoc, length-append, arith, inl, inr, codes}
+use Rattle.std.proofs.Common.{◌≡◌, ◌+◌, ℕ, Bool, true, List, [], ◌∷◌, ◌++◌, length, map, Option, Some, None, Result, Ok, Err, IfOk, IfSome, IfNone}
+use Rattle.std.proofs.Common.{refl, sym, ap, subst, ◌∙◌, append_assoc, length-append, arith, inl, inr, codes}
 use Rattle.std.specs.List.{list_all}
 use Rattle.std.specs.Global.{Vec}
-use Rattle.word_lists.specs.Lists.{IsList}
-use Rattle.word_lists.specs.Views.{names_in}
+use Rattle.command_words.specs.Lists.{IsList}
+use Rattle.command_words.specs.ListViews.{names_in}
 use Rattle.experiment_lists.specs.Words.{Lists, IsExperiment, AreJoinedBySemicolons, AreExperiments, is_filled, AreFilled}
 use Rattle.experiment_lists.specs.Parts.{outside_after, IsCut}
 use Rattle.experiment_lists.proofs.Quotes.{closed, undivided, divided, same_part}
@@ -11,7 +12,8 @@ use Rattle.experiment_lists.proofs.Quotes.{closed, undivided, divided, same_part
 -- ---- one experiment
 
 -- a list that isn't `{}` and isn't cut
-pub is_experiment : (text : List ℕ) (names : List (List ℕ)) (s : Bool) → (text ≡ codes "{}" → ⊥) → outside_after true text ≡ Some s → IsList text names → IsExperiment text names
+pub is_experiment : (text : List ℕ) (names : List (List ℕ)) (s : Bool) → (text ≡ codes "{}" → ⊥) → outside_after true text ≡ Some s → IsList text names
+    → IsExperiment text names
 is_experiment text names s filled whole list = elim list [
   | inl none ↦ absurd (filled none.0)
   | inr some ↦ record { filled = filled; list = some.1; undivided = undivided text names some.1 s whole }
@@ -30,13 +32,15 @@ module _ (text : List ℕ) where
   some_experiment (Err x) s filled whole h = tt
 
   pub only_experiment : {E : Type 0} (r : Result (Option (Vec (Vec ℕ))) E)
-      → IfOk r (λ o. IfSome o (λ v. (names : List (List ℕ)) → IsList text names → names ≡ names_in v)) → IfOk r (λ o. IfSome o (λ v. (names : List (List ℕ)) → IsExperiment text names → names ≡ names_in v))
+      → IfOk r (λ o. IfSome o (λ v. (names : List (List ℕ)) → IsList text names → names ≡ names_in v))
+      → IfOk r (λ o. IfSome o (λ v. (names : List (List ℕ)) → IsExperiment text names → names ≡ names_in v))
   only_experiment (Ok None) h = tt
   only_experiment (Ok (Some v)) h = λ names is. h names (is_list text names is)
   only_experiment (Err x) h = tt
 
   pub no_experiment : {E : Type 0} (r : Result (Option (Vec (Vec ℕ))) E)
-      → IfOk r (λ o. IfNone o ((names : List (List ℕ)) → IsList text names → ⊥)) → IfOk r (λ o. IfNone o ((names : List (List ℕ)) → IsExperiment text names → ⊥))
+      → IfOk r (λ o. IfNone o ((names : List (List ℕ)) → IsList text names → ⊥))
+      → IfOk r (λ o. IfNone o ((names : List (List ℕ)) → IsExperiment text names → ⊥))
   no_experiment (Ok None) h = λ names is. h names (is_list text names is)
   no_experiment (Ok (Some v)) h = tt
   no_experiment (Err x) h = tt
@@ -58,16 +62,31 @@ pub record IsSplit (part : List ℕ) (rest : Option (List ℕ)) (lists : Lists) 
 
 pub split : (text part : List ℕ) (rest : Option (List ℕ)) → IsCut text part rest → (lists : Lists) → AreJoinedBySemicolons text lists → IsSplit part rest lists
 split text part rest cut [] joined = absurd joined
-split text part None cut (names ∷ []) joined = record { names = names; others = []; are = refl; first = subst (λ t. IsExperiment t names) cut.0 joined; later = refl }
-split text part (Some rest) cut (names ∷ []) joined = absurd (let bad : None ≡ Some true = sym (divided text part rest cut.0 cut.1) ∙ closed text names joined in cc bad)
+split text part None cut (names ∷ []) joined = record {
+  names = names;
+  others = [];
+  are = refl;
+  first = subst (λ t. IsExperiment t names) cut.0 joined;
+  later = refl;
+}
+split text part (Some rest) cut (names ∷ []) joined = absurd (let bad : None ≡ Some true = sym (divided text part rest cut.0 cut.1)
+    ∙ closed text names joined in cc bad)
 split text part None cut (names ∷ next ∷ others) joined =
-    absurd (let bad : None ≡ Some cut.1.0 = sym (divided text joined.0 joined.1 joined.2 (closed joined.0 names joined.3)) ∙ ap (outside_after true) cut.0 ∙ cut.1.1 in cc bad)
+    absurd (let bad : None ≡ Some cut.1.0 = sym (divided text joined.0 joined.1 joined.2 (closed joined.0 names joined.3)) ∙ ap (outside_after true) cut.0
+    ∙ cut.1.1 in cc bad)
 split text part (Some rest) cut (names ∷ next ∷ others) joined =
     let same = same_part true joined.0 part joined.1 rest (sym joined.2 ∙ cut.0) (closed joined.0 names joined.3) cut.1 in
-    record { names = names; others = next ∷ others; are = refl; first = subst (λ t. IsExperiment t names) same.0 joined.3; later = subst (λ t. AreJoinedBySemicolons t (next ∷ others)) same.1 joined.4 }
+    record {
+      names = names;
+      others = next ∷ others;
+      are = refl;
+      first = subst (λ t. IsExperiment t names) same.0 joined.3;
+      later = subst (λ t. AreJoinedBySemicolons t (next ∷ others)) same.1 joined.4;
+    }
 
 -- one experiment before others
-pub joined_before : (text part rest : List ℕ) (names : List (List ℕ)) (lists : Lists) → text ≡ part ++ 59 ∷ rest → IsExperiment part names → AreJoinedBySemicolons rest lists → AreJoinedBySemicolons text (names ∷ lists)
+pub joined_before : (text part rest : List ℕ) (names : List (List ℕ)) (lists : Lists) → text ≡ part ++ 59 ∷ rest → IsExperiment part names
+    → AreJoinedBySemicolons rest lists → AreJoinedBySemicolons text (names ∷ lists)
 joined_before text part rest names [] e is joined = absurd joined
 joined_before text part rest names (next ∷ others) e is joined = (part, rest, e, is, joined)
 
@@ -83,7 +102,8 @@ reading_none text = record { sound = λ lists joined. joined; whole = λ lists j
 pub reading_more : (text : List ℕ) (done : Lists) (left part rest : List ℕ) (names : List (List ℕ)) → IsCut left part (Some rest) → IsExperiment part names
     → ((other : List (List ℕ)) → IsExperiment part other → other ≡ names) → IsReading text done left → IsReading text (done ++ names ∷ []) rest
 reading_more text done left part rest names cut is only r = record {
-  sound = λ lists joined. subst (AreJoinedBySemicolons text) (sym (append_assoc done (names ∷ []) lists)) (r.sound (names ∷ lists) (joined_before left part rest names lists cut.0 is joined));
+  sound = λ lists joined. subst (AreJoinedBySemicolons text) (sym (append_assoc done (names ∷ []) lists))
+      (r.sound (names ∷ lists) (joined_before left part rest names lists cut.0 is joined));
   whole = λ lists joined.
       let more = r.whole lists joined in let s = split left part (Some rest) cut more.0 more.2 in (
         s.others,
@@ -93,11 +113,13 @@ reading_more text done left part rest names cut is only r = record {
 }
 
 -- the last is read
-pub reading_last : (text : List ℕ) (done : Lists) (left part : List ℕ) (names : List (List ℕ)) → IsCut left part None → IsExperiment part names → IsReading text done left → AreJoinedBySemicolons text (done ++ names ∷ [])
+pub reading_last : (text : List ℕ) (done : Lists) (left part : List ℕ) (names : List (List ℕ)) → IsCut left part None → IsExperiment part names
+    → IsReading text done left → AreJoinedBySemicolons text (done ++ names ∷ [])
 reading_last text done left part names cut is r = r.sound (names ∷ []) (subst (λ t. IsExperiment t names) (sym cut.0) is)
 
 -- the part that comes next is no experiment
-pub reading_stops : (text : List ℕ) (done : Lists) (left part : List ℕ) (rest : Option (List ℕ)) → IsCut left part rest → ((names : List (List ℕ)) → IsExperiment part names → ⊥)
+pub reading_stops : (text : List ℕ) (done : Lists) (left part : List ℕ) (rest : Option (List ℕ)) → IsCut left part rest
+    → ((names : List (List ℕ)) → IsExperiment part names → ⊥)
     → IsReading text done left → (lists : Lists) → AreExperiments text lists → ⊥
 reading_stops text done left part rest cut none r lists are =
     let more = r.whole lists are.joined in let s = split left part rest cut more.0 more.2 in none s.names s.first
@@ -131,7 +153,8 @@ lists_pushed items [] v e = ap (map names_in) e
 lists_pushed items (x ∷ xs) v e = ap (map names_in) e ∙ ap (λ (ls : Lists). names_in x ∷ ls) (lists_pushed (xs ++ v ∷ []) xs v refl)
 
 -- the last is read, and there is no other reading
-pub reading_only : (text : List ℕ) (done : Lists) (left part : List ℕ) (names : List (List ℕ)) → IsCut left part None → ((other : List (List ℕ)) → IsExperiment part other → other ≡ names)
+pub reading_only : (text : List ℕ) (done : Lists) (left part : List ℕ) (names : List (List ℕ)) → IsCut left part None
+    → ((other : List (List ℕ)) → IsExperiment part other → other ≡ names)
     → IsReading text done left → (lists : Lists) → AreExperiments text lists → lists ≡ done ++ names ∷ []
 reading_only text done left part names cut only r lists are =
     let more = r.whole lists are.joined in let s = split left part None cut more.0 more.2 in

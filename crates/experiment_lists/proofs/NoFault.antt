@@ -17,5 +17,6 @@ none_named (faults.Bidirected a b) h known = h
 none_named (faults.OtherNames t) h known = h
 none_named faults.NoMemory h known = known refl
 
-pub no_experiments_fault : (all observed : List (List ℕ)) (experiments : Lists) (f : TargetFault) → experiments_fault all observed experiments ≡ None → IsExperimentsFault all observed experiments f → ⊥
+pub no_experiments_fault : (all observed : List (List ℕ)) (experiments : Lists) (f : TargetFault) → experiments_fault all observed experiments ≡ None
+    → IsExperimentsFault all observed experiments f → ⊥
 no_experiments_fault all observed experiments f none is = none_named f (subst (λ o. IsNameFault o f) none is.named) is.known

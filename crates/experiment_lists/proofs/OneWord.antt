@@ -1,7 +1,7 @@
 -- A word lists experiments in one way.
 use Rattle.std.proofs.Common.{◌≡◌, ℕ, true, List, [], ◌∷◌, Option, Some, None, sym, ap, subst, ◌∙◌}
 use Rattle.std.proofs.lemmas.Option.{none-some}
-use Rattle.request_values.proofs.OneValue.{one_list}
+use Rattle.command_words.proofs.OneValue.{one_list}
 use Rattle.experiment_lists.specs.Words.{Lists, IsExperiment, AreJoinedBySemicolons, AreNeededExperiments, AreOptionalExperiments}
 use Rattle.experiment_lists.proofs.Joining.{is_list}
 use Rattle.experiment_lists.proofs.Quotes.{closed, divided, same_part}
@@ -23,7 +23,8 @@ one_joined text (n ∷ next ∷ others) (m ∷ []) s t = absurd (alone text m n 
 one_joined text (n ∷ next ∷ others) (m ∷ k ∷ ks) s t =
     let same = same_part true t.0 s.0 t.1 s.1 (sym t.2 ∙ s.2) (closed t.0 m t.3) (closed s.0 n s.3) in
     ap (λ (x : List (List ℕ)). let l : Lists = x ∷ k ∷ ks in l) (one_experiment s.0 n m s.3 (subst (λ (p : List ℕ). IsExperiment p m) same.0 t.3))
-    ∙ ap (λ (l : Lists). let whole : Lists = n ∷ l in whole) (one_joined s.1 (next ∷ others) (k ∷ ks) s.4 (subst (λ (r : List ℕ). AreJoinedBySemicolons r (k ∷ ks)) same.1 t.4))
+    ∙ ap (λ (l : Lists). let whole : Lists = n ∷ l in whole) (one_joined s.1 (next ∷ others) (k ∷ ks) s.4
+    (subst (λ (r : List ℕ). AreJoinedBySemicolons r (k ∷ ks)) same.1 t.4))
 
 pub one_word : (text : Option (List ℕ)) (a b : Lists) → AreNeededExperiments text a → AreNeededExperiments text b → b ≡ a
 one_word None a b s t = absurd s

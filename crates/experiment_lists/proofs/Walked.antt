@@ -1,8 +1,9 @@
 -- The faults of experiments, walked one after the other, and the sets that they name.
-use Rattle.std.proofs.Common.{◌≡◌, ◌<◌, ◌+◌, map, get_or, drop, drop-cons, append-nil, ℕ, false, List, [], ◌∷◌, ◌++◌, length, None, refl, sym, ap, subst, ◌∙◌, append_assoc, arith}
+use Rattle.std.proofs.Common.{◌≡◌, ◌<◌, ◌+◌, map, get_or, drop, drop-cons, append-nil, ℕ, false, List, [], ◌∷◌, ◌++◌, length, None, refl, sym, ap}
+use Rattle.std.proofs.Common.{subst, ◌∙◌, append_assoc, arith}
 use Rattle.std.specs.Prelude.{suc}
 use Rattle.std.specs.Global.{Vec}
-use Rattle.word_lists.specs.Views.{names_in}
+use Rattle.command_words.specs.ListViews.{names_in}
 use Rattle.mixed_graph.specs.declared.sets.VSet.{VSet}
 use Rattle.prob_expr.specs.Listed.{masks_of}
 use Rattle.mixed_graph.specs.Bits.{has}
@@ -21,27 +22,36 @@ pub walked_none : (all observed : List (List ℕ)) (experiments : List (List (Li
 walked_none all observed experiments = record { faults = refl; made = λ zs are. are }
 
 -- what is walked, where the next one has no fault
-pub walked_more : (all observed : List (List ℕ)) (experiments rest : List (List (List ℕ))) (done more : List ℕ) (e : List (List ℕ)) (z : ℕ) → more ≡ done ++ z ∷ []
-    → first_fault all observed (λ n. false) e ≡ None → IsListedSet observed e z → AreWalked all observed experiments done (e ∷ rest) → AreWalked all observed experiments more rest
+pub walked_more : (all observed : List (List ℕ)) (experiments rest : List (List (List ℕ))) (done more : List ℕ) (e : List (List ℕ)) (z : ℕ) → more ≡ done ++ z
+    ∷ []
+    → first_fault all observed (λ n. false) e ≡ None → IsListedSet observed e z → AreWalked all observed experiments done (e ∷ rest)
+    → AreWalked all observed experiments more rest
 walked_more all observed experiments rest done more e z pushed none set w = record {
   faults = w.faults ∙ ap (λ o. or_fault o (experiments_fault all observed rest)) none;
-  made = λ zs are. subst (AreExperimentSets observed experiments) (sym (ap (λ (ms : List ℕ). ms ++ zs) pushed ∙ append_assoc done (z ∷ []) zs)) (w.made (z ∷ zs) (set, are));
+  made = λ zs are. subst (AreExperimentSets observed experiments) (sym (ap (λ (ms : List ℕ). ms ++ zs) pushed ∙ append_assoc done (z ∷ []) zs))
+      (w.made (z ∷ zs) (set, are));
 }
 
 -- a fault of the next experiment is the first of all
-pub fault_next : (all observed : List (List ℕ)) (experiments rest : List (List (List ℕ))) (done : List ℕ) (e : List (List ℕ)) (empty : ℕ) → ((v : ℕ) → has empty v ≡ false)
-    → AreWalked all observed experiments done (e ∷ rest) → (f : TargetFault) → IsNameFault (first_fault all observed (walked_in observed empty) e) f → IsNameFault (experiments_fault all observed experiments) f
+pub fault_next : (all observed : List (List ℕ)) (experiments rest : List (List (List ℕ))) (done : List ℕ) (e : List (List ℕ)) (empty : ℕ)
+    → ((v : ℕ) → has empty v ≡ false)
+    → AreWalked all observed experiments done (e ∷ rest) → (f : TargetFault) → IsNameFault (first_fault all observed (walked_in observed empty) e) f
+    → IsNameFault (experiments_fault all observed experiments) f
 fault_next all observed experiments rest done e empty none w f h =
     subst (λ o. IsNameFault o f) (sym w.faults)
-    (fault_first (first_fault all observed (λ n. false) e) (experiments_fault all observed rest) f (subst (λ o. IsNameFault o f) (sym (from_empty all observed empty none e)) h))
+    (fault_first (first_fault all observed (λ n. false) e) (experiments_fault all observed rest) f
+    (subst (λ o. IsNameFault o f) (sym (from_empty all observed empty none e)) h))
 
 -- all are walked
-pub walked_done : (all observed : List (List ℕ)) (experiments rest : List (List (List ℕ))) (done : List ℕ) → rest ≡ [] → AreWalked all observed experiments done rest → AreExperimentSets observed experiments done
+pub walked_done : (all observed : List (List ℕ)) (experiments rest : List (List (List ℕ))) (done : List ℕ) → rest ≡ []
+    → AreWalked all observed experiments done rest → AreExperimentSets observed experiments done
 walked_done all observed experiments rest done e w =
-    subst (AreExperimentSets observed experiments) (append-nil done) (w.made [] (subst (λ (r : List (List (List ℕ))). AreExperimentSets observed r []) (sym e) tt))
+    subst (AreExperimentSets observed experiments) (append-nil done) (w.made []
+    (subst (λ (r : List (List (List ℕ))). AreExperimentSets observed r []) (sym e) tt))
 
 -- the lists still to come, by the next of them
-pub lists-drop : (lists : List (Vec (Vec ℕ))) (i : ℕ) (v : Vec (Vec ℕ)) → i < length lists → get_or lists i v ≡ v → map names_in (drop i lists) ≡ names_in v ∷ map names_in (drop (i + 1) lists)
+pub lists-drop : (lists : List (Vec (Vec ℕ))) (i : ℕ) (v : Vec (Vec ℕ)) → i < length lists → get_or lists i v ≡ v → map names_in (drop i lists) ≡ names_in v
+    ∷ map names_in (drop (i + 1) lists)
 lists-drop lists i v lt is =
     ap (map names_in) (drop-cons lists i v lt ∙ ap (λ k. get_or lists i v ∷ drop k lists) {x = suc i} {y = i + 1} (omega arith))
     ∙ ap (λ u. names_in u ∷ map names_in (drop (i + 1) lists)) is

@@ -1,8 +1,8 @@
 -- The line of an effect that no formula over experiments equals.
 use Rattle.std.specs.Prelude.{ℕ, List, ◌++◌, codes}
 use Rattle.expr_text.specs.Write.{text_of}
-use Rattle.identify_text.specs.Answers.{effect}
+use Rattle.identify_text.specs.Answers.{effect_term}
 
 -- `P(Y|do(X)) is not identifiable from these experiments`
 abbrev pub unidentifiable_with_line : List (List ℕ) → (x y : ℕ) → List ℕ
-unidentifiable_with_line names x y = text_of names (effect x y) ++ codes " is not identifiable from these experiments\n"
+unidentifiable_with_line names x y = text_of names (effect_term x y) ++ codes " is not identifiable from these experiments\n"

@@ -1,7 +1,7 @@
 -- Experiments in a word: one to eight lists of names, joined by `;`.
 use Rattle.std.specs.Prelude.{ℕ, ◌≡◌, ◌==◌, ◌≤◌, Bool, true, false, not, List, [], ◌∷◌, ◌++◌, length, Option, Some, None, codes}
 use Rattle.std.specs.List.{list_all}
-use Rattle.word_lists.specs.Lists.{Item, bare, quoted, IsItems}
+use Rattle.command_words.specs.Lists.{Item, bare, quoted, IsItems, unbraced}
 
 -- lists of names, as their bytes
 abbrev pub Lists : Type 0
@@ -16,17 +16,18 @@ abbrev pub is_undivided : Item → Bool
 is_undivided (bare name) = list_all is_undivided_byte name
 is_undivided (quoted name) = true
 
--- the text is the list of these names; it isn't `{}`, and no item without quotes holds a `;`
+-- the text is the list of these names, between braces or without them; it isn't `{}`, and no item without quotes holds a `;`
 pub record IsExperiment (text : List ℕ) (names : List (List ℕ)) : Type 0 where
   pub filled : text ≡ codes "{}" → ⊥
-  pub list : IsItems text names
+  pub list : IsItems (unbraced text) names
   pub undivided : list_all is_undivided (list.first ∷ list.more) ≡ true
 
 -- the text is one or more experiments joined by `;`
 abbrev pub AreJoinedBySemicolons : List ℕ → Lists → Type 0
 AreJoinedBySemicolons text [] = ⊥
 AreJoinedBySemicolons text (names ∷ []) = IsExperiment text names
-AreJoinedBySemicolons text (names ∷ next ∷ others) = (part rest : List ℕ) × (text ≡ part ++ 59 ∷ rest) × IsExperiment part names × AreJoinedBySemicolons rest (next ∷ others)
+AreJoinedBySemicolons text (names ∷ next ∷ others) = (part rest : List ℕ) × (text ≡ part ++ 59 ∷ rest) × IsExperiment part names
+    × AreJoinedBySemicolons rest (next ∷ others)
 
 -- the text is one to eight experiments, with these names
 pub record AreExperiments (text : List ℕ) (lists : Lists) : Type 0 where

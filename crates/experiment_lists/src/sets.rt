@@ -3,7 +3,7 @@
 ghost use Rattle.std.specs.Prelude.{◌≡◌, None, IfOk, IfErr, OnOk, map};
 ghost use Rattle.prob_expr.specs.Listed.{masks_of};
 ghost use Rattle.targets.specs.Targets.{IsNameFault};
-ghost use Rattle.word_lists.specs.Views.{names_in};
+ghost use Rattle.command_words.specs.ListViews.{names_in};
 ghost use Rattle.experiment_lists.specs.Sets.{experiments_fault, AreExperimentSets};
 
 use mixed_graph::{Names, VSet};

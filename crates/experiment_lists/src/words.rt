@@ -1,13 +1,13 @@
 //! Experiments in a word: one to eight lists joined by `;`. A `;` between quotes belongs to a name.
 
 ghost use Rattle.std.specs.Prelude.{◌≡◌, ◌==◌, ◌&&◌, ◌≤◌, ◌<◌, ◌∷◌, ◌++◌, ℕ, Bool, List, Some, None, true, length, take, get_or, option_map, IfOk, IfSome, IfNone};
-ghost use Rattle.word_lists.specs.Views.{names_in};
+ghost use Rattle.command_words.specs.ListViews.{names_in};
 ghost use Rattle.experiment_lists.specs.Words.{IsExperiment, AreExperiments, Lists};
 ghost use Rattle.experiment_lists.specs.Parts.{outside_after, after_byte, IsCut};
 ghost use Rattle.experiment_lists.specs.Views.{lists_in};
 
+use command_words::lists::read_list;
 use std::alloc::{AllocError, Global};
-use word_lists::read_list;
 
 /// Whether what stands behind a byte is outside quotes.
 fn outside_behind(outside: bool, byte: u8) -> bool

@@ -1,3 +1,11 @@
 mod Telling
 mod Readable
 mod OneKind
+mod Settling
+pub mod Fullness
+pub mod Soundness
+pub mod Unmarked
+pub mod Factors
+pub mod Asking
+pub mod Turns
+pub mod LemmaTurns

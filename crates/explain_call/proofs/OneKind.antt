@@ -3,21 +3,22 @@ use Rattle.std.proofs.Common.{◌≡◌, List, [], ◌∷◌, Option, Some, refl
 use Rattle.std.specs.Prelude.{find}
 use Rattle.std.specs.Str.{bytes_eq}
 use Rattle.std.proofs.lemmas.Option.{same_Some}
-use Rattle.word_forms.specs.Form.{Text, Use}
-use Rattle.word_values.specs.Gives.{HoldsCall}
-use Rattle.word_values.specs.declared.values.Values.{Values}
-use Rattle.explain_call.specs.Requests.{row_for, Request, steps, rule, formula, kind_of, IsRequest, AsksNothing}
+use Rattle.command_words.specs.Form.{Text, Use}
+use Rattle.command_words.specs.Gives.{HoldsCall}
+use Rattle.command_words.specs.declared.values.values.Values.{Values}
+use Rattle.explain_call.specs.Requests.{row_for, Request, steps, rule, formula, settled, kind_of, IsRequest, AsksNothing}
 use Rattle.explain_call.specs.declared.requests.Kind.{Kind}
 use Rattle.explain_call.specs.declared.requests.Kind.TheVariants as kind
 
 -- the kind of a name
 abbrev named : Text → Option Kind
-named name = find (λ k. bytes_eq (row_for k).name name) (kind.Steps ∷ kind.Rule ∷ kind.Formula ∷ [])
+named name = find (λ k. bytes_eq (row_for k).name name) (kind.Steps ∷ kind.Rule ∷ kind.Formula ∷ kind.Settled ∷ [])
 
 by_its_name : (k : Kind) → named (row_for k).name ≡ Some k
 by_its_name kind.Steps = refl
 by_its_name kind.Rule = refl
 by_its_name kind.Formula = refl
+by_its_name kind.Settled = refl
 
 one_kind : (k l : Kind) → row_for k ≡ row_for l → k ≡ l
 one_kind k l e = same_Some k l (sym (by_its_name k) ∙ ap (λ r. named r.name) e ∙ by_its_name l)
@@ -26,9 +27,11 @@ asked_of_it : (q : Request) (uses : List Use) → AsksNothing (kind_of q) uses �
 asked_of_it (steps q) uses none is = none q is
 asked_of_it (rule q) uses none is = none q is
 asked_of_it (formula q) uses none is = none q is
+asked_of_it (settled q) uses none is = none q is
 
 -- what is said of the kind that stands there
-pub none_where : (k l : Kind) (uses : List Use) (values : Values) → k ≡ l → (HoldsCall (row_for l) uses values → AsksNothing l uses) → HoldsCall (row_for k) uses values → AsksNothing k uses
+pub none_where : (k l : Kind) (uses : List Use) (values : Values) → k ≡ l → (HoldsCall (row_for l) uses values → AsksNothing l uses)
+    → HoldsCall (row_for k) uses values → AsksNothing k uses
 none_where k l uses values e f g = subst (λ m. AsksNothing m uses) (sym e) (f (subst (λ m. HoldsCall (row_for m) uses values) e g))
 
 -- where the uses ask for nothing of a kind, they ask for no request of its row

@@ -1,7 +1,7 @@
 -- `clap` reads the table: what it makes of the rows is computed.
 use Rattle.std.proofs.Common.{refl}
-use Rattle.word_values.specs.Readable.{IsReadable}
-use Rattle.word_values.proofs.Tables.{readable}
+use Rattle.command_words.specs.Readable.{IsReadable}
+use Rattle.command_words.proofs.Tables.{readable}
 use Rattle.explain_call.specs.Requests.{table}
 
 pub table_readable : IsReadable table

@@ -25,16 +25,17 @@ answer_of NoInput = []
 answer_of NoMemory = []
 
 -- what is written as a line
-abbrev pub line_of : Ending → List ℕ
-line_of (Replied r) = if nat_le (outcomes.code_of r.outcome) 1 then [] else r.text.items
-line_of NotUnderstood = codes "causal: words: steps, rule or adjust\n"
-line_of NoInput = codes "causal: read failed\n"
-line_of NoMemory = codes "causal: no memory\n"
+abbrev pub line_shown : Ending → List ℕ
+line_shown (Replied r) = if nat_le (outcomes.code_of r.outcome) 1 then [] else r.text.items
+line_shown NotUnderstood = codes "causal: words: steps, rule, adjust or settled\n"
+line_shown NoInput = codes "causal: read failed\n"
+line_shown NoMemory = codes "causal: no memory\n"
 
 -- the call ended as its words and inputs say, with this status, and the two rooms show what was written
-pub record Explained (bytes : List ℕ) (words : List Span) (inputs : List Input) (out_before out err_before err : List ℕ) (sizes : Sizes) (code : ℕ) : Type 0 where
+pub record Explained (bytes : List ℕ) (words : List Span) (inputs : List Input) (out_before out err_before err : List ℕ) (sizes : Sizes)
+    (code : ℕ) : Type 0 where
   pub ending : Ending
   pub ends : Ends bytes (texts bytes words) inputs ending
   pub status : code ≡ code_of ending
   pub shows_out : ShowsText (answer_of ending) out_before out sizes.out
-  pub shows_err : ShowsText (line_of ending) err_before err sizes.err
+  pub shows_err : ShowsText (line_shown ending) err_before err sizes.err

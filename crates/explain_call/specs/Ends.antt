@@ -1,6 +1,6 @@
 -- How a call that explains ends.
 use Rattle.std.specs.Prelude.{ℕ, ◌≡◌, ◌⊎◌, true, List, [], is_none, Option, Some, None}
-use Rattle.word_forms.specs.Form.{Text}
+use Rattle.command_words.specs.Form.{Text}
 use Rattle.spans.specs.declared.Input.{Input}
 use Rattle.spans.specs.Parts.{place_named, content_named}
 use Rattle.explain_call.specs.declared.ending.Ending.{Ending}

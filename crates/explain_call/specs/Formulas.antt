@@ -4,13 +4,15 @@ use Rattle.mixed_graph.specs.Graphs.{MixedGraph}
 use Rattle.dag_reader.specs.declared.graph.ReadGraph.{ReadGraph}
 use Rattle.replies.specs.declared.outcome.Outcome.{Outcome}
 use Rattle.replies.specs.Observed.{Names, observed_names, IsObservedGraph, query_lists, AnswerForSets}
-use Rattle.identify_text.specs.Answers.{latex_answer}
-use Rattle.adjustment.specs.Formulas.{adjustment_formula, effect_on}
+use Rattle.answer_text.specs.declared.signs.Notation.TheVariants as notations
+use Rattle.identify_text.specs.Answers.{answer_in}
+use Rattle.prob_expr.specs.Tree.{effect_on}
+use Rattle.adjustment.specs.Formulas.{adjustment_formula}
 use Rattle.adjust_command.specs.Answers.{SetTexts, CriterionAnswer}
 
 -- the effect and the adjustment formula of z in LaTeX
 abbrev pub formula_latex : List (List ℕ) → (x y z : ℕ) → List ℕ
-formula_latex names x y z = latex_answer names (effect_on x y) (adjustment_formula x y z)
+formula_latex names x y z = answer_in notations.Latex names (effect_on x y) (adjustment_formula x y z)
 
 -- what is printed for a set: that formula where the set meets the criterion, and else that it isn't admissible
 abbrev pub latex_texts : List (List ℕ) → SetTexts
@@ -22,4 +24,5 @@ FormulaFor back_door q names x y z o text = CriterionAnswer back_door q (latex_t
 
 -- the answer on a graph that was read, for the three sets that the lists name
 abbrev pub FormulaAnswer : Bool → ReadGraph → Names → Names → List (List ℕ) → Outcome → List ℕ → Type 0
-FormulaAnswer back_door g x y set o text = (q : MixedGraph) × IsObservedGraph g q × AnswerForSets (query_lists g x y set) (FormulaFor back_door q (observed_names g)) o text
+FormulaAnswer back_door g x y set o text = (q : MixedGraph) × IsObservedGraph g q
+    × AnswerForSets (query_lists g x y set) (FormulaFor back_door q (observed_names g)) o text

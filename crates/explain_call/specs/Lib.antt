@@ -3,6 +3,15 @@ pub mod Steps
 pub mod Told
 pub mod RuleGraphs
 pub mod Formulas
+pub mod Settled
 pub mod Answers
 pub mod Ends
 pub mod Calls
+pub mod Moves
+pub mod Full
+pub mod Laws
+pub mod Graphs
+pub mod Questions
+pub mod ToldRules
+pub mod Trace
+pub mod Parts

@@ -3,39 +3,42 @@ use Rattle.std.specs.Prelude.{ℕ, ◌≡◌, ◌⊎◌, Bool, List, codes}
 use Rattle.mixed_graph.specs.Graphs.{MixedGraph}
 use Rattle.prob_expr.specs.Tree.{PlainFormula, PlainTarget}
 use Rattle.do_derivation.specs.Plans.{PlainDerivation}
-use Rattle.do_derivation.specs.declared.faults.ApplyFault.{ApplyFault}
+use Rattle.do_derivation.specs.declared.faults.ApplyFault.TheVariants.{Step}
+use Rattle.do_derivation.specs.declared.faults.StepFault.{StepFault}
 use Rattle.certificate.specs.Plain.{PlainHedge, formula, hedge}
 use Rattle.dag_reader.specs.declared.graph.ReadGraph.{ReadGraph}
 use Rattle.replies.specs.declared.outcome.Outcome.{Outcome}
 use Rattle.replies.specs.declared.outcome.Outcome.TheVariants.{Yes, No, Second}
 use Rattle.replies.specs.Observed.{observed_names, IsObservedGraph}
-use Rattle.check_command.specs.Answers.{IsRead, IsCertificateRefusal}
-use Rattle.explaining.specs.Parts.{Explains, DerivationStops}
+use Rattle.check_command.specs.Answers.{HoldsCertificate, IsCertificateRefusal}
+use Rattle.explain_call.specs.Parts.{Explains, DerivationStops}
 
--- yes: the bytes are a certificate of a formula, and each move of its derivation is made; the text has the expressions, one after another, and where graphs are wanted what
+-- yes: the bytes are a certificate of a formula, and each move of its derivation is made; the text has the expressions, one after another, and where
+-- graphs are wanted what
 -- is told of each rule
 pub record IsExplained (graphs : Bool) (q : MixedGraph) (names : List (List ℕ)) (bytes text : List ℕ) : Type 0 where
   pub target : PlainTarget
   pub main : PlainFormula
   pub derivation : PlainDerivation
-  pub read : IsRead names bytes (formula target main derivation)
+  pub read : HoldsCertificate names bytes (formula target main derivation)
   pub explains : Explains graphs q names target derivation text
 
--- no: a move of the derivation is refused
+-- no: a move of the derivation is refused by a fault of the step, and not for want of memory
 pub record IsRefusedDerivation (q : MixedGraph) (names : List (List ℕ)) (bytes text : List ℕ) : Type 0 where
   pub target : PlainTarget
   pub main : PlainFormula
   pub derivation : PlainDerivation
-  pub read : IsRead names bytes (formula target main derivation)
-  pub why : ApplyFault
-  pub stops : DerivationStops q target derivation why
+  pub read : HoldsCertificate names bytes (formula target main derivation)
+  pub number : ℕ
+  pub why : StepFault
+  pub stops : DerivationStops q target derivation (Step number why)
   pub prints : text ≡ codes "refused\n"
 
 -- no: the bytes are a certificate of a hedge, which has no steps
 pub record IsOfHedge (names : List (List ℕ)) (bytes text : List ℕ) : Type 0 where
   pub target : PlainTarget
   pub set : PlainHedge
-  pub read : IsRead names bytes (hedge target set)
+  pub read : HoldsCertificate names bytes (hedge target set)
   pub prints : text ≡ codes "hedge\n"
 
 -- the answer in the observed graph q of the one that was read

@@ -3,13 +3,14 @@ use Rattle.std.specs.Prelude.{ℕ, ◌≡◌, Bool, List, codes}
 use Rattle.mixed_graph.specs.Graphs.{MixedGraph}
 use Rattle.prob_expr.specs.Tree.{PlainTarget}
 use Rattle.do_derivation.specs.Plans.{PlainDerivation}
-use Rattle.do_derivation.specs.declared.faults.ApplyFault.{ApplyFault}
+use Rattle.do_derivation.specs.declared.faults.ApplyFault.TheVariants.{Step}
+use Rattle.do_derivation.specs.declared.faults.StepFault.{StepFault}
 use Rattle.replies.specs.declared.outcome.Outcome.{Outcome}
 use Rattle.replies.specs.declared.outcome.Outcome.TheVariants.{Yes, No}
-use Rattle.explaining.specs.Parts.{Explains, DerivationStops}
+use Rattle.explain_call.specs.Parts.{Explains, DerivationStops}
 
 -- yes with its text, or no where a move is refused
 abbrev pub TellsSteps : Bool → MixedGraph → List (List ℕ) → PlainTarget → PlainDerivation → Outcome → List ℕ → Type 0
 TellsSteps graphs q names t d Yes text = Explains graphs q names t d text
-TellsSteps graphs q names t d No text = ((why : ApplyFault) × DerivationStops q t d why) × (text ≡ codes "refused\n")
+TellsSteps graphs q names t d No text = ((number : ℕ) × (why : StepFault) × DerivationStops q t d (Step number why)) × (text ≡ codes "refused\n")
 TellsSteps graphs q names t d o text = ⊥

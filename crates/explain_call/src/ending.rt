@@ -1,12 +1,14 @@
+//! How a call ends.
+
 ghost use Rattle.std.specs.Prelude.{◌≡◌, ◌≤◌, IsNone, IfSome};
-ghost use Rattle.word_forms.specs.Views.{texts_of};
+ghost use Rattle.command_words.specs.Views.{texts_of};
 ghost use Rattle.explain_call.specs.Requests.{request_of, second_of};
 ghost use Rattle.explain_call.specs.Ends.{HoldsSecond, LacksSecond, Ends};
 
 use crate::reply::file_reply;
 use crate::requests::{Request, read_request};
+use command_words::typed::RequestFault;
 use replies::Reply;
-use request_values::RequestFault;
 use spans::{Input, content_named};
 use std::alloc::Global;
 
@@ -24,7 +26,7 @@ pub enum Ending {
 }
 
 impl Ending {
-    ghost use Rattle.explain_call.specs.Calls.{code_of, answer_of, line_of};
+    ghost use Rattle.explain_call.specs.Calls.{code_of, answer_of, line_shown};
 
     /// The status.
     pub fn code(&self) -> u8
@@ -57,7 +59,7 @@ impl Ending {
 
     /// What is written as a line.
     pub fn line(&self) -> &[u8]
-        ensures { result.now ≡ line_of self.now }
+        ensures { result.now ≡ line_shown self.now }
     {
         match self {
             Ending::Replied(reply) => {
@@ -67,7 +69,7 @@ impl Ending {
                     reply.text.as_slice()
                 }
             }
-            Ending::NotUnderstood => b"causal: words: steps, rule or adjust\n",
+            Ending::NotUnderstood => b"causal: words: steps, rule, adjust or settled\n",
             Ending::NoInput => b"causal: read failed\n",
             Ending::NoMemory => b"causal: no memory\n",
         }

@@ -1,15 +1,18 @@
+//! An adjustment formula in LaTeX.
+
 ghost use Rattle.std.specs.Prelude.{ℕ, ◌≡◌, ◌<◌, IfOk, length, option_map};
 ghost use Rattle.mixed_graph.specs.Bits.{has};
 ghost use Rattle.mixed_graph.specs.Names.{texts};
 ghost use Rattle.mixed_graph.specs.Shown.{graph_of};
 ghost use Rattle.do_rules.specs.Rules.{AreThreeSets};
-ghost use Rattle.word_lists.specs.Views.{names_in};
+ghost use Rattle.command_words.specs.ListViews.{names_in};
 ghost use Rattle.explain_call.specs.Formulas.{formula_latex, FormulaFor, FormulaAnswer};
 
 use adjust_command::{Verdict, judge};
 use adjustment::formula_for;
+use answer_text::Notation;
 use dag_reader::ReadGraph;
-use identify_text::latex_answer;
+use identify_text::answer_in;
 use latent_projection::Observed;
 use mixed_graph::{Names, VSet};
 use prob_expr::Target;
@@ -75,5 +78,5 @@ fn formula_latex(alloc: Global, names: &Names, sets: Sets) -> Result<Vec<u8>, Al
         y: sets.y,
         given: VSet::EMPTY,
     };
-    latex_answer(alloc, &formula, &effect, names)
+    answer_in(alloc, Notation::Latex, &formula, &effect, names)
 }

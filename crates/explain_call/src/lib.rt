@@ -1,5 +1,5 @@
 //! Answers explained, for callers that are no Rattle code: the steps of a certificate's derivation with the graphs of its rules, the graph in
-//! which a rule is asked, and an adjustment formula in LaTeX.
+//! which a rule is asked, an adjustment formula in LaTeX, and of which kind the answer under a condition is.
 #![tactic(auto)]
 
 ghost use Rattle.std.specs.Prelude.{◌≤◌};
@@ -7,14 +7,16 @@ ghost use Rattle.span_call.specs.Ends.{IsEnd};
 ghost use Rattle.explain_call.specs.Calls.{Explained};
 
 mod ending;
+pub mod explaining;
 mod formulas;
 mod reply;
 mod requests;
 mod rule_graphs;
+mod settled;
 mod steps;
 
 pub use ending::{Ending, respond};
-pub use requests::{FormulaRequest, Kind, Request, StepsRequest};
+pub use requests::{FormulaRequest, Kind, Request, SettledRequest, StepsRequest};
 use span_call::{Arguments, CallEnd, call_words, show_both};
 use std::alloc::Global;
 

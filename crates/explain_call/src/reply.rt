@@ -1,3 +1,5 @@
+//! The answer of each question.
+
 ghost use Rattle.std.specs.Prelude.{IfOk};
 ghost use Rattle.explain_call.specs.Requests.{request_of};
 ghost use Rattle.explain_call.specs.Answers.{GraphAnswer, FileAnswer};
@@ -5,6 +7,7 @@ ghost use Rattle.explain_call.specs.Answers.{GraphAnswer, FileAnswer};
 use crate::formulas::formula_reply;
 use crate::requests::Request;
 use crate::rule_graphs::rule_graph_reply;
+use crate::settled::settled_reply;
 use crate::steps::steps_reply;
 use dag_reader::{GraphFault, ReadGraph, read_graph};
 use replies::{Outcome, Reply, refuse_graph};
@@ -29,7 +32,7 @@ fn graph_reply(
             graph,
             asked.rule,
             &asked.y,
-            &asked.done,
+            &asked.x,
             &asked.z,
             &asked.given,
         ),
@@ -41,6 +44,7 @@ fn graph_reply(
             &asked.set,
             asked.back_door,
         ),
+        Request::Settled(asked) => settled_reply(alloc, graph, asked.x, asked.y, &asked.given),
     }
 }
 

@@ -1,25 +1,25 @@
 // What the words ask for.
 
 ghost use Rattle.std.specs.Prelude.{List, ◌≡◌, Some, IfOk, IsErrOf, map, option_map};
-ghost use Rattle.word_forms.specs.Form.{Use, row_named};
-ghost use Rattle.word_forms.specs.Views.{row_of, texts_of};
-ghost use Rattle.word_values.specs.Gives.{HoldsCall};
-ghost use Rattle.word_values.specs.Readable.{IsReadable};
+ghost use Rattle.command_words.specs.Form.{Use, row_named};
+ghost use Rattle.command_words.specs.Views.{row_of, texts_of};
+ghost use Rattle.command_words.specs.Gives.{HoldsCall};
+ghost use Rattle.command_words.specs.Readable.{IsReadable};
 ghost use Rattle.explain_call.specs.Requests.{row_for, table, kind_of, IsRequest, AsksNothing, Asks, request_of};
 ghost use Rattle.explain_call.specs.Requests as asked;
 
-use request_values::{RequestFault, Subject, needed_names, needed_word};
+use command_words::forms::Entry;
+use command_words::requests::words_found;
+use command_words::typed::{RequestFault, Subject, required_names, required_word};
+use command_words::values::{Values, Words};
 use std::alloc::Global;
-use word_forms::Entry;
-use word_requests::words_found;
-use word_values::{Values, Words};
 
 /// `steps FILE CERTIFICATE [--graphs]`
 const STEPS_ROW: Entry = Entry {
     name: "steps",
     positionals: &["file", "certificate"],
-    extra: &[],
-    needed: &[],
+    optional: &[],
+    required: &[],
     options: &[],
     flags: &["graphs"],
 };
@@ -28,13 +28,28 @@ const STEPS_ROW: Entry = Entry {
 const FORMULA_ROW: Entry = Entry {
     name: "adjust",
     positionals: &["file"],
-    extra: &[],
-    needed: &["set"],
+    optional: &[],
+    required: &["set"],
     options: &["x", "y"],
     flags: &["back-door"],
 };
 
-static TABLE: [Entry; 3] = [STEPS_ROW, rule_command::ROW, FORMULA_ROW];
+/// `settled FILE --given L [--x L] [--y L]`
+const SETTLED_ROW: Entry = Entry {
+    name: "settled",
+    positionals: &["file"],
+    optional: &[],
+    required: &["given"],
+    options: &["x", "y"],
+    flags: &[],
+};
+
+static TABLE: [Entry; 4] = [
+    STEPS_ROW,
+    separation_commands::rule::ROW,
+    FORMULA_ROW,
+    SETTLED_ROW,
+];
 
 /// A kind of words.
 #[derive(Clone, Copy)]
@@ -42,6 +57,7 @@ pub enum Kind {
     Steps,
     Rule,
     Formula,
+    Settled,
 }
 
 /// The steps of a certificate's derivation, with the graphs of their rules or without.
@@ -60,8 +76,8 @@ impl<'a> StepsRequest<'a> {
         ensures ok { (uses : List Use) → HoldsCall steps_row uses values.now → IfOk result (λ r. IsSteps uses (steps_of r)) }
         ensures none { (uses : List Use) → HoldsCall steps_row uses values.now → IsErrOf result RequestFault.NotUnderstood → (r : AskedSteps) → IsSteps uses r → ⊥ }
     {
-        let file = needed_word(values, "file")?;
-        let certificate = needed_word(values, "certificate")?;
+        let file = required_word(values, "file")?;
+        let certificate = required_word(values, "certificate")?;
         let graphs = values.flag("graphs");
         Ok(StepsRequest {
             file,
@@ -90,7 +106,7 @@ impl<'a> FormulaRequest<'a> {
         ensures none { (uses : List Use) → HoldsCall formula_row uses values.now → IsErrOf result RequestFault.NotUnderstood → (r : AskedFormula) → IsFormula uses r → ⊥ }
     {
         let Subject { file, x, y } = Subject::read(alloc, values)?;
-        let set = needed_names(alloc, values, "set")?;
+        let set = required_names(alloc, values, "set")?;
         let back_door = values.flag("back-door");
         Ok(FormulaRequest {
             file,
@@ -102,13 +118,37 @@ impl<'a> FormulaRequest<'a> {
     }
 }
 
+/// Of which kind the answer under a condition is.
+#[derive(Drop)]
+pub struct SettledRequest<'a> {
+    pub file: &'a str,
+    pub x: Option<Vec<Vec<u8>>>,
+    pub y: Option<Vec<Vec<u8>>>,
+    pub given: Vec<Vec<u8>>,
+}
+
+impl<'a> SettledRequest<'a> {
+    ghost use Rattle.explain_call.specs.Requests.{AskedSettled, settled_row, settled_of, IsSettledRequest};
+
+    /// What the words ask for, exactly where their values are what they have to be.
+    fn read(alloc: Global, values: &Values<'a>) -> Result<Self, RequestFault>
+        ensures ok { (uses : List Use) → HoldsCall settled_row uses values.now → IfOk result (λ r. IsSettledRequest uses (settled_of r)) }
+        ensures none { (uses : List Use) → HoldsCall settled_row uses values.now → IsErrOf result RequestFault.NotUnderstood → (r : AskedSettled) → IsSettledRequest uses r → ⊥ }
+    {
+        let Subject { file, x, y } = Subject::read(alloc, values)?;
+        let given = required_names(alloc, values, "given")?;
+        Ok(SettledRequest { file, x, y, given })
+    }
+}
+
 /// What words ask for.
 #[derive(Drop)]
 pub enum Request<'a> {
     Steps(StepsRequest<'a>),
     /// The graph in which a rule is asked.
-    Rule(rule_command::Request<'a>),
+    Rule(separation_commands::rule::Request<'a>),
     Formula(FormulaRequest<'a>),
+    Settled(SettledRequest<'a>),
 }
 
 impl<'a> Request<'a> {
@@ -122,6 +162,7 @@ impl<'a> Request<'a> {
             Request::Steps(asked) => asked.file,
             Request::Rule(asked) => asked.file,
             Request::Formula(asked) => asked.file,
+            Request::Settled(asked) => asked.file,
         }
     }
 
@@ -133,6 +174,7 @@ impl<'a> Request<'a> {
             Request::Steps(asked) => Some(asked.certificate),
             Request::Rule(_) => None,
             Request::Formula(_) => None,
+            Request::Settled(_) => None,
         }
     }
 }
@@ -178,6 +220,7 @@ fn kind_named(name: &str) -> Option<Kind>
         "steps" => Some(Kind::Steps),
         "rule" => Some(Kind::Rule),
         "adjust" => Some(Kind::Formula),
+        "settled" => Some(Kind::Settled),
         _ => None,
     }
 }
@@ -194,7 +237,8 @@ fn request_in<'a>(
 {
     match kind {
         Kind::Steps => Ok(Request::Steps(StepsRequest::read(values)?)),
-        Kind::Rule => Ok(Request::Rule(rule_command::Request::read(alloc, values)?)),
+        Kind::Rule => Ok(Request::Rule(separation_commands::rule::Request::read(alloc, values)?)),
         Kind::Formula => Ok(Request::Formula(FormulaRequest::read(alloc, values)?)),
+        Kind::Settled => Ok(Request::Settled(SettledRequest::read(alloc, values)?)),
     }
 }

@@ -1,3 +1,5 @@
+//! The steps of a certificate's derivation.
+
 ghost use Rattle.std.specs.Prelude.{◌≡◌, IfOk, length};
 ghost use Rattle.mixed_graph.specs.Shown.{graph_of};
 ghost use Rattle.prob_expr.specs.View.{target_view};
@@ -6,10 +8,10 @@ ghost use Rattle.check_command.specs.Replies.{IsSoundTarget, IsSoundDerivation};
 ghost use Rattle.explain_call.specs.Steps.{StepsAnswer};
 ghost use Rattle.explain_call.specs.Told.{TellsSteps};
 
+use crate::explaining::explain;
 use certificate::{CertFault, Certificate, read_answer};
 use dag_reader::ReadGraph;
 use do_derivation::{ApplyFault, Derivation};
-use explaining::explain;
 use latent_projection::{Observed, observed};
 use prob_expr::Target;
 use replies::{Outcome, Reply};

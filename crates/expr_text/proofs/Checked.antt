@@ -1,5 +1,6 @@
 -- What `check` accepts is sound, and its numbers have 32 bits.
-use Rattle.std.proofs.Common.{◌≡◌, ℕ, ◌+◌, ◌^◌, ◌<◌, ◌≤◌, Bool, true, false, cond, not, ltb, ◌&&◌, List, [], ◌∷◌, length, Option, Some, None, Result, Ok, Err, refl, arith}
+use Rattle.std.proofs.Common.{◌≡◌, ℕ, ◌+◌, ◌^◌, ◌<◌, ◌≤◌, Bool, true, false, cond, not, ltb, ◌&&◌, List, [], ◌∷◌, length, Option, Some, None, Result}
+use Rattle.std.proofs.Common.{Ok, Err, refl, arith}
 use Rattle.std.proofs.lemmas.Bool.{ltb-true, lt-ltb}
 use Rattle.prob_expr.specs.Tree.{Tree, prob, sum, product, quotient, named, Trees, no_trees, tree, PlainFormula}
 use Rattle.mixed_graph.specs.Masks.{is_empty, is_below}
@@ -33,12 +34,15 @@ bound (Err e) f j h = absurd cc
 mutual
   sound_tree : (n : ℕ) (def : Option ℕ) (limit : ℕ) (t : Tree) (node j : ℕ) → check_tree n def limit t node ≡ Ok j → is_sound n t ≡ true
   sound_tree n def limit (prob a b c) node j h =
-      let g = guards (are_term_sets n a b c) (is_empty a) _ _ (Ok (next_node node)) j h in both (are_term_sets n a b c) (not (is_empty a)) g.0 (negated (is_empty a) g.1)
+      let g = guards (are_term_sets n a b c) (is_empty a) _ _ (Ok (next_node node)) j h in
+      both (are_term_sets n a b c) (not (is_empty a)) g.0 (negated (is_empty a) g.1)
   sound_tree n def limit (sum u e) node j h =
       let g = guards (is_below n u) (is_empty u) _ _ (check_tree n def limit e (next_node node)) j h in
-      both (is_below n u && not (is_empty u)) (is_sound n e) (both (is_below n u) (not (is_empty u)) g.0 (negated (is_empty u) g.1)) (sound_tree n def limit e (next_node node) j g.2)
+      both (is_below n u && not (is_empty u)) (is_sound n e) (both (is_below n u) (not (is_empty u)) g.0 (negated (is_empty u) g.1))
+      (sound_tree n def limit e (next_node node) j g.2)
   sound_tree n def limit (product ts) node j h =
-      let g = guard (are_two ts) _ (check_trees n def limit ts (next_node node)) j h in both (are_two ts) (are_sound n ts) g.0 (sound_trees n def limit ts (next_node node) j g.1)
+      let g = guard (are_two ts) _ (check_trees n def limit ts (next_node node)) j h in
+      both (are_two ts) (are_sound n ts) g.0 (sound_trees n def limit ts (next_node node) j g.1)
   sound_tree n def limit (quotient p q) node j h =
       let b = bound (check_tree n def limit p (next_node node)) (check_tree n def limit q) j h in
       both (is_sound n p) (is_sound n q) (sound_tree n def limit p (next_node node) b.0 b.1) (sound_tree n def limit q b.0 j b.2)
@@ -65,7 +69,8 @@ mutual
       let g = guard (ltb k limit) _ (Ok (next_node node)) j h in
       let lt : k < limit = ltb-true k limit g.0 in lt-ltb k (2 ^ 32) (omega arith)
 
-  numbered_trees : (n : ℕ) (def : Option ℕ) (limit : ℕ) (ts : Trees) (node j : ℕ) → limit ≤ 2 ^ 32 → check_trees n def limit ts node ≡ Ok j → are_numbered ts ≡ true
+  numbered_trees : (n : ℕ) (def : Option ℕ) (limit : ℕ) (ts : Trees) (node j : ℕ) → limit ≤ 2 ^ 32 → check_trees n def limit ts node ≡ Ok j → are_numbered ts
+      ≡ true
   numbered_trees n def limit no_trees node j le h = refl
   numbered_trees n def limit (tree t ts) node j le h =
       let b = bound (check_tree n def limit t node) (check_trees n def limit ts) j h in

@@ -1,11 +1,12 @@
 -- Tokens at the front of a text.
-use Rattle.std.proofs.Common.{◌≡◌, ℕ, suc, ◌+◌, ◌<◌, Bool, true, false, cond, not, eqb, List, [], ◌∷◌, ◌++◌, length, take, drop, Option, Some, None, refl, sym, ap, ◌∙◌, append_assoc, arith, ne_eqb}
+use Rattle.std.proofs.Common.{◌≡◌, ℕ, suc, ◌+◌, ◌<◌, Bool, true, false, cond, not, eqb, List, [], ◌∷◌, ◌++◌, length, take, drop, Option, Some, None}
+use Rattle.std.proofs.Common.{refl, sym, ap, ◌∙◌, append_assoc, arith, ne_eqb}
 use Rattle.std.proofs.lemmas.Bool.{false≢true}
 use Rattle.std.specs.List.{prefix_len}
 use Rattle.std.proofs.lemmas.List.{take_at, drop_at}
 use Rattle.std.specs.List.{list_all}
 use Rattle.mixed_graph.specs.Names.{is_line_byte}
-use Rattle.name_text.specs.Printing.{is_white, is_plain_byte, is_plain, printed}
+use Rattle.answer_text.specs.Printing.{is_white, is_plain_byte, is_bare, begins_with_arrow, is_plain, printed}
 use Rattle.expr_text.specs.Read.{trim, raw_name, bare, quoted, closed}
 use Rattle.expr_text.specs.Grammar.{EndsRun}
 use Rattle.expr_text.proofs.Within.{and_true}
@@ -52,7 +53,8 @@ trim_here b bytes h = ap (λ t. drop (cond t (1 + prefix_len is_white bytes) 0) 
 third : {A : Type 0} (a b : Bool) (x y z : A) → a ≡ false → b ≡ false → cond a x (cond b y z) ≡ z
 third a b x y z h k = rw (h, k) refl
 
-bare_run : (bytes rest : List ℕ) (n : ℕ) → 0 < n → n ≡ length bytes → cond {A = Option (List ℕ × List ℕ)} (eqb n 0) None (Some (take n (bytes ++ rest), drop n (bytes ++ rest))) ≡ Some (bytes, rest)
+bare_run : (bytes rest : List ℕ) (n : ℕ) → 0 < n → n ≡ length bytes → cond {A = Option (List ℕ × List ℕ)} (eqb n 0) None
+    (Some (take n (bytes ++ rest), drop n (bytes ++ rest))) ≡ Some (bytes, rest)
 bare_run bytes rest n lt e =
     ap (λ b. cond {A = Option (List ℕ × List ℕ)} b None (Some (take n (bytes ++ rest), drop n (bytes ++ rest)))) (ne_eqb n 0 (λ z. omega arith))
     ∙ ap (λ t. Some (t, drop n (bytes ++ rest))) (take_at bytes rest n (sym e))
@@ -86,7 +88,8 @@ by_plain : (name rest : List ℕ) (b : Bool) → is_plain name ≡ b → IsKnown
     → raw_name (trim (cond b name (34 ∷ (name ++ 34 ∷ [])) ++ rest)) ≡ Some (name, rest)
 by_plain [] rest b e is stops = absurd (omega (arith, is.some))
 by_plain (c ∷ name) rest true e is stops =
-    let both = and_true (list_all is_plain_byte (c ∷ name)) (not (eqb c 35)) e in
+    let whole = and_true (is_bare (c ∷ name)) (not (begins_with_arrow (c ∷ name))) e in
+    let both = and_true (list_all is_plain_byte (c ∷ name)) (not (eqb c 35)) whole.0 in
     bare_is_read c name rest (not_true (eqb c 35) both.1) (whole_run is_plain_byte (c ∷ name) both.0) stops
 by_plain (c ∷ name) rest false e is stops = quoted_is_read (c ∷ name) rest is
 

@@ -1,5 +1,6 @@
 -- Numbers of the grammar, and how they are read.
-use Rattle.std.proofs.Common.{◌≡◌, ℕ, ◌+◌, ◌-◌, ◌*◌, ◌/◌, ◌%◌, ◌^◌, ◌<◌, ◌≤◌, Bool, true, false, cond, not, eqb, ltb, leb, ◌&&◌, List, [], ◌∷◌, ◌++◌, length, take, drop, Ok, decimal, refl, sym, ap, subst, ◌∙◌, arith}
+use Rattle.std.proofs.Common.{◌≡◌, ℕ, ◌+◌, ◌-◌, ◌*◌, ◌/◌, ◌%◌, ◌^◌, ◌<◌, ◌≤◌, Bool, true, false, cond, not, eqb, ltb, leb, ◌&&◌, List, [], ◌∷◌, ◌++◌}
+use Rattle.std.proofs.Common.{length, take, drop, Ok, decimal, refl, sym, ap, subst, ◌∙◌, arith}
 use Rattle.std.specs.List.{prefix_len, list_all}
 use Rattle.std.proofs.lemmas.Bool.{ltb-true, lt-ltb, leb-true, eqb-false}
 use Rattle.std.proofs.lemmas.Fmt.{decimal_by_steps}
@@ -44,7 +45,8 @@ abbrev AreDigits : ℕ → List ℕ → Type 0
 AreDigits n ds = (xs : List ℕ) → list_all is_digit xs ≡ true → is_misled xs ≡ false → number_of 0 xs ≡ n → xs ≡ ds
 
 abbrev EndedDigits : ℕ → List ℕ → Type 0
-EndedDigits n ds = (front : List ℕ) (l : ℕ) → list_all is_digit (front ++ l ∷ []) ≡ true → is_misled (front ++ l ∷ []) ≡ false → number_of 0 (front ++ l ∷ []) ≡ n → front ++ l ∷ [] ≡ ds
+EndedDigits n ds = (front : List ℕ) (l : ℕ) → list_all is_digit (front ++ l ∷ []) ≡ true → is_misled (front ++ l ∷ []) ≡ false → number_of 0 (front ++ l ∷ [])
+    ≡ n → front ++ l ∷ [] ≡ ds
 
 from_ended : (n : ℕ) (ds : List ℕ) → EndedDigits n ds → AreDigits n ds
 from_ended n ds ended [] all lead value = absurd cc
@@ -92,7 +94,8 @@ more_ended n ds le are (f ∷ fs) l all lead value =
     ap (λ t. t ++ l ∷ []) (are (f ∷ fs) parts.0 (led f fs h) front) ∙ ap (λ d. ds ++ d ∷ []) last
 
 are_digits : (n : ℕ) → n < 2 ^ 64 → AreDigits n (decimal n)
-are_digits = decimal_by_steps AreDigits (λ n lt. from_ended n ((48 + n) ∷ []) (one_ended n lt)) (λ n ds le are. from_ended n (ds ++ (48 + n % 10) ∷ []) (more_ended n ds le are))
+are_digits = decimal_by_steps AreDigits (λ n lt. from_ended n ((48 + n) ∷ []) (one_ended n lt))
+    (λ n ds le are. from_ended n (ds ++ (48 + n % 10) ∷ []) (more_ended n ds le are))
 
 number_parts : (ds : List ℕ) → is_number ds ≡ true → (is_misled ds ≡ false) × (number_of 0 ds < 2 ^ 32)
 number_parts [] h = absurd cc
@@ -101,10 +104,12 @@ number_parts (d ∷ ds) h =
     let q = and_true (ltb (length ds) 10) (not (eqb d 48 && ltb 0 (length ds))) p.0 in
     (not_true (eqb d 48 && ltb 0 (length ds)) q.1, ltb-true (number_of 0 (d ∷ ds)) (2 ^ 32) p.1)
 
-number_in_is : (bytes ds behind : List ℕ) (k : ℕ) (rest : List ℕ) → number_in bytes ds behind ≡ Ok (k, rest) → (is_number ds ≡ true) × (number_of 0 ds ≡ k) × (behind ≡ rest)
+number_in_is : (bytes ds behind : List ℕ) (k : ℕ) (rest : List ℕ) → number_in bytes ds behind ≡ Ok (k, rest) → (is_number ds ≡ true) × (number_of 0 ds ≡ k)
+    × (behind ≡ rest)
 number_in_is bytes ds behind k rest h = go (is_number ds) refl h
   where
-    go : (b : Bool) → is_number ds ≡ b → cond b (Both (number_of 0 ds) behind) (bad bytes) ≡ Both k rest → (is_number ds ≡ true) × (number_of 0 ds ≡ k) × (behind ≡ rest)
+    go : (b : Bool) → is_number ds ≡ b → cond b (Both (number_of 0 ds) behind) (bad bytes) ≡ Both k rest → (is_number ds ≡ true) × (number_of 0 ds ≡ k)
+        × (behind ≡ rest)
     go true e h = let p = ok_parts (number_of 0 ds) k behind rest h in (e, p.0, p.1)
     go false e h = absurd cc
 

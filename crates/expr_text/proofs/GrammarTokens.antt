@@ -1,5 +1,7 @@
 -- Tokens and names of the grammar, and how they are read.
-use Rattle.std.proofs.Common.{◌≡◌, ℕ, zero, suc, ◌+◌, ◌<◌, ◌≤◌, Bool, true, false, cond, not, eqb, ◌||◌, List, [], ◌∷◌, ◌++◌, length, take, drop, Option, Some, None, Result, Ok, Err, ◌⊎◌, inl, inr, refl, sym, ap, subst, ◌∙◌, append_assoc, append-nil, arith, eqb-true}
+use Rattle.std.proofs.Common.{◌≡◌, ℕ, zero, suc, ◌+◌, ◌<◌, ◌≤◌, Bool, true, false, cond, not, eqb, ◌||◌, List, [], ◌∷◌, ◌++◌, length, take, drop}
+use Rattle.std.proofs.Common.{Option, Some, None, Result, Ok, Err, ◌⊎◌, inl, inr, refl, sym, ap, subst, ◌∙◌, append_assoc, append-nil, arith}
+use Rattle.std.proofs.Common.{eqb-true}
 use Rattle.std.specs.List.{prefix_len, list_all}
 use Rattle.std.specs.Str.{bytes_eq}
 use Rattle.std.proofs.lemmas.Bool.{eq-eqb}
@@ -7,8 +9,8 @@ use Rattle.std.proofs.lemmas.List.{length-append, take-append-drop}
 use Rattle.std.proofs.lemmas.Slice.Eq.{bytes_eq-Decides}
 use Rattle.mixed_graph.specs.Bits.{has}
 use Rattle.mixed_graph.specs.Names.{is_line_byte, is_named, index_of, name_of}
-use Rattle.name_text.specs.Printing.{is_white, is_plain_byte, is_plain}
-use Rattle.mixed_graph.specs.Masks.{join, one}
+use Rattle.answer_text.specs.Printing.{is_white, is_plain_byte, is_bare}
+use Rattle.mixed_graph.specs.Masks.{union, one}
 use Rattle.expr_text.specs.Read.{◌>>=◌, when, bad, after, trim, next_is, expect, closed, quoted, bare, raw_name, with_vertex, name_at}
 use Rattle.expr_text.specs.Grammar.{IsBlank, EndsRun, Token, Name, bare_name, quoted_name, Member}
 use Rattle.expr_text.proofs.Within.{and_true}
@@ -22,7 +24,8 @@ pub bind_ok : {A B : Type 0} (r : Result A ℕ) (f : A → Result B ℕ) (y : B)
 bind_ok (Ok x) f y h = (x, refl, h)
 bind_ok (Err e) f y h = absurd cc
 
-pub when_is : {A B : Type 0} (o : Option A) (absent : B) (present : A → B) (y : B) → when o absent present ≡ y → ((o ≡ None) × (absent ≡ y)) ⊎ ((a : A) × (o ≡ Some a) × (present a ≡ y))
+pub when_is : {A B : Type 0} (o : Option A) (absent : B) (present : A → B) (y : B) → when o absent present ≡ y → ((o ≡ None) × (absent ≡ y))
+    ⊎ ((a : A) × (o ≡ Some a) × (present a ≡ y))
 when_is None absent present y h = inl (refl, h)
 when_is (Some x) absent present y h = inr (x, refl, h)
 
@@ -60,7 +63,8 @@ ok_parts x x' y y' h = (ap (from_ok x (λ a b. a)) h, ap (from_ok y (λ a b. b))
 pub drop_one : (n b : ℕ) (bytes : List ℕ) → drop (1 + n) (b ∷ bytes) ≡ drop n bytes
 drop_one n b bytes = let e : 1 + n ≡ suc n = omega arith in rw e refl
 
-run_by : (p : ℕ → Bool) (b : Bool) (x : ℕ) (xs : List ℕ) → p x ≡ b → list_all p (take (prefix_len p xs) xs) ≡ true → list_all p (take (cond b (1 + prefix_len p xs) 0) (x ∷ xs)) ≡ true
+run_by : (p : ℕ → Bool) (b : Bool) (x : ℕ) (xs : List ℕ) → p x ≡ b → list_all p (take (prefix_len p xs) xs) ≡ true
+    → list_all p (take (cond b (1 + prefix_len p xs) 0) (x ∷ xs)) ≡ true
 run_by p true x xs h all = let e : 1 + prefix_len p xs ≡ suc (prefix_len p xs) = omega arith in rw (e, h) all
 run_by p false x xs h all = refl
 
@@ -68,7 +72,8 @@ pub run_passes : (p : ℕ → Bool) (xs : List ℕ) → list_all p (take (prefix
 run_passes p [] = refl
 run_passes p (x ∷ xs) = run_by p (p x) x xs refl (run_passes p xs)
 
-ends_by : (p : ℕ → Bool) (b : Bool) (x : ℕ) (xs : List ℕ) → p x ≡ b → EndsRun p (drop (prefix_len p xs) xs) → EndsRun p (drop (cond b (1 + prefix_len p xs) 0) (x ∷ xs))
+ends_by : (p : ℕ → Bool) (b : Bool) (x : ℕ) (xs : List ℕ) → p x ≡ b → EndsRun p (drop (prefix_len p xs) xs)
+    → EndsRun p (drop (cond b (1 + prefix_len p xs) 0) (x ∷ xs))
 ends_by p true x xs h e = subst (EndsRun p) (sym (drop_one (prefix_len p xs) x xs)) e
 ends_by p false x xs h e = h
 
@@ -118,7 +123,8 @@ pub next_here : (c : ℕ) (cs bytes rest : List ℕ) → is_white c ≡ false �
 unfolding next_is
 next_here c cs bytes rest h t = ap (after (c ∷ cs)) (trim_token (c ∷ cs) bytes rest t ∙ trim_here c (cs ++ rest) h) ∙ after_here (c ∷ cs) rest
 
-pub next_other : (other : List ℕ) (c : ℕ) (cs bytes rest : List ℕ) → is_white c ≡ false → after other (c ∷ (cs ++ rest)) ≡ None → Token (c ∷ cs) bytes rest → next_is other bytes ≡ None
+pub next_other : (other : List ℕ) (c : ℕ) (cs bytes rest : List ℕ) → is_white c ≡ false → after other (c ∷ (cs ++ rest)) ≡ None → Token (c ∷ cs) bytes rest
+    → next_is other bytes ≡ None
 unfolding next_is
 next_other other c cs bytes rest h none t = ap (after other) (trim_token (c ∷ cs) bytes rest t ∙ trim_here c (cs ++ rest) h) ∙ none
 
@@ -161,7 +167,8 @@ closed_is (c ∷ x) (b ∷ y) name rest h =
     let q = first_is (c ∷ x) name y rest p.1 in
     (q.0, omega (arith, ap length q.0), ap (λ d. d ∷ y) (eqb-true b 34 p.0) ∙ ap (λ t. 34 ∷ t) q.1)
 
-quoted_front : (bytes name rest : List ℕ) → quoted bytes ≡ Some (name, rest) → (0 < length name) × (list_all is_line_byte name ≡ true) × (bytes ≡ name ++ 34 ∷ rest)
+quoted_front : (bytes name rest : List ℕ) → quoted bytes ≡ Some (name, rest) → (0 < length name) × (list_all is_line_byte name ≡ true)
+    × (bytes ≡ name ++ 34 ∷ rest)
 quoted_front bytes name rest h =
     let n = prefix_len is_line_byte bytes in
     let p = closed_is (take n bytes) (drop n bytes) name rest h in (
@@ -170,22 +177,25 @@ quoted_front bytes name rest h =
       sym (take-append-drop n bytes) ∙ ap (λ t. t ++ drop n bytes) p.0 ∙ ap (λ t. name ++ t) p.2,
     )
 
-plain_run : (n b : ℕ) (bytes : List ℕ) → eqb n 0 ≡ false → list_all is_plain_byte (take n (b ∷ bytes)) ≡ true → eqb b 35 ≡ false → is_plain (take n (b ∷ bytes)) ≡ true
+plain_run : (n b : ℕ) (bytes : List ℕ) → eqb n 0 ≡ false → list_all is_plain_byte (take n (b ∷ bytes)) ≡ true → eqb b 35 ≡ false
+    → is_bare (take n (b ∷ bytes)) ≡ true
 plain_run zero b bytes some all hash = absurd cc
 plain_run (suc n) b bytes some all hash = rw (all, hash) refl
 
-bare_front : (b : ℕ) (bytes name rest : List ℕ) → eqb b 35 ≡ false → bare (b ∷ bytes) ≡ Some (name, rest) → (is_plain name ≡ true) × EndsRun is_plain_byte rest × (b ∷ bytes ≡ name ++ rest)
+bare_front : (b : ℕ) (bytes name rest : List ℕ) → eqb b 35 ≡ false → bare (b ∷ bytes) ≡ Some (name, rest) → (is_bare name ≡ true)
+    × EndsRun is_plain_byte rest × (b ∷ bytes ≡ name ++ rest)
 bare_front b bytes name rest hash h =
     let xs = b ∷ bytes in
     let n = prefix_len is_plain_byte xs in
     let p = none_by (eqb n 0) (Some (take n xs, drop n xs)) (name, rest) h in
     let q = first_is (take n xs) name (drop n xs) rest p.1 in (
-      subst (λ t. is_plain t ≡ true) q.0 (plain_run n b bytes p.0 (run_passes is_plain_byte xs) hash),
+      subst (λ t. is_bare t ≡ true) q.0 (plain_run n b bytes p.0 (run_passes is_plain_byte xs) hash),
       subst (EndsRun is_plain_byte) q.1 (run_ends is_plain_byte xs),
       sym (take-append-drop n xs) ∙ ap (λ t. t ++ drop n xs) q.0 ∙ ap (λ t. name ++ t) q.1,
     )
 
-raw_by : (bytes : List ℕ) (b : ℕ) (xs name rest : List ℕ) (t u : Bool) → eqb b 34 ≡ t → eqb b 35 ≡ u → trim bytes ≡ b ∷ xs → cond t (quoted xs) (cond u None (bare (b ∷ xs))) ≡ Some (name, rest) → Name name bytes rest
+raw_by : (bytes : List ℕ) (b : ℕ) (xs name rest : List ℕ) (t u : Bool) → eqb b 34 ≡ t → eqb b 35 ≡ u → trim bytes ≡ b ∷ xs
+    → cond t (quoted xs) (cond u None (bare (b ∷ xs))) ≡ Some (name, rest) → Name name bytes rest
 raw_by bytes b xs name rest true u ht hu e h =
     let q = quoted_front xs name rest h in
     quoted_name q.0 q.1 (token_at (34 ∷ name ++ 34 ∷ []) bytes rest
@@ -199,7 +209,7 @@ raw_front : (bytes xs name rest : List ℕ) → trim bytes ≡ xs → raw_name x
 raw_front bytes [] name rest e h = absurd cc
 raw_front bytes (b ∷ xs) name rest e h = raw_by bytes b xs name rest (eqb b 34) (eqb b 35) refl refl e h
 
-plain_read : (name rest : List ℕ) → is_plain name ≡ true → EndsRun is_plain_byte rest → raw_name (trim (name ++ rest)) ≡ Some (name, rest)
+plain_read : (name rest : List ℕ) → is_bare name ≡ true → EndsRun is_plain_byte rest → raw_name (trim (name ++ rest)) ≡ Some (name, rest)
 plain_read [] rest h e = cc
 plain_read (c ∷ name) rest h e =
     let both = and_true (list_all is_plain_byte (c ∷ name)) (not (eqb c 35)) h in
@@ -229,9 +239,9 @@ named_here (x ∷ xs) n h = go (bytes_eq n x) refl (named_here xs n)
         (ap (name_of (x ∷ xs)) {x = 1 + index_of xs n} {y = suc (index_of xs n)} (omega arith) ∙ l.0, omega (arith, l.1))
 
 vertex_is : (names : List (List ℕ)) (have : ℕ) (name : List ℕ) (more : ℕ) → with_vertex names have name ≡ Some more
-    → (is_named names name ≡ true) × (has have (index_of names name) ≡ false) × (join have (one (index_of names name)) ≡ more)
+    → (is_named names name ≡ true) × (has have (index_of names name) ≡ false) × (union have (one (index_of names name)) ≡ more)
 vertex_is names have name more h =
-    let p = none_by (not (is_named names name) || has have (index_of names name)) (Some (join have (one (index_of names name)))) more h in
+    let p = none_by (not (is_named names name) || has have (index_of names name)) (Some (union have (one (index_of names name)))) more h in
     let q = or_false (not (is_named names name)) (has have (index_of names name)) p.0 in
     (not_false (is_named names name) q.0, q.1, (let e = p.1 in cc))
   where
@@ -239,26 +249,30 @@ vertex_is names have name more h =
     not_false true e = refl
     not_false false e = absurd cc
 
-pub member_front : (names : List (List ℕ)) (have : ℕ) (bytes : List ℕ) (more : ℕ) (rest : List ℕ) → name_at names have bytes ≡ Ok (more, rest) → (v : ℕ) × Member names v have bytes rest × (join have (one v) ≡ more)
+pub member_front : (names : List (List ℕ)) (have : ℕ) (bytes : List ℕ) (more : ℕ) (rest : List ℕ) → name_at names have bytes ≡ Ok (more, rest) → (v : ℕ)
+    × Member names v have bytes rest × (union have (one v) ≡ more)
 unfolding name_at
-member_front names have bytes more rest h = elim (when_is (raw_name (trim bytes)) (bad bytes) (λ name. when (with_vertex names have name.0) (bad bytes) (λ m. Ok (m, name.1))) (Ok (more, rest)) h) [
-  | inl n ↦ absurd (let e = n.1 in cc)
-  | inr s ↦ elim (when_is (with_vertex names have s.0.0) (bad bytes) (λ m. Ok (m, s.0.1)) (Ok (more, rest)) s.2) [
-    | inl n ↦ absurd (let e = n.1 in cc)
-    | inr u ↦
-        let parts = ok_parts u.0 more s.0.1 rest u.2 in
-        let is = vertex_is names have s.0.0 u.0 u.1 in
-        let v = index_of names s.0.0 in
-        let here = named_here names s.0.0 is.0 in
-        let name : Name s.0.0 bytes rest = subst (λ r. Name s.0.0 bytes r) parts.1 (raw_front bytes (trim bytes) s.0.0 s.0.1 refl s.1) in
-        (v, record { below = here.1; new = is.1; name = subst (λ n. Name n bytes rest) (sym here.0) name }, is.2 ∙ parts.0)
-  ]
-]
+member_front names have bytes more rest h = elim (when_is (raw_name (trim bytes)) (bad bytes)
+    (λ name. when (with_vertex names have name.0) (bad bytes) (λ m. Ok (m, name.1))) (Ok (more, rest)) h) [
+      | inl n ↦ absurd (let e = n.1 in cc)
+      | inr s ↦ elim (when_is (with_vertex names have s.0.0) (bad bytes) (λ m. Ok (m, s.0.1)) (Ok (more, rest)) s.2) [
+        | inl n ↦ absurd (let e = n.1 in cc)
+        | inr u ↦
+            let parts = ok_parts u.0 more s.0.1 rest u.2 in
+            let is = vertex_is names have s.0.0 u.0 u.1 in
+            let v = index_of names s.0.0 in
+            let here = named_here names s.0.0 is.0 in
+            let name : Name s.0.0 bytes rest = subst (λ r. Name s.0.0 bytes r) parts.1 (raw_front bytes (trim bytes) s.0.0 s.0.1 refl s.1) in
+            (v, record { below = here.1; new = is.1; name = subst (λ n. Name n bytes rest) (sym here.0) name }, is.2 ∙ parts.0)
+      ]
+    ]
 
-pub member_read : (names : List (List ℕ)) (v have : ℕ) (bytes rest : List ℕ) → AreKnown names → Member names v have bytes rest → name_at names have bytes ≡ Ok (join have (one v), rest)
+pub member_read : (names : List (List ℕ)) (v have : ℕ) (bytes rest : List ℕ) → AreKnown names → Member names v have bytes rest → name_at names have bytes
+    ≡ Ok (union have (one v), rest)
 unfolding name_at
 member_read names v have bytes rest are m =
-    ap (λ o. when o (bad bytes) (λ name. when (with_vertex names have name.0) (bad bytes) (λ more. Ok (more, name.1)))) (name_read (name_of names v) bytes rest m.name)
+    ap (λ o. when o (bad bytes) (λ name. when (with_vertex names have name.0) (bad bytes) (λ more. Ok (more, name.1))))
+    (name_read (name_of names v) bytes rest m.name)
     ∙ ap (λ o. when o (bad bytes) (λ more. Ok (more, rest))) (vertex_new names have (name_of names v) v (are.there v m.below) (are.once v m.below) m.new)
 
 pub member_len : (names : List (List ℕ)) (v have : ℕ) (bytes rest : List ℕ) → Member names v have bytes rest → length rest ≤ length bytes

@@ -38,7 +38,8 @@ place_is : (names : List (List ℕ)) (k : ℕ) → AreNames names → k < length
 place_is names k are lt =
     let name = get_or names k [] in
     position_or_len_is (bytes_eq name) names k [] (omega (arith, lt))
-    (λ i less. false_from_ne_true (bytes_eq name (get_or names i [])) (λ e. are.distinct i k [] less lt (sym ((bytes_eq-Decides name (get_or names i [])).0 e))))
+    (λ i less. false_from_ne_true (bytes_eq name (get_or names i [])) (λ e. are.distinct i k [] less lt
+    (sym ((bytes_eq-Decides name (get_or names i [])).0 e))))
     (λ _. (bytes_eq-Decides name name).1 refl)
 
 pub known : (names : List (List ℕ)) → AreNames names → AreKnown names

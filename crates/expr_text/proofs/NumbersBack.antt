@@ -1,10 +1,11 @@
 -- A number, read back.
-use Rattle.std.proofs.Common.{◌≡◌, ℕ, zero, suc, ◌+◌, ◌-◌, ◌*◌, ◌/◌, ◌%◌, ◌^◌, ◌<◌, ◌≤◌, Bool, true, false, cond, eqb, ltb, leb, ◌&&◌, List, [], ◌∷◌, ◌++◌, length, get_or, take, drop, Ok, decimal, refl, sym, ap, subst, ◌∙◌, arith, ne_eqb, lit<}
+use Rattle.std.proofs.Common.{◌≡◌, ℕ, zero, suc, ◌+◌, ◌-◌, ◌*◌, ◌/◌, ◌%◌, ◌^◌, ◌<◌, ◌≤◌, Bool, true, false, cond, eqb, ltb, leb, ◌&&◌, List, [], ◌∷◌}
+use Rattle.std.proofs.Common.{◌++◌, length, get_or, take, drop, Ok, decimal, refl, sym, ap, subst, ◌∙◌, arith, ne_eqb, lit<}
 use Rattle.std.specs.List.{prefix_len}
 use Rattle.std.proofs.lemmas.Bool.{le-leb, lt-ltb}
 use Rattle.std.proofs.lemmas.Fmt.{decimal_by_steps, first_decimal, length-decimal-le, decimal_digit}
 use Rattle.std.proofs.lemmas.List.{take_at, drop_at, length-append}
-use Rattle.name_text.specs.Printing.{is_white}
+use Rattle.answer_text.specs.Printing.{is_white}
 use Rattle.expr_text.specs.Bytes.{is_digit}
 use Rattle.expr_text.specs.Read.{bad, number_of, is_number, number_in, number_at}
 use Rattle.expr_text.proofs.Fronts.{Stops, all_pass, prefix_len-stops, other_byte, trim_here}
@@ -79,7 +80,8 @@ is_number_here n d ds h e v =
     let fits : ltb (number_of 0 (d ∷ ds)) (2 ^ 32) ≡ true = lt-ltb (number_of 0 (d ∷ ds)) (2 ^ 32) (omega arith) in
     rw (short, zero_free, fits) refl
 
-read_with : (n d : ℕ) (ds rest : List ℕ) → n < 2 ^ 32 → decimal n ≡ d ∷ ds → IsDecimal n (d ∷ ds) → Stops is_digit rest → number_at ((d ∷ ds) ++ rest) ≡ Ok (n, rest)
+read_with : (n d : ℕ) (ds rest : List ℕ) → n < 2 ^ 32 → decimal n ≡ d ∷ ds → IsDecimal n (d ∷ ds) → Stops is_digit rest → number_at ((d ∷ ds) ++ rest)
+    ≡ Ok (n, rest)
 unfolding number_at
 read_with n d ds rest h e is stops =
     let digit = (all_pass is_digit d ds is.digits).0 in

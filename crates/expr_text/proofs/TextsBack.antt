@@ -1,16 +1,18 @@
 -- An expression, read back.
-use Rattle.std.proofs.Common.{◌≡◌, ℕ, zero, suc, ◌+◌, ◌^◌, ◌≤◌, true, cond, not, eqb, ◌&&◌, List, [], ◌∷◌, ◌++◌, length, drop, Some, None, Ok, refl, sym, ap, ◌∙◌, append_assoc, append-nil, arith, codes}
+use Rattle.std.proofs.Common.{◌≡◌, ℕ, zero, suc, ◌+◌, ◌^◌, ◌≤◌, true, cond, not, eqb, ◌&&◌, List, [], ◌∷◌, ◌++◌, length, drop, Some, None, Ok, refl}
+use Rattle.std.proofs.Common.{sym, ap, ◌∙◌, append_assoc, append-nil, arith, codes}
 use Rattle.std.proofs.lemmas.List.{length-append}
 use Rattle.std.proofs.lemmas.Bool.{ltb-true}
 use Rattle.std.specs.List.{prefix_len}
 use Rattle.prob_expr.specs.Tree.{Tree, prob, sum, product, quotient, named, Trees, no_trees, tree, trees_of}
 use Rattle.mixed_graph.specs.Masks.{is_empty, is_below}
 use Rattle.mixed_graph.specs.Bits.{has}
-use Rattle.name_text.specs.Printing.{is_white}
+use Rattle.answer_text.specs.Printing.{is_white}
 use Rattle.answer_text.specs.declared.signs.Notation.TheVariants.{Plain}
 use Rattle.answer_text.specs.Texts.{names_in, member_names}
 use Rattle.expr_text.specs.Bytes.{is_digit}
-use Rattle.expr_text.specs.Read.{◌>>=◌, Parse, when, bad, trim, next_is, expect, named_at, Inner, in_parentheses, operand_at, sum_at, factor_at, factor_step, repeat, factors_at, bottom_at, operands_at, expr_with, inner_of, expr_of}
+use Rattle.expr_text.specs.Read.{◌>>=◌, Parse, when, bad, trim, next_is, expect, named_at, Inner, in_parentheses, operand_at, sum_at, factor_at}
+use Rattle.expr_text.specs.Read.{factor_step, repeat, factors_at, bottom_at, operands_at, expr_with, inner_of, expr_of}
 use Rattle.expr_text.specs.declared.writing.Place.TheVariants.{Later}
 use Rattle.expr_text.specs.Write.{parenthesized, wrapped, text_of, factors_in, deeper, nesting, nesting_each}
 use Rattle.expr_text.proofs.Readable.{is_readable, are_readable, readable}
@@ -58,10 +60,12 @@ unfolding next_is trim
 ends_here = record { star = refl; slash = refl; digit = tt }
 
 abbrev pub ExprBack : List (List ℕ) → Tree → Type 0
-ExprBack names t = (d : ℕ) (rest : List ℕ) → is_readable (length names) t ≡ true → nesting t ≤ d → Ends rest → expr_with names (inner_of names d) (text_of names t ++ rest) ≡ Ok (t, rest)
+ExprBack names t = (d : ℕ) (rest : List ℕ) → is_readable (length names) t ≡ true → nesting t ≤ d → Ends rest
+    → expr_with names (inner_of names d) (text_of names t ++ rest) ≡ Ok (t, rest)
 
 abbrev OperandBack : List (List ℕ) → Tree → Type 0
-OperandBack names t = (d : ℕ) (rest : List ℕ) → is_readable (length names) t ≡ true → deeper t (nesting t) ≤ d → Stops is_digit rest → operand_at names (inner_of names d) (wrapped Plain t (text_of names t) ++ rest) ≡ Ok (t, rest)
+OperandBack names t = (d : ℕ) (rest : List ℕ) → is_readable (length names) t ≡ true → deeper t (nesting t) ≤ d → Stops is_digit rest
+    → operand_at names (inner_of names d) (wrapped Plain t (text_of names t) ++ rest) ≡ Ok (t, rest)
 
 -- ---- operands
 
@@ -115,7 +119,8 @@ behind names inner first =
     when (next_is (codes "/") first.1) (Ok first) (bottom_at names inner first.0)
     ) (factors_at names inner first.0)
 
-first_back : (names : List (List ℕ)) (t : Tree) (d : ℕ) (rest : List ℕ) → AreKnown names → ExprBack names t → is_readable (length names) t ≡ true → deeper t (nesting t) ≤ d → Stops is_digit rest
+first_back : (names : List (List ℕ)) (t : Tree) (d : ℕ) (rest : List ℕ) → AreKnown names → ExprBack names t → is_readable (length names) t ≡ true
+    → deeper t (nesting t) ≤ d → Stops is_digit rest
     → expr_with names (inner_of names d) (wrapped Plain t (text_of names t) ++ rest) ≡ behind names (inner_of names d) (t, rest)
 unfolding expr_with operands_at
 first_back names t d rest are back sound deep digit =
@@ -127,7 +132,8 @@ first_back names t d rest are back sound deep digit =
 behind_end : (names : List (List ℕ)) (inner : Inner) (t : Tree) (rest : List ℕ) → Ends rest → behind names inner (t, rest) ≡ Ok (t, rest)
 behind_end names inner t rest ends = rw (ends.star, ends.slash) refl
 
-bottom_back : (names : List (List ℕ)) (p q : Tree) (d : ℕ) (rest : List ℕ) → AreKnown names → ExprBack names q → is_readable (length names) q ≡ true → deeper q (nesting q) ≤ d → Stops is_digit rest
+bottom_back : (names : List (List ℕ)) (p q : Tree) (d : ℕ) (rest : List ℕ) → AreKnown names → ExprBack names q → is_readable (length names) q ≡ true
+    → deeper q (nesting q) ≤ d → Stops is_digit rest
     → behind names (inner_of names d) (p, 32 ∷ 47 ∷ 32 ∷ (wrapped Plain q (text_of names q) ++ rest)) ≡ Ok (quotient p q, rest)
 unfolding bottom_at next_is trim
 bottom_back names p q d rest are back sound deep digit =
@@ -182,8 +188,10 @@ stops_factors : (names : List (List ℕ)) (ts : Trees) (rest : List ℕ) → Sto
 stops_factors names no_trees rest s = s
 stops_factors names (tree t ts) rest s = refl
 
-factor_back : (names : List (List ℕ)) (before : List Tree) (t : Tree) (ts : Trees) (d : ℕ) (rest : List ℕ) → AreKnown names → ExprBack names t → is_readable (length names) t ≡ true → deeper t (nesting t) ≤ d → Stops is_digit rest
-    → factor_at names (inner_of names d) before (32 ∷ ((wrapped Plain t (text_of names t) ++ factors_in Plain Later names ts) ++ rest)) ≡ Ok (before ++ t ∷ [], factors_in Plain Later names ts ++ rest)
+factor_back : (names : List (List ℕ)) (before : List Tree) (t : Tree) (ts : Trees) (d : ℕ) (rest : List ℕ) → AreKnown names → ExprBack names t
+    → is_readable (length names) t ≡ true → deeper t (nesting t) ≤ d → Stops is_digit rest
+    → factor_at names (inner_of names d) before (32 ∷ ((wrapped Plain t (text_of names t) ++ factors_in Plain Later names ts) ++ rest))
+    ≡ Ok (before ++ t ∷ [], factors_in Plain Later names ts ++ rest)
 unfolding factor_at
 factor_back names before t ts d rest are back sound deep digit =
     let w = wrapped Plain t (text_of names t) in
@@ -196,8 +204,10 @@ factor_back names before t ts d rest are back sound deep digit =
 regroup : (before : List Tree) (t : Tree) (ts : List Tree) → (before ++ t ∷ []) ++ ts ≡ before ++ t ∷ ts
 regroup before t ts = append_assoc before (t ∷ []) ts
 
-more_back : (names : List (List ℕ)) (ts : Trees) (d : ℕ) (rest : List ℕ) → AreKnown names → EachBack names ts → are_readable (length names) ts ≡ true → nesting_each ts ≤ d → Ends rest
-    → (fuel : ℕ) (before : List Tree) → length (list_of ts) ≤ fuel → repeat (factor_step names (inner_of names d)) fuel before (factors_in Plain Later names ts ++ rest) ≡ Ok (before ++ list_of ts, rest)
+more_back : (names : List (List ℕ)) (ts : Trees) (d : ℕ) (rest : List ℕ) → AreKnown names → EachBack names ts → are_readable (length names) ts ≡ true
+    → nesting_each ts ≤ d → Ends rest
+    → (fuel : ℕ) (before : List Tree) → length (list_of ts) ≤ fuel → repeat (factor_step names (inner_of names d)) fuel before
+    (factors_in Plain Later names ts ++ rest) ≡ Ok (before ++ list_of ts, rest)
 unfolding next_is trim
 more_back names no_trees d rest are each sound deep ends fuel before le =
     end_with (factor_step names (inner_of names d)) before rest fuel (ap (λ o. when o None (λ r. Some (factor_at names (inner_of names d) before r))) ends.star)
@@ -218,15 +228,19 @@ fewer names (tree t ts) rest =
     let more = factors_in Plain Later names ts in
     omega (arith, fewer names ts rest, ap length (append_assoc w more rest), length-append w (more ++ rest))
 
-factors_back : (names : List (List ℕ)) (t u : Tree) (ts : Trees) (d : ℕ) (rest : List ℕ) → AreKnown names → ExprBack names u → EachBack names ts → is_readable (length names) u ≡ true → are_readable (length names) ts ≡ true
+factors_back : (names : List (List ℕ)) (t u : Tree) (ts : Trees) (d : ℕ) (rest : List ℕ) → AreKnown names → ExprBack names u → EachBack names ts
+    → is_readable (length names) u ≡ true → are_readable (length names) ts ≡ true
     → deeper u (nesting u) ≤ d → nesting_each ts ≤ d → Ends rest
-    → factors_at names (inner_of names d) t (32 ∷ ((wrapped Plain u (text_of names u) ++ factors_in Plain Later names ts) ++ rest)) ≡ Ok (product (tree t (tree u ts)), rest)
+    → factors_at names (inner_of names d) t (32 ∷ ((wrapped Plain u (text_of names u) ++ factors_in Plain Later names ts) ++ rest))
+    ≡ Ok (product (tree t (tree u ts)), rest)
 unfolding factors_at
 factors_back names t u ts d rest are back each su ss du ds ends =
     let step = factor_step names (inner_of names d) in
     let more = factors_in Plain Later names ts in
-    ap (λ r. r >>= λ two. repeat step (length two.1) two.0 two.1 >>= λ all. Ok (product (trees_of all.0), all.1)) (factor_back names (t ∷ []) u ts d rest are back su du ends.digit)
-    ∙ ap (λ r. r >>= λ all. Ok (product (trees_of all.0), all.1)) (more_back names ts d rest are each ss ds ends (length (more ++ rest)) (t ∷ u ∷ []) (fewer names ts rest))
+    ap (λ r. r >>= λ two. repeat step (length two.1) two.0 two.1 >>= λ all. Ok (product (trees_of all.0), all.1))
+    (factor_back names (t ∷ []) u ts d rest are back su du ends.digit)
+    ∙ ap (λ r. r >>= λ all. Ok (product (trees_of all.0), all.1)) (more_back names ts d rest are each ss ds ends (length (more ++ rest)) (t ∷ u ∷ [])
+    (fewer names ts rest))
     ∙ ap (λ ts. Ok (product (tree t (tree u ts)), rest)) (trees_again ts)
 
 behind_star : (names : List (List ℕ)) (inner : Inner) (t : Tree) (bytes : List ℕ) → behind names inner (t, 32 ∷ 42 ∷ bytes) ≡ factors_at names inner t bytes
@@ -251,7 +265,8 @@ product_back names (tree t (tree u ts)) are each d rest sound deep ends =
 
 -- an expression that is an operand as it stands
 leaf_back : (names : List (List ℕ)) (t : Tree) (d : ℕ) (rest : List ℕ) → next_is (codes "sum") (text_of names t ++ rest) ≡ None
-    → operand_at names (inner_of names d) (text_of names t ++ rest) ≡ Ok (t, rest) → Ends rest → expr_with names (inner_of names d) (text_of names t ++ rest) ≡ Ok (t, rest)
+    → operand_at names (inner_of names d) (text_of names t ++ rest) ≡ Ok (t, rest) → Ends rest → expr_with names (inner_of names d) (text_of names t ++ rest)
+    ≡ Ok (t, rest)
 unfolding expr_with operands_at
 leaf_back names t d rest none read ends =
     let inner = inner_of names d in
@@ -279,4 +294,5 @@ pub reads_back : ReadsBack
 unfolding expr_of trim
 reads_back names t are sound numbered nests =
     ap (expr_of names) (sym (append-nil (text_of names t)))
-    ∙ ap (λ r. r >>= λ e. cond (eqb (length (trim e.1)) 0) (Ok e.0) (bad e.1)) (expr_back names (known names are) t 60 [] (readable (length names) t sound numbered) nests ends_here)
+    ∙ ap (λ r. r >>= λ e. cond (eqb (length (trim e.1)) 0) (Ok e.0) (bad e.1))
+    (expr_back names (known names are) t 60 [] (readable (length names) t sound numbered) nests ends_here)

@@ -10,8 +10,8 @@ use Rattle.std.specs.Prelude.{◌≡◌, ℕ, zero, suc, ◌+◌, ◌^◌, ◌<�
 use Rattle.std.specs.List.{list_all}
 use Rattle.mixed_graph.specs.Bits.{has}
 use Rattle.mixed_graph.specs.Names.{is_line_byte, name_of}
-use Rattle.name_text.specs.Printing.{is_white, is_plain_byte, is_plain}
-use Rattle.mixed_graph.specs.Masks.{join, one}
+use Rattle.answer_text.specs.Printing.{is_white, is_plain_byte, is_bare}
+use Rattle.mixed_graph.specs.Masks.{union, one}
 use Rattle.prob_expr.specs.Tree.{Tree, prob, sum, product, quotient, named, trees_of, PlainFormula}
 use Rattle.expr_text.specs.Bytes.{is_digit}
 
@@ -32,7 +32,7 @@ pub record Token (token bytes rest : List ℕ) : Type 0 where
 
 -- a name: bare, which is a maximal run of the characters of bare names; or between quotation marks
 pub data Name (name bytes rest : List ℕ) : Type 0 where
-  bare_name : is_plain name ≡ true → EndsRun is_plain_byte rest → Token name bytes rest → Name name bytes rest
+  bare_name : is_bare name ≡ true → EndsRun is_plain_byte rest → Token name bytes rest → Name name bytes rest
   quoted_name : 0 < length name → list_all is_line_byte name ≡ true → Token (34 ∷ name ++ 34 ∷ []) bytes rest → Name name bytes rest
 
 -- the name of vertex v, which isn't a member of the set that the names before it make
@@ -45,7 +45,7 @@ pub record Member (names : List (List ℕ)) (v have : ℕ) (bytes rest : List �
 abbrev pub MoreNames : List (List ℕ) → List ℕ → ℕ → ℕ → List ℕ → List ℕ → Type 0
 MoreNames names [] have set bytes rest = (have ≡ set) × (bytes ≡ rest)
 MoreNames names (v ∷ vs) have set bytes rest =
-    (a : List ℕ) × (b : List ℕ) × Token (codes ",") bytes a × Member names v have a b × MoreNames names vs (join have (one v)) set b rest
+    (a : List ℕ) × (b : List ℕ) × Token (codes ",") bytes a × Member names v have a b × MoreNames names vs (union have (one v)) set b rest
 
 -- names = name { "," name }
 pub record Set (names : List (List ℕ)) (set : ℕ) (bytes rest : List ℕ) : Type 0 where
@@ -53,7 +53,7 @@ pub record Set (names : List (List ℕ)) (set : ℕ) (bytes rest : List ℕ) : T
   pub others : List ℕ
   pub behind : List ℕ
   pub name : Member names first 0 bytes behind
-  pub more : MoreNames names others (join 0 (one first)) set behind rest
+  pub more : MoreNames names others (union 0 (one first)) set behind rest
 
 -- a number of 32 bits in decimal, without a zero at the front of others: a maximal run of digits
 pub record Number (k : ℕ) (bytes rest : List ℕ) : Type 0 where
@@ -65,12 +65,15 @@ pub record Number (k : ℕ) (bytes rest : List ℕ) : Type 0 where
 pub data Conds (names : List (List ℕ)) (doing given : ℕ) (bytes rest : List ℕ) : Type 0 where
   no_conds : 0 ≡ doing → 0 ≡ given → bytes ≡ rest → Conds names doing given bytes rest
   given_alone : (a : List ℕ) → 0 ≡ doing → Token (codes "|") bytes a → Set names given a rest → Conds names doing given bytes rest
-  done_alone : (a b c : List ℕ) → 0 ≡ given → Token (codes "|") bytes a → Token (codes "do(") a b → Set names doing b c → Token (codes ")") c rest → Conds names doing given bytes rest
-  done_and_given : (a b c d e : List ℕ) → Token (codes "|") bytes a → Token (codes "do(") a b → Set names doing b c → Token (codes ")") c d → Token (codes ",") d e → Set names given e rest → Conds names doing given bytes rest
+  done_alone : (a b c : List ℕ) → 0 ≡ given → Token (codes "|") bytes a → Token (codes "do(") a b → Set names doing b c → Token (codes ")") c rest
+      → Conds names doing given bytes rest
+  done_and_given : (a b c d e : List ℕ) → Token (codes "|") bytes a → Token (codes "do(") a b → Set names doing b c → Token (codes ")") c d
+      → Token (codes ",") d e → Set names given e rest → Conds names doing given bytes rest
 
 -- an operand, where `inside` is what may stand in its parentheses
 pub data Operand (names : List (List ℕ)) (inside : Tree → List ℕ → List ℕ → Type 0) (t : Tree) (bytes rest : List ℕ) : Type 0 where
-  term : (of doing given : ℕ) (a b c : List ℕ) → prob of doing given ≡ t → Token (codes "P(") bytes a → Set names of a b → Conds names doing given b c → Token (codes ")") c rest → Operand names inside t bytes rest
+  term : (of doing given : ℕ) (a b c : List ℕ) → prob of doing given ≡ t → Token (codes "P(") bytes a → Set names of a b → Conds names doing given b c
+      → Token (codes ")") c rest → Operand names inside t bytes rest
   definition : (k : ℕ) (a : List ℕ) → named k ≡ t → Token (codes "q") bytes a → Number k a rest → Operand names inside t bytes rest
   nested : (a b : List ℕ) → Token (codes "(") bytes a → inside t a b → Token (codes ")") b rest → Operand names inside t bytes rest
 
@@ -82,10 +85,13 @@ MoreFactors names inside (t ∷ ts) bytes rest =
 
 -- an expression, where `inside` is what may stand in parentheses and under a sum
 pub data Expr (names : List (List ℕ)) (inside : Tree → List ℕ → List ℕ → Type 0) (t : Tree) (bytes rest : List ℕ) : Type 0 where
-  summed : (over : ℕ) (body : Tree) (a b c d : List ℕ) → sum over body ≡ t → Token (codes "sum") bytes a → Token (codes "{") a b → Set names over b c → Token (codes "}") c d → inside body d rest → Expr names inside t bytes rest
+  summed : (over : ℕ) (body : Tree) (a b c d : List ℕ) → sum over body ≡ t → Token (codes "sum") bytes a → Token (codes "{") a b → Set names over b c
+      → Token (codes "}") c d → inside body d rest → Expr names inside t bytes rest
   alone : Operand names inside t bytes rest → Expr names inside t bytes rest
-  multiplied : (p q : Tree) (ts : List Tree) (a : List ℕ) → product (trees_of (p ∷ q ∷ ts)) ≡ t → Operand names inside p bytes a → MoreFactors names inside (q ∷ ts) a rest → Expr names inside t bytes rest
-  divided : (p q : Tree) (a b : List ℕ) → quotient p q ≡ t → Operand names inside p bytes a → Token (codes "/") a b → Operand names inside q b rest → Expr names inside t bytes rest
+  multiplied : (p q : Tree) (ts : List Tree) (a : List ℕ) → product (trees_of (p ∷ q ∷ ts)) ≡ t → Operand names inside p bytes a
+      → MoreFactors names inside (q ∷ ts) a rest → Expr names inside t bytes rest
+  divided : (p q : Tree) (a b : List ℕ) → quotient p q ≡ t → Operand names inside p bytes a → Token (codes "/") a b → Operand names inside q b rest
+      → Expr names inside t bytes rest
 
 -- an expression in which fewer than d parentheses and sums nest
 abbrev pub Inside : List (List ℕ) → ℕ → Tree → List ℕ → List ℕ → Type 0
@@ -100,7 +106,8 @@ Nested names t bytes rest = Expr names (Inside names 60) t bytes rest
 abbrev pub Definitions : List (List ℕ) → ℕ → List Tree → List ℕ → List ℕ → Type 0
 Definitions names k [] bytes rest = bytes ≡ rest
 Definitions names k (d ∷ ds) bytes rest =
-    (a : List ℕ) × (b : List ℕ) × (c : List ℕ) × (e : List ℕ) × Token (codes "q") bytes a × Number k a b × Token (codes "=") b c × Nested names d c e × Definitions names (k + 1) ds e rest
+    (a : List ℕ) × (b : List ℕ) × (c : List ℕ) × (e : List ℕ) × Token (codes "q") bytes a × Number k a b × Token (codes "=") b c × Nested names d c e
+    × Definitions names (k + 1) ds e rest
 
 -- the text is one expression
 pub record IsExprText (names : List (List ℕ)) (t : Tree) (text : List ℕ) : Type 0 where

@@ -15,7 +15,8 @@ ReadsBack = (names : List (List ℕ)) (t : Tree) → AreNames names → is_sound
 
 -- a formula without a fault, with as many definitions as have numbers
 abbrev pub ReadsWholeBack : Type 0
-ReadsWholeBack = (names : List (List ℕ)) (f : PlainFormula) → AreNames names → fault_in (length names) f ≡ None → length f.defs ≤ 2 ^ 32 → nesting f.main ≤ 60 → nesting_all f.defs ≤ 60
+ReadsWholeBack = (names : List (List ℕ)) (f : PlainFormula) → AreNames names → fault_in (length names) f ≡ None → length f.defs ≤ 2 ^ 32 → nesting f.main ≤ 60
+    → nesting_all f.defs ≤ 60
     → formula_of names (formula_text names f) ≡ Ok f
 
 -- what is read as an expression is one of the grammar, and each such text is read
@@ -24,4 +25,5 @@ ReadsGrammar = (names : List (List ℕ)) (t : Tree) (text : List ℕ) → AreNam
 
 -- what is read as a formula is one of the grammar without a fault, and each such text is read
 abbrev pub ReadsFormulas : Type 0
-ReadsFormulas = (names : List (List ℕ)) (f : PlainFormula) (text : List ℕ) → AreNames names → (formula_of names text ≡ Ok f) ↔ (IsFormulaText names f text × (fault_in (length names) f ≡ None))
+ReadsFormulas = (names : List (List ℕ)) (f : PlainFormula) (text : List ℕ) → AreNames names → (formula_of names text ≡ Ok f)
+    ↔ (IsFormulaText names f text × (fault_in (length names) f ≡ None))

@@ -1,13 +1,14 @@
 -- Reading an expression from left to right. White space may stand before each token. A fault is how many
 -- bytes are left from the token on that doesn't fit.
-use Rattle.std.specs.Prelude.{◌≡◌, ℕ, zero, suc, ◌+◌, ◌-◌, ◌*◌, ◌^◌, Bool, false, not, ◌||◌, ◌&&◌, ◌==◌, is_none, nat_lt, List, [], ◌∷◌, ◌++◌, length, take, drop, Option, Some, None, Result, Ok, Err, if◌then◌else◌, codes}
+use Rattle.std.specs.Prelude.{◌≡◌, ℕ, zero, suc, ◌+◌, ◌-◌, ◌*◌, ◌^◌, Bool, false, not, ◌||◌, ◌&&◌, ◌==◌, is_none, nat_lt, List, [], ◌∷◌, ◌++◌, length}
+use Rattle.std.specs.Prelude.{take, drop, Option, Some, None, Result, Ok, Err, if◌then◌else◌, codes}
 use Rattle.std.specs.List.{prefix_len}
 use Rattle.prob_expr.specs.Tree.{Tree, prob, sum, product, quotient, named, trees_of, PlainFormula}
 use Rattle.prob_expr.specs.Check.{fault_in}
 use Rattle.mixed_graph.specs.Bits.{has}
 use Rattle.mixed_graph.specs.Names.{is_line_byte, is_named, index_of}
-use Rattle.name_text.specs.Printing.{is_white, is_plain_byte}
-use Rattle.mixed_graph.specs.Masks.{join, one}
+use Rattle.answer_text.specs.Printing.{is_white, is_plain_byte}
+use Rattle.mixed_graph.specs.Masks.{union, one}
 use Rattle.expr_text.specs.Bytes.{is_digit}
 use Rattle.expr_text.specs.declared.stop.ReadStop.{ReadStop}
 use Rattle.expr_text.specs.declared.stop.ReadStop.TheVariants.{Left, NoMemory}
@@ -86,7 +87,7 @@ raw_name (b ∷ bytes) = if b == 34 then quoted bytes else (if b == 35 then None
 abbrev pub with_vertex : List (List ℕ) → ℕ → List ℕ → Option ℕ
 with_vertex names have name =
     if not (is_named names name) || has have (index_of names name) then None
-    else Some (join have (one (index_of names name)))
+    else Some (union have (one (index_of names name)))
 
 -- the next name, beside the members before it
 unfoldable pub name_at : List (List ℕ) → ℕ → List ℕ → Parse ℕ

@@ -1,8 +1,10 @@
+//! The classes of bytes.
+
 ghost use Rattle.std.specs.Prelude.{◌≡◌, ◌≤◌, length};
 ghost use Rattle.std.specs.List.{prefix_len};
 ghost use Rattle.expr_text.specs.Bytes.{in_class};
 
-use name_text::{is_name_byte, is_white};
+use answer_text::names::{is_name_byte, is_white};
 
 /// A class of bytes.
 #[derive(Clone, Copy, Debug, PartialEq, Eq)]

@@ -1,3 +1,5 @@
+//! The tokens of a text.
+
 ghost use Rattle.std.specs.Prelude.{◌≡◌, ◌<◌, ◌≤◌, ◌+◌, ◌*◌, ◌^◌, ℕ, length, IfSome, IfOk, option_map, take, drop};
 ghost use Rattle.expr_text.specs.Read.{Gives, after, trim, next_is, expect, raw_name, bare, closed, with_vertex, name_at, name_step, repeat, names_at, number_of, is_number, number_in, number_at};
 

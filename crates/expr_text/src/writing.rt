@@ -1,3 +1,5 @@
+//! Expressions and formulas written.
+
 ghost use Rattle.std.specs.Prelude.{◌≡◌, ◌<◌, ◌≤◌, ◌++◌, ◌+◌, ℕ, length, OnOk, IfOk, codes, decimal, string_bytes, map, true, None};
 ghost use Rattle.mixed_graph.specs.Bits.{has};
 ghost use Rattle.answer_text.specs.Notations.{sign_text};

@@ -23,7 +23,8 @@ capped_more_one range t b c true e = rw e (capped t b c)
 capped_more_one range t b c false e = e
 
 -- the capped range after a start, times the next base where that is kept, is the next range, capped
-pub range_more : (n : ℕ) (p : ℕ → Bool) (b : ℕ → ℕ) (start range base range' cap : ℕ) (kept : Bool) → range ≡ min (start * radix_range n p b) cap → kept ≡ p n → base ≡ b n
+pub range_more : (n : ℕ) (p : ℕ → Bool) (b : ℕ → ℕ) (start range base range' cap : ℕ) (kept : Bool) → range ≡ min (start * radix_range n p b) cap → kept ≡ p n
+    → base ≡ b n
     → range' ≡ cond kept (min (range * base) cap) range → range' ≡ min (start * radix_range (n + 1) p b) cap
 range_more n p b start range base range' cap kept h k i r =
     let e : n + 1 ≡ suc n = omega arith in
@@ -31,7 +32,8 @@ range_more n p b start range base range' cap kept h k i r =
     rw e (r' ∙ capped_more range start (radix_range n p b) (b n) cap (p n) h)
 
 -- the same without a start
-pub range_more_one : (n : ℕ) (p : ℕ → Bool) (b : ℕ → ℕ) (range base range' cap : ℕ) (kept : Bool) → range ≡ min (radix_range n p b) cap → kept ≡ p n → base ≡ b n
+pub range_more_one : (n : ℕ) (p : ℕ → Bool) (b : ℕ → ℕ) (range base range' cap : ℕ) (kept : Bool) → range ≡ min (radix_range n p b) cap → kept ≡ p n → base
+    ≡ b n
     → range' ≡ cond kept (min (range * base) cap) range → range' ≡ min (radix_range (n + 1) p b) cap
 range_more_one n p b range base range' cap kept h k i r =
     let e : n + 1 ≡ suc n = omega arith in

@@ -13,7 +13,8 @@ some_of [] i lt = absurd (omega arith)
 some_of (x ∷ xs) i lt = x
 
 -- a vertex's mechanism in the model that the data means gives the value by its entry in the list
-pub value_at : (g : MixedGraph) (m : Model) (v : ℕ) (d : Mechanism) → v < length m.mechanisms.items → (s u : ℕ → ℕ) → (meaning g m).mechanism v s u ≡ value_by g m v s u (get_or m.mechanisms.items v d)
+pub value_at : (g : MixedGraph) (m : Model) (v : ℕ) (d : Mechanism) → v < length m.mechanisms.items → (s u : ℕ → ℕ) → (meaning g m).mechanism v s u
+    ≡ value_by g m v s u (get_or m.mechanisms.items v d)
 value_at g m v d lt s u = get_or-map (value_by g m v s u) m.mechanisms.items v d 0 lt
 
 -- sound data, with a positive size and a mechanism for each vertex, means a model that fits the graph
@@ -32,5 +33,6 @@ data_fits g m sizes mechanisms positive sound = record {
   below = λ v lt s u hs hu. (
       let l : v < length m.mechanisms.items = omega arith in
       let d = some_of m.mechanisms.items v l in
-      subst (λ x. x < get_or m.sizes.items v 0) (sym (value_at g m v d l s u)) (value_below g m v s u hs hu (get_or m.mechanisms.items v d) (sound.inputs v lt d) (sound.values v lt d)));
+      subst (λ x. x < get_or m.sizes.items v 0) (sym (value_at g m v d l s u))
+      (value_below g m v s u hs hu (get_or m.mechanisms.items v d) (sound.inputs v lt d) (sound.values v lt d)));
 }

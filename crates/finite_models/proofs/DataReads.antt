@@ -1,5 +1,6 @@
 -- A mechanism given as data reads the parents and the causes alone, and gives a value of its vertex.
-use Rattle.std.proofs.Common.{ℕ, suc, ◌+◌, ◌*◌, ◌%◌, ◌≡◌, ◌<◌, Bool, true, false, cond, refl, ap, sym, List, [], ◌∷◌, length, get_or, map, sum, Some, None, IsTrue, arith}
+use Rattle.std.proofs.Common.{ℕ, suc, ◌+◌, ◌*◌, ◌%◌, ◌≡◌, ◌<◌, Bool, true, false, cond, refl, ap, sym, List, [], ◌∷◌, length, get_or, map, sum, Some}
+use Rattle.std.proofs.Common.{None, IsTrue, arith}
 use Rattle.std.proofs.lemmas.Bool.{and_parts}
 use Rattle.mixed_graph.specs.Bits.{has}
 use Rattle.mixed_graph.specs.Graphs.{MixedGraph}
@@ -26,13 +27,17 @@ bit_same a a' b b' o o' e e' p q r s = cc
 
 module _ (g : MixedGraph) (m : Model) (v : ℕ) (s t u w : ℕ → ℕ) (hs : (p : ℕ) → IsTrue (g.arrow p v) → s p ≡ t p)
     (hu : (j : ℕ) → j < length m.causes.items → IsTrue (has (children_of m.causes.items j) v) → u j ≡ w j) where
-  part_same : (own own' : ℕ) (p : Part) → MayRead g m v p → own ≡ own' → part_bit g.vertices m.mechanisms.items s u own p ≡ part_bit g.vertices m.mechanisms.items t w own' p
+  part_same : (own own' : ℕ) (p : Part) → MayRead g m v p → own ≡ own' → part_bit g.vertices m.mechanisms.items s u own p
+      ≡ part_bit g.vertices m.mechanisms.items t w own' p
   part_same own own' p r e = bit_same
-      (sum_below g.vertices (λ k. cond (has p.hedge_of.bits k) (hedge_bit (s k)) 0)) (sum_below g.vertices (λ k. cond (has p.hedge_of.bits k) (hedge_bit (t k)) 0))
-      (sum_below g.vertices (λ k. cond (has p.carried_of.bits k) (carried_bit m.mechanisms.items k (s k)) 0)) (sum_below g.vertices (λ k. cond (has p.carried_of.bits k) (carried_bit m.mechanisms.items k (t k)) 0))
+      (sum_below g.vertices (λ k. cond (has p.hedge_of.bits k) (hedge_bit (s k)) 0))
+      (sum_below g.vertices (λ k. cond (has p.hedge_of.bits k) (hedge_bit (t k)) 0))
+      (sum_below g.vertices (λ k. cond (has p.carried_of.bits k) (carried_bit m.mechanisms.items k (s k)) 0))
+      (sum_below g.vertices (λ k. cond (has p.carried_of.bits k) (carried_bit m.mechanisms.items k (t k)) 0))
       (cond p.own_hedge own 0) (cond p.own_hedge own' 0) (sum (map u p.causes.items)) (sum (map w p.causes.items))
       (sum_below-congr g.vertices _ _ (λ k lt. cond_same (has p.hedge_of.bits k) _ _ (λ i. ap hedge_bit (hs k (and_parts _ _ (r.hedges k i)).0))))
-      (sum_below-congr g.vertices _ _ (λ k lt. cond_same (has p.carried_of.bits k) _ _ (λ i. ap (carried_bit m.mechanisms.items k) (hs k (and_parts _ _ (r.carrieds k i)).0))))
+      (sum_below-congr g.vertices _ _ (λ k lt. cond_same (has p.carried_of.bits k) _ _
+      (λ i. ap (carried_bit m.mechanisms.items k) (hs k (and_parts _ _ (r.carrieds k i)).0))))
       (ap (λ x. cond p.own_hedge x 0) e)
       (ap sum (map_same p.causes.items u w (λ i l. hu (get_or p.causes.items i 0) (r.causes i l).below (r.causes i l).serves)))
 

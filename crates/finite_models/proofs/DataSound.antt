@@ -20,7 +20,8 @@ some_value (suc n) f h = omega arith
 module _ (g : MixedGraph) (m : Model) (v size : ℕ) (sizes : (p : ℕ) → p < g.vertices → 0 < get_or m.sizes.items p 0)
     (values : (j : ℕ) → j < length m.causes.items → 0 < length (weights_of m.causes.items j)) where
   values_from : (k : Mechanism) → HasInputs g m v k → HasPartSize size k
-      → ((s u : ℕ → ℕ) → ((p : ℕ) → p < g.vertices → s p < get_or m.sizes.items p 0) → ((j : ℕ) → j < length m.causes.items → u j < length (weights_of m.causes.items j)) → value_by g m v s u k < size)
+      → ((s u : ℕ → ℕ) → ((p : ℕ) → p < g.vertices → s p < get_or m.sizes.items p 0)
+      → ((j : ℕ) → j < length m.causes.items → u j < length (weights_of m.causes.items j)) → value_by g m v s u k < size)
       → HasValues size k
   values_from (Table outputs) h f below = λ i l.
       let w = placed g.vertices (length m.causes.items) (λ p. g.arrow p v) (λ j. has (children_of m.causes.items j) v)
@@ -42,7 +43,8 @@ data_sound g m sizes mechanisms form fit = record {
   inputs = form.inputs;
   values = λ v lt past. (
       let l : v < length m.mechanisms.items = omega arith in
-      values_from g m v (get_or m.sizes.items v 0) fit.positive_size (λ j k. some_value _ _ (fit.positive_weight j k)) (get_or m.mechanisms.items v past) (form.inputs v lt past) (form.part_sizes v lt past)
+      values_from g m v (get_or m.sizes.items v 0) fit.positive_size (λ j k. some_value _ _ (fit.positive_weight j k)) (get_or m.mechanisms.items v past)
+      (form.inputs v lt past) (form.part_sizes v lt past)
       (λ s u hs hu. subst (λ x. x < get_or m.sizes.items v 0) (value_at g m v past l s u) (fit.below v lt s u hs hu)));
 }
 
@@ -52,4 +54,5 @@ part_size size (Table outputs) h = tt
 part_size size (Parity a b) h = h
 
 pub form_of : (g : MixedGraph) (m : Model) → IsSoundModel g m → IsWellFormed g m
-form_of g m s = record { inputs = s.inputs; part_sizes = λ v lt past. part_size (get_or m.sizes.items v 0) (get_or m.mechanisms.items v past) (s.values v lt past) }
+form_of g m s =
+    record { inputs = s.inputs; part_sizes = λ v lt past. part_size (get_or m.sizes.items v 0) (get_or m.mechanisms.items v past) (s.values v lt past) }

@@ -35,7 +35,8 @@ pub any_below_gives : (k : ℕ) (p : ℕ → Bool) → any_below k p ≡ true �
 any_below_gives zero p e = absurd (grind (arith, e))
 any_below_gives (suc k) p e = go (any_below k p) (p k) refl refl e (any_below_gives k p)
   where
-    go : (a b : Bool) → any_below k p ≡ a → p k ≡ b → (a || b) ≡ true → (any_below k p ≡ true → (i : ℕ) × (i < k) × (p i ≡ true)) → (i : ℕ) × (i < suc k) × (p i ≡ true)
+    go : (a b : Bool) → any_below k p ≡ a → p k ≡ b → (a || b) ≡ true → (any_below k p ≡ true → (i : ℕ) × (i < k) × (p i ≡ true)) → (i : ℕ) × (i < suc k)
+        × (p i ≡ true)
     go true b ea eb h ih = let w = ih ea in (w.0, omega (arith, w.1), w.2)
     go false true ea eb h ih = (k, omega arith, eb)
     go false false ea eb h ih = absurd (grind (arith, h))
@@ -58,26 +59,35 @@ group m J S K s = sum_over J m.values m.causes (factor m J S K s) (λ j. 0)
 
 module _ (g : MixedGraph) (m : FiniteModel) (rank : ℕ → ℕ) (ranked : IsRanked g rank) (follows : Follows g m) where
   -- an event's weight is the sum of the worlds' weights, each times its solution's agreement with s
-  pub weight_by_matches : (A : ℕ → Bool) (s : ℕ → ℕ) → event_weight m A s ≡ sum_over (λ j. true) m.values m.causes (λ u. world_weight m u * matches m.vertices A (solution m u) s) (λ j. 0)
+  pub weight_by_matches : (A : ℕ → Bool) (s : ℕ → ℕ) → event_weight m A s
+      ≡ sum_over (λ j. true) m.values m.causes (λ u. world_weight m u * matches m.vertices A (solution m u) s) (λ j. 0)
   weight_by_matches A s =
-      over-congr (λ j. true) m.values m.causes (λ u. cond (agree m.vertices A (solution m u) s) (world_weight m u) 0) (λ u. world_weight m u * matches m.vertices A (solution m u) s) (λ j. 0)
+      over-congr (λ j. true) m.values m.causes (λ u. cond (agree m.vertices A (solution m u) s) (world_weight m u) 0)
+      (λ u. world_weight m u * matches m.vertices A (solution m u) s) (λ j. 0)
       (λ u. cond-number (agree m.vertices A (solution m u) s) (world_weight m u) ∙ ap (λ r. world_weight m u * r) (agree-matches m.vertices A (solution m u) s))
 
   -- summed over the values on U, the weight on A and U is the weight on A
-  pub marginal : (A U : ℕ → Bool) (s : ℕ → ℕ) → ((v : ℕ) → A v ≡ true → U v ≡ true → ⊥) → sum_over U m.size m.vertices (event_weight m (λ v. A v || U v)) s ≡ event_weight m A s
+  pub marginal : (A U : ℕ → Bool) (s : ℕ → ℕ) → ((v : ℕ) → A v ≡ true → U v ≡ true → ⊥) → sum_over U m.size m.vertices (event_weight m (λ v. A v || U v)) s
+      ≡ event_weight m A s
   marginal A U s d =
-      over-congr U m.size m.vertices (event_weight m (λ v. A v || U v)) (λ s'. sum_over (λ j. true) m.values m.causes (λ u. world_weight m u * matches m.vertices (λ v. A v || U v) (solution m u) s') (λ j. 0)) s
+      over-congr U m.size m.vertices (event_weight m (λ v. A v || U v))
+      (λ s'. sum_over (λ j. true) m.values m.causes (λ u. world_weight m u * matches m.vertices (λ v. A v || U v) (solution m u) s') (λ j. 0)) s
       (λ s'. weight_by_matches (λ v. A v || U v) s')
-      ∙ over-swap U (λ j. true) m.size m.values m.vertices m.causes (λ s' u. world_weight m u * matches m.vertices (λ v. A v || U v) (solution m u) s') s (λ j. 0)
-      ∙ over-congr_within (λ j. true) m.values m.causes (λ u. sum_over U m.size m.vertices (λ s'. world_weight m u * matches m.vertices (λ v. A v || U v) (solution m u) s') s)
+      ∙ over-swap U (λ j. true) m.size m.values m.vertices m.causes (λ s' u. world_weight m u * matches m.vertices (λ v. A v || U v) (solution m u) s') s
+      (λ j. 0)
+      ∙ over-congr_within (λ j. true) m.values m.causes (λ u. sum_over U m.size m.vertices
+      (λ s'. world_weight m u * matches m.vertices (λ v. A v || U v) (solution m u) s') s)
       (λ u. world_weight m u * matches m.vertices A (solution m u) s) (λ j. 0)
       (λ u inside same. over-mul U m.size m.vertices (λ s'. world_weight m u) (matches m.vertices (λ v. A v || U v) (solution m u)) s (λ b i x lt e. refl)
       ∙ ap (λ r. world_weight m u * r) (over-matches U A m.size (solution m u) m.vertices s (solution_within g m follows u (λ j jl. inside j jl refl)) d))
       ∙ sym (weight_by_matches A s)
 
   -- a world counts for a closed set where each mechanism of the set gives the value of s at s
-  pub weight_by_checks : (S : ℕ → Bool) (s : ℕ → ℕ) → IsClosed g S → event_weight m S s ≡ sum_over (λ j. true) m.values m.causes (λ u. world_weight m u * checks m S s u) (λ j. 0)
+  pub weight_by_checks : (S : ℕ → Bool) (s : ℕ → ℕ) → IsClosed g S → event_weight m S s
+      ≡ sum_over (λ j. true) m.values m.causes (λ u. world_weight m u * checks m S s u) (λ j. 0)
   weight_by_checks S s closed =
-      over-congr (λ j. true) m.values m.causes (λ u. cond (agree m.vertices S (solution m u) s) (world_weight m u) 0) (λ u. world_weight m u * checks m S s u) (λ j. 0)
+      over-congr (λ j. true) m.values m.causes (λ u. cond (agree m.vertices S (solution m u) s) (world_weight m u) 0) (λ u. world_weight m u * checks m S s u)
+      (λ j. 0)
       (λ u. cond-number (agree m.vertices S (solution m u) s) (world_weight m u)
-      ∙ ap (λ r. world_weight m u * r) (ap number (agree-obeys g m rank ranked follows S closed u s) ∙ number-all m.vertices (λ v. cond (S v) (eqb (s v) (m.mechanism v s u)) true)))
+      ∙ ap (λ r. world_weight m u * r) (ap number (agree-obeys g m rank ranked follows S closed u s)
+      ∙ number-all m.vertices (λ v. cond (S v) (eqb (s v) (m.mechanism v s u)) true)))

@@ -10,7 +10,8 @@ use Rattle.finite_models.proofs.Bools.{and_first}
 pub record Follows (g : MixedGraph) (m : FiniteModel) : Type 0 where
   pub vertices : m.vertices ≡ g.vertices
   pub joined : (j u v : ℕ) → j < m.causes → m.serves j u ≡ true → m.serves j v ≡ true → u ≢ v → g.both u v ≡ true
-  pub reads : (v : ℕ) → v < m.vertices → (s t u w : ℕ → ℕ) → ((p : ℕ) → g.arrow p v ≡ true → s p ≡ t p) → ((j : ℕ) → j < m.causes → m.serves j v ≡ true → u j ≡ w j) → m.mechanism v s u ≡ m.mechanism v t w
+  pub reads : (v : ℕ) → v < m.vertices → (s t u w : ℕ → ℕ) → ((p : ℕ) → g.arrow p v ≡ true → s p ≡ t p)
+      → ((j : ℕ) → j < m.causes → m.serves j v ≡ true → u j ≡ w j) → m.mechanism v s u ≡ m.mechanism v t w
   pub below : (v : ℕ) → v < m.vertices → (s u : ℕ → ℕ) → IsAssignment m.vertices m.size s → IsWorld m u → m.mechanism v s u < m.size v
   pub positive_size : (v : ℕ) → v < m.vertices → 0 < m.size v
 
@@ -19,7 +20,8 @@ pub follows_of : (g : MixedGraph) (m : FiniteModel) → Fits g m → Follows g m
 follows_of g m fit = record { vertices = fit.vertices; joined = fit.joined; reads = fit.reads; below = fit.below; positive_size = fit.positive_size }
 
 -- the submodel reads no more than the model
-pub follows_intervene : (g : MixedGraph) (m : FiniteModel) (b : ℕ → Bool) (s : ℕ → ℕ) → IsAssignment m.vertices m.size s → Follows g m → Follows g (intervene m b s)
+pub follows_intervene : (g : MixedGraph) (m : FiniteModel) (b : ℕ → Bool) (s : ℕ → ℕ) → IsAssignment m.vertices m.size s → Follows g m
+    → Follows g (intervene m b s)
 follows_intervene g m b s within follows = record {
   vertices = follows.vertices;
   joined = λ j u v jl e f ne. follows.joined j u v jl (and_first (m.serves j u) (not (b u)) e) (and_first (m.serves j v) (not (b v)) f) ne;
@@ -29,7 +31,8 @@ follows_intervene g m b s within follows = record {
 }
   where
     reads : (v : ℕ) → v < m.vertices → (x y u w : ℕ → ℕ) (c : Bool) → b v ≡ c → ((p : ℕ) → g.arrow p v ≡ true → x p ≡ y p)
-        → ((j : ℕ) → j < m.causes → (m.serves j v && not (b v)) ≡ true → u j ≡ w j) → cond (b v) (s v) (m.mechanism v x u) ≡ cond (b v) (s v) (m.mechanism v y w)
+        → ((j : ℕ) → j < m.causes → (m.serves j v && not (b v)) ≡ true → u j ≡ w j) → cond (b v) (s v) (m.mechanism v x u)
+        ≡ cond (b v) (s v) (m.mechanism v y w)
     reads v il x y u w true e hp hc = rw e refl
     reads v il x y u w false e hp hc = rw e (follows.reads v il x y u w hp (λ j jl a. hc j jl (and_from (m.serves j v) (not (b v)) a (not_from_false (b v) e))))
 

@@ -80,7 +80,8 @@ free_coordinate : (p a : Bool) (size t : ℕ → ℕ) (n : ℕ) (A : ℕ → Boo
 free_coordinate true true size t n A b lt d = absurd (d refl refl)
 free_coordinate true false size t n A b lt d =
     sum_below-congr (size n) (λ x. matches n A t (set_at b n x) * number (eqb (t n) (set_at b n x n))) (λ x. matches n A t b * number (eqb (t n) x))
-    (λ x l. ap (λ r. r * number (eqb (t n) (set_at b n x n))) (matches_ignores n A t b n x (omega arith)) ∙ ap (λ r. matches n A t b * number (eqb (t n) r)) (set_at-same b n x))
+    (λ x l. ap (λ r. r * number (eqb (t n) (set_at b n x n))) (matches_ignores n A t b n x (omega arith))
+    ∙ ap (λ r. matches n A t b * number (eqb (t n) r)) (set_at-same b n x))
     ∙ sum_below-mul (size n) (matches n A t b) (λ x. number (eqb (t n) x))
     ∙ ap (λ r. matches n A t b * r) (sum_same (size n) (t n) lt)
 free_coordinate false true size t n A b lt d = refl
@@ -95,6 +96,7 @@ pub over-matches : (U A : ℕ → Bool) (size t : ℕ → ℕ) (n : ℕ) (b : �
 over-matches U A size t zero b h d = refl
 over-matches U A size t (suc n) b h d =
     along-congr (U n) (size n) n (sum_over U size n (matches (suc n) (λ v. A v || U v) t)) (λ c. matches n A t c * match_at (A n || U n) t c n) b
-    (λ c. over-mul-right U size n (matches n (λ v. A v || U v) t) (λ c'. match_at (A n || U n) t c' n) c (λ b' i x lt e. match_ignores n U A (A n || U n) t b' i x lt)
+    (λ c. over-mul-right U size n (matches n (λ v. A v || U v) t) (λ c'. match_at (A n || U n) t c' n) c
+    (λ b' i x lt e. match_ignores n U A (A n || U n) t b' i x lt)
     ∙ ap (λ r. r * match_at (A n || U n) t c n) (over-matches U A size t n c (λ v lt. h v (omega arith)) d))
     ∙ free_coordinate (U n) (A n) size t n A b (h n (omega arith)) (d n)

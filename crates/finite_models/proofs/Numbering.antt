@@ -47,23 +47,28 @@ positive_factor p zero x e pos = absurd (omega arith)
 positive_factor p (suc a) x e pos = omega arith
 
 -- the number with one more digit
-digits-more : (n : ℕ) (s : ℕ → ℕ) (i r : ℕ) (b : ℕ → ℕ) → i < s n → r < product_below n s → (k : ℕ) → digits (suc n) s (i * product_below n s + r) b k ≡ digits n s r (set_at b n i) k
+digits-more : (n : ℕ) (s : ℕ → ℕ) (i r : ℕ) (b : ℕ → ℕ) → i < s n → r < product_below n s → (k : ℕ) → digits (suc n) s (i * product_below n s + r) b k
+    ≡ digits n s r (set_at b n i) k
 digits-more n s i r b il rl k = elim (cases_order k n) [
   | inl e ↦ rw e (digits-below (suc n) s (i * product_below n s + r) b n (omega arith)
-      ∙ ap (λ x. x % s n) (div-mul-add i (product_below n s) r rl) ∙ mod-eq_of_lt il ∙ sym (set_at-same b n i) ∙ sym (digits-above n s r (set_at b n i) n (omega arith)))
+      ∙ ap (λ x. x % s n) (div-mul-add i (product_below n s) r rl) ∙ mod-eq_of_lt il ∙ sym (set_at-same b n i)
+      ∙ sym (digits-above n s r (set_at b n i) n (omega arith)))
   | inr o ↦ elim o [
     | inl l ↦ let f = factors s n k l in
         digits-below (suc n) s (i * product_below n s + r) b k (omega arith)
-        ∙ low_digit i (product_below n s) (product_below k s) (s k) f.rest r f.is (positive_factor (product_below n s) (product_below k s) (s k * f.rest) f.is (omega arith))
+        ∙ low_digit i (product_below n s) (product_below k s) (s k) f.rest r f.is
+        (positive_factor (product_below n s) (product_below k s) (s k * f.rest) f.is (omega arith))
         ∙ sym (digits-below n s r (set_at b n i) k l)
-    | inr l ↦ digits-above (suc n) s (i * product_below n s + r) b k (omega arith) ∙ sym (set_at-other b n i k (omega arith)) ∙ sym (digits-above n s r (set_at b n i) k (omega arith))
+    | inr l ↦ digits-above (suc n) s (i * product_below n s + r) b k (omega arith) ∙ sym (set_at-other b n i k (omega arith))
+        ∙ sym (digits-above n s r (set_at b n i) k (omega arith))
   ]
 ]
 
 over-digits : (s : ℕ → ℕ) (n : ℕ) (f : (ℕ → ℕ) → ℕ) (b : ℕ → ℕ) → sum_over (λ j. true) s n f b ≡ sum_below (product_below n s) (λ w. f (digits n s w b))
 over-digits s zero f b = let e : digits 0 s 0 b ≡ b = fun_ext (λ k. digits-above 0 s 0 b k (omega arith)) in rw e (omega arith)
 over-digits s (suc n) f b =
-    sum_below-congr (s n) (λ x. sum_over (λ j. true) s n f (set_at b n x)) (λ x. sum_below (product_below n s) (λ r. f (digits (suc n) s (x * product_below n s + r) b)))
+    sum_below-congr (s n) (λ x. sum_over (λ j. true) s n f (set_at b n x))
+    (λ x. sum_below (product_below n s) (λ r. f (digits (suc n) s (x * product_below n s + r) b)))
     (λ x lt. over-digits s n f (set_at b n x)
     ∙ sum_below-congr (product_below n s) (λ r. f (digits n s r (set_at b n x))) (λ r. f (digits (suc n) s (x * product_below n s + r) b))
     (λ r rl. ap f (sym (fun_ext (digits-more n s x r b lt rl)))))
@@ -95,11 +100,14 @@ over-numbers s n f none =
     ])))
 
 -- the sum of the products of one term for each coordinate is the product of the sums
-pub over-products : (s : ℕ → ℕ) (g : ℕ → ℕ → ℕ) (n : ℕ) (b : ℕ → ℕ) → sum_over (λ j. true) s n (λ u. product_below n (λ j. g j (u j))) b ≡ product_below n (λ j. sum_below (s j) (g j))
+pub over-products : (s : ℕ → ℕ) (g : ℕ → ℕ → ℕ) (n : ℕ) (b : ℕ → ℕ) → sum_over (λ j. true) s n (λ u. product_below n (λ j. g j (u j))) b
+    ≡ product_below n (λ j. sum_below (s j) (g j))
 over-products s g zero b = refl
 over-products s g (suc n) b =
-    sum_below-congr (s n) (λ x. sum_over (λ j. true) s n (λ u. product_below n (λ j. g j (u j)) * g n (u n)) (set_at b n x)) (λ x. product_below n (λ j. sum_below (s j) (g j)) * g n x)
-    (λ x lt. over-mul-right (λ j. true) s n (λ u. product_below n (λ j. g j (u j))) (λ u. g n (u n)) (set_at b n x) (λ c i y l e. ap (g n) (set_at-other c i y n (omega arith)))
+    sum_below-congr (s n) (λ x. sum_over (λ j. true) s n (λ u. product_below n (λ j. g j (u j)) * g n (u n)) (set_at b n x))
+    (λ x. product_below n (λ j. sum_below (s j) (g j)) * g n x)
+    (λ x lt. over-mul-right (λ j. true) s n (λ u. product_below n (λ j. g j (u j))) (λ u. g n (u n)) (set_at b n x)
+    (λ c i y l e. ap (g n) (set_at-other c i y n (omega arith)))
     ∙ ap (λ t. t * g n (set_at b n x n)) (over-products s g n (set_at b n x))
     ∙ ap (λ t. product_below n (λ j. sum_below (s j) (g j)) * g n t) (set_at-same b n x))
     ∙ sum_below-mul (s n) (product_below n (λ j. sum_below (s j) (g j))) (g n)
@@ -114,7 +122,8 @@ rest_next s w k rest d i e = let f : k + 1 ≡ suc k = omega arith in rw (f, e, 
 
 pub product_below-le : (n : ℕ) (f g : ℕ → ℕ) → ((i : ℕ) → i < n → f i ≤ g i) → product_below n f ≤ product_below n g
 product_below-le zero f g h = omega arith
-product_below-le (suc n) f g h = bigger (product_below n f) (product_below n g) (f n) (g n) (product_below-le n f g (λ i lt. h i (omega arith))) (h n (omega arith))
+product_below-le (suc n) f g h = bigger (product_below n f) (product_below n g) (f n) (g n) (product_below-le n f g (λ i lt. h i (omega arith)))
+    (h n (omega arith))
   where
     bigger : (a b c d : ℕ) → a ≤ b → c ≤ d → a * c ≤ b * d
     bigger a b c d p q = grind arith

@@ -15,8 +15,10 @@ weights_of-at causes j x lt is = get_or-map (λ c. c.weights.items) causes j x [
 pub children_of-at : (causes : List Cause) (j : ℕ) (x : Cause) → j < length causes → x ≡ get_or causes j x → children_of causes j ≡ x.children.bits
 children_of-at causes j x lt is = get_or-map (λ c. c.children.bits) causes j x 0 lt ∙ ap (λ c. c.children.bits) (sym is)
 
-pub sound_at : (g : MixedGraph) (m : Model) (j : ℕ) (x : Cause) → j < length m.causes.items → x ≡ get_or m.causes.items j x → IsSoundCause g x.weights.items x.children.bits → IsSoundAt g m j
+pub sound_at : (g : MixedGraph) (m : Model) (j : ℕ) (x : Cause) → j < length m.causes.items → x ≡ get_or m.causes.items j x
+    → IsSoundCause g x.weights.items x.children.bits → IsSoundAt g m j
 sound_at g m j x lt is h = rw (weights_of-at m.causes.items j x lt is, children_of-at m.causes.items j x lt is) h
 
-pub sound_from : (g : MixedGraph) (m : Model) (j : ℕ) (x : Cause) → j < length m.causes.items → x ≡ get_or m.causes.items j x → IsSoundAt g m j → IsSoundCause g x.weights.items x.children.bits
+pub sound_from : (g : MixedGraph) (m : Model) (j : ℕ) (x : Cause) → j < length m.causes.items → x ≡ get_or m.causes.items j x → IsSoundAt g m j
+    → IsSoundCause g x.weights.items x.children.bits
 sound_from g m j x lt is h = rw (weights_of-at m.causes.items j x lt is, children_of-at m.causes.items j x lt is) at h

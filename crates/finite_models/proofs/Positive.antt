@@ -2,7 +2,8 @@
 use Rattle.std.proofs.Common.{ℕ, zero, suc, ◌≡◌, ◌-◌, ◌<◌, ◌≤◌, Bool, true, false, cond, refl, sym, ◌∙◌, arith}
 use Rattle.mixed_graph.specs.Graphs.{MixedGraph, IsMixedGraph}
 use Rattle.finite_models.specs.Sums.{sum_below, sum_over, set_at}
-use Rattle.finite_models.specs.Models.{FiniteModel, IsAssignment, IsSolution, IsPositiveModel, solution, agree, event_weight, world_weight, intervene, weight_of}
+use Rattle.finite_models.specs.Models.{FiniteModel, IsAssignment, IsSolution, IsPositiveModel, solution, agree, event_weight, world_weight, intervene}
+use Rattle.finite_models.specs.Models.{weight_of}
 use Rattle.finite_models.proofs.Following.{Follows, follows_intervene}
 use Rattle.finite_models.proofs.Ranks.{with_rank}
 use Rattle.finite_models.proofs.SumLaws.{along}
@@ -24,12 +25,14 @@ cond-le : (p q : Bool) (w : ℕ) → (p ≡ true → q ≡ true) → cond p w 0 
 cond-le true q w h = rw (h refl) (omega arith)
 cond-le false q w h = omega arith
 
-module _ (g : MixedGraph) (m : FiniteModel) (rank : ℕ → ℕ) (ranked : IsRanked g rank) (follows : Follows g m) (s : ℕ → ℕ) (within : IsAssignment m.vertices m.size s) where
+module _ (g : MixedGraph) (m : FiniteModel) (rank : ℕ → ℕ) (ranked : IsRanked g rank) (follows : Follows g m) (s : ℕ → ℕ)
+    (within : IsAssignment m.vertices m.size s) where
   obeyed : (u : ℕ → ℕ) → ((v : ℕ) → v < m.vertices → solution m u v ≡ s v) → (B : ℕ → Bool) → IsSolution (intervene m B s) u s
   obeyed u h B v il = at (B v) refl
     where
       own : s v ≡ m.mechanism v s u
-      own = sym (h v il) ∙ solution_is g m rank ranked follows u v il ∙ follows.reads v il (solution m u) s u u (λ p a. h p (rw follows.vertices (ranked.tail_below p v a))) (λ j jl q. refl)
+      own = sym (h v il) ∙ solution_is g m rank ranked follows u v il ∙ follows.reads v il (solution m u) s u u
+          (λ p a. h p (rw follows.vertices (ranked.tail_below p v a))) (λ j jl q. refl)
 
       at : (c : Bool) → B v ≡ c → s v ≡ cond c (s v) (m.mechanism v s u)
       at true e = refl
@@ -50,6 +53,8 @@ module _ (g : MixedGraph) (m : FiniteModel) (rank : ℕ → ℕ) (ranked : IsRan
   positive_each pos B C = omega (arith, pos s within, weight_le B C)
 
 -- a number that is 1 or more where the graph has a rank is so, as an equation of numbers
-pub positive_weight : (g : MixedGraph) (m : FiniteModel) → IsMixedGraph g → Follows g m → IsPositiveModel m → (b a : ℕ → Bool) (s : ℕ → ℕ) → IsAssignment m.vertices m.size s → 1 ≤ weight_of m b a s
+pub positive_weight : (g : MixedGraph) (m : FiniteModel) → IsMixedGraph g → Follows g m → IsPositiveModel m → (b a : ℕ → Bool) (s : ℕ → ℕ)
+    → IsAssignment m.vertices m.size s → 1 ≤ weight_of m b a s
 positive_weight g m ok follows positive b a s within =
-    let e : 1 - weight_of m b a s ≡ 0 = with_rank g ok (1 - weight_of m b a s) 0 (λ rank ranked. let le = positive_each g m rank ranked follows s within positive b a in omega arith) in omega arith
+    let e : 1 - weight_of m b a s ≡ 0 = with_rank g ok (1 - weight_of m b a s) 0
+    (λ rank ranked. let le = positive_each g m rank ranked follows s within positive b a in omega arith) in omega arith

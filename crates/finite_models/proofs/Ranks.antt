@@ -56,11 +56,14 @@ module _ (g : MixedGraph) (ok : IsMixedGraph g) where
   ranks : (t : Tests (IsProperAncestor g) g.vertices g.vertices) → IsRanked g (λ u. count_of g.vertices (t.test u))
   ranks t = record {
     tail_below = ok.tail_below;
-    rises = λ u v a. count-lt g.vertices (t.test u) (t.test v) u (λ w lt e. t.complete v w (ok.head_below u v a) lt (further w u v (t.sound u w (ok.tail_below u v a) e) a))
-        (ok.tail_below u v a) (below_all t u (ok.tail_below u v a)) (t.complete v u (ok.head_below u v a) (ok.tail_below u v a) (record { next = v; path = []; leads = (a, refl) }));
+    rises = λ u v a. count-lt g.vertices (t.test u) (t.test v) u (λ w lt e. t.complete v w (ok.head_below u v a) lt
+        (further w u v (t.sound u w (ok.tail_below u v a) e) a))
+        (ok.tail_below u v a) (below_all t u (ok.tail_below u v a)) (t.complete v u (ok.head_below u v a) (ok.tail_below u v a)
+        (record { next = v; path = []; leads = (a, refl) }));
     low = λ v lt. omega (arith, count-lt g.vertices (t.test v) (λ w. true) v (λ w l e. refl) lt (below_all t v lt) refl, count-all g.vertices);
   }
 
   -- an equation of numbers may be proved as if the graph had a rank
   pub with_rank : (a b : ℕ) → ((rank : ℕ → ℕ) → IsRanked g rank → a ≡ b) → a ≡ b
-  with_rank a b h = stable a b (λ differ. tested_each (IsProperAncestor g) g.vertices g.vertices (λ t. differ (h (λ u. count_of g.vertices (t.test u)) (ranks t))))
+  with_rank a b h = stable a b (λ differ. tested_each (IsProperAncestor g) g.vertices g.vertices
+      (λ t. differ (h (λ u. count_of g.vertices (t.test u)) (ranks t))))

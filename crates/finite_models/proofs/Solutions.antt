@@ -67,19 +67,23 @@ module _ (g : MixedGraph) (m : FiniteModel) (rank : ℕ → ℕ) (ranked : IsRan
       (λ v b. cond_from (S v) (eqb (solution m u v) (s v)) (λ i. eq-eqb (solution m u v) (s v) (back e (suc (rank v)) v b (omega arith) i))))
     where
       at : agree m.vertices S (solution m u) s ≡ true → (v : ℕ) → v < m.vertices → S v ≡ true → solution m u v ≡ s v
-      at e v b i = eqb-true (solution m u v) (s v) (cond_gives (S v) (eqb (solution m u v) (s v)) (all_below_each m.vertices (λ v. cond (S v) (eqb (solution m u v) (s v)) true) e v b) i)
+      at e v b i = eqb-true (solution m u v) (s v) (cond_gives (S v) (eqb (solution m u v) (s v))
+          (all_below_each m.vertices (λ v. cond (S v) (eqb (solution m u v) (s v)) true) e v b) i)
 
       there : agree m.vertices S (solution m u) s ≡ true → (v : ℕ) → v < m.vertices → S v ≡ true → s v ≡ m.mechanism v s u
-      there e v b i = sym (at e v b i) ∙ solution_is u v b ∙ follows.reads v b (solution m u) s u u (λ p a. at e p (parent_below p v a) (closed p v a i)) (λ j jl q. refl)
+      there e v b i = sym (at e v b i) ∙ solution_is u v b ∙ follows.reads v b (solution m u) s u u (λ p a. at e p (parent_below p v a) (closed p v a i))
+          (λ j jl q. refl)
 
       back : obeys m S u s ≡ true → (k v : ℕ) → v < m.vertices → rank v < k → S v ≡ true → solution m u v ≡ s v
-      back e = solved S closed u s (λ v b i. eqb-true (s v) (m.mechanism v s u) (cond_gives (S v) (eqb (s v) (m.mechanism v s u)) (all_below_each m.vertices (λ v. cond (S v) (eqb (s v) (m.mechanism v s u)) true) e v b) i))
+      back e = solved S closed u s (λ v b i. eqb-true (s v) (m.mechanism v s u)
+          (cond_gives (S v) (eqb (s v) (m.mechanism v s u)) (all_below_each m.vertices (λ v. cond (S v) (eqb (s v) (m.mechanism v s u)) true) e v b) i))
 
   -- there is only one solution
   unique_at : (u s t : ℕ → ℕ) → IsSolution m u s → IsSolution m u t → (k v : ℕ) → v < m.vertices → rank v < k → s v ≡ t v
   unique_at u s t a b zero v il lt = absurd (omega arith)
   unique_at u s t a b (suc k) v il lt =
-      a v il ∙ follows.reads v il s t u u (λ p e. let r = ranked.rises p v e in unique_at u s t a b k p (parent_below p v e) (omega arith)) (λ j jl q. refl) ∙ sym (b v il)
+      a v il ∙ follows.reads v il s t u u (λ p e. let r = ranked.rises p v e in unique_at u s t a b k p (parent_below p v e) (omega arith)) (λ j jl q. refl)
+      ∙ sym (b v il)
 
   -- two solutions of a world agree at each vertex
   pub unique : (u s t : ℕ → ℕ) → IsSolution m u s → IsSolution m u t → (v : ℕ) → v < m.vertices → s v ≡ t v
@@ -91,7 +95,8 @@ agree_gives n a x s e v il i = eqb-true (x v) (s v) (cond_gives (a v) (eqb (x v)
 
 -- where each vertex of a has one value in x and s, they agree on a
 pub agree_from : (n : ℕ) (a : ℕ → Bool) (x s : ℕ → ℕ) → ((v : ℕ) → v < n → a v ≡ true → x v ≡ s v) → agree n a x s ≡ true
-agree_from n a x s h = all_below_from n (λ v. cond (a v) (eqb (x v) (s v)) true) (λ v il. cond_from (a v) (eqb (x v) (s v)) (λ i. eq-eqb (x v) (s v) (h v il i)))
+agree_from n a x s h = all_below_from n (λ v. cond (a v) (eqb (x v) (s v)) true)
+    (λ v il. cond_from (a v) (eqb (x v) (s v)) (λ i. eq-eqb (x v) (s v) (h v il i)))
 
 -- x agrees with s on a exactly where y does on b, if each of the two agreements gives the other
 pub agree_same : (n : ℕ) (a b : ℕ → Bool) (x y s : ℕ → ℕ)

@@ -1,5 +1,6 @@
 -- Laws of finite sums.
-use Rattle.std.proofs.Common.{ℕ, zero, suc, ◌+◌, ◌*◌, ◌≡◌, ◌<◌, ◌≤◌, Bool, true, false, cond, eqb, refl, sym, ap, ap₂, ◌∙◌, ◌||◌, arith, rules, ne_eqb, eqb-true}
+use Rattle.std.proofs.Common.{ℕ, zero, suc, ◌+◌, ◌*◌, ◌≡◌, ◌<◌, ◌≤◌, Bool, true, false, cond, eqb, refl, sym, ap, ap₂, ◌∙◌, ◌||◌, arith, rules}
+use Rattle.std.proofs.Common.{ne_eqb, eqb-true}
 use mathlib.Core.Path.{fun_ext}
 use Rattle.finite_models.specs.Sums.{sum_below, product_below, set_at, sum_over}
 
@@ -36,7 +37,8 @@ sum_below_term (suc k) f x lt = go (eqb x k) refl (λ l. sum_below_term k f x l)
 -- ---- products
 pub product_below-congr : (k : ℕ) (f g : ℕ → ℕ) → ((i : ℕ) → i < k → f i ≡ g i) → product_below k f ≡ product_below k g
 product_below-congr zero f g h = refl
-product_below-congr (suc k) f g h = ap (λ n. n * f k) (product_below-congr k f g (λ i lt. h i (omega arith))) ∙ ap (λ n. product_below k g * n) (h k (omega arith))
+product_below-congr (suc k) f g h = ap (λ n. n * f k) (product_below-congr k f g (λ i lt. h i (omega arith)))
+    ∙ ap (λ n. product_below k g * n) (h k (omega arith))
 
 -- the product of all f i * g i is the product of the f i times the product of the g i
 pub product_below-mul : (k : ℕ) (f g : ℕ → ℕ) → product_below k (λ i. f i * g i) ≡ product_below k f * product_below k g
@@ -100,13 +102,15 @@ along p k i F b = cond p (sum_below k (λ x. F (set_at b i x))) (F b)
 pub along-congr : (p : Bool) (k i : ℕ) (F G : (ℕ → ℕ) → ℕ) (b : ℕ → ℕ) → ((c : ℕ → ℕ) → F c ≡ G c) → along p k i F b ≡ along p k i G b
 along-congr p k i F G b h = ap (λ H. along p k i H b) (fun_ext h)
 
-pub along-mul : (p : Bool) (k i : ℕ) (F G : (ℕ → ℕ) → ℕ) (b : ℕ → ℕ) → (p ≡ true → (x : ℕ) → F (set_at b i x) ≡ F b) → along p k i (λ c. F c * G c) b ≡ F b * along p k i G b
+pub along-mul : (p : Bool) (k i : ℕ) (F G : (ℕ → ℕ) → ℕ) (b : ℕ → ℕ) → (p ≡ true → (x : ℕ) → F (set_at b i x) ≡ F b) → along p k i (λ c. F c * G c) b
+    ≡ F b * along p k i G b
 along-mul true k i F G b h =
     sum_below-congr k (λ x. F (set_at b i x) * G (set_at b i x)) (λ x. F b * G (set_at b i x)) (λ x lt. ap (λ r. r * G (set_at b i x)) (h refl x))
     ∙ sum_below-mul k (F b) (λ x. G (set_at b i x))
 along-mul false k i F G b h = refl
 
-pub along-sum_below : (p : Bool) (k i l : ℕ) (F : ℕ → (ℕ → ℕ) → ℕ) (b : ℕ → ℕ) → along p k i (λ c. sum_below l (λ x. F x c)) b ≡ sum_below l (λ x. along p k i (F x) b)
+pub along-sum_below : (p : Bool) (k i l : ℕ) (F : ℕ → (ℕ → ℕ) → ℕ) (b : ℕ → ℕ) → along p k i (λ c. sum_below l (λ x. F x c)) b
+    ≡ sum_below l (λ x. along p k i (F x) b)
 along-sum_below true k i l F b = sum_below-swap k l (λ y x. F x (set_at b i y))
 along-sum_below false k i l F b = refl
 
@@ -118,7 +122,8 @@ along-along true true k l i j F b ne =
 along-along true false k l i j F b ne = refl
 along-along false q k l i j F b ne = refl
 
-pub along-ignores : (p : Bool) (k i : ℕ) (F : (ℕ → ℕ) → ℕ) (b : ℕ → ℕ) (j y : ℕ) → (p ≡ true → i ≡ j → ⊥) → ((c : ℕ → ℕ) → F (set_at c j y) ≡ F c) → along p k i F (set_at b j y) ≡ along p k i F b
+pub along-ignores : (p : Bool) (k i : ℕ) (F : (ℕ → ℕ) → ℕ) (b : ℕ → ℕ) (j y : ℕ) → (p ≡ true → i ≡ j → ⊥) → ((c : ℕ → ℕ) → F (set_at c j y) ≡ F c)
+    → along p k i F (set_at b j y) ≡ along p k i F b
 along-ignores true k i F b j y ne h =
     sum_below-congr k (λ x. F (set_at (set_at b j y) i x)) (λ x. F (set_at b i x)) (λ x lt. ap F (sym (set_at-swap b i j x y (ne refl))) ∙ h (set_at b i x))
 along-ignores false k i F b j y ne h = h b
@@ -136,10 +141,12 @@ module _ (U : ℕ → Bool) (s : ℕ → ℕ) where
       ∙ along-mul (U n) (s n) n F (sum_over U s n G) b (λ e x. h b n x (omega arith) e)
 
   -- a sum inside comes outside
-  pub over-sum_below : (n k : ℕ) (F : ℕ → (ℕ → ℕ) → ℕ) (b : ℕ → ℕ) → sum_over U s n (λ c. sum_below k (λ x. F x c)) b ≡ sum_below k (λ x. sum_over U s n (F x) b)
+  pub over-sum_below : (n k : ℕ) (F : ℕ → (ℕ → ℕ) → ℕ) (b : ℕ → ℕ) → sum_over U s n (λ c. sum_below k (λ x. F x c)) b
+      ≡ sum_below k (λ x. sum_over U s n (F x) b)
   over-sum_below zero k F b = refl
   over-sum_below (suc n) k F b =
-      along-congr (U n) (s n) n (sum_over U s n (λ c. sum_below k (λ x. F x c))) (λ c. sum_below k (λ x. sum_over U s n (F x) c)) b (λ c. over-sum_below n k F c)
+      along-congr (U n) (s n) n (sum_over U s n (λ c. sum_below k (λ x. F x c))) (λ c. sum_below k (λ x. sum_over U s n (F x) c)) b
+      (λ c. over-sum_below n k F c)
       ∙ along-sum_below (U n) (s n) n k (λ x. sum_over U s n (F x)) b
 
   -- a sum along a higher coordinate comes outside
@@ -165,7 +172,8 @@ join-along true false k i F b d = refl
 join-along false q k i F b d = refl
 
 -- a sum over two disjoint sets of coordinates is the sum over the first of the sum over the second
-pub over-join : (U V : ℕ → Bool) (s : ℕ → ℕ) (n : ℕ) (F : (ℕ → ℕ) → ℕ) (b : ℕ → ℕ) → ((i : ℕ) → U i ≡ true → V i ≡ true → ⊥) → sum_over (λ i. U i || V i) s n F b ≡ sum_over U s n (sum_over V s n F) b
+pub over-join : (U V : ℕ → Bool) (s : ℕ → ℕ) (n : ℕ) (F : (ℕ → ℕ) → ℕ) (b : ℕ → ℕ) → ((i : ℕ) → U i ≡ true → V i ≡ true → ⊥)
+    → sum_over (λ i. U i || V i) s n F b ≡ sum_over U s n (sum_over V s n F) b
 over-join U V s zero F b d = refl
 over-join U V s (suc n) F b d =
     along-congr (U n || V n) (s n) n (sum_over (λ i. U i || V i) s n F) (sum_over U s n (sum_over V s n F)) b (λ c. over-join U V s n F c d)
@@ -174,7 +182,8 @@ over-join U V s (suc n) F b d =
     (λ c. sym (over-along U s n (V n) (s n) n (sum_over V s n F) c (omega arith)))
 
 -- the sum of a product of independent factors is the product of the sums
-pub over-product : (U V : ℕ → Bool) (s : ℕ → ℕ) (n : ℕ) (F G : (ℕ → ℕ) → ℕ) (b : ℕ → ℕ) → ((i : ℕ) → U i ≡ true → V i ≡ true → ⊥) → Ignores n V F → Ignores n U G
+pub over-product : (U V : ℕ → Bool) (s : ℕ → ℕ) (n : ℕ) (F G : (ℕ → ℕ) → ℕ) (b : ℕ → ℕ) → ((i : ℕ) → U i ≡ true → V i ≡ true → ⊥) → Ignores n V F
+    → Ignores n U G
     → sum_over (λ i. U i || V i) s n (λ c. F c * G c) b ≡ sum_over U s n F b * sum_over V s n G b
 over-product U V s n F G b d f g =
     over-join U V s n (λ c. F c * G c) b d
@@ -182,13 +191,16 @@ over-product U V s n F G b d f g =
     ∙ over-mul-right U s n F (sum_over V s n G) b (over-ignores V s n n U G (λ i v u. d i u v) g)
 
 -- two sums over boxes are exchanged
-pub over-swap : (U V : ℕ → Bool) (s t : ℕ → ℕ) (n m : ℕ) (F : (ℕ → ℕ) → (ℕ → ℕ) → ℕ) (b c : ℕ → ℕ) → sum_over U s n (λ x. sum_over V t m (F x) c) b ≡ sum_over V t m (λ y. sum_over U s n (λ x. F x y) b) c
+pub over-swap : (U V : ℕ → Bool) (s t : ℕ → ℕ) (n m : ℕ) (F : (ℕ → ℕ) → (ℕ → ℕ) → ℕ) (b c : ℕ → ℕ) → sum_over U s n (λ x. sum_over V t m (F x) c) b
+    ≡ sum_over V t m (λ y. sum_over U s n (λ x. F x y) b) c
 over-swap U V s t zero m F b c = refl
 over-swap U V s t (suc n) m F b c =
-    along-congr (U n) (s n) n (sum_over U s n (λ x. sum_over V t m (F x) c)) (λ b'. sum_over V t m (λ y. sum_over U s n (λ x. F x y) b') c) b (λ b'. over-swap U V s t n m F b' c)
+    along-congr (U n) (s n) n (sum_over U s n (λ x. sum_over V t m (F x) c)) (λ b'. sum_over V t m (λ y. sum_over U s n (λ x. F x y) b') c) b
+    (λ b'. over-swap U V s t n m F b' c)
     ∙ pull (U n)
   where
-    pull : (p : Bool) → along p (s n) n (λ b'. sum_over V t m (λ y. sum_over U s n (λ x. F x y) b') c) b ≡ sum_over V t m (λ y. along p (s n) n (sum_over U s n (λ x. F x y)) b) c
+    pull : (p : Bool) → along p (s n) n (λ b'. sum_over V t m (λ y. sum_over U s n (λ x. F x y) b') c) b
+        ≡ sum_over V t m (λ y. along p (s n) n (sum_over U s n (λ x. F x y)) b) c
     pull true = sym (over-sum_below V t m (s n) (λ x y. sum_over U s n (λ x'. F x' y) (set_at b n x)) c)
     pull false = refl
 
@@ -206,7 +218,8 @@ over-congr_within U s (suc n) F G b h = go (U n) refl (λ c. over-congr_within U
         pick false e = below (let d : i ≡ n → ⊥ = λ q. absurd (grind (arith, q, e)) in omega arith)
 
     go : (p : Bool) → U n ≡ p
-        → ((c : ℕ → ℕ) → ((c' : ℕ → ℕ) → ((i : ℕ) → i < n → U i ≡ true → c' i < s i) → ((i : ℕ) → n ≤ i → c' i ≡ c i) → F c' ≡ G c') → sum_over U s n F c ≡ sum_over U s n G c)
+        → ((c : ℕ → ℕ) → ((c' : ℕ → ℕ) → ((i : ℕ) → i < n → U i ≡ true → c' i < s i) → ((i : ℕ) → n ≤ i → c' i ≡ c i) → F c' ≡ G c') → sum_over U s n F c
+        ≡ sum_over U s n G c)
         → along p (s n) n (sum_over U s n F) b ≡ along p (s n) n (sum_over U s n G) b
     go true e ih =
         sum_below-congr (s n) (λ x. sum_over U s n F (set_at b n x)) (λ x. sum_over U s n G (set_at b n x))

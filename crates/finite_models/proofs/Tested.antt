@@ -13,7 +13,11 @@ tested P zero none = none (record { test = λ v. false; sound = λ v e. absurd (
 tested P (suc n) none = tested P n (λ t. out t (λ p. none (grown t p)))
   where
     grown : Test P n → P n → Test P (suc n)
-    grown t p = record { test = λ v. cond (eqb v n) true (t.test v); sound = λ v e. sound v (eqb v n) refl e; complete = λ v lt q. complete v lt q (eqb v n) refl }
+    grown t p = record {
+      test = λ v. cond (eqb v n) true (t.test v);
+      sound = λ v e. sound v (eqb v n) refl e;
+      complete = λ v lt q. complete v lt q (eqb v n) refl;
+    }
       where
         sound : (v : ℕ) (c : Bool) → eqb v n ≡ c → cond c true (t.test v) ≡ true → P v
         sound v true same e = rw (eqb-true v n same) p
@@ -45,7 +49,11 @@ tested_each R n zero none = none (record { test = λ u w. false; sound = λ u w 
 tested_each R n (suc k) none = tested_each R n k (λ ts. tested (λ w. R w k) n (λ t. none (grown ts t)))
   where
     grown : Tests R n k → Test (λ w. R w k) n → Tests R n (suc k)
-    grown ts t = record { test = λ u w. cond (eqb u k) (t.test w) (ts.test u w); sound = λ u w lt e. sound u w lt (eqb u k) refl e; complete = λ u w lt l r. complete u w lt l r (eqb u k) refl }
+    grown ts t = record {
+      test = λ u w. cond (eqb u k) (t.test w) (ts.test u w);
+      sound = λ u w lt e. sound u w lt (eqb u k) refl e;
+      complete = λ u w lt l r. complete u w lt l r (eqb u k) refl;
+    }
       where
         less : (u : ℕ) → u < suc k → eqb u k ≡ false → u < k
         less u lt e = let d : u ≡ k → ⊥ = λ s. absurd (grind (arith, s, e)) in omega arith

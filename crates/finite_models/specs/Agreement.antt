@@ -2,7 +2,8 @@
 use Rattle.std.specs.Prelude.{ℕ, ◌*◌, ◌≡◌, ◌<◌, Bool, true, false}
 use Rattle.finite_models.specs.Models.{FiniteModel, IsAssignment, weight_of, total}
 
--- two models have equal sizes and, under an intervention on z, equal probabilities: at each assignment of all vertices the weights are in the ratio of the totals
+-- two models have equal sizes and, under an intervention on z, equal probabilities: at each assignment of all vertices the weights are in the ratio
+-- of the totals
 pub record AgreeUnder (z : ℕ → Bool) (m₁ m₂ : FiniteModel) : Type 0 where
   pub vertices : m₁.vertices ≡ m₂.vertices
   pub sizes : (v : ℕ) → v < m₁.vertices → m₁.size v ≡ m₂.size v

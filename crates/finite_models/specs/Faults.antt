@@ -26,4 +26,5 @@ cap j = min j (2 ^ 32 - 1)
 abbrev pub IsFirstModelFault : MixedGraph → Model → ModelFault → Type 0
 IsFirstModelFault g m (Cause c) = (j : ℕ) × IsFirstWrong (length m.causes.items) (IsSoundAt g m) j × (c ≡ cap j)
 IsFirstModelFault g m (Input v) = AllRight (length m.causes.items) (IsSoundAt g m) × IsFirstWrong g.vertices (HasInputsAt g m) v
-IsFirstModelFault g m (Value v) = AllRight (length m.causes.items) (IsSoundAt g m) × AllRight g.vertices (HasInputsAt g m) × IsFirstWrong g.vertices (HasValuesAt m) v
+IsFirstModelFault g m (Value v) = AllRight (length m.causes.items) (IsSoundAt g m) × AllRight g.vertices (HasInputsAt g m)
+    × IsFirstWrong g.vertices (HasValuesAt m) v

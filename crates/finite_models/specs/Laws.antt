@@ -1,7 +1,8 @@
 -- Laws of the models that fit a graph.
 use Rattle.std.specs.Prelude.{ℕ, ◌≡◌, ◌<◌, ◌≤◌, Bool, false, EachIndex, length, slice_index}
 use Rattle.mixed_graph.specs.Graphs.{MixedGraph, IsMixedGraph}
-use Rattle.finite_models.specs.Models.{FiniteModel, Fits, IsAssignment, IsWorld, IsSolution, IsPositiveModel, solution, event_weight, intervene, weight_of, total}
+use Rattle.finite_models.specs.Models.{FiniteModel, Fits, IsAssignment, IsWorld, IsSolution, IsPositiveModel, solution, event_weight, intervene}
+use Rattle.finite_models.specs.Models.{weight_of, total}
 use Rattle.finite_models.specs.Data.{meaning}
 use Rattle.finite_models.specs.Faults.{IsSoundModel, IsWellFormed}
 use Rattle.finite_models.specs.declared.model.Model.{Model}
@@ -31,17 +32,20 @@ NoEventIsTotal = (m : FiniteModel) (b a : ℕ → Bool) (s : ℕ → ℕ) → ((
 
 -- in a positive model each event has weight at least 1 under each intervention, at each assignment
 abbrev pub EachWeightIsPositive : Type 0
-EachWeightIsPositive = (g : MixedGraph) → IsMixedGraph g → (m : FiniteModel) → Fits g m → IsPositiveModel m → (b a : ℕ → Bool) (s : ℕ → ℕ) → IsAssignment m.vertices m.size s
+EachWeightIsPositive = (g : MixedGraph) → IsMixedGraph g → (m : FiniteModel) → Fits g m → IsPositiveModel m → (b a : ℕ → Bool) (s : ℕ → ℕ)
+    → IsAssignment m.vertices m.size s
     → 1 ≤ weight_of m b a s
 
 -- sound data, with a positive size and a mechanism for each vertex, means a model that fits the graph
 abbrev pub SoundDataFits : Type 0
-SoundDataFits = (g : MixedGraph) (m : Model) → length m.sizes.items ≡ g.vertices → length m.mechanisms.items ≡ g.vertices → EachIndex m.sizes.items (λ v. 1 ≤ slice_index m.sizes.items v)
+SoundDataFits = (g : MixedGraph) (m : Model) → length m.sizes.items ≡ g.vertices → length m.mechanisms.items ≡ g.vertices
+    → EachIndex m.sizes.items (λ v. 1 ≤ slice_index m.sizes.items v)
     → IsSoundModel g m → Fits g (meaning g m)
 
 -- and data of the right form that means such a model is sound
 abbrev pub FittingDataIsSound : Type 0
-FittingDataIsSound = (g : MixedGraph) (m : Model) → length m.sizes.items ≡ g.vertices → length m.mechanisms.items ≡ g.vertices → IsWellFormed g m → Fits g (meaning g m) → IsSoundModel g m
+FittingDataIsSound = (g : MixedGraph) (m : Model) → length m.sizes.items ≡ g.vertices → length m.mechanisms.items ≡ g.vertices → IsWellFormed g m
+    → Fits g (meaning g m) → IsSoundModel g m
 
 -- a positive model of these sizes that fits the graph
 pub record HasPositiveModel (g : MixedGraph) (size : ℕ → ℕ) : Type 0 where

@@ -4,7 +4,8 @@ use Rattle.mixed_graph.specs.Graphs.{MixedGraph}
 use Rattle.fractions.specs.Fractions.{Fraction, over}
 use Rattle.finite_models.specs.Sums.{sum_below, product_below, sum_over, all_below}
 
--- Vertex v has the values below `size v`. Hidden cause j has the values below `values j`, value i with the weight `weight j i`, and serves the vertices v with `serves j v`, its children.
+-- Vertex v has the values below `size v`. Hidden cause j has the values below `values j`, value i with the weight `weight j i`, and serves the
+-- vertices v with `serves j v`, its children.
 -- `mechanism v s u` is the value of v where the vertices have the values s and the hidden causes the values u.
 pub record FiniteModel : Type 0 where
   pub vertices : ℕ
@@ -35,7 +36,8 @@ pub record Fits (g : MixedGraph) (m : FiniteModel) : Type 0 where
   pub child_below : (j v : ℕ) → j < m.causes → IsTrue (m.serves j v) → v < m.vertices
   pub joined : (j u v : ℕ) → j < m.causes → IsTrue (m.serves j u) → IsTrue (m.serves j v) → u ≢ v → IsTrue (g.both u v)
   -- a mechanism reads its vertex's parents and its causes alone
-  pub reads : (v : ℕ) → v < m.vertices → (s t u w : ℕ → ℕ) → ((p : ℕ) → IsTrue (g.arrow p v) → s p ≡ t p) → ((j : ℕ) → j < m.causes → IsTrue (m.serves j v) → u j ≡ w j) → m.mechanism v s u ≡ m.mechanism v t w
+  pub reads : (v : ℕ) → v < m.vertices → (s t u w : ℕ → ℕ) → ((p : ℕ) → IsTrue (g.arrow p v) → s p ≡ t p)
+      → ((j : ℕ) → j < m.causes → IsTrue (m.serves j v) → u j ≡ w j) → m.mechanism v s u ≡ m.mechanism v t w
   -- and gives a value of its vertex
   pub below : (v : ℕ) → v < m.vertices → (s u : ℕ → ℕ) → IsAssignment m.vertices m.size s → IsWorld m u → m.mechanism v s u < m.size v
 

@@ -1,4 +1,5 @@
--- Mechanisms given by a table, indexed in mixed radix by the parents' values in index order and then by the causes' values in list order, the first varying slowest.
+-- Mechanisms given by a table, indexed in mixed radix by the parents' values in index order and then by the causes' values in list order, the first
+-- varying slowest.
 use Rattle.std.specs.Prelude.{ℕ, zero, suc, ◌+◌, ◌*◌, Bool, if◌then◌else◌, List, slice_index}
 
 -- the number written by the digits s k, for the k below n with p k, digit k having the base b k

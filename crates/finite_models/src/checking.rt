@@ -1,3 +1,5 @@
+//! Whether a model fits a graph.
+
 ghost use Rattle.std.specs.Prelude.{◌≡◌, ℕ, ◌≤◌, ◌↔◌, IsOk, IfErr, EachIndex, length, slice_index};
 ghost use Rattle.mixed_graph.specs.Shown.{graph_of};
 ghost use Rattle.finite_models.specs.Models.{Fits};

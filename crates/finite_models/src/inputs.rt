@@ -1,3 +1,5 @@
+//! The vertices with a hedge bit or a carried bit, and what may read them.
+
 ghost use Rattle.std.specs.Prelude.{◌≡◌, ℕ, ◌<◌, ◌≤◌, ◌↔◌, EachIndex, IsTrue, IsSome, IfSome, IfNone, Option, length, slice_index};
 ghost use Rattle.mixed_graph.specs.Bits.{has};
 ghost use Rattle.mixed_graph.specs.Shown.{graph_of};

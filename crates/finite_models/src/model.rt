@@ -1,3 +1,5 @@
+//! Finite causal models with hidden causes, as data (Pearl).
+
 use mixed_graph::VSet;
 
 /// A finite causal model with hidden causes, as data; vertex v has the values below `sizes[v]`.

@@ -1,3 +1,5 @@
+//! The parities of which mechanisms of parts are made.
+
 ghost use Rattle.std.specs.Prelude.{◌≡◌, ℕ, ◌/◌, ◌%◌, ◌<◌, ◌≤◌, EachIndex, cond, map, sum, length, slice_index};
 ghost use Rattle.mixed_graph.specs.Bits.{has};
 ghost use Rattle.finite_models.specs.Sums.{sum_below};

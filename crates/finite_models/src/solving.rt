@@ -1,3 +1,5 @@
+//! The solution of a model in a world, under an intervention.
+
 ghost use Rattle.std.specs.Prelude.{◌≡◌, ℕ, ◌<◌, length, slice_index};
 ghost use Rattle.mixed_graph.specs.Bits.{has};
 ghost use Rattle.mixed_graph.specs.Orders.{IsOrder};

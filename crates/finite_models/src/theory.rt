@@ -1,3 +1,5 @@
+//! The laws of the models that fit a graph.
+
 ghost use Rattle.finite_models.specs.Laws.{SolutionIsSolution, SolutionIsUnique, SolutionIsAssignment};
 ghost use Rattle.finite_models.specs.Laws.{NoInterventionIsObservation, NoEventIsTotal, EachWeightIsPositive, EachGraphHasModel, SoundDataFits, FittingDataIsSound};
 

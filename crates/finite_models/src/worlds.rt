@@ -1,3 +1,5 @@
+//! The worlds of a model, and their weights.
+
 ghost use Rattle.std.specs.Prelude.{◌≡◌, ℕ, ◌+◌, ◌^◌, ◌<◌, min, SomeIff, length, slice_index};
 ghost use Rattle.finite_models.specs.Sums.{sum_below, product_below};
 ghost use Rattle.finite_models.specs.Data.{weights_of};

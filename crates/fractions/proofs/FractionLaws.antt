@@ -101,12 +101,14 @@ add_positive f g p q = record { top = (let r : 1 ≤ f.top * g.bottom = mul-pos 
 
 -- ---- as pairs of numbers
 pub add_comm : (f g : Fraction) → add f g ≡ add g f
-add_comm f g = ap₂ over (let r : f.top * g.bottom + g.top * f.bottom ≡ g.top * f.bottom + f.top * g.bottom = omega arith in r) (let r : f.bottom * g.bottom ≡ g.bottom * f.bottom = omega arith in r)
+add_comm f g = ap₂ over (let r : f.top * g.bottom + g.top * f.bottom ≡ g.top * f.bottom + f.top * g.bottom = omega arith in r)
+    (let r : f.bottom * g.bottom ≡ g.bottom * f.bottom = omega arith in r)
 
 pub add_assoc : (f g h : Fraction) → add f (add g h) ≡ add (add f g) h
 add_assoc f g h =
     ap₂ over
-    (let r : f.top * (g.bottom * h.bottom) + (g.top * h.bottom + h.top * g.bottom) * f.bottom ≡ (f.top * g.bottom + g.top * f.bottom) * h.bottom + h.top * (f.bottom * g.bottom) = omega arith in r)
+    (let r : f.top * (g.bottom * h.bottom) + (g.top * h.bottom + h.top * g.bottom) * f.bottom ≡ (f.top * g.bottom + g.top * f.bottom) * h.bottom
+    + h.top * (f.bottom * g.bottom) = omega arith in r)
     (let r : f.bottom * (g.bottom * h.bottom) ≡ (f.bottom * g.bottom) * h.bottom = omega arith in r)
 
 pub add-zero : (f : Fraction) → add f (over 0 1) ≡ f
@@ -117,7 +119,8 @@ mul_comm f g = ap₂ over (let r : f.top * g.top ≡ g.top * f.top = omega arith
 
 -- f * (g * h) is (f * g) * h, as a pair of numbers
 pub mul_assoc : (f g h : Fraction) → mul f (mul g h) ≡ mul (mul f g) h
-mul_assoc f g h = ap₂ over (let r : f.top * (g.top * h.top) ≡ (f.top * g.top) * h.top = omega arith in r) (let r : f.bottom * (g.bottom * h.bottom) ≡ (f.bottom * g.bottom) * h.bottom = omega arith in r)
+mul_assoc f g h = ap₂ over (let r : f.top * (g.top * h.top) ≡ (f.top * g.top) * h.top = omega arith in r)
+    (let r : f.bottom * (g.bottom * h.bottom) ≡ (f.bottom * g.bottom) * h.bottom = omega arith in r)
 
 -- f * 1 / 1 is f, as a pair of numbers
 pub mul-one : (f : Fraction) → mul f (over 1 1) ≡ f
@@ -151,7 +154,11 @@ whole_numbers p q r s t n d e f =
 -- fractions over one bottom are summed by their tops: `total` sums the tops n
 pub add_below_whole : (k d : ℕ) (f : ℕ → Fraction) (n total : ℕ → ℕ) → 1 ≤ d → total 0 ≡ 0 → ((i : ℕ) → total (suc i) ≡ total i + n i)
     → ((i : ℕ) → i < k → IsEqual (f i) (over (n i) d)) → IsEqual (add_below k f) (over (total k) d)
-add_below_whole zero d f n total le none more h = record { left_bottom = omega arith; right_bottom = le; products = (let r : total 0 * 1 ≡ 0 = omega (arith, none) in omega (arith, r)) }
+add_below_whole zero d f n total le none more h = record {
+  left_bottom = omega arith;
+  right_bottom = le;
+  products = (let r : total 0 * 1 ≡ 0 = omega (arith, none) in omega (arith, r));
+}
 add_below_whole (suc k) d f n total le none more h =
     let a = add_below k f in
     let before = add_below_whole k d f n total le none more (λ i lt. h i (omega arith)) in
@@ -159,11 +166,16 @@ add_below_whole (suc k) d f n total le none more h =
     record {
       left_bottom = mul-pos before.left_bottom last.left_bottom;
       right_bottom = le;
-      products = whole_numbers a.top a.bottom (f k).top (f k).bottom (total k) (n k) d before.products last.products ∙ ap (λ t. t * (a.bottom * (f k).bottom)) (sym (more k));
+      products = whole_numbers a.top a.bottom (f k).top (f k).bottom (total k) (n k) d before.products last.products
+          ∙ ap (λ t. t * (a.bottom * (f k).bottom)) (sym (more k));
     }
 
 -- the sum of one or more numbers above 0 is above 0
 pub add_below_positive : (k : ℕ) (f : ℕ → Fraction) → 1 ≤ k → ((i : ℕ) → i < k → IsPositive (f i)) → IsPositive (add_below k f)
 add_below_positive zero f le h = absurd (omega arith)
-add_below_positive (suc zero) f le h = record { top = (let t = (h 0 (omega arith)).top in omega (arith, t)); bottom = (let t = (h 0 (omega arith)).bottom in omega (arith, t)) }
-add_below_positive (suc (suc k)) f le h = add_positive (add_below (suc k) f) (f (suc k)) (add_below_positive (suc k) f (omega arith) (λ i lt. h i (omega arith))) (h (suc k) (omega arith))
+add_below_positive (suc zero) f le h = record {
+  top = (let t = (h 0 (omega arith)).top in omega (arith, t));
+  bottom = (let t = (h 0 (omega arith)).bottom in omega (arith, t));
+}
+add_below_positive (suc (suc k)) f le h = add_positive (add_below (suc k) f) (f (suc k))
+    (add_below_positive (suc k) f (omega arith) (λ i lt. h i (omega arith))) (h (suc k) (omega arith))

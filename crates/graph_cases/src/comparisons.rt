@@ -1,3 +1,5 @@
+//! Rows that compare two graphs.
+
 ghost use Rattle.std.specs.Prelude.{◌≡◌, ◌≤◌, IfSome};
 ghost use Rattle.mixed_graph.specs.Shown.{graph_of};
 ghost use Rattle.markov_equivalence.specs.Skeletons.{HasArrowsAlone};

@@ -1,8 +1,10 @@
+//! Rows on districts, link trees and hedges.
+
 ghost use Rattle.std.specs.Prelude.{◌<◌};
 
 use case_rows::{Entries, Members, graph, hedge, set, vertex};
-use districts::{Links, child_choice, district_of, districts, links};
 use hedge::holds;
+use hedge::joined_sets::{Links, child_choice, district_of, districts, links};
 use mixed_graph::{Graph, VSet};
 use serde_json::Value;
 use std::alloc::Global;

@@ -1,3 +1,5 @@
+//! Rows on texts of graphs.
+
 use case_rows::{bytes, flag, number, text};
 use dag_reader::{GraphFault, read_graph, write_graph};
 use serde_json::Value;

@@ -1,12 +1,14 @@
+//! Rows on graphs and sets.
+
 ghost use Rattle.std.specs.Prelude.{◌<◌};
 
+use adjustment::proper_paths::{back_door_graph, proper_causal};
 use case_rows::{Entries, Members, Rows, built, graph, list, number, set, text, vertex};
+use do_rules::cuts::{EdgeSet, cut_edges, cut_into, cut_out};
 use mixed_graph::{AddFault, BuildFault, Graph, Names, Text, VSet};
-use proper_paths::{back_door_graph, proper_causal};
 use serde_json::Value;
 use std::alloc::Global;
-use surgery::{EdgeSet, cut_edges, cut_into, cut_out};
-use survey_graph::{bidirected_count, directed_count, survey_graph};
+use survey_command::random_graph::{bidirected_count, directed_count, survey_graph};
 
 /// The vertices with paths to a set and from it.
 fn sets_text(alloc: Global, graph: &Graph, of: VSet) -> Option<String> {

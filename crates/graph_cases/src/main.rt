@@ -1,53 +1,38 @@
-//! Worked cases of graphs, their readers and what is asked of them: each prints its name and its answer.
+//! Worked cases of graphs, of what is asked of them, and of texts that are read and written: each prints its name and its answer.
 //!
-//! The file `cases.json` is a list of rows, each with the members `case` (its name) and `kind`, and what its kind asks for. No answer
-//! means that the row asks for what can't be asked, or that memory was refused.
+//! Those of `graphs.json` come first, then those of `texts.json`, and at the end what is read of some files.
 #![tactic(auto)]
 
+mod answers;
+mod certificates;
 mod comparisons;
+mod devices;
 mod district_sets;
+mod fields;
+mod formulas;
+mod graph_rows;
 mod graph_texts;
 mod graphs;
+mod hedges;
 mod projections;
 mod separations;
 mod target_sets;
+mod text_lines;
+mod words;
 
 use anyhow::Result;
-use case_rows::{print_rows, text};
-use serde_json::Value;
-use std::alloc::Global;
+use causal_io::{ErrSink, FileShelf, OutSink, write_all};
+use fields::words_of;
 use std::fs;
 
-/// What the library answers in this row.
-fn answer(alloc: Global, row: &Value) -> Option<String> {
-    match text(row, "kind") {
-        "graph" => graphs::graph_row(alloc, row),
-        "kept text" => graphs::kept_row(alloc, row),
-        "names" => graphs::names_row(alloc, row),
-        "cut" => graphs::cut_row(alloc, row),
-        "first edges" => graphs::first_edges_row(alloc, row),
-        "survey" => graphs::survey_row(alloc, row),
-        "separation" => separations::separation_row(alloc, row),
-        "kept graph" => separations::kept_row(alloc, row),
-        "districts" => district_sets::districts_row(alloc, row),
-        "district" => district_sets::district_row(alloc, row),
-        "links" => district_sets::links_row(alloc, row),
-        "hedge" => district_sets::hedge_row(alloc, row),
-        "equivalence" => comparisons::equivalence_row(alloc, row),
-        "observed" => projections::observed_row(alloc, row),
-        "projection" => projections::projection_row(alloc, row),
-        "renumbering" => projections::renumbering_row(alloc, row),
-        "text" => graph_texts::text_row(alloc, row),
-        "bytes" => graph_texts::bytes_row(alloc, row),
-        "prefixes" => graph_texts::prefixes_row(alloc, row),
-        "graph line" => graph_texts::graph_line_row(alloc, row),
-        "effect" => target_sets::effect_row(alloc, row),
-        "target line" => target_sets::target_line_row(alloc, row),
-        _ => None,
-    }
-}
-
 fn main(rt: HostRuntime) -> Result<()> {
-    let rows = fs::read_to_string(&rt, "cases.json")?;
-    print_rows(rt.alloc(), rows.as_str(), answer, &mut rt.stdout())
+    let alloc = rt.alloc();
+    let rows = fs::read_to_string(&rt, "graphs.json")?;
+    graph_rows::print_graphs(alloc, rows.as_str(), &mut rt.stdout())?;
+    let files = ["texts.json", "graph.txt", "no such file"];
+    let words = words_of(alloc, &files)?;
+    let mut shelf = FileShelf::of(&rt, alloc, &words)?;
+    text_lines::print_texts(alloc, &mut shelf, &mut OutSink::of(rt.stdout()))?;
+    write_all(&mut ErrSink::of(rt.stderr()), b"to the error stream\n")?;
+    Ok(())
 }

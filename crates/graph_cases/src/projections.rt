@@ -1,3 +1,5 @@
+//! Rows on latent projections.
+
 use case_rows::{Members, Rows, graph, names, number, set};
 use latent_projection::{Observed, observed, project, renumber};
 use mixed_graph::{Graph, Names, VSet};

@@ -1,3 +1,5 @@
+//! Rows on separations.
+
 use case_rows::{Members, Path, graph, set, text};
 use kept_graph::KeptDiagram;
 use m_separation::{open_path, reach, separated};

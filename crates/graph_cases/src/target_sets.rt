@@ -1,3 +1,5 @@
+//! Rows on lists of names.
+
 use crate::graph_texts::{Input, input_of, told};
 use case_rows::{Members, names, text, texts};
 use mixed_graph::{Names, Text};

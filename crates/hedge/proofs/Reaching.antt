@@ -13,12 +13,20 @@ path_same : (g : MixedGraph) (valid : IsMixedGraph g) (s t : ℕ → Bool) → (
 path_same g valid s t same v [] u p = p
 path_same g valid s t same v (x ∷ xs) u p =
     let a = and_parts (g.arrow v x) (s v && s x) p.0 in
-    let b = and_parts (s v) (s x) a.1 in
-    (and_from _ _ a.0 (and_from _ _ (sym (same v (valid.tail_below v x a.0)) ∙ b.0) (sym (same x (valid.head_below v x a.0)) ∙ b.1)), path_same g valid s t same x xs u p.1)
+    let b = and_parts (s v) (s x) a.1 in (
+      and_from _ _ a.0 (and_from _ _ (sym (same v (valid.tail_below v x a.0)) ∙ b.0) (sym (same x (valid.head_below v x a.0)) ∙ b.1)),
+      path_same g valid s t same x xs u p.1,
+    )
 
 pub reaches_same : (g : MixedGraph) (valid : IsMixedGraph g) (s t : ℕ → Bool) → ((u : ℕ) → u < g.vertices → s u ≡ t u) → (y : ℕ → Bool) (v : ℕ) →
     IsAncestor (induced g s) y v → IsAncestor (induced g t) y v
-reaches_same g valid s t same y v a = record { vertex = a.vertex; path = a.path; end = a.end; leads = path_same g valid s t same v a.path a.end a.leads; inside = a.inside }
+reaches_same g valid s t same y v a = record {
+  vertex = a.vertex;
+  path = a.path;
+  end = a.end;
+  leads = path_same g valid s t same v a.path a.end a.leads;
+  inside = a.inside;
+}
 
 -- inside the vertices, what isn't in x
 pub free_is : (n x free : ℕ) → ((u : ℕ) → has free u ≡ (nat_lt u n && not (has x u))) → (u : ℕ) → u < n → has free u ≡ outside x u

@@ -1,13 +1,14 @@
 -- The choices of a hedge lead to its roots, and its links join its sets.
-use Rattle.std.proofs.Common.{◌≡◌, ℕ, zero, suc, ◌+◌, ◌<◌, ◌≤◌, Bool, true, false, ◌&&◌, ◌||◌, ◌==◌, List, [], ◌∷◌, ◌++◌, length, get_or, IsTrue, inl, inr, refl, sym, subst, arith}
+use Rattle.std.proofs.Common.{◌≡◌, ℕ, zero, suc, ◌+◌, ◌<◌, ◌≤◌, Bool, true, false, ◌&&◌, ◌||◌, ◌==◌, List, [], ◌∷◌, ◌++◌, length, get_or, IsTrue, inl}
+use Rattle.std.proofs.Common.{inr, refl, sym, subst, arith}
 use Rattle.std.proofs.lemmas.Bool.{cases_Bool, and_from, and_parts, or_cases, eqb-true, eq-eqb}
 use Rattle.mixed_graph.specs.Bits.{has, members_below}
 use Rattle.mixed_graph.specs.Graphs.{MixedGraph, IsMixedGraph, IsDirectedPath, IsAncestor, induced}
 use Rattle.mixed_graph.proofs.Paths.{path_push}
 use Rattle.mixed_graph.proofs.Members.{length-members-lt, length-members-more}
-use Rattle.districts.specs.Linked.{IsLinked, IsJoinedSet}
-use Rattle.districts.specs.Linked.IsLinked.{at, by}
-use Rattle.districts.proofs.Parts.{joined_by}
+use Rattle.hedge.specs.Linked.{IsLinked, IsJoinedSet}
+use Rattle.hedge.specs.Linked.IsLinked.{at, by}
+use Rattle.hedge.proofs.Parts.{joined_by}
 use Rattle.hedge.specs.declared.hedge.Hedge.{Hedge}
 use Rattle.hedge.specs.Hedges.{IsHedge, IsPlaced}
 use Rattle.hedge.specs.Shapes.{AreSetsOfHedge, FormHedge, HedgeHasSets, SetsFormHedge}
@@ -24,7 +25,8 @@ behind_more g seen v c edge s u i = elim (or_cases (seen u) (u == v) i) [
 
 -- where each member of s outside r has a child in s, each leads to r inside s: no vertex comes twice
 leads_on : (g : MixedGraph) (valid : IsMixedGraph g) (s r : ℕ → Bool) → ((v : ℕ) → IsTrue (s v) → r v ≡ false → (c : ℕ) × IsTrue (g.arrow v c) × IsTrue (s c)) →
-    (steps : ℕ) (seen : ℕ → Bool) (v : ℕ) → g.vertices ≤ length (members_below seen g.vertices) + steps → Behind g seen v → v < g.vertices → IsTrue (s v) → IsAncestor (induced g s) r v
+    (steps : ℕ) (seen : ℕ → Bool) (v : ℕ) → g.vertices ≤ length (members_below seen g.vertices) + steps → Behind g seen v → v < g.vertices → IsTrue (s v)
+    → IsAncestor (induced g s) r v
 leads_on g valid s r next zero seen v room behind below i = absurd (
     let out : seen v ≡ false = elim (cases_Bool (seen v)) [ inl t ↦ absurd (let b = behind v t in valid.acyclic v b.0 b.1 b.2) | inr f ↦ f ] in
     let l = length-members-lt seen g.vertices v below out in omega arith)
@@ -34,7 +36,8 @@ leads_on g valid s r next (suc steps) seen v room behind below i = elim (cases_B
       let c = next v i f in
       let out : seen v ≡ false = elim (cases_Bool (seen v)) [ inl t ↦ absurd (let b = behind v t in valid.acyclic v b.0 b.1 b.2) | inr f ↦ f ] in
       let more = length-members-more seen (λ u. seen u || (u == v)) v g.vertices below out (λ u. refl) in
-      let a = leads_on g valid s r next steps (λ u. seen u || (u == v)) c.0 (omega arith) (behind_more g seen v c.0 c.1 behind) (valid.head_below v c.0 c.1) c.2 in
+      let a = leads_on g valid s r next steps (λ u. seen u || (u == v)) c.0 (omega arith) (behind_more g seen v c.0 c.1 behind) (valid.head_below v c.0 c.1)
+      c.2 in
       record { vertex = below; path = c.0 ∷ a.path; end = a.end; leads = (and_from _ _ c.1 (and_from _ _ i c.2), a.leads); inside = a.inside }
 ]
 
@@ -50,7 +53,8 @@ module _ (g : MixedGraph) (valid : IsMixedGraph g) (x y : ℕ) (h : Hedge) (smal
   low v i = let l = hedge.sets.low v i in omega arith
 
   small_choice : (v : ℕ) → IsTrue (has h.small.bits v) → has h.roots.bits v ≡ false → (c : ℕ) × IsTrue (g.arrow v c) × IsTrue (has h.small.bits c)
-  small_choice v i n = let b = hedge.sets.small_inside v i in let k = (hedge.choices v (low v b)).chosen b n in (get_or h.choice.next v 0, k.arrow, k.in_small i)
+  small_choice v i n = let b = hedge.sets.small_inside v i in let k = (hedge.choices v (low v b)).chosen b n in
+      (get_or h.choice.next v 0, k.arrow, k.in_small i)
 
   no_root : (v : ℕ) → has h.small.bits v ≡ false → has h.roots.bits v ≡ false
   no_root v n = elim (cases_Bool (has h.roots.bits v)) [ inl t ↦ absurd (let s = hedge.sets.roots_inside v t in cc) | inr f ↦ f ]
@@ -72,13 +76,15 @@ module _ (g : MixedGraph) (valid : IsMixedGraph g) (x y : ℕ) (h : Hedge) (smal
       by in' p.joined (subst (IsLinked g (has a) (λ w. w == entry 0)) e r)
 
   big_keeps : (i : ℕ) → 0 < i → i < h.links.count → IsTrue (has h.big.bits (entry i)) → IsTrue (has h.big.bits (get_or h.links.partner i 0))
-  big_keeps i o c in' = let p = hedge.links.partners i o c in let e = p.earlier in subst (λ w. has h.big.bits w ≡ true) p.is (hedge.links.inside p.place (omega arith))
+  big_keeps i o c in' = let p = hedge.links.partners i o c in let e = p.earlier in
+      subst (λ w. has h.big.bits w ≡ true) p.is (hedge.links.inside p.place (omega arith))
 
   small_keeps : (i : ℕ) → 0 < i → i < h.links.count → IsTrue (has h.small.bits (entry i)) → IsTrue (has h.small.bits (get_or h.links.partner i 0))
   small_keeps i o c in' = (hedge.links.partners i o c).in_small in'
 
   root_placed : IsPlaced h hedge.sets.rooted.0
-  root_placed = hedge.links.placed hedge.sets.rooted.0 (hedge.sets.small_inside hedge.sets.rooted.0 (hedge.sets.roots_inside hedge.sets.rooted.0 hedge.sets.rooted.1))
+  root_placed = hedge.links.placed hedge.sets.rooted.0 (hedge.sets.small_inside hedge.sets.rooted.0
+      (hedge.sets.roots_inside hedge.sets.rooted.0 hedge.sets.rooted.1))
 
   some_entry : 0 < h.links.count
   some_entry = let l = root_placed.listed in omega arith
@@ -97,14 +103,19 @@ module _ (g : MixedGraph) (valid : IsMixedGraph g) (x y : ℕ) (h : Hedge) (smal
       ((i : ℕ) → 0 < i → i < h.links.count → IsTrue (has a (entry i)) → IsTrue (has a (get_or h.links.partner i 0))) → IsJoinedSet g a
   joined a first sub keeps = joined_by g valid a (entry 0) first (λ u i.
       let p = hedge.links.placed u (sub u i) in
-      subst (IsLinked g (has a) (λ w. w == entry 0)) p.here (linked_back a keeps (suc p.place) p.place (omega arith) p.listed (subst (λ w. has a w ≡ true) (sym p.here) i)))
+      subst (IsLinked g (has a) (λ w. w == entry 0)) p.here (linked_back a keeps (suc p.place) p.place (omega arith) p.listed
+      (subst (λ w. has a w ≡ true) (sym p.here) i)))
 
   shape : AreSetsOfHedge g x y h.big.bits h.small.bits h.roots.bits
   shape = record {
     low = hedge.sets.low;
     small_inside = hedge.sets.small_inside;
     roots_inside = hedge.sets.roots_inside;
-    rooted = record { vertex = hedge.sets.rooted.0; in_first = hedge.sets.rooted.1; in_second = hedge.sets.roots_inside hedge.sets.rooted.0 hedge.sets.rooted.1 };
+    rooted = record {
+      vertex = hedge.sets.rooted.0;
+      in_first = hedge.sets.rooted.1;
+      in_second = hedge.sets.roots_inside hedge.sets.rooted.0 hedge.sets.rooted.1;
+    };
     meets = hedge.meets;
     apart = hedge.apart;
     small_leads = λ v i n. let c = small_choice v i n in record { child = c.0; arrow = c.1; within = c.2 };
@@ -121,19 +132,22 @@ hedge_has_sets g x y h valid small hedge = shape g valid x y h small hedge
 
 -- ---- as the textbook has it
 -- a directed path inside a set lies inside a larger one
-path_within : (g : MixedGraph) (s t : ℕ → Bool) → ((v : ℕ) → IsTrue (s v) → IsTrue (t v)) → (v : ℕ) (path : List ℕ) (u : ℕ) → IsDirectedPath (induced g s) v path u → IsDirectedPath (induced g t) v path u
+path_within : (g : MixedGraph) (s t : ℕ → Bool) → ((v : ℕ) → IsTrue (s v) → IsTrue (t v)) → (v : ℕ) (path : List ℕ) (u : ℕ)
+    → IsDirectedPath (induced g s) v path u → IsDirectedPath (induced g t) v path u
 path_within g s t sub v [] u p = p
 path_within g s t sub v (x ∷ xs) u p =
     let a = and_parts (g.arrow v x) (s v && s x) p.0 in
     let b = and_parts (s v) (s x) a.1 in
     (and_from _ _ a.0 (and_from _ _ (sub v b.0) (sub x b.1)), path_within g s t sub x xs u p.1)
 
-path_joined : (g : MixedGraph) (v : ℕ) (path : List ℕ) (u : ℕ) (rest : List ℕ) (w : ℕ) → IsDirectedPath g v path u → IsDirectedPath g u rest w → IsDirectedPath g v (path ++ rest) w
+path_joined : (g : MixedGraph) (v : ℕ) (path : List ℕ) (u : ℕ) (rest : List ℕ) (w : ℕ) → IsDirectedPath g v path u → IsDirectedPath g u rest w
+    → IsDirectedPath g v (path ++ rest) w
 path_joined g v [] u rest w p q = subst (λ z. IsDirectedPath g z rest w) (sym p) q
 path_joined g v (x ∷ xs) u rest w p q = (p.0, path_joined g x xs u rest w p.1 q)
 
 -- what leads to small inside big, and from there to the roots inside small, leads to the roots inside big
-leads_through : (g : MixedGraph) (big small : ℕ) (roots : ℕ → Bool) → ((v : ℕ) → IsTrue (has small v) → IsTrue (has big v)) → ((v : ℕ) → IsTrue (has small v) → IsAncestor (induced g (has small)) roots v)
+leads_through : (g : MixedGraph) (big small : ℕ) (roots : ℕ → Bool) → ((v : ℕ) → IsTrue (has small v) → IsTrue (has big v))
+    → ((v : ℕ) → IsTrue (has small v) → IsAncestor (induced g (has small)) roots v)
     → (v : ℕ) → IsAncestor (induced g (has big)) (has small) v → IsAncestor (induced g (has big)) roots v
 leads_through g big small roots sub on v a =
     let b = on a.end a.inside in
@@ -148,7 +162,11 @@ leads_through g big small roots sub on v a =
 forms : (g : MixedGraph) (x y big small roots : ℕ) → AreSetsOfHedge g x y big small roots → FormHedge g x y big small roots
 forms g x y big small roots s = record {
   low = s.low;
-  big_forest = record { roots_inside = λ v i. s.small_inside v (s.roots_inside v i); joined = s.big_joined; leads = λ v i. leads_through g big small (has roots) s.small_inside s.small_reaches v (s.big_reaches v i) };
+  big_forest = record {
+    roots_inside = λ v i. s.small_inside v (s.roots_inside v i);
+    joined = s.big_joined;
+    leads = λ v i. leads_through g big small (has roots) s.small_inside s.small_reaches v (s.big_reaches v i);
+  };
   small_forest = record { roots_inside = s.roots_inside; joined = s.small_joined; leads = s.small_reaches };
   inside = s.small_inside;
   rooted = (s.rooted.vertex, s.rooted.in_first);

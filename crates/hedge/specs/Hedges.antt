@@ -3,7 +3,7 @@ use Rattle.std.specs.Prelude.{◌≡◌, ℕ, ◌<◌, ◌⊎◌, ◌↔◌, Boo
 use Rattle.mixed_graph.specs.Bits.{has, members_below}
 use Rattle.mixed_graph.specs.Sets.{Within, Apart}
 use Rattle.mixed_graph.specs.Graphs.{MixedGraph, IsAncestor, induced}
-use Rattle.districts.specs.Linked.{IsInside}
+use Rattle.hedge.specs.Linked.{IsInside}
 use Rattle.hedge.specs.declared.hedge.Hedge.{Hedge}
 
 -- the two sets have a member in common

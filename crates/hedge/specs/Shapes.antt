@@ -3,7 +3,7 @@ use Rattle.std.specs.Prelude.{◌≡◌, ℕ, ◌≤◌, false, IsTrue}
 use Rattle.mixed_graph.specs.Bits.{has}
 use Rattle.mixed_graph.specs.Sets.{Within, Apart}
 use Rattle.mixed_graph.specs.Graphs.{MixedGraph, IsMixedGraph, IsAncestor, induced}
-use Rattle.districts.specs.Linked.{IsInside, IsJoinedSet}
+use Rattle.hedge.specs.Linked.{IsInside, IsJoinedSet}
 use Rattle.hedge.specs.declared.hedge.Hedge.{Hedge}
 use Rattle.hedge.specs.Hedges.{Meets, Reaches, IsHedge}
 
@@ -35,7 +35,8 @@ pub record IsForest (g : MixedGraph) (s roots : ℕ) : Type 0 where
   pub joined : IsJoinedSet g s
   pub leads : (v : ℕ) → IsTrue (has s v) → IsAncestor (induced g (has s)) (has roots) v
 
--- Big and small form a hedge for the effect of x on y (Shpitser and Pearl 2006): they are C-forests with the same roots, small inside big; big meets x, and small doesn't; each root has a directed path to y outside x.
+-- Big and small form a hedge for the effect of x on y (Shpitser and Pearl 2006): they are C-forests with the same roots, small inside big; big meets
+-- x, and small doesn't; each root has a directed path to y outside x.
 pub record FormHedge (g : MixedGraph) (x y big small roots : ℕ) : Type 0 where
   pub low : Within g.vertices (has big)
   pub big_forest : IsForest g big roots
@@ -48,8 +49,10 @@ pub record FormHedge (g : MixedGraph) (x y big small roots : ℕ) : Type 0 where
 
 -- the sets of a hedge are such sets
 abbrev pub HedgeHasSets : Type 0
-HedgeHasSets = (g : MixedGraph) (x y : ℕ) (h : Hedge) → IsMixedGraph g → g.vertices ≤ 64 → IsHedge g x y h → AreSetsOfHedge g x y h.big.bits h.small.bits h.roots.bits
+HedgeHasSets = (g : MixedGraph) (x y : ℕ) (h : Hedge) → IsMixedGraph g → g.vertices ≤ 64 → IsHedge g x y h
+    → AreSetsOfHedge g x y h.big.bits h.small.bits h.roots.bits
 
 -- the sets of a hedge form one as the textbook has it
 abbrev pub SetsFormHedge : Type 0
-SetsFormHedge = (g : MixedGraph) (x y : ℕ) (h : Hedge) → IsMixedGraph g → g.vertices ≤ 64 → IsHedge g x y h → FormHedge g x y h.big.bits h.small.bits h.roots.bits
+SetsFormHedge = (g : MixedGraph) (x y : ℕ) (h : Hedge) → IsMixedGraph g → g.vertices ≤ 64 → IsHedge g x y h
+    → FormHedge g x y h.big.bits h.small.bits h.roots.bits

@@ -1,3 +1,5 @@
+//! Where vertices stand among the entries of the links.
+
 ghost use Rattle.std.specs.Prelude.{◌≡◌, ◌≢◌, ℕ, ◌<◌, ◌↔◌, IsTrue, IfSome, IfNone, slice_index};
 ghost use Rattle.std.specs.Bool.{OnTrue, OnFalse};
 ghost use Rattle.mixed_graph.specs.Bits.{has};
@@ -7,7 +9,7 @@ ghost use Rattle.hedge.specs.Hedges.{IsPlaced, IsRightPartner, AreRightLinks};
 ghost use Rattle.hedge.specs.Faults.{IsLowestWrong, IsLaterEntry, HasRightPartner, AllPlaced, HasStranger, AllInside, IsWrongLink};
 
 use crate::hedge::Hedge;
-use districts::Links;
+use crate::joined_sets::Links;
 use mixed_graph::Graph;
 
 /// The first place of v among the entries, if there is one.

@@ -1,4 +1,6 @@
-use districts::{Choice, Links};
+//! Hedges as data, and their faults.
+
+use crate::joined_sets::{Choice, Links};
 use mixed_graph::VSet;
 
 /// Two sets joined by bidirected edges, small in big; a child of each member of big that is no root; and a tree of links.

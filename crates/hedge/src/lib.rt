@@ -7,9 +7,12 @@ mod choices;
 mod entries;
 mod hedge;
 mod holding;
+pub mod joined_sets;
 mod theory;
 
-pub use districts::{Choice, Districts, Links, child_choice, district_of, districts, links};
+pub use crate::joined_sets::{
+    Choice, Districts, Links, child_choice, district_of, districts, links,
+};
 pub use hedge::{Hedge, HedgeFault};
 pub use holding::holds;
 pub use theory::laws;

@@ -1,10 +1,11 @@
 -- Lists that are made element by element.
-use Rattle.std.proofs.Common.{ℕ, zero, suc, ◌≡◌, ◌<◌, ◌≤◌, ◌+◌, Bool, ◌⊎◌, inl, inr, List, [], ◌∷◌, ◌++◌, length, get_or, length-append, refl, sym, ap, ◌∙◌, subst, arith}
+use Rattle.std.proofs.Common.{ℕ, zero, suc, ◌≡◌, ◌<◌, ◌≤◌, ◌+◌, Bool, ◌⊎◌, inl, inr, List, [], ◌∷◌, ◌++◌, length, get_or, length-append, refl, sym}
+use Rattle.std.proofs.Common.{ap, ◌∙◌, subst, arith}
 use Rattle.std.proofs.lemmas.Bool.{cases_lt}
 use Rattle.std.proofs.lemmas.List.{get_or_append_left}
 use Rattle.std.proofs.Math.Seq.{get_or-append_seam}
 use Rattle.mixed_graph.specs.Bits.{members_below}
-use Rattle.hidden_theory.proofs.Positions.{member_is}
+use Rattle.hidden_models.proofs.Positions.{member_is}
 use Rattle.hidden_models.specs.Lists.{AreListed}
 
 pub listed-none : {X : Type 0} (P : ℕ → X → Type 0) → AreListed P [] 0

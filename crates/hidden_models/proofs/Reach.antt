@@ -21,15 +21,32 @@ module _ (g : MixedGraph) (ok : IsMixedGraph g) (l heads ends : ℕ → Bool) (a
 
   pub leads_past : (v : ℕ) (xs : List ℕ) (u : ℕ) → IsDirectedPath g v xs u → AreBefore l v xs → IsDirectedPath (restricted g l heads ends) v xs u
   leads_past v [] u p b = p
-  leads_past v (x ∷ xs) u p b = (and_from (g.arrow v x) (l v && heads x) p.0 (and_from (l v) (heads x) b.0 (all x (ok.head_below v x p.0))), leads_past x xs u p.1 b.1)
+  leads_past v (x ∷ xs) u p b = (
+    and_from (g.arrow v x) (l v && heads x) p.0 (and_from (l v) (heads x) b.0 (all x (ok.head_below v x p.0))),
+    leads_past x xs u p.1 b.1,
+  )
 
-  end_below : (s : ℕ → Bool) → ((v : ℕ) → s v ≡ true → v < g.vertices) → (v : ℕ) (xs : List ℕ) (u : ℕ) → v < g.vertices → IsDirectedPath g v xs u → u < g.vertices
+  end_below : (s : ℕ → Bool) → ((v : ℕ) → s v ≡ true → v < g.vertices) → (v : ℕ) (xs : List ℕ) (u : ℕ) → v < g.vertices → IsDirectedPath g v xs u
+      → u < g.vertices
   end_below s low v [] u lt p = rw (sym p) lt
   end_below s low v (x ∷ xs) u lt p = end_below s low x xs u (ok.head_below v x p.0) p.1
 
   module _ (s : ℕ → Bool) (low : (v : ℕ) → s v ≡ true → v < g.vertices) where
     pub reached_of : (v : ℕ) → IsDescendant (restricted g l heads ends) s v → l v ≡ false → IsReachedFrom g l s v
-    reached_of v d o = record { start = d.start; path = d.path; inside = d.inside; leads = leads_back d.start d.path v d.leads; before = hidden_before d.start d.path v d.leads; observed = o }
+    reached_of v d o = record {
+      start = d.start;
+      path = d.path;
+      inside = d.inside;
+      leads = leads_back d.start d.path v d.leads;
+      before = hidden_before d.start d.path v d.leads;
+      observed = o;
+    }
 
     pub of_reached : (v : ℕ) → IsReachedFrom g l s v → IsDescendant (restricted g l heads ends) s v
-    of_reached v r = record { vertex = end_below s low r.start r.path v (low r.start r.inside) r.leads; path = r.path; start = r.start; leads = leads_past r.start r.path v r.leads r.before; inside = r.inside }
+    of_reached v r = record {
+      vertex = end_below s low r.start r.path v (low r.start r.inside) r.leads;
+      path = r.path;
+      start = r.start;
+      leads = leads_past r.start r.path v r.leads r.before;
+      inside = r.inside;
+    }

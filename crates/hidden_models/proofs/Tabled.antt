@@ -12,8 +12,8 @@ use Rattle.finite_models.proofs.SumLaws.{sum_below-congr, product_below-congr}
 use Rattle.finite_models.proofs.TableLaws.{table_reads}
 use Rattle.prob_expr.proofs.Boxes.{assignment_set, sum_over_equal}
 use Rattle.latent_projection.specs.Renumbering.{observed_below, renumbered_set}
-use Rattle.hidden_theory.specs.Folding.{Folds, values_after}
-use Rattle.hidden_theory.proofs.Positions.{member_is}
+use Rattle.hidden_models.specs.Folding.{Folds, values_after}
+use Rattle.hidden_models.proofs.Positions.{member_is}
 
 -- the models have the same vertices, causes and values, and in range the mechanisms of m' are tables of those of m
 pub record IsTabled (q : MixedGraph) (m m' : FiniteModel) : Type 0 where
@@ -24,8 +24,10 @@ pub record IsTabled (q : MixedGraph) (m m' : FiniteModel) : Type 0 where
   pub weights : (j : ℕ) → j < m.causes → (x : ℕ) → x < m.values j → m'.weight j x ≡ m.weight j x
   pub serves : (j v : ℕ) → j < m.causes → m'.serves j v ≡ m.serves j v
   pub outputs : ℕ → List ℕ
-  pub looked_up : (v : ℕ) → v < m.vertices → (s u : ℕ → ℕ) → m'.mechanism v s u ≡ table_value (outputs v) (table_index m'.vertices m'.causes (λ p. q.arrow p v) (λ j. m'.serves j v) m'.size m'.values s u)
-  pub agrees : (v : ℕ) → v < m.vertices → (s u : ℕ → ℕ) → IsAssignment m.vertices m.size s → IsAssignment m.causes m.values u → m'.mechanism v s u ≡ m.mechanism v s u
+  pub looked_up : (v : ℕ) → v < m.vertices → (s u : ℕ → ℕ) → m'.mechanism v s u
+      ≡ table_value (outputs v) (table_index m'.vertices m'.causes (λ p. q.arrow p v) (λ j. m'.serves j v) m'.size m'.values s u)
+  pub agrees : (v : ℕ) → v < m.vertices → (s u : ℕ → ℕ) → IsAssignment m.vertices m.size s → IsAssignment m.causes m.values u → m'.mechanism v s u
+      ≡ m.mechanism v s u
 
 module _ (q : MixedGraph) (m m' : FiniteModel) (ok : IsMixedGraph q) (fit : Fits q m) (is : IsTabled q m m') where
   assigned : (s : ℕ → ℕ) → IsAssignment m'.vertices m'.size s → IsAssignment m.vertices m.size s
@@ -50,7 +52,8 @@ module _ (q : MixedGraph) (m m' : FiniteModel) (ok : IsMixedGraph q) (fit : Fits
     joined = λ j u v jl e f d. let l = low_j j jl in fit.joined j u v l (sym (is.serves j u l) ∙ e) (sym (is.serves j v l) ∙ f) d;
     reads = λ v vl s t u w hp hc. let l = low_v v vl in
         is.looked_up v l s u
-        ∙ table_reads (is.outputs v) m'.vertices m'.causes (λ p. q.arrow p v) (λ j. m'.serves j v) m'.size m'.values s t u w (λ p pl e. hp p e) (λ j jl e. hc j jl e)
+        ∙ table_reads (is.outputs v) m'.vertices m'.causes (λ p. q.arrow p v) (λ j. m'.serves j v) m'.size m'.values s t u w (λ p pl e. hp p e)
+        (λ j jl e. hc j jl e)
         ∙ sym (is.looked_up v l t w);
     below = λ v vl s u hs hu. let l = low_v v vl in
         let b : m.mechanism v s u < m.size v = fit.below v l s u (assigned s hs) (world u hu) in
@@ -64,11 +67,13 @@ module _ (q : MixedGraph) (m m' : FiniteModel) (ok : IsMixedGraph q) (fit : Fits
       low_j j jl = subst (λ n. j < n) is.causes jl
 
       sum_is : (j : ℕ) → j < m.causes → sum_below (m'.values j) (m'.weight j) ≡ sum_below (m.values j) (m.weight j)
-      sum_is j jl = ap (λ n. sum_below n (m'.weight j)) (is.values j jl) ∙ sum_below-congr (m.values j) (m'.weight j) (m.weight j) (λ x xl. is.weights j jl x xl)
+      sum_is j jl = ap (λ n. sum_below n (m'.weight j)) (is.values j jl)
+          ∙ sum_below-congr (m.values j) (m'.weight j) (m.weight j) (λ x xl. is.weights j jl x xl)
 
   -- a world weighs the same
   weighs : (u : ℕ → ℕ) → IsAssignment m.causes m.values u → world_weight m u ≡ world_weight m' u
-  weighs u hu = product_below-congr m.causes (λ j. m.weight j (u j)) (λ j. m'.weight j (u j)) (λ j jl. sym (is.weights j jl (u j) (hu j jl))) ∙ ap (λ n. product_below n (λ j. m'.weight j (u j))) (sym is.causes)
+  weighs u hu = product_below-congr m.causes (λ j. m.weight j (u j)) (λ j. m'.weight j (u j)) (λ j jl. sym (is.weights j jl (u j) (hu j jl)))
+      ∙ ap (λ n. product_below n (λ j. m'.weight j (u j))) (sym is.causes)
 
   first_world : IsAssignment m.causes m.values (λ j. 0)
   first_world j jl = go (m.values j) (fit.positive_weight j jl)
@@ -101,13 +106,18 @@ module _ (q : MixedGraph) (m m' : FiniteModel) (ok : IsMixedGraph q) (fit : Fits
         ∙ ap (λ y. cond (b x) (s x) y) (sym (is.agrees x l (solution (intervene m b s) u) u (solution_within q (intervene m b s) first_follows u hu) hu)))
         (λ x xl. solution_is q (intervene m' b s) rank ranked second_follows u x xl) v (subst (λ n. v < n) (sym is.vertices) vl)
 
-    same_agree : (u : ℕ → ℕ) → IsAssignment m.causes m.values u → agree m.vertices a (solution (intervene m b s) u) s ≡ agree m'.vertices a (solution (intervene m' b s) u) s
+    same_agree : (u : ℕ → ℕ) → IsAssignment m.causes m.values u → agree m.vertices a (solution (intervene m b s) u) s
+        ≡ agree m'.vertices a (solution (intervene m' b s) u) s
     same_agree u hu = same_truth (agree m.vertices a (solution (intervene m b s) u) s) (agree m'.vertices a (solution (intervene m' b s) u) s)
-        (λ h. agree_from m'.vertices a (solution (intervene m' b s) u) s (λ v vl e. let l : v < m.vertices = subst (λ n. v < n) is.vertices vl in sym (same u hu v l) ∙ agree_gives m.vertices a (solution (intervene m b s) u) s h v l e))
-        (λ h. agree_from m.vertices a (solution (intervene m b s) u) s (λ v vl e. same u hu v vl ∙ agree_gives m'.vertices a (solution (intervene m' b s) u) s h v (subst (λ n. v < n) (sym is.vertices) vl) e))
+        (λ h. agree_from m'.vertices a (solution (intervene m' b s) u) s
+        (λ v vl e. let l : v < m.vertices = subst (λ n. v < n) is.vertices vl in sym (same u hu v l)
+        ∙ agree_gives m.vertices a (solution (intervene m b s) u) s h v l e))
+        (λ h. agree_from m.vertices a (solution (intervene m b s) u) s
+        (λ v vl e. same u hu v vl ∙ agree_gives m'.vertices a (solution (intervene m' b s) u) s h v (subst (λ n. v < n) (sym is.vertices) vl) e))
 
     tabled_weight_at : weight_of m b a s ≡ weight_of m' b a s
-    tabled_weight_at = over_worlds (λ u. cond (agree m.vertices a (solution (intervene m b s) u) s) (world_weight m u) 0) (λ u. cond (agree m'.vertices a (solution (intervene m' b s) u) s) (world_weight m' u) 0)
+    tabled_weight_at = over_worlds (λ u. cond (agree m.vertices a (solution (intervene m b s) u) s) (world_weight m u) 0)
+        (λ u. cond (agree m'.vertices a (solution (intervene m' b s) u) s) (world_weight m' u) 0)
         (λ u hu. ap₂ (λ c w. cond c w 0) (same_agree u hu) (weighs u hu))
 
   pub tabled_weight : (b a : ℕ → Bool) (s : ℕ → ℕ) → IsAssignment m.vertices m.size s → weight_of m b a s ≡ weight_of m' b a s
@@ -120,7 +130,8 @@ module _ (q : MixedGraph) (m m' : FiniteModel) (ok : IsMixedGraph q) (fit : Fits
     sizes = λ k kl. let kl' = subst (λ n. k < n) is.vertices kl in is.sizes k kl' ∙ folds.sizes k kl';
     weights = λ b a bo ao s hs.
         ap (λ n. weight_of drawn b a s * n) (sym tabled_total) ∙ folds.weights b a bo ao s hs
-        ∙ ap (λ n. n * total drawn) (tabled_weight (renumbered_set (observed_below l drawn.vertices) b) (renumbered_set (observed_below l drawn.vertices) a) (values_after l drawn.vertices s) (after s hs));
+        ∙ ap (λ n. n * total drawn) (tabled_weight (renumbered_set (observed_below l drawn.vertices) b) (renumbered_set (observed_below l drawn.vertices) a)
+        (values_after l drawn.vertices s) (after s hs));
   }
     where
       after : (s : ℕ → ℕ) → IsAssignment drawn.vertices drawn.size s → IsAssignment m.vertices m.size (values_after l drawn.vertices s)

@@ -19,10 +19,12 @@ above x n h = elim (cases_lt n x) [
   | inr ge ↦ absurd (h ge)
 ]
 
-module _ (g : MixedGraph) (ok : IsMixedGraph g) (l : ℕ → Bool) (m : Model) (accepted : IsAcceptedModel g m) (sets : List VSet) (are : AreReached g l m.causes.items sets) (p : MixedGraph) (projects : IsProjection g l p)
+module _ (g : MixedGraph) (ok : IsMixedGraph g) (l : ℕ → Bool) (m : Model) (accepted : IsAcceptedModel g m) (sets : List VSet)
+    (are : AreReached g l m.causes.items sets) (p : MixedGraph) (projects : IsProjection g l p)
     (kept : List ℕ) (is : kept ≡ observed_below l g.vertices) where
   small_at : (k : ℕ) → k < length (observed_below l g.vertices) → entries p m sets (get_or kept k 0) ≤ 1048576 → IsSmallEnough g l m k
-  small_at k kl h q observed r tells = subst (λ n. n ≤ 1048576) (sym (table_size_is g ok l m accepted sets are q observed p projects r tells k kl)) (subst (λ (xs : List ℕ). entries p m sets (get_or xs k 0) ≤ 1048576) is h)
+  small_at k kl h q observed r tells = subst (λ n. n ≤ 1048576) (sym (table_size_is g ok l m accepted sets are q observed p projects r tells k kl))
+      (subst (λ (xs : List ℕ). entries p m sets (get_or xs k 0) ≤ 1048576) is h)
 
   pub first_too_large : (k : ℕ) → IsFirstWrong (length kept) (λ k. entries p m sets (get_or kept k 0) ≤ 1048576) k → IsFirstTooLarge g l m k
   first_too_large k h =
@@ -35,5 +37,6 @@ module _ (g : MixedGraph) (ok : IsMixedGraph g) (l : ℕ → Bool) (m : Model) (
         before = λ i il. small_at i (omega arith) (h.before i il);
       }
 
-  pub all_small : AllRight (length kept) (λ k. entries p m sets (get_or kept k 0) ≤ 1048576) → (k : ℕ) → k < length (observed_below l g.vertices) → IsSmallEnough g l m k
+  pub all_small : AllRight (length kept) (λ k. entries p m sets (get_or kept k 0) ≤ 1048576) → (k : ℕ) → k < length (observed_below l g.vertices)
+      → IsSmallEnough g l m k
   all_small h k kl = small_at k kl (h k (let e = ap (λ (xs : List ℕ). length xs) is in omega arith))

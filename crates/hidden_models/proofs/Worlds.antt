@@ -13,5 +13,7 @@ pub positive_of : (causes : List Cause) (world : List ℕ) → IsWorldOf causes 
 positive_of causes world is j lt = let b = is.below j lt in omega arith
 
 -- values that are filled in are in range
-pub filled_below : (g : MixedGraph) (m : FiniteModel) → Fits g m → (l : ℕ → Bool) (s u : ℕ → ℕ) → IsAssignment m.vertices m.size s → IsAssignment m.causes m.values u → (v : ℕ) → v < m.vertices → filled m l s u v < m.size v
-filled_below g m fit l s u hs hu v lt = solution_within g (intervene m (λ v. not (l v)) s) (follows_intervene g m (λ v. not (l v)) s hs (follows_of g m fit)) u hu v lt
+pub filled_below : (g : MixedGraph) (m : FiniteModel) → Fits g m → (l : ℕ → Bool) (s u : ℕ → ℕ) → IsAssignment m.vertices m.size s
+    → IsAssignment m.causes m.values u → (v : ℕ) → v < m.vertices → filled m l s u v < m.size v
+filled_below g m fit l s u hs hu v lt = solution_within g (intervene m (λ v. not (l v)) s) (follows_intervene g m (λ v. not (l v)) s hs (follows_of g m fit))
+    u hu v lt

@@ -47,7 +47,8 @@ abbrev pub IsTable : Mechanism → Type 0
 IsTable (Table outputs) = Unit {0}
 IsTable (Parity h c) = ⊥
 
--- how many entries the table of the observed vertex k has, by its new number: one for each choice of values of its parents in the observed graph q and of the causes that reach it
+-- how many entries the table of the observed vertex k has, by its new number: one for each choice of values of its parents in the observed graph q
+-- and of the causes that reach it
 abbrev pub table_size : (ℕ → Bool) → MixedGraph → MixedGraph → Model → (ℕ → ℕ → Bool) → ℕ → ℕ
 table_size l g q m r k = table_range q.vertices (length m.causes.items) (λ p. q.arrow p k) (λ j. r j (slice_index (observed_below l g.vertices) k))
     (λ p. slice_index m.sizes.items (slice_index (observed_below l g.vertices) p)) (values_of m.causes.items)

@@ -4,3 +4,9 @@ pub mod Reaching
 pub mod Tables
 pub mod Parts
 pub mod Folded
+pub mod Digits
+pub mod Folding
+pub mod FoldingLaws
+pub mod Statements
+pub mod Unfolding
+pub mod UnfoldingLaws

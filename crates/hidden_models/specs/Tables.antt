@@ -10,7 +10,7 @@ use Rattle.finite_models.specs.Worlds.{values_of}
 use Rattle.finite_models.specs.declared.model.Model.{Model}
 use Rattle.finite_models.specs.declared.model.Mechanism.{Mechanism}
 use Rattle.finite_models.specs.declared.model.Mechanism.TheVariants.{Table, Parity}
-use Rattle.hidden_theory.specs.Digits.{digits}
+use Rattle.hidden_models.specs.Digits.{digits}
 use Rattle.hidden_models.specs.Reaching.{mask_at}
 use Rattle.hidden_models.specs.Values.{filled}
 

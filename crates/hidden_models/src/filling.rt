@@ -1,3 +1,5 @@
+//! The values of hidden vertices where the observed ones are set.
+
 ghost use Rattle.std.specs.Prelude.{◌≡◌, ℕ, ◌<◌, length, slice_index};
 ghost use Rattle.mixed_graph.specs.Bits.{has};
 ghost use Rattle.mixed_graph.specs.Orders.{IsOrder};

@@ -13,6 +13,7 @@ mod parities;
 mod parts;
 mod ranges;
 mod reaching;
+pub mod theory;
 
 pub use faults::FoldFault;
 pub use folding::fold_model;

@@ -1,3 +1,5 @@
+//! The value of a vertex with parts.
+
 ghost use Rattle.std.specs.Prelude.{◌≡◌, ◌%◌, ◌<◌, ◌≤◌, EachIndex, map, sum, length, slice_index};
 ghost use Rattle.finite_models.specs.Data.{part_bit, parity_value};
 ghost use Rattle.finite_models.specs.Worlds.{HasCauses, HaveCauses};

@@ -7,9 +7,9 @@ use Rattle.targets.specs.declared.fault.TargetFault.{TargetFault}
 use Rattle.targets.specs.declared.fault.TargetFault.TheVariants.{EmptyX}
 use Rattle.targets.specs.Targets.{EffectLists, Lists, fault_in, IsFaultOfTarget, IsListFault}
 use Rattle.prob_expr.specs.Tree.{PlainTarget}
-use Rattle.identification.specs.Procedure.{IsUnidentified}
-use Rattle.conditional_theory.specs.Conditionals.{IsConditionalTarget}
-use Rattle.conditional_theory.proofs.Answered.{joint_excludes_formula, derived_is_conditional}
+use Rattle.identification_theory.specs.Procedure.{IsUnidentified}
+use Rattle.conditional_id.specs.Conditionals.{IsConditionalTarget}
+use Rattle.conditional_id.proofs.Answered.{joint_excludes_formula, derived_is_conditional}
 use Rattle.replies.specs.declared.outcome.Outcome.{Outcome}
 use Rattle.replies.specs.declared.outcome.Outcome.TheVariants.{Yes, No, Graph}
 use Rattle.replies.specs.Observed.{Names}
@@ -21,7 +21,8 @@ use Rattle.effect_answers.specs.Effects.{effect_lists}
 use Rattle.effect_answers.proofs.Exclusive.{formula_or_hedge, effect_refused, same_effect_lists}
 use Rattle.identify_command.specs.declared.form.Form.{Form}
 use Rattle.identify_command.specs.Answers.{EffectAnswer, IdentifyAnswer}
-use Rattle.identify_command.specs.Conditions.{target_lists, AreTargetSets, IsListRefusal, ShowsConditional, ShowsJoint, ListsAnswer, ConditionalAnswer, IdentifyAnswerGiven}
+use Rattle.identify_command.specs.Conditions.{target_lists, AreTargetSets, IsListRefusal, ShowsConditional, ShowsJoint, ListsAnswer}
+use Rattle.identify_command.specs.Conditions.{ConditionalAnswer, IdentifyAnswerGiven}
 use Rattle.targets.proofs.Effects.{listed_outcome}
 use Rattle.identify_command.proofs.Lists.{three_sets}
 
@@ -29,7 +30,8 @@ use Rattle.identify_command.proofs.Lists.{three_sets}
 
 module _ (form : Form) (q : MixedGraph) (valid : IsMixedGraph q) (l : EffectLists) (named : length l.observed ≡ q.vertices) where
   formula_or_none : (text line : List ℕ) → EffectAnswer form q l Yes text → EffectAnswer form q l No line → ⊥
-  formula_or_none text line a b = formula_or_hedge q valid l named a.x a.y b.x b.y a.sets b.sets a.answer.formula a.answer.derivation a.answer.derived b.answer.hedge b.answer.pair b.answer.found
+  formula_or_none text line a b = formula_or_hedge q valid l named a.x a.y b.x b.y a.sets b.sets a.answer.formula a.answer.derivation a.answer.derived
+      b.answer.hedge b.answer.pair b.answer.found
 
   among : (o : Outcome) (text : List ℕ) → EffectAnswer form q l o text → IsOneOf Yes No Graph o
   among Yes text h = inl refl
@@ -66,13 +68,18 @@ refused l t line s r = no_fault_of (fault_in l) l.y some_list r.fault s.no_fault
 
 module _ (form : Form) (q : MixedGraph) (valid : IsMixedGraph q) (l : Lists) (named : length l.observed ≡ q.vertices) where
   is_target : (t : PlainTarget) → AreTargetSets l t → IsConditionalTarget q t
-  is_target t s = let sets = three_sets l q.vertices t named s in record { sets = sets; some = some_member q.vertices t.y sets.y_within (listed_outcome l t.x t.y t.given s) }
+  is_target t s = let sets = three_sets l q.vertices t named s in record {
+    sets = sets;
+    some = some_member q.vertices t.y sets.y_within (listed_outcome l t.x t.y t.given s);
+  }
 
-  formula_or_joint : (t : PlainTarget) (text line : List ℕ) → AreTargetSets l t → ShowsConditional form q l.observed t text → ShowsJoint form q l.observed t line → ⊥
+  formula_or_joint : (t : PlainTarget) (text line : List ℕ) → AreTargetSets l t → ShowsConditional form q l.observed t text
+      → ShowsJoint form q l.observed t line → ⊥
   formula_or_joint t text line s a b =
       let e = b.joint in
       joint_excludes_formula q valid t (is_target t s) b.x e.left e.moved e.turned b.hedge.small.bits b.hedge.big.bits
-      (subst (λ (y : ℕ). IsUnidentified q b.x y b.hedge.small.bits b.hedge.big.bits) e.joint b.found.stop) a.formula (derived_is_conditional q t a.formula a.derivation a.derived)
+      (subst (λ (y : ℕ). IsUnidentified q b.x y b.hedge.small.bits b.hedge.big.bits) e.joint b.found.stop) a.formula
+      (derived_is_conditional q t a.formula a.derivation a.derived)
 
   given_yes_no : (text line : List ℕ) → ListsAnswer form q l Yes text → ListsAnswer form q l No line → ⊥
   given_yes_no text line a b = formula_or_joint a.target text line a.sets a.answer
@@ -91,7 +98,8 @@ module _ (form : Form) (q : MixedGraph) (valid : IsMixedGraph q) (l : Lists) (na
 same_target_lists : (x y : Names) (given : List (List ℕ)) (g h : ReadGraph) → AreSame g h → target_lists h x y given ≡ target_lists g x y given
 same_target_lists x y given g h s = rw (s.names, s.vertices, s.latent, s.exposures, s.outcomes) refl
 
-conditional_once : (bytes : List ℕ) (form : Form) (x y : Names) (given : List (List ℕ)) → OneOutcome (IsAnswerOn bytes (λ g. ConditionalAnswer form g x y given))
+conditional_once : (bytes : List ℕ) (form : Form) (x y : Names) (given : List (List ℕ))
+    → OneOutcome (IsAnswerOn bytes (λ g. ConditionalAnswer form g x y given))
 conditional_once bytes form x y given = one_for_lists bytes (λ g. target_lists g x y given) (λ q l. ListsAnswer form q l) (same_target_lists x y given)
     (λ g q is. target_once form q (observed_is_mixed g q is) (target_lists g x y given) (observed_named g q is))
 

@@ -2,8 +2,8 @@
 use Rattle.std.proofs.Common.{◌≡◌, Bool, true, false, List, sym, ◌∙◌}
 use Rattle.std.specs.Prelude.{codes}
 use Rattle.std.proofs.lemmas.Option.{same_Some}
-use Rattle.word_forms.specs.Form.{Use, value_of, has_flag}
-use Rattle.request_values.proofs.OneValue.{one_listed}
+use Rattle.command_words.specs.Form.{Use, value_of, has_flag}
+use Rattle.command_words.proofs.OneValue.{one_listed}
 use Rattle.identify_command.specs.declared.form.Form.{Form}
 use Rattle.identify_command.specs.Forms.{IsForm}
 use Rattle.replies.proofs.Commands.{IsLawful, lawful_on_file}

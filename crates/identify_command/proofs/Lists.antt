@@ -27,7 +27,8 @@ with_member (suc k) v h = omega arith
 -- ---- answers
 
 -- where names are listed, the answer is that under a condition
-pub where_given : (form : Form) (g : ReadGraph) (x y : Names) (list : List (List ℕ)) (o : Outcome) (text : List ℕ) → (list ≡ [] → ⊥) → ConditionalAnswer form g x y list o text
+pub where_given : (form : Form) (g : ReadGraph) (x y : Names) (list : List (List ℕ)) (o : Outcome) (text : List ℕ) → (list ≡ [] → ⊥)
+    → ConditionalAnswer form g x y list o text
     → IdentifyAnswerGiven form g x y (Some list) o text
 where_given form g x y [] o text some h = absurd (some refl)
 where_given form g x y (n ∷ ns) o text some h = h

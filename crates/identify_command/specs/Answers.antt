@@ -6,13 +6,14 @@ use Rattle.targets.specs.Targets.{EffectLists}
 use Rattle.replies.specs.declared.outcome.Outcome.{Outcome}
 use Rattle.replies.specs.declared.outcome.Outcome.TheVariants.{Yes, No, Graph}
 use Rattle.replies.specs.Observed.{Names, IsObservedGraph}
-use Rattle.prob_expr.specs.Tree.{PlainFormula, PlainTarget}
+use Rattle.prob_expr.specs.Tree.{PlainFormula, PlainTarget, effect_on}
 use Rattle.do_derivation.specs.Plans.{PlainDerivation}
 use Rattle.hedge.specs.declared.hedge.Hedge.{Hedge}
 use Rattle.counter_models.specs.declared.counter_pair.CounterPair.{CounterPair}
-use Rattle.identification.specs.Derivations.{IsDerived}
-use Rattle.id_recursion.specs.Answers.{effect_on, IsRightFormula}
-use Rattle.identify_text.specs.Answers.{formula_answer, latex_answer}
+use Rattle.identification_theory.specs.Derivations.{IsDerived}
+use Rattle.identify.specs.Answers.{IsRightFormula}
+use Rattle.answer_text.specs.declared.signs.Notation.TheVariants as notations
+use Rattle.identify_text.specs.Answers.{answer_in}
 use Rattle.identify_text.specs.PairLines.{hedge_answer}
 use Rattle.effect_answers.specs.Effects.{effect_lists, IsOfSets, IsEffectRefusal}
 use Rattle.effect_answers.specs.Hedges.{IsFoundHedge}
@@ -28,9 +29,9 @@ use Rattle.identify_command.specs.declared.form.Form.TheVariants.{Plain, Certifi
 
 -- the text of a formula for a target: the formula, its certificate or its LaTeX
 abbrev pub formula_text : Form → List (List ℕ) → PlainTarget → PlainFormula → PlainDerivation → List ℕ
-formula_text Plain names t f d = formula_answer names t f
+formula_text Plain names t f d = answer_in notations.Plain names t f
 formula_text Certificate names t f d = certificate_line names (plain.formula t f d)
-formula_text Latex names t f d = latex_answer names t f
+formula_text Latex names t f d = answer_in notations.Latex names t f
 
 -- the text of a hedge for the effect of x on y: the hedge with its two models, or its certificate
 abbrev pub hedge_text : Form → List (List ℕ) → (x y : ℕ) → Hedge → CounterPair → List ℕ
@@ -44,7 +45,8 @@ ReadsBack form names c = form ≡ Certificate → certificate_in names (certific
 
 -- ---- answers for sets of the observed graph q
 
--- Yes: the formula is accepted by the check of formulas, has no intervention, equals P(y | do(x)) in each positive model that fits q, and names ancestors of y alone; the derivation turns the effect into it.
+-- Yes: the formula is accepted by the check of formulas, has no intervention, equals P(y | do(x)) in each positive model that fits q, and names
+-- ancestors of y alone; the derivation turns the effect into it.
 -- Both are those of the identification procedure, and the text shows them.
 pub record ShowsFormula (form : Form) (q : MixedGraph) (names : List (List ℕ)) (x y : ℕ) (text : List ℕ) : Type 0 where
   pub formula : PlainFormula

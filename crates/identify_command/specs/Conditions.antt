@@ -1,25 +1,25 @@
--- The answer of `identify` where something is given: whether P(y | do(x), given) can be computed from observations, in the observed graph of the one that was read.
+-- The answer of `identify` where something is given: whether P(y | do(x), given) can be computed from observations, in the observed graph of the one
+-- that was read.
 use Rattle.std.specs.Prelude.{ℕ, ◌≡◌, ◌↔◌, Bool, IsTrue, List, [], ◌∷◌, Some, None}
 use Rattle.mixed_graph.specs.Graphs.{MixedGraph}
 use Rattle.dag_reader.specs.declared.graph.ReadGraph.{ReadGraph}
 use Rattle.targets.specs.declared.fault.TargetFault.{TargetFault}
 use Rattle.targets.specs.Targets.{Lists, AreListedSets, IsListFault}
-use Rattle.name_text.specs.Lines.{line_of}
+use Rattle.answer_text.specs.Lines.{line_of}
 use Rattle.targets.specs.FaultTexts.{target_fault_text}
 use Rattle.replies.specs.declared.outcome.Outcome.{Outcome}
 use Rattle.replies.specs.declared.outcome.Outcome.TheVariants.{Yes, No, Graph}
 use Rattle.replies.specs.Observed.{Names, IsObservedGraph, query_lists}
 use Rattle.finite_models.specs.Data.{meaning}
 use Rattle.prob_expr.specs.Differences.{DifferOnTarget, HasNoFormula}
-use Rattle.prob_expr.specs.Tree.{PlainFormula, PlainTarget}
+use Rattle.prob_expr.specs.Tree.{PlainFormula, PlainTarget, effect_on}
 use Rattle.do_derivation.specs.Plans.{PlainDerivation}
 use Rattle.hedge.specs.declared.hedge.Hedge.{Hedge}
 use Rattle.counter_models.specs.declared.counter_pair.CounterPair.{CounterPair}
-use Rattle.id_recursion.specs.Answers.{effect_on}
-use Rattle.conditional_theory.specs.Conditionals.{IsConditionalBySteps}
-use Rattle.conditional_theory.specs.Laws.{IsRightGiven}
-use Rattle.conditional_theory.specs.Settled.{IsSettled}
-use Rattle.conditional_hedges.specs.Laws.{IsFixed}
+use Rattle.conditional_id.specs.Conditionals.{IsConditionalBySteps}
+use Rattle.conditional_id.specs.TurnLaws.{IsRightGiven}
+use Rattle.conditional_id.specs.Settled.{IsSettled}
+use Rattle.conditional_id.specs.HedgeLaws.{IsFixed}
 use Rattle.conditional_id.specs.Answers.{IsJointEffect}
 use Rattle.identify_text.specs.PairLines.{joint_answer}
 use Rattle.effect_answers.specs.Hedges.{IsFoundHedge}
@@ -54,7 +54,8 @@ joint_text Plain names t x y h pair = joint_answer names t x y h pair
 joint_text Certificate names t x y h pair = certificate_line names (plain.hedge (effect_on x y) (hedge_view h))
 joint_text Latex names t x y h pair = joint_answer names t x y h pair
 
--- Yes: the formula is accepted by the check of formulas, has no intervention, equals P(y | do(x), given) in each positive model that fits q, and names ancestors of y and given alone; the derivation turns the effect into it.
+-- Yes: the formula is accepted by the check of formulas, has no intervention, equals P(y | do(x), given) in each positive model that fits q, and
+-- names ancestors of y and given alone; the derivation turns the effect into it.
 -- Both are those of the procedure for conditional effects (Shpitser and Pearl), and the text shows them.
 pub record ShowsConditional (form : Form) (q : MixedGraph) (names : List (List ℕ)) (t : PlainTarget) (text : List ℕ) : Type 0 where
   pub formula : PlainFormula
@@ -64,8 +65,11 @@ pub record ShowsConditional (form : Form) (q : MixedGraph) (names : List (List �
   pub prints : text ≡ formula_text form names t formula derivation
   pub reads_back : ReadsBack form names (plain.formula t formula derivation)
 
--- No: observations turn the target into an effect of x on the target's y and what is left, which is equal to it in each positive model that fits q. For the joint effect of both there is a hedge, with two models that show that there is no formula for it, and the text shows it.
--- The target itself isn't identifiable: two positive models that fit q and agree on all observations give it two values, so no formula without interventions equals it in each such model. Where no observation is left, or those that are left have an effect that is known, it is settled by the very models of the hedge, which differ on the target too.
+-- No: observations turn the target into an effect of x on the target's y and what is left, which is equal to it in each positive model that fits q.
+-- For the joint effect of both there is a hedge, with two models that show that there is no formula for it, and the text shows it.
+-- The target itself isn't identifiable: two positive models that fit q and agree on all observations give it two values, so no formula without
+-- interventions equals it in each such model. Where no observation is left, or those that are left have an effect that is known, it is settled by the
+-- very models of the hedge, which differ on the target too.
 pub record ShowsJoint (form : Form) (q : MixedGraph) (names : List (List ℕ)) (t : PlainTarget) (text : List ℕ) : Type 0 where
   pub x : ℕ
   pub y : ℕ

@@ -1,16 +1,23 @@
 -- What `identify` is asked for.
 use Rattle.std.specs.Prelude.{◌≡◌, List, Some, [], ◌∷◌, codes, option_map}
-use Rattle.word_forms.specs.Form.{Text, Row, Use, word_of, value_of, has_flag}
-use Rattle.request_values.specs.Values as values
+use Rattle.command_words.specs.Form.{Text, Row, Use, word_of, value_of, has_flag}
+use Rattle.command_words.specs.Values as values
 use Rattle.replies.specs.Observed.{Names}
-use Rattle.word_lists.specs.Views.{names_in}
+use Rattle.command_words.specs.ListViews.{names_in}
 use Rattle.identify_command.specs.declared.form.Form.{Form}
 use Rattle.identify_command.specs.Forms.{IsForm}
 use Rattle.identify_command.specs.declared.request.Request.{Request as CodeRequest}
 
 -- `identify FILE [--x L] [--y L] [--given L] [--certificate] [--latex]`
 abbrev pub identify_row : Row
-identify_row = record { name = codes "identify"; positionals = codes "file" ∷ []; extra = []; needed = []; options = codes "x" ∷ codes "y" ∷ codes "given" ∷ []; flags = codes "certificate" ∷ codes "latex" ∷ [] }
+identify_row = record {
+  name = codes "identify";
+  positionals = codes "file" ∷ [];
+  optional = [];
+  required = [];
+  options = codes "x" ∷ codes "y" ∷ codes "given" ∷ [];
+  flags = codes "certificate" ∷ codes "latex" ∷ [];
+}
 
 -- a request
 pub record Request : Type 0 where

@@ -6,7 +6,7 @@ ghost use Rattle.mixed_graph.specs.Names.{texts};
 ghost use Rattle.mixed_graph.specs.Shown.{graph_of};
 ghost use Rattle.do_rules.specs.Rules.{AreThreeSets};
 ghost use Rattle.prob_expr.specs.View.{target_view};
-ghost use Rattle.word_lists.specs.Views.{names_in};
+ghost use Rattle.command_words.specs.ListViews.{names_in};
 ghost use Rattle.identify_command.specs.Conditions.{ConditionalAnswer, TargetAnswer};
 
 use crate::form::Form;

@@ -1,8 +1,10 @@
+//! The answer of `identify`.
+
 ghost use Rattle.std.specs.Prelude.{◌≡◌, ◌<◌, IfOk, length, option_map};
 ghost use Rattle.mixed_graph.specs.Bits.{has};
 ghost use Rattle.mixed_graph.specs.Sets.{Within, Apart};
 ghost use Rattle.mixed_graph.specs.Shown.{graph_of};
-ghost use Rattle.word_lists.specs.Views.{names_in};
+ghost use Rattle.command_words.specs.ListViews.{names_in};
 ghost use Rattle.identify_command.specs.Answers.{IdentifyAnswer, SetsAnswer};
 ghost use Rattle.identify_command.specs.Conditions.{IdentifyAnswerGiven};
 
@@ -12,7 +14,7 @@ use crate::texts::{formula_text, hedge_text, target_of};
 use dag_reader::ReadGraph;
 use effect_answers::{Asked, asked_effect};
 use effect_certificates::sized;
-use id_recursion::{Answer, identify};
+use identify::{Answer, identify};
 use latent_projection::Observed;
 use replies::{Outcome, Reply};
 use std::alloc::{AllocError, Global};

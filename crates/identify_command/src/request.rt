@@ -1,22 +1,24 @@
+//! What `identify` is asked.
+
 ghost use Rattle.std.specs.Prelude.{◌≡◌, List, IfOk, IsErrOf};
-ghost use Rattle.word_forms.specs.Form.{Use};
-ghost use Rattle.word_values.specs.Gives.{HoldsCall};
+ghost use Rattle.command_words.specs.Form.{Use};
+ghost use Rattle.command_words.specs.Gives.{HoldsCall};
 ghost use Rattle.std.specs.Prelude.{IfSome, IfNone};
 ghost use Rattle.identify_command.specs.Forms.{IsForm};
 ghost use Rattle.identify_command.specs.declared.form.Form as asked;
 
 use crate::form::Form;
-use request_values::{RequestFault, Subject, listed_names};
+use command_words::forms::Entry;
+use command_words::typed::{RequestFault, Subject, listed_names};
+use command_words::values::Values;
 use std::alloc::Global;
-use word_forms::Entry;
-use word_values::Values;
 
 /// `identify FILE [--x L] [--y L] [--given L] [--certificate] [--latex]`
 pub const ROW: Entry = Entry {
     name: "identify",
     positionals: &["file"],
-    extra: &[],
-    needed: &[],
+    optional: &[],
+    required: &[],
     options: &["x", "y", "given"],
     flags: &["certificate", "latex"],
 };

@@ -6,7 +6,7 @@ ghost use Rattle.mixed_graph.specs.Sets.{Within};
 ghost use Rattle.prob_expr.specs.Check.{fault_in};
 ghost use Rattle.prob_expr.specs.View.{target_view, formula_view};
 ghost use Rattle.do_derivation.specs.View.{derivation_view};
-ghost use Rattle.id_recursion.specs.Answers.{effect_on};
+ghost use Rattle.prob_expr.specs.Tree.{effect_on};
 ghost use Rattle.identify_text.specs.Below.{IsHedgeBelow, ArePairBelow};
 ghost use Rattle.certificate.specs.Plain.{hedge_view, formula as formula_case, hedge as hedge_case};
 ghost use Rattle.certificate_writing.specs.Writable.{IsTargetWithin, IsBareTarget, IsDerivationWithin, IsHedgeWithin, IsFormulaShallow};
@@ -14,12 +14,13 @@ ghost use Rattle.identify_command.specs.Answers.{formula_text, hedge_text, Reads
 ghost use Rattle.identify_command.specs.Conditions.{joint_text};
 
 use crate::form::Form;
+use answer_text::Notation;
 use certificate::Certificate;
 use counter_models::CounterPair;
 use do_derivation::Derivation;
 use effect_certificates::certificate_line;
 use hedge::Hedge;
-use identify_text::{formula_answer, hedge_answer, joint_answer, latex_answer};
+use identify_text::{answer_in, hedge_answer, joint_answer};
 use mixed_graph::{Names, VSet};
 use prob_expr::{Formula, Target};
 use std::alloc::{AllocError, Global};
@@ -56,8 +57,8 @@ pub fn formula_text(
     ensures reads_back { IfOk result (λ v. ReadsBack form names.now (formula_case (target_view target) (formula_view formula) (derivation_view derivation))) }
 {
     match form {
-        Form::Plain => formula_answer(alloc, &formula, &target, names),
-        Form::Latex => latex_answer(alloc, &formula, &target, names),
+        Form::Plain => answer_in(alloc, Notation::Plain, &formula, &target, names),
+        Form::Latex => answer_in(alloc, Notation::Latex, &formula, &target, names),
         Form::Certificate => {
             let certificate = Certificate::Formula(target, formula, derivation);
             certificate_line(alloc, &certificate, names)

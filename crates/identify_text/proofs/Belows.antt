@@ -36,7 +36,8 @@ causes_below : (n : ℕ) (causes : List Cause) → ((j : ℕ) → j < length cau
 causes_below n [] h = All-nil (IsCauseBelow n)
 causes_below n (c ∷ cs) h = All-cons (IsCauseBelow n) c cs (h 0 (omega arith)) (causes_below n cs (λ j lt. h (suc j) (omega arith)))
 
-each_below : (n : ℕ) (ms : List Mechanism) → ((v : ℕ) → v < length ms → (past : Mechanism) → IsMechanismBelow n (get_or ms v past)) → All (IsMechanismBelow n) ms
+each_below : (n : ℕ) (ms : List Mechanism) → ((v : ℕ) → v < length ms → (past : Mechanism) → IsMechanismBelow n (get_or ms v past))
+    → All (IsMechanismBelow n) ms
 each_below n [] h = All-nil (IsMechanismBelow n)
 each_below n (m ∷ ms) h = All-cons (IsMechanismBelow n) m ms (h 0 (omega arith) m) (each_below n ms (λ v lt past. h (suc v) (omega arith) past))
 
@@ -54,7 +55,8 @@ carried_part_below : (g : MixedGraph) → IsMixedGraph g → (m : Model) (v : �
 carried_part_below g graph m v h None may = tt
 carried_part_below g graph m v h (Some p) may = part_below g graph m v p may.0
 
-mechanism_below : (g : MixedGraph) → IsMixedGraph g → (m : Model) (v : ℕ) (mechanism : Mechanism) → HasInputs g m v mechanism → IsMechanismBelow g.vertices mechanism
+mechanism_below : (g : MixedGraph) → IsMixedGraph g → (m : Model) (v : ℕ) (mechanism : Mechanism) → HasInputs g m v mechanism
+    → IsMechanismBelow g.vertices mechanism
 mechanism_below g graph m v (Table outputs) may = tt
 mechanism_below g graph m v (Parity h k) may = (hedge_part_below g graph m v h may.0, carried_part_below g graph m v h k may.1)
 
@@ -63,5 +65,6 @@ pub model_below : (g : MixedGraph) → IsMixedGraph g → (m : Model) → IsSoun
 model_below g graph m sound count = record {
   count = count;
   causes = causes_below g.vertices m.causes.items (λ j lt. (sound.causes j lt).below);
-  mechanisms = each_below g.vertices m.mechanisms.items (λ v lt past. mechanism_below g graph m v (get_or m.mechanisms.items v past) (sound.inputs v (omega arith) past));
+  mechanisms = each_below g.vertices m.mechanisms.items (λ v lt past. mechanism_below g graph m v (get_or m.mechanisms.items v past)
+      (sound.inputs v (omega arith) past));
 }

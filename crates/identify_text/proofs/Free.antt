@@ -6,7 +6,7 @@ use Rattle.std.proofs.lemmas.List.Elements.{All-nil, All-get_or, All-push}
 use Rattle.mixed_graph.specs.Bits.{has}
 use Rattle.mixed_graph.specs.Sets.{Within}
 use Rattle.mixed_graph.proofs.Masks.{has-zero}
-use Rattle.mixed_graph.specs.Masks.{join, minus, is_empty, is_below}
+use Rattle.mixed_graph.specs.Masks.{union, minus, is_empty, is_below}
 use Rattle.prob_expr.specs.Check.{are_two, fault_in}
 use Rattle.prob_expr.specs.Tree.{Tree, prob, sum, product, quotient, named, Trees, no_trees, tree, PlainFormula, PlainTarget}
 use Rattle.prob_expr.specs.Free.{free_in, free_in_any, free_in_defs, free_of}
@@ -24,7 +24,7 @@ none_within n a v e h = absurd (false≢true (sym (has-zero v) ∙ ap (λ m. has
 abbrev IsLow : ℕ → ℕ → Type 0
 IsLow n a = Within n (has a)
 
-join_low : (n a b : ℕ) → IsLow n a → IsLow n b → IsLow n (join a b)
+join_low : (n a b : ℕ) → IsLow n a → IsLow n b → IsLow n (union a b)
 join_low n a b h k v i = elim (or_cases (has a v) (has b v) (sym (has_join a b v) ∙ i)) [ inl l ↦ h v l | inr r ↦ k v r ]
 
 minus_low : (n a b : ℕ) → IsLow n a → IsLow n (minus a b)
@@ -38,7 +38,7 @@ named_low n sets k low = elim (cases_lt k (length sets)) [
 
 mutual
   free_tree : (n : ℕ) (sets : List ℕ) → All (IsLow n) sets → (t : Tree) → is_sound n t ≡ true → IsLow n (free_in sets t)
-  free_tree n sets low (prob a b c) h = join_low n (join a b) c (join_low n a b (first_within n a b c h) (second_within n a b c h)) (third_within n a b c h)
+  free_tree n sets low (prob a b c) h = join_low n (union a b) c (join_low n a b (first_within n a b c h) (second_within n a b c h)) (third_within n a b c h)
   free_tree n sets low (sum u e) h =
       minus_low n (free_in sets e) u (free_tree n sets low e (and_parts (is_below n u && not (is_empty u)) (is_sound n e) h).1)
   free_tree n sets low (product ts) h = free_trees n sets low ts (and_parts (are_two ts) (are_sound n ts) h).1
@@ -61,7 +61,7 @@ free_defs n sets low (d ∷ ds) h =
 
 -- those outside x and y are vertices too
 pub free_within : (n x y : ℕ) (f : PlainFormula) → fault_in n f ≡ None → Within n (has (free_outside x y f))
-free_within n x y f h = minus_low n (free_of f) (join x y)
+free_within n x y f h = minus_low n (free_of f) (union x y)
     (free_tree n (free_in_defs [] f.defs) (free_defs n [] (All-nil (IsLow n)) f.defs (defs_are_sound n f h)) f.main (main_is_sound n f h))
 
 -- and so are those outside a target's sets

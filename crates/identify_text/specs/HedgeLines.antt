@@ -5,17 +5,18 @@ use Rattle.mixed_graph.specs.Bits.{has, members_below}
 use Rattle.answer_text.specs.Texts.{set_text}
 use Rattle.expr_text.specs.Write.{text_of}
 use Rattle.hedge.specs.declared.hedge.Hedge.{Hedge}
-use Rattle.identify_text.specs.Answers.{effect}
+use Rattle.identify_text.specs.Answers.{effect_term}
 use Rattle.identify_text.specs.ModelLines.{vertex_text}
 
 -- `P(Y|do(X)) is not identifiable`
 abbrev pub unidentifiable_line : List (List ℕ) → (x y : ℕ) → List ℕ
-unidentifiable_line names x y = text_of names (effect x y) ++ codes " is not identifiable\n"
+unidentifiable_line names x y = text_of names (effect_term x y) ++ codes " is not identifiable\n"
 
 -- `hedge {X,Y} over {Y} with roots {Y}`
 abbrev pub sets_line : List (List ℕ) → Hedge → List ℕ
 sets_line names h =
-    codes "hedge " ++ (set_text names h.big.bits ++ (codes " over " ++ (set_text names h.small.bits ++ (codes " with roots " ++ (set_text names h.roots.bits ++ codes "\n")))))
+    codes "hedge " ++ (set_text names h.big.bits ++ (codes " over " ++ (set_text names h.small.bits
+    ++ (codes " with roots " ++ (set_text names h.roots.bits ++ codes "\n")))))
 
 -- the first two lines of a hedge
 abbrev pub heading_text : List (List ℕ) → (x y : ℕ) → Hedge → List ℕ
@@ -35,7 +36,8 @@ choice_lines names h = flat_map (choice_line names h) (members_below (chooses h)
 
 -- `link X <-> Y`: entry i and its partner
 abbrev pub link_line : List (List ℕ) → Hedge → ℕ → List ℕ
-link_line names h i = codes "link " ++ (vertex_text names (slice_index h.links.found i) ++ (codes " <-> " ++ (vertex_text names (slice_index h.links.partner i) ++ codes "\n")))
+link_line names h i = codes "link " ++ (vertex_text names (slice_index h.links.found i)
+    ++ (codes " <-> " ++ (vertex_text names (slice_index h.links.partner i) ++ codes "\n")))
 
 -- the line of each entry after the first, in found order
 abbrev pub link_lines : List (List ℕ) → Hedge → List ℕ

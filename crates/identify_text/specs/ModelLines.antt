@@ -3,7 +3,7 @@ use Rattle.std.specs.Prelude.{ℕ, ◌+◌, if◌then◌else◌, List, [], ◌�
 use Rattle.std.specs.List.{flat_map, join_by}
 use Rattle.mixed_graph.specs.Bits.{has, members_below}
 use Rattle.mixed_graph.specs.Names.{name_of}
-use Rattle.name_text.specs.Printing.{printed}
+use Rattle.answer_text.specs.Printing.{printed}
 use Rattle.answer_text.specs.Texts.{set_text}
 use Rattle.finite_models.specs.declared.model.Cause.{Cause}
 use Rattle.finite_models.specs.declared.model.Part.{Part}
@@ -21,7 +21,8 @@ weights_text weights = flat_map (λ w. codes " " ++ decimal w) weights
 -- `cause 0 on {X,Y} with weights 1 1`
 abbrev pub cause_line : List (List ℕ) → ℕ → Cause → List ℕ
 cause_line names j c =
-    codes "cause " ++ (decimal j ++ (codes " on " ++ (set_text names c.children.bits ++ (codes " with weights" ++ (weights_text c.weights.items ++ codes "\n")))))
+    codes "cause " ++ (decimal j ++ (codes " on " ++ (set_text names c.children.bits
+    ++ (codes " with weights" ++ (weights_text c.weights.items ++ codes "\n")))))
 
 -- the lines of the causes from number j on
 abbrev pub cause_lines : List (List ℕ) → ℕ → List Cause → List ℕ

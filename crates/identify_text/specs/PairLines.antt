@@ -11,13 +11,15 @@ use Rattle.identify_text.specs.ModelLines.{bits_of, sum_text, cause_lines, verte
 -- `event k(Y) even: 1/2 in the first, 1/2 + 1/2^3 in the second`
 abbrev pub event_line : List (List ℕ) → CounterPair → List ℕ
 event_line names pair =
-    codes "event " ++ (sum_text (bits_of names Carried pair.event.bits) ++ (codes " even: 1/2 in the first, 1/2 + 1/2^" ++ (decimal (pair.noise + 1) ++ codes " in the second\n")))
+    codes "event " ++ (sum_text (bits_of names Carried pair.event.bits)
+    ++ (codes " even: 1/2 in the first, 1/2 + 1/2^" ++ (decimal (pair.noise + 1) ++ codes " in the second\n")))
 
 -- the choices and links of a hedge, the causes of both models, the bits of the first and then of the second, and the event
 abbrev pub models_text : List (List ℕ) → Hedge → CounterPair → List ℕ
 models_text names h pair =
     choice_lines names h ++ (link_lines names h ++ (cause_lines names 0 pair.first.causes.items
-    ++ (vertex_lines names (codes "first") 0 pair.first.mechanisms.items ++ (vertex_lines names (codes "second") 0 pair.second.mechanisms.items ++ event_line names pair))))
+    ++ (vertex_lines names (codes "first") 0 pair.first.mechanisms.items
+    ++ (vertex_lines names (codes "second") 0 pair.second.mechanisms.items ++ event_line names pair))))
 
 -- the hedge with its choices and links, and its two models
 abbrev pub hedge_answer : List (List ℕ) → (x y : ℕ) → Hedge → CounterPair → List ℕ

@@ -1,11 +1,13 @@
+//! The text of a formula with its target.
+
 ghost use Rattle.std.specs.Prelude.{◌≡◌, ◌++◌, length, None, OnOk, IfOk};
 ghost use Rattle.mixed_graph.specs.Bits.{has};
 ghost use Rattle.mixed_graph.specs.Sets.{Within};
 ghost use Rattle.prob_expr.specs.Check.{fault_in};
-ghost use Rattle.mixed_graph.specs.Masks.{join, minus};
+ghost use Rattle.mixed_graph.specs.Masks.{union, minus};
 ghost use Rattle.prob_expr.specs.View.{formula_view, target_view};
 ghost use Rattle.expr_text.specs.Write.{text_of};
-ghost use Rattle.identify_text.specs.Answers.{effect, free_beside, free_line, answer_in, formula_answer, latex_answer};
+ghost use Rattle.identify_text.specs.Answers.{effect_term, free_beside, free_line, answer_in};
 
 use answer_text::{Notation, push_set};
 use expr_text::{formula_in, target_in, target_text};
@@ -30,7 +32,7 @@ fn effect(x: VSet, y: VSet) -> Target
 pub fn effect_text(alloc: Global, x: VSet, y: VSet, names: &Names) -> Result<Vec<u8>, AllocError>
     requires x { Within (length names.now) (has x.bits) }
     requires y { Within (length names.now) (has y.bits) }
-    ensures { IfOk result (λ v. v.items ≡ text_of names.now (effect x.bits y.bits)) }
+    ensures { IfOk result (λ v. v.items ≡ text_of names.now (effect_term x.bits y.bits)) }
 {
     target_text(alloc, &effect(x, y), names)
 }
@@ -58,8 +60,11 @@ fn free_beside(alloc: Global, f: &Formula, target: &Target) -> Result<VSet, Allo
     Ok(outside.difference(target.given))
 }
 
-/// A target's formula in a notation, and the line of the variables that are free outside its sets, which is plain in both.
-fn answer_in(
+/// The text of a target's formula, as `P(Y|do(X)) = sum{Z} P(Z) * P(Y|Z,X)`, or the same as LaTeX, and the line of the variables that are
+/// free outside its sets, which is plain in both notations.
+///
+/// Each line ends with a line feed.
+pub fn answer_in(
     alloc: Global,
     notation: Notation,
     f: &Formula,
@@ -80,38 +85,4 @@ fn answer_in(
     let free = free_beside(alloc, f, target)?;
     push_free(&mut text, names, free)?;
     Ok(text)
-}
-
-/// The text of a target's formula, as `P(Y|do(X)) = sum{Z} P(Z) * P(Y|Z,X)`, and the line of the variables that are free outside its sets.
-///
-/// Each line ends with a line feed.
-pub fn formula_answer(
-    alloc: Global,
-    f: &Formula,
-    target: &Target,
-    names: &Names,
-) -> Result<Vec<u8>, AllocError>
-    requires what { Within (length names.now) (has target.now.y.bits) }
-    requires doing { Within (length names.now) (has target.now.x.bits) }
-    requires given { Within (length names.now) (has target.now.given.bits) }
-    requires formula { fault_in (length names.now) (formula_view f.now) ≡ None }
-    ensures { IfOk result (λ v. v.items ≡ formula_answer names.now (target_view target.now) (formula_view f.now)) }
-{
-    answer_in(alloc, Notation::Plain, f, target, names)
-}
-
-/// The same as LaTeX; the line of the free variables is as in the plain text.
-pub fn latex_answer(
-    alloc: Global,
-    f: &Formula,
-    target: &Target,
-    names: &Names,
-) -> Result<Vec<u8>, AllocError>
-    requires what { Within (length names.now) (has target.now.y.bits) }
-    requires doing { Within (length names.now) (has target.now.x.bits) }
-    requires given { Within (length names.now) (has target.now.given.bits) }
-    requires formula { fault_in (length names.now) (formula_view f.now) ≡ None }
-    ensures { IfOk result (λ v. v.items ≡ latex_answer names.now (target_view target.now) (formula_view f.now)) }
-{
-    answer_in(alloc, Notation::Latex, f, target, names)
 }

@@ -1,3 +1,5 @@
+//! The text of a mechanism's parts.
+
 ghost use Rattle.std.specs.Prelude.{◌≡◌, ◌<◌, ◌++◌, ◌∷◌, [], if◌then◌else◌, codes, map, length, OnOk};
 ghost use Rattle.mixed_graph.specs.Bits.{has};
 ghost use Rattle.identify_text.specs.declared.bits.Bit.TheVariants.{Hedge};

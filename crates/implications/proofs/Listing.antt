@@ -23,7 +23,8 @@ any_kept P xs y (k, x, lt, is, p) = (k, x, (let l = length-append xs (y ∷ []) 
 
 module _ (g : MixedGraph) where
   -- the same list, for later bounds between which no pair is separable
-  moved : (a b a' b' : ℕ) (list : List Implication) → ((p q : ℕ) → IsEarlier a b p q → IsEarlier a' b' p q) → ((p q : ℕ) → IsSeparable g p q → IsEarlier a' b' p q → IsEarlier a b p q)
+  moved : (a b a' b' : ℕ) (list : List Implication) → ((p q : ℕ) → IsEarlier a b p q → IsEarlier a' b' p q)
+      → ((p q : ℕ) → IsSeparable g p q → IsEarlier a' b' p q → IsEarlier a b p q)
       → AreBefore g a b list → AreBefore g a' b' list
   moved a b a' b' list on back l = record {
     each = l.each;
@@ -56,7 +57,8 @@ module _ (g : MixedGraph) where
     pub pushed : (i : Implication) → i.a ≡ a → i.b ≡ b → IsImplication g i → AreBefore g a b list → AreBefore g a (b + 1) (list ++ i ∷ [])
     pushed i ea eb is l = record {
       each = All-push (IsImplication g) list i l.each is;
-      earlier = All-push (λ j. IsEarlier a (b + 1) j.a j.b) list i (All-weaker (λ j. IsEarlier a b j.a j.b) (λ j. IsEarlier a (b + 1) j.a j.b) (λ j. next_on j.a j.b) list l.earlier) (inr (ea, omega (arith, eb)));
+      earlier = All-push (λ j. IsEarlier a (b + 1) j.a j.b) list i (All-weaker (λ j. IsEarlier a b j.a j.b) (λ j. IsEarlier a (b + 1) j.a j.b)
+          (λ j. next_on j.a j.b) list l.earlier) (inr (ea, omega (arith, eb)));
       all = λ p q e s. all p q s (next_back p q e);
       sorted = all_pairs_push IsBefore list i l.sorted (λ k d lt. before (get_or list k d) (l.earlier k d lt));
     }
@@ -84,9 +86,11 @@ module _ (g : MixedGraph) where
   pub independent : IsMixedGraph g → (i : Implication) → IsImplication g i → AreIndependent g (only i.a) (only i.b) (has i.given.bits)
   independent ok i is =
       let s = is.given.separating in
-      independent_holds g ok (only i.a) (only i.b) (has i.given.bits) (three_sets i.a i.b (has i.given.bits) is.order is.vertex s.within s.without_a s.without_b) s.separates
+      independent_holds g ok (only i.a) (only i.b) (has i.given.bits) (three_sets i.a i.b (has i.given.bits)
+      is.order is.vertex s.within s.without_a s.without_b) s.separates
 
-  pub each_independent : IsMixedGraph g → (list : List Implication) → All (IsImplication g) list → All (λ i. AreIndependent g (only i.a) (only i.b) (has i.given.bits)) list
+  pub each_independent : IsMixedGraph g → (list : List Implication) → All (IsImplication g) list
+      → All (λ i. AreIndependent g (only i.a) (only i.b) (has i.given.bits)) list
   each_independent ok list each = All-weaker (IsImplication g) (λ i. AreIndependent g (only i.a) (only i.b) (has i.given.bits)) (independent ok) list each
 
 -- some set separates two vertices exactly where they are independent given some set
@@ -109,7 +113,8 @@ separable_is_independent = λ g ok a b. (
       within = s.within;
       without_a = s.without_a;
       without_b = s.without_b;
-      separates = (independence_is_separation g ok (only a) (only b) s.set (three_sets g a b s.set s.order s.vertex s.within s.without_a s.without_b)).1 s.independent;
+      separates = (independence_is_separation g ok (only a) (only b) s.set (three_sets g a b s.set s.order s.vertex s.within s.without_a s.without_b)).1
+          s.independent;
     };
   },
 )

@@ -16,7 +16,8 @@ passed_first : (g : MixedGraph) (w : ℕ → Bool) (v : ℕ) (r : List Step) →
 passed_first g w v [] o p = tt
 passed_first g w v (s ∷ r) o p = (o, p)
 
-module _ (g : MixedGraph) (ok : IsMixedGraph g) (a b : ℕ) (al : a < g.vertices) (bl : b < g.vertices) (z : ℕ → Bool) (is : AreOtherAncestors g a b z) (w : ℕ → Bool) (wa : w a ≡ false) (wb : w b ≡ false) where
+module _ (g : MixedGraph) (ok : IsMixedGraph g) (a b : ℕ) (al : a < g.vertices) (bl : b < g.vertices) (z : ℕ → Bool) (is : AreOtherAncestors g a b z)
+    (w : ℕ → Bool) (wa : w a ≡ false) (wb : w b ≡ false) where
   either : ℕ → Bool
   either u = only a u || only b u
 
@@ -26,7 +27,8 @@ module _ (g : MixedGraph) (ok : IsMixedGraph g) (a b : ℕ) (al : a < g.vertices
   joined_path : (v : ℕ) → v < g.vertices → (xs : List ℕ) (t : ℕ) → IsDirectedPath g v xs t → Above t → Above v
   unfolding Above
   joined_path v vl [] t p r = rw p r
-  joined_path v vl (x ∷ xs) t p r = let q = joined_path x (ok.head_below v x p.0) xs t p.1 r in record { vertex = vl; path = x ∷ q.path; end = q.end; leads = (p.0, q.leads); inside = q.inside }
+  joined_path v vl (x ∷ xs) t p r = let q = joined_path x (ok.head_below v x p.0) xs t p.1 r in
+      record { vertex = vl; path = x ∷ q.path; end = q.end; leads = (p.0, q.leads); inside = q.inside }
 
   above_first : Above a
   unfolding Above
@@ -102,7 +104,13 @@ module _ (g : MixedGraph) (ok : IsMixedGraph g) (a b : ℕ) (al : a < g.vertices
 
       go : (z v ≡ true) ⊎ ((only a v || only b v) ≡ true) → IsAncestor g (λ u. only a u || (only b u || w u)) v
       go (inl f) = widen ((is v).0 f).above
-      go (inr f) = record { vertex = vertex (which (or_cases (eqb v a) (eqb v b) f)); path = []; end = v; leads = refl; inside = wider (eqb v a) (eqb v b) (w v) f }
+      go (inr f) = record {
+        vertex = vertex (which (or_cases (eqb v a) (eqb v b) f));
+        path = [];
+        end = v;
+        leads = refl;
+        inside = wider (eqb v a) (eqb v b) (w v) f;
+      }
 
   -- each edge of the walk is a link
   linked : (h : Bool) (v : ℕ) (r : List Step) → IsWalk g v r → ArePassedFrom g z h v r → last v r ≡ b → (h ≡ false → Above v) → Linked g inner w (only b) v
@@ -133,7 +141,8 @@ module _ (g : MixedGraph) (ok : IsMixedGraph g) (a b : ℕ) (al : a < g.vertices
           by_head false e q = q
           by_head true e q = absurd (grind (arith, e))
 
-      go : (m : Mark) → IsJoined g v m t.to → (heads_first m ≡ false → w v ≡ false) → (heads_second m ≡ false → Above t.to) → (heads_second m ≡ false → w t.to ≡ false) → Linked g inner w (only b) t.to → Linked g inner w (only b) v
+      go : (m : Mark) → IsJoined g v m t.to → (heads_first m ≡ false → w v ≡ false) → (heads_second m ≡ false → Above t.to)
+          → (heads_second m ≡ false → w t.to ≡ false) → Linked g inner w (only b) t.to → Linked g inner w (only b) v
       go Out j o u q x = by_child (inner_from v (above h v (t ∷ r) k p s f)) j (o refl) x
       go Into j o u q x = by_parent (inner_from v (above h v (t ∷ r) k p s f)) j (q refl) x
       go Both j o u q x = by_both (inner_from v (above h v (t ∷ r) k p s f)) j x
@@ -149,8 +158,17 @@ module _ (g : MixedGraph) (ok : IsMixedGraph g) (a b : ℕ) (al : a < g.vertices
       let s : v ≡ a = eqb-true v a o.begins in
       let c = reach g (only a) (only b) w inner ok (λ u e. at_end u a al e) inner_is (λ u e. outside u a wa e) (λ u e. outside u b wb e) sep v
       (linked false v r o.walk (passed_first g z v r o.first_outside o.passed) (eqb-true (last v r) b o.ends) (λ e. rw s above_first)) in
-      sep v c.steps (record { vertex = o.vertex; begins = o.begins; ends = c.ends; first_outside = outside v a wa o.begins; last_outside = c.last_outside; walk = c.walk; passed = c.passed })
+      sep v c.steps (record {
+        vertex = o.vertex;
+        begins = o.begins;
+        ends = c.ends;
+        first_outside = outside v a wa o.begins;
+        last_outside = c.last_outside;
+        walk = c.walk;
+        passed = c.passed;
+      })
 
 pub other_ancestors_separate : OtherAncestorsSeparate
 other_ancestors_separate g ok a b s z is =
-    separated_by_others g ok a b (let l = s.order in let m = s.vertex in omega arith) s.vertex z is s.set s.separating.without_a s.separating.without_b s.separating.separates
+    separated_by_others g ok a b (let l = s.order in let m = s.vertex in omega arith)
+    s.vertex z is s.set s.separating.without_a s.separating.without_b s.separating.separates

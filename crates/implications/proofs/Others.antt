@@ -16,7 +16,8 @@ pair_is pair p q a b e f h = fun_ext (λ u. e u ∙ ap (λ t. t || q u) (f u) �
 pub pair_within : (n : ℕ) (pair : ℕ → Bool) (a b : ℕ) → pair ≡ pair_of a b → a < n → b < n → Within n pair
 pair_within n pair a b e al bl = subst (λ f. Within n f) (sym e) (λ v h. grind (arith, h))
 
-others_from : (g : MixedGraph) (a b : ℕ) (above : ℕ → Bool) → ((v : ℕ) → IsTrue (above v) ↔ IsAncestor g (pair_of a b) v) → AreOtherAncestors g a b (λ v. above v && not (pair_of a b v))
+others_from : (g : MixedGraph) (a b : ℕ) (above : ℕ → Bool) → ((v : ℕ) → IsTrue (above v) ↔ IsAncestor g (pair_of a b) v)
+    → AreOtherAncestors g a b (λ v. above v && not (pair_of a b v))
 others_from g a b above is v = (forth, back)
   where
     parts : (above v && not (pair_of a b v)) ≡ true → (above v ≡ true) × (not (pair_of a b v) ≡ true)
@@ -37,12 +38,15 @@ others_from g a b above is v = (forth, back)
     }
 
     back : IsOtherAncestor g a b v → (above v && not (pair_of a b v)) ≡ true
-    back o = and_from (above v) (not (pair_of a b v)) ((is v).1 o.above) (not_from_false (pair_of a b v) (or_from (eqb v a) (eqb v b) (ne_eqb v a o.not_a) (ne_eqb v b o.not_b)))
+    back o = and_from (above v) (not (pair_of a b v)) ((is v).1 o.above)
+        (not_from_false (pair_of a b v) (or_from (eqb v a) (eqb v b) (ne_eqb v a o.not_a) (ne_eqb v b o.not_b)))
 
 -- the ancestors of a pair without the pair
-pub others_are : (g : MixedGraph) (a b : ℕ) (pair above others : ℕ → Bool) → pair ≡ pair_of a b → ((v : ℕ) → IsTrue (above v) ↔ IsAncestor g pair v) → ((v : ℕ) → others v ≡ (above v && not (pair v))) → AreOtherAncestors g a b others
+pub others_are : (g : MixedGraph) (a b : ℕ) (pair above others : ℕ → Bool) → pair ≡ pair_of a b → ((v : ℕ) → IsTrue (above v) ↔ IsAncestor g pair v)
+    → ((v : ℕ) → others v ≡ (above v && not (pair v))) → AreOtherAncestors g a b others
 others_are g a b pair above others e is o =
-    subst (λ f. AreOtherAncestors g a b f) (sym (fun_ext (λ v. o v ∙ ap (λ f. above v && not (f v)) e))) (others_from g a b above (subst (λ f. (v : ℕ) → IsTrue (above v) ↔ IsAncestor g f v) e is))
+    subst (λ f. AreOtherAncestors g a b f) (sym (fun_ext (λ v. o v ∙ ap (λ f. above v && not (f v)) e)))
+    (others_from g a b above (subst (λ f. (v : ℕ) → IsTrue (above v) ↔ IsAncestor g f v) e is))
 
 pub others_within : (g : MixedGraph) (a b : ℕ) (z : ℕ → Bool) → AreOtherAncestors g a b z → Within g.vertices z
 others_within g a b z is v h = ((is v).0 h).above.vertex

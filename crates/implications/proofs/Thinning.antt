@@ -1,5 +1,6 @@
 -- A separating set thinned from its highest member down.
-use Rattle.std.proofs.Common.{ℕ, ◌+◌, ◌≡◌, ◌≢◌, ◌<◌, ◌≤◌, Bool, true, false, not, ◌&&◌, ◌||◌, ◌==◌, ◌⊎◌, inl, inr, refl, sym, ap, ◌∙◌, subst, arith, eqb, ltb, IsTrue}
+use Rattle.std.proofs.Common.{ℕ, ◌+◌, ◌≡◌, ◌≢◌, ◌<◌, ◌≤◌, Bool, true, false, not, ◌&&◌, ◌||◌, ◌==◌, ◌⊎◌, inl, inr, refl, sym, ap, ◌∙◌, subst, arith}
+use Rattle.std.proofs.Common.{eqb, ltb, IsTrue}
 use Rattle.std.proofs.lemmas.Bool.{cases_eq, cases_order, lt-ltb, le-ltb, ne_eqb, eq-eqb, and_parts, both_ways}
 use mathlib.Core.Path.{fun_ext}
 use Rattle.mixed_graph.specs.Graphs.{MixedGraph}
@@ -43,7 +44,8 @@ module _ (g : MixedGraph) (a b v : ℕ) (kept after : ℕ → Bool) where
       gone : after v ≡ false
       gone = ap (λ f. f v) e ∙ rest_itself kept v
 
-pub step_kept : (g : MixedGraph) (a b v : ℕ) (kept rest : ℕ → Bool) → kept v ≡ true → rest ≡ rest_of kept v → HasOpenWalk g (only a) (only b) rest → IsStep g a b v kept kept
+pub step_kept : (g : MixedGraph) (a b v : ℕ) (kept rest : ℕ → Bool) → kept v ≡ true → rest ≡ rest_of kept v → HasOpenWalk g (only a) (only b) rest
+    → IsStep g a b v kept kept
 step_kept g a b v kept rest m e w = record {
   others = λ u d. refl;
   inside = λ h. h;
@@ -52,7 +54,8 @@ step_kept g a b v kept rest m e w = record {
 }
 
 -- the rest of a separating set still has its form
-pub still_separating : (g : MixedGraph) (a b v : ℕ) (kept after : ℕ → Bool) → after ≡ rest_of kept v → IsSeparatingSet g a b kept → IsSeparated g (only a) (only b) after → IsSeparatingSet g a b after
+pub still_separating : (g : MixedGraph) (a b v : ℕ) (kept after : ℕ → Bool) → after ≡ rest_of kept v → IsSeparatingSet g a b kept
+    → IsSeparated g (only a) (only b) after → IsSeparatingSet g a b after
 still_separating g a b v kept after e s sep = record {
   within = λ u h. s.within u (inside u h);
   without_a = out a s.without_a;
@@ -121,8 +124,10 @@ module _ (g : MixedGraph) (a b : ℕ) (all : ℕ → Bool) where
 
         go : (u : ℕ) → (u ≡ i) ⊎ ((u < i) ⊎ (i < u)) → rest_of kept i u ≡ rest_at all after i u
         go u (inl e) = rw e (rest_itself kept i ∙ none (after i) (all i) (ltb i i) (ltb i i) (le-ltb i i (omega arith)) (le-ltb i i (omega arith)))
-        go u (inr (inl l)) = rest_other kept i u (λ e. omega (arith, e, l)) ∙ lower u (kept u) (after u) (all u) (ltb i u) (ltb u i) (d.below u (omega arith)) (le-ltb i u (omega arith)) (lt-ltb u i l)
-        go u (inr (inr l)) = rest_other kept i u (λ e. omega (arith, e, l)) ∙ higher u (kept u) (after u) (all u) (ltb i u) (ltb u i) (sym (s.others u (λ e. omega (arith, e, l)))) (lt-ltb i u l) (le-ltb u i (omega arith))
+        go u (inr (inl l)) = rest_other kept i u (λ e. omega (arith, e, l))
+            ∙ lower u (kept u) (after u) (all u) (ltb i u) (ltb u i) (d.below u (omega arith)) (le-ltb i u (omega arith)) (lt-ltb u i l)
+        go u (inr (inr l)) = rest_other kept i u (λ e. omega (arith, e, l))
+            ∙ higher u (kept u) (after u) (all u) (ltb i u) (ltb u i) (sym (s.others u (λ e. omega (arith, e, l)))) (lt-ltb i u l) (le-ltb u i (omega arith))
 
     pub down_step : IsDownTo g a b all i after
     down_step = record {
@@ -139,9 +144,11 @@ module _ (g : MixedGraph) (a b : ℕ) (all : ℕ → Bool) where
         dropped : (v : ℕ) → i ≤ v → all v ≡ true → after v ≡ false → (v ≡ i) ⊎ (v ≡ i → ⊥) → IsSeparated g (only a) (only b) (rest_at all after v)
         dropped v l h n (inl e) = subst (λ x. IsSeparated g (only a) (only b) (rest_at all after x)) (sym e)
             (subst (λ f. IsSeparated g (only a) (only b) f) rest_here (s.dropped (d.below i (omega arith) ∙ (rw e at h)) (rw e at n)))
-        dropped v l h n (inr ne) = subst (λ f. IsSeparated g (only a) (only b) f) (rest_above v (omega (arith, ne, l))) (d.dropped v (omega (arith, ne, l)) h (sym (s.others v ne) ∙ n))
+        dropped v l h n (inr ne) = subst (λ f. IsSeparated g (only a) (only b) f) (rest_above v (omega (arith, ne, l)))
+            (d.dropped v (omega (arith, ne, l)) h (sym (s.others v ne) ∙ n))
 
         needed : (v : ℕ) → i ≤ v → after v ≡ true → (v ≡ i) ⊎ (v ≡ i → ⊥) → HasOpenWalk g (only a) (only b) (rest_at all after v)
         needed v l h (inl e) = subst (λ x. HasOpenWalk g (only a) (only b) (rest_at all after x)) (sym e)
             (subst (λ f. HasOpenWalk g (only a) (only b) f) rest_here (s.needed (rw e at h)))
-        needed v l h (inr ne) = subst (λ f. HasOpenWalk g (only a) (only b) f) (rest_above v (omega (arith, ne, l))) (d.needed v (omega (arith, ne, l)) (sym (s.others v ne) ∙ h))
+        needed v l h (inr ne) = subst (λ f. HasOpenWalk g (only a) (only b) f) (rest_above v (omega (arith, ne, l)))
+            (d.needed v (omega (arith, ne, l)) (sym (s.others v ne) ∙ h))

@@ -6,7 +6,8 @@ use Rattle.implications.specs.Separable.{only, IsSeparable, AreIndependentGivenS
 
 -- where any set separates two vertices, their other ancestors do
 abbrev pub OtherAncestorsSeparate : Type 0
-OtherAncestorsSeparate = (g : MixedGraph) → IsMixedGraph g → (a b : ℕ) → IsSeparable g a b → (z : ℕ → Bool) → AreOtherAncestors g a b z → IsSeparated g (only a) (only b) z
+OtherAncestorsSeparate = (g : MixedGraph) → IsMixedGraph g → (a b : ℕ) → IsSeparable g a b → (z : ℕ → Bool) → AreOtherAncestors g a b z
+    → IsSeparated g (only a) (only b) z
 
 -- some set separates two vertices exactly where they are independent given some set in each model that fits
 abbrev pub SeparableIsIndependent : Type 0

@@ -1,3 +1,5 @@
+//! A separating set without members that it doesn't need.
+
 ghost use Rattle.std.specs.Prelude.{ℕ, ◌<◌, ◌||◌, IfSome, IfNone};
 ghost use Rattle.std.specs.Bool.{OnTrue, OnFalse};
 ghost use Rattle.mixed_graph.specs.Bits.{has};

@@ -1,3 +1,5 @@
+//! The laws of the pairs that some set separates.
+
 ghost use Rattle.implications.specs.Laws.{OtherAncestorsSeparate, SeparableIsIndependent};
 
 /// The laws of the pairs that some set separates.

@@ -1,7 +1,7 @@
 -- The command's words ask for one request, and its answers have one outcome.
 use Rattle.std.proofs.Common.{◌≡◌, List, Option, Some, sym, ◌∙◌, subst}
 use Rattle.std.proofs.lemmas.Option.{same_Some}
-use Rattle.word_forms.specs.Form.{Text, Use}
+use Rattle.command_words.specs.Form.{Text, Use}
 use Rattle.dag_reader.specs.declared.graph.ReadGraph.{ReadGraph}
 use Rattle.replies.specs.Command.{IsLeft}
 use Rattle.replies.proofs.Commands.{IsLawful, lawful_on_two_inputs}
@@ -29,5 +29,6 @@ implications_lawful = lawful_on_two_inputs one_request
     (λ q bytes other. implications_once bytes other q.count)
     (λ q name g h same names o text a n. first_alone g h same name o text n.0 (subst (λ (c : Option Text). FirstAnswer c g o text) names a) n.1)
 
-pub implications_is_left : (q : Request) (g : ReadGraph) (p : PlainPairs) (counts : Text) → q.counts ≡ Some counts → ArePairsOf g p → IsLeft implications_command q g (implications_left p counts q.count)
+pub implications_is_left : (q : Request) (g : ReadGraph) (p : PlainPairs) (counts : Text) → q.counts ≡ Some counts → ArePairsOf g p
+    → IsLeft implications_command q g (implications_left p counts q.count)
 implications_is_left q g p counts names is = record { named = names; continues = (p, is); known = is.pairs; answers = λ other o text a. (p, is, a) }

@@ -1,5 +1,6 @@
 -- A graph has one list of implications, as far as the vertices go that it names.
-use Rattle.std.proofs.Common.{◌≡◌, ◌+◌, ◌<◌, ◌≤◌, ℕ, zero, suc, Bool, true, false, ◌&&◌, ◌||◌, nat_lt, List, [], ◌∷◌, length, get_or, inl, inr, refl, sym, ap, ◌∙◌, subst, IsTrue, arith}
+use Rattle.std.proofs.Common.{◌≡◌, ◌+◌, ◌<◌, ◌≤◌, ℕ, zero, suc, Bool, true, false, ◌&&◌, ◌||◌, nat_lt, List, [], ◌∷◌, length, get_or, inl, inr, refl}
+use Rattle.std.proofs.Common.{sym, ap, ◌∙◌, subst, IsTrue, arith}
 use mathlib.Core.Path.{fun_ext}
 use Rattle.std.specs.Prelude.{All}
 use Rattle.std.proofs.lemmas.Bool.{ltb-true, false_from_ne_true, true_from_ne_false, or_cases, or_left, or_right, false≢true}
@@ -9,7 +10,7 @@ use Rattle.mixed_graph.specs.Bits.{has}
 use Rattle.mixed_graph.specs.Graphs.{MixedGraph}
 use Rattle.mixed_graph.proofs.Masks.{same_from_has}
 use Rattle.m_separation.specs.Walks.{IsSeparated}
-use Rattle.mixed_graph.specs.Masks.{join, one}
+use Rattle.mixed_graph.specs.Masks.{union, one}
 use Rattle.mixed_graph.proofs.MaskLaws.{has_join, has_none}
 use Rattle.implications.specs.declared.pairs.Implication.{Implication}
 use Rattle.implications.specs.Separable.{only, rest_at, IsThinned, IsGivenSet}
@@ -33,7 +34,8 @@ module _ (g : MixedGraph) (a b : ℕ) (all kept also : ℕ → Bool) where
       let apart = subst (λ (rest : ℕ → Bool). IsSeparated g (only a) (only b) rest) (sym (same_rest v above)) (u.dropped v (t.inside v e) f) in
       apart walk.0 walk.1 walk.2)
 
-module _ (g : MixedGraph) (a b : ℕ) (all kept also : ℕ → Bool) (n : ℕ) (within : (v : ℕ) → all v ≡ true → v < n) (t : IsThinned g a b all kept) (u : IsThinned g a b all also) where
+module _ (g : MixedGraph) (a b : ℕ) (all kept also : ℕ → Bool) (n : ℕ) (within : (v : ℕ) → all v ≡ true → v < n) (t : IsThinned g a b all kept)
+    (u : IsThinned g a b all also) where
   outside : (s : ℕ → Bool) → ((v : ℕ) → IsTrue (s v) → IsTrue (all v)) → (v : ℕ) → n ≤ v → s v ≡ false
   outside s inside v h = false_from_ne_true (s v) (λ e. let low = within v (inside v e) in absurd (omega (arith, low, h)))
 
@@ -47,19 +49,24 @@ module _ (g : MixedGraph) (a b : ℕ) (all kept also : ℕ → Bool) (n : ℕ) (
 -- a pair has one set
 one_given : (g : MixedGraph) (a b : ℕ) (w z : ℕ → Bool) → IsGivenSet g a b w → IsGivenSet g a b z → (v : ℕ) → w v ≡ z v
 one_given g a b w z s t v =
-    let others : t.others ≡ s.others = fun_ext (λ k. same_truth (t.others k) (s.others k) (λ e. (s.ancestors k).1 ((t.ancestors k).0 e)) (λ e. (t.ancestors k).1 ((s.ancestors k).0 e))) in
-    down g a b s.others w z g.vertices (λ k e. ((s.ancestors k).0 e).above.vertex) s.thinned (subst (λ (all : ℕ → Bool). IsThinned g a b all z) others t.thinned) g.vertices v (omega arith)
+    let others : t.others ≡ s.others = fun_ext (λ k. same_truth (t.others k) (s.others k) (λ e. (s.ancestors k).1 ((t.ancestors k).0 e))
+    (λ e. (t.ancestors k).1 ((s.ancestors k).0 e))) in
+    down g a b s.others w z g.vertices (λ k e. ((s.ancestors k).0 e).above.vertex) s.thinned
+    (subst (λ (all : ℕ → Bool). IsThinned g a b all z) others t.thinned) g.vertices v (omega arith)
 
 -- ---- the vertices of a list
 
 -- what each pair names is named by the list
-of_member : (list : List Implication) (k : ℕ) (d : Implication) (v : ℕ) → k < length list → has (used_for (get_or list k d)) v ≡ true → has (used_in list) v ≡ true
+of_member : (list : List Implication) (k : ℕ) (d : Implication) (v : ℕ) → k < length list → has (used_for (get_or list k d)) v ≡ true → has (used_in list) v
+    ≡ true
 of_member [] k d v h e = absurd (omega arith)
 of_member (i ∷ is) zero d v h e = has_join (used_for i) (used_in is) v ∙ or_left (has (used_for i) v) (has (used_in is) v) e
-of_member (i ∷ is) (suc k) d v h e = has_join (used_for i) (used_in is) v ∙ or_right (has (used_for i) v) (has (used_in is) v) (of_member is k d v (omega arith) e)
+of_member (i ∷ is) (suc k) d v h e = has_join (used_for i) (used_in is) v
+    ∙ or_right (has (used_for i) v) (has (used_in is) v) (of_member is k d v (omega arith) e)
 
 -- the list names no more than its pairs
-of_all : (mask : ℕ) (list : List Implication) → All (λ i. (v : ℕ) → has (used_for i) v ≡ true → has mask v ≡ true) list → (v : ℕ) → has (used_in list) v ≡ true → has mask v ≡ true
+of_all : (mask : ℕ) (list : List Implication) → All (λ i. (v : ℕ) → has (used_for i) v ≡ true → has mask v ≡ true) list → (v : ℕ) → has (used_in list) v
+    ≡ true → has mask v ≡ true
 of_all mask [] each v e = absurd (false≢true (sym (has_none v) ∙ e))
 of_all mask (i ∷ is) each v e =
     let P : Implication → Type 0 = λ j. (u : ℕ) → has (used_for j) u ≡ true → has mask u ≡ true in
@@ -71,7 +78,8 @@ of_all mask (i ∷ is) each v e =
 -- pairs of the same vertices with the same set name the same
 same_used : (i j : Implication) → j.a ≡ i.a → j.b ≡ i.b → j.given.bits ≡ i.given.bits → used_for j ≡ used_for i
 same_used i j a b s =
-    ap (λ (k : ℕ). join (one k) (join (one j.b) j.given.bits)) a ∙ ap (λ (k : ℕ). join (one i.a) (join (one k) j.given.bits)) b ∙ ap (λ (k : ℕ). join (one i.a) (join (one i.b) k)) s
+    ap (λ (k : ℕ). union (one k) (union (one j.b) j.given.bits)) a ∙ ap (λ (k : ℕ). union (one i.a) (union (one k) j.given.bits)) b
+    ∙ ap (λ (k : ℕ). union (one i.a) (union (one i.b) k)) s
 
 module _ (g : MixedGraph) (list others : List Implication) (is : AreImplications g list) (are : AreImplications g others) where
   -- a pair of the one list is in the other
@@ -82,7 +90,8 @@ module _ (g : MixedGraph) (list others : List Implication) (is : AreImplications
       let other : IsImplication g j = subst (IsImplication g) there.3 (are.each there.0 j there.2) in
       let given : IsGivenSet g i.a i.b (has j.given.bits) =
       subst (λ (k : ℕ). IsGivenSet g i.a k (has j.given.bits)) there.4.1 (subst (λ (k : ℕ). IsGivenSet g k j.b (has j.given.bits)) there.4.0 other.given) in
-      let bits : j.given.bits ≡ i.given.bits = same_from_has j.given.bits i.given.bits (one_given g i.a i.b (has j.given.bits) (has i.given.bits) given imp.given) in
+      let bits : j.given.bits ≡ i.given.bits = same_from_has j.given.bits i.given.bits
+      (one_given g i.a i.b (has j.given.bits) (has i.given.bits) given imp.given) in
       let used : used_for j ≡ used_for i = same_used i j there.4.0 there.4.1 bits in
       of_member others there.0 j v there.2 (subst (λ (k : Implication). has (used_for k) v ≡ true) (sym there.3) (ap (λ (m : ℕ). has m v) used ∙ e))
 
@@ -91,4 +100,5 @@ module _ (g : MixedGraph) (list others : List Implication) (is : AreImplications
 
 -- two lists of implications of a graph name the same vertices
 pub one_used : (g : MixedGraph) (list others : List Implication) → AreImplications g list → AreImplications g others → used_in others ≡ used_in list
-one_used g list others is are = same_from_has (used_in others) (used_in list) (λ v. same_truth (has (used_in others) v) (has (used_in list) v) (names_too g others list are is v) (names_too g list others is are v))
+one_used g list others is are = same_from_has (used_in others) (used_in list)
+    (λ v. same_truth (has (used_in others) v) (has (used_in list) v) (names_too g others list are is v) (names_too g list others is are v))

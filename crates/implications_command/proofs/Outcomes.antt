@@ -1,6 +1,6 @@
 -- Which outcomes the command answers.
 use Rattle.std.proofs.Common.{ℕ, List, Option, Some, None}
-use Rattle.word_forms.specs.Form.{Text}
+use Rattle.command_words.specs.Form.{Text}
 use Rattle.count_rows.specs.Records.{Field}
 use Rattle.dag_reader.specs.declared.graph.ReadGraph.{ReadGraph}
 use Rattle.replies.specs.declared.outcome.Outcome.{Outcome}

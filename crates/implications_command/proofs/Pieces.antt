@@ -11,8 +11,10 @@ pub three_pieces : (old a b c s t u : List ℕ) → s ≡ old ++ a → t ≡ s +
 three_pieces old a b c s t u d e f = two_pieces old a (b ++ c) s u d (two_pieces s b c t u e f)
 
 -- the texts of two vertices and then of others, with commas between them
-pub cell_pieces : (f : ℕ → List ℕ) (a b : ℕ) (vs old s t u v w : List ℕ) → s ≡ old ++ f a → t ≡ s ++ (44 ∷ []) → u ≡ t ++ f b → v ≡ u ++ comma_before vs → w ≡ v ++ with_commas (map f vs)
+pub cell_pieces : (f : ℕ → List ℕ) (a b : ℕ) (vs old s t u v w : List ℕ) → s ≡ old ++ f a → t ≡ s ++ (44 ∷ []) → u ≡ t ++ f b → v ≡ u ++ comma_before vs → w
+    ≡ v ++ with_commas (map f vs)
     → w ≡ old ++ with_commas (map f (a ∷ b ∷ vs))
 cell_pieces f a b vs old s t u v w d e g h k =
-    three_pieces old (f a) (44 ∷ []) (f b ++ (comma_before vs ++ with_commas (map f vs))) s t w d e (three_pieces t (f b) (comma_before vs) (with_commas (map f vs)) u v w g h k)
+    three_pieces old (f a) (44 ∷ []) (f b ++ (comma_before vs ++ with_commas (map f vs))) s t w d e
+    (three_pieces t (f b) (comma_before vs) (with_commas (map f vs)) u v w g h k)
     ∙ ap (λ x. old ++ (f a ++ (44 ∷ x))) (sym (commas_first f b vs))

@@ -1,16 +1,17 @@
 -- The vertices whose levels are read are those of the pairs and of their sets.
-use Rattle.std.proofs.Common.{ℕ, suc, ◌+◌, ◌≡◌, ◌<◌, ◌≤◌, Bool, true, ◌||◌, List, [], ◌∷◌, All, length, drop, get_or, inl, inr, refl, sym, ap, ap₂, ◌∙◌, subst, arith}
+use Rattle.std.proofs.Common.{ℕ, suc, ◌+◌, ◌≡◌, ◌<◌, ◌≤◌, Bool, true, ◌||◌, List, [], ◌∷◌, All, length, drop, get_or, inl, inr, refl, sym, ap, ap₂}
+use Rattle.std.proofs.Common.{◌∙◌, subst, arith}
 use Rattle.std.proofs.lemmas.Bool.{or_cases, or_left, or_right, false≢true, cases_lt, eq-eqb, lt-ltb}
 use Rattle.std.proofs.lemmas.List.{at_drop_more, at_drop_all}
 use Rattle.std.proofs.lemmas.List.Elements.{All-nil, All-cons, All-weaker}
 use Rattle.mixed_graph.specs.Bits.{has, members_below}
 use Rattle.mixed_graph.specs.Sets.{Within}
-use Rattle.mixed_graph.specs.Masks.{join, one}
+use Rattle.mixed_graph.specs.Masks.{union, one}
 use Rattle.mixed_graph.proofs.MaskLaws.{has_join, has_one, has_none, join_assoc, join-zero, filled_has}
 use Rattle.count_rows.specs.Rows.{Table}
 use Rattle.count_table.specs.Tables.{AreCounts}
 use Rattle.count_eval.specs.Programs.{is_used}
-use Rattle.sum_tables.proofs.Choosing.{size_in, sizes-pos, members_hold}
+use Rattle.count_table.proofs.Choosing.{size_in, sizes-pos, members_hold}
 use Rattle.implications.specs.declared.pairs.Implication.{Implication}
 use Rattle.implied_differences.specs.Differences.{whole_of, IsReadable}
 use Rattle.implications_command.specs.Pairs.{PlainPairs, ArePairs, IsNamed}
@@ -21,7 +22,7 @@ use Rattle.implications_command.proofs.Naming.{all_named, all_low, whole_below}
 
 used_for_is : (i : Implication) (v : ℕ) → has (used_for i) v ≡ whole_of i v
 used_for_is i v =
-    has_join (one i.a) (join (one i.b) i.given.bits) v
+    has_join (one i.a) (union (one i.b) i.given.bits) v
     ∙ ap₂ (λ (x y : Bool). x || y) (has_one i.a v) (has_join (one i.b) i.given.bits v ∙ ap (λ x. x || has i.given.bits v) (has_one i.b v))
 
 -- each vertex of each pair is used
@@ -49,7 +50,8 @@ some_used : (list : List Implication) → 0 < length list → used_in list ≡ 0
 some_used [] some none = absurd (omega (arith, some))
 some_used (i ∷ is) some none = filled_has (used_in (i ∷ is)) i.a
     (has_join (used_for i) (used_in is) i.a
-    ∙ or_left (has (used_for i) i.a) (has (used_in is) i.a) (has_join (one i.a) (join (one i.b) i.given.bits) i.a ∙ or_left (has (one i.a) i.a) (has (join (one i.b) i.given.bits) i.a) (has_one i.a i.a ∙ eq-eqb i.a i.a refl)))
+    ∙ or_left (has (used_for i) i.a) (has (used_in is) i.a) (has_join (one i.a) (union (one i.b) i.given.bits) i.a
+    ∙ or_left (has (one i.a) i.a) (has (union (one i.b) i.given.bits) i.a) (has_one i.a i.a ∙ eq-eqb i.a i.a refl)))
     none
 
 pub some : (p : PlainPairs) → ArePairs p → 0 < used_in p.list
@@ -60,15 +62,15 @@ some p are = elim (cases_lt 0 (used_in p.list)) [
 
 -- ---- the loop over pairs
 
-pub used_step : (before after : ℕ) (list : List Implication) (k : ℕ) (d : Implication) → k < length list → after ≡ join before (used_for (get_or list k d))
-    → join after (used_in (drop (k + 1) list)) ≡ join before (used_in (drop k list))
+pub used_step : (before after : ℕ) (list : List Implication) (k : ℕ) (d : Implication) → k < length list → after ≡ union before (used_for (get_or list k d))
+    → union after (used_in (drop (k + 1) list)) ≡ union before (used_in (drop k list))
 used_step before after list k d lt h =
-    ap (λ x. join x (used_in (drop (k + 1) list))) h
+    ap (λ x. union x (used_in (drop (k + 1) list))) h
     ∙ join_assoc before (used_for (get_or list k d)) (used_in (drop (k + 1) list))
-    ∙ sym (ap (λ m. join before m) (at_drop_more (λ (l : List Implication). used_in l) list k d lt))
+    ∙ sym (ap (λ m. union before m) (at_drop_more (λ (l : List Implication). used_in l) list k d lt))
 
-pub used_end : (all : ℕ) (list : List Implication) (k : ℕ) → length list ≤ k → all ≡ join all (used_in (drop k list))
-used_end all list k le = sym (ap (λ m. join all m) (at_drop_all (λ (l : List Implication). used_in l) list k le) ∙ join-zero all)
+pub used_end : (all : ℕ) (list : List Implication) (k : ℕ) → length list ≤ k → all ≡ union all (used_in (drop k list))
+used_end all list k le = sym (ap (λ m. union all m) (at_drop_all (λ (l : List Implication). used_in l) list k le) ∙ join-zero all)
 
 -- ---- pairs over a table
 
@@ -76,7 +78,8 @@ module _ (p : PlainPairs) (are : ArePairs p) (t : Table) (counts : AreCounts t) 
   in_table : (v : ℕ) → v < 64 → has (used_in p.list) v ≡ true → is_used t v ≡ true
   in_table v lt h =
       lt-ltb 0 (size_in t v)
-      (members_hold (has (used_in p.list)) (λ u. 0 < size_in t u) 64 v (subst (λ (vs : List ℕ). All (λ u. 0 < size_in t u) vs) vertices (sizes-pos t counts)) lt h)
+      (members_hold (has (used_in p.list)) (λ u. 0 < size_in t u) 64 v (subst (λ (vs : List ℕ). All (λ u. 0 < size_in t u) vs) vertices (sizes-pos t counts))
+      lt h)
 
   readable : (k : ℕ) (d : Implication) → k < length p.list → IsReadable t (get_or p.list k d)
   readable k d lt =
@@ -89,4 +92,5 @@ module _ (p : PlainPairs) (are : ArePairs p) (t : Table) (counts : AreCounts t) 
       }
 
   pub readable_in : (list : List Implication) → list ≡ p.list → (k : ℕ) (d : Implication) → k < length list → IsReadable t (get_or list k d)
-  readable_in list e k d lt = subst (λ (l : List Implication). IsReadable t (get_or l k d)) (sym e) (readable k d (subst (λ (l : List Implication). k < length l) e lt))
+  readable_in list e k d lt = subst (λ (l : List Implication). IsReadable t (get_or l k d)) (sym e)
+      (readable k d (subst (λ (l : List Implication). k < length l) e lt))

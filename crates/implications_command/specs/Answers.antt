@@ -3,14 +3,14 @@ use Rattle.std.specs.Prelude.{ℕ, ◌≡◌, List, All, map, Option, Some, None
 use Rattle.std.specs.List.{flat_map}
 use Rattle.mixed_graph.specs.Graphs.{MixedGraph}
 use Rattle.finite_models.specs.Models.{FiniteModel}
-use Rattle.word_forms.specs.Form.{Text}
+use Rattle.command_words.specs.Form.{Text}
 use Rattle.dag_reader.specs.declared.graph.ReadGraph.{ReadGraph}
 use Rattle.replies.specs.declared.outcome.Outcome.{Outcome}
 use Rattle.replies.specs.declared.outcome.Outcome.TheVariants.{Yes, No, Second}
 use Rattle.replies.specs.Observed.{IsObservedGraph}
 use Rattle.count_rows.specs.Records.{Field}
 use Rattle.count_rows.specs.Rows.{Table}
-use Rattle.count_answers.specs.Reads.{IsRead, AreRefusedCounts}
+use Rattle.count_answers.specs.Reads.{HoldsCounts, AreRefusedCounts}
 use Rattle.implications.specs.declared.pairs.Implication.{Implication}
 use Rattle.implications.specs.Separable.{IsSeparable, AreIndependentGivenSome}
 use Rattle.implied_differences.specs.declared.largest.Difference.{Difference}
@@ -74,7 +74,7 @@ ShowsDifferences p t text = AreMeasured p.names p.graph t p.list text
 
 -- the answer for pairs and the bytes of counts: the pairs with their differences over the table of the bytes, or the line of refused counts
 abbrev pub CountsAnswer : PlainPairs → Option Field → List ℕ → Outcome → List ℕ → Type 0
-CountsAnswer p count bytes Yes text = (t : Table) × IsRead p.names (used_in p.list) count bytes t × ShowsDifferences p t text
+CountsAnswer p count bytes Yes text = (t : Table) × HoldsCounts p.names (used_in p.list) count bytes t × ShowsDifferences p t text
 CountsAnswer p count bytes Second line = AreRefusedCounts p.names (used_in p.list) count bytes line
 CountsAnswer p count bytes o text = ⊥
 

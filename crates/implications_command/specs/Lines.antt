@@ -4,7 +4,7 @@ use Rattle.std.specs.List.{flat_map}
 use Rattle.std.specs.Fmt.{signed_decimal}
 use Rattle.mixed_graph.specs.Bits.{has, members_below}
 use Rattle.mixed_graph.specs.Names.{name_of}
-use Rattle.name_text.specs.Printing.{printed}
+use Rattle.answer_text.specs.Printing.{printed}
 use Rattle.answer_text.specs.Texts.{set_text}
 use Rattle.count_rows.specs.Rows.{Table}
 use Rattle.count_eval.specs.Programs.{cell_of}
@@ -18,7 +18,8 @@ none_line = codes "none\n"
 
 -- `A from C given {B}`
 abbrev pub pair_line : List (List ℕ) → Implication → List ℕ
-pair_line names i = printed (name_of names i.a) ++ (codes " from " ++ (printed (name_of names i.b) ++ (codes " given " ++ (set_text names i.given.bits ++ codes "\n"))))
+pair_line names i = printed (name_of names i.a) ++ (codes " from " ++ (printed (name_of names i.b)
+    ++ (codes " given " ++ (set_text names i.given.bits ++ codes "\n"))))
 
 -- the lines of pairs
 abbrev pub pair_lines : List (List ℕ) → List Implication → List ℕ

@@ -1,12 +1,19 @@
 -- What `implications` is asked for.
 use Rattle.std.specs.Prelude.{◌≡◌, List, Option, Some, None, [], ◌∷◌, codes, option_map}
-use Rattle.word_forms.specs.Form.{Text, Row, Use, word_of, value_of}
-use Rattle.request_values.specs.Values.{AreTwoInputs}
+use Rattle.command_words.specs.Form.{Text, Row, Use, word_of, value_of}
+use Rattle.command_words.specs.Values.{AreTwoInputs}
 use Rattle.implications_command.specs.declared.request.Request.{Request as CodeRequest}
 
 -- `implications FILE [COUNTS] [--count NAME]`
 abbrev pub implications_row : Row
-implications_row = record { name = codes "implications"; positionals = codes "file" ∷ []; extra = codes "counts" ∷ []; needed = []; options = codes "count" ∷ []; flags = [] }
+implications_row = record {
+  name = codes "implications";
+  positionals = codes "file" ∷ [];
+  optional = codes "counts" ∷ [];
+  required = [];
+  options = codes "count" ∷ [];
+  flags = [];
+}
 
 -- a request
 pub record Request : Type 0 where

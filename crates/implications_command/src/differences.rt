@@ -1,3 +1,5 @@
+//! The lines of pairs with their differences.
+
 ghost use Rattle.std.specs.Prelude.{◌≡◌, IfOk, OnOk};
 ghost use Rattle.mixed_graph.specs.Bits.{has, members_below};
 ghost use Rattle.implications.specs.Implications.{IsImplication};

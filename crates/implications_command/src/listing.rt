@@ -1,3 +1,5 @@
+//! The answer without counts.
+
 ghost use Rattle.std.specs.Prelude.{◌≡◌, ◌<◌, IfOk, length};
 ghost use Rattle.implications_command.specs.Pairs.{ArePairs, pairs_view};
 ghost use Rattle.implications_command.specs.Lines.{pair_lines};

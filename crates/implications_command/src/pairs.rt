@@ -1,3 +1,5 @@
+//! The pairs that an observed graph implies.
+
 use implications::Implication;
 use latent_projection::Observed;
 

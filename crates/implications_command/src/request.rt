@@ -1,18 +1,20 @@
+//! What `implications` is asked.
+
 ghost use Rattle.std.specs.Prelude.{◌≡◌, false, List, IfOk, IsErrOf, IsTrue, option_map};
-ghost use Rattle.word_forms.specs.Form.{Use};
-ghost use Rattle.word_values.specs.Gives.{HoldsCall};
+ghost use Rattle.command_words.specs.Form.{Use};
+ghost use Rattle.command_words.specs.Gives.{HoldsCall};
 ghost use Rattle.implications_command.specs.Requests.{AreInputs};
 
-use request_values::{RequestFault, are_both_standard, needed_word, value_bytes};
-use word_forms::Entry;
-use word_values::Values;
+use command_words::forms::Entry;
+use command_words::typed::{RequestFault, are_both_standard, required_word, value_bytes};
+use command_words::values::Values;
 
 /// `implications FILE [COUNTS] [--count NAME]`
 pub const ROW: Entry = Entry {
     name: "implications",
     positionals: &["file"],
-    extra: &["counts"],
-    needed: &[],
+    optional: &["counts"],
+    required: &[],
     options: &["count"],
     flags: &[],
 };
@@ -35,7 +37,7 @@ impl<'a> Request<'a> {
         ensures ok { (uses : List Use) → HoldsCall implications_row uses values.now → IfOk result (λ r. IsRequest uses (request_of r)) }
         ensures none { (uses : List Use) → HoldsCall implications_row uses values.now → IsErrOf result RequestFault.NotUnderstood → AsksNothing implications_command uses }
     {
-        let file = needed_word(values, "file")?;
+        let file = required_word(values, "file")?;
         let counts = values.word("counts");
         let count = value_bytes(values, "count");
         if !are_inputs(file, counts, count) {

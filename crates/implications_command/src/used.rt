@@ -1,3 +1,5 @@
+//! The vertices that pairs and their sets use.
+
 ghost use Rattle.std.specs.Prelude.{◌≡◌, All};
 ghost use Rattle.implications_command.specs.Pairs.{IsNamed};
 ghost use Rattle.implications_command.specs.Used.{used_for, used_in};

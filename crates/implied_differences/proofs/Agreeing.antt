@@ -1,5 +1,6 @@
 -- Sums of counts at assignments that agree, and how large they are.
-use Rattle.std.proofs.Common.{ℕ, ◌+◌, ◌*◌, ◌≡◌, ◌<◌, ◌≤◌, Bool, true, false, cond, not, ◌&&◌, ◌||◌, ◌==◌, List, [], ◌∷◌, length, map, All, refl, sym, ap, ◌∙◌, inl, inr, ◌⊎◌, arith}
+use Rattle.std.proofs.Common.{ℕ, ◌+◌, ◌*◌, ◌≡◌, ◌<◌, ◌≤◌, Bool, true, false, cond, not, ◌&&◌, ◌||◌, ◌==◌, List, [], ◌∷◌, length, map, All, refl, sym}
+use Rattle.std.proofs.Common.{ap, ◌∙◌, inl, inr, ◌⊎◌, arith}
 use Rattle.std.specs.List.{filter}
 use Rattle.std.proofs.lemmas.Bool.{or_cases, or_left, or_right, eqb-true}
 use Rattle.std.proofs.lemmas.List.Elements.{All-head, All-tail, All-weaker, All-map}
@@ -10,8 +11,8 @@ use Rattle.count_rows.specs.Records.{Field, product}
 use Rattle.count_rows.specs.Rows.{Row, Table, agrees, counted}
 use Rattle.count_table.specs.Tables.{levels_in, AreCounts}
 use Rattle.count_eval.proofs.CountedLaws.{counted_small}
-use Rattle.sum_tables.proofs.CellLevels.{filter-holds}
-use Rattle.sum_tables.proofs.Lists.{product-pos}
+use Rattle.count_table.proofs.CellLevels.{filter-holds}
+use Rattle.count_table.proofs.Lists.{product-pos}
 use Rattle.implications.specs.declared.pairs.Implication.{Implication}
 use Rattle.implications.specs.Separable.{only}
 use Rattle.implied_differences.specs.Differences.{whole_of, first_of_pair, second_of_pair, left, right}
@@ -20,14 +21,16 @@ agrees-same : (vs cell : List ℕ) (of : ℕ → Bool) (at at' : ℕ → ℕ) �
 agrees-same [] cell of at at' h = refl
 agrees-same (v ∷ vs) [] of at at' h = refl
 agrees-same (v ∷ vs) (x ∷ xs) of at at' h =
-    ap (λ b. b && agrees vs xs of at) (first (of v) refl) ∙ ap (λ b. (not (of v) || (x == at' v)) && b) (agrees-same vs xs of at at' (All-tail (λ u. of u ≡ true → at u ≡ at' u) v vs h))
+    ap (λ b. b && agrees vs xs of at) (first (of v) refl) ∙ ap (λ b. (not (of v) || (x == at' v)) && b)
+    (agrees-same vs xs of at at' (All-tail (λ u. of u ≡ true → at u ≡ at' u) v vs h))
   where
     first : (b : Bool) → of v ≡ b → (not (of v) || (x == at v)) ≡ (not (of v) || (x == at' v))
     first true e = ap (λ n. not (of v) || (x == n)) (All-head (λ u. of u ≡ true → at u ≡ at' u) v vs h e)
     first false e = rw e refl
 
 -- a sum reads the levels of its set alone
-pub counted-same : (vs : List ℕ) (rows : List Row) (of : ℕ → Bool) (at at' : ℕ → ℕ) → All (λ v. of v ≡ true → at v ≡ at' v) vs → counted vs rows of at ≡ counted vs rows of at'
+pub counted-same : (vs : List ℕ) (rows : List Row) (of : ℕ → Bool) (at at' : ℕ → ℕ) → All (λ v. of v ≡ true → at v ≡ at' v) vs
+    → counted vs rows of at ≡ counted vs rows of at'
 counted-same vs [] of at at' h = refl
 counted-same vs (r ∷ rows) of at at' h =
     sum_by-cons (λ (q : Row). cond (agrees vs q.cell of at) q.count 0) r rows
@@ -37,7 +40,8 @@ counted-same vs (r ∷ rows) of at at' h =
 
 -- what holds of a, b and the given vertices among some holds of each of these in the three
 pub whole_holds : (i : Implication) (P : ℕ → Type 0) (vs : List ℕ) → All P (i.a ∷ i.b ∷ filter (has i.given.bits) vs) → All (λ v. whole_of i v ≡ true → P v) vs
-whole_holds i P vs h = All-weaker (λ v. has i.given.bits v ≡ true → P v) (λ v. whole_of i v ≡ true → P v) each vs (filter-holds P (has i.given.bits) vs (All-tail P i.b (filter (has i.given.bits) vs) rest))
+whole_holds i P vs h = All-weaker (λ v. has i.given.bits v ≡ true → P v) (λ v. whole_of i v ≡ true → P v) each vs
+    (filter-holds P (has i.given.bits) vs (All-tail P i.b (filter (has i.given.bits) vs) rest))
   where
     rest : All P (i.b ∷ filter (has i.given.bits) vs)
     rest = All-tail P i.a (i.b ∷ filter (has i.given.bits) vs) h
@@ -73,13 +77,16 @@ second_inside i v e = or_right (only i.a v) (only i.b v || has i.given.bits v) e
 
 module _ (t : Table) (i : Implication) (s s' : ℕ → ℕ) (h : All (λ v. whole_of i v ≡ true → s v ≡ s' v) t.vertices) where
   part : (of : ℕ → Bool) → ((v : ℕ) → of v ≡ true → whole_of i v ≡ true) → counted t.vertices t.rows of s ≡ counted t.vertices t.rows of s'
-  part of inside = counted-same t.vertices t.rows of s s' (All-weaker (λ v. whole_of i v ≡ true → s v ≡ s' v) (λ v. of v ≡ true → s v ≡ s' v) (λ v f e. f (inside v e)) t.vertices h)
+  part of inside = counted-same t.vertices t.rows of s s' (All-weaker (λ v. whole_of i v ≡ true → s v ≡ s' v) (λ v. of v ≡ true → s v ≡ s' v)
+      (λ v f e. f (inside v e)) t.vertices h)
 
   pub left_same : left t i s ≡ left t i s'
-  left_same = ap (λ n. n * counted t.vertices t.rows (has i.given.bits) s) (part (whole_of i) (λ v e. e)) ∙ ap (λ n. counted t.vertices t.rows (whole_of i) s' * n) (part (has i.given.bits) (given_inside i))
+  left_same = ap (λ n. n * counted t.vertices t.rows (has i.given.bits) s) (part (whole_of i) (λ v e. e))
+      ∙ ap (λ n. counted t.vertices t.rows (whole_of i) s' * n) (part (has i.given.bits) (given_inside i))
 
   pub right_same : right t i s ≡ right t i s'
-  right_same = ap (λ n. n * counted t.vertices t.rows (second_of_pair i) s) (part (first_of_pair i) (first_inside i)) ∙ ap (λ n. counted t.vertices t.rows (first_of_pair i) s' * n) (part (second_of_pair i) (second_inside i))
+  right_same = ap (λ n. n * counted t.vertices t.rows (second_of_pair i) s) (part (first_of_pair i) (first_inside i))
+      ∙ ap (λ n. counted t.vertices t.rows (first_of_pair i) s' * n) (part (second_of_pair i) (second_inside i))
 
 -- ---- sizes
 
@@ -99,14 +106,19 @@ within_times : (x p y : ℕ) → 0 < x → y ≤ p → y ≤ x * p
 within_times x p y h l = let m : 1 * p ≤ x * p = mul-le 1 p x p (omega arith) (omega arith) in omega (arith, m, l)
 
 -- no vertex has more levels than there are cells
-levels_least : (vs : List ℕ) (levels : List (List Field)) (v : ℕ) → All (λ (ys : List Field). 0 < length ys) levels → length (levels_in vs levels v) ≤ product (map (λ (ys : List Field). length ys) levels)
+levels_least : (vs : List ℕ) (levels : List (List Field)) (v : ℕ) → All (λ (ys : List Field). 0 < length ys) levels
+    → length (levels_in vs levels v) ≤ product (map (λ (ys : List Field). length ys) levels)
 levels_least [] levels v h = omega arith
 levels_least (u ∷ us) [] v h = omega arith
 levels_least (u ∷ us) (ys ∷ levels) v h =
-    pick (u == v) (times_more (length ys) (product (map (λ (ys : List Field). length ys) levels)) (product-pos (map (λ (ys : List Field). length ys) levels) (All-map (λ n. 0 < n) (λ (ys : List Field). length ys) levels (All-tail (λ (ys : List Field). 0 < length ys) ys levels h))))
-    (within_times (length ys) (product (map (λ (ys : List Field). length ys) levels)) (length (levels_in us levels v)) (All-head (λ (ys : List Field). 0 < length ys) ys levels h) (levels_least us levels v (All-tail (λ (ys : List Field). 0 < length ys) ys levels h)))
+    pick (u == v) (times_more (length ys) (product (map (λ (ys : List Field). length ys) levels))
+    (product-pos (map (λ (ys : List Field). length ys) levels) (All-map (λ n. 0 < n) (λ (ys : List Field). length ys) levels
+    (All-tail (λ (ys : List Field). 0 < length ys) ys levels h))))
+    (within_times (length ys) (product (map (λ (ys : List Field). length ys) levels)) (length (levels_in us levels v))
+    (All-head (λ (ys : List Field). 0 < length ys) ys levels h) (levels_least us levels v (All-tail (λ (ys : List Field). 0 < length ys) ys levels h)))
   where
-    pick : (b : Bool) → length ys ≤ length ys * product (map (λ (ys : List Field). length ys) levels) → length (levels_in us levels v) ≤ length ys * product (map (λ (ys : List Field). length ys) levels)
+    pick : (b : Bool) → length ys ≤ length ys * product (map (λ (ys : List Field). length ys) levels)
+        → length (levels_in us levels v) ≤ length ys * product (map (λ (ys : List Field). length ys) levels)
         → length (cond b ys (levels_in us levels v)) ≤ length ys * product (map (λ (ys : List Field). length ys) levels)
     pick true p q = p
     pick false p q = q

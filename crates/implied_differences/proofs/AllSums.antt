@@ -9,10 +9,10 @@ use Rattle.count_rows.specs.Rows.{Row, Table}
 use Rattle.count_rows.specs.Records.{product}
 use Rattle.count_table.specs.Cells.{IsCell, place_of}
 use Rattle.count_table.specs.Tables.{AreCounts}
-use Rattle.sum_tables.specs.Sums.{AreSums}
-use Rattle.sum_tables.proofs.Choosing.{size_in}
-use Rattle.sum_tables.proofs.Counting.{is_among, counted-alike}
-use Rattle.sum_tables.proofs.VertexSums.{counts-are, among-self}
+use Rattle.count_table.specs.Sums.{AreSums}
+use Rattle.count_table.proofs.Choosing.{size_in}
+use Rattle.count_table.proofs.Counting.{is_among, counted-alike}
+use Rattle.count_table.proofs.VertexSums.{counts-are, among-self}
 use Rattle.implications.specs.declared.pairs.Implication.{Implication}
 use Rattle.implied_differences.specs.Differences.{whole_of}
 use Rattle.implied_differences.proofs.UsedVertices.{all_members}
@@ -20,10 +20,12 @@ use Rattle.implied_differences.proofs.UsedVertices.{all_members}
 filter_all : (p : ℕ → Bool) (vs : List ℕ) → All (λ v. p v ≡ true) vs → filter p vs ≡ vs
 filter_all p [] h = refl
 filter_all p (v ∷ vs) h =
-    ap (λ b. cond b (v ∷ filter p vs) (filter p vs)) (All-head (λ u. p u ≡ true) v vs h) ∙ ap (λ (l : List ℕ). v ∷ l) (filter_all p vs (All-tail (λ u. p u ≡ true) v vs h))
+    ap (λ b. cond b (v ∷ filter p vs) (filter p vs)) (All-head (λ u. p u ≡ true) v vs h)
+    ∙ ap (λ (l : List ℕ). v ∷ l) (filter_all p vs (All-tail (λ u. p u ≡ true) v vs h))
 
 pub counts_are_sums : (t : Table) → AreCounts t → (i : Implication) (used whole unused : ℕ) → members_below (has used) 64 ≡ t.vertices → has whole ≡ whole_of i
-    → ((v : ℕ) → has unused v ≡ (has used v && not (has whole v))) → unused ≡ 0 → (counts : List ℕ) → counts ≡ map (λ (r : Row). r.count) t.rows → AreSums t (whole_of i) counts
+    → ((v : ℕ) → has unused v ≡ (has used v && not (has whole v))) → unused ≡ 0 → (counts : List ℕ) → counts ≡ map (λ (r : Row). r.count) t.rows
+    → AreSums t (whole_of i) counts
 counts_are_sums t are i used whole unused members is_whole is_rest none counts e =
     let h = counts-are t counts are e in
     let P : List ℕ → (ℕ → ℕ) → Type 0 = λ vs at. IsCell (map (size_in t) vs) (map at vs) in

@@ -37,7 +37,8 @@ base_first l b s n e f g = (
   0,
   record {
     number = n ∙ sym (ap₂ (λ x y. 0 * (l.between * l.second_step) + (x * l.second_step + y)) f g ∙ zeros (l.between * l.second_step) l.second_step);
-    begin = e ∙ sym (ap₂ (λ x y. 0 * (l.firsts * l.first_step) + (x * (l.seconds * l.second_step) + y)) f g ∙ zeros (l.firsts * l.first_step) (l.seconds * l.second_step));
+    begin = e ∙ sym (ap₂ (λ x y. 0 * (l.firsts * l.first_step) + (x * (l.seconds * l.second_step) + y)) f g
+        ∙ zeros (l.firsts * l.first_step) (l.seconds * l.second_step));
     between = below b.between l.between f s.between;
     behind = below b.behind l.second_step g s.behind;
   },
@@ -50,11 +51,13 @@ base_first l b s n e f g = (
     below x y e lt = omega arith
 
 -- the next block, in the same row of cells
-pub base_inner : (l : Layout) (b d : Block) → IsBase l b → b.behind + 1 < l.second_step → d.number ≡ b.number + 1 → d.begin ≡ b.begin + 1 → d.between ≡ b.between → d.behind ≡ b.behind + 1 → IsBase l d
+pub base_inner : (l : Layout) (b d : Block) → IsBase l b → b.behind + 1 < l.second_step → d.number ≡ b.number + 1 → d.begin ≡ b.begin + 1 → d.between
+    ≡ b.between → d.behind ≡ b.behind + 1 → IsBase l d
 base_inner l b d (p, h) lt n e f g = (
   p,
   record {
-    number = n ∙ ap (λ k. k + 1) h.number ∙ one (p * (l.between * l.second_step)) (b.between * l.second_step) b.behind ∙ sym (ap₂ (λ x y. p * (l.between * l.second_step) + (x * l.second_step + y)) f g);
+    number = n ∙ ap (λ k. k + 1) h.number ∙ one (p * (l.between * l.second_step)) (b.between * l.second_step) b.behind
+        ∙ sym (ap₂ (λ x y. p * (l.between * l.second_step) + (x * l.second_step + y)) f g);
     begin = e ∙ ap (λ k. k + 1) h.begin ∙ one (p * (l.firsts * l.first_step)) (b.between * (l.seconds * l.second_step)) b.behind
         ∙ sym (ap₂ (λ x y. p * (l.firsts * l.first_step) + (x * (l.seconds * l.second_step) + y)) f g);
     between = rw f h.between;
@@ -75,7 +78,8 @@ pub back : (n : ℕ) → 0 < n → n ≡ (n - 1) + 1
 back n lt = omega arith
 
 -- over the levels of the second vertex
-pub base_middle : (l : Layout) (b d : Block) → IsStepped l → IsBase l b → (b.behind + 1 < l.second_step → ⊥) → b.between + 1 < l.between → d.number ≡ b.number + 1
+pub base_middle : (l : Layout) (b d : Block) → IsStepped l → IsBase l b → (b.behind + 1 < l.second_step → ⊥) → b.between + 1 < l.between → d.number ≡ b.number
+    + 1
     → d.begin ≡ b.begin + 1 + (l.seconds - 1) * l.second_step → d.between ≡ b.between + 1 → d.behind ≡ 0 → IsBase l d
 base_middle l b d s (p, h) over_behind lt n e f g =
     let end = last b.behind l.second_step h.behind over_behind in (
@@ -83,7 +87,8 @@ base_middle l b d s (p, h) over_behind lt n e f g =
       record {
         number = n ∙ ap (λ k. k + 1) h.number ∙ carried (p * (l.between * l.second_step)) b.between b.behind l.second_step end
             ∙ sym (ap₂ (λ x y. p * (l.between * l.second_step) + (x * l.second_step + y)) f g);
-        begin = e ∙ ap (λ k. k + 1 + (l.seconds - 1) * l.second_step) h.begin ∙ over (p * (l.firsts * l.first_step)) b.between b.behind l.second_step (l.seconds - 1) l.seconds end (back l.seconds s.seconds)
+        begin = e ∙ ap (λ k. k + 1 + (l.seconds - 1) * l.second_step) h.begin
+            ∙ over (p * (l.firsts * l.first_step)) b.between b.behind l.second_step (l.seconds - 1) l.seconds end (back l.seconds s.seconds)
             ∙ sym (ap₂ (λ x y. p * (l.firsts * l.first_step) + (x * (l.seconds * l.second_step) + y)) f g);
         between = rw f lt;
         behind = rw g s.behind;
@@ -100,7 +105,8 @@ base_middle l b d s (p, h) over_behind lt n e f g =
         omega (arith, e, g, h)
 
 -- over the levels of the first vertex
-pub base_outer : (l : Layout) (b d : Block) → IsStepped l → IsBase l b → (b.behind + 1 < l.second_step → ⊥) → (b.between + 1 < l.between → ⊥) → d.number ≡ b.number + 1
+pub base_outer : (l : Layout) (b d : Block) → IsStepped l → IsBase l b → (b.behind + 1 < l.second_step → ⊥) → (b.between + 1 < l.between → ⊥) → d.number
+    ≡ b.number + 1
     → d.begin ≡ b.begin + 1 + (l.seconds - 1) * l.second_step + (l.firsts - 1) * l.first_step → d.between ≡ 0 → d.behind ≡ 0 → IsBase l d
 base_outer l b d s (p, h) over_behind over_between n e f g =
     let end = last b.behind l.second_step h.behind over_behind in
@@ -110,7 +116,8 @@ base_outer l b d s (p, h) over_behind over_between n e f g =
         number = n ∙ ap (λ k. k + 1) h.number ∙ carried p b.between l.between b.behind l.second_step end ends
             ∙ sym (ap₂ (λ x y. (p + 1) * (l.between * l.second_step) + (x * l.second_step + y)) f g);
         begin = e ∙ ap (λ k. k + 1 + (l.seconds - 1) * l.second_step + (l.firsts - 1) * l.first_step) h.begin
-            ∙ over p b.between l.between b.behind l.second_step (l.seconds - 1) l.seconds (l.firsts - 1) l.firsts l.first_step end ends (back l.seconds s.seconds) (back l.firsts s.firsts) s.first_step
+            ∙ over p b.between l.between b.behind l.second_step (l.seconds - 1) l.seconds (l.firsts - 1) l.firsts l.first_step end ends
+            (back l.seconds s.seconds) (back l.firsts s.firsts) s.first_step
             ∙ sym (ap₂ (λ x y. (p + 1) * (l.firsts * l.first_step) + (x * (l.seconds * l.second_step) + y)) f g);
         between = rw f s.between;
         behind = rw g s.behind;

@@ -1,8 +1,8 @@
 -- Sums of the cells of a block.
 use Rattle.std.proofs.Common.{ℕ, zero, suc, ◌+◌, ◌*◌, ◌≡◌, ◌<◌, ◌≤◌, List, length, get_or, sym, ap, subst, ◌∙◌, inl, inr, arith}
 use Rattle.std.proofs.lemmas.Bool.{cases_eq}
-use Rattle.lane_sums.specs.Sums.{sum_below}
-use Rattle.sum_tables.proofs.Counting.{sum-same}
+use Rattle.count_table.specs.LaneSums.{sum_below}
+use Rattle.count_table.proofs.Counting.{sum-same}
 use Rattle.implied_differences.specs.declared.layout.Layout.{Layout}
 use Rattle.implied_differences.specs.declared.layout.Line.{Line}
 use Rattle.implied_differences.specs.Layouts.{row_of, column_of}
@@ -30,18 +30,22 @@ sum-most (suc n) f g h = let a = sum-most n f g (λ k lt. h k (omega arith)) in 
 
 module _ (cells : List ℕ) (l : Layout) (begin : ℕ) (b : IsBlock cells l begin) where
   pub column_few : (y : ℕ) → y < l.seconds → column_at cells l begin y ≤ 1000000000000000
-  column_few y lt = through (column_at cells l begin y) (block_at cells l begin) 1000000000000000 (term-most l.seconds (λ z. column_at cells l begin z) y lt) b.few
+  column_few y lt = through (column_at cells l begin y) (block_at cells l begin) 1000000000000000 (term-most l.seconds (λ z. column_at cells l begin z) y lt)
+      b.few
 
   pub value_few : (x y : ℕ) → x < l.firsts → y < l.seconds → value_at cells l begin x y ≤ 1000000000000000
-  value_few x y lx ly = through (value_at cells l begin x y) (column_at cells l begin y) 1000000000000000 (term-most l.firsts (λ z. value_at cells l begin z y) x lx) (column_few y ly)
+  value_few x y lx ly = through (value_at cells l begin x y) (column_at cells l begin y) 1000000000000000
+      (term-most l.firsts (λ z. value_at cells l begin z y) x lx) (column_few y ly)
 
   pub row_few : (x : ℕ) → x < l.firsts → row_at cells l begin x ≤ 1000000000000000
   row_few x lx = through (row_at cells l begin x) (block_at cells l begin) 1000000000000000
-      (sum-most l.seconds (λ y. value_at cells l begin x y) (λ y. column_at cells l begin y) (λ y ly. term-most l.firsts (λ z. value_at cells l begin z y) x lx)) b.few
+      (sum-most l.seconds (λ y. value_at cells l begin x y) (λ y. column_at cells l begin y)
+      (λ y ly. term-most l.firsts (λ z. value_at cells l begin z y) x lx)) b.few
 
   -- the columns' sum is the block's
   pub columns-total : (columns : List ℕ) → AreColumns cells l begin columns → strided columns 0 1 l.seconds ≡ block_at cells l begin
-  columns-total columns h = sum-same l.seconds (λ k. get_or columns (0 + k * 1) 0) (λ y. column_at cells l begin y) (λ k lt. ap (λ m. get_or columns m 0) (plain k) ∙ h.each k lt)
+  columns-total columns h = sum-same l.seconds (λ k. get_or columns (0 + k * 1) 0) (λ y. column_at cells l begin y)
+      (λ k lt. ap (λ m. get_or columns m 0) (plain k) ∙ h.each k lt)
     where
       plain : (k : ℕ) → 0 + k * 1 ≡ k
       plain k = omega arith
@@ -66,7 +70,8 @@ pub column_line : (cells : List ℕ) (l : Layout) (begin y : ℕ) (line : Line) 
 column_line cells l begin y line e =
     ap (λ (n : Line). line_at cells n begin) e
     ∙ sum-same l.firsts (λ k. get_or cells (begin + y * l.second_step + k * l.first_step) 0) (λ x. value_at cells l begin x y)
-    (λ k lt. ap (λ n. get_or cells n 0) (let r : begin + y * l.second_step + k * l.first_step ≡ begin + k * l.first_step + y * l.second_step = omega arith in r))
+    (λ k lt. ap (λ n. get_or cells n 0) (let r : begin + y * l.second_step + k * l.first_step ≡ begin + k * l.first_step + y * l.second_step = omega arith in
+    r))
 
 module _ (cells : List ℕ) (l : Layout) (begins : List ℕ) (width : ℕ) (h : AreBegins cells l begins width) where
   abbrev IsInside : Line → Type 0

@@ -5,7 +5,7 @@ use Rattle.std.specs.Int.{abs_diff}
 use Rattle.count_rows.specs.Rows.{Table}
 use Rattle.count_table.specs.Tables.{AreCounts}
 use Rattle.count_eval.specs.Programs.{cell_of}
-use Rattle.sum_tables.specs.Axes.{HasCell, place_at, cells_over}
+use Rattle.count_table.specs.Axes.{HasCell, place_at, cells_over}
 use Rattle.implications.specs.declared.pairs.Implication.{Implication}
 use Rattle.implied_differences.specs.declared.candidates.Candidate.{Candidate}
 use Rattle.implied_differences.specs.declared.largest.Difference.{Difference}
@@ -15,14 +15,16 @@ use Rattle.implied_differences.specs.Layouts.{IsLayoutOf}
 use Rattle.implied_differences.specs.Blocks.{left_at, right_at, gap_at, number_at, IsSeen, IsOf, IsNone, IsBestOf}
 use Rattle.implied_differences.proofs.Agreeing.{left_most, right_most}
 use Rattle.implied_differences.proofs.Bases.{same_digits, two_digits}
-use Rattle.implied_differences.proofs.Spots.{IsCellIn, given_place, left_is, right_is, distance_is, numbered, first_below, second_below, given_below, assignment}
+use Rattle.implied_differences.proofs.Spots.{IsCellIn, given_place, left_is, right_is, distance_is, numbered, first_below, second_below, given_below}
+use Rattle.implied_differences.proofs.Spots.{assignment}
 use Rattle.implied_differences.proofs.Visiting.{seen_before}
 use Rattle.implied_differences.proofs.Walking.{cells_are, a_level, b_level}
 
 module _ (t : Table) (are : AreCounts t) (i : Implication) (r : IsReadable t i) (l : Layout) (h : IsLayoutOf t i l) (c : Candidate) (b : IsBestOf t i l c) where
   seen : (s : ℕ → ℕ) → IsCellIn t are i r l h s → IsSeen l l.count 0 0 (given_place t are i r l h s) (s i.a) (s i.b)
   seen s cell =
-      seen_before l l.count (given_place t are i r l h s) (s i.a) (s i.b) (given_below t are i r l h s cell) (first_below t are i r l h s cell) (second_below t are i r l h s cell) (given_below t are i r l h s cell)
+      seen_before l l.count (given_place t are i r l h s) (s i.a) (s i.b) (given_below t are i r l h s cell) (first_below t are i r l h s cell)
+      (second_below t are i r l h s cell) (given_below t are i r l h s cell)
 
   -- the number is that of a cell
   total : l.firsts * l.seconds * l.count ≡ cells_over (axes_in t i)
@@ -41,7 +43,8 @@ module _ (t : Table) (are : AreCounts t) (i : Implication) (r : IsReadable t i) 
   number_below some = go b.best.found
     where
       go : ((u : ℕ) × (p : ℕ) × (q : ℕ) × IsOf b.cells l c u p q) ⊎ IsNone c → c.number < cells_over (axes_in t i)
-      go (inl (u, p, q, of)) = subst (λ n. c.number < n) total (subst (λ n. n < l.firsts * l.seconds * l.count) (sym of.number) (in_all u p q of.first of.second of.given))
+      go (inl (u, p, q, of)) = subst (λ n. c.number < n) total (subst (λ n. n < l.firsts * l.seconds * l.count) (sym of.number)
+          (in_all u p q of.first of.second of.given))
       go (inr none) = subst (λ n. c.number < n) total (subst (λ n. n < l.firsts * l.seconds * l.count) (sym none.number)
           (positive (subst (λ n. 0 < n) (sym h.firsts) (a_level t are i r)) (subst (λ n. 0 < n) (sym h.seconds) (b_level t are i r)) some))
 
@@ -49,11 +52,14 @@ module _ (t : Table) (are : AreCounts t) (i : Implication) (r : IsReadable t i) 
   pub products_small : (c.left ≤ 1000000000000000000000000000000) × (c.right ≤ 1000000000000000000000000000000)
   products_small = go b.best.found
     where
-      go : ((u : ℕ) × (p : ℕ) × (q : ℕ) × IsOf b.cells l c u p q) ⊎ IsNone c → (c.left ≤ 1000000000000000000000000000000) × (c.right ≤ 1000000000000000000000000000000)
+      go : ((u : ℕ) × (p : ℕ) × (q : ℕ) × IsOf b.cells l c u p q) ⊎ IsNone c → (c.left ≤ 1000000000000000000000000000000)
+          × (c.right ≤ 1000000000000000000000000000000)
       go (inl (u, p, q, of)) =
           let (s, k) = assignment t are i r l h p q u of.first of.second of.given in
-          let e = left_is t are i r l h b.cells b.sums s k.cell ∙ ap (λ w. left_at b.cells l w (s i.a) (s i.b)) k.given ∙ ap₂ (λ x y. left_at b.cells l u x y) k.first k.second ∙ sym of.left in
-          let f = right_is t are i r l h b.cells b.sums s k.cell ∙ ap (λ w. right_at b.cells l w (s i.a) (s i.b)) k.given ∙ ap₂ (λ x y. right_at b.cells l u x y) k.first k.second ∙ sym of.right in
+          let e = left_is t are i r l h b.cells b.sums s k.cell ∙ ap (λ w. left_at b.cells l w (s i.a) (s i.b)) k.given
+          ∙ ap₂ (λ x y. left_at b.cells l u x y) k.first k.second ∙ sym of.left in
+          let f = right_is t are i r l h b.cells b.sums s k.cell ∙ ap (λ w. right_at b.cells l w (s i.a) (s i.b)) k.given
+          ∙ ap₂ (λ x y. right_at b.cells l u x y) k.first k.second ∙ sym of.right in
           (subst (λ n. n ≤ 1000000000000000000000000000000) e (left_most t are i s), subst (λ n. n ≤ 1000000000000000000000000000000) f (right_most t are i s))
       go (inr none) = (zero_small c.left none.left, zero_small c.right none.right)
         where
@@ -77,12 +83,16 @@ module _ (t : Table) (are : AreCounts t) (i : Implication) (r : IsReadable t i) 
 
         go : ((u : ℕ) × (p : ℕ) × (q : ℕ) × IsOf b.cells l c u p q) ⊎ IsNone c → IsDifference
         go (inl (u, p, q, of)) =
-            let same = same_digits l.seconds l.count p q u (cell_of cell i.a) (cell_of cell i.b) (given_place t are i r l h (cell_of cell)) of.second (second_below t are i r l h (cell_of cell) has_cell.cell)
-            of.given (given_below t are i r l h (cell_of cell) has_cell.cell) (sym of.number ∙ sym place ∙ numbered t are i r l h (cell_of cell) has_cell.cell) in
+            let same = same_digits l.seconds l.count p q u (cell_of cell i.a) (cell_of cell i.b) (given_place t are i r l h (cell_of cell)) of.second
+            (second_below t are i r l h (cell_of cell) has_cell.cell)
+            of.given (given_below t are i r l h (cell_of cell) has_cell.cell)
+            (sym of.number ∙ sym place ∙ numbered t are i r l h (cell_of cell) has_cell.cell) in
             let e : left t i (cell_of cell) ≡ c.left = left_is t are i r l h b.cells b.sums (cell_of cell) has_cell.cell
-            ∙ ap (λ w. left_at b.cells l w (cell_of cell i.a) (cell_of cell i.b)) (sym same.third) ∙ ap₂ (λ x y. left_at b.cells l u x y) (sym same.first) (sym same.second) ∙ sym of.left in
+            ∙ ap (λ w. left_at b.cells l w (cell_of cell i.a) (cell_of cell i.b)) (sym same.third)
+            ∙ ap₂ (λ x y. left_at b.cells l u x y) (sym same.first) (sym same.second) ∙ sym of.left in
             let f : right t i (cell_of cell) ≡ c.right = right_is t are i r l h b.cells b.sums (cell_of cell) has_cell.cell
-            ∙ ap (λ w. right_at b.cells l w (cell_of cell i.a) (cell_of cell i.b)) (sym same.third) ∙ ap₂ (λ x y. right_at b.cells l u x y) (sym same.first) (sym same.second) ∙ sym of.right in
+            ∙ ap (λ w. right_at b.cells l w (cell_of cell i.a) (cell_of cell i.b)) (sym same.third)
+            ∙ ap₂ (λ x y. right_at b.cells l u x y) (sym same.first) (sym same.second) ∙ sym of.right in
             record {
               difference = ap₂ (λ x y. pos x -ℤ pos y) (sym e) (sym f);
               distance = ap₂ abs_diff e f ∙ sym b.best.distance;
@@ -90,7 +100,9 @@ module _ (t : Table) (are : AreCounts t) (i : Implication) (r : IsReadable t i) 
         go (inr none) =
             let zero_gap : c.distance ≡ 0 = b.best.distance ∙ ap₂ abs_diff none.left none.right in
             let most = b.best.greatest (given_place t are i r l h (cell_of cell)) (cell_of cell i.a) (cell_of cell i.b) (seen (cell_of cell) has_cell.cell) in
-            let none_apart : distance t i (cell_of cell) ≡ 0 = nothing (gap_at b.cells l (given_place t are i r l h (cell_of cell)) (cell_of cell i.a) (cell_of cell i.b)) (distance t i (cell_of cell)) c.distance here most zero_gap in
+            let none_apart : distance t i (cell_of cell) ≡ 0 = nothing
+            (gap_at b.cells l (given_place t are i r l h (cell_of cell)) (cell_of cell i.a) (cell_of cell i.b)) (distance t i (cell_of cell))
+            c.distance here most zero_gap in
             let even = equal (left t i (cell_of cell)) (right t i (cell_of cell)) none_apart in
             record {
               difference = ap₂ (λ x y. pos x -ℤ pos y) none.left none.right ∙ sym (level (left t i (cell_of cell)) (right t i (cell_of cell)) even);
@@ -114,9 +126,11 @@ module _ (t : Table) (are : AreCounts t) (i : Implication) (r : IsReadable t i) 
         cell = has_cell;
         outside = outside;
         value = value ∙ is.difference;
-        greatest = λ s cell. subst (λ n. distance t i s ≤ n) (sym is.distance) (subst (λ n. n ≤ c.distance) (sym (distance_is t are i r l h b.cells b.sums s cell))
+        greatest = λ s cell. subst (λ n. distance t i s ≤ n) (sym is.distance)
+            (subst (λ n. n ≤ c.distance) (sym (distance_is t are i r l h b.cells b.sums s cell))
             (b.best.greatest (given_place t are i r l h s) (s i.a) (s i.b) (seen s cell)));
-        first = λ s cell lt. subst (λ n. distance t i s < n) (sym is.distance) (subst (λ n. n < c.distance) (sym (distance_is t are i r l h b.cells b.sums s cell))
+        first = λ s cell lt. subst (λ n. distance t i s < n) (sym is.distance)
+            (subst (λ n. n < c.distance) (sym (distance_is t are i r l h b.cells b.sums s cell))
             (b.best.least (given_place t are i r l h s) (s i.a) (s i.b) (seen s cell)
             (subst (λ n. n < c.number) (numbered t are i r l h s cell) (subst (λ n. place_at (axes_in t i) s < n) place lt))));
       }

@@ -2,7 +2,7 @@
 use Rattle.std.proofs.Common.{ℕ, zero, suc, ◌+◌, ◌*◌, ◌≡◌, ◌<◌, ◌≤◌, List, get_or, refl, sym, ap, ap₂, subst, ◌∙◌, inl, inr, arith}
 use Rattle.std.specs.Int.{abs_diff}
 use Rattle.std.proofs.lemmas.Bool.{cases_eq}
-use Rattle.lane_sums.specs.Sums.{sum_below}
+use Rattle.count_table.specs.LaneSums.{sum_below}
 use Rattle.implied_differences.specs.declared.candidates.Candidate.{Candidate}
 use Rattle.implied_differences.specs.declared.layout.Layout.{Layout}
 use Rattle.implied_differences.specs.Candidates.{IsOutOfReach}
@@ -36,17 +36,22 @@ two f = omega arith
 module _ (cells : List ℕ) (l : Layout) (begin : ℕ) where
   pub second_of_two : (x : ℕ) → l.seconds ≡ 2 → gap_in cells l begin x 1 ≡ gap_in cells l begin x 0
   second_of_two x e =
-      let row : row_at cells l begin x ≡ value_at cells l begin x 0 + value_at cells l begin x 1 = ap (λ n. sum_below n (λ y. value_at cells l begin x y)) e ∙ two (λ y. value_at cells l begin x y) in
-      let block : block_at cells l begin ≡ column_at cells l begin 0 + column_at cells l begin 1 = ap (λ n. sum_below n (λ y. column_at cells l begin y)) e ∙ two (λ y. column_at cells l begin y) in
+      let row : row_at cells l begin x ≡ value_at cells l begin x 0 + value_at cells l begin x 1 = ap (λ n. sum_below n (λ y. value_at cells l begin x y)) e
+      ∙ two (λ y. value_at cells l begin x y) in
+      let block : block_at cells l begin ≡ column_at cells l begin 0 + column_at cells l begin 1 = ap (λ n. sum_below n (λ y. column_at cells l begin y)) e
+      ∙ two (λ y. column_at cells l begin y) in
       ap₂ (λ r b. abs_diff (value_at cells l begin x 1 * b) (r * column_at cells l begin 1)) row block
       ∙ turned (value_at cells l begin x 0) (value_at cells l begin x 1) (column_at cells l begin 0) (column_at cells l begin 1)
       ∙ sym (ap₂ (λ r b. abs_diff (value_at cells l begin x 0 * b) (r * column_at cells l begin 0)) row block)
 
   pub first_of_two : (y : ℕ) → l.firsts ≡ 2 → gap_in cells l begin 1 y ≡ gap_in cells l begin 0 y
   first_of_two y e =
-      let column : (z : ℕ) → column_at cells l begin z ≡ value_at cells l begin 0 z + value_at cells l begin 1 z = λ z. ap (λ n. sum_below n (λ x. value_at cells l begin x z)) e ∙ two (λ x. value_at cells l begin x z) in
+      let column : (z : ℕ) → column_at cells l begin z ≡ value_at cells l begin 0 z + value_at cells l begin 1 z =
+      λ z. ap (λ n. sum_below n (λ x. value_at cells l begin x z)) e ∙ two (λ x. value_at cells l begin x z) in
       let block : block_at cells l begin ≡ row_at cells l begin 0 + row_at cells l begin 1 =
-      ap (λ n. sum_below l.seconds (λ z. sum_below n (λ x. value_at cells l begin x z))) e ∙ sum-alike l.seconds (λ z. sum_below 2 (λ x. value_at cells l begin x z)) (λ z. value_at cells l begin 0 z + value_at cells l begin 1 z) (λ z. two (λ x. value_at cells l begin x z))
+      ap (λ n. sum_below l.seconds (λ z. sum_below n (λ x. value_at cells l begin x z))) e
+      ∙ sum-alike l.seconds (λ z. sum_below 2 (λ x. value_at cells l begin x z)) (λ z. value_at cells l begin 0 z + value_at cells l begin 1 z)
+      (λ z. two (λ x. value_at cells l begin x z))
       ∙ sum-both l.seconds (λ z. value_at cells l begin 0 z) (λ z. value_at cells l begin 1 z) in
       ap₂ (λ c b. abs_diff (value_at cells l begin 1 y * b) (row_at cells l begin 1 * c)) (column y) block
       ∙ crossed (value_at cells l begin 0 y) (value_at cells l begin 1 y) (row_at cells l begin 0) (row_at cells l begin 1)
@@ -67,10 +72,12 @@ module _ (cells : List ℕ) (l : Layout) (begin : ℕ) where
   column_most y ly = term-most l.seconds (λ z. column_at cells l begin z) y ly
 
   pub value_most : (x y : ℕ) → x < l.firsts → y < l.seconds → value_at cells l begin x y ≤ block_at cells l begin
-  value_most x y lx ly = through (value_at cells l begin x y) (column_at cells l begin y) (block_at cells l begin) (term-most l.firsts (λ z. value_at cells l begin z y) x lx) (column_most y ly)
+  value_most x y lx ly = through (value_at cells l begin x y) (column_at cells l begin y) (block_at cells l begin)
+      (term-most l.firsts (λ z. value_at cells l begin z y) x lx) (column_most y ly)
 
   pub row_most : (x : ℕ) → x < l.firsts → row_at cells l begin x ≤ block_at cells l begin
-  row_most x lx = sum-most l.seconds (λ y. value_at cells l begin x y) (λ y. column_at cells l begin y) (λ y ly. term-most l.firsts (λ z. value_at cells l begin z y) x lx)
+  row_most x lx = sum-most l.seconds (λ y. value_at cells l begin x y) (λ y. column_at cells l begin y)
+      (λ y ly. term-most l.firsts (λ z. value_at cells l begin z y) x lx)
 
 first : (y n : ℕ) → y ≡ 0 → n ≡ 1 → y < n
 first y n e f = omega arith
@@ -88,7 +95,8 @@ module _ (cells : List ℕ) (l : Layout) (begins : List ℕ) (width w : ℕ) (c 
   -- where the first level of b is passed, so is the second of two
   pub passed_second : (x : ℕ) → l.seconds ≡ 2 → IsPassedAt cells l begins width w x 0 c → IsPassedAt cells l begins width w x 1 c
   passed_second x e h = record {
-    each = λ j lt. out_alike (gap_in cells l (get_or begins j 0) x 0) (gap_in cells l (get_or begins j 0) x 1) (number_at l (w + j) x 0) (number_at l (w + j) x 1)
+    each = λ j lt. out_alike (gap_in cells l (get_or begins j 0) x 0) (gap_in cells l (get_or begins j 0) x 1) (number_at l (w + j) x 0)
+        (number_at l (w + j) x 1)
         (second_of_two cells l (get_or begins j 0) x e) (later x l.seconds l.count (w + j)) (h.each j lt);
   }
     where
@@ -98,7 +106,8 @@ module _ (cells : List ℕ) (l : Layout) (begins : List ℕ) (width w : ℕ) (c 
   -- the same of a
   pub passed_first : (y : ℕ) → l.firsts ≡ 2 → IsPassedAt cells l begins width w 0 y c → IsPassedAt cells l begins width w 1 y c
   passed_first y e h = record {
-    each = λ j lt. out_alike (gap_in cells l (get_or begins j 0) 0 y) (gap_in cells l (get_or begins j 0) 1 y) (number_at l (w + j) 0 y) (number_at l (w + j) 1 y)
+    each = λ j lt. out_alike (gap_in cells l (get_or begins j 0) 0 y) (gap_in cells l (get_or begins j 0) 1 y) (number_at l (w + j) 0 y)
+        (number_at l (w + j) 1 y)
         (first_of_two cells l (get_or begins j 0) y e) (later y l.seconds l.count (w + j)) (h.each j lt);
   }
     where
@@ -106,7 +115,8 @@ module _ (cells : List ℕ) (l : Layout) (begins : List ℕ) (width w : ℕ) (c 
       later y n k u = let e : (1 * n + y) * k ≡ (0 * n + y) * k + n * k = grind arith in omega (arith, e)
 
   -- the levels that are looked at are enough
-  pub seconds_passed : (x seen : ℕ) → (l.seconds ≡ 2 → seen ≡ 1) → ((l.seconds ≡ 2 → ⊥) → seen ≡ l.seconds) → ((y : ℕ) → y < seen → IsPassedAt cells l begins width w x y c)
+  pub seconds_passed : (x seen : ℕ) → (l.seconds ≡ 2 → seen ≡ 1) → ((l.seconds ≡ 2 → ⊥) → seen ≡ l.seconds)
+      → ((y : ℕ) → y < seen → IsPassedAt cells l begins width w x y c)
       → (y : ℕ) → y < l.seconds → IsPassedAt cells l begins width w x y c
   seconds_passed x seen pair other h y lt = elim (cases_eq l.seconds 2) [
     | inl e ↦ elim (cases_eq y 0) [
@@ -116,7 +126,8 @@ module _ (cells : List ℕ) (l : Layout) (begins : List ℕ) (width w : ℕ) (c 
     | inr ne ↦ h y (subst (λ n. y < n) (sym (other ne)) lt)
   ]
 
-  pub firsts_passed : (seen : ℕ) → (l.firsts ≡ 2 → seen ≡ 1) → ((l.firsts ≡ 2 → ⊥) → seen ≡ l.firsts) → ((x : ℕ) → x < seen → (y : ℕ) → y < l.seconds → IsPassedAt cells l begins width w x y c)
+  pub firsts_passed : (seen : ℕ) → (l.firsts ≡ 2 → seen ≡ 1) → ((l.firsts ≡ 2 → ⊥) → seen ≡ l.firsts)
+      → ((x : ℕ) → x < seen → (y : ℕ) → y < l.seconds → IsPassedAt cells l begins width w x y c)
       → (x y : ℕ) → x < l.firsts → y < l.seconds → IsPassedAt cells l begins width w x y c
   firsts_passed seen pair other h x y lt ly = elim (cases_eq l.firsts 2) [
     | inl e ↦ elim (cases_eq x 0) [

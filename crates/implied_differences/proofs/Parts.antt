@@ -1,5 +1,6 @@
 -- The used vertices of an implication, in three parts around the pair.
-use Rattle.std.proofs.Common.{ℕ, zero, suc, ◌≡◌, ◌<◌, ◌≤◌, Bool, true, false, ◌&&◌, ◌||◌, not, cond, ltb, List, [], ◌∷◌, ◌++◌, length, get_or, All, refl, sym, ap, ◌∙◌, inl, inr, arith}
+use Rattle.std.proofs.Common.{ℕ, zero, suc, ◌≡◌, ◌<◌, ◌≤◌, Bool, true, false, ◌&&◌, ◌||◌, not, cond, ltb, List, [], ◌∷◌, ◌++◌, length, get_or, All}
+use Rattle.std.proofs.Common.{refl, sym, ap, ◌∙◌, inl, inr, arith}
 use Rattle.std.specs.List.{AllPairs, filter}
 use Rattle.std.proofs.lemmas.Bool.{cases_lt, cases_eq, lt-ltb, le-ltb, eq-eqb, ne_eqb}
 use Rattle.std.proofs.lemmas.List.Elements.{All-head, All-tail, filter_agree}
@@ -46,7 +47,8 @@ cut f k (v ∷ vs) up = elim (cases_lt v k) [
       ap (λ (l : List ℕ). cond (f v) (v ∷ l) l) (cut f k vs (ascending_tail v vs up))
       ∙ below (f v) (ltb v k) (lt-ltb v k lt) (filter (λ u. f u && ltb u k) vs) (filter (λ u. f u && not (ltb u k)) vs)
   | inr le ↦
-      let none = filter_none (λ u. f u && ltb u k) vs (λ i d less. ap (λ b. f (get_or vs i d) && b) (le-ltb (get_or vs i d) k (above v (get_or vs i d) le (ascending_head v vs up i d less)))
+      let none = filter_none (λ u. f u && ltb u k) vs (λ i d less. ap (λ b. f (get_or vs i d) && b)
+      (le-ltb (get_or vs i d) k (above v (get_or vs i d) le (ascending_head v vs up i d less)))
       ∙ and_false (f (get_or vs i d))) in
       ap (λ (l : List ℕ). cond (f v) (v ∷ l) l) (cut f k vs (ascending_tail v vs up))
       ∙ others (f v) (ltb v k) (le-ltb v k le) (filter (λ u. f u && ltb u k) vs) (filter (λ u. f u && not (ltb u k)) vs) none
@@ -82,7 +84,8 @@ first f v (u ∷ us) zero up lt e t =
     let there : (f u && not (ltb u (suc v))) ≡ false = ap (λ b. f u && not b) (lt-ltb u (suc v) (omega arith)) ∙ and_false (f u) in
     let rest = filter_alike (λ w. f w && not (ltb w v)) (λ w. f w && not (ltb w (suc v))) us (λ i d less.
     (let up' = ascending_head u us up i d less in
-    ap (λ b. f (get_or us i d) && not b) (le-ltb (get_or us i d) v (most (get_or us i d) e up') ∙ sym (le-ltb (get_or us i d) (suc v) (more (get_or us i d) e up'))))) in
+    ap (λ b. f (get_or us i d) && not b) (le-ltb (get_or us i d) v (most (get_or us i d) e up')
+    ∙ sym (le-ltb (get_or us i d) (suc v) (more (get_or us i d) e up'))))) in
     ap (λ b. cond b (u ∷ filter (λ w. f w && not (ltb w v)) us) (filter (λ w. f w && not (ltb w v)) us)) here
     ∙ ap (λ n. n ∷ filter (λ w. f w && not (ltb w v)) us) e ∙ ap (λ (l : List ℕ). v ∷ l) rest
     ∙ sym (ap (λ b. v ∷ cond b (u ∷ filter (λ w. f w && not (ltb w (suc v))) us) (filter (λ w. f w && not (ltb w (suc v))) us)) there)
@@ -159,7 +162,8 @@ module _ (i : Implication) (vs : List ℕ) (up : AllPairs (λ u v. u < v) vs) wh
               ∙ sym (ap (λ b. (has i.given.bits v && ltb v i.b) && not b) (le-ltb v i.a le))
           | inr more ↦
               ap (λ b. (whole_of i v && b) && not (ltb v (suc i.a))) (le-ltb v i.b more) ∙ ap (λ b. b && not (ltb v (suc i.a))) (and_false (whole_of i v))
-              ∙ sym (ap (λ b. (has i.given.bits v && b) && not (ltb v i.a)) (le-ltb v i.b more) ∙ ap (λ b. b && not (ltb v i.a)) (and_false (has i.given.bits v)))
+              ∙ sym (ap (λ b. (has i.given.bits v && b) && not (ltb v i.a)) (le-ltb v i.b more)
+              ∙ ap (λ b. b && not (ltb v i.a)) (and_false (has i.given.bits v)))
         ]
       ]
     ]

@@ -55,13 +55,15 @@ module _ (cells : List ℕ) (l : Layout) (w n : ℕ) (c : Candidate) where
       greatest u p q s (inl lt) = b.greatest u p q (seen_before l w u p q lt s.first s.second s.given)
       greatest u p q s (inr (j, lt, e)) = subst (λ v. gap_at cells l v p q ≤ c.distance) e (h.greatest j p q lt s.first s.second)
 
-      least : (u p q : ℕ) → IsSeen l (w + n) 0 0 u p q → (u < w) ⊎ ((j : ℕ) × (j < n) × (w + j ≡ u)) → number_at l u p q < c.number → gap_at cells l u p q < c.distance
+      least : (u p q : ℕ) → IsSeen l (w + n) 0 0 u p q → (u < w) ⊎ ((j : ℕ) × (j < n) × (w + j ≡ u)) → number_at l u p q < c.number
+          → gap_at cells l u p q < c.distance
       least u p q s (inl lt) less = b.least u p q (seen_before l w u p q lt s.first s.second s.given) less
       least u p q s (inr (j, lt, e)) less =
           subst (λ v. gap_at cells l v p q < c.distance) e (h.least j p q lt s.first s.second (subst (λ v. number_at l v p q < c.number) (sym e) less))
 
 -- nor is one, where no block's sum is large enough
-pub sums_passed : (cells : List ℕ) (l : Layout) (w n most : ℕ) (c : Candidate) → ((j : ℕ) → j < n → block_at cells l (base_of l (w + j)) ≤ most) → IsOutOfReach c (most * most / 4) w → ArePassed cells l w n c
+pub sums_passed : (cells : List ℕ) (l : Layout) (w n most : ℕ) (c : Candidate) → ((j : ℕ) → j < n → block_at cells l (base_of l (w + j)) ≤ most)
+    → IsOutOfReach c (most * most / 4) w → ArePassed cells l w n c
 sums_passed cells l w n most c sums out = record {
   greatest = λ j p q lt lp lq. through (gap_at cells l (w + j) p q) (most * most / 4) c.distance (near j p q lt lp lq) out.distance;
   least = λ j p q lt lp lq less. below_through (gap_at cells l (w + j) p q) (most * most / 4) c.distance (near j p q lt lp lq) (out.number (lower j p q less));

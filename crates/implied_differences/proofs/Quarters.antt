@@ -3,7 +3,7 @@ use Rattle.std.proofs.Common.{ℕ, zero, suc, ◌+◌, ◌*◌, ◌-◌, ◌/◌
 use Rattle.std.specs.Int.{abs_diff}
 use Rattle.std.proofs.lemmas.Bool.{cases_eq}
 use Rattle.std.proofs.lemmas.Nat.{mul-le}
-use Rattle.lane_sums.specs.Sums.{sum_below}
+use Rattle.count_table.specs.LaneSums.{sum_below}
 use Rattle.implied_differences.specs.declared.layout.Layout.{Layout}
 use Rattle.implied_differences.specs.Blocks.{value_at, row_at, column_at, block_at}
 use Rattle.implied_differences.proofs.BlockSums.{term-most, sum-most}
@@ -77,7 +77,8 @@ module _ (cells : List ℕ) (l : Layout) (begin x y : ℕ) (lx : x < l.firsts) (
   value-column : (z : ℕ) → value_at cells l begin x z ≤ column_at cells l begin z
   value-column z = term-most l.firsts (λ k. value_at cells l begin k z) x lx
 
-  pub gap_quarter : 4 * abs_diff (value_at cells l begin x y * block_at cells l begin) (row_at cells l begin x * column_at cells l begin y) ≤ block_at cells l begin * block_at cells l begin
+  pub gap_quarter : 4 * abs_diff (value_at cells l begin x y * block_at cells l begin) (row_at cells l begin x * column_at cells l begin y)
+      ≤ block_at cells l begin * block_at cells l begin
   gap_quarter = quarter (value_at cells l begin x y) (row_at cells l begin x) (column_at cells l begin y) (block_at cells l begin)
       (term-most l.seconds (λ z. value_at cells l begin x z) y ly)
       (value-column y)

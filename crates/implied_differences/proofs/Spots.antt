@@ -1,11 +1,12 @@
 -- Where the sum for a cell stands, and what the sums over levels are.
-use Rattle.std.proofs.Common.{ℕ, suc, ◌+◌, ◌*◌, ◌-◌, ◌≡◌, ◌≢◌, ◌<◌, ◌≤◌, Bool, true, false, cond, ◌||◌, List, [], ◌∷◌, ◌++◌, length, get_or, map, All, refl, sym, ap, ap₂, subst, ◌∙◌, inl, inr, arith}
+use Rattle.std.proofs.Common.{ℕ, suc, ◌+◌, ◌*◌, ◌-◌, ◌≡◌, ◌≢◌, ◌<◌, ◌≤◌, Bool, true, false, cond, ◌||◌, List, [], ◌∷◌, ◌++◌, length, get_or, map, All}
+use Rattle.std.proofs.Common.{refl, sym, ap, ap₂, subst, ◌∙◌, inl, inr, arith}
 use Rattle.std.specs.Int.{abs_diff}
 use Rattle.std.specs.List.{AllPairs, filter}
 use Rattle.std.proofs.lemmas.Bool.{ne_eqb}
 use Rattle.std.proofs.lemmas.Bool.Decides.{eqb_tells}
 use Rattle.std.proofs.lemmas.List.{length-map, map-append}
-use Rattle.lane_sums.specs.Sums.{sum_below}
+use Rattle.count_table.specs.LaneSums.{sum_below}
 use Rattle.mixed_graph.specs.Bits.{has}
 use Rattle.count_rows.specs.Records.{Field, product}
 use Rattle.count_rows.specs.Rows.{Table, counted}
@@ -13,13 +14,13 @@ use Rattle.count_table.specs.Cells.{IsCell, place_of}
 use Rattle.count_table.specs.Tables.{levels_in, AreCounts}
 use Rattle.count_table.proofs.CellLists.{place_of-lt}
 use Rattle.count_table.proofs.TableSteps.{IsCell-length}
-use Rattle.sum_tables.specs.Axes.{axes_of, place_at, cells_over}
-use Rattle.sum_tables.specs.Sums.{AreSums}
-use Rattle.sum_tables.proofs.Cells.{place_of-append, IsCell-append, IsCell-split, cell_with}
-use Rattle.sum_tables.proofs.Choosing.{size_in, axes-are}
-use Rattle.sum_tables.proofs.Counting.{put_level, put-same, put-other, counted-over, IsWith, HasLevel, sum-same}
-use Rattle.sum_tables.proofs.Lists.{map-same, product-append, product-pos}
-use Rattle.sum_tables.proofs.VertexSums.{row-levels}
+use Rattle.count_table.specs.Axes.{axes_of, place_at, cells_over}
+use Rattle.count_table.specs.Sums.{AreSums}
+use Rattle.count_table.proofs.SumCells.{place_of-append, IsCell-append, IsCell-split, cell_with}
+use Rattle.count_table.proofs.Choosing.{size_in, axes-are}
+use Rattle.count_table.proofs.Counting.{put_level, put-same, put-other, counted-over, IsWith, HasLevel, sum-same}
+use Rattle.count_table.proofs.Lists.{map-same, product-append, product-pos}
+use Rattle.count_table.proofs.VertexSums.{row-levels}
 use Rattle.implications.specs.declared.pairs.Implication.{Implication}
 use Rattle.implications.specs.Separable.{only}
 use Rattle.implied_differences.specs.declared.layout.Layout.{Layout}
@@ -106,7 +107,8 @@ module _ (f s : ℕ → ℕ) where
           cell = cell-append (front ++ a ∷ middle) (b ∷ rest) head br;
           without = place-append (front ++ middle) rest fm ∙ ap (λ k. k * many rest + place_in rest) (place-append front middle g);
           with = place-append (front ++ a ∷ middle) (b ∷ rest) head
-              ∙ ap₂ (λ k n. k * (f b * many rest) + n) (place-append front (a ∷ middle) g ∙ ap (λ k. place_in front * (f a * many middle) + k) (place-cons a middle)) (place-cons b rest);
+              ∙ ap₂ (λ k n. k * (f b * many rest) + n) (place-append front (a ∷ middle) g
+              ∙ ap (λ k. place_in front * (f a * many middle) + k) (place-cons a middle)) (place-cons b rest);
           middle_less = place_of-lt (map f middle) (map s middle) m;
           rest_less = place_of-lt (map f rest) (map s rest) r;
         }
@@ -151,10 +153,12 @@ module _ (t : Table) (are : AreCounts t) (i : Implication) (r : IsReadable t i) 
   b_at : (j : ℕ) × ((j < length t.vertices) × (get_or t.vertices j 0 ≡ i.b))
   b_at = index_of t.vertices t.levels i.b (b_level t are i r)
 
-  parts_of_given : filter (has i.given.bits) t.vertices ≡ (filter (before_pair i) t.vertices ++ filter (between_pair i) t.vertices) ++ filter (behind_pair i) t.vertices
+  parts_of_given : filter (has i.given.bits) t.vertices ≡ (filter (before_pair i) t.vertices ++ filter (between_pair i) t.vertices)
+      ++ filter (behind_pair i) t.vertices
   parts_of_given = given_parts i t.vertices are.ascending
 
-  parts_of_whole : filter (whole_of i) t.vertices ≡ (filter (before_pair i) t.vertices ++ i.a ∷ filter (between_pair i) t.vertices) ++ i.b ∷ filter (behind_pair i) t.vertices
+  parts_of_whole : filter (whole_of i) t.vertices ≡ (filter (before_pair i) t.vertices ++ i.a ∷ filter (between_pair i) t.vertices) ++ i.b
+      ∷ filter (behind_pair i) t.vertices
   parts_of_whole = whole_parts i t.vertices are.ascending r.order r.a_apart r.b_apart a_at.0 b_at.0 a_at.1.0 a_at.1.1 b_at.1.0 b_at.1.1
 
   front : ℕ
@@ -174,7 +178,8 @@ module _ (t : Table) (are : AreCounts t) (i : Implication) (r : IsReadable t i) 
     given_cell = subst (λ (vs : List ℕ). IsCellOf (size_in t) s vs) parts_of_given cell.1.1
 
     placed_parts : ArePlaced (size_in t) s (filter (before_pair i) t.vertices) (filter (between_pair i) t.vertices) (filter (behind_pair i) t.vertices) i.a i.b
-    placed_parts = placed (size_in t) s (filter (before_pair i) t.vertices) (filter (between_pair i) t.vertices) (filter (behind_pair i) t.vertices) i.a i.b cell.0 cell.1.0 given_cell
+    placed_parts = placed (size_in t) s (filter (before_pair i) t.vertices) (filter (between_pair i) t.vertices) (filter (behind_pair i) t.vertices)
+        i.a i.b cell.0 cell.1.0 given_cell
 
     whole_cell : IsCell (axes_of t (whole_of i)).sizes (map s (axes_of t (whole_of i)).vertices)
     whole_cell = subst (λ (vs : List ℕ). IsCellOf (size_in t) s vs) (sym parts_of_whole) placed_parts.cell
@@ -186,11 +191,15 @@ module _ (t : Table) (are : AreCounts t) (i : Implication) (r : IsReadable t i) 
         let m = place_in (size_in t) s (filter (between_pair i) t.vertices) in
         let q = place_in (size_in t) s (filter (behind_pair i) t.vertices) in
         let given : given_place s ≡ p * (l.between * l.second_step) + (m * l.second_step + q) =
-        ap (λ (vs : List ℕ). place_in (size_in t) s vs) parts_of_given ∙ placed_parts.without ∙ ap₂ (λ x y. (p * x + m) * y + q) (sym h.between) (sym h.second_step)
+        ap (λ (vs : List ℕ). place_in (size_in t) s vs) parts_of_given ∙ placed_parts.without
+        ∙ ap₂ (λ x y. (p * x + m) * y + q) (sym h.between) (sym h.second_step)
         ∙ two p l.between m l.second_step q in
-        let begin = base_is l p m q (given_place s) given (subst (λ n. m < n) (sym h.between) placed_parts.middle_less) (subst (λ n. q < n) (sym h.second_step) placed_parts.rest_less) in
+        let begin = base_is l p m q (given_place s) given (subst (λ n. m < n) (sym h.between) placed_parts.middle_less)
+        (subst (λ n. q < n) (sym h.second_step) placed_parts.rest_less) in
         ap (λ (vs : List ℕ). place_in (size_in t) s vs) parts_of_whole ∙ placed_parts.with
-        ∙ ap₂ (λ x y. (p * (x * many (size_in t) s (filter (between_pair i) t.vertices)) + (s i.a * many (size_in t) s (filter (between_pair i) t.vertices) + m)) * (y * many (size_in t) s (filter (behind_pair i) t.vertices)) + (s i.b * many (size_in t) s (filter (behind_pair i) t.vertices) + q))
+        ∙ ap₂ (λ x y. (p * (x * many (size_in t) s (filter (between_pair i) t.vertices))
+        + (s i.a * many (size_in t) s (filter (between_pair i) t.vertices) + m)) * (y * many (size_in t) s (filter (behind_pair i) t.vertices))
+        + (s i.b * many (size_in t) s (filter (behind_pair i) t.vertices) + q))
         (sym h.firsts) (sym h.seconds)
         ∙ ap₂ (λ x y. (p * (l.firsts * x) + (s i.a * x + m)) * (l.seconds * y) + (s i.b * y + q)) (sym h.between) (sym h.second_step)
         ∙ turn p l.firsts l.between (s i.a) m l.seconds l.second_step (s i.b) q
@@ -200,7 +209,8 @@ module _ (t : Table) (are : AreCounts t) (i : Implication) (r : IsReadable t i) 
         two : (p n m y q : ℕ) → (p * n + m) * y + q ≡ p * (n * y) + (m * y + q)
         two p n m y q = grind arith
 
-        turn : (p a n x m b y z q : ℕ) → (p * (a * n) + (x * n + m)) * (b * y) + (z * y + q) ≡ p * (a * (n * (b * y))) + (m * (b * y) + q) + x * (n * (b * y)) + z * y
+        turn : (p a n x m b y z q : ℕ) → (p * (a * n) + (x * n + m)) * (b * y) + (z * y + q) ≡ p * (a * (n * (b * y))) + (m * (b * y) + q) + x * (n * (b * y))
+            + z * y
         turn p a n x m b y z q = grind arith
 
     inside : place_at (axes_of t (whole_of i)) s < cells_over (axes_of t (whole_of i))
@@ -232,8 +242,10 @@ module _ (t : Table) (are : AreCounts t) (i : Implication) (r : IsReadable t i) 
   b_not_a : i.b ≢ i.a
   b_not_a = λ e. (let lt = r.order in omega (arith, lt, e))
 
-  given_kept : (s : ℕ → ℕ) (v x : ℕ) → All (λ u. u ≢ v) (filter (has i.given.bits) t.vertices) → map (put_level s v x) (filter (has i.given.bits) t.vertices) ≡ map s (filter (has i.given.bits) t.vertices)
-  given_kept s v x none = map-same (put_level s v x) s (filter (has i.given.bits) t.vertices) (λ j d lt. put-other s v x (get_or (filter (has i.given.bits) t.vertices) j d) (none j d lt))
+  given_kept : (s : ℕ → ℕ) (v x : ℕ) → All (λ u. u ≢ v) (filter (has i.given.bits) t.vertices) → map (put_level s v x) (filter (has i.given.bits) t.vertices)
+      ≡ map s (filter (has i.given.bits) t.vertices)
+  given_kept s v x none = map-same (put_level s v x) s (filter (has i.given.bits) t.vertices)
+      (λ j d lt. put-other s v x (get_or (filter (has i.given.bits) t.vertices) j d) (none j d lt))
 
   cell_from : (s : ℕ → ℕ) → s i.a < size_in t i.a → s i.b < size_in t i.b → IsCellOf (size_in t) s (filter (has i.given.bits) t.vertices) → IsCellIn s
   cell_from s la lb c = (la, (lb, c))
@@ -246,12 +258,14 @@ module _ (t : Table) (are : AreCounts t) (i : Implication) (r : IsReadable t i) 
 
   put_a : (s : ℕ → ℕ) (x : ℕ) → IsCellIn s → x < size_in t i.a → IsCellIn (put_level s i.a x)
   put_a s x c lt =
-      cell_from (put_level s i.a x) (subst (λ n. n < size_in t i.a) (sym (put-same s i.a x)) lt) (subst (λ n. n < size_in t i.b) (sym (put-other s i.a x i.b b_not_a)) c.1.0)
+      cell_from (put_level s i.a x) (subst (λ n. n < size_in t i.a) (sym (put-same s i.a x)) lt)
+      (subst (λ n. n < size_in t i.b) (sym (put-other s i.a x i.b b_not_a)) c.1.0)
       (same_given s (put_level s i.a x) (given_kept s i.a x (a_outside t are i r)) c.1.1)
 
   put_b : (s : ℕ → ℕ) (y : ℕ) → IsCellIn s → y < size_in t i.b → IsCellIn (put_level s i.b y)
   put_b s y c lt =
-      cell_from (put_level s i.b y) (subst (λ n. n < size_in t i.a) (sym (put-other s i.b y i.a a_not_b)) c.0) (subst (λ n. n < size_in t i.b) (sym (put-same s i.b y)) lt)
+      cell_from (put_level s i.b y) (subst (λ n. n < size_in t i.a) (sym (put-other s i.b y i.a a_not_b)) c.0)
+      (subst (λ n. n < size_in t i.b) (sym (put-same s i.b y)) lt)
       (same_given s (put_level s i.b y) (given_kept s i.b y (b_outside t are i r)) c.1.1)
 
   place_put_a : (s : ℕ → ℕ) (x : ℕ) → given_place (put_level s i.a x) ≡ given_place s
@@ -274,13 +288,15 @@ module _ (t : Table) (are : AreCounts t) (i : Implication) (r : IsReadable t i) 
       let wide : length xs ≡ length vs = IsCell-length (map (size_in t) vs) xs c.cell ∙ length-map vs (size_in t) in
       let levels : map (assigned vs xs) vs ≡ xs = map-assigned vs xs (axes-are t (has i.given.bits) are).ascending wide in
       let s = put_level (put_level (assigned vs xs) i.b y) i.a x in
-      let kept : map s vs ≡ xs = given_kept (put_level (assigned vs xs) i.b y) i.a x (a_outside t are i r) ∙ given_kept (assigned vs xs) i.b y (b_outside t are i r) ∙ levels in
+      let kept : map s vs ≡ xs = given_kept (put_level (assigned vs xs) i.b y) i.a x (a_outside t are i r)
+      ∙ given_kept (assigned vs xs) i.b y (b_outside t are i r) ∙ levels in
       let first : s i.a ≡ x = put-same (put_level (assigned vs xs) i.b y) i.a x in
       let second : s i.b ≡ y = put-other (put_level (assigned vs xs) i.b y) i.a x i.b b_not_a ∙ put-same (assigned vs xs) i.b y in
       let P : List ℕ → List ℕ → Type 0 = λ ns zs. IsCell ns zs in (
         s,
         record {
-          cell = cell_from s (subst (λ n. n < size_in t i.a) (sym first) (subst (λ n. x < n) h.firsts lx)) (subst (λ n. n < size_in t i.b) (sym second) (subst (λ n. y < n) h.seconds ly))
+          cell = cell_from s (subst (λ n. n < size_in t i.a) (sym first) (subst (λ n. x < n) h.firsts lx))
+              (subst (λ n. n < size_in t i.b) (sym second) (subst (λ n. y < n) h.seconds ly))
               (subst (λ (zs : List ℕ). P (map (size_in t) vs) zs) (sym kept) c.cell);
           first = first;
           second = second;
@@ -313,18 +329,21 @@ module _ (t : Table) (are : AreCounts t) (i : Implication) (r : IsReadable t i) 
     given_with_b : IsWith (second_of_pair i) (has i.given.bits) i.b
     given_with_b = record { with = λ u. or_swap (only i.b u) (has i.given.bits u); without = r.b_apart }
 
-    over_b : (of without : ℕ → Bool) → IsWith of without i.b → (s : ℕ → ℕ) → counted t.vertices t.rows without s ≡ sum_below (size_in t i.b) (λ y. counted t.vertices t.rows of (put_level s i.b y))
+    over_b : (of without : ℕ → Bool) → IsWith of without i.b → (s : ℕ → ℕ) → counted t.vertices t.rows without s
+        ≡ sum_below (size_in t i.b) (λ y. counted t.vertices t.rows of (put_level s i.b y))
     over_b of without w s = sym (counted-over t.vertices t.rows of without s i.b b_at.0 (size_in t i.b) w are.ascending b_at.1.0 b_at.1.1
         (subst (λ v. All (HasLevel (length t.vertices) b_at.0 (size_in t v)) t.rows) b_at.1.1 (row-levels t are b_at.0 b_at.1.0)))
 
-    over_a : (of without : ℕ → Bool) → IsWith of without i.a → (s : ℕ → ℕ) → counted t.vertices t.rows without s ≡ sum_below (size_in t i.a) (λ x. counted t.vertices t.rows of (put_level s i.a x))
+    over_a : (of without : ℕ → Bool) → IsWith of without i.a → (s : ℕ → ℕ) → counted t.vertices t.rows without s
+        ≡ sum_below (size_in t i.a) (λ x. counted t.vertices t.rows of (put_level s i.a x))
     over_a of without w s = sym (counted-over t.vertices t.rows of without s i.a a_at.0 (size_in t i.a) w are.ascending a_at.1.0 a_at.1.1
         (subst (λ v. All (HasLevel (length t.vertices) a_at.0 (size_in t v)) t.rows) a_at.1.1 (row-levels t are a_at.0 a_at.1.0)))
 
     first_is : (s : ℕ → ℕ) → IsCellIn s → counted t.vertices t.rows (first_of_pair i) s ≡ row_at cells l (base_of l (given_place s)) (s i.a)
     first_is s c =
         over_b (whole_of i) (first_of_pair i) with_b s
-        ∙ sum-same (size_in t i.b) (λ y. counted t.vertices t.rows (whole_of i) (put_level s i.b y)) (λ y. value_at cells l (base_of l (given_place s)) (s i.a) y)
+        ∙ sum-same (size_in t i.b) (λ y. counted t.vertices t.rows (whole_of i) (put_level s i.b y))
+        (λ y. value_at cells l (base_of l (given_place s)) (s i.a) y)
         (λ y lt. whole_is (put_level s i.b y) (put_b s y c lt)
         ∙ ap₂ (λ w x. value_at cells l (base_of l w) x (put_level s i.b y i.b)) (place_put_b s y) (put-other s i.b y i.a a_not_b)
         ∙ ap (λ z. value_at cells l (base_of l (given_place s)) (s i.a) z) (put-same s i.b y))
@@ -333,7 +352,8 @@ module _ (t : Table) (are : AreCounts t) (i : Implication) (r : IsReadable t i) 
     second_is : (s : ℕ → ℕ) → IsCellIn s → counted t.vertices t.rows (second_of_pair i) s ≡ column_at cells l (base_of l (given_place s)) (s i.b)
     second_is s c =
         over_a (whole_of i) (second_of_pair i) with_a s
-        ∙ sum-same (size_in t i.a) (λ x. counted t.vertices t.rows (whole_of i) (put_level s i.a x)) (λ x. value_at cells l (base_of l (given_place s)) x (s i.b))
+        ∙ sum-same (size_in t i.a) (λ x. counted t.vertices t.rows (whole_of i) (put_level s i.a x))
+        (λ x. value_at cells l (base_of l (given_place s)) x (s i.b))
         (λ x lt. whole_is (put_level s i.a x) (put_a s x c lt)
         ∙ ap₂ (λ w y. value_at cells l (base_of l w) (put_level s i.a x i.a) y) (place_put_a s x) (put-other s i.a x i.b b_not_a)
         ∙ ap (λ z. value_at cells l (base_of l (given_place s)) z (s i.b)) (put-same s i.a x))
@@ -342,7 +362,8 @@ module _ (t : Table) (are : AreCounts t) (i : Implication) (r : IsReadable t i) 
     given_is : (s : ℕ → ℕ) → IsCellIn s → counted t.vertices t.rows (has i.given.bits) s ≡ block_at cells l (base_of l (given_place s))
     given_is s c =
         over_b (second_of_pair i) (has i.given.bits) given_with_b s
-        ∙ sum-same (size_in t i.b) (λ y. counted t.vertices t.rows (second_of_pair i) (put_level s i.b y)) (λ y. column_at cells l (base_of l (given_place s)) y)
+        ∙ sum-same (size_in t i.b) (λ y. counted t.vertices t.rows (second_of_pair i) (put_level s i.b y))
+        (λ y. column_at cells l (base_of l (given_place s)) y)
         (λ y lt. second_is (put_level s i.b y) (put_b s y c lt)
         ∙ ap₂ (λ w z. column_at cells l (base_of l w) z) (place_put_b s y) (put-same s i.b y))
         ∙ ap (λ n. sum_below n (λ y. column_at cells l (base_of l (given_place s)) y)) (sym h.seconds)
@@ -362,7 +383,8 @@ module _ (t : Table) (are : AreCounts t) (i : Implication) (r : IsReadable t i) 
     within x y w lx ly lw =
         let (s, c) = assignment x y w lx ly lw in
         let here : place_at (axes_of t (whole_of i)) s ≡ base_of l w + x * l.first_step + y * l.second_step =
-        spot s c.cell ∙ ap₂ (λ u v. base_of l u + v * l.first_step + s i.b * l.second_step) c.given c.first ∙ ap (λ v. base_of l w + x * l.first_step + v * l.second_step) c.second in
+        spot s c.cell ∙ ap₂ (λ u v. base_of l u + v * l.first_step + s i.b * l.second_step) c.given c.first
+        ∙ ap (λ v. base_of l w + x * l.first_step + v * l.second_step) c.second in
         let less = inside s c.cell in
         let long = sums.long in
         omega (arith, here, less, long)
@@ -370,7 +392,8 @@ module _ (t : Table) (are : AreCounts t) (i : Implication) (r : IsReadable t i) 
     small_sum : (w : ℕ) → w < l.count → block_at cells l (base_of l w) ≤ 1000000000000000
     small_sum w lw =
         let (s, c) = assignment 0 0 w stepped.firsts stepped.seconds lw in
-        subst (λ u. block_at cells l (base_of l u) ≤ 1000000000000000) c.given (subst (λ n. n ≤ 1000000000000000) (given_is s c.cell) (counted_most t are (has i.given.bits) s))
+        subst (λ u. block_at cells l (base_of l u) ≤ 1000000000000000) c.given
+        (subst (λ n. n ≤ 1000000000000000) (given_is s c.cell) (counted_most t are (has i.given.bits) s))
 
     some_given : 0 < l.count
     some_given = subst (λ n. 0 < n) (sym h.count) (product-pos (axes_of t (has i.given.bits)).sizes (axes-are t (has i.given.bits) are).each)
@@ -382,8 +405,10 @@ module _ (t : Table) (are : AreCounts t) (i : Implication) (r : IsReadable t i) 
     many_is =
         ap₂ (λ x y. x * y * l.count) h.firsts h.seconds
         ∙ ap (λ n. size_in t i.a * size_in t i.b * n) (h.count ∙ ap product (ap (map (size_in t)) parts_of_given)
-        ∙ many_without (size_in t) (λ v. 0) (filter (before_pair i) t.vertices) (filter (between_pair i) t.vertices) (filter (behind_pair i) t.vertices) i.a i.b)
-        ∙ turn (size_in t i.a) (size_in t i.b) (product (map (size_in t) (filter (before_pair i) t.vertices))) (product (map (size_in t) (filter (between_pair i) t.vertices))) (product (map (size_in t) (filter (behind_pair i) t.vertices)))
+        ∙ many_without (size_in t) (λ v. 0) (filter (before_pair i) t.vertices) (filter (between_pair i) t.vertices) (filter (behind_pair i) t.vertices)
+        i.a i.b)
+        ∙ turn (size_in t i.a) (size_in t i.b) (product (map (size_in t) (filter (before_pair i) t.vertices)))
+        (product (map (size_in t) (filter (between_pair i) t.vertices))) (product (map (size_in t) (filter (behind_pair i) t.vertices)))
         ∙ sym (sums.long ∙ ap product (ap (map (size_in t)) parts_of_whole)
         ∙ many_with (size_in t) (λ v. 0) (filter (before_pair i) t.vertices) (filter (between_pair i) t.vertices) (filter (behind_pair i) t.vertices) i.a i.b)
       where

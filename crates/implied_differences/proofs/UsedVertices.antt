@@ -7,8 +7,8 @@ use Rattle.mixed_graph.proofs.Masks.{has-zero, has-above, some_member}
 use Rattle.count_rows.specs.Rows.{Table}
 use Rattle.count_table.specs.Tables.{AreCounts}
 use Rattle.count_eval.specs.Programs.{is_used}
-use Rattle.sum_tables.proofs.Choosing.{size_in, sizes-pos, members_hold}
-use Rattle.sum_tables.proofs.CellLevels.{levels_hold}
+use Rattle.count_table.proofs.Choosing.{size_in, sizes-pos, members_hold}
+use Rattle.count_table.proofs.CellLevels.{levels_hold}
 use Rattle.implications.specs.declared.pairs.Implication.{Implication}
 use Rattle.implied_differences.specs.Differences.{whole_of, IsReadable}
 
@@ -21,7 +21,8 @@ all_members P s (suc k) h = All-append P (members_below s k) (cond (s k) (k ∷ 
     last true e = All-cons P k [] (h k e) (All-nil P)
     last false e = All-nil P
 
-module _ (t : Table) (are : AreCounts t) (used : ℕ) (small : used < 2 ^ 64) (members : members_below (has used) 64 ≡ t.vertices) (i : Implication) (unused whole : ℕ)
+module _ (t : Table) (are : AreCounts t) (used : ℕ) (small : used < 2 ^ 64) (members : members_below (has used) 64 ≡ t.vertices) (i : Implication)
+    (unused whole : ℕ)
     (is_whole : has whole ≡ whole_of i) (is_rest : (v : ℕ) → has unused v ≡ (has whole v && not (has used v))) where
   below : (v : ℕ) → has used v ≡ true → v < 64
   below v h = elim (cases_lt v 64) [
@@ -30,10 +31,13 @@ module _ (t : Table) (are : AreCounts t) (used : ℕ) (small : used < 2 ^ 64) (m
   ]
 
   used_in_table : (v : ℕ) → has used v ≡ true → is_used t v ≡ true
-  used_in_table v h = lt-ltb 0 (size_in t v) (members_hold (has used) (λ u. 0 < size_in t u) 64 v (subst (λ (l : List ℕ). All (λ u. 0 < size_in t u) l) (sym members) (sizes-pos t are)) (below v h) h)
+  used_in_table v h = lt-ltb 0 (size_in t v) (members_hold (has used) (λ u. 0 < size_in t u) 64 v
+      (subst (λ (l : List ℕ). All (λ u. 0 < size_in t u) l) (sym members) (sizes-pos t are)) (below v h) h)
 
   table_in_used : (v : ℕ) → is_used t v ≡ true → has used v ≡ true
-  table_in_used v h = levels_hold (λ u. has used u ≡ true) t.vertices t.levels v (subst (λ (l : List ℕ). All (λ u. has used u ≡ true) l) members (all_members (λ u. has used u ≡ true) (has used) 64 (λ u e. e))) (ltb-true 0 (size_in t v) h)
+  table_in_used v h = levels_hold (λ u. has used u ≡ true) t.vertices t.levels v
+      (subst (λ (l : List ℕ). All (λ u. has used u ≡ true) l) members (all_members (λ u. has used u ≡ true) (has used) 64 (λ u e. e)))
+      (ltb-true 0 (size_in t v) h)
 
   pub all_used : unused ≡ 0 → (v : ℕ) → whole_of i v ≡ true → is_used t v ≡ true
   all_used none v h = used_in_table v (go (has whole v) (has used v) (ap (λ f. f v) is_whole ∙ h) (sym (is_rest v) ∙ ap (λ m. has m v) none ∙ has-zero v))

@@ -31,13 +31,16 @@ times : (a b : ℕ) → 1 ≤ a → b ≤ a * b
 times zero b le = absurd (omega arith)
 times (suc a) b le = let e : suc a * b ≡ b + a * b = omega arith in omega (arith, e)
 
-worlds_positive : (values : ℕ → ℕ) (w : ℕ → ℕ → ℕ) (n : ℕ) (b : ℕ → ℕ) → ((j : ℕ) → j < n → 1 ≤ sum_below (values j) (w j)) → 1 ≤ sum_over (λ j. true) values n (λ u. product_below n (λ j. w j (u j))) b
+worlds_positive : (values : ℕ → ℕ) (w : ℕ → ℕ → ℕ) (n : ℕ) (b : ℕ → ℕ) → ((j : ℕ) → j < n → 1 ≤ sum_below (values j) (w j))
+    → 1 ≤ sum_over (λ j. true) values n (λ u. product_below n (λ j. w j (u j))) b
 worlds_positive values w zero b h = omega arith
 worlds_positive values w (suc n) b h =
     let le = least (values n) (λ x. sum_over (λ j. true) values n (λ u. product_below n (λ j. w j (u j)) * w n (u n)) (set_at b n x)) (w n)
-    (λ x lt. let e = over-mul-right (λ j. true) values n (λ u. product_below n (λ j. w j (u j))) (λ u. w n (u n)) (set_at b n x) (λ c i y il t. ap (w n) (set_at-other c i y n (omega arith))) in
+    (λ x lt. let e = over-mul-right (λ j. true) values n (λ u. product_below n (λ j. w j (u j))) (λ u. w n (u n)) (set_at b n x)
+    (λ c i y il t. ap (w n) (set_at-other c i y n (omega arith))) in
     let f : w n (set_at b n x n) ≡ w n x = ap (w n) (set_at-same b n x) in
-    let p = times (sum_over (λ j. true) values n (λ u. product_below n (λ j. w j (u j))) (set_at b n x)) (w n (set_at b n x n)) (worlds_positive values w n (set_at b n x) (λ j jl. h j (omega arith))) in
+    let p = times (sum_over (λ j. true) values n (λ u. product_below n (λ j. w j (u j))) (set_at b n x)) (w n (set_at b n x n))
+    (worlds_positive values w n (set_at b n x) (λ j jl. h j (omega arith))) in
     omega (arith, e, f, p)) in
     let some = h n (omega arith) in
     omega (arith, le, some)
@@ -49,7 +52,8 @@ total_positive g m fit = worlds_positive m.values m.weight m.causes (λ j. 0) fi
 
 -- from P Q = R S and P c = p t, .. to p q = r s
 matched : (P Q R S p q r s c t : ℕ) → 1 ≤ t → P * c ≡ p * t → Q * c ≡ q * t → R * c ≡ r * t → S * c ≡ s * t → P * Q ≡ R * S → p * q ≡ r * s
-matched P Q R S p q r s c t le hp hq hr hs h = scaled (p * q) (r * s) t le (scaled (t * (p * q)) (t * (r * s)) t le (squares p q t ∙ sym (ap (λ x. x * (q * t)) hp) ∙ sym (ap (λ x. (P * c) * x) hq)
+matched P Q R S p q r s c t le hp hq hr hs h = scaled (p * q) (r * s) t le
+    (scaled (t * (p * q)) (t * (r * s)) t le (squares p q t ∙ sym (ap (λ x. x * (q * t)) hp) ∙ sym (ap (λ x. (P * c) * x) hq)
     ∙ swapped P Q c ∙ ap (λ x. x * (c * c)) h ∙ sym (swapped R S c) ∙ ap (λ x. (R * c) * x) hs ∙ ap (λ x. x * (s * t)) hr ∙ sym (squares r s t)))
   where
     squares : (p q t : ℕ) → t * (t * (p * q)) ≡ (p * t) * (q * t)
@@ -61,7 +65,8 @@ matched P Q R S p q r s c t le hp hq hr hs h = scaled (p * q) (r * s) t le (scal
 no_difference : (x y : ℕ) → x ≡ y → pos x -ℤ pos y ≡ pos 0
 no_difference x y e = omega (arith, ints)
 
-module _ (g : MixedGraph) (ok : IsMixedGraph g) (i : Implication) (is : IsImplication g i) (t : Table) (used : (v : ℕ) → IsTrue (whole_of i v) → IsTrue (is_used t v))
+module _ (g : MixedGraph) (ok : IsMixedGraph g) (i : Implication) (is : IsImplication g i) (t : Table)
+    (used : (v : ℕ) → IsTrue (whole_of i v) → IsTrue (is_used t v))
     (m : FiniteModel) (by : IsMatchedBy g t m) (s : ℕ → ℕ) (within : IsAssignment m.vertices m.size s) where
   scaled_at : (a : ℕ → Bool) → ((v : ℕ) → a v ≡ true → is_used t v ≡ true) → event_weight m a s * total t.rows ≡ counted t.vertices t.rows a s * model_total m
   scaled_at a u = ap (λ n. n * total t.rows) (sym (weight_of-none m (λ v. false) a s (λ v. refl))) ∙ by.matched.weights a u s within
@@ -82,8 +87,10 @@ module _ (g : MixedGraph) (ok : IsMixedGraph g) (i : Implication) (is : IsImplic
   products : left t i s ≡ right t i s
   products =
       matched (event_weight m (whole_of i) s) (event_weight m (has i.given.bits) s) (event_weight m (first_of_pair i) s) (event_weight m (second_of_pair i) s)
-      (counted t.vertices t.rows (whole_of i) s) (counted t.vertices t.rows (has i.given.bits) s) (counted t.vertices t.rows (first_of_pair i) s) (counted t.vertices t.rows (second_of_pair i) s)
-      (total t.rows) (model_total m) (total_positive g m by.fits) (scaled_at (whole_of i) used) (scaled_at (has i.given.bits) given_used) (scaled_at (first_of_pair i) first_used) (scaled_at (second_of_pair i) second_used)
+      (counted t.vertices t.rows (whole_of i) s) (counted t.vertices t.rows (has i.given.bits) s) (counted t.vertices t.rows (first_of_pair i) s)
+      (counted t.vertices t.rows (second_of_pair i) s)
+      (total t.rows) (model_total m) (total_positive g m by.fits) (scaled_at (whole_of i) used) (scaled_at (has i.given.bits) given_used)
+      (scaled_at (first_of_pair i) first_used) (scaled_at (second_of_pair i) second_used)
       (independent g ok i is m by.fits s)
 
   pub vanishes : difference t i s ≡ pos 0

@@ -99,7 +99,8 @@ module _ (cells : List ℕ) (l : Layout) where
         carry : (n a m : ℕ) → n < a → m ≡ a → n < m
         carry n a m p q = omega arith
 
-        least : (u p q : ℕ) → IsSeen l w x y u p q ⊎ ((u ≡ w) × (p ≡ x) × (q ≡ y)) → number_at l u p q < e.number → IsAhead e c → gap_at cells l u p q < e.distance
+        least : (u p q : ℕ) → IsSeen l w x y u p q ⊎ ((u ≡ w) × (p ≡ x) × (q ≡ y)) → number_at l u p q < e.number → IsAhead e c
+            → gap_at cells l u p q < e.distance
         least u p q (inl s) lt (inl further) = below_through (gap_at cells l u p q) c.distance e.distance (b.greatest u p q s) further
         least u p q (inl s) lt (inr (same, lower)) =
             carry (gap_at cells l u p q) c.distance e.distance (b.least u p q s (swap (number_at l u p q) e.number c.number lt lower)) same
@@ -115,7 +116,8 @@ module _ (cells : List ℕ) (l : Layout) where
       where
         greatest : (u p q : ℕ) → IsSeen l w x y u p q ⊎ ((u ≡ w) × (p ≡ x) × (q ≡ y)) → gap_at cells l u p q ≤ c.distance
         greatest u p q (inl s) = b.greatest u p q s
-        greatest u p q (inr same) = through (gap_at cells l u p q) e.distance c.distance (at_most (gap_at cells l u p q) e.distance (gap_here u p q same)) behind.distance
+        greatest u p q (inr same) = through (gap_at cells l u p q) e.distance c.distance (at_most (gap_at cells l u p q) e.distance (gap_here u p q same))
+            behind.distance
 
         nearer : e.number < c.number → e.distance < c.distance
         nearer lt = elim (cases_eq e.distance c.distance) [
@@ -135,7 +137,8 @@ module _ (cells : List ℕ) (l : Layout) where
             below_through (gap_at cells l u p q) e.distance c.distance (at_most (gap_at cells l u p q) e.distance (gap_here u p q same))
             (nearer (below_through e.number (number_at l u p q) c.number (at_most e.number (number_at l u p q) (sym (number_here u p q same))) lt))
 
-  best_seen : (w x y w' x' y' : ℕ) (c : Candidate) → ((u p q : ℕ) → IsSeen l w' x' y' u p q → IsSeen l w x y u p q) → IsBest cells l w x y c → IsBest cells l w' x' y' c
+  best_seen : (w x y w' x' y' : ℕ) (c : Candidate) → ((u p q : ℕ) → IsSeen l w' x' y' u p q → IsSeen l w x y u p q) → IsBest cells l w x y c
+      → IsBest cells l w' x' y' c
   best_seen w x y w' x' y' c h b = record {
     found = b.found;
     distance = b.distance;

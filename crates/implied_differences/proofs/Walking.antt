@@ -1,5 +1,6 @@
 -- The cell of a number.
-use Rattle.std.proofs.Common.{ℕ, zero, suc, ◌+◌, ◌*◌, ◌/◌, ◌%◌, ◌≡◌, ◌≢◌, ◌<◌, true, ◌||◌, List, ◌∷◌, length, get_or, All, refl, sym, ap, ap₂, subst, ◌∙◌, arith}
+use Rattle.std.proofs.Common.{ℕ, zero, suc, ◌+◌, ◌*◌, ◌/◌, ◌%◌, ◌≡◌, ◌≢◌, ◌<◌, true, ◌||◌, List, ◌∷◌, length, get_or, All, refl, sym, ap, ap₂, subst}
+use Rattle.std.proofs.Common.{◌∙◌, arith}
 use Rattle.std.specs.List.{filter}
 use Rattle.std.proofs.lemmas.Bool.{or_left, or_right, eq-eqb, ltb-true}
 use Rattle.std.proofs.lemmas.List.Elements.{All-cons, All-head, All-tail}
@@ -9,9 +10,9 @@ use Rattle.count_rows.specs.Rows.{Table}
 use Rattle.count_table.specs.Cells.{place_of}
 use Rattle.count_table.specs.Tables.{AreCounts}
 use Rattle.count_eval.specs.Programs.{cell_of}
-use Rattle.sum_tables.specs.Axes.{Axes, axes_of, HasCell, place_at, cells_over}
-use Rattle.sum_tables.proofs.CellLevels.{levels_hold, outside_of}
-use Rattle.sum_tables.proofs.Choosing.{size_in}
+use Rattle.count_table.specs.Axes.{Axes, axes_of, HasCell, place_at, cells_over}
+use Rattle.count_table.proofs.CellLevels.{levels_hold, outside_of}
+use Rattle.count_table.proofs.Choosing.{size_in}
 use Rattle.implications.specs.declared.pairs.Implication.{Implication}
 use Rattle.implications.specs.Separable.{only}
 use Rattle.implied_differences.specs.Differences.{whole_of, IsReadable, axes_in}
@@ -70,8 +71,10 @@ module _ (t : Table) (are : AreCounts t) (i : Implication) (r : IsReadable t i) 
       pub outside : (v : ℕ) → v ≢ i.a → v ≢ i.b → All (λ u. u ≢ v) (filter (has i.given.bits) t.vertices) → get_or cell v 0 ≡ 0
 
     -- the same, where the axes and the number of b's levels have names
-    pub digits_from : (x : Axes) (k : ℕ) (cell : List ℕ) → x ≡ axes_of t (has i.given.bits) → k ≡ size_in t i.b → length cell ≡ 64 → get_or cell i.a 0 ≡ number / cells_over x / k → get_or cell i.b 0 ≡ number / cells_over x % k
-        → HasCell x cell → place_at x (cell_of cell) ≡ number % cells_over x → ((v : ℕ) → v ≢ i.a → v ≢ i.b → All (λ u. u ≢ v) x.vertices → get_or cell v 0 ≡ 0) → HasDigits cell
+    pub digits_from : (x : Axes) (k : ℕ) (cell : List ℕ) → x ≡ axes_of t (has i.given.bits) → k ≡ size_in t i.b → length cell ≡ 64 → get_or cell i.a 0
+        ≡ number / cells_over x / k → get_or cell i.b 0 ≡ number / cells_over x % k
+        → HasCell x cell → place_at x (cell_of cell) ≡ number % cells_over x
+        → ((v : ℕ) → v ≢ i.a → v ≢ i.b → All (λ u. u ≢ v) x.vertices → get_or cell v 0 ≡ 0) → HasDigits cell
     digits_from x k cell e f l p q r s o = record {
       long = l;
       first = p ∙ ap₂ (λ (y : Axes) m. number / cells_over y / m) e f;
@@ -99,7 +102,8 @@ module _ (t : Table) (are : AreCounts t) (i : Implication) (r : IsReadable t i) 
       }
 
       whole : (n p b x y q : ℕ) → 0 < b → 0 < p → x ≡ n / p / b → y ≡ n / p % b → q ≡ n % p → x * (b * p) + (y * p + q) ≡ n
-      whole n p b x y q bp pp ex ey eq' = ap₂ (λ u v. u * (b * p) + (v * p + q)) ex ey ∙ horner (n / p / b) b (n / p % b) p q ∙ ap (λ k. k * p + q) (back (n / p) b bp) ∙ ap (λ k. n / p * p + k) eq' ∙ back n p pp
+      whole n p b x y q bp pp ex ey eq' = ap₂ (λ u v. u * (b * p) + (v * p + q)) ex ey ∙ horner (n / p / b) b (n / p % b) p q
+          ∙ ap (λ k. k * p + q) (back (n / p) b bp) ∙ ap (λ k. n / p * p + k) eq' ∙ back n p pp
         where
           horner : (u b v p q : ℕ) → u * (b * p) + (v * p + q) ≡ (u * b + v) * p + q
           horner u b v p q = grind arith
@@ -109,11 +113,13 @@ module _ (t : Table) (are : AreCounts t) (i : Implication) (r : IsReadable t i) 
 
       pub digits_place : place_at (axes_in t i) (cell_of cell) ≡ number
       unfolding place_of
-      digits_place = whole number (cells_over (axes_of t (has i.given.bits))) (size_in t i.b) (get_or cell i.a 0) (get_or cell i.b 0) (place_at (axes_of t (has i.given.bits)) (cell_of cell))
+      digits_place = whole number (cells_over (axes_of t (has i.given.bits))) (size_in t i.b) (get_or cell i.a 0) (get_or cell i.b 0)
+          (place_at (axes_of t (has i.given.bits)) (cell_of cell))
           b_level given_cells d.first d.second d.place
 
       pub digits_outside : (v : ℕ) → All (λ u. u ≢ v) (axes_in t i).vertices → get_or cell v 0 ≡ 0
       digits_outside v none =
           let rest = All-tail (λ u. u ≢ v) i.a (i.b ∷ filter (has i.given.bits) t.vertices) none in
-          d.outside v (λ e. All-head (λ u. u ≢ v) i.a (i.b ∷ filter (has i.given.bits) t.vertices) none (sym e)) (λ e. All-head (λ u. u ≢ v) i.b (filter (has i.given.bits) t.vertices) rest (sym e))
+          d.outside v (λ e. All-head (λ u. u ≢ v) i.a (i.b ∷ filter (has i.given.bits) t.vertices) none (sym e))
+          (λ e. All-head (λ u. u ≢ v) i.b (filter (has i.given.bits) t.vertices) rest (sym e))
           (All-tail (λ u. u ≢ v) i.b (filter (has i.given.bits) t.vertices) rest)

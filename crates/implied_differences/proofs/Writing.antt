@@ -3,10 +3,11 @@ use Rattle.std.proofs.Common.{ℕ, ◌≡◌, ◌≢◌, ◌<◌, List, length, 
 use Rattle.std.proofs.lemmas.List.{get_or-set_same, get_or-set_other}
 use Rattle.std.proofs.lemmas.List.Elements.{All-weaker}
 use Rattle.count_table.specs.Cells.{IsCell, place_of}
-use Rattle.sum_tables.specs.Axes.{Axes, HasCell, place_at}
-use Rattle.sum_tables.proofs.Lists.{map-same}
+use Rattle.count_table.specs.Axes.{Axes, HasCell, place_at}
+use Rattle.count_table.proofs.Lists.{map-same}
 
-module _ (axes : Axes) (r : List ℕ) (a b x y : ℕ) (long : length r ≡ 64) (al : a < 64) (bl : b < 64) (differ : a ≢ b) (a_out : All (λ u. u ≢ a) axes.vertices) (b_out : All (λ u. u ≢ b) axes.vertices) where
+module _ (axes : Axes) (r : List ℕ) (a b x y : ℕ) (long : length r ≡ 64) (al : a < 64) (bl : b < 64) (differ : a ≢ b) (a_out : All (λ u. u ≢ a) axes.vertices)
+    (b_out : All (λ u. u ≢ b) axes.vertices) where
   abbrev pub written : List ℕ
   written = set (set r a x) b y
 
@@ -23,7 +24,8 @@ module _ (axes : Axes) (r : List ℕ) (a b x y : ℕ) (long : length r ≡ 64) (
   written_second = get_or-set_same (set r a x) b y 0 (subst (λ n. b < n) (sym (length-set r a x ∙ long)) bl)
 
   same_levels : map (λ v. get_or written v 0) axes.vertices ≡ map (λ v. get_or r v 0) axes.vertices
-  same_levels = map-same (λ v. get_or written v 0) (λ v. get_or r v 0) axes.vertices (λ k d lt. written_other (get_or axes.vertices k d) (a_out k d lt) (b_out k d lt))
+  same_levels = map-same (λ v. get_or written v 0) (λ v. get_or r v 0) axes.vertices
+      (λ k d lt. written_other (get_or axes.vertices k d) (a_out k d lt) (b_out k d lt))
 
   pub written_cell : HasCell axes r → HasCell axes written
   written_cell h = record {

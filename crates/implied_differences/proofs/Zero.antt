@@ -8,8 +8,8 @@ use Rattle.count_rows.specs.Rows.{Table}
 use Rattle.count_table.specs.Cells.{IsCell}
 use Rattle.count_table.specs.Tables.{AreCounts}
 use Rattle.count_eval.specs.Programs.{cell_of}
-use Rattle.sum_tables.proofs.CellLevels.{levels_hold, outside_of}
-use Rattle.sum_tables.proofs.Choosing.{size_in}
+use Rattle.count_table.proofs.CellLevels.{levels_hold, outside_of}
+use Rattle.count_table.proofs.Choosing.{size_in}
 use Rattle.implications.specs.declared.pairs.Implication.{Implication}
 use Rattle.implications.specs.Separable.{only}
 use Rattle.implied_differences.specs.declared.largest.Difference.{Difference}
@@ -37,7 +37,8 @@ module _ (t : Table) (are : AreCounts t) (i : Implication) (r : IsReadable t i) 
       (All-cons (λ u. u ≢ v) i.b (filter (has i.given.bits) t.vertices) (λ s. eqb-false v i.b q.0 (sym s)) (outside_of t (has i.given.bits) v q.1)))
 
   pub zero_where_matched : IsZeroWhereMatched t i d
-  zero_where_matched g ok is m by = largest.value ∙ matched_differences_vanish g ok i is t r.used m by (cell_of d.cell) (λ v lt. within v lt (whole_of i v) refl)
+  zero_where_matched g ok is m by = largest.value ∙ matched_differences_vanish g ok i is t r.used m by (cell_of d.cell)
+      (λ v lt. within v lt (whole_of i v) refl)
     where
       within : (v : ℕ) → v < m.vertices → (b : Bool) → whole_of i v ≡ b → get_or d.cell v 0 < m.size v
       within v lt true e = subst (λ n. get_or d.cell v 0 < n) (by.matched.sizes v lt (r.used v e)) (inside v e)

@@ -1,9 +1,9 @@
 -- Blocks of sums, and the best of their cells; words for the walk, inside this crate.
 use Rattle.std.specs.Prelude.{ℕ, ◌≡◌, ◌<◌, ◌≤◌, ◌+◌, ◌*◌, ◌^◌, ◌⊎◌, List, length, slice_index}
 use Rattle.std.specs.Int.{abs_diff}
-use Rattle.lane_sums.specs.Sums.{sum_below}
+use Rattle.count_table.specs.LaneSums.{sum_below}
 use Rattle.count_rows.specs.Rows.{Table}
-use Rattle.sum_tables.specs.Sums.{AreSums}
+use Rattle.count_table.specs.Sums.{AreSums}
 use Rattle.implications.specs.declared.pairs.Implication.{Implication}
 use Rattle.implied_differences.specs.Differences.{whole_of}
 use Rattle.implied_differences.specs.declared.candidates.Candidate.{Candidate}
@@ -86,7 +86,8 @@ number_at l w x y = (x * l.seconds + y) * l.count + w
 -- no cell at these levels is ahead, of so many blocks from number w on
 pub record IsPassedAt (cells : List ℕ) (l : Layout) (begins : List ℕ) (width w x y : ℕ) (c : Candidate) : Type 0 where
   pub each : (j : ℕ) → j < width → IsOutOfReach c
-      (abs_diff (value_at cells l (slice_index begins j) x y * block_at cells l (slice_index begins j)) (row_at cells l (slice_index begins j) x * column_at cells l (slice_index begins j) y))
+      (abs_diff (value_at cells l (slice_index begins j) x y * block_at cells l (slice_index begins j))
+      (row_at cells l (slice_index begins j) x * column_at cells l (slice_index begins j) y))
       (number_at l (w + j) x y)
 
 -- the cell (u, p, q) is one, and comes before (w, x, y)

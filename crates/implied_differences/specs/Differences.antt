@@ -7,7 +7,7 @@ use Rattle.count_rows.specs.Rows.{Table, counted}
 use Rattle.count_table.specs.Cells.{IsCell}
 use Rattle.count_table.specs.Tables.{levels_in}
 use Rattle.count_eval.specs.Programs.{is_used, cell_of}
-use Rattle.sum_tables.specs.Axes.{Axes, HasCell, cell_at, place_at}
+use Rattle.count_table.specs.Axes.{Axes, HasCell, cell_at, place_at}
 use Rattle.implications.specs.declared.pairs.Implication.{Implication}
 use Rattle.implications.specs.Separable.{only}
 use Rattle.implied_differences.specs.declared.largest.Difference.{Difference}
@@ -60,4 +60,5 @@ pub record IsLargest (t : Table) (i : Implication) (d : Difference) : Type 0 whe
   pub outside : (v : ℕ) → All (λ u. u ≢ v) (axes_in t i).vertices → slice_index d.cell v ≡ 0
   pub value : d.value ≡ difference t i (cell_of d.cell)
   pub greatest : (s : ℕ → ℕ) → IsCell (axes_in t i).sizes (cell_at (axes_in t i) s) → distance t i s ≤ distance t i (cell_of d.cell)
-  pub first : (s : ℕ → ℕ) → IsCell (axes_in t i).sizes (cell_at (axes_in t i) s) → place_at (axes_in t i) s < place_at (axes_in t i) (cell_of d.cell) → distance t i s < distance t i (cell_of d.cell)
+  pub first : (s : ℕ → ℕ) → IsCell (axes_in t i).sizes (cell_at (axes_in t i) s) → place_at (axes_in t i) s < place_at (axes_in t i) (cell_of d.cell)
+      → distance t i s < distance t i (cell_of d.cell)

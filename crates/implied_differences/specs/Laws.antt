@@ -19,7 +19,8 @@ pub record IsMatchedBy (g : MixedGraph) (t : Table) (m : FiniteModel) : Type 0 w
 
 -- in such a model each difference of each implication is 0
 abbrev pub MatchedDifferencesVanish : Type 0
-MatchedDifferencesVanish = (g : MixedGraph) → IsMixedGraph g → (i : Implication) → IsImplication g i → (t : Table) → ((v : ℕ) → IsTrue (whole_of i v) → IsTrue (is_used t v))
+MatchedDifferencesVanish = (g : MixedGraph) → IsMixedGraph g → (i : Implication) → IsImplication g i → (t : Table)
+    → ((v : ℕ) → IsTrue (whole_of i v) → IsTrue (is_used t v))
     → (m : FiniteModel) → IsMatchedBy g t m → (s : ℕ → ℕ) → IsAssignment m.vertices m.size s → difference t i s ≡ pos 0
 
 -- so the difference is 0 wherever there is such a model of a graph with the implication
@@ -28,4 +29,5 @@ IsZeroWhereMatched t i d = (g : MixedGraph) → IsMixedGraph g → IsImplication
 
 -- each difference is a number of 128 bits with a sign: from -2 ^ 127 up to 2 ^ 127 - 1
 abbrev pub DifferencesFit : Type 0
-DifferencesFit = (t : Table) → AreCounts t → (i : Implication) → (s : ℕ → ℕ) → (negsuc (2 ^ 127 - 1) ≤ℤ difference t i s) × (difference t i s ≤ℤ pos (2 ^ 127 - 1))
+DifferencesFit = (t : Table) → AreCounts t → (i : Implication) → (s : ℕ → ℕ) → (negsuc (2 ^ 127 - 1) ≤ℤ difference t i s)
+    × (difference t i s ≤ℤ pos (2 ^ 127 - 1))

@@ -3,7 +3,7 @@ use Rattle.std.specs.Prelude.{ℕ, ◌≡◌, ◌<◌, ◌+◌, ◌*◌, ◌-◌
 use Rattle.mixed_graph.specs.Bits.{has}
 use Rattle.count_rows.specs.Rows.{Table}
 use Rattle.count_table.specs.Tables.{levels_in}
-use Rattle.sum_tables.specs.Axes.{axes_of, cells_over}
+use Rattle.count_table.specs.Axes.{axes_of, cells_over}
 use Rattle.implications.specs.declared.pairs.Implication.{Implication}
 use Rattle.implied_differences.specs.declared.layout.Block.{Block}
 use Rattle.implied_differences.specs.declared.layout.Layout.{Layout}

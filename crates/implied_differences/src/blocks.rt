@@ -1,3 +1,5 @@
+//! Sums of cells in strides.
+
 ghost use Rattle.std.specs.Prelude.{ℕ, ◌≡◌, ◌<◌, ◌≤◌, ◌+◌, ◌*◌, ◌^◌, length, slice_index};
 ghost use Rattle.implied_differences.specs.Layouts.{base_of};
 ghost use Rattle.implied_differences.specs.Blocks.{strided, IsBlock, AreColumns, block_at, IsBest};

@@ -1,7 +1,9 @@
-ghost use Rattle.std.specs.Prelude.{ℕ, ◌≡◌, ◌≢◌, ◌<◌, ◌*◌, ◌/◌, ◌%◌, ◌^◌, All, length, slice_index};
-ghost use Rattle.sum_tables.specs.Axes.{HasCell, place_at, cells_over};
+//! The cell of a number.
 
-use sum_tables::Places;
+ghost use Rattle.std.specs.Prelude.{ℕ, ◌≡◌, ◌≢◌, ◌<◌, ◌*◌, ◌/◌, ◌%◌, ◌^◌, All, length, slice_index};
+ghost use Rattle.count_table.specs.Axes.{HasCell, place_at, cells_over};
+
+use count_table::sum_tables::Places;
 
 /// The cell of a number: its levels of a, of b and of the given vertices as digits, that of a slowest.
 pub fn cell_at(given: &Places, a: u8, b: u8, seconds: usize, number: usize) -> [u32; 64]

@@ -1,3 +1,5 @@
+//! The largest cross difference of an implication.
+
 ghost use Rattle.std.specs.Prelude.{◌≡◌, ◌≤◌, ◌^◌, IfOk, pos, ◌-ℤ◌};
 ghost use Rattle.implied_differences.specs.Differences.{IsReadable, IsLargest};
 ghost use Rattle.implied_differences.specs.Laws.{IsZeroWhereMatched};
@@ -10,9 +12,9 @@ use crate::layout::{Layout, layout_of};
 use crate::sets::vertices_of;
 use crate::strips::best_in_strips;
 use count_table::Counts;
+use count_table::sum_tables::{Places, SumTable};
 use implications::Implication;
 use std::alloc::{AllocError, Global};
-use sum_tables::{Places, SumTable};
 
 /// A cross difference of counts: N(a,b,W) N(W) - N(a,W) N(b,W), where N is the sum of the counts that agree with the cell.
 #[derive(Clone, Copy, Debug)]

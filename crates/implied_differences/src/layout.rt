@@ -1,15 +1,17 @@
+//! Where the sums for the cells stand.
+
 ghost use Rattle.std.specs.Prelude.{ℕ, ◌≡◌, ◌<◌, ◌≤◌, ◌+◌, ◌*◌, ◌-◌, ◌^◌, IfOk};
 ghost use Rattle.mixed_graph.specs.Bits.{has};
-ghost use Rattle.sum_tables.specs.Axes.{axes_of, cells_over};
+ghost use Rattle.count_table.specs.Axes.{axes_of, cells_over};
 ghost use Rattle.implied_differences.specs.Differences.{IsReadable};
 ghost use Rattle.implied_differences.specs.Blocks.{number_at};
 ghost use Rattle.implied_differences.specs.Layouts.{between_pair, behind_pair, IsLayoutOf, IsStepped, IsBase, gap_of, row_of, column_of};
 
 use count_table::Counts;
+use count_table::sum_tables::Places;
 use implications::Implication;
 use mixed_graph::VSet;
 use std::alloc::{AllocError, Global};
-use sum_tables::Places;
 
 /// Where the sums for the cells of an implication stand in a table whose vertices are in index order.
 ///

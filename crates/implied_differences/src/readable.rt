@@ -1,3 +1,5 @@
+//! Whether an implication can be asked about over a table.
+
 ghost use Rattle.std.specs.Prelude.{ℕ, ◌<◌, ◌^◌};
 ghost use Rattle.std.specs.Bool.{OnTrue, OnFalse};
 ghost use Rattle.implied_differences.specs.Differences.{IsReadable};

@@ -1,3 +1,5 @@
+//! The vertices of an implication.
+
 ghost use Rattle.std.specs.Prelude.{◌≡◌, ◌<◌};
 ghost use Rattle.mixed_graph.specs.Bits.{has};
 ghost use Rattle.implied_differences.specs.Differences.{whole_of};

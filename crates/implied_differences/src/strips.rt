@@ -1,3 +1,5 @@
+//! Sums of blocks of cells.
+
 ghost use Rattle.std.specs.Prelude.{ℕ, ◌≡◌, ◌<◌, ◌≤◌, ◌+◌, ◌*◌, ◌^◌, IfOk, length, slice_index};
 ghost use Rattle.implied_differences.specs.Layouts.{IsStepped, IsBase, base_of, gap_of};
 ghost use Rattle.implied_differences.specs.Blocks.{AreBegins, line_at, block_at, IsStrip, IsBest, AreBlocks};

@@ -1,3 +1,5 @@
+//! What differences have to do with models, and how large they are.
+
 ghost use Rattle.implied_differences.specs.Laws.{MatchedDifferencesVanish, DifferencesFit};
 
 /// What the differences have to do with models, and how large they are.

@@ -1,5 +1,6 @@
 -- Names on lines: what is left of the lines is the lines of the names that are left.
-use Rattle.std.proofs.Common.{◌≡◌, ◌≢◌, ℕ, ◌+◌, ◌<◌, Bool, true, false, List, [], ◌∷◌, ◌++◌, length, take, drop, get_or, All, Some, None, inl, inr, refl, ap, sym, ◌∙◌, subst, arith, append_assoc, length-append, drop-cons, eqb-true}
+use Rattle.std.proofs.Common.{◌≡◌, ◌≢◌, ℕ, ◌+◌, ◌<◌, Bool, true, false, List, [], ◌∷◌, ◌++◌, length, take, drop, get_or, All, Some, None, inl, inr}
+use Rattle.std.proofs.Common.{refl, ap, sym, ◌∙◌, subst, arith, append_assoc, length-append, drop-cons, eqb-true}
 use Rattle.std.specs.Prelude.{◌||◌, ◌==◌, not, slice_get, position, cond, Option, suc}
 use Rattle.std.specs.List.{before_first, after_first, position_or_len}
 use Rattle.std.specs.Str.{bytes_eq}
@@ -19,11 +20,13 @@ use Rattle.kept_graph.specs.Lines.{is_feed}
 -- ---- writing
 
 -- one more name is written
-pub line_more : (names : List (List ℕ)) (v : ℕ) (name text whole : List ℕ) → v < length names → slice_get names v ≡ Some name → text ++ lines_of (drop v names) ≡ whole
+pub line_more : (names : List (List ℕ)) (v : ℕ) (name text whole : List ℕ) → v < length names → slice_get names v ≡ Some name → text
+    ++ lines_of (drop v names) ≡ whole
     → ((text ++ name) ++ 10 ∷ []) ++ lines_of (drop (v + 1) names) ≡ whole
 line_more names v name text whole below is so =
     let here : get_or names v [] ≡ name = get_or_from_slice_get names v name [] is in
-    let next : drop v names ≡ name ∷ drop (v + 1) names = drop-cons names v [] below ∙ ap (λ n. n ∷ drop (suc v) names) here ∙ ap (λ k. name ∷ drop k names) (let one : suc v ≡ v + 1 = omega arith in one) in
+    let next : drop v names ≡ name ∷ drop (v + 1) names = drop-cons names v [] below ∙ ap (λ n. n ∷ drop (suc v) names) here
+    ∙ ap (λ k. name ∷ drop k names) (let one : suc v ≡ v + 1 = omega arith in one) in
     append_assoc (text ++ name) (10 ∷ []) (lines_of (drop (v + 1) names)) ∙ append_assoc text name (10 ∷ lines_of (drop (v + 1) names))
     ∙ sym (ap (λ l. text ++ lines_of l) next) ∙ so
 
@@ -72,7 +75,8 @@ module _ (all names : List (List ℕ)) (rest : List ℕ) (are : AreNames all) wh
   left_formed : (m : List ℕ) (ms : List (List ℕ)) → all ≡ names ++ m ∷ ms → IsName m
   left_formed m ms e =
       let size = length-append names (m ∷ ms) in
-      subst IsName (get_or-append_seam names m ms []) (All-get_or IsName (names ++ m ∷ ms) (length names) [] (omega (arith, size)) (subst (All IsName) e are.formed))
+      subst IsName (get_or-append_seam names m ms []) (All-get_or IsName (names ++ m ∷ ms) (length names) [] (omega (arith, size))
+      (subst (All IsName) e are.formed))
 
   left_new : (m : List ℕ) (ms : List (List ℕ)) → all ≡ names ++ m ∷ ms → is_named names m ≡ false
   left_new m ms e = list_any_none (bytes_eq m) names (All-from_get_or (λ x. bytes_eq m x ≡ false) names [] (λ i below. differs i below))
@@ -99,7 +103,8 @@ pub record IsNext (all names : List (List ℕ)) (rest : List ℕ) : Type 0 where
   pub room : length names < 64
   pub left : AreLeft all (names ++ before_first is_feed rest ∷ []) (after_first is_feed rest)
 
-next_of : (all names : List (List ℕ)) (rest : List ℕ) → AreNames all → (more : List (List ℕ)) → all ≡ names ++ more → rest ≡ lines_of more → position_or_len is_feed rest < length rest → IsNext all names rest
+next_of : (all names : List (List ℕ)) (rest : List ℕ) → AreNames all → (more : List (List ℕ)) → all ≡ names ++ more → rest ≡ lines_of more
+    → position_or_len is_feed rest < length rest → IsNext all names rest
 next_of all names rest are [] e l found = absurd (let none = ap length l in omega (arith, none, found))
 next_of all names rest are (m ∷ ms) e l found =
     let formed = left_formed all names rest are m ms e in
@@ -138,7 +143,8 @@ pub named_more : (lines : List ℕ) (names : List (List ℕ)) (rest : List ℕ) 
     → lines ≡ lines_of (names ++ before_first is_feed rest ∷ []) ++ after_first is_feed rest
 named_more lines names rest found e =
     let name = before_first is_feed rest in
-    let feed : get_or rest (position_or_len is_feed rest) 0 ≡ 10 = eqb-true (get_or rest (position_or_len is_feed rest) 0) 10 (passes_at_first is_feed rest 0 found) in
+    let feed : get_or rest (position_or_len is_feed rest) 0 ≡ 10 = eqb-true (get_or rest (position_or_len is_feed rest) 0) 10
+    (passes_at_first is_feed rest 0 found) in
     let cut : rest ≡ name ++ 10 ∷ after_first is_feed rest = split_at_first is_feed rest 0 found ∙ ap (λ b. name ++ b ∷ after_first is_feed rest) feed in
     e ∙ ap (λ r. lines_of names ++ r) (cut ∙ sym (append_assoc name (10 ∷ []) (after_first is_feed rest)))
     ∙ sym (append_assoc (lines_of names) (name ++ 10 ∷ []) (after_first is_feed rest))
@@ -169,4 +175,5 @@ one_list (m ∷ ms) (n ∷ ns) f g e =
     let other : IsName n = g 0 n (omega arith) in
     let same : m ≡ n = sym (before m (lines_of ms) first) ∙ ap (before_first is_feed) e ∙ before n (lines_of ns) other in
     let rest : lines_of ms ≡ lines_of ns = sym (after m (lines_of ms) first) ∙ ap (after_first is_feed) e ∙ after n (lines_of ns) other in
-    ap (λ name. name ∷ ms) same ∙ ap (λ names. n ∷ names) (one_list ms ns (λ k d l. f (suc k) d (omega (arith, l))) (λ k d l. g (suc k) d (omega (arith, l))) rest)
+    ap (λ name. name ∷ ms) same ∙ ap (λ names. n ∷ names) (one_list ms ns (λ k d l. f (suc k) d (omega (arith, l))) (λ k d l. g (suc k) d (omega (arith, l)))
+    rest)

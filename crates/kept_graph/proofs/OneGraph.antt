@@ -12,7 +12,7 @@ use Rattle.dag_reader.specs.Passes.{arrows_of, doubles_of}
 use Rattle.dag_reader.specs.Reads.{Tells, is_marked}
 use Rattle.replies.specs.Observed.{HoldsGraph}
 use Rattle.kept_graph.specs.declared.kept.KeptDiagram.{KeptDiagram}
-use Rattle.kept_graph.specs.Kept.{IsKept, Keeps}
+use Rattle.kept_graph.specs.Kept.{KeepsText, Keeps}
 use Rattle.kept_graph.proofs.Feeds.{one_list}
 
 module _ (k : KeptDiagram) (lines : List ℕ) (g h : ReadGraph) (a : Keeps k lines g) (b : Keeps k lines h) where
@@ -41,5 +41,5 @@ module _ (k : KeptDiagram) (lines : List ℕ) (g h : ReadGraph) (a : Keeps k lin
   same_held text holds = let r = holds.reads in record { small = holds.small; reads = (r.0, r.1, r.2, (r.3.0, r.3.1, same_told r.1 r.3.2)) }
 
 -- what is kept of a text gives a graph of it
-pub kept_holds : (text : List ℕ) (k : KeptDiagram) (lines : List ℕ) (h : ReadGraph) → IsKept text k lines → Keeps k lines h → HoldsGraph text h
+pub kept_holds : (text : List ℕ) (k : KeptDiagram) (lines : List ℕ) (h : ReadGraph) → KeepsText text k lines → Keeps k lines h → HoldsGraph text h
 kept_holds text k lines h kept b = same_held k lines kept.read h kept.keeps b text kept.holds

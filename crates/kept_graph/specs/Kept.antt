@@ -31,7 +31,7 @@ pub record Keeps (k : KeptDiagram) (lines : List ℕ) (g : ReadGraph) : Type 0 w
   pub latent : k.latent ≡ g.latent.bits
 
 -- the bytes are a graph text, at most 1,048,576 of them, and its graph is kept beside its observed graph
-pub record IsKept (bytes : List ℕ) (k : KeptDiagram) (lines : List ℕ) : Type 0 where
+pub record KeepsText (bytes : List ℕ) (k : KeptDiagram) (lines : List ℕ) : Type 0 where
   pub read : ReadGraph
   pub holds : HoldsGraph bytes read
   pub keeps : Keeps k lines read

@@ -1,3 +1,5 @@
+//! A diagram in memory of the caller.
+
 ghost use Rattle.std.specs.Prelude.{◌≡◌, ◌≤◌};
 ghost use Rattle.mixed_graph.specs.Graphs.{Agree, IsMixedGraph, graph_from};
 ghost use Rattle.dag_reader.specs.RoleSets.{AreRoleSets};

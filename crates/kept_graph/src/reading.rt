@@ -1,7 +1,9 @@
+//! A diagram read to be kept.
+
 ghost use Rattle.std.specs.Prelude.{◌≡◌, ◌↔◌, IsTrue, IfErr, IfOk};
 ghost use Rattle.mixed_graph.specs.Shown.{graph_of};
 ghost use Rattle.replies.specs.Observed.{IsObservedGraph};
-ghost use Rattle.kept_graph.specs.Kept.{graph_in, IsKept, IsNoGraphText, Keeps, lines_of};
+ghost use Rattle.kept_graph.specs.Kept.{graph_in, KeepsText, IsNoGraphText, Keeps, lines_of};
 
 use crate::kept::{KeptDiagram, KeptGraph};
 use crate::naming::lines;
@@ -35,7 +37,7 @@ impl KeptDiagram {
     ///
     /// `Refused` where the bytes are no such text: `run` tells where and why.
     pub fn read(alloc: Global, text: &[u8]) -> Result<ReadDiagram, KeepFault>
-        ensures kept { IfOk result (λ d. IsKept text.now d.diagram d.lines.items) }
+        ensures kept { IfOk result (λ d. KeepsText text.now d.diagram d.lines.items) }
         ensures refused { IfErr result (λ f. f ≡ KeepFault.Refused → IsNoGraphText text.now) }
     {
         if text.len() > MAX_BYTES {

@@ -1,5 +1,6 @@
 -- The names of the observed vertices.
-use Rattle.std.proofs.Common.{ℕ, zero, suc, ◌+◌, ◌<◌, ◌≤◌, ◌≡◌, Bool, true, false, ◌||◌, List, [], ◌∷◌, ◌++◌, length, get_or, take, Some, inl, inr, refl, sym, ap, ◌∙◌, subst, arith, add-one}
+use Rattle.std.proofs.Common.{ℕ, zero, suc, ◌+◌, ◌<◌, ◌≤◌, ◌≡◌, Bool, true, false, ◌||◌, List, [], ◌∷◌, ◌++◌, length, get_or, take, Some, inl, inr}
+use Rattle.std.proofs.Common.{refl, sym, ap, ◌∙◌, subst, arith, add-one}
 use Rattle.std.proofs.lemmas.Bool.{cases_Bool, false_from_ne_true, or_from}
 use Rattle.std.proofs.lemmas.List.{map-append, length-map}
 use Rattle.std.proofs.lemmas.List.Folds.{list_any-append}
@@ -40,7 +41,8 @@ differ names u v are less below = false_from_ne_true (bytes_eq (get_or names v [
     (λ e. are.distinct u v [] less below (sym ((bytes_eq-Decides (get_or names v []) (get_or names u [])).0 e)))
 
 -- no name of a vertex below k is that of v
-pub not_named : (s : ℕ → Bool) (k v : ℕ) (names : List (List ℕ)) → AreNames names → k ≤ v → v < length names → is_named (names_at (members_below s k) names) (get_or names v []) ≡ false
+pub not_named : (s : ℕ → Bool) (k v : ℕ) (names : List (List ℕ)) → AreNames names → k ≤ v → v < length names
+    → is_named (names_at (members_below s k) names) (get_or names v []) ≡ false
 not_named s zero v names are le below = rw (names_at-none s names) refl
 not_named s (suc k) v names are le below =
     let before = not_named s k v names are (omega arith) below in

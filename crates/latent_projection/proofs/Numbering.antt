@@ -1,5 +1,6 @@
 -- The observed vertices in ascending order, and what is numbered by their places.
-use Rattle.std.proofs.Common.{ℕ, zero, suc, ◌+◌, ◌<◌, ◌≤◌, ◌≡◌, Bool, true, false, cond, ◌&&◌, ◌||◌, ◌==◌, List, [], ◌∷◌, ◌++◌, length, length-append, get_or, inl, inr, refl, sym, ap, ◌∙◌, subst, arith, nat_lt, add-one, replicate, set}
+use Rattle.std.proofs.Common.{ℕ, zero, suc, ◌+◌, ◌<◌, ◌≤◌, ◌≡◌, Bool, true, false, cond, ◌&&◌, ◌||◌, ◌==◌, List, [], ◌∷◌, ◌++◌, length, length-append}
+use Rattle.std.proofs.Common.{get_or, inl, inr, refl, sym, ap, ◌∙◌, subst, arith, nat_lt, add-one, replicate, set}
 use Rattle.std.proofs.lemmas.Bool.{cases_eq, cases_lt, lt-ltb, le-ltb, ne_eqb, eq-eqb, ltb-true, and_from, and_left}
 use Rattle.std.proofs.lemmas.List.{append-nil, get_or_append_left}
 use Rattle.std.proofs.Math.Seq.{get_or-append_seam}
@@ -44,7 +45,8 @@ at_place s (suc n) v h e = subst (λ k. IsAtPlace s k v) (add-one n) (elim (case
 ])
 
 -- one more listed vertex
-pub renumbered_set-more : (vs : List ℕ) (v : ℕ) (s : ℕ → Bool) (k : ℕ) → renumbered_set (vs ++ v ∷ []) s k ≡ (renumbered_set vs s k || ((k == length vs) && s v))
+pub renumbered_set-more : (vs : List ℕ) (v : ℕ) (s : ℕ → Bool) (k : ℕ) → renumbered_set (vs ++ v ∷ []) s k
+    ≡ (renumbered_set vs s k || ((k == length vs) && s v))
 renumbered_set-more vs v s k =
     let size = length-append vs (v ∷ []) in
     elim (cases_eq k (length vs)) [
@@ -88,7 +90,8 @@ cut_below s t n (suc k) h is =
     omega (arith, length-members-suc t k, length-members-suc s k, o, cut_below s t n k (omega arith) is)
 
 pub length-members-cut : (s t : ℕ → Bool) (n k : ℕ) → n ≤ k → ((v : ℕ) → t v ≡ (nat_lt v n && s v)) → length (members_below t k) ≡ length (members_below s n)
-length-members-cut s t n zero h is = let e : n ≡ zero = omega arith in subst (λ m. length (members_below t zero) ≡ length (members_below s m)) (sym e) (length-members-zero t ∙ sym (length-members-zero s))
+length-members-cut s t n zero h is = let e : n ≡ zero = omega arith in
+    subst (λ m. length (members_below t zero) ≡ length (members_below s m)) (sym e) (length-members-zero t ∙ sym (length-members-zero s))
 length-members-cut s t n (suc k) h is = elim (cases_eq n (suc k)) [
   | inl e ↦ cut_below s t n (suc k) (omega arith) is ∙ ap (λ m. length (members_below s m)) (sym e)
   | inr d ↦
@@ -149,7 +152,8 @@ IsRenumbered-none s t bits none = record {
   found = λ k. none k ∙ sym (renumbered_set-none s t k);
 }
 
-pub IsRenumbered-more : (s t : ℕ → Bool) (v place bits place' bits' : ℕ) → s v ≡ true → place' ≡ place + 1 → ((k : ℕ) → has bits' k ≡ (has bits k || ((k == place) && t v)))
+pub IsRenumbered-more : (s t : ℕ → Bool) (v place bits place' bits' : ℕ) → s v ≡ true → place' ≡ place + 1
+    → ((k : ℕ) → has bits' k ≡ (has bits k || ((k == place) && t v)))
     → IsRenumbered s t v place bits → IsRenumbered s t (v + 1) place' bits'
 IsRenumbered-more s t v place bits place' bits' e p is r = record {
   place_is = rw (members-more s v e) (let q = length-append (members_below s v) (v ∷ []) in omega (arith, p, q, r.place_is));
@@ -183,7 +187,8 @@ AreNewRows-more s n old v place x m place' m' fits below e is p q r =
     let at = at_place s n v below e in
     let here : get_or (members_below s n) place 0 ≡ v = ap (λ k. get_or (members_below s n) k 0) r.place_is ∙ at.entry in
     let small : place < 64 = (let b = at.below in let l = length-members-le s n in omega (arith, b, l, r.place_is)) in
-    let inside : nat_lt place (length (members_below s n)) ≡ true = lt-ltb place (length (members_below s n)) (let b = at.below in omega (arith, b, r.place_is)) in
+    let inside : nat_lt place (length (members_below s n)) ≡ true = lt-ltb place (length (members_below s n))
+    (let b = at.below in omega (arith, b, r.place_is)) in
     record {
       place_is = rw (members-more s v e) (let l = length-append (members_below s v) (v ∷ []) in omega (arith, p, l, r.place_is));
       rows = rw (p, q) (row_more (new_row s n old) place x m small (λ b. rw (inside, here) (is b)) r.rows);
@@ -194,7 +199,8 @@ pub AreNewRows-same : (s : ℕ → Bool) (n : ℕ) (old : List ℕ) (v place : �
 AreNewRows-same s n old v place m place' m' e p q r = record { place_is = rw (members-same s v e) (p ∙ r.place_is); rows = rw (p, q) r.rows }
 
 -- at the end
-pub new_rows_whole : (s : ℕ → Bool) (n : ℕ) (old : List ℕ) (place : ℕ) (m : List ℕ) → AreNewRows s n old n place m → (a b : ℕ) → has (get_or m a 0) b ≡ new_row s n old a b
+pub new_rows_whole : (s : ℕ → Bool) (n : ℕ) (old : List ℕ) (place : ℕ) (m : List ℕ) → AreNewRows s n old n place m → (a b : ℕ) → has (get_or m a 0) b
+    ≡ new_row s n old a b
 new_rows_whole s n old place m r = rows_whole (new_row s n old) place m r.rows (λ a b h.
     and_left (nat_lt a (length (members_below s n))) (renumbered_set (members_below s n) (has (get_or old (get_or (members_below s n) a 0) 0)) b)
     (le-ltb a (length (members_below s n)) (omega (arith, h, r.place_is))))

@@ -10,10 +10,12 @@ use Rattle.latent_projection.proofs.Treks.{IsTrek, fork, edge, ProjectsByTreks, 
 module _ (g : MixedGraph) (k : ℕ) (ok : IsMixedGraph g) where
   arrow_of : (a b : ℕ) → (without g k).arrow a b ≡ true → (g.arrow a b ≡ true) ⊎ ((g.arrow a k && g.arrow k b) ≡ true)
   arrow_of a b e = or_cases (g.arrow a b) (g.arrow a k && g.arrow k b)
-      (right_true (not (b == k)) (g.arrow a b || (g.arrow a k && g.arrow k b)) (right_true (not (a == k)) (not (b == k) && (g.arrow a b || (g.arrow a k && g.arrow k b))) e))
+      (right_true (not (b == k)) (g.arrow a b || (g.arrow a k && g.arrow k b))
+      (right_true (not (a == k)) (not (b == k) && (g.arrow a b || (g.arrow a k && g.arrow k b))) e))
 
   core : (a b : ℕ) → (without g k).both a b ≡ true → (g.both a b || (not (a == b) && through g k a b)) ≡ true
-  core a b e = right_true (not (b == k)) (g.both a b || (not (a == b) && through g k a b)) (right_true (not (a == k)) (not (b == k) && (g.both a b || (not (a == b) && through g k a b))) e)
+  core a b e = right_true (not (b == k)) (g.both a b || (not (a == b) && through g k a b))
+      (right_true (not (a == k)) (not (b == k) && (g.both a b || (not (a == b) && through g k a b))) e)
 
   tail_of : (a b : ℕ) → (g.arrow a b ≡ true) ⊎ ((g.arrow a k && g.arrow k b) ≡ true) → a < g.vertices
   tail_of a b (inl e) = ok.tail_below a b e

@@ -29,7 +29,8 @@ module _ (g : MixedGraph) (k : ℕ) (l l' : ℕ → Bool) (ok : IsMixedGraph g)
   )
 
   arrow_down : (a b : ℕ) → (a ≡ k → ⊥) → (b ≡ k → ⊥) → (g.arrow a b || (g.arrow a k && g.arrow k b)) ≡ true → (without g k).arrow a b ≡ true
-  arrow_down a b x y e = and_from (not (a == k)) (not (b == k) && (g.arrow a b || (g.arrow a k && g.arrow k b))) (kept a k x) (and_from (not (b == k)) (g.arrow a b || (g.arrow a k && g.arrow k b)) (kept b k y) e)
+  arrow_down a b x y e = and_from (not (a == k)) (not (b == k) && (g.arrow a b || (g.arrow a k && g.arrow k b))) (kept a k x)
+      (and_from (not (b == k)) (g.arrow a b || (g.arrow a k && g.arrow k b)) (kept b k y) e)
 
   arrow_same : (a b : ℕ) → (a ≡ k → ⊥) → (b ≡ k → ⊥) → g.arrow a b ≡ true → (without g k).arrow a b ≡ true
   arrow_same a b x y e = arrow_down a b x y (or_left (g.arrow a b) (g.arrow a k && g.arrow k b) e)
@@ -45,10 +46,12 @@ module _ (g : MixedGraph) (k : ℕ) (l l' : ℕ → Bool) (ok : IsMixedGraph g)
   )
 
   both_down : (a b : ℕ) → (a ≡ k → ⊥) → (b ≡ k → ⊥) → (g.both a b || (not (a == b) && through g k a b)) ≡ true → (without g k).both a b ≡ true
-  both_down a b x y e = and_from (not (a == k)) (not (b == k) && (g.both a b || (not (a == b) && through g k a b))) (kept a k x) (and_from (not (b == k)) (g.both a b || (not (a == b) && through g k a b)) (kept b k y) e)
+  both_down a b x y e = and_from (not (a == k)) (not (b == k) && (g.both a b || (not (a == b) && through g k a b))) (kept a k x)
+      (and_from (not (b == k)) (g.both a b || (not (a == b) && through g k a b)) (kept b k y) e)
 
   both_through : (a b : ℕ) → (a ≡ k → ⊥) → (b ≡ k → ⊥) → (a ≡ b → ⊥) → through g k a b ≡ true → (without g k).both a b ≡ true
-  both_through a b x y d e = both_down a b x y (or_right (g.both a b) (not (a == b) && through g k a b) (and_from (not (a == b)) (through g k a b) (kept a b d) e))
+  both_through a b x y d e = both_down a b x y (or_right (g.both a b) (not (a == b) && through g k a b)
+      (and_from (not (a == b)) (through g k a b) (kept a b d) e))
 
   no_self : (a : ℕ) → g.arrow k a ≡ true → a ≡ k → ⊥
   no_self a e s = ok.acyclic k k [] (rw s at e, refl)
@@ -81,7 +84,12 @@ module _ (g : MixedGraph) (k : ℕ) (l l' : ℕ → Bool) (ok : IsMixedGraph g)
     where
       go : (xs : List ℕ) → IsDirectedPath g c xs v → AreBefore l c xs → Behind v
       go [] p b = absurd (vk (sym p ∙ s))
-      go (x ∷ xs) p b = let kx : g.arrow k x ≡ true = rw s at p.0 in record { next = x; first = kx; differs = no_self x kx; rest = reach_down_path v vk x (no_self x kx) xs p.1 b.1 }
+      go (x ∷ xs) p b = let kx : g.arrow k x ≡ true = rw s at p.0 in record {
+        next = x;
+        first = kx;
+        differs = no_self x kx;
+        rest = reach_down_path v vk x (no_self x kx) xs p.1 b.1;
+      }
 
   reach_up_path : (v c : ℕ) (xs : List ℕ) → IsDirectedPath (without g k) c xs v → AreBefore l' c xs → Reaches g l c v
   reach_up_path v c [] p b = record { path = []; leads = p; before = tt }
@@ -99,26 +107,36 @@ module _ (g : MixedGraph) (k : ℕ) (l l' : ℕ → Bool) (ok : IsMixedGraph g)
     where
       go : (r.next ≡ k) ⊎ (r.next ≡ k → ⊥) → LeadsOn (without g k) l' a b
       go (inr d) = record { next = r.next; first = arrow_same a r.next ak d r.first; rest = reach_down r.next b d bk r.rest }
-      go (inl s) = let t = behind r.next b s bk r.rest in record { next = t.next; first = arrow_through a t.next ak t.differs (rw s at r.first) t.first; rest = t.rest }
+      go (inl s) = let t = behind r.next b s bk r.rest in record {
+        next = t.next;
+        first = arrow_through a t.next ak t.differs (rw s at r.first) t.first;
+        rest = t.rest;
+      }
 
   pub led_up : (a b : ℕ) → LeadsOn (without g k) l' a b → LeadsOn g l a b
   led_up a b r = go (or_cases (g.arrow a r.next) (g.arrow a k && g.arrow k r.next) (arrow_up a r.next r.first).2)
     where
       go : (g.arrow a r.next ≡ true) ⊎ ((g.arrow a k && g.arrow k r.next) ≡ true) → LeadsOn g l a b
       go (inl e) = record { next = r.next; first = e; rest = reach_up r.next b r.rest }
-      go (inr e) = record { next = k; first = left_true (g.arrow a k) (g.arrow k r.next) e; rest = longer g l k r.next b lk (right_true (g.arrow a k) (g.arrow k r.next) e) (reach_up r.next b r.rest) }
+      go (inr e) = record {
+        next = k;
+        first = left_true (g.arrow a k) (g.arrow k r.next) e;
+        rest = longer g l k r.next b lk (right_true (g.arrow a k) (g.arrow k r.next) e) (reach_up r.next b r.rest);
+      }
 
   -- ---- treks
   -- two ways from one vertex to different ends: the vertex is latent, and the top of a fork
   same_top : (d a b : ℕ) → (a ≡ b → ⊥) → Reaches (without g k) l' d a → Reaches (without g k) l' d b → IsTrek (without g k) l' a b
   same_top d a b ne x y = fork d (latent x.path y.path x.leads y.leads x.before y.before) x y
     where
-      latent : (xs ys : List ℕ) → IsDirectedPath (without g k) d xs a → IsDirectedPath (without g k) d ys b → AreBefore l' d xs → AreBefore l' d ys → l' d ≡ true
+      latent : (xs ys : List ℕ) → IsDirectedPath (without g k) d xs a → IsDirectedPath (without g k) d ys b → AreBefore l' d xs → AreBefore l' d ys → l' d
+          ≡ true
       latent [] [] p q e f = absurd (ne (sym p ∙ q))
       latent [] (z ∷ zs) p q e f = f.0
       latent (z ∷ zs) ys p q e f = e.0
 
-  joined_top : (c d a b : ℕ) → (c ≡ k → ⊥) → (d ≡ k → ⊥) → (a ≡ b → ⊥) → through g k c d ≡ true → Reaches (without g k) l' c a → Reaches (without g k) l' d b → IsTrek (without g k) l' a b
+  joined_top : (c d a b : ℕ) → (c ≡ k → ⊥) → (d ≡ k → ⊥) → (a ≡ b → ⊥) → through g k c d ≡ true → Reaches (without g k) l' c a → Reaches (without g k) l' d b
+      → IsTrek (without g k) l' a b
   joined_top c d a b ck dk ne t x y = go (cases_eq c d)
     where
       go : (c ≡ d) ⊎ (c ≡ d → ⊥) → IsTrek (without g k) l' a b
@@ -132,12 +150,14 @@ module _ (g : MixedGraph) (k : ℕ) (l l' : ℕ → Bool) (ok : IsMixedGraph g)
       go (inr d) = fork c (down c d lc) (reach_down c a d ak x) (reach_down c b d bk y)
       go (inl s) = let t = behind c a s ak x in let t' = behind c b s bk y in
           joined_top t.next t'.next a b t.differs t'.differs ne
-          (or_left (g.arrow k t.next && g.arrow k t'.next) ((g.arrow k t.next && g.both k t'.next) || (g.both t.next k && g.arrow k t'.next)) (and_from (g.arrow k t.next) (g.arrow k t'.next) t.first t'.first))
+          (or_left (g.arrow k t.next && g.arrow k t'.next) ((g.arrow k t.next && g.both k t'.next) || (g.both t.next k && g.arrow k t'.next))
+          (and_from (g.arrow k t.next) (g.arrow k t'.next) t.first t'.first))
           t.rest t'.rest
   trek_down a b ak bk ne (edge c d e x y) = go (cases_eq c k) (cases_eq d k)
     where
       go : (c ≡ k) ⊎ (c ≡ k → ⊥) → (d ≡ k) ⊎ (d ≡ k → ⊥) → IsTrek (without g k) l' a b
-      go (inr p) (inr q) = edge c d (both_down c d p q (or_left (g.both c d) (not (c == d) && through g k c d) e)) (reach_down c a p ak x) (reach_down d b q bk y)
+      go (inr p) (inr q) = edge c d (both_down c d p q (or_left (g.both c d) (not (c == d) && through g k c d) e)) (reach_down c a p ak x)
+          (reach_down d b q bk y)
       go (inl s) (inl t) = clash (g.both k k) (rw (s, t) at e) (ok.no_loop k)
       go (inl s) (inr q) = let t = behind c a s ak x in
           joined_top t.next d a b t.differs q ne
@@ -167,7 +187,8 @@ module _ (g : MixedGraph) (k : ℕ) (l l' : ℕ → Bool) (ok : IsMixedGraph g)
 
       go : (g.both c d ≡ true) ⊎ ((not (c == d) && through g k c d) ≡ true) → IsTrek g l a b
       go (inl f) = edge c d f (reach_up c a x) (reach_up d b y)
-      go (inr f) = ways (or_cases (g.arrow k c && g.arrow k d) ((g.arrow k c && g.both k d) || (g.both c k && g.arrow k d)) (right_true (not (c == d)) (through g k c d) f))
+      go (inr f) = ways (or_cases (g.arrow k c && g.arrow k d) ((g.arrow k c && g.both k d) || (g.both c k && g.arrow k d))
+          (right_true (not (c == d)) (through g k c d) f))
 
   -- ---- k is isolated, and stays so
   head_kept : (v : ℕ) (c : ℕ) (xs : List ℕ) → (c ≡ k → ⊥) → IsDirectedPath (without g k) c xs v → v ≡ k → ⊥
@@ -193,7 +214,8 @@ module _ (g : MixedGraph) (k : ℕ) (l l' : ℕ → Bool) (ok : IsMixedGraph g)
     trek_back = λ a b x y ne t. is.trek_back a b (observed_up a x) (observed_up b y) ne (trek_down a b (observed_not a x) (observed_not b y) ne t);
     apart = is.apart;
     tail_observed = λ a b e. let r = is.led a b e in observed_down a (arrow_up a r.next r.first).0 (is.tail_observed a b e);
-    head_observed = λ a b e. let r = is.led a b e in observed_down b (head_kept b r.next r.rest.path (arrow_up a r.next r.first).1 r.rest.leads) (is.head_observed a b e);
+    head_observed = λ a b e. let r = is.led a b e in observed_down b (head_kept b r.next r.rest.path (arrow_up a r.next r.first).1 r.rest.leads)
+        (is.head_observed a b e);
     both_observed = λ a b e. let o = is.both_observed a b e in let t = tops a b (is.trek a b e) in (observed_down a t.0 o.0, observed_down b t.1 o.1);
   }
     where

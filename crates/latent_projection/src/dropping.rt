@@ -1,3 +1,5 @@
+//! The observed graph: the projection without its latent vertices.
+
 ghost use Rattle.std.specs.Prelude.{◌≡◌, ℕ, ◌<◌, false, List, ◌∷◌, [], ◌++◌, length, IfOk, OnOk};
 ghost use Rattle.mixed_graph.specs.Bits.{has};
 ghost use Rattle.mixed_graph.specs.Names.{IsName, is_named};

@@ -18,12 +18,14 @@ last_below g valid v [] below walk = below
 last_below g valid v (s ∷ r) below walk = last_below g valid s.to r (joined_below g valid v s.mark s.to walk.0) walk.1
 
 -- the code's test of a vertex that lets a walk pass
-pub passed_from_test : (g : MixedGraph) (w above : ℕ → Bool) → AreAncestors g w above → (v : ℕ) (h k : Bool) → IsTrue (lets_pass w above v h k) → IsPassed g w v h k
+pub passed_from_test : (g : MixedGraph) (w above : ℕ → Bool) → AreAncestors g w above → (v : ℕ) (h k : Bool) → IsTrue (lets_pass w above v h k)
+    → IsPassed g w v h k
 passed_from_test g w above are v true true t = (are v).0 t
 passed_from_test g w above are v true false t = not-true (w v) t
 passed_from_test g w above are v false k t = not-true (w v) t
 
-pub test_from_passed : (g : MixedGraph) (w above : ℕ → Bool) → AreAncestors g w above → (v : ℕ) (h k : Bool) → IsPassed g w v h k → IsTrue (lets_pass w above v h k)
+pub test_from_passed : (g : MixedGraph) (w above : ℕ → Bool) → AreAncestors g w above → (v : ℕ) (h k : Bool) → IsPassed g w v h k
+    → IsTrue (lets_pass w above v h k)
 test_from_passed g w above are v true true p = (are v).1 p
 test_from_passed g w above are v true false p = not_from_false (w v) p
 test_from_passed g w above are v false k p = not_from_false (w v) p
@@ -39,7 +41,8 @@ passed_inside g w h v [] p = tt
 passed_inside g w h v (s ∷ r) p = p.1
 
 -- the edge that a first step takes
-pub goes_first : (g : MixedGraph) (w : ℕ → Bool) (h : Bool) (v : ℕ) (s : Step) (r : List Step) → IsWalk g v (s ∷ r) → ArePassedFrom g w h v (s ∷ r) → GoesOn g w v h s.to (heads_second s.mark)
+pub goes_first : (g : MixedGraph) (w : ℕ → Bool) (h : Bool) (v : ℕ) (s : Step) (r : List Step) → IsWalk g v (s ∷ r) → ArePassedFrom g w h v (s ∷ r)
+    → GoesOn g w v h s.to (heads_second s.mark)
 goes_first g w h v s r walk p = record { mark = s.mark; joined = walk.0; passed = p.0; arrives = refl }
 
 -- where an open walk ends is reached, and a walk to a member of y is one to y

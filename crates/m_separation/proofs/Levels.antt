@@ -16,31 +16,38 @@ level-set_same levels j s below = ap (λ t. mask_of t) (get_or-set_same levels j
 
 module _ (g : MixedGraph) (x w : ℕ → Bool) (levels : List States) (count : ℕ) (are : AreLevels g x w levels count) where
   -- an open walk on from a state of a level ends in one of the level as many steps later
-  held_in_level : (i : ℕ) (h : Bool) (v : ℕ) (r : List Step) → i + length r ≤ count → IsTrue (has (level levels i h) v) → IsWalk g v r → ArePassedFrom g w h v r →
+  held_in_level : (i : ℕ) (h : Bool) (v : ℕ) (r : List Step) → i + length r ≤ count → IsTrue (has (level levels i h) v) → IsWalk g v r
+      → ArePassedFrom g w h v r →
       (k : Bool) × IsTrue (has (level levels (i + length r) k) (last v r))
   held_in_level i h v [] room in' walk passed = (h, subst (λ j. IsTrue (has (level levels j h) v)) (let e : i ≡ i + 0 = omega arith in e) in')
   held_in_level i h v (s ∷ r) room in' walk passed =
-      let step = (are.leads i (omega arith) (heads_second s.mark) s.to).1 (record { head = h; vertex = v; member = in'; goes = goes_first g w h v s r walk passed }) in
+      let step = (are.leads i (omega arith) (heads_second s.mark) s.to).1
+      (record { head = h; vertex = v; member = in'; goes = goes_first g w h v s r walk passed }) in
       let rest = held_in_level (i + 1) (heads_second s.mark) s.to r (omega arith) step walk.1 passed.1 in
       let e : i + 1 + length r ≡ i + suc (length r) = omega arith in
       (rest.0, subst (λ j. IsTrue (has (level levels j rest.0) (last s.to r))) e rest.1)
 
   -- where an open walk ends is in the level of its number of steps
-  pub walk_in_level : (y : ℕ → Bool) (v : ℕ) (r : List Step) → IsOpenWalk g x y w v r → length r ≤ count → (k : Bool) × IsTrue (has (level levels (length r) k) (last v r))
+  pub walk_in_level : (y : ℕ → Bool) (v : ℕ) (r : List Step) → IsOpenWalk g x y w v r → length r ≤ count → (k : Bool)
+      × IsTrue (has (level levels (length r) k) (last v r))
   walk_in_level y v r o room =
-      let p = held_in_level 0 false v r (omega arith) ((are.begins v).1 (o.begins, o.first_outside)) o.walk (passed_from_start g w v r o.first_outside o.passed) in
+      let p = held_in_level 0 false v r (omega arith) ((are.begins v).1 (o.begins, o.first_outside)) o.walk
+      (passed_from_start g w v r o.first_outside o.passed) in
       let e : 0 + length r ≡ length r = omega arith in
       (p.0, subst (λ j. IsTrue (has (level levels j p.0) (last v r))) e p.1)
 
   -- one more level
-  pub levels_more : (front : States) → count + 1 < length levels → ((k : Bool) (u : ℕ) → IsTrue (has (mask_of front k) u) ↔ IsLed g w (level levels count) u k) →
+  pub levels_more : (front : States) → count + 1 < length levels → ((k : Bool) (u : ℕ) → IsTrue (has (mask_of front k) u)
+      ↔ IsLed g w (level levels count) u k) →
       AreLevels g x w (set levels (count + 1) front) (count + 1)
   levels_more front room front_is = record {
     none = λ v. subst (λ l. has (l true) v ≡ false) (sym zeroth) (are.none v);
     begins = λ v. subst (λ l. IsTrue (has (l false) v) ↔ (IsTrue (x v) × (w v ≡ false))) (sym zeroth) (are.begins v);
     leads = λ i below k u. elim (cases_lt i count) [
-      | inl lt ↦ subst (λ l. IsTrue (has (l k) u) ↔ IsLed g w (level (set levels (count + 1) front) i) u k) (sym (level-set_other levels (count + 1) (i + 1) front (omega arith)))
-          (subst (λ l. IsTrue (has (level levels (i + 1) k) u) ↔ IsLed g w l u k) (sym (level-set_other levels (count + 1) i front (omega arith))) (are.leads i lt k u))
+      | inl lt ↦ subst (λ l. IsTrue (has (l k) u) ↔ IsLed g w (level (set levels (count + 1) front) i) u k)
+          (sym (level-set_other levels (count + 1) (i + 1) front (omega arith)))
+          (subst (λ l. IsTrue (has (level levels (i + 1) k) u) ↔ IsLed g w l u k) (sym (level-set_other levels (count + 1) i front (omega arith)))
+          (are.leads i lt k u))
       | inr ge ↦
           let e : count ≡ i = omega arith in
           subst (λ j. IsTrue (has (level (set levels (count + 1) front) (j + 1) k) u) ↔ IsLed g w (level (set levels (count + 1) front) j) u k) e

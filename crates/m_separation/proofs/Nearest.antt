@@ -1,4 +1,5 @@
-use Rattle.std.proofs.Common.{◌≡◌, ℕ, ◌+◌, ◌-◌, ◌<◌, ◌≤◌, Bool, true, false, not, ◌&&◌, ◌↔◌, List, length, length-set, get_or, set, replicate, inl, inr, sym, ap, ◌∙◌, IsTrue, subst, arith}
+use Rattle.std.proofs.Common.{◌≡◌, ℕ, ◌+◌, ◌-◌, ◌<◌, ◌≤◌, Bool, true, false, not, ◌&&◌, ◌↔◌, List, length, length-set, get_or, set, replicate, inl}
+use Rattle.std.proofs.Common.{inr, sym, ap, ◌∙◌, IsTrue, subst, arith}
 use Rattle.std.proofs.lemmas.Bool.{cases_lt, and_parts, and_from, not_from_false, not-true}
 use Rattle.std.proofs.lemmas.List.{get_or-replicate, length-replicate}
 use Rattle.mixed_graph.specs.Bits.{has}
@@ -51,7 +52,8 @@ module _ (g : MixedGraph) (valid : IsMixedGraph g) (x y w ends : ℕ → Bool) (
       let t = end_of_walk v r o in cc
 
   -- since some open path has fewer than 64 steps, there is room for one more level
-  pub room_more : (n : ℕ) → g.vertices ≡ n → n ≤ 64 → HasOpenWalk g x y w → ((h : Bool) (v : ℕ) → IsTrue (has (level levels count h) v) → ends v ≡ false) → count + 1 < 64
+  pub room_more : (n : ℕ) → g.vertices ≡ n → n ≤ 64 → HasOpenWalk g x y w → ((h : Bool) (v : ℕ) → IsTrue (has (level levels count h) v) → ends v ≡ false)
+      → count + 1 < 64
   room_more n size small o none =
       let p = open_path_from g valid x y w o.0 o.1 o.2 in
       let short = path_short g valid o.0 p.0 p.1.vertex p.1.walk p.2 in
@@ -74,7 +76,8 @@ module _ (g : MixedGraph) (valid : IsMixedGraph g) (x y w ends : ℕ → Bool) (
     | inr path ↦ path
   ]
 
-  pub open_path_of : (vertices : List ℕ) (marks : List Mark) (shown : ℕ) → shown ≡ count + 1 → IsOpenWalk g x y w (get_or vertices 0 0) (steps_from vertices marks 0 count) →
+  pub open_path_of : (vertices : List ℕ) (marks : List Mark) (shown : ℕ) → shown ≡ count + 1
+      → IsOpenWalk g x y w (get_or vertices 0 0) (steps_from vertices marks 0 count) →
       IsOpenPath g x y w vertices marks shown
   open_path_of vertices marks shown many o =
       let e : count ≡ shown - 1 = omega (arith, many) in

@@ -50,15 +50,21 @@ module _ (g : MixedGraph) (valid : IsMixedGraph g) (w above : ℕ → Bool) (are
 
   sound : (k : Bool) (u : ℕ) → IsTrue (has (led k) u) → IsLed g w from u k
   sound true u i = elim (or_cases (has children u) (has spouses u) (sym (heads_are u) ∙ i)) [
-    | inl c ↦ let s = (children_are u).0 c in led_by s.0 u Out (some_left g w above are from through_parts through false through_parts_are through_is s.0 s.1) s.2
-    | inr c ↦ let s = (spouses_are u).0 c in led_by s.0 u Both (some_left g w above are from turning_parts turning true turning_parts_are turning_is s.0 s.1) s.2
+    | inl c ↦ let s = (children_are u).0 c in led_by s.0 u Out (some_left g w above are from through_parts through false through_parts_are through_is s.0 s.1)
+        s.2
+    | inr c ↦ let s = (spouses_are u).0 c in led_by s.0 u Both (some_left g w above are from turning_parts turning true turning_parts_are turning_is s.0 s.1)
+        s.2
   ]
-  sound false u i = let s = (tails_are u).0 i in led_by s.0 u Into (some_left g w above are from turning_parts turning true turning_parts_are turning_is s.0 s.1) s.2
+  sound false u i = let s = (tails_are u).0 i in led_by s.0 u Into (some_left g w above are from turning_parts turning true turning_parts_are turning_is s.0
+      s.1) s.2
 
-  complete_at : (h : Bool) (v u : ℕ) (m : Mark) → IsTrue (has (from h) v) → IsJoined g v m u → IsPassed g w v h (heads_first m) → IsTrue (has (led (heads_second m)) u)
-  complete_at h v u Out i j p = heads_are u ∙ or_left _ _ ((children_are u).1 (v, all_left g w above are from through_parts through false through_parts_are through_is h v i p, j))
+  complete_at : (h : Bool) (v u : ℕ) (m : Mark) → IsTrue (has (from h) v) → IsJoined g v m u → IsPassed g w v h (heads_first m)
+      → IsTrue (has (led (heads_second m)) u)
+  complete_at h v u Out i j p = heads_are u ∙ or_left _ _ ((children_are u).1
+      (v, all_left g w above are from through_parts through false through_parts_are through_is h v i p, j))
   complete_at h v u Into i j p = (tails_are u).1 (v, all_left g w above are from turning_parts turning true turning_parts_are turning_is h v i p, j)
-  complete_at h v u Both i j p = heads_are u ∙ or_right _ _ ((spouses_are u).1 (v, all_left g w above are from turning_parts turning true turning_parts_are turning_is h v i p, j))
+  complete_at h v u Both i j p = heads_are u ∙ or_right _ _ ((spouses_are u).1
+      (v, all_left g w above are from turning_parts turning true turning_parts_are turning_is h v i p, j))
 
   pub next_is : (k : Bool) (u : ℕ) → IsTrue (has (led k) u) ↔ IsLed g w from u k
   next_is k u = (

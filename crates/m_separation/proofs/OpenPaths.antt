@@ -1,4 +1,5 @@
-use Rattle.std.proofs.Common.{◌≡◌, ℕ, zero, suc, ◌+◌, ◌<◌, ◌≤◌, Bool, false, ◌||◌, ◌==◌, List, [], ◌∷◌, ◌++◌, ◌⊎◌, inl, inr, length, length-append, refl, sym, ap, subst, arith}
+use Rattle.std.proofs.Common.{◌≡◌, ℕ, zero, suc, ◌+◌, ◌<◌, ◌≤◌, Bool, false, ◌||◌, ◌==◌, List, [], ◌∷◌, ◌++◌, ◌⊎◌, inl, inr, length, length-append}
+use Rattle.std.proofs.Common.{refl, sym, ap, subst, arith}
 use Rattle.std.proofs.lemmas.Bool.{cases_eq, ne_eqb}
 use Rattle.mixed_graph.specs.Bits.{members_below}
 use Rattle.mixed_graph.specs.Graphs.{MixedGraph, IsMixedGraph}
@@ -65,7 +66,8 @@ module _ (g : MixedGraph) (valid : IsMixedGraph g) where
   path_room seen v (s ∷ r) below walk path out all =
       let more = length-members-more seen (λ u. seen u || (u == v)) v g.vertices below out (λ u. refl) in
       let here : (seen s.to || (s.to == v)) ≡ false = (let p = all.0 in let q : (s.to == v) ≡ false = ne_eqb s.to v path.0.0 in grind arith) in
-      let rest = path_room (λ u. seen u || (u == v)) s.to r (joined_below g valid v s.mark s.to walk.0) walk.1 path.1 here (outside_more seen v r all.1 path.0.1) in
+      let rest = path_room (λ u. seen u || (u == v)) s.to r (joined_below g valid v s.mark s.to walk.0) walk.1 path.1 here
+      (outside_more seen v r all.1 path.0.1) in
       omega (arith, more, rest)
 
   -- a path has fewer steps than the graph has vertices
@@ -80,7 +82,13 @@ module _ (g : MixedGraph) (valid : IsMixedGraph g) where
   pub shorter : (x y w : ℕ → Bool) (v : ℕ) (steps : List Step) → IsOpenWalk g x y w v steps → Repeats v steps → Shorter x y w v steps
   shorter x y w v steps o p = (
     p.before ++ p.later,
-    (let e = ap length p.splits in omega (arith, e, length-append p.before p.later, length-append p.before ((p.first ∷ p.way) ++ p.later), length-append (p.first ∷ p.way) p.later)),
+    (let e = ap length p.splits in omega (
+      arith,
+      e,
+      length-append p.before p.later,
+      length-append p.before ((p.first ∷ p.way) ++ p.later),
+      length-append (p.first ∷ p.way) p.later,
+    )),
     IsOpenWalk-spliced g valid w x y v p.before p.first p.way p.later p.back (subst (λ l. IsOpenWalk g x y w v l) p.splits o),
   )
 

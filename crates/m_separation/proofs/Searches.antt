@@ -1,4 +1,5 @@
-use Rattle.std.proofs.Common.{◌≡◌, ℕ, ◌+◌, ◌-◌, ◌*◌, ◌^◌, ◌<◌, ◌≤◌, Bool, true, false, not, ◌&&◌, ◌||◌, ◌↔◌, List, [], ◌∷◌, inl, inr, refl, sym, ap, ◌∙◌, IsTrue, arith, subst}
+use Rattle.std.proofs.Common.{◌≡◌, ℕ, ◌+◌, ◌-◌, ◌*◌, ◌^◌, ◌<◌, ◌≤◌, Bool, true, false, not, ◌&&◌, ◌||◌, ◌↔◌, List, [], ◌∷◌, inl, inr, refl, sym, ap}
+use Rattle.std.proofs.Common.{◌∙◌, IsTrue, arith, subst}
 use Rattle.std.proofs.lemmas.Bool.{cases_Bool, cases_order, eq-eqb, eqb-true, or_cases, or_left, or_right, and_parts, and_from, not-true, not_from_false}
 use Rattle.mixed_graph.specs.Bits.{has}
 use Rattle.mixed_graph.specs.Graphs.{MixedGraph, IsMixedGraph}
@@ -23,8 +24,18 @@ pub record Whole (g : MixedGraph) (x w : ℕ → Bool) (end : ℕ) : Type 0 wher
   pub passed : ArePassedFrom g w false first steps
   pub ends : last first steps ≡ end
 
-pub whole : (g : MixedGraph) (x w : ℕ → Bool) (v : ℕ) (h : Bool) → Comes g x w v h → (r : List Step) → IsWalk g v r → ArePassedFrom g w h v r → Whole g x w (last v r)
-whole g x w _ _ (begun v below i o) r walk passed = record { first = v; steps = r; vertex = below; begins = i; outside = o; walk = walk; passed = passed; ends = refl }
+pub whole : (g : MixedGraph) (x w : ℕ → Bool) (v : ℕ) (h : Bool) → Comes g x w v h → (r : List Step) → IsWalk g v r → ArePassedFrom g w h v r
+    → Whole g x w (last v r)
+whole g x w _ _ (begun v below i o) r walk passed = record {
+  first = v;
+  steps = r;
+  vertex = below;
+  begins = i;
+  outside = o;
+  walk = walk;
+  passed = passed;
+  ends = refl;
+}
 whole g x w _ _ (gone v h u k c go) r walk passed = whole g x w v h c (record { mark = go.mark; to = u } ∷ r) (go.joined, walk)
     (go.passed, subst (λ b. ArePassedFrom g w b u r) (sym go.arrives) passed)
 

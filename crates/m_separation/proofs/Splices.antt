@@ -46,7 +46,8 @@ module _ (g : MixedGraph) (valid : IsMixedGraph g) (w : ℕ → Bool) where
       turn Both j p deeper = p
 
   -- a way that leaves v by an arrow out of it and comes back without an arrowhead turns at a collider below v
-  around : (m : Mark) (v u : ℕ) (r : List Step) → heads_first m ≡ false → IsJoined g v m u → arrives (heads_second m) r ≡ false → IsWalk g u r → ArePassedFrom g w (heads_second m) u r → IsAncestor g w v
+  around : (m : Mark) (v u : ℕ) (r : List Step) → heads_first m ≡ false → IsJoined g v m u → arrives (heads_second m) r ≡ false → IsWalk g u r
+      → ArePassedFrom g w (heads_second m) u r → IsAncestor g w v
   around Out v u r tail j without walk passed = ancestor_parent g w v u (valid.tail_below v u j) j (descends true u r refl without walk passed)
   around Into v u r tail j without walk passed = absurd (cc)
   around Both v u r tail j without walk passed = absurd (cc)

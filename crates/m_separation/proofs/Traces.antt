@@ -1,4 +1,5 @@
-use Rattle.std.proofs.Common.{◌≡◌, ℕ, zero, suc, ◌+◌, ◌<◌, Bool, false, ◌==◌, List, ◌∷◌, length, length-set, get_or, set, refl, sym, ap, ◌∙◌, IsTrue, subst, arith}
+use Rattle.std.proofs.Common.{◌≡◌, ℕ, zero, suc, ◌+◌, ◌<◌, Bool, false, ◌==◌, List, ◌∷◌, length, length-set, get_or, set, refl, sym, ap, ◌∙◌, IsTrue}
+use Rattle.std.proofs.Common.{subst, arith}
 use Rattle.std.proofs.lemmas.Bool.{eq-eqb}
 use Rattle.std.proofs.lemmas.List.{get_or-set_same, get_or-set_other}
 use Rattle.mixed_graph.specs.Graphs.{MixedGraph}
@@ -13,7 +14,8 @@ length-steps_from vertices marks i zero = refl
 length-steps_from vertices marks i (suc k) = ap suc (length-steps_from vertices marks (i + 1) k)
 
 -- entries before place j don't matter from there on
-steps_from-set : (vertices : List ℕ) (marks : List Mark) (i : ℕ) (u : ℕ) (m : Mark) (j k : ℕ) → i < j → steps_from (set vertices i u) (set marks i m) j k ≡ steps_from vertices marks j k
+steps_from-set : (vertices : List ℕ) (marks : List Mark) (i : ℕ) (u : ℕ) (m : Mark) (j k : ℕ) → i < j → steps_from (set vertices i u) (set marks i m) j k
+    ≡ steps_from vertices marks j k
 steps_from-set vertices marks i u m j zero lt = refl
 steps_from-set vertices marks i u m j (suc k) lt =
     let rest = steps_from-set vertices marks i u m (j + 1) k (omega arith) in
@@ -37,7 +39,8 @@ pub record Traced (g : MixedGraph) (w : ℕ → Bool) (end : ℕ) (vertices : Li
   pub passed : ArePassedFrom g w h v (steps_from vertices marks i k)
   pub ends : last v (steps_from vertices marks i k) ≡ end
 
-pub traced_none : (g : MixedGraph) (w : ℕ → Bool) (vertices : List ℕ) (marks : List Mark) (i v : ℕ) (h : Bool) → length vertices ≡ 64 → length marks ≡ 64 → i < 64 →
+pub traced_none : (g : MixedGraph) (w : ℕ → Bool) (vertices : List ℕ) (marks : List Mark) (i v : ℕ) (h : Bool) → length vertices ≡ 64 → length marks ≡ 64
+    → i < 64 →
     Traced g w v (set vertices i v) marks i 0 v h
 traced_none g w vertices marks i v h sized marked below = record {
   sized = simp length-set sized;
@@ -53,12 +56,16 @@ pub traced_more : (g : MixedGraph) (w : ℕ → Bool) (end : ℕ) (vertices : Li
     Traced g w end vertices marks (i + 1) k v h → Traced g w end (set vertices i u) (set marks i m) i (suc k) u j
 traced_more g w end vertices marks i k v h u j m below joined passed arrives t =
     let more : steps_from (set vertices i u) (set marks i m) i (suc k) ≡ record { mark = m; to = v } ∷ steps_from vertices marks (i + 1) k =
-    steps_from-more vertices marks i u m k (omega (arith, t.marked)) ∙ ap (λ z. record { mark = m; to = z } ∷ steps_from vertices marks (i + 1) k) t.at in record {
+    steps_from-more vertices marks i u m k (omega (arith, t.marked)) ∙ ap (λ z. record { mark = m; to = z } ∷ steps_from vertices marks (i + 1) k) t.at in
+    record {
       sized = simp length-set t.sized;
       marked = simp length-set t.marked;
       at = get_or-set_same vertices i u 0 (omega (arith, t.sized));
       walk = subst (λ l. IsWalk g u l) (sym more) (joined, t.walk);
-      passed = subst (λ l. ArePassedFrom g w j u l) (sym more) (passed, subst (λ b. ArePassedFrom g w b v (steps_from vertices marks (i + 1) k)) (sym arrives) t.passed);
+      passed = subst (λ l. ArePassedFrom g w j u l) (sym more) (
+        passed,
+        subst (λ b. ArePassedFrom g w b v (steps_from vertices marks (i + 1) k)) (sym arrives) t.passed,
+      );
       ends = subst (λ l. last u l ≡ end) (sym more) t.ends;
     }
 

@@ -1,3 +1,5 @@
+//! What open walks reach, and separation.
+
 ghost use Rattle.std.specs.Prelude.{◌≡◌, ℕ, ◌↔◌, false, IsTrue, Bool};
 ghost use Rattle.std.specs.Bool.{OnTrue, OnFalse};
 ghost use Rattle.mixed_graph.specs.Bits.{has};

@@ -6,7 +6,8 @@ use Rattle.markov_equivalence.specs.Skeletons.{is_adjacent}
 use Rattle.markov_equivalence.proofs.Shows.{no_loop, turned}
 
 -- where all pairs with a lower first vertex agree, a pair that differs ascends
-pub ascending : (g h : MixedGraph) → IsMixedGraph g → IsMixedGraph h → (a b : ℕ) → ((x y : ℕ) → x < a → is_adjacent g x y ≡ is_adjacent h x y) → is_adjacent g a b ≢ is_adjacent h a b → a < b
+pub ascending : (g h : MixedGraph) → IsMixedGraph g → IsMixedGraph h → (a b : ℕ) → ((x y : ℕ) → x < a → is_adjacent g x y ≡ is_adjacent h x y)
+    → is_adjacent g a b ≢ is_adjacent h a b → a < b
 ascending g h gv hv a b before differs = elim (cases_order a b) [
   | inl e ↦ absurd (differs (rw e (let p = no_loop g gv b in let q = no_loop h hv b in grind arith)))
   | inr (inl lt) ↦ lt

@@ -3,3 +3,7 @@ pub mod ParentsSeparate
 pub mod Places
 pub mod Shows
 pub mod Ways
+pub mod Carrying
+pub mod Independences
+pub mod Shortening
+pub mod Separations

@@ -69,7 +69,8 @@ module _ (k : MixedGraph) (place : ℕ → ℕ) (rises : Rises k place) where
       -- a pair that g joins and k doesn't lies in g; the skeletons agree and m is a collider in g alone
       pub collider_way : IsMixedGraph g → ((u v : ℕ) → is_adjacent g u v ≡ is_adjacent k u v) → (m : ℕ) →
           is_unshielded_collider g a m b ≡ true → is_unshielded_collider k a m b ≡ false → Way g (λ p. k.arrow p b) b false a
-      collider_way valid same m in_g not_in_k = out am a_outside (into true bm (record { vertex = valid.head_below a m am; path = []; end = m; leads = refl; inside = parent }) (stop refl (itself b)))
+      collider_way valid same m in_g not_in_k = out am a_outside (into true bm
+          (record { vertex = valid.head_below a m am; path = []; end = m; leads = refl; inside = parent }) (stop refl (itself b)))
         where
           am : g.arrow a m ≡ true
           am = grind (arith, in_g)

@@ -33,7 +33,8 @@ same_pairs g h gv hv same a b = elim (cases_order a b) [
   | inr (inr gt) ↦ turned g a b ∙ same b a gt ∙ turned h b a
 ]
 
-module _ (k g : MixedGraph) (valid : IsMixedGraph k) (none : HasArrowsAlone k) (a b : ℕ) (s : ℕ → Bool) (given : AreParentsOfLater k a b s) (gvalid : IsMixedGraph g) (free : is_adjacent k a b ≡ false) where
+module _ (k g : MixedGraph) (valid : IsMixedGraph k) (none : HasArrowsAlone k) (a b : ℕ) (s : ℕ → Bool) (given : AreParentsOfLater k a b s)
+    (gvalid : IsMixedGraph g) (free : is_adjacent k a b ≡ false) where
   later_of : (a b : ℕ) (after : IsAfter k a b) → place_in after.list after.count a < place_in after.list after.count b
   later_of a b after =
       let p = later_place k valid after.list after.count after.order after.i after.j after.ascends after.within in
@@ -51,22 +52,26 @@ module _ (k g : MixedGraph) (valid : IsMixedGraph k) (none : HasArrowsAlone k) (
         let place = place_in after.list after.count in
         let up = rises k valid after.list after.count after.order in
         let later = later_of a b after in
-        subst (λ p. SeparatesInOne k g a b p) (sym (fun_ext same)) (differs k place up a b later g none free (edge_below edge) (edge_way k place up a b later g none free edge))
+        subst (λ p. SeparatesInOne k g a b p) (sym (fun_ext same)) (differs k place up a b later g none free (edge_below edge)
+        (edge_way k place up a b later g none free edge))
     | inr (after, same) ↦
         let place = place_in after.list after.count in
         let up = rises k valid after.list after.count after.order in
         let later = later_of b a after in
         let free' : is_adjacent k b a ≡ false = turned k b a ∙ free in
-        subst (λ p. SeparatesInOne k g a b p) (sym (fun_ext same)) (differs_back k place up b a later g none free' (edge_below edge) (edge_way k place up b a later g none free' (turned g b a ∙ edge)))
+        subst (λ p. SeparatesInOne k g a b p) (sym (fun_ext same)) (differs_back k place up b a later g none free' (edge_below edge)
+        (edge_way k place up b a later g none free' (turned g b a ∙ edge)))
   ]
 
-  shown_collider : ((u v : ℕ) → is_adjacent g u v ≡ is_adjacent k u v) → (m : ℕ) → is_unshielded_collider g a m b ≡ true → is_unshielded_collider k a m b ≡ false → SeparatesInOne k g a b s
+  shown_collider : ((u v : ℕ) → is_adjacent g u v ≡ is_adjacent k u v) → (m : ℕ) → is_unshielded_collider g a m b ≡ true → is_unshielded_collider k a m b
+      ≡ false → SeparatesInOne k g a b s
   shown_collider pairs m in_g not_in_k = elim given [
     | inl (after, same) ↦
         let place = place_in after.list after.count in
         let up = rises k valid after.list after.count after.order in
         let later = later_of a b after in
-        subst (λ p. SeparatesInOne k g a b p) (sym (fun_ext same)) (differs k place up a b later g none free (gvalid.tail_below a m (grind (arith, in_g))) (collider_way k place up a b later g none free gvalid pairs m in_g not_in_k))
+        subst (λ p. SeparatesInOne k g a b p) (sym (fun_ext same)) (differs k place up a b later g none free (gvalid.tail_below a m (grind (arith, in_g)))
+        (collider_way k place up a b later g none free gvalid pairs m in_g not_in_k))
     | inr (after, same) ↦
         let place = place_in after.list after.count in
         let up = rises k valid after.list after.count after.order in
@@ -98,13 +103,15 @@ module _ (g h : MixedGraph) (gv : IsMixedGraph g) (hv : IsMixedGraph h) (gn : Ha
       let e = in_first (is_adjacent h a b) named in shown_edge h g hv hn a b s given gv e ((other_of (is_adjacent g a b) (is_adjacent h a b) other).1 e)
 
   -- an unshielded collider that one graph has alone: the first graph is named where the second has it
-  pub collider_shown : HaveSameSkeleton g h → (m : ℕ) (side : Side) → is_unshielded_collider g a m b ≢ is_unshielded_collider h a m b → side ≡ side_without (is_unshielded_collider h a m b)
+  pub collider_shown : HaveSameSkeleton g h → (m : ℕ) (side : Side) → is_unshielded_collider g a m b ≢ is_unshielded_collider h a m b → side
+      ≡ side_without (is_unshielded_collider h a m b)
       → AreParentsOfLater (one_of g h side) a b s → SeparatesInOne (one_of g h side) (one_of g h (other_side side)) a b s
   collider_shown same m First other named given =
       let pairs = same_pairs g h gv hv same in
       let e = in_second (is_unshielded_collider h a m b) named in
       let apart : is_adjacent g a b ≡ false = pairs a b ∙ grind (arith, e) in
-      shown_collider g h gv gn a b s given hv apart (λ u v. sym (pairs u v)) m e ((other_of (is_unshielded_collider g a m b) (is_unshielded_collider h a m b) other).0 e)
+      shown_collider g h gv gn a b s given hv apart (λ u v. sym (pairs u v)) m e
+      ((other_of (is_unshielded_collider g a m b) (is_unshielded_collider h a m b) other).0 e)
   collider_shown same m Second other named given =
       let pairs = same_pairs g h gv hv same in
       let n = in_first (is_unshielded_collider h a m b) named in

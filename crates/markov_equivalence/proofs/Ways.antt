@@ -37,7 +37,8 @@ module _ (g : MixedGraph) (w : ℕ → Bool) where
   to_way none h u [] k p o = stop refl o
   to_way none h u (s ∷ r) k p o = go s.mark h k.0 p.0 (to_way none (heads_second s.mark) s.to r k.1 p.1 o)
     where
-      go : (m : Mark) (h : Bool) → IsJoined g u m s.to → IsPassed g w u h (heads_first m) → Way g w (last s.to r) (heads_second m) s.to → Way g w (last s.to r) h u
+      go : (m : Mark) (h : Bool) → IsJoined g u m s.to → IsPassed g w u h (heads_first m) → Way g w (last s.to r) (heads_second m) s.to
+          → Way g w (last s.to r) h u
       go Out true j q x = out j q x
       go Out false j q x = out j q x
       go Into true j q x = into true j q x

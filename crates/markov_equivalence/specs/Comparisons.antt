@@ -5,7 +5,7 @@ use Rattle.mixed_graph.specs.Graphs.{MixedGraph}
 use Rattle.mixed_graph.specs.Sets.{Within}
 use Rattle.m_separation.specs.Walks.{IsSeparated, HasOpenWalk}
 use Rattle.markov_equivalence.specs.Skeletons.{is_adjacent, is_unshielded_collider, HaveSameSkeleton, AreEquivalent}
-use Rattle.markov_equivalence.specs.Firsts.{IsFirstEdge, IsFirstCollider}
+use Rattle.markov_equivalence.specs.Firsts.{IsFirstDifference, IsFirstCollider}
 use Rattle.markov_equivalence.specs.Laters.{AreParentsOfLater}
 use Rattle.markov_equivalence.specs.Sides.{one_of, other_side}
 use Rattle.markov_equivalence.specs.declared.comparison.Difference.{Difference}
@@ -14,7 +14,7 @@ use Rattle.markov_equivalence.specs.declared.comparison.Compared.TheVariants.{Sa
 
 -- the first edge that one graph has alone; the graph named is the one without it
 pub record IsEdgeDifference (g h : MixedGraph) (d : Difference) : Type 0 where
-  pub pair : IsFirstEdge g h d.a d.b
+  pub pair : IsFirstDifference g h d.a d.b
   pub without : is_adjacent (one_of g h d.holds_in) d.a d.b ≡ false
   pub given : AreParentsOfLater (one_of g h d.holds_in) d.a d.b (has d.given.bits)
 

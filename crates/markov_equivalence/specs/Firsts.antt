@@ -4,7 +4,7 @@ use Rattle.mixed_graph.specs.Graphs.{MixedGraph}
 use Rattle.markov_equivalence.specs.Skeletons.{is_adjacent, is_unshielded_collider}
 
 -- a < b are joined in one of the graphs alone, and no pair with a lower first vertex, or with first vertex a and a lower second one, is
-pub record IsFirstEdge (g h : MixedGraph) (a b : ℕ) : Type 0 where
+pub record IsFirstDifference (g h : MixedGraph) (a b : ℕ) : Type 0 where
   pub ascends : a < b
   pub differs : is_adjacent g a b ≢ is_adjacent h a b
   pub before_a : (x y : ℕ) → x < y → x < a → is_adjacent g x y ≡ is_adjacent h x y

@@ -3,3 +3,4 @@ pub mod Firsts
 pub mod Laters
 pub mod Skeletons
 pub mod Sides
+pub mod Separations

@@ -1,7 +1,9 @@
+//! The first edge and the first collider that one graph has alone.
+
 ghost use Rattle.std.specs.Prelude.{◌≡◌, ℕ, ◌<◌, IfSome, IfNone};
 ghost use Rattle.mixed_graph.specs.Shown.{graph_of};
 ghost use Rattle.markov_equivalence.specs.Skeletons.{is_unshielded_collider, HaveSameSkeleton, HaveSameColliders};
-ghost use Rattle.markov_equivalence.specs.Firsts.{IsFirstEdge, IsFirstFrom, IsFirstCollider};
+ghost use Rattle.markov_equivalence.specs.Firsts.{IsFirstDifference, IsFirstFrom, IsFirstCollider};
 
 use crate::skeleton::{colliders, lowest_difference, neighbours};
 use mixed_graph::Graph;
@@ -24,7 +26,7 @@ pub struct Triple {
 /// The first pair that an arrow joins in one of the graphs alone, if there is one.
 pub fn first_edge(g: &Graph, h: &Graph) -> Option<Pair>
     requires { g.now.n ≡ h.now.n }
-    ensures found { IfSome result (λ p. IsFirstEdge (graph_of g.now) (graph_of h.now) p.a p.b) }
+    ensures found { IfSome result (λ p. IsFirstDifference (graph_of g.now) (graph_of h.now) p.a p.b) }
     ensures none { IfNone result (HaveSameSkeleton (graph_of g.now) (graph_of h.now)) }
 {
     for a in 0..g.n as u8 {

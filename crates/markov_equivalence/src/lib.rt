@@ -5,6 +5,7 @@
 
 mod comparison;
 mod firsts;
+pub mod path_carry;
 mod sides;
 mod skeleton;
 

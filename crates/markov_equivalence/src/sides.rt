@@ -1,3 +1,5 @@
+//! The two graphs that are compared.
+
 ghost use Rattle.std.specs.Prelude.{◌≡◌};
 ghost use Rattle.markov_equivalence.specs.Sides.{other_side, side_without};
 

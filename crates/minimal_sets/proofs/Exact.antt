@@ -12,7 +12,7 @@ use Rattle.do_rules.specs.Rules.{AreThreeSets}
 use Rattle.adjustment.specs.Criteria.{IsAdmissible}
 use Rattle.adjustment.proofs.Effects.{admissible_adjusts}
 use Rattle.adjustment.proofs.FaultWalks.{adjusts_exactly}
-use Rattle.vertex_separators.specs.Separators.{IsPart}
+use Rattle.minimal_sets.specs.Separators.{IsPart}
 use Rattle.minimal_sets.specs.MinimalSets.{IsMinimalSet, IsMinimalAdjustment, MinimalIsExact}
 
 -- a part of the vertices has a mask

@@ -2,3 +2,14 @@ pub mod Meetings
 pub mod MinimalSeparators
 pub mod Separations
 pub mod Exact
+pub mod Tests
+pub mod SeparatorLaws
+pub mod ClosestLaws
+pub mod Flooding
+pub mod Forks
+pub mod ListFacts
+pub mod SoFar
+pub mod Spreads
+pub mod Middles
+pub mod Ordered
+pub mod Endings

@@ -18,8 +18,10 @@ module _ (g : MixedGraph) (A : ℕ → Bool) (u : ℕ) (first : ℕ → Bool) (i
   heads_to v (by_both b i) = Reached.start (let p = is v in grind arith) i
   heads_to v (on {v = c} h b i) = Reached.next (heads_to c h) b i
 
-module _ (g : MixedGraph) (A : ℕ → Bool) (u : ℕ) (H P M result : ℕ → Bool) (h_is : (v : ℕ) → H v ≡ true → Heads g A u v) (h_all : (v : ℕ) → Heads g A u v → H v ≡ true)
-    (p_is : (w : ℕ) → P w ≡ (H w || (w == u))) (m_in : (v : ℕ) → M v ≡ true → A v ≡ true) (m_next : (v : ℕ) → M v ≡ true → (w : ℕ) × (P w ≡ true) × (g.arrow v w ≡ true))
+module _ (g : MixedGraph) (A : ℕ → Bool) (u : ℕ) (H P M result : ℕ → Bool) (h_is : (v : ℕ) → H v ≡ true → Heads g A u v)
+    (h_all : (v : ℕ) → Heads g A u v → H v ≡ true)
+    (p_is : (w : ℕ) → P w ≡ (H w || (w == u))) (m_in : (v : ℕ) → M v ≡ true → A v ≡ true)
+    (m_next : (v : ℕ) → M v ≡ true → (w : ℕ) × (P w ≡ true) × (g.arrow v w ≡ true))
     (m_all : (w v : ℕ) → A v ≡ true → P w ≡ true → g.arrow v w ≡ true → M v ≡ true) (result_is : (v : ℕ) → result v ≡ (A u && (H v || M v))) where
   pub meets_from : (v : ℕ) → result v ≡ true → Meets g A u v
   meets_from v e =

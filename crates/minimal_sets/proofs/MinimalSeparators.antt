@@ -8,16 +8,17 @@ use Rattle.mixed_graph.specs.Sets.{Within, Apart}
 use Rattle.mixed_graph.specs.declared.sets.VSet.{VSet}
 use Rattle.finite_models.proofs.Bools.{and_first, and_second, not_both}
 use Rattle.prob_expr.specs.Values.{EqualsEffect}
-use Rattle.proper_paths.specs.Proper.{IsBetween, IsBackDoorGraph}
-use Rattle.proper_paths.proofs.FirstEdges.{cut_arrows, firsts, back_door_graph_is}
+use Rattle.adjustment.specs.Proper.{IsBetween, IsBackDoorGraph}
+use Rattle.adjustment.proofs.FirstEdges.{cut_arrows, firsts, back_door_graph_is}
 use Rattle.adjustment.specs.Criteria.{IsForbidden, IsAdmissible}
-use Rattle.adjustment.specs.Formulas.{adjustment_formula, effect_on}
+use Rattle.prob_expr.specs.Tree.{effect_on}
+use Rattle.adjustment.specs.Formulas.{adjustment_formula}
 use Rattle.adjustment.proofs.Effects.{admissible_adjusts}
 use Rattle.adjustment.proofs.Separating.{forbidden_is, separated_from, admissible_from}
 use Rattle.adjustment.proofs.Walks.{graph_arrows}
-use Rattle.vertex_separators.specs.Separators.{IsSeparator, IsPart, IsMinimalSeparator}
-use Rattle.vertex_separators.specs.Frames.{IsFrame}
-use Rattle.vertex_separators.specs.Listings.{IsListingOf}
+use Rattle.minimal_sets.specs.Separators.{IsSeparator, IsPart, IsMinimalSeparator}
+use Rattle.minimal_sets.specs.Frames.{IsFrame}
+use Rattle.minimal_sets.specs.Listings.{IsListingOf}
 use Rattle.minimal_sets.specs.MinimalSets.{IsMinimalSet}
 use Rattle.minimal_sets.specs.Moral.{IsNear}
 use Rattle.minimal_sets.proofs.Separations.{turn, separated_by_separator, separator_from_separated, separated_inner}
@@ -53,14 +54,17 @@ module _ (g : MixedGraph) (ok : IsMixedGraph g) (X Y : ℕ → Bool) (xl : Withi
 
   pub admissible_separator : (p : ℕ → Bool) → IsPart p allowed → IsSeparator near X Y p → IsAdmissible g X Y p
   admissible_separator p part separator = admissible_from g ok X Y xl xy B is_between p (λ v e x. not_both (bad v) ((is_forbidden v).1 x) (al_bad v (part v e)))
-      (separated_by_separator (cut_arrows g (firsts X B)) (graph_arrows g (firsts X B) ok) X Y xl yl A above near is_near p (λ v e. al_a v (part v e)) separator)
+      (separated_by_separator (cut_arrows g (firsts X B)) (graph_arrows g (firsts X B) ok) X Y xl yl A above near is_near p (λ v e. al_a v (part v e))
+      separator)
 
-  pub separator_admissible : (p : ℕ → Bool) → ((v : ℕ) → p v ≡ true → X v ≡ false) → ((v : ℕ) → p v ≡ true → Y v ≡ false) → IsAdmissible g X Y p → IsSeparator near X Y p
+  pub separator_admissible : (p : ℕ → Bool) → ((v : ℕ) → p v ≡ true → X v ≡ false) → ((v : ℕ) → p v ≡ true → Y v ≡ false) → IsAdmissible g X Y p
+      → IsSeparator near X Y p
   separator_admissible p px py adm = separator_from_separated (cut_arrows g (firsts X B)) (graph_arrows g (firsts X B) ok) X Y xl yl A above near is_near p
       (apart_from p X px) (apart_from p Y py) (separated_from g ok X Y xl xy B is_between p (apart_from p X px) adm)
 
   -- the part of an admissible set among the ancestors is admissible
-  inner_admissible : (p : ℕ → Bool) → ((v : ℕ) → p v ≡ true → X v ≡ false) → ((v : ℕ) → p v ≡ true → Y v ≡ false) → IsAdmissible g X Y p → IsAdmissible g X Y (λ v. p v && A v)
+  inner_admissible : (p : ℕ → Bool) → ((v : ℕ) → p v ≡ true → X v ≡ false) → ((v : ℕ) → p v ≡ true → Y v ≡ false) → IsAdmissible g X Y p
+      → IsAdmissible g X Y (λ v. p v && A v)
   inner_admissible p px py adm = admissible_from g ok X Y xl xy B is_between (λ v. p v && A v) (λ v e x. adm.clear v (and_first (p v) (A v) e) x)
       (separated_inner (cut_arrows g (firsts X B)) (graph_arrows g (firsts X B) ok) X Y xl yl A above near is_near p (apart_from p X px) (apart_from p Y py)
       (separated_from g ok X Y xl xy B is_between p (apart_from p X px) adm))
@@ -106,7 +110,8 @@ module _ (g : MixedGraph) (ok : IsMixedGraph g) (X Y : ℕ → Bool) (xl : Withi
       y_fixed = λ v e. let p = r_is v in grind arith;
     }
 
-    pub sets_listed : (most : ℕ) (sets : List VSet) (more : Bool) → IsListingOf (IsMinimalSeparator near R X Y) most sets more → IsListingOf (IsMinimalSet g X Y) most sets more
+    pub sets_listed : (most : ℕ) (sets : List VSet) (more : Bool) → IsListingOf (IsMinimalSeparator near R X Y) most sets more
+        → IsListingOf (IsMinimalSet g X Y) most sets more
     sets_listed most sets more l = record {
       each = λ k d lt. set_of (has (get_or sets k d).bits) (l.each k d lt);
       sorted = l.sorted;
@@ -131,7 +136,8 @@ module _ (g : MixedGraph) (ok : IsMixedGraph g) (X Y : ℕ → Bool) (xl : Withi
   forbidden = forbidden_is g ok X Y xl B bad is_between below
 
   above_cut : (v : ℕ) → IsTrue (A v) ↔ IsAncestor (cut_arrows g (firsts X B)) (λ v. X v || Y v) v
-  above_cut v = subst (λ k. IsTrue (A v) ↔ IsAncestor k (λ v. X v || Y v) v) graph_is (subst (λ (s : ℕ → Bool). IsTrue (A v) ↔ IsAncestor h s v) (fun_ext u_is) (above v))
+  above_cut v = subst (λ k. IsTrue (A v) ↔ IsAncestor k (λ v. X v || Y v) v) graph_is
+      (subst (λ (s : ℕ → Bool). IsTrue (A v) ↔ IsAncestor h s v) (fun_ext u_is) (above v))
 
   near_cut : IsNear (cut_arrows g (firsts X B)) A near
   near_cut = subst (λ k. IsNear k A near) graph_is is_near
@@ -142,14 +148,23 @@ module _ (g : MixedGraph) (ok : IsMixedGraph g) (X Y : ℕ → Bool) (xl : Withi
   pub handed_frame : IsFrame near R X Y
   handed_frame = frame g ok X Y xl yl xy B bad is_between forbidden A above_cut near near_cut R r_is
 
-  pub handed_sets : (most : ℕ) (sets : List VSet) (more : Bool) → IsListingOf (IsMinimalSeparator near R X Y) most sets more → IsListingOf (IsMinimalSet g X Y) most sets more
+  pub handed_sets : (most : ℕ) (sets : List VSet) (more : Bool) → IsListingOf (IsMinimalSeparator near R X Y) most sets more
+      → IsListingOf (IsMinimalSet g X Y) most sets more
   handed_sets = sets_listed g ok X Y xl yl xy B bad is_between forbidden A above_cut near near_cut R r_is
 
 -- the formula of a minimal set is the effect
-pub minimal_adjusts : (g : MixedGraph) → IsMixedGraph g → (x y z : ℕ) → Within g.vertices (has x) → Within g.vertices (has y) → Apart (has x) (has y) → IsMinimalSet g (has x) (has y) (has z)
+pub minimal_adjusts : (g : MixedGraph) → IsMixedGraph g → (x y z : ℕ) → Within g.vertices (has x) → Within g.vertices (has y) → Apart (has x) (has y)
+    → IsMinimalSet g (has x) (has y) (has z)
     → EqualsEffect g (effect_on x y) (adjustment_formula x y z)
 minimal_adjusts g ok x y z xl yl xy k =
-    admissible_adjusts g ok x y z (record { x_within = xl; y_within = yl; w_within = k.within; x_y = xy; x_w = flipped (has z) (has x) k.x_apart; y_w = flipped (has z) (has y) k.y_apart }) k.admissible
+    admissible_adjusts g ok x y z (record {
+      x_within = xl;
+      y_within = yl;
+      w_within = k.within;
+      x_y = xy;
+      x_w = flipped (has z) (has x) k.x_apart;
+      y_w = flipped (has z) (has y) k.y_apart;
+    }) k.admissible
   where
     flipped : (s t : ℕ → Bool) → Apart s t → Apart t s
     flipped s t apart v e = false_from_ne_true (s v) (λ h. not_both (t v) e (apart v h))

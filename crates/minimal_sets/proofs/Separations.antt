@@ -10,11 +10,12 @@ use Rattle.finite_models.proofs.Bools.{and_first, and_second, not_both, either}
 use Rattle.std.proofs.lemmas.Bool.{and_from, false_from_ne_true, or_left, or_right}
 use Rattle.do_rules.proofs.Reach.{Linked, here, by_child, by_parent, reach}
 use Rattle.do_rules.proofs.Reach as linked
-use Rattle.vertex_separators.specs.Separators.{Reached, start, step, IsSeparator, IsPart}
+use Rattle.minimal_sets.specs.Separators.{Reached, start, step, IsSeparator, IsPart}
 use Rattle.minimal_sets.specs.Moral.{Heads, by_arrow, by_both, on, Meets, heads, parent, beyond, IsNear}
-use Rattle.vertex_separators.proofs.SeparatorLaws.{outside, apart}
+use Rattle.minimal_sets.proofs.SeparatorLaws.{outside, apart}
 
-module _ (g : MixedGraph) (is_graph : IsMixedGraph g) (X Y : ℕ → Bool) (xl : Within g.vertices X) (yl : Within g.vertices Y) (A : ℕ → Bool) (above : (v : ℕ) → IsTrue (A v) ↔ IsAncestor g (λ v. X v || Y v) v) (near : ℕ → ℕ → Bool) (is_near : IsNear g A near) where
+module _ (g : MixedGraph) (is_graph : IsMixedGraph g) (X Y : ℕ → Bool) (xl : Within g.vertices X) (yl : Within g.vertices Y) (A : ℕ → Bool)
+    (above : (v : ℕ) → IsTrue (A v) ↔ IsAncestor g (λ v. X v || Y v) v) (near : ℕ → ℕ → Bool) (is_near : IsNear g A near) where
   in_x : (v : ℕ) → X v ≡ true → A v ≡ true
   in_x v e = (above v).1 (record { vertex = xl v e; path = []; end = v; leads = refl; inside = or_left (X v) (Y v) e })
 
@@ -22,7 +23,13 @@ module _ (g : MixedGraph) (is_graph : IsMixedGraph g) (X Y : ℕ → Bool) (xl :
   in_y v e = (above v).1 (record { vertex = yl v e; path = []; end = v; leads = refl; inside = or_right (X v) (Y v) e })
 
   in_parent : (u v : ℕ) → g.arrow u v ≡ true → A v ≡ true → A u ≡ true
-  in_parent u v a e = let i = (above v).0 e in (above u).1 (record { vertex = is_graph.tail_below u v a; path = v ∷ i.path; end = i.end; leads = (a, i.leads); inside = i.inside })
+  in_parent u v a e = let i = (above v).0 e in (above u).1 (record {
+    vertex = is_graph.tail_below u v a;
+    path = v ∷ i.path;
+    end = i.end;
+    leads = (a, i.leads);
+    inside = i.inside;
+  })
 
   in_path : (v : ℕ) (xs : List ℕ) (t : ℕ) → IsDirectedPath g v xs t → A t ≡ true → A v ≡ true
   in_path v [] t p e = rw p e
@@ -67,7 +74,8 @@ module _ (g : MixedGraph) (is_graph : IsMixedGraph g) (X Y : ℕ → Bool) (xl :
       in_walk true v [] w p y t = in_y v y
       in_walk true v (s ∷ r) w p y t = go s.mark w.0 p.0 p.1 (λ q. in_walk true s.to r w.1 q y (λ e. absurd (grind (arith, e))))
         where
-          go : (m : Mark) → IsJoined g v m s.to → IsPassed g Z v true (heads_first m) → ArePassedFrom g Z (heads_second m) s.to r → (ArePassedFrom g Z true s.to r → A s.to ≡ true) → A v ≡ true
+          go : (m : Mark) → IsJoined g v m s.to → IsPassed g Z v true (heads_first m) → ArePassedFrom g Z (heads_second m) s.to r
+              → (ArePassedFrom g Z true s.to r → A s.to ≡ true) → A v ≡ true
           go Out j q k ih = in_parent v s.to j (ih k)
           go Into j i k ih = in_path v i.path i.end i.leads (z_in i.end i.inside)
           go Both j i k ih = in_path v i.path i.end i.leads (z_in i.end i.inside)
@@ -87,7 +95,8 @@ module _ (g : MixedGraph) (is_graph : IsMixedGraph g) (X Y : ℕ → Bool) (xl :
       tail_outside v [] p o = o
       tail_outside v (s ∷ r) p o = p.0
 
-      follow : (h : Bool) (v : ℕ) (r : List Step) → IsWalk g v r → ArePassedFrom g Z h v r → Y (last v r) ≡ true → Z (last v r) ≡ false → A v ≡ true → State h v → Reached near X Z (last v r)
+      follow : (h : Bool) (v : ℕ) (r : List Step) → IsWalk g v r → ArePassedFrom g Z h v r → Y (last v r) ≡ true → Z (last v r) ≡ false → A v ≡ true
+          → State h v → Reached near X Z (last v r)
       follow false v [] w p y o a s = s
       follow true v [] w p y o a s = step s.1 (is_near.complete s.0 v (heads s.2 s.3)) o
       follow false v (t ∷ r) w p y o a s =
@@ -102,14 +111,16 @@ module _ (g : MixedGraph) (is_graph : IsMixedGraph g) (X Y : ℕ → Bool) (xl :
           let a' : A t.to ≡ true = in_walk (heads_second t.mark) t.to r w.1 p.1 y (in_next v t.mark t.to w.0 a) in
           follow (heads_second t.mark) t.to r w.1 p.1 y o a' (next t.mark w.0 p.0 p.1 a')
         where
-          next : (m : Mark) → IsJoined g v m t.to → IsPassed g Z v true (heads_first m) → ArePassedFrom g Z (heads_second m) t.to r → A t.to ≡ true → State (heads_second m) t.to
+          next : (m : Mark) → IsJoined g v m t.to → IsPassed g Z v true (heads_first m) → ArePassedFrom g Z (heads_second m) t.to r → A t.to ≡ true
+              → State (heads_second m) t.to
           next Out j i q a' = (v, step s.1 (is_near.complete s.0 v (heads s.2 s.3)) i, a, by_arrow j a')
           next Into j i q a' = step s.1 (is_near.complete s.0 t.to (beyond s.2 a' s.3 j)) (tail_outside t.to r q o)
           next Both j i q a' = (s.0, s.1, s.2, on s.3 j a')
 
       pub separated_by_separator : IsSeparator near X Y Z → IsSeparated g X Y Z
       separated_by_separator c v r k = c (last v r) k.ends
-          (follow false v r k.walk (passed_from_start g Z v r k.first_outside k.passed) k.ends k.last_outside (in_x v k.begins) (start k.begins k.first_outside))
+          (follow false v r k.walk (passed_from_start g Z v r k.first_outside k.passed) k.ends k.last_outside (in_x v k.begins)
+          (start k.begins k.first_outside))
 
     -- ---- what separates in the mixed graph is a separator of the undirected one
     module _ (x_out : (v : ℕ) → X v ≡ true → Z v ≡ false) (y_out : (v : ℕ) → Y v ≡ true → Z v ≡ false) where
@@ -132,7 +143,15 @@ module _ (g : MixedGraph) (is_graph : IsMixedGraph g) (X Y : ℕ → Bool) (xl :
         where
           opened : (t : ℕ) → X t ≡ true → Linked g A Z Y t → ⊥
           opened t x l = let c = reach g X Y Z A is_graph xl wide x_out y_out sep t l in
-              sep t c.steps (record { vertex = xl t x; begins = x; ends = c.ends; first_outside = x_out t x; last_outside = c.last_outside; walk = c.walk; passed = c.passed })
+              sep t c.steps (record {
+                vertex = xl t x;
+                begins = x;
+                ends = c.ends;
+                first_outside = x_out t x;
+                last_outside = c.last_outside;
+                walk = c.walk;
+                passed = c.passed;
+              })
             where
               wide : (u : ℕ) → A u ≡ true → IsAncestor g (λ v. X v || (Y v || Z v)) u
               wide u e = let i = (above u).0 e in record {
@@ -140,7 +159,8 @@ module _ (g : MixedGraph) (is_graph : IsMixedGraph g) (X Y : ℕ → Bool) (xl :
                 path = i.path;
                 end = i.end;
                 leads = i.leads;
-                inside = either (X i.end) (Y i.end) ((X i.end || (Y i.end || Z i.end)) ≡ true) i.inside (λ p. or_left (X i.end) (Y i.end || Z i.end) p) (λ p. or_right (X i.end) (Y i.end || Z i.end) (or_left (Y i.end) (Z i.end) p));
+                inside = either (X i.end) (Y i.end) ((X i.end || (Y i.end || Z i.end)) ≡ true) i.inside (λ p. or_left (X i.end) (Y i.end || Z i.end) p)
+                    (λ p. or_right (X i.end) (Y i.end || Z i.end) (or_left (Y i.end) (Z i.end) p));
               }
 
   -- ---- what lies outside the ancestors isn't needed
@@ -155,14 +175,17 @@ module _ (g : MixedGraph) (is_graph : IsMixedGraph g) (X Y : ℕ → Bool) (xl :
   wide_passed Z v true false a p = false_from_ne_true (Z v) (λ e. not_both (Z v && A v) (and_from (Z v) (A v) e a) p)
   wide_passed Z v false l a p = false_from_ne_true (Z v) (λ e. not_both (Z v && A v) (and_from (Z v) (A v) e a) p)
 
-  wide_from : (Z : ℕ → Bool) (h : Bool) (v : ℕ) (r : List Step) → IsWalk g v r → ArePassedFrom g (inner Z) h v r → Y (last v r) ≡ true → A v ≡ true → ArePassedFrom g Z h v r
+  wide_from : (Z : ℕ → Bool) (h : Bool) (v : ℕ) (r : List Step) → IsWalk g v r → ArePassedFrom g (inner Z) h v r → Y (last v r) ≡ true → A v ≡ true
+      → ArePassedFrom g Z h v r
   wide_from Z h v [] w p y a = tt
   wide_from Z h v (s ∷ r) w p y a = (
     wide_passed Z v h (heads_first s.mark) a p.0,
-    wide_from Z (heads_second s.mark) s.to r w.1 p.1 y (in_walk (inner Z) (inner_in Z) (heads_second s.mark) s.to r w.1 p.1 y (in_next (inner Z) (inner_in Z) v s.mark s.to w.0 a)),
+    wide_from Z (heads_second s.mark) s.to r w.1 p.1 y (in_walk (inner Z) (inner_in Z) (heads_second s.mark) s.to r w.1 p.1 y
+        (in_next (inner Z) (inner_in Z) v s.mark s.to w.0 a)),
   )
 
-  pub separated_inner : (Z : ℕ → Bool) → ((v : ℕ) → X v ≡ true → Z v ≡ false) → ((v : ℕ) → Y v ≡ true → Z v ≡ false) → IsSeparated g X Y Z → IsSeparated g X Y (inner Z)
+  pub separated_inner : (Z : ℕ → Bool) → ((v : ℕ) → X v ≡ true → Z v ≡ false) → ((v : ℕ) → Y v ≡ true → Z v ≡ false) → IsSeparated g X Y Z
+      → IsSeparated g X Y (inner Z)
   separated_inner Z x_out y_out sep v r k = sep v r (record {
     vertex = k.vertex;
     begins = k.begins;

@@ -5,8 +5,9 @@ use Rattle.mixed_graph.specs.Graphs.{MixedGraph, IsMixedGraph}
 use Rattle.mixed_graph.specs.Sets.{Within, Apart}
 use Rattle.prob_expr.specs.Values.{EqualsEffect}
 use Rattle.adjustment.specs.Criteria.{IsAdmissible}
-use Rattle.adjustment.specs.Formulas.{adjustment_formula, effect_on}
-use Rattle.vertex_separators.specs.Separators.{IsPart}
+use Rattle.prob_expr.specs.Tree.{effect_on}
+use Rattle.adjustment.specs.Formulas.{adjustment_formula}
+use Rattle.minimal_sets.specs.Separators.{IsPart}
 
 -- z is an admissible set of vertices outside x and y, and no proper part of it is admissible
 pub record IsMinimalSet (g : MixedGraph) (x y z : ℕ → Bool) : Type 0 where

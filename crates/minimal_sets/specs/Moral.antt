@@ -1,4 +1,5 @@
--- The undirected graph whose separators are the separating sets of a graph (as moralization, Lauritzen and others, with bidirected edges). Words for code inside this crate.
+-- The undirected graph whose separators are the separating sets of a graph (as moralization, Lauritzen and others, with bidirected edges). Words for
+-- code inside this crate.
 use Rattle.std.specs.Prelude.{ℕ, Bool, IsTrue}
 use Rattle.mixed_graph.specs.Graphs.{MixedGraph}
 

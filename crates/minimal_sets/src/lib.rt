@@ -4,9 +4,10 @@
 #![tactic(auto)]
 
 mod moral;
+pub mod separators;
 mod sets;
 mod theory;
 
+pub use crate::separators::{Listing, Steps};
 pub use sets::list;
 pub use theory::laws;
-pub use vertex_separators::{Listing, Steps};

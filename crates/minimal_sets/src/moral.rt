@@ -1,11 +1,13 @@
+//! The undirected graph whose separators are the admissible sets.
+
 ghost use Rattle.std.specs.Prelude.{ℕ, ◌<◌, ◌↔◌, IsTrue};
 ghost use Rattle.mixed_graph.specs.Bits.{has};
 ghost use Rattle.mixed_graph.specs.Shown.{graph_of};
 ghost use Rattle.minimal_sets.specs.Moral.{Meets, IsNear};
-ghost use Rattle.vertex_separators.specs.Rows.{joins};
+ghost use Rattle.minimal_sets.specs.Rows.{is_near};
 
+use crate::separators::beside;
 use mixed_graph::{Graph, Rows, VSet, reached};
-use vertex_separators::beside;
 
 /// The vertices to which a walk inside a set leads from u whose inner vertices are all colliders.
 fn meeting(g: &Graph, within: VSet, u: u8) -> VSet
@@ -20,7 +22,7 @@ fn meeting(g: &Graph, within: VSet, u: u8) -> VSet
 
 /// The undirected graph that joins these.
 pub fn moral_rows(g: &Graph, within: VSet) -> Rows
-    ensures { IsNear (graph_of g.now) (has within.bits) (joins result) }
+    ensures { IsNear (graph_of g.now) (has within.bits) (is_near result) }
 {
     let mut near = [0u64; 64];
     'rows: for u in 0..64u8 {

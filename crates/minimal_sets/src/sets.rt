@@ -1,18 +1,21 @@
+//! The minimal admissible sets, listed.
+
 ghost use Rattle.std.specs.Prelude.{ℕ, ◌+◌, ◌*◌, ◌≤◌, IfOk, All, length};
 ghost use Rattle.mixed_graph.specs.Bits.{has};
 ghost use Rattle.mixed_graph.specs.Sets.{Within, Apart};
 ghost use Rattle.mixed_graph.specs.Shown.{graph_of};
 ghost use Rattle.prob_expr.specs.Values.{EqualsEffect};
-ghost use Rattle.adjustment.specs.Formulas.{adjustment_formula, effect_on};
-ghost use Rattle.vertex_separators.specs.Listings.{IsListingOf};
+ghost use Rattle.prob_expr.specs.Tree.{effect_on};
+ghost use Rattle.adjustment.specs.Formulas.{adjustment_formula};
+ghost use Rattle.minimal_sets.specs.Listings.{IsListingOf};
 ghost use Rattle.minimal_sets.specs.MinimalSets.{IsMinimalSet};
 
 use crate::moral::moral_rows;
+use crate::separators::{Listing, SeparationProblem, Steps, list_separators};
+use adjustment::proper_paths::{back_door_graph, proper_causal};
 use mixed_graph::{Graph, VSet};
-use proper_paths::{back_door_graph, proper_causal};
 use std::alloc::{AllocError, Global};
 use std::sync::ledger::Ledger;
-use vertex_separators::{Listing, SeparationProblem, Steps, list_separators};
 
 /// The minimal admissible sets for the effect of x on y, in ascending order of their lists of
 /// members: all of them, or `most` where there are more.

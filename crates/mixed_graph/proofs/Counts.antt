@@ -29,9 +29,11 @@ count_below m zero = length-members-zero (has m) ∙ sym (ap ones (mod_one m) �
 count_below m (suc k) =
     let low = count_below m k in
     let split : m % 2 ^ (1 + k) ≡ (m / 2 ^ k % 2 ^ 1) * 2 ^ k + m % 2 ^ k = mod-pow-add m 1 k in
-    let cat : ones ((m / 2 ^ k % 2 ^ 1) * 2 ^ k + m % 2 ^ k) ≡ ones (m / 2 ^ k % 2 ^ 1) + ones (m % 2 ^ k) = ones_cat k (m / 2 ^ k % 2 ^ 1) (m % 2 ^ k) (mod_below m (2 ^ k) (pow_pos k)) in
+    let cat : ones ((m / 2 ^ k % 2 ^ 1) * 2 ^ k + m % 2 ^ k) ≡ ones (m / 2 ^ k % 2 ^ 1) + ones (m % 2 ^ k) =
+    ones_cat k (m / 2 ^ k % 2 ^ 1) (m % 2 ^ k) (mod_below m (2 ^ k) (pow_pos k)) in
     let one : one_if (has m k) ≡ ones (m / 2 ^ k % 2 ^ 1) = one_if_has m k in
-    let whole : ones (m % 2 ^ suc k) ≡ ones (m / 2 ^ k % 2 ^ 1) + ones (m % 2 ^ k) = ap (λ j. ones (m % 2 ^ j)) {x = suc k} {y = 1 + k} (omega arith) ∙ ap ones split ∙ cat in
+    let whole : ones (m % 2 ^ suc k) ≡ ones (m / 2 ^ k % 2 ^ 1) + ones (m % 2 ^ k) = ap (λ j. ones (m % 2 ^ j)) {x = suc k} {y = 1 + k} (omega arith)
+    ∙ ap ones split ∙ cat in
     omega (arith, length-members-suc (has m) k, low, one, whole)
 
 pub count_ones_members : (m : ℕ) → m < 2 ^ 64 → ones m ≡ length (members_below (has m) 64)

@@ -1,4 +1,5 @@
-use Rattle.std.proofs.Common.{◌≡◌, ℕ, zero, suc, ◌<◌, ◌≤◌, ◌^◌, Bool, true, false, not, ◌&&◌, ◌==◌, List, [], ◌∷◌, inl, inr, refl, sym, ap, ◌∙◌, IsTrue, arith, nat_lt, w64}
+use Rattle.std.proofs.Common.{◌≡◌, ℕ, zero, suc, ◌<◌, ◌≤◌, ◌^◌, Bool, true, false, not, ◌&&◌, ◌==◌, List, [], ◌∷◌, inl, inr, refl, sym, ap, ◌∙◌}
+use Rattle.std.proofs.Common.{IsTrue, arith, nat_lt, w64}
 use Rattle.std.specs.Int.{trailing_zeros}
 use Rattle.std.specs.Ordering.{nat_cmp}
 use Rattle.std.specs.Cmp.Lexicographic.{slice_cmp}
@@ -49,7 +50,10 @@ below_least m v least u lt = elim (cases_Bool (has m u)) [ inl i ↦ absurd (ome
 
 -- a mask's members by its lowest
 pub members-lowest : (m v : ℕ) → v < 64 → IsTrue (has m v) → ((u : ℕ) → IsTrue (has m u) → v ≤ u) → (rest : List ℕ) × (members_below (has m) 64 ≡ v ∷ rest)
-members-lowest m v h i least = (members_below (λ u. has m u && not (u == v)) 64, members-first (has m) (λ u. has m u && not (u == v)) v 64 h i (below_least m v least) (λ u. refl))
+members-lowest m v h i least = (
+  members_below (λ u. has m u && not (u == v)) 64,
+  members-first (has m) (λ u. has m u && not (u == v)) v 64 h i (below_least m v least) (λ u. refl),
+)
 
 -- the list of the members is the lowest, and then the members of the mask without it
 pub members-without : (m m' v : ℕ) → v < 64 → IsTrue (has m v) → ((u : ℕ) → IsTrue (has m u) → v ≤ u) → ((u : ℕ) → has m' u ≡ (has m u && not (u == v))) →
@@ -59,4 +63,5 @@ members-without m m' v h i least is = members-first (has m) (has m') v 64 h i (b
 -- the list of the members of a mask of 64 bits that isn't 0 has a first entry
 pub members-some : (m : ℕ) → (m ≡ 0 → ⊥) → m < 2 ^ 64 → (v : ℕ) × (rest : List ℕ) × (members_below (has m) 64 ≡ v ∷ rest)
 members-some m full fits = let pos : 0 < m = omega arith in
-    let k = members-lowest m (trailing_zeros w64 m) (lowest_below m pos fits) (has-lowest m pos fits) (λ u i. lowest_le m u pos fits i) in (trailing_zeros w64 m, k.0, k.1)
+    let k = members-lowest m (trailing_zeros w64 m) (lowest_below m pos fits) (has-lowest m pos fits) (λ u i. lowest_le m u pos fits i) in
+    (trailing_zeros w64 m, k.0, k.1)

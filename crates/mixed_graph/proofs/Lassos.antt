@@ -1,4 +1,5 @@
-use Rattle.std.proofs.Common.{◌≡◌, ◌≢◌, ℕ, ◌+◌, ◌-◌, ◌<◌, Bool, true, false, ◌||◌, ◌==◌, List, length, get_or, set, inl, inr, refl, sym, ap, ◌∙◌, IsTrue, arith, subst, length-set}
+use Rattle.std.proofs.Common.{◌≡◌, ◌≢◌, ℕ, ◌+◌, ◌-◌, ◌<◌, Bool, true, false, ◌||◌, ◌==◌, List, length, get_or, set, inl, inr, refl, sym, ap, ◌∙◌}
+use Rattle.std.proofs.Common.{IsTrue, arith, subst, length-set}
 use Rattle.std.proofs.lemmas.Bool.{cases_eq, eq-eqb, ne_eqb}
 use Rattle.std.proofs.lemmas.List.{get_or-set_same, get_or-set_other}
 use Rattle.mixed_graph.specs.Bits.{has, members_below}
@@ -17,7 +18,8 @@ pub record Walked (arrow : ℕ → ℕ → Bool) (list place : List ℕ) (count 
   pub listed : (i : ℕ) → i < count → IsTrue (has seen (get_or list i 0))
   pub once : (i j : ℕ) → i < j → j < count → get_or list i 0 ≡ get_or list j 0 → ⊥
 
-pub walked_room : (arrow : ℕ → ℕ → Bool) (list place : List ℕ) (count seen v : ℕ) → v < 64 → has seen v ≡ false → Walked arrow list place count seen v → count < 64
+pub walked_room : (arrow : ℕ → ℕ → Bool) (list place : List ℕ) (count seen v : ℕ) → v < 64 → has seen v ≡ false → Walked arrow list place count seen v
+    → count < 64
 walked_room arrow list place count seen v below new s = omega (arith, s.counted, length-members-lt (has seen) 64 v below new)
 
 pub walked_more : (arrow : ℕ → ℕ → Bool) (list place : List ℕ) (count seen v seen' v' : ℕ) → v < 64 → has seen v ≡ false →
@@ -45,7 +47,8 @@ walked_more arrow list place count seen v seen' v' below new is edge s = record 
     | inr d ↦ rw (get_or-set_other list count i v 0 (omega arith), get_or-set_other list count (i + 1) v 0 d) (s.next i (omega arith))
   ];
   last = λ _.
-      let here : get_or (set list count v) (count + 1 - 1) 0 ≡ v = ap (λ j. get_or (set list count v) j 0) (omega arith) ∙ get_or-set_same list count v 0 in_list in
+      let here : get_or (set list count v) (count + 1 - 1) 0 ≡ v = ap (λ j. get_or (set list count v) j 0) (omega arith)
+      ∙ get_or-set_same list count v 0 in_list in
       rw here edge;
   listed = λ i h. elim (cases_eq i count) [
     | inl e ↦ subst (λ u. has seen' u ≡ true) (sym (ap (λ j. get_or (set list count v) j 0) e ∙ here_is))

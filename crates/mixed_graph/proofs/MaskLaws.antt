@@ -1,14 +1,15 @@
 -- What a mask's members say of the operations and tests on masks, and back.
-use Rattle.std.proofs.Common.{ℕ, ◌^◌, ◌≡◌, ◌<◌, ◌≤◌, Bool, true, false, eqb, ltb, not, refl, sym, ap, ◌∙◌, ◌||◌, ◌&&◌, arith, bit_and, eqb-true, ltb-true, ne_eqb, eq-eqb, lt-ltb, min, ◌%◌, ◌+◌, ◌==◌}
+use Rattle.std.proofs.Common.{ℕ, ◌^◌, ◌≡◌, ◌<◌, ◌≤◌, Bool, true, false, eqb, ltb, not, refl, sym, ap, ◌∙◌, ◌||◌, ◌&&◌, arith, bit_and, eqb-true}
+use Rattle.std.proofs.Common.{ltb-true, ne_eqb, eq-eqb, lt-ltb, min, ◌%◌, ◌+◌, ◌==◌}
 use Rattle.std.specs.Int.{bit_at}
 use Rattle.std.proofs.lemmas.Nat.Bits.{bit_at_xor, bit_at_and, bit_at-lt, bit_at_above}
 use lib.Bits.{mask_lt}
 use Rattle.mixed_graph.specs.Bits.{has}
 use Rattle.mixed_graph.proofs.Masks.{below_two, has-zero, has-or, has-and, has-pow, has-ones, same_from_has, zero_from_empty}
-use Rattle.mixed_graph.specs.Masks.{join, minus, one, all, is_empty, is_apart, is_inside, is_below}
+use Rattle.mixed_graph.specs.Masks.{union, minus, one, all, is_empty, is_apart, is_inside, is_below}
 
 -- the join has the members of either mask
-pub has_join : (a b v : ℕ) → has (join a b) v ≡ (has a v || has b v)
+pub has_join : (a b v : ℕ) → has (union a b) v ≡ (has a v || has b v)
 has_join a b v = has-or a b v
 
 -- the meet has the members of both masks
@@ -69,11 +70,17 @@ below_has n a v e h = go (ltb v n) refl
   where
     go : (c : Bool) → ltb v n ≡ c → v < n
     go true k = ltb-true v n k
-    go false k = absurd (grind (arith, h, above_has n a v (ltb-true a (2 ^ n) e) (let d : v < n → ⊥ = λ lt. absurd (grind (arith, k, lt-ltb v n lt)) in omega arith)))
+    go false k = absurd (grind (
+      arith,
+      h,
+      above_has n a v (ltb-true a (2 ^ n) e)
+          (let d : v < n → ⊥ = λ lt. absurd (grind (arith, k, lt-ltb v n lt)) in omega arith),
+    ))
 
 -- a part put back
-pub put_back : (a b : ℕ) → is_inside b a ≡ true → join (minus a b) b ≡ a
-put_back a b e = same_from_has (join (minus a b) b) a (λ v. has_join (minus a b) b v ∙ ap (λ p. p || has b v) (has_minus a b v) ∙ back (has a v) (has b v) (inside_has b a v e))
+pub put_back : (a b : ℕ) → is_inside b a ≡ true → union (minus a b) b ≡ a
+put_back a b e = same_from_has (union (minus a b) b) a (λ v. has_join (minus a b) b v ∙ ap (λ p. p || has b v) (has_minus a b v)
+    ∙ back (has a v) (has b v) (inside_has b a v e))
   where
     back : (p q : Bool) → (q ≡ true → p ≡ true) → ((p && not q) || q) ≡ p
     back true true h = refl
@@ -82,25 +89,25 @@ put_back a b e = same_from_has (join (minus a b) b) a (λ v. has_join (minus a b
     back false false h = refl
 
 -- of three masks joined in a row, the first two or the last two may be joined first
-pub join_assoc : (a b c : ℕ) → join (join a b) c ≡ join a (join b c)
-join_assoc a b c = same_from_has (join (join a b) c) (join a (join b c)) (λ v.
-    has_join (join a b) c v ∙ ap (λ p. p || has c v) (has_join a b v) ∙ or_assoc (has a v) (has b v) (has c v)
-    ∙ sym (has_join a (join b c) v ∙ ap (λ p. has a v || p) (has_join b c v)))
+pub join_assoc : (a b c : ℕ) → union (union a b) c ≡ union a (union b c)
+join_assoc a b c = same_from_has (union (union a b) c) (union a (union b c)) (λ v.
+    has_join (union a b) c v ∙ ap (λ p. p || has c v) (has_join a b v) ∙ or_assoc (has a v) (has b v) (has c v)
+    ∙ sym (has_join a (union b c) v ∙ ap (λ p. has a v || p) (has_join b c v)))
   where
     or_assoc : (p q r : Bool) → ((p || q) || r) ≡ (p || (q || r))
     or_assoc true q r = refl
     or_assoc false q r = refl
 
 -- the join with the empty set changes nothing
-pub join-zero : (a : ℕ) → join a 0 ≡ a
-join-zero a = same_from_has (join a 0) a (λ v. has_join a 0 v ∙ ap (λ p. has a v || p) (has_none v) ∙ or_false (has a v))
+pub join-zero : (a : ℕ) → union a 0 ≡ a
+join-zero a = same_from_has (union a 0) a (λ v. has_join a 0 v ∙ ap (λ p. has a v || p) (has_none v) ∙ or_false (has a v))
   where
     or_false : (p : Bool) → (p || false) ≡ p
     or_false true = refl
     or_false false = refl
 
-pub zero-join : (a : ℕ) → join 0 a ≡ a
-zero-join a = same_from_has (join 0 a) a (λ v. has_join 0 a v ∙ ap (λ p. p || has a v) (has_none v))
+pub zero-join : (a : ℕ) → union 0 a ≡ a
+zero-join a = same_from_has (union 0 a) a (λ v. has_join 0 a v ∙ ap (λ p. p || has a v) (has_none v))
 
 -- ---- and back: tests from members
 pub zero_from : (a : ℕ) → ((v : ℕ) → has a v ≡ false) → a ≡ 0
@@ -136,7 +143,7 @@ below_from n a h =
 pub filled_has : (a v : ℕ) → has a v ≡ true → a ≡ 0 → ⊥
 filled_has a v h e = absurd (grind (arith, h, ap (λ n. has n v) e ∙ has_none v))
 
-pub join_filled : (a b : ℕ) → (a ≡ 0 → ⊥) → join a b ≡ 0 → ⊥
+pub join_filled : (a b : ℕ) → (a ≡ 0 → ⊥) → union a b ≡ 0 → ⊥
 join_filled a b ne e = ne (zero_from a (λ v. first (has a v) (has b v) (sym (has_join a b v) ∙ ap (λ n. has n v) e ∙ has_none v)))
   where
     first : (p q : Bool) → (p || q) ≡ false → p ≡ false

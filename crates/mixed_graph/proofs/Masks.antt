@@ -1,6 +1,8 @@
-use Rattle.std.proofs.Common.{◌≡◌, ℕ, zero, suc, ◌-◌, ◌*◌, ◌/◌, ◌%◌, ◌^◌, ◌<◌, ◌≤◌, min, max, Bool, true, false, not, ◌&&◌, ◌||◌, ◌==◌, inl, inr, refl, sym, ap, ◌∙◌, bit_and, bit_or, arith, nat_lt, IsTrue, w64}
+use Rattle.std.proofs.Common.{◌≡◌, ℕ, zero, suc, ◌-◌, ◌*◌, ◌/◌, ◌%◌, ◌^◌, ◌<◌, ◌≤◌, min, max, Bool, true, false, not, ◌&&◌, ◌||◌, ◌==◌, inl, inr}
+use Rattle.std.proofs.Common.{refl, sym, ap, ◌∙◌, bit_and, bit_or, arith, nat_lt, IsTrue, w64}
 use Rattle.std.specs.Int.{bit_at, trailing_zeros}
-use Rattle.std.proofs.lemmas.Nat.Bits.{bit_at_and, bit_at_or, bit_at-lt, bit_at-zero, bit_at_not, bit_at-pow_same, bit_at-pow_other, bit_at_above, bit_at_ones, bit_at_ones_above, shr_and_one, bit_at-trailing_zeros, same_from_bits}
+use Rattle.std.proofs.lemmas.Nat.Bits.{bit_at_and, bit_at_or, bit_at-lt, bit_at-zero, bit_at_not, bit_at-pow_same, bit_at-pow_other, bit_at_above}
+use Rattle.std.proofs.lemmas.Nat.Bits.{bit_at_ones, bit_at_ones_above, shr_and_one, bit_at-trailing_zeros, same_from_bits}
 use Rattle.std.proofs.lemmas.Nat.{one_shl, and_le_r}
 use Rattle.std.proofs.lemmas.Bool.{and_parts, cases_order, cases_eq, cases_lt, eq-eqb, ne_eqb, eqb-true, lt-ltb, le-ltb}
 use Rattle.mixed_graph.specs.Bits.{has}
@@ -107,7 +109,8 @@ lowest_below m p q = (bit_at-trailing_zeros w64 m p q).0
 pub same_from_has : (a b : ℕ) → ((v : ℕ) → has a v ≡ has b v) → a ≡ b
 unfolding has
 same_from_has a b h = same_from_bits a b (λ v.
-    both_below_two (λ x y. (x == 1) ≡ (y == 1) → x ≡ y) (λ _. refl) (λ e. cc) (λ e. cc) (λ _. refl) (bit_at a v) (bit_at b v) (bit_at-lt a v) (bit_at-lt b v) (h v))
+    both_below_two (λ x y. (x == 1) ≡ (y == 1) → x ≡ y) (λ _. refl) (λ e. cc) (λ e. cc) (λ _. refl) (bit_at a v) (bit_at b v) (bit_at-lt a v) (bit_at-lt b v)
+    (h v))
 
 -- a member makes the mask positive
 pub positive_from_has : (m v : ℕ) → IsTrue (has m v) → 0 < m
@@ -145,7 +148,8 @@ pub apart_from_meet : (meet a b : ℕ) → ((v : ℕ) → has meet v ≡ (has a 
 apart_from_meet meet a b is zero' v h = let e = is v in let z : has meet v ≡ false = rw zero' (has-zero v) in grind arith
 
 -- a meet that isn't 0 has a member, and it is one of both masks
-pub some_in_meet : (meet a b : ℕ) → ((v : ℕ) → has meet v ≡ (has a v && has b v)) → (meet ≡ 0 → ⊥) → meet < 2 ^ 64 → (v : ℕ) × IsTrue (has a v) × IsTrue (has b v)
+pub some_in_meet : (meet a b : ℕ) → ((v : ℕ) → has meet v ≡ (has a v && has b v)) → (meet ≡ 0 → ⊥) → meet < 2 ^ 64 → (v : ℕ) × IsTrue (has a v)
+    × IsTrue (has b v)
 some_in_meet meet a b is full fits =
     let m = some_member meet full fits in let e = sym (is m.0) ∙ m.1 in
     (m.0, (and_parts _ _ e).0, (and_parts _ _ e).1)

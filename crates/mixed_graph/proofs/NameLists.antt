@@ -1,5 +1,6 @@
 -- Names as lists of bytes, and as they are kept.
-use Rattle.std.proofs.Common.{◌≡◌, ℕ, ◌+◌, Bool, true, false, List, [], ◌∷◌, ◌++◌, length, length-append, inl, inr, get_or, Some, Option, refl, ap, sym, ◌∙◌, arith}
+use Rattle.std.proofs.Common.{◌≡◌, ℕ, ◌+◌, Bool, true, false, List, [], ◌∷◌, ◌++◌, length, length-append, inl, inr, get_or, Some, Option, refl, ap}
+use Rattle.std.proofs.Common.{sym, ◌∙◌, arith}
 use Rattle.std.specs.Prelude.{zero, slice_get, option_map, ◌||◌, not, cond, position, IfSome, ◌<◌, None}
 use Rattle.std.specs.List.{list_any, position_or_len, AllZip, each_same}
 use Rattle.std.specs.Vec.{vec_len}
@@ -53,7 +54,8 @@ texts-insert ks owned n is absent =
     rw (new, map-append, is) refl
 
 -- the index of a name that isn't there is the number of names
-pub index_of-new : (ks : List (Vec ℕ)) (names : List (List ℕ)) (n : List ℕ) → texts ks ≡ names → false ≡ list_any (bytes_eq n) (texts ks) → length ks ≡ index_of names n
+pub index_of-new : (ks : List (Vec ℕ)) (names : List (List ℕ)) (n : List ℕ) → texts ks ≡ names → false ≡ list_any (bytes_eq n) (texts ks) → length ks
+    ≡ index_of names n
 index_of-new ks names n is absent =
     let same : length (texts ks) ≡ length ks = simp length-map in
     rw (← is) (sym same ∙ sym (position_or_len-none (bytes_eq n) (texts ks) (sym absent)))
@@ -71,7 +73,8 @@ named_not (x ∷ names) name other (suc i) d out below e =
     named_not names name other i d (or_parts (bytes_eq name x) (is_named names name) out).1 (omega arith) e
 
 -- names with a new one behind them are names
-pub AreNames-append : (names : List (List ℕ)) (name : List ℕ) → AreNames names → IsName name → is_named names name ≡ false → length names < 64 → AreNames (names ++ name ∷ [])
+pub AreNames-append : (names : List (List ℕ)) (name : List ℕ) → AreNames names → IsName name → is_named names name ≡ false → length names < 64
+    → AreNames (names ++ name ∷ [])
 AreNames-append names name s formed new room = record {
   few = let e = length-append names (name ∷ []) in omega (arith, e);
   formed = All-append IsName names (name ∷ []) s.formed (All-from_get_or IsName (name ∷ []) [] (λ i h. one i h));

@@ -1,4 +1,5 @@
-use Rattle.std.proofs.Common.{◌≡◌, ℕ, zero, suc, ◌+◌, ◌<◌, ◌≤◌, Bool, true, false, not, ◌&&◌, ◌||◌, ◌==◌, List, [], ◌∷◌, ◌++◌, length, length-set, get_or, set, inl, inr, refl, sym, ap, ◌∙◌, IsTrue, subst, arith, nat_lt}
+use Rattle.std.proofs.Common.{◌≡◌, ℕ, zero, suc, ◌+◌, ◌<◌, ◌≤◌, Bool, true, false, not, ◌&&◌, ◌||◌, ◌==◌, List, [], ◌∷◌, ◌++◌, length, length-set}
+use Rattle.std.proofs.Common.{get_or, set, inl, inr, refl, sym, ap, ◌∙◌, IsTrue, subst, arith, nat_lt}
 use Rattle.std.proofs.lemmas.Bool.{cases_Bool, cases_eq, eqb-true, or_cases, lt-ltb, ltb-true}
 use Rattle.std.proofs.lemmas.List.{get_or-set_same, get_or-set_other}
 use Rattle.mixed_graph.specs.Bits.{has, members_below}
@@ -126,7 +127,8 @@ ordering_more g valid list count rest v rest' small i free low is s = record {
         (subst (λ x. IsNext g (taken_by (set list count v) count) x) (sym here)
         (IsNext-same g (taken_by list count) (taken_by (set list count v) count) v (λ u. taken_by-set list count v count u (omega arith)) next_here))
     | inr d ↦ subst (λ x. IsNext g (taken_by (set list count v) j) x) (sym (get_or-set_other list count j v 0 d))
-        (IsNext-same g (taken_by list j) (taken_by (set list count v) j) (get_or list j 0) (λ u. taken_by-set list count v j u (omega arith)) (s.next j (omega arith)))
+        (IsNext-same g (taken_by list j) (taken_by (set list count v) j) (get_or list j 0) (λ u. taken_by-set list count v j u (omega arith))
+        (s.next j (omega arith)))
   ];
   left = λ u. is u ∙ (let p = s.left u in let q = now u in grind arith);
   blank = λ j h. get_or-set_other list count j v 0 (omega arith) ∙ s.blank j (omega arith);

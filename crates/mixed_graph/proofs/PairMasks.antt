@@ -1,9 +1,10 @@
-use Rattle.std.proofs.Common.{◌≡◌, ℕ, ◌+◌, ◌*◌, ◌%◌, ◌^◌, ◌<◌, Bool, true, false, ◌&&◌, ◌||◌, ◌==◌, List, get_or, set, take, length, replicate, bit_or, inl, inr, refl, sym, ap, ◌∙◌}
+use Rattle.std.proofs.Common.{◌≡◌, ℕ, ◌+◌, ◌*◌, ◌%◌, ◌^◌, ◌<◌, Bool, true, false, ◌&&◌, ◌||◌, ◌==◌, List, get_or, set, take, length, replicate}
+use Rattle.std.proofs.Common.{bit_or, inl, inr, refl, sym, ap, ◌∙◌}
 use Rattle.std.proofs.lemmas.Bool.{cases_lt, cases_eq, eq-eqb, ne_eqb}
 use Rattle.std.proofs.lemmas.List.Folds.{list_any_more}
 use Rattle.std.proofs.lemmas.List.{get_or-set_same, get_or-set_other, get_or-replicate, get_or_past, length-replicate}
 use Rattle.mixed_graph.specs.Bits.{has}
-use Rattle.mixed_graph.specs.Pairs.{joins}
+use Rattle.mixed_graph.specs.Pairs.{has_pair}
 use Rattle.mixed_graph.proofs.Masks.{has-or, has-one_shl, has-zero}
 
 -- a bit that is set in one of the masks
@@ -25,7 +26,7 @@ mask_more m i k a b below fits = elim (cases_eq a i) [
 
 -- one more pair
 pub joins_more : (pairs : List (ℕ × ℕ)) (i a b : ℕ) → i < length pairs →
-    joins (take (i + 1) pairs) a b ≡ (joins (take i pairs) a b || ((a == (get_or pairs i (0, 0)).0) && (b == (get_or pairs i (0, 0)).1)))
+    has_pair (take (i + 1) pairs) a b ≡ (has_pair (take i pairs) a b || ((a == (get_or pairs i (0, 0)).0) && (b == (get_or pairs i (0, 0)).1)))
 joins_more pairs i a b h = list_any_more (λ p. (a == p.0) && (b == p.1)) pairs i (0, 0) h
 
 -- each entry of a blank array is 0

@@ -39,12 +39,14 @@ pub end_below : (g : MixedGraph) → ((u v : ℕ) → IsTrue (g.arrow u v) → v
 end_below g heads v [] u below p = subst (λ w. w < g.vertices) p below
 end_below g heads v (x ∷ xs) u below p = end_below g heads x xs u (heads v x p.0) p.1
 
-path_same : (g h : MixedGraph) → ((u v : ℕ) → g.arrow u v ≡ h.arrow u v) → (v : ℕ) (path : List ℕ) (u : ℕ) → IsDirectedPath g v path u → IsDirectedPath h v path u
+path_same : (g h : MixedGraph) → ((u v : ℕ) → g.arrow u v ≡ h.arrow u v) → (v : ℕ) (path : List ℕ) (u : ℕ) → IsDirectedPath g v path u
+    → IsDirectedPath h v path u
 path_same g h same v [] u p = p
 path_same g h same v (x ∷ xs) u p = (sym (same v x) ∙ p.0, path_same g h same x xs u p.1)
 
 -- ancestors are the same where the arrows are
-pub ancestor_same : (g h : MixedGraph) (s : ℕ → Bool) (v : ℕ) → g.vertices ≡ h.vertices → ((u w : ℕ) → g.arrow u w ≡ h.arrow u w) → IsAncestor g s v → IsAncestor h s v
+pub ancestor_same : (g h : MixedGraph) (s : ℕ → Bool) (v : ℕ) → g.vertices ≡ h.vertices → ((u w : ℕ) → g.arrow u w ≡ h.arrow u w) → IsAncestor g s v
+    → IsAncestor h s v
 ancestor_same g h s v size same a = record {
   vertex = subst (λ n. v < n) size a.vertex;
   path = a.path;

@@ -48,7 +48,11 @@ module _ (g : MixedGraph) (below : (u v : ℕ) → IsTrue (g.arrow u v) → u < 
     queued = λ u h. let p = step.found_is u in let q = step.front_is u in let r = step.rest_is u in let k = s.queued u in grind arith;
     closed = λ u w h f a. let p = step.found_is w in let q = step.front_is w in let r = step.rest_is w in
         let k = s.closed u w in let p' = step.found_is u in let q' = step.fresh_is u in
-        elim (cases_eq w v) [ inl e ↦ let a' : g.arrow u v ≡ true = rw e at a in grind arith | inr d ↦ let d' : (w == v) ≡ false = ne_eqb w v d in grind arith ];
+        elim (cases_eq w v) [
+          | inl e ↦ let a' : g.arrow u v ≡ true = rw e at a in grind arith
+          | inr d ↦ let d' : (w == v) ≡ false = ne_eqb w v d in
+              grind arith
+        ];
   }
 
   -- the number that falls: the room above found, and then the front

@@ -49,7 +49,8 @@ module _ (step : ℕ → ℕ → Bool) (from within : ℕ → Bool) (found front
   pub spreading_smaller : Spreading step from within found front → (front ≡ 0 → ⊥) → front < 2 ^ 64 → found' < 2 ^ 64 → 2 ^ 64 - found' < 2 ^ 64 - found
   spreading_smaller s some small small' = (
       let m = some_member front some small in
-      let grows : found < found' = lt_from_subset found found' m.0 (λ u i. spread.found_is u ∙ or_left _ _ i) (s.fresh m.0 m.1) (spread.found_is m.0 ∙ or_right (has found m.0) _ m.1) in
+      let grows : found < found' = lt_from_subset found found' m.0 (λ u i. spread.found_is u ∙ or_left _ _ i) (s.fresh m.0 m.1)
+      (spread.found_is m.0 ∙ or_right (has found m.0) _ m.1) in
       omega (arith, grows, small'))
 
 -- with nothing ahead, all that is reached is found
@@ -72,6 +73,7 @@ reached_by_path : (g : MixedGraph) (s within : ℕ → Bool) → ((u v : ℕ) �
 reached_by_path g s within tails v [] u p r = rw p r
 reached_by_path g s within tails v (x ∷ xs) u p r = Reached.next (reached_by_path g s within tails x xs u p.1 r) p.0 (tails v x p.0)
 
-pub reached_from_ancestor : (g : MixedGraph) (s within : ℕ → Bool) → ((u v : ℕ) → IsTrue (g.arrow u v) → IsTrue (within u)) → ((v : ℕ) → IsTrue (s v) → IsTrue (within v)) →
+pub reached_from_ancestor : (g : MixedGraph) (s within : ℕ → Bool) → ((u v : ℕ) → IsTrue (g.arrow u v) → IsTrue (within u))
+    → ((v : ℕ) → IsTrue (s v) → IsTrue (within v)) →
     (v : ℕ) → IsAncestor g s v → Reached (λ u w. g.arrow w u) s within v
 reached_from_ancestor g s within tails inside v a = reached_by_path g s within tails v a.path a.end a.leads (Reached.start a.inside (inside a.end a.inside))

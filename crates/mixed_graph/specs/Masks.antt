@@ -2,8 +2,8 @@
 use Rattle.std.specs.Prelude.{ℕ, ◌-◌, ◌^◌, Bool, ◌==◌, ltb, bit_and, bit_or, bit_xor}
 
 -- the members of either
-abbrev pub join : ℕ → ℕ → ℕ
-join a b = bit_or a b
+abbrev pub union : ℕ → ℕ → ℕ
+union a b = bit_or a b
 
 -- the members of both
 abbrev pub common : ℕ → ℕ → ℕ

@@ -3,8 +3,8 @@ use Rattle.std.specs.Prelude.{◌≡◌, ℕ, ◌+◌, ◌-◌, ◌<◌, ◌≤�
 use Rattle.std.specs.List.{list_any}
 
 -- whether the pair (a, b) is in the list
-abbrev pub joins : List (ℕ × ℕ) → ℕ → ℕ → Bool
-joins pairs a b = list_any (λ p. (a == p.0) && (b == p.1)) pairs
+abbrev pub has_pair : List (ℕ × ℕ) → ℕ → ℕ → Bool
+has_pair pairs a b = list_any (λ p. (a == p.0) && (b == p.1)) pairs
 
 -- the vertex of the first pair with equal ends
 abbrev pub loop_in : List (ℕ × ℕ) → Option ℕ

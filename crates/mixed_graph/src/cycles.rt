@@ -1,3 +1,5 @@
+//! A directed cycle, where there is one.
+
 ghost use Rattle.std.specs.Prelude.{◌≡◌, ℕ, ◌<◌, ◌≤◌, ◌↔◌, IsTrue, false, IfSome, IfNone, slice_index, ◌-◌};
 ghost use Rattle.mixed_graph.specs.Bits.{has};
 ghost use Rattle.mixed_graph.specs.Pairs.{IsCycle};

@@ -1,3 +1,5 @@
+//! Cycles and orders as lists of fixed length.
+
 ghost use Rattle.std.specs.Prelude.{◌≡◌, ℕ, ◌≤◌, slice_index};
 
 /// A directed cycle: the first `count` entries, beginning with the lowest; the others are 0.

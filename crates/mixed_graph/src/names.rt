@@ -1,3 +1,5 @@
+//! The names of vertices.
+
 ghost use Rattle.std.specs.Prelude.{◌≡◌, ◌<◌, ◌≤◌, ◌↔◌, List, ℕ, [], ◌∷◌, ◌++◌, is_some, true, false, length, IfOk, IfSome, IfNone, OnOk, OnErr, IsErrOf, IsTrue, slice_get, slice_index_or};
 ghost use Rattle.std.specs.List.{list_all};
 ghost use Rattle.std.specs.Str.{IsUtf8};

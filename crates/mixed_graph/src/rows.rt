@@ -1,3 +1,5 @@
+//! Relations between vertices, a row for each.
+
 ghost use Rattle.std.specs.Prelude.{ℕ, ◌↔◌, IsTrue, slice_index};
 ghost use Rattle.mixed_graph.specs.Bits.{has};
 ghost use Rattle.mixed_graph.specs.Reached.{Reached, has_in_row};

@@ -1,3 +1,5 @@
+//! A text of bytes, as faults carry it.
+
 ghost use Rattle.std.specs.Prelude.{◌≡◌, IfOk};
 
 use std::alloc::{AllocError, Global};

@@ -1,3 +1,5 @@
+//! Rows on the two criteria.
+
 ghost use Rattle.std.specs.Prelude.{◌<◌};
 
 use crate::formulas::shown;

@@ -1,3 +1,5 @@
+//! Rows on effects under a condition.
+
 use crate::formulas::shown;
 use case_rows::{Members, graph, names, set};
 use conditional_id::{Conditional, identify_given};

@@ -1,3 +1,5 @@
+//! Rows on steps and derivations.
+
 use crate::formulas::{formula, is_formula, shown};
 use case_rows::{Path, graph, names, set};
 use do_derivation::{CheckFault, Derivation, Step, StepFault, StepPlace, apply, check, check_with};

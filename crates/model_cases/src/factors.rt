@@ -1,10 +1,12 @@
+//! Rows on the factors of districts.
+
 ghost use Rattle.std.specs.Prelude.{◌<◌};
 
 use crate::formulas::shown;
 use case_rows::{Members, graph, names, vertex};
-use district_factors::{Factor, FactorFault, factor};
-use districts::district_of;
 use do_derivation::{Lemma, Step, apply};
+use hedge::joined_sets::district_of;
+use identify::factors::{Factor, FactorFault, factor};
 use mixed_graph::{Graph, Names, VSet};
 use prob_expr::{Expr, Formula, are_term_sets, is_same};
 use serde_json::Value;

@@ -1,3 +1,5 @@
+//! Rows on folded models.
+
 use crate::model_texts::model_text;
 use crate::models::{is_accepted, model};
 use case_rows::{graph, set};

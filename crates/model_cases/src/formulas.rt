@@ -1,3 +1,5 @@
+//! Rows on formulas.
+
 ghost use Rattle.std.specs.Prelude.{◌≡◌, ◌≤◌, true, ⊤, IsTrue};
 ghost use Rattle.std.specs.Bool.{OnTrue};
 ghost use Rattle.prob_expr.specs.View.{view};

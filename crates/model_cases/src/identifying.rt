@@ -1,3 +1,5 @@
+//! Rows on identification and on the two models of a hedge.
+
 use crate::formulas::shown;
 use crate::model_texts::model_text;
 use crate::models::weight_text;
@@ -5,7 +7,7 @@ use case_rows::{Entries, Members, graph, hedge, names, set, text};
 use counter_models::{CounterPair, build};
 use do_rules::are_three_sets;
 use hedge::{Hedge, holds};
-use id_recursion::{Answer, identify};
+use identify::{Answer, identify};
 use mixed_graph::{Graph, VSet};
 use serde_json::Value;
 use std::alloc::Global;

@@ -1,3 +1,5 @@
+//! Rows on minimal sets.
+
 ghost use Rattle.std.specs.Prelude.{◌≡◌, ◌<◌};
 
 use case_rows::{Members, graph, number, pairs, set};

@@ -1,3 +1,5 @@
+//! Models as rows print them.
+
 use case_rows::Members;
 use finite_models::{Cause, Mechanism, Model, Part};
 use std::alloc::Global;

@@ -1,3 +1,5 @@
+//! Rows on independence and the rules.
+
 use case_rows::{Path, graph, number, set};
 use do_rules::{are_four_sets, are_three_sets, independence, rule1, rule2, rule3};
 use m_separation::OpenPath;

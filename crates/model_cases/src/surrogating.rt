@@ -1,3 +1,5 @@
+//! Rows on effects over experiments.
+
 use crate::formulas::shown;
 use case_rows::{Members, graph, names, set};
 use counter_models::CounterPair;

@@ -9,7 +9,8 @@ use Rattle.mixed_graph.proofs.MaskLaws.{empty_has}
 use Rattle.fractions.specs.Fractions.{IsEqual}
 use Rattle.fractions.proofs.FractionLaws.{equal_sym, equal_trans}
 use Rattle.finite_models.specs.Agreement.{AgreeObserved, AgreeUnder}
-use Rattle.finite_models.specs.Models.{FiniteModel, Fits, IsAssignment, IsPositiveModel, solution, agree, event_weight, intervene, weight_of, world_weight, total}
+use Rattle.finite_models.specs.Models.{FiniteModel, Fits, IsAssignment, IsPositiveModel, solution, agree, event_weight, intervene, weight_of}
+use Rattle.finite_models.specs.Models.{world_weight, total}
 use Rattle.finite_models.specs.Sums.{sum_over}
 use Rattle.finite_models.proofs.Bools.{and_first, and_second, same_truth}
 use Rattle.finite_models.proofs.Factors.{marginal}

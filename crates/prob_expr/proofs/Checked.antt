@@ -1,5 +1,6 @@
 -- What check accepts is made of terms, and each product in it has a factor.
-use Rattle.std.proofs.Common.{◌≡◌, ℕ, ◌+◌, Bool, true, false, not, ◌&&◌, Option, Some, None, Result, Ok, Err, if◌then◌else◌, List, [], ◌∷◌, length, refl, sym, ap}
+use Rattle.std.proofs.Common.{◌≡◌, ℕ, ◌+◌, Bool, true, false, not, ◌&&◌, Option, Some, None, Result, Ok, Err, if◌then◌else◌, List, [], ◌∷◌, length}
+use Rattle.std.proofs.Common.{refl, sym, ap}
 use Rattle.std.specs.Prelude.{All}
 use Rattle.std.proofs.lemmas.List.Elements.{All-nil, All-cons}
 use Rattle.mixed_graph.specs.Masks.{is_empty, is_below}
@@ -57,7 +58,8 @@ mutual
       record { terms = both (are_terms n p) (are_terms n q) top.terms bottom.terms; factors = both (has_factors p) (has_factors q) top.factors bottom.factors }
   checked_tree n def limit (named k) node after h = record { terms = refl; factors = refl }
 
-  checked_trees : (n : ℕ) (def : Option ℕ) (limit : ℕ) (ts : Trees) (node after : ℕ) → check_trees n def limit ts node ≡ Ok after → (are_terms_each n ts ≡ true) × (each_has ts ≡ true)
+  checked_trees : (n : ℕ) (def : Option ℕ) (limit : ℕ) (ts : Trees) (node after : ℕ) → check_trees n def limit ts node ≡ Ok after
+      → (are_terms_each n ts ≡ true) × (each_has ts ≡ true)
   checked_trees n def limit no_trees node after h = (refl, refl)
   checked_trees n def limit (tree t ts) node after h =
       let step = bind_ok (check_tree n def limit t node) (check_trees n def limit ts) after h in

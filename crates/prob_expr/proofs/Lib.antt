@@ -5,6 +5,7 @@ pub mod Checked
 pub mod Excluded
 pub mod FreeLaws
 mod FreeSteps
+mod Mentions
 pub mod Observed
 mod SameTrees
 pub mod ValueLaws

@@ -31,7 +31,8 @@ module _ (g : MixedGraph) (ok : IsMixedGraph g) (m : FiniteModel) (fit : Fits g 
       pub value_positive : (e : Tree) (s : ℕ → ℕ) → IsAssignment m.vertices m.size s → IsPositive (value (weights_of m) q e s)
       value_positive (prob a b c) s w = term_positive a b c s w
       value_positive (sum u e) s w =
-          add_over_positive (has u) m.size (IsAssignment m.vertices m.size) m.vertices (value (weights_of m) q e) s fit.positive_size (λ c i x il ui xl p. assignment_set m.vertices m.size c i x xl p) w (λ c p. value_positive e c p)
+          add_over_positive (has u) m.size (IsAssignment m.vertices m.size) m.vertices (value (weights_of m) q e) s fit.positive_size
+          (λ c i x il ui xl p. assignment_set m.vertices m.size c i x xl p) w (λ c p. value_positive e c p)
       value_positive (product ts) s w = product_positive ts s w
       value_positive (quotient x y) s w = div_positive (value (weights_of m) q x s) (value (weights_of m) q y s) (value_positive x s w) (value_positive y s w)
       value_positive (named k) s w = definitions k s w
@@ -39,7 +40,8 @@ module _ (g : MixedGraph) (ok : IsMixedGraph g) (m : FiniteModel) (fit : Fits g 
       -- and so has each product of expressions
       pub product_positive : (ts : Trees) (s : ℕ → ℕ) → IsAssignment m.vertices m.size s → IsPositive (product_value (weights_of m) q ts s)
       product_positive no_trees s w = record { top = omega arith; bottom = omega arith }
-      product_positive (tree t ts) s w = mul_positive (value (weights_of m) q t s) (product_value (weights_of m) q ts s) (value_positive t s w) (product_positive ts s w)
+      product_positive (tree t ts) s w = mul_positive (value (weights_of m) q t s) (product_value (weights_of m) q ts s) (value_positive t s w)
+          (product_positive ts s w)
 
   -- the definitions' values stay positive where definition k gets the value of an expression over them
   pub next_positive : (k : ℕ) (q : ℕ → (ℕ → ℕ) → Fraction) (d : Tree) → ArePositive q → ArePositive (λ j s. cond (eqb j k) (value (weights_of m) q d s) (q j s))
@@ -77,12 +79,16 @@ sum_same m q u e e' h s w =
     (λ c i x il ui xl p. assignment_set m.vertices m.size c i x xl p) w (λ c p. h c p)
 
 -- quotients with one positive bottom have the same value where their tops have
-pub top_same : (m : FiniteModel) (q : ℕ → (ℕ → ℕ) → Fraction) (e e' y : Tree) → ((s : ℕ → ℕ) → IsAssignment m.vertices m.size s → IsPositive (value (weights_of m) q y s)) → IsSame m q e e' → IsSame m q (quotient e y) (quotient e' y)
+pub top_same : (m : FiniteModel) (q : ℕ → (ℕ → ℕ) → Fraction) (e e' y : Tree)
+    → ((s : ℕ → ℕ) → IsAssignment m.vertices m.size s → IsPositive (value (weights_of m) q y s)) → IsSame m q e e' → IsSame m q (quotient e y) (quotient e' y)
 top_same m q e e' y p h s w =
-    div_equal (value (weights_of m) q e s) (value (weights_of m) q e' s) (value (weights_of m) q y s) (value (weights_of m) q y s) (p s w).top (h s w) (equal_refl (value (weights_of m) q y s) (p s w).bottom)
+    div_equal (value (weights_of m) q e s) (value (weights_of m) q e' s) (value (weights_of m) q y s) (value (weights_of m) q y s) (p s w).top (h s w)
+    (equal_refl (value (weights_of m) q y s) (p s w).bottom)
 
 -- quotients with one positive top have the same value where their positive bottoms have
-pub bottom_same : (m : FiniteModel) (q : ℕ → (ℕ → ℕ) → Fraction) (x e e' : Tree) → ((s : ℕ → ℕ) → IsAssignment m.vertices m.size s → IsPositive (value (weights_of m) q x s))
+pub bottom_same : (m : FiniteModel) (q : ℕ → (ℕ → ℕ) → Fraction) (x e e' : Tree)
+    → ((s : ℕ → ℕ) → IsAssignment m.vertices m.size s → IsPositive (value (weights_of m) q x s))
     → ((s : ℕ → ℕ) → IsAssignment m.vertices m.size s → IsPositive (value (weights_of m) q e s)) → IsSame m q e e' → IsSame m q (quotient x e) (quotient x e')
 bottom_same m q x e e' p r h s w =
-    div_equal (value (weights_of m) q x s) (value (weights_of m) q x s) (value (weights_of m) q e s) (value (weights_of m) q e' s) (r s w).top (equal_refl (value (weights_of m) q x s) (p s w).bottom) (h s w)
+    div_equal (value (weights_of m) q x s) (value (weights_of m) q x s) (value (weights_of m) q e s) (value (weights_of m) q e' s) (r s w).top
+    (equal_refl (value (weights_of m) q x s) (p s w).bottom) (h s w)

@@ -6,10 +6,12 @@ pub mod Fold
 pub mod Free
 pub mod Laws
 pub mod Listed
+pub mod Mentioned
 pub mod Same
 pub mod TermSets
 pub mod Terms
 pub mod Tree
 pub mod TreeCodes
 pub mod Values
+pub mod Uses
 pub mod View

@@ -33,6 +33,10 @@ pub record PlainTarget : Type 0 where
   pub y : ℕ
   pub given : ℕ
 
+-- the effect P(y | do(x))
+abbrev pub effect_on : (x y : ℕ) → PlainTarget
+effect_on x y = record { x = x; y = y; given = 0 }
+
 -- the target as a term
 abbrev pub term_of : PlainTarget → Tree
 term_of t = prob t.y t.x t.given

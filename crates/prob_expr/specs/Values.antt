@@ -54,4 +54,5 @@ effect m t s = probability m (has t.x) (has t.y) (has t.given) s
 
 -- the formula has the value of the effect in each positive model of the graph, at each assignment
 abbrev pub EqualsEffect : MixedGraph → PlainTarget → PlainFormula → Type 0
-EqualsEffect g t f = (m : FiniteModel) → Fits g m → IsPositiveModel m → (s : ℕ → ℕ) → IsAssignment m.vertices m.size s → IsEqual (value_of (weights_of m) f s) (effect m t s)
+EqualsEffect g t f = (m : FiniteModel) → Fits g m → IsPositiveModel m → (s : ℕ → ℕ) → IsAssignment m.vertices m.size s
+    → IsEqual (value_of (weights_of m) f s) (effect m t s)

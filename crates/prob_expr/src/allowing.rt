@@ -1,3 +1,5 @@
+//! Whether terms stand under allowed interventions.
+
 ghost use Rattle.std.specs.Prelude.{◌≡◌, map};
 ghost use Rattle.prob_expr.specs.Listed.{masks_of};
 ghost use Rattle.prob_expr.specs.View.{view, views, formula_view};

@@ -1,3 +1,5 @@
+//! The first fault of a formula.
+
 ghost use Rattle.std.specs.Prelude.{◌≡◌, ◌≤◌, map};
 ghost use Rattle.prob_expr.specs.TermSets.{are_term_sets};
 ghost use Rattle.prob_expr.specs.View.{view, views, formula_view};

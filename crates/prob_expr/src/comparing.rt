@@ -1,3 +1,5 @@
+//! Whether two expressions are the same tree.
+
 ghost use Rattle.std.specs.Prelude.{◌≡◌, ◌↔◌, IsTrue};
 ghost use Rattle.prob_expr.specs.View.{view, views};
 ghost use Rattle.prob_expr.specs.Same.{same_tree, same_trees};

@@ -1,3 +1,5 @@
+//! A copy of an expression.
+
 ghost use Rattle.std.specs.Prelude.{◌≡◌, IfOk};
 ghost use Rattle.prob_expr.specs.View.{view, views};
 

@@ -1,3 +1,5 @@
+//! Expressions, formulas and targets.
+
 use mixed_graph::VSet;
 
 /// An expression of probabilities.

@@ -1,3 +1,5 @@
+//! The free variables of a formula.
+
 ghost use Rattle.std.specs.Prelude.{◌≡◌, [], IfOk, get_or, map};
 ghost use Rattle.prob_expr.specs.Listed.{masks_of};
 ghost use Rattle.prob_expr.specs.View.{view, views, formula_view};

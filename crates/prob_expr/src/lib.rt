@@ -14,7 +14,9 @@ mod copying;
 mod expr;
 pub mod folding;
 mod freeing;
+mod mentioning;
 mod theory;
+mod using;
 mod visiting;
 
 pub use allowing::{is_allowed, is_do_free};
@@ -24,5 +26,7 @@ pub use copying::copy_expr;
 pub use expr::{Expr, Formula, Place, Target};
 pub use finite_models::cap;
 pub use freeing::{free, free_sets};
+pub use mentioning::mentioned;
 pub use theory::laws;
+pub use using::formula_uses_only;
 pub use visiting::Fold;

@@ -1,3 +1,5 @@
+//! The laws of formulas and of their values.
+
 ghost use Rattle.prob_expr.specs.Differences.{UnequalWeights, DifferenceExcludesFormula, ExperimentsExcludeFormula};
 ghost use Rattle.prob_expr.specs.Experiments.{ExperimentsFixValue};
 ghost use Rattle.prob_expr.specs.Laws.{AcceptedIsWhole, ValueReadsFree, ValuesArePositive, EffectsArePositive, EffectIsOverTotal, ObservedFixesValue, FormulaFixesEffect};

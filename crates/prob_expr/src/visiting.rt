@@ -1,3 +1,5 @@
+//! What is done at each node of an expression.
+
 ghost use Rattle.std.specs.Prelude.{ℕ, Result};
 
 use mixed_graph::VSet;

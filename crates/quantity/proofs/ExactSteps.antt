@@ -1,5 +1,6 @@
 -- Steps of the code of exact fractions, over plain numbers.
-use Rattle.std.proofs.Common.{ℕ, ◌+◌, ◌*◌, ◌/◌, ◌≡◌, ◌<◌, ◌≤◌, ◌&&◌, Bool, true, false, cond, leb, refl, sym, ap, ◌∙◌, subst, arith, mul-pos, Result, Ok, Err, div-le_self, le_trans}
+use Rattle.std.proofs.Common.{ℕ, ◌+◌, ◌*◌, ◌/◌, ◌≡◌, ◌<◌, ◌≤◌, ◌&&◌, Bool, true, false, cond, leb, refl, sym, ap, ◌∙◌, subst, arith, mul-pos, Result}
+use Rattle.std.proofs.Common.{Ok, Err, div-le_self, le_trans}
 use Rattle.std.proofs.Math.Nat.{dvd-mul_left}
 use Rattle.std.specs.Int.{◌∣◌}
 use Rattle.quantity.specs.declared.fault.QuantityFault.{QuantityFault}
@@ -38,7 +39,8 @@ product_lowest p q r s lq ls h k =
 
 pub product_positive : (p q r s : ℕ) → 1 ≤ q → 1 ≤ s → 1 ≤ (q / gcd_of r q) * (s / gcd_of p s)
 product_positive p q r s lq ls =
-    mul-pos (positive_part (gcd_of r q) (q / gcd_of r q) (subst (λ n. 1 ≤ n) (sym (gcd_right r q)) lq)) (positive_part (gcd_of p s) (s / gcd_of p s) (subst (λ n. 1 ≤ n) (sym (gcd_right p s)) ls))
+    mul-pos (positive_part (gcd_of r q) (q / gcd_of r q) (subst (λ n. 1 ≤ n) (sym (gcd_right r q)) lq))
+    (positive_part (gcd_of p s) (s / gcd_of p s) (subst (λ n. 1 ≤ n) (sym (gcd_right p s)) ls))
 
 pub lowest_positive : (p q : ℕ) → 1 ≤ q → 1 ≤ q / gcd_of p q
 lowest_positive p q le = positive_part (gcd_of p q) (q / gcd_of p q) (subst (λ n. 1 ≤ n) (sym (gcd_right p q)) le)
@@ -77,4 +79,5 @@ pub wide_top : (l t : ℕ) → most < t → Err TooWide ≡ both l t
 wide_top l t h = no_top (leb l most) (lowest t l) ∙ sym (ap (λ b. cond (leb l most && b) (Ok (lowest t l)) (Err TooWide)) (over t h))
 
 pub fits : (l t : ℕ) → l ≤ most → t ≤ most → Ok (lowest t l) ≡ both l t
-fits l t p q = sym (let a : leb l most ≡ true = grind arith in let b : leb t most ≡ true = grind arith in ap (λ x. cond (x && leb t most) (Ok (lowest t l)) (Err TooWide)) a ∙ ap (λ x. cond x (Ok (lowest t l)) (Err TooWide)) b)
+fits l t p q = sym (let a : leb l most ≡ true = grind arith in let b : leb t most ≡ true = grind arith in
+    ap (λ x. cond (x && leb t most) (Ok (lowest t l)) (Err TooWide)) a ∙ ap (λ x. cond x (Ok (lowest t l)) (Err TooWide)) b)

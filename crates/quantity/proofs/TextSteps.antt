@@ -14,9 +14,11 @@ zeros_before n =
 
 -- the whole part and the fraction part, as the code writes them
 pub units_written : (n : ℕ) → decimal (n / 10 ^ 18) ++ 46 ∷ padded_integral (format_spec 32 0 4 18 (2 ^ 64 - 1)) false [] (decimal (n % 10 ^ 18)) ≡ units_text n
-units_written n = ap (λ xs. decimal (n / 10 ^ 18) ++ 46 ∷ xs) (zeros_before (n % 10 ^ 18)) ∙ sym (append_assoc (decimal (n / 10 ^ 18)) (46 ∷ []) (eighteen_digits (n % 10 ^ 18)))
+units_written n = ap (λ xs. decimal (n / 10 ^ 18) ++ 46 ∷ xs) (zeros_before (n % 10 ^ 18))
+    ∙ sym (append_assoc (decimal (n / 10 ^ 18)) (46 ∷ []) (eighteen_digits (n % 10 ^ 18)))
 
 pub length-eighteen_digits : (n : ℕ) → n < 10 ^ 18 → length (eighteen_digits n) ≡ 18
 length-eighteen_digits n lt =
     let short = length-decimal-le_wide 18 n (omega arith) lt (omega arith) in
-    length-append (replicate (18 - length (decimal n)) 48) (decimal n) ∙ ap (λ k. k + length (decimal n)) (length-replicate (18 - length (decimal n)) 48) ∙ omega arith
+    length-append (replicate (18 - length (decimal n)) 48) (decimal n) ∙ ap (λ k. k + length (decimal n)) (length-replicate (18 - length (decimal n)) 48)
+    ∙ omega arith

@@ -5,7 +5,8 @@ use Rattle.fractions.specs.Fractions.{Fraction, over, IsEqual}
 use Rattle.quantity.specs.declared.fault.QuantityFault.TheVariants.{ZeroBelow}
 use Rattle.quantity.specs.Kinds.{Pair, Kind}
 
--- the numbers of a ratio hold it, the numbers of a sum, product or quotient hold the sum, product or quotient of what the operands hold, and what holds a fraction holds each equal one
+-- the numbers of a ratio hold it, the numbers of a sum, product or quotient hold the sum, product or quotient of what the operands hold, and what
+-- holds a fraction holds each equal one
 pub record Keeps (kind : Kind) (holds : Pair → Fraction → Type 0) : Type 0 where
   pub ratio : (p q : ℕ) → 1 ≤ q → holds (kind.from_ratio p q) (over p q)
   pub add : (a b c : Pair) (f g : Fraction) → holds a f → holds b g → kind.add a b ≡ Ok c → holds c (Fractions.add f g)

@@ -1,3 +1,5 @@
+//! Bounds in units of 10^-18.
+
 ghost use Rattle.std.specs.Prelude.{ℕ, ◌≡◌, ◌≤◌, ◌-◌, ◌^◌, IfOk, string_bytes};
 ghost use Rattle.quantity.specs.Texts.{units_text};
 

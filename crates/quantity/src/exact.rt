@@ -1,3 +1,5 @@
+//! Exact fractions in lowest terms.
+
 ghost use Rattle.std.specs.Prelude.{ℕ, ◌≡◌, ◌≤◌, ◌-◌, ◌^◌, ◌+◌, ◌*◌, cond, leb};
 ghost use Rattle.quantity.specs.Divisors.{gcd_of};
 ghost use Rattle.quantity.specs.Kinds.{most};

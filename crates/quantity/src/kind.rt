@@ -1,3 +1,5 @@
+//! What a kind of quantity offers.
+
 ghost use Rattle.std.specs.Prelude.{ℕ, ◌≡◌, ◌≤◌, ◌^◌, ◌++◌, OnOk, OnErr};
 ghost use Rattle.fractions.specs.Fractions.{Fraction};
 ghost use Rattle.quantity.specs.Kinds.{Pair, Kind, gives};

@@ -1,3 +1,5 @@
+//! Products and sums that fit their width.
+
 ghost use Rattle.std.specs.Prelude.{ℕ, ◌≡◌, ◌+◌, ◌*◌, ◌-◌, ◌<◌, ◌≤◌, ◌^◌, IfOk, IfErr, OnErr};
 
 use crate::fault::QuantityFault;

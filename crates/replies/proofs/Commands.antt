@@ -1,7 +1,7 @@
 -- What holds of each command: its words ask for one request, and its answers have one outcome, which is one that commands answer.
 use Rattle.std.proofs.Common.{◌≡◌, ℕ, List, Option, Some}
 use Rattle.std.proofs.lemmas.Option.{none-some}
-use Rattle.word_forms.specs.Form.{Text, Use}
+use Rattle.command_words.specs.Form.{Text, Use}
 use Rattle.dag_reader.specs.declared.graph.ReadGraph.{ReadGraph}
 use Rattle.dag_reader.specs.RoundTrip.{AreSame}
 use Rattle.replies.specs.declared.outcome.Outcome.{Outcome}
@@ -19,11 +19,13 @@ pub record IsLawful (c : CommandForm) : Type 0 where
   pub words_once : (q : c.Request) → OneOutcome (c.by_words q)
   pub graph_once : (q : c.Request) (bytes : List ℕ) → OneOutcome (IsAnswerOn bytes (λ g. c.by_graph q g))
   pub both_once : (q : c.Request) (bytes other : List ℕ) → OneOutcome (IsAnswerOn bytes (λ g. c.by_both q g other))
-  pub file_alone : (q : c.Request) (second : Text) (g h : ReadGraph) → AreSame g h → c.second q ≡ Some second → (o : Outcome) (text : List ℕ) → c.by_graph q g o text → c.continues q h → ⊥
+  pub file_alone : (q : c.Request) (second : Text) (g h : ReadGraph) → AreSame g h → c.second q ≡ Some second → (o : Outcome) (text : List ℕ)
+      → c.by_graph q g o text → c.continues q h → ⊥
 
 module _ {Request : Type 0} {asks : List Use → Request → Type 0} (one : (uses : List Use) (q r : Request) → asks uses q → asks uses r → r ≡ q) where
   -- a command without an input is lawful if its answers have one outcome, which is one that commands answer
-  pub lawful_on_words : {answer : Request → Outcome → List ℕ → Type 0} → ((q : Request) (o : Outcome) (text : List ℕ) → answer q o text → IsAnswered o) → ((q : Request) → OneOutcome (answer q))
+  pub lawful_on_words : {answer : Request → Outcome → List ℕ → Type 0} → ((q : Request) (o : Outcome) (text : List ℕ) → answer q o text → IsAnswered o)
+      → ((q : Request) → OneOutcome (answer q))
       → IsLawful (on_words Request asks answer)
   lawful_on_words answered once = record {
     one_request = one;
@@ -38,7 +40,8 @@ module _ {Request : Type 0} {asks : List Use → Request → Type 0} (one : (use
   }
 
   -- so is a command on the graph of a file, if that is true for the bytes of each file
-  pub lawful_on_file : {file : Request → Text} {answer : Request → ReadGraph → Outcome → List ℕ → Type 0} → ((q : Request) (g : ReadGraph) (o : Outcome) (text : List ℕ) → answer q g o text → IsAnswered o)
+  pub lawful_on_file : {file : Request → Text} {answer : Request → ReadGraph → Outcome → List ℕ → Type 0}
+      → ((q : Request) (g : ReadGraph) (o : Outcome) (text : List ℕ) → answer q g o text → IsAnswered o)
       → ((q : Request) (bytes : List ℕ) → OneOutcome (IsAnswerOn bytes (λ g. answer q g))) → IsLawful (on_file Request asks file answer)
   lawful_on_file answered once = record {
     one_request = one;
@@ -53,11 +56,15 @@ module _ {Request : Type 0} {asks : List Use → Request → Type 0} (one : (use
   }
 
   -- what is answered on the graph alone, and on both inputs
-  pub lawful_on_two_inputs : {file : Request → Text} {second : Request → Option Text} {alone : Request → ReadGraph → Outcome → List ℕ → Type 0} {continues : Request → ReadGraph → Type 0}
-      {answer : Request → ReadGraph → List ℕ → Outcome → List ℕ → Type 0} → ((q : Request) (g : ReadGraph) (o : Outcome) (text : List ℕ) → alone q g o text → IsAnswered o)
+  pub lawful_on_two_inputs : {file : Request → Text} {second : Request → Option Text} {alone : Request → ReadGraph → Outcome → List ℕ → Type 0}
+      {continues : Request → ReadGraph → Type 0}
+      {answer : Request → ReadGraph → List ℕ → Outcome → List ℕ → Type 0}
+      → ((q : Request) (g : ReadGraph) (o : Outcome) (text : List ℕ) → alone q g o text → IsAnswered o)
       → ((q : Request) (g : ReadGraph) (other : List ℕ) (o : Outcome) (text : List ℕ) → answer q g other o text → IsAnswered o)
-      → ((q : Request) (bytes : List ℕ) → OneOutcome (IsAnswerOn bytes (λ g. alone q g))) → ((q : Request) (bytes other : List ℕ) → OneOutcome (IsAnswerOn bytes (λ g. answer q g other)))
-      → ((q : Request) (name : Text) (g h : ReadGraph) → AreSame g h → second q ≡ Some name → (o : Outcome) (text : List ℕ) → alone q g o text → continues q h → ⊥)
+      → ((q : Request) (bytes : List ℕ) → OneOutcome (IsAnswerOn bytes (λ g. alone q g)))
+      → ((q : Request) (bytes other : List ℕ) → OneOutcome (IsAnswerOn bytes (λ g. answer q g other)))
+      → ((q : Request) (name : Text) (g h : ReadGraph) → AreSame g h → second q ≡ Some name → (o : Outcome) (text : List ℕ) → alone q g o text → continues q h
+      → ⊥)
       → IsLawful (on_two_inputs Request asks file second alone continues answer)
   lawful_on_two_inputs alone_answered answered alone_once once file_alone = record {
     one_request = one;

@@ -20,7 +20,8 @@ use Rattle.replies.specs.Observed.{observed_names, IsObservedGraph, HoldsGraph}
 
 -- graphs with the same vertices and edges are equal
 same_as : (g h : MixedGraph) → g.vertices ≡ h.vertices → ((u v : ℕ) → g.arrow u v ≡ h.arrow u v) → ((u v : ℕ) → g.both u v ≡ h.both u v) → g ≡ h
-same_as g h n a b = ap (λ (k : ℕ). let m : MixedGraph = record { vertices = k; arrow = g.arrow; both = g.both } in m) n ∙ same_graph h.vertices g.arrow h.arrow g.both h.both a b
+same_as g h n a b = ap (λ (k : ℕ). let m : MixedGraph = record { vertices = k; arrow = g.arrow; both = g.both } in m) n
+    ∙ same_graph h.vertices g.arrow h.arrow g.both h.both a b
 
 -- two tests of one fact are equal
 same_test : (x y : Bool) (P : Type 0) → (IsTrue x ↔ P) → (IsTrue y ↔ P) → x ≡ y
@@ -52,7 +53,8 @@ one_projection g l p q a b = same_as p q (a.vertices ∙ sym b.vertices) arrows 
 
 one_observed : (g : MixedGraph) (l : ℕ → Bool) (q p : MixedGraph) → IsObserved g l q → IsObserved g l p → q ≡ p
 one_observed g l q p a b =
-    a.renumbers ∙ ap (λ (m : MixedGraph). renumbered m (observed_below l g.vertices)) (one_projection g l a.projection b.projection a.projects b.projects) ∙ sym b.renumbers
+    a.renumbers ∙ ap (λ (m : MixedGraph). renumbered m (observed_below l g.vertices)) (one_projection g l a.projection b.projection a.projects b.projects)
+    ∙ sym b.renumbers
 
 -- graphs that are the same have one observed graph
 pub one_observed_graph : (g h : ReadGraph) → AreSame g h → (q p : MixedGraph) → IsObservedGraph g q → IsObservedGraph h p → q ≡ p
@@ -71,7 +73,8 @@ same_observed_names g h s =
 -- the observed graph of one that was read is a mixed graph
 pub observed_is_mixed : (g : ReadGraph) (q : MixedGraph) → IsObservedGraph g q → IsMixedGraph q
 observed_is_mixed g q is = subst IsMixedGraph (sym is.renumbers)
-    (IsMixedGraph-renumbered is.projection (observed_below (has g.latent.bits) g.graph.n) (IsMixedGraph-projection (graph_of g.graph) is.projection (has g.latent.bits) g.graph.valid is.projects))
+    (IsMixedGraph-renumbered is.projection (observed_below (has g.latent.bits) g.graph.n)
+    (IsMixedGraph-projection (graph_of g.graph) is.projection (has g.latent.bits) g.graph.valid is.projects))
 
 -- each vertex of it has a name
 pub observed_named : (g : ReadGraph) (q : MixedGraph) → IsObservedGraph g q → length (observed_names g) ≡ q.vertices

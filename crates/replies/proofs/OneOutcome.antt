@@ -40,11 +40,13 @@ one_of_three a b c answer among ab ac bc o p text line x y = go (among o text x)
 
 -- an answer that has one outcome on graphs that are the same has one on the graph that the bytes hold
 pub one_on_graph : (bytes : List ℕ) (answer : ReadGraph → Outcome → List ℕ → Type 0)
-    → ((g h : ReadGraph) → AreSame g h → (o p : Outcome) (text line : List ℕ) → answer g o text → answer h p line → o ≡ p) → OneOutcome (IsAnswerOn bytes answer)
+    → ((g h : ReadGraph) → AreSame g h → (o p : Outcome) (text line : List ℕ) → answer g o text → answer h p line → o ≡ p)
+    → OneOutcome (IsAnswerOn bytes answer)
 one_on_graph bytes answer once o p text line a b = once a.graph b.graph (one_reading bytes a.graph b.graph a.holds b.holds) o p text line a.given b.given
 
 -- the same of an answer for lists in the observed graph
-pub one_for_lists : {L : Type 0} (bytes : List ℕ) (lists : ReadGraph → L) (answer : MixedGraph → L → Outcome → List ℕ → Type 0) → ((g h : ReadGraph) → AreSame g h → lists h ≡ lists g)
+pub one_for_lists : {L : Type 0} (bytes : List ℕ) (lists : ReadGraph → L) (answer : MixedGraph → L → Outcome → List ℕ → Type 0)
+    → ((g h : ReadGraph) → AreSame g h → lists h ≡ lists g)
     → ((g : ReadGraph) (q : MixedGraph) → IsObservedGraph g q → OneOutcome (answer q (lists g)))
     → OneOutcome (IsAnswerOn bytes (λ g o text. (q : MixedGraph) × IsObservedGraph g q × answer q (lists g) o text))
 one_for_lists {L} bytes lists answer same once = one_on_graph bytes (λ g o text. (q : MixedGraph) × IsObservedGraph g q × answer q (lists g) o text) go

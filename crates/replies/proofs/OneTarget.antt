@@ -7,7 +7,8 @@ use Rattle.mixed_graph.specs.Sets.{Within}
 use Rattle.mixed_graph.proofs.Masks.{same_from_has, zero_from_empty}
 use Rattle.targets.specs.declared.fault.TargetFault.{TargetFault}
 use Rattle.targets.specs.declared.fault.TargetFault.TheVariants.{Unknown, Latent, Twice, EmptyY, EmptyX}
-use Rattle.targets.specs.Targets.{NameFault, unknown, latent, twice, IsListedSet, IsFaultOfTarget, Lists, AreSets, EffectLists, effect_fault, AreEffectSets, IsEffectFault}
+use Rattle.targets.specs.Targets.{NameFault, unknown, latent, twice, IsListedSet, IsFaultOfTarget, Lists, AreSets, EffectLists, effect_fault}
+use Rattle.targets.specs.Targets.{AreEffectSets, IsEffectFault}
 use Rattle.replies.specs.Observed.{IsTargetRefusal}
 
 -- a list names one set
@@ -15,7 +16,8 @@ pub one_set : (observed list : List (List ℕ)) (a b : ℕ) → IsListedSet obse
 one_set observed list a b s t = same_from_has b a (λ v. t v ∙ sym (s v))
 
 -- where no name is at fault and neither list is empty there is no fault
-pub no_fault_of : (first : Option NameFault) (y x : List (List ℕ)) (f : TargetFault) → first ≡ None → (y ≡ [] → ⊥) → (x ≡ [] → ⊥) → IsFaultOfTarget first y x f → ⊥
+pub no_fault_of : (first : Option NameFault) (y x : List (List ℕ)) (f : TargetFault) → first ≡ None → (y ≡ [] → ⊥) → (x ≡ [] → ⊥)
+    → IsFaultOfTarget first y x f → ⊥
 no_fault_of first y x (Unknown t) none some_y some_x h = none-some (unknown t) (sym none ∙ h)
 no_fault_of first y x (Latent t) none some_y some_x h = none-some (latent t) (sym none ∙ h)
 no_fault_of first y x (Twice t) none some_y some_x h = none-some (twice t) (sym none ∙ h)
@@ -49,7 +51,8 @@ no_effect_fault l x y f s h = no_fault_of (effect_fault l) l.y some_list f s.no_
 pub same_three : (P : ℕ → ℕ → ℕ → Type 0) (l : Lists) (x y w x' y' w' : ℕ) → AreSets l x y w → AreSets l x' y' w' → P x' y' w' → P x y w
 same_three P l x y w x' y' w' s t p =
     subst (λ (k : ℕ). P k y w) (one_set l.observed l.x x x' s.set_x t.set_x)
-    (subst (λ (k : ℕ). P x' k w) (one_set l.observed l.y y y' s.set_y t.set_y) (subst (λ (k : ℕ). P x' y' k) (one_set l.observed l.given w w' s.set_given t.set_given) p))
+    (subst (λ (k : ℕ). P x' k w) (one_set l.observed l.y y y' s.set_y t.set_y)
+    (subst (λ (k : ℕ). P x' y' k) (one_set l.observed l.given w w' s.set_given t.set_given) p))
 
 -- and so of the two of an effect
 pub same_two : (P : ℕ → ℕ → Type 0) (l : EffectLists) (x y x' y' : ℕ) → AreEffectSets l x y → AreEffectSets l x' y' → P x' y' → P x y
@@ -74,5 +77,6 @@ found_below s (suc n) = elim (found_below s n) [
 pub some_member : (n mask : ℕ) → Within n (has mask) → 0 < mask → (v : ℕ) × IsTrue (has mask v)
 some_member n mask within some = elim (found_below (has mask) n) [
   | inl found ↦ found
-  | inr none ↦ absurd (let none_at : mask ≡ 0 = zero_from_empty mask (λ v. false_from_ne_true (has mask v) (λ e. let f = none v (within v e) in absurd cc)) in omega arith)
+  | inr none ↦ absurd (let none_at : mask ≡ 0 = zero_from_empty mask (λ v. false_from_ne_true (has mask v) (λ e. let f = none v (within v e) in absurd cc)) in
+      omega arith)
 ]

@@ -28,5 +28,6 @@ path_below g valid x y w vertices marks count p i h =
     rw e at r
 
 -- so that it can be printed
-pub path_printable : (g : MixedGraph) → IsMixedGraph g → (x y w : ℕ → Bool) (path : OpenPath) → IsOpenPath g x y w path.vertices path.marks path.count → IsPrintablePath g.vertices path
+pub path_printable : (g : MixedGraph) → IsMixedGraph g → (x y w : ℕ → Bool) (path : OpenPath) → IsOpenPath g x y w path.vertices path.marks path.count
+    → IsPrintablePath g.vertices path
 path_printable g valid x y w path o = record { some = o.some; few = o.few; below = path_below g valid x y w path.vertices path.marks path.count o }

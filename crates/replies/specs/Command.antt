@@ -1,11 +1,12 @@
 -- What a command is.
 use Rattle.std.specs.Prelude.{ℕ, ◌≡◌, List, Option, Some, None}
-use Rattle.word_forms.specs.Form.{Text, Use}
+use Rattle.command_words.specs.Form.{Text, Use}
 use Rattle.dag_reader.specs.declared.graph.ReadGraph.{ReadGraph}
 use Rattle.replies.specs.declared.outcome.Outcome.{Outcome}
 
 -- A command: what it is asked for, and when uses of its words ask for that; its inputs, where it has them;
--- and its answers, by the words alone, on the graph of the file where that alone decides, and on the graph and the bytes of the second input, where the graph is accepted for it.
+-- and its answers, by the words alone, on the graph of the file where that alone decides, and on the graph and the bytes of the second input, where
+-- the graph is accepted for it.
 pub record CommandForm : Type 1 where
   pub Request : Type 0
   pub asks : List Use → Request → Type 0
@@ -43,7 +44,8 @@ on_file Request asks file answer = record {
 }
 
 -- a command on the graph of a file and on a second input
-abbrev pub on_two_inputs : (Request : Type 0) → (List Use → Request → Type 0) → (Request → Text) → (Request → Option Text) → (Request → ReadGraph → Outcome → List ℕ → Type 0)
+abbrev pub on_two_inputs : (Request : Type 0) → (List Use → Request → Type 0) → (Request → Text) → (Request → Option Text)
+    → (Request → ReadGraph → Outcome → List ℕ → Type 0)
     → (Request → ReadGraph → Type 0) → (Request → ReadGraph → List ℕ → Outcome → List ℕ → Type 0) → CommandForm
 on_two_inputs Request asks file second alone continues answer = record {
   Request = Request;
@@ -60,7 +62,8 @@ on_two_inputs Request asks file second alone continues answer = record {
 pub record AsksNothing (c : CommandForm) (uses : List Use) : Type 0 where
   pub nothing : (q : c.Request) → c.asks uses q → ⊥
 
--- What is left to answer once a graph was accepted: the name of the second input, the most bytes that it may have, what is known of what was kept of the graph, and the answer on the bytes.
+-- What is left to answer once a graph was accepted: the name of the second input, the most bytes that it may have, what is known of what was kept of
+-- the graph, and the answer on the bytes.
 pub record Remainder : Type 1 where
   pub second : Text
   pub limit : ℕ

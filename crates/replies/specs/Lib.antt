@@ -3,3 +3,4 @@ pub mod Outcomes
 pub mod OneOutcome
 pub mod Lines
 pub mod Command
+pub mod Refusals

@@ -8,7 +8,7 @@ use Rattle.dag_reader.specs.Reads.{Reads}
 use Rattle.latent_projection.specs.Renumbering.{IsObserved, observed_below, names_at}
 use Rattle.targets.specs.declared.fault.TargetFault.{TargetFault}
 use Rattle.targets.specs.Targets.{listed, Lists, AreSets, IsTargetFault}
-use Rattle.name_text.specs.Lines.{line_of}
+use Rattle.answer_text.specs.Lines.{line_of}
 use Rattle.targets.specs.FaultTexts.{target_fault_text}
 use Rattle.replies.specs.declared.outcome.Outcome.{Outcome}
 use Rattle.replies.specs.declared.outcome.Outcome.TheVariants.{Graph}

@@ -1,9 +1,11 @@
+//! The lists of an effect, given or taken from the diagram.
+
 ghost use Rattle.std.specs.Prelude.{◌≡◌, IfOk, length, option_map};
 ghost use Rattle.mixed_graph.specs.Bits.{has};
 ghost use Rattle.mixed_graph.specs.Names.{texts};
 ghost use Rattle.mixed_graph.specs.Sets.{Within};
 ghost use Rattle.mixed_graph.specs.Shown.{graph_of};
-ghost use Rattle.word_lists.specs.Views.{names_in};
+ghost use Rattle.command_words.specs.ListViews.{names_in};
 ghost use Rattle.targets.specs.Targets.{listed};
 ghost use Rattle.replies.specs.Observed.{observed_names, IsObservedGraph};
 

@@ -1,3 +1,5 @@
+//! How a run may end, and the reply of a command.
+
 ghost use Rattle.std.specs.Prelude.{◌≡◌};
 
 use std::alloc::Global;

@@ -1,3 +1,5 @@
+//! The line of an open path.
+
 ghost use Rattle.std.specs.Prelude.{◌≡◌, ◌++◌, ◌<◌, ◌≤◌, ℕ, OnOk, length, slice_index};
 ghost use Rattle.replies.specs.Lines.{open_text};
 

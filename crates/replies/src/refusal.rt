@@ -1,5 +1,7 @@
+//! The reply to names and to graphs with a fault.
+
 ghost use Rattle.std.specs.Prelude.{◌≡◌, IfOk, OnOk};
-ghost use Rattle.name_text.specs.Lines.{line_of};
+ghost use Rattle.answer_text.specs.Lines.{line_of};
 ghost use Rattle.dag_reader.specs.FaultTexts.{graph_fault_text};
 ghost use Rattle.targets.specs.FaultTexts.{target_fault_text};
 

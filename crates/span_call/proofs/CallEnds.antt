@@ -17,7 +17,8 @@ ended bytes words out_before out err_before err sizes status are small = record 
 }
 
 -- where nothing was written, any end with a status above 9 is one
-pub silent : (bytes : List ℕ) (words : List Span) (out err : List ℕ) (sizes : Sizes) (status : ℕ) → 10 ≤ status → sizes ≡ record { out = 0; err = 0 } → IsEnd bytes words out out err err sizes status
+pub silent : (bytes : List ℕ) (words : List Span) (out err : List ℕ) (sizes : Sizes) (status : ℕ) → 10 ≤ status → sizes ≡ record { out = 0; err = 0 }
+    → IsEnd bytes words out out err err sizes status
 silent bytes words out err sizes status high none = record {
   not_text = λ nine. absurd (omega (arith, nine, high));
   are_texts = λ small. absurd (omega (arith, small, high));

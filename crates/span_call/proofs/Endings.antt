@@ -1,6 +1,6 @@
 -- What statuses 6 and 7 say of a run over spans.
 use Rattle.std.proofs.Common.{◌≡◌, ℕ, Bool, true, false, List, is_none, refl, sym, ◌∙◌, arith}
-use Rattle.word_forms.specs.Form.{Text}
+use Rattle.command_words.specs.Form.{Text}
 use Rattle.causal_io.specs.Causes.{Rose}
 use Rattle.spans.specs.declared.Span.{Span}
 use Rattle.spans.specs.declared.Input.{Input}

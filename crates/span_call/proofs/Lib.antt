@@ -1,4 +1,8 @@
 pub mod CallEnds
+mod Contents
 mod Counts
 mod Endings
 mod Telling
+mod Claims
+mod Completing
+pub mod Replying

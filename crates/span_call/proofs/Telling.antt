@@ -1,6 +1,6 @@
 -- What is told of inputs is told of a request that the words ask for.
 use Rattle.std.proofs.Common.{◌≡◌, ℕ, List, option_map, sym, subst}
-use Rattle.word_forms.specs.Form.{Text}
+use Rattle.command_words.specs.Form.{Text}
 use Rattle.spans.specs.declared.Span.{Span}
 use Rattle.spans.specs.Words.{texts}
 use Rattle.command_run.specs.Commands.{Asks, file_of, second_of}
@@ -10,7 +10,8 @@ use Rattle.causal_cli.specs.declared.inputs.Inputs.{Inputs}
 use Rattle.span_call.specs.Wanted.{AreTold, IsTold, TellsInputs}
 use Rattle.span_call.specs.declared.wanted.Wanted.{Wanted}
 
-pub telling : (bytes : List ℕ) (words : List Span) (before names : List ℕ) (w : Wanted) (read : List Text) (i : Inputs) → read ≡ texts bytes words → AreInputs read i
+pub telling : (bytes : List ℕ) (words : List Span) (before names : List ℕ) (w : Wanted) (read : List Text) (i : Inputs) → read ≡ texts bytes words
+    → AreInputs read i
     → IsTold i before names w → TellsInputs bytes words before names w
 telling bytes words before names w read i same (q, asks, are) told = record {
   request = q;

@@ -1,6 +1,6 @@
 -- What a call over spans of bytes gives.
 use Rattle.std.specs.Prelude.{ℕ, ◌≡◌, [], List, Some, true, false, is_none}
-use Rattle.word_forms.specs.Form.{Text}
+use Rattle.command_words.specs.Form.{Text}
 use Rattle.spans.specs.declared.Span.{Span}
 use Rattle.spans.specs.declared.Input.{Input}
 use Rattle.spans.specs.Parts.{place_named, content_named}
@@ -8,10 +8,12 @@ use Rattle.spans.specs.Words.{texts}
 use Rattle.span_call.specs.declared.Sizes.{Sizes}
 use Rattle.span_call.specs.Rooms.{ShowsText}
 use Rattle.command_run.specs.Run.{Stream, Run, Ended, Unread, Unwritten}
+use Rattle.command_run.specs.Complete.{InputsAreKnown, Complete}
+use Rattle.causal_cli.specs.Calls.{Call, call_on}
 use Rattle.causal_cli.specs.Commands.{commands}
-use Rattle.command_run.specs.Complete.{Complete}
 use Rattle.causal_cli.specs.Drawn.{RightAsDrawn}
 use Rattle.causal_cli.specs.Headline.{Headline, HeadlineOfCheck}
+use Rattle.causal_cli.specs.Refuted.{RefutedAsDrawn}
 
 -- the run is one over these words and inputs: its words are the spans' texts, what it holds under a name is the first input of that name,
 -- and a read fails only where no input has the name
@@ -30,16 +32,23 @@ pub record Shows (s : Stream) (before room : List ℕ) (size : ℕ) : Type 0 whe
   pub wrote : s.after ≡ Some text
   pub shown : ShowsText text before room size
 
--- a run over the words and the inputs ended with this status, and the two rooms show what it wrote
+-- what was asked of a run and what it wrote
+abbrev pub call_of : Run → Call
+call_of r = call_on r.words r.held r.out.before r.out.after
+
+-- A run over the words and the inputs ended with this status, and the two rooms show what it wrote. Its inputs tell what they hold, so that the
+-- status is that of each defined answer.
 pub record Called (bytes : List ℕ) (words : List Span) (inputs : List Input) (out_before out err_before err : List ℕ) (sizes : Sizes) (code : ℕ) : Type 0 where
   pub run : Run
   pub line : Stream
   pub is_run : IsRunOf run bytes words inputs
   pub ended : Ended commands run line code
   pub complete : Complete commands run code
-  pub headline : Headline run code
-  pub checked : HeadlineOfCheck run code
-  pub drawn : RightAsDrawn run code
+  pub told : InputsAreKnown commands run
+  pub headline : Headline (call_of run) code
+  pub checked : HeadlineOfCheck (call_of run) code
+  pub drawn : RightAsDrawn (call_of run) code
+  pub refuted : RefutedAsDrawn (call_of run) code
   pub shows_out : Shows run.out out_before out sizes.out
   pub shows_err : Shows line err_before err sizes.err
 

@@ -1,6 +1,6 @@
 -- What a call tells of the inputs that words may ask for.
 use Rattle.std.specs.Prelude.{ℕ, ◌≡◌, ◌+◌, ◌++◌, List, [], length, Option, Some, None, option_map}
-use Rattle.word_forms.specs.Form.{Text}
+use Rattle.command_words.specs.Form.{Text}
 use Rattle.spans.specs.declared.Span.{Span}
 use Rattle.spans.specs.Words.{texts}
 use Rattle.command_run.specs.Commands.{Asks, Request, file_of, second_of}

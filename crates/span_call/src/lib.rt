@@ -6,6 +6,7 @@ ghost use Rattle.span_call.specs.Called.{Called, LacksInput, IsCutShort};
 ghost use Rattle.span_call.specs.Ends.{IsEnd};
 
 mod ends;
+pub mod kept;
 mod wanted;
 
 use causal_cli::run;

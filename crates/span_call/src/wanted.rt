@@ -6,7 +6,7 @@ ghost use Rattle.span_call.specs.Wanted.{TellsInputs, IsTold, AskForNothing, byt
 
 use crate::ends::{Arguments, call_words, show};
 use causal_cli::{Inputs, inputs_of};
-use request_values::RequestFault;
+use command_words::typed::RequestFault;
 use spans::Span;
 use std::alloc::{AllocError, Global};
 

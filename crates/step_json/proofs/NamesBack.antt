@@ -14,7 +14,8 @@ same names v = (bytes_eq-Decides (name_of names v) (name_of names v)).1 refl
 
 -- a name that differs from those before it stands at its place
 index_back : (names : List (List ℕ)) (v : ℕ) → AreNames names → v < length names → index_of names (name_of names v) ≡ v
-index_back names v are lt = position_or_len_is (bytes_eq (name_of names v)) names v [] (omega (arith, lt)) (λ i less. false_from_ne_true _ (λ e. are.distinct i v [] less lt (sym ((bytes_eq-Decides _ _).0 e)))) (λ _. same names v)
+index_back names v are lt = position_or_len_is (bytes_eq (name_of names v)) names v [] (omega (arith, lt))
+    (λ i less. false_from_ne_true _ (λ e. are.distinct i v [] less lt (sym ((bytes_eq-Decides _ _).0 e)))) (λ _. same names v)
 
 is_there : (names : List (List ℕ)) (v : ℕ) → v < length names → is_named names (name_of names v) ≡ true
 is_there names v lt = list_any_at (bytes_eq (name_of names v)) names v [] lt (same names v)

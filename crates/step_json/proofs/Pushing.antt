@@ -19,7 +19,8 @@ before_none [] = refl
 before_none (d ∷ ds) = ap (item d) (before_none ds)
 
 -- One value more: item i of the list whose items F gives.
-pub one_more : {X : Type 0} (F : List X → Items) (g : X → Data) → ((x : X) (xs : List X) → F (x ∷ xs) ≡ item (g x) (F xs)) → (xs : List X) (i : ℕ) (d : X) → i < length xs
+pub one_more : {X : Type 0} (F : List X → Items) (g : X → Data) → ((x : X) (xs : List X) → F (x ∷ xs) ≡ item (g x) (F xs)) → (xs : List X) (i : ℕ) (d : X)
+    → i < length xs
     → (vs vs' : List Value) (v : Value) (all : Items) → vs' ≡ vs ++ v ∷ [] → view v ≡ g (get_or xs i d)
     → before (map view vs) (F (drop i xs)) ≡ all → before (map view vs') (F (drop (i + 1) xs)) ≡ all
 one_more F g step xs i d lt vs vs' v all pushed viewed so_far =

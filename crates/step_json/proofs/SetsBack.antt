@@ -1,5 +1,6 @@
 -- The value of a set is read again as that set.
-use Rattle.std.proofs.Common.{◌≡◌, ℕ, zero, suc, ◌+◌, ◌*◌, ◌%◌, ◌^◌, ◌<◌, ◌≤◌, Bool, true, false, cond, eqb, ◌||◌, ◌&&◌, List, [], ◌∷◌, ◌++◌, length, map, Result, Ok, Err, bit_and, refl, sym, ap, ◌∙◌, append-nil, lit<, inl, inr, arith, eqb-true, ltb-true, lt-ltb}
+use Rattle.std.proofs.Common.{◌≡◌, ℕ, zero, suc, ◌+◌, ◌*◌, ◌%◌, ◌^◌, ◌<◌, ◌≤◌, Bool, true, false, cond, eqb, ◌||◌, ◌&&◌, List, [], ◌∷◌, ◌++◌, length}
+use Rattle.std.proofs.Common.{map, Result, Ok, Err, bit_and, refl, sym, ap, ◌∙◌, append-nil, lit<, inl, inr, arith, eqb-true, ltb-true, lt-ltb}
 use Rattle.std.proofs.lemmas.Bool.{cases_lt, false≢true}
 use Rattle.std.specs.Int.{bit_at}
 use Rattle.std.proofs.lemmas.List.{map-append}
@@ -10,7 +11,7 @@ use Rattle.mixed_graph.specs.Bits.{has, members_below}
 use Rattle.mixed_graph.specs.Names.{AreNames, name_of}
 use Rattle.mixed_graph.proofs.Masks.{has-zero, has-or, has-and}
 use Rattle.mixed_graph.proofs.Members.{length-members-le}
-use Rattle.mixed_graph.specs.Masks.{join, one, is_below, is_apart}
+use Rattle.mixed_graph.specs.Masks.{union, one, is_below, is_apart}
 use Rattle.serde_json.specs.Data.{string, Items, no_items, item}
 use Rattle.step_json.specs.Values.{strings}
 use Rattle.step_json.specs.Reading.{◌>>=◌, vertex_of, with_member, more_of_set, set_in}
@@ -38,7 +39,7 @@ low_out set k h =
 low_lt : (set k : ℕ) → set % 2 ^ k < 2 ^ k
 low_lt set k = let p = pow_pos k in omega arith
 
-low_in : (set k : ℕ) → has set k ≡ true → set % 2 ^ (k + 1) ≡ join (set % 2 ^ k) (one k)
+low_in : (set k : ℕ) → has set k ≡ true → set % 2 ^ (k + 1) ≡ union (set % 2 ^ k) (one k)
 unfolding has
 low_in set k h =
     let low = set % 2 ^ k in
@@ -74,17 +75,18 @@ before-append (t ∷ ts) us rest = ap (item (string t)) (before-append ts us res
 
 -- ---- one member after another
 
-open_place : (barred set k : ℕ) → is_apart barred set ≡ true → has set k ≡ true → has (join barred (set % 2 ^ k)) k ≡ false
+open_place : (barred set k : ℕ) → is_apart barred set ≡ true → has set k ≡ true → has (union barred (set % 2 ^ k)) k ≡ false
 open_place barred set k apart h =
-    has-or barred (set % 2 ^ k) k ∙ ap (λ b. b || has (set % 2 ^ k) k) (apart_at barred set k apart h) ∙ not_above k (set % 2 ^ k) k (low_lt set k) (omega arith)
+    has-or barred (set % 2 ^ k) k ∙ ap (λ b. b || has (set % 2 ^ k) k) (apart_at barred set k apart h)
+    ∙ not_above k (set % 2 ^ k) k (low_lt set k) (omega arith)
 
-member_read : (names : List (List ℕ)) (barred count low k : ℕ) (rest : Items) → AreNames names → count < 64 → k < length names → has (join barred low) k ≡ false
-    → more_of_set names barred count low (item (string (name_of names k)) rest) ≡ more_of_set names barred (count + 1) (join low (one k)) rest
+member_read : (names : List (List ℕ)) (barred count low k : ℕ) (rest : Items) → AreNames names → count < 64 → k < length names → has (union barred low) k ≡ false
+    → more_of_set names barred count low (item (string (name_of names k)) rest) ≡ more_of_set names barred (count + 1) (union low (one k)) rest
 member_read names barred count low k rest are few lt free =
     let next = λ (r : Result ℕ ValueFault). r >>= λ v. with_member barred low v >>= λ more. more_of_set names barred (count + 1) more rest in
     ap (λ b. cond b (next (vertex_of names (name_of names k))) (Err Form)) (lt-ltb count 64 few)
     ∙ ap next (vertex_back names k are lt)
-    ∙ ap (λ b. cond b (Err Form) (Ok (join low (one k))) >>= λ more. more_of_set names barred (count + 1) more rest) free
+    ∙ ap (λ b. cond b (Err Form) (Ok (union low (one k))) >>= λ more. more_of_set names barred (count + 1) more rest) free
 
 abbrev RunsTo : List (List ℕ) → (barred set k : ℕ) → Type 0
 RunsTo names barred set k = (rest : Items) → more_of_set names barred 0 0 (before (map (name_of names) (members_below (has set) k)) rest)
@@ -99,7 +101,8 @@ length-one_more : (vs : List ℕ) (k : ℕ) → length (vs ++ k ∷ []) ≡ leng
 length-one_more [] k = refl
 length-one_more (v ∷ vs) k = omega (arith, length-one_more vs k)
 
-step_in_set : (names : List (List ℕ)) (barred set k : ℕ) → AreNames names → is_below (length names) set ≡ true → is_apart barred set ≡ true → k < 64 → (b : Bool) → has set k ≡ b → RunsTo names barred set k → RunsTo names barred set (suc k)
+step_in_set : (names : List (List ℕ)) (barred set k : ℕ) → AreNames names → is_below (length names) set ≡ true → is_apart barred set ≡ true → k < 64
+    → (b : Bool) → has set k ≡ b → RunsTo names barred set k → RunsTo names barred set (suc k)
 step_in_set names barred set k are within apart lt false h runs rest =
     let vs = members_below (has set) k in
     let same : members_below (has set) (suc k) ≡ vs = grown (has set) k false h ∙ append-nil vs in
@@ -114,16 +117,20 @@ step_in_set names barred set k are within apart lt true h runs rest =
     let f = name_of names in
     let same : members_below (has set) (suc k) ≡ vs ++ k ∷ [] = grown (has set) k true h in
     let next : suc k ≡ k + 1 = omega arith in
-    let low : set % 2 ^ (suc k) ≡ join (set % 2 ^ k) (one k) = ap (λ j. set % 2 ^ j) next ∙ low_in set k h in
-    let below : k < length names = elim (cases_lt k (length names)) [ inl lt ↦ lt | inr le ↦ absurd (false≢true (sym (not_above (length names) set k (ltb-true _ _ within) le) ∙ h)) ] in
+    let low : set % 2 ^ (suc k) ≡ union (set % 2 ^ k) (one k) = ap (λ j. set % 2 ^ j) next ∙ low_in set k h in
+    let below : k < length names = elim (cases_lt k (length names)) [
+      | inl lt ↦ lt
+      | inr le ↦ absurd
+          (false≢true (sym (not_above (length names) set k (ltb-true _ _ within) le) ∙ h))
+    ] in
     let few : length vs < 64 = omega (arith, length-members-le (has set) k) in
     ap (λ l. more_of_set names barred 0 0 (before (map f l) rest)) same
     ∙ ap (λ l. more_of_set names barred 0 0 (before l rest)) (map-append f vs (k ∷ []))
     ∙ ap (more_of_set names barred 0 0) (before-append (map f vs) (f k ∷ []) rest)
     ∙ runs (item (string (f k)) rest)
     ∙ member_read names barred (length vs) (set % 2 ^ k) k rest are few below (open_place barred set k apart h)
-    ∙ ap (λ c. more_of_set names barred c (join (set % 2 ^ k) (one k)) rest) (sym (length-one_more vs k))
-    ∙ ap (λ l. more_of_set names barred (length l) (join (set % 2 ^ k) (one k)) rest) (sym same)
+    ∙ ap (λ c. more_of_set names barred c (union (set % 2 ^ k) (one k)) rest) (sym (length-one_more vs k))
+    ∙ ap (λ l. more_of_set names barred (length l) (union (set % 2 ^ k) (one k)) rest) (sym same)
     ∙ ap (λ s. more_of_set names barred (length (members_below (has set) (suc k))) s rest) (sym low)
 
 none_yet : (names : List (List ℕ)) (barred set : ℕ) → RunsTo names barred set 0
@@ -132,9 +139,11 @@ none_yet names barred set rest =
     let e : set % 2 ^ 0 ≡ 0 = omega arith in
     ap (λ s. more_of_set names barred 0 s rest) (sym e)
 
-runs_to : (names : List (List ℕ)) (barred set k : ℕ) → AreNames names → is_below (length names) set ≡ true → is_apart barred set ≡ true → k ≤ 64 → RunsTo names barred set k
+runs_to : (names : List (List ℕ)) (barred set k : ℕ) → AreNames names → is_below (length names) set ≡ true → is_apart barred set ≡ true → k ≤ 64
+    → RunsTo names barred set k
 runs_to names barred set zero are within apart le = none_yet names barred set
-runs_to names barred set (suc k) are within apart le = step_in_set names barred set k are within apart (omega arith) (has set k) refl (runs_to names barred set k are within apart (omega arith))
+runs_to names barred set (suc k) are within apart le = step_in_set names barred set k are within apart (omega arith) (has set k) refl
+    (runs_to names barred set k are within apart (omega arith))
 
 -- the value of a set of vertices, none of them barred, is read as that set
 pub set_reads_back : SetReadsBack

@@ -1,5 +1,7 @@
 -- The value of a step is read again as that step.
-use Rattle.std.proofs.Common.{◌≡◌, ℕ, zero, suc, ◌+◌, ◌^◌, ◌≤◌, Bool, true, false, cond, ◌&&◌, bit_and, eqb, ltb, leb, List, [], ◌∷◌, ◌++◌, length, map, Some, Ok, Err, codes, refl, sym, ap, ◌∙◌, append_assoc, append-nil, length-append, arith, ltb-true, leb-true, lt-ltb}
+use Rattle.std.proofs.Common.{◌≡◌, ℕ, zero, suc, ◌+◌, ◌^◌, ◌≤◌, Bool, true, false, cond, ◌&&◌, bit_and, eqb, ltb, leb, List, [], ◌∷◌, ◌++◌, length}
+use Rattle.std.proofs.Common.{map, Some, Ok, Err, codes, refl, sym, ap, ◌∙◌, append_assoc, append-nil, length-append, arith, ltb-true, leb-true}
+use Rattle.std.proofs.Common.{lt-ltb}
 use Rattle.mixed_graph.specs.Bits.{has}
 use Rattle.mixed_graph.specs.Names.{AreNames, name_of}
 use Rattle.mixed_graph.proofs.Masks.{has-zero, has-and, zero_from_empty}
@@ -8,9 +10,11 @@ use Rattle.mixed_graph.specs.Masks as masks
 use Rattle.do_derivation.specs.Plans.{Move, Plan, Plans, no_plans, plan, plans_of}
 use Rattle.serde_json.specs.Data.{array, number, unsigned, Items, no_items, item}
 use Rattle.step_json.specs.Values.{strings, numbers, groups, names_value, set_value, said, move_value, step_value, step_values}
-use Rattle.step_json.specs.Reading.{◌>>=◌, or_form, vertex_of, more_vertices, vertices_in, number_in, each, numbers_in, groups_in, last, argument, arguments, step_within}
+use Rattle.step_json.specs.Reading.{◌>>=◌, or_form, vertex_of, more_vertices, vertices_in, number_in, each, numbers_in, groups_in, last, argument}
+use Rattle.step_json.specs.Reading.{arguments, step_within}
 use Rattle.step_json.specs.Words.{set_rule_of, bare_rule_of, other_word_of, word_of, set_move, bare_move}
-use Rattle.step_json.specs.Laws.{are_below, groups_below, is_move_within, is_within, are_within, is_move_short, is_short, are_short, nesting, nesting_each, StepReadsBack}
+use Rattle.step_json.specs.Laws.{are_below, groups_below, is_move_within, is_within, are_within, is_move_short, is_short, are_short, nesting}
+use Rattle.step_json.specs.Laws.{nesting_each, StepReadsBack}
 use Rattle.step_json.specs.declared.words.Word.{Word}
 use Rattle.step_json.specs.declared.words.Word.TheVariants as words
 use Rattle.step_json.specs.declared.words.SetRule.{SetRule}
@@ -37,12 +41,14 @@ chain_back names [] before are all le = ap (λ vs. Ok vs) (sym (append-nil befor
 chain_back names (v ∷ vs) before are all le =
     let parts = both (ltb v (length names)) (are_below (length names) vs) all in
     let rest = strings (map (name_of names) vs) in
-    ap (λ b. cond b (vertex_of names (name_of names v) >>= λ v. more_vertices names (before ++ v ∷ []) rest) (Err Form)) (lt-ltb (length before) 64 (omega arith))
+    ap (λ b. cond b (vertex_of names (name_of names v) >>= λ v. more_vertices names (before ++ v ∷ []) rest) (Err Form))
+    (lt-ltb (length before) 64 (omega arith))
     ∙ ap (λ r. r >>= λ v. more_vertices names (before ++ v ∷ []) rest) (vertex_back names v are (ltb-true _ _ parts.0))
     ∙ chain_back names vs (before ++ v ∷ []) are parts.1 (omega (arith, length-append before (v ∷ [])))
     ∙ ap (λ vs. Ok vs) (append_assoc before (v ∷ []) vs)
 
-vertices_back : (names : List (List ℕ)) (vs : List ℕ) → AreNames names → are_below (length names) vs ≡ true → leb (length vs) 64 ≡ true → vertices_in names (names_value names vs) ≡ Ok vs
+vertices_back : (names : List (List ℕ)) (vs : List ℕ) → AreNames names → are_below (length names) vs ≡ true → leb (length vs) 64 ≡ true
+    → vertices_in names (names_value names vs) ≡ Ok vs
 unfolding vertices_in
 vertices_back names vs are all le = chain_back names vs [] are all (omega (arith, leb-true (length vs) 64 le))
 
@@ -131,7 +137,8 @@ then_word = refl
 -- ---- steps
 
 -- a word's arguments are read
-said_back : (names : List (List ℕ)) (d : ℕ) (text : List ℕ) (w : Word) (ds : Items) → word_of text ≡ Some w → step_within names (suc d) (said text ds) ≡ arguments names (step_within names d) w ds
+said_back : (names : List (List ℕ)) (d : ℕ) (text : List ℕ) (w : Word) (ds : Items) → word_of text ≡ Some w → step_within names (suc d) (said text ds)
+    ≡ arguments names (step_within names d) w ds
 said_back names d text w ds h =
     step_suc names d (said text ds) ∙ ap (λ o. or_form o >>= λ w. arguments names (step_within names d) w ds) h
 
@@ -198,7 +205,8 @@ mutual
       let parts = both (is_short p) (are_short ps) fits in
       let e = each_back names are ps d (before ++ p ∷ []) inside.1 parts.1 (omega arith) in (
         p ∷ e.0,
-        ap (λ r. r >>= λ x. each (step_within names d) (before ++ x ∷ []) (step_values names ps)) (step_back names are p d inside.0 parts.0 (omega arith)) ∙ e.1 ∙ ap (λ ps. Ok ps) (append_assoc before (p ∷ []) e.0),
+        ap (λ r. r >>= λ x. each (step_within names d) (before ++ x ∷ []) (step_values names ps)) (step_back names are p d inside.0 parts.0 (omega arith))
+            ∙ e.1 ∙ ap (λ ps. Ok ps) (append_assoc before (p ∷ []) e.0),
         ap (plan p) e.2,
       )
 

@@ -1,8 +1,9 @@
 -- Reading a step or a set from a JSON value, item by item, with the first fault.
-use Rattle.std.specs.Prelude.{◌≡◌, ℕ, zero, suc, ◌+◌, ◌^◌, Bool, true, false, nat_lt, List, [], ◌∷◌, ◌++◌, length, Option, Some, None, option_and_then, Result, Ok, Err, if◌then◌else◌}
+use Rattle.std.specs.Prelude.{◌≡◌, ℕ, zero, suc, ◌+◌, ◌^◌, Bool, true, false, nat_lt, List, [], ◌∷◌, ◌++◌, length, Option, Some, None}
+use Rattle.std.specs.Prelude.{option_and_then, Result, Ok, Err, if◌then◌else◌}
 use Rattle.mixed_graph.specs.Bits.{has}
 use Rattle.mixed_graph.specs.Names.{is_named, index_of}
-use Rattle.mixed_graph.specs.Masks.{join, one, is_empty}
+use Rattle.mixed_graph.specs.Masks.{union, one, is_empty}
 use Rattle.do_derivation.specs.Plans.{Move, Plan, plans_of}
 use Rattle.serde_json.specs.Data.{Data, Items, no_items, item}
 use Rattle.serde_json.specs.Find.{as_str, as_array, as_number, as_u64}
@@ -56,7 +57,7 @@ vertex_in names d = or_form (as_str d) >>= vertex_of names
 
 -- a set with a vertex that isn't in it and isn't barred
 abbrev pub with_member : (barred set v : ℕ) → Result ℕ ValueFault
-with_member barred set v = if has (join barred set) v then Err Form else Ok (join set (one v))
+with_member barred set v = if has (union barred set) v then Err Form else Ok (union set (one v))
 
 -- the members behind those before, which are so many: 64 in all, each once, and none that is barred
 abbrev pub more_of_set : List (List ℕ) → (barred count set : ℕ) → Items → Result ℕ ValueFault

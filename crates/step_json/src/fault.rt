@@ -1,3 +1,5 @@
+//! Why a JSON value isn't read.
+
 ghost use Rattle.std.specs.Prelude.{◌≡◌, Err, Result};
 ghost use Rattle.step_json.specs.declared.fault.ValueFault.TheVariants.{Name, NoMemory};
 ghost use Rattle.step_json.specs.Reading.{Fails};

@@ -1,3 +1,5 @@
+//! Sets and lists of vertices read from JSON.
+
 ghost use Rattle.std.specs.Prelude.{◌≡◌, ◌<◌, ◌≤◌, [], length, vec_len, IfOk};
 ghost use Rattle.mixed_graph.specs.Names.{AreNames};
 ghost use Rattle.serde_json.specs.View.{view, items_view};

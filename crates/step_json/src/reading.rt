@@ -1,3 +1,5 @@
+//! Steps read from JSON.
+
 ghost use Rattle.std.specs.Prelude.{◌≡◌, [], map, option_and_then};
 ghost use Rattle.serde_json.specs.View.{view, items_view};
 ghost use Rattle.serde_json.specs.Find.{as_str};

@@ -1,3 +1,5 @@
+//! The words of steps.
+
 ghost use Rattle.std.specs.Prelude.{◌≡◌};
 ghost use Rattle.std.specs.Str.{bytes_eq};
 ghost use Rattle.step_json.specs.Words.{set_rule_of, bare_rule_of, other_word_of, word_of};

@@ -1,3 +1,5 @@
+//! Steps and sets written as JSON.
+
 ghost use Rattle.std.specs.Prelude.{◌≡◌, ◌<◌, ◌++◌, ◌∷◌, [], true, length, codes, take, IfOk};
 ghost use Rattle.mixed_graph.specs.Names.{name_of};
 ghost use Rattle.mixed_graph.specs.Masks.{is_below};

@@ -15,7 +15,8 @@ use Rattle.surrogate_command.specs.declared.effect.SurrogateEffect.{SurrogateEff
 use Rattle.surrogate_command.specs.declared.form.Form.{Form}
 use Rattle.surrogate_command.specs.Sets.{SurrogateLists, AreSurrogateSets}
 
-pub of_sets : (q : MixedGraph) (l : SurrogateLists) (x y : ℕ) (zs : List ℕ) → AreSurrogateSets l x y zs → (form : Form) (o : Outcome) (text : List ℕ) → SetsAnswer form q l.effect.observed zs x y o text
+pub of_sets : (q : MixedGraph) (l : SurrogateLists) (x y : ℕ) (zs : List ℕ) → AreSurrogateSets l x y zs → (form : Form) (o : Outcome) (text : List ℕ)
+    → SetsAnswer form q l.effect.observed zs x y o text
     → ListsAnswer form q l o text
 of_sets q l x y zs sets form Yes text h = record { x = x; y = y; experiments = zs; sets = sets; answer = h }
 of_sets q l x y zs sets form No text h = record { x = x; y = y; experiments = zs; sets = sets; answer = h }
@@ -28,7 +29,8 @@ of_sets q l x y zs sets form Write text h = absurd h
 of_sets q l x y zs sets form Memory text h = absurd h
 
 -- the answer on a graph that was read, from that for the sets
-pub answer_on : (g : ReadGraph) (x y : Names) (experiments : Lists) (form : Form) (e : SurrogateEffect) → IsEffectOf g x y experiments e → {E : Type 0} (r : Result Reply E)
+pub answer_on : (g : ReadGraph) (x y : Names) (experiments : Lists) (form : Form) (e : SurrogateEffect) → IsEffectOf g x y experiments e
+    → {E : Type 0} (r : Result Reply E)
     → IfOk r (λ k. SetsAnswer form (graph_of e.seen.graph) e.seen.names (masks_of e.sets.experiments.items) e.sets.x.bits e.sets.y.bits k.outcome k.text.items)
     → IfOk r (λ k. SurrogateAnswer form g x y experiments k.outcome k.text.items)
 answer_on g x y experiments form e asked (Ok k) h =

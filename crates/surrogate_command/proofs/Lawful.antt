@@ -2,8 +2,8 @@
 use Rattle.std.proofs.Common.{◌≡◌, Bool, true, false, List, sym, ◌∙◌}
 use Rattle.std.specs.Prelude.{codes}
 use Rattle.std.proofs.lemmas.Option.{same_Some}
-use Rattle.word_forms.specs.Form.{Use, value_of, has_flag}
-use Rattle.request_values.proofs.OneValue.{one_listed}
+use Rattle.command_words.specs.Form.{Use, value_of, has_flag}
+use Rattle.command_words.proofs.OneValue.{one_listed}
 use Rattle.experiment_lists.proofs.OneWord.{one_word}
 use Rattle.replies.proofs.Commands.{IsLawful, lawful_on_file}
 use Rattle.surrogate_command.specs.declared.form.Form.{Form}
@@ -31,4 +31,5 @@ one_request uses q r a b = λ i. record {
 
 -- what holds of each command holds of it
 pub surrogate_lawful : IsLawful surrogate_command
-surrogate_lawful = lawful_on_file one_request (λ q g. surrogate_answered g q.x q.y q.experiments q.form) (λ q bytes. surrogate_once bytes q.x q.y q.experiments q.form)
+surrogate_lawful = lawful_on_file one_request (λ q g. surrogate_answered g q.x q.y q.experiments q.form)
+    (λ q bytes. surrogate_once bytes q.x q.y q.experiments q.form)

@@ -9,5 +9,6 @@ use Rattle.surrogate_command.specs.Answers.{SurrogateAnswer}
 use Rattle.surrogate_command.specs.declared.form.Form.{Form}
 use Rattle.experiment_lists.specs.Words.{Lists}
 
-pub surrogate_answered : (g : ReadGraph) (x y : Names) (experiments : Lists) (form : Form) (o : Outcome) (text : List ℕ) → SurrogateAnswer form g x y experiments o text → IsAnswered o
+pub surrogate_answered : (g : ReadGraph) (x y : Names) (experiments : Lists) (form : Form) (o : Outcome) (text : List ℕ)
+    → SurrogateAnswer form g x y experiments o text → IsAnswered o
 surrogate_answered g x y experiments form o text = answered (λ k. SurrogateAnswer form g x y experiments k text) (λ h. h.2) (λ h. h.2) (λ h. h.2) (λ h. h.2) o

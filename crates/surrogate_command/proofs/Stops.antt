@@ -18,12 +18,15 @@ use Rattle.surrogates.specs.Answers.{IsRightBlock, IsBlockShown, IsStopShown}
 use Rattle.surrogates.specs.declared.answer.CommonHedge.{CommonHedge}
 
 -- the hedge is on the graph's vertices, of which there are as many as names
-pub hedge_named : (g : MixedGraph) (zs : List ℕ) (x y : ℕ) (district : VSet) (h : Hedge) (pair : CounterPair) (n : ℕ) → n ≡ g.vertices → g.vertices ≤ 64 → IsStopShown g zs x y district h pair → IsHedgeBelow n h
+pub hedge_named : (g : MixedGraph) (zs : List ℕ) (x y : ℕ) (district : VSet) (h : Hedge) (pair : CounterPair) (n : ℕ) → n ≡ g.vertices → g.vertices ≤ 64
+    → IsStopShown g zs x y district h pair → IsHedgeBelow n h
 hedge_named g zs x y district h pair n e few stop = subst (λ k. IsHedgeBelow k h) (sym e) (hedge_below g x y h few stop.hedge)
 
 -- and so is the district
-pub district_named : (g : MixedGraph) (zs : List ℕ) (x y : ℕ) (district : VSet) (h : Hedge) (pair : CounterPair) (n : ℕ) → n ≡ g.vertices → g.vertices ≤ 64 → IsStopShown g zs x y district h pair → Within n (has district.bits)
-district_named g zs x y district h pair n e few stop = subst (λ (s : VSet). Within n (has s.bits)) stop.small (hedge_named g zs x y district h pair n e few stop).small
+pub district_named : (g : MixedGraph) (zs : List ℕ) (x y : ℕ) (district : VSet) (h : Hedge) (pair : CounterPair) (n : ℕ) → n ≡ g.vertices → g.vertices ≤ 64
+    → IsStopShown g zs x y district h pair → Within n (has district.bits)
+district_named g zs x y district h pair n e few stop = subst (λ (s : VSet). Within n (has s.bits)) stop.small
+    (hedge_named g zs x y district h pair n e few stop).small
 
 -- so are the common hedge and its models, where there is one
 pub common_named : (g : MixedGraph) → IsMixedGraph g → (zs : List ℕ) (x y : ℕ) (district : VSet) (common : Option CommonHedge)

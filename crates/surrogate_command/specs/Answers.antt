@@ -6,15 +6,15 @@ use Rattle.dag_reader.specs.declared.graph.ReadGraph.{ReadGraph}
 use Rattle.replies.specs.declared.outcome.Outcome.{Outcome}
 use Rattle.replies.specs.declared.outcome.Outcome.TheVariants.{Yes, No, Graph}
 use Rattle.replies.specs.Observed.{Names, IsObservedGraph}
-use Rattle.prob_expr.specs.Tree.{PlainFormula}
+use Rattle.prob_expr.specs.Tree.{PlainFormula, effect_on}
 use Rattle.do_derivation.specs.Plans.{PlainDerivation}
 use Rattle.hedge.specs.declared.hedge.Hedge.{Hedge}
 use Rattle.counter_models.specs.declared.counter_pair.CounterPair.{CounterPair}
-use Rattle.identification.specs.Procedure.{IsIdentified}
-use Rattle.id_recursion.specs.Answers.{effect_on, IsRightHedge}
+use Rattle.identification_theory.specs.Procedure.{IsIdentified}
+use Rattle.identify.specs.Answers.{IsRightHedge}
 use Rattle.certificate.specs.Plain.{hedge_view}
 use Rattle.certificate.specs.Plain as certificates
-use Rattle.surrogate_theory.specs.Surrogates.{IsSurrogate, IsSurrogateBySteps, SomeBlocked}
+use Rattle.surrogates.specs.Surrogates.{IsSurrogate, IsSurrogateBySteps, SomeBlocked}
 use Rattle.surrogates.specs.Answers.{IsRightFormulaWith, IsRightBlock, IsStopShown, IsBlockShown, IsBlockedTogether}
 use Rattle.surrogates.specs.declared.answer.CommonHedge.{CommonHedge}
 use Rattle.surrogate_command.specs.Asked.{surrogate_lists, IsOfSets, IsRefusal}
@@ -25,8 +25,10 @@ use Rattle.surrogate_command.specs.Sets.{SurrogateLists}
 
 -- ---- answers for sets of the observed graph q, with experiments on the sets zs
 
--- Yes: each term of the formula is observed or under an experiment, the derivation turns P(y | do(x)) into it, and it equals the effect in each positive model that fits q.
--- It is that of the procedure over experiments, which meets no blocked district, and where observations alone give a formula it is that one. The text shows it, or is its certificate.
+-- Yes: each term of the formula is observed or under an experiment, the derivation turns P(y | do(x)) into it, and it equals the effect in each
+-- positive model that fits q.
+-- It is that of the procedure over experiments, which meets no blocked district, and where observations alone give a formula it is that one. The text
+-- shows it, or is its certificate.
 pub record ShowsFormula (form : Form) (q : MixedGraph) (names : List (List ℕ)) (zs : List ℕ) (x y : ℕ) (text : List ℕ) : Type 0 where
   pub formula : PlainFormula
   pub derivation : PlainDerivation
@@ -38,9 +40,12 @@ pub record ShowsFormula (form : Form) (q : MixedGraph) (names : List (List ℕ))
   pub prints : text ≡ formula_text form names (effect_on x y) formula derivation
   pub reads_back : ReadsBack form names (certificates.formula (effect_on x y) formula derivation)
 
--- No: the district is the first that no experiment frees. The hedge is that for it without experiment; its two models are positive, fit q, agree on all observations and differ on the effect.
--- Where the district's factor stops under all experiments that leave the district alone at once, and only there, there is a common hedge: its two models agree under each experiment too, so no formula
--- over what is observed and the experiments equals the effect. The text shows the district and the hedge's sets; or, where models or the certificate are asked for and there is one, the common hedge with its models, or its certificate.
+-- No: the district is the first that no experiment frees. The hedge is that for it without experiment; its two models are positive, fit q, agree on
+-- all observations and differ on the effect.
+-- Where the district's factor stops under all experiments that leave the district alone at once, and only there, there is a common hedge: its two
+-- models agree under each experiment too, so no formula
+-- over what is observed and the experiments equals the effect. The text shows the district and the hedge's sets; or, where models or the certificate
+-- are asked for and there is one, the common hedge with its models, or its certificate.
 pub record ShowsStop (form : Form) (q : MixedGraph) (names : List (List ℕ)) (zs : List ℕ) (x y : ℕ) (text : List ℕ) : Type 0 where
   pub district : VSet
   pub hedge : Hedge

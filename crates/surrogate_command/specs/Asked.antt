@@ -8,7 +8,7 @@ use Rattle.dag_reader.specs.declared.graph.ReadGraph.{ReadGraph}
 use Rattle.prob_expr.specs.Listed.{masks_of}
 use Rattle.do_derivation.specs.Accepts.{are_sets}
 use Rattle.targets.specs.declared.fault.TargetFault.{TargetFault}
-use Rattle.name_text.specs.Lines.{line_of}
+use Rattle.answer_text.specs.Lines.{line_of}
 use Rattle.targets.specs.FaultTexts.{target_fault_text}
 use Rattle.replies.specs.declared.outcome.Outcome.TheVariants.{Graph}
 use Rattle.replies.specs.Observed.{Names, observed_names, IsObservedGraph}
@@ -37,7 +37,8 @@ pub record IsRefusal (l : SurrogateLists) (line : List ℕ) : Type 0 where
   pub is_fault : IsSurrogateFault l fault
   pub prints : line ≡ line_of (target_fault_text fault)
 
--- e is the effect over experiments of the sets that the lists name, in the observed graph; x and y lie apart, y has a member, and so has each of at most eight experiments
+-- e is the effect over experiments of the sets that the lists name, in the observed graph; x and y lie apart, y has a member, and so has each of at
+-- most eight experiments
 pub record IsEffectOf (g : ReadGraph) (x y : Names) (experiments : Lists) (e : SurrogateEffect) : Type 0 where
   pub graph : IsObservedGraph g (graph_of e.seen.graph)
   pub names : e.seen.names ≡ observed_names g
@@ -53,4 +54,5 @@ pub record IsEffectOf (g : ReadGraph) (x y : Names) (experiments : Lists) (e : S
 -- the effect that the lists name, or the reply that refuses them
 abbrev pub IsAsked : ReadGraph → Names → Names → Lists → Asked → Type 0
 IsAsked g x y experiments (asked.Effect e) = IsEffectOf g x y experiments e
-IsAsked g x y experiments (asked.Refused r) = (r.outcome ≡ Graph) × ((q : MixedGraph) × IsObservedGraph g q × IsRefusal (surrogate_lists g x y experiments) r.text.items)
+IsAsked g x y experiments (asked.Refused r) = (r.outcome ≡ Graph) × ((q : MixedGraph) × IsObservedGraph g q
+    × IsRefusal (surrogate_lists g x y experiments) r.text.items)

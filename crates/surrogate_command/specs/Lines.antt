@@ -1,13 +1,13 @@
 -- What is printed.
 use Rattle.std.specs.Prelude.{ℕ, ◌≡◌, List, ◌++◌, Option, Some, None, Ok, codes}
+use Rattle.answer_text.specs.declared.signs.Notation.TheVariants as notations
 use Rattle.answer_text.specs.Texts.{set_text}
 use Rattle.expr_text.specs.Write.{text_of}
-use Rattle.prob_expr.specs.Tree.{PlainFormula, PlainTarget}
+use Rattle.prob_expr.specs.Tree.{PlainFormula, PlainTarget, effect_on}
 use Rattle.do_derivation.specs.Plans.{PlainDerivation}
 use Rattle.hedge.specs.declared.hedge.Hedge.{Hedge}
 use Rattle.counter_models.specs.declared.counter_pair.CounterPair.{CounterPair}
-use Rattle.id_recursion.specs.Answers.{effect_on}
-use Rattle.identify_text.specs.Answers.{effect, formula_answer}
+use Rattle.identify_text.specs.Answers.{effect_term, answer_in}
 use Rattle.identify_text.specs.HedgeLines.{sets_line}
 use Rattle.identify_text.specs.PairLines.{models_text}
 use Rattle.experiment_lists.specs.Lines.{unidentifiable_with_line}
@@ -22,7 +22,7 @@ use Rattle.surrogate_command.specs.declared.form.Form.TheVariants.{Plain, Models
 
 -- `P(Y|do(X)) has no formula found from these experiments`
 abbrev pub unfound_line : List (List ℕ) → (x y : ℕ) → List ℕ
-unfound_line names x y = text_of names (effect x y) ++ codes " has no formula found from these experiments\n"
+unfound_line names x y = text_of names (effect_term x y) ++ codes " has no formula found from these experiments\n"
 
 -- `district {Y}`
 abbrev pub district_line : List (List ℕ) → ℕ → List ℕ
@@ -39,8 +39,8 @@ common_answer names x y district h pair =
 
 -- the text of a formula: the formula, or its certificate
 abbrev pub formula_text : Form → List (List ℕ) → PlainTarget → PlainFormula → PlainDerivation → List ℕ
-formula_text Plain names t f d = formula_answer names t f
-formula_text Models names t f d = formula_answer names t f
+formula_text Plain names t f d = answer_in notations.Plain names t f
+formula_text Models names t f d = answer_in notations.Plain names t f
 formula_text Certificate names t f d = certificate_line names (plain.formula t f d)
 
 -- the text of a stop: where models or the certificate are asked for and there is a common hedge, that with its models, or its certificate

@@ -1,9 +1,9 @@
 -- What `surrogate` is asked for.
 use Rattle.std.specs.Prelude.{◌≡◌, List, Some, [], ◌∷◌, codes, option_map}
-use Rattle.word_forms.specs.Form.{Text, Row, Use, word_of, value_of, has_flag}
-use Rattle.request_values.specs.Values as values
+use Rattle.command_words.specs.Form.{Text, Row, Use, word_of, value_of, has_flag}
+use Rattle.command_words.specs.Values as values
 use Rattle.replies.specs.Observed.{Names}
-use Rattle.word_lists.specs.Views.{names_in}
+use Rattle.command_words.specs.ListViews.{names_in}
 use Rattle.experiment_lists.specs.Words.{Lists, AreNeededExperiments}
 use Rattle.experiment_lists.specs.Views.{lists_in}
 use Rattle.surrogate_command.specs.declared.form.Form.{Form}
@@ -12,7 +12,14 @@ use Rattle.surrogate_command.specs.declared.request.Request.{Request as CodeRequ
 
 -- `surrogate FILE [--x L] [--y L] --experiments E [--models] [--certificate]`
 abbrev pub surrogate_row : Row
-surrogate_row = record { name = codes "surrogate"; positionals = codes "file" ∷ []; extra = []; needed = codes "experiments" ∷ []; options = codes "x" ∷ codes "y" ∷ []; flags = codes "models" ∷ codes "certificate" ∷ [] }
+surrogate_row = record {
+  name = codes "surrogate";
+  positionals = codes "file" ∷ [];
+  optional = [];
+  required = codes "experiments" ∷ [];
+  options = codes "x" ∷ codes "y" ∷ [];
+  flags = codes "models" ∷ codes "certificate" ∷ [];
+}
 
 -- a request
 pub record Request : Type 0 where

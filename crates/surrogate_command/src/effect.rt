@@ -1,7 +1,7 @@
 //! The effect over experiments that lists of names ask for.
 
 ghost use Rattle.std.specs.Prelude.{IfOk, map, option_map};
-ghost use Rattle.word_lists.specs.Views.{names_in};
+ghost use Rattle.command_words.specs.ListViews.{names_in};
 ghost use Rattle.surrogate_command.specs.Asked.{IsAsked};
 ghost use Rattle.experiment_lists.specs.Words.{AreFilled};
 

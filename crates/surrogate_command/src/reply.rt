@@ -1,10 +1,12 @@
+//! The answer of `surrogate`.
+
 ghost use Rattle.std.specs.Prelude.{◌≡◌, ◌<◌, ◌≤◌, true, IfOk, length, option_map};
 ghost use Rattle.mixed_graph.specs.Bits.{has};
 ghost use Rattle.mixed_graph.specs.Sets.{Within, Apart};
 ghost use Rattle.mixed_graph.specs.Shown.{graph_of};
 ghost use Rattle.prob_expr.specs.Listed.{masks_of};
 ghost use Rattle.do_derivation.specs.Accepts.{are_sets};
-ghost use Rattle.word_lists.specs.Views.{names_in};
+ghost use Rattle.command_words.specs.ListViews.{names_in};
 ghost use Rattle.surrogate_command.specs.Answers.{SurrogateAnswer, SetsAnswer};
 ghost use Rattle.experiment_lists.specs.Words.{AreFilled};
 ghost use Rattle.surrogate_command.specs.Requests.{request_of};

@@ -1,24 +1,26 @@
+//! What `surrogate` is asked.
+
 ghost use Rattle.std.specs.Prelude.{◌≡◌, ℕ, List, true, IfOk, IfSome, IfNone, IsErrOf};
-ghost use Rattle.word_forms.specs.Form.{Row, Use, is_among, value_names, value_of};
-ghost use Rattle.word_values.specs.Gives.{HoldsCall};
+ghost use Rattle.command_words.specs.Form.{Row, Use, is_among, value_names, value_of};
+ghost use Rattle.command_words.specs.Gives.{HoldsCall};
 ghost use Rattle.experiment_lists.specs.Words.{AreFilled, AreNeededExperiments, Lists};
 ghost use Rattle.experiment_lists.specs.Views.{lists_in};
 ghost use Rattle.surrogate_command.specs.Forms.{IsForm};
 ghost use Rattle.surrogate_command.specs.declared.form.Form as asked;
 
 use crate::form::Form;
+use command_words::forms::Entry;
+use command_words::typed::{RequestFault, Subject};
+use command_words::values::Values;
 use experiment_lists::read_experiments;
-use request_values::{RequestFault, Subject};
 use std::alloc::Global;
-use word_forms::Entry;
-use word_values::Values;
 
 /// `surrogate FILE [--x L] [--y L] --experiments E [--models] [--certificate]`
 pub const ROW: Entry = Entry {
     name: "surrogate",
     positionals: &["file"],
-    extra: &[],
-    needed: &["experiments"],
+    optional: &[],
+    required: &["experiments"],
     options: &["x", "y"],
     flags: &["models", "certificate"],
 };

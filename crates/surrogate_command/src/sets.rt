@@ -4,7 +4,7 @@ ghost use Rattle.std.specs.Prelude.{IfOk, IfErr, map};
 ghost use Rattle.mixed_graph.specs.Names.{texts};
 ghost use Rattle.prob_expr.specs.Listed.{masks_of};
 ghost use Rattle.targets.specs.Targets.{OrMemory};
-ghost use Rattle.word_lists.specs.Views.{names_in};
+ghost use Rattle.command_words.specs.ListViews.{names_in};
 ghost use Rattle.surrogate_command.specs.Sets.{AreSurrogateSets, IsSurrogateFault, lists_of};
 
 use experiment_lists::experiment_sets;

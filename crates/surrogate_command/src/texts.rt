@@ -6,7 +6,7 @@ ghost use Rattle.mixed_graph.specs.Sets.{Within};
 ghost use Rattle.prob_expr.specs.Check.{fault_in};
 ghost use Rattle.prob_expr.specs.View.{target_view, formula_view};
 ghost use Rattle.do_derivation.specs.View.{derivation_view};
-ghost use Rattle.id_recursion.specs.Answers.{effect_on};
+ghost use Rattle.prob_expr.specs.Tree.{effect_on};
 ghost use Rattle.identify_text.specs.Below.{IsHedgeBelow, ArePairBelow};
 ghost use Rattle.certificate.specs.Plain.{hedge_view, formula as formula_case, hedge as hedge_case};
 ghost use Rattle.certificate.specs.Reading.{certificate_in};
@@ -18,14 +18,14 @@ ghost use Rattle.surrogate_command.specs.Lines.{unfound_line, district_line, sto
 
 use crate::form::Form;
 use crate::sets::SurrogateSets;
-use answer_text::push_set;
+use answer_text::{Notation, push_set};
 use certificate::Certificate;
 use counter_models::CounterPair;
 use do_derivation::Derivation;
 use effect_certificates::{certificate_line, sized};
 use experiment_lists::unidentifiable_text;
 use hedge::Hedge;
-use identify_text::{effect_text, formula_answer, push_hedge_sets, push_models};
+use identify_text::{answer_in, effect_text, push_hedge_sets, push_models};
 use mixed_graph::{Names, VSet};
 use prob_expr::{Formula, Target};
 use std::alloc::{AllocError, Global};
@@ -137,7 +137,7 @@ pub fn formula_text(
     ensures reads_back { IfOk result (λ v. ReadsBack form names.now (formula_case (target_view target) (formula_view formula) (derivation_view derivation))) }
 {
     match form {
-        Form::Plain | Form::Models => formula_answer(alloc, &formula, &target, names),
+        Form::Plain | Form::Models => answer_in(alloc, Notation::Plain, &formula, &target, names),
         Form::Certificate => {
             let certificate = Certificate::Formula(target, formula, derivation);
             certificate_line(alloc, &certificate, names)

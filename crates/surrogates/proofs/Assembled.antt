@@ -1,19 +1,20 @@
 -- What is assembled of the factors over experiments is the formula with its derivation.
 use Rattle.std.proofs.Common.{ℕ, List, map, sym, subst}
-use Rattle.districts.specs.Linked.{AreDistricts}
+use Rattle.hedge.specs.Linked.{AreDistricts}
 use Rattle.mixed_graph.specs.Graphs.{MixedGraph}
 use Rattle.mixed_graph.specs.Masks.{all, minus}
 use Rattle.prob_expr.specs.Tree.{PlainFormula}
 use Rattle.prob_expr.specs.View.{view, views}
 use Rattle.do_derivation.specs.Plans.{PlainDerivation}
-use Rattle.identification.specs.Procedure.{AreAncestorsIn}
-use Rattle.id_recursion.specs.Factored.{AreAssembled}
-use Rattle.district_factors.specs.Lists.{lists_view}
-use Rattle.id_recursion.specs.declared.answer.Factors.{Factors}
-use Rattle.surrogate_theory.specs.Surrogates.{AreDerivedWith, IsComposedBySteps}
+use Rattle.identification_theory.specs.Procedure.{AreAncestorsIn}
+use Rattle.identify.specs.Factored.{AreAssembled}
+use Rattle.identify.specs.Lists.{lists_view}
+use Rattle.identify.specs.declared.answer.Factors.{Factors}
+use Rattle.surrogates.specs.Surrogates.{AreDerivedWith, IsComposedBySteps}
 use Rattle.surrogates.specs.Gathered.{AreFactorsWith}
 
-pub by_steps : (g : MixedGraph) (zs order ts : List ℕ) (x y d : ℕ) (made : Factors) → AreAncestorsIn g (minus (all g.vertices) x) y d → AreDistricts g d 0 order ts → AreFactorsWith g zs ts made
+pub by_steps : (g : MixedGraph) (zs order ts : List ℕ) (x y d : ℕ) (made : Factors) → AreAncestorsIn g (minus (all g.vertices) x) y d
+    → AreDistricts g d 0 order ts → AreFactorsWith g zs ts made
     → (f : PlainFormula) (t : PlainDerivation) → AreAssembled g.vertices order ts x y d made f t → IsComposedBySteps g order zs x y f t
 by_steps g zs order ts x y d made is_d districts of f t a = record {
   d = d;

@@ -4,12 +4,12 @@ use Rattle.std.specs.Prelude.{Result, Ok, Err, IfOk, IfErr}
 use Rattle.std.proofs.lemmas.List.{length-map}
 use Rattle.mixed_graph.specs.Graphs.{MixedGraph}
 use Rattle.prob_expr.specs.View.{view}
-use Rattle.district_factors.specs.declared.district_factor.Factor.{Factor}
-use Rattle.district_factors.specs.declared.district_factor.FactorFault.{FactorFault}
-use Rattle.district_factors.specs.declared.district_factor.FactorFault.TheVariants.{Stopped, NoMemory}
-use Rattle.id_recursion.specs.declared.answer.Factors.{Factors}
-use Rattle.id_recursion.proofs.GatheredFactors.{Continues, Gathered, GoesOn, gathered_derived}
-use Rattle.surrogate_theory.specs.Surrogates.{AreDerivedWith, StopsWith}
+use Rattle.identify.specs.declared.factors.district_factor.Factor.{Factor}
+use Rattle.identify.specs.declared.factors.district_factor.FactorFault.{FactorFault}
+use Rattle.identify.specs.declared.factors.district_factor.FactorFault.TheVariants.{Stopped, NoMemory}
+use Rattle.identify.specs.declared.answer.Factors.{Factors}
+use Rattle.identify.proofs.GatheredFactors.{Continues, Gathered, GoesOn, gathered_derived}
+use Rattle.surrogates.specs.Surrogates.{AreDerivedWith, StopsWith}
 use Rattle.surrogates.specs.Gathered.{AreFactorsWith}
 use Rattle.surrogates.specs.Tries.{IsFirstTried, IsBlockedFactor}
 
@@ -23,10 +23,15 @@ tried_continues g zs c k f is = record {
     number : k + length f.defs.items ≡ k + length (map view f.defs.items)
     number = ap (λ z. k + z) (sym (length-map f.defs.items view))
 
-pub tried_goes_on : (g : MixedGraph) (zs : List ℕ) (c k : ℕ) (r : Result Factor FactorFault) → IfOk r (IsFirstTried g zs c k) → IfErr r (IsBlockedFactor g zs c) → GoesOn (AreDerivedWith g zs) (StopsWith g zs) c k r
+pub tried_goes_on : (g : MixedGraph) (zs : List ℕ) (c k : ℕ) (r : Result Factor FactorFault) → IfOk r (IsFirstTried g zs c k)
+    → IfErr r (IsBlockedFactor g zs c) → GoesOn (AreDerivedWith g zs) (StopsWith g zs) c k r
 tried_goes_on g zs c k (Ok f) is fault = tried_continues g zs c k f is
 tried_goes_on g zs c k (Err (Stopped big)) is fault = λ ts. StopsWith.first fault.0 fault.1
 tried_goes_on g zs c k (Err NoMemory) is fault = tt
 
 pub factors_of : (g : MixedGraph) (zs ts : List ℕ) (made : Factors) → Gathered (AreDerivedWith g zs) (StopsWith g zs) ts made → AreFactorsWith g zs ts made
-factors_of g zs ts made s = record { derived = gathered_derived (AreDerivedWith g zs) (StopsWith g zs) (λ k. AreDerivedWith.none) ts made s; counted = s.listed; few = s.few }
+factors_of g zs ts made s = record {
+  derived = gathered_derived (AreDerivedWith g zs) (StopsWith g zs) (λ k. AreDerivedWith.none) ts made s;
+  counted = s.listed;
+  few = s.few;
+}

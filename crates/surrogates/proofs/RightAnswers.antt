@@ -7,32 +7,34 @@ use Rattle.mixed_graph.specs.Sets.{Apart}
 use Rattle.mixed_graph.specs.declared.sets.VSet.{VSet}
 use Rattle.finite_models.specs.Data.{meaning}
 use Rattle.prob_expr.specs.Experiments.{AgreeUnderAll}
-use Rattle.prob_expr.specs.Tree.{PlainFormula}
+use Rattle.prob_expr.specs.Tree.{PlainFormula, effect_on}
 use Rattle.prob_expr.specs.View.{formula_view}
 use Rattle.prob_expr.proofs.Excluded.{experiments_exclude_formula}
 use Rattle.do_derivation.specs.Accepts.{are_sets}
 use Rattle.do_derivation.specs.Plans.{PlainDerivation}
 use Rattle.do_derivation.specs.View.{derivation_view}
 use Rattle.do_derivation.proofs.Accepted.{accepted_is_effect}
-use Rattle.identification.proofs.Bools.{clash}
-use Rattle.identification.specs.Procedure.{IsTarget, IsIdentified}
+use Rattle.identification_theory.proofs.Bools.{clash}
+use Rattle.identification_theory.specs.Procedure.{IsTarget, IsIdentified}
 use Rattle.counter_models.proofs.Excluded.{differ_on}
 use Rattle.counter_models.proofs.Final.{agree_harmless}
 use Rattle.counter_models.specs.Pairs.{IsPairOf}
 use Rattle.counter_models.specs.declared.counter_pair.CounterPair.{CounterPair}
 use Rattle.hedge.specs.Hedges.{IsHedge}
 use Rattle.hedge.specs.declared.hedge.Hedge.{Hedge}
-use Rattle.id_recursion.proofs.RightAnswers.{if_ok, right_hedge, target_term}
-use Rattle.id_recursion.specs.Answers.{effect_on, AreShallowSteps, IsShallowFormula}
-use Rattle.id_recursion.specs.Hedged.{IsHedgeOf}
-use Rattle.surrogate_theory.proofs.Answered.{derived_is_surrogate, surrogate_is_accepted, stop_is_first_blocked, blocked_excludes_formula, one_surrogate, plain_comes_first}
-use Rattle.surrogate_theory.proofs.Around.{around_is_apart, each_is_harmless}
-use Rattle.surrogate_theory.proofs.Blocked.{stop_under_has_hedge}
-use Rattle.surrogate_theory.proofs.Shallow.{surrogate_is_shallow}
-use Rattle.surrogate_theory.proofs.Unique.{first_blocked_one}
-use Rattle.surrogate_theory.specs.Common.{around}
-use Rattle.surrogate_theory.specs.Surrogates.{IsAmong, IsBlocked, IsFirstBlocked, IsFirstBlockedFor, IsStoppedUnder, IsStoppedWith, IsSurrogateBySteps, SomeBlocked}
-use Rattle.surrogates.specs.Answers.{IsAnswerWith, IsRightWith, IsRightBlock, IfFormula, IfStopped, IfCommon, IsStopShown, IsBlockShown, IsCommonShown, IsBlockedTogether, is_stopped, HasCommon}
+use Rattle.identify.proofs.RightAnswers.{if_ok, right_hedge, target_term}
+use Rattle.identify.specs.Answers.{AreShallowSteps, IsShallowFormula}
+use Rattle.identify.specs.Hedged.{IsHedgeOf}
+use Rattle.surrogates.proofs.Answered.{derived_is_surrogate, surrogate_is_accepted, stop_is_first_blocked, blocked_excludes_formula, one_surrogate}
+use Rattle.surrogates.proofs.Answered.{plain_comes_first}
+use Rattle.surrogates.proofs.Around.{around_is_apart, each_is_harmless}
+use Rattle.surrogates.proofs.Blocked.{stop_under_has_hedge}
+use Rattle.surrogates.proofs.Shallow.{surrogate_is_shallow}
+use Rattle.surrogates.proofs.Unique.{first_blocked_one}
+use Rattle.surrogates.specs.Common.{around}
+use Rattle.surrogates.specs.Surrogates.{IsAmong, IsBlocked, IsFirstBlocked, IsFirstBlockedFor, IsStoppedUnder, IsStoppedWith, IsSurrogateBySteps, SomeBlocked}
+use Rattle.surrogates.specs.Answers.{IsAnswerWith, IsRightWith, IsRightBlock, IfFormula, IfStopped, IfCommon, IsStopShown, IsBlockShown}
+use Rattle.surrogates.specs.Answers.{IsCommonShown, IsBlockedTogether, is_stopped, HasCommon}
 use Rattle.surrogates.specs.declared.answer.CommonHedge.{CommonHedge}
 use Rattle.surrogates.specs.declared.answer.Surrogate.{Surrogate}
 use Rattle.surrogates.specs.declared.answer.Surrogate.TheVariants.{Formula, Stopped}
@@ -50,16 +52,26 @@ blocked_first g zs c _ (IsFirstBlocked.after {cs = cs} n r) = blocked_first g zs
 pub some_blocked : (g : MixedGraph) (zs : List ℕ) (x y c : ℕ) → IsFirstBlockedFor g zs x y c → SomeBlocked g zs x y
 some_blocked g zs x y c f = record {
   district = c;
-  is_district = record { order = f.order; is_order = f.is_order; d = f.d; is_d = f.is_d; districts = f.districts; are_districts = f.are_districts; among = among_first g zs c f.districts f.first };
+  is_district = record {
+    order = f.order;
+    is_order = f.is_order;
+    d = f.d;
+    is_d = f.is_d;
+    districts = f.districts;
+    are_districts = f.are_districts;
+    among = among_first g zs c f.districts f.first;
+  };
   blocked = blocked_first g zs c f.districts f.first;
 }
 
 -- where the procedure stops, with the hedge that was made for it
-pub stop_shown : (g : MixedGraph) → IsMixedGraph g → (zs : List ℕ) (x y : ℕ) → IsTarget g x y → (small big : VSet) → IsStoppedWith g zs x y small.bits big.bits → (h : Hedge) (pair : CounterPair)
+pub stop_shown : (g : MixedGraph) → IsMixedGraph g → (zs : List ℕ) (x y : ℕ) → IsTarget g x y → (small big : VSet)
+    → IsStoppedWith g zs x y small.bits big.bits → (h : Hedge) (pair : CounterPair)
     → h.small ≡ small → h.big ≡ big → IsHedgeOf g h → IsHedge g x y h → IsPairOf g x y h pair → IsStopShown g zs x y small h pair
 stop_shown g valid zs x y tgt small big stop h pair s b made is models = record {
   stop = subst (λ (w : VSet). IsStoppedWith g zs x y small.bits w.bits) (sym b) stop;
-  first = stop_is_first_blocked g valid zs x y small.bits big.bits h.roots.bits tgt stop (subst (λ (w : VSet). Rattle.identification_answers.specs.Laws.AreRoots g w.bits h.roots.bits) s made.roots);
+  first = stop_is_first_blocked g valid zs x y small.bits big.bits h.roots.bits tgt stop
+      (subst (λ (w : VSet). Rattle.identification_theory.specs.AnswerLaws.AreRoots g w.bits h.roots.bits) s made.roots);
   small = s;
   built = made;
   hedge = is;
@@ -72,7 +84,7 @@ pub block_shown : (g : MixedGraph) → IsMixedGraph g → (zs : List ℕ) (x y :
     → IsStoppedUnder g (around small.bits zs) small.bits big.bits → (h : Hedge) (pair : CounterPair)
     → h.small ≡ small → h.big ≡ big → IsHedgeOf g h → IsHedge g x y h → IsPairOf g x y h pair → IsBlockShown g zs x y small h pair
 block_shown g valid zs x y tgt small first big stop together h pair s b made is models =
-    let roots = subst (λ (w : VSet). Rattle.identification_answers.specs.Laws.AreRoots g w.bits h.roots.bits) s made.roots in
+    let roots = subst (λ (w : VSet). Rattle.identification_theory.specs.AnswerLaws.AreRoots g w.bits h.roots.bits) s made.roots in
     record {
       first = stop_is_first_blocked g valid zs x y small.bits first.bits h.roots.bits tgt stop roots;
       stop = subst (λ (w : VSet). IsStoppedUnder g (around small.bits zs) small.bits w.bits) (sym b) together;
@@ -86,7 +98,8 @@ block_shown g valid zs x y tgt small first big stop together h pair s b made is 
     }
 
 -- what is true of each formula with its derivation is true of the answer
-pub if_formula : {E : Type 0} (g : MixedGraph) (zs : List ℕ) (x y : ℕ) (r : Result Surrogate E) (P : PlainFormula → PlainDerivation → Type 0) → ((f : PlainFormula) (t : PlainDerivation) → IsSurrogateBySteps g zs x y f t → P f t)
+pub if_formula : {E : Type 0} (g : MixedGraph) (zs : List ℕ) (x y : ℕ) (r : Result Surrogate E) (P : PlainFormula → PlainDerivation → Type 0)
+    → ((f : PlainFormula) (t : PlainDerivation) → IsSurrogateBySteps g zs x y f t → P f t)
     → IfOk r (IsAnswerWith g zs x y) → IfOk r (λ a. IfFormula a P)
 if_formula g zs x y r P holds found = if_ok r (IsAnswerWith g zs x y) (λ a. IfFormula a P) each found
   where
@@ -118,7 +131,8 @@ blocked g zs x y (Formula f t) i = tt
 blocked g zs x y (Stopped district h pair (Some common)) i = i.1
 blocked g zs x y (Stopped district h pair None) i = tt
 
-module _ (g : MixedGraph) (valid : IsMixedGraph g) (few : g.vertices ≤ 64) (x y : ℕ) (target : IsTarget g x y) (off : Apart (has x) (has y)) (zs : List ℕ) (sets : are_sets g.vertices zs ≡ true) where
+module _ (g : MixedGraph) (valid : IsMixedGraph g) (few : g.vertices ≤ 64) (x y : ℕ) (target : IsTarget g x y) (off : Apart (has x) (has y)) (zs : List ℕ)
+    (sets : are_sets g.vertices zs ≡ true) where
   -- the models of a common hedge agree under each experiment
   agree_under : (district : VSet) (h : Hedge) (pair : CounterPair) → IsBlockShown g zs x y district h pair
       → AgreeUnderAll zs (meaning g pair.first) (meaning g pair.second)
@@ -144,11 +158,19 @@ module _ (g : MixedGraph) (valid : IsMixedGraph g) (few : g.vertices ≤ 64) (x 
 
   pub right : (a : Surrogate) → IsAnswerWith g zs x y a → IsRightWith g zs x y a
   right (Formula f t) i = let a = (surrogate_is_accepted g valid zs sets x y target (formula_view f) (derivation_view t) i).accepted in
-      record { allowed = a.listed; accepted = a; effect = (accepted_is_effect g valid zs (effect_on x y) (formula_view f) (derivation_view t) (target_term g x y target) a).1 }
+      record {
+        allowed = a.listed;
+        accepted = a;
+        effect = (accepted_is_effect g valid zs (effect_on x y) (formula_view f) (derivation_view t) (target_term g x y target) a).1;
+      }
   right (Stopped district h pair common) i = (right_hedge g valid few x y target off h pair i.0.hedge i.0.models, right_common district common i.1)
 
   pub exact : (a : Surrogate) → IsAnswerWith g zs x y a → IsTrue (is_stopped a) ↔ SomeBlocked g zs x y
-  exact (Formula f t) i = (λ e. absurd (clash false e refl), λ b. absurd (blocked_excludes_formula g valid zs x y target b (formula_view f) (derived_is_surrogate g zs x y (formula_view f) (derivation_view t) i)))
+  exact (Formula f t) i = (
+    λ e. absurd (clash false e refl),
+    λ b. absurd
+        (blocked_excludes_formula g valid zs x y target b (formula_view f) (derived_is_surrogate g zs x y (formula_view f) (derivation_view t) i)),
+  )
   exact (Stopped district h pair common) i = (λ e. some_blocked g zs x y district.bits i.0.first, λ b. refl)
 
   -- there is a common hedge where the first blocked district stops under all that leave it alone at once
@@ -164,9 +186,16 @@ module _ (g : MixedGraph) (valid : IsMixedGraph g) (few : g.vertices ≤ 64) (x 
     λ b. absurd
         (i.1 b.big (subst (λ c. IsStoppedUnder g (around c zs) c b.big) (first_blocked_one g x y zs b.district district.bits b.first i.0.first) b.stop)),
   )
-  common (Stopped district h pair (Some k)) i = (λ e. record { district = district.bits; first = i.0.first; big = k.hedge.big.bits; stop = i.1.stop }, λ b. refl)
+  common (Stopped district h pair (Some k)) i = (
+    λ e. record { district = district.bits; first = i.0.first; big = k.hedge.big.bits; stop = i.1.stop },
+    λ b. refl,
+  )
 
   pub plain : (f : PlainFormula) → IsIdentified g x y f → (a : Surrogate) → IsAnswerWith g zs x y a → (is_stopped a ≡ true → ⊥) × IfFormula a (λ h t. h ≡ f)
-  plain f s (Formula h t) i = (λ e. clash false e refl, one_surrogate g zs x y (formula_view h) f (derived_is_surrogate g zs x y (formula_view h) (derivation_view t) i) (plain_comes_first g valid zs x y f s))
+  plain f s (Formula h t) i = (
+    λ e. clash false e refl,
+    one_surrogate g zs x y (formula_view h) f
+        (derived_is_surrogate g zs x y (formula_view h) (derivation_view t) i) (plain_comes_first g valid zs x y f s),
+  )
   plain f s (Stopped district h pair common) i = absurd
       (blocked_excludes_formula g valid zs x y target (some_blocked g zs x y district.bits i.0.first) f (plain_comes_first g valid zs x y f s))

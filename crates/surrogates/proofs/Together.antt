@@ -1,50 +1,51 @@
 -- What stops a district under all experiments that leave it alone at once.
-use Rattle.std.proofs.Common.{ℕ, suc, ◌+◌, ◌≡◌, ◌<◌, ◌≤◌, ◌||◌, Bool, true, false, cond, inl, inr, List, [], ◌∷◌, length, map, drop, get_or, refl, sym, ap, subst, ◌∙◌, arith}
+use Rattle.std.proofs.Common.{ℕ, suc, ◌+◌, ◌≡◌, ◌<◌, ◌≤◌, ◌||◌, Bool, true, false, cond, inl, inr, List, [], ◌∷◌, length, map, drop, get_or, refl}
+use Rattle.std.proofs.Common.{sym, ap, subst, ◌∙◌, arith}
 use Rattle.std.proofs.lemmas.List.{at_drop_more, at_drop_all}
 use Rattle.std.specs.List.{All}
 use Rattle.mixed_graph.specs.Bits.{has}
 use Rattle.mixed_graph.specs.Graphs.{MixedGraph}
-use Rattle.mixed_graph.specs.Masks.{is_apart, join}
+use Rattle.mixed_graph.specs.Masks.{is_apart, union}
 use Rattle.mixed_graph.specs.Sets.{Within}
 use Rattle.mixed_graph.specs.declared.sets.VSet.{VSet}
 use Rattle.mixed_graph.proofs.Masks.{same_from_has}
 use Rattle.mixed_graph.proofs.MaskLaws.{has_join, has_none, join_assoc, join-zero}
-use Rattle.districts.specs.Linked.{IsMaximalJoined}
+use Rattle.hedge.specs.Linked.{IsMaximalJoined}
 use Rattle.prob_expr.specs.Listed.{masks_of}
 use Rattle.prob_expr.specs.View.{view}
-use Rattle.district_factors.specs.declared.district_factor.Factor.{Factor}
-use Rattle.surrogate_theory.proofs.Blocked.{stop_at}
-use Rattle.surrogate_theory.proofs.Unique.{factor_or_stop}
-use Rattle.surrogate_theory.specs.Common.{around}
-use Rattle.surrogate_theory.specs.Surrogates.{IsAmong, IsStoppedUnder, StopsWith}
+use Rattle.identify.specs.declared.factors.district_factor.Factor.{Factor}
+use Rattle.surrogates.proofs.Blocked.{stop_at}
+use Rattle.surrogates.proofs.Unique.{factor_or_stop}
+use Rattle.surrogates.specs.Common.{around}
+use Rattle.surrogates.specs.Surrogates.{IsAmong, IsStoppedUnder, StopsWith}
 use Rattle.surrogates.specs.Tries.{IsDistrictFrom, IsTried}
 
 -- nothing is taken at first
-pub none_taken : (a : ℕ) → join 0 a ≡ a
-none_taken a = same_from_has (join 0 a) a (λ v. has_join 0 a v ∙ ap (λ p. p || has a v) (has_none v))
+pub none_taken : (a : ℕ) → union 0 a ≡ a
+none_taken a = same_from_has (union 0 a) a (λ v. has_join 0 a v ∙ ap (λ p. p || has a v) (has_none v))
 
 -- what is taken of one more experiment isn't left any more
-taken_more : (c taken z : ℕ) (rest : List ℕ) → join (cond (is_apart z c) (join taken z) taken) (around c rest) ≡ join taken (around c (z ∷ rest))
+taken_more : (c taken z : ℕ) (rest : List ℕ) → union (cond (is_apart z c) (union taken z) taken) (around c rest) ≡ union taken (around c (z ∷ rest))
 taken_more c taken z rest = go (is_apart z c)
   where
-    go : (b : Bool) → join (cond b (join taken z) taken) (around c rest) ≡ join taken (cond b (join z (around c rest)) (around c rest))
+    go : (b : Bool) → union (cond b (union taken z) taken) (around c rest) ≡ union taken (cond b (union z (around c rest)) (around c rest))
     go true = join_assoc taken z (around c rest)
     go false = refl
 
 -- ---- the experiments as the loop goes over them
 pub next_taken : (c taken next : ℕ) (sets : List VSet) (i : ℕ) → i < length sets
-    → next ≡ cond (is_apart (get_or sets i (record { bits = 0 })).bits c) (join taken (get_or sets i (record { bits = 0 })).bits) taken
-    → join taken (around c (masks_of (drop i sets))) ≡ around c (masks_of sets) → join next (around c (masks_of (drop (i + 1) sets))) ≡ around c (masks_of sets)
+    → next ≡ cond (is_apart (get_or sets i (record { bits = 0 })).bits c) (union taken (get_or sets i (record { bits = 0 })).bits) taken
+    → union taken (around c (masks_of (drop i sets))) ≡ around c (masks_of sets) → union next (around c (masks_of (drop (i + 1) sets))) ≡ around c (masks_of sets)
 next_taken c taken next sets i lt is before =
-    ap (λ n. join n (around c (masks_of (drop (i + 1) sets)))) is
+    ap (λ n. union n (around c (masks_of (drop (i + 1) sets)))) is
     ∙ taken_more c taken (get_or sets i (record { bits = 0 })).bits (masks_of (drop (i + 1) sets))
-    ∙ ap (λ l. join taken (around c l)) (sym (at_drop_more (λ l. masks_of l) sets i (record { bits = 0 }) lt))
+    ∙ ap (λ l. union taken (around c l)) (sym (at_drop_more (λ l. masks_of l) sets i (record { bits = 0 }) lt))
     ∙ before
 
 pub all_taken : (c taken : ℕ) (sets : List VSet) (i : ℕ) → length sets ≤ i
-    → join taken (around c (masks_of (drop i sets))) ≡ around c (masks_of sets) → taken ≡ around c (masks_of sets)
+    → union taken (around c (masks_of (drop i sets))) ≡ around c (masks_of sets) → taken ≡ around c (masks_of sets)
 all_taken c taken sets i le before =
-    sym (join-zero taken) ∙ ap (λ l. join taken (around c l)) (sym (at_drop_all (λ l. masks_of l) sets i le)) ∙ before
+    sym (join-zero taken) ∙ ap (λ l. union taken (around c l)) (sym (at_drop_all (λ l. masks_of l) sets i le)) ∙ before
 
 -- ---- what stops
 -- where the district has a factor, it doesn't stop

@@ -8,7 +8,7 @@ use Rattle.finite_models.specs.Data.{meaning}
 use Rattle.prob_expr.specs.Differences.{HasNoFormulaOver}
 use Rattle.prob_expr.specs.Experiments.{AgreeUnderAll}
 use Rattle.prob_expr.specs.Terms.{is_allowed}
-use Rattle.prob_expr.specs.Tree.{PlainFormula}
+use Rattle.prob_expr.specs.Tree.{PlainFormula, effect_on}
 use Rattle.prob_expr.specs.Values.{EqualsEffect}
 use Rattle.prob_expr.specs.View.{formula_view}
 use Rattle.do_derivation.specs.Accepts.{Accepts}
@@ -18,15 +18,16 @@ use Rattle.hedge.specs.Hedges.{IsHedge}
 use Rattle.hedge.specs.declared.hedge.Hedge.{Hedge}
 use Rattle.counter_models.specs.Pairs.{IsPairOf}
 use Rattle.counter_models.specs.declared.counter_pair.CounterPair.{CounterPair}
-use Rattle.id_recursion.specs.Answers.{effect_on, IsRightHedge}
-use Rattle.id_recursion.specs.Hedged.{IsHedgeOf}
-use Rattle.surrogate_theory.specs.Common.{around}
-use Rattle.surrogate_theory.specs.Surrogates.{IsSurrogateBySteps, IsStoppedUnder, IsStoppedWith, IsFirstBlockedFor}
+use Rattle.identify.specs.Answers.{IsRightHedge}
+use Rattle.identify.specs.Hedged.{IsHedgeOf}
+use Rattle.surrogates.specs.Common.{around}
+use Rattle.surrogates.specs.Surrogates.{IsSurrogateBySteps, IsStoppedUnder, IsStoppedWith, IsFirstBlockedFor}
 use Rattle.surrogates.specs.declared.answer.CommonHedge.{CommonHedge}
 use Rattle.surrogates.specs.declared.answer.Surrogate.{Surrogate}
 use Rattle.surrogates.specs.declared.answer.Surrogate.TheVariants as answers
 
--- each term of the formula is observed or under an experiment, the derivation turns P(y | do(x)) into it, and it equals the effect in each positive model of the graph, at each assignment
+-- each term of the formula is observed or under an experiment, the derivation turns P(y | do(x)) into it, and it equals the effect in each positive
+-- model of the graph, at each assignment
 pub record IsRightFormulaWith (g : MixedGraph) (zs : List ℕ) (x y : ℕ) (f : PlainFormula) (t : PlainDerivation) : Type 0 where
   pub allowed : is_allowed zs f ≡ true
   pub accepted : Accepts g zs (effect_on x y) f t
@@ -38,7 +39,8 @@ pub record IsRightBlock (g : MixedGraph) (zs : List ℕ) (x y : ℕ) (h : Hedge)
   pub under : AgreeUnderAll zs (meaning g pair.first) (meaning g pair.second)
   pub no_formula : HasNoFormulaOver g zs (effect_on x y)
 
--- A right answer is a formula of observed terms and terms under the experiments, with an accepted derivation, that equals the effect; or a hedge for the effect with two positive models of the graph
+-- A right answer is a formula of observed terms and terms under the experiments, with an accepted derivation, that equals the effect; or a hedge for
+-- the effect with two positive models of the graph
 -- that agree on all observations and differ on the effect; and where there is a common hedge, its models agree under each experiment too.
 abbrev pub IsRightWith : MixedGraph → List ℕ → (x y : ℕ) → Surrogate → Type 0
 IsRightWith g zs x y (answers.Formula f t) = IsRightFormulaWith g zs x y (formula_view f) (derivation_view t)
@@ -69,7 +71,8 @@ abbrev pub HasCommon : Surrogate → Type 0
 HasCommon (answers.Formula f t) = ⊥
 HasCommon (answers.Stopped district h pair common) = IsSome common
 
--- The district is the one at which the procedure stops, and the first in the graph's order that is blocked. The hedge is that at which its factor stops without experiment, with its data and its models.
+-- The district is the one at which the procedure stops, and the first in the graph's order that is blocked. The hedge is that at which its factor
+-- stops without experiment, with its data and its models.
 pub record IsStopShown (g : MixedGraph) (zs : List ℕ) (x y : ℕ) (district : VSet) (h : Hedge) (pair : CounterPair) : Type 0 where
   pub stop : IsStoppedWith g zs x y district.bits h.big.bits
   pub first : IsFirstBlockedFor g zs x y district.bits
@@ -78,7 +81,8 @@ pub record IsStopShown (g : MixedGraph) (zs : List ℕ) (x y : ℕ) (district : 
   pub hedge : IsHedge g x y h
   pub models : IsPairOf g x y h pair
 
--- The district is the first in the graph's order that is blocked. The hedge is that at which its factor stops under all experiments that leave the district alone at once, with its data and its models.
+-- The district is the first in the graph's order that is blocked. The hedge is that at which its factor stops under all experiments that leave the
+-- district alone at once, with its data and its models.
 -- It is apart from these experiments.
 pub record IsBlockShown (g : MixedGraph) (zs : List ℕ) (x y : ℕ) (district : VSet) (h : Hedge) (pair : CounterPair) : Type 0 where
   pub first : IsFirstBlockedFor g zs x y district.bits

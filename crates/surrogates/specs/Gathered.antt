@@ -3,11 +3,11 @@ use Rattle.std.specs.Prelude.{ℕ, ◌≡◌, ◌≤◌, ◌*◌, List, length, 
 use Rattle.mixed_graph.specs.Graphs.{MixedGraph}
 use Rattle.prob_expr.specs.View.{view, views}
 use Rattle.do_derivation.specs.View.{lemma_view}
-use Rattle.id_recursion.specs.Factored.{IsStopBy}
-use Rattle.district_factors.specs.Lists.{lists_view}
-use Rattle.id_recursion.specs.declared.answer.Factors.{Factors}
-use Rattle.id_recursion.specs.declared.answer.Stop.{Stop}
-use Rattle.surrogate_theory.specs.Surrogates.{AreDerivedWith, StopsWith}
+use Rattle.identify.specs.Factored.{IsStopBy}
+use Rattle.identify.specs.Lists.{lists_view}
+use Rattle.identify.specs.declared.answer.Factors.{Factors}
+use Rattle.identify.specs.declared.answer.Stop.{Stop}
+use Rattle.surrogates.specs.Surrogates.{AreDerivedWith, StopsWith}
 
 -- the factors of these districts over the experiments, with their definitions, at most 64 for each, and derivations
 pub record AreFactorsWith (g : MixedGraph) (zs districts : List ℕ) (f : Factors) : Type 0 where

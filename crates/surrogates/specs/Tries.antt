@@ -5,14 +5,14 @@ use Rattle.mixed_graph.specs.Graphs.{MixedGraph}
 use Rattle.mixed_graph.specs.Masks.{is_apart}
 use Rattle.mixed_graph.specs.Sets.{Within}
 use Rattle.mixed_graph.specs.declared.sets.VSet.{VSet}
-use Rattle.districts.specs.Linked.{IsJoinedSet}
+use Rattle.hedge.specs.Linked.{IsJoinedSet}
 use Rattle.prob_expr.specs.View.{view}
 use Rattle.do_derivation.specs.View.{lemma_view, steps_view}
-use Rattle.district_factors.specs.declared.district_factor.Factor.{Factor}
-use Rattle.district_factors.specs.declared.district_factor.FactorFault.{FactorFault}
-use Rattle.district_factors.specs.declared.district_factor.FactorFault.TheVariants.{Stopped, NoMemory}
-use Rattle.surrogate_theory.specs.Common.{around}
-use Rattle.surrogate_theory.specs.Surrogates.{IsDerivedUnder, IsStoppedUnder, ComesFirst, AllStop}
+use Rattle.identify.specs.declared.factors.district_factor.Factor.{Factor}
+use Rattle.identify.specs.declared.factors.district_factor.FactorFault.{FactorFault}
+use Rattle.identify.specs.declared.factors.district_factor.FactorFault.TheVariants.{Stopped, NoMemory}
+use Rattle.surrogates.specs.Common.{around}
+use Rattle.surrogates.specs.Surrogates.{IsDerivedUnder, IsStoppedUnder, ComesFirst, AllStop}
 
 -- c is a joined set of vertices, and there are numbers for 64 definitions from k on
 pub record IsDistrictFrom (g : MixedGraph) (c k : ℕ) : Type 0 where
@@ -33,18 +33,18 @@ IsTryFault g z c (Stopped big) = IsStoppedUnder g z c big.bits
 IsTryFault g z c NoMemory = Unit {0}
 
 -- z meets c, or stops its factor
-abbrev pub IsPassed : MixedGraph → (c z : ℕ) → Type 0
-IsPassed g c z = (is_apart z c ≡ false) ⊎ (IsTrue (is_apart z c) × (big : ℕ) × IsStoppedUnder g z c big)
+abbrev pub IsTriedInVain : MixedGraph → (c z : ℕ) → Type 0
+IsTriedInVain g c z = (is_apart z c ≡ false) ⊎ (IsTrue (is_apart z c) × (big : ℕ) × IsStoppedUnder g z c big)
 
 -- each set of the list does
-abbrev pub AllPassed : MixedGraph → (c : ℕ) → List ℕ → Type 0
-AllPassed g c [] = Unit {0}
-AllPassed g c (z ∷ zs) = IsPassed g c z × AllPassed g c zs
+abbrev pub AllTriedInVain : MixedGraph → (c : ℕ) → List ℕ → Type 0
+AllTriedInVain g c [] = Unit {0}
+AllTriedInVain g c (z ∷ zs) = IsTriedInVain g c z × AllTriedInVain g c zs
 
 -- the factor of c under z, or none where z is passed
 abbrev pub IsAttempt : MixedGraph → (z c k : ℕ) → Option Factor → Type 0
 IsAttempt g z c k (Some f) = IsTrue (is_apart z c) × IsTried g z c k f
-IsAttempt g z c k None = IsPassed g c z
+IsAttempt g z c k None = IsTriedInVain g c z
 
 -- the factor of c under the first of the list that isn't passed
 pub record IsFirstOf (g : MixedGraph) (zs : List ℕ) (c k : ℕ) (f : Factor) : Type 0 where
@@ -55,7 +55,7 @@ pub record IsFirstOf (g : MixedGraph) (zs : List ℕ) (c k : ℕ) (f : Factor) :
 -- that factor, or none where each is passed
 abbrev pub IsAttemptOf : MixedGraph → List ℕ → (c k : ℕ) → Option Factor → Type 0
 IsAttemptOf g zs c k (Some f) = IsFirstOf g zs c k f
-IsAttemptOf g zs c k None = AllPassed g c zs
+IsAttemptOf g zs c k None = AllTriedInVain g c zs
 
 -- the factor of c under the first of no experiment and these in turn
 abbrev pub IsFirstTried : MixedGraph → List ℕ → (c k : ℕ) → Factor → Type 0

@@ -1,3 +1,5 @@
+//! What is found for an effect over experiments.
+
 use counter_models::CounterPair;
 use do_derivation::Derivation;
 use hedge::Hedge;

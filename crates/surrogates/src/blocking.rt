@@ -1,21 +1,21 @@
 //! What stops a district's factor under all experiments that leave the district alone at once.
 
 ghost use Rattle.std.specs.Prelude.{◌≡◌, if◌then◌else◌, IfOk};
-ghost use Rattle.mixed_graph.specs.Masks.{is_apart, join};
+ghost use Rattle.mixed_graph.specs.Masks.{is_apart, union};
 ghost use Rattle.mixed_graph.specs.Shown.{graph_of};
 ghost use Rattle.prob_expr.specs.Listed.{masks_of};
-ghost use Rattle.surrogate_theory.specs.Common.{around};
-ghost use Rattle.surrogate_theory.specs.Surrogates.{IsStoppedUnder};
+ghost use Rattle.surrogates.specs.Common.{around};
+ghost use Rattle.surrogates.specs.Surrogates.{IsStoppedUnder};
 ghost use Rattle.surrogates.specs.Tries.{IsDistrictFrom, IsStopTogether};
 
 use crate::tries::factor_without;
-use district_factors::FactorFault;
+use identify::factors::FactorFault;
 use mixed_graph::{Graph, VSet};
 use std::alloc::{AllocError, Global};
 
 /// What is taken so far, with z where it leaves c alone.
 fn taking(taken: VSet, z: VSet, c: VSet) -> VSet
-    ensures { result.bits ≡ (if is_apart z.bits c.bits then join taken.bits z.bits else taken.bits) }
+    ensures { result.bits ≡ (if is_apart z.bits c.bits then union taken.bits z.bits else taken.bits) }
 {
     if z.is_apart(c) { taken.union(z) } else { taken }
 }

@@ -4,14 +4,14 @@ ghost use Rattle.std.specs.Prelude.{◌≡◌, ◌+◌, ◌*◌, ◌<◌, ◌^�
 ghost use Rattle.mixed_graph.specs.Bits.{has};
 ghost use Rattle.mixed_graph.specs.Sets.{Within};
 ghost use Rattle.mixed_graph.specs.Shown.{graph_of};
-ghost use Rattle.districts.specs.Linked.{IsMaximalJoined};
-ghost use Rattle.districts.specs.Listed.{first_masks};
+ghost use Rattle.hedge.specs.Linked.{IsMaximalJoined};
+ghost use Rattle.hedge.specs.Listed.{first_masks};
 ghost use Rattle.prob_expr.specs.Listed.{masks_of};
 ghost use Rattle.surrogates.specs.Gathered.{AreFactorsWith, IsStopWith};
 
 use crate::tries::first_factor;
-use districts::Districts;
-use id_recursion::{Factors, Stop, add_found, no_factors};
+use hedge::joined_sets::Districts;
+use identify::{Factors, Stop, add_found, no_factors};
 use mixed_graph::{Graph, VSet};
 use std::alloc::Global;
 

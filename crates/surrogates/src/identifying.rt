@@ -8,17 +8,17 @@ ghost use Rattle.prob_expr.specs.Check.{fault_in};
 ghost use Rattle.prob_expr.specs.Listed.{masks_of};
 ghost use Rattle.prob_expr.specs.Tree.{PlainFormula};
 ghost use Rattle.do_derivation.specs.Accepts.{are_sets};
-ghost use Rattle.id_recursion.specs.Answers.{AreShallowSteps, IsShallowFormula};
-ghost use Rattle.identification.specs.Procedure.{IsIdentified};
-ghost use Rattle.surrogate_theory.specs.Surrogates.{IsSurrogate, IsSurrogateBySteps, IsStoppedWith, SomeBlocked};
+ghost use Rattle.identify.specs.Answers.{AreShallowSteps, IsShallowFormula};
+ghost use Rattle.identification_theory.specs.Procedure.{IsIdentified};
+ghost use Rattle.surrogates.specs.Surrogates.{IsSurrogate, IsSurrogateBySteps, IsStoppedWith, SomeBlocked};
 ghost use Rattle.surrogates.specs.Answers.{IsAnswerWith, IsRightWith, IfFormula, IfStopped, IfCommon, IsStopShown, IsBlockShown, IsCommonShown, IsBlockedTogether, is_stopped, HasCommon};
 ghost use Rattle.surrogates.specs.Tries.{IsDistrictFrom};
 
 use crate::answer::{CommonHedge, Surrogate};
 use crate::blocking::common_stop;
 use crate::gathering::factors_with;
-use districts::districts;
-use id_recursion::{Stop, ancestors_outside, assembled, hedge_of, observed, order_of};
+use hedge::joined_sets::districts;
+use identify::{Stop, ancestors_outside, assembled, hedge_of, observed, order_of};
 use mixed_graph::{Graph, VSet};
 use std::alloc::{AllocError, Global};
 

@@ -8,6 +8,7 @@ mod answer;
 mod blocking;
 mod gathering;
 mod identifying;
+pub mod theory;
 mod tries;
 
 pub use answer::{CommonHedge, Surrogate};

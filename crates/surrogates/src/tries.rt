@@ -4,14 +4,14 @@ ghost use Rattle.std.specs.Prelude.{◌≡◌, ◌+◌, ◌<◌, ◌^◌, ◌≤
 ghost use Rattle.mixed_graph.specs.Bits.{has};
 ghost use Rattle.mixed_graph.specs.Sets.{Within};
 ghost use Rattle.mixed_graph.specs.Shown.{graph_of};
-ghost use Rattle.districts.specs.Linked.{IsJoinedSet};
+ghost use Rattle.hedge.specs.Linked.{IsJoinedSet};
 ghost use Rattle.prob_expr.specs.Listed.{masks_of};
 ghost use Rattle.mixed_graph.specs.Masks.{is_apart};
-ghost use Rattle.surrogate_theory.specs.Surrogates.{IsStoppedUnder};
+ghost use Rattle.surrogates.specs.Surrogates.{IsStoppedUnder};
 ghost use Rattle.surrogates.specs.Tries.{IsDistrictFrom, IsTried, IsTryFault, IsAttempt, IsAttemptOf, IsFirstTried, IsBlockedFactor};
 
-use district_factors::{Factor, FactorFault, factor_under};
-use id_recursion::order_of;
+use identify::factors::{Factor, FactorFault, factor_under};
+use identify::order_of;
 use mixed_graph::{Graph, VSet};
 use std::alloc::{AllocError, Global};
 

@@ -6,13 +6,14 @@ use Rattle.hedge.specs.declared.hedge.Hedge.{Hedge as HedgeData}
 use Rattle.mixed_graph.specs.Masks.{one}
 use Rattle.prob_expr.specs.View.{formula_view}
 use Rattle.do_derivation.specs.View.{derivation_view}
-use Rattle.id_recursion.specs.Answers.{IsRight, is_hedge}
-use Rattle.id_recursion.specs.declared.answer.Answer.{Answer}
-use Rattle.id_recursion.specs.declared.answer.Answer.TheVariants.{Formula, Hedge}
+use Rattle.identify.specs.Answers.{IsRight, is_hedge}
+use Rattle.identify.specs.declared.answer.Answer.{Answer}
+use Rattle.identify.specs.declared.answer.Answer.TheVariants.{Formula, Hedge}
 use Rattle.survey_command.specs.Tallies.{IsAnswerFor}
 
 -- a hedge is answered exactly where there is one, and otherwise a right formula
-answered : (g : MixedGraph) (a b : ℕ) (w : Answer) → IsRight g (one a) (one b) w → (IsTrue (is_hedge w) ↔ ((h : HedgeData) × IsHedge g (one a) (one b) h)) → IsAnswerFor g a b (is_hedge w)
+answered : (g : MixedGraph) (a b : ℕ) (w : Answer) → IsRight g (one a) (one b) w → (IsTrue (is_hedge w) ↔ ((h : HedgeData) × IsHedge g (one a) (one b) h))
+    → IsAnswerFor g a b (is_hedge w)
 answered g a b (Formula f d) right exact = (λ h. cc (exact.1 h), record { formula = formula_view f; derivation = derivation_view d; right = right })
 answered g a b (Hedge h pair) right exact = exact.0 refl
 

@@ -1,8 +1,8 @@
 -- The command's words ask for one request, and its answers have one outcome.
 use Rattle.std.proofs.Common.{◌≡◌, ◌-◌, List}
 use Rattle.std.specs.Prelude.{◌^◌, codes}
-use Rattle.word_forms.specs.Form.{Use, word_of}
-use Rattle.request_values.proofs.OneValue.{one_needed_number}
+use Rattle.command_words.specs.Form.{Use, word_of}
+use Rattle.command_words.proofs.OneValue.{one_needed_number}
 use Rattle.replies.proofs.Commands.{IsLawful, lawful_on_words}
 use Rattle.survey_command.specs.Requests.{Request, IsRequest, survey_row}
 use Rattle.survey_command.specs.Command.{survey_command}

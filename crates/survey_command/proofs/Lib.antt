@@ -5,3 +5,6 @@ mod Tallying
 pub mod Outcomes
 pub mod Exclusive
 pub mod Lawful
+pub mod Counting
+pub mod Drawing
+pub mod Stepping

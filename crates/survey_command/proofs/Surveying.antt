@@ -1,7 +1,7 @@
 -- From the tally of a graph to its survey.
 use Rattle.std.proofs.Common.{ℕ, ◌≡◌, not, List, ◌∙◌, ap, subst}
 use Rattle.mixed_graph.specs.Graphs.{MixedGraph}
-use Rattle.survey_graph.specs.Counts.{arrow_count, spouse_count}
+use Rattle.survey_command.specs.Counts.{arrow_count, spouse_count}
 use Rattle.survey_command.specs.Answers.{survey_text, count_of_pairs, IsSurvey}
 use Rattle.survey_command.specs.Tallies.{IsAnswerFor, IsTally}
 use Rattle.survey_command.specs.declared.tally.Tally.{Tally}

@@ -1,12 +1,13 @@
 -- Tallies grow by one answer, and by one row.
-use Rattle.std.proofs.Common.{ℕ, zero, suc, ◌≡◌, ◌<◌, ◌≤◌, ◌+◌, ◌*◌, Bool, true, false, cond, not, ◌&&◌, ◌==◌, length, inl, inr, refl, sym, ap, ◌∙◌, subst, arith}
+use Rattle.std.proofs.Common.{ℕ, zero, suc, ◌≡◌, ◌<◌, ◌≤◌, ◌+◌, ◌*◌, Bool, true, false, cond, not, ◌&&◌, ◌==◌, length, inl, inr, refl, sym, ap, ◌∙◌}
+use Rattle.std.proofs.Common.{subst, arith}
 use Rattle.std.proofs.Math.Nat.{mul-le-mul}
 use Rattle.std.proofs.lemmas.Bool.{cases_eq, ne_eqb, eq-eqb}
 use Rattle.mixed_graph.specs.Bits.{members_below}
 use Rattle.mixed_graph.specs.Graphs.{MixedGraph}
 use Rattle.mixed_graph.proofs.Members.{length-members-suc, length-members-zero, length-members-le, one_if}
-use Rattle.survey_graph.specs.Counts.{pairs_from}
-use Rattle.survey_graph.proofs.Counting.{pairs_from_le}
+use Rattle.survey_command.specs.Counts.{pairs_from}
+use Rattle.survey_command.proofs.Counting.{pairs_from_le}
 use Rattle.survey_command.specs.Tallies.{IsAnswerFor, IsRowTally, IsTally, count_of_others}
 use Rattle.survey_command.specs.declared.tally.Tally.{Tally}
 
@@ -38,7 +39,8 @@ unfolding updated
 updated_else r k v b ne = rw (ne_eqb b k ne) refl
 
 -- one more number, other than a, which passes the test or not
-others_more : (a k : ℕ) (s t : ℕ → Bool) (v : Bool) → (a ≡ k → ⊥) → ((b : ℕ) → b < k → t b ≡ s b) → t k ≡ v → count_of_others (suc k) a t ≡ count_of_others k a s + one_if v
+others_more : (a k : ℕ) (s t : ℕ → Bool) (v : Bool) → (a ≡ k → ⊥) → ((b : ℕ) → b < k → t b ≡ s b) → t k ≡ v → count_of_others (suc k) a t
+    ≡ count_of_others k a s + one_if v
 others_more a k s t v ne same at =
     let low = length-members-same (λ b. not (a == b) && t b) (λ b. not (a == b) && s b) k (λ b lt. ap (λ x. not (a == b) && x) (same b lt)) in
     let here : (not (a == k) && t k) ≡ v = rw (ne_eqb a k ne) at in
@@ -82,7 +84,8 @@ row_more g a k t new v ne row answer f h =
         | inl e ↦ subst (λ x. IsAnswerFor g a x (r x)) (sym e) (subst (IsAnswerFor g a k) (sym (updated_at row.is_hedged k v)) answer)
         | inr low ↦ subst (IsAnswerFor g a b) (sym (updated_else row.is_hedged k v b low)) (row.right b (omega arith) other)
       ];
-      formulas = f ∙ by_formula v ∙ sym (others_more a k (λ b. not (row.is_hedged b)) (λ b. not (r b)) (not v) ne (λ b lt. ap (λ x. not x) (else b lt)) (ap (λ x. not x) (updated_at row.is_hedged k v)));
+      formulas = f ∙ by_formula v ∙ sym (others_more a k (λ b. not (row.is_hedged b)) (λ b. not (r b)) (not v) ne (λ b lt. ap (λ x. not x) (else b lt))
+          (ap (λ x. not x) (updated_at row.is_hedged k v)));
       hedges = h ∙ by_hedge v ∙ sym (others_more a k row.is_hedged r v ne else (updated_at row.is_hedged k v));
     }
   where
@@ -141,7 +144,8 @@ tally_more g k t row new before now f h =
     let r : ℕ → ℕ → Bool = with_row before.is_hedged k now.is_hedged in
     let else : (a b : ℕ) → a < k → r a b ≡ before.is_hedged a b = λ a b lt. with_row_else before.is_hedged k now.is_hedged a b (λ e. omega (arith, e, lt)) in
     let at : (b : ℕ) → r k b ≡ now.is_hedged b = λ b. with_row_at before.is_hedged k now.is_hedged b in
-    let mf = pairs_more g.vertices k (λ a b. not (before.is_hedged a b)) (λ a b. not (r a b)) (λ b. not (now.is_hedged b)) (λ a b lt. ap (λ x. not x) (else a b lt)) (λ b. ap (λ x. not x) (at b)) in
+    let mf = pairs_more g.vertices k (λ a b. not (before.is_hedged a b)) (λ a b. not (r a b)) (λ b. not (now.is_hedged b))
+    (λ a b lt. ap (λ x. not x) (else a b lt)) (λ b. ap (λ x. not x) (at b)) in
     let mh = pairs_more g.vertices k before.is_hedged r now.is_hedged else at in
     let bf = before.formulas in let bh = before.hedges in let nf = now.formulas in let nh = now.hedges in
     record {
@@ -171,7 +175,8 @@ few_more n k x y small lt low row =
     let all : n * (k + 1) ≤ 64 * 64 = let next : k + 1 ≤ 64 = omega (arith, small, lt) in mul-le-mul small next in omega (arith, all, low, row)
 
 -- so a row more fits
-pub tally_room : (g : MixedGraph) (k : ℕ) (t row : Tally) → g.vertices ≤ 64 → k < g.vertices → IsTally g k t → IsRowTally g k g.vertices row → (t.formulas + row.formulas ≤ 4096) × (t.hedges + row.hedges ≤ 4096)
+pub tally_room : (g : MixedGraph) (k : ℕ) (t row : Tally) → g.vertices ≤ 64 → k < g.vertices → IsTally g k t → IsRowTally g k g.vertices row
+    → (t.formulas + row.formulas ≤ 4096) × (t.hedges + row.hedges ≤ 4096)
 tally_room g k t row small lt before now =
     let few = tally_few g k t before in let more = row_few g k g.vertices row now in
     (few_more g.vertices k t.formulas row.formulas small lt few.0 more.0, few_more g.vertices k t.hedges row.hedges small lt few.1 more.1)

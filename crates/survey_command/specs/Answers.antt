@@ -6,9 +6,9 @@ use Rattle.hedge.specs.declared.hedge.Hedge.{Hedge}
 use Rattle.mixed_graph.specs.Masks.{one}
 use Rattle.prob_expr.specs.Tree.{PlainFormula}
 use Rattle.do_derivation.specs.Plans.{PlainDerivation}
-use Rattle.id_recursion.specs.Answers.{IsRightFormula}
-use Rattle.survey_graph.specs.Counts.{pairs_from, arrow_count, spouse_count}
-use Rattle.survey_graph.specs.Drawn.{drawn_graph}
+use Rattle.identify.specs.Answers.{IsRightFormula}
+use Rattle.survey_command.specs.Counts.{pairs_from, arrow_count, spouse_count}
+use Rattle.survey_command.specs.Drawn.{drawn_graph}
 use Rattle.replies.specs.declared.outcome.Outcome.{Outcome}
 use Rattle.replies.specs.declared.outcome.Outcome.TheVariants.{Yes}
 

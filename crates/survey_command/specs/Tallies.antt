@@ -2,7 +2,7 @@
 use Rattle.std.specs.Prelude.{ℕ, ◌≡◌, ◌<◌, Bool, true, false, not, ◌&&◌, ◌==◌, length}
 use Rattle.mixed_graph.specs.Bits.{members_below}
 use Rattle.mixed_graph.specs.Graphs.{MixedGraph}
-use Rattle.survey_graph.specs.Counts.{pairs_from}
+use Rattle.survey_command.specs.Counts.{pairs_from}
 use Rattle.survey_command.specs.Answers.{HasHedge, HasFormula}
 use Rattle.survey_command.specs.declared.tally.Tally.{Tally}
 

@@ -1,6 +1,7 @@
 //! The command `survey`.
 #![tactic(auto)]
 
+pub mod random_graph;
 mod reply;
 mod request;
 mod tally;

@@ -1,13 +1,15 @@
+//! The answer of `survey`.
+
 ghost use Rattle.std.specs.Prelude.{◌≡◌, IfOk};
 ghost use Rattle.mixed_graph.specs.Shown.{graph_of};
-ghost use Rattle.survey_graph.specs.Counts.{arrow_count, spouse_count};
+ghost use Rattle.survey_command.specs.Counts.{arrow_count, spouse_count};
 ghost use Rattle.survey_command.specs.Answers.{SurveyAnswer, survey_text};
 
+use crate::random_graph::{bidirected_count, directed_count, survey_graph};
 use crate::tally::Tally;
 use mixed_graph::Graph;
 use replies::{Outcome, Reply};
 use std::alloc::{AllocError, Global};
-use survey_graph::{bidirected_count, directed_count, survey_graph};
 
 /// Of how many ordered pairs of two vertices the effect of the first on the second can be computed from
 /// observations, in the survey graph of a seed.

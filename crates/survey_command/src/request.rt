@@ -1,17 +1,19 @@
-ghost use Rattle.std.specs.Prelude.{◌≡◌, List, IfOk, IsErrOf};
-ghost use Rattle.word_forms.specs.Form.{Use};
-ghost use Rattle.word_values.specs.Gives.{HoldsCall};
+//! What `survey` is asked.
 
-use request_values::{RequestFault, number_word};
-use word_forms::Entry;
-use word_values::Values;
+ghost use Rattle.std.specs.Prelude.{◌≡◌, List, IfOk, IsErrOf};
+ghost use Rattle.command_words.specs.Form.{Use};
+ghost use Rattle.command_words.specs.Gives.{HoldsCall};
+
+use command_words::forms::Entry;
+use command_words::typed::{RequestFault, number_word};
+use command_words::values::Values;
 
 /// `survey N`
 pub const ROW: Entry = Entry {
     name: "survey",
     positionals: &["number"],
-    extra: &[],
-    needed: &[],
+    optional: &[],
+    required: &[],
     options: &[],
     flags: &[],
 };

@@ -1,9 +1,11 @@
+//! How many effects of a graph have a formula, and how many a hedge.
+
 ghost use Rattle.std.specs.Prelude.{◌≡◌, ◌≢◌, ◌<◌, ◌≤◌, ◌+◌, IfOk, if◌then◌else◌};
 ghost use Rattle.mixed_graph.specs.Shown.{graph_of};
-ghost use Rattle.id_recursion.specs.Answers.{is_hedge};
+ghost use Rattle.identify.specs.Answers.{is_hedge};
 ghost use Rattle.survey_command.specs.Tallies.{IsAnswerFor};
 
-use id_recursion::{Answer, identify};
+use identify::{Answer, identify};
 use mixed_graph::{Graph, VSet};
 use std::alloc::{AllocError, Global};
 

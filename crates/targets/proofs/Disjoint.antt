@@ -36,19 +36,19 @@ set_of_none : (observed : List (List ℕ)) → IsListedSet observed [] 0
 set_of_none observed v = has-zero v ∙ sym (and_right (nat_lt v (length observed)) false refl)
 
 -- the sets of a rule are within n, and no two of them meet
-pub disjoint_rule_sets : (l : RuleLists) (n y done z given : ℕ) → length l.observed ≡ n → AreRuleSets l y done z given → DisjointRuleSets n done y z given
-disjoint_rule_sets l n y done z given e s =
-    let a = pairwise_apart l y done z given s.no_fault s.set_y s.set_done s.set_z s.set_given in record {
+pub disjoint_rule_sets : (l : RuleLists) (n y x z given : ℕ) → length l.observed ≡ n → AreRuleSets l y x z given → DisjointRuleSets n x y z given
+disjoint_rule_sets l n y x z given e s =
+    let a = pairwise_apart l y x z given s.no_fault s.set_y s.set_x s.set_z s.set_given in record {
       three = record {
-        x_within = within l.observed l.done n done e s.set_done;
+        x_within = within l.observed l.x n x e s.set_x;
         y_within = within l.observed l.y n y e s.set_y;
         w_within = within l.observed l.given n given e s.set_given;
-        x_y = a.done_y;
-        x_w = a.done_given;
+        x_y = a.x_y;
+        x_w = a.x_given;
         y_w = a.y_given;
       };
       z_within = within l.observed l.z n z e s.set_z;
-      x_z = a.done_z;
+      x_z = a.x_z;
       y_z = a.y_z;
       z_w = a.z_given;
     }
@@ -56,7 +56,7 @@ disjoint_rule_sets l n y done z given e s =
 -- the sets of a query in which x may be empty, by those of a rule that does nothing
 pub disjoint_listed_sets : (l : Lists) (n x y given : ℕ) → length l.observed ≡ n → AreListedSets l x y given → DisjointSets n x y given
 disjoint_listed_sets l n x y given e s =
-    let rule : RuleLists = record { all = l.all; observed = l.observed; y = l.x; done = []; z = l.y; given = l.given } in
+    let rule : RuleLists = record { all = l.all; observed = l.observed; y = l.x; x = []; z = l.y; given = l.given } in
     let a = pairwise_apart rule x 0 y given s.no_fault s.set_x (set_of_none l.observed) s.set_y s.set_given in record {
       x_within = within l.observed l.x n x e s.set_x;
       y_within = within l.observed l.y n y e s.set_y;

@@ -2,10 +2,12 @@
 use Rattle.std.proofs.Common.{◌≡◌, ℕ, List, Option, Some, refl}
 use Rattle.targets.specs.declared.fault.TargetFault.{TargetFault}
 use Rattle.targets.specs.declared.fault.TargetFault.TheVariants.{Unknown, Latent, Twice, EmptyX, NoMemory}
-use Rattle.targets.specs.Targets.{NameFault, unknown, latent, twice, IsNameFault, OrMemory, Lists, fault_in, IsListFault, IsTargetFault, RuleLists, rule_fault, IsRuleFault, EffectLists, effect_fault, IsEffectFault}
+use Rattle.targets.specs.Targets.{NameFault, unknown, latent, twice, IsNameFault, OrMemory, Lists, fault_in, IsListFault, IsTargetFault, RuleLists}
+use Rattle.targets.specs.Targets.{rule_fault, IsRuleFault, EffectLists, effect_fault, IsEffectFault}
 
 -- a fault of a name is such a one where the three kinds of them are
-pub named_fault : (o : Option NameFault) (is : TargetFault → Type 0) → ((n : List ℕ) → o ≡ Some (unknown n) → is (Unknown n)) → ((n : List ℕ) → o ≡ Some (latent n) → is (Latent n))
+pub named_fault : (o : Option NameFault) (is : TargetFault → Type 0) → ((n : List ℕ) → o ≡ Some (unknown n) → is (Unknown n))
+    → ((n : List ℕ) → o ≡ Some (latent n) → is (Latent n))
     → ((n : List ℕ) → o ≡ Some (twice n) → is (Twice n)) → (f : TargetFault) → IsNameFault o f → OrMemory is f
 named_fault o is u l t (Unknown n) h = u n h
 named_fault o is u l t (Latent n) h = l n h

@@ -1,5 +1,6 @@
 -- The faults of several lists that are walked one after the other.
-use Rattle.std.proofs.Common.{◌≡◌, ℕ, ◌+◌, ◌<◌, Bool, true, false, ◌&&◌, ◌||◌, bit_or, List, [], ◌∷◌, ◌++◌, length, Option, Some, None, refl, sym, ap, subst, ◌∙◌, append_assoc, arith}
+use Rattle.std.proofs.Common.{◌≡◌, ℕ, ◌+◌, ◌<◌, Bool, true, false, ◌&&◌, ◌||◌, bit_or, List, [], ◌∷◌, ◌++◌, length, Option, Some, None, refl, sym, ap}
+use Rattle.std.proofs.Common.{subst, ◌∙◌, append_assoc, arith}
 use Rattle.std.specs.Prelude.{cond, not, nat_lt}
 use Rattle.std.specs.Str.{bytes_eq}
 use Rattle.std.proofs.lemmas.Bool.{lt-ltb, ltb-true}
@@ -31,7 +32,8 @@ first_fault-append all observed s (x ∷ xs) ys =
     ap (or_fault (name_fault all observed s x))
     (first_fault-append all observed (λ m. s m || bytes_eq m x) xs ys
     ∙ ap (or_fault (first_fault all observed (λ m. s m || bytes_eq m x) xs))
-    (same_first_fault all observed (λ m. (s m || bytes_eq m x) || is_named xs m) (λ m. s m || (bytes_eq m x || is_named xs m)) (λ m h. or_assoc (s m) (bytes_eq m x) (is_named xs m)) ys))
+    (same_first_fault all observed (λ m. (s m || bytes_eq m x) || is_named xs m) (λ m. s m || (bytes_eq m x || is_named xs m))
+    (λ m h. or_assoc (s m) (bytes_eq m x) (is_named xs m)) ys))
     ∙ sym (or_fault_assoc (name_fault all observed s x) (first_fault all observed (λ m. s m || bytes_eq m x) xs) _)
 
 -- a name of the list has an index in it
@@ -44,7 +46,8 @@ named_below (x ∷ xs) n h = go (bytes_eq n x) refl (named_below xs n)
     go false e later = let there : is_named xs n ≡ true = rw e at h in omega (arith, later there)
 
 -- whether an observed name is in the list, by the set of the list
-pub set_test : (observed list : List (List ℕ)) (mask : ℕ) → IsListedSet observed list mask → (m : List ℕ) → is_named observed m ≡ true → walked_in observed mask m ≡ is_named list m
+pub set_test : (observed list : List (List ℕ)) (mask : ℕ) → IsListedSet observed list mask → (m : List ℕ) → is_named observed m ≡ true
+    → walked_in observed mask m ≡ is_named list m
 set_test observed list mask s m h =
     s (index_of observed m)
     ∙ ap (λ b. b && is_named list (name_of observed (index_of observed m))) (lt-ltb (index_of observed m) (length observed) (named_below observed m h))
@@ -85,18 +88,21 @@ behind all observed walked list later clear = neither _ _ (sym (first_fault-appe
 
 -- two lists without fault: what is left is walked behind their sets
 after_two : (all observed : List (List ℕ)) (before one two now : ℕ) (a b later : List (List ℕ)) →
-    first_fault all observed (walked_in observed before) (a ++ b) ≡ None → IsListedSet observed a one → IsListedSet observed b two → ((v : ℕ) → has now v ≡ (has before v || (has one v || has two v))) →
+    first_fault all observed (walked_in observed before) (a ++ b) ≡ None → IsListedSet observed a one → IsListedSet observed b two
+    → ((v : ℕ) → has now v ≡ (has before v || (has one v || has two v))) →
     first_fault all observed (walked_in observed before) (a ++ (b ++ later)) ≡ first_fault all observed (walked_in observed now) later
 after_two all observed before one two now a b later clear is_one is_two is =
     let both = has-or before one in
     let first = (behind all observed (walked_in observed before) a b clear).0 in
-    let second : first_fault all observed (walked_in observed (bit_or before one)) b ≡ None = sym (after_list all observed before one (bit_or before one) a b first is_one both) ∙ clear in
+    let second : first_fault all observed (walked_in observed (bit_or before one)) b ≡ None =
+    sym (after_list all observed before one (bit_or before one) a b first is_one both) ∙ clear in
     after_list all observed before one (bit_or before one) a (b ++ later) first is_one both
     ∙ after_list all observed (bit_or before one) two now b later second is_two (λ v. let i = is v in let e = both v in grind arith)
 
 -- the same where nothing was walked before them
 pub after_first_two : (all observed : List (List ℕ)) (empty one two both : ℕ) (a b later : List (List ℕ)) → ((v : ℕ) → has empty v ≡ false) →
-    first_fault all observed (walked_in observed empty) (a ++ b) ≡ None → IsListedSet observed a one → IsListedSet observed b two → ((v : ℕ) → has both v ≡ (has one v || has two v)) →
+    first_fault all observed (walked_in observed empty) (a ++ b) ≡ None → IsListedSet observed a one → IsListedSet observed b two
+    → ((v : ℕ) → has both v ≡ (has one v || has two v)) →
     first_fault all observed (λ n. false) (a ++ (b ++ later)) ≡ first_fault all observed (walked_in observed both) later
 after_first_two all observed empty one two both a b later none clear is_one is_two is =
     from_empty all observed empty none (a ++ (b ++ later))

@@ -1,5 +1,6 @@
 -- Names and their indices, and a walk over listed names.
-use Rattle.std.proofs.Common.{◌≡◌, ℕ, ◌+◌, ◌<◌, Bool, true, false, not, ◌&&◌, ◌||◌, ◌==◌, List, [], ◌∷◌, length, get_or, drop, drop-cons, ◌≤◌, Option, Some, None, refl, sym, ap, subst, ◌∙◌, IsTrue, arith, inl, inr}
+use Rattle.std.proofs.Common.{◌≡◌, ℕ, ◌+◌, ◌<◌, Bool, true, false, not, ◌&&◌, ◌||◌, ◌==◌, List, [], ◌∷◌, length, get_or, drop, drop-cons, ◌≤◌, Option}
+use Rattle.std.proofs.Common.{Some, None, refl, sym, ap, subst, ◌∙◌, IsTrue, arith, inl, inr}
 use Rattle.std.specs.Prelude.{suc, cond, nat_lt, slice_index_or}
 use Rattle.std.specs.Str.{bytes_eq}
 use Rattle.std.proofs.lemmas.Bool.{cases_Bool, cases_eq, cases_order, eq-eqb, ne_eqb, eqb-true, lt-ltb, ltb-true}
@@ -37,7 +38,8 @@ named_here (x ∷ xs) n h = go (bytes_eq n x) refl (named_here xs n)
         ap (λ i. slice_index_or (x ∷ xs) i []) {x = 1 + index_of xs n} {y = suc (index_of xs n)} (omega arith) ∙ later there
 
 -- two names of the list have one index where they are one name
-pub same_index : (names : List (List ℕ)) (m n : List ℕ) → is_named names m ≡ true → is_named names n ≡ true → (index_of names m == index_of names n) ≡ bytes_eq m n
+pub same_index : (names : List (List ℕ)) (m n : List ℕ) → is_named names m ≡ true → is_named names n ≡ true → (index_of names m == index_of names n)
+    ≡ bytes_eq m n
 same_index names m n hm hn = same_test _ _
     (λ e. from_same m n (sym (named_here names m hm) ∙ ap (name_of names) (eqb-true (index_of names m) (index_of names n) e) ∙ named_here names n hn))
     (λ e. eq-eqb _ _ (ap (index_of names) (same_from m n e)))
@@ -74,7 +76,8 @@ same_first_fault all observed s t same (n ∷ ns) =
     (same_first_fault all observed (λ m. s m || bytes_eq m n) (λ m. t m || bytes_eq m n) (λ m h. ap (λ b. b || bytes_eq m n) (same m h)) ns)
 
 -- a name without fault is in the graph and observed
-pub no_fault : (all observed : List (List ℕ)) (walked : List ℕ → Bool) (n : List ℕ) → name_fault all observed walked n ≡ None → (is_named observed n ≡ true) × (walked n ≡ false)
+pub no_fault : (all observed : List (List ℕ)) (walked : List ℕ → Bool) (n : List ℕ) → name_fault all observed walked n ≡ None → (is_named observed n ≡ true)
+    × (walked n ≡ false)
 no_fault all observed walked n e = go (is_named all n) (is_named observed n) (walked n) e
   where
     go : (a o w : Bool) → cond (not a) (Some (unknown n)) (cond (not o) (Some (latent n)) (cond w (Some (twice n)) None)) ≡ None → (o ≡ true) × (w ≡ false)
@@ -90,10 +93,12 @@ pub record IsWalking (all observed : List (List ℕ)) (walked set : ℕ) (list r
   pub made : (v : ℕ) → v < length observed → (has set v || is_named rest (name_of observed v)) ≡ is_named list (name_of observed v)
   pub within : (v : ℕ) → IsTrue (has set v) → v < length observed
 
-pub walking_none : (all observed : List (List ℕ)) (walked set : ℕ) (list : List (List ℕ)) → ((v : ℕ) → has set v ≡ false) → IsWalking all observed walked set list list
+pub walking_none : (all observed : List (List ℕ)) (walked set : ℕ) (list : List (List ℕ)) → ((v : ℕ) → has set v ≡ false)
+    → IsWalking all observed walked set list list
 walking_none all observed walked set list none = record {
   faults = λ now e. same_first_fault all observed (walked_in observed walked) (walked_in observed now)
-      (λ m h. sym (e (index_of observed m) ∙ ap (λ b. has walked (index_of observed m) || b) (none (index_of observed m)) ∙ or_false (has walked (index_of observed m)))) list;
+      (λ m h. sym (e (index_of observed m) ∙ ap (λ b. has walked (index_of observed m) || b) (none (index_of observed m))
+      ∙ or_false (has walked (index_of observed m)))) list;
   made = λ v b. ap (λ s. s || is_named list (name_of observed v)) (none v);
   within = λ v h. absurd (let e = none v in cc);
 }
@@ -129,7 +134,8 @@ walking_more all observed are walked set now set' list rest n now_is set_is none
     joined s' false e b r p q = rw (p, q) refl
 
 -- the walk at its end
-pub walking_done : (all observed : List (List ℕ)) (walked set : ℕ) (list : List (List ℕ)) → IsWalking all observed walked set list [] → IsListedSet observed list set
+pub walking_done : (all observed : List (List ℕ)) (walked set : ℕ) (list : List (List ℕ)) → IsWalking all observed walked set list []
+    → IsListedSet observed list set
 walking_done all observed walked set list w v = elim (cases_Bool (nat_lt v (length observed))) [
   | inl b ↦ let m = w.made v (lt_from b) in ends (has set v) (is_named list (name_of observed v)) (nat_lt v (length observed)) b m
   | inr b ↦ outside (has set v) (is_named list (name_of observed v)) (nat_lt v (length observed)) b (λ h. lt-ltb v (length observed) (w.within v h))

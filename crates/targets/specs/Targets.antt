@@ -110,21 +110,21 @@ pub record RuleLists : Type 0 where
   pub all : List (List ℕ)
   pub observed : List (List ℕ)
   pub y : List (List ℕ)
-  pub done : List (List ℕ)
+  pub x : List (List ℕ)
   pub z : List (List ℕ)
   pub given : List (List ℕ)
 
 -- the first name at fault of all lists, y first, then what is done, then z, then given
 abbrev pub rule_fault : RuleLists → Option NameFault
-rule_fault l = first_fault l.all l.observed (λ n. false) (l.y ++ (l.done ++ (l.z ++ l.given)))
+rule_fault l = first_fault l.all l.observed (λ n. false) (l.y ++ (l.x ++ (l.z ++ l.given)))
 
 -- the sets of a rule: no name is at fault, and neither y nor z is empty
-pub record AreRuleSets (l : RuleLists) (y done z given : ℕ) : Type 0 where
+pub record AreRuleSets (l : RuleLists) (y x z given : ℕ) : Type 0 where
   pub no_fault : rule_fault l ≡ None
   pub some_y : l.y ≡ [] → ⊥
   pub some_z : l.z ≡ [] → ⊥
   pub set_y : IsListedSet l.observed l.y y
-  pub set_done : IsListedSet l.observed l.done done
+  pub set_x : IsListedSet l.observed l.x x
   pub set_z : IsListedSet l.observed l.z z
   pub set_given : IsListedSet l.observed l.given given
 

@@ -1,11 +1,13 @@
+//! What keeps listed names from being sets.
+
 ghost use Rattle.std.specs.Prelude.{◌≡◌, ◌∷◌, ◌++◌, codes, Some, IfOk, OnOk};
-ghost use Rattle.name_text.specs.Printing.{printed};
-ghost use Rattle.name_text.specs.Lines.{line_of, second};
+ghost use Rattle.answer_text.specs.Printing.{printed};
+ghost use Rattle.answer_text.specs.Lines.{line_of, second};
 ghost use Rattle.targets.specs.Targets.{IsNameFault, unknown, latent, twice};
 ghost use Rattle.targets.specs.FaultTexts.{target_fault_text};
 
+use answer_text::names::{push_name, refusal_line, second_line, with_name};
 use mixed_graph::Text;
-use name_text::{push_name, refusal_line, second_line, with_name};
 use std::alloc::{AllocError, Global};
 
 /// What keeps listed names from being sets that a command works on.

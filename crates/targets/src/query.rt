@@ -1,3 +1,5 @@
+//! The sets that the lists of a question name.
+
 ghost use Rattle.std.specs.Prelude.{◌≡◌, ◌<◌, IfOk, IfErr, length, map};
 ghost use Rattle.mixed_graph.specs.Bits.{has, members_below};
 ghost use Rattle.mixed_graph.specs.Sets.{Within};
@@ -75,7 +77,7 @@ pub fn find_sets(
 #[derive(Clone, Copy)]
 pub struct RuleSets {
     pub y: VSet,
-    pub done: VSet,
+    pub x: VSet,
     pub z: VSet,
     pub given: VSet,
 }
@@ -89,18 +91,18 @@ pub fn find_rule_sets(
     all: &Names,
     observed: &Names,
     y: &[Vec<u8>],
-    done: &[Vec<u8>],
+    x: &[Vec<u8>],
     z: &[Vec<u8>],
     given: &[Vec<u8>],
 ) -> Result<RuleSets, TargetFault>
-    ensures sets { IfOk result (λ s. AreRuleSets (record { all = all.now; observed = observed.now; y = texts y.now; done = texts done.now; z = texts z.now; given = texts given.now }) s.y.bits s.done.bits s.z.bits s.given.bits) }
-    ensures fault { IfErr result (OrMemory (IsRuleFault (record { all = all.now; observed = observed.now; y = texts y.now; done = texts done.now; z = texts z.now; given = texts given.now }))) }
+    ensures sets { IfOk result (λ s. AreRuleSets (record { all = all.now; observed = observed.now; y = texts y.now; x = texts x.now; z = texts z.now; given = texts given.now }) s.y.bits s.x.bits s.z.bits s.given.bits) }
+    ensures fault { IfErr result (OrMemory (IsRuleFault (record { all = all.now; observed = observed.now; y = texts y.now; x = texts x.now; z = texts z.now; given = texts given.now }))) }
 {
-    let (set_y, set_done) = match walk_two(alloc, all, observed, VSet::empty(), y, done) {
+    let (set_y, set_x) = match walk_two(alloc, all, observed, VSet::empty(), y, x) {
         Ok(sets) => sets,
         Err(fault) => return Err(fault),
     };
-    let (set_z, set_given) = match walk_two(alloc, all, observed, set_y.union(set_done), z, given) {
+    let (set_z, set_given) = match walk_two(alloc, all, observed, set_y.union(set_x), z, given) {
         Ok(sets) => sets,
         Err(fault) => return Err(fault),
     };
@@ -112,7 +114,7 @@ pub fn find_rule_sets(
     }
     Ok(RuleSets {
         y: set_y,
-        done: set_done,
+        x: set_x,
         z: set_z,
         given: set_given,
     })

@@ -1,5 +1,6 @@
 -- The model with noise fits, is positive, and is near.
-use Rattle.std.proofs.Common.{ℕ, zero, suc, ◌+◌, ◌-◌, ◌*◌, ◌≡◌, ◌≢◌, ◌<◌, ◌≤◌, Bool, true, false, cond, eqb, ltb, refl, sym, ap, ap₂, ◌∙◌, subst, IsTrue, ◌||◌, arith, lt-ltb, le-ltb, ltb-true, eqb-true}
+use Rattle.std.proofs.Common.{ℕ, zero, suc, ◌+◌, ◌-◌, ◌*◌, ◌≡◌, ◌≢◌, ◌<◌, ◌≤◌, Bool, true, false, cond, eqb, ltb, refl, sym, ap, ap₂, ◌∙◌, subst}
+use Rattle.std.proofs.Common.{IsTrue, ◌||◌, arith, lt-ltb, le-ltb, ltb-true, eqb-true}
 use Rattle.mixed_graph.specs.Graphs.{MixedGraph, IsMixedGraph}
 use Rattle.finite_models.specs.Sums.{sum_below}
 use Rattle.finite_models.specs.Models.{FiniteModel, Fits, IsAssignment, IsWorld, world_weight, agree, solution, rounds, intervene}

@@ -1,5 +1,6 @@
 -- The weights of a walk's model, its world of ones, and what its visits get under an intervention.
-use Rattle.std.proofs.Common.{ℕ, zero, suc, ◌≡◌, ◌<◌, ◌≤◌, inl, inr, Bool, true, false, cond, eqb, ltb, ◌&&◌, ◌==◌, ◌*◌, nat_lt, refl, ap, ◌∙◌, subst, arith, lt-ltb, le-ltb, eqb-true}
+use Rattle.std.proofs.Common.{ℕ, zero, suc, ◌≡◌, ◌<◌, ◌≤◌, inl, inr, Bool, true, false, cond, eqb, ltb, ◌&&◌, ◌==◌, ◌*◌, nat_lt, refl, ap, ◌∙◌, subst}
+use Rattle.std.proofs.Common.{arith, lt-ltb, le-ltb, eqb-true}
 use Rattle.std.proofs.lemmas.Bool.{cases_eq}
 use Rattle.mixed_graph.specs.Bits.{has}
 use Rattle.mixed_graph.specs.Graphs.{MixedGraph, IsMixedGraph}

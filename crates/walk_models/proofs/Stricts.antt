@@ -1,5 +1,6 @@
 -- An open walk gives one whose colliders are in w, by going down to w and back at each collider outside w.
-use Rattle.std.proofs.Common.{◌⊎◌, inl, inr, ℕ, zero, suc, ◌≡◌, ◌<◌, ◌≤◌, Bool, true, false, ltb, ◌&&◌, List, [], ◌∷◌, length, refl, sym, ap, ap₂, ◌∙◌, subst, IsTrue, arith, lt-ltb}
+use Rattle.std.proofs.Common.{◌⊎◌, inl, inr, ℕ, zero, suc, ◌≡◌, ◌<◌, ◌≤◌, Bool, true, false, ltb, ◌&&◌, List, [], ◌∷◌, length, refl, sym, ap, ap₂}
+use Rattle.std.proofs.Common.{◌∙◌, subst, IsTrue, arith, lt-ltb}
 use Rattle.mixed_graph.specs.Graphs.{MixedGraph, IsMixedGraph, IsDirectedPath}
 use Rattle.m_separation.specs.declared.marks.Mark.{Mark}
 use Rattle.m_separation.specs.declared.marks.Mark.TheVariants.{Out, Into, Both}

@@ -1,5 +1,6 @@
 -- The model of a walk fits the graph.
-use Rattle.std.proofs.Common.{ℕ, zero, suc, ◌^◌, ◌≡◌, ◌≢◌, ◌<◌, ◌≤◌, ◌⊎◌, inl, inr, Bool, true, false, cond, eqb, ltb, ◌&&◌, ◌||◌, ◌==◌, bit_or, nat_lt, refl, sym, ap, ap₂, ◌∙◌, subst, IsTrue, arith, lt-ltb, ltb-true, eqb-true}
+use Rattle.std.proofs.Common.{ℕ, zero, suc, ◌^◌, ◌≡◌, ◌≢◌, ◌<◌, ◌≤◌, ◌⊎◌, inl, inr, Bool, true, false, cond, eqb, ltb, ◌&&◌, ◌||◌, ◌==◌, bit_or}
+use Rattle.std.proofs.Common.{nat_lt, refl, sym, ap, ap₂, ◌∙◌, subst, IsTrue, arith, lt-ltb, ltb-true, eqb-true}
 use Rattle.mixed_graph.specs.Bits.{has}
 use Rattle.mixed_graph.specs.Graphs.{MixedGraph, IsMixedGraph}
 use Rattle.mixed_graph.proofs.Masks.{le_from_subset}

@@ -1,5 +1,6 @@
 -- The two worlds in which all of w is 0.
-use Rattle.std.proofs.Common.{ℕ, zero, suc, ◌≡◌, ◌<◌, ◌≤◌, ◌⊎◌, inl, inr, Bool, true, false, cond, eqb, ltb, not, ◌&&◌, ◌||◌, ◌==◌, nat_lt, refl, sym, ap, ap₂, ◌∙◌, arith, lt-ltb, ltb-true, eqb-true}
+use Rattle.std.proofs.Common.{ℕ, zero, suc, ◌≡◌, ◌<◌, ◌≤◌, ◌⊎◌, inl, inr, Bool, true, false, cond, eqb, ltb, not, ◌&&◌, ◌||◌, ◌==◌, nat_lt, refl, sym}
+use Rattle.std.proofs.Common.{ap, ap₂, ◌∙◌, arith, lt-ltb, ltb-true, eqb-true}
 use Rattle.std.proofs.lemmas.Bool.{cases_lt}
 use Rattle.mixed_graph.specs.Bits.{has}
 use Rattle.mixed_graph.specs.Graphs.{MixedGraph, IsMixedGraph}

@@ -1,4 +1,5 @@
 import { button, h } from "../dom.js";
+import { kindOf } from "../explain.js";
 import { DIAGRAM } from "../names.js";
 import { listWord, readNotes } from "../text/printed.js";
 import { derivation } from "./derivation.js";
@@ -19,7 +20,7 @@ async function answer(ctx) {
   const more = () => [directPart(ctx, also), condition(ctx, given)];
   const [said, latex] = await Promise.all([ctx.ask(words), ctx.ask([...words, "--latex"])]);
   if (isRefused(said)) return refused(words, said, () => (names.length || isDirect ? h("div", { class: "stack" }, more()) : null));
-  if (said.status === 1) return hedge(ctx, words, said, ...more());
+  if (said.status === 1) return hedge(ctx, words, said, names.length ? await kindOf(ctx, words) : "", ...more());
   const tex = latex.out.trimEnd().split("\n").filter((line) => !line.startsWith("free "));
   const isUnchanged = !names.length && !isDirect && (await leavesUnchanged(ctx));
   return {

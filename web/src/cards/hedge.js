@@ -6,24 +6,27 @@ import { certificateRow, listed, source, verdict } from "./parts.js";
 
 const MOST_DIGITS = 12;
 
-/** A hedge in the drawing, with both models as tables and the two effects; below it further parts. */
-export function hedge(ctx, words, answer, ...more) {
+/**
+ * A hedge in the drawing, with both models as tables and the two effects; below it further parts.
+ * @param {string} kind under a condition, of which kind the answer is
+ */
+export function hedge(ctx, words, answer, kind, ...more) {
   const found = readHedge(answer.out), hedgeEdge = (e) => ({ ...e, cls: "hedge" });
   const classes = [[found.big, "hedge-big"], [found.small, "hedge-small"]];
   const vertices = new Map(classes.flatMap(([names, cls]) => names.map((n) => [n, cls])));
   return {
-    dot: "no", view: () => view(ctx, words, answer.out, found, more),
+    dot: "no", view: () => view(ctx, words, answer.out, found, kind, more),
     marks: { vertices, edges: [...found.choices, ...found.links].map(hedgeEdge) },
   };
 }
 
-function view(ctx, words, printed, found, more) {
+function view(ctx, words, printed, found, kind, more) {
   const { asked, effect, big, small, roots } = found;
   return h("div", {},
-    verdict("no", asked ? "Not identified" : "Not identifiable", plainReason(ctx.graph, found), "What is observed doesn't settle ", h("code", {}, effect),
+    verdict("no", "Not identifiable", plainReason(ctx.graph, found), "What is observed doesn't settle ", h("code", {}, effect),
     ": two positive finite models fit the diagram, agree on all observations, and differ on it. So no formula over what is "
       + "observed equals it in both.",
-    asked ? [" For ", h("code", {}, asked), " no formula was found; more isn't claimed of it."] : ""),
+    asked ? [" Nor does any formula equal ", h("code", {}, asked), DIFFER[kind] ?? "", "."] : ""),
     h("p", { class: "legendline" }, h("span", { class: "swatch hedge-big" }), "hedge ", listed(big),
       h("span", { class: "swatch hedge-small" }), "over ", listed(small), "; roots ", listed(roots)),
     eventTable(found, parse(effect).doing),
@@ -33,6 +36,9 @@ function view(ctx, words, printed, found, more) {
     source(words, printed),
     certificateRow(ctx, words), ...more);
 }
+
+/** Which models show it of the effect that was asked for. */
+const DIFFER = { settled: ": the same two models differ on it too", unsettled: ": two other models, which aren't shown, differ on it" };
 
 const MOST_NAMED = 3;
 

@@ -118,7 +118,7 @@ export function readStopped(printed) {
 const quotedWhere = (marks) => (name) => (marks.test(name) ? `"${name}"` : name);
 
 /** A list of names as one word of the command line. */
-export const listWord = (names, needsQuotes = /,|^-|^\{\}$/) => names.map(quotedWhere(needsQuotes)).join(",") || "{}";
+export const listWord = (names, needsQuotes = /,|^-|^\{/) => names.map(quotedWhere(needsQuotes)).join(",") || "{}";
 
 /** Lists of names as one word. @param {string[][]} sets */
-export const experimentsWord = (sets) => sets.map((names) => listWord(names, /[,;]|^-|^\{\}$/)).join(";");
+export const experimentsWord = (sets) => sets.map((names) => listWord(names, /[,;]|^-|^\{/)).join(";");

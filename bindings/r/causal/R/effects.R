@@ -53,7 +53,7 @@ effect_table <- function(asked, data, count, missing) {
 
 hedge_of <- function(asked) {
   certificate <- sub("\n$", "", ask("identify", asked$diagram, c(asked$words, "--certificate"))$out)
-  new_hedge(ask("identify", asked$diagram, asked$words), certificate, asked$diagram)
+  new_hedge(ask("identify", asked$diagram, asked$words), certificate, asked$diagram, asked$words)
 }
 
 # The variables that the formula reads beside x and y.

@@ -3,7 +3,7 @@
 sentences <- list(
   graph = c(
     "the text is not UTF-8 from here on",
-    "what stands here is no token of a graph text, as a comment or a quote that is not closed",
+    "what stands here is no token of a graph text, as a comment, a quote that is not closed, or a value that may be an edge",
     "what stands here does not fit the grammar of a graph text, or the text ends too early",
     "the text does not begin with the word dag; other kinds of graphs are not read",
     "an edge is ->, <- or <->, and this one is none of them",

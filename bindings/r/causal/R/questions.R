@@ -52,7 +52,7 @@ identify_effect <- function(diagram, x = NULL, y = NULL, given = NULL) {
   words <- c(option("x", x), option("y", y), option("given", given))
   told <- ask("identify", diagram, words)
   certificate <- sub("\n$", "", ask("identify", diagram, c(words, "--certificate"))$out)
-  if (!told$yes) return(new_hedge(told, certificate, diagram))
+  if (!told$yes) return(new_hedge(told, certificate, diagram, words))
   latex <- ask("identify", diagram, c(words, "--latex"))$lines
   read <- c(list(identifiable = TRUE), read_formula(told$lines))
   read$latex <- if (length(read$free)) latex[-length(latex)] else latex
@@ -60,15 +60,20 @@ identify_effect <- function(diagram, x = NULL, y = NULL, given = NULL) {
   new_answer("causal_formula", read, told, diagram)
 }
 
-new_hedge <- function(told, certificate, diagram) {
+# The hedge that `identify` gives for these words.
+new_hedge <- function(told, certificate, diagram, words) {
   read <- c(list(identifiable = FALSE), read_hedge(told$lines), list(certificate = certificate))
-  if (!is.null(read$conditional)) read$settled <- is_settled(diagram, read)
+  if (!is.null(read$conditional)) read$settled <- is_settled(diagram, words)
   new_answer("causal_hedge", read, told, diagram)
 }
 
-# Whether the two models of a joint effect's hedge differ on the conditional effect that was asked for too. The library doesn't tell it so
-# far: a call that does is asked here.
-is_settled <- function(diagram, hedge) NA
+# Whether it is proved that the two models of a joint effect's hedge differ on the conditional effect that was asked for too.
+is_settled <- function(diagram, words) {
+  inputs <- list(diagram = diagram$text)
+  told <- explain(c("settled", "diagram", words), inputs)
+  if (told$status > 1) stop(causal_fault(told, inputs))
+  told$status == 0
+}
 
 toLatex.causal_formula <- function(object, ...) {
   if (is.null(object$latex)) stop("this formula has no LaTeX form: only those of `identify_effect` have one")
@@ -84,25 +89,25 @@ print.summary.causal_hedge <- function(x, ...) {
   invisible(x)
 }
 
-# Experiments: a list of sets of names; a single set needn't be in a list.
 # With `models` the two models that exclude every formula, where there are such.
 surrogate <- function(diagram, x = NULL, y = NULL, experiments, models = FALSE) {
   diagram <- as_causal_diagram(diagram)
-  experiments <- if (is.list(experiments)) experiments else list(experiments)
-  word <- paste(vapply(experiments, list_word, ""), collapse = ";")
-  told <- ask("surrogate", diagram, c(option("x", x), option("y", y), "--experiments", word, if (models) "--models"))
-  if (told$yes) return(new_answer("causal_formula", c(list(identifiable = TRUE), read_formula(told$lines)), told, diagram))
-  if (is_stopped_hedge(told$lines)) {
-    return(new_answer("causal_hedge", c(list(identifiable = FALSE), read_stopped_hedge(told$lines)), told, diagram))
-  }
-  new_answer("causal_stopped", c(list(identifiable = FALSE), read_stopped(told$lines)), told, diagram)
+  words <- c(option("x", x), option("y", y), "--experiments", experiments_word(experiments))
+  told <- ask("surrogate", diagram, c(words, if (models) "--models"))
+  if (!told$yes && !is_stopped_hedge(told$lines))
+    return(new_answer("causal_stopped", c(list(identifiable = FALSE), read_stopped(told$lines)), told, diagram))
+  certificate <- sub("\n$", "", ask("surrogate", diagram, c(words, "--certificate"))$out)
+  read <- if (told$yes) read_formula(told$lines) else read_stopped_hedge(told$lines)
+  read <- c(list(identifiable = told$yes), read, list(certificate = certificate))
+  new_answer(if (told$yes) "causal_formula" else "causal_hedge", read, told, diagram)
 }
 
-check_certificate <- function(diagram, certificate) {
+check_certificate <- function(diagram, certificate, experiments = NULL) {
   diagram <- as_causal_diagram(diagram)
   if (inherits(certificate, c("causal_formula", "causal_hedge"))) certificate <- certificate$certificate
-  if (is.null(certificate)) stop("this formula has no certificate: only those of `identify_effect` have one")
-  told <- ask("check", diagram, "certificate", list(certificate = as_bytes(certificate)))
+  if (is.null(certificate)) stop("this answer has no certificate: only those of `identify_effect` and `surrogate` have one")
+  words <- c("certificate", if (length(experiments)) c("--experiments", experiments_word(experiments)))
+  told <- ask("check", diagram, words, list(certificate = as_bytes(certificate)))
   read <- read_judgement(told$lines)
   new_answer("causal_judgement", c(list(holds = told$yes), read), told, diagram)
 }

@@ -172,7 +172,8 @@ read_event <- function(line) {
 # The judgement of a certificate: accepted with what it shows, or the first fault.
 read_judgement <- function(lines) {
   if (lines[1] == "accepted") {
-    shown <- lines[-1]
+    # over experiments a hedge says so
+    shown <- sub(paste0("^", stopped_form, "$"), "\\1", lines[-1], perl = TRUE)
     if (is_hedge(shown)) return(list(accepted = TRUE, hedge = read_hedge(shown)))
     return(list(accepted = TRUE, formula = read_formula(shown)))
   }
@@ -184,7 +185,7 @@ read_judgement <- function(lines) {
   }
   end <- parts("fault ([0-9]+)(?: at (main|lemma [0-9]+))?", refused)
   if (!is.null(end)) return(list(accepted = FALSE, fault = as.integer(end[1]), at = if (nzchar(end[2])) end[2]))
-  hedge <- parts_of(paste0("hedge fault ([1-6])(?: at (", name_form, "|-))?"), refused)
+  hedge <- parts_of(paste0("hedge fault ([1-7])(?: at (", name_form, "|-))?"), refused)
   list(accepted = FALSE, hedge_fault = as.integer(hedge[1]), at = if (!hedge[2] %in% c("", "-")) unquote(hedge[2]))
 }
 

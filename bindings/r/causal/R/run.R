@@ -3,12 +3,17 @@
 causal_run <- function(words, inputs = list()) run_on(words, inputs, NULL)
 
 # The same on a diagram that the library keeps, which stands for the file; NULL for none.
-run_on <- function(words, inputs, kept) {
+run_on <- function(words, inputs, kept) call_library(words, inputs, kept, FALSE)
+
+# Explains an answer, by words of the call `causal_explain` of the library's header.
+explain <- function(words, inputs) call_library(words, inputs, NULL, TRUE)
+
+call_library <- function(words, inputs, kept, explains) {
   if (!is.character(words) || anyNA(words)) stop("`words` has to be a character vector without missing values")
   inputs <- as.list(inputs)
   names <- names(inputs)
   if (length(inputs) && (is.null(names) || anyNA(names))) stop("each input needs a name")
-  answer <- .Call(call_causal, enc2utf8(words), enc2utf8(as.character(names)), lapply(unname(inputs), as_bytes), kept)
+  answer <- .Call(call_causal, enc2utf8(words), enc2utf8(as.character(names)), lapply(unname(inputs), as_bytes), kept, explains)
   if (answer[[1]] == 11L) stop("what is kept of the diagram isn't what the library kept")
   list(status = answer[[1]], out = as_text(answer[[2]]), err = as_text(answer[[3]]))
 }
@@ -44,6 +49,11 @@ ask <- function(command, diagram, words = character(), inputs = list(), hand_bac
 # An option with a list of names: no word for NULL, so that the marks of the diagram count.
 option <- function(name, names) {
   if (is.null(names)) character() else c(paste0("--", name), list_word(names))
+}
+
+# A list of experiments, each a set of names, as one word; a single set needn't be in a list.
+experiments_word <- function(experiments) {
+  paste(vapply(if (is.list(experiments)) experiments else list(experiments), list_word, ""), collapse = ";")
 }
 
 flag <- function(name, wanted) if (isTRUE(wanted)) paste0("--", name) else character()

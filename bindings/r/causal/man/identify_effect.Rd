@@ -37,6 +37,7 @@ identify_effect(diagram, x = NULL, y = NULL, given = NULL)
 
   With \code{given} the formula is one for the conditional effect. Where there is none, the hedge is one of a joint effect, by
   which that can't be computed from observations; and no formula over observations equals the conditional effect in every model.
+  Where the answer is \code{settled}, the two printed models differ on the conditional effect too; else two others do.
 }
 \value{
   For a formula a list of the class \code{causal_formula}: \code{identifiable} (\code{TRUE}), \code{target},
@@ -48,8 +49,8 @@ identify_effect(diagram, x = NULL, y = NULL, given = NULL)
   bits of the \code{first} and the \code{second} model, each the sum of its terms modulo 2, the vertices of the \code{event}
   that the sum of their bits is even, its probabilities under the intervention, \code{in_first} and \code{in_second}, and
   their \code{difference}, the \code{certificate} and the printed \code{text}. Where \code{given} was asked about, \code{target} is
-  the joint effect, \code{conditional} the one that was asked for, and \code{settled} whether the two models differ on
-  that one too (\code{NA} where the library doesn't tell it). \code{summary} leaves the models out.
+  the joint effect, \code{conditional} the one that was asked for, and \code{settled} whether it is proved that the very two models
+  differ on that one too. \code{summary} leaves the models out.
 }
 \seealso{\code{\link{check_certificate}}, \code{\link{evaluate}}, \code{\link{surrogate}}}
 \examples{

@@ -69,12 +69,21 @@ stopifnot(refused(getFromNamespace("read_implications", "causal")(c("A from C gi
 stopifnot(refused(getFromNamespace("read_implications", "causal")("A from C")))
 
 # Experiments
-answering("P(Y|do(X)) = P(Y|do(Z),X)\nfree {Z}")
+answering("P(Y|do(X)) = P(Y|do(Z),X)\nfree {Z}", "{\"answer\":\"formula\"}")
 formula <- surrogate("dag { Z -> X -> Y }", "X", "Y", experiments = "Z")
 same(asked[[1]]$words, c("surrogate", "diagram", "--x", "\"X\"", "--y", "\"Y\"", "--experiments", "\"Z\""))
-stopifnot(inherits(formula, "causal_formula"), formula$identifiable, is.null(formula$certificate))
+same(asked[[2]]$words, c(asked[[1]]$words, "--certificate"))
+stopifnot(inherits(formula, "causal_formula"), formula$identifiable)
+same(formula$certificate, "{\"answer\":\"formula\"}")
 same(c(formula$expression, formula$free), c("P(Y|do(Z),X)", "Z"))
-stopifnot(refused(toLatex(formula)), refused(check_certificate("dag { Z -> X -> Y }", formula)))
+stopifnot(refused(toLatex(formula)))
+answering("accepted\nP(Y|do(X)) = P(Y|do(Z),X)\nfree {Z}", no("refused: fault 10"))
+stopifnot(check_certificate("dag { Z -> X -> Y }", formula, experiments = list("Z", c("a b", "c")))$accepted)
+same(asked[[1]]$words, c("check", "diagram", "certificate", "--experiments", "\"Z\";\"a b\",\"c\""))
+stopifnot(!check_certificate("dag { Z -> X -> Y }", formula)$accepted)
+same(asked[[2]]$words, c("check", "diagram", "certificate"))
+same(rawToChar(asked[[2]]$inputs$certificate), formula$certificate)
+stopifnot(refused(check_certificate("dag { Z -> X -> Y }", structure(list(), class = "causal_formula"))))
 answering(no("P(Y|do(X)) has no formula found from these experiments\ndistrict {Y,\"a b\"}\nhedge {X,Y} over {Y} with roots {Y}"))
 stopped <- surrogate("dag { X -> Y X <-> Y \"a b\" }", "X", "Y", experiments = list(c("a;b", "c"), "d,e"))
 same(asked[[1]]$words[8], "\"a;b\",\"c\";\"d,e\"")
@@ -88,10 +97,12 @@ bow <- c(
   "hedge {X,Y} over {Y} with roots {Y}", "choice X -> Y", "link X <-> Y", "cause 0 on {X,Y} with weights 1 1",
   "first h(X) = c0", "first k(Y) = c0", "second h(X) = c0", "second k(Y) = c0", "event k(Y) even: 1/2 in the first, 1/2 + 1/2^3 in the second"
 )
-answering(no(paste(c("P(Y|do(X)) is not identifiable from these experiments", "district {Y}", bow), collapse = "\n")))
+answering(no(paste(c("P(Y|do(X)) is not identifiable from these experiments", "district {Y}", bow), collapse = "\n")), no("{}"))
 stopped <- surrogate("dag { Z -> X -> Y X <-> Y }", "X", "Y", experiments = "Z", models = TRUE)
 same(asked[[1]]$words[9], "--models")
+same(asked[[2]]$words, c(asked[[1]]$words[-9], "--certificate"))
 stopifnot(inherits(stopped, "causal_hedge"), !stopped$identifiable)
+same(stopped$certificate, "{}")
 same(c(stopped$target, stopped$district, stopped$roots), c("P(Y|do(X))", "Y", "Y"))
 
 # Conditions
@@ -103,6 +114,8 @@ same(c(formula$target, formula$expression, formula$latex), c("P(Y|do(X),Z)", "P(
 answering(no(paste(c("P(Y|do(X),Z) not identified; P(Y,Z|do(X)) is not identifiable", bow), collapse = "\n")), no("{}"))
 hedge <- identify_effect("dag { X -> Y X <-> Y Y -> Z }", "X", "Y", given = c("Z"))
 same(c(hedge$conditional, hedge$target), c("P(Y|do(X),Z)", "P(Y,Z|do(X))"))
+# the call that explains has no stand-in
+same(hedge$settled, FALSE)
 same(hedge$difference, 0.125)
 print(summary(hedge))
 answering(no(paste(c("P(Y|do(X)) is not identifiable", bow), collapse = "\n")), no("{}"))

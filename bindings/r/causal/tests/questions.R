@@ -90,6 +90,15 @@ hedge <- identify_effect("dag { X [exposure] Y [outcome] X -> Y X <-> Y }")
 stopifnot(inherits(hedge, "causal_hedge"), !hedge$identifiable, startsWith(hedge$certificate, "{\"answer\":\"hedge\""))
 same(hedge$difference, 0.125)
 same(as.logical(hedge), FALSE)
+same(c(hedge$conditional, hedge$settled), NULL)
+
+# Under a condition: whether the models of the joint effect differ on the effect that was asked for
+bow <- "dag { X [exposure] Y [outcome] X -> Y X <-> Y"
+same(identify_effect(paste(bow, "Z -> Y }"), given = "Z")$settled, TRUE)
+joint <- identify_effect(paste(bow, "Z -> Y Z <-> Y }"), given = "Z")
+same(list(joint$target, joint$settled), list("P(Y,Z|do(X))", TRUE))
+same(identify_effect(paste(bow, "Y -> Z }"), given = "Z")$settled, FALSE)
+same(identify_effect(paste(bow, "Y -> \"a; b\" U [latent] }"), "X", "Y", given = "a; b")$settled, FALSE)
 same(as.logical(surrogate("dag { X -> Y X <-> Y X -> Z }", "X", "Y", experiments = "Z")), FALSE)
 stopifnot(inherits(try(as.logical(adjustment_sets("dag { X -> Y }", "X", "Y")), silent = TRUE), "try-error"))
 print(summary(hedge))
@@ -111,6 +120,21 @@ same(judged$hedge$roots, "Y")
 wrong <- sub("[\"rule3out\",[\"X\"]]", "[\"rule3out\",[\"X\",\"M\"]]", formula$certificate, fixed = TRUE)
 judged <- check_certificate("dag { X M Y X -> M -> Y X <-> Y }", wrong)
 same(judged[c("accepted", "fault", "at", "step")], list(accepted = FALSE, fault = 3L, at = "main", step = 12L))
+
+# Certificates over experiments
+trial <- causal_diagram("dag { X [exposure] Y [outcome] Z -> X -> Y Z <-> X Z <-> Y }")
+over <- surrogate(trial, experiments = "Z")
+stopifnot(check_certificate(trial, over, experiments = "Z")$accepted)
+same(check_certificate(trial, over, experiments = list("Z", c("X", "Z")))$formula$free, "Z")
+same(check_certificate(trial, over)$fault, 10L)
+stopped <- surrogate("dag { Z -> X -> Y Z <-> X Z <-> Y X <-> Y }", "X", "Y", experiments = "Z", models = TRUE)
+judged <- check_certificate(stopped$diagram, stopped, experiments = "Z")
+same(judged$hedge[c("target", "big", "small")], list(target = "P(Y|do(X))", big = c("X", "Y"), small = "Y"))
+same(judged$text, paste("accepted", "P(Y|do(X)) is not identifiable from these experiments", "hedge {X,Y} over {Y} with roots {Y}", sep = "\n"))
+same(check_certificate(stopped$diagram, stopped)$hedge, judged$hedge)
+same(check_certificate(stopped$diagram, stopped, experiments = "X")[c("accepted", "hedge_fault")], list(accepted = FALSE, hedge_fault = 7L))
+fault <- tryCatch(check_certificate(trial, over, experiments = "none"), causal_target_fault = identity)
+same(fault$number, 1L)
 
 # Adjustment
 exported <- "dag { A B D [outcome] E [exposure] Z A -> E A -> Z B -> D B -> Z E -> D Z -> D Z -> E }"

@@ -8,7 +8,8 @@ use Rattle.answer_text.proofs.push_behind.Goals as goal
 
 pub returns-then-is_empty : goal.returns-then-is_empty
 returns-then-is_empty c =
-    let e = none_behind c.args.notation c.args.sign c.args.names.now (has c.args.set.bits) (members-empty c.args.set.bits (c.is_empty.ensures.none.0 c.if-is_empty.true)) in
+    let e = none_behind c.args.notation c.args.sign c.args.names.now (has c.args.set.bits)
+    (members-empty c.args.set.bits (c.is_empty.ensures.none.0 c.if-is_empty.true)) in
     sym (append-nil c.args.out.now.items) ∙ ap (λ t. c.args.out.now.items ++ t) (sym e)
 
 pub returns : goal.returns

@@ -17,6 +17,7 @@ pub returns : goal.returns
 returns c =
     let w = c.args.notation in let names = c.args.names.now in let doing = has c.args.doing.bits in let given = has c.args.given.bits in
     let some = members-some c.args.doing.bits (λ z. absurd (let t = c.is_empty.ensures.none.1 z in let f = c.if-is_empty.false in cc)) (omega arith) in
-    appended_five c.args.out.now.items (sign_text w Bar) (sign_text w Do) (names_in w (member_names names doing)) (codes ")") (names_behind w Comma (member_names names given))
+    appended_five c.args.out.now.items (sign_text w Bar) (sign_text w Do) (names_in w (member_names names doing)) (codes ")")
+    (names_behind w Comma (member_names names given))
     c.in_ok-push_sign.ensures c.in_ok-push_sign-2.ensures c.in_ok-push_members.ensures c.in_ok-push.ensures.items c.in_ok-push_behind.ensures
     ∙ ap (λ t. c.args.out.now.items ++ t) (sym (done_first w names doing given some.0 some.1 some.2))

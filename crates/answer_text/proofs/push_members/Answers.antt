@@ -20,11 +20,13 @@ members-smaller c =
 pub members-preserved : goal.members-preserved
 members-preserved c =
     let r = rest_is (goal.at.members-preserved c).After-difference-rest in
-    let first = members-without c.members.rest.bits c.difference-rest.result.bits c.lowest-v.result c.lowest-v.ensures.in_range c.lowest-v.ensures.member c.lowest-v.ensures.least r in (
+    let first = members-without c.members.rest.bits c.difference-rest.result.bits c.lowest-v.result c.lowest-v.ensures.in_range c.lowest-v.ensures.member
+    c.lowest-v.ensures.least r in (
       subst (λ t. IsWriting c.args.notation c.args.names.now c.args.out.now.items t c.args.set.bits c.difference-rest.result.bits)
           (sym (c.in_ok-extend_from_slice.ensures.items ∙ ap (λ t. c.push_vertex_in.new.out.items ++ t) c.separator.ensures
           ∙ ap (λ t. t ++ comma_in c.args.notation (members_below (has c.difference-rest.result.bits) 64)) c.in_ok-push_vertex_in.ensures))
-          (writing_more c.args.notation c.args.names.now c.args.out.now.items c.members.out.items c.args.set.bits c.members.rest.bits c.difference-rest.result.bits c.lowest-v.result first c.members.invariant.0),
+          (writing_more c.args.notation c.args.names.now c.args.out.now.items c.members.out.items c.args.set.bits c.members.rest.bits
+          c.difference-rest.result.bits c.lowest-v.result first c.members.invariant.0),
       λ v i. c.members.invariant.1 v (let e = r v in grind arith),
       omega arith,
     )

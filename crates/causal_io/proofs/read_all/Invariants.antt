@@ -7,7 +7,8 @@ invariant-loop-buffer g l = record {
   within : IfSome (g.S.Shelf.held l.fn.shelf l.name) (λ all. length l.bytes.items ≤ length all);
   lacked : g.S.Shelf.lacks l.fn.shelf l.name ≡ true → length l.bytes.items ≡ 0;
   never_falls : (other : List ℕ) → g.S.Shelf.faults l.fn.shelf other ≤ g.S.Shelf.faults l.shelf other;
-  others : (other : List ℕ) → other ≢ l.name → (g.S.Shelf.lacks l.fn.shelf l.name ≡ true → g.S.Shelf.lacks l.fn.shelf other ≡ false) → g.S.Shelf.faults l.shelf other ≡ g.S.Shelf.faults l.fn.shelf other;
+  others : (other : List ℕ) → other ≢ l.name → (g.S.Shelf.lacks l.fn.shelf l.name ≡ true → g.S.Shelf.lacks l.fn.shelf other ≡ false)
+      → g.S.Shelf.faults l.shelf other ≡ g.S.Shelf.faults l.fn.shelf other;
   few_reads : g.S.Shelf.reads l.shelf l.name ≤ g.S.Shelf.reads l.fn.shelf l.name + length l.bytes.items;
   few_given : g.S.Shelf.given l.shelf l.name ≤ g.S.Shelf.given l.fn.shelf l.name + length l.bytes.items;
   other_reads : (other : List ℕ) → other ≢ l.name → g.S.Shelf.reads l.shelf other ≡ g.S.Shelf.reads l.fn.shelf other;

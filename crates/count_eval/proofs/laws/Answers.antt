@@ -4,7 +4,8 @@ use Rattle.count_eval.proofs.Matched.{matched_has_value}
 use Rattle.count_eval.proofs.laws.Goals as goal
 
 pub returns-clause-covered : goal.returns-clause-covered
-returns-clause-covered g c = λ w f s. let k = formula_good g.Q.Quantity.kind g.Q.Quantity.covers g.met.Q.Quantity.lawful w f s in record { found = k.found; none = k.none }
+returns-clause-covered g c = λ w f s. let k = formula_good g.Q.Quantity.kind g.Q.Quantity.covers g.met.Q.Quantity.lawful w f s in
+    record { found = k.found; none = k.none }
 
 pub returns-clause-matched : goal.returns-clause-matched
 returns-clause-matched g c = matched_has_value

@@ -17,7 +17,8 @@ returns-clause-end c = ended _ _ _ _ _ _ _ _ c.in-Ok.ensures.are_texts c.code.en
 pub returns-clause-explained : goal.returns-clause-explained
 returns-clause-explained c = λ small. record {
   ending = c.respond-ending.result;
-  ends = subst (λ ws. Ends c.args.arguments.now.bytes.now ws c.args.arguments.now.inputs.now c.respond-ending.result) (ap (map string_bytes) c.deref.ensures.value ∙ c.in-Ok.ensures.words) c.respond-ending.ensures;
+  ends = subst (λ ws. Ends c.args.arguments.now.bytes.now ws c.args.arguments.now.inputs.now c.respond-ending.result)
+      (ap (map string_bytes) c.deref.ensures.value ∙ c.in-Ok.ensures.words) c.respond-ending.ensures;
   status = c.code.ensures.status;
   shows_out = subst (λ t. ShowsText t c.args.out.now c.show_both.new.out c.show_both.result.out) c.answer.ensures c.show_both.ensures.out;
   shows_err = subst (λ t. ShowsText t c.args.err.now c.show_both.new.err c.show_both.result.err) c.line.ensures c.show_both.ensures.err;

@@ -1,5 +1,6 @@
 -- Exact fractions are the true ones.
-use Rattle.std.proofs.Common.{ℕ, zero, suc, ◌+◌, ◌*◌, ◌/◌, ◌≡◌, ◌≤◌, ◌↔◌, ◌&&◌, Bool, true, false, cond, eqb, leb, refl, sym, ap, ◌∙◌, subst, arith, mul-pos, eqb-true, mul_comm, Result, Ok, Err}
+use Rattle.std.proofs.Common.{ℕ, zero, suc, ◌+◌, ◌*◌, ◌/◌, ◌≡◌, ◌≤◌, ◌↔◌, ◌&&◌, Bool, true, false, cond, eqb, leb, refl, sym, ap, ◌∙◌, subst, arith}
+use Rattle.std.proofs.Common.{mul-pos, eqb-true, mul_comm, Result, Ok, Err}
 use Rattle.std.proofs.Math.Nat.{div-eq_of_eq-mul_right, eq_of_mul-eq-mul_left}
 use Rattle.fractions.proofs.FractionLaws.{equal_trans}
 use Rattle.quantity.specs.declared.fault.QuantityFault.{QuantityFault}
@@ -100,11 +101,14 @@ product_numbers a b p q r s ft fb gt gb la lb h k =
 
 product_is : (p q r s : ℕ) (c : Pair) (f g : Fraction) → Equals (pair p q) f → Equals (pair r s) g → product_of p q r s ≡ Ok c → Equals c (mul f g)
 product_is p q r s c f g h k e =
-    subst (λ x. Equals x (mul f g)) (ok_from (leb ((p / a) * (r / b)) most && leb ((q / b) * (s / a)) most) (pair ((p / a) * (r / b)) ((q / b) * (s / a))) c TooWide e)
+    subst (λ x. Equals x (mul f g)) (ok_from (leb ((p / a) * (r / b)) most && leb ((q / b) * (s / a)) most) (pair ((p / a) * (r / b)) ((q / b) * (s / a)))
+    c TooWide e)
     (record {
-      left_bottom = mul-pos (positive_part b (q / b) (subst (λ n. 1 ≤ n) (sym (gcd_right r q)) h.left_bottom)) (positive_part a (s / a) (subst (λ n. 1 ≤ n) (sym (gcd_right p s)) k.left_bottom));
+      left_bottom = mul-pos (positive_part b (q / b) (subst (λ n. 1 ≤ n) (sym (gcd_right r q)) h.left_bottom))
+          (positive_part a (s / a) (subst (λ n. 1 ≤ n) (sym (gcd_right p s)) k.left_bottom));
       right_bottom = mul-pos h.right_bottom k.right_bottom;
-      products = product_numbers a b (p / a) (q / b) (r / b) (s / a) f.top f.bottom g.top g.bottom (gcd_positive p s k.left_bottom) (gcd_positive r q h.left_bottom)
+      products = product_numbers a b (p / a) (q / b) (r / b) (s / a) f.top f.bottom g.top g.bottom (gcd_positive p s k.left_bottom)
+          (gcd_positive r q h.left_bottom)
           (ap (λ n. n * f.bottom) (gcd_left p s) ∙ h.products ∙ ap (λ n. f.top * n) (sym (gcd_right r q)))
           (ap (λ n. n * g.bottom) (gcd_left r q) ∙ k.products ∙ ap (λ n. g.top * n) (sym (gcd_right p s)));
     })
@@ -160,10 +164,13 @@ div_zero_is a b f g h k = (there, back)
     there : exact_div a b ≡ Err ZeroBelow → g.top ≡ 0
     there e =
         zero_factor g.top b.second k.left_bottom
-        (sym k.products ∙ ap (λ n. n * g.bottom) (eqb-true b.first 0 (tested (eqb b.first 0) (leb ((a.first / p) * (b.second / q)) most && leb ((a.second / q) * (b.first / p)) most) (pair ((a.first / p) * (b.second / q)) ((a.second / q) * (b.first / p))) e)) ∙ omega arith)
+        (sym k.products ∙ ap (λ n. n * g.bottom) (eqb-true b.first 0 (tested (eqb b.first 0)
+        (leb ((a.first / p) * (b.second / q)) most && leb ((a.second / q) * (b.first / p)) most)
+        (pair ((a.first / p) * (b.second / q)) ((a.second / q) * (b.first / p))) e)) ∙ omega arith)
 
     back : g.top ≡ 0 → exact_div a b ≡ Err ZeroBelow
-    back e = ap (λ n. cond (eqb n 0) (Err ZeroBelow) (product_of a.first a.second b.second b.first)) (zero_factor b.first g.bottom k.right_bottom (k.products ∙ ap (λ n. n * b.second) e ∙ omega arith))
+    back e = ap (λ n. cond (eqb n 0) (Err ZeroBelow) (product_of a.first a.second b.second b.first))
+        (zero_factor b.first g.bottom k.right_bottom (k.products ∙ ap (λ n. n * b.second) e ∙ omega arith))
 
 pub exact_lawful : IsLawful exact Equals
 exact_lawful = record {
@@ -176,8 +183,11 @@ exact_lawful = record {
   };
   bottom = λ n f h. h.right_bottom;
   div_zero = div_zero_is;
-  add_never = λ a b. let l = a.second * b.second / gcd_of a.second b.second in let t = a.first * (l / a.second) + b.first * (l / b.second) in never (leb l most && leb t most) (lowest t l);
+  add_never = λ a b. let l = a.second * b.second / gcd_of a.second b.second in let t = a.first * (l / a.second) + b.first * (l / b.second) in
+      never (leb l most && leb t most) (lowest t l);
   mul_never = λ a b.
-      never (leb ((a.first / gcd_of a.first b.second) * (b.first / gcd_of b.first a.second)) most && leb ((a.second / gcd_of b.first a.second) * (b.second / gcd_of a.first b.second)) most)
-      (pair ((a.first / gcd_of a.first b.second) * (b.first / gcd_of b.first a.second)) ((a.second / gcd_of b.first a.second) * (b.second / gcd_of a.first b.second)));
+      never (leb ((a.first / gcd_of a.first b.second) * (b.first / gcd_of b.first a.second)) most
+      && leb ((a.second / gcd_of b.first a.second) * (b.second / gcd_of a.first b.second)) most)
+      (pair ((a.first / gcd_of a.first b.second) * (b.first / gcd_of b.first a.second))
+      ((a.second / gcd_of b.first a.second) * (b.second / gcd_of a.first b.second)));
 }

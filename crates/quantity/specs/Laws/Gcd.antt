@@ -32,7 +32,8 @@ euclid_scaled zero a b d k lt p q = absurd (omega arith)
 euclid_scaled (suc n) a b d k lt p q = go (eqb b 0) refl (λ some. euclid_scaled n b (a % b) d k (let r : a % b < b = omega arith in omega arith) q rest)
   where
     rest : d ∣ k * (a % b)
-    rest = subst (λ x. d ∣ x) (let e : b * (a / b) + a % b ≡ a = omega arith in (let f : k * a - (k * b) * (a / b) ≡ k * (a % b) = left k a b (a / b) (a % b) e in f)) (dvd-sub d p (dvd-mul_right_of_dvd d q (a / b)))
+    rest = subst (λ x. d ∣ x) (let e : b * (a / b) + a % b ≡ a = omega arith in
+        (let f : k * a - (k * b) * (a / b) ≡ k * (a % b) = left k a b (a / b) (a % b) e in f)) (dvd-sub d p (dvd-mul_right_of_dvd d q (a / b)))
       where
         left : (k a b c r : ℕ) → b * c + r ≡ a → k * a - (k * b) * c ≡ k * r
         left k a b c r e = (let f : k * a ≡ (k * b) * c + k * r = ap (λ x. k * x) (sym e) ∙ omega arith in omega arith)

@@ -1,5 +1,6 @@
 -- Bounds enclose the true fraction, and tell where it is 0.
-use Rattle.std.proofs.Common.{ℕ, zero, suc, ◌+◌, ◌*◌, ◌/◌, ◌≡◌, ◌≢◌, ◌≤◌, ◌↔◌, Bool, true, false, cond, eqb, leb, refl, ap, ◌∙◌, subst, arith, mul-pos, eqb-true, Result, Ok, Err}
+use Rattle.std.proofs.Common.{ℕ, zero, suc, ◌+◌, ◌*◌, ◌/◌, ◌≡◌, ◌≢◌, ◌≤◌, ◌↔◌, Bool, true, false, cond, eqb, leb, refl, ap, ◌∙◌, subst, arith}
+use Rattle.std.proofs.Common.{mul-pos, eqb-true, Result, Ok, Err}
 use Rattle.quantity.specs.declared.fault.QuantityFault.{QuantityFault}
 use Rattle.quantity.specs.declared.fault.QuantityFault.TheVariants.{TooWide, TooFine, ZeroBelow}
 use Rattle.fractions.specs.Fractions.{Fraction, over, IsEqual, add, mul, div}
@@ -57,7 +58,8 @@ quotient_encloses a b f g h k some =
     let divisor : 1 ≤ g.top = positive_top b.first g.top g.bottom unit some k.bottom k.lower in
     record {
       bottom = mul-pos h.bottom divisor;
-      lower = Rounding.below_quotient a.first b.second f.top f.bottom g.top g.bottom unit (positive_second b.second g.top g.bottom unit (omega arith) divisor k.upper) (omega arith) h.lower k.upper;
+      lower = Rounding.below_quotient a.first b.second f.top f.bottom g.top g.bottom unit
+          (positive_second b.second g.top g.bottom unit (omega arith) divisor k.upper) (omega arith) h.lower k.upper;
       upper = Rounding.above_quotient a.second b.first f.top f.bottom g.top g.bottom unit some (omega arith) h.upper k.lower;
     }
 
@@ -115,8 +117,10 @@ positive_factor zero b le e = refl
 positive_factor (suc t) b le e = absurd (let r : suc t * b ≡ b + t * b = omega arith in omega arith)
 
 none_of_product : (t p a b u : ℕ) → 1 ≤ u → (t ≡ 0 → a ≡ 0) → (p ≡ 0 → b ≡ 0) → t * p ≡ 0 → ceiling (a * b) u ≡ 0
-none_of_product zero p a b u le h k e = ap (λ x. ceiling (x * b) u) (h refl) ∙ ap (λ x. ceiling x u) (let r : 0 * b ≡ 0 = omega arith in r) ∙ Rounding.up_zero u le
-none_of_product (suc t) zero a b u le h k e = ap (λ x. ceiling (a * x) u) (k refl) ∙ ap (λ x. ceiling x u) (let r : a * 0 ≡ 0 = omega arith in r) ∙ Rounding.up_zero u le
+none_of_product zero p a b u le h k e = ap (λ x. ceiling (x * b) u) (h refl) ∙ ap (λ x. ceiling x u) (let r : 0 * b ≡ 0 = omega arith in r)
+    ∙ Rounding.up_zero u le
+none_of_product (suc t) zero a b u le h k e = ap (λ x. ceiling (a * x) u) (k refl) ∙ ap (λ x. ceiling x u) (let r : a * 0 ≡ 0 = omega arith in r)
+    ∙ Rounding.up_zero u le
 none_of_product (suc t) (suc p) a b u le h k e = absurd (let r : suc t * suc p ≡ suc p + t * suc p = omega arith in omega arith)
 
 none_of_sum : (t p s q a b : ℕ) → 1 ≤ s → 1 ≤ q → (t ≡ 0 → a ≡ 0) → (p ≡ 0 → b ≡ 0) → t * q + p * s ≡ 0 → a + b ≡ 0
@@ -124,7 +128,8 @@ none_of_sum t p s q a b ls lq h k e =
     let x = h (positive_factor t q lq (omega arith)) in let y = k (positive_factor p s ls (omega arith)) in omega (arith, x, y)
 
 none_of_quotient : (t q a b u : ℕ) → 1 ≤ q → 1 ≤ b → (t ≡ 0 → a ≡ 0) → t * q ≡ 0 → ceiling (a * u) b ≡ 0
-none_of_quotient t q a b u lq lb h e = ap (λ x. ceiling (x * u) b) (h (positive_factor t q lq e)) ∙ ap (λ x. ceiling x b) (let r : 0 * u ≡ 0 = omega arith in r) ∙ Rounding.up_zero b lb
+none_of_quotient t q a b u lq lb h e = ap (λ x. ceiling (x * u) b) (h (positive_factor t q lq e))
+    ∙ ap (λ x. ceiling x b) (let r : 0 * u ≡ 0 = omega arith in r) ∙ Rounding.up_zero b lb
 
 zero_below : (b p q u : ℕ) → 1 ≤ u → b ≡ 0 → p * u ≤ b * q → p ≡ 0
 zero_below b p q u le e h = positive_factor p u le (let r : b * q ≡ 0 = ap (λ z. z * q) e ∙ omega arith in omega arith)

@@ -4,6 +4,7 @@ use Rattle.spans.specs.Parts.{place_named, content_named}
 use Rattle.spans.specs.Held.{lacks_in}
 use Rattle.span_call.proofs.CallEnds.{ended}
 use Rattle.span_call.proofs.Counts.{zero_or, unless}
+use Rattle.span_call.proofs.Contents.{content_if_there}
 use Rattle.span_call.proofs.Endings.{lacks_input, cut_short}
 use Rattle.span_call.proofs.run_spans.Goals as goal
 
@@ -31,13 +32,16 @@ returns-clause-called c = λ small. record {
     held_is = λ name. ap₂ (λ b i. content_named b i name) c.of-shelf.ensures.bytes c.of-shelf.ensures.inputs;
     lacks_is = λ name. ap₂ (λ b i. is_none (place_named b i name)) c.of-shelf.ensures.bytes c.of-shelf.ensures.inputs;
     none_failed = λ name. zero_or (lacks_in c.of-shelf.result name) c.of-shelf.result.lacked c.of-shelf.ensures.faults;
-    fails_lacked = λ name there. unless (lacks_in c.run-status.new.shelf name) c.run-status.new.shelf.lacked (ap (λ f. f name) c.run-status.ensures.lack ∙ there);
+    fails_lacked = λ name there. unless (lacks_in c.run-status.new.shelf name) c.run-status.new.shelf.lacked
+        (ap (λ f. f name) c.run-status.ensures.lack ∙ there);
   };
   ended = c.run-status.ensures.ended;
   complete = c.run-status.ensures.complete;
+  told = λ q asks name is there. content_if_there c.of-shelf.result.bytes.now c.of-shelf.result.inputs.now name there;
   headline = c.run-status.ensures.headline;
   checked = c.run-status.ensures.checked;
   drawn = c.run-status.ensures.drawn;
+  refuted = c.run-status.ensures.refuted;
   shows_out = record {
     text = c.bytes.result.now;
     empty = c.new-text.ensures.written;

@@ -10,7 +10,8 @@ use Rattle.targets.proofs.walk.Goals as goal
 use Rattle.targets.proofs.walk.Goals.{After-as_slice}
 
 -- the names still to come begin with this one
-coming : (c : After-as_slice) → texts (drop c.loop-name.name-index c.args.list.now) ≡ c.as_slice.result.now ∷ texts (drop (c.loop-name.name-index + 1) c.args.list.now)
+coming : (c : After-as_slice) → texts (drop c.loop-name.name-index c.args.list.now) ≡ c.as_slice.result.now
+    ∷ texts (drop (c.loop-name.name-index + 1) c.args.list.now)
 coming c = texts-drop c.args.list.now c.loop-name.name-index c.name-item.result c.loop-name-test.true
     ∙ ap (λ n. n ∷ texts (drop (c.loop-name.name-index + 1) c.args.list.now))
     (let item : get_or c.args.list.now c.loop-name.name-index c.name-item.result ≡ c.name-item.result = sym c.name-item.is in
@@ -37,4 +38,5 @@ loop-name-preserved c =
 pub returns-clause-none : goal.returns-clause-none
 returns-clause-none c =
     c.loop-name.invariant.faults (bit_or c.args.walked.bits c.loop-name.set.bits) (has-or c.args.walked.bits c.loop-name.set.bits)
-    ∙ ap (first_fault c.args.all.now c.args.observed.now (walked_in c.args.observed.now (bit_or c.args.walked.bits c.loop-name.set.bits))) (texts-drop_end c.args.list.now c.loop-name.name-index (omega arith))
+    ∙ ap (first_fault c.args.all.now c.args.observed.now (walked_in c.args.observed.now (bit_or c.args.walked.bits c.loop-name.set.bits)))
+    (texts-drop_end c.args.list.now c.loop-name.name-index (omega arith))

@@ -7,7 +7,7 @@ use Rattle.mixed_graph.specs.Shown.{graph_of}
 use Rattle.mixed_graph.proofs.Masks.{has-pow}
 use Rattle.m_separation.specs.Paths.{IsOpenPath}
 use Rattle.m_separation.specs.Walks.{IsSeparated}
-use Rattle.surgery.specs.Cuts.{cut_out}
+use Rattle.do_rules.specs.Cuts.{cut_out}
 use Rattle.do_rules.specs.Rules.{AreThreeSets}
 use Rattle.mixed_graph.specs.Masks.{one}
 use Rattle.adjustment.specs.Faults.{IsClearOf}
@@ -34,19 +34,24 @@ bit_is x = sym (fun_ext (has-pow x))
 
 pub returns-in-None-clause-meets : goal.returns-in-None-clause-meets
 returns-in-None-clause-meets c = let a = (goal.at.returns-in-None-clause-meets c).After-open_path in
-    back_door_from (graph_of c.args.g.now) c.args.g.now.valid c.args.x (has c.args.z.bits) (has c.args.y.bits) (c.requires.sets.x_y c.args.x (eq-eqb c.args.x c.args.x refl)) (clear a) (separates a c.in-None.ensures.none)
+    back_door_from (graph_of c.args.g.now) c.args.g.now.valid c.args.x (has c.args.z.bits) (has c.args.y.bits)
+    (c.requires.sets.x_y c.args.x (eq-eqb c.args.x c.args.x refl)) (clear a) (separates a c.in-None.ensures.none)
 
 pub returns-in-None-clause-effect : goal.returns-in-None-clause-effect
 returns-in-None-clause-effect c = let a = (goal.at.returns-in-None-clause-effect c).After-open_path in
     unconfounded_adjusts (graph_of c.args.g.now) c.args.g.now.valid c.args.x c.args.y.bits c.args.z.bits
     (subst (λ t. AreThreeSets c.args.g.now.n t (has c.args.y.bits) (has c.args.z.bits)) (bit_is c.args.x) c.requires.sets) (clear a)
-    (subst (λ t. IsSeparated (cut_out (graph_of c.args.g.now) t) t (has c.args.y.bits) (has c.args.z.bits)) (bit_is c.args.x) (separates a c.in-None.ensures.none))
+    (subst (λ t. IsSeparated (cut_out (graph_of c.args.g.now) t) t (has c.args.y.bits) (has c.args.z.bits)) (bit_is c.args.x)
+    (separates a c.in-None.ensures.none))
 
 pub returns-in-Some-open_path-clause-fault : goal.returns-in-Some-open_path-clause-fault
 returns-in-Some-open_path-clause-fault c = let a = (goal.at.returns-in-Some-open_path-clause-fault c).After-open_path in (
   clear a,
-  back_door_path (graph_of c.args.g.now) c.args.g.now.valid c.args.x (has c.args.z.bits) (has c.args.y.bits) (c.requires.sets.x_y c.args.x (eq-eqb c.args.x c.args.x refl)) c.in-Some-open_path.path
-      (subst (λ t. IsOpenPath (cut_out (graph_of c.args.g.now) t) t (has c.args.y.bits) (has c.args.z.bits) c.in-Some-open_path.path.vertices c.in-Some-open_path.path.marks c.in-Some-open_path.path.count) (exposure_is a)
-      (subst (λ h. IsOpenPath h (has c.one-exposure.result.bits) (has c.args.y.bits) (has c.args.z.bits) c.in-Some-open_path.path.vertices c.in-Some-open_path.path.marks c.in-Some-open_path.path.count) c.cut_out.ensures
+  back_door_path (graph_of c.args.g.now) c.args.g.now.valid c.args.x (has c.args.z.bits) (has c.args.y.bits)
+      (c.requires.sets.x_y c.args.x (eq-eqb c.args.x c.args.x refl)) c.in-Some-open_path.path
+      (subst (λ t. IsOpenPath (cut_out (graph_of c.args.g.now) t) t (has c.args.y.bits) (has c.args.z.bits)
+      c.in-Some-open_path.path.vertices c.in-Some-open_path.path.marks c.in-Some-open_path.path.count) (exposure_is a)
+      (subst (λ h. IsOpenPath h (has c.one-exposure.result.bits) (has c.args.y.bits) (has c.args.z.bits)
+      c.in-Some-open_path.path.vertices c.in-Some-open_path.path.marks c.in-Some-open_path.path.count) c.cut_out.ensures
       c.in-Some-open_path.ensures.found)),
 )

@@ -5,18 +5,19 @@ use Rattle.mixed_graph.specs.Bits.{has}
 use Rattle.mixed_graph.specs.Graphs.{MixedGraph, IsMixedGraph}
 use Rattle.mixed_graph.proofs.Masks.{has-pow}
 use Rattle.m_separation.specs.Walks.{IsOpenWalk, IsSeparated}
-use Rattle.surgery.specs.Cuts.{cut_out}
+use Rattle.do_rules.specs.Cuts.{cut_out}
 use Rattle.finite_models.proofs.Tested.{Test, tested}
 use Rattle.do_rules.specs.Rules.{AreThreeSets}
-use Rattle.proper_paths.specs.Proper.{IsBetween}
-use Rattle.proper_paths.proofs.Causal.{below_from}
-use Rattle.proper_paths.proofs.FirstEdges.{back_door_graph_is}
+use Rattle.adjustment.specs.Proper.{IsBetween}
+use Rattle.adjustment.proofs.Causal.{below_from}
+use Rattle.adjustment.proofs.FirstEdges.{back_door_graph_is}
 use Rattle.adjustment.proofs.Separating.{separated_from, admissible_from, back_door_separated, back_door_from}
 use Rattle.adjustment.proofs.Effects.{admissible_adjusts, unconfounded_adjusts}
 use Rattle.adjustment.proofs.FaultWalks.{faults_fail, adjusts_exactly}
 use Rattle.adjustment.proofs.theory.laws.Goals as goal
 
-test_is : (g : MixedGraph) → IsMixedGraph g → (x y z : ℕ → Bool) → AreThreeSets g.vertices x y z → (t : Test (IsBetween g x y) g.vertices) → (v : ℕ) → IsTrue (t.test v) ↔ IsBetween g x y v
+test_is : (g : MixedGraph) → IsMixedGraph g → (x y z : ℕ → Bool) → AreThreeSets g.vertices x y z → (t : Test (IsBetween g x y) g.vertices) → (v : ℕ)
+    → IsTrue (t.test v) ↔ IsBetween g x y v
 test_is g ok x y z sets t v = (t.sound v, λ b. t.complete v (below_from g ok x y sets.x_within v b).vertex b)
 
 pub returns-clause-admissible : goal.returns-clause-admissible
@@ -24,12 +25,14 @@ returns-clause-admissible c = λ g h ok x y z sets k. (
   λ a. (
     a.clear,
     λ v r o. tested (IsBetween g x y) g.vertices (λ t. let b = test_is g ok x y z sets t in
-        separated_from g ok x y sets.x_within sets.x_y t.test b z sets.x_w a v r (subst (λ q. IsOpenWalk q x y z v r) (back_door_graph_is g ok x y sets.x_within t.test b h k) o)),
+        separated_from g ok x y sets.x_within sets.x_y t.test b z sets.x_w a v r
+        (subst (λ q. IsOpenWalk q x y z v r) (back_door_graph_is g ok x y sets.x_within t.test b h k) o)),
   ),
   λ p. record {
     clear = p.0;
     blocked = λ v r q n o. tested (IsBetween g x y) g.vertices (λ t. let b = test_is g ok x y z sets t in
-        (admissible_from g ok x y sets.x_within sets.x_y t.test b z p.0 (subst (λ q. IsSeparated q x y z) (back_door_graph_is g ok x y sets.x_within t.test b h k) p.1)).blocked v r q n o);
+        (admissible_from g ok x y sets.x_within sets.x_y t.test b z p.0
+        (subst (λ q. IsSeparated q x y z) (back_door_graph_is g ok x y sets.x_within t.test b h k) p.1)).blocked v r q n o);
   },
 )
 

@@ -20,8 +20,10 @@ most_none v = elim (cases_lt v 64) [
 pub invariant_of-result : goal.invariant_of-result
 invariant_of-result c = record {
   in_range =
-      most_set (set (set (replicate 64 64) 0 c.min.result) 1 c.min-2.result) 2 c.min-3.result (simp (length-set, length-replicate) (omega arith)) (let e = c.min-3.ensures in omega arith)
-      (most_set (set (replicate 64 64) 0 c.min.result) 1 c.min-2.result (simp (length-set, length-replicate) (omega arith)) (let e = c.min-2.ensures in omega arith)
+      most_set (set (set (replicate 64 64) 0 c.min.result) 1 c.min-2.result) 2 c.min-3.result (simp (length-set, length-replicate) (omega arith))
+      (let e = c.min-3.ensures in omega arith)
+      (most_set (set (replicate 64 64) 0 c.min.result) 1 c.min-2.result (simp (length-set, length-replicate) (omega arith))
+      (let e = c.min-2.ensures in omega arith)
       (most_set (replicate 64 64) 0 c.min.result (simp length-replicate (omega arith)) (let e = c.min.ensures in omega arith) most_none));
 }
 

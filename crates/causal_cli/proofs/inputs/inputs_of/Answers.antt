@@ -1,5 +1,5 @@
 use Rattle.std.proofs.Common.{◌≡◌, Err, refl, ap}
-use Rattle.request_values.specs.declared.RequestFault.TheVariants.{NotUnderstood}
+use Rattle.command_words.specs.declared.typed.RequestFault.TheVariants.{NotUnderstood}
 use Rattle.causal_cli.proofs.Lawful.{lawful}
 use Rattle.causal_cli.proofs.inputs.inputs_of.Goals as goal
 

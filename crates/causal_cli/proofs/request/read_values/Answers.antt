@@ -1,7 +1,8 @@
 use Rattle.std.proofs.Common.{subst}
-use Rattle.word_values.specs.Gives.{HoldsCall}
+use Rattle.command_words.specs.Gives.{HoldsCall}
 use Rattle.causal_cli.specs.Commands.{row_for}
 use Rattle.causal_cli.proofs.request.read_values.Goals as goal
 
 pub returns-in_ok-read-in-Adjust-clause-ok : goal.returns-in_ok-read-in-Adjust-clause-ok
-returns-in_ok-read-in-Adjust-clause-ok c = λ uses g. c.in_ok-read-in-Adjust.ensures.ok uses (subst (λ k. HoldsCall (row_for k) uses c.args.values.now) c.in-Adjust.is g)
+returns-in_ok-read-in-Adjust-clause-ok c = λ uses g. c.in_ok-read-in-Adjust.ensures.ok uses
+    (subst (λ k. HoldsCall (row_for k) uses c.args.values.now) c.in-Adjust.is g)

@@ -14,7 +14,12 @@ returns-in-Separate c = subst (λ q. IfOk c.replied-in-Separate.result (GivesOn 
 
 pub returns-in-Rule : goal.returns-in-Rule
 returns-in-Rule c =
-    let given = rw (c.deref.ensures.value, c.deref-in-Rule.ensures.value, c.deref-in-Rule-2.ensures.value, c.deref-in-Rule-3.ensures.value) at c.rule_reply.ensures in
+    let given = rw (
+      c.deref.ensures.value,
+      c.deref-in-Rule.ensures.value,
+      c.deref-in-Rule-2.ensures.value,
+      c.deref-in-Rule-3.ensures.value,
+    ) at c.rule_reply.ensures in
     subst (λ q. IfOk c.replied-in-Rule.result (GivesOn left_of commands (request_of q) c.args.graph)) (sym c.in-Rule.is)
     (c.replied-in-Rule.ensures (request_of (Rule c.in-Rule.asked)) c.args.graph given)
 

@@ -30,8 +30,11 @@ loop-lemma-preserved c =
     let lt : i < length xs = subst (λ l. i < length l) c.deref-lemma-items.ensures.value c.loop-lemma-test.true in
     let read : d ≡ x = c.lemma-item.is ∙ ap (λ l. get_or l i d) c.deref-lemma-items.ensures.value in
     let viewed : data_view c.in_ok-value.value ≡ lemma_value names (lemma_view x) = c.in_ok-value.ensures ∙ ap (λ s. lemma_value names (lemma_view s)) read in (
-      one_more (valued names) (λ s. lemma_value names (lemma_view s)) (λ x xs. refl) xs i d lt c.loop-lemma.all.items c.push.new.self.items c.in_ok-value.value (valued names xs) c.in_ok-push.ensures.items viewed c.loop-lemma.invariant.0,
-      (and_parts (is_below n x.set.bits && not (is_empty x.set.bits)) (sets (drop (i + 1) xs)) (sym (at_drop_more sets xs i d lt) ∙ c.loop-lemma.invariant.1)).1,
+      one_more (valued names) (λ s. lemma_value names (lemma_view s)) (λ x xs. refl)
+          xs i d lt c.loop-lemma.all.items c.push.new.self.items c.in_ok-value.value (valued names xs)
+          c.in_ok-push.ensures.items viewed c.loop-lemma.invariant.0,
+      (and_parts (is_below n x.set.bits && not (is_empty x.set.bits)) (sets (drop (i + 1) xs))
+          (sym (at_drop_more sets xs i d lt) ∙ c.loop-lemma.invariant.1)).1,
       (and_parts (is_within n (step_view x.step)) (steps (drop (i + 1) xs)) (sym (at_drop_more steps xs i d lt) ∙ c.loop-lemma.invariant.2)).1,
     )
 
@@ -39,4 +42,5 @@ pub returns : goal.returns
 returns c =
     let names = c.args.names.now in
     let xs = c.args.list.now.items in
-    view-Array c.loop-lemma.all ∙ ap array (all_there (valued names) refl xs c.loop-lemma.lemma-index (let e = ap length c.deref-lemma-items.ensures.value in omega arith) c.loop-lemma.all.items (valued names xs) c.loop-lemma.invariant.0)
+    view-Array c.loop-lemma.all ∙ ap array (all_there (valued names) refl xs c.loop-lemma.lemma-index
+    (let e = ap length c.deref-lemma-items.ensures.value in omega arith) c.loop-lemma.all.items (valued names xs) c.loop-lemma.invariant.0)

@@ -8,6 +8,7 @@ use Rattle.certificate_writing.specs.Written.{lemma_items}
 use Rattle.certificate_writing.proofs.formulas.lemmas_value.Given as goal
 
 abbrev pub invariant-loop-lemma : goal.invariant-loop-lemma
-invariant-loop-lemma l = (before (map data_view l.all.items) (lemma_items l.names (map lemma_view (drop l.lemma-index l.list.items))) ≡ lemma_items l.names (map lemma_view l.list.items))
+invariant-loop-lemma l = (before (map data_view l.all.items) (lemma_items l.names (map lemma_view (drop l.lemma-index l.list.items)))
+    ≡ lemma_items l.names (map lemma_view l.list.items))
     × (are_sets (length l.names) (sets_of (map lemma_view (drop l.lemma-index l.list.items))) ≡ true)
     × (are_steps_within (length l.names) (map lemma_view (drop l.lemma-index l.list.items)) ≡ true)

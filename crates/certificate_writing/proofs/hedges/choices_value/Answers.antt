@@ -7,4 +7,5 @@ pub pairs_value-requires : goal.pairs_value-requires
 pairs_value-requires c =
     let n = length c.args.names.now in
     subst (All (IsWithin n)) (sym (c.as_slice.ensures.value ∙ c.in_ok-pairs.ensures.pairs))
-    (choices_within n 0 c.args.choice.now.next (λ i lt other. let p = c.requires i (omega (arith, c.choices_of.ensures.size)) other in (omega (arith, p.0), p.1)))
+    (choices_within n 0 c.args.choice.now.next (λ i lt other. let p = c.requires i (omega (arith, c.choices_of.ensures.size)) other in
+    (omega (arith, p.0), p.1)))

@@ -10,8 +10,10 @@ short groups = groups_below (2 ^ 32) (numbers_of groups)
 
 pub loop-group-preserved : goal.loop-group-preserved
 loop-group-preserved c =
-    next_kept short (λ g. are_below (2 ^ 32) g.items) (λ x xs. refl) c.args.list.now.items _ c.loop-group.group-index c.group-item.result c.deref-group-items.ensures.value c.loop-group-test.true c.group-item.is
+    next_kept short (λ g. are_below (2 ^ 32) g.items) (λ x xs. refl) c.args.list.now.items _ c.loop-group.group-index c.group-item.result
+    c.deref-group-items.ensures.value c.loop-group-test.true c.group-item.is
     c.numbers_kept.ensures c.loop-group.invariant
 
 pub returns : goal.returns
-returns c = all_kept short refl c.args.list.now.items c.loop-group.group-index (let e = ap length c.deref-group-items.ensures.value in omega arith) c.loop-group.invariant
+returns c = all_kept short refl c.args.list.now.items c.loop-group.group-index (let e = ap length c.deref-group-items.ensures.value in omega arith)
+    c.loop-group.invariant

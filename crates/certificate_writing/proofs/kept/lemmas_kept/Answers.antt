@@ -11,8 +11,10 @@ short lemmas = are_steps_short (map lemma_view lemmas)
 
 pub loop-lemma-preserved : goal.loop-lemma-preserved
 loop-lemma-preserved c =
-    next_kept short (λ l. is_short (step_view l.step)) (λ x xs. refl) c.args.lemmas.now.items _ c.loop-lemma.lemma-index c.lemma-item.result c.deref-lemma-items.ensures.value c.loop-lemma-test.true c.lemma-item.is
+    next_kept short (λ l. is_short (step_view l.step)) (λ x xs. refl) c.args.lemmas.now.items _ c.loop-lemma.lemma-index c.lemma-item.result
+    c.deref-lemma-items.ensures.value c.loop-lemma-test.true c.lemma-item.is
     c.step_kept.ensures c.loop-lemma.invariant
 
 pub returns : goal.returns
-returns c = all_kept short refl c.args.lemmas.now.items c.loop-lemma.lemma-index (let e = ap length c.deref-lemma-items.ensures.value in omega arith) c.loop-lemma.invariant
+returns c = all_kept short refl c.args.lemmas.now.items c.loop-lemma.lemma-index (let e = ap length c.deref-lemma-items.ensures.value in omega arith)
+    c.loop-lemma.invariant

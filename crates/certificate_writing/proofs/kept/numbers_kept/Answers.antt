@@ -13,4 +13,5 @@ loop-k-preserved c =
     one_more_kept (are_below (2 ^ 32)) (λ k. ltb k (2 ^ 32)) (λ x xs. refl) xs i 0 lt here c.loop-k.invariant
 
 pub returns : goal.returns
-returns c = all_kept (are_below (2 ^ 32)) refl c.args.list.now.items c.loop-k.k-index (let e = ap length c.deref-k-items.ensures.value in omega arith) c.loop-k.invariant
+returns c = all_kept (are_below (2 ^ 32)) refl c.args.list.now.items c.loop-k.k-index (let e = ap length c.deref-k-items.ensures.value in omega arith)
+    c.loop-k.invariant

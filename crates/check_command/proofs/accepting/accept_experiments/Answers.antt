@@ -1,6 +1,6 @@
 use Rattle.std.proofs.Common.{◌≡◌, None, map, ap, sym, subst, ◌∙◌}
 use Rattle.prob_expr.specs.Listed.{masks_of}
-use Rattle.word_lists.specs.Views.{names_in}
+use Rattle.command_words.specs.ListViews.{names_in}
 use Rattle.targets.specs.Targets.{IsNameFault}
 use Rattle.experiment_lists.specs.Sets.{experiments_fault, AreExperimentSets}
 use Rattle.experiment_lists.specs.Views.{lists_in}

@@ -7,7 +7,12 @@ use Rattle.check_command.proofs.hedge_data.check_hedge.Goals as goal
 
 pub holds-requires : goal.holds-requires
 holds-requires c =
-    subst (λ n. Within n (has c.args.target.now.y.bits)) c.requires.named (y_within (length c.args.seen.now.names) (target_view c.args.target.now) c.requires.target)
+    subst (λ n. Within n (has c.args.target.now.y.bits)) c.requires.named
+    (y_within (length c.args.seen.now.names) (target_view c.args.target.now) c.requires.target)
 
 pub returns-in_ok-hedge_text-in-Err-clause-answer : goal.returns-in_ok-hedge_text-in-Err-clause-answer
-returns-in_ok-hedge_text-in-Err-clause-answer c = inl (record { fault = c.in-Err.fault; is_fault = c.in-Err.ensures.fault; prints = c.in_ok-hedge_text-in-Err.ensures })
+returns-in_ok-hedge_text-in-Err-clause-answer c = inl (record {
+  fault = c.in-Err.fault;
+  is_fault = c.in-Err.ensures.fault;
+  prints = c.in_ok-hedge_text-in-Err.ensures;
+})

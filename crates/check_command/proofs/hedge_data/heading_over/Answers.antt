@@ -7,7 +7,8 @@ pub returns-then-is_empty : goal.returns-then-is_empty
 returns-then-is_empty c =
     let empty : length c.args.experiments.now ≡ 0 = grind (arith, c.if-is_empty.true, c.if-is_empty.ensures) in
     subst (λ t. IfOk c.hedge_heading.result (λ v. v.items ≡ t))
-    (sym (heading_without c.args.names.now c.args.target.now.x.bits c.args.target.now.y.bits c.args.hedge.now c.args.experiments.now empty)) c.hedge_heading.ensures
+    (sym (heading_without c.args.names.now c.args.target.now.x.bits c.args.target.now.y.bits c.args.hedge.now c.args.experiments.now empty))
+    c.hedge_heading.ensures
 
 pub returns : goal.returns
 returns c =

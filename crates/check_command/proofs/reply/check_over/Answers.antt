@@ -21,8 +21,10 @@ check_formula-requires c =
 pub returns-in-Ok-Formula : goal.returns-in-Ok-Formula
 returns-in-Ok-Formula c =
     let reads = rw c.in-Ok-Formula.field-0-is at c.in-Ok-Formula.ensures in
-    formula_answers c.args.graph.now (graph_of c.in_ok-seen.seen.graph) c.in_ok-seen.seen.names (masks_of c.args.experiments.now) c.args.certificate.now c.in_ok-seen.ensures.graph c.in_ok-seen.ensures.names c.requires
-    (target_view c.in-Ok-Formula.target) (formula_view c.in-Ok-Formula.formula) (derivation_view c.in-Ok-Formula.derivation) reads c.check_formula.result c.check_formula.ensures
+    formula_answers c.args.graph.now (graph_of c.in_ok-seen.seen.graph) c.in_ok-seen.seen.names (masks_of c.args.experiments.now)
+    c.args.certificate.now c.in_ok-seen.ensures.graph c.in_ok-seen.ensures.names c.requires
+    (target_view c.in-Ok-Formula.target) (formula_view c.in-Ok-Formula.formula) (derivation_view c.in-Ok-Formula.derivation)
+    reads c.check_formula.result c.check_formula.ensures
 
 pub check_hedge-requires-clause-target : goal.check_hedge-requires-clause-target
 check_hedge-requires-clause-target c =
@@ -32,12 +34,14 @@ check_hedge-requires-clause-target c =
 pub returns-in-Ok-Hedge : goal.returns-in-Ok-Hedge
 returns-in-Ok-Hedge c =
     let reads = rw c.in-Ok-Hedge.field-0-is at c.in-Ok-Hedge.ensures in
-    hedge_answers c.args.graph.now (graph_of c.in_ok-seen.seen.graph) c.in_ok-seen.seen.names (masks_of c.args.experiments.now) c.args.certificate.now c.in_ok-seen.ensures.graph c.in_ok-seen.ensures.names c.requires
+    hedge_answers c.args.graph.now (graph_of c.in_ok-seen.seen.graph) c.in_ok-seen.seen.names (masks_of c.args.experiments.now)
+    c.args.certificate.now c.in_ok-seen.ensures.graph c.in_ok-seen.ensures.names c.requires
     (target_view c.in-Ok-Hedge.target) c.in-Ok-Hedge.hedge c.check_hedge.ensures.entries reads c.check_hedge.result c.check_hedge.ensures.answer
 
 pub returns : goal.returns
 returns c =
     let line = c.in_ok-line-in-Err in
     faulty c.in-Err.fault c.requires line.ensures.memory
-    (ap (λ n. certificate_in n c.args.certificate.now) (sym c.in_ok-seen.ensures.names) ∙ unread c.in-Err.fault (certificate_in c.in_ok-seen.seen.names c.args.certificate.now) c.in-Err.ensures line.ensures.memory)
+    (ap (λ n. certificate_in n c.args.certificate.now) (sym c.in_ok-seen.ensures.names)
+    ∙ unread c.in-Err.fault (certificate_in c.in_ok-seen.seen.names c.args.certificate.now) c.in-Err.ensures line.ensures.memory)
     line.ensures.line

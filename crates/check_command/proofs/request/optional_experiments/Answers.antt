@@ -1,5 +1,5 @@
 use Rattle.std.proofs.Common.{ap, map, sym, subst}
-use Rattle.word_lists.specs.Views.{names_in}
+use Rattle.command_words.specs.ListViews.{names_in}
 use Rattle.experiment_lists.specs.Views.{lists_in}
 use Rattle.experiment_lists.specs.Words.{AreOptionalExperiments}
 use Rattle.check_command.proofs.request.optional_experiments.Goals as goal

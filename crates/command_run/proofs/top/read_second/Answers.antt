@@ -7,7 +7,8 @@ use Rattle.command_run.proofs.top.read_second.Goals as goal
 pub returns-then-eq-clause-answer : goal.returns-then-eq-clause-answer
 returns-then-eq-clause-answer g c =
     let same : c.args.file.now ≡ c.args.second.now = search rules in
-    subst (λ name. IsReadOf (g.S.Shelf.held c.args.shelf.now name) (g.S.Shelf.lacks c.args.shelf.now name) (g.S.Shelf.faults c.args.shelf.now name) (g.S.Shelf.faults c.args.shelf.now name) c.args.limit c.copied.result) same
+    subst (λ name. IsReadOf (g.S.Shelf.held c.args.shelf.now name) (g.S.Shelf.lacks c.args.shelf.now name) (g.S.Shelf.faults c.args.shelf.now name)
+    (g.S.Shelf.faults c.args.shelf.now name) c.args.limit c.copied.result) same
     (read_again _ _ _ _ c.args.bytes.now c.copied.result c.requires.held c.requires.there c.requires.small c.copied.ensures.copy c.copied.ensures.fault)
 
 pub returns-then-eq-clause-reads : goal.returns-then-eq-clause-reads

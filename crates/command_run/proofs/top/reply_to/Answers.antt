@@ -1,5 +1,5 @@
 use Rattle.std.proofs.Common.{refl, ap, Err}
-use Rattle.word_forms.specs.Views.{texts_of}
+use Rattle.command_words.specs.Views.{texts_of}
 use Rattle.command_run.proofs.Deliveries.{not_understood, no_room}
 use Rattle.command_run.proofs.ReadCounts.{nothing_read}
 use Rattle.command_run.proofs.top.reply_to.Goals as goal
@@ -15,7 +15,8 @@ returns-in-Ok-clause-stays g c = c.answer.ensures.stays
 
 pub returns-in-Err-NotUnderstood-clause-replies : goal.returns-in-Err-NotUnderstood-clause-replies
 returns-in-Err-NotUnderstood-clause-replies g c = λ out.
-    not_understood g.R.Request.commands c.requires _ c.bare.result c.bare.ensures (c.in-Err-NotUnderstood.ensures.none (ap (λ f. Err f) c.in-Err-NotUnderstood.field-0-is))
+    not_understood g.R.Request.commands c.requires _ c.bare.result c.bare.ensures
+    (c.in-Err-NotUnderstood.ensures.none (ap (λ f. Err f) c.in-Err-NotUnderstood.field-0-is))
 
 pub returns-in-Err-NotUnderstood-clause-reads : goal.returns-in-Err-NotUnderstood-clause-reads
 returns-in-Err-NotUnderstood-clause-reads g c = λ out. nothing_read g.R.Request.commands _ _ refl refl

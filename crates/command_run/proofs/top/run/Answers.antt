@@ -13,7 +13,8 @@ returns-clause-ended g c = record {
 
 pub returns-clause-complete : goal.returns-clause-complete
 returns-clause-complete g c =
-    complete g.R.Request.commands c.requires _ _ c.respond-last.result.outcome (text_of g.R.Request.commands c.respond-last.result) c.code.ensures c.respond-last.ensures.ends
+    complete g.R.Request.commands c.requires _ _ c.respond-last.result.outcome (text_of g.R.Request.commands c.respond-last.result)
+    c.code.ensures c.respond-last.ensures.ends
 
 pub returns-clause-reads : goal.returns-clause-reads
 returns-clause-reads g c = c.respond-last.ensures.reads

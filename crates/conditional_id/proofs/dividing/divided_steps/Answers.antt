@@ -2,15 +2,16 @@ use Rattle.std.proofs.Common.{sym, ap, ◌∙◌}
 use Rattle.do_derivation.specs.Plans.{Plan, no_plans, plan}
 use Rattle.do_derivation.specs.View.{step_view}
 use Rattle.do_derivation.specs.declared.steps.Step.{Split, Then}
-use Rattle.identification.specs.Derivations.{single}
-use Rattle.district_factors.specs.Lists.{onto}
-use Rattle.district_factors.proofs.Steps.{onto_more, onto_nothing}
-use Rattle.conditional_theory.specs.Conditionals.{summed_steps}
+use Rattle.identification_theory.specs.Derivations.{single}
+use Rattle.identify.specs.Lists.{onto}
+use Rattle.identify.proofs.Steps.{onto_more, onto_nothing}
+use Rattle.conditional_id.specs.Conditionals.{summed_steps}
 use Rattle.conditional_id.proofs.Lists.{parted, whole_steps}
 use Rattle.conditional_id.proofs.dividing.divided_steps.Goals as goal
 
 pub returns-then-is_empty : goal.returns-then-is_empty
-returns-then-is_empty c = c.in_ok-push_steps.ensures ∙ whole_steps c.args.y.bits c.args.left.bits c.args.moves.items (step_view c.args.joint) (sym c.is_empty.ensures.mask ∙ c.if-is_empty.true)
+returns-then-is_empty c = c.in_ok-push_steps.ensures ∙ whole_steps c.args.y.bits c.args.left.bits c.args.moves.items (step_view c.args.joint)
+    (sym c.is_empty.ensures.mask ∙ c.if-is_empty.true)
 
 pub returns : goal.returns
 returns c =
@@ -21,4 +22,5 @@ returns c =
     sym (onto_nothing c.push_at-2.new.out.items) ∙ c.in_ok-push_at-2.ensures no_plans
     ∙ c.in_ok-push_at.ensures last
     ∙ ap (λ l. onto l (plan (Plan.At 0 p) last)) c.in_ok-push.ensures.items ∙ onto_more out Split (plan (Plan.At 0 p) last)
-    ∙ parted c.args.y.bits c.args.left.bits out below p (sym c.is_empty.ensures.mask ∙ c.if-is_empty.false) (c.in_ok-below.ensures ∙ ap (λ q. summed_steps c.args.y.bits q) c.in_ok-again.ensures)
+    ∙ parted c.args.y.bits c.args.left.bits out below p (sym c.is_empty.ensures.mask ∙ c.if-is_empty.false)
+    (c.in_ok-below.ensures ∙ ap (λ q. summed_steps c.args.y.bits q) c.in_ok-again.ensures)

@@ -1,7 +1,7 @@
 use Rattle.std.proofs.Common.{sym, ap, ◌∙◌}
 use Rattle.do_derivation.specs.View.{step_view, steps_view}
-use Rattle.district_factors.specs.Lists.{onto}
-use Rattle.conditional_theory.specs.Conditionals.{steps_of}
+use Rattle.identify.specs.Lists.{onto}
+use Rattle.conditional_id.specs.Conditionals.{steps_of}
 use Rattle.conditional_id.proofs.Lists.{alone_steps, list_steps}
 use Rattle.conditional_id.proofs.StepCases.{alone_from}
 use Rattle.conditional_id.proofs.dividing.push_steps.Goals as goal

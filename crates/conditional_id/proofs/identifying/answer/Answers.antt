@@ -1,8 +1,8 @@
 use Rattle.std.proofs.Common.{false, refl, sym, ◌∙◌, eqb-true, arith}
 use Rattle.mixed_graph.specs.Shown.{graph_of}
 use Rattle.prob_expr.specs.View.{target_view}
-use Rattle.identification.proofs.Bools.{clash}
-use Rattle.conditional_theory.specs.Conditionals.{IsConditionalTarget}
+use Rattle.identification_theory.proofs.Bools.{clash}
+use Rattle.conditional_id.specs.Conditionals.{IsConditionalTarget}
 use Rattle.conditional_id.proofs.Found.{target_with}
 use Rattle.conditional_id.proofs.RightAnswers.{no_joint_hedge}
 use Rattle.conditional_id.proofs.identifying.answer.Goals as goal

@@ -1,9 +1,10 @@
 use Rattle.mixed_graph.specs.Shown.{graph_of}
 use Rattle.prob_expr.specs.View.{target_view}
-use Rattle.id_recursion.proofs.RightAnswers.{if_ok}
-use Rattle.conditional_theory.proofs.Answered.{conditional_is_right, conditional_is_shallow, derived_is_conditional}
+use Rattle.identify.proofs.RightAnswers.{if_ok}
+use Rattle.conditional_id.proofs.Answered.{conditional_is_right, conditional_is_shallow, derived_is_conditional}
 use Rattle.conditional_id.specs.Answers.{IsAnswerGiven}
-use Rattle.conditional_id.proofs.RightAnswers.{right, exact_formula, joint_effect, joint_not_fixed, joint_no_formula, plain_of, plain_sets, if_formula, if_joint}
+use Rattle.conditional_id.proofs.RightAnswers.{right, exact_formula, joint_effect, joint_not_fixed, joint_no_formula, plain_of, plain_sets}
+use Rattle.conditional_id.proofs.RightAnswers.{if_formula, if_joint}
 use Rattle.conditional_id.proofs.identifying.identify_given.Goals as goal
 
 pub returns : goal.returns

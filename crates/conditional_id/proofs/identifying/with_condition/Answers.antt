@@ -2,10 +2,10 @@ use Rattle.std.proofs.Common.{◌≤◌, subst, inr, length, arith}
 use Rattle.mixed_graph.specs.Shown.{graph_of}
 use Rattle.prob_expr.specs.View.{formula_view, target_view}
 use Rattle.do_derivation.specs.View.{derivation_view}
-use Rattle.identification.specs.Derivations.{IsDerived}
-use Rattle.id_recursion.specs.Answers.{IfFormula}
-use Rattle.conditional_theory.proofs.Turning.{targeted, turned_target}
-use Rattle.conditional_theory.specs.Conditionals.{IsConditionalTarget}
+use Rattle.identification_theory.specs.Derivations.{IsDerived}
+use Rattle.identify.specs.Answers.{IfFormula}
+use Rattle.conditional_id.proofs.TurningLaw.{targeted, turned_target}
+use Rattle.conditional_id.specs.Conditionals.{IsConditionalTarget}
 use Rattle.conditional_id.proofs.Found.{exact_for, given_formula, joint_sets, some_positive, target_with}
 use Rattle.conditional_id.proofs.identifying.with_condition.Goals as goal
 use Rattle.conditional_id.proofs.identifying.with_condition.Goals.{After-union-joint}
@@ -20,7 +20,8 @@ sets c = joint_sets (graph_of c.args.g.now) c.args.t.x.bits c.args.t.y.bits c.ar
 left_sets : (c : After-union-joint) → IsConditionalTarget (graph_of c.args.g.now)
     (targeted c.in_ok-turned.turned.doing.bits c.args.t.y.bits c.in_ok-turned.turned.left.bits)
 left_sets c = let m = c.in_ok-turned.ensures in
-    turned_target (graph_of c.args.g.now) c.args.t.y.bits c.args.t.x.bits c.args.t.given.bits c.in_ok-turned.turned.doing.bits c.in_ok-turned.turned.left.bits m.moved m.turned
+    turned_target (graph_of c.args.g.now) c.args.t.y.bits c.args.t.x.bits c.args.t.given.bits c.in_ok-turned.turned.doing.bits c.in_ok-turned.turned.left.bits
+    m.moved m.turned
     (target_with (graph_of c.args.g.now) c.args.t.x.bits c.args.t.y.bits c.args.t.given.bits c.requires.sets c.requires.some (omega arith))
 
 pub is_settled-requires-clause-doing_within : goal.is_settled-requires-clause-doing_within

@@ -1,7 +1,7 @@
 use Rattle.std.proofs.Common.{ℕ, ◌<◌, IsTrue}
 use Rattle.mixed_graph.specs.Bits.{has}
 use Rattle.mixed_graph.specs.Shown.{graph_of}
-use Rattle.conditional_theory.specs.Conditionals.{IsTurning}
+use Rattle.conditional_id.specs.Conditionals.{IsTurning}
 use Rattle.conditional_id.proofs.turning.lowest_turning.Given as goal
 
 abbrev pub invariant-loop-v : goal.invariant-loop-v

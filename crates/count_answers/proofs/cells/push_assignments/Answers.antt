@@ -21,18 +21,21 @@ members-smaller c =
 pub members-preserved : goal.members-preserved
 members-preserved c =
     let r = rest_is (goal.at.members-preserved c).After-difference-rest in
-    let first = members-without c.members.rest.bits c.difference-rest.result.bits c.lowest-v.result c.lowest-v.ensures.in_range c.lowest-v.ensures.member c.lowest-v.ensures.least r in
+    let first = members-without c.members.rest.bits c.difference-rest.result.bits c.lowest-v.result c.lowest-v.ensures.in_range c.lowest-v.ensures.member
+    c.lowest-v.ensures.least r in
     let f = assignment c.args.names.now c.args.counts.now (λ v. slice_index c.args.cell.now v) in
     record {
       text = subst (λ t. IsWriting f c.args.out.now.items t c.args.set.bits c.difference-rest.result.bits)
           (sym (c.in_ok-extend_from_slice.ensures.items ∙ ap (λ t. c.push_assignment.new.out.items ++ t) c.separator.ensures
           ∙ ap (λ t. t ++ comma_before (members_below (has c.difference-rest.result.bits) 64)) c.in_ok-push_assignment.ensures))
-          (writing_more f c.args.out.now.items c.members.out.items c.args.set.bits c.members.rest.bits c.difference-rest.result.bits c.lowest-v.result first c.members.invariant.text);
+          (writing_more f c.args.out.now.items c.members.out.items c.args.set.bits c.members.rest.bits c.difference-rest.result.bits c.lowest-v.result first
+          c.members.invariant.text);
       named = λ v i. c.members.invariant.named v (let e = r v in grind arith);
       entries = λ v i. c.members.invariant.entries v (let e = r v in grind arith);
       bits = omega arith;
     }
 
 pub returns : goal.returns
-returns c = writing_done (assignment c.args.names.now c.args.counts.now (λ v. slice_index c.args.cell.now v)) c.args.out.now.items c.members.out.items c.args.set.bits c.members.rest.bits
+returns c = writing_done (assignment c.args.names.now c.args.counts.now (λ v. slice_index c.args.cell.now v))
+    c.args.out.now.items c.members.out.items c.args.set.bits c.members.rest.bits
     (members-empty c.members.rest.bits (c.is_empty.ensures.none.0 (search rules))) c.members.invariant.text

@@ -22,7 +22,8 @@ value_at-returns-in-Prob g t c =
 
 pub value_at-returns-in-Sum : goal.value_at-returns-in-Sum
 value_at-returns-in-Sum g t c =
-    let k = g.Q.Quantity.kind in let w = weights_in c.args.scope.now.n (g.L.Lookup.counts c.args.scope.now.lookup.now) in let ds = map view c.args.scope.now.defs.now in
+    let k = g.Q.Quantity.kind in let w = weights_in c.args.scope.now.n (g.L.Lookup.counts c.args.scope.now.lookup.now) in let ds =
+    map view c.args.scope.now.defs.now in
     let e = ap view c.in-Sum.is ∙ Variants.view-Sum c.in-Sum.over c.in-Sum.body in
     c.whole.ensures ∙ ap (λ x. after (seen_more g.Q.Quantity.numbers c.cells_from-total.result) (whole x)) c.from_ratio.ensures
     ∙ ap (λ x. after x (whole (k.from_ratio 0 1)))
@@ -32,14 +33,18 @@ value_at-returns-in-Sum g t c =
 
 pub value_at-returns-in_ok-b-in-Quotient : goal.value_at-returns-in_ok-b-in-Quotient
 value_at-returns-in_ok-b-in-Quotient g t c =
-    let k = g.Q.Quantity.kind in let w = weights_in c.args.scope.now.n (g.L.Lookup.counts c.args.scope.now.lookup.now) in let ds = map view c.args.scope.now.defs.now in
+    let k = g.Q.Quantity.kind in let w = weights_in c.args.scope.now.n (g.L.Lookup.counts c.args.scope.now.lookup.now) in let ds =
+    map view c.args.scope.now.defs.now in
     let numbers = g.Q.Quantity.numbers in let at = c.args.at in
     let x = c.in-Quotient.top in let y = c.in-Quotient.bottom in let first = c.next_node-first.result in let second = c.node_behind-second.result in
     c.outcome.ensures ∙ ap (placed at.def at.node (cell_of at.cell)) c.div.ensures
-    ∙ CellSteps.quotient_is k w ds at (view x.value) (view y.value) (numbers c.in_ok-a-in-Quotient.a) (numbers c.in_ok-b-in-Quotient.b) first second c.next_node-first.ensures
+    ∙ CellSteps.quotient_is k w ds at (view x.value) (view y.value) (numbers c.in_ok-a-in-Quotient.a) (numbers c.in_ok-b-in-Quotient.b)
+    first second c.next_node-first.ensures
     (c.node_behind-second.ensures ∙ ap (λ z. node_behind (view z) first) c.deref-in-Quotient-2.ensures)
-    (ap (seen numbers) (sym c.in_ok-a-in-Quotient.was) ∙ c.value_at.ensures ∙ ap (λ z. value_at k w ds (record at { node = first }) (view z)) c.deref-in-Quotient.ensures)
-    (ap (seen numbers) (sym c.in_ok-b-in-Quotient.was) ∙ c.value_at-in-Quotient.ensures ∙ ap (λ z. value_at k w ds (record at { node = second }) (view z)) c.deref-in-Quotient-3.ensures)
+    (ap (seen numbers) (sym c.in_ok-a-in-Quotient.was) ∙ c.value_at.ensures
+    ∙ ap (λ z. value_at k w ds (record at { node = first }) (view z)) c.deref-in-Quotient.ensures)
+    (ap (seen numbers) (sym c.in_ok-b-in-Quotient.was) ∙ c.value_at-in-Quotient.ensures
+    ∙ ap (λ z. value_at k w ds (record at { node = second }) (view z)) c.deref-in-Quotient-3.ensures)
     ∙ ap (value_at k w ds at) (sym (ap view c.in-Quotient.is ∙ Variants.view-Quotient x y))
 
 pub value_at-value_at-requires-in-Named : goal.value_at-value_at-requires-in-Named
@@ -81,22 +86,26 @@ pub cells_from-returns-then-not-has : goal.cells_from-returns-then-not-has
 cells_from-returns-then-not-has g t c =
     let w = weights_in c.args.scope.now.n (g.L.Lookup.counts c.args.scope.now.lookup.now) in
     c.cells_from.ensures
-    ∙ CellSteps.skip g.Q.Quantity.kind w (map view c.args.scope.now.defs.now) c.args.sum (view c.args.body.now) c.args.v c.args.cell (omega (arith, c.from.ensures, c.if-from-scope.false))
+    ∙ CellSteps.skip g.Q.Quantity.kind w (map view c.args.scope.now.defs.now) c.args.sum (view c.args.body.now) c.args.v c.args.cell
+    (omega (arith, c.from.ensures, c.if-from-scope.false))
     (sym c.has.ensures ∙ c.if-not-has.true) (seen_so_far g.Q.Quantity.numbers c.args.so_far)
 
 pub cells_from-returns-in-Err : goal.cells_from-returns-in-Err
 cells_from-returns-in-Err g t c =
     let w = weights_in c.args.scope.now.n (g.L.Lookup.counts c.args.scope.now.lookup.now) in let numbers = g.Q.Quantity.numbers in
     let low : c.args.v < c.args.scope.now.n = omega (arith, c.from.ensures, c.if-from-scope.false) in
-    CellSteps.loop_err g.Q.Quantity.kind w (map view c.args.scope.now.defs.now) c.args.sum (view c.args.body.now) c.args.v c.args.cell low (omega (arith, low, c.requires.scope.few))
-    (sym c.has.ensures ∙ c.if-not-has.false) (seen_so_far numbers c.args.so_far) (seen_so_far numbers c.loop-x.total) c.loop-x.x (seen_more numbers c.cells_from-in-loop-x.result) (stop_of c.in-Err.failure)
+    CellSteps.loop_err g.Q.Quantity.kind w (map view c.args.scope.now.defs.now) c.args.sum (view c.args.body.now) c.args.v c.args.cell low
+    (omega (arith, low, c.requires.scope.few))
+    (sym c.has.ensures ∙ c.if-not-has.false) (seen_so_far numbers c.args.so_far) (seen_so_far numbers c.loop-x.total) c.loop-x.x
+    (seen_more numbers c.cells_from-in-loop-x.result) (stop_of c.in-Err.failure)
     (omega (arith, c.levels-x-end.ensures, c.loop-x-test.true)) c.loop-x.invariant c.cells_from-in-loop-x.ensures (ap (seen_more numbers) (sym c.in-Err.is))
 
 pub cells_from-loop-x-preserved : goal.cells_from-loop-x-preserved
 cells_from-loop-x-preserved g t c =
     let w = weights_in c.args.scope.now.n (g.L.Lookup.counts c.args.scope.now.lookup.now) in let numbers = g.Q.Quantity.numbers in
     CellSteps.one_level (CellSteps.level_at g.Q.Quantity.kind w (map view c.args.scope.now.defs.now) c.args.sum (view c.args.body.now) c.args.v c.args.cell)
-    (seen_so_far numbers c.args.so_far) (seen_so_far numbers c.loop-x.total) c.loop-x.x (seen_more numbers c.cells_from-in-loop-x.result) c.loop-x.invariant c.cells_from-in-loop-x.ensures
+    (seen_so_far numbers c.args.so_far) (seen_so_far numbers c.loop-x.total) c.loop-x.x (seen_more numbers c.cells_from-in-loop-x.result)
+    c.loop-x.invariant c.cells_from-in-loop-x.ensures
     ∙ ap (seen_more numbers) c.in-Ok.is
 
 pub cells_from-returns : goal.cells_from-returns
@@ -105,7 +114,8 @@ cells_from-returns g t c =
     let ds = map view c.args.scope.now.defs.now in let e = view c.args.body.now in let o = seen_so_far numbers c.args.so_far in
     let low : c.args.v < c.args.scope.now.n = omega (arith, c.from.ensures, c.if-from-scope.false) in
     let end : w.size c.args.v ≡ c.loop-x.x = omega (arith, c.levels-x-end.ensures, c.loop-x-test.false, c.loop-x.auto.x-end) in
-    CellSteps.loop_done g.Q.Quantity.kind w ds c.args.sum e c.args.v c.args.cell low (omega (arith, low, c.requires.scope.few)) (sym c.has.ensures ∙ c.if-not-has.false) o (seen_so_far numbers c.loop-x.total)
+    CellSteps.loop_done g.Q.Quantity.kind w ds c.args.sum e c.args.v c.args.cell low (omega (arith, low, c.requires.scope.few))
+    (sym c.has.ensures ∙ c.if-not-has.false) o (seen_so_far numbers c.loop-x.total)
     (ap (λ n. each_level n (CellSteps.level_at g.Q.Quantity.kind w ds c.args.sum e c.args.v c.args.cell) o) end ∙ c.loop-x.invariant)
 
 pub factors_from-value_at-requires : goal.factors_from-value_at-requires
@@ -115,7 +125,9 @@ factors_from-value_at-requires g t c κs within =
     let split = views_more items i c.factor-item.result c.loop-factor-test.true c.factor-item.is in
     let below : IsBelow limit e = (subst (AreBelow limit) split c.loop-factor.invariant.below).0 in
     let asked : IsUsed used e = (subst (AreUsed used) split c.loop-factor.invariant.asked).0 in
-    let parts : Measures.nodes_count (views (drop i items)) ≡ Measures.node_count e + Measures.nodes_count (views (drop (i + 1) items)) = ap Measures.nodes_count split in
-    let same : Measures.nodes_count (views items) ≡ Measures.nodes_count (views c.args.factors.now.items) = ap (λ es. Measures.nodes_count (views es)) c.deref-factor-items.ensures.value in
+    let parts : Measures.nodes_count (views (drop i items)) ≡ Measures.node_count e + Measures.nodes_count (views (drop (i + 1) items)) =
+    ap Measures.nodes_count split in
+    let same : Measures.nodes_count (views items) ≡ Measures.nodes_count (views c.args.factors.now.items) =
+    ap (λ es. Measures.nodes_count (views es)) c.deref-factor-items.ensures.value in
     let fewer : Measures.node_count e ≤ Measures.nodes_count (views c.args.factors.now.items) = omega (arith, parts, same, c.loop-factor.invariant.fewer) in
     search (rules, below, asked, fewer)

@@ -31,7 +31,8 @@ abbrev pub invariant-cells_from-loop-x : goal.invariant-cells_from-loop-x
 invariant-cells_from-loop-x g l =
     let w = weights_in l.scope.n (g.L.Lookup.counts l.scope.lookup.now) in
     let numbers = g.Q.Quantity.numbers in
-    each_level l.x (λ x. cells_from g.Q.Quantity.kind w (map view l.scope.defs.now) l.sum (view l.body) (l.v + 1) (set l.cell l.v x)) (seen_so_far numbers l.fn.so_far) ≡ Ok (seen_so_far numbers l.total)
+    each_level l.x (λ x. cells_from g.Q.Quantity.kind w (map view l.scope.defs.now) l.sum (view l.body) (l.v + 1) (set l.cell l.v x))
+    (seen_so_far numbers l.fn.so_far) ≡ Ok (seen_so_far numbers l.total)
 
 -- so many factors are multiplied, and the others are left
 pub record IsSoFar (k : Kind) (w : Weights) (ds : List Tree) (at : Spot) (used : ℕ → Bool) (next : ℕ) (so_far : Option Pair) (rest all : Trees) : Type 0 where
@@ -43,4 +44,5 @@ pub record IsSoFar (k : Kind) (w : Weights) (ds : List Tree) (at : Spot) (used :
 abbrev pub invariant-factors_from-loop-factor : goal.invariant-factors_from-loop-factor
 invariant-factors_from-loop-factor g l =
     let t = g.L.Lookup.counts l.scope.lookup.now in
-    IsSoFar g.Q.Quantity.kind (weights_in l.scope.n t) (map view l.scope.defs.now) l.at (is_used t) l.next (seen_so_far g.Q.Quantity.numbers l.so_far) (views (drop l.factor-index l.factor-items)) (views l.factor-items)
+    IsSoFar g.Q.Quantity.kind (weights_in l.scope.n t) (map view l.scope.defs.now) l.at (is_used t) l.next (seen_so_far g.Q.Quantity.numbers l.so_far)
+    (views (drop l.factor-index l.factor-items)) (views l.factor-items)

@@ -15,7 +15,8 @@ loop-v-preserved c =
       | then-has w ↦
           let member : has c.args.used.bits v ≡ true = sym c.has.ensures ∙ w.if-has.true in
           subst (λ (l : List ℕ). IsWithin c.args.used.bits c.args.cell l (v + 1)) (sym w.within-is)
-          (within_more c.args.used.bits c.args.cell within v (let long = c.loop-v.invariant.long in let end = c.loop-v-test.true in omega (arith, long, end)) c.loop-v.invariant member)
+          (within_more c.args.used.bits c.args.cell within v (let long = c.loop-v.invariant.long in let end = c.loop-v-test.true in omega (arith, long, end))
+          c.loop-v.invariant member)
       | else-has w ↦
           let outside : has c.args.used.bits v ≡ false = sym c.has.ensures ∙ w.if-has.false in
           subst (λ (l : List ℕ). IsWithin c.args.used.bits c.args.cell l (v + 1)) (sym w.within-is)

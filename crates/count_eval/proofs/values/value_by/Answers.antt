@@ -16,7 +16,8 @@ value_at-requires-clause-scope g c =
       table = c.requires.table;
       ordered = subst (λ (ds : List Expr). AreOrdered 0 (map view ds)) e (accepted_ordered c.args.n (formula_view c.args.f.now) ok.accepted);
       used = subst (λ (ds : List Expr). AllUsed (is_used t) (map view ds)) e ok.defs;
-      held = subst (λ (ds : List Expr). AreValues g.Q.Quantity.kind (weights_in c.args.n t) (map view ds) (g.L.Lookup.holds c.args.lookup.now)) e c.requires.held;
+      held = subst (λ (ds : List Expr). AreValues g.Q.Quantity.kind (weights_in c.args.n t) (map view ds) (g.L.Lookup.holds c.args.lookup.now))
+          e c.requires.held;
     }
 
 pub value_at-requires-clause-limit : goal.value_at-requires-clause-limit
@@ -25,17 +26,20 @@ value_at-requires-clause-limit g c = let long = length-map c.deref.result.now vi
 pub value_at-requires-clause-below : goal.value_at-requires-clause-below
 value_at-requires-clause-below g c =
     let f = c.args.f.now in
-    subst (λ (ds : List Expr). IsBelow (length (map view ds)) (view f.main)) (sym c.deref.ensures.value) (accepted_below c.args.n (formula_view f) c.requires.formula.accepted)
+    subst (λ (ds : List Expr). IsBelow (length (map view ds)) (view f.main)) (sym c.deref.ensures.value)
+    (accepted_below c.args.n (formula_view f) c.requires.formula.accepted)
 
 pub returns-in-Ok-clause-counts : goal.returns-in-Ok-clause-counts
 returns-in-Ok-clause-counts g c =
-    let k = g.Q.Quantity.kind in let t = g.L.Lookup.counts c.args.lookup.now in let f = c.args.f.now in let s = cell_of c.args.at.now in let p = g.Q.Quantity.numbers c.in-Ok.q in
+    let k = g.Q.Quantity.kind in let t = g.L.Lookup.counts c.args.lookup.now in let f = c.args.f.now in let s = cell_of c.args.at.now in let p =
+    g.Q.Quantity.numbers c.in-Ok.q in
     covers_counts k g.Q.Quantity.covers g.met.Q.Quantity.lawful c.args.n t (formula_view f) s p
     (main_value k (weights_in c.args.n t) f c.deref.result.now c.array_of.result s (Ok p) c.deref.ensures.value c.array_of.ensures c.in-Ok.ensures)
 
 pub returns-in-Ok-clause-matches : goal.returns-in-Ok-clause-matches
 returns-in-Ok-clause-matches g c =
-    let k = g.Q.Quantity.kind in let t = g.L.Lookup.counts c.args.lookup.now in let f = c.args.f.now in let s = cell_of c.args.at.now in let p = g.Q.Quantity.numbers c.in-Ok.q in
+    let k = g.Q.Quantity.kind in let t = g.L.Lookup.counts c.args.lookup.now in let f = c.args.f.now in let s = cell_of c.args.at.now in let p =
+    g.Q.Quantity.numbers c.in-Ok.q in
     covers_matches k g.Q.Quantity.covers g.met.Q.Quantity.lawful c.args.n t (formula_view f) s p c.requires.formula
     (main_value k (weights_in c.args.n t) f c.deref.result.now c.array_of.result s (Ok p) c.deref.ensures.value c.array_of.ensures c.in-Ok.ensures)
 
@@ -43,14 +47,16 @@ pub returns-in-Err-clause-value : goal.returns-in-Err-clause-value
 returns-in-Err-clause-value g c =
     let t = g.L.Lookup.counts c.args.lookup.now in let stop = stop_of c.in-Err.failure in (
       stop,
-      main_value g.Q.Quantity.kind (weights_in c.args.n t) c.args.f.now c.deref.result.now c.array_of.result (cell_of c.args.at.now) (Err stop) c.deref.ensures.value c.array_of.ensures c.in-Err.ensures,
+      main_value g.Q.Quantity.kind (weights_in c.args.n t) c.args.f.now c.deref.result.now c.array_of.result (cell_of c.args.at.now) (Err stop)
+          c.deref.ensures.value c.array_of.ensures c.in-Err.ensures,
       fault_over t c.args.used.bits c.fault_of.result stop c.requires.table c.requires.used c.fault_of.ensures,
     )
 
 pub returns-in-Err-clause-support : goal.returns-in-Err-clause-support
 returns-in-Err-clause-support g c =
     let t = g.L.Lookup.counts c.args.lookup.now in let (stop, e, fault) = returns-in-Err-clause-value g c in
-    denies_matches g.Q.Quantity.kind g.Q.Quantity.covers g.met.Q.Quantity.lawful c.args.n t (formula_view c.args.f.now) (cell_of c.args.at.now) c.fault_of.result stop c.requires.formula e fault
+    denies_matches g.Q.Quantity.kind g.Q.Quantity.covers g.met.Q.Quantity.lawful c.args.n t (formula_view c.args.f.now) (cell_of c.args.at.now)
+    c.fault_of.result stop c.requires.formula e fault
 
 pub returns-in-Err-clause-memory : goal.returns-in-Err-clause-memory
 returns-in-Err-clause-memory g c =

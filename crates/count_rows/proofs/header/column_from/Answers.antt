@@ -8,13 +8,15 @@ pub loop-at-preserved : goal.loop-at-preserved
 loop-at-preserved c =
     let xs = fields_of c.args.header.now in
     let differs : bytes_eq c.args.name.now c.field.result.now ≡ false = sym c.eq.ensures ∙ c.if-eq.false in
-    c.loop-at.invariant ∙ not_at (bytes_eq c.args.name.now) xs c.loop-at.at (omega (arith, c.len-at-end.ensures, c.loop-at-test.true)) (ap (λ (f : List ℕ). bytes_eq c.args.name.now f) (sym c.field.ensures) ∙ differs)
+    c.loop-at.invariant ∙ not_at (bytes_eq c.args.name.now) xs c.loop-at.at (omega (arith, c.len-at-end.ensures, c.loop-at-test.true))
+    (ap (λ (f : List ℕ). bytes_eq c.args.name.now f) (sym c.field.ensures) ∙ differs)
 
 pub returns-then-eq-clause-place : goal.returns-then-eq-clause-place
 returns-then-eq-clause-place c =
     let xs = fields_of c.args.header.now in
     let same : bytes_eq c.args.name.now c.field.result.now ≡ true = sym c.eq.ensures ∙ c.if-eq.true in
-    let here = found_at (bytes_eq c.args.name.now) xs c.loop-at.at (omega (arith, c.len-at-end.ensures, c.loop-at-test.true)) (ap (λ (f : List ℕ). bytes_eq c.args.name.now f) (sym c.field.ensures) ∙ same) in
+    let here = found_at (bytes_eq c.args.name.now) xs c.loop-at.at (omega (arith, c.len-at-end.ensures, c.loop-at-test.true))
+    (ap (λ (f : List ℕ). bytes_eq c.args.name.now f) (sym c.field.ensures) ∙ same) in
     omega (arith, here, c.loop-at.invariant)
 
 pub returns-clause-place : goal.returns-clause-place

@@ -22,11 +22,13 @@ loop-v-preserved c =
           ∙ ap (λ k. map (index_of header) (map (name_of names) (take c.loop-v.v-index vertices)) ++ k ∷ []) c.in-Ok.ensures.place
           ∙ sym (map-append (index_of header) (map (name_of names) (take c.loop-v.v-index vertices)) (c.get.result.now ∷ []))
           ∙ ap (map (index_of header)) (sym more);
-      fit = ap (header_fault header) more ∙ header_fault-last header (map (name_of names) (take c.loop-v.v-index vertices)) c.get.result.now c.loop-v.invariant.fit ∙ c.in-Ok.ensures.fit;
+      fit = ap (header_fault header) more ∙ header_fault-last header (map (name_of names) (take c.loop-v.v-index vertices))
+          c.get.result.now c.loop-v.invariant.fit ∙ c.in-Ok.ensures.fit;
     }
 
 pub returns-in-Err-clause-fault : goal.returns-in-Err-clause-fault
 returns-in-Err-clause-fault c n =
     let header = fields_of c.args.header.now in let names = c.args.names.now in let vertices = c.args.vertices.now in
     ap (header_fault header) (names-split names vertices c.loop-v.v-index c.get.result.now (omega arith) c.get.ensures.name)
-    ∙ header_fault-first header (map (name_of names) (take c.loop-v.v-index vertices)) _ c.get.result.now c.in-Err.fault c.loop-v.invariant.fit (c.in-Err.ensures.fault n)
+    ∙ header_fault-first header (map (name_of names) (take c.loop-v.v-index vertices)) _ c.get.result.now c.in-Err.fault c.loop-v.invariant.fit
+    (c.in-Err.ensures.fault n)

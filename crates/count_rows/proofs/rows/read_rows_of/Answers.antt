@@ -13,14 +13,16 @@ use Rattle.count_rows.proofs.rows.read_rows_of.Goals as goal
 pub returns-in-End-clause-fault : goal.returns-in-End-clause-fault
 unfolding GivesNext
 returns-in-End-clause-fault c n =
-    no_header (records_of c.args.text.now) c.args.names.now c.args.vertices.now c.get.result.now (option_map {T = Bor (List ℕ)} {U = List ℕ} (λ s. s.now) c.args.count_column)
+    no_header (records_of c.args.text.now) c.args.names.now c.args.vertices.now c.get.result.now
+    (option_map {T = Bor (List ℕ)} {U = List ℕ} (λ s. s.now) c.args.count_column)
     (c.in-End.ensures c.args.text.now [] c.open-reader.ensures) c.requires.some c.get.ensures.name ∙ c.no_column.ensures n
 
 pub returns-in-Err-clause-fault : goal.returns-in-Err-clause-fault
 unfolding GivesNext
 returns-in-Err-clause-fault c n =
     let (read, width) = c.in-Record.ensures c.args.text.now [] c.open-reader.ensures in
-    bad_header (records_of c.args.text.now) (fields_of c.read.new.into) (map (name_of c.args.names.now) c.args.vertices.now) (option_map {T = Bor (List ℕ)} {U = List ℕ} (λ s. s.now) c.args.count_column) c.in-Err.fault
+    bad_header (records_of c.args.text.now) (fields_of c.read.new.into) (map (name_of c.args.names.now) c.args.vertices.now)
+    (option_map {T = Bor (List ℕ)} {U = List ℕ} (λ s. s.now) c.args.count_column) c.in-Err.fault
     (header_first c.args.text.now (fields_of c.read.new.into) c.read.new.reader read) (c.in-Err.ensures.fault n)
 
 pub returns : goal.returns
@@ -30,11 +32,14 @@ returns c =
     let at = header_first c.args.text.now (fields_of c.read.new.into) c.read.new.reader read in
     let used = map (name_of c.args.names.now) c.args.vertices.now in
     let count = option_map {T = Bor (List ℕ)} {U = List ℕ} (λ s. s.now) c.args.count_column in
-    let layout : layout_from c.in-Ok.columns ≡ layout_of (header_of (records_of c.args.text.now)) used count = c.in-Ok.ensures.layout ∙ ap (λ (h : Record). layout_of h used count) (sym at) in
-    let good = good_header (records_of c.args.text.now) (fields_of c.read.new.into) used count (layout_from c.in-Ok.columns) at c.in-Ok.ensures.fit c.in-Ok.ensures.layout in
+    let layout : layout_from c.in-Ok.columns ≡ layout_of (header_of (records_of c.args.text.now)) used count = c.in-Ok.ensures.layout
+    ∙ ap (λ (h : Record). layout_of h used count) (sym at) in
+    let good = good_header (records_of c.args.text.now) (fields_of c.read.new.into) used count
+    (layout_from c.in-Ok.columns) at c.in-Ok.ensures.fit c.in-Ok.ensures.layout in
     let rows = c.read_rows_under.ensures c.args.text.now (fields_of c.read.new.into) read in
     record {
-      rows = ok_both c.read_rows_under.result _ _ (λ (t : Tally) h. subst (λ (l : Layout). HoldsRecords l (rows_of (records_of c.args.text.now)) t) layout h.0) (when_ok c.read_rows_under.result _ _ rows);
+      rows = ok_both c.read_rows_under.result _ _ (λ (t : Tally) h. subst (λ (l : Layout). HoldsRecords l (rows_of (records_of c.args.text.now)) t)
+          layout h.0) (when_ok c.read_rows_under.result _ _ rows);
       fit = ok_both c.read_rows_under.result _ _ (λ (t : Tally) h. good ∙ h.1) (when_ok c.read_rows_under.result _ _ rows);
       fault = err_both c.read_rows_under.result _ _ (λ (f : CountFault) h. λ n. good ∙ h n) (when_err c.read_rows_under.result _ _ rows);
     }

@@ -14,14 +14,22 @@ loop-number-init c =
     let levels : c.in-Ok.tally.levels.items ≡ replicate (length c.args.columns.now.places.items) [] = c.in-Ok.ensures.levels ∙ ap (λ k. replicate k []) n in
     record {
       width = ap (λ (l : List (List (List ℕ))). length l) levels ∙ length-replicate (length c.args.columns.now.places.items) [];
-      so_far = λ text header h. ([], h, holds-nil (layout_from c.args.columns.now) c.in-Ok.tally levels c.in-Ok.ensures.cells c.in-Ok.ensures.counts c.in-Ok.ensures.sum, rows_fault-nil (length header) (layout_from c.args.columns.now), refl);
+      so_far = λ text header h. (
+        [],
+        h,
+        holds-nil (layout_from c.args.columns.now)
+            c.in-Ok.tally levels c.in-Ok.ensures.cells c.in-Ok.ensures.counts c.in-Ok.ensures.sum,
+        rows_fault-nil (length header) (layout_from c.args.columns.now),
+        refl,
+      );
     }
 
 pub returns-in-End : goal.returns-in-End
 unfolding GivesNext
 returns-in-End c text header h =
     let (rows, at, held, fine, number) = c.loop-number.invariant.so_far text header h in
-    ended text header rows (layout_from c.args.columns.now) c.loop-number.tally c.finished.result (c.in-End.ensures text (header ∷ rows) at) fine held c.finished.ensures.ok c.finished.ensures.empty
+    ended text header rows (layout_from c.args.columns.now) c.loop-number.tally c.finished.result (c.in-End.ensures text (header ∷ rows) at)
+    fine held c.finished.ensures.ok c.finished.ensures.empty
 
 pub returns-in-OtherLength : goal.returns-in-OtherLength
 unfolding GivesNext
@@ -35,7 +43,8 @@ unfolding GivesNext
 returns-in-Err c text header h n =
     let (rows, at, held, fine, number) = c.loop-number.invariant.so_far text header h in
     let (read, long) = c.in-Record.ensures text (header ∷ rows) at in
-    row_refused text header rows (fields_of c.read.new.into) c.read.new.reader (layout_from c.args.columns.now) c.in-Err.fault read long fine (c.in-Err.ensures.row rows held number n)
+    row_refused text header rows (fields_of c.read.new.into) c.read.new.reader (layout_from c.args.columns.now) c.in-Err.fault read long fine
+    (c.in-Err.ensures.row rows held number n)
 
 pub loop-number-preserved : goal.loop-number-preserved
 unfolding GivesNext
@@ -50,7 +59,8 @@ loop-number-preserved c = record {
         rows ++ r ∷ [],
         read,
         more,
-        rows_fault-last (length header) (layout_from c.args.columns.now) rows r fine ∙ ap (λ w. row_fault w (layout_from c.args.columns.now) rows r) (sym long) ∙ fit,
+        rows_fault-last (length header) (layout_from c.args.columns.now) rows r fine
+            ∙ ap (λ w. row_fault w (layout_from c.args.columns.now) rows r) (sym long) ∙ fit,
         n,
       );
 }

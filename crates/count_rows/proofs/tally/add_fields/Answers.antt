@@ -12,11 +12,15 @@ loop-i-preserved c =
     get_or_default c.loop-i.levels c.loop-i.i c.index-levels-i.result [] (omega arith) ∙ c.loop-i.invariant.behind c.loop-i.i (omega arith) in
     let f = λ (k : ℕ). field_in (get_or c.args.places.now k 0) (fields_of c.args.row.now) in
     record {
-      before = λ k h. written_here c.loop-i.levels c.args.levels.now c.loop-i.i k c.add.new.self (λ j. with_name (get_or c.args.levels.now j []) (f j)) (omega arith)
-          (c.in_ok-number.ensures.added ∙ ap (λ (l : List (List ℕ)). with_name l c.field.result.now) level ∙ ap (λ (x : List ℕ). with_name (get_or c.args.levels.now c.loop-i.i []) x) c.field.ensures)
+      before = λ k h. written_here c.loop-i.levels c.args.levels.now c.loop-i.i k c.add.new.self (λ j. with_name (get_or c.args.levels.now j []) (f j))
+          (omega arith)
+          (c.in_ok-number.ensures.added ∙ ap (λ (l : List (List ℕ)). with_name l c.field.result.now) level
+          ∙ ap (λ (x : List ℕ). with_name (get_or c.args.levels.now c.loop-i.i []) x) c.field.ensures)
           c.loop-i.invariant.before h;
       behind = λ k h. get_or-set_other c.loop-i.levels c.loop-i.i k c.add.new.self [] (omega (arith, h)) ∙ c.loop-i.invariant.behind k (omega (arith, h));
-      cells = cells_more c.push.new.self.items c.args.cells.now.items c.loop-i.cells.items c.loop-i.i c.in_ok-number.number (λ j. index_of (get_or c.args.levels.now j []) (f j))
+      cells = cells_more c.push.new.self.items c.args.cells.now.items c.loop-i.cells.items c.loop-i.i c.in_ok-number.number
+          (λ j. index_of (get_or c.args.levels.now j []) (f j))
           c.in_ok-push.ensures.items c.loop-i.invariant.cells
-          (c.in_ok-number.ensures.number ∙ ap (λ (l : List (List ℕ)). index_of l c.field.result.now) level ∙ ap (λ (x : List ℕ). index_of (get_or c.args.levels.now c.loop-i.i []) x) c.field.ensures);
+          (c.in_ok-number.ensures.number ∙ ap (λ (l : List (List ℕ)). index_of l c.field.result.now) level
+          ∙ ap (λ (x : List ℕ). index_of (get_or c.args.levels.now c.loop-i.i []) x) c.field.ensures);
     }

@@ -18,7 +18,8 @@ levels c = item_length c.args.levels.now c.loop-i.i c.count.result c.index-level
 next : (c : After-count) → IsPlacedMore c.args.levels.now c.args.cell.now c.loop-i.i c.loop-i.place (place_of (sizes_of c.args.levels.now) c.args.cell.now)
 next c =
     let same = long c.args.levels.now c.args.cell.now (IsCell-length (sizes_of c.args.levels.now) c.args.cell.now c.requires.cell) in
-    place_more c.args.levels.now c.args.cell.now c.loop-i.i c.loop-i.place (place_of (sizes_of c.args.levels.now) c.args.cell.now) c.loop-i-test.true (omega (arith, same, c.loop-i-test.true)) c.loop-i.invariant
+    place_more c.args.levels.now c.args.cell.now c.loop-i.i c.loop-i.place (place_of (sizes_of c.args.levels.now) c.args.cell.now) c.loop-i-test.true
+    (omega (arith, same, c.loop-i-test.true)) c.loop-i.invariant
 
 room : (c : After-count) → c.loop-i.place * c.count.result + get_or c.args.cell.now c.loop-i.i 0 < 2 ^ 20
 room c =
@@ -37,10 +38,12 @@ pub loop-i-preserved : goal.loop-i-preserved
 loop-i-preserved c = rw (levels (goal.at.loop-i-preserved c).After-count) (next (goal.at.loop-i-preserved c).After-count).more
 
 pub returns-clause-place : goal.returns-clause-place
-returns-clause-place c = placed_end c.args.levels.now c.args.cell.now c.loop-i.i c.loop-i.place (place_of (sizes_of c.args.levels.now) c.args.cell.now) (omega (arith, c.loop-i-test.false)) c.loop-i.invariant
+returns-clause-place c = placed_end c.args.levels.now c.args.cell.now c.loop-i.i c.loop-i.place (place_of (sizes_of c.args.levels.now) c.args.cell.now)
+    (omega (arith, c.loop-i-test.false)) c.loop-i.invariant
 
 pub returns-clause-within : goal.returns-clause-within
 returns-clause-within c =
-    let e = placed_end c.args.levels.now c.args.cell.now c.loop-i.i c.loop-i.place (place_of (sizes_of c.args.levels.now) c.args.cell.now) (omega (arith, c.loop-i-test.false)) c.loop-i.invariant in
+    let e = placed_end c.args.levels.now c.args.cell.now c.loop-i.i c.loop-i.place (place_of (sizes_of c.args.levels.now) c.args.cell.now)
+    (omega (arith, c.loop-i-test.false)) c.loop-i.invariant in
     let small = place_of-lt (sizes_of c.args.levels.now) c.args.cell.now c.requires.cell in
     omega (arith, e, small)

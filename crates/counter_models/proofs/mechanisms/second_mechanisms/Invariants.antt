@@ -6,5 +6,6 @@ use Rattle.counter_models.proofs.mechanisms.second_mechanisms.Given as goal
 abbrev pub invariant-loop-v : goal.invariant-loop-v
 invariant-loop-v l = record {
   count : length l.mechanisms.items ≡ l.v;
-  each : (u : ℕ) → u < l.v → (past : Mechanism) → IsMechanismOf l.h l.carried.kept.bits l.carried.carry.next (in_second l.h u) u (get_or l.mechanisms.items u past);
+  each : (u : ℕ) → u < l.v → (past : Mechanism) → IsMechanismOf l.h l.carried.kept.bits l.carried.carry.next (in_second l.h u) u
+      (get_or l.mechanisms.items u past);
 }

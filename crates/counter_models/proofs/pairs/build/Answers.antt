@@ -18,4 +18,5 @@ pub second_mechanisms-requires-clause-low : goal.second_mechanisms-requires-clau
 second_mechanisms-requires-clause-low c = low_links (graph_of c.args.g.now) c.args.x.bits c.args.y.bits c.args.h.now c.args.g.now.small c.requires.holds
 
 pub overflow_add-result : goal.overflow_add-result
-overflow_add-result c = let s = length-members-le (has c.args.h.now.small.bits) 64 in let k = length-members-le (has c.carry_toward-carried.result.kept.bits) 64 in omega arith
+overflow_add-result c = let s = length-members-le (has c.args.h.now.small.bits) 64 in let k =
+    length-members-le (has c.carry_toward-carried.result.kept.bits) 64 in omega arith

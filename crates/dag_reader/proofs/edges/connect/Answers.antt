@@ -9,7 +9,8 @@ use Rattle.dag_reader.proofs.edges.connect.Goals as goal
 pub members-preserved : goal.members-preserved
 members-preserved c = record {
   whole = λ a b.
-      rest_joined _ _ _ _ _ _ (row_joined c.members.rows c.lowest-v.result c.union.result.bits (has c.args.to.bits) (omega arith) (rw c.row.ensures at c.union.ensures.members) a b)
+      rest_joined _ _ _ _ _ _ (row_joined c.members.rows c.lowest-v.result c.union.result.bits (has c.args.to.bits) (omega arith)
+      (rw c.row.ensures at c.union.ensures.members) a b)
       (c.difference-rest.ensures.members a ∙ ap (λ t. has c.members.rest.bits a && not t) (c.one.ensures.members a))
       (member_at c.members.rest.bits c.lowest-v.result a c.lowest-v.ensures.member) ∙ c.members.invariant.whole a b;
   fits = omega arith;

@@ -10,7 +10,9 @@ loop-a-init c = rows_begin c.new-out.result.items (λ a. map (λ b. (a, b)) (mem
 
 pub loop-a-preserved : goal.loop-a-preserved
 loop-a-preserved c =
-    rows_more c.loop-a.out.items c.push_row.new.out.items (λ a. map (λ b. (a, b)) (members_below (row_has c.args.rows.now a) c.args.n)) c.loop-a.a c.loop-a.invariant
+    rows_more c.loop-a.out.items c.push_row.new.out.items (λ a. map (λ b. (a, b)) (members_below (row_has c.args.rows.now a) c.args.n))
+    c.loop-a.a c.loop-a.invariant
     (c.in_ok-push_row.ensures ∙ ap (λ l. c.loop-a.out.items ++ map (λ b. (c.loop-a.a, b)) l)
     (members-cut (row_has c.args.rows.now c.loop-a.a) (has c.intersection.result.bits) c.args.n 64 c.requires
-    (λ v. c.intersection.ensures.members v ∙ ap (λ m. has m v && has c.below-below.result.bits v) c.row-row.ensures ∙ ap (λ t. row_has c.args.rows.now c.loop-a.a v && t) (c.below-below.ensures.members v))))
+    (λ v. c.intersection.ensures.members v ∙ ap (λ m. has m v && has c.below-below.result.bits v) c.row-row.ensures
+    ∙ ap (λ t. row_has c.args.rows.now c.loop-a.a v && t) (c.below-below.ensures.members v))))

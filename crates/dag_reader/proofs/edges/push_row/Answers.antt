@@ -15,7 +15,8 @@ members_of_row-smaller c = rest_smaller c.members_of_row.rest.bits c.difference-
 pub members_of_row-preserved : goal.members_of_row-preserved
 members_of_row-preserved c = record {
   whole = pair_more c.members_of_row.out.items c.push.new.self.items _ c.args.a c.lowest-b.result _ _
-      (members-without c.members_of_row.rest.bits c.difference-rest.result.bits c.lowest-b.result c.lowest-b.ensures.in_range c.lowest-b.ensures.member c.lowest-b.ensures.least (rest_is c))
+      (members-without c.members_of_row.rest.bits c.difference-rest.result.bits c.lowest-b.result c.lowest-b.ensures.in_range c.lowest-b.ensures.member
+      c.lowest-b.ensures.least (rest_is c))
       c.in_ok-push.ensures.items c.members_of_row.invariant.whole;
   fits = omega arith;
 }

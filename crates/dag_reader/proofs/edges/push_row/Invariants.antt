@@ -5,7 +5,8 @@ use Rattle.dag_reader.proofs.edges.push_row.Given as goal
 -- the pairs of the members that are left complete the row
 abbrev pub invariant-members_of_row : goal.invariant-members_of_row
 invariant-members_of_row l = record {
-  whole : l.out.items ++ map (λ b. (l.a, b)) (members_below (has l.rest.bits) 64) ≡ l.initial.out.items ++ map (λ b. (l.a, b)) (members_below (has l.fn.row.bits) 64);
+  whole : l.out.items ++ map (λ b. (l.a, b)) (members_below (has l.rest.bits) 64) ≡ l.initial.out.items
+      ++ map (λ b. (l.a, b)) (members_below (has l.fn.row.bits) 64);
   fits : l.rest.bits < 2 ^ 64;
 }
 

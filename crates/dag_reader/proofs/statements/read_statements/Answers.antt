@@ -17,14 +17,16 @@ pub turns-preserved-in-Some : goal.turns-preserved-in-Some
 turns-preserved-in-Some c = record {
   size = c.next_link.ensures.size ∙ c.turns.invariant.size;
   all = λ r more. nothing_taken c.args.text.now _ _ _ _ _ _ (sym c.in-Some.ensures.not_due) refl c.turns.invariant.all r
-      (link_more _ _ _ _ _ _ _ _ _ r c.in-Some.ensures.place c.in-Some.ensures.link c.in_ok-link-in-Some.ensures (rw (c.next_link.ensures.due ∙ c.in-Some.ensures.not_due) at more));
+      (link_more _ _ _ _ _ _ _ _ _ r c.in-Some.ensures.place c.in-Some.ensures.link c.in_ok-link-in-Some.ensures
+      (rw (c.next_link.ensures.due ∙ c.in-Some.ensures.not_due) at more));
 }
 
 pub returns-in_err-after-in-None : goal.returns-in_err-after-in-None
 returns-in_err-after-in-None c =
     let p = err_from_is_err_and c.from_residual-in_err-after-in-None.result c.from_residual-in_err-after-in-None.ensures.1 in
     let size = c.next_link.ensures.size ∙ c.turns.invariant.size in
-    step_failed c.args.text.now _ _ (said_by c.step.new.self) _ _ c.in_err-after-in-None.field-0.0 c.from_residual-in_err-after-in-None.result c.in_err-after-in-None.ensures
+    step_failed c.args.text.now _ _ (said_by c.step.new.self) _ _ c.in_err-after-in-None.field-0.0 c.from_residual-in_err-after-in-None.result
+    c.in_err-after-in-None.ensures
     (λ v stops. nothing_taken c.args.text.now _ _ _ _ _ _ c.next_link.ensures.due c.in-None.ensures.none c.turns.invariant.all v
     (last_one _ _ _ _ _ _ _ _ v (rw size at c.next-at.ensures.place) c.next-at.ensures.token stops))
     (rw (p.1, p.2) refl)
@@ -39,7 +41,8 @@ turns-preserved c =
     record {
       size = c.next-at.ensures.size ∙ size;
       all = λ r more. nothing_taken c.args.text.now _ _ _ _ _ _ c.next_link.ensures.due c.in-None.ensures.none c.turns.invariant.all r
-          (one_more _ _ _ _ _ _ _ _ _ _ r (rw size at c.next-at.ensures.place) c.next-at.ensures.token (rw c.in-Some-2.is at c.in_ok-after-in-None.ensures) (rw c.next-at.ensures.due at more));
+          (one_more _ _ _ _ _ _ _ _ _ _ r (rw size at c.next-at.ensures.place) c.next-at.ensures.token (rw c.in-Some-2.is at c.in_ok-after-in-None.ensures)
+          (rw c.next-at.ensures.due at more));
     }
 
 pub returns-in-None-2 : goal.returns-in-None-2

@@ -1,4 +1,4 @@
-use Rattle.std.proofs.Common.{arith}
+use Rattle.std.proofs.Common.{arith, sym, ◌∙◌}
 use Rattle.dag_reader.proofs.Fronts.{bare_name_here, name_of_run}
 use Rattle.dag_reader.proofs.tokens.name_first.Goals as goal
 
@@ -10,4 +10,5 @@ invariant_of-result c = record {
 pub returns-clause-token : goal.returns-clause-token
 returns-clause-token c =
     bare_name_here c.args.bytes.now c.past_white.result.now c.split_run.result.0.now c.split_run.result.1.now
-    c.past_white.ensures.rest c.split_run.ensures.run c.split_run.ensures.rest c.in-len1-up.len_at_least c.if-byte-eq47.false c.if-byte-eq35.false
+    c.past_white.ensures.rest c.split_run.ensures.run c.split_run.ensures.rest c.in-len1-up.len_at_least
+    (sym c.begins_name.ensures ∙ c.if-not-begins_name.false)

@@ -20,23 +20,29 @@ push_vertices-requires-clause-roles c =
 pub push_edges-requires : goal.push_edges-requires
 push_edges-requires c =
     subst (λ (n : ℕ). All (λ (p : ℕ × ℕ). (p.0 < n) × (p.1 < n)) c.as_slice-2.result.now) (sym c.args.g.now.sized)
-    (subst (λ (l : List (ℕ × ℕ)). All (λ p. (p.0 < c.args.g.now.graph.n) × (p.1 < c.args.g.now.graph.n)) l) (sym (c.as_slice-2.ensures.value ∙ c.in_ok-arrows.ensures))
+    (subst (λ (l : List (ℕ × ℕ)). All (λ p. (p.0 < c.args.g.now.graph.n) × (p.1 < c.args.g.now.graph.n)) l)
+    (sym (c.as_slice-2.ensures.value ∙ c.in_ok-arrows.ensures))
     (pairs_below-ends c.args.g.now.graph.n (row_has c.args.g.now.graph.children)))
 
 pub push_edges-requires-2 : goal.push_edges-requires-2
 push_edges-requires-2 c =
     subst (λ (n : ℕ). All (λ (p : ℕ × ℕ). (p.0 < n) × (p.1 < n)) c.as_slice-3.result.now) (sym c.args.g.now.sized)
-    (subst (λ (l : List (ℕ × ℕ)). All (λ p. (p.0 < c.args.g.now.graph.n) × (p.1 < c.args.g.now.graph.n)) l) (sym (c.as_slice-3.ensures.value ∙ c.in_ok-doubles.ensures))
+    (subst (λ (l : List (ℕ × ℕ)). All (λ p. (p.0 < c.args.g.now.graph.n) × (p.1 < c.args.g.now.graph.n)) l)
+    (sym (c.as_slice-3.ensures.value ∙ c.in_ok-doubles.ensures))
     (pairs_below-ends c.args.g.now.graph.n (row_has c.above.result)))
 
 pub returns : goal.returns
 returns c =
-    text_whole c.extend_from_slice.new.self.items c.push_vertices.new.out.items c.push_edges.new.out.items c.push_edges-2.new.out.items c.extend_from_slice-2.new.self.items
-    (vertex_lines c.args.g.now.names c.as_slice.result.now) (edge_lines (codes " -> ") c.args.g.now.names c.as_slice-2.result.now) (edge_lines (codes " <-> ") c.args.g.now.names c.as_slice-3.result.now)
+    text_whole c.extend_from_slice.new.self.items c.push_vertices.new.out.items c.push_edges.new.out.items c.push_edges-2.new.out.items
+    c.extend_from_slice-2.new.self.items
+    (vertex_lines c.args.g.now.names c.as_slice.result.now) (edge_lines (codes " -> ") c.args.g.now.names c.as_slice-2.result.now)
+    (edge_lines (codes " <-> ") c.args.g.now.names c.as_slice-3.result.now)
     c.in_ok-push_vertices.ensures c.in_ok-push_edges.ensures c.in_ok-push_edges-2.ensures c.in_ok-extend_from_slice-2.ensures.items
-    ∙ parts c.extend_from_slice.new.self.items (codes "dag {" ++ 10 ∷ []) c.args.g.now.names c.as_slice.result.now (map (role_at c.args.g.now) (count_up c.args.g.now.graph.n))
+    ∙ parts c.extend_from_slice.new.self.items (codes "dag {" ++ 10 ∷ []) c.args.g.now.names c.as_slice.result.now
+    (map (role_at c.args.g.now) (count_up c.args.g.now.graph.n))
     c.as_slice-2.result.now (pairs_below c.args.g.now.graph.n (graph_of c.args.g.now.graph).arrow)
     c.as_slice-3.result.now (pairs_below c.args.g.now.graph.n (λ a b. (graph_of c.args.g.now.graph).both a b && nat_lt a b))
     (c.in_ok-extend_from_slice.ensures.items ∙ ap (λ l. l ++ (codes "dag {" ++ 10 ∷ [])) c.new-out.ensures.items)
     (c.as_slice.ensures.value ∙ c.in_ok-roles.ensures) (c.as_slice-2.ensures.value ∙ c.in_ok-arrows.ensures)
-    (c.as_slice-3.ensures.value ∙ c.in_ok-doubles.ensures ∙ pairs_below-agree c.args.g.now.graph.n (row_has c.above.result) (λ a b. (graph_of c.args.g.now.graph).both a b && nat_lt a b) c.above.ensures)
+    (c.as_slice-3.ensures.value ∙ c.in_ok-doubles.ensures ∙ pairs_below-agree c.args.g.now.graph.n (row_has c.above.result)
+    (λ a b. (graph_of c.args.g.now.graph).both a b && nat_lt a b) c.above.ensures)

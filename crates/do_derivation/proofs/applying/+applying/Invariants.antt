@@ -7,4 +7,5 @@ use Rattle.do_derivation.proofs.Turns.{IsLeft}
 use Rattle.do_derivation.proofs.applying.+applying.Given as goal
 
 abbrev pub invariant-apply_all-loop-i : goal.invariant-apply_all-loop-i
-invariant-apply_all-loop-i l = IsLeft (graph_of l.g) (masks_of l.lemmas) (steps_view (drop l.i l.steps)) (view l.made) l.count (steps_view l.steps) (view l.initial.made) l.initial.count
+invariant-apply_all-loop-i l = IsLeft (graph_of l.g) (masks_of l.lemmas) (steps_view (drop l.i l.steps)) (view l.made) l.count (steps_view l.steps)
+    (view l.initial.made) l.initial.count

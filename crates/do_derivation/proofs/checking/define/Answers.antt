@@ -23,13 +23,20 @@ returns-in_err-run-clause-fault c =
     let p = err_from_is_err_and c.from_residual.result c.from_residual.ensures.1 in
     rw (p.1, p.2)
     (Defining.unless_weaker c.in_err-run.field-0.0
-    (StopsAtStep (graph_of c.args.g.now) (masks_of c.loop-k.sets.items) (step_view c.lemma-item.result.step) (view c.start_of-start.result) (view c.index.result.now) (Some c.cap-in-loop-k.result) c.cap-in-loop-k-2.result c.in_err-run.field-0.0)
+    (StopsAtStep (graph_of c.args.g.now) (masks_of c.loop-k.sets.items) (step_view c.lemma-item.result.step) (view c.start_of-start.result)
+    (view c.index.result.now) (Some c.cap-in-loop-k.result) c.cap-in-loop-k-2.result c.in_err-run.field-0.0)
     (DefinesNot (graph_of c.args.g.now) [] 0 (map lemma_view c.args.lemmas.now.items) (map view c.args.defs.now.items) c.in_err-run.field-0.0)
-    (λ h. Defining.lemma_fails (graph_of c.args.g.now) c.args.lemmas.now.items c.args.defs.now.items c.loop-k.sets.items c.loop-k.k c.lemma-item.result (search rules) (search rules) c.loop-k.invariant
+    (λ h. Defining.lemma_fails (graph_of c.args.g.now) c.args.lemmas.now.items c.args.defs.now.items c.loop-k.sets.items c.loop-k.k c.lemma-item.result
+    (search rules) (search rules) c.loop-k.invariant
     c.index.result.now (search rules) c.index.ensures c.in_err-run.field-0.0
-    (subst (λ n. StopsAtStep (graph_of c.args.g.now) (masks_of c.loop-k.sets.items) (step_view c.lemma-item.result.step) (start_of c.args.g.now.n c.lemma-item.result.set.bits) (view c.index.result.now) (Some (cap c.loop-k.k)) n c.in_err-run.field-0.0) c.cap-in-loop-k-2.ensures
-    (subst (λ n. StopsAtStep (graph_of c.args.g.now) (masks_of c.loop-k.sets.items) (step_view c.lemma-item.result.step) (start_of c.args.g.now.n c.lemma-item.result.set.bits) (view c.index.result.now) (Some n) c.cap-in-loop-k-2.result c.in_err-run.field-0.0) c.cap-in-loop-k.ensures
-    (subst (λ e. StopsAtStep (graph_of c.args.g.now) (masks_of c.loop-k.sets.items) (step_view c.lemma-item.result.step) e (view c.index.result.now) (Some c.cap-in-loop-k.result) c.cap-in-loop-k-2.result c.in_err-run.field-0.0) c.start_of-start.ensures h))))
+    (subst (λ n. StopsAtStep (graph_of c.args.g.now) (masks_of c.loop-k.sets.items) (step_view c.lemma-item.result.step)
+    (start_of c.args.g.now.n c.lemma-item.result.set.bits) (view c.index.result.now) (Some (cap c.loop-k.k)) n c.in_err-run.field-0.0)
+    c.cap-in-loop-k-2.ensures
+    (subst (λ n. StopsAtStep (graph_of c.args.g.now) (masks_of c.loop-k.sets.items) (step_view c.lemma-item.result.step)
+    (start_of c.args.g.now.n c.lemma-item.result.set.bits) (view c.index.result.now) (Some n) c.cap-in-loop-k-2.result c.in_err-run.field-0.0)
+    c.cap-in-loop-k.ensures
+    (subst (λ e. StopsAtStep (graph_of c.args.g.now) (masks_of c.loop-k.sets.items) (step_view c.lemma-item.result.step) e (view c.index.result.now)
+    (Some c.cap-in-loop-k.result) c.cap-in-loop-k-2.result c.in_err-run.field-0.0) c.start_of-start.ensures h))))
     c.in_err-run.ensures.fault)
 
 pub returns-then-len-clause-fault : goal.returns-then-len-clause-fault
@@ -37,5 +44,7 @@ returns-then-len-clause-fault c =
     let done : length c.args.lemmas.now.items ≤ c.loop-k.k = search rules in
     let at : c.len-then-len.result ≡ c.loop-k.k = search rules in
     let room : c.loop-k.k < length c.args.defs.now.items = search rules in
-    subst (λ n. DefinesNot (graph_of c.args.g.now) [] 0 (map lemma_view c.args.lemmas.now.items) (map view c.args.defs.now.items) (EndDiffers n)) (sym (c.cap-then-len.ensures ∙ ap cap at))
-    (Defining.definition_extra (graph_of c.args.g.now) c.args.lemmas.now.items c.args.defs.now.items c.loop-k.sets.items c.loop-k.k done c.loop-k.invariant (Named 0) room)
+    subst (λ n. DefinesNot (graph_of c.args.g.now) [] 0 (map lemma_view c.args.lemmas.now.items) (map view c.args.defs.now.items) (EndDiffers n))
+    (sym (c.cap-then-len.ensures ∙ ap cap at))
+    (Defining.definition_extra (graph_of c.args.g.now) c.args.lemmas.now.items c.args.defs.now.items c.loop-k.sets.items c.loop-k.k done c.loop-k.invariant
+    (Named 0) room)

@@ -17,6 +17,7 @@ pub returns-in-Ok : goal.returns-in-Ok
 returns-in-Ok c =
     let h : is_grouping (length c.in-Product.factors.items) (numbers_of c.args.groups.now.items) ≡ true = search rules in
     record {
-      row = Walks.group_made (graph_of c.args.g.now) (numbers_of c.args.groups.now.items) (view c.args.e) c.in-Product.factors.items (ap view c.in-Product.is ∙ view-Product c.in-Product.factors) h
+      row = Walks.group_made (graph_of c.args.g.now) (numbers_of c.args.groups.now.items) (view c.args.e) c.in-Product.factors.items
+          (ap view c.in-Product.is ∙ view-Product c.in-Product.factors) h
           _ (view-Product c.in-Ok.made ∙ ap product c.in-Ok.ensures);
     }

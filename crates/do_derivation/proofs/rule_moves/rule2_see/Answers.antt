@@ -4,7 +4,7 @@ use Rattle.mixed_graph.specs.Bits.{has}
 use Rattle.mixed_graph.specs.Shown.{graph_of}
 use Rattle.do_rules.specs.Rules.{IsBlockedFor, IsOpenFor}
 use Rattle.do_rules.specs.declared.rules.Rule.TheVariants.{Two}
-use Rattle.mixed_graph.specs.Masks.{join, minus}
+use Rattle.mixed_graph.specs.Masks.{union, minus}
 use Rattle.prob_expr.specs.Tree.{prob}
 use Rattle.prob_expr.specs.declared.expr.Expr.{Prob}
 use Rattle.prob_expr.specs.View.{view}
@@ -17,18 +17,23 @@ use Rattle.do_derivation.proofs.Views.{view-Prob, doing_sets}
 use Rattle.do_derivation.proofs.rule_moves.rule2_see.Goals as goal
 
 pub rule2-requires-clause-sets : goal.rule2-requires-clause-sets
-rule2-requires-clause-sets c = doing_sets c.args.g.now.n c.args.e c.in-Prob.of c.in-Prob.doing c.in-Prob.given c.args.z c.difference-rest.result.bits c.in-Prob.is c.requires.terms (search rules) c.difference-rest.ensures.mask
+rule2-requires-clause-sets c = doing_sets c.args.g.now.n c.args.e c.in-Prob.of c.in-Prob.doing c.in-Prob.given c.args.z c.difference-rest.result.bits
+    c.in-Prob.is c.requires.terms (search rules) c.difference-rest.ensures.mask
 
 pub returns-in-Ok : goal.returns-in-Ok
 returns-in-Ok c =
     let seen = ap view c.in-Prob.is ∙ view-Prob c.in-Prob.of c.in-Prob.doing c.in-Prob.given in
     let asked : is_part c.args.z.bits c.in-Prob.doing.bits ≡ true = search rules in
     record {
-      row = subst (λ e. IsMade (graph_of c.args.g.now) (row c.args.g.now.n [] (Move.Rule2See c.args.z.bits) e) (view (Prob c.in-Prob.of c.difference-rest.result c.union.result))) (sym seen)
-          (asked_made (graph_of c.args.g.now) Two (minus c.in-Prob.doing.bits c.args.z.bits) c.in-Prob.of.bits c.args.z.bits (c.in-Prob.given.bits) (prob c.in-Prob.of.bits (minus c.in-Prob.doing.bits c.args.z.bits) (join c.in-Prob.given.bits c.args.z.bits)) Sets
+      row = subst (λ e. IsMade (graph_of c.args.g.now) (row c.args.g.now.n [] (Move.Rule2See c.args.z.bits) e)
+          (view (Prob c.in-Prob.of c.difference-rest.result c.union.result))) (sym seen)
+          (asked_made (graph_of c.args.g.now) Two (minus c.in-Prob.doing.bits c.args.z.bits) c.in-Prob.of.bits c.args.z.bits (c.in-Prob.given.bits)
+          (prob c.in-Prob.of.bits (minus c.in-Prob.doing.bits c.args.z.bits) (union c.in-Prob.given.bits c.args.z.bits)) Sets
           (is_part c.args.z.bits c.in-Prob.doing.bits) (view (Prob c.in-Prob.of c.difference-rest.result c.union.result)) asked
-          (subst (λ r. IsBlockedFor Two (graph_of c.args.g.now) (has r) (has c.in-Prob.of.bits) (has c.args.z.bits) (has c.in-Prob.given.bits)) c.difference-rest.ensures.mask c.in-Ok.ensures.apart)
-          (view-Prob c.in-Prob.of c.difference-rest.result c.union.result ∙ ap₂ (λ r j. prob c.in-Prob.of.bits r j) c.difference-rest.ensures.mask c.union.ensures.mask));
+          (subst (λ r. IsBlockedFor Two (graph_of c.args.g.now) (has r) (has c.in-Prob.of.bits) (has c.args.z.bits) (has c.in-Prob.given.bits))
+          c.difference-rest.ensures.mask c.in-Ok.ensures.apart)
+          (view-Prob c.in-Prob.of c.difference-rest.result c.union.result
+          ∙ ap₂ (λ r j. prob c.in-Prob.of.bits r j) c.difference-rest.ensures.mask c.union.ensures.mask));
     }
 
 pub returns-in-Err : goal.returns-in-Err
@@ -37,7 +42,9 @@ returns-in-Err c =
     let asked : is_part c.args.z.bits c.in-Prob.doing.bits ≡ true = search rules in
     record {
       row = subst (λ e. RowRefuses (graph_of c.args.g.now) (row c.args.g.now.n [] (Move.Rule2See c.args.z.bits) e) (Unblocked c.in-Err.path)) (sym seen)
-          (asked_refused (graph_of c.args.g.now) Two (minus c.in-Prob.doing.bits c.args.z.bits) c.in-Prob.of.bits c.args.z.bits (c.in-Prob.given.bits) (prob c.in-Prob.of.bits (minus c.in-Prob.doing.bits c.args.z.bits) (join c.in-Prob.given.bits c.args.z.bits)) Sets
+          (asked_refused (graph_of c.args.g.now) Two (minus c.in-Prob.doing.bits c.args.z.bits) c.in-Prob.of.bits c.args.z.bits (c.in-Prob.given.bits)
+          (prob c.in-Prob.of.bits (minus c.in-Prob.doing.bits c.args.z.bits) (union c.in-Prob.given.bits c.args.z.bits)) Sets
           (is_part c.args.z.bits c.in-Prob.doing.bits) c.in-Err.path asked
-          (subst (λ r. IsOpenFor Two (graph_of c.args.g.now) (has r) (has c.in-Prob.of.bits) (has c.args.z.bits) (has c.in-Prob.given.bits) c.in-Err.path) c.difference-rest.ensures.mask c.in-Err.ensures.open));
+          (subst (λ r. IsOpenFor Two (graph_of c.args.g.now) (has r) (has c.in-Prob.of.bits) (has c.args.z.bits) (has c.in-Prob.given.bits) c.in-Err.path)
+          c.difference-rest.ensures.mask c.in-Err.ensures.open));
     }

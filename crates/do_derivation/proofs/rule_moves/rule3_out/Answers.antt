@@ -3,4 +3,5 @@ use Rattle.do_derivation.proofs.Views.{doing_sets}
 use Rattle.do_derivation.proofs.rule_moves.rule3_out.Goals as goal
 
 pub rule3-requires-clause-sets : goal.rule3-requires-clause-sets
-rule3-requires-clause-sets c = doing_sets c.args.g.now.n c.args.e c.in-Prob.of c.in-Prob.doing c.in-Prob.given c.args.z c.difference-rest.result.bits c.in-Prob.is c.requires.terms (search rules) c.difference-rest.ensures.mask
+rule3-requires-clause-sets c = doing_sets c.args.g.now.n c.args.e c.in-Prob.of c.in-Prob.doing c.in-Prob.given c.args.z c.difference-rest.result.bits
+    c.in-Prob.is c.requires.terms (search rules) c.difference-rest.ensures.mask

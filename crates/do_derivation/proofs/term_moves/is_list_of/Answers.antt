@@ -14,6 +14,7 @@ loop-v-preserved c =
     let h : has c.loop-v.rest.bits (get_or c.args.list.now c.loop-v.v-index 0) ≡ true = search rules in
     let low : get_or c.args.list.now c.loop-v.v-index 0 < 64 = search rules in
     record {
-      left = Walks.list_step c.args.list.now c.loop-v.v-index c.loop-v.rest.bits c.difference-rest.result.bits (omega arith) h (c.difference-rest.ensures.mask ∙ ap (λ o. minus c.loop-v.rest.bits o) c.one.ensures.mask) ∙ c.loop-v.invariant.left;
+      left = Walks.list_step c.args.list.now c.loop-v.v-index c.loop-v.rest.bits c.difference-rest.result.bits (omega arith) h
+          (c.difference-rest.ensures.mask ∙ ap (λ o. minus c.loop-v.rest.bits o) c.one.ensures.mask) ∙ c.loop-v.invariant.left;
       small = Walks.small_more c.args.list.now c.loop-v.v-index (omega arith) c.loop-v.invariant.small low;
     }

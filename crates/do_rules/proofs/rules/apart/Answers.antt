@@ -10,5 +10,6 @@ meets_not false q h = refl
 pub returns : goal.returns
 returns c = (
   λ empty. apart_from_meet c.intersection.result.bits c.args.s.bits c.args.t.bits c.intersection.ensures.members (c.is_empty.ensures.none.0 empty),
-  λ apart. c.is_empty.ensures.none.1 (zero_from_empty c.intersection.result.bits (λ v. c.intersection.ensures.members v ∙ meets_not (has c.args.s.bits v) (has c.args.t.bits v) (apart v))),
+  λ apart. c.is_empty.ensures.none.1 (zero_from_empty c.intersection.result.bits
+      (λ v. c.intersection.ensures.members v ∙ meets_not (has c.args.s.bits v) (has c.args.t.bits v) (apart v))),
 )

@@ -7,7 +7,7 @@ use Rattle.targets.specs.Targets.{AreEffectSets, IsEffectFault, OrMemory}
 use Rattle.targets.proofs.Effects.{effect_within_x, effect_within_y, effect_apart, effect_outcome}
 use Rattle.targets.proofs.Faults.{not_memory}
 use Rattle.targets.proofs.Parts.{effect_lists_of, same_effect_lists}
-use Rattle.word_lists.specs.Views.{names_in}
+use Rattle.command_words.specs.ListViews.{names_in}
 use Rattle.effect_answers.specs.Effects.{effect_lists}
 use Rattle.effect_answers.proofs.effect.asked_effect.Goals as goal
 
@@ -39,7 +39,8 @@ returns-in_ok-refuse-in-Err c =
         asked.graph,
         record {
           fault = c.in-Err.fault;
-          is_fault = not_memory (IsEffectFault lists) c.in-Err.fault c.in_ok-refuse-in-Err.ensures.fault (subst (λ l. OrMemory (IsEffectFault l) c.in-Err.fault) same c.in-Err.ensures.fault);
+          is_fault = not_memory (IsEffectFault lists) c.in-Err.fault c.in_ok-refuse-in-Err.ensures.fault
+              (subst (λ l. OrMemory (IsEffectFault l) c.in-Err.fault) same c.in-Err.ensures.fault);
           prints = c.in_ok-refuse-in-Err.ensures.line;
         },
       ),

@@ -11,6 +11,10 @@ returns-in_ok-refuse-in-Some c =
     record {
       outcome = c.in_ok-refuse-in-Some.ensures.outcome;
       fault = c.in-Some.fault;
-      is_fault = bidirected c.in-Ok.sets c.in-Ok.ensures.sets (q, c.requires.graph, subst (λ names. IsBidirectedFault q names c.in-Some.fault) c.requires.names fault);
+      is_fault = bidirected c.in-Ok.sets c.in-Ok.ensures.sets (
+        q,
+        c.requires.graph,
+        subst (λ names. IsBidirectedFault q names c.in-Some.fault) c.requires.names fault,
+      );
       prints = c.in_ok-refuse-in-Some.ensures.line;
     }

@@ -14,9 +14,27 @@ returns-clause-fault c = λ other.
     let g = c.args.graph.now in let f = c.in-Err.fault in let lists = c.in-Some.lists in
     let x = c.deref.result.now in let y = c.deref-2.result.now in let z = c.deref-3.result.now in
     let told : OrMemory (IsTargetFault (record (lists_on g (query_of lists)) { observed = c.args.observed.now })) f =
-    subst (λ (l : List (Vec ℕ)). OrMemory (IsTargetFault (record { all = g.names; observed = c.args.observed.now; x = texts l; y = texts lists.y.items; given = texts lists.given.items })) f) c.deref.ensures.value
-    (subst (λ (l : List (Vec ℕ)). OrMemory (IsTargetFault (record { all = g.names; observed = c.args.observed.now; x = texts x; y = texts l; given = texts lists.given.items })) f) c.deref-2.ensures.value
-    (subst (λ (l : List (Vec ℕ)). OrMemory (IsTargetFault (record { all = g.names; observed = c.args.observed.now; x = texts x; y = texts y; given = texts l })) f) c.deref-3.ensures.value c.in-Err.ensures.fault)) in
+    subst (λ (l : List (Vec ℕ)). OrMemory (IsTargetFault (record {
+      all = g.names;
+      observed = c.args.observed.now;
+      x = texts l;
+      y = texts lists.y.items;
+      given = texts lists.given.items;
+    })) f) c.deref.ensures.value
+    (subst (λ (l : List (Vec ℕ)). OrMemory (IsTargetFault (record {
+      all = g.names;
+      observed = c.args.observed.now;
+      x = texts x;
+      y = texts l;
+      given = texts lists.given.items;
+    })) f) c.deref-2.ensures.value
+    (subst (λ (l : List (Vec ℕ)). OrMemory (IsTargetFault (record {
+      all = g.names;
+      observed = c.args.observed.now;
+      x = texts x;
+      y = texts y;
+      given = texts l;
+    })) f) c.deref-3.ensures.value c.in-Err.ensures.fault)) in
     subst (λ (q : Option Query). IsListsFault g (option_map query_of q) f) (sym c.in-Some.is)
     (subst (λ o. IsTargetFault (record (lists_on g (query_of lists)) { observed = o }) f) c.requires
     (not_memory (IsTargetFault (record (lists_on g (query_of lists)) { observed = c.args.observed.now })) f other told))

@@ -2,7 +2,7 @@ use Rattle.std.proofs.Common.{◌≡◌, ◌∙◌, length, sym, subst, inl}
 use Rattle.std.proofs.lemmas.Result.{IfOk-weaker}
 use Rattle.mixed_graph.specs.Bits.{has}
 use Rattle.mixed_graph.specs.Shown.{graph_of}
-use Rattle.path_carry.proofs.Separations.{same_separations}
+use Rattle.markov_equivalence.proofs.Separations.{same_separations}
 use Rattle.equivalent_command.specs.Answers.{SetsAnswer}
 use Rattle.equivalent_command.specs.Lines.{separated_text}
 use Rattle.equivalent_command.proofs.Queries.{open_below, own_ends}
@@ -10,12 +10,14 @@ use Rattle.equivalent_command.proofs.agreement.agreement_text.Goals as goal
 
 pub carry_path-carried-requires-clause-path : goal.carry_path-carried-requires-clause-path
 carry_path-carried-requires-clause-path c =
-    let s = c.in-Some.sets in own_ends (graph_of c.args.first.now) (has s.x.bits) (has s.y.bits) (has s.given.bits) c.in-Some-open_path.path c.in-Some-open_path.ensures.found
+    let s = c.in-Some.sets in own_ends (graph_of c.args.first.now) (has s.x.bits) (has s.y.bits) (has s.given.bits)
+    c.in-Some-open_path.path c.in-Some-open_path.ensures.found
 
 pub connected_text-requires-clause-first : goal.connected_text-requires-clause-first
 connected_text-requires-clause-first c =
     let s = c.in-Some.sets in
-    open_below (graph_of c.args.first.now) c.args.first.now.valid (length c.args.names.now) (sym c.requires.named) (has s.x.bits) (has s.y.bits) (has s.given.bits)
+    open_below (graph_of c.args.first.now) c.args.first.now.valid (length c.args.names.now) (sym c.requires.named) (has s.x.bits) (has s.y.bits)
+    (has s.given.bits)
     c.in-Some-open_path.path c.in-Some-open_path.ensures.found
 
 pub connected_text-requires-clause-second : goal.connected_text-requires-clause-second

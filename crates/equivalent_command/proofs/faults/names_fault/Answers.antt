@@ -9,7 +9,8 @@ pub returns-in-Some-clause-found : goal.returns-in-Some-clause-found
 returns-in-Some-clause-found c = record {
   name = name_of c.args.names.now c.in-Some.v;
   first = in_first c.in-Some.v c.in-Some.ensures.found refl;
-  named = ap (λ (t : List ℕ). OtherNames t) (c.in_ok-name.ensures ∙ sym (get_or_from_slice_get c.args.names.now c.in-Some.v c.get.result.now [] c.get.ensures.name));
+  named = ap (λ (t : List ℕ). OtherNames t) (c.in_ok-name.ensures ∙ sym
+      (get_or_from_slice_get c.args.names.now c.in-Some.v c.get.result.now [] c.get.ensures.name));
 }
 
 pub returns-in-Some-first_alone-clause-found : goal.returns-in-Some-first_alone-clause-found

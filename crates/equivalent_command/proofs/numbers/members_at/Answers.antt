@@ -8,7 +8,8 @@ loop-k-init c = λ j. c.empty-found.ensures.members j ∙ no_member (λ i. has c
 
 pub loop-k-preserved : goal.loop-k-preserved
 loop-k-preserved c = λ j. c.union-found.ensures.members j ∙ ap (λ b. b || has c.only_if.result.bits j) (c.loop-k.invariant j)
-    ∙ ap (λ b. (nat_lt j c.loop-k.k && has c.args.s.bits (get_or c.args.places.now j 0)) || b) (c.only_if.ensures j ∙ ap (λ b. c.has.result && b) (c.one.ensures.members j))
+    ∙ ap (λ b. (nat_lt j c.loop-k.k && has c.args.s.bits (get_or c.args.places.now j 0)) || b)
+    (c.only_if.ensures j ∙ ap (λ b. c.has.result && b) (c.one.ensures.members j))
     ∙ member_more (λ i. has c.args.s.bits (get_or c.args.places.now i 0)) c.loop-k.k j c.has.result c.has.ensures
 
 pub returns : goal.returns

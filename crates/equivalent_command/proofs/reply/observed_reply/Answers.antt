@@ -14,7 +14,8 @@ returns-in_ok-second_line-in-Some c = λ g h e f first second.
       q = q;
       observed = second;
       fault = fault;
-      is_fault = subst (λ names. ObservedFault names q (observed_names h) fault) e (subst (λ names. ObservedFault c.args.first.now.names q names fault) f found);
+      is_fault = subst (λ names. ObservedFault names q (observed_names h) fault) e
+          (subst (λ names. ObservedFault c.args.first.now.names q names fault) f found);
       prints = c.in_ok-second_line-in-Some.ensures.line;
     }
 

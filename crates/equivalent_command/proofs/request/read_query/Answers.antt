@@ -1,5 +1,5 @@
 use Rattle.std.proofs.Common.{refl, codes, rules}
-use Rattle.word_forms.specs.Form.{value_of}
+use Rattle.command_words.specs.Form.{value_of}
 use Rattle.equivalent_command.specs.Requests.{equivalent_row}
 use Rattle.equivalent_command.proofs.Asked.{no_query}
 use Rattle.equivalent_command.proofs.request.read_query.Goals as goal
@@ -23,4 +23,8 @@ returns-in_err-given-clause-none c = λ uses g e.
     (λ q h. c.in_err-given.ensures.none equivalent_row uses g refl (search rules) q.given h.2)
 
 pub returns-clause-ok : goal.returns-clause-ok
-returns-clause-ok c = λ uses g. (c.in_ok-x.ensures.ok equivalent_row uses g refl, c.in_ok-y.ensures.ok equivalent_row uses g refl, c.in_ok-given.ensures.ok equivalent_row uses g refl)
+returns-clause-ok c = λ uses g. (
+  c.in_ok-x.ensures.ok equivalent_row uses g refl,
+  c.in_ok-y.ensures.ok equivalent_row uses g refl,
+  c.in_ok-given.ensures.ok equivalent_row uses g refl,
+)

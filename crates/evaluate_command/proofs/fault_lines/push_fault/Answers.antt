@@ -19,33 +19,40 @@ returns-in_ok-extend_from_slice-in-TooWide c = on_ok c.push_place-in-TooWide.res
     let names = c.args.names.now in let t = c.args.counts.now in let place = c.in-TooWide.place in let old = c.args.out.now.items in
     let why = subst (λ f. IsEvaluationFault (is_used t) f s) c.in-TooWide.is is in
     e ∙ ap (λ x. x ++ place_text place.def place.node) c.in_ok-extend_from_slice-in-TooWide.ensures.items
-    ∙ append_assoc old (codes "evaluation fault 2: ") (place_text place.def place.node) ∙ ap (λ x. old ++ x) (wide_text names t s place why.0 why.1)) c.push_place-in-TooWide.ensures
+    ∙ append_assoc old (codes "evaluation fault 2: ") (place_text place.def place.node) ∙ ap (λ x. old ++ x) (wide_text names t s place why.0 why.1))
+    c.push_place-in-TooWide.ensures
 
 pub returns-in_ok-extend_from_slice-in-TooFine : goal.returns-in_ok-extend_from_slice-in-TooFine
 returns-in_ok-extend_from_slice-in-TooFine c = on_ok c.push_place-in-TooFine.result _ _ (λ e s is.
     let names = c.args.names.now in let t = c.args.counts.now in let place = c.in-TooFine.place in let old = c.args.out.now.items in
     let why = subst (λ f. IsEvaluationFault (is_used t) f s) c.in-TooFine.is is in
     e ∙ ap (λ x. x ++ place_text place.def place.node) c.in_ok-extend_from_slice-in-TooFine.ensures.items
-    ∙ append_assoc old (codes "evaluation fault 3: ") (place_text place.def place.node) ∙ ap (λ x. old ++ x) (fine_text names t s place why.0 why.1)) c.push_place-in-TooFine.ensures
+    ∙ append_assoc old (codes "evaluation fault 3: ") (place_text place.def place.node) ∙ ap (λ x. old ++ x) (fine_text names t s place why.0 why.1))
+    c.push_place-in-TooFine.ensures
 
 -- four texts one after another
-four : (old a b d e : List ℕ) (one two three out : List ℕ) → one ≡ old ++ a → two ≡ one ++ b → three ≡ two ++ d → out ≡ three ++ e → out ≡ old ++ (a ++ (b ++ (d ++ e)))
+four : (old a b d e : List ℕ) (one two three out : List ℕ) → one ≡ old ++ a → two ≡ one ++ b → three ≡ two ++ d → out ≡ three ++ e → out ≡ old
+    ++ (a ++ (b ++ (d ++ e)))
 four old a b d e one two three out p q r s = s ∙ ap (λ x. x ++ e) (r ∙ ap (λ x. x ++ d) (q ∙ ap (λ x. x ++ b) p)) ∙ simp append_assoc
 
 pub returns-in_ok-extend_from_slice-in-NoSupport-2 : goal.returns-in_ok-extend_from_slice-in-NoSupport-2
 returns-in_ok-extend_from_slice-in-NoSupport-2 c = on_ok c.push_assignments.result _ _ (λ h s is.
-    let names = c.args.names.now in let t = c.args.counts.now in let place = c.in-NoSupport.place in let old = c.args.out.now.items in let cell = c.in-NoSupport.cell in
+    let names = c.args.names.now in let t = c.args.counts.now in let place = c.in-NoSupport.place in let old = c.args.out.now.items in let cell =
+    c.in-NoSupport.cell in
     let set = has c.used.result.bits in
     let why = subst (λ f. IsEvaluationFault (is_used t) f s) c.in-NoSupport.is is in
     let texts = assignments names t (cell_of cell) (members_below set 64) in
-    let last = h ∙ ap (λ (at : List ℕ). c.extend_from_slice-in-NoSupport.new.self.items ++ assignments names t (cell_of at) (members_below set 64)) c.entries.ensures.same in
+    let last = h ∙ ap (λ (at : List ℕ). c.extend_from_slice-in-NoSupport.new.self.items ++ assignments names t (cell_of at) (members_below set 64))
+    c.entries.ensures.same in
     four old (codes "evaluation fault 1: ") (place_text place.def place.node) (codes " at ") texts _ _ _ _
     c.in_ok-extend_from_slice-in-NoSupport.ensures.items c.in_ok-push_place-in-NoSupport.ensures c.in_ok-extend_from_slice-in-NoSupport-2.ensures.items last
-    ∙ ap (λ x. old ++ x) (support_text_is names t s place cell set why.0 why.1 why.2 c.used.ensures.table (sym c.used.ensures.members))) c.push_assignments.ensures
+    ∙ ap (λ x. old ++ x) (support_text_is names t s place cell set why.0 why.1 why.2 c.used.ensures.table (sym c.used.ensures.members)))
+    c.push_assignments.ensures
 
 pub push_assignments-requires-clause-named : goal.push_assignments-requires-clause-named
 push_assignments-requires-clause-named c =
     members_low _ c.used.result.bits c.args.counts.now.vertices (omega arith) c.used.ensures.members c.requires.named
 
 pub push_assignments-requires-clause-entries : goal.push_assignments-requires-clause-entries
-push_assignments-requires-clause-entries c = λ v h. (let lt = below_64 c.used.result.bits v (omega arith) h in let n = c.entries.ensures.long in omega (arith, lt, n))
+push_assignments-requires-clause-entries c = λ v h. (let lt = below_64 c.used.result.bits v (omega arith) h in let n = c.entries.ensures.long in
+    omega (arith, lt, n))

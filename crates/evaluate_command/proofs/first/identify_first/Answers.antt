@@ -1,6 +1,6 @@
 use Rattle.std.proofs.Common.{subst, option_map}
 use Rattle.mixed_graph.specs.Shown.{graph_of}
-use Rattle.word_lists.specs.Views.{names_in}
+use Rattle.command_words.specs.ListViews.{names_in}
 use Rattle.effect_answers.specs.Effects.{IsAsked, IsEffectOf}
 use Rattle.effect_answers.specs.Hedges.{ShowsHedge}
 use Rattle.evaluate_command.specs.Firsts.{IsFound}
@@ -18,6 +18,7 @@ returns-in-Hedge c =
         x = e.sets.x.bits;
         y = e.sets.y.bits;
         sets = asked.sets;
-        answer = subst (λ names. ShowsHedge q names e.sets.x.bits e.sets.y.bits c.in-Hedge.text.items) asked.names (subst (IsFound q e.seen.names e.sets.x.bits e.sets.y.bits) c.in-Hedge.is c.in_ok-formula.ensures);
+        answer = subst (λ names. ShowsHedge q names e.sets.x.bits e.sets.y.bits c.in-Hedge.text.items) asked.names
+            (subst (IsFound q e.seen.names e.sets.x.bits e.sets.y.bits) c.in-Hedge.is c.in_ok-formula.ensures);
       },
     )

@@ -9,4 +9,5 @@ loop-v-init c = c.new-text.ensures.items ∙ texts_none (pinned_line c.args.foun
 
 pub loop-v-preserved : goal.loop-v-preserved
 loop-v-preserved c =
-    written_more (pinned_line c.args.found.now.seen.names c.args.counts.now) (has c.difference-pinned.result.bits) c.loop-v.v [] c.loop-v.text.items _ c.loop-v.invariant c.in_ok-push_pinned.ensures
+    written_more (pinned_line c.args.found.now.seen.names c.args.counts.now) (has c.difference-pinned.result.bits) c.loop-v.v []
+    c.loop-v.text.items _ c.loop-v.invariant c.in_ok-push_pinned.ensures

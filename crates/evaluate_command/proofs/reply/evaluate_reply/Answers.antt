@@ -11,11 +11,13 @@ read_counts-requires-clause-some c = subst (λ m. 0 < m) (sym c.used_in.ensures)
 
 pub read_counts-requires-clause-named : goal.read_counts-requires-clause-named
 read_counts-requires-clause-named c = λ v h.
-    (let lt = used_below (effect_view c.args.found.now) c.requires.identified v (ap (λ m. has m v) (sym c.used_in.ensures) ∙ h) in let n = c.requires.identified.named in omega (arith, lt, n))
+    (let lt = used_below (effect_view c.args.found.now) c.requires.identified v (ap (λ m. has m v) (sym c.used_in.ensures) ∙ h) in let n =
+    c.requires.identified.named in omega (arith, lt, n))
 
 pub returns-in_ok-line-in-Err : goal.returns-in_ok-line-in-Err
 returns-in_ok-line-in-Err c =
     let e = effect_view c.args.found.now in
     faulty c.in-Err.fault c.requires.small c.in_ok-line-in-Err.ensures.memory
-    (ap (λ m. text_fault c.args.bytes.now e.names m (option_map (λ s. s.now) c.args.count)) (sym c.used_in.ensures) ∙ c.in-Err.ensures.fault c.in_ok-line-in-Err.ensures.memory)
+    (ap (λ m. text_fault c.args.bytes.now e.names m (option_map (λ s. s.now) c.args.count)) (sym c.used_in.ensures)
+    ∙ c.in-Err.ensures.fault c.in_ok-line-in-Err.ensures.memory)
     c.in_ok-line-in-Err.ensures.line

@@ -11,7 +11,8 @@ prepare-requires g c = evaluable (effect_view c.args.found.now) c.requires.ident
 pub pinned_lines-requires : goal.pinned_lines-requires
 pinned_lines-requires g c =
     let e = effect_view c.args.found.now in
-    λ v h. (let lt = free_within e.graph.vertices e.x e.y e.formula c.requires.identified.right.formed v h in let n = c.requires.identified.named in omega (arith, lt, n))
+    λ v h. (let lt = free_within e.graph.vertices e.x e.y e.formula c.requires.identified.right.formed v h in let n = c.requires.identified.named in
+    omega (arith, lt, n))
 
 pub push_cells-requires-clause-vertices : goal.push_cells-requires-clause-vertices
 push_cells-requires-clause-vertices g c =

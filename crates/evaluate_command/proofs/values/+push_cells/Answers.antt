@@ -13,7 +13,8 @@ use Rattle.evaluate_command.proofs.values.+push_cells.Goals as goal
 pub returns-in_default-clause-lines : goal.returns-in_default-clause-lines
 returns-in_default-clause-lines g t c =
     subst (λ (cs : List (List ℕ)). OnOk c.push_cell.result (
-    Appends g.Q.Quantity.kind g.Q.Quantity.covers c.args.sign.now (effect_view c.args.found.now) c.args.counts.now cs c.args.out.now.items c.push_cell.new.out.items))
+    Appends g.Q.Quantity.kind g.Q.Quantity.covers c.args.sign.now (effect_view c.args.found.now)
+    c.args.counts.now cs c.args.out.now.items c.push_cell.new.out.items))
     (sym (cells_at_none c.args.counts.now c.args.cell.now c.args.vertices.now c.in_default.len_below)) c.push_cell.ensures.lines
 
 pub returns-in_default-clause-failure : goal.returns-in_default-clause-failure
@@ -38,7 +39,8 @@ push_cells-requires g t c =
     (set_is_cell n c.args.counts.now cell v c.loop-k.k c.requires.cell used (omega (arith, below, c.levels-k-end.ensures))) in
     let rest = take (length vs - 1) (drop 1 vs) in
     let others : All (λ u. is_used c.args.counts.now u ≡ true) rest =
-    All-take (λ u. is_used c.args.counts.now u ≡ true) (length vs - 1) (drop 1 vs) (All-drop (λ u. is_used c.args.counts.now u ≡ true) 1 vs c.requires.vertices) in
+    All-take (λ u. is_used c.args.counts.now u ≡ true) (length vs - 1) (drop 1 vs)
+    (All-drop (λ u. is_used c.args.counts.now u ≡ true) 1 vs c.requires.vertices) in
     let less : length rest < length vs = (let l = length-drop 1 vs in omega (arith, ap (λ (us : List ℕ). length us) (take_rest vs 1), l, some)) in
     search (rules, is_cell, others, less)
 
@@ -47,7 +49,8 @@ loop-k-preserved g t c =
     let v = get_or c.args.vertices.now 0 0 in
     record {
       same = λ j. ap (λ (x : List ℕ). set x v j) c.in-Ok.ensures.cell ∙ set-set c.loop-k.cell v c.loop-k.k j ∙ c.loop-k.invariant.same j;
-      lines = appends_turn g.Q.Quantity.kind g.Q.Quantity.covers c.args.sign.now (effect_view c.args.found.now) c.args.counts.now c.args.cell.now c.loop-k.cell v c.loop-k.k _ _ _ _
+      lines = appends_turn g.Q.Quantity.kind g.Q.Quantity.covers c.args.sign.now (effect_view c.args.found.now)
+          c.args.counts.now c.args.cell.now c.loop-k.cell v c.loop-k.k _ _ _ _
           c.loop-k.invariant.same c.loop-k.invariant.lines c.in-Ok.ensures.lines;
     }
 

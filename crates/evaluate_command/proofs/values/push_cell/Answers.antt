@@ -16,6 +16,7 @@ returns-in-Ok-push_value-clause-lines g c =
     appends_one kind covers c.args.sign.now e t cell q c.args.out.now.items c.push_value.new.out.items
     (on_prepared (λ n u f. formula_value kind (weights_in n u) f (cell_of cell) ≡ Ok q) e t p c.requires.prepared c.in-Ok.ensures.value)
     (on_prepared (λ n u f. CoversCounts covers n u f (cell_of cell) q) e t p c.requires.prepared c.in-Ok.ensures.counts)
-    (covers_effect kind covers g.met.Q.Quantity.lawful e c.requires.identified t cell (subst (λ n. IsCell n t cell) c.requires.identified.named c.requires.cell) q
+    (covers_effect kind covers g.met.Q.Quantity.lawful e c.requires.identified t cell
+    (subst (λ n. IsCell n t cell) c.requires.identified.named c.requires.cell) q
     (on_prepared (λ n u f. CoversMatches covers n u f (cell_of cell) q) e t p c.requires.prepared c.in-Ok.ensures.matches))
     c.in-Ok-push_value.ensures

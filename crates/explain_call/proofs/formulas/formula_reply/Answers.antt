@@ -1,7 +1,7 @@
 use Rattle.std.proofs.Common.{option_map, refl, ap, ◌∙◌}
 use Rattle.mixed_graph.specs.Names.{texts}
 use Rattle.mixed_graph.specs.Shown.{graph_of}
-use Rattle.word_lists.specs.Views.{names_in}
+use Rattle.command_words.specs.ListViews.{names_in}
 use Rattle.targets.proofs.Effects.{query_exposure, query_outcome}
 use Rattle.replies.specs.Observed.{observed_names}
 use Rattle.adjust_command.proofs.Lists.{three_sets, same_lists, lists_refused}
@@ -9,7 +9,8 @@ use Rattle.explain_call.specs.Formulas.{FormulaFor}
 use Rattle.explain_call.proofs.formulas.formula_reply.Goals as goal
 
 pub decide-requires-clause-sets : goal.decide-requires-clause-sets
-decide-requires-clause-sets c = three_sets _ c.in_ok-seen.field-0.seen.graph.n c.in-Ok.sets.x.bits c.in-Ok.sets.y.bits c.in-Ok.sets.given.bits c.in_ok-seen.ensures.named c.in-Ok.ensures.sets
+decide-requires-clause-sets c = three_sets _ c.in_ok-seen.field-0.seen.graph.n c.in-Ok.sets.x.bits c.in-Ok.sets.y.bits c.in-Ok.sets.given.bits
+    c.in_ok-seen.ensures.named c.in-Ok.ensures.sets
 
 pub decide-requires-clause-some_x : goal.decide-requires-clause-some_x
 decide-requires-clause-some_x c = query_exposure _ c.in-Ok.sets.x.bits c.in-Ok.sets.y.bits c.in-Ok.sets.given.bits c.in-Ok.ensures.sets

@@ -18,4 +18,5 @@ skip b x y z e h = h ∙ sym (ap (λ t. cond t x y) e)
 pub returns-in_default : goal.returns-in_default
 returns-in_default c =
     let n = c.in_default in
-    skip _ _ _ _ (apart _ _ n.not-steps) (skip _ _ _ _ (apart _ _ n.not-rule) (skip _ _ _ _ (apart _ _ n.not-adjust) refl))
+    skip _ _ _ _ (apart _ _ n.not-steps) (skip _ _ _ _ (apart _ _ n.not-rule) (skip _ _ _ _ (apart _ _ n.not-adjust)
+    (skip _ _ _ _ (apart _ _ n.not-settled) refl)))

@@ -1,7 +1,7 @@
 use Rattle.std.proofs.Common.{◌≡◌, Err, ap}
-use Rattle.word_forms.specs.Views.{texts_of}
-use Rattle.request_values.specs.declared.RequestFault.TheVariants.{NotUnderstood}
-use Rattle.word_requests.proofs.Asking.{named, no_form, asked, not_asked}
+use Rattle.command_words.specs.Views.{texts_of}
+use Rattle.command_words.specs.declared.typed.RequestFault.TheVariants.{NotUnderstood}
+use Rattle.command_words.proofs.Asking.{named, no_form, asked, not_asked}
 use Rattle.explain_call.specs.Requests.{table, row_for, kind_of, IsRequest, request_of}
 use Rattle.explain_call.proofs.requests.read_request.Goals as goal
 
@@ -10,11 +10,14 @@ request_found-requires c = named _ table _ _ _ c.rows.ensures.rows c.in-Ok.ensur
 
 pub returns-in-Ok-clause-asks : goal.returns-in-Ok-clause-asks
 returns-in-Ok-clause-asks c =
-    asked _ table (λ q. row_for (kind_of q)) IsRequest (texts_of c.args.words.now) c.rows.ensures.rows _ _ request_of c.request_found.result c.in-Ok.ensures.call c.request_found.ensures.row (c.request_found.ensures.ok _ c.in-Ok.ensures.values)
+    asked _ table (λ q. row_for (kind_of q)) IsRequest (texts_of c.args.words.now)
+    c.rows.ensures.rows _ _ request_of c.request_found.result c.in-Ok.ensures.call c.request_found.ensures.row
+    (c.request_found.ensures.ok _ c.in-Ok.ensures.values)
 
 pub returns-in-Ok-clause-none : goal.returns-in-Ok-clause-none
 returns-in-Ok-clause-none c = λ e.
-    not_asked _ table (λ q. row_for (kind_of q)) IsRequest (texts_of c.args.words.now) c.rows.ensures.rows _ _ c.in-Ok.ensures.only (c.request_found.ensures.none _ c.in-Ok.ensures.values e)
+    not_asked _ table (λ q. row_for (kind_of q)) IsRequest (texts_of c.args.words.now) c.rows.ensures.rows _ _ c.in-Ok.ensures.only
+    (c.request_found.ensures.none _ c.in-Ok.ensures.values e)
 
 pub returns-in-Err-clause-none : goal.returns-in-Err-clause-none
 returns-in-Err-clause-none c = λ e.

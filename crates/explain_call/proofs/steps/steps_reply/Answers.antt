@@ -21,17 +21,21 @@ tell-requires c =
 pub returns-in-Ok-Formula : goal.returns-in-Ok-Formula
 returns-in-Ok-Formula c =
     let reads = rw c.in-Ok-Formula.field-0-is at c.in-Ok-Formula.ensures in
-    tells c.args.graphs c.args.graph.now (graph_of c.in_ok-seen.seen.graph) c.in_ok-seen.seen.names c.args.certificate.now c.in_ok-seen.ensures.graph c.in_ok-seen.ensures.names (search rules)
+    tells c.args.graphs c.args.graph.now (graph_of c.in_ok-seen.seen.graph)
+    c.in_ok-seen.seen.names c.args.certificate.now c.in_ok-seen.ensures.graph c.in_ok-seen.ensures.names (search rules)
     (target_view c.in-Ok-Formula.target) (formula_view c.in-Ok-Formula.formula) (derivation_view c.in-Ok-Formula.derivation) reads c.tell.result c.tell.ensures
 
 pub returns-in-Ok-Hedge : goal.returns-in-Ok-Hedge
 returns-in-Ok-Hedge c =
     let reads = rw c.in-Ok-Hedge.field-0-is at c.in-Ok-Hedge.ensures in
-    of_hedge c.args.graphs c.args.graph.now (graph_of c.in_ok-seen.seen.graph) c.in_ok-seen.seen.names c.args.certificate.now c.in_ok-seen.ensures.graph c.in_ok-seen.ensures.names (search rules)
+    of_hedge c.args.graphs c.args.graph.now (graph_of c.in_ok-seen.seen.graph)
+    c.in_ok-seen.seen.names c.args.certificate.now c.in_ok-seen.ensures.graph c.in_ok-seen.ensures.names (search rules)
     (target_view c.in-Ok-Hedge.target) (hedge_view c.in-Ok-Hedge.hedge) c.in_ok-from_slice-in-Ok-Hedge.field-0.items reads (search rules)
 
 pub returns : goal.returns
 returns c =
     let line = c.in_ok-line-in-Err in
-    in_graph c.args.graphs c.args.graph.now (graph_of c.in_ok-seen.seen.graph) c.in_ok-seen.seen.names c.args.certificate.now c.in_ok-seen.ensures.graph c.in_ok-seen.ensures.names Second line.field-0.items
-    (faulty c.in-Err.fault (search rules) line.ensures.memory (unread c.in-Err.fault (certificate_in c.in_ok-seen.seen.names c.args.certificate.now) c.in-Err.ensures line.ensures.memory) line.ensures.line)
+    in_graph c.args.graphs c.args.graph.now (graph_of c.in_ok-seen.seen.graph)
+    c.in_ok-seen.seen.names c.args.certificate.now c.in_ok-seen.ensures.graph c.in_ok-seen.ensures.names Second line.field-0.items
+    (faulty c.in-Err.fault (search rules) line.ensures.memory (unread c.in-Err.fault (certificate_in c.in_ok-seen.seen.names c.args.certificate.now)
+    c.in-Err.ensures line.ensures.memory) line.ensures.line)

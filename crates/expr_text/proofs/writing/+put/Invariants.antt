@@ -7,6 +7,7 @@ use Rattle.expr_text.proofs.writing.+put.Given as goal
 
 abbrev pub invariant-put_factors-loop-factor : goal.invariant-put_factors-loop-factor
 invariant-put_factors-loop-factor l = record {
-  told : l.out.items ++ factors_in l.writer.notation l.place l.writer.names.now (views (drop l.factor-index l.factor-items)) ≡ l.fn.out.items ++ factors_in l.writer.notation First l.writer.names.now (views l.factor-items);
+  told : l.out.items ++ factors_in l.writer.notation l.place l.writer.names.now (views (drop l.factor-index l.factor-items)) ≡ l.fn.out.items
+      ++ factors_in l.writer.notation First l.writer.names.now (views l.factor-items);
   sound : are_sound (length l.writer.names.now) (views (drop l.factor-index l.factor-items)) ≡ true;
 }

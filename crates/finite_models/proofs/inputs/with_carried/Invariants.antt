@@ -4,4 +4,7 @@ use Rattle.finite_models.specs.Data.{has_carried}
 use Rattle.finite_models.proofs.inputs.with_carried.Given as goal
 
 abbrev pub invariant-loop-v : goal.invariant-loop-v
-invariant-loop-v l = record { seen : (u : ℕ) → u < l.v → has l.found.bits u ≡ has_carried l.mechanisms u; unseen : (u : ℕ) → l.v ≤ u → has l.found.bits u ≡ false }
+invariant-loop-v l = record {
+  seen : (u : ℕ) → u < l.v → has l.found.bits u ≡ has_carried l.mechanisms u;
+  unseen : (u : ℕ) → l.v ≤ u → has l.found.bits u ≡ false;
+}

@@ -11,5 +11,6 @@ abbrev pub invariant-loop-i : goal.invariant-loop-i
 invariant-loop-i l = record {
   entries : length l.values ≡ 64;
   in_range : (p : ℕ) → p < l.g.n → get_or l.values p 0 < get_or l.m.sizes.items p 0;
-  solved : (p : ℕ) → IsTrue (taken_by l.order.list l.i p) → get_or l.values p 0 ≡ solution (intervene (meaning (graph_of l.g) l.m) (has l.do_set.bits) (λ q. get_or l.at q 0)) (value_in_world l.m.causes.items l.world) p;
+  solved : (p : ℕ) → IsTrue (taken_by l.order.list l.i p) → get_or l.values p 0
+      ≡ solution (intervene (meaning (graph_of l.g) l.m) (has l.do_set.bits) (λ q. get_or l.at q 0)) (value_in_world l.m.causes.items l.world) p;
 }

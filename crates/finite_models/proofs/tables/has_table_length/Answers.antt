@@ -9,8 +9,10 @@ use Rattle.finite_models.proofs.tables.has_table_length.Goals as goal
 
 pub returns : goal.returns
 returns c =
-    let both = capped_is (radix_range c.args.g.now.n (λ p. (graph_of c.args.g.now).arrow p c.args.v) (λ p. get_or c.args.m.now.sizes.items p 0)) (length c.args.outputs.now)
+    let both = capped_is (radix_range c.args.g.now.n (λ p. (graph_of c.args.g.now).arrow p c.args.v) (λ p. get_or c.args.m.now.sizes.items p 0))
+    (length c.args.outputs.now)
     c.causes_range.result c.parents_range-start.result
-    (radix_range (length c.args.m.now.causes.items) (λ j. has (children_of c.args.m.now.causes.items j) c.args.v) (λ j. length (weights_of c.args.m.now.causes.items j)))
+    (radix_range (length c.args.m.now.causes.items) (λ j. has (children_of c.args.m.now.causes.items j) c.args.v)
+    (λ j. length (weights_of c.args.m.now.causes.items j)))
     c.parents_range-start.ensures c.causes_range.ensures in
     (λ t. both.0 (eqb-true _ _ t), λ e. eq-eqb _ _ (both.1 e))

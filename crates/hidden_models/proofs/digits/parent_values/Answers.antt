@@ -16,6 +16,8 @@ loop-i-preserved c =
     let here : at < length c.loop-i.values = (let k = c.args.p.now.small in let e = c.requires.sizes in let f = c.loop-i.invariant.long in omega arith) in
     record {
       long = length-set c.loop-i.values at c.last_digit.result ∙ c.loop-i.invariant.long;
-      written = written-more _ _ _ _ c.loop-i.values c.loop-i.rest _ _ _ at c.last_digit.result c.index.result.now c.has-kept.result here (omega arith) (omega arith)
-          (c.has-kept.ensures ∙ c.parents-parents.ensures.members at) (get_or_read c.args.m.now.sizes.items at _ lt c.index.ensures 0) c.last_digit.ensures.digit c.without_last-rest.ensures c.loop-i.invariant.written;
+      written = written-more _ _ _ _ c.loop-i.values c.loop-i.rest _ _ _ at c.last_digit.result c.index.result.now c.has-kept.result here (omega arith)
+          (omega arith)
+          (c.has-kept.ensures ∙ c.parents-parents.ensures.members at) (get_or_read c.args.m.now.sizes.items at _ lt c.index.ensures 0)
+          c.last_digit.ensures.digit c.without_last-rest.ensures c.loop-i.invariant.written;
     }

@@ -8,5 +8,8 @@ use Rattle.hidden_models.proofs.entries.table.Goals as goal
 
 pub loop-place-preserved : goal.loop-place-preserved
 loop-place-preserved c =
-    subst (λ (xs : List ℕ). AreListed {X = ℕ} (λ i x. x ≡ entry_at (graph_of c.args.g.now) (graph_of c.args.parts.now.projection) (has c.args.latent.bits) c.args.m.now c.args.parts.now.reached.items c.args.v i) xs (c.loop-place.place + 1)) (sym c.in_ok-push.ensures.items)
-    (listed-more {X = ℕ} (λ i x. x ≡ entry_at (graph_of c.args.g.now) (graph_of c.args.parts.now.projection) (has c.args.latent.bits) c.args.m.now c.args.parts.now.reached.items c.args.v i) c.loop-place.outputs.items c.loop-place.place c.in_ok-output.output c.loop-place.invariant c.in_ok-output.ensures)
+    subst (λ (xs : List ℕ). AreListed {X = ℕ} (λ i x. x ≡ entry_at (graph_of c.args.g.now) (graph_of c.args.parts.now.projection) (has c.args.latent.bits)
+    c.args.m.now c.args.parts.now.reached.items c.args.v i) xs (c.loop-place.place + 1)) (sym c.in_ok-push.ensures.items)
+    (listed-more {X = ℕ} (λ i x. x ≡ entry_at (graph_of c.args.g.now) (graph_of c.args.parts.now.projection) (has c.args.latent.bits)
+    c.args.m.now c.args.parts.now.reached.items c.args.v i) c.loop-place.outputs.items c.loop-place.place c.in_ok-output.output c.loop-place.invariant
+    c.in_ok-output.ensures)

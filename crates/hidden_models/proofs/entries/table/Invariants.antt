@@ -6,4 +6,5 @@ use Rattle.hidden_models.specs.Tables.{entry_at}
 use Rattle.hidden_models.proofs.entries.table.Given as goal
 
 abbrev pub invariant-loop-place : goal.invariant-loop-place
-invariant-loop-place l = AreListed (λ i x. x ≡ entry_at (graph_of l.g) (graph_of l.parts.projection) (has l.latent.bits) l.m l.parts.reached.items l.v i) l.outputs.items l.place
+invariant-loop-place l = AreListed (λ i x. x ≡ entry_at (graph_of l.g) (graph_of l.parts.projection) (has l.latent.bits) l.m l.parts.reached.items l.v i)
+    l.outputs.items l.place

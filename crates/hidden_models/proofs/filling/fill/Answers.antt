@@ -13,7 +13,8 @@ use Rattle.hidden_models.proofs.filling.fill.Goals.{then-has, else-has}
 pub loop-i-init : goal.loop-i-init
 loop-i-init c = record {
   entries = refl;
-  in_range = λ p lt. (let l : p < 64 = (let k = c.args.g.now.small in omega arith) in rw (get_or-replicate {A = ℕ} 64 p 0 0 l) (c.requires.accepted.fits.positive_size p lt));
+  in_range = λ p lt. (let l : p < 64 = (let k = c.args.g.now.small in omega arith) in
+      rw (get_or-replicate {A = ℕ} 64 p 0 0 l) (c.requires.accepted.fits.positive_size p lt));
   solved = λ p taken. absurd (cc);
 }
 
@@ -22,19 +23,25 @@ loop-i-preserved c =
     let v : ℕ = get_or c.args.order.now.list c.loop-i.i 0 in
     let next = c.requires.order.next c.loop-i.i (omega arith) in
     let here : v < length c.loop-i.values = (let k = c.args.g.now.small in let b = next.below in let e = c.loop-i.invariant.entries in omega arith) in
-    let value : c.if-has.value ≡ solution (intervene (meaning (graph_of c.args.g.now) c.args.m.now) (λ w. not (has c.args.latent.bits w)) (λ q. get_or c.args.at.now q 0)) (λ j. get_or c.args.world.now j 0) v =
-    (let n = solved_next (graph_of c.args.g.now) c.args.g.now.valid (meaning (graph_of c.args.g.now) c.args.m.now) c.requires.accepted.fits (λ w. not (has c.args.latent.bits w)) (λ q. get_or c.args.at.now q 0) c.requires.in_range
+    let value : c.if-has.value ≡ solution (intervene (meaning (graph_of c.args.g.now) c.args.m.now) (λ w. not (has c.args.latent.bits w))
+    (λ q. get_or c.args.at.now q 0)) (λ j. get_or c.args.world.now j 0) v =
+    (let n = solved_next (graph_of c.args.g.now) c.args.g.now.valid (meaning (graph_of c.args.g.now) c.args.m.now) c.requires.accepted.fits
+    (λ w. not (has c.args.latent.bits w)) (λ q. get_or c.args.at.now q 0) c.requires.in_range
     (λ j. get_or c.args.world.now j 0) (λ p. get_or c.loop-i.values p 0) v next.below (λ p a. c.loop-i.invariant.solved p (next.parents p a)) in
     elim c.if-has.branch [
-      | then-has w ↦ w.value-is ∙ w.mechanism_value-value.ensures ∙ sym (cond-false (not (has c.args.latent.bits v)) _ _ (not_from_true (has c.args.latent.bits v) (sym c.has.ensures ∙ w.if-has.true))) ∙ n
-      | else-has w ↦ w.value-is ∙ sym (cond-true (not (has c.args.latent.bits v)) _ _ (not_from_false (has c.args.latent.bits v) (sym c.has.ensures ∙ w.if-has.false))) ∙ n
+      | then-has w ↦ w.value-is ∙ w.mechanism_value-value.ensures ∙ sym
+          (cond-false (not (has c.args.latent.bits v)) _ _ (not_from_true (has c.args.latent.bits v) (sym c.has.ensures ∙ w.if-has.true))) ∙ n
+      | else-has w ↦ w.value-is ∙ sym (cond-true (not (has c.args.latent.bits v)) _ _
+          (not_from_false (has c.args.latent.bits v) (sym c.has.ensures ∙ w.if-has.false))) ∙ n
     ]) in
     record {
       entries = length-set c.loop-i.values v c.if-has.value ∙ c.loop-i.invariant.entries;
       in_range = kept_in_range c.loop-i.values c.args.m.now.sizes.items c.args.g.now.n v c.if-has.value
           (subst (λ x. x < get_or c.args.m.now.sizes.items v 0) (sym value)
-          (filled_below (graph_of c.args.g.now) (meaning (graph_of c.args.g.now) c.args.m.now) c.requires.accepted.fits (has c.args.latent.bits) (λ q. get_or c.args.at.now q 0) (λ j. get_or c.args.world.now j 0) c.requires.in_range c.requires.world.below v next.below))
+          (filled_below (graph_of c.args.g.now) (meaning (graph_of c.args.g.now) c.args.m.now) c.requires.accepted.fits (has c.args.latent.bits)
+          (λ q. get_or c.args.at.now q 0) (λ j. get_or c.args.world.now j 0) c.requires.in_range c.requires.world.below v next.below))
           c.loop-i.invariant.in_range here;
       solved = taken_solved c.args.order.now.list c.loop-i.values c.loop-i.i c.if-has.value
-          (solution (intervene (meaning (graph_of c.args.g.now) c.args.m.now) (λ w. not (has c.args.latent.bits w)) (λ q. get_or c.args.at.now q 0)) (λ j. get_or c.args.world.now j 0)) here value c.loop-i.invariant.solved;
+          (solution (intervene (meaning (graph_of c.args.g.now) c.args.m.now) (λ w. not (has c.args.latent.bits w)) (λ q. get_or c.args.at.now q 0))
+          (λ j. get_or c.args.world.now j 0)) here value c.loop-i.invariant.solved;
     }

@@ -14,21 +14,29 @@ first_large-requires-clause-few c =
 
 pub first_large-requires-clause-below : goal.first_large-requires-clause-below
 first_large-requires-clause-below c k lt =
-    let b = members-within (λ v. not (has c.args.latent.bits v)) c.args.g.now.n c.deref.result.now (c.deref.ensures.value ∙ c.in-Ok-observed_vertices.ensures) k lt in let s = c.args.g.now.small in omega (arith, b, s)
+    let b = members-within (λ v. not (has c.args.latent.bits v)) c.args.g.now.n c.deref.result.now (c.deref.ensures.value ∙ c.in-Ok-observed_vertices.ensures)
+    k lt in let s = c.args.g.now.small in omega (arith, b, s)
 
 pub returns-in-Some-clause-fault : goal.returns-in-Some-clause-fault
-returns-in-Some-clause-fault c = first_too_large (graph_of c.args.g.now) c.args.g.now.valid (has c.args.latent.bits) c.args.m.now c.requires c.in-Ok.parts.reached.items c.in-Ok.ensures.reached (graph_of c.in-Ok.parts.projection) c.in-Ok.ensures.projects
+returns-in-Some-clause-fault c = first_too_large (graph_of c.args.g.now) c.args.g.now.valid (has c.args.latent.bits)
+    c.args.m.now c.requires c.in-Ok.parts.reached.items c.in-Ok.ensures.reached (graph_of c.in-Ok.parts.projection) c.in-Ok.ensures.projects
     c.deref.result.now (c.deref.ensures.value ∙ c.in-Ok-observed_vertices.ensures) c.in-Some.k c.in-Some.ensures.large
 
 pub returns-in-Ok-folded-clause-fits : goal.returns-in-Ok-folded-clause-fits
-returns-in-Ok-folded-clause-fits c q is = is_accepted (graph_of c.args.g.now) c.args.g.now.valid (has c.args.latent.bits) c.args.m.now c.requires c.in-Ok.parts.reached.items c.in-Ok.ensures.reached q is (graph_of c.in-Ok.parts.projection) c.in-Ok.ensures.projects c.in-Ok-folded.model c.in-Ok-folded.ensures
+returns-in-Ok-folded-clause-fits c q is = is_accepted (graph_of c.args.g.now) c.args.g.now.valid (has c.args.latent.bits)
+    c.args.m.now c.requires c.in-Ok.parts.reached.items c.in-Ok.ensures.reached q is (graph_of c.in-Ok.parts.projection)
+    c.in-Ok.ensures.projects c.in-Ok-folded.model c.in-Ok-folded.ensures
 
 pub returns-in-Ok-folded-clause-folds : goal.returns-in-Ok-folded-clause-folds
-returns-in-Ok-folded-clause-folds c q is = folds (graph_of c.args.g.now) c.args.g.now.valid (has c.args.latent.bits) c.args.m.now c.requires c.in-Ok.parts.reached.items c.in-Ok.ensures.reached q is (graph_of c.in-Ok.parts.projection) c.in-Ok.ensures.projects c.in-Ok-folded.model c.in-Ok-folded.ensures
+returns-in-Ok-folded-clause-folds c q is = folds (graph_of c.args.g.now) c.args.g.now.valid (has c.args.latent.bits)
+    c.args.m.now c.requires c.in-Ok.parts.reached.items c.in-Ok.ensures.reached q is (graph_of c.in-Ok.parts.projection)
+    c.in-Ok.ensures.projects c.in-Ok-folded.model c.in-Ok-folded.ensures
 
 pub returns-in-Ok-folded-clause-causes : goal.returns-in-Ok-folded-clause-causes
-returns-in-Ok-folded-clause-causes c = causes_folded (graph_of c.args.g.now) c.args.g.now.valid (has c.args.latent.bits) c.args.m.now c.requires c.in-Ok.parts.reached.items c.in-Ok.ensures.reached (graph_of c.in-Ok.parts.projection) c.in-Ok-folded.model c.in-Ok-folded.ensures
+returns-in-Ok-folded-clause-causes c = causes_folded (graph_of c.args.g.now) c.args.g.now.valid (has c.args.latent.bits)
+    c.args.m.now c.requires c.in-Ok.parts.reached.items c.in-Ok.ensures.reached (graph_of c.in-Ok.parts.projection) c.in-Ok-folded.model c.in-Ok-folded.ensures
 
 pub returns-in-Ok-folded-clause-small : goal.returns-in-Ok-folded-clause-small
-returns-in-Ok-folded-clause-small c = all_small (graph_of c.args.g.now) c.args.g.now.valid (has c.args.latent.bits) c.args.m.now c.requires c.in-Ok.parts.reached.items c.in-Ok.ensures.reached (graph_of c.in-Ok.parts.projection) c.in-Ok.ensures.projects
+returns-in-Ok-folded-clause-small c = all_small (graph_of c.args.g.now) c.args.g.now.valid (has c.args.latent.bits)
+    c.args.m.now c.requires c.in-Ok.parts.reached.items c.in-Ok.ensures.reached (graph_of c.in-Ok.parts.projection) c.in-Ok.ensures.projects
     c.deref.result.now (c.deref.ensures.value ∙ c.in-Ok-observed_vertices.ensures) c.in_default-first_large.ensures.small

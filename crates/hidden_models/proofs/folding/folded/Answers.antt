@@ -11,7 +11,8 @@ kept_causes-requires-clause-within c i lt =
 
 pub kept_sizes-requires : goal.kept_sizes-requires
 kept_sizes-requires c k lt =
-    subst (λ n. get_or c.args.kept.now k 0 < n) (sym c.requires.accepted.sizes) (members-within (λ v. not (has c.args.latent.bits v)) c.args.g.now.n c.args.kept.now c.requires.vertices k lt)
+    subst (λ n. get_or c.args.kept.now k 0 < n) (sym c.requires.accepted.sizes)
+    (members-within (λ v. not (has c.args.latent.bits v)) c.args.g.now.n c.args.kept.now c.requires.vertices k lt)
 
 pub kept_tables-requires-clause-below : goal.kept_tables-requires-clause-below
 kept_tables-requires-clause-below c k lt = members-within (λ v. not (has c.args.latent.bits v)) c.args.g.now.n c.args.kept.now c.requires.vertices k lt

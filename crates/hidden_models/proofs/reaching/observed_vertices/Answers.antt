@@ -12,6 +12,8 @@ loop-v-init c = c.new-kept.ensures.items ∙ sym (members-start (λ v. not (has 
 pub loop-v-preserved : goal.loop-v-preserved
 loop-v-preserved c = elim c.if-not-has.branch [
   | then-not-has+in_ok-push w ↦ rw w.kept-is (w.in_ok-push.ensures.items ∙ ap (λ xs. xs ++ c.loop-v.v ∷ []) c.loop-v.invariant
-      ∙ sym (members-more (λ v. not (has c.args.latent.bits v)) c.loop-v.v (not_from_false (has c.args.latent.bits c.loop-v.v) (sym c.has.ensures ∙ w.if-not-has.true))))
-  | else-not-has w ↦ rw w.kept-is (c.loop-v.invariant ∙ sym (members-same (λ v. not (has c.args.latent.bits v)) c.loop-v.v (not_from_true (has c.args.latent.bits c.loop-v.v) (sym c.has.ensures ∙ w.if-not-has.false))))
+      ∙ sym (members-more (λ v. not (has c.args.latent.bits v)) c.loop-v.v
+      (not_from_false (has c.args.latent.bits c.loop-v.v) (sym c.has.ensures ∙ w.if-not-has.true))))
+  | else-not-has w ↦ rw w.kept-is (c.loop-v.invariant ∙ sym (members-same (λ v. not (has c.args.latent.bits v)) c.loop-v.v
+      (not_from_true (has c.args.latent.bits c.loop-v.v) (sym c.has.ensures ∙ w.if-not-has.false))))
 ]

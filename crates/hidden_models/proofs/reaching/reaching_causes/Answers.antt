@@ -13,6 +13,8 @@ loop-j-init c = c.new-kept.ensures.items ∙ sym (members-start (has_some c.args
 pub loop-j-preserved : goal.loop-j-preserved
 loop-j-preserved c = elim c.if-not-is_empty.branch [
   | then-not-is_empty+in_ok-push w ↦ rw w.kept-is (w.in_ok-push.ensures.items ∙ ap (λ xs. xs ++ c.loop-j.j ∷ []) c.loop-j.invariant
-      ∙ sym (members-more (has_some c.args.sets.now) c.loop-j.j (some_is c.args.sets.now c.loop-j.j c.is_empty.result c.is_empty.ensures.none ∙ not_from_false c.is_empty.result w.if-not-is_empty.true)))
-  | else-not-is_empty w ↦ rw w.kept-is (c.loop-j.invariant ∙ sym (members-same (has_some c.args.sets.now) c.loop-j.j (some_is c.args.sets.now c.loop-j.j c.is_empty.result c.is_empty.ensures.none ∙ not_from_true c.is_empty.result w.if-not-is_empty.false)))
+      ∙ sym (members-more (has_some c.args.sets.now) c.loop-j.j (some_is c.args.sets.now c.loop-j.j c.is_empty.result c.is_empty.ensures.none
+      ∙ not_from_false c.is_empty.result w.if-not-is_empty.true)))
+  | else-not-is_empty w ↦ rw w.kept-is (c.loop-j.invariant ∙ sym (members-same (has_some c.args.sets.now) c.loop-j.j
+      (some_is c.args.sets.now c.loop-j.j c.is_empty.result c.is_empty.ensures.none ∙ not_from_true c.is_empty.result w.if-not-is_empty.false)))
 ]

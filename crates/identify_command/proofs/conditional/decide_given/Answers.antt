@@ -6,9 +6,9 @@ use Rattle.prob_expr.specs.View.{formula_view, target_view}
 use Rattle.do_derivation.specs.Accepts.{Accepts}
 use Rattle.do_derivation.specs.View.{derivation_view}
 use Rattle.counter_models.specs.Events.{AreCounterModels}
-use Rattle.conditional_theory.specs.Laws.{IsShallowGiven}
+use Rattle.conditional_id.specs.TurnLaws.{IsShallowGiven}
 use Rattle.conditional_id.specs.Answers.{IsRight, IsJointEffect, IsJointShown, IfFormula, IfJoint}
-use Rattle.id_recursion.specs.Answers.{effect_on}
+use Rattle.prob_expr.specs.Tree.{effect_on}
 use Rattle.identify_text.specs.Below.{IsHedgeBelow, ArePairBelow}
 use Rattle.identify_text.proofs.Belows.{hedge_below}
 use Rattle.certificate.specs.Plain.{hedge_view}
@@ -62,11 +62,14 @@ joint_text-requires c =
       x = on_names (λ n. Within n (has c.in-Joint.x.bits)) effect.target.sets.x_within;
       y = on_names (λ n. Within n (has c.in-Joint.y.bits)) effect.target.sets.y_within;
       target = on_names (λ n. IsBareTarget n (effect_on c.in-Joint.x.bits c.in-Joint.y.bits))
-          (bare_target c.args.seen.now.graph.n c.in-Joint.x.bits c.in-Joint.y.bits effect.target.sets.x_within effect.target.sets.y_within effect.target.sets.x_y
+          (bare_target c.args.seen.now.graph.n c.in-Joint.x.bits c.in-Joint.y.bits effect.target.sets.x_within effect.target.sets.y_within
+          effect.target.sets.x_y
           (with_member c.in-Joint.y.bits effect.target.some.0 effect.target.some.1));
-      hedge = on_names (λ n. IsHedgeBelow n c.in-Joint.hedge) (hedge_below g c.in-Joint.x.bits c.in-Joint.y.bits c.in-Joint.hedge c.args.seen.now.graph.small shown.hedge);
+      hedge = on_names (λ n. IsHedgeBelow n c.in-Joint.hedge) (hedge_below g c.in-Joint.x.bits c.in-Joint.y.bits c.in-Joint.hedge c.args.seen.now.graph.small
+          shown.hedge);
       models = on_names (λ n. ArePairBelow n c.in-Joint.pair)
-          (pair_below g c.args.seen.now.graph.valid c.in-Joint.x.bits c.in-Joint.y.bits c.in-Joint.hedge c.in-Joint.pair effect.target.sets.y_within shown.models
+          (pair_below g c.args.seen.now.graph.valid c.in-Joint.x.bits c.in-Joint.y.bits c.in-Joint.hedge c.in-Joint.pair effect.target.sets.y_within
+          shown.models
           (subst (λ a. IfJoint a (λ x y b h pair. AreCounterModels g x.bits y.bits pair)) c.in-Joint.is c.in_ok-formula.ensures.counter));
       «data» = on_names (λ n. IsHedgeWithin n (hedge_view c.in-Joint.hedge))
           (hedge_within g c.in-Joint.x.bits c.in-Joint.y.bits c.in-Joint.hedge c.sized.ensures.found c.sized.ensures.partner shown.hedge);

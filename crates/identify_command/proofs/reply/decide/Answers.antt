@@ -3,11 +3,11 @@ use Rattle.mixed_graph.specs.Bits.{has}
 use Rattle.mixed_graph.specs.Sets.{Within}
 use Rattle.mixed_graph.specs.Shown.{graph_of}
 use Rattle.hedge.specs.Hedges.{IsHedge}
-use Rattle.prob_expr.specs.Tree.{PlainTarget}
+use Rattle.prob_expr.specs.Tree.{PlainTarget, effect_on}
 use Rattle.prob_expr.specs.View.{formula_view}
 use Rattle.do_derivation.specs.Accepts.{Accepts}
 use Rattle.do_derivation.specs.View.{derivation_view}
-use Rattle.id_recursion.specs.Answers.{effect_on, IfFormula, IfHedge, AreShallowSteps, IsShallowFormula}
+use Rattle.identify.specs.Answers.{IfFormula, IfHedge, AreShallowSteps, IsShallowFormula}
 use Rattle.identify_text.proofs.Free.{none_within}
 use Rattle.certificate.specs.Plain.{hedge_view}
 use Rattle.certificate_writing.specs.Writable.{IsTargetWithin, IsBareTarget, IsDerivationWithin, IsHedgeWithin}
@@ -38,7 +38,8 @@ pub formula_text-requires-clause-derivation : goal.formula_text-requires-clause-
 formula_text-requires-clause-derivation c =
     let g = graph_of c.args.seen.now.graph in
     subst (λ n. IsDerivationWithin n (derivation_view c.in-Formula.derivation)) (sym c.requires.named)
-    (derivation_within g c.args.seen.now.graph.valid [] (effect_on c.args.sets.x.bits c.args.sets.y.bits) (formula_view c.in-Formula.formula) (derivation_view c.in-Formula.derivation)
+    (derivation_within g c.args.seen.now.graph.valid [] (effect_on c.args.sets.x.bits c.args.sets.y.bits) (formula_view c.in-Formula.formula)
+    (derivation_view c.in-Formula.derivation)
     (bare_target c.args.seen.now.graph.n c.args.sets.x.bits c.args.sets.y.bits c.requires.x c.requires.y c.requires.apart c.requires.some).sets
     (subst (λ a. IfFormula a (Accepts g [] (effect_on c.args.sets.x.bits c.args.sets.y.bits))) c.in-Formula.is c.in_ok-formula.ensures.accepted))
 
@@ -53,11 +54,13 @@ hedge_text-requires-clause-target c = subst (λ n. IsBareTarget n (effect_on c.a
     (bare_target c.args.seen.now.graph.n c.args.sets.x.bits c.args.sets.y.bits c.requires.x c.requires.y c.requires.apart c.requires.some)
 
 pub hedge_text-requires-clause-hedge : goal.hedge_text-requires-clause-hedge
-hedge_text-requires-clause-hedge c = hedge_named (graph_of c.args.seen.now.graph) c.args.sets.x.bits c.args.sets.y.bits c.in-Hedge.hedge c.in-Hedge.pair c.in-Hedge.is
+hedge_text-requires-clause-hedge c = hedge_named (graph_of c.args.seen.now.graph)
+    c.args.sets.x.bits c.args.sets.y.bits c.in-Hedge.hedge c.in-Hedge.pair c.in-Hedge.is
     (length c.args.seen.now.names) c.requires.named c.args.seen.now.graph.small c.in_ok-formula.ensures.hedge
 
 pub hedge_text-requires-clause-models : goal.hedge_text-requires-clause-models
-hedge_text-requires-clause-models c = pair_named (graph_of c.args.seen.now.graph) c.args.sets.x.bits c.args.sets.y.bits c.in-Hedge.hedge c.in-Hedge.pair c.in-Hedge.is
+hedge_text-requires-clause-models c = pair_named (graph_of c.args.seen.now.graph)
+    c.args.sets.x.bits c.args.sets.y.bits c.in-Hedge.hedge c.in-Hedge.pair c.in-Hedge.is
     (length c.args.seen.now.names) c.requires.named c.args.seen.now.graph.valid c.requires.y c.in_ok-formula.ensures.pair c.in_ok-formula.ensures.counter
 
 pub hedge_text-requires-clause-data : goal.hedge_text-requires-clause-data
@@ -72,7 +75,8 @@ returns-in_ok-hedge_text-in-Hedge c =
     let e = c.in_ok-formula.ensures in record {
       hedge = c.in-Hedge.hedge;
       pair = c.in-Hedge.pair;
-      found = found (graph_of c.args.seen.now.graph) c.args.sets.x.bits c.args.sets.y.bits c.in-Hedge.hedge c.in-Hedge.pair c.in-Hedge.is e.right e.hedge e.stop e.data e.pair;
+      found = found (graph_of c.args.seen.now.graph) c.args.sets.x.bits c.args.sets.y.bits c.in-Hedge.hedge c.in-Hedge.pair c.in-Hedge.is e.right e.hedge
+          e.stop e.data e.pair;
       prints = c.in_ok-hedge_text-in-Hedge.ensures.text;
       reads_back = c.in_ok-hedge_text-in-Hedge.ensures.reads_back;
     }

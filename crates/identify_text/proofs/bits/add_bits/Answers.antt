@@ -9,7 +9,8 @@ pub loop-v-init : goal.loop-v-init
 loop-v-init c = texts_none (λ u. codes " + " ++ bit_text c.args.names.now c.args.bit u) (has c.args.set.bits) c.args.terms.now.items
 
 pub loop-v-preserved : goal.loop-v-preserved
-loop-v-preserved c = written_more (λ u. codes " + " ++ bit_text c.args.names.now c.args.bit u) (has c.args.set.bits) c.loop-v.v c.args.terms.now.items c.loop-v.terms.items _ c.loop-v.invariant c.in_ok-add_bit.ensures
+loop-v-preserved c = written_more (λ u. codes " + " ++ bit_text c.args.names.now c.args.bit u) (has c.args.set.bits)
+    c.loop-v.v c.args.terms.now.items c.loop-v.terms.items _ c.loop-v.invariant c.in_ok-add_bit.ensures
 
 pub returns : goal.returns
 returns c =

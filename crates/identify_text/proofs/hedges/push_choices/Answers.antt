@@ -9,7 +9,8 @@ pub loop-v-init : goal.loop-v-init
 loop-v-init c = texts_none (choice_line c.args.names.now c.args.h.now) (chooses c.args.h.now) c.args.out.now.items
 
 pub loop-v-preserved : goal.loop-v-preserved
-loop-v-preserved c = written_more (choice_line c.args.names.now c.args.h.now) (chooses c.args.h.now) c.loop-v.v c.args.out.now.items c.loop-v.out.items _ c.loop-v.invariant c.in_ok-push_choice.ensures
+loop-v-preserved c = written_more (choice_line c.args.names.now c.args.h.now) (chooses c.args.h.now)
+    c.loop-v.v c.args.out.now.items c.loop-v.out.items _ c.loop-v.invariant c.in_ok-push_choice.ensures
 
 pub returns : goal.returns
 returns c =

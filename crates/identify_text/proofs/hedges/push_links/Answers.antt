@@ -9,13 +9,15 @@ use Rattle.identify_text.proofs.hedges.push_links.Goals as goal
 pub loop-i-init : goal.loop-i-init
 loop-i-init c = record {
   in_range = omega arith;
-  told = sym (append-nil c.args.out.now.items) ∙ ap (λ t. c.args.out.now.items ++ t) (sym (later_none (link_line c.args.names.now c.args.h.now) 1 (omega arith)));
+  told = sym (append-nil c.args.out.now.items) ∙ ap (λ t. c.args.out.now.items ++ t)
+      (sym (later_none (link_line c.args.names.now c.args.h.now) 1 (omega arith)));
 }
 
 pub loop-i-preserved : goal.loop-i-preserved
 loop-i-preserved c = record {
   in_range = omega arith;
-  told = later_more (link_line c.args.names.now c.args.h.now) c.loop-i.i c.args.out.now.items c.loop-i.out.items _ (omega arith) c.loop-i.invariant.told c.in_ok-push_link.ensures;
+  told = later_more (link_line c.args.names.now c.args.h.now) c.loop-i.i c.args.out.now.items c.loop-i.out.items _ (omega arith)
+      c.loop-i.invariant.told c.in_ok-push_link.ensures;
 }
 
 pub returns : goal.returns

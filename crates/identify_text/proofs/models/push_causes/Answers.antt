@@ -9,6 +9,8 @@ loop-cause-preserved c =
     let i = c.loop-cause.cause-index in let j = c.loop-cause.j in
     record {
       index = omega arith;
-      told = step_written (cause_line names j c.cause-item.result) (cause_lines names j (drop i causes)) (cause_lines names (j + 1) (drop (i + 1) causes)) c.args.out.now.items c.loop-cause.out.items _
-          (cause_lines names 0 causes) (causes_step names j i causes c.cause-item.result (omega arith) c.cause-item.is) c.loop-cause.invariant.told c.in_ok-push_cause.ensures;
+      told = step_written (cause_line names j c.cause-item.result) (cause_lines names j (drop i causes)) (cause_lines names (j + 1) (drop (i + 1) causes))
+          c.args.out.now.items c.loop-cause.out.items _
+          (cause_lines names 0 causes) (causes_step names j i causes c.cause-item.result (omega arith) c.cause-item.is)
+          c.loop-cause.invariant.told c.in_ok-push_cause.ensures;
     }

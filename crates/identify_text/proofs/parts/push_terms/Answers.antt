@@ -12,7 +12,9 @@ returns c =
     let causes = map cause_text p.causes.items in
     let all : c.add_causes.new.terms.items ≡ added (terms_of names c.args.v p) =
     c.in_ok-add_causes.ensures
-    ∙ ap (λ t. t ++ added (map cause_text c.as_slice.result.now)) (c.in_ok-add_bits-2.ensures ∙ ap (λ t. t ++ added carrieds) (c.in_ok-add_bits.ensures ∙ ap (λ t. t ++ added hedges) (c.in_ok-add_own.ensures ∙ ap (λ t. t ++ added own) c.new-terms.ensures.items)))
+    ∙ ap (λ t. t ++ added (map cause_text c.as_slice.result.now)) (c.in_ok-add_bits-2.ensures
+    ∙ ap (λ t. t ++ added carrieds) (c.in_ok-add_bits.ensures ∙ ap (λ t. t ++ added hedges)
+    (c.in_ok-add_own.ensures ∙ ap (λ t. t ++ added own) c.new-terms.ensures.items)))
     ∙ ap (λ cs. ((added own ++ added hedges) ++ added carrieds) ++ added (map cause_text cs)) c.as_slice.ensures.value
     ∙ added_four own hedges carrieds causes in
     subst (λ t. OnOk c.push_sum.result (c.push_sum.new.out.items ≡ c.args.out.now.items ++ t))

@@ -6,7 +6,8 @@ use Rattle.implications.proofs.sets.thinned.Goals as goal
 
 pub down-init : goal.down-init
 down-init c = (
-  down_begins (graph_of c.args.g.now) c.args.a c.args.b (has c.args.all.bits) 64 (λ v h. let l = c.requires.separates.within v h in let n = c.args.g.now.small in omega (arith, l, n)),
+  down_begins (graph_of c.args.g.now) c.args.a c.args.b (has c.args.all.bits) 64
+      (λ v h. let l = c.requires.separates.within v h in let n = c.args.g.now.small in omega (arith, l, n)),
   c.requires.separates,
 )
 
@@ -14,7 +15,8 @@ pub down-preserved : goal.down-preserved
 down-preserved c =
     let e : c.down.v ≡ c.down.v - 1 + 1 = omega (arith, c.down-test.true) in (
       down_step (graph_of c.args.g.now) c.args.a c.args.b (has c.args.all.bits) (c.down.v - 1) (has c.down.kept.bits) (has c.without-kept.result.bits)
-          (subst (λ n. IsDownTo (graph_of c.args.g.now) c.args.a c.args.b (has c.args.all.bits) n (has c.down.kept.bits)) e c.down.invariant.0) c.without-kept.ensures.step,
+          (subst (λ n. IsDownTo (graph_of c.args.g.now) c.args.a c.args.b (has c.args.all.bits) n (has c.down.kept.bits)) e c.down.invariant.0)
+          c.without-kept.ensures.step,
       c.without-kept.ensures.separates,
     )
 

@@ -10,5 +10,6 @@ push_measured-requires-clause-readable c =
 
 pub loop-i-preserved : goal.loop-i-preserved
 loop-i-preserved c =
-    measured_more (pairs_view c.args.pairs.now) c.args.counts.now c.deref-i-items.result.now c.loop-i.i-index _ c.loop-i.text.items c.push_measured.new.out.items
+    measured_more (pairs_view c.args.pairs.now) c.args.counts.now c.deref-i-items.result.now c.loop-i.i-index _ c.loop-i.text.items
+    c.push_measured.new.out.items
     c.loop-i-test.true c.loop-i.invariant c.in_ok-push_measured.ensures

@@ -10,6 +10,7 @@ returns c =
       difference = d;
       largest = c.in_ok-difference.ensures.largest;
       matched = c.in_ok-difference.ensures.matched p.graph c.requires.pairs.graph c.requires.implication;
-      text = two_pieces c.args.out.now.items (pair_line p.names c.args.i.now) (difference_line p.names c.args.counts.now c.args.i.now d) c.push_pair.new.out.items c.push_difference.new.out.items
+      text = two_pieces c.args.out.now.items (pair_line p.names c.args.i.now) (difference_line p.names c.args.counts.now c.args.i.now d)
+          c.push_pair.new.out.items c.push_difference.new.out.items
           c.in_ok-push_pair.ensures c.in_ok-push_difference.ensures;
     }

@@ -6,6 +6,8 @@ use Rattle.implications_command.proofs.lines.push_cell.Goals as goal
 
 pub returns : goal.returns
 returns c =
-    cell_pieces (assignment c.args.names.now c.args.counts.now (cell_of c.args.cell.now)) c.args.i.now.a c.args.i.now.b (members_below (has c.args.i.now.given.bits) 64) c.args.out.now.items
+    cell_pieces (assignment c.args.names.now c.args.counts.now (cell_of c.args.cell.now)) c.args.i.now.a c.args.i.now.b
+    (members_below (has c.args.i.now.given.bits) 64) c.args.out.now.items
     c.push_assignment.new.out.items c.push.new.self.items c.push_assignment-2.new.out.items c.extend_from_slice.new.self.items c.push_assignments.new.out.items
-    c.in_ok-push_assignment.ensures c.in_ok-push.ensures.items c.in_ok-push_assignment-2.ensures (rw (← c.separator.ensures) c.in_ok-extend_from_slice.ensures.items) c.in_ok-push_assignments.ensures
+    c.in_ok-push_assignment.ensures c.in_ok-push.ensures.items c.in_ok-push_assignment-2.ensures
+    (rw (← c.separator.ensures) c.in_ok-extend_from_slice.ensures.items) c.in_ok-push_assignments.ensures

@@ -14,7 +14,9 @@ pub returns-then-is_empty : goal.returns-then-is_empty
 returns-then-is_empty c = record {
   graph = graph_of c.in_ok-seen.seen.graph;
   observed = c.in_ok-seen.ensures.graph;
-  none = none_listed (graph_of c.in_ok-seen.seen.graph) c.in_ok-list.list.items c.in_ok-list.ensures.implications (grind (arith, c.if-is_empty.true, c.if-is_empty.ensures));
-  dependent = λ a b i. (let there = c.in_ok-list.ensures.complete a b i in let lt = there.2 in let empty : length c.in_ok-list.list.items ≡ 0 = grind (arith, c.if-is_empty.true, c.if-is_empty.ensures) in omega (arith, lt, empty));
+  none = none_listed (graph_of c.in_ok-seen.seen.graph) c.in_ok-list.list.items c.in_ok-list.ensures.implications
+      (grind (arith, c.if-is_empty.true, c.if-is_empty.ensures));
+  dependent = λ a b i. (let there = c.in_ok-list.ensures.complete a b i in let lt = there.2 in let empty : length c.in_ok-list.list.items ≡ 0 =
+      grind (arith, c.if-is_empty.true, c.if-is_empty.ensures) in omega (arith, lt, empty));
   prints = c.in_ok-from_slice.ensures.items;
 }

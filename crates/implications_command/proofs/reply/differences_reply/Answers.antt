@@ -10,15 +10,18 @@ use Rattle.implications_command.proofs.reply.differences_reply.Goals as goal
 
 pub read_counts-requires-clause-some : goal.read_counts-requires-clause-some
 read_counts-requires-clause-some c =
-    subst (λ m. 0 < m) (sym (c.used_in.ensures ∙ ap (λ (l : List Implication). used_in l) c.deref.ensures.value)) (some (pairs_view c.args.pairs.now) c.requires.pairs)
+    subst (λ m. 0 < m) (sym (c.used_in.ensures ∙ ap (λ (l : List Implication). used_in l) c.deref.ensures.value))
+    (some (pairs_view c.args.pairs.now) c.requires.pairs)
 
 pub read_counts-requires-clause-named : goal.read_counts-requires-clause-named
 read_counts-requires-clause-named c = λ v h.
-    within (pairs_view c.args.pairs.now) c.requires.pairs v (ap (λ m. has m v) (sym (c.used_in.ensures ∙ ap (λ (l : List Implication). used_in l) c.deref.ensures.value)) ∙ h)
+    within (pairs_view c.args.pairs.now) c.requires.pairs v (ap (λ m. has m v)
+    (sym (c.used_in.ensures ∙ ap (λ (l : List Implication). used_in l) c.deref.ensures.value)) ∙ h)
 
 pub returns-in_ok-line-in-Err : goal.returns-in_ok-line-in-Err
 returns-in_ok-line-in-Err c =
     faulty c.in-Err.fault c.requires.small c.in_ok-line-in-Err.ensures.memory
-    (ap (λ m. text_fault c.args.bytes.now c.args.pairs.now.seen.names m (option_map (λ s. s.now) c.args.count)) (sym (c.used_in.ensures ∙ ap (λ (l : List Implication). used_in l) c.deref.ensures.value))
+    (ap (λ m. text_fault c.args.bytes.now c.args.pairs.now.seen.names m (option_map (λ s. s.now) c.args.count))
+    (sym (c.used_in.ensures ∙ ap (λ (l : List Implication). used_in l) c.deref.ensures.value))
     ∙ c.in-Err.ensures.fault c.in_ok-line-in-Err.ensures.memory)
     c.in_ok-line-in-Err.ensures.line

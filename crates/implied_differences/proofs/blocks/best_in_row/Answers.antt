@@ -20,16 +20,19 @@ strided_sum-first-requires-clause-room c =
     omega (arith, few)
 
 pub new-here-requires-clause-whole : goal.new-here-requires-clause-whole
-new-here-requires-clause-whole c = value_few c.args.table.now.cells.now c.args.table.now.layout.now c.args.block.now.begin c.requires.block c.args.x c.loop-y.y c.requires.first (omega arith)
+new-here-requires-clause-whole c = value_few c.args.table.now.cells.now c.args.table.now.layout.now c.args.block.now.begin c.requires.block c.args.x
+    c.loop-y.y c.requires.first (omega arith)
 
 pub new-here-requires-clause-first : goal.new-here-requires-clause-first
 new-here-requires-clause-first c =
-    subst (λ n. n ≤ 1000000000000000) (sym c.strided_sum-first.ensures) (row_few c.args.table.now.cells.now c.args.table.now.layout.now c.args.block.now.begin c.requires.block c.args.x c.requires.first)
+    subst (λ n. n ≤ 1000000000000000) (sym c.strided_sum-first.ensures)
+    (row_few c.args.table.now.cells.now c.args.table.now.layout.now c.args.block.now.begin c.requires.block c.args.x c.requires.first)
 
 pub new-here-requires-clause-second : goal.new-here-requires-clause-second
 new-here-requires-clause-second c =
     let lt : c.loop-y.y < c.args.table.now.layout.now.seconds = omega arith in
-    subst (λ n. n ≤ 1000000000000000) (sym (c.requires.columns.each c.loop-y.y lt)) (column_few c.args.table.now.cells.now c.args.table.now.layout.now c.args.block.now.begin c.requires.block c.loop-y.y lt)
+    subst (λ n. n ≤ 1000000000000000) (sym (c.requires.columns.each c.loop-y.y lt))
+    (column_few c.args.table.now.cells.now c.args.table.now.layout.now c.args.block.now.begin c.requires.block c.loop-y.y lt)
 
 pub loop-y-preserved : goal.loop-y-preserved
 loop-y-preserved c =
@@ -44,8 +47,10 @@ loop-y-preserved c =
       first = c.requires.first;
       second = lt;
       given = c.requires.number;
-      left = c.new-here.ensures.left ∙ ap (λ n. value_at cells l c.args.block.now.begin x y * n) c.requires.given ∙ ap (λ b. value_at cells l b x y * block_at cells l b) c.requires.base;
-      right = c.new-here.ensures.right ∙ ap₂ (λ m n. m * n) c.strided_sum-first.ensures (c.requires.columns.each y lt) ∙ ap (λ b. row_at cells l b x * column_at cells l b y) c.requires.base;
+      left = c.new-here.ensures.left ∙ ap (λ n. value_at cells l c.args.block.now.begin x y * n) c.requires.given
+          ∙ ap (λ b. value_at cells l b x y * block_at cells l b) c.requires.base;
+      right = c.new-here.ensures.right ∙ ap₂ (λ m n. m * n) c.strided_sum-first.ensures (c.requires.columns.each y lt)
+          ∙ ap (λ b. row_at cells l b x * column_at cells l b y) c.requires.base;
       number = c.new-here.ensures.number ∙ c.number-number.ensures;
     } in
     let apart = c.new-here.ensures.distance ∙ sym (ap₂ abs_diff c.new-here.ensures.left c.new-here.ensures.right) in

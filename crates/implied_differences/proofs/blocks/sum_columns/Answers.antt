@@ -13,6 +13,7 @@ pub add_strided-requires-clause-room : goal.add_strided-requires-clause-room
 add_strided-requires-clause-room c k lt =
     let below = subst (λ n. k < n) c.loop-x.invariant.long lt in
     let so_far = c.loop-x.invariant.each k below in
-    let most = part-most c.args.table.now.layout.now.firsts (suc c.loop-x.x) (λ z. value_at c.args.table.now.cells.now c.args.table.now.layout.now c.args.begin z k) (omega arith) in
+    let most = part-most c.args.table.now.layout.now.firsts (suc c.loop-x.x)
+    (λ z. value_at c.args.table.now.cells.now c.args.table.now.layout.now c.args.begin z k) (omega arith) in
     let few = column_few c.args.table.now.cells.now c.args.table.now.layout.now c.args.begin c.requires.block k below in
     omega (arith, so_far, most, few)

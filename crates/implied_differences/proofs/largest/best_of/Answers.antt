@@ -1,7 +1,7 @@
 use Rattle.std.proofs.Common.{ℕ, ◌≡◌, Bool, List, Result, Ok, Err, IfOk, sym, subst}
 use Rattle.mixed_graph.specs.Bits.{has}
 use Rattle.count_rows.specs.Rows.{Table}
-use Rattle.sum_tables.specs.Sums.{AreSums}
+use Rattle.count_table.specs.Sums.{AreSums}
 use Rattle.implications.specs.declared.pairs.Implication.{Implication}
 use Rattle.implied_differences.specs.declared.candidates.Candidate.{Candidate}
 use Rattle.implied_differences.specs.declared.layout.Layout.{Layout}
@@ -28,13 +28,15 @@ sums_from t t' of of' cells e f h = subst (λ (x : Table). AreSums x of cells) e
 
 pub best_in_strips-requires : goal.best_in_strips-requires
 best_in_strips-requires c =
-    let sums = counts_are_sums c.args.c.now c.used-used.ensures.table c.args.i.now c.used-used.result.bits c.vertices_of-whole.result.bits c.difference.result.bits c.used-used.ensures.members
+    let sums = counts_are_sums c.args.c.now c.used-used.ensures.table c.args.i.now c.used-used.result.bits c.vertices_of-whole.result.bits
+    c.difference.result.bits c.used-used.ensures.members
     c.vertices_of-whole.ensures c.difference.ensures.members (c.is_empty.ensures.none.0 c.if-is_empty.true) c.cells.result.now c.cells.ensures.counts in
     blocks c.args.c.now c.used-used.ensures.table c.args.i.now c.requires.readable c.args.l.now c.requires.layout c.cells.result.now sums
 
 pub returns-then-is_empty : goal.returns-then-is_empty
 returns-then-is_empty c =
-    let sums = counts_are_sums c.args.c.now c.used-used.ensures.table c.args.i.now c.used-used.result.bits c.vertices_of-whole.result.bits c.difference.result.bits c.used-used.ensures.members
+    let sums = counts_are_sums c.args.c.now c.used-used.ensures.table c.args.i.now c.used-used.result.bits c.vertices_of-whole.result.bits
+    c.difference.result.bits c.used-used.ensures.members
     c.vertices_of-whole.ensures c.difference.ensures.members (c.is_empty.ensures.none.0 c.if-is_empty.true) c.cells.result.now c.cells.ensures.counts in
     best_from c.args.c.now c.args.i.now c.args.l.now c.cells.result.now sums c.best_in_strips.result c.best_in_strips.ensures
 

@@ -3,9 +3,9 @@ use Rattle.mixed_graph.specs.Bits.{has}
 use Rattle.count_rows.specs.Rows.{Table}
 use Rattle.count_table.specs.Tables.{AreCounts}
 use Rattle.count_eval.specs.Programs.{cell_of}
-use Rattle.sum_tables.specs.Axes.{Axes, axes_of, HasCell, place_at, cells_over}
-use Rattle.sum_tables.proofs.Choosing.{axes-are}
-use Rattle.sum_tables.proofs.Lists.{product-pos}
+use Rattle.count_table.specs.Axes.{Axes, axes_of, HasCell, place_at, cells_over}
+use Rattle.count_table.proofs.Choosing.{axes-are}
+use Rattle.count_table.proofs.Lists.{product-pos}
 use Rattle.implications.specs.declared.pairs.Implication.{Implication}
 use Rattle.implied_differences.specs.declared.layout.Layout.{Layout}
 use Rattle.implied_differences.specs.Differences.{axes_in}
@@ -33,11 +33,13 @@ cell_at-cell-requires-clause-b c = b_below c.args.c.now c.used-used.ensures.tabl
 
 pub cell_at-cell-requires-clause-a_apart : goal.cell_at-cell-requires-clause-a_apart
 cell_at-cell-requires-clause-a_apart c =
-    subst (λ (x : Axes). All (λ u. u ≢ c.args.i.now.a) x.vertices) (sym c.in_ok-given.ensures) (a_outside c.args.c.now c.used-used.ensures.table c.args.i.now c.requires)
+    subst (λ (x : Axes). All (λ u. u ≢ c.args.i.now.a) x.vertices) (sym c.in_ok-given.ensures)
+    (a_outside c.args.c.now c.used-used.ensures.table c.args.i.now c.requires)
 
 pub cell_at-cell-requires-clause-b_apart : goal.cell_at-cell-requires-clause-b_apart
 cell_at-cell-requires-clause-b_apart c =
-    subst (λ (x : Axes). All (λ u. u ≢ c.args.i.now.b) x.vertices) (sym c.in_ok-given.ensures) (b_outside c.args.c.now c.used-used.ensures.table c.args.i.now c.requires)
+    subst (λ (x : Axes). All (λ u. u ≢ c.args.i.now.b) x.vertices) (sym c.in_ok-given.ensures)
+    (b_outside c.args.c.now c.used-used.ensures.table c.args.i.now c.requires)
 
 pub cell_at-cell-requires-clause-few : goal.cell_at-cell-requires-clause-few
 cell_at-cell-requires-clause-few c =
@@ -46,7 +48,8 @@ cell_at-cell-requires-clause-few c =
 pub cell_at-cell-requires-clause-cells : goal.cell_at-cell-requires-clause-cells
 cell_at-cell-requires-clause-cells c =
     subst (λ (x : Axes). 0 < cells_over x) (sym c.in_ok-given.ensures)
-    (product-pos (axes_of c.args.c.now (has c.args.i.now.given.bits)).sizes (axes-are c.args.c.now (has c.args.i.now.given.bits) c.used-used.ensures.table).each)
+    (product-pos (axes_of c.args.c.now (has c.args.i.now.given.bits)).sizes
+    (axes-are c.args.c.now (has c.args.i.now.given.bits) c.used-used.ensures.table).each)
 
 pub cell_at-cell-requires-clause-levels : goal.cell_at-cell-requires-clause-levels
 cell_at-cell-requires-clause-levels c =
@@ -61,11 +64,13 @@ cell_at-cell-requires-clause-levels c =
 
 pub difference_of-requires-clause-left : goal.difference_of-requires-clause-left
 difference_of-requires-clause-left c =
-    (products_small c.args.c.now c.used-used.ensures.table c.args.i.now c.requires c.in_ok-layout.layout c.in_ok-layout.ensures c.in_ok-best.best c.in_ok-best.ensures).0
+    (products_small c.args.c.now c.used-used.ensures.table c.args.i.now c.requires c.in_ok-layout.layout c.in_ok-layout.ensures c.in_ok-best.best
+    c.in_ok-best.ensures).0
 
 pub difference_of-requires-clause-right : goal.difference_of-requires-clause-right
 difference_of-requires-clause-right c =
-    (products_small c.args.c.now c.used-used.ensures.table c.args.i.now c.requires c.in_ok-layout.layout c.in_ok-layout.ensures c.in_ok-best.best c.in_ok-best.ensures).1
+    (products_small c.args.c.now c.used-used.ensures.table c.args.i.now c.requires c.in_ok-layout.layout c.in_ok-layout.ensures c.in_ok-best.best
+    c.in_ok-best.ensures).1
 
 pub returns-clause-largest : goal.returns-clause-largest
 returns-clause-largest c =
@@ -78,7 +83,8 @@ returns-clause-largest c =
     let lt = number_below t are i r l c.in_ok-layout.ensures best c.in_ok-best.ensures (some_cells t are i l c.in_ok-layout.ensures) in
     let cell = c.cell_at-cell.result in
     let e = c.cell_at-cell.ensures in
-    let d = digits_from t are i r best.number lt c.in_ok-given.given l.seconds cell c.in_ok-given.ensures c.in_ok-layout.ensures.seconds e.long e.first e.second e.cell e.place e.outside in
+    let d = digits_from t are i r best.number lt c.in_ok-given.given l.seconds cell c.in_ok-given.ensures c.in_ok-layout.ensures.seconds e.long e.first
+    e.second e.cell e.place e.outside in
     let same = c.difference_of.ensures.cell in
     best_ends t are i r l c.in_ok-layout.ensures best c.in_ok-best.ensures c.difference_of.result
     (subst (λ (x : List ℕ). HasCell (axes_in t i) x) (sym same) (digits_cell t are i r best.number lt cell d))

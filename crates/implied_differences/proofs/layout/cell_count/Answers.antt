@@ -1,5 +1,5 @@
 use Rattle.std.proofs.Common.{◌<◌, sym, subst}
-use Rattle.sum_tables.proofs.Lists.{product-pos}
+use Rattle.count_table.proofs.Lists.{product-pos}
 use Rattle.implied_differences.proofs.layout.cell_count.Goals as goal
 
 pub returns-clause-some : goal.returns-clause-some

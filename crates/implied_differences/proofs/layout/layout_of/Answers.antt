@@ -19,5 +19,6 @@ three_few a b p x y z = mul-le a (b * p) 1048576 1099511627776 x (mul-le b p 104
 pub overflow_mul-first_step-2 : goal.overflow_mul-first_step-2
 overflow_mul-first_step-2 c =
     let few = subst (λ n. n ≤ 1048576) (sym c.levels-seconds.ensures) (levels_few c.args.c.now c.used-used.ensures.table c.args.i.now.b) in
-    let m = three_few c.in_ok-between.between c.levels-seconds.result c.in_ok-second_step.second_step c.in_ok-between.ensures.few few c.in_ok-second_step.ensures.few in
+    let m = three_few c.in_ok-between.between c.levels-seconds.result c.in_ok-second_step.second_step c.in_ok-between.ensures.few few
+    c.in_ok-second_step.ensures.few in
     omega (arith, m)

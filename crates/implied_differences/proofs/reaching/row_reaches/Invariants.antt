@@ -10,4 +10,5 @@ pub record ArePassedTo (cells : List ℕ) (l : Layout) (begins : List ℕ) (widt
   pub each : (y : ℕ) → y < k → IsPassedAt cells l begins width w x y c
 
 abbrev pub invariant-loop-y : goal.invariant-loop-y
-invariant-loop-y l = ArePassedTo l.table.cells.now l.table.layout.now l.strip.begins.now l.strip.width l.strip.first.number l.x l.before l.fn.columns l.columns l.y
+invariant-loop-y l = ArePassedTo l.table.cells.now l.table.layout.now l.strip.begins.now l.strip.width l.strip.first.number l.x l.before l.fn.columns
+    l.columns l.y

@@ -8,15 +8,18 @@ returns-then-i-ge64-clause-no c r = let b = b_below c.args.c.now c.used-used.ens
 
 pub returns-then-not-is_empty-clause-no : goal.returns-then-not-is_empty-clause-no
 returns-then-not-is_empty-clause-no c =
-    not_all_used c.args.c.now c.used-used.ensures.table c.used-used.result.bits c.sized.ensures c.used-used.ensures.members c.args.i.now c.difference-unused.result.bits c.vertices_of.result.bits
-    c.vertices_of.ensures c.difference-unused.ensures.members c.sized-2.ensures (λ e. let t = c.is_empty.ensures.none.1 e in grind (arith, t, c.if-not-is_empty.true))
+    not_all_used c.args.c.now c.used-used.ensures.table c.used-used.result.bits c.sized.ensures c.used-used.ensures.members c.args.i.now
+    c.difference-unused.result.bits c.vertices_of.result.bits
+    c.vertices_of.ensures c.difference-unused.ensures.members c.sized-2.ensures
+    (λ e. let t = c.is_empty.ensures.none.1 e in grind (arith, t, c.if-not-is_empty.true))
 
 pub returns-clause-yes : goal.returns-clause-yes
 returns-clause-yes c =
     let t : c.is_empty.result ≡ true = grind (arith, c.if-not-is_empty.false) in
     record {
       order = omega (arith, c.if-i.false);
-      used = all_used c.args.c.now c.used-used.ensures.table c.used-used.result.bits c.sized.ensures c.used-used.ensures.members c.args.i.now c.difference-unused.result.bits c.vertices_of.result.bits
+      used = all_used c.args.c.now c.used-used.ensures.table c.used-used.result.bits c.sized.ensures c.used-used.ensures.members c.args.i.now
+          c.difference-unused.result.bits c.vertices_of.result.bits
           c.vertices_of.ensures c.difference-unused.ensures.members (c.is_empty.ensures.none.0 t);
       a_apart = sym c.has.ensures ∙ c.if-has.false;
       b_apart = sym c.has-2.ensures ∙ c.if-has-2.false;

@@ -7,7 +7,8 @@ pub best_in_block-best-requires-clause-block : goal.best_in_block-best-requires-
 best_in_block-best-requires-clause-block c =
     let number = c.loop.invariant.number in
     let lt : c.loop.next.number < c.args.table.now.layout.now.count = omega (arith, number) in
-    subst (λ n. IsBlock c.args.table.now.cells.now c.args.table.now.layout.now n) (sym (begins c.args.table.now.layout.now c.loop.next c.loop.invariant.base)) (c.requires.blocks.each c.loop.next.number lt)
+    subst (λ n. IsBlock c.args.table.now.cells.now c.args.table.now.layout.now n) (sym (begins c.args.table.now.layout.now c.loop.next c.loop.invariant.base))
+    (c.requires.blocks.each c.loop.next.number lt)
 
 pub best_in_block-best-requires-clause-base : goal.best_in_block-best-requires-clause-base
 best_in_block-best-requires-clause-base c = begins c.args.table.now.layout.now c.loop.next c.loop.invariant.base
@@ -27,5 +28,6 @@ next-next-requires-clause-begin c =
 pub next-next-requires-clause-number : goal.next-next-requires-clause-number
 next-next-requires-clause-number c =
     let number = c.loop.invariant.number in
-    let few = count_few c.args.table.now.layout.now.firsts c.args.table.now.layout.now.seconds c.args.table.now.layout.now.count c.requires.blocks.stepped.firsts c.requires.blocks.stepped.seconds c.requires.blocks.few in
+    let few = count_few c.args.table.now.layout.now.firsts c.args.table.now.layout.now.seconds c.args.table.now.layout.now.count
+    c.requires.blocks.stepped.firsts c.requires.blocks.stepped.seconds c.requires.blocks.few in
     omega (arith, number, few)

@@ -29,7 +29,8 @@ blocks c =
     record {
       some = omega arith;
       long = (let long = c.strips.invariant.begins in omega arith);
-      each = λ j lt. subst (λ n. IsBlock c.args.table.now.cells.now c.args.table.now.layout.now n) (sym (c.list_begins-next.ensures.begins j lt)) (c.requires.blocks.each (c.strips.block.number + j) (omega arith));
+      each = λ j lt. subst (λ n. IsBlock c.args.table.now.cells.now c.args.table.now.layout.now n) (sym (c.list_begins-next.ensures.begins j lt))
+          (c.requires.blocks.each (c.strips.block.number + j) (omega arith));
     }
 
 pub sum_blocks-requires-clause-begins : goal.sum_blocks-requires-clause-begins

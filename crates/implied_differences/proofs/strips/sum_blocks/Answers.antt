@@ -5,12 +5,14 @@ use Rattle.implied_differences.proofs.strips.sum_blocks.Goals as goal
 
 pub column_cells-requires : goal.column_cells-requires
 column_cells-requires c =
-    let less = column_offset c.args.table.now.cells.now c.args.table.now.layout.now c.args.begins.now c.args.width c.requires.begins c.loop-y.y (omega arith) c.requires.firsts in
+    let less = column_offset c.args.table.now.cells.now c.args.table.now.layout.now c.args.begins.now c.args.width c.requires.begins c.loop-y.y (omega arith)
+    c.requires.firsts in
     omega (arith, less)
 
 pub add_line-requires-clause-inside : goal.add_line-requires-clause-inside
 add_line-requires-clause-inside c =
-    column_inside c.args.table.now.cells.now c.args.table.now.layout.now c.args.begins.now c.args.width c.requires.begins c.loop-y.y (omega arith) c.column_cells.result c.column_cells.ensures
+    column_inside c.args.table.now.cells.now c.args.table.now.layout.now c.args.begins.now c.args.width c.requires.begins c.loop-y.y (omega arith)
+    c.column_cells.result c.column_cells.ensures
 
 pub add_line-requires-clause-room : goal.add_line-requires-clause-room
 add_line-requires-clause-room c j lt =
@@ -30,6 +32,7 @@ loop-y-preserved c = record {
       let cells = c.args.table.now.cells.now in
       let l = c.args.table.now.layout.now in
       let begin = get_or c.args.begins.now j 0 in
-      c.add_line.ensures j lt ∙ ap₂ (λ m n. m + n) (c.loop-y.invariant.each j lt) (column_line cells l begin c.loop-y.y c.column_cells.result c.column_cells.ensures)
+      c.add_line.ensures j lt ∙ ap₂ (λ m n. m + n) (c.loop-y.invariant.each j lt)
+      (column_line cells l begin c.loop-y.y c.column_cells.result c.column_cells.ensures)
       ∙ sum-next c.loop-y.y (λ z. column_at cells l begin z);
 }

@@ -14,7 +14,8 @@ use Rattle.latent_projection.proofs.dropping.observed_names.Goals.{then-not-has+
 pub returns-then-is_empty : goal.returns-then-is_empty
 returns-then-is_empty c =
     let every : (v : ℕ) → not (has c.args.latent.bits v) ≡ true = λ v. ap not (ap (λ m. has m v) (c.is_empty.ensures.none.0 c.if-is_empty.true) ∙ has-zero v) in
-    subst (λ (l : List (List ℕ)). IfOk c.copy.result (λ kept. kept ≡ l)) (sym (all_names (λ v. not (has c.args.latent.bits v)) every c.args.names.now)) c.copy.ensures
+    subst (λ (l : List (List ℕ)). IfOk c.copy.result (λ kept. kept ≡ l)) (sym (all_names (λ v. not (has c.args.latent.bits v)) every c.args.names.now))
+    c.copy.ensures
 
 pub loop-v-init : goal.loop-v-init
 loop-v-init c = c.empty-kept.ensures ∙ sym (names_at-none (λ v. not (has c.args.latent.bits v)) c.args.names.now)
@@ -29,7 +30,8 @@ put-requires-clause-new c =
 
 pub put-requires-clause-room : goal.put-requires-clause-room
 put-requires-clause-room c =
-    let size = ap (λ (names : List (List ℕ)). length names) c.loop-v.invariant ∙ length-names_at (observed_below (has c.args.latent.bits) c.loop-v.v) c.args.names.now in
+    let size = ap (λ (names : List (List ℕ)). length names) c.loop-v.invariant
+    ∙ length-names_at (observed_below (has c.args.latent.bits) c.loop-v.v) c.args.names.now in
     let few = c.count-n.ensures.names.few in
     let q = length-members-le (λ v. not (has c.args.latent.bits v)) c.loop-v.v in
     omega (arith, size, q, few, c.count-n.ensures.count)
@@ -40,5 +42,6 @@ loop-v-preserved c = elim c.if-not-has.branch [
       ∙ sym (names_at-more (λ v. not (has c.args.latent.bits v)) c.loop-v.v c.args.names.now w.get.result.now
       (not_from_false (has c.args.latent.bits c.loop-v.v) (sym c.has.ensures ∙ w.if-not-has.true)) w.get.ensures.name)
   | else-not-has w ↦ w.kept-is ∙ c.loop-v.invariant
-      ∙ sym (names_at-same (λ v. not (has c.args.latent.bits v)) c.loop-v.v c.args.names.now (not_from_true (has c.args.latent.bits c.loop-v.v) (sym c.has.ensures ∙ w.if-not-has.false)))
+      ∙ sym (names_at-same (λ v. not (has c.args.latent.bits v)) c.loop-v.v c.args.names.now
+      (not_from_true (has c.args.latent.bits c.loop-v.v) (sym c.has.ensures ∙ w.if-not-has.false)))
 ]

@@ -12,7 +12,8 @@ pub loop-v-preserved : goal.loop-v-preserved
 loop-v-preserved c = row_more _ _ _ _ (omega arith) (λ b.
     let p = c.only_if-in-loop-v.ensures b in let q = c.difference.ensures.members b in let r = c.union.ensures.members b in let s = c.only_if.ensures b in
     let t = c.one-gone.ensures.members b in let u = c.has.ensures in
-    let row = ap (λ m. has m b) c.row-row.ensures in let through = ap (λ m. has m c.args.k) c.row-row.ensures in let next = ap (λ m. has m b) c.row-next.ensures in
+    let row = ap (λ m. has m b) c.row-row.ensures in let through = ap (λ m. has m c.args.k) c.row-row.ensures in let next =
+    ap (λ m. has m b) c.row-next.ensures in
     grind arith) c.loop-v.invariant
 
 pub returns : goal.returns

@@ -11,7 +11,8 @@ invariant-vertices l = record {
   small : l.graph.0 ≤ 64;
   agree : Agree l.graph.1.0 l.graph.1.1.0;
   valid : IsMixedGraph (graph_from l.graph.0 l.graph.1.1.0 l.graph.1.1.1.0);
-  projects : (p : MixedGraph) → ProjectsByTreks (graph_from l.graph.0 l.graph.1.1.0 l.graph.1.1.1.0) (has l.rest.bits) p → ProjectsByTreks (graph_of l.g) (has l.fn.latent.bits) p;
+  projects : (p : MixedGraph) → ProjectsByTreks (graph_from l.graph.0 l.graph.1.1.0 l.graph.1.1.1.0) (has l.rest.bits) p
+      → ProjectsByTreks (graph_of l.g) (has l.fn.latent.bits) p;
   fits : l.rest.bits < 2 ^ 64;
 }
 

@@ -16,7 +16,8 @@ is_renumbered c = ap (λ n. graph_from n c.observed_rows-2.result c.observed_row
 
 pub invariant_of-result : goal.invariant_of-result
 invariant_of-result c = record {
-  small = let p = c.count_observed.ensures in let q = length-members-le (λ v. not (has c.args.latent.bits v)) c.args.g.now.n in let s = c.args.g.now.small in omega (arith, p, q, s);
+  small = let p = c.count_observed.ensures in let q = length-members-le (λ v. not (has c.args.latent.bits v)) c.args.g.now.n in let s = c.args.g.now.small in
+      omega (arith, p, q, s);
   agree = λ u v.
       let vs = observed_below (has c.args.latent.bits) c.args.g.now.n in
       c.observed_rows.ensures v u ∙ (let e = c.args.g.now.agree (get_or vs u 0) (get_or vs v 0) in grind arith) ∙ sym (c.observed_rows-2.ensures u v);

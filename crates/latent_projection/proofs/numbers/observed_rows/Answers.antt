@@ -10,7 +10,8 @@ pub loop-v-init : goal.loop-v-init
 loop-v-init c = AreNewRows-none _ _ _
 
 pub offset_bounds-out-place : goal.offset_bounds-out-place
-offset_bounds-out-place c = let p = c.loop-v.invariant.place_is in let q = length-members-le (λ v. not (has c.args.latent.bits v)) c.loop-v.v in omega (arith, p, q)
+offset_bounds-out-place c = let p = c.loop-v.invariant.place_is in let q = length-members-le (λ v. not (has c.args.latent.bits v)) c.loop-v.v in
+    omega (arith, p, q)
 
 pub bounds-out-place : goal.bounds-out-place
 bounds-out-place c = let p = c.loop-v.invariant.place_is in let q = length-members-le (λ v. not (has c.args.latent.bits v)) c.loop-v.v in omega (arith, p, q)
@@ -20,8 +21,10 @@ overflow_add-place c = let p = c.loop-v.invariant.place_is in let q = length-mem
 
 pub loop-v-preserved : goal.loop-v-preserved
 loop-v-preserved c = elim c.if-not-has.branch [
-  | then-not-has w ↦ AreNewRows-more _ c.args.n c.args.rows.now c.loop-v.v c.loop-v.place w.renumber.result.bits c.loop-v.out c.if-not-has.place c.if-not-has.out
-      c.requires (omega arith) (not_from_false (has c.args.latent.bits c.loop-v.v) (sym c.has.ensures ∙ w.if-not-has.true)) (rw w.row.ensures at w.renumber.ensures) w.place-is w.out-is c.loop-v.invariant
+  | then-not-has w ↦ AreNewRows-more _ c.args.n c.args.rows.now c.loop-v.v c.loop-v.place w.renumber.result.bits c.loop-v.out c.if-not-has.place
+      c.if-not-has.out
+      c.requires (omega arith) (not_from_false (has c.args.latent.bits c.loop-v.v) (sym c.has.ensures ∙ w.if-not-has.true))
+      (rw w.row.ensures at w.renumber.ensures) w.place-is w.out-is c.loop-v.invariant
   | else-not-has w ↦ AreNewRows-same _ c.args.n c.args.rows.now c.loop-v.v c.loop-v.place c.loop-v.out c.if-not-has.place c.if-not-has.out
       (not_from_true (has c.args.latent.bits c.loop-v.v) (sym c.has.ensures ∙ w.if-not-has.false)) w.place-is w.out-is c.loop-v.invariant
 ]

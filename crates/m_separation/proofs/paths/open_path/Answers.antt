@@ -20,14 +20,17 @@ none_here : (c : After-next-front) → (h : Bool) (v : ℕ) → IsTrue (has (lev
 none_here c h v i = c.in_default.ensures.none h v (subst (λ l. IsTrue (has (l h) v)) (sym c.near.invariant.1) i)
 
 room : (c : After-next-front) → c.near.count + 1 < 64
-room c = room_more (graph_of c.args.g.now) c.args.g.now.valid (has c.args.x.bits) (has c.args.y.bits) (has c.args.w.bits) (has c.difference-ends.result.bits) c.difference-ends.ensures.members
+room c = room_more (graph_of c.args.g.now) c.args.g.now.valid (has c.args.x.bits) (has c.args.y.bits) (has c.args.w.bits) (has c.difference-ends.result.bits)
+    c.difference-ends.ensures.members
     c.near.levels c.near.count c.near.invariant.0 c.args.g.now.n refl c.args.g.now.small c.if-separated.ensures.open (none_here c)
 
 pub near-preserved : goal.near-preserved
 near-preserved c = (
-  near_more (graph_of c.args.g.now) c.args.g.now.valid (has c.args.x.bits) (has c.args.y.bits) (has c.args.w.bits) (has c.difference-ends.result.bits) c.difference-ends.ensures.members
+  near_more (graph_of c.args.g.now) c.args.g.now.valid (has c.args.x.bits) (has c.args.y.bits) (has c.args.w.bits) (has c.difference-ends.result.bits)
+      c.difference-ends.ensures.members
       c.near.levels c.near.count c.near.invariant.0 c.next-front.result (room c)
-      (subst (λ l. (k : Bool) (u : ℕ) → IsTrue (has (mask_of c.next-front.result k) u) ↔ IsLed (graph_of c.args.g.now) (has c.args.w.bits) l u k) c.near.invariant.1 c.next-front.ensures)
+      (subst (λ l. (k : Bool) (u : ℕ) → IsTrue (has (mask_of c.next-front.result k) u) ↔ IsLed (graph_of c.args.g.now) (has c.args.w.bits) l u k)
+      c.near.invariant.1 c.next-front.ensures)
       (none_here c),
   sym (level-set_same c.near.levels (c.near.count + 1) c.next-front.result (let s = c.near.invariant.0.sized in let r = room c in omega (arith, s, r))),
 )
@@ -37,7 +40,8 @@ bounds-levels-count c = room c
 
 pub returns-in-Some-clause-found : goal.returns-in-Some-clause-found
 returns-in-Some-clause-found c =
-    open_path_of (graph_of c.args.g.now) c.args.g.now.valid (has c.args.x.bits) (has c.args.y.bits) (has c.args.w.bits) (has c.difference-ends.result.bits) c.difference-ends.ensures.members
+    open_path_of (graph_of c.args.g.now) c.args.g.now.valid (has c.args.x.bits) (has c.args.y.bits) (has c.args.w.bits) (has c.difference-ends.result.bits)
+    c.difference-ends.ensures.members
     c.near.levels c.near.count c.near.invariant.0 c.trace.result.vertices c.trace.result.marks c.trace.result.count c.trace.ensures.count
     (open_to (graph_of c.args.g.now) (has c.args.x.bits) (has c.args.y.bits) (has c.args.w.bits) c.in-Some.s.vertex _ _
     (let e = c.difference-ends.ensures.members c.in-Some.s.vertex in let i = c.in-Some.ensures.inside in grind arith) c.trace.ensures.open_walk)

@@ -13,7 +13,8 @@ pub back-init : goal.back-init
 back-init c = (
   (let t = traced_none (graph_of c.args.g.now) (has c.args.w.bits) (replicate 64 0) (replicate 64 Out) c.args.count c.args.last.vertex c.args.last.head
       (length-replicate {A = ℕ} 64 0) (length-replicate {A = Mark} 64 Out) c.requires.count in
-      subst (λ k. Traced (graph_of c.args.g.now) (has c.args.w.bits) c.args.last.vertex (set (replicate 64 0) c.args.count c.args.last.vertex) (replicate 64 Out) c.args.count k c.args.last.vertex c.args.last.head)
+      subst (λ k. Traced (graph_of c.args.g.now) (has c.args.w.bits) c.args.last.vertex (set (replicate 64 0) c.args.count c.args.last.vertex)
+      (replicate 64 Out) c.args.count k c.args.last.vertex c.args.last.head)
       (let e : 0 ≡ c.args.count - c.args.count = omega arith in e) t),
   c.requires.member,
   c.requires.vertex,
@@ -31,10 +32,13 @@ back-preserved c =
     let e : c.back.left ≡ c.back.left - 1 + 1 = omega arith in
     let n : suc (c.args.count - c.back.left) ≡ c.args.count - (c.back.left - 1) = omega arith in
     let l = c.link_to-link.result in
-    let t = subst (λ j. Traced (graph_of c.args.g.now) (has c.args.w.bits) c.args.last.vertex c.back.vertices c.back.marks j (c.args.count - c.back.left) c.back.s.vertex c.back.s.head) e c.back.invariant.0 in
-    let more = traced_more (graph_of c.args.g.now) (has c.args.w.bits) c.args.last.vertex c.back.vertices c.back.marks (c.back.left - 1) (c.args.count - c.back.left) c.back.s.vertex c.back.s.head
+    let t = subst (λ j. Traced (graph_of c.args.g.now) (has c.args.w.bits) c.args.last.vertex c.back.vertices c.back.marks j (c.args.count - c.back.left)
+    c.back.s.vertex c.back.s.head) e c.back.invariant.0 in
+    let more = traced_more (graph_of c.args.g.now) (has c.args.w.bits) c.args.last.vertex c.back.vertices c.back.marks (c.back.left - 1)
+    (c.args.count - c.back.left) c.back.s.vertex c.back.s.head
     l.from.vertex l.from.head l.mark (omega arith) c.link_to-link.ensures.joined c.link_to-link.ensures.passed c.link_to-link.ensures.arrives t in (
-      subst (λ k. Traced (graph_of c.args.g.now) (has c.args.w.bits) c.args.last.vertex (set c.back.vertices (c.back.left - 1) l.from.vertex) (set c.back.marks (c.back.left - 1) l.mark)
+      subst (λ k. Traced (graph_of c.args.g.now) (has c.args.w.bits) c.args.last.vertex (set c.back.vertices (c.back.left - 1) l.from.vertex)
+          (set c.back.marks (c.back.left - 1) l.mark)
           (c.back.left - 1) k l.from.vertex l.from.head) n more,
       c.link_to-link.ensures.member,
       c.link_to-link.ensures.in_range,
@@ -61,6 +65,8 @@ returns-clause-open_walk c =
     let e : c.back.left ≡ 0 = omega arith in
     let n : c.args.count - c.back.left ≡ c.args.count = omega arith in
     let t = subst (λ k. Traced (graph_of c.args.g.now) (has c.args.w.bits) c.args.last.vertex c.back.vertices c.back.marks 0 k c.back.s.vertex c.back.s.head) n
-    (subst (λ j. Traced (graph_of c.args.g.now) (has c.args.w.bits) c.args.last.vertex c.back.vertices c.back.marks j (c.args.count - c.back.left) c.back.s.vertex c.back.s.head) e c.back.invariant.0) in
-    walk_from_trace (graph_of c.args.g.now) (has c.args.x.bits) (has c.args.w.bits) c.args.last.vertex c.back.vertices c.back.marks c.args.count c.back.s.vertex c.back.s.head
+    (subst (λ j. Traced (graph_of c.args.g.now) (has c.args.w.bits) c.args.last.vertex c.back.vertices c.back.marks j (c.args.count - c.back.left)
+    c.back.s.vertex c.back.s.head) e c.back.invariant.0) in
+    walk_from_trace (graph_of c.args.g.now) (has c.args.x.bits) (has c.args.w.bits)
+    c.args.last.vertex c.back.vertices c.back.marks c.args.count c.back.s.vertex c.back.s.head
     (c.requires.x c.back.s.vertex b.begins) b.begins b.outside c.requires.outside t

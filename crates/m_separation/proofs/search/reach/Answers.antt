@@ -37,7 +37,8 @@ grow-preserved c = (
 )
 
 pub grow-smaller : goal.grow-smaller
-grow-smaller c = searching_smaller (graph_of c.args.g.now) (has c.args.x.bits) (has c.args.w.bits) (mask_of c.grow.found) (mask_of c.grow.front) (mask_of c.next.result)
+grow-smaller c = searching_smaller (graph_of c.args.g.now) (has c.args.x.bits) (has c.args.w.bits) (mask_of c.grow.found) (mask_of c.grow.front)
+    (mask_of c.next.result)
     (mask_of c.union-found.result) (mask_of c.difference-front.result) c.next.ensures c.difference-front.ensures c.union-found.ensures
     (λ z. absurd (let t : c.is_empty.result ≡ true = c.is_empty.ensures.1 (z.1, z.0) in let f = c.grow-test.true in cc)) (found_fits c) (front_fits c)
 
@@ -60,7 +61,8 @@ answered c v i =
       | inr t ↦ record { head = true; comes = c.grow.invariant.0.sound true v t; outside = outside }
     ]
 
-in_answer : (c : After-difference-2) → (h : Bool) (v : ℕ) → IsTrue (has (mask_of c.grow.found h) v) → has c.args.w.bits v ≡ false → IsTrue (has c.difference-2.result.bits v)
+in_answer : (c : After-difference-2) → (h : Bool) (v : ℕ) → IsTrue (has (mask_of c.grow.found h) v) → has c.args.w.bits v ≡ false
+    → IsTrue (has c.difference-2.result.bits v)
 in_answer c true v i out = c.difference-2.ensures.members v ∙ and_from _ _ (c.vertices.ensures v ∙ or_right _ _ i) (not_from_false (has c.args.w.bits v) out)
 in_answer c false v i out = c.difference-2.ensures.members v ∙ and_from _ _ (c.vertices.ensures v ∙ or_left _ _ i) (not_from_false (has c.args.w.bits v) out)
 
@@ -70,7 +72,8 @@ last_outside c v r = subst (λ u. has c.args.w.bits u ≡ false) (eqb-true _ v r
 pub returns-clause-reached : goal.returns-clause-reached
 returns-clause-reached c = λ v. (
   λ i. (let a = answered c v i in reached_from_comes _ _ _ v a.head a.comes a.outside),
-  λ r. (let e = end_found (graph_of c.args.g.now) (has c.args.x.bits) (has c.args.w.bits) (mask_of c.grow.found) (mask_of c.grow.front) c.grow.invariant.0 (done c) v r in
+  λ r. (let e = end_found (graph_of c.args.g.now) (has c.args.x.bits) (has c.args.w.bits) (mask_of c.grow.found) (mask_of c.grow.front) c.grow.invariant.0
+      (done c) v r in
       in_answer c e.0 v e.1 (last_outside c v r)),
 )
 
@@ -78,4 +81,5 @@ pub returns-clause-start : goal.returns-clause-start
 returns-clause-start c = λ v i out. in_answer c false v (c.grow.invariant.0.started v i out) out
 
 pub returns-clause-within : goal.returns-clause-within
-returns-clause-within c = λ v i. let a = answered c v i in comes_below (graph_of c.args.g.now) c.args.g.now.valid (has c.args.x.bits) (has c.args.w.bits) v a.head a.comes
+returns-clause-within c = λ v i. let a = answered c v i in comes_below (graph_of c.args.g.now) c.args.g.now.valid (has c.args.x.bits) (has c.args.w.bits)
+    v a.head a.comes

@@ -16,6 +16,8 @@ pub returns-in-Some-first_collider-clause-shown : goal.returns-in-Some-first_col
 returns-in-Some-first_collider-clause-shown c =
     let s = c.separation-in-Some-first_collider.ensures in
     let t = c.in-Some-first_collider.t in
-    rw (s.a, s.b, s.side) (collider_shown (graph_of c.args.g.now) (graph_of c.args.h.now) c.args.g.now.valid c.args.h.now.valid c.requires.first c.requires.second
-    t.a t.b (has c.separation-in-Some-first_collider.result.given.bits) c.in_default.ensures.none t.m c.side_without-side-in-Some-first_collider.result c.in-Some-first_collider.ensures.found.here.differs
+    rw (s.a, s.b, s.side) (collider_shown (graph_of c.args.g.now) (graph_of c.args.h.now)
+    c.args.g.now.valid c.args.h.now.valid c.requires.first c.requires.second
+    t.a t.b (has c.separation-in-Some-first_collider.result.given.bits)
+    c.in_default.ensures.none t.m c.side_without-side-in-Some-first_collider.result c.in-Some-first_collider.ensures.found.here.differs
     (c.side_without-side-in-Some-first_collider.ensures ∙ ap side_without (c.has-in-Some-first_collider.ensures ∙ c.colliders.ensures t.m)) s.given)

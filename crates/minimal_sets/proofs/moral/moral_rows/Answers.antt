@@ -22,7 +22,9 @@ pub returns : goal.returns
 returns c = record {
   sound = λ u v e. elim (cases_lt u 64) [
     | inl l ↦ (c.rows.invariant.1 u v (let f = c.rows-test.false in omega arith)).0 e
-    | inr ge ↦ absurd (let z : has (get_or c.rows.near u 0) v ≡ false = ap (λ m. has m v) (get_or_past c.rows.near u 0 (let n = c.rows.invariant.0 in omega arith)) ∙ has-zero v in grind (arith, z, e))
+    | inr ge ↦ absurd (let z : has (get_or c.rows.near u 0) v ≡ false =
+        ap (λ m. has m v) (get_or_past c.rows.near u 0 (let n = c.rows.invariant.0 in omega arith)) ∙ has-zero v in grind (arith, z, e))
   ];
-  complete = λ u v m. (c.rows.invariant.1 u v (let l = below_64 c.args.within.bits u (omega arith) (meets_inside (graph_of c.args.g.now) (has c.args.within.bits) u v m) in let f = c.rows-test.false in omega arith)).1 m;
+  complete = λ u v m. (c.rows.invariant.1 u v (let l = below_64 c.args.within.bits u (omega arith)
+      (meets_inside (graph_of c.args.g.now) (has c.args.within.bits) u v m) in let f = c.rows-test.false in omega arith)).1 m;
 }

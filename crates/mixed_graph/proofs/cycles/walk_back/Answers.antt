@@ -6,7 +6,8 @@ use Rattle.mixed_graph.proofs.cycles.walk_back.Goals as goal
 use Rattle.mixed_graph.proofs.cycles.walk_back.Goals.{In-walk}
 
 room : (c : In-walk) → c.walk.count < 64
-room c = walked_room _ c.walk.list c.walk.place c.walk.count c.walk.seen.bits c.walk.v c.walk.invariant.1 (sym c.has.ensures ∙ c.walk-test.true) c.walk.invariant.0
+room c = walked_room _ c.walk.list c.walk.place c.walk.count c.walk.seen.bits c.walk.v c.walk.invariant.1 (sym c.has.ensures ∙ c.walk-test.true)
+    c.walk.invariant.0
 
 pub walk-init : goal.walk-init
 walk-init c = (
@@ -29,7 +30,8 @@ walk-smaller c = let r = room (goal.at.walk-smaller c).In-walk in omega (arith, 
 
 pub walk-preserved : goal.walk-preserved
 walk-preserved c = (
-  walked_more (λ a b. has (get_or c.args.children.now a 0) b) c.walk.list c.walk.place c.walk.count c.walk.seen.bits c.walk.v c.union-seen.result.bits c.child_in-v.result
+  walked_more (λ a b. has (get_or c.args.children.now a 0) b) c.walk.list c.walk.place c.walk.count c.walk.seen.bits c.walk.v c.union-seen.result.bits
+      c.child_in-v.result
       c.walk.invariant.1 (sym c.has.ensures ∙ c.walk-test.true)
       (λ u. c.union-seen.ensures.members u ∙ ap (λ t. has c.walk.seen.bits u || t) (c.one.ensures.members u))
       c.child_in-v.ensures.arrow c.walk.invariant.0,

@@ -11,7 +11,8 @@ loop-p-preserved c = (
   λ a b.
       let ends = c.requires c.loop-p.p-index (0, 0) c.loop-p-test.true in
       mask_more c.loop-p.masks (get_or c.args.pairs.now c.loop-p.p-index (0, 0)).0 (get_or c.args.pairs.now c.loop-p.p-index (0, 0)).1 a b (omega arith) ends.1
-      ∙ ap (λ t. t || ((a == (get_or c.args.pairs.now c.loop-p.p-index (0, 0)).0) && (b == (get_or c.args.pairs.now c.loop-p.p-index (0, 0)).1))) (c.loop-p.invariant.0 a b)
+      ∙ ap (λ t. t || ((a == (get_or c.args.pairs.now c.loop-p.p-index (0, 0)).0) && (b == (get_or c.args.pairs.now c.loop-p.p-index (0, 0)).1)))
+      (c.loop-p.invariant.0 a b)
       ∙ sym (joins_more c.args.pairs.now c.loop-p.p-index a b c.loop-p-test.true),
   simp length-set c.loop-p.invariant.1,
 )

@@ -15,11 +15,13 @@ pub each-init : goal.each-init
 each-init c = joining_none c.args.rows.now c.args.members.bits c.empty-all.result.bits c.empty-all.ensures.members
 
 pub each-smaller : goal.each-smaller
-each-smaller c = rest_smaller c.args.rows.now c.args.members.bits c.each.rest.bits c.difference-rest.result.bits c.each.all.bits c.union-all.result.bits c.lowest-v.result
+each-smaller c = rest_smaller c.args.rows.now c.args.members.bits c.each.rest.bits c.difference-rest.result.bits c.each.all.bits c.union-all.result.bits
+    c.lowest-v.result
     c.lowest-v.ensures.member (rest_is (goal.at.each-smaller c).After-difference-rest) (all_is (goal.at.each-smaller c).After-union-all)
 
 pub each-preserved : goal.each-preserved
-each-preserved c = joining_more c.args.rows.now c.args.members.bits c.each.rest.bits c.difference-rest.result.bits c.each.all.bits c.union-all.result.bits c.lowest-v.result
+each-preserved c = joining_more c.args.rows.now c.args.members.bits c.each.rest.bits c.difference-rest.result.bits c.each.all.bits c.union-all.result.bits
+    c.lowest-v.result
     c.lowest-v.ensures.member (rest_is (goal.at.each-preserved c).After-difference-rest) (all_is (goal.at.each-preserved c).After-union-all) c.each.invariant
 
 pub returns : goal.returns

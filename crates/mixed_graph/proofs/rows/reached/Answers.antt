@@ -23,14 +23,16 @@ steps-init c = (
 
 pub steps-preserved : goal.steps-preserved
 steps-preserved c = (
-  spreading_more (has_in_row c.args.rows.now) (has c.args.from.bits) (has c.args.within.bits) c.steps.found.bits c.steps.front.bits c.joined.result.bits c.union-found.result.bits c.difference-front.result.bits
+  spreading_more (has_in_row c.args.rows.now) (has c.args.from.bits) (has c.args.within.bits)
+      c.steps.found.bits c.steps.front.bits c.joined.result.bits c.union-found.result.bits c.difference-front.result.bits
       (spread_of (goal.at.steps-preserved c).After-difference-front) c.steps.invariant.0,
   omega arith,
   omega arith,
 )
 
 pub steps-smaller : goal.steps-smaller
-steps-smaller c = spreading_smaller (has_in_row c.args.rows.now) (has c.args.from.bits) (has c.args.within.bits) c.steps.found.bits c.steps.front.bits c.joined.result.bits c.union-found.result.bits c.difference-front.result.bits
+steps-smaller c = spreading_smaller (has_in_row c.args.rows.now) (has c.args.from.bits) (has c.args.within.bits)
+    c.steps.found.bits c.steps.front.bits c.joined.result.bits c.union-found.result.bits c.difference-front.result.bits
     (spread_of (goal.at.steps-smaller c).After-difference-front) c.steps.invariant.0
     (λ z. absurd (let t = c.is_empty.ensures.none.1 z in let f = c.steps-test.true in cc)) (omega arith) (omega arith)
 

@@ -8,7 +8,8 @@ pub loop-y-preserved : goal.loop-y-preserved
 loop-y-preserved c = λ g h. c.loop-y.invariant g (IsGcd-from_mod c.loop-y.x c.loop-y.y g h)
 
 same : goal.returns-clause-value
-same c = same_from_IsGcd c.args.a c.args.b c.loop-y.x (gcd_of c.args.a c.args.b) (c.loop-y.invariant c.loop-y.x (IsGcd-from_zero c.loop-y.x c.loop-y.y c.loop-y-test.false)) (gcd_is c.args.a c.args.b)
+same c = same_from_IsGcd c.args.a c.args.b c.loop-y.x (gcd_of c.args.a c.args.b)
+    (c.loop-y.invariant c.loop-y.x (IsGcd-from_zero c.loop-y.x c.loop-y.y c.loop-y-test.false)) (gcd_is c.args.a c.args.b)
 
 pub returns-clause-value : goal.returns-clause-value
 returns-clause-value c = same c

@@ -12,4 +12,5 @@ returns-in-Err-NotText-clause-end c = λ out err. record {
 }
 
 pub returns-in-Err-NoMemory-clause-end : goal.returns-in-Err-NoMemory-clause-end
-returns-in-Err-NoMemory-clause-end c = λ out err. silent _ _ out err _ _ (omega (arith, c.silent-in-Err-NoMemory.ensures.status)) c.silent-in-Err-NoMemory.ensures.sizes
+returns-in-Err-NoMemory-clause-end c = λ out err. silent _ _ out err _ _ (omega (arith, c.silent-in-Err-NoMemory.ensures.status))
+    c.silent-in-Err-NoMemory.ensures.sizes

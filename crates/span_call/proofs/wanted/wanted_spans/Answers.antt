@@ -10,7 +10,8 @@ returns-in-Err-clause-not_text c = λ nine. (c.in-Err.ensures.end c.args.names.n
 
 pub returns-in-Ok-inputs_of-clause-told : goal.returns-in-Ok-inputs_of-clause-told
 returns-in-Ok-inputs_of-clause-told c = λ zero.
-    telling _ _ _ _ _ _ c.in-Ok-inputs_of.inputs (ap (map string_bytes) c.deref.ensures.value ∙ c.in-Ok.ensures.words) c.in-Ok-inputs_of.ensures.asks (c.told.ensures.told zero)
+    telling _ _ _ _ _ _ c.in-Ok-inputs_of.inputs (ap (map string_bytes) c.deref.ensures.value ∙ c.in-Ok.ensures.words) c.in-Ok-inputs_of.ensures.asks
+    (c.told.ensures.told zero)
 
 pub returns-clause-nothing : goal.returns-clause-nothing
 returns-clause-nothing c = λ two q asks.

@@ -8,8 +8,11 @@ use Rattle.spans.specs.Words.{AreTexts}
 use Rattle.spans.proofs.words.words_in.Goals as goal
 
 pub loop-span-preserved : goal.loop-span-preserved
-loop-span-preserved c =
-    (grind (arith, common_steps), All-more (λ s. IsUtf8 (part c.args.bytes.now s)) c.args.spans.now c.loop-span.span-index _ c.loop-span-test.true c.loop-span.invariant.1 c.in-Ok.ensures.is_text)
+loop-span-preserved c = (
+  grind (arith, common_steps),
+  All-more (λ s. IsUtf8 (part c.args.bytes.now s))
+      c.args.spans.now c.loop-span.span-index _ c.loop-span-test.true c.loop-span.invariant.1 c.in-Ok.ensures.is_text,
+)
 
 pub returns-clause-are_texts : goal.returns-clause-are_texts
 returns-clause-are_texts c =

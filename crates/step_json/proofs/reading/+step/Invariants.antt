@@ -5,7 +5,8 @@ use Rattle.step_json.specs.Reading.{each, step_within}
 use Rattle.step_json.proofs.reading.+step.Given as goal
 
 abbrev pub invariant-each_step-loop-d : goal.invariant-each_step-loop-d
-invariant-each_step-loop-d l = each (step_within l.names l.more) (map step_view l.all.items) (items_view (drop l.d-index l.ds)) ≡ each (step_within l.names l.more) [] (items_view l.ds)
+invariant-each_step-loop-d l = each (step_within l.names l.more) (map step_view l.all.items) (items_view (drop l.d-index l.ds))
+    ≡ each (step_within l.names l.more) [] (items_view l.ds)
 
 abbrev pub decreases-step_within : goal.decreases-step_within
 decreases-step_within l = 6 * l.more + 0

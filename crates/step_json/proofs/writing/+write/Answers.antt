@@ -27,8 +27,10 @@ step_values-loop-step-preserved t c =
     let within = λ (ys : List Step). are_within (length names) (steps_view ys) in
     let lt : i < length xs = subst (λ l. i < length l) c.deref-step-items.ensures.value c.loop-step-test.true in
     let read : d ≡ get_or xs i d = c.step-item.is ∙ ap (λ l. get_or l i d) c.deref-step-items.ensures.value in
-    let viewed : view c.in_ok-step.step ≡ step_value names (step_view (get_or xs i d)) = c.in_ok-step.ensures ∙ ap (λ s. step_value names (step_view s)) read in (
-      one_more (valued names) (λ s. step_value names (step_view s)) (λ x xs. refl) xs i d lt c.loop-step.all.items c.push.new.self.items c.in_ok-step.step (valued names xs) c.in_ok-push.ensures.items viewed c.loop-step.invariant.0,
+    let viewed : view c.in_ok-step.step ≡ step_value names (step_view (get_or xs i d)) = c.in_ok-step.ensures
+    ∙ ap (λ s. step_value names (step_view s)) read in (
+      one_more (valued names) (λ s. step_value names (step_view s)) (λ x xs. refl) xs i d lt c.loop-step.all.items c.push.new.self.items c.in_ok-step.step
+          (valued names xs) c.in_ok-push.ensures.items viewed c.loop-step.invariant.0,
       second (is_within (length names) (step_view (get_or xs i d))) (within (drop (i + 1) xs)) (sym (at_drop_more within xs i d lt) ∙ c.loop-step.invariant.1),
     )
 
@@ -36,4 +38,5 @@ pub step_values-returns : goal.step_values-returns
 step_values-returns t c =
     let names = c.args.names.now in
     let xs = c.args.steps.now.items in
-    view-Array c.loop-step.all ∙ ap array (all_there (valued names) refl xs c.loop-step.step-index (let e = ap length c.deref-step-items.ensures.value in omega arith) c.loop-step.all.items (valued names xs) c.loop-step.invariant.0)
+    view-Array c.loop-step.all ∙ ap array (all_there (valued names) refl xs c.loop-step.step-index
+    (let e = ap length c.deref-step-items.ensures.value in omega arith) c.loop-step.all.items (valued names xs) c.loop-step.invariant.0)

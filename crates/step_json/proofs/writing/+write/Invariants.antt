@@ -7,5 +7,6 @@ use Rattle.step_json.proofs.Pushing.{before}
 use Rattle.step_json.proofs.writing.+write.Given as goal
 
 abbrev pub invariant-step_values-loop-step : goal.invariant-step_values-loop-step
-invariant-step_values-loop-step l = (before (map view l.all.items) (step_values l.names (steps_view (drop l.step-index l.steps.items))) ≡ step_values l.names (steps_view l.steps.items))
+invariant-step_values-loop-step l = (before (map view l.all.items) (step_values l.names (steps_view (drop l.step-index l.steps.items)))
+    ≡ step_values l.names (steps_view l.steps.items))
     × (are_within (length l.names) (steps_view (drop l.step-index l.steps.items)) ≡ true)

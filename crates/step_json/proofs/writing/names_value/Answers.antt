@@ -15,7 +15,9 @@ loop-v-preserved c =
     let names = c.args.names.now in
     let xs = c.args.vertices.now in
     let lt : c.loop-v.v-index < length xs = c.loop-v-test.true in (
-      one_more (named names) (λ v. string (name_of names v)) (λ x xs. refl) xs c.loop-v.v-index 0 lt c.loop-v.all.items c.push.new.self.items c.in_ok-name.name (named names xs) c.in_ok-push.ensures.items c.in_ok-name.ensures c.loop-v.invariant.0,
+      one_more (named names) (λ v. string (name_of names v)) (λ x xs. refl)
+          xs c.loop-v.v-index 0 lt c.loop-v.all.items c.push.new.self.items c.in_ok-name.name (named names xs)
+          c.in_ok-push.ensures.items c.in_ok-name.ensures c.loop-v.invariant.0,
       rest_below (length names) xs c.loop-v.v-index lt c.loop-v.invariant.1,
     )
 

@@ -7,7 +7,7 @@ use Rattle.mixed_graph.specs.Shown.{graph_of}
 use Rattle.prob_expr.specs.Listed.{masks_of}
 use Rattle.targets.specs.Targets.{EffectLists, OrMemory}
 use Rattle.targets.proofs.Effects.{effect_within_x, effect_within_y, effect_apart, effect_outcome}
-use Rattle.word_lists.specs.Views.{names_in}
+use Rattle.command_words.specs.ListViews.{names_in}
 use Rattle.targets.proofs.Faults.{not_memory}
 use Rattle.targets.proofs.Parts.{same_effect_lists}
 use Rattle.surrogate_command.specs.Asked.{surrogate_lists}
@@ -24,7 +24,8 @@ pub returns-in-Ok : goal.returns-in-Ok
 returns-in-Ok c =
     let g = c.args.graph.now in let experiments = map names_in c.args.experiments.now in
     let lists = lists_of g.names c.in_ok-seen.field-0.seen.names (texts c.deref.result.now) (texts c.deref-2.result.now) experiments in
-    let same_effect = same_effect_lists g.names _ _ _ _ _ _ c.in_ok-seen.ensures.names (ap texts c.deref.ensures.value ∙ c.in_ok-seen.ensures.x) (ap texts c.deref-2.ensures.value ∙ c.in_ok-seen.ensures.y) in
+    let same_effect = same_effect_lists g.names _ _ _ _ _ _ c.in_ok-seen.ensures.names (ap texts c.deref.ensures.value ∙ c.in_ok-seen.ensures.x)
+    (ap texts c.deref-2.ensures.value ∙ c.in_ok-seen.ensures.y) in
     let same = ap (with_experiments experiments) same_effect in
     let x = c.in-Ok.sets.x.bits in let y = c.in-Ok.sets.y.bits in let zs = masks_of c.in-Ok.sets.experiments.items in
     let sets = c.in-Ok.ensures.sets in
@@ -46,8 +47,10 @@ returns-in-Ok c =
 
 pub returns-in_ok-refuse-in-Err : goal.returns-in_ok-refuse-in-Err
 returns-in_ok-refuse-in-Err c =
-    let g = c.args.graph.now in let x = option_map names_in c.args.x in let y = option_map names_in c.args.y in let experiments = map names_in c.args.experiments.now in
-    let same_effect = same_effect_lists g.names _ _ _ _ _ _ c.in_ok-seen.ensures.names (ap texts c.deref.ensures.value ∙ c.in_ok-seen.ensures.x) (ap texts c.deref-2.ensures.value ∙ c.in_ok-seen.ensures.y) in
+    let g = c.args.graph.now in let x = option_map names_in c.args.x in let y = option_map names_in c.args.y in let experiments =
+    map names_in c.args.experiments.now in
+    let same_effect = same_effect_lists g.names _ _ _ _ _ _ c.in_ok-seen.ensures.names (ap texts c.deref.ensures.value ∙ c.in_ok-seen.ensures.x)
+    (ap texts c.deref-2.ensures.value ∙ c.in_ok-seen.ensures.y) in
     let same = ap (with_experiments experiments) same_effect in (
       c.in_ok-refuse-in-Err.ensures.outcome,
       (
@@ -55,7 +58,8 @@ returns-in_ok-refuse-in-Err c =
         c.in_ok-seen.ensures.graph,
         record {
           fault = c.in-Err.fault;
-          is_fault = not_memory (IsSurrogateFault (surrogate_lists g x y experiments)) c.in-Err.fault c.in_ok-refuse-in-Err.ensures.fault (subst (λ l. OrMemory (IsSurrogateFault l) c.in-Err.fault) same c.in-Err.ensures.fault);
+          is_fault = not_memory (IsSurrogateFault (surrogate_lists g x y experiments)) c.in-Err.fault c.in_ok-refuse-in-Err.ensures.fault
+              (subst (λ l. OrMemory (IsSurrogateFault l) c.in-Err.fault) same c.in-Err.ensures.fault);
           prints = c.in_ok-refuse-in-Err.ensures.line;
         },
       ),

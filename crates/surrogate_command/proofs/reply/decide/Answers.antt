@@ -3,10 +3,10 @@ use Rattle.mixed_graph.specs.Bits.{has}
 use Rattle.mixed_graph.specs.Sets.{Within}
 use Rattle.mixed_graph.specs.Shown.{graph_of}
 use Rattle.prob_expr.specs.Listed.{masks_of}
-use Rattle.prob_expr.specs.Tree.{PlainTarget}
+use Rattle.prob_expr.specs.Tree.{PlainTarget, effect_on}
 use Rattle.prob_expr.specs.View.{formula_view}
 use Rattle.do_derivation.specs.View.{derivation_view}
-use Rattle.id_recursion.specs.Answers.{effect_on, AreShallowSteps, IsShallowFormula}
+use Rattle.identify.specs.Answers.{AreShallowSteps, IsShallowFormula}
 use Rattle.identify_text.proofs.Free.{none_within}
 use Rattle.certificate.specs.Plain.{formula}
 use Rattle.certificate_writing.specs.Writable.{IsTargetWithin, IsBareTarget, IsDerivationWithin}
@@ -14,7 +14,7 @@ use Rattle.effect_certificates.proofs.Shallow.{formula_shallow}
 use Rattle.effect_certificates.proofs.Within.{derivation_within}
 use Rattle.effect_certificates.proofs.Writing.{bare_target}
 use Rattle.surrogates.specs.Answers.{IsRightWith, IfFormula, IfStopped, IfCommon, IsStopShown, IsBlockShown, IsBlockedTogether, HasCommon, is_stopped}
-use Rattle.surrogate_theory.specs.Surrogates.{IsSurrogate, IsSurrogateBySteps, SomeBlocked}
+use Rattle.surrogates.specs.Surrogates.{IsSurrogate, IsSurrogateBySteps, SomeBlocked}
 use Rattle.surrogate_command.specs.Answers.{ShowsFormula, ShowsStop}
 use Rattle.surrogate_command.specs.Lines.{formula_text, ReadsBack}
 use Rattle.surrogate_command.proofs.Stops.{hedge_named, district_named, common_named}
@@ -98,18 +98,22 @@ returns-in-Formula c =
     let zs = masks_of c.as_slice-experiments.result.now in
     let x = c.args.sets.now.x.bits in
     let y = c.args.sets.now.y.bits in
-    subst (λ l. ShowsFormula c.args.form g c.args.seen.now.names (masks_of l) x y c.in_ok-formula_text-in-Formula.field-0.items) c.as_slice-experiments.ensures.value (record {
+    subst (λ l. ShowsFormula c.args.form g c.args.seen.now.names (masks_of l) x y c.in_ok-formula_text-in-Formula.field-0.items)
+    c.as_slice-experiments.ensures.value (record {
       formula = formula_view c.in-Formula.formula;
       derivation = derivation_view c.in-Formula.derivation;
       right = subst (IsRightWith g zs x y) c.in-Formula.is c.in_ok-formula.ensures.right;
       stated = subst (λ a. IfFormula a (λ f t. IsSurrogate g zs x y f)) c.in-Formula.is c.in_ok-formula.ensures.formula;
       derived = subst (λ a. IfFormula a (IsSurrogateBySteps g zs x y)) c.in-Formula.is c.in_ok-formula.ensures.derived;
-      unblocked = λ blocked. let bad = (subst (λ a. IsTrue (is_stopped a) ↔ SomeBlocked g zs x y) c.in-Formula.is c.in_ok-formula.ensures.exact).1 blocked in cc bad;
+      unblocked = λ blocked. let bad = (subst (λ a. IsTrue (is_stopped a) ↔ SomeBlocked g zs x y) c.in-Formula.is c.in_ok-formula.ensures.exact).1 blocked in
+          cc bad;
       plain = λ f is. (subst (λ a. (is_stopped a ≡ true → ⊥) × IfFormula a (λ h t. h ≡ f)) c.in-Formula.is (c.in_ok-formula.ensures.plain f is)).1;
       prints = subst (λ t. c.in_ok-formula_text-in-Formula.field-0.items
-          ≡ formula_text c.args.form c.args.seen.now.names t (formula_view c.in-Formula.formula) (derivation_view c.in-Formula.derivation)) c.effect_of.ensures.view
+          ≡ formula_text c.args.form c.args.seen.now.names t (formula_view c.in-Formula.formula) (derivation_view c.in-Formula.derivation))
+          c.effect_of.ensures.view
           c.in_ok-formula_text-in-Formula.ensures.text;
-      reads_back = subst (λ t. ReadsBack c.args.form c.args.seen.now.names (formula t (formula_view c.in-Formula.formula) (derivation_view c.in-Formula.derivation)))
+      reads_back = subst (λ t. ReadsBack c.args.form c.args.seen.now.names
+          (formula t (formula_view c.in-Formula.formula) (derivation_view c.in-Formula.derivation)))
           c.effect_of.ensures.view c.in_ok-formula_text-in-Formula.ensures.reads_back;
     })
 

@@ -1,6 +1,6 @@
 use Rattle.std.proofs.Common.{◌≡◌, ◌++◌, length, map, sym, subst, ◌∙◌, None, rules}
 use Rattle.mixed_graph.specs.Names.{texts}
-use Rattle.word_lists.specs.Views.{names_in}
+use Rattle.command_words.specs.ListViews.{names_in}
 use Rattle.targets.specs.Targets.{effect_fault, IsNameFault}
 use Rattle.targets.proofs.Walking.{fault_first, texts-none}
 use Rattle.targets.proofs.Queries.{from_empty}
@@ -14,14 +14,16 @@ abbrev lists : After-experiment_sets → SurrogateLists
 lists c = lists_of c.args.all.now c.args.observed.now (texts c.args.x.now) (texts c.args.y.now) (map names_in c.args.experiments.now)
 
 abbrev no_effect_fault : (c : After-experiment_sets) → effect_fault (lists c).effect ≡ None
-no_effect_fault c = from_empty c.args.all.now c.args.observed.now c.empty.result.bits c.empty.ensures.members (texts c.args.x.now ++ texts c.args.y.now) ∙ c.in-Ok.ensures.none
+no_effect_fault c = from_empty c.args.all.now c.args.observed.now c.empty.result.bits c.empty.ensures.members (texts c.args.x.now ++ texts c.args.y.now)
+    ∙ c.in-Ok.ensures.none
 
 pub returns-in-Err-clause-fault : goal.returns-in-Err-clause-fault
 returns-in-Err-clause-fault c =
     let l = lists_of c.args.all.now c.args.observed.now (texts c.args.x.now) (texts c.args.y.now) (map names_in c.args.experiments.now) in
     let e = l.effect in
     surrogate_fault_named l c.in-Err.fault (fault_first (effect_fault e) (experiments_fault e.all e.observed l.experiments) c.in-Err.fault
-    (subst (λ o. IsNameFault o c.in-Err.fault) (sym (from_empty e.all e.observed c.empty.result.bits c.empty.ensures.members (e.x ++ e.y))) c.in-Err.ensures.fault))
+    (subst (λ o. IsNameFault o c.in-Err.fault) (sym (from_empty e.all e.observed c.empty.result.bits c.empty.ensures.members (e.x ++ e.y)))
+    c.in-Err.ensures.fault))
 
 pub returns-in-Err-experiment_sets-clause-fault : goal.returns-in-Err-experiment_sets-clause-fault
 returns-in-Err-experiment_sets-clause-fault c =

@@ -1,8 +1,8 @@
 use Rattle.std.proofs.Common.{◌≡◌, drop}
-use Rattle.mixed_graph.specs.Masks.{join}
+use Rattle.mixed_graph.specs.Masks.{union}
 use Rattle.prob_expr.specs.Listed.{masks_of}
-use Rattle.surrogate_theory.specs.Common.{around}
+use Rattle.surrogates.specs.Common.{around}
 use Rattle.surrogates.proofs.blocking.around.Given as goal
 
 abbrev pub invariant-loop-z : goal.invariant-loop-z
-invariant-loop-z l = join l.taken.bits (around l.c.bits (masks_of (drop l.z-index l.experiments))) ≡ around l.c.bits (masks_of l.experiments)
+invariant-loop-z l = union l.taken.bits (around l.c.bits (masks_of (drop l.z-index l.experiments))) ≡ around l.c.bits (masks_of l.experiments)

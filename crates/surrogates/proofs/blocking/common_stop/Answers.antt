@@ -2,8 +2,8 @@ use Rattle.std.proofs.Common.{◌≡◌, true, sym, subst, ◌∙◌}
 use Rattle.mixed_graph.specs.Masks.{is_apart}
 use Rattle.mixed_graph.specs.Shown.{graph_of}
 use Rattle.prob_expr.specs.Listed.{masks_of}
-use Rattle.surrogate_theory.proofs.Around.{around_is_apart}
-use Rattle.surrogate_theory.specs.Surrogates.{IsStoppedUnder}
+use Rattle.surrogates.proofs.Around.{around_is_apart}
+use Rattle.surrogates.specs.Surrogates.{IsStoppedUnder}
 use Rattle.surrogates.proofs.Together.{freed}
 use Rattle.surrogates.proofs.blocking.common_stop.Goals as goal
 use Rattle.surrogates.proofs.blocking.common_stop.Goals.{in-Ok, in-Err-Stopped, in-Err-NoMemory}

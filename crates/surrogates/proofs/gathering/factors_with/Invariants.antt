@@ -2,9 +2,10 @@ use Rattle.std.proofs.Common.{take, map}
 use Rattle.mixed_graph.specs.Shown.{graph_of}
 use Rattle.mixed_graph.specs.declared.sets.VSet.{VSet}
 use Rattle.prob_expr.specs.Listed.{masks_of}
-use Rattle.id_recursion.proofs.GatheredFactors.{Gathered}
-use Rattle.surrogate_theory.specs.Surrogates.{AreDerivedWith, StopsWith}
+use Rattle.identify.proofs.GatheredFactors.{Gathered}
+use Rattle.surrogates.specs.Surrogates.{AreDerivedWith, StopsWith}
 use Rattle.surrogates.proofs.gathering.factors_with.Given as goal
 
 abbrev pub invariant-loop-c : goal.invariant-loop-c
-invariant-loop-c l = Gathered (AreDerivedWith (graph_of l.g) (masks_of l.experiments)) (StopsWith (graph_of l.g) (masks_of l.experiments)) (map (λ (s : VSet). s.bits) (take l.c-index l.c-items)) l.made
+invariant-loop-c l = Gathered (AreDerivedWith (graph_of l.g) (masks_of l.experiments)) (StopsWith (graph_of l.g) (masks_of l.experiments))
+    (map (λ (s : VSet). s.bits) (take l.c-index l.c-items)) l.made

@@ -1,16 +1,16 @@
 use Rattle.std.proofs.Common.{ℕ, eqb-true, inl, inr, sym, ◌∙◌, length-take, map, arith}
 use Rattle.mixed_graph.specs.Shown.{graph_of}
 use Rattle.mixed_graph.specs.declared.sets.VSet.{VSet}
-use Rattle.districts.specs.Linked.{AreDistricts}
-use Rattle.districts.specs.Listed.{first_masks}
+use Rattle.hedge.specs.Linked.{AreDistricts}
+use Rattle.hedge.specs.Listed.{first_masks}
 use Rattle.prob_expr.specs.Listed.{masks_of}
 use Rattle.prob_expr.specs.View.{formula_view}
 use Rattle.do_derivation.specs.View.{derivation_view, listed}
-use Rattle.id_recursion.proofs.Composed.{few_defs}
-use Rattle.id_recursion.proofs.Orders.{districts_by}
-use Rattle.id_recursion.proofs.RightAnswers.{target_from}
-use Rattle.identification.specs.Procedure.{IsTarget}
-use Rattle.surrogate_theory.specs.Surrogates.{IsStoppedWith, StopsWith}
+use Rattle.identify.proofs.Composed.{few_defs}
+use Rattle.identify.proofs.Orders.{districts_by}
+use Rattle.identify.proofs.RightAnswers.{target_from}
+use Rattle.identification_theory.specs.Procedure.{IsTarget}
+use Rattle.surrogates.specs.Surrogates.{IsStoppedWith, StopsWith}
 use Rattle.surrogates.proofs.Assembled.{by_steps}
 use Rattle.surrogates.proofs.Together.{stops_at_district}
 use Rattle.surrogates.specs.Tries.{IsDistrictFrom}
@@ -18,10 +18,13 @@ use Rattle.surrogates.proofs.identifying.answer.Goals as goal
 use Rattle.surrogates.proofs.identifying.answer.Goals.{After-order_of-order, After-districts-parts}
 
 target : (c : After-order_of-order) → IsTarget (graph_of c.args.g.now) c.args.x.bits c.args.y.bits
-target c = target_from (graph_of c.args.g.now) c.args.x.bits c.args.y.bits c.requires.x_within c.requires.y_within c.requires.apart c.requires.some (omega arith)
+target c = target_from (graph_of c.args.g.now) c.args.x.bits c.args.y.bits c.requires.x_within c.requires.y_within c.requires.apart c.requires.some
+    (omega arith)
 
-are_districts : (c : After-districts-parts) → AreDistricts (graph_of c.args.g.now) c.ancestors_outside-d.result.bits 0 (listed c.order_of-order.result) (first_masks c.districts-parts.result.sets c.districts-parts.result.count)
-are_districts c = districts_by (graph_of c.args.g.now) c.ancestors_outside-d.result.bits (listed c.order_of-order.result) (first_masks c.districts-parts.result.sets c.districts-parts.result.count)
+are_districts : (c : After-districts-parts) → AreDistricts (graph_of c.args.g.now) c.ancestors_outside-d.result.bits 0 (listed c.order_of-order.result)
+    (first_masks c.districts-parts.result.sets c.districts-parts.result.count)
+are_districts c = districts_by (graph_of c.args.g.now) c.ancestors_outside-d.result.bits (listed c.order_of-order.result)
+    (first_masks c.districts-parts.result.sets c.districts-parts.result.count)
     c.order_of-order.ensures.listed c.districts-parts.ensures.districts
 
 stop_at : (c : After-districts-parts) → (small big : ℕ)
@@ -41,7 +44,11 @@ pub returns-then-is_empty-clause-answer : goal.returns-then-is_empty-clause-answ
 returns-then-is_empty-clause-answer c = record {
   order = listed c.order_of-order.result;
   is_order = c.order_of-order.ensures.listed;
-  answer = inl (eqb-true c.args.x.bits 0 (sym c.is_empty.ensures.mask ∙ c.if-is_empty.true), c.observed-formula.ensures.formula, c.observed-formula.ensures.derivation);
+  answer = inl (
+    eqb-true c.args.x.bits 0 (sym c.is_empty.ensures.mask ∙ c.if-is_empty.true),
+    c.observed-formula.ensures.formula,
+    c.observed-formula.ensures.derivation,
+  );
 }
 
 pub assembled-requires-clause-counted : goal.assembled-requires-clause-counted
@@ -53,8 +60,10 @@ returns-in_ok-formula-in-Ok-clause-answer c = record {
   is_order = c.order_of-order.ensures.listed;
   answer = inr (
     λ z. absurd (let e = c.is_empty.ensures.mask in let f = c.if-is_empty.false in grind (arith, z, e, f)),
-    by_steps (graph_of c.args.g.now) (masks_of c.args.experiments.now) (listed c.order_of-order.result) (first_masks c.districts-parts.result.sets c.districts-parts.result.count) c.args.x.bits c.args.y.bits c.ancestors_outside-d.result.bits c.in-Ok.made
-        c.ancestors_outside-d.ensures (are_districts (goal.at.returns-in_ok-formula-in-Ok-clause-answer c).After-districts-parts) c.in-Ok.ensures _ _ c.in_ok-formula-in-Ok.ensures,
+    by_steps (graph_of c.args.g.now) (masks_of c.args.experiments.now) (listed c.order_of-order.result)
+        (first_masks c.districts-parts.result.sets c.districts-parts.result.count) c.args.x.bits c.args.y.bits c.ancestors_outside-d.result.bits c.in-Ok.made
+        c.ancestors_outside-d.ensures (are_districts (goal.at.returns-in_ok-formula-in-Ok-clause-answer c).After-districts-parts)
+        c.in-Ok.ensures _ _ c.in_ok-formula-in-Ok.ensures,
   );
 }
 
@@ -63,7 +72,8 @@ returns-in_ok-formula-in-Ok-clause-few c =
     let sets = c.districts-parts.result.sets in
     let n = c.districts-parts.result.count in
     let most = c.districts-parts.result.in_range in
-    let few = few_defs c.args.g.now.n (listed c.order_of-order.result) (first_masks sets n) c.args.x.bits c.args.y.bits c.ancestors_outside-d.result.bits c.in-Ok.made c.in-Ok.ensures.few
+    let few = few_defs c.args.g.now.n (listed c.order_of-order.result) (first_masks sets n)
+    c.args.x.bits c.args.y.bits c.ancestors_outside-d.result.bits c.in-Ok.made c.in-Ok.ensures.few
     (formula_view c.in_ok-formula-in-Ok.formula) (derivation_view c.in_ok-formula-in-Ok.derivation) c.in_ok-formula-in-Ok.ensures in
     let size = length-take n (map (λ (s : VSet). s.bits) sets) in
     omega (arith, most, few, size)

@@ -1,10 +1,10 @@
 use Rattle.std.proofs.Common.{subst, arith}
 use Rattle.mixed_graph.specs.Shown.{graph_of}
 use Rattle.prob_expr.specs.Listed.{masks_of}
-use Rattle.id_recursion.proofs.RightAnswers.{target_from}
-use Rattle.surrogate_theory.proofs.Around.{around_is_apart}
-use Rattle.surrogate_theory.proofs.Blocked.{stop_under_has_hedge}
-use Rattle.surrogate_theory.specs.Common.{around}
+use Rattle.identify.proofs.RightAnswers.{target_from}
+use Rattle.surrogates.proofs.Around.{around_is_apart}
+use Rattle.surrogates.proofs.Blocked.{stop_under_has_hedge}
+use Rattle.surrogates.specs.Common.{around}
 use Rattle.surrogates.specs.Tries.{IsStopTogether}
 use Rattle.surrogates.proofs.RightAnswers.{block_shown}
 use Rattle.surrogates.proofs.Together.{stops_alone}

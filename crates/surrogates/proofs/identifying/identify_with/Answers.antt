@@ -1,8 +1,8 @@
 use Rattle.std.proofs.Common.{arith}
 use Rattle.mixed_graph.specs.Shown.{graph_of}
 use Rattle.prob_expr.specs.Listed.{masks_of}
-use Rattle.id_recursion.proofs.RightAnswers.{target_from, if_ok}
-use Rattle.surrogate_theory.proofs.Answered.{derived_is_surrogate, surrogate_is_formed}
+use Rattle.identify.proofs.RightAnswers.{target_from, if_ok}
+use Rattle.surrogates.proofs.Answered.{derived_is_surrogate, surrogate_is_formed}
 use Rattle.surrogates.specs.Answers.{IsAnswerWith}
 use Rattle.surrogates.proofs.RightAnswers.{if_formula, right, exact, common, plain, shallow_steps, shallow_formula, stopped, blocked}
 use Rattle.surrogates.proofs.identifying.identify_with.Goals as goal

@@ -1,8 +1,8 @@
 use Rattle.std.proofs.Common.{arith}
 use Rattle.mixed_graph.specs.Shown.{graph_of}
 use Rattle.prob_expr.specs.Listed.{masks_of}
-use Rattle.id_recursion.proofs.RightAnswers.{target_from}
-use Rattle.surrogate_theory.proofs.Answered.{stop_has_hedge}
+use Rattle.identify.proofs.RightAnswers.{target_from}
+use Rattle.surrogates.proofs.Answered.{stop_has_hedge}
 use Rattle.surrogates.proofs.RightAnswers.{stop_shown}
 use Rattle.surrogates.proofs.identifying.stopped_answer.Goals as goal
 

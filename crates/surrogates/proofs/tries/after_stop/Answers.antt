@@ -6,7 +6,8 @@ use Rattle.surrogates.proofs.Passing.{all_stop, none_before}
 use Rattle.surrogates.proofs.tries.after_stop.Goals as goal
 
 pub returns-in-Some-clause-tried : goal.returns-in-Some-clause-tried
-returns-in-Some-clause-tried c = none_before (graph_of c.args.g.now) c.args.c.bits (masks_of c.args.experiments.now) c.args.first c.args.big.bits c.in-Some.factor c.requires.stopped
+returns-in-Some-clause-tried c = none_before (graph_of c.args.g.now) c.args.c.bits (masks_of c.args.experiments.now)
+    c.args.first c.args.big.bits c.in-Some.factor c.requires.stopped
     (subst (IsAttemptOf (graph_of c.args.g.now) (masks_of c.args.experiments.now) c.args.c.bits c.args.first) c.in-Some.is c.in-Ok.ensures)
 
 pub returns-in-None-clause-fault : goal.returns-in-None-clause-fault

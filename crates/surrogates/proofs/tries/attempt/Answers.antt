@@ -13,4 +13,5 @@ pub returns-in-Ok : goal.returns-in-Ok
 returns-in-Ok c = (sym c.is_apart.ensures ∙ grind (arith, c.if-not-is_apart.false), c.in-Ok.ensures.tried)
 
 pub returns-in-Err : goal.returns-in-Err
-returns-in-Err c = passed_ok (graph_of c.args.g.now) c.args.z.bits c.args.c.bits c.args.first (sym c.is_apart.ensures ∙ grind (arith, c.if-not-is_apart.false)) c.in-Err.fault c.in-Err.ensures.fault c.passed.result c.passed.ensures
+returns-in-Err c = passed_ok (graph_of c.args.g.now) c.args.z.bits c.args.c.bits c.args.first
+    (sym c.is_apart.ensures ∙ grind (arith, c.if-not-is_apart.false)) c.in-Err.fault c.in-Err.ensures.fault c.passed.result c.passed.ensures

@@ -1,5 +1,5 @@
-use Rattle.surrogate_theory.proofs.Rooms.{zero_apart}
-use Rattle.surrogate_theory.specs.Surrogates.{ComesFirst}
+use Rattle.surrogates.proofs.Rooms.{zero_apart}
+use Rattle.surrogates.specs.Surrogates.{ComesFirst}
 use Rattle.surrogates.proofs.tries.first_factor.Goals as goal
 
 pub factor_without-requires-clause-apart : goal.factor_without-requires-clause-apart

@@ -13,14 +13,17 @@ abbrev lists : After-walk → Lists
 lists c = lists_of c.args.all.now c.args.observed.now (texts c.args.x.now) (texts c.args.y.now) (texts c.args.given.now)
 
 -- what is left behind x and y
-abbrev given_on : (c : After-walk) → fault_in (lists c) ≡ first_fault c.args.all.now c.args.observed.now (walked_in c.args.observed.now c.union.result.bits) (texts c.args.given.now)
-given_on c = after_first_two c.args.all.now c.args.observed.now c.empty.result.bits c.in-Ok.sets.0.bits c.in-Ok.sets.1.bits c.union.result.bits (texts c.args.x.now) (texts c.args.y.now) (texts c.args.given.now)
+abbrev given_on : (c : After-walk) → fault_in (lists c) ≡ first_fault c.args.all.now c.args.observed.now (walked_in c.args.observed.now c.union.result.bits)
+    (texts c.args.given.now)
+given_on c = after_first_two c.args.all.now c.args.observed.now c.empty.result.bits c.in-Ok.sets.0.bits c.in-Ok.sets.1.bits c.union.result.bits
+    (texts c.args.x.now) (texts c.args.y.now) (texts c.args.given.now)
     c.empty.ensures.members c.in-Ok.ensures.none c.in-Ok.ensures.first c.in-Ok.ensures.second c.union.ensures.members
 
 pub returns-in-Err-clause-fault : goal.returns-in-Err-clause-fault
 returns-in-Err-clause-fault c =
     let l = lists_of c.args.all.now c.args.observed.now (texts c.args.x.now) (texts c.args.y.now) (texts c.args.given.now) in
-    list_fault_named l c.in-Err.fault (fault_in_first_two l.all l.observed c.empty.result.bits l.x l.y l.given c.empty.ensures.members c.in-Err.fault c.in-Err.ensures.fault)
+    list_fault_named l c.in-Err.fault (fault_in_first_two l.all l.observed c.empty.result.bits l.x l.y l.given c.empty.ensures.members c.in-Err.fault
+    c.in-Err.ensures.fault)
 
 pub returns-in-Err-walk-clause-fault : goal.returns-in-Err-walk-clause-fault
 returns-in-Err-walk-clause-fault c =

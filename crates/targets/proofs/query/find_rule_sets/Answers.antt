@@ -10,17 +10,20 @@ use Rattle.targets.proofs.query.find_rule_sets.Goals as goal
 use Rattle.targets.proofs.query.find_rule_sets.Goals.{After-walk_two-2}
 
 abbrev lists : After-walk_two-2 → RuleLists
-lists c = rule_lists_of c.args.all.now c.args.observed.now (texts c.args.y.now) (texts c.args.done.now) (texts c.args.z.now) (texts c.args.given.now)
+lists c = rule_lists_of c.args.all.now c.args.observed.now (texts c.args.y.now) (texts c.args.x.now) (texts c.args.z.now) (texts c.args.given.now)
 
 -- what is left behind y and what is done
-abbrev later_on : (c : After-walk_two-2) → rule_fault (lists c) ≡ first_fault c.args.all.now c.args.observed.now (walked_in c.args.observed.now c.union.result.bits) (texts c.args.z.now ++ texts c.args.given.now)
-later_on c = after_first_two c.args.all.now c.args.observed.now c.empty.result.bits c.in-Ok.sets.0.bits c.in-Ok.sets.1.bits c.union.result.bits (texts c.args.y.now) (texts c.args.done.now) (texts c.args.z.now ++ texts c.args.given.now)
+abbrev later_on : (c : After-walk_two-2) → rule_fault (lists c) ≡ first_fault c.args.all.now c.args.observed.now
+    (walked_in c.args.observed.now c.union.result.bits) (texts c.args.z.now ++ texts c.args.given.now)
+later_on c = after_first_two c.args.all.now c.args.observed.now c.empty.result.bits c.in-Ok.sets.0.bits c.in-Ok.sets.1.bits c.union.result.bits
+    (texts c.args.y.now) (texts c.args.x.now) (texts c.args.z.now ++ texts c.args.given.now)
     c.empty.ensures.members c.in-Ok.ensures.none c.in-Ok.ensures.first c.in-Ok.ensures.second c.union.ensures.members
 
 pub returns-in-Err-clause-fault : goal.returns-in-Err-clause-fault
 returns-in-Err-clause-fault c =
-    let l = rule_lists_of c.args.all.now c.args.observed.now (texts c.args.y.now) (texts c.args.done.now) (texts c.args.z.now) (texts c.args.given.now) in
-    rule_fault_named l c.in-Err.fault (fault_in_first_two l.all l.observed c.empty.result.bits l.y l.done (l.z ++ l.given) c.empty.ensures.members c.in-Err.fault c.in-Err.ensures.fault)
+    let l = rule_lists_of c.args.all.now c.args.observed.now (texts c.args.y.now) (texts c.args.x.now) (texts c.args.z.now) (texts c.args.given.now) in
+    rule_fault_named l c.in-Err.fault (fault_in_first_two l.all l.observed c.empty.result.bits l.y l.x (l.z ++ l.given)
+    c.empty.ensures.members c.in-Err.fault c.in-Err.ensures.fault)
 
 pub returns-in-Err-walk_two-clause-fault : goal.returns-in-Err-walk_two-clause-fault
 returns-in-Err-walk_two-clause-fault c =
@@ -49,7 +52,7 @@ returns-clause-sets c =
       some_y = λ e. some_y (texts-none c.args.y.now e);
       some_z = λ e. some_z (texts-none c.args.z.now e);
       set_y = c.in-Ok.ensures.first;
-      set_done = c.in-Ok.ensures.second;
+      set_x = c.in-Ok.ensures.second;
       set_z = c.in-Ok-walk_two.ensures.first;
       set_given = c.in-Ok-walk_two.ensures.second;
     }

@@ -7,7 +7,8 @@ use Rattle.targets.proofs.Walking.{texts-none}
 use Rattle.targets.proofs.query.find_sets.Goals as goal
 
 pub returns-in-Err-clause-fault : goal.returns-in-Err-clause-fault
-returns-in-Err-clause-fault c = list_fault_of_target (lists_of c.args.all.now c.args.observed.now (texts c.args.x.now) (texts c.args.y.now) (texts c.args.given.now)) c.in-Err.fault c.in-Err.ensures.fault
+returns-in-Err-clause-fault c = list_fault_of_target (lists_of c.args.all.now c.args.observed.now (texts c.args.x.now) (texts c.args.y.now)
+    (texts c.args.given.now)) c.in-Err.fault c.in-Err.ensures.fault
 
 pub returns-then-is_empty-clause-fault : goal.returns-then-is_empty-clause-fault
 returns-then-is_empty-clause-fault c =

@@ -22,13 +22,16 @@ members-smaller c =
 pub members-preserved : goal.members-preserved
 members-preserved c =
     let r = rest_is (goal.at.members-preserved c).After-difference-rest in
-    let first = members-without c.members.rest.bits c.difference-rest.result.bits c.lowest-v.result c.lowest-v.ensures.in_range c.lowest-v.ensures.member c.lowest-v.ensures.least r in
+    let first = members-without c.members.rest.bits c.difference-rest.result.bits c.lowest-v.result c.lowest-v.ensures.in_range c.lowest-v.ensures.member
+    c.lowest-v.ensures.least r in
     let pushed = c.in_ok-push.ensures.items in
     let name : c.in_ok-from_slice.field-0.items ≡ name_of c.args.names.now c.lowest-v.result =
     c.in_ok-from_slice.ensures.items ∙ sym (get_or_from_slice_get c.args.names.now c.lowest-v.result c.get.result.now [] c.get.ensures.name) in (
       ap (λ vs. texts vs ++ map (name_of c.args.names.now) (members_below (has c.difference-rest.result.bits) 64)) pushed
-          ∙ ap (λ t. t ++ map (name_of c.args.names.now) (members_below (has c.difference-rest.result.bits) 64)) (map-append (λ (v : Vec ℕ). v.items) c.members.list.items (c.in_ok-from_slice.field-0 ∷ []))
-          ∙ append_assoc (texts c.members.list.items) (texts (c.in_ok-from_slice.field-0 ∷ [])) (map (name_of c.args.names.now) (members_below (has c.difference-rest.result.bits) 64))
+          ∙ ap (λ t. t ++ map (name_of c.args.names.now) (members_below (has c.difference-rest.result.bits) 64))
+          (map-append (λ (v : Vec ℕ). v.items) c.members.list.items (c.in_ok-from_slice.field-0 ∷ []))
+          ∙ append_assoc (texts c.members.list.items) (texts (c.in_ok-from_slice.field-0 ∷ []))
+          (map (name_of c.args.names.now) (members_below (has c.difference-rest.result.bits) 64))
           ∙ ap (λ n. texts c.members.list.items ++ n ∷ map (name_of c.args.names.now) (members_below (has c.difference-rest.result.bits) 64)) name
           ∙ ap (λ vs. texts c.members.list.items ++ map (name_of c.args.names.now) vs) (sym first)
           ∙ c.members.invariant.0,
@@ -39,5 +42,6 @@ members-preserved c =
 pub returns : goal.returns
 returns c =
     sym (append-nil (texts c.members.list.items))
-    ∙ ap (λ vs. texts c.members.list.items ++ map (name_of c.args.names.now) vs) (sym (members-empty c.members.rest.bits (c.is_empty.ensures.none.0 (search rules))))
+    ∙ ap (λ vs. texts c.members.list.items ++ map (name_of c.args.names.now) vs)
+    (sym (members-empty c.members.rest.bits (c.is_empty.ensures.none.0 (search rules))))
     ∙ c.members.invariant.0

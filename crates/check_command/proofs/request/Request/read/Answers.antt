@@ -1,5 +1,5 @@
 use Rattle.std.proofs.Common.{refl, rules}
-use Rattle.request_values.proofs.Inputs.{with_file}
+use Rattle.command_words.proofs.Inputs.{with_file}
 use Rattle.check_command.specs.Requests.{check_row}
 use Rattle.check_command.proofs.request.Request.read.Goals as goal
 
@@ -8,11 +8,13 @@ returns-in_err-file-clause-none c = λ uses g e. record { nothing = λ r is. c.i
 
 pub returns-in_err-certificate-clause-none : goal.returns-in_err-certificate-clause-none
 returns-in_err-certificate-clause-none c = λ uses g e. record {
-  nothing = λ r is. c.in_err-certificate.ensures.none check_row uses g refl (search rules) r.certificate is.certificate (with_file _ _ _ _ is.file (c.in_ok-file.ensures.ok check_row uses g refl) is.inputs);
+  nothing = λ r is. c.in_err-certificate.ensures.none check_row uses g refl (search rules) r.certificate is.certificate
+      (with_file _ _ _ _ is.file (c.in_ok-file.ensures.ok check_row uses g refl) is.inputs);
 }
 
 pub returns-in_err-experiments-clause-none : goal.returns-in_err-experiments-clause-none
-returns-in_err-experiments-clause-none c = λ uses g e. record { nothing = λ r is. c.in_err-experiments.ensures.none check_row uses g refl (search rules) r.experiments is.experiments }
+returns-in_err-experiments-clause-none c =
+    λ uses g e. record { nothing = λ r is. c.in_err-experiments.ensures.none check_row uses g refl (search rules) r.experiments is.experiments }
 
 pub returns-clause-ok : goal.returns-clause-ok
 returns-clause-ok c = λ uses g. record {

@@ -31,12 +31,14 @@ pub invariant_of-self-2 : goal.invariant_of-self-2
 invariant_of-self-2 c =
     let few : length (texts c.self.inside.set.keys) ≡ length c.self.inside.set.keys = simp length-map in
     subst AreLevels (sym (grown c))
-    (AreLevels-append (texts c.self.inside.set.keys) c.args.level.now c.self.invariant (absent c) (omega (arith, few, c.len-number.ensures.len, c.if-number.false)))
+    (AreLevels-append (texts c.self.inside.set.keys) c.args.level.now c.self.invariant (absent c)
+    (omega (arith, few, c.len-number.ensures.len, c.if-number.false)))
 
 pub returns-clause-added : goal.returns-clause-added
 returns-clause-added c =
     let names = texts c.self.inside.set.keys in
-    subst (λ l. texts c.insert.new.self.keys ≡ with_name l c.args.level.now) c.self.view_is (grown c ∙ ap (λ b. cond b names (names ++ c.args.level.now ∷ [])) (sym (absent c)))
+    subst (λ l. texts c.insert.new.self.keys ≡ with_name l c.args.level.now) c.self.view_is
+    (grown c ∙ ap (λ b. cond b names (names ++ c.args.level.now ∷ [])) (sym (absent c)))
 
 pub returns-clause-number : goal.returns-clause-number
 returns-clause-number c = c.len-number.ensures.len ∙ index_of-new _ _ _ c.self.view_is (sym (absent c))

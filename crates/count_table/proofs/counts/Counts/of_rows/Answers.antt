@@ -12,16 +12,21 @@ invariant_of-result c =
     let levels = c.args.tally.levels.items in
     let differ : All AreLevels levels = rw c.as_slice.ensures.value at c.in_ok-cells.ensures.differ in
     let long : length c.in_ok-cells.cells.items ≡ cell_count levels = rw c.as_slice.ensures.value at c.in_ok-cells.ensures.length in
-    let filled : (i : ℕ) → i < cell_count levels → get_or c.in_ok-cells.cells.items i 0 ≡ count_at (sizes_of levels) (rows_from (length levels) c.args.tally.cells.items c.args.tally.counts.items) i =
+    let filled : (i : ℕ) → i < cell_count levels → get_or c.in_ok-cells.cells.items i 0
+    ≡ count_at (sizes_of levels) (rows_from (length levels) c.args.tally.cells.items c.args.tally.counts.items) i =
     rw (c.as_slice.ensures.value, c.as_slice-2.ensures.value, c.as_slice-3.ensures.value) at c.in_ok-cells.ensures.counts in
-    let coded : c.in_ok-codes.codes.items ≡ map (code_of_cell (sizes_of levels)) (cells_of (sizes_of levels)) = rw c.as_slice-4.ensures.value at c.in_ok-codes.ensures in
-    are_kept c.args.used.bits c.args.vertices.items levels c.args.tally.cells.items c.args.tally.counts.items c.in_ok-cells.cells.items c.in_ok-codes.codes.items
+    let coded : c.in_ok-codes.codes.items ≡ map (code_of_cell (sizes_of levels)) (cells_of (sizes_of levels)) =
+    rw c.as_slice-4.ensures.value at c.in_ok-codes.ensures in
+    are_kept c.args.used.bits c.args.vertices.items levels c.args.tally.cells.items c.args.tally.counts.items c.in_ok-cells.cells.items
+    c.in_ok-codes.codes.items
     c.requires.members c.requires.some (omega arith) c.requires.matched differ c.requires.rows long filled coded
 
 pub returns-clause-rows : goal.returns-clause-rows
 returns-clause-rows c of at =
     let levels = c.args.tally.levels.items in
     let long : length c.in_ok-cells.cells.items ≡ cell_count levels = rw c.as_slice.ensures.value at c.in_ok-cells.ensures.length in
-    let filled : (i : ℕ) → i < cell_count levels → get_or c.in_ok-cells.cells.items i 0 ≡ count_at (sizes_of levels) (rows_from (length levels) c.args.tally.cells.items c.args.tally.counts.items) i =
+    let filled : (i : ℕ) → i < cell_count levels → get_or c.in_ok-cells.cells.items i 0
+    ≡ count_at (sizes_of levels) (rows_from (length levels) c.args.tally.cells.items c.args.tally.counts.items) i =
     rw (c.as_slice.ensures.value, c.as_slice-2.ensures.value, c.as_slice-3.ensures.value) at c.in_ok-cells.ensures.counts in
-    counted_alike c.args.vertices.items (sizes_of levels) (rows_from (length levels) c.args.tally.cells.items c.args.tally.counts.items) c.in_ok-cells.cells.items of at c.requires.rows.cells long filled
+    counted_alike c.args.vertices.items (sizes_of levels) (rows_from (length levels) c.args.tally.cells.items c.args.tally.counts.items)
+    c.in_ok-cells.cells.items of at c.requires.rows.cells long filled

@@ -1,5 +1,5 @@
 use Rattle.std.proofs.Common.{refl, rules}
-use Rattle.request_values.proofs.Inputs.{with_file}
+use Rattle.command_words.proofs.Inputs.{with_file}
 use Rattle.equivalent_command.specs.Requests.{equivalent_row}
 use Rattle.equivalent_command.proofs.request.Request.read.Goals as goal
 
@@ -8,7 +8,8 @@ returns-in_err-file-clause-none c = λ uses g e. record { nothing = λ r is. c.i
 
 pub returns-in_err-second-clause-none : goal.returns-in_err-second-clause-none
 returns-in_err-second-clause-none c = λ uses g e. record {
-  nothing = λ r is. c.in_err-second.ensures.none equivalent_row uses g refl (search rules) r.second is.second (with_file _ _ _ _ is.file (c.in_ok-file.ensures.ok equivalent_row uses g refl) is.inputs);
+  nothing = λ r is. c.in_err-second.ensures.none equivalent_row uses g refl (search rules) r.second is.second
+      (with_file _ _ _ _ is.file (c.in_ok-file.ensures.ok equivalent_row uses g refl) is.inputs);
 }
 
 pub returns-in_err-query-clause-none : goal.returns-in_err-query-clause-none

@@ -3,7 +3,8 @@ use Rattle.explain_call.specs.Requests.{formula_row}
 use Rattle.explain_call.proofs.requests.FormulaRequest.read.Goals as goal
 
 pub returns-in_err-file-clause-none : goal.returns-in_err-file-clause-none
-returns-in_err-file-clause-none c = λ uses g e r is. c.in_err-file.ensures.none formula_row uses g (refl, refl, refl) (search rules) r.file r.x r.y (record { is_file = is.file; is_x = is.x; is_y = is.y })
+returns-in_err-file-clause-none c = λ uses g e r is. c.in_err-file.ensures.none formula_row uses g (refl, refl, refl) (search rules) r.file r.x r.y
+    (record { is_file = is.file; is_x = is.x; is_y = is.y })
 
 pub returns-in_err-set-clause-none : goal.returns-in_err-set-clause-none
 returns-in_err-set-clause-none c = λ uses g e r is. c.in_err-set.ensures.none formula_row uses g refl (search rules) r.set is.set

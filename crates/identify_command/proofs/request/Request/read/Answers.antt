@@ -1,5 +1,5 @@
 use Rattle.std.proofs.Common.{sym, refl, subst, codes, rules}
-use Rattle.word_forms.specs.Form.{has_flag}
+use Rattle.command_words.specs.Form.{has_flag}
 use Rattle.identify_command.specs.Forms.{IsForm}
 use Rattle.identify_command.specs.Requests.{identify_row}
 use Rattle.identify_command.proofs.request.Request.read.Goals as goal
@@ -12,10 +12,18 @@ returns-in_default-clause-none c = λ uses g e. record {
 }
 
 pub returns-in_err-file-clause-none : goal.returns-in_err-file-clause-none
-returns-in_err-file-clause-none c = λ uses g e. record { nothing = λ r is. c.in_err-file.ensures.none identify_row uses g (refl, refl, refl) (search rules) r.file r.x r.y (record { is_file = is.file; is_x = is.x; is_y = is.y }) }
+returns-in_err-file-clause-none c =
+    λ uses g e. record {
+      nothing = λ r is. c.in_err-file.ensures.none identify_row uses g (refl, refl, refl) (search rules) r.file r.x r.y (record {
+        is_file = is.file;
+        is_x = is.x;
+        is_y = is.y;
+      });
+    }
 
 pub returns-in_err-given-clause-none : goal.returns-in_err-given-clause-none
-returns-in_err-given-clause-none c = λ uses g e. record { nothing = λ r is. c.in_err-given.ensures.none identify_row uses g refl (search rules) r.given is.given }
+returns-in_err-given-clause-none c =
+    λ uses g e. record { nothing = λ r is. c.in_err-given.ensures.none identify_row uses g refl (search rules) r.given is.given }
 
 pub returns-clause-ok : goal.returns-clause-ok
 returns-clause-ok c = λ uses g. let s = c.in_ok-file.ensures.ok identify_row uses g (refl, refl, refl) in record {

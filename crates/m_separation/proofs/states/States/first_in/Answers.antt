@@ -8,5 +8,7 @@ pub returns-clause-none : goal.returns-clause-none
 returns-clause-none c = apart
   where
     apart : (h : Bool) (v : ℕ) → IsTrue (has (mask_of c.args.self h) v) → has c.args.set.bits v ≡ false
-    apart true = apart_from_meet c.intersection-heads.result.bits c.args.self.heads.bits c.args.set.bits c.intersection-heads.ensures.members (c.is_empty-2.ensures.none.0 c.if-not-is_empty-2.false)
-    apart false = apart_from_meet c.intersection-tails.result.bits c.args.self.tails.bits c.args.set.bits c.intersection-tails.ensures.members (c.is_empty.ensures.none.0 c.if-not-is_empty.false)
+    apart true = apart_from_meet c.intersection-heads.result.bits c.args.self.heads.bits c.args.set.bits c.intersection-heads.ensures.members
+        (c.is_empty-2.ensures.none.0 c.if-not-is_empty-2.false)
+    apart false = apart_from_meet c.intersection-tails.result.bits c.args.self.tails.bits c.args.set.bits c.intersection-tails.ensures.members
+        (c.is_empty.ensures.none.0 c.if-not-is_empty.false)

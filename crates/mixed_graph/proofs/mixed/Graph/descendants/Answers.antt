@@ -14,6 +14,7 @@ returns c = λ v. (
   λ t. descendant_from (graph_of c.args.self.now) (has c.args.s.bits) v
       (ancestor_same (graph_of_rows c.args.self.now.n c.args.self.now.children) (flip (graph_of c.args.self.now)) (has c.args.s.bits) v refl
       (λ u w. refl) ((c.closure.ensures v).0 t)),
-  λ d. (c.closure.ensures v).1 (ancestor_same (flip (graph_of c.args.self.now)) (graph_of_rows c.args.self.now.n c.args.self.now.children) (has c.args.s.bits) v refl
+  λ d. (c.closure.ensures v).1 (ancestor_same (flip (graph_of c.args.self.now)) (graph_of_rows c.args.self.now.n c.args.self.now.children) (has c.args.s.bits)
+      v refl
       (λ u w. refl) (from_descendant (graph_of c.args.self.now) (has c.args.s.bits) v d)),
 )

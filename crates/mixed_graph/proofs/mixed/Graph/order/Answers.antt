@@ -10,10 +10,15 @@ use Rattle.mixed_graph.proofs.mixed.Graph.order.Goals as goal
 use Rattle.mixed_graph.proofs.mixed.Graph.order.Goals.{In-Some, After-difference-rest}
 
 pub next-init : goal.next-init
-next-init c = (ordering_none (graph_of c.args.self.now) _ c.below-rest.result.bits (length-replicate {A = ℕ} 64 0) (blank 64) c.below-rest.ensures.members, omega arith, omega arith)
+next-init c = (
+  ordering_none (graph_of c.args.self.now) _ c.below-rest.result.bits (length-replicate {A = ℕ} 64 0) (blank 64) c.below-rest.ensures.members,
+  omega arith,
+  omega arith,
+)
 
 room : (c : In-Some) → c.next.count < 64
-room c = ordering_room (graph_of c.args.self.now) c.next.list c.next.count c.next.rest.bits c.in-Some.v c.in-Some.ensures.found.0 c.in-Some.ensures.found.1 c.next.invariant.0
+room c = ordering_room (graph_of c.args.self.now) c.next.list c.next.count c.next.rest.bits c.in-Some.v c.in-Some.ensures.found.0 c.in-Some.ensures.found.1
+    c.next.invariant.0
 
 pub bounds-list-count : goal.bounds-list-count
 bounds-list-count c = room (goal.at.bounds-list-count c).In-Some

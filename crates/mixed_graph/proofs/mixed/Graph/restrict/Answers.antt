@@ -8,7 +8,8 @@ use Rattle.mixed_graph.proofs.mixed.Graph.restrict.Goals as goal
 use Rattle.mixed_graph.proofs.mixed.Graph.restrict.Goals.{After-kept-3}
 
 is_restricted : (c : After-kept-3) →
-    graph_from c.args.self.now.n c.kept-2.result c.kept-3.result ≡ restricted (graph_of c.args.self.now) (has c.args.tails.bits) (has c.args.heads.bits) (has c.args.ends.bits)
+    graph_from c.args.self.now.n c.kept-2.result c.kept-3.result ≡ restricted (graph_of c.args.self.now) (has c.args.tails.bits) (has c.args.heads.bits)
+    (has c.args.ends.bits)
 is_restricted c = same_graph c.args.self.now.n _ _ _ _ c.kept-2.ensures c.kept-3.ensures
 
 pub invariant_of-result : goal.invariant_of-result

@@ -8,5 +8,6 @@ use Rattle.mixed_graph.proofs.names.Names.get.Goals as goal
 pub returns-clause-formed : goal.returns-clause-formed
 returns-clause-formed c =
     let kept = slice_get-texts c.self.inside.set.keys c.args.v c.in-Some.name.now (sym c.in-Some.ensures.key) in
-    let all = All-get_or IsName (texts c.self.inside.set.keys) c.args.v [] (slice_get_within (texts c.self.inside.set.keys) c.args.v c.in-Some.name.now.items kept) c.self.invariant.formed in
+    let all = All-get_or IsName (texts c.self.inside.set.keys) c.args.v []
+    (slice_get_within (texts c.self.inside.set.keys) c.args.v c.in-Some.name.now.items kept) c.self.invariant.formed in
     subst IsName (get_or_from_slice_get (texts c.self.inside.set.keys) c.args.v c.in-Some.name.now.items [] kept ∙ sym c.as_slice.ensures.value) all

@@ -33,16 +33,20 @@ without_q c u = c.difference-b.ensures.members u ∙ ap (λ t. has c.firsts.b.bi
 pub firsts-smaller : goal.firsts-smaller
 firsts-smaller c = let d = (goal.at.firsts-smaller c).After-difference-a in
     lt_from_subset _ _ c.lowest-p.result (λ u h. let e = without_p d u in grind arith)
-    (let e = without_p d c.lowest-p.result in let s : (c.lowest-p.result == c.lowest-p.result) ≡ true = eq-eqb _ _ refl in grind arith) c.lowest-p.ensures.member
+    (let e = without_p d c.lowest-p.result in let s : (c.lowest-p.result == c.lowest-p.result) ≡ true = eq-eqb _ _ refl in grind arith)
+    c.lowest-p.ensures.member
 
 pub firsts-preserved : goal.firsts-preserved
 firsts-preserved c = (
   c.firsts.invariant.0 ∙ (
-      let a = members-without c.firsts.a.bits c.difference-a.result.bits c.lowest-p.result c.lowest-p.ensures.in_range c.lowest-p.ensures.member c.lowest-p.ensures.least
+      let a = members-without c.firsts.a.bits c.difference-a.result.bits c.lowest-p.result c.lowest-p.ensures.in_range c.lowest-p.ensures.member
+      c.lowest-p.ensures.least
       (without_p (goal.at.firsts-preserved c).After-difference-a) in
-      let b = members-without c.firsts.b.bits c.difference-b.result.bits c.lowest-q.result c.lowest-q.ensures.in_range c.lowest-q.ensures.member c.lowest-q.ensures.least
+      let b = members-without c.firsts.b.bits c.difference-b.result.bits c.lowest-q.result c.lowest-q.ensures.in_range c.lowest-q.ensures.member
+      c.lowest-q.ensures.least
       (without_q (goal.at.firsts-preserved c).After-difference-b) in
-      rw (a, b) (compare_same c.lowest-p.result c.lowest-q.result (members_below (has c.difference-a.result.bits) 64) (members_below (has c.difference-b.result.bits) 64) (omega arith))),
+      rw (a, b) (compare_same c.lowest-p.result c.lowest-q.result (members_below (has c.difference-a.result.bits) 64)
+      (members_below (has c.difference-b.result.bits) 64) (omega arith))),
   omega arith,
   omega arith,
 )

@@ -13,5 +13,6 @@ loop-v-preserved c = elim c.if-has.branch [
   | then-has+in_ok-push w ↦
       ap (λ (x : Vec ℕ). x.items) w.list-is ∙ w.in_ok-push.ensures.items ∙ ap (λ (l : List ℕ). l ++ c.loop-v.v ∷ []) c.loop-v.invariant
       ∙ sym (members-in (has c.args.self.bits) c.loop-v.v (sym c.has.ensures ∙ w.if-has.true))
-  | else-has w ↦ ap (λ (x : Vec ℕ). x.items) w.list-is ∙ c.loop-v.invariant ∙ sym (members-out (has c.args.self.bits) c.loop-v.v (sym c.has.ensures ∙ w.if-has.false))
+  | else-has w ↦ ap (λ (x : Vec ℕ). x.items) w.list-is ∙ c.loop-v.invariant
+      ∙ sym (members-out (has c.args.self.bits) c.loop-v.v (sym c.has.ensures ∙ w.if-has.false))
 ]

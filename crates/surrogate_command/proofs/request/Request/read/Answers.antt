@@ -1,5 +1,5 @@
 use Rattle.std.proofs.Common.{sym, refl, subst, codes, rules}
-use Rattle.word_forms.specs.Form.{has_flag}
+use Rattle.command_words.specs.Form.{has_flag}
 use Rattle.surrogate_command.specs.Forms.{IsForm}
 use Rattle.surrogate_command.specs.Requests.{surrogate_row}
 use Rattle.surrogate_command.proofs.request.Request.read.Goals as goal
@@ -12,10 +12,18 @@ returns-in_default-clause-none c = λ uses g e. record {
 }
 
 pub returns-in_err-file-clause-none : goal.returns-in_err-file-clause-none
-returns-in_err-file-clause-none c = λ uses g e. record { nothing = λ r is. c.in_err-file.ensures.none surrogate_row uses g (refl, refl, refl) (search rules) r.file r.x r.y (record { is_file = is.file; is_x = is.x; is_y = is.y }) }
+returns-in_err-file-clause-none c =
+    λ uses g e. record {
+      nothing = λ r is. c.in_err-file.ensures.none surrogate_row uses g (refl, refl, refl) (search rules) r.file r.x r.y (record {
+        is_file = is.file;
+        is_x = is.x;
+        is_y = is.y;
+      });
+    }
 
 pub returns-in_err-experiments-clause-none : goal.returns-in_err-experiments-clause-none
-returns-in_err-experiments-clause-none c = λ uses g e. record { nothing = λ r is. c.in_err-experiments.ensures.none surrogate_row uses g refl (search rules) r.experiments is.experiments }
+returns-in_err-experiments-clause-none c =
+    λ uses g e. record { nothing = λ r is. c.in_err-experiments.ensures.none surrogate_row uses g refl (search rules) r.experiments is.experiments }
 
 pub returns-clause-ok : goal.returns-clause-ok
 returns-clause-ok c = λ uses g. let s = c.in_ok-file.ensures.ok surrogate_row uses g (refl, refl, refl) in record {

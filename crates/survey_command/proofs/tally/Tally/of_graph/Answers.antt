@@ -10,7 +10,8 @@ loop-a-init c = tally_none (graph_of c.args.g.now) c.none-tally.result c.none-ta
 pub plus-tally-requires : goal.plus-tally-requires
 plus-tally-requires c =
     let at = c.loop-a-test.true in let end = c.loop-a.auto.a-end in let small = c.args.g.now.small in
-    let room = tally_room (graph_of c.args.g.now) c.loop-a.a c.loop-a.tally c.in_ok-row.row small (omega (arith, at, end, small)) c.loop-a.invariant c.in_ok-row.ensures in
+    let room = tally_room (graph_of c.args.g.now) c.loop-a.a c.loop-a.tally c.in_ok-row.row small (omega (arith, at, end, small))
+    c.loop-a.invariant c.in_ok-row.ensures in
     record { formulas = room.0; hedges = room.1 }
 
 pub loop-a-preserved : goal.loop-a-preserved

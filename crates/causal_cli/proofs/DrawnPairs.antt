@@ -1,0 +1,116 @@
+-- What the pairs that some set separates, and their differences over counts, say of the diagram as drawn.
+use Rattle.std.proofs.Common.{◌≡◌, ℕ, List, Option, Some, None, refl}
+use Rattle.std.proofs.lemmas.List.Elements.{All-weaker}
+use Rattle.std.proofs.lemmas.Option.{none-some}
+use Rattle.std.specs.Prelude.{All, IfSome}
+use Rattle.std.specs.Io.KnownBytes.{Appends}
+use Rattle.mixed_graph.specs.Bits.{has}
+use Rattle.mixed_graph.specs.Graphs.{MixedGraph}
+use Rattle.mixed_graph.specs.Shown.{graph_of}
+use Rattle.do_rules.specs.Rules.{AreIndependent}
+use Rattle.command_words.specs.Form.{Text, Use}
+use Rattle.dag_reader.specs.declared.graph.ReadGraph.{ReadGraph}
+use Rattle.hidden_models.proofs.Folded.{each_has_folded}
+use Rattle.hidden_models.proofs.Statements.{independence_is_drawn}
+use Rattle.count_rows.specs.Rows.{Table}
+use Rattle.count_table.specs.Cells as cells
+use Rattle.count_eval.specs.Programs.{weights_in, is_used}
+use Rattle.implications.specs.Separable.{only}
+use Rattle.implications.specs.declared.pairs.Implication.{Implication}
+use Rattle.implied_differences.specs.declared.largest.Difference.{Difference}
+use Rattle.replies.specs.declared.outcome.Outcome.TheVariants.{Yes}
+use Rattle.replies.specs.Observed.{HoldsGraph, IsObservedGraph}
+use Rattle.implications_command.specs.Answers.{FirstAnswer, DifferencesAnswer, IsZeroIfMatched}
+use Rattle.implications_command.specs.Lines.{Measured}
+use Rattle.implications_command.specs.Pairs.{PlainPairs, ArePairsOf}
+use Rattle.command_run.specs.Answers.{HoldsAnswer, DefinedWith}
+use Rattle.command_run.specs.Commands.{of}
+use Rattle.command_run.proofs.Deliveries.{mapped}
+use Rattle.causal_cli.specs.Calls.{Call}
+use Rattle.causal_cli.specs.Commands.{commands}
+use Rattle.causal_cli.specs.Drawn.{IsIndependentAsDrawn, ArePairsAsDrawn, IsZeroAsDrawn, AreDifferencesAsDrawn, AreImpliedAsDrawn, ImpliedAsDrawn}
+use Rattle.causal_cli.specs.declared.commands.Command.TheVariants.{Implications}
+use Rattle.causal_cli.proofs.CallAnswers.{CallAnswer, on_words, on_file, on_both, under_name, under_names}
+use Rattle.causal_cli.proofs.DrawnCounts.{matched_folded}
+
+-- each pair is independent in the diagram as drawn
+independent : (g : ReadGraph) (p : PlainPairs) → ArePairsOf g p → All (IsIndependentAsDrawn g) p.list
+independent g p are = All-weaker (λ (i : Implication). AreIndependent p.graph (only i.a) (only i.b) (has i.given.bits)) (IsIndependentAsDrawn g)
+    (λ i h. independence_is_drawn (graph_of g.graph) g.graph.valid (has g.latent.bits) p.graph are.graph (only i.a) (only i.b) (has i.given.bits) h)
+    p.list are.pairs.independent
+
+-- a difference that is 0 where a model of the observed graph has the counts is so where one of the diagram as drawn has them
+zero_as_drawn : (g : ReadGraph) (q : MixedGraph) → IsObservedGraph g q → (t : Table) (d : Difference) → IsZeroIfMatched q t d → IsZeroAsDrawn g q t d
+zero_as_drawn g q observed t d zero m fit matched =
+    let f = each_has_folded (graph_of g.graph) g.graph.valid (has g.latent.bits) q observed m fit in
+    zero f.folded (record {
+      fits = f.fits;
+      matched = matched_folded (graph_of g.graph) g.graph.valid (has g.latent.bits) q observed m f.folded fit f.fits f.folds (is_used t)
+          (weights_in q.vertices t) (cells.total t.rows) matched;
+    })
+
+-- ---- the answer without counts, and with them
+
+-- a graph of the bytes, with its answer on the graph alone
+abbrev HoldsFirst : Option Text → List ℕ → List ℕ → Type 0
+HoldsFirst second bytes text = (g : ReadGraph) × HoldsGraph bytes g × FirstAnswer second g Yes text
+
+-- and with its answer over counts
+abbrev HoldsSecond : Option Text → List ℕ → List ℕ → List ℕ → Type 0
+HoldsSecond count bytes other text = (g : ReadGraph) × HoldsGraph bytes g × DifferencesAnswer g count other Yes text
+
+module _ (r : Call) (file : Text) (count : Option Text) (text : List ℕ) where
+  pairs_as_drawn : (bytes : List ℕ) → HoldsFirst None bytes text → ArePairsAsDrawn bytes text
+  pairs_as_drawn bytes (g, holds, h) = record { graph = g; holds = holds; shows = h; independent = independent g h.pairs h.are }
+
+  -- no answer on the graph alone is a yes where counts are given
+  first_as_drawn : (second : Option Text) → IfSome (r.held file) (λ bytes. HoldsFirst second bytes text) → AreImpliedAsDrawn r file second count text
+  first_as_drawn None h = mapped (r.held file) (λ bytes. HoldsFirst None bytes text) (λ bytes. ArePairsAsDrawn bytes text) pairs_as_drawn h
+  first_as_drawn (Some name) h = mapped (r.held file) (λ bytes. HoldsFirst (Some name) bytes text)
+      (λ bytes. IfSome (r.held_second name) (λ other. AreDifferencesAsDrawn count bytes other text)) (λ bytes a. absurd a.2) h
+
+  differences_as_drawn : (bytes other : List ℕ) → HoldsSecond count bytes other text → AreDifferencesAsDrawn count bytes other text
+  differences_as_drawn bytes other (g, holds, (p, are, (t, read, shows))) = record {
+    graph = g;
+    holds = holds;
+    pairs = p;
+    are = are;
+    independent = independent g p are;
+    counted = t;
+    read = read;
+    shows = shows;
+    zero = All-weaker (λ (m : Measured). IsZeroIfMatched p.graph t m.difference) (λ (m : Measured). IsZeroAsDrawn g p.graph t m.difference)
+        (λ m h. zero_as_drawn g p.graph are.graph t m.difference h) shows.measured shows.matched;
+  }
+
+  both_as_drawn : (second : Option Text) (name : Text) → second ≡ Some name
+      → IfSome (r.held file) (λ bytes. IfSome (r.held_second name) (λ other. HoldsSecond count bytes other text)) → AreImpliedAsDrawn r file second count text
+  both_as_drawn None name e h = absurd (none-some name e)
+  both_as_drawn (Some own) name e h =
+      under_names r.held r.held_second file file own name (λ bytes other. HoldsSecond count bytes other text)
+      (λ bytes other. AreDifferencesAsDrawn count bytes other text) differences_as_drawn refl e h
+
+-- ---- a call of `implications`
+
+pub implied : (r : Call) (uses : List Use) (text : List ℕ) → Appends r.before r.after text → CallAnswer r Implications uses Yes text → ImpliedAsDrawn r uses
+implied r uses text whole (on_words q is h) = absurd h
+implied r uses text whole (on_file q is name names h) = record {
+  request = q;
+  text = text;
+  asks = is;
+  right = first_as_drawn r q.file q.count text q.counts
+      (under_name r.held q.file name (λ bytes. HoldsAnswer commands (of Implications q) bytes Yes text) (λ bytes. HoldsFirst q.counts bytes text)
+      (λ bytes a. (a.graph, a.holds, a.answer)) names h);
+  whole = whole;
+}
+implied r uses text whole (on_both q is name second names names_second h) = record {
+  request = q;
+  text = text;
+  asks = is;
+  right = both_as_drawn r q.file q.count text q.counts second names_second
+      (under_name r.held q.file name (λ bytes. IfSome (r.held_second second) (λ other. DefinedWith commands (of Implications q) bytes other Yes text))
+      (λ bytes. IfSome (r.held_second second) (λ other. HoldsSecond q.count bytes other text))
+      (λ bytes. mapped (r.held_second second) (λ other. DefinedWith commands (of Implications q) bytes other Yes text)
+      (λ other. HoldsSecond q.count bytes other text) (λ other d. (d.0, d.1, d.3))) names h);
+  whole = whole;
+}

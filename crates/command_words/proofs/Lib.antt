@@ -1,0 +1,21 @@
+pub mod Texts
+pub mod Names
+pub mod Law
+pub mod Loop
+pub mod Exact
+pub mod ListLoop
+pub mod ListLaw
+pub mod Parsed
+pub mod Steps
+pub mod Uses
+pub mod Counts
+pub mod Finds
+pub mod Level
+pub mod Top
+pub mod Tables
+pub mod Building
+pub mod Reading
+mod Found
+pub mod Inputs
+pub mod OneValue
+pub mod Asking

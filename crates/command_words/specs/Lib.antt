@@ -1,0 +1,12 @@
+pub mod Form
+pub mod Step
+pub mod Views
+pub mod Lists
+pub mod Walk
+pub mod ListViews
+pub mod Numbers
+pub mod App
+pub mod Gives
+pub mod Readable
+pub mod Values
+pub mod Asks

@@ -1,4 +1,0 @@
-pub mod Answered
-pub mod Dividing
-pub mod Settling
-pub mod Turning

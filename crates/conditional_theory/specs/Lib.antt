@@ -1,3 +1,0 @@
-pub mod Conditionals
-pub mod Laws
-pub mod Settled

@@ -1,7 +1,0 @@
-use Rattle.std.proofs.Common.{◌≡◌, drop}
-use Rattle.prob_expr.specs.View.{views}
-use Rattle.count_eval.specs.Uses.{use_only}
-use Rattle.count_eval.proofs.evaluable.+using.Given as goal
-
-abbrev pub invariant-use_only-loop-factor : goal.invariant-use_only-loop-factor
-invariant-use_only-loop-factor l = use_only l.set.bits (views (drop l.factor-index l.factor-items)) ≡ use_only l.set.bits (views l.factor-items)

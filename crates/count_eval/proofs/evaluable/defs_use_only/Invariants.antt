@@ -1,7 +1,0 @@
-use Rattle.std.proofs.Common.{◌≡◌, drop, map}
-use Rattle.prob_expr.specs.View.{view}
-use Rattle.count_eval.specs.Uses.{defs_use_only}
-use Rattle.count_eval.proofs.evaluable.defs_use_only.Given as goal
-
-abbrev pub invariant-loop-def : goal.invariant-loop-def
-invariant-loop-def l = defs_use_only l.set.bits (map view (drop l.def-index l.def-items)) ≡ defs_use_only l.set.bits (map view l.def-items)

@@ -1,0 +1,9 @@
+use Rattle.std.proofs.Common.{◌≡◌, ◌≤◌}
+use Rattle.count_table.specs.Sums.{cells_in}
+use Rattle.count_eval.proofs.tables.terms.add_formula.Given as goal
+
+abbrev pub invariant-loop-def : goal.invariant-loop-def
+invariant-loop-def l = record {
+  table : l.sums.table ≡ l.fn.sums.table;
+  most : cells_in l.fn.sums ≤ l.most → cells_in l.sums ≤ l.most;
+}

@@ -1,9 +1,0 @@
-use Rattle.std.proofs.Common.{sym, ap, ◌∙◌}
-use Rattle.do_derivation.specs.Plans.{no_plans}
-use Rattle.identification.specs.Derivations.{at_each}
-use Rattle.district_factors.specs.Lists.{onto, lists_view}
-use Rattle.district_factors.proofs.Steps.{onto_nothing}
-use Rattle.district_factors.proofs.body.at_each.Goals as goal
-
-pub returns : goal.returns
-returns c = sym (onto_nothing c.push_each.new.out.items) ∙ c.in_ok-push_each.ensures no_plans ∙ ap (λ l. onto l (at_each 0 (lists_view c.args.lists.items) no_plans)) c.in_ok-steps.ensures.items

@@ -1,5 +1,0 @@
-pub mod Bodies
-pub mod Factors
-pub mod Lists
-pub mod Parts
-pub mod Rounds

@@ -1,4 +1,0 @@
-pub mod Collecting
-pub mod Levels
-pub mod Parts
-pub mod Trees

@@ -1,4 +1,0 @@
-pub mod Linked
-pub mod Listed
-pub mod Nearest
-pub mod Spanning

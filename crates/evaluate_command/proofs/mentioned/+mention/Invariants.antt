@@ -1,8 +1,0 @@
-use Rattle.std.proofs.Common.{◌≡◌, drop}
-use Rattle.mixed_graph.specs.Masks.{join}
-use Rattle.prob_expr.specs.View.{views}
-use Rattle.evaluate_command.specs.Mentioned.{mentioned_in_any}
-use Rattle.evaluate_command.proofs.mentioned.+mention.Given as goal
-
-abbrev pub invariant-mentioned_in_factors-loop-factor : goal.invariant-mentioned_in_factors-loop-factor
-invariant-mentioned_in_factors-loop-factor l = join l.all.bits (mentioned_in_any (views (drop l.factor-index l.factor-items))) ≡ mentioned_in_any (views l.factor-items)

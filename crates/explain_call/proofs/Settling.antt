@@ -1,0 +1,44 @@
+-- From what is found under a condition to the answer of which kind it is.
+use Rattle.std.proofs.Common.{◌≡◌, ℕ, Bool, List, Result, IfOk, subst}
+use Rattle.mixed_graph.specs.Graphs.{MixedGraph}
+use Rattle.mixed_graph.specs.declared.sets.VSet.{VSet}
+use Rattle.prob_expr.specs.Tree.{PlainTarget}
+use Rattle.hedge.specs.declared.hedge.Hedge.{Hedge}
+use Rattle.counter_models.specs.declared.counter_pair.CounterPair.{CounterPair}
+use Rattle.conditional_id.specs.Answers.{IsRight, IsJointShown, IfJoint}
+use Rattle.conditional_id.specs.declared.answer.Conditional.{Conditional}
+use Rattle.conditional_id.specs.declared.answer.Conditional.TheVariants as answers
+use Rattle.dag_reader.specs.declared.graph.ReadGraph.{ReadGraph}
+use Rattle.targets.specs.Targets.{Lists}
+use Rattle.replies.specs.declared.outcome.Outcome.{Outcome}
+use Rattle.replies.specs.declared.outcome.Outcome.TheVariants.{Yes, No}
+use Rattle.replies.specs.declared.outcome.Reply.{Reply}
+use Rattle.replies.specs.Observed.{Names, IsObservedGraph}
+use Rattle.replies.proofs.Results.{mapped}
+use Rattle.identify_command.specs.Conditions.{target_lists, AreTargetSets}
+use Rattle.explain_call.specs.Settled.{IsJoint, KindFor, KindIn, SettledAnswer}
+
+-- a joint effect that is answered
+pub joint : (q : MixedGraph) (t : PlainTarget) (a : Conditional) → IsRight q t a → IfJoint a (IsJointShown q t)
+    → (x y : VSet) (b settled : Bool) (h : Hedge) (pair : CounterPair) → a ≡ answers.Joint x y b h pair → b ≡ settled → IsJoint q t settled
+joint q t a right shown x y b settled h pair is so = subst (λ (s : Bool). IsJoint q t s) so (record {
+  x = x;
+  y = y;
+  hedge = h;
+  pair = pair;
+  right = subst (λ (c : Conditional). IsRight q t c) is right;
+  shown = subst (λ (c : Conditional). IfJoint c (IsJointShown q t)) is shown;
+})
+
+-- the answer for the target that lists name
+of_target : (q : MixedGraph) (l : Lists) (t : PlainTarget) → AreTargetSets l t → (o : Outcome) (text : List ℕ) → KindFor q t o text → KindIn q l o text
+of_target q l t s Yes text a = record { target = t; sets = s; answer = a }
+of_target q l t s No text a = record { target = t; sets = s; answer = a }
+of_target q l t s o text a = absurd a
+
+-- on a graph that was read
+pub on_target : (g : ReadGraph) (x y : Names) (given : List (List ℕ)) (q : MixedGraph) → IsObservedGraph g q → (t : PlainTarget)
+    → AreTargetSets (target_lists g x y given) t → {E : Type 0} (r : Result Reply E) → IfOk r (λ p. KindFor q t p.outcome p.text.items)
+    → IfOk r (λ p. SettledAnswer g x y given p.outcome p.text.items)
+on_target g x y given q observed t s r a = mapped (λ p. KindFor q t p.outcome p.text.items) (λ p. SettledAnswer g x y given p.outcome p.text.items) r
+    (λ p k. (q, observed, of_target q (target_lists g x y given) t s p.outcome p.text.items k)) a

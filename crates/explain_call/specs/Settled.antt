@@ -1,0 +1,49 @@
+-- The answer of `settled`: of which kind the answer of `identify --given` is, in the observed graph of the one that was read.
+use Rattle.std.specs.Prelude.{ℕ, ◌≡◌, ◌⊎◌, Bool, true, false, List, codes}
+use Rattle.mixed_graph.specs.Graphs.{MixedGraph}
+use Rattle.mixed_graph.specs.declared.sets.VSet.{VSet}
+use Rattle.prob_expr.specs.Tree.{PlainTarget}
+use Rattle.hedge.specs.declared.hedge.Hedge.{Hedge}
+use Rattle.counter_models.specs.declared.counter_pair.CounterPair.{CounterPair}
+use Rattle.conditional_id.specs.Answers.{IsRightJoint, IsJointShown, SomeFormula}
+use Rattle.dag_reader.specs.declared.graph.ReadGraph.{ReadGraph}
+use Rattle.targets.specs.Targets.{Lists}
+use Rattle.replies.specs.declared.outcome.Outcome.{Outcome}
+use Rattle.replies.specs.declared.outcome.Outcome.TheVariants.{Yes, No, Graph}
+use Rattle.replies.specs.Observed.{Names, IsObservedGraph}
+use Rattle.identify_command.specs.Conditions.{target_lists, AreTargetSets, IsListRefusal}
+
+-- The observations of the target turn into a joint effect, which isn't identifiable: this is its hedge, with the two models that `identify` shows. No
+-- formula without interventions equals the target. Settled, exactly where no observation is left, or those that are left have an effect that is known,
+-- the two models differ on the target too. Unsettled, the observations that are left have a hedge of their own.
+pub record IsJoint (q : MixedGraph) (t : PlainTarget) (settled : Bool) : Type 0 where
+  pub x : VSet
+  pub y : VSet
+  pub hedge : Hedge
+  pub pair : CounterPair
+  pub right : IsRightJoint q t x.bits y.bits settled hedge pair
+  pub shown : IsJointShown q t x y settled hedge pair
+
+-- The answer for a target. Yes: a joint effect is answered, and settled. No: it is answered, and unsettled; or there is a formula without interventions
+-- that equals the target.
+abbrev pub KindFor : MixedGraph → PlainTarget → Outcome → List ℕ → Type 0
+KindFor q t Yes text = IsJoint q t true × (text ≡ codes "settled\n")
+KindFor q t No text = (IsJoint q t false × (text ≡ codes "unsettled\n")) ⊎ (SomeFormula q t × (text ≡ codes "formula\n"))
+KindFor q t o text = ⊥
+
+-- the lists name a target, for which the answer is given
+pub record IsKindOfTarget (q : MixedGraph) (l : Lists) (o : Outcome) (text : List ℕ) : Type 0 where
+  pub target : PlainTarget
+  pub sets : AreTargetSets l target
+  pub answer : KindFor q target o text
+
+-- the answer for lists of names, which are refused as those of `identify --given` are
+abbrev pub KindIn : MixedGraph → Lists → Outcome → List ℕ → Type 0
+KindIn q l Yes text = IsKindOfTarget q l Yes text
+KindIn q l No text = IsKindOfTarget q l No text
+KindIn q l Graph line = IsListRefusal l line
+KindIn q l o text = ⊥
+
+-- the answer on a graph that was read
+abbrev pub SettledAnswer : ReadGraph → (x y : Names) → (given : List (List ℕ)) → Outcome → List ℕ → Type 0
+SettledAnswer g x y given o text = (q : MixedGraph) × IsObservedGraph g q × KindIn q (target_lists g x y given) o text

@@ -1,0 +1,49 @@
+-- What the moves of a step make, one after another, as lines.
+use Rattle.std.specs.Prelude.{ℕ, ◌≡◌, ◌⊎◌, Bool, List, [], ◌∷◌, ◌++◌, codes}
+use Rattle.mixed_graph.specs.Graphs.{MixedGraph}
+use Rattle.prob_expr.specs.Tree.{Tree}
+use Rattle.expr_text.specs.Write.{text_of}
+use Rattle.do_derivation.specs.Plans.{Move, Plan}
+use Rattle.do_derivation.specs.Steps.{Makes}
+use Rattle.do_derivation.specs.Answers.{IsApplyFault}
+use Rattle.do_derivation.specs.declared.faults.ApplyFault.{ApplyFault}
+use Rattle.explain_call.specs.ToldRules.{Tells}
+
+-- the word of a move, as certificates have it
+abbrev pub move_word : Move → List ℕ
+move_word (Move.Rule1In z) = codes "rule1in"
+move_word (Move.Rule1Out z) = codes "rule1out"
+move_word (Move.Rule2See z) = codes "rule2see"
+move_word (Move.Rule2Do z) = codes "rule2do"
+move_word (Move.Rule3In z) = codes "rule3in"
+move_word (Move.Rule3Out z) = codes "rule3out"
+move_word (Move.Chain o) = codes "chain"
+move_word Move.Unchain = codes "unchain"
+move_word (Move.Group l) = codes "group"
+move_word (Move.Widen u) = codes "widen"
+move_word Move.Narrow = codes "narrow"
+move_word Move.Split = codes "split"
+move_word (Move.Cite k) = codes "cite"
+move_word Move.Unwrap = codes "unwrap"
+
+-- that of a step on a child is that of the step; several steps have none
+abbrev pub word_of : Plan → List ℕ
+word_of (Plan.Make m) = move_word m
+word_of (Plan.At i p) = word_of p
+word_of (Plan.Then ps) = []
+
+-- the line of a move: its word, and the whole expression after it
+abbrev pub made_line : List (List ℕ) → Plan → Tree → List ℕ
+made_line names p x = word_of p ++ (codes ": " ++ (text_of names x ++ codes "\n"))
+
+-- the moves are made in turn, from the expression e on, and these are their lines: of each the line, and where graphs are wanted what is told of its rule
+abbrev pub Traces : Bool → MixedGraph → List (List ℕ) → List ℕ → List Plan → Tree → List ℕ → Type 0
+Traces graphs g names lemmas [] e text = text ≡ []
+Traces graphs g names lemmas (p ∷ ps) e text =
+    (x : Tree) × (told : List ℕ) × (rest : List ℕ) × Makes g lemmas p e x × Tells graphs g names lemmas p e told × Traces graphs g names lemmas ps x rest
+    × (text ≡ (made_line names p x ++ told) ++ rest)
+
+-- the moves are made in turn up to one that is refused by that fault; want of memory may come at any time
+abbrev pub Stops : MixedGraph → List ℕ → List Plan → Tree → ApplyFault → Type 0
+Stops g lemmas [] e why = ⊥
+Stops g lemmas (p ∷ ps) e why = IsApplyFault g lemmas p e why ⊎ ((x : Tree) × Makes g lemmas p e x × Stops g lemmas ps x why)

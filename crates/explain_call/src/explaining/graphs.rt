@@ -1,0 +1,61 @@
+// The texts of graphs.
+ghost use Rattle.std.specs.Prelude.{◌≡◌, IfOk, length};
+ghost use Rattle.mixed_graph.specs.Bits.{has};
+ghost use Rattle.mixed_graph.specs.Sets.{Within};
+ghost use Rattle.mixed_graph.specs.Shown.{graph_of};
+ghost use Rattle.explain_call.specs.Graphs.{graph_text, IsRuleGraphText};
+
+use dag_reader::{ReadGraph, write_graph};
+use do_rules::Rule;
+use latent_projection::{Observed, observed};
+use mixed_graph::{Graph, Names, VSet};
+use std::alloc::{AllocError, Global};
+
+/// The text of a graph whose vertices have no marks.
+fn graph_text(alloc: Global, names: Names, graph: Graph) -> Result<Vec<u8>, AllocError>
+    requires { length names ≡ graph.n }
+    ensures { IfOk result (λ v. v.items ≡ graph_text names (graph_of graph)) }
+{
+    let _count = names.count();
+    let unmarked = ReadGraph {
+        names,
+        graph,
+        exposures: VSet::EMPTY,
+        outcomes: VSet::EMPTY,
+        adjusted: VSet::EMPTY,
+        latent: VSet::EMPTY,
+    };
+    write_graph(alloc, &unmarked)
+}
+
+/// The text of the graph in which a rule is asked: that of g without the edges that the rule cuts.
+pub fn rule_graph_text(
+    alloc: Global,
+    names: Names,
+    g: &Graph,
+    rule: Rule,
+    doing: VSet,
+    z: VSet,
+    given: VSet,
+) -> Result<Vec<u8>, AllocError>
+    requires named { length names ≡ g.now.n }
+    requires doing { Within g.now.n (has doing.bits) }
+    requires z { Within g.now.n (has z.bits) }
+    requires given { Within g.now.n (has given.bits) }
+    ensures { IfOk result (λ v. IsRuleGraphText rule (graph_of g.now) names doing.bits z.bits given.bits v.items) }
+{
+    let cut = rule.graph(g, doing, z, given);
+    graph_text(alloc, names, cut)
+}
+
+/// The names once more: those of a graph in which no vertex is hidden.
+pub fn copy_names(alloc: Global, names: &Names, g: &Graph) -> Result<Names, AllocError>
+    requires { length names.now ≡ g.now.n }
+    ensures { IfOk result (λ copies. copies ≡ names.now) }
+{
+    let Observed {
+        names: copies,
+        graph: _,
+    } = observed(alloc, names, g, VSet::EMPTY)?;
+    Ok(copies)
+}

@@ -1,7 +1,0 @@
-pub mod Fullness
-pub mod Soundness
-pub mod Unmarked
-pub mod Factors
-pub mod Asking
-pub mod Turns
-pub mod LemmaTurns

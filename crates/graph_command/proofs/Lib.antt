@@ -1,4 +1,0 @@
-mod Texts
-pub mod Outcomes
-pub mod Exclusive
-pub mod Lawful

@@ -1,8 +1,0 @@
-//! The command `graph`: the text of a graph, or of its observed graph.
-#![tactic(auto)]
-
-mod reply;
-mod request;
-
-pub use reply::graph_reply;
-pub use request::{ROW, Request};

@@ -1,9 +1,0 @@
-use Rattle.std.proofs.Common.{◌≡◌, length, arith, rules}
-use Rattle.mixed_graph.specs.Shown.{graph_of}
-use Rattle.id_recursion.proofs.Orders.{listed_order}
-use Rattle.id_recursion.proofs.identifying.order_of.Goals as goal
-
-pub returns-clause-listed : goal.returns-clause-listed
-returns-clause-listed c =
-    let long : length c.order.result.list ≡ 64 = search rules in
-    listed_order (graph_of c.args.g.now) c.order.result.list c.order.result.count (let few = c.order.result.in_range in omega (arith, few, long)) c.order.ensures

@@ -1,6 +1,0 @@
-use Rattle.mixed_graph.specs.Shown.{graph_of}
-use Rattle.id_recursion.proofs.Roots.{AreRootsBelow}
-use Rattle.id_recursion.proofs.stops.roots_of.Given as goal
-
-abbrev pub invariant-loop-u : goal.invariant-loop-u
-invariant-loop-u l = AreRootsBelow (graph_of l.g) l.set.bits l.roots.bits l.u

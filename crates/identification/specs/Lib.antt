@@ -1,4 +1,0 @@
-pub mod Depth
-pub mod Derivations
-pub mod Laws
-pub mod Procedure

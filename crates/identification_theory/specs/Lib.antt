@@ -1,0 +1,7 @@
+pub mod Depth
+pub mod Derivations
+pub mod Laws
+pub mod Procedure
+pub mod AnswerDepth
+pub mod AnswerLaws
+pub mod Names

@@ -1,0 +1,13 @@
+pub mod Composed
+pub mod GatheredFactors
+pub mod HedgeData
+pub mod Orders
+pub mod RightAnswers
+pub mod Roots
+pub mod StepLists
+pub mod FactorOrders
+pub mod Pillows
+pub mod Placing
+pub mod Reaching
+pub mod Shrinking
+pub mod Steps

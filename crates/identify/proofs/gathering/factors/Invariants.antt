@@ -1,0 +1,11 @@
+use Rattle.std.proofs.Common.{take, map}
+use Rattle.mixed_graph.specs.Shown.{graph_of}
+use Rattle.mixed_graph.specs.declared.sets.VSet.{VSet}
+use Rattle.do_derivation.specs.View.{listed}
+use Rattle.identification_theory.specs.Procedure.{StopsAt}
+use Rattle.identify.proofs.GatheredFactors.{Derives, Gathered}
+use Rattle.identify.proofs.gathering.factors.Given as goal
+
+abbrev pub invariant-loop-c : goal.invariant-loop-c
+invariant-loop-c l = Gathered (Derives (graph_of l.g) (listed l.order)) (StopsAt (graph_of l.g) (listed l.order))
+    (map (λ (s : VSet). s.bits) (take l.c-index l.c-items)) l.made

@@ -1,0 +1,80 @@
+-- Right answers to the question for P(y | do(x)): the two halves of the theorem of Shpitser and Pearl (2006).
+use Rattle.std.specs.Prelude.{ℕ, ◌≡◌, Bool, true, false, [], IsTrue, None}
+use Rattle.mixed_graph.specs.Bits.{has}
+use Rattle.mixed_graph.specs.Graphs.{MixedGraph, IsAncestor}
+use Rattle.prob_expr.specs.Check.{fault_in}
+use Rattle.prob_expr.specs.Differences.{HasNoFormula}
+use Rattle.prob_expr.specs.Terms.{is_do_free}
+use Rattle.prob_expr.specs.Tree.{effect_on, PlainFormula, PlainTarget}
+use Rattle.prob_expr.specs.Values.{EqualsEffect}
+use Rattle.prob_expr.specs.View.{formula_view}
+use Rattle.do_derivation.specs.Accepts.{Accepts}
+use Rattle.do_derivation.specs.Plans.{PlainDerivation}
+use Rattle.do_derivation.specs.View.{derivation_view}
+use Rattle.identification_theory.specs.Depth.{is_plan_within, are_lemmas_within}
+use Rattle.identification_theory.specs.Derivations.{IsDerived}
+use Rattle.identification_theory.specs.Procedure.{IsUnidentified}
+use Rattle.identification_theory.specs.AnswerDepth.{is_tree_within, are_defs_within}
+use Rattle.identification_theory.specs.Names.{FormulaNamesOnly}
+use Rattle.hedge.specs.Hedges.{IsHedge}
+use Rattle.hedge.specs.Shapes.{FormHedge}
+use Rattle.hedge.specs.declared.hedge.Hedge.{Hedge}
+use Rattle.counter_models.specs.Events.{AreCounterModels}
+use Rattle.counter_models.specs.Pairs.{IsPairOf}
+use Rattle.counter_models.specs.declared.counter_pair.CounterPair.{CounterPair}
+use Rattle.identify.specs.Hedged.{IsHedgeOf}
+use Rattle.identify.specs.declared.answer.Answer.{Answer}
+use Rattle.identify.specs.declared.answer.Answer.TheVariants as answers
+
+-- the formula is accepted by the check of formulas, has no intervention left, and names ancestors of y alone; the derivation turns P(y | do(x)) into
+-- it; and it equals the effect in each positive model of the graph, at each assignment
+pub record IsRightFormula (g : MixedGraph) (x y : ℕ) (f : PlainFormula) (d : PlainDerivation) : Type 0 where
+  pub formed : fault_in g.vertices f ≡ None
+  pub do_free : is_do_free f ≡ true
+  pub names : FormulaNamesOnly (IsAncestor g (has y)) f
+  pub accepted : Accepts g [] (effect_on x y) f d
+  pub effect : EqualsEffect g (effect_on x y) f
+
+-- big and small form a hedge for the effect of x on y, and its two models, which are positive and of the graph, agree on all observations and differ
+-- on the effect; so no formula without interventions equals it
+pub record IsRightHedge (g : MixedGraph) (x y : ℕ) (h : Hedge) (pair : CounterPair) : Type 0 where
+  pub hedge : FormHedge g x y h.big.bits h.small.bits h.roots.bits
+  pub counter : AreCounterModels g x y pair
+  pub no_formula : HasNoFormula g (effect_on x y)
+
+-- A right answer is either a formula without interventions, with an accepted derivation, that equals the effect of x on y in each positive model of
+-- the graph; or a hedge, with two positive models of the graph that agree on all observations and differ on the effect, under every value of x, so
+-- that no such formula exists.
+abbrev pub IsRight : MixedGraph → (x y : ℕ) → Answer → Type 0
+IsRight g x y (answers.Formula f d) = IsRightFormula g x y (formula_view f) (derivation_view d)
+IsRight g x y (answers.Hedge h pair) = IsRightHedge g x y h pair
+
+-- the fact holds of the formula and its derivation, where they are answered
+abbrev pub IfFormula : Answer → (PlainFormula → PlainDerivation → Type 0) → Type 0
+IfFormula (answers.Formula f d) P = P (formula_view f) (derivation_view d)
+IfFormula (answers.Hedge h pair) P = Unit {0}
+
+-- the fact holds of the hedge and its two models, where they are answered
+abbrev pub IfHedge : Answer → (Hedge → CounterPair → Type 0) → Type 0
+IfHedge (answers.Formula f d) P = Unit {0}
+IfHedge (answers.Hedge h pair) P = P h pair
+
+-- a hedge is answered
+abbrev pub is_hedge : Answer → Bool
+is_hedge (answers.Formula f d) = false
+is_hedge (answers.Hedge h pair) = true
+
+-- steps nest at most 14 deep in main, and at most 10 in a lemma
+pub record AreShallowSteps (d : PlainDerivation) : Type 0 where
+  pub main : IsTrue (is_plan_within 14 d.main)
+  pub lemmas : IsTrue (are_lemmas_within 10 d.lemmas)
+
+-- nodes nest at most 7 deep in main, and at most 5 in a definition
+pub record IsShallowFormula (f : PlainFormula) : Type 0 where
+  pub main : IsTrue (is_tree_within 7 f.main)
+  pub defs : IsTrue (are_defs_within 5 f.defs)
+
+-- what the procedure answers: its formula with its derivation; or the hedge at which it stops, with its two models
+abbrev pub IsAnswerOf : MixedGraph → (x y : ℕ) → Answer → Type 0
+IsAnswerOf g x y (answers.Formula f d) = IsDerived g x y (formula_view f) (derivation_view d)
+IsAnswerOf g x y (answers.Hedge h pair) = IsUnidentified g x y h.small.bits h.big.bits × IsHedgeOf g h × IsHedge g x y h × IsPairOf g x y h pair

@@ -1,0 +1,34 @@
+-- The factor of a district, as the code gives it.
+use Rattle.std.specs.Prelude.{ℕ, List, map}
+use Rattle.mixed_graph.specs.Graphs.{MixedGraph}
+use Rattle.mixed_graph.specs.Masks.{all}
+use Rattle.prob_expr.specs.View.{view}
+use Rattle.do_derivation.specs.View.{steps_view, lemma_view}
+use Rattle.identification_theory.specs.Procedure.{AreAncestorsIn, Source, IsFactor, IsStopped}
+use Rattle.identification_theory.specs.Derivations.{AreFactorSteps}
+use Rattle.identify.specs.declared.factors.district_factor.Factor.{Factor}
+use Rattle.identify.specs.declared.factors.district_factor.FactorFault.{FactorFault}
+use Rattle.identify.specs.declared.factors.district_factor.FactorFault.TheVariants.{Stopped, NoMemory}
+
+-- f is the factor of c by this order, read from the distribution of the ancestors of c under an intervention on z, with its definitions from number k
+-- on and with its derivation
+pub record IsMadeFactor (g : MixedGraph) (order : List ℕ) (z c k : ℕ) (f : Factor) : Type 0 where
+  pub a : ℕ
+  pub ancestors : AreAncestorsIn g (all g.vertices) c a
+  pub factor : IsFactor g order c a (Source.Under z) k (map view f.defs.items) (view f.value)
+  pub steps : AreFactorSteps g order c a (Source.Under z) k (map lemma_view f.lemmas.items) (steps_view f.steps.items)
+
+-- the same read from the observed distribution
+abbrev pub IsFactorOf : MixedGraph → List ℕ → (c k : ℕ) → Factor → Type 0
+IsFactorOf g order c k f = IsMadeFactor g order 0 c k f
+
+-- the procedure for c, from the ancestors of c on, stops at t
+pub record StopsAtSet (g : MixedGraph) (c t : ℕ) : Type 0 where
+  pub a : ℕ
+  pub ancestors : AreAncestorsIn g (all g.vertices) c a
+  pub stop : IsStopped g c a t
+
+-- why c has no factor
+abbrev pub IsFactorFault : MixedGraph → (c : ℕ) → FactorFault → Type 0
+IsFactorFault g c (Stopped t) = StopsAtSet g c t.bits
+IsFactorFault g c NoMemory = Unit {0}

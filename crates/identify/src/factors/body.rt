@@ -1,0 +1,110 @@
+//! The factor of a district that is read directly from a distribution: the product of its
+//! vertices' factors.
+
+ghost use Rattle.std.specs.Prelude.{◌≡◌, ◌<◌, ◌≤◌, ℕ, All, length, IfOk};
+ghost use Rattle.mixed_graph.specs.Bits.{has};
+ghost use Rattle.mixed_graph.specs.Sets.{Within};
+ghost use Rattle.mixed_graph.specs.Shown.{graph_of};
+ghost use Rattle.do_derivation.specs.Plans.{no_plans, plan};
+ghost use Rattle.do_derivation.specs.View.{listed, step_view, steps_view};
+ghost use Rattle.identification_theory.specs.Derivations.{at_each, body_steps};
+ghost use Rattle.identify.specs.Lists.{lists_view};
+ghost use Rattle.identify.specs.Parts.{source_of};
+ghost use Rattle.identify.specs.Bodies.{ArePlaces, IsBodyOf};
+
+use crate::factors::moves::members_in;
+use crate::factors::place::{VertexFactor, place_of};
+use crate::factors::pushing::push_each;
+use crate::factors::terms::Source;
+use do_derivation::{Step, as_one};
+use mixed_graph::{Graph, Order, VSet};
+use prob_expr::Expr;
+use std::alloc::{AllocError, Global};
+
+/// The factors of the members of a district in the order, and for each the steps to it.
+#[derive(Drop)]
+struct Places {
+    factors: Vec<Expr>,
+    lists: Vec<Vec<Step>>,
+}
+
+/// The factor of a district, and the steps that make it of the district's term.
+#[derive(Drop)]
+pub struct Body {
+    pub value: Expr,
+    pub steps: Vec<Step>,
+}
+
+/// The factors of the members of the district t of a.
+fn places_of(
+    alloc: Global,
+    g: &Graph,
+    order: &[u8],
+    from: Source,
+    a: VSet,
+    t: VSet,
+) -> Result<Places, AllocError>
+    requires vertices { All (λ v. v < g.now.n) order.now }
+    requires within { Within g.now.n (has a.bits) }
+    ensures { IfOk result (ArePlaces (graph_of g.now) order.now (source_of from) a.bits t.bits) }
+{
+    let mut factors = Vec::new(alloc);
+    let mut lists = Vec::new(alloc);
+    let mut before = VSet::EMPTY;
+    for v in order {
+        if t.has(*v) {
+            let VertexFactor { term, steps } = place_of(alloc, g, from, a, t, before, *v)?;
+            factors.push(term)?;
+            lists.push(steps)?;
+        }
+        before = before.union(VSet::one(*v));
+    }
+    Ok(Places { factors, lists })
+}
+
+/// The first step, and then each list at its factor.
+fn at_each(alloc: Global, first: Step, lists: Vec<Vec<Step>>) -> Result<Vec<Step>, AllocError>
+    requires { length lists.items ≤ 64 }
+    ensures { IfOk result (λ s. steps_view s.items ≡ plan (step_view first) (at_each 0 (lists_view lists.items) no_plans)) }
+{
+    let mut steps = vec![in alloc; first]?;
+    push_each(alloc, &mut steps, lists)?;
+    Ok(steps)
+}
+
+/// One member: its list; several: the chain, and each list at its factor.
+fn body_steps(alloc: Global, members: Order, lists: Vec<Vec<Step>>) -> Result<Vec<Step>, AllocError>
+    requires { length lists.items ≡ members.count }
+    ensures { IfOk result (λ s. steps_view s.items ≡ body_steps (listed members) (lists_view lists.items)) }
+{
+    let mut lists = lists;
+    if lists.len() > 1 {
+        return at_each(alloc, Step::Chain(members), lists);
+    }
+    match lists.pop() {
+        Some(list) => Ok(list),
+        None => Ok(Vec::new(alloc)),
+    }
+}
+
+/// The factor of the district t of a, read directly from the source.
+pub fn body_of(
+    alloc: Global,
+    g: &Graph,
+    order: &[u8],
+    from: Source,
+    a: VSet,
+    t: VSet,
+) -> Result<Body, AllocError>
+    requires long { length order.now ≤ 64 }
+    requires vertices { All (λ v. v < g.now.n) order.now }
+    requires within { Within g.now.n (has a.bits) }
+    ensures { IfOk result (IsBodyOf (graph_of g.now) order.now (source_of from) a.bits t.bits) }
+{
+    let Places { factors, lists } = places_of(alloc, g, order, from, a, t)?;
+    let steps = body_steps(alloc, members_in(order, t), lists)?;
+    Ok(Body {
+        value: as_one(factors),
+        steps,
+    })
+}

@@ -1,4 +1,0 @@
-pub mod Carrying
-pub mod Independences
-pub mod Shortening
-pub mod Separations

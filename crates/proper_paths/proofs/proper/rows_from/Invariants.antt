@@ -1,7 +1,0 @@
-use Rattle.std.proofs.Common.{◌≡◌, ◌<◌, ◌≤◌, ℕ, get_or, length, ◌&&◌, ◌^◌}
-use Rattle.mixed_graph.specs.Bits.{has}
-use Rattle.proper_paths.proofs.proper.rows_from.Given as goal
-
-abbrev pub invariant-loop-u : goal.invariant-loop-u
-invariant-loop-u l = ((a b : ℕ) → a < l.u → has (get_or l.rows a 0) b ≡ (has l.tails.bits a && has l.heads.bits b))
-    × ((a : ℕ) → l.u ≤ a → get_or l.rows a 0 ≡ 0) × (length l.rows ≡ 64) × (l.tails.bits < 2 ^ 64)

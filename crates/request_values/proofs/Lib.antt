@@ -1,3 +1,0 @@
-mod Found
-pub mod Inputs
-pub mod OneValue

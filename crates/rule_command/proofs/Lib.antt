@@ -1,5 +1,0 @@
-mod Sets
-mod Equations
-pub mod Outcomes
-pub mod Exclusive
-pub mod Lawful

@@ -1,9 +1,0 @@
-//! The command `rule`: whether a rule of the do-calculus holds, in the observed graph.
-#![tactic(auto)]
-
-mod reply;
-mod request;
-mod texts;
-
-pub use reply::rule_reply;
-pub use request::{ROW, Request};

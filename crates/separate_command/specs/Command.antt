@@ -1,8 +1,0 @@
--- The command `separate`.
-use Rattle.replies.specs.Command.{CommandForm, on_file}
-use Rattle.separate_command.specs.Answers.{SeparateAnswer}
-use Rattle.separate_command.specs.Requests.{Request, IsRequest}
-
--- its request and its answers
-abbrev pub separate_command : CommandForm
-separate_command = on_file Request IsRequest (λ q. q.file) (λ q g. SeparateAnswer g q.x q.y q.given)

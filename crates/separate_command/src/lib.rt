@@ -1,9 +1,0 @@
-//! The command `separate`: whether two sets are separated given a third, in the observed graph.
-#![tactic(auto)]
-
-mod reply;
-mod request;
-mod texts;
-
-pub use reply::separate_reply;
-pub use request::{ROW, Request};

@@ -1,0 +1,20 @@
+-- The command's words ask for one request, and its answers have one outcome.
+use Rattle.std.proofs.Common.{◌≡◌, List, sym, ◌∙◌}
+use Rattle.std.proofs.lemmas.Option.{same_Some}
+use Rattle.command_words.specs.Form.{Use}
+use Rattle.replies.proofs.Commands.{IsLawful, lawful_on_file}
+use Rattle.separation_commands.specs.GraphRequests.{Request, IsRequest}
+use Rattle.separation_commands.specs.GraphCommand.{graph_command}
+use Rattle.separation_commands.proofs.GraphOutcomes.{graph_answered}
+use Rattle.separation_commands.proofs.GraphExclusive.{graph_once}
+
+-- the uses ask for one request
+one_request : (uses : List Use) (q r : Request) → IsRequest uses q → IsRequest uses r → r ≡ q
+one_request uses q r a b = λ i. record {
+  file = same_Some r.file q.file (sym b.file ∙ a.file) i;
+  project = (sym b.project ∙ a.project) i;
+}
+
+-- what holds of each command holds of it
+pub graph_lawful : IsLawful graph_command
+graph_lawful = lawful_on_file one_request (λ q g. graph_answered q.project g) (λ q bytes. graph_once bytes q.project)

@@ -1,0 +1,8 @@
+-- The command `graph`.
+use Rattle.replies.specs.Command.{CommandForm, on_file}
+use Rattle.separation_commands.specs.GraphAnswers.{GraphAnswer}
+use Rattle.separation_commands.specs.GraphRequests.{Request, IsRequest}
+
+-- its request and its answers
+abbrev pub graph_command : CommandForm
+graph_command = on_file Request IsRequest (λ q. q.file) (λ q g. GraphAnswer q.project g)

@@ -1,0 +1,11 @@
+pub mod GraphAnswers
+pub mod GraphRequests
+pub mod GraphCommand
+pub mod SeparateAnswers
+pub mod SeparateLines
+pub mod SeparateRequests
+pub mod SeparateCommand
+pub mod RuleAnswers
+pub mod RuleLines
+pub mod RuleRequests
+pub mod RuleCommand

@@ -1,0 +1,23 @@
+-- What is printed for an answer of `rule`.
+use Rattle.std.specs.Prelude.{ℕ, Bool, List, [], ◌∷◌, ◌++◌, codes}
+use Rattle.std.specs.Fmt.{decimal}
+use Rattle.answer_text.specs.Texts.{term_text}
+use Rattle.do_rules.specs.Rules.{Side, left_of, right_of, number_of}
+use Rattle.do_rules.specs.declared.rules.Rule.{Rule}
+
+-- a side of a rule, as P(y|do(x),z,w)
+abbrev pub side_text : List (List ℕ) → Side → List ℕ
+side_text names s = term_text names s.of s.doing s.given
+
+-- the equation of a rule
+abbrev pub equation_text : Rule → List (List ℕ) → (x y z w : ℕ → Bool) → List ℕ
+equation_text r names x y z w = side_text names (left_of r x y z w) ++ (codes " = " ++ side_text names (right_of r x y z w))
+
+-- the answer where a rule holds
+abbrev pub rule_holds_text : Rule → List (List ℕ) → (x y z w : ℕ → Bool) → List ℕ
+rule_holds_text r names x y z w = codes "rule " ++ (decimal (number_of r) ++ (codes " holds: " ++ (equation_text r names x y z w ++ 10 ∷ [])))
+
+-- the answer where a path is open
+abbrev pub rule_fails_text : Rule → List (List ℕ) → (x y z w : ℕ → Bool) → List ℕ → List ℕ
+rule_fails_text r names x y z w open_line = codes "rule " ++ (decimal (number_of r)
+    ++ (codes " does not hold: " ++ (equation_text r names x y z w ++ (10 ∷ open_line))))

@@ -1,0 +1,8 @@
+-- The command `separate`.
+use Rattle.replies.specs.Command.{CommandForm, on_file}
+use Rattle.separation_commands.specs.SeparateAnswers.{SeparateAnswer}
+use Rattle.separation_commands.specs.SeparateRequests.{Request, IsRequest}
+
+-- its request and its answers
+abbrev pub separate_command : CommandForm
+separate_command = on_file Request IsRequest (λ q. q.file) (λ q g. SeparateAnswer g q.x q.y q.given)

@@ -1,0 +1,36 @@
+-- What `separate` is asked for.
+use Rattle.std.specs.Prelude.{◌≡◌, List, Some, [], ◌∷◌, codes, option_map}
+use Rattle.command_words.specs.Form.{Text, Row, Use, word_of, value_of}
+use Rattle.command_words.specs.Values as values
+use Rattle.replies.specs.Observed.{Names}
+use Rattle.command_words.specs.ListViews.{names_in}
+use Rattle.separation_commands.specs.declared.separate.request.Request.{Request as CodeRequest}
+
+-- `separate FILE [--x L] [--y L] [--given L]`
+abbrev pub separate_row : Row
+separate_row = record {
+  name = codes "separate";
+  positionals = codes "file" ∷ [];
+  optional = [];
+  required = [];
+  options = codes "x" ∷ codes "y" ∷ codes "given" ∷ [];
+  flags = [];
+}
+
+-- a request
+pub record Request : Type 0 where
+  pub file : Text
+  pub x : Names
+  pub y : Names
+  pub given : Names
+
+-- the request
+abbrev pub request_of : CodeRequest → Request
+request_of r = record { file = r.file.now; x = option_map names_in r.x; y = option_map names_in r.y; given = option_map names_in r.given }
+
+-- the uses ask for this
+pub record IsRequest (uses : List Use) (r : Request) : Type 0 where
+  pub file : word_of separate_row uses (codes "file") ≡ Some r.file
+  pub x : values.IsListed (value_of uses (codes "x")) r.x
+  pub y : values.IsListed (value_of uses (codes "y")) r.y
+  pub given : values.IsListed (value_of uses (codes "given")) r.given

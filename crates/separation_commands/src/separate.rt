@@ -1,0 +1,7 @@
+//! The command `separate`: whether two sets are separated given a third, in the observed graph.
+mod reply;
+mod request;
+mod texts;
+
+pub use reply::separate_reply;
+pub use request::{ROW, Request};

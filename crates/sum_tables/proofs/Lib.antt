@@ -1,9 +1,0 @@
-pub mod Lists
-pub mod Placing
-pub mod Choosing
-pub mod Counting
-pub mod Cells
-pub mod CellLevels
-pub mod VertexSums
-pub mod SummingSteps
-pub mod MarginSteps

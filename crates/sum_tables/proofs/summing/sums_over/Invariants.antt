@@ -1,6 +1,0 @@
-use Rattle.mixed_graph.specs.Bits.{has}
-use Rattle.sum_tables.proofs.SummingSteps.{IsSumming}
-use Rattle.sum_tables.proofs.summing.sums_over.Given as goal
-
-abbrev pub invariant-loop-i : goal.invariant-loop-i
-invariant-loop-i l = IsSumming l.c (has l.of.bits) l.i l.sums.items l.outer l.inner

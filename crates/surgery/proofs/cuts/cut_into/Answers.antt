@@ -1,8 +1,0 @@
-use Rattle.std.proofs.Common.{◌∙◌}
-use Rattle.mixed_graph.specs.Bits.{has}
-use Rattle.mixed_graph.specs.Shown.{graph_of}
-use Rattle.surgery.proofs.Cutting.{restricted-into}
-use Rattle.surgery.proofs.cuts.cut_into.Goals as goal
-
-pub returns : goal.returns
-returns c = c.restrict.ensures ∙ restricted-into (graph_of c.args.g.now) (has c.args.x.bits) (has c.below-all.result.bits) (has c.difference-rest.result.bits) c.args.g.now.valid c.below-all.ensures.members c.difference-rest.ensures.members

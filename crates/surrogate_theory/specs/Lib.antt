@@ -1,3 +1,0 @@
-pub mod Common
-pub mod Laws
-pub mod Surrogates

@@ -1,4 +1,0 @@
-pub mod Counts
-pub mod Drawn
-pub mod Draws
-pub mod Rows

@@ -1,3 +1,0 @@
-pub mod Agreeing
-pub mod Room
-pub mod TableLaws

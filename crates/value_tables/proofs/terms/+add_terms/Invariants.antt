@@ -1,9 +1,0 @@
-use Rattle.std.proofs.Common.{◌≡◌, ◌≤◌}
-use Rattle.sum_tables.specs.Sums.{cells_in}
-use Rattle.value_tables.proofs.terms.+add_terms.Given as goal
-
-abbrev pub invariant-add_factors-loop-factor : goal.invariant-add_factors-loop-factor
-invariant-add_factors-loop-factor l = record {
-  table : l.sums.table ≡ l.fn.sums.table;
-  most : cells_in l.fn.sums ≤ l.most → cells_in l.sums ≤ l.most;
-}

@@ -1,3 +1,0 @@
-pub mod Preparations
-pub mod Tables
-pub mod Values

@@ -1,7 +1,0 @@
--- Undirected graphs as rows of bits.
-use Rattle.std.specs.Prelude.{ℕ, Bool, List, slice_index}
-use Rattle.mixed_graph.specs.Bits.{has}
-
--- u and v are joined: bit v of row u is set
-abbrev pub joins : List ℕ → ℕ → ℕ → Bool
-joins near u v = has (slice_index near u) v

@@ -1,8 +1,0 @@
-use Rattle.word_forms.specs.Views.{row_of}
-use Rattle.word_values.proofs.Building.{row_built}
-use Rattle.word_values.proofs.program.row_program.Goals as goal
-
-pub returns-clause-shape : goal.returns-clause-shape
-returns-clause-shape c =
-    row_built (row_of c.args.row.now) _ _ _ _ _ _ c.new-program.ensures.app c.in_ok-program.ensures.shape c.in_ok-program-2.ensures.shape c.in_ok-program-3.ensures.shape
-    c.in_ok-program-4.ensures.shape c.in_ok-program-5.ensures.shape
