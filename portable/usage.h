@@ -10,7 +10,7 @@ static const char usage[] =
     "    identify FILE [--x L] [--y L] [--given L] [--certificate] [--latex]\n"
     "    check FILE CERTIFICATE [--experiments E]\n"
     "    adjust FILE [--x L] [--y L] [--set L [--back-door] | --most N]\n"
-    "    evaluate FILE COUNTS [--x L] [--y L] [--count NAME] [--exact]\n"
+    "    evaluate FILE COUNTS [--x L] [--y L] [--given L | --set L [--back-door]] [--count NAME] [--exact] [--zero]\n"
     "    equivalent FILE FILE2 [--x L] [--y L] [--given L]\n"
     "    survey N\n"
     "    implications FILE [COUNTS] [--count NAME]\n"

@@ -29,7 +29,7 @@ Answers questions about causal diagrams with hidden confounders, by a proved pro
     identify FILE [--x L] [--y L] [--given L] [--certificate] [--latex]
     check FILE CERTIFICATE [--experiments E]
     adjust FILE [--x L] [--y L] [--set L [--back-door] | --most N]
-    evaluate FILE COUNTS [--x L] [--y L] [--count NAME] [--exact]
+    evaluate FILE COUNTS [--x L] [--y L] [--given L | --set L [--back-door]] [--count NAME] [--exact] [--zero]
     equivalent FILE FILE2 [--x L] [--y L] [--given L]
     survey N
     implications FILE [COUNTS] [--count NAME]

@@ -12,6 +12,8 @@ from causal.evaluation import Evaluation
 from causal.names import Cursor
 
 LISTS = ("x", "y", "z", "do", "given", "set")
+# Words of `evaluate` that the package answers by calls of its own; `test_program` has them answered by the program.
+OTHER_WAYS = {"--set", "--back-door", "--given", "--zero"}
 
 
 def names_of(word):
@@ -39,7 +41,7 @@ def options_of(words):
         word = rest.pop(0)
         if not word.startswith("--"):
             places.append(word)
-        elif word in ("--project", "--certificate", "--latex", "--exact", "--back-door", "--models"):
+        elif word in ("--project", "--certificate", "--latex", "--exact", "--back-door", "--models", "--zero"):
             options[word[2:]] = True
         else:
             name, _, value = word[2:].partition("=")
@@ -147,6 +149,8 @@ class Questions(unittest.TestCase):
         with tempfile.TemporaryDirectory() as folder:
             for case in all_cases():
                 if case.words[:1] == ["survey"] or case.fails or case.status in (2, 6) or self.is_refused_before(case):
+                    continue
+                if case.words[:1] == ["evaluate"] and OTHER_WAYS & {word.split("=")[0] for word in case.words}:
                     continue
                 number += 1
                 with self.subTest(case.name):

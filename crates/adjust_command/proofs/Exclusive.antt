@@ -119,10 +119,10 @@ module _ (query : Query) (q : MixedGraph) (l : Lists) (named : length l.observed
   among Graph text h = inr (inr refl)
   among o text h = none_else query q l.observed h.x h.y h.z o text h.answer
 
-  lists_once : OneOutcome (ListsAnswer query q l)
+  pub lists_once : OneOutcome (ListsAnswer query q l)
   lists_once = one_of_three Yes No Graph (ListsAnswer query q l) among apart yes_graph no_graph
 
-same_lists : (x y : Names) (query : Query) (g h : ReadGraph) → AreSame g h → adjust_lists h x y query ≡ adjust_lists g x y query
+pub same_lists : (x y : Names) (query : Query) (g h : ReadGraph) → AreSame g h → adjust_lists h x y query ≡ adjust_lists g x y query
 same_lists x y query g h s = rw (s.names, s.vertices, s.latent, s.exposures, s.outcomes) refl
 
 pub adjust_once : (bytes : List ℕ) (x y : Names) (query : Query) → OneOutcome (IsAnswerOn bytes (λ g. AdjustAnswer g x y query))

@@ -13,3 +13,4 @@ pub use criteria::{Verdict, judge};
 pub use query::Query;
 pub use reply::adjust_reply;
 pub use request::{ROW, Request};
+pub use texts::not_admissible_text;

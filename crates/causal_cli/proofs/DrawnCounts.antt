@@ -9,7 +9,7 @@ use Rattle.fractions.specs.Fractions.{Fraction, over, IsEqual}
 use Rattle.finite_models.specs.Models.{FiniteModel, Fits, weight_of, total}
 use Rattle.finite_models.proofs.Following.{follows_of}
 use Rattle.latent_projection.specs.Renumbering.{IsObserved}
-use Rattle.prob_expr.specs.Tree.{PlainTarget, effect_on}
+use Rattle.prob_expr.specs.Tree.{PlainTarget}
 use Rattle.prob_expr.specs.Values.{Weights, effect}
 use Rattle.dag_reader.specs.declared.graph.ReadGraph.{ReadGraph}
 use Rattle.hidden_models.specs.Folding.{Folds, IsMatchedAsDrawn, drawn_weights, drawn_effect, values_after}
@@ -31,7 +31,8 @@ use Rattle.replies.specs.declared.outcome.Outcome.TheVariants.{Yes}
 use Rattle.replies.specs.Observed.{Names, IsObservedGraph}
 use Rattle.evaluate_command.specs.Answers.{CoversEffect, QuantityAnswer}
 use Rattle.evaluate_command.specs.Cells.{CellValue}
-use Rattle.evaluate_command.specs.Effects.{PlainEffect, Identifies}
+use Rattle.evaluate_command.specs.Effects.{PlainEffect, target_of, Identifies}
+use Rattle.evaluate_command.specs.Ways.{Way}
 use Rattle.causal_cli.specs.Drawn.{CoversAsDrawn, EachCoversAsDrawn}
 
 -- a factor is carried from one proportion to another
@@ -75,20 +76,20 @@ covers_as_drawn kind covers lawful g e is ok t v h m fit observed matched s hs a
     let positive = folded_is_positive (graph_of g.graph) g.graph.valid l e.graph is m f.folded fit f.fits f.folds observed in
     let match = matched_folded (graph_of g.graph) g.graph.valid l e.graph is m f.folded fit f.fits f.folds (is_used t) (weights_in e.graph.vertices t)
     (cells.total t.rows) matched in
-    let same : effect f.folded (effect_on e.x e.y) (values_after l m.vertices s) ≡ effect f.folded (effect_on e.x e.y) (cell_of v.cell) =
-    same_effect e.graph ok f.folded f.fits (effect_on e.x e.y) (values_after l m.vertices s) (cell_of v.cell)
+    let same : effect f.folded (target_of e) (values_after l m.vertices s) ≡ effect f.folded (target_of e) (cell_of v.cell) =
+    same_effect e.graph ok f.folded f.fits (target_of e) (values_after l m.vertices s) (cell_of v.cell)
     (λ k lt. at k (subst (λ n. k < n) f.fits.vertices lt)) in
-    lawful.keeps.equal v.quantity (effect f.folded (effect_on e.x e.y) (cell_of v.cell)) (drawn_effect l m (effect_on e.x e.y) s)
+    lawful.keeps.equal v.quantity (effect f.folded (target_of e) (cell_of v.cell)) (drawn_effect l m (target_of e) s)
     (h f.folded f.fits positive match)
-    (subst (λ x. IsEqual x (drawn_effect l m (effect_on e.x e.y) s)) same
-    (folded_keeps_effects (graph_of g.graph) g.graph.valid l e.graph is m f.folded fit f.fits f.folds observed (effect_on e.x e.y) s hs))
+    (subst (λ x. IsEqual x (drawn_effect l m (target_of e) s)) same
+    (folded_keeps_effects (graph_of g.graph) g.graph.valid l e.graph is m f.folded fit f.fits f.folds observed (target_of e) s hs))
 
 -- each value of the answer is so, in either kind of quantity
-pub each_covers : (is_exact : Bool) (g : ReadGraph) (e : PlainEffect) (t : Table) (text : List ℕ) (x y : Names) → Identifies g x y e
-    → (shows : QuantityAnswer is_exact e t Yes text) → EachCoversAsDrawn is_exact g e t text shows
-each_covers true g e t text x y id h =
+pub each_covers : (is_exact zero : Bool) (g : ReadGraph) (e : PlainEffect) (t : Table) (text : List ℕ) (way : Way) (x y : Names) → Identifies way g x y e
+    → (shows : QuantityAnswer is_exact zero e t Yes text) → EachCoversAsDrawn is_exact zero g e t text shows
+each_covers true zero g e t text way x y id h =
     All-weaker (CoversEffect Equals e t) (CoversAsDrawn Equals g e t) (λ v c.
     covers_as_drawn exact Equals exact_lawful g e id.graph id.identified.graph t v c) h.values.values h.values.effects
-each_covers false g e t text x y id h =
+each_covers false zero g e t text way x y id h =
     All-weaker (CoversEffect Covers e t) (CoversAsDrawn Covers g e t) (λ v c.
     covers_as_drawn bounds Covers bounds_lawful g e id.graph id.identified.graph t v c) h.values.values h.values.effects

@@ -31,6 +31,9 @@ use Rattle.adjust_command.specs.Queries.{Query, by_set, by_back_door, listing}
 use Rattle.adjust_command.specs.Requests.{Request as AdjustRequest}
 use Rattle.surrogate_command.specs.Answers.{SurrogateAnswer}
 use Rattle.surrogate_command.specs.Requests.{Request as SurrogateRequest}
+use Rattle.evaluate_command.specs.Answers.{EvaluateFirst}
+use Rattle.evaluate_command.specs.Effects.{target_of}
+use Rattle.evaluate_command.specs.Ways.{Way, by_procedure, by_adjusting, by_condition}
 use Rattle.evaluate_command.specs.Requests.{Request as EvaluateRequest}
 use Rattle.separation_commands.specs.SeparateAnswers.{SeparateAnswer}
 use Rattle.separation_commands.specs.SeparateRequests.{Request as SeparateRequest}
@@ -193,14 +196,19 @@ evaluated_on q bytes other text (g, holds, needs, (e, identifies, (t, read, show
   holds = holds;
   effect = e;
   identifies = identifies;
-  formula = drawn g e.graph identifies.graph (effect_on e.x e.y) e.formula identifies.identified.right.effect;
+  formula = drawn g e.graph identifies.graph (target_of e) e.formula identifies.identified.effect;
   counted = t;
   read = read;
   shows = shows;
-  right = each_covers q.exact g e t text q.x q.y identifies shows;
+  right = each_covers q.exact q.zero g e t text q.way q.x q.y identifies shows;
 }
 
--- the answer on the file alone is none: where there is a formula, the counts are read
+-- the answer on the file alone is no yes: where there is a formula, the counts are read
+no_yes_alone : (way : Way) (g : ReadGraph) (x y : Names) (text : List ℕ) → EvaluateFirst way g x y Yes text → ⊥
+no_yes_alone by_procedure g x y text h = h
+no_yes_alone (by_adjusting back_door set) g x y text h = h.0 refl
+no_yes_alone (by_condition given) g x y text h = h.0 refl
+
 evaluated : (r : Call) (uses : List Use) (text : List ℕ) → Appends r.before r.after text → CallAnswer r Evaluate uses Yes text → EvaluatedAsDrawn r uses
 evaluated r uses text whole (on_words q is h) = absurd h
 evaluated r uses text whole (on_file q is file names h) = record {
@@ -208,7 +216,8 @@ evaluated r uses text whole (on_file q is file names h) = record {
   text = text;
   asks = is;
   right = under_name r.held q.file file (λ bytes. HoldsAnswer commands (of Evaluate q) bytes Yes text)
-      (λ bytes. IfSome (r.held_second q.counts) (λ other. IsEvaluationAsDrawn q bytes other text)) (λ bytes a. absurd a.answer) names h;
+      (λ bytes. IfSome (r.held_second q.counts) (λ other. IsEvaluationAsDrawn q bytes other text))
+      (λ bytes a. absurd (no_yes_alone q.way a.graph q.x q.y text a.answer)) names h;
   whole = whole;
 }
 evaluated r uses text whole (on_both q is file second names names_second h) = record {

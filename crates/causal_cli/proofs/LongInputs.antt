@@ -54,13 +54,13 @@ check_long g experiments a b la lb o text h = record { sets = h.sets; are = h.ar
 
 -- ---- evaluate
 
-values_long : (is_exact : Bool) (e : PlainEffect) (count : Option Field) (a b : List ℕ) → 67108864 < length a → 67108864 < length b
+values_long : (is_exact zero : Bool) (e : PlainEffect) (count : Option Field) (a b : List ℕ) → 67108864 < length a → 67108864 < length b
     → (o : Outcome) (text : List ℕ)
-    → evaluate.CountsAnswer is_exact e count a o text → evaluate.CountsAnswer is_exact e count b o text
-values_long is_exact e count a b la lb Yes text h = no_more 67108864 a la h.1.small
-values_long is_exact e count a b la lb Second text h = refused_counts _ _ count a b text la lb h
-values_long is_exact e count a b la lb Evaluation text h = no_more 67108864 a la h.1.small
-values_long is_exact e count a b la lb o text h = absurd h
+    → evaluate.CountsAnswer is_exact zero e count a o text → evaluate.CountsAnswer is_exact zero e count b o text
+values_long is_exact zero e count a b la lb Yes text h = no_more 67108864 a la h.1.small
+values_long is_exact zero e count a b la lb Second text h = refused_counts _ _ count a b text la lb h
+values_long is_exact zero e count a b la lb Evaluation text h = no_more 67108864 a la h.1.small
+values_long is_exact zero e count a b la lb o text h = absurd h
 
 -- ---- implications
 

@@ -30,8 +30,9 @@ use Rattle.replies.specs.Observed.{Names, HoldsGraph, IsObservedGraph, observed_
 use Rattle.replies.specs.Outcomes.{code_of}
 use Rattle.effect_answers.specs.Hedges as hedges
 use Rattle.identify_command.specs.declared.form.Form.{Form}
+use Rattle.identify_command.specs.declared.form.Form.TheVariants.{Plain}
 use Rattle.identify_command.specs.Answers.{ShowsHedge, IdentifyAnswer}
-use Rattle.identify_command.specs.Conditions.{IdentifyAnswerGiven}
+use Rattle.identify_command.specs.Conditions.{ConditionalAnswer, IdentifyAnswerGiven}
 use Rattle.identify_command.specs.Requests.{IsRequest}
 use Rattle.check_command.specs.Answers.{HoldsCertificate, ObservedAnswer, of_formula, of_hedge}
 use Rattle.experiment_lists.specs.Words.{Lists}
@@ -41,7 +42,8 @@ use Rattle.surrogates.specs.declared.answer.CommonHedge.{CommonHedge}
 use Rattle.surrogate_command.specs.Answers.{SurrogateAnswer}
 use Rattle.surrogate_command.specs.Requests.{Request as SurrogateRequest}
 use Rattle.surrogate_command.specs.Requests as surrogate_requests
-use Rattle.evaluate_command.specs.Answers.{EvaluateFirst}
+use Rattle.evaluate_command.specs.Answers.{ProcedureFirst, EvaluateFirst}
+use Rattle.evaluate_command.specs.Ways.{Way, by_procedure, by_adjusting, by_condition, criterion_query}
 use Rattle.separation_commands.specs.SeparateAnswers.{SeparateAnswer}
 use Rattle.separation_commands.specs.SeparateRequests.{Request as SeparateRequest}
 use Rattle.separation_commands.specs.SeparateRequests as separate_requests
@@ -50,7 +52,6 @@ use Rattle.separation_commands.specs.RuleRequests.{Request as RuleRequest}
 use Rattle.separation_commands.specs.RuleRequests as rule_requests
 use Rattle.adjust_command.specs.Answers.{AdjustAnswer, SetsAnswer}
 use Rattle.adjust_command.specs.Queries.{Query, by_set, by_back_door, listing}
-use Rattle.adjust_command.specs.Requests.{Request as AdjustRequest}
 use Rattle.adjust_command.specs.Requests as adjust_requests
 use Rattle.command_run.proofs.Deliveries.{mapped}
 use Rattle.command_run.specs.Answers.{HoldsAnswer, DefinedWith}
@@ -59,9 +60,9 @@ use Rattle.causal_cli.specs.Commands.{commands}
 use Rattle.causal_cli.specs.declared.commands.Command.TheVariants.{Identify, Evaluate, Surrogate, Separate, Rule, Adjust}
 use Rattle.causal_cli.specs.Calls.{Call, WrittenFor}
 use Rattle.causal_cli.specs.Headline.{IsRightCertificate, Checked, HeadlineOfCheck}
-use Rattle.causal_cli.specs.Refuted.{IsNotIdentifiable, IsNotIdentifiableOver, IsStopAsDrawn, IsHedgeAsDrawn, IsUnidentifiedAsDrawn}
-use Rattle.causal_cli.specs.Refuted.{UnevaluatedAsDrawn, IsHedgeCertificateAsDrawn, CheckedHedgeAsDrawn, IsDependenceAsDrawn}
-use Rattle.causal_cli.specs.Refuted.{IsFailureAsDrawn, RefutesAdjustment, IsNoAdjustmentAsDrawn, RefutedAsDrawn}
+use Rattle.causal_cli.specs.Refuted.{IsNotIdentifiable, IsNotIdentifiableOver, IsStopAsDrawn, IsHedgeAsDrawn, IsJointAsDrawn, IsUnidentifiedAsDrawn}
+use Rattle.causal_cli.specs.Refuted.{IsUnevaluatedAsDrawn, UnevaluatedAsDrawn, IsHedgeCertificateAsDrawn, CheckedHedgeAsDrawn, IsDependenceAsDrawn}
+use Rattle.causal_cli.specs.Refuted.{IsFailureAsDrawn, RefutesAdjustment, IsNoAdjustmentFor, IsNoAdjustmentAsDrawn, RefutedAsDrawn}
 use Rattle.causal_cli.proofs.CallAnswers.{CallAnswer, on_words, on_file, on_both, Gave, under_name, under_names, written_for}
 use Rattle.causal_cli.proofs.DrawnRuns.{same_read, same_hedge_target}
 
@@ -86,6 +87,49 @@ effect_lost_over g q observed x y pair m zs under =
     m.first.fits m.second.fits m.two.0 m.two.1 m.first.positive m.second.positive m.observed zs under (effect_on x y)
     (differ_on q (observed_is_mixed g q observed) x y pair m)
 
+-- ---- adjust
+
+-- a set whose formula is the effect in the diagram as drawn is admissible
+admissible_as_drawn : (g : ReadGraph) (q : MixedGraph) → IsObservedGraph g q → (x y z : ℕ) → AreThreeSets q.vertices (has x) (has y) (has z)
+    → EqualsAsDrawn (graph_of g.graph) (has g.latent.bits) (effect_on x y) (adjustment_formula x y z) → IsAdmissible q (has x) (has y) (has z)
+admissible_as_drawn g q observed x y z sets right =
+    let ok = observed_is_mixed g q observed in
+    let breaks = λ (d : Exceeds q (has x) (has y) (has z)).
+    let u = formula_failure_is_drawn (graph_of g.graph) g.graph.valid (has g.latent.bits) q observed (effect_on x y) (adjustment_formula x y z)
+    (exceeds_fails q ok x y z d) in
+    u.unequal (right u.model u.fits u.positive u.at u.within) in
+    record {
+      clear = λ v inside f. breaks (forbidden_exceeds q ok (has x) (has y) (has z) sets v inside f);
+      blocked = λ v r p not_causal o. breaks (unblocked_exceeds q ok (has x) (has y) (has z) sets v r p not_causal o);
+    }
+
+refutes_adjustment : (g : ReadGraph) (q : MixedGraph) → IsObservedGraph g q → (query : Query) (x y z : ℕ) (text : List ℕ)
+    → SetsAnswer query q (observed_names g) x y z No text → RefutesAdjustment query g q x y z
+refutes_adjustment g q observed (by_set set) x y z text h =
+    formula_failure_is_drawn (graph_of g.graph) g.graph.valid (has g.latent.bits) q observed (effect_on x y) (adjustment_formula x y z) h.fails
+refutes_adjustment g q observed (by_back_door set) x y z text h = tt
+refutes_adjustment g q observed (listing most) x y z text h = λ w sets right. h.none (has w) sets (admissible_as_drawn g q observed x y w sets right)
+
+adjusted_on : (x y : Names) (query : Query) (bytes text : List ℕ) (g : ReadGraph) → HoldsGraph bytes g → AdjustAnswer g x y query No text
+    → IsNoAdjustmentFor x y query bytes text
+adjusted_on x y query bytes text g holds (p, observed, h) = record {
+  graph = g;
+  holds = holds;
+  seen = p;
+  observed = observed;
+  xs = h.x;
+  ys = h.y;
+  z = h.z;
+  sets = h.sets;
+  shows = h.answer;
+  refutes = refutes_adjustment g p observed query h.x h.y h.z text h.answer;
+}
+
+adjusted : (r : Call) (uses : List Use) (text : List ℕ) → Appends r.before r.after text → CallAnswer r Adjust uses No text
+    → WrittenFor adjust_requests.IsRequest (λ q. q.file) IsNoAdjustmentAsDrawn r uses
+adjusted r uses text = written_for r Adjust uses No text (λ q. q.file) IsNoAdjustmentAsDrawn (λ q h. h) (λ q. refl) (λ q. refl)
+    (λ q is bytes a. adjusted_on q.x q.y q.query bytes text a.graph a.holds a.answer)
+
 -- ---- identify and evaluate
 
 bare_refuted : (form : Form) (bytes : List ℕ) (x y : Names) (text : List ℕ) (g : ReadGraph) → HoldsGraph bytes g → IdentifyAnswer form g x y No text
@@ -98,12 +142,10 @@ bare_refuted form bytes x y text g holds (q, observed, h) = record {
   sets = record { x = h.x; y = h.y; sets = h.sets; answer = (h.answer, effect_lost g q observed h.x h.y h.answer.pair h.answer.found.right.counter) };
 }
 
-given_refuted : (form : Form) (bytes : List ℕ) (x y given : Names) (text : List ℕ) (g : ReadGraph) → HoldsGraph bytes g
-    → IdentifyAnswerGiven form g x y given No text
-    → IsUnidentifiedAsDrawn form bytes x y given text
-given_refuted form bytes x y None text g holds h = bare_refuted form bytes x y text g holds h
-given_refuted form bytes x y (Some []) text g holds h = bare_refuted form bytes x y text g holds h
-given_refuted form bytes x y (Some (n ∷ ns)) text g holds (q, observed, h) =
+joint_refuted : (form : Form) (bytes : List ℕ) (x y : Names) (given : List (List ℕ)) (text : List ℕ) (g : ReadGraph) → HoldsGraph bytes g
+    → ConditionalAnswer form g x y given No text
+    → IsJointAsDrawn form bytes x y given text
+joint_refuted form bytes x y given text g holds (q, observed, h) =
     let a = h.answer in record {
       graph = g;
       holds = holds;
@@ -120,21 +162,34 @@ given_refuted form bytes x y (Some (n ∷ ns)) text g holds (q, observed, h) =
       differs = λ settled. not_identifiable g q observed a.x a.y a.pair a.found.right.counter h.target (a.differs settled);
     }
 
+given_refuted : (form : Form) (bytes : List ℕ) (x y given : Names) (text : List ℕ) (g : ReadGraph) → HoldsGraph bytes g
+    → IdentifyAnswerGiven form g x y given No text
+    → IsUnidentifiedAsDrawn form bytes x y given text
+given_refuted form bytes x y None text g holds h = bare_refuted form bytes x y text g holds h
+given_refuted form bytes x y (Some []) text g holds h = bare_refuted form bytes x y text g holds h
+given_refuted form bytes x y (Some (n ∷ ns)) text g holds h = joint_refuted form bytes x y (n ∷ ns) text g holds h
+
 identified : (r : Call) (uses : List Use) (text : List ℕ) → Appends r.before r.after text → CallAnswer r Identify uses No text
     → WrittenFor IsRequest (λ q. q.file) (λ q bytes line. IsUnidentifiedAsDrawn q.form bytes q.x q.y q.given line) r uses
 identified r uses text = written_for r Identify uses No text (λ q. q.file) (λ q bytes line. IsUnidentifiedAsDrawn q.form bytes q.x q.y q.given line)
     (λ q h. h) (λ q. refl) (λ q. refl)
     (λ q is bytes a. given_refuted q.form bytes q.x q.y q.given text a.graph a.holds a.answer)
 
-evaluated_on : (bytes : List ℕ) (x y : Names) (text : List ℕ) (g : ReadGraph) → HoldsGraph bytes g → EvaluateFirst g x y No text
+hedge_on : (bytes : List ℕ) (x y : Names) (text : List ℕ) (g : ReadGraph) → HoldsGraph bytes g → ProcedureFirst g x y No text
     → IsHedgeAsDrawn hedges.ShowsHedge bytes x y text
-evaluated_on bytes x y text g holds (q, observed, h) = record {
+hedge_on bytes x y text g holds (q, observed, h) = record {
   graph = g;
   holds = holds;
   seen = q;
   observed = observed;
   sets = record { x = h.x; y = h.y; sets = h.sets; answer = (h.answer, effect_lost g q observed h.x h.y h.answer.pair h.answer.found.right.counter) };
 }
+
+evaluated_on : (way : Way) (bytes : List ℕ) (x y : Names) (text : List ℕ) (g : ReadGraph) → HoldsGraph bytes g → EvaluateFirst way g x y No text
+    → IsUnevaluatedAsDrawn way bytes x y text
+evaluated_on by_procedure bytes x y text g holds h = hedge_on bytes x y text g holds h
+evaluated_on (by_adjusting back_door set) bytes x y text g holds h = adjusted_on x y (criterion_query back_door set) bytes text g holds h.1
+evaluated_on (by_condition given) bytes x y text g holds h = joint_refuted Plain bytes x y given text g holds h.1
 
 if_told : (told : Option (List ℕ)) (P : Type 0) → P → IfSome told (λ other. P)
 if_told (Some other) P p = p
@@ -148,9 +203,9 @@ evaluated r uses text whole (on_file q is file names h) = record {
   text = text;
   asks = is;
   right = under_name r.held q.file file (λ bytes. HoldsAnswer commands (of Evaluate q) bytes No text)
-      (λ bytes. IfSome (r.held_second q.counts) (λ other. IsHedgeAsDrawn hedges.ShowsHedge bytes q.x q.y text))
-      (λ bytes a. if_told (r.held_second q.counts) (IsHedgeAsDrawn hedges.ShowsHedge bytes q.x q.y text)
-      (evaluated_on bytes q.x q.y text a.graph a.holds a.answer)) names h;
+      (λ bytes. IfSome (r.held_second q.counts) (λ other. IsUnevaluatedAsDrawn q.way bytes q.x q.y text))
+      (λ bytes a. if_told (r.held_second q.counts) (IsUnevaluatedAsDrawn q.way bytes q.x q.y text)
+      (evaluated_on q.way bytes q.x q.y text a.graph a.holds a.answer)) names h;
   whole = whole;
 }
 evaluated r uses text whole (on_both q is file second names names_second h) = record {
@@ -158,7 +213,7 @@ evaluated r uses text whole (on_both q is file second names names_second h) = re
   text = text;
   asks = is;
   right = under_names r.held r.held_second q.file file q.counts second (λ bytes other. DefinedWith commands (of Evaluate q) bytes other No text)
-      (λ bytes other. IsHedgeAsDrawn hedges.ShowsHedge bytes q.x q.y text) (λ bytes other d. absurd d.3.2) names names_second h;
+      (λ bytes other. IsUnevaluatedAsDrawn q.way bytes q.x q.y text) (λ bytes other d. absurd d.3.2) names names_second h;
   whole = whole;
 }
 
@@ -283,49 +338,6 @@ ruled : (r : Call) (uses : List Use) (text : List ℕ) → Appends r.before r.af
     → WrittenFor rule_requests.IsRequest (λ q. q.file) IsFailureAsDrawn r uses
 ruled r uses text = written_for r Rule uses No text (λ q. q.file) IsFailureAsDrawn (λ q h. h) (λ q. refl) (λ q. refl)
     (λ q is bytes a. ruled_on q bytes text a.graph a.holds a.answer)
-
--- ---- adjust
-
--- a set whose formula is the effect in the diagram as drawn is admissible
-admissible_as_drawn : (g : ReadGraph) (q : MixedGraph) → IsObservedGraph g q → (x y z : ℕ) → AreThreeSets q.vertices (has x) (has y) (has z)
-    → EqualsAsDrawn (graph_of g.graph) (has g.latent.bits) (effect_on x y) (adjustment_formula x y z) → IsAdmissible q (has x) (has y) (has z)
-admissible_as_drawn g q observed x y z sets right =
-    let ok = observed_is_mixed g q observed in
-    let breaks = λ (d : Exceeds q (has x) (has y) (has z)).
-    let u = formula_failure_is_drawn (graph_of g.graph) g.graph.valid (has g.latent.bits) q observed (effect_on x y) (adjustment_formula x y z)
-    (exceeds_fails q ok x y z d) in
-    u.unequal (right u.model u.fits u.positive u.at u.within) in
-    record {
-      clear = λ v inside f. breaks (forbidden_exceeds q ok (has x) (has y) (has z) sets v inside f);
-      blocked = λ v r p not_causal o. breaks (unblocked_exceeds q ok (has x) (has y) (has z) sets v r p not_causal o);
-    }
-
-refutes_adjustment : (g : ReadGraph) (q : MixedGraph) → IsObservedGraph g q → (query : Query) (x y z : ℕ) (text : List ℕ)
-    → SetsAnswer query q (observed_names g) x y z No text → RefutesAdjustment query g q x y z
-refutes_adjustment g q observed (by_set set) x y z text h =
-    formula_failure_is_drawn (graph_of g.graph) g.graph.valid (has g.latent.bits) q observed (effect_on x y) (adjustment_formula x y z) h.fails
-refutes_adjustment g q observed (by_back_door set) x y z text h = tt
-refutes_adjustment g q observed (listing most) x y z text h = λ w sets right. h.none (has w) sets (admissible_as_drawn g q observed x y w sets right)
-
-adjusted_on : (q : AdjustRequest) (bytes text : List ℕ) (g : ReadGraph) → HoldsGraph bytes g → AdjustAnswer g q.x q.y q.query No text
-    → IsNoAdjustmentAsDrawn q bytes text
-adjusted_on q bytes text g holds (p, observed, h) = record {
-  graph = g;
-  holds = holds;
-  seen = p;
-  observed = observed;
-  x = h.x;
-  y = h.y;
-  z = h.z;
-  sets = h.sets;
-  shows = h.answer;
-  refutes = refutes_adjustment g p observed q.query h.x h.y h.z text h.answer;
-}
-
-adjusted : (r : Call) (uses : List Use) (text : List ℕ) → Appends r.before r.after text → CallAnswer r Adjust uses No text
-    → WrittenFor adjust_requests.IsRequest (λ q. q.file) IsNoAdjustmentAsDrawn r uses
-adjusted r uses text = written_for r Adjust uses No text (λ q. q.file) IsNoAdjustmentAsDrawn (λ q h. h) (λ q. refl) (λ q. refl)
-    (λ q is bytes a. adjusted_on q bytes text a.graph a.holds a.answer)
 
 -- ---- a run
 

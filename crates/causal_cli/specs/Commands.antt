@@ -97,6 +97,6 @@ request_of (request.Surrogate q) = of command.Surrogate (of_surrogate.request_of
 -- what is left to answer
 abbrev pub left_of : SecondInput → Remainder
 left_of (input.Check g experiments certificate) = check_left g (masks_of experiments.items) certificate.now
-left_of (input.Evaluate found counts count exact) = evaluate_left (effect_view found) counts.now (option_map (λ s. s.now) count) exact
+left_of (input.Evaluate found counts count exact zero) = evaluate_left (effect_view found) counts.now (option_map (λ s. s.now) count) exact zero
 left_of (input.Equivalent g sets second) = equivalent_left g sets second.now
 left_of (input.Implications pairs counts count) = implications_left (pairs_view pairs) counts.now (option_map (λ s. s.now) count)

@@ -50,7 +50,7 @@ use Rattle.surrogate_command.specs.Requests as surrogate_requests
 use Rattle.surrogate_command.specs.Sets.{AreSurrogateSets}
 use Rattle.evaluate_command.specs.Answers.{QuantityAnswer}
 use Rattle.evaluate_command.specs.Cells.{CellValue}
-use Rattle.evaluate_command.specs.Effects.{PlainEffect, Identifies, used_in}
+use Rattle.evaluate_command.specs.Effects.{PlainEffect, target_of, Identifies, used_in}
 use Rattle.evaluate_command.specs.Requests.{evaluate_row}
 use Rattle.evaluate_command.specs.Requests as evaluate_requests
 use Rattle.separation_commands.specs.SeparateAnswers.{separation_lists, ShowsSeparation}
@@ -164,32 +164,34 @@ SurrogatedAsDrawn = WrittenFor surrogate_requests.IsRequest (λ q. q.file) IsSur
 
 -- ---- evaluate
 
--- The quantity covers P(y | do(x)) at the cell in the diagram as drawn: in every model of the graph that was read that is positive on the observed
+-- The quantity covers P(y | do(x), given) at the cell in the diagram as drawn: in every model of the graph that was read that is positive on the observed
 -- vertices and whose observed weights are those of the counts, up to one factor, at each assignment in which the observed vertices have the levels of
 -- the cell.
 abbrev pub CoversAsDrawn : (Pair → Fraction → Type 0) → ReadGraph → PlainEffect → Table → CellValue → Type 0
 CoversAsDrawn covers g e t v = (m : FiniteModel) → Fits (graph_of g.graph) m → IsObservedPositive (has g.latent.bits) m
     → IsMatchedAsDrawn (has g.latent.bits) (is_used t) (weights_in e.graph.vertices t) (total t.rows) m
     → (s : ℕ → ℕ) → IsAssignment m.vertices m.size s → ((k : ℕ) → k < e.graph.vertices → values_after (has g.latent.bits) m.vertices s k ≡ cell_of v.cell k)
-    → covers v.quantity (drawn_effect (has g.latent.bits) m (effect_on e.x e.y) s)
+    → covers v.quantity (drawn_effect (has g.latent.bits) m (target_of e) s)
 
 -- so does each value of the answer, in exact fractions or else in bounds
-abbrev pub EachCoversAsDrawn : (is_exact : Bool) (g : ReadGraph) (e : PlainEffect) (t : Table) (text : List ℕ) → QuantityAnswer is_exact e t Yes text → Type 0
-EachCoversAsDrawn true g e t text shows = All (CoversAsDrawn Equals g e t) shows.values.values
-EachCoversAsDrawn false g e t text shows = All (CoversAsDrawn Covers g e t) shows.values.values
+abbrev pub EachCoversAsDrawn : (is_exact zero : Bool) (g : ReadGraph) (e : PlainEffect) (t : Table) (text : List ℕ) → QuantityAnswer is_exact zero e t Yes text
+    → Type 0
+EachCoversAsDrawn true zero g e t text shows = All (CoversAsDrawn Equals g e t) shows.values.values
+EachCoversAsDrawn false zero g e t text shows = All (CoversAsDrawn Covers g e t) shows.values.values
 
--- the bytes hold a graph, the lists name an effect that has a formula, which equals it in the diagram as drawn, the other bytes hold a table of its
+-- the bytes hold a graph, the lists name an effect that has a formula, found in the way that is asked for, which equals it in the diagram as drawn,
+-- the other bytes hold a table of its
 -- counts, and the values of the answer over it are so
 pub record IsEvaluationAsDrawn (q : evaluate_requests.Request) (bytes other text : List ℕ) : Type 0 where
   pub graph : ReadGraph
   pub holds : HoldsGraph bytes graph
   pub effect : PlainEffect
-  pub identifies : Identifies graph q.x q.y effect
-  pub formula : IsRightAsDrawn graph (effect_on effect.x effect.y) effect.formula
+  pub identifies : Identifies q.way graph q.x q.y effect
+  pub formula : IsRightAsDrawn graph (target_of effect) effect.formula
   pub counted : Table
   pub read : counts.HoldsCounts effect.names (used_in effect) q.count other counted
-  pub shows : QuantityAnswer q.exact effect counted Yes text
-  pub right : EachCoversAsDrawn q.exact graph effect counted text shows
+  pub shows : QuantityAnswer q.exact q.zero effect counted Yes text
+  pub right : EachCoversAsDrawn q.exact q.zero graph effect counted text shows
 
 -- such a text was written for the bytes of the file and of the counts that these uses ask for
 abbrev pub EvaluatedAsDrawn : Call → List Use → Type 0

@@ -20,12 +20,14 @@ use Rattle.replies.specs.Observed.{Names, HoldsGraph, IsObservedGraph, observed_
 use Rattle.effect_answers.specs.Effects.{effect_lists, IsOfSets}
 use Rattle.effect_answers.specs.Hedges as hedges
 use Rattle.identify_command.specs.declared.form.Form.{Form}
+use Rattle.identify_command.specs.declared.form.Form.TheVariants.{Plain}
 use Rattle.identify_command.specs.Answers.{ShowsHedge}
 use Rattle.identify_command.specs.Conditions.{target_lists, AreTargetSets, ShowsJoint}
 use Rattle.identify_command.specs.Requests.{IsRequest, identify_row}
 use Rattle.check_command.specs.Answers.{HoldsCertificate, CheckAnswer, AreExperimentsOn}
 use Rattle.check_command.specs.Requests.{check_row}
 use Rattle.check_command.specs.Requests as check_requests
+use Rattle.evaluate_command.specs.Ways.{Way, by_procedure, by_adjusting, by_condition, criterion_query}
 use Rattle.evaluate_command.specs.Requests.{evaluate_row}
 use Rattle.evaluate_command.specs.Requests as evaluate_requests
 use Rattle.experiment_lists.specs.Words.{Lists}
@@ -62,6 +64,35 @@ HasNoFormulaAsDrawn g t = (f : PlainFormula) → is_do_free f ≡ true → Equal
 abbrev pub IsNotIdentifiableOver : ReadGraph → List ℕ → PlainTarget → Type 0
 IsNotIdentifiableOver g zs t = NotIdentifiableOverAsDrawn (graph_of g.graph) (has g.latent.bits) zs t
 
+-- ---- adjust
+
+-- What is said of models, by the query. By the adjustment criterion: the adjustment formula of z isn't the effect of x on y in some model of the
+-- diagram as drawn.
+-- Where sets are listed: that of no set is it in all of them. By the back-door criterion nothing is: the formula may be right for other reasons.
+abbrev pub RefutesAdjustment : Query → ReadGraph → (seen : MixedGraph) → (x y z : ℕ) → Type 0
+RefutesAdjustment (by_set set) g q x y z = FailsSomewhereAsDrawn (graph_of g.graph) (has g.latent.bits) (effect_on x y) (adjustment_formula x y z)
+RefutesAdjustment (by_back_door set) g q x y z = Unit {0}
+RefutesAdjustment (listing most) g q x y z = (w : ℕ) → AreThreeSets q.vertices (has x) (has y) (has w)
+    → EqualsAsDrawn (graph_of g.graph) (has g.latent.bits) (effect_on x y) (adjustment_formula x y w) → ⊥
+
+-- the bytes hold a graph, the lists name these sets, the text is the answer to the query that nothing may be adjusted for, or not z, and this is said of
+-- models
+pub record IsNoAdjustmentFor (x y : Names) (query : Query) (bytes text : List ℕ) : Type 0 where
+  pub graph : ReadGraph
+  pub holds : HoldsGraph bytes graph
+  pub seen : MixedGraph
+  pub observed : IsObservedGraph graph seen
+  pub xs : ℕ
+  pub ys : ℕ
+  pub z : ℕ
+  pub sets : AreSets (adjust_lists graph x y query) xs ys z
+  pub shows : SetsAnswer query seen (observed_names graph) xs ys z No text
+  pub refutes : RefutesAdjustment query graph seen xs ys z
+
+-- so it is for the query that is asked
+abbrev pub IsNoAdjustmentAsDrawn : adjust_requests.Request → (bytes text : List ℕ) → Type 0
+IsNoAdjustmentAsDrawn q bytes text = IsNoAdjustmentFor q.x q.y q.query bytes text
+
 -- ---- identify and evaluate
 
 -- the bytes hold a graph, the lists name two sets, and the text shows, in the words of its command, a hedge for an effect that isn't identifiable in
@@ -93,10 +124,16 @@ IsUnidentifiedAsDrawn form bytes x y None text = IsHedgeAsDrawn (ShowsHedge form
 IsUnidentifiedAsDrawn form bytes x y (Some []) text = IsHedgeAsDrawn (ShowsHedge form) bytes x y text
 IsUnidentifiedAsDrawn form bytes x y (Some (n ∷ ns)) text = IsJointAsDrawn form bytes x y (n ∷ ns) text
 
+-- what is shown in place of values, by the way in which a formula is looked for: where a set is to be adjusted for, what `adjust` shows of it
+abbrev pub IsUnevaluatedAsDrawn : Way → (bytes : List ℕ) → (x y : Names) → (text : List ℕ) → Type 0
+IsUnevaluatedAsDrawn by_procedure bytes x y text = IsHedgeAsDrawn hedges.ShowsHedge bytes x y text
+IsUnevaluatedAsDrawn (by_adjusting back_door set) bytes x y text = IsNoAdjustmentFor x y (criterion_query back_door set) bytes text
+IsUnevaluatedAsDrawn (by_condition given) bytes x y text = IsJointAsDrawn Plain bytes x y given text
+
 -- such a text was written for the bytes of the file that these uses ask for, where they and those of the counts are told
 abbrev pub UnevaluatedAsDrawn : Call → List Use → Type 0
 UnevaluatedAsDrawn = WrittenForBoth evaluate_requests.IsRequest (λ q. q.file) (λ q. q.counts)
-    (λ q bytes other text. IsHedgeAsDrawn hedges.ShowsHedge bytes q.x q.y text)
+    (λ q bytes other text. IsUnevaluatedAsDrawn q.way bytes q.x q.y text)
 
 -- ---- check
 
@@ -162,30 +199,6 @@ pub record IsFailureAsDrawn (q : rule_requests.Request) (bytes text : List ℕ) 
   pub shows : rules.ShowsOpenPath q.rule seen (observed_names graph) y doing z given text
   pub fails : DifferSomewhereAsDrawn (graph_of graph.graph) (has graph.latent.bits) (left_of q.rule (has doing) (has y) (has z) (has given))
       (right_of q.rule (has doing) (has y) (has z) (has given))
-
--- ---- adjust
-
--- What is said of models, by the query. By the adjustment criterion: the adjustment formula of z isn't the effect of x on y in some model of the
--- diagram as drawn.
--- Where sets are listed: that of no set is it in all of them. By the back-door criterion nothing is: the formula may be right for other reasons.
-abbrev pub RefutesAdjustment : Query → ReadGraph → (seen : MixedGraph) → (x y z : ℕ) → Type 0
-RefutesAdjustment (by_set set) g q x y z = FailsSomewhereAsDrawn (graph_of g.graph) (has g.latent.bits) (effect_on x y) (adjustment_formula x y z)
-RefutesAdjustment (by_back_door set) g q x y z = Unit {0}
-RefutesAdjustment (listing most) g q x y z = (w : ℕ) → AreThreeSets q.vertices (has x) (has y) (has w)
-    → EqualsAsDrawn (graph_of g.graph) (has g.latent.bits) (effect_on x y) (adjustment_formula x y w) → ⊥
-
--- the bytes hold a graph, the lists name these sets, the text is the answer to the query that nothing may be adjusted for, or not z, and this is said of models
-pub record IsNoAdjustmentAsDrawn (q : adjust_requests.Request) (bytes text : List ℕ) : Type 0 where
-  pub graph : ReadGraph
-  pub holds : HoldsGraph bytes graph
-  pub seen : MixedGraph
-  pub observed : IsObservedGraph graph seen
-  pub x : ℕ
-  pub y : ℕ
-  pub z : ℕ
-  pub sets : AreSets (adjust_lists graph q.x q.y q.query) x y z
-  pub shows : SetsAnswer q.query seen (observed_names graph) x y z No text
-  pub refutes : RefutesAdjustment q.query graph seen x y z
 
 -- ---- a run
 

@@ -206,7 +206,7 @@ fn evaluate_over<'a>(
 ) -> Result<AfterFile<SecondInput<'a>>, AllocError>
     ensures { IfOk result (GivesOn left_of commands (request_of (Request.Evaluate asked.entry)) graph.now) }
 {
-    match identify_first(alloc, graph, asked.x, asked.y)? {
+    match identify_first(alloc, graph, asked.x, asked.y, asked.way)? {
         evaluate_command::EffectOrReply::Replied(reply) => Ok(AfterFile::Replied(reply)),
         evaluate_command::EffectOrReply::Identified(found) => Ok(AfterFile::Continues(
             SecondInput::Evaluate {
@@ -214,6 +214,7 @@ fn evaluate_over<'a>(
                 counts: asked.counts,
                 count: asked.count,
                 exact: asked.exact,
+                zero: asked.zero,
             },
         )),
     }

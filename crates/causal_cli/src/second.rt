@@ -22,12 +22,13 @@ pub enum SecondInput<'a> {
         experiments: Vec<VSet>,
         certificate: &'a str,
     },
-    /// The values of an effect over counts, whose column may have a name, in exact fractions or in bounds.
+    /// The values of an effect over counts, whose column may have a name, in exact fractions or in bounds, and by which rule for products.
     Evaluate {
         found: Identified,
         counts: &'a str,
         count: Option<&'a [u8]>,
         exact: bool,
+        zero: bool,
     },
     /// Whether a second graph is equivalent, and what both say of sets that are asked about.
     Equivalent {
@@ -75,8 +76,9 @@ impl<'a> command_run::SecondInput for SecondInput<'a> {
                 found,
                 count,
                 exact,
+                zero,
                 ..
-            } => evaluate_reply(alloc, found, *count, *exact, other),
+            } => evaluate_reply(alloc, found, *count, *exact, *zero, other),
             SecondInput::Equivalent { graph, sets, .. } => equivalent_reply(
                 alloc, graph, *sets, other,
             ),

@@ -18,7 +18,8 @@ use Rattle.quantity.specs.declared.fault.QuantityFault.TheVariants.{ZeroBelow}
 use Rattle.quantity.specs.Kinds.{Pair, Kind}
 use Rattle.count_eval.specs.Stops.{Stop, stop, after, placed}
 use Rattle.count_eval.specs.Steps.{joined, one_more, each_level, each_cell, whole}
-use Rattle.count_eval.specs.Evaluated.{node_behind, evaluated, factors_evaluated, evaluated_from}
+use Rattle.count_eval.specs.Rules.{Rule, is_zero, or_zero}
+use Rattle.count_eval.specs.Evaluated.{node_behind, evaluated, factors_evaluated, some_zero, evaluated_from}
 use Rattle.count_eval.specs.Programs.{known}
 use Rattle.count_eval.specs.Laws.{IsUsed, AreUsed, AllUsed}
 
@@ -111,25 +112,42 @@ kept_by : (p u : Bool) → p ≡ true → (u ≡ true → ⊥) → (p && not u) 
 kept_by p true e no_u = absurd (no_u refl)
 kept_by p false e no_u = ap (λ b. b && true) e
 
-module _ (k : Kind) (w : Weights) (used : ℕ → Bool) (low : (v : ℕ) → used v ≡ true → v < w.vertices)
+-- whether an outcome is 0 hangs on its value alone
+same_zero : (kind : Kind) (r r' : Result Pair Stop) → found r ≡ found r' → is_zero kind r ≡ is_zero kind r'
+same_zero kind (Ok c) (Ok c') e = ap (λ x. is_zero kind (Ok x)) (some_same c c' e)
+same_zero kind (Ok c) (Err x) e = absurd (cc e)
+same_zero kind (Err x) (Ok c) e = absurd (cc e)
+same_zero kind (Err x) (Err y) e = refl
+
+found_or_zero : (k : Rule) (z z' : Bool) (r r' : Result Pair Stop) → z ≡ z' → found r ≡ found r' → found (or_zero k z r) ≡ found (or_zero k z' r')
+found_or_zero k z z' (Ok c) (Ok c') same e = e
+found_or_zero k z z' (Ok c) (Err x) same e = absurd (cc e)
+found_or_zero k z z' (Err x) (Ok c) same e = absurd (cc e)
+found_or_zero k z z' (Err x) (Err y) same e = go (k.zero && z) ∙ ap (λ b. found (cond (k.zero && b) (Ok (k.kind.from_ratio 0 1)) (Err y))) same
+  where
+    go : (b : Bool) → found (cond b (Ok (k.kind.from_ratio 0 1)) (Err x)) ≡ found (cond b (Ok (k.kind.from_ratio 0 1)) (Err y))
+    go true = refl
+    go false = refl
+
+module _ (k : Rule) (w : Weights) (used : ℕ → Bool) (low : (v : ℕ) → used v ≡ true → v < w.vertices)
     (local : (b a : ℕ → Bool) (s t : ℕ → ℕ) → Agree a s t → w.weight b a s ≡ w.weight b a t) where
   -- each definition's value reads the used members of its set alone
   abbrev AreRead : (ℕ → (ℕ → ℕ) → Result Pair Stop) → List ℕ → Type 0
   AreRead q sets = (j : ℕ) (s t : ℕ → ℕ) → AgreeWithin used (get_or sets j 0) s t → found (q j s) ≡ found (q j t)
 
   term_same : (d : Option ℕ) (i : ℕ) (s t : ℕ → ℕ) (n n' p p' : ℕ) → n ≡ n' → p ≡ p'
-      → found (cond (eqb n 0) (Err (stop ZeroBelow d i s)) (Ok (k.from_ratio p n)))
-      ≡ found (cond (eqb n' 0) (Err (stop ZeroBelow d i t)) (Ok (k.from_ratio p' n')))
-  term_same d i s t n n' p p' en ep = go (eqb n 0) ∙ ap₂ (λ m r. found (cond (eqb m 0) (Err (stop ZeroBelow d i t)) (Ok (k.from_ratio r m)))) en ep
+      → found (cond (eqb n 0) (Err (stop ZeroBelow d i s)) (Ok (k.kind.from_ratio p n)))
+      ≡ found (cond (eqb n' 0) (Err (stop ZeroBelow d i t)) (Ok (k.kind.from_ratio p' n')))
+  term_same d i s t n n' p p' en ep = go (eqb n 0) ∙ ap₂ (λ m r. found (cond (eqb m 0) (Err (stop ZeroBelow d i t)) (Ok (k.kind.from_ratio r m)))) en ep
     where
-      go : (b : Bool) → found (cond b (Err (stop ZeroBelow d i s)) (Ok (k.from_ratio p n)))
-          ≡ found (cond b (Err (stop ZeroBelow d i t)) (Ok (k.from_ratio p n)))
+      go : (b : Bool) → found (cond b (Err (stop ZeroBelow d i s)) (Ok (k.kind.from_ratio p n)))
+          ≡ found (cond b (Err (stop ZeroBelow d i t)) (Ok (k.kind.from_ratio p n)))
       go true = refl
       go false = refl
 
   module _ (q : ℕ → (ℕ → ℕ) → Result Pair Stop) (sets : List ℕ) (definitions : AreRead q sets) where
     abbrev body_of : Option ℕ → ℕ → Tree → (ℕ → ℕ) → (ℕ → ℕ) → Option Pair → Result (Option Pair) Stop
-    body_of d i e s x = one_more k.add d i s (evaluated k w q d (next_node i) e x)
+    body_of d i e s x = one_more k.kind.add d i s (evaluated k w q d (next_node i) e x)
 
     mutual
       -- where two cells agree on its used free vertices, an expression has one value, or none
@@ -148,33 +166,46 @@ module _ (k : Kind) (w : Weights) (used : ℕ → Bool) (low : (v : ℕ) → use
           h x (has_minus (free_in sets e) u x ∙ kept_by (has (free_in sets e) x) (has u x) parts.0 (λ m. let lt = ux m in absurd (omega (arith, lt)))) parts.1
           in
           found_after (each_cell (has u) w.size w.vertices 0 (body_of d i e s) s None) (each_cell (has u) w.size w.vertices 0 (body_of d i e t) t None)
-          (whole (k.from_ratio 0 1)) (whole (k.from_ratio 0 1))
+          (whole (k.kind.from_ratio 0 1)) (whole (k.kind.from_ratio 0 1))
           (cells_same (has u) w.size (used_of used (free_in sets e)) (body_of d i e s) (body_of d i e t)
-          (λ x y ag o. found_after (evaluated k w q d (next_node i) e x) (evaluated k w q d (next_node i) e y) (joined k.add d i s o) (joined k.add d i t o)
-          (one_value e asked.1 d (next_node i) x y (λ v f g. ag v (ap (λ b. b && used v) f ∙ g))) (λ c. found_joined k.add d i s t o c))
+          (λ x y ag o. found_after (evaluated k w q d (next_node i) e x) (evaluated k w q d (next_node i) e y) (joined k.kind.add d i s o)
+          (joined k.kind.add d i t o)
+          (one_value e asked.1 d (next_node i) x y (λ v f g. ag v (ap (λ b. b && used v) f ∙ g))) (λ c. found_joined k.kind.add d i s t o c))
           w.vertices 0 s t at_first (λ x m. let lt = low x (asked.0 x m) in omega (arith, lt)) None)
           (λ o. refl)
-      one_value (product ts) asked d i s t h =
-          found_after (factors_evaluated k w q d i (next_node i) ts s None) (factors_evaluated k w q d i (next_node i) ts t None) (whole (k.from_ratio 1 1))
-          (whole (k.from_ratio 1 1)) (one_product ts asked d i (next_node i) s t h None) (λ o. refl)
+      one_value (product ts) asked d i s t h = found_or_zero k (some_zero k w q d (next_node i) ts s) (some_zero k w q d (next_node i) ts t)
+          (after (factors_evaluated k w q d i (next_node i) ts s None) (whole (k.kind.from_ratio 1 1)))
+          (after (factors_evaluated k w q d i (next_node i) ts t None) (whole (k.kind.from_ratio 1 1)))
+          (one_zero ts asked d (next_node i) s t h)
+          (found_after (factors_evaluated k w q d i (next_node i) ts s None) (factors_evaluated k w q d i (next_node i) ts t None)
+          (whole (k.kind.from_ratio 1 1)) (whole (k.kind.from_ratio 1 1)) (one_product ts asked d i (next_node i) s t h None) (λ o. refl))
       one_value (quotient x y) asked d i s t h =
           let n = next_node i in let m = node_behind x n in
-          found_after (evaluated k w q d n x s) (evaluated k w q d n x t) (λ a. after (evaluated k w q d m y s) (λ b. placed d i s (k.div a b)))
-          (λ a. after (evaluated k w q d m y t) (λ b. placed d i t (k.div a b)))
+          found_after (evaluated k w q d n x s) (evaluated k w q d n x t) (λ a. after (evaluated k w q d m y s) (λ b. placed d i s (k.kind.div a b)))
+          (λ a. after (evaluated k w q d m y t) (λ b. placed d i t (k.kind.div a b)))
           (one_value x asked.0 d n s t (first used (free_in sets x) (free_in sets y) s t h))
-          (λ a. found_after (evaluated k w q d m y s) (evaluated k w q d m y t) (λ b. placed d i s (k.div a b)) (λ b. placed d i t (k.div a b))
-          (one_value y asked.1 d m s t (second used (free_in sets x) (free_in sets y) s t h)) (λ b. found_placed d i s t (k.div a b)))
+          (λ a. found_after (evaluated k w q d m y s) (evaluated k w q d m y t) (λ b. placed d i s (k.kind.div a b)) (λ b. placed d i t (k.kind.div a b))
+          (one_value y asked.1 d m s t (second used (free_in sets x) (free_in sets y) s t h)) (λ b. found_placed d i s t (k.kind.div a b)))
       one_value (named j) asked d i s t h = definitions j s t h
 
       one_product : (ts : Trees) → AreUsed used ts → (d : Option ℕ) (i j : ℕ) (s t : ℕ → ℕ) → AgreeWithin used (free_in_any sets ts) s t → (o : Option Pair)
           → found (factors_evaluated k w q d i j ts s o) ≡ found (factors_evaluated k w q d i j ts t o)
       one_product no_trees asked d i j s t h o = refl
       one_product (tree e ts) asked d i j s t h o =
-          found_after (one_more k.mul d i s (evaluated k w q d j e s) o) (one_more k.mul d i t (evaluated k w q d j e t) o)
+          found_after (one_more k.kind.mul d i s (evaluated k w q d j e s) o) (one_more k.kind.mul d i t (evaluated k w q d j e t) o)
           (factors_evaluated k w q d i (node_behind e j) ts s) (factors_evaluated k w q d i (node_behind e j) ts t)
-          (found_after (evaluated k w q d j e s) (evaluated k w q d j e t) (joined k.mul d i s o) (joined k.mul d i t o)
-          (one_value e asked.0 d j s t (first used (free_in sets e) (free_in_any sets ts) s t h)) (λ c. found_joined k.mul d i s t o c))
+          (found_after (evaluated k w q d j e s) (evaluated k w q d j e t) (joined k.kind.mul d i s o) (joined k.kind.mul d i t o)
+          (one_value e asked.0 d j s t (first used (free_in sets e) (free_in_any sets ts) s t h)) (λ c. found_joined k.kind.mul d i s t o c))
           (λ o'. one_product ts asked.1 d i (node_behind e j) s t (second used (free_in sets e) (free_in_any sets ts) s t h) o')
+
+      one_zero : (ts : Trees) → AreUsed used ts → (d : Option ℕ) (j : ℕ) (s t : ℕ → ℕ) → AgreeWithin used (free_in_any sets ts) s t → some_zero k w q d j ts s
+          ≡ some_zero k w q d j ts t
+      one_zero no_trees asked d j s t h = refl
+      one_zero (tree e ts) asked d j s t h =
+          ap₂ (λ a b. a || b)
+          (same_zero k.kind (evaluated k w q d j e s) (evaluated k w q d j e t)
+          (one_value e asked.0 d j s t (first used (free_in sets e) (free_in_any sets ts) s t h)))
+          (one_zero ts asked.1 d (node_behind e j) s t (second used (free_in sets e) (free_in_any sets ts) s t h))
 
   get_other : (sets : List ℕ) (x j : ℕ) → (j ≡ length sets → ⊥) → get_or (sets ++ x ∷ []) j 0 ≡ get_or sets j 0
   get_other sets x j ne = elim (cases_lt j (length sets)) [
@@ -204,7 +235,7 @@ module _ (k : Kind) (w : Weights) (used : ℕ → Bool) (low : (v : ℕ) → use
   pub known_reads : (ds : List Tree) → AllUsed used ds → (j : ℕ) (s t : ℕ → ℕ) → AgreeWithin used (get_or (free_in_defs [] ds) j 0) s t
       → found (known k w ds (length ds) j s) ≡ found (known k w ds (length ds) j t)
   known_reads ds asked j s t h =
-      let q : ℕ → (ℕ → ℕ) → Result Pair Stop = λ j t. Ok (k.from_ratio 1 1) in
+      let q : ℕ → (ℕ → ℕ) → Result Pair Stop = λ j t. Ok (k.kind.from_ratio 1 1) in
       let all : take (length ds) ds ≡ ds = take-length ds in
       ap (λ (l : List Tree). found (evaluated_from k w q 0 l j s)) all ∙ definitions_read ds 0 q [] refl asked (λ j s t h. refl) j s t h
       ∙ sym (ap (λ (l : List Tree). found (evaluated_from k w q 0 l j t)) all)

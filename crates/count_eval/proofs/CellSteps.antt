@@ -1,38 +1,68 @@
 -- Steps of the evaluator, over plain variables.
-use Rattle.std.proofs.Common.{ℕ, zero, suc, ◌+◌, ◌-◌, ◌≡◌, ◌<◌, ◌≤◌, Bool, true, false, cond, eqb, eq-eqb, refl, sym, ap, ap₂, ◌∙◌, subst, arith}
+use Rattle.std.proofs.Common.{ℕ, zero, suc, ◌+◌, ◌-◌, ◌≡◌, ◌<◌, ◌≤◌, Bool, true, false, cond, ◌||◌, eqb, eq-eqb, refl, sym, ap, ap₂, ◌∙◌, subst, arith}
 use Rattle.std.proofs.Common.{Option, None, Result, Ok, Err, List, length, get_or, set, replicate, get_or-set_same, get_or-set_other, eqb-true}
 use mathlib.Core.Path.{fun_ext}
 use Rattle.finite_models.specs.Sums.{set_at}
 use Rattle.mixed_graph.specs.Bits.{has}
 use Rattle.mixed_graph.specs.declared.sets.VSet.{VSet}
-use Rattle.prob_expr.specs.Tree.{Tree, sum, quotient}
+use Rattle.prob_expr.specs.Tree.{Tree, sum, product, quotient, Trees, no_trees, tree}
 use Rattle.prob_expr.specs.Values.{Weights}
 use Rattle.prob_expr.specs.Check.{next_node}
-use Rattle.quantity.specs.Kinds.{Pair, Kind}
+use Rattle.quantity.specs.Kinds.{Pair}
+use Rattle.count_eval.specs.Rules.{Rule, is_zero, or_zero}
 use Rattle.count_eval.specs.declared.eval.Summing.{Summing}
 use Rattle.count_eval.specs.declared.spot.Spot.{Spot}
 use Rattle.count_eval.specs.Stops.{Stop, after, placed}
-use Rattle.count_eval.specs.Steps.{each_level, each_cell, whole}
+use Rattle.count_eval.specs.Steps.{one_more, each_level, each_cell, whole}
 use Rattle.count_eval.specs.Evaluated.{node_behind}
 use Rattle.count_eval.specs.Programs.{cell_of}
-use Rattle.count_eval.specs.Spots.{value_at, cell_added, cells_from}
+use Rattle.count_eval.specs.Spots.{value_at, cell_added, cells_from, factors_from, zero_from}
 
-module _ (k : Kind) (w : Weights) (ds : List Tree) (at : Spot) where
+module _ (k : Rule) (w : Weights) (ds : List Tree) (at : Spot) where
   -- the value of a sum, by its body at all cells
-  pub sum_is : (over : VSet) (e : Tree) → after (cells_from k w ds (record { at = at; over = over }) e 0 at.cell None) (whole (k.from_ratio 0 1))
+  pub sum_is : (over : VSet) (e : Tree) → after (cells_from k w ds (record { at = at; over = over }) e 0 at.cell None) (whole (k.kind.from_ratio 0 1))
       ≡ value_at k w ds at (sum over.bits e)
   sum_is over e =
-      ap (λ n. after (each_cell (has over.bits) w.size n 0 (cell_added k w ds at e) (cell_of at.cell) None) (whole (k.from_ratio 0 1)))
+      ap (λ n. after (each_cell (has over.bits) w.size n 0 (cell_added k w ds at e) (cell_of at.cell) None) (whole (k.kind.from_ratio 0 1)))
       (let r : w.vertices - 0 ≡ w.vertices = omega arith in r)
 
   -- the value of a quotient, by those of its parts
   pub quotient_is : (x y : Tree) (a b : Pair) (first second : ℕ) → first ≡ next_node at.node → second ≡ node_behind x first
       → Ok a ≡ value_at k w ds (record at { node = first }) x → Ok b ≡ value_at k w ds (record at { node = second }) y
-      → placed at.def at.node (cell_of at.cell) (k.div a b) ≡ value_at k w ds at (quotient x y)
+      → placed at.def at.node (cell_of at.cell) (k.kind.div a b) ≡ value_at k w ds at (quotient x y)
   quotient_is x y a b first second ef es ea eb =
-      ap₂ (λ u v. after u (λ a'. after v (λ b'. placed at.def at.node (cell_of at.cell) (k.div a' b'))))
+      ap₂ (λ u v. after u (λ a'. after v (λ b'. placed at.def at.node (cell_of at.cell) (k.kind.div a' b'))))
       (ea ∙ ap (λ i. value_at k w ds (record at { node = i }) x) ef)
       (eb ∙ ap (λ i. value_at k w ds (record at { node = i }) y) (es ∙ ap (node_behind x) ef))
+
+  -- one factor more
+  pub factor_more : (next : ℕ) (e : Tree) (rest : Trees) (so_far : Result (Option Pair) Stop)
+      → after (after so_far (one_more k.kind.mul at.def at.node (cell_of at.cell) (value_at k w ds (record at { node = next }) e)))
+      (factors_from k w ds at (node_behind e next) rest) ≡ after so_far (factors_from k w ds at next (tree e rest))
+  factor_more next e rest (Ok o) = refl
+  factor_more next e rest (Err s) = refl
+
+  pub zero_more : (next : ℕ) (e : Tree) (rest : Trees) (some : Bool)
+      → ((some || is_zero k.kind (value_at k w ds (record at { node = next }) e)) || zero_from k w ds at (node_behind e next) rest)
+      ≡ (some || zero_from k w ds at next (tree e rest))
+  zero_more next e rest true = refl
+  zero_more next e rest false = refl
+
+  -- the value of a product, when no factor is left
+  pub product_is : (ts : Trees) (next : ℕ) (some : Bool) (so_far : Result (Option Pair) Stop)
+      → after so_far (factors_from k w ds at next no_trees) ≡ factors_from k w ds at (next_node at.node) ts None
+      → (some || zero_from k w ds at next no_trees) ≡ zero_from k w ds at (next_node at.node) ts
+      → or_zero k some (after so_far (whole (k.kind.from_ratio 1 1))) ≡ value_at k w ds at (product ts)
+  product_is ts next some so_far value zeros =
+      ap₂ (λ z x. or_zero k z (after x (whole (k.kind.from_ratio 1 1)))) (sym (or_none some) ∙ zeros) (all_done so_far ∙ value)
+    where
+      or_none : (b : Bool) → (b || false) ≡ b
+      or_none true = refl
+      or_none false = refl
+
+      all_done : (x : Result (Option Pair) Stop) → x ≡ after x (factors_from k w ds at next no_trees)
+      all_done (Ok o) = refl
+      all_done (Err s) = refl
 
 module _ (U : ℕ → Bool) (size : ℕ → ℕ) (f : (ℕ → ℕ) → Option Pair → Result (Option Pair) Stop) (n m v : ℕ) (s : ℕ → ℕ) (o : Option Pair) (en : n ≡ suc m) where
   abbrev next_free : Bool → Result (Option Pair) Stop
@@ -74,7 +104,7 @@ cell_of-set cell v x lt = fun_ext (λ j. go j (eqb j v) refl)
     go j true e = ap (λ m. get_or (set cell v x) m 0) (eqb-true j v e) ∙ get_or-set_same cell v x 0 lt
     go j false e = get_or-set_other cell v j x 0 (differ j e)
 
-module _ (k : Kind) (w : Weights) (ds : List Tree) (summing : Summing) (e : Tree) (v : ℕ) (cell : List ℕ) where
+module _ (k : Rule) (w : Weights) (ds : List Tree) (summing : Summing) (e : Tree) (v : ℕ) (cell : List ℕ) where
   -- the cells at a level of the vertex v
   abbrev pub level_at : ℕ → Option Pair → Result (Option Pair) Stop
   level_at x so_far = cells_from k w ds summing e (v + 1) (set cell v x) so_far

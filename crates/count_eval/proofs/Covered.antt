@@ -13,10 +13,16 @@ use Rattle.quantity.specs.declared.fault.QuantityFault.TheVariants.{ZeroBelow}
 use Rattle.quantity.specs.Kinds.{Pair, Kind}
 use Rattle.quantity.specs.Lawful.{IsLawful}
 use Rattle.count_eval.specs.Stops.{Stop, stop, after, placed}
+use Rattle.count_eval.specs.Rules.{plain, or_zero}
 use Rattle.count_eval.specs.Steps.{joined, one_more, each_level, each_cell, whole}
 use Rattle.count_eval.specs.Supported.{all_over, has_value, have_values, supported_from}
-use Rattle.count_eval.specs.Evaluated.{node_behind, evaluated, factors_evaluated, evaluated_from, formula_value}
+use Rattle.count_eval.specs.Evaluated.{node_behind, evaluated, factors_evaluated, some_zero, evaluated_from, formula_value}
 use Rattle.count_eval.proofs.Orders
+
+-- by the first rule no product is 0 in place of a stop
+pub never_zero : (kind : Kind) (z : Bool) (r : Result Pair Stop) → or_zero (plain kind) z r ≡ r
+never_zero kind z (Ok c) = refl
+never_zero kind z (Err e) = refl
 
 -- ---- the two orders of a sum
 plus_comm : (f g : Fraction) → add f g ≡ add g f
@@ -261,7 +267,7 @@ module _ (kind : Kind) (covers : Pair → Fraction → Type 0) (law : IsLawful k
   module _ (w : Weights) (qv : ℕ → (ℕ → ℕ) → Fraction) (h : ℕ → (ℕ → ℕ) → Bool) (q : ℕ → (ℕ → ℕ) → Result Pair Stop)
       (each_named : (j : ℕ) (t : ℕ → ℕ) → Good covers (h j t) (qv j t) (q j t)) where
     mutual
-      expr_good : (e : Tree) (d : Option ℕ) (i : ℕ) (s : ℕ → ℕ) → Good covers (has_value w qv h e s) (value w qv e s) (evaluated kind w q d i e s)
+      pub expr_good : (e : Tree) (d : Option ℕ) (i : ℕ) (s : ℕ → ℕ) → Good covers (has_value w qv h e s) (value w qv e s) (evaluated (plain kind) w q d i e s)
       expr_good (prob a b c) d i s =
           not_zero (w.weight (has b) (λ v. has a v || has c v) s) (w.weight (has b) (has c) s) covers d i s
           (kind.from_ratio (w.weight (has b) (λ v. has a v || has c v) s) (w.weight (has b) (has c) s))
@@ -269,11 +275,11 @@ module _ (kind : Kind) (covers : Pair → Fraction → Type 0) (law : IsLawful k
       expr_good (sum u e) d i s =
           let F = value w qv e in
           let H = has_value w qv h e in
-          let g : (ℕ → ℕ) → Option Pair → Result (Option Pair) Stop = λ t. one_more kind.add d i s (evaluated kind w q d (next_node i) e t) in
+          let g : (ℕ → ℕ) → Option Pair → Result (Option Pair) Stop = λ t. one_more kind.add d i s (evaluated (plain kind) w q d (next_node i) e t) in
           let r = each_cell (has u) w.size w.vertices 0 g s None in
           let j = cell_good covers IsNone kind.add add (over 0 1) plus_assoc zero_unit first_term law.keeps.add law.add_never (has u) w.size w.vertices 0 F H g
           (λ t o f hold. one_more_good covers IsNone kind.add add (over 0 1) plus_assoc zero_unit first_term law.keeps.add law.add_never d i s (H t) (F t)
-          (evaluated kind w q d (next_node i) e t) (expr_good e d (next_node i) t) o f hold)
+          (evaluated (plain kind) w q d (next_node i) e t) (expr_good e d (next_node i) t) o f hold)
           s None (over 0 1) (refl, omega arith) in
           subst (λ x. Good covers x (add_over (has u) w.size w.vertices F s) (after r (whole (kind.from_ratio 0 1))))
           (Orders.up_down (λ x y. x && y) true and_comm and_assoc true_and (has u) w.size w.vertices H s ∙ down_all (has u) w.size w.vertices H s)
@@ -283,38 +289,41 @@ module _ (kind : Kind) (covers : Pair → Fraction → Type 0) (law : IsLawful k
           (whole_good covers IsNone kind.add add (over 0 1) plus_assoc zero_unit first_term law.keeps.add law.add_never (kind.from_ratio 0 1) empty_sum
           (Orders.up (λ x y. x && y) true (has u) w.size w.vertices 0 H s) (add (over 0 1) (Orders.up add (over 0 1) (has u) w.size w.vertices 0 F s)) r j))
       expr_good (product fs) d i s =
-          subst (λ x. Good covers (have_values w qv h fs s) x (after (factors_evaluated kind w q d i (next_node i) fs s None) (whole (kind.from_ratio 1 1))))
-          (times_one (product_value w qv fs s))
+          subst (λ r. Good covers (have_values w qv h fs s) (product_value w qv fs s) r)
+          (sym (never_zero kind (some_zero (plain kind) w q d (next_node i) fs s)
+          (after (factors_evaluated (plain kind) w q d i (next_node i) fs s None) (whole (kind.from_ratio 1 1)))))
+          (subst (λ x. Good covers (have_values w qv h fs s) x (after (factors_evaluated (plain kind) w q d i (next_node i) fs s None)
+          (whole (kind.from_ratio 1 1)))) (times_one (product_value w qv fs s))
           (whole_good covers IsOne kind.mul mul (over 1 1) times_assoc one_times first_factor law.keeps.mul law.mul_never (kind.from_ratio 1 1) empty_product
-          (have_values w qv h fs s) (mul (over 1 1) (product_value w qv fs s)) (factors_evaluated kind w q d i (next_node i) fs s None)
-          (factors_good fs d i (next_node i) s None (over 1 1) refl))
+          (have_values w qv h fs s) (mul (over 1 1) (product_value w qv fs s)) (factors_evaluated (plain kind) w q d i (next_node i) fs s None)
+          (factors_good fs d i (next_node i) s None (over 1 1) refl)))
       expr_good (quotient x y) d i s =
-          quotient_good d i s (has_value w qv h x s) (has_value w qv h y s) (value w qv x s) (value w qv y s) (evaluated kind w q d (next_node i) x s)
-          (evaluated kind w q d (node_behind x (next_node i)) y s)
+          quotient_good d i s (has_value w qv h x s) (has_value w qv h y s) (value w qv x s) (value w qv y s) (evaluated (plain kind) w q d (next_node i) x s)
+          (evaluated (plain kind) w q d (node_behind x (next_node i)) y s)
           (expr_good x d (next_node i) s) (expr_good y d (node_behind x (next_node i)) s)
       expr_good (named j) d i s = each_named j s
 
       factors_good : (fs : Trees) (d : Option ℕ) (i j : ℕ) (s : ℕ → ℕ) (o : Option Pair) (f : Fraction) → Holds covers IsOne o f
-          → Joins covers IsOne (have_values w qv h fs s) (mul f (product_value w qv fs s)) (factors_evaluated kind w q d i j fs s o)
+          → Joins covers IsOne (have_values w qv h fs s) (mul f (product_value w qv fs s)) (factors_evaluated (plain kind) w q d i j fs s o)
       factors_good no_trees d i j s o f hold =
           subst (λ x. Joins covers IsOne true x (Ok o)) (sym (one_times f))
           (here covers IsOne kind.mul mul (over 1 1) times_assoc one_times first_factor law.keeps.mul law.mul_never o f hold)
       factors_good (tree e fs) d i j s o f hold =
           combine covers IsOne kind.mul mul (over 1 1) times_assoc one_times first_factor law.keeps.mul law.mul_never (has_value w qv h e s)
           (have_values w qv h fs s) f (value w qv e s) (product_value w qv fs s)
-          (one_more kind.mul d i s (evaluated kind w q d j e s) o) (factors_evaluated kind w q d i (node_behind e j) fs s)
+          (one_more kind.mul d i s (evaluated (plain kind) w q d j e s) o) (factors_evaluated (plain kind) w q d i (node_behind e j) fs s)
           (one_more_good covers IsOne kind.mul mul (over 1 1) times_assoc one_times first_factor law.keeps.mul law.mul_never d i s (has_value w qv h e s)
-          (value w qv e s) (evaluated kind w q d j e s) (expr_good e d j s) o f hold)
+          (value w qv e s) (evaluated (plain kind) w q d j e s) (expr_good e d j s) o f hold)
           (λ o' hold'. factors_good fs d i (node_behind e j) s o' (mul f (value w qv e s)) hold')
 
   defs_good : (w : Weights) (ds : List Tree) (n : ℕ) (qv : ℕ → (ℕ → ℕ) → Fraction) (h : ℕ → (ℕ → ℕ) → Bool) (q : ℕ → (ℕ → ℕ) → Result Pair Stop)
       → ((j : ℕ) (t : ℕ → ℕ) → Good covers (h j t) (qv j t) (q j t))
-      → (j : ℕ) (t : ℕ → ℕ) → Good covers (supported_from w qv h n ds j t) (values_from w qv n ds j t) (evaluated_from kind w q n ds j t)
+      → (j : ℕ) (t : ℕ → ℕ) → Good covers (supported_from w qv h n ds j t) (values_from w qv n ds j t) (evaluated_from (plain kind) w q n ds j t)
   defs_good w [] n qv h q good = good
   defs_good w (e ∷ es) n qv h q good =
       defs_good w es (suc n) (λ j s. cond (eqb j n) (value w qv e s) (qv j s)) (λ j s. cond (eqb j n) (has_value w qv h e s) (h j s))
-      (λ j s. cond (eqb j n) (evaluated kind w q (Some (cap n)) 0 e s) (q j s))
-      (λ j t. at (eqb j n) (has_value w qv h e t) (h j t) (value w qv e t) (qv j t) (evaluated kind w q (Some (cap n)) 0 e t) (q j t)
+      (λ j s. cond (eqb j n) (evaluated (plain kind) w q (Some (cap n)) 0 e s) (q j s))
+      (λ j t. at (eqb j n) (has_value w qv h e t) (h j t) (value w qv e t) (qv j t) (evaluated (plain kind) w q (Some (cap n)) 0 e t) (q j t)
       (expr_good w qv h q good e (Some (cap n)) 0 t) (good j t))
     where
       at : (b : Bool) (h h' : Bool) (f f' : Fraction) (r r' : Result Pair Stop) → Good covers h f r → Good covers h' f' r'
@@ -330,8 +339,8 @@ module _ (kind : Kind) (covers : Pair → Fraction → Type 0) (law : IsLawful k
 
   pub formula_good : (w : Weights) (f : PlainFormula) (s : ℕ → ℕ) → Good covers
       (has_value w (values_from w (λ j s. over 1 1) 0 f.defs) (supported_from w (λ j s. over 1 1) (λ j s. true) 0 f.defs) f.main s) (value_of w f s)
-      (formula_value kind w f s)
+      (formula_value (plain kind) w f s)
   formula_good w f s =
       expr_good w (values_from w (λ j s. over 1 1) 0 f.defs) (supported_from w (λ j s. over 1 1) (λ j s. true) 0 f.defs)
-      (evaluated_from kind w (λ j t. Ok (kind.from_ratio 1 1)) 0 f.defs)
+      (evaluated_from (plain kind) w (λ j t. Ok (kind.from_ratio 1 1)) 0 f.defs)
       (defs_good w f.defs 0 (λ j s. over 1 1) (λ j s. true) (λ j t. Ok (kind.from_ratio 1 1)) before) f.main None 0 s

@@ -1,6 +1,7 @@
 pub mod Orders
 pub mod Covered
 pub mod Matched
+pub mod Zeros
 pub mod CellSteps
 pub mod Measures
 pub mod Variants

@@ -23,13 +23,13 @@ use Rattle.finite_models.proofs.Weights.{weight-none, weight_of-none}
 use Rattle.prob_expr.proofs.Alike.{Events, Asks, AskEach, AllAsk, formula_alike}
 use Rattle.prob_expr.proofs.ValueLaws.{values_are_positive}
 use Rattle.count_eval.specs.Supported.{all_over, has_value, have_values, supported_from}
-use Rattle.count_eval.specs.Laws.{is_supported, IsUsed, AreUsed, AllUsed, MatchedHasValue}
+use Rattle.count_eval.specs.Laws.{is_supported, IsUsed, AreUsed, AllUsed, IsMatched, MatchedHasValue}
 use Rattle.count_eval.proofs.Covered.{down_add, down_all}
 use Rattle.count_eval.proofs.Orders
 
 -- ---- sizes of vertices that aren't summed don't matter
 module _ (w : Weights) (size : ℕ → ℕ) (used : ℕ → Bool) (sizes : (v : ℕ) → v < w.vertices → used v ≡ true → w.size v ≡ size v) where
-  abbrev resized : Weights
+  abbrev pub resized : Weights
   resized = record w { size = size }
 
   same_add : (U : ℕ → Bool) → ((v : ℕ) → U v ≡ true → used v ≡ true) → (F G : (ℕ → ℕ) → Fraction) → ((c : ℕ → ℕ) → F c ≡ G c) → (b : ℕ → ℕ)
@@ -47,7 +47,7 @@ module _ (w : Weights) (size : ℕ → ℕ) (used : ℕ → Bool) (sizes : (v : 
   module _ (q q' : ℕ → (ℕ → ℕ) → Fraction) (h h' : ℕ → (ℕ → ℕ) → Bool) (eq : (j : ℕ) (t : ℕ → ℕ) → q j t ≡ q' j t)
       (eh : (j : ℕ) (t : ℕ → ℕ) → h j t ≡ h' j t) where
     mutual
-      same_value : (e : Tree) → IsUsed used e → (s : ℕ → ℕ) → value w q e s ≡ value resized q' e s
+      pub same_value : (e : Tree) → IsUsed used e → (s : ℕ → ℕ) → value w q e s ≡ value resized q' e s
       same_value (prob a b c) u s = refl
       same_value (sum v e) u s = same_add (has v) u.0 (value w q e) (value resized q' e) (λ c. same_value e u.1 c) s
       same_value (product fs) u s = same_product fs u s
@@ -59,7 +59,7 @@ module _ (w : Weights) (size : ℕ → ℕ) (used : ℕ → Bool) (sizes : (v : 
       same_product (tree e fs) u s = ap₂ mul (same_value e u.0 s) (same_product fs u.1 s)
 
     mutual
-      same_has : (e : Tree) → IsUsed used e → (s : ℕ → ℕ) → has_value w q h e s ≡ has_value resized q' h' e s
+      pub same_has : (e : Tree) → IsUsed used e → (s : ℕ → ℕ) → has_value w q h e s ≡ has_value resized q' h' e s
       same_has (prob a b c) u s = refl
       same_has (sum v e) u s = same_all (has v) u.0 (has_value w q h e) (has_value resized q' h' e) (λ c. same_has e u.1 c) s
       same_has (product fs) u s = same_have fs u s
@@ -133,7 +133,8 @@ module _ (w : Weights) (used : ℕ → Bool) (some : (v : ℕ) → v < w.vertice
   module _ (q : ℕ → (ℕ → ℕ) → Fraction) (h : ℕ → (ℕ → ℕ) → Bool) (each_named : (j : ℕ) (t : ℕ → ℕ) → IsAssignment w.vertices w.size t
       → IsSure (h j t) (q j t)) where
     mutual
-      sure : (e : Tree) → is_under [] e ≡ true → IsUsed used e → (s : ℕ → ℕ) → IsAssignment w.vertices w.size s → IsSure (has_value w q h e s) (value w q e s)
+      pub sure : (e : Tree) → is_under [] e ≡ true → IsUsed used e → (s : ℕ → ℕ) → IsAssignment w.vertices w.size s
+          → IsSure (has_value w q h e s) (value w q e s)
       sure (prob a b c) d u s k =
           let bottom : 1 ≤ w.weight (has b) (has c) s = subst (λ B. 1 ≤ w.weight B (has c) s) (sym (none_doing b d)) (positive (has c) u.1 s k) in
           record {
@@ -220,33 +221,50 @@ positive_other : (a b c d : ℕ) → a * b ≡ c * d → 1 ≤ a → 1 ≤ b →
 positive_other a b zero d e la lb = absurd (let r : 1 ≤ a * b = mul-pos la lb in let z : 0 * d ≡ 0 = omega arith in omega arith)
 positive_other a b (suc c) d e la lb = omega arith
 
+pub size_positive : (a b : ℕ) → a < b → 1 ≤ b
+size_positive a b lt = omega arith
+
+module _ (g : MixedGraph) (ok : IsMixedGraph g) (m : FiniteModel) (fit : Fits g m) (positive : IsPositiveModel m) (used : ℕ → Bool) (w : Weights) (all : ℕ)
+    (k : IsMatched used w all m) where
+  -- used vertices have the sizes of the model
+  pub matched_sizes : (v : ℕ) → v < w.vertices → used v ≡ true → w.size v ≡ m.size v
+  matched_sizes v lt u = k.sizes v (let e = k.vertices in omega (arith, e)) u
+
+  to_model : (t : ℕ → ℕ) → IsAssignment w.vertices m.size t → IsAssignment m.vertices m.size t
+  to_model t h v lt = h v (let e = k.vertices in omega (arith, e))
+
+  pub from_model : (t : ℕ → ℕ) → IsAssignment m.vertices m.size t → IsAssignment w.vertices m.size t
+  from_model t h v lt = h v (let e = k.vertices in omega (arith, e))
+
+  weight_one : (a : ℕ → Bool) (t : ℕ → ℕ) → IsAssignment m.vertices m.size t → 1 ≤ weight_of m (λ v. false) a t
+  weight_one a t h = positive_weight g m ok (follows_of g m fit) positive (λ v. false) a t h
+
+  -- each weight of used vertices is positive
+  pub matched_positive : (a : ℕ → Bool) → ((v : ℕ) → a v ≡ true → used v ≡ true) → (t : ℕ → ℕ) → IsAssignment w.vertices m.size t
+      → 1 ≤ w.weight (λ v. false) a t
+  matched_positive a u t h = positive_other (weight_of m (λ v. false) a t) all (w.weight (λ v. false) a t) (total m) (k.weights a u t (to_model t h))
+      (weight_one a t (to_model t h)) k.some
+
+  has_value_there : (f : PlainFormula) → is_do_free f ≡ true → AllUsed used f.defs → IsUsed used f.main → (s : ℕ → ℕ) → IsAssignment m.vertices m.size s
+      → (is_supported w f s ≡ true) × IsEqual (value_of w f s) (value_of (weights_of m) f s)
+  has_value_there f d ds main s within =
+      let back : IsAssignment w.vertices m.size s = from_model s within in
+      let w' : Weights = record w { size = m.size } in
+      let total_one : 1 ≤ total m = subst (λ n. 1 ≤ n) (weight_of-none m (λ v. false) (λ v. false) s (λ v. refl) ∙ weight-none m (λ v. false) s (λ v. refl))
+      (weight_one (λ v. false) s within) in
+      let same = same_formula w m.size used matched_sizes f ds main s in
+      let alike = formula_alike w' (weights_of m) k.vertices (λ v lt. refl) (λ v lt. size_positive (s v) (m.size v) (back v lt)) all (total m)
+      (mul-pos k.some total_one)
+      (observed_of used) (λ b a u t h. subst (λ B. 1 ≤ w'.weight B a t) (sym (none_doing b u.0)) (matched_positive a u.1 t h))
+      (λ b a u t h. subst (λ B. w'.weight B a t * total m ≡ weight_of m B a t * all) (sym (none_doing b u.0)) (sym (k.weights a u.1 t (to_model t h))))
+      f (all_ask_of used f.defs (and_first (all_under [] f.defs) (is_under [] f.main) d) ds)
+      (asks_of used f.main (and_second (all_under [] f.defs) (is_under [] f.main) d) main) s back in (
+        same.1 ∙ (sure_formula w' used (λ v lt. size_positive (s v) (m.size v) (back v lt)) matched_positive f d ds main s back).has,
+        subst (λ x. IsEqual x (value_of (weights_of m) f s)) (sym same.0) alike,
+      )
+
 pub matched_has_value : MatchedHasValue
-matched_has_value = λ g ok m fit positive used w all k f d ds main s within.
-    let lower : (v : ℕ) → v < w.vertices → used v ≡ true → w.size v ≡ m.size v = λ v lt u. k.sizes v (let e = k.vertices in omega (arith, e)) u in
-    let to_model : (t : ℕ → ℕ) → IsAssignment w.vertices m.size t → IsAssignment m.vertices m.size t =
-    λ t h v lt. h v (let e = k.vertices in omega (arith, e)) in
-    let back : IsAssignment w.vertices m.size s = λ v lt. within v (let e = k.vertices in omega (arith, e)) in
-    let w' : Weights = record w { size = m.size } in
-    let weight_one : (a : ℕ → Bool) (t : ℕ → ℕ) → IsAssignment m.vertices m.size t → 1 ≤ weight_of m (λ v. false) a t =
-    λ a t h. positive_weight g m ok (follows_of g m fit) positive (λ v. false) a t h in
-    let one_each : (a : ℕ → Bool) → ((v : ℕ) → a v ≡ true → used v ≡ true) → (t : ℕ → ℕ) → IsAssignment w'.vertices w'.size t → 1 ≤ w'.weight (λ v. false) a t
-    = λ a u t h. positive_other (weight_of m (λ v. false) a t) all (w.weight (λ v. false) a t) (total m) (k.weights a u t (to_model t h))
-    (weight_one a t (to_model t h)) k.some in
-    let total_one : 1 ≤ total m = subst (λ n. 1 ≤ n) (weight_of-none m (λ v. false) (λ v. false) s (λ v. refl) ∙ weight-none m (λ v. false) s (λ v. refl))
-    (weight_one (λ v. false) s within) in
-    let same = same_formula w m.size used lower f ds main s in
-    let alike = formula_alike w' (weights_of m) k.vertices (λ v lt. refl) (λ v lt. size_positive (s v) (m.size v) (back v lt)) all (total m)
-    (mul-pos k.some total_one)
-    (observed_of used) (λ b a u t h. subst (λ B. 1 ≤ w'.weight B a t) (sym (none_doing b u.0)) (one_each a u.1 t h))
-    (λ b a u t h. subst (λ B. w'.weight B a t * total m ≡ weight_of m B a t * all) (sym (none_doing b u.0)) (sym (k.weights a u.1 t (to_model t h))))
-    f (all_ask_of used f.defs (and_first (all_under [] f.defs) (is_under [] f.main) d) ds)
-    (asks_of used f.main (and_second (all_under [] f.defs) (is_under [] f.main) d) main) s back in (
-      same.1 ∙ (sure_formula w' used (λ v lt. size_positive (s v) (m.size v) (back v lt)) one_each f d ds main s back).has,
-      subst (λ x. IsEqual x (value_of (weights_of m) f s)) (sym same.0) alike,
-    )
-  where
-    size_positive : (a b : ℕ) → a < b → 1 ≤ b
-    size_positive a b lt = omega arith
+matched_has_value = λ g ok m fit positive used w all k f d ds main s within. has_value_there g ok m fit positive used w all k f d ds main s within
 
 -- the model's own value has a bottom above 0
 pub model_bottom : (g : MixedGraph) → IsMixedGraph g → (m : FiniteModel) → Fits g m → IsPositiveModel m → (f : PlainFormula) (s : ℕ → ℕ)

@@ -6,7 +6,8 @@ use Rattle.prob_expr.specs.Tree.{Tree, prob, sum, product, quotient, named, Tree
 use Rattle.prob_expr.specs.Values.{Weights}
 use Rattle.prob_expr.specs.View.{view}
 use Rattle.prob_expr.specs.declared.expr.Expr.{Expr}
-use Rattle.quantity.specs.Kinds.{Pair, Kind}
+use Rattle.quantity.specs.Kinds.{Pair}
+use Rattle.count_eval.specs.Rules.{Rule}
 use Rattle.count_eval.specs.Stops.{Stop}
 use Rattle.count_eval.specs.Evaluated.{evaluated, evaluated_from}
 use Rattle.prob_expr.specs.Check.{cap}
@@ -49,13 +50,13 @@ used_at used k [] e u il at = absurd (omega arith)
 used_at used zero (d ∷ ds) e u il at = subst (IsUsed used) (sym at) u.0
 used_at used (suc k) (d ∷ ds) e u il at = used_at used k ds e u.1 (omega arith) at
 
-untouched : (k : Kind) (w : Weights) (ds : List Tree) (q : ℕ → (ℕ → ℕ) → Result Pair Stop) (n j : ℕ) (s : ℕ → ℕ) → j < n → evaluated_from k w q n ds j s ≡ q j s
+untouched : (k : Rule) (w : Weights) (ds : List Tree) (q : ℕ → (ℕ → ℕ) → Result Pair Stop) (n j : ℕ) (s : ℕ → ℕ) → j < n → evaluated_from k w q n ds j s ≡ q j s
 untouched k w [] q n j s lt = refl
 untouched k w (d ∷ ds) q n j s lt =
     untouched k w ds (λ j s. cond (eqb j n) (evaluated k w q (Some (cap n)) 0 d s) (q j s)) (suc n) j s (omega arith)
     ∙ ap (λ b. cond b (evaluated k w q (Some (cap n)) 0 d s) (q j s)) (ne_eqb j n (λ e. absurd (omega arith)))
 
-known_from : (k : Kind) (w : Weights) (ds : List Tree) (q : ℕ → (ℕ → ℕ) → Result Pair Stop) (n j limit : ℕ) (e : Tree) (s : ℕ → ℕ) → j < limit → j < length ds
+known_from : (k : Rule) (w : Weights) (ds : List Tree) (q : ℕ → (ℕ → ℕ) → Result Pair Stop) (n j limit : ℕ) (e : Tree) (s : ℕ → ℕ) → j < limit → j < length ds
     → e ≡ get_or ds j e
     → evaluated_from k w q n (take limit ds) (n + j) s ≡ evaluated k w (evaluated_from k w q n (take j ds)) (Some (cap (n + j))) 0 e s
 known_from k w [] q n j limit e s lt il at = absurd (omega arith)
@@ -71,11 +72,11 @@ known_from k w (d ∷ ds) q n (suc j) (suc limit) e s lt il at =
     ∙ ap (λ m. evaluated k w (evaluated_from k w q' (suc n) (take j ds)) (Some (cap m)) 0 e s) (let r : suc n + j ≡ n + suc j = omega arith in r)
 
 -- a known definition has the value of its expression over the definitions before it
-pub known_at : (k : Kind) (w : Weights) (ds : List Tree) (j limit : ℕ) (e : Tree) (s : ℕ → ℕ) → j < limit → j < length ds → e ≡ get_or ds j e
+pub known_at : (k : Rule) (w : Weights) (ds : List Tree) (j limit : ℕ) (e : Tree) (s : ℕ → ℕ) → j < limit → j < length ds → e ≡ get_or ds j e
     → known k w ds limit j s ≡ evaluated k w (known k w ds j) (Some (cap j)) 0 e s
 known_at k w ds j limit e s lt il at =
-    ap (λ m. evaluated_from k w (λ j t. Ok (k.from_ratio 1 1)) 0 (take limit ds) m s) (let r : j ≡ 0 + j = omega arith in r)
-    ∙ known_from k w ds (λ j t. Ok (k.from_ratio 1 1)) 0 j limit e s lt il at
+    ap (λ m. evaluated_from k w (λ j t. Ok (k.kind.from_ratio 1 1)) 0 (take limit ds) m s) (let r : j ≡ 0 + j = omega arith in r)
+    ∙ known_from k w ds (λ j t. Ok (k.kind.from_ratio 1 1)) 0 j limit e s lt il at
     ∙ ap (λ m. evaluated k w (known k w ds j) (Some (cap m)) 0 e s) (let r : 0 + j ≡ j = omega arith in r)
 
 -- an entry of what f makes of a list is what f makes of the entry, past the end too
@@ -85,7 +86,7 @@ get_or-map f (x ∷ xs) zero d = refl
 get_or-map f (x ∷ xs) (suc i) d = get_or-map f xs i d
 
 -- a definition has the same value among those below any limit above it
-pub known_below : (k : Kind) (w : Weights) (ds : List Tree) (j limit : ℕ) (s : ℕ → ℕ) → j < limit → limit ≤ length ds → known k w ds limit j s
+pub known_below : (k : Rule) (w : Weights) (ds : List Tree) (j limit : ℕ) (s : ℕ → ℕ) → j < limit → limit ≤ length ds → known k w ds limit j s
     ≡ known k w ds (length ds) j s
 known_below k w ds j limit s lt le =
     let e = get_or ds j (named 0) in

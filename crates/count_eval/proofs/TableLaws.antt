@@ -15,7 +15,8 @@ use Rattle.prob_expr.specs.View.{view}
 use Rattle.prob_expr.specs.declared.expr.Expr.{Expr}
 use Rattle.prob_expr.specs.Free.{free_in, free_in_defs}
 use Rattle.prob_expr.specs.Values.{Weights}
-use Rattle.quantity.specs.Kinds.{Pair, Kind}
+use Rattle.quantity.specs.Kinds.{Pair}
+use Rattle.count_eval.specs.Rules.{Rule}
 use Rattle.count_rows.specs.Rows.{Row, Table, agrees, counted}
 use Rattle.count_table.specs.Cells.{IsCell}
 use Rattle.count_table.specs.Tables.{AreCounts, HasLevels}
@@ -103,7 +104,7 @@ same_found (Err x) (Ok b) p e h = absurd (cc)
 same_found (Err x) (Err y) p e h = absurd (cc)
 
 -- a definition's value at a cell is its value at each assignment with that cell
-pub one_known : (kind : Kind) (n : ℕ) (t : Table) (ds : List Tree) (k : ℕ) (axes : Axes) (s r : ℕ → ℕ) (p : Pair) → AreCounts t
+pub one_known : (kind : Rule) (n : ℕ) (t : Table) (ds : List Tree) (k : ℕ) (axes : Axes) (s r : ℕ → ℕ) (p : Pair) → AreCounts t
     → ((v : ℕ) → is_used t v ≡ true → v < n) → AllUsed (is_used t) ds
     → axes ≡ axes_of t (has (get_or (free_in_defs [] ds) k 0)) → IsCell axes.sizes (cell_at axes s) → IsCell axes.sizes (cell_at axes r) → place_at axes s
     ≡ place_at axes r
@@ -114,7 +115,7 @@ one_known kind n t ds k axes s r p are low asked over cs cr same e =
     (one_cell t (get_or (free_in_defs [] ds) k 0) axes s r are over cs cr same)) e
 
 -- what an entry says, whatever assignment has its cell
-abbrev pub IsRight : {Q : Type 0} → (Q → Pair) → Kind → ℕ → Table → List Tree → ℕ → Axes → List (Option Q) → Type 0
+abbrev pub IsRight : {Q : Type 0} → (Q → Pair) → Rule → ℕ → Table → List Tree → ℕ → Axes → List (Option Q) → Type 0
 IsRight {Q} numbers kind n t ds k axes values = (at : ℕ → ℕ) → IsCell axes.sizes (cell_at axes at) → (q : Q) → get_or values (place_at axes at) None ≡ Some q
     → known kind (weights_in n t) ds (length ds) k at ≡ Ok (numbers q)
 
@@ -126,7 +127,7 @@ last_or_before (y ∷ ys) o zero x e = inr e
 last_or_before (y ∷ ys) o (suc i) x e = elim (last_or_before ys o i x e) [ inl h ↦ inl (ap suc h.0, h.1) | inr h ↦ inr h ]
 
 -- one entry more, which is right at its own cell
-pub right_more : {Q : Type 0} (numbers : Q → Pair) (kind : Kind) (n : ℕ) (t : Table) (ds : List Tree) (k : ℕ) (axes : Axes) (values : List (Option Q))
+pub right_more : {Q : Type 0} (numbers : Q → Pair) (kind : Rule) (n : ℕ) (t : Table) (ds : List Tree) (k : ℕ) (axes : Axes) (values : List (Option Q))
     (o : Option Q) (r : ℕ → ℕ) → AreCounts t
     → ((v : ℕ) → is_used t v ≡ true → v < n) → AllUsed (is_used t) ds → axes ≡ axes_of t (has (get_or (free_in_defs [] ds) k 0))
     → IsCell axes.sizes (cell_at axes r) → place_at axes r ≡ length values
@@ -140,7 +141,7 @@ right_more {Q} numbers kind n t ds k axes values o r are low asked over cr at kn
     ]
 
 -- what a look-up finds is the definition's value
-pub held_by : {Q : Type 0} (numbers : Q → Pair) (kind : Kind) (n : ℕ) (t : Table) (ds : List Tree) (k : ℕ) (axes : Axes) (values : List (Option Q))
+pub held_by : {Q : Type 0} (numbers : Q → Pair) (kind : Rule) (n : ℕ) (t : Table) (ds : List Tree) (k : ℕ) (axes : Axes) (values : List (Option Q))
     (at : ℕ → ℕ) (o : Option Q) → IsTableOf numbers kind n t ds k axes values
     → IsCell axes.sizes (cell_at axes at) → o ≡ get_or values (place_at axes at) None
     → IfSome o (λ q. known kind (weights_in n t) ds (length ds) k at ≡ Ok (numbers q))
@@ -148,7 +149,7 @@ held_by numbers kind n t ds k axes values at None h cell e = tt
 held_by numbers kind n t ds k axes values at (Some q) h cell e = h.right at cell q (sym e)
 
 -- a definition's value among all is its own evaluation over those before it
-pub known_by : (kind : Kind) (w : Weights) (ds : List Tree) (k : ℕ) (e : Tree) (s : ℕ → ℕ) (r : Result Pair Stop) → k < length ds → k < 2 ^ 32 → e
+pub known_by : (kind : Rule) (w : Weights) (ds : List Tree) (k : ℕ) (e : Tree) (s : ℕ → ℕ) (r : Result Pair Stop) → k < length ds → k < 2 ^ 32 → e
     ≡ get_or ds k e
     → r ≡ evaluated kind w (known kind w ds k) (Some k) 0 e s → known kind w ds (length ds) k s ≡ r
 known_by kind w ds k e s r within small at h =
@@ -196,7 +197,7 @@ has_levels t of axes cell n e are low long has blank v used = (let lt = low v us
     go false off = subst (λ (m : ℕ). m < size_in t v) (sym (blank v (outside off))) (ltb-true 0 (size_in t v) used)
 
 -- no entry is there yet
-pub right_none : {Q : Type 0} (numbers : Q → Pair) (kind : Kind) (n : ℕ) (t : Table) (ds : List Tree) (k : ℕ) (axes : Axes) (values : List (Option Q))
+pub right_none : {Q : Type 0} (numbers : Q → Pair) (kind : Rule) (n : ℕ) (t : Table) (ds : List Tree) (k : ℕ) (axes : Axes) (values : List (Option Q))
     → values ≡ [] → IsRight numbers kind n t ds k axes values
 right_none {Q} numbers kind n t ds k axes values none at cell q e = absurd (bad (sym (ap (λ (l : List (Option Q)). get_or l (place_at axes at) None) none) ∙ e))
   where
@@ -210,7 +211,7 @@ last [] x d = refl
 last (y ∷ ys) x d = last ys x d
 
 -- one definition's table more
-pub tables_more : {Q : Type 0} (numbers : Q → Pair) (kind : Kind) (n : ℕ) (t : Table) (ds : List Tree) (tables : List (DefinitionTable Q))
+pub tables_more : {Q : Type 0} (numbers : Q → Pair) (kind : Rule) (n : ℕ) (t : Table) (ds : List Tree) (tables : List (DefinitionTable Q))
     (x : DefinitionTable Q) → AreTables numbers kind n t ds tables
     → IsTableOf numbers kind n t ds (length tables) x.places x.values.items → AreTables numbers kind n t ds (tables ++ x ∷ [])
 tables_more {Q} numbers kind n t ds tables x before new k y lt is = go (ltb k (length tables)) refl
@@ -225,7 +226,7 @@ tables_more {Q} numbers kind n t ds tables x before new k y lt is = go (ltb k (l
         subst (λ (z : DefinitionTable Q). IsTableOf numbers kind n t ds k z.places z.values.items) (sym same)
         (subst (λ (i : ℕ). IsTableOf numbers kind n t ds i x.places x.values.items) (sym at) new)
 
-pub tables_none : {Q : Type 0} (numbers : Q → Pair) (kind : Kind) (n : ℕ) (t : Table) (ds : List Tree) (tables : List (DefinitionTable Q)) → tables ≡ []
+pub tables_none : {Q : Type 0} (numbers : Q → Pair) (kind : Rule) (n : ℕ) (t : Table) (ds : List Tree) (tables : List (DefinitionTable Q)) → tables ≡ []
     → AreTables numbers kind n t ds tables
 tables_none {Q} numbers kind n t ds tables none k y lt is = absurd (let long = ap (λ (l : List (DefinitionTable Q)). length l) none in omega (arith, long, lt))
 

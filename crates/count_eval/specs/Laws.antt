@@ -10,6 +10,7 @@ use Rattle.prob_expr.specs.Tree.{PlainTarget}
 use Rattle.prob_expr.specs.Values.{effect, EqualsEffect, Weights, weights_of, values_from, value_of}
 use Rattle.quantity.specs.declared.fault.QuantityFault.TheVariants.{ZeroBelow}
 use Rattle.quantity.specs.Kinds.{Pair, Kind}
+use Rattle.count_eval.specs.Rules.{rule, plain}
 use Rattle.count_eval.specs.Stops.{Stop}
 use Rattle.count_eval.specs.Supported.{has_value, supported_from}
 use Rattle.count_eval.specs.Evaluated.{formula_value}
@@ -49,9 +50,9 @@ pub record IsMatched (used : ℕ → Bool) (w : Weights) (all : ℕ) (m : Finite
   pub weights : (a : ℕ → Bool) → ((v : ℕ) → a v ≡ true → used v ≡ true) → (s : ℕ → ℕ) → IsAssignment m.vertices m.size s
       → weight_of m (λ v. false) a s * all ≡ w.weight (λ v. false) a s * total m
 
--- over any weights, what a kind gives is covered
+-- over any weights, what a kind gives by the first rule is covered
 abbrev pub EachIsCovered : Kind → (Pair → Fraction → Type 0) → Type 0
-EachIsCovered kind covers = (w : Weights) (f : PlainFormula) (s : ℕ → ℕ) → IsCovered covers w f s (formula_value kind w f s)
+EachIsCovered kind covers = (w : Weights) (f : PlainFormula) (s : ℕ → ℕ) → IsCovered covers w f s (formula_value (plain kind) w f s)
 
 -- in a matching positive model the formula has a value over the counts, and it is the model's
 abbrev pub MatchedHasValue : Type 0
@@ -60,12 +61,12 @@ MatchedHasValue = (g : MixedGraph) → IsMixedGraph g → (m : FiniteModel) → 
     → (f : PlainFormula) → is_do_free f ≡ true → AllUsed used f.defs → IsUsed used f.main → (s : ℕ → ℕ) → IsAssignment m.vertices m.size s
     → (is_supported w f s ≡ true) × IsEqual (value_of w f s) (value_of (weights_of m) f s)
 
--- what a kind gives over counts that match a positive model covers the formula's value in the model
+-- what a kind gives by either rule over counts that match a positive model covers the formula's value in the model
 abbrev pub MatchedIsCovered : Kind → (Pair → Fraction → Type 0) → Type 0
 MatchedIsCovered kind covers = (g : MixedGraph) → IsMixedGraph g → (m : FiniteModel) → Fits g m → IsPositiveModel m
     → (used : ℕ → Bool) (w : Weights) (all : ℕ) → IsMatched used w all m
     → (f : PlainFormula) → is_do_free f ≡ true → AllUsed used f.defs → IsUsed used f.main → (s : ℕ → ℕ) → IsAssignment m.vertices m.size s
-    → (c : Pair) → formula_value kind w f s ≡ Ok c → covers c (value_of (weights_of m) f s)
+    → (zero : Bool) (c : Pair) → formula_value (rule kind zero) w f s ≡ Ok c → covers c (value_of (weights_of m) f s)
 
 -- and where the formula equals an effect in each positive model of the graph, it covers the effect in the model
 abbrev pub MatchedCoversEffect : Kind → (Pair → Fraction → Type 0) → Type 0
@@ -73,4 +74,16 @@ MatchedCoversEffect kind covers = (g : MixedGraph) → IsMixedGraph g → (m : F
     → (used : ℕ → Bool) (w : Weights) (all : ℕ) → IsMatched used w all m
     → (f : PlainFormula) → is_do_free f ≡ true → AllUsed used f.defs → IsUsed used f.main → (t : PlainTarget) → EqualsEffect g t f → (s : ℕ → ℕ)
     → IsAssignment m.vertices m.size s
-    → (c : Pair) → formula_value kind w f s ≡ Ok c → covers c (effect m t s)
+    → (zero : Bool) (c : Pair) → formula_value (rule kind zero) w f s ≡ Ok c → covers c (effect m t s)
+
+-- where the first rule gives a value, the second gives the same
+abbrev pub ZeroKeepsValues : Kind → Type 0
+ZeroKeepsValues kind = (w : Weights) (f : PlainFormula) (s : ℕ → ℕ) (c : Pair) → formula_value (plain kind) w f s ≡ Ok c
+    → formula_value (rule kind true) w f s ≡ Ok c
+
+-- over counts that match a positive model both rules give the same, a value or a stop: no factor is 0 there
+abbrev pub MatchedIsSame : Kind → Type 0
+MatchedIsSame kind = (g : MixedGraph) → IsMixedGraph g → (m : FiniteModel) → Fits g m → IsPositiveModel m → (used : ℕ → Bool) (w : Weights) (all : ℕ)
+    → IsMatched used w all m
+    → (f : PlainFormula) → is_do_free f ≡ true → AllUsed used f.defs → IsUsed used f.main → (s : ℕ → ℕ) → IsAssignment m.vertices m.size s
+    → formula_value (rule kind true) w f s ≡ formula_value (plain kind) w f s

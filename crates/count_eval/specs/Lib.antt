@@ -1,4 +1,5 @@
 pub mod Stops
+pub mod Rules
 pub mod Steps
 pub mod Evaluated
 pub mod Supported

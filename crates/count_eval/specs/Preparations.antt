@@ -1,16 +1,17 @@
 -- What a prepared formula is, whatever tables it has.
-use Rattle.std.specs.Prelude.{ℕ, List, refl}
-use Rattle.std.specs.Coded.{Coded, code_by, coded×, coded_ℕ, coded_list}
+use Rattle.std.specs.Prelude.{ℕ, Bool, List, refl}
+use Rattle.std.specs.Coded.{Coded, code_by, coded×, coded_ℕ, coded_bool, coded_list}
 use Rattle.prob_expr.specs.Tree.{Tree, PlainFormula}
 use Rattle.count_rows.specs.Records.{Field}
 use Rattle.count_rows.specs.Rows.{Row, Table}
 use Rattle.prob_expr.specs.TreeCodes.{coded_tree}
 
--- a formula on so many vertices, over a table of counts
+-- a formula on so many vertices, over a table of counts; and whether a product with a factor 0 is 0 also where other factors have no value
 pub record Preparation : Type 0 where
   pub vertices : ℕ
   pub counts : Table
   pub formula : PlainFormula
+  pub zero : Bool
 
 -- a formula is stored as the pair of its parts
 abbrev pub coded_formula : Coded PlainFormula
@@ -28,8 +29,8 @@ coded_table =
     (coded× (coded_list (coded_list (coded_list coded_ℕ))) (coded_list coded_row)))
     (λ t. (t.vertices, (t.levels, t.rows))) (λ p. record { vertices = p.0; levels = p.1.0; rows = p.1.1 }) (λ _. refl)
 
--- and the whole as the number, the table and the formula
+-- and the whole as the number, the table, the formula and the rule for products
 abbrev pub coded_preparation : Coded Preparation
 coded_preparation =
-    code_by (ℕ × (Table × PlainFormula)) (coded× coded_ℕ (coded× coded_table coded_formula))
-    (λ p. (p.vertices, (p.counts, p.formula))) (λ p. record { vertices = p.0; counts = p.1.0; formula = p.1.1 }) (λ _. refl)
+    code_by (ℕ × (Table × (PlainFormula × Bool))) (coded× coded_ℕ (coded× coded_table (coded× coded_formula coded_bool)))
+    (λ p. (p.vertices, (p.counts, (p.formula, p.zero)))) (λ p. record { vertices = p.0; counts = p.1.0; formula = p.1.1.0; zero = p.1.1.1 }) (λ _. refl)

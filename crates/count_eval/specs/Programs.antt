@@ -2,7 +2,8 @@
 use Rattle.std.specs.Prelude.{ℕ, suc, ◌<◌, Bool, nat_lt, List, [], ◌∷◌, take, length, ◌≡◌, Option, Some, None, Result, Ok, Err, slice_index}
 use Rattle.prob_expr.specs.Tree.{Tree, prob, sum, product, quotient, named, Trees, no_trees, tree}
 use Rattle.prob_expr.specs.Values.{Weights}
-use Rattle.quantity.specs.Kinds.{Pair, Kind}
+use Rattle.quantity.specs.Kinds.{Pair}
+use Rattle.count_eval.specs.Rules.{Rule}
 use Rattle.count_rows.specs.Rows.{Table, counted}
 use Rattle.count_table.specs.Tables.{levels_in}
 use Rattle.count_eval.specs.declared.failure.Failure.{Failure}
@@ -41,11 +42,11 @@ seen_more numbers (Ok o) = Ok (seen_so_far numbers o)
 seen_more numbers (Err e) = Err (stop_of e)
 
 -- the values of the first `limit` definitions
-abbrev pub known : Kind → Weights → List Tree → ℕ → ℕ → (ℕ → ℕ) → Result Pair Stop
-known k w defs limit = evaluated_from k w (λ j t. Ok (k.from_ratio 1 1)) 0 (take limit defs)
+abbrev pub known : Rule → Weights → List Tree → ℕ → ℕ → (ℕ → ℕ) → Result Pair Stop
+known k w defs limit = evaluated_from k w (λ j t. Ok (k.kind.from_ratio 1 1)) 0 (take limit defs)
 
 -- what is said to be held of the definitions are their values
-abbrev pub AreValues : Kind → Weights → List Tree → (ℕ → (ℕ → ℕ) → Pair → Type 0) → Type 0
+abbrev pub AreValues : Rule → Weights → List Tree → (ℕ → (ℕ → ℕ) → Pair → Type 0) → Type 0
 AreValues k w defs holds = (j : ℕ) (s : ℕ → ℕ) (p : Pair) → holds j s p → known k w defs (length defs) j s ≡ Ok p
 
 -- each definition that is named has a number below the limit

@@ -1,17 +1,18 @@
 //! The evaluation of a formula at a cell, node by node.
 
-ghost use Rattle.std.specs.Prelude.{ℕ, ◌≡◌, ◌≤◌, map, length, true, None};
+ghost use Rattle.std.specs.Prelude.{ℕ, ◌≡◌, ◌≤◌, map, length, true};
 ghost use Rattle.mixed_graph.specs.Bits.{has};
+ghost use Rattle.prob_expr.specs.Tree.{product};
 ghost use Rattle.prob_expr.specs.View.{view, views};
-ghost use Rattle.prob_expr.specs.Check.{next_node as node_next};
 ghost use Rattle.count_table.specs.Tables.{AreCounts, HasLevels};
 ghost use Rattle.count_eval.specs.Evaluated.{term_outcome};
 ghost use Rattle.count_eval.specs.Laws.{IsUsed, AreUsed};
 ghost use Rattle.count_eval.specs.Programs.{weights_in, is_used, cell_of, seen, seen_so_far, seen_more, IsBelow, AreBelow};
-ghost use Rattle.count_eval.specs.Spots.{IsScope, limit_of, value_at, cells_from, factors_from};
+ghost use Rattle.count_eval.specs.Rules.{rule};
+ghost use Rattle.count_eval.specs.Spots.{IsScope, limit_of, value_at, cells_from};
 
 use crate::failure::Failure;
-use crate::joining::{Joint, join_more, outcome, whole};
+use crate::joining::{Joint, join_more, join_outcome, or_zero, outcome, whole, zero_so_far};
 use crate::lookup::Lookup;
 use crate::nodes::{next_node, node_behind};
 use crate::spot::Spot;
@@ -19,12 +20,14 @@ use mixed_graph::VSet;
 use prob_expr::Expr;
 use quantity::{Quantity, QuantityFault};
 
-/// What an evaluation is over: where it looks up, the number of vertices, and the definitions.
+/// What an evaluation is over: where it looks up, the number of vertices, and the definitions; and whether a product with a
+/// factor 0 is 0 also where other factors have no value.
 #[derive(Drop)]
 pub struct Scope<'a, L> {
     pub lookup: &'a L,
     pub n: u32,
     pub defs: &'a [Expr],
+    pub zero: bool,
 }
 
 /// A sum: where it stands, and the vertices that it runs through.
@@ -46,7 +49,7 @@ fn term<Q: Quantity, L: Lookup<Q>>(
     requires of { (v : ℕ) → has of.bits v ≡ true → is_used (L.counts scope.now.lookup.now) v ≡ true }
     requires given { (v : ℕ) → has given.bits v ≡ true → is_used (L.counts scope.now.lookup.now) v ≡ true }
     requires levels { HasLevels (L.counts scope.now.lookup.now) (is_used (L.counts scope.now.lookup.now)) at.cell }
-    ensures { seen Q.numbers result ≡ term_outcome Q.kind (weights_in scope.now.n (L.counts scope.now.lookup.now)) at.def at.node of.bits doing.bits given.bits (cell_of at.cell) }
+    ensures { seen Q.numbers result ≡ term_outcome (rule Q.kind scope.now.zero) (weights_in scope.now.n (L.counts scope.now.lookup.now)) at.def at.node of.bits doing.bits given.bits (cell_of at.cell) }
 {
     let cell = at.cell;
     let bottom = scope.lookup.sum(given, &cell);
@@ -65,12 +68,12 @@ pub fn value_at<Q: Quantity, L: Lookup<Q>>(
     e: &Expr,
     at: Spot,
 ) -> Result<Q, Failure>
-    requires scope { IsScope Q.kind scope.now.n (L.counts scope.now.lookup.now) (map view scope.now.defs.now) (L.holds scope.now.lookup.now) }
+    requires scope { IsScope (rule Q.kind scope.now.zero) scope.now.n (L.counts scope.now.lookup.now) (map view scope.now.defs.now) (L.holds scope.now.lookup.now) }
     requires limit { limit_of (map view scope.now.defs.now) at.def ≤ length scope.now.defs.now }
     requires below { IsBelow (limit_of (map view scope.now.defs.now) at.def) (view e.now) }
     requires used { IsUsed (is_used (L.counts scope.now.lookup.now)) (view e.now) }
     requires levels { HasLevels (L.counts scope.now.lookup.now) (is_used (L.counts scope.now.lookup.now)) at.cell }
-    ensures { seen Q.numbers result ≡ value_at Q.kind (weights_in scope.now.n (L.counts scope.now.lookup.now)) (map view scope.now.defs.now) at (view e.now) }
+    ensures { seen Q.numbers result ≡ value_at (rule Q.kind scope.now.zero) (weights_in scope.now.n (L.counts scope.now.lookup.now)) (map view scope.now.defs.now) at (view e.now) }
 {
     match e {
         Expr::Prob { of, doing, given } => term(scope, *of, *doing, *given, at),
@@ -79,7 +82,7 @@ pub fn value_at<Q: Quantity, L: Lookup<Q>>(
             let total = cells_from(scope, sum, body, 0, at.cell, None);
             whole(Q::from_ratio(0, 1), total)
         }
-        Expr::Product(factors) => whole(Q::from_ratio(1, 1), factors_from(scope, factors, at)),
+        Expr::Product(factors) => product_at(scope, factors, at),
         Expr::Quotient { top, bottom } => {
             let first = next_node(at.node);
             let a: Q = value_at(scope, top, Spot { node: first, ..at })?;
@@ -109,13 +112,13 @@ fn cells_from<Q: Quantity, L: Lookup<Q>>(
     cell: [u32; 64],
     so_far: Option<Q>,
 ) -> Result<Option<Q>, Failure>
-    requires scope { IsScope Q.kind scope.now.n (L.counts scope.now.lookup.now) (map view scope.now.defs.now) (L.holds scope.now.lookup.now) }
+    requires scope { IsScope (rule Q.kind scope.now.zero) scope.now.n (L.counts scope.now.lookup.now) (map view scope.now.defs.now) (L.holds scope.now.lookup.now) }
     requires limit { limit_of (map view scope.now.defs.now) sum.at.def ≤ length scope.now.defs.now }
     requires below { IsBelow (limit_of (map view scope.now.defs.now) sum.at.def) (view body.now) }
     requires used { IsUsed (is_used (L.counts scope.now.lookup.now)) (view body.now) }
     requires levels { HasLevels (L.counts scope.now.lookup.now) (is_used (L.counts scope.now.lookup.now)) cell }
     requires vertex { v ≤ scope.now.n }
-    ensures { seen_more Q.numbers result ≡ cells_from Q.kind (weights_in scope.now.n (L.counts scope.now.lookup.now)) (map view scope.now.defs.now) sum (view body.now) v cell (seen_so_far Q.numbers so_far) }
+    ensures { seen_more Q.numbers result ≡ cells_from (rule Q.kind scope.now.zero) (weights_in scope.now.n (L.counts scope.now.lookup.now)) (map view scope.now.defs.now) sum (view body.now) v cell (seen_so_far Q.numbers so_far) }
 {
     if u32::from(v) >= scope.n {
         let at = sum.at;
@@ -142,27 +145,29 @@ fn cells_from<Q: Quantity, L: Lookup<Q>>(
     Ok(total)
 }
 
-/// The product of the factors, or none where there are none.
+/// The value of a product of these factors.
 #[cycle(evaluate)]
-fn factors_from<Q: Quantity, L: Lookup<Q>>(
+fn product_at<Q: Quantity, L: Lookup<Q>>(
     scope: &Scope<L>,
     factors: &Vec<Expr>,
     at: Spot,
-) -> Result<Option<Q>, Failure>
-    requires scope { IsScope Q.kind scope.now.n (L.counts scope.now.lookup.now) (map view scope.now.defs.now) (L.holds scope.now.lookup.now) }
+) -> Result<Q, Failure>
+    requires scope { IsScope (rule Q.kind scope.now.zero) scope.now.n (L.counts scope.now.lookup.now) (map view scope.now.defs.now) (L.holds scope.now.lookup.now) }
     requires limit { limit_of (map view scope.now.defs.now) at.def ≤ length scope.now.defs.now }
     requires below { AreBelow (limit_of (map view scope.now.defs.now) at.def) (views factors.now.items) }
     requires used { AreUsed (is_used (L.counts scope.now.lookup.now)) (views factors.now.items) }
     requires levels { HasLevels (L.counts scope.now.lookup.now) (is_used (L.counts scope.now.lookup.now)) at.cell }
-    ensures { seen_more Q.numbers result ≡ factors_from Q.kind (weights_in scope.now.n (L.counts scope.now.lookup.now)) (map view scope.now.defs.now) at (node_next at.node) (views factors.now.items) None }
+    ensures { seen Q.numbers result ≡ value_at (rule Q.kind scope.now.zero) (weights_in scope.now.n (L.counts scope.now.lookup.now)) (map view scope.now.defs.now) at (product (views factors.now.items)) }
 {
-    let mut so_far: Option<Q> = None;
+    let mut so_far: Result<Option<Q>, Failure> = Ok(None);
+    let mut some_zero = false;
     let mut next = next_node(at.node);
     for factor in factors {
         let inner = Spot { node: next, ..at };
-        let q: Q = value_at(scope, factor, inner)?;
-        so_far = join_more(Joint::Multiplying, so_far, q, at)?;
+        let value: Result<Q, Failure> = value_at(scope, factor, inner);
+        some_zero = zero_so_far(some_zero, &value);
+        so_far = join_outcome(Joint::Multiplying, so_far, value, at);
         next = node_behind(factor, next);
     }
-    Ok(so_far)
+    or_zero(scope.zero, some_zero, whole(Q::from_ratio(1, 1), so_far))
 }

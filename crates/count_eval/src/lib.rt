@@ -1,7 +1,7 @@
 //! The values of formulas over counts.
 #![tactic(auto)]
 
-ghost use Rattle.count_eval.specs.Laws.{EachIsCovered, MatchedHasValue, MatchedIsCovered, MatchedCoversEffect};
+ghost use Rattle.count_eval.specs.Laws.{EachIsCovered, MatchedHasValue, MatchedIsCovered, MatchedCoversEffect, ZeroKeepsValues, MatchedIsSame};
 
 mod eval;
 mod evaluable;
@@ -27,4 +27,6 @@ pub fn laws<Q: Quantity>()
     ensures matched { MatchedHasValue }
     ensures model { MatchedIsCovered Q.kind Q.covers }
     ensures effect { MatchedCoversEffect Q.kind Q.covers }
+    ensures keeps { ZeroKeepsValues Q.kind }
+    ensures same { MatchedIsSame Q.kind }
 {}

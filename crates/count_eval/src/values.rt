@@ -1,10 +1,11 @@
 //! The value of a formula at a cell, by any lookup.
 
-ghost use Rattle.std.specs.Prelude.{ℕ, ◌≡◌, ◌≢◌, ◌<◌, ◌≤◌, length, IfOk, IfErr, slice_index, if◌then◌else◌};
+ghost use Rattle.std.specs.Prelude.{ℕ, ◌≡◌, ◌≢◌, ◌<◌, ◌≤◌, length, IfOk, IfErr, false, slice_index, if◌then◌else◌};
 ghost use Rattle.mixed_graph.specs.Bits.{has, members_below};
 ghost use Rattle.prob_expr.specs.View.{formula_view};
 ghost use Rattle.count_table.specs.Tables.{AreCounts, HasLevels};
 ghost use Rattle.count_eval.specs.Evaluated.{formula_value};
+ghost use Rattle.count_eval.specs.Rules.{rule};
 ghost use Rattle.count_eval.specs.Programs.{weights_in, is_used, cell_of, stop_of, AreValues};
 ghost use Rattle.count_eval.specs.Answers.{IsEvaluable, IsEvaluationFault, Answers, CoversCounts, CoversMatches, DeniesMatches};
 
@@ -66,16 +67,17 @@ pub fn value_by<Q: Quantity, L: Lookup<Q>>(
     n: u32,
     f: &Formula,
     used: VSet,
+    zero: bool,
     at: &[u32],
 ) -> Result<Q, EvalFault>
     requires formula { IsEvaluable n (L.counts lookup.now) (formula_view f.now) }
     requires table { AreCounts (L.counts lookup.now) }
     requires used { members_below (has used.bits) 64 ≡ (L.counts lookup.now).vertices }
-    requires held { AreValues Q.kind (weights_in n (L.counts lookup.now)) (formula_view f.now).defs (L.holds lookup.now) }
+    requires held { AreValues (rule Q.kind zero) (weights_in n (L.counts lookup.now)) (formula_view f.now).defs (L.holds lookup.now) }
     requires entries { length at.now ≡ n }
     requires levels { HasLevels (L.counts lookup.now) (is_used (L.counts lookup.now)) at.now }
-    ensures value { Answers Q.numbers (L.counts lookup.now) (formula_value Q.kind (weights_in n (L.counts lookup.now)) (formula_view f.now) (cell_of at.now)) result }
-    ensures counts { IfOk result (λ q. CoversCounts Q.covers n (L.counts lookup.now) (formula_view f.now) (cell_of at.now) (Q.numbers q)) }
+    ensures value { Answers Q.numbers (L.counts lookup.now) (formula_value (rule Q.kind zero) (weights_in n (L.counts lookup.now)) (formula_view f.now) (cell_of at.now)) result }
+    ensures counts { zero ≡ false → IfOk result (λ q. CoversCounts Q.covers n (L.counts lookup.now) (formula_view f.now) (cell_of at.now) (Q.numbers q)) }
     ensures matches { IfOk result (λ q. CoversMatches Q.covers n (L.counts lookup.now) (formula_view f.now) (cell_of at.now) (Q.numbers q)) }
     ensures support { IfErr result (DeniesMatches n (L.counts lookup.now) (cell_of at.now)) }
     ensures memory { IfErr result (λ e. e ≢ EvalFault.NoMemory) }
@@ -84,6 +86,7 @@ pub fn value_by<Q: Quantity, L: Lookup<Q>>(
         lookup,
         n,
         defs: &f.defs,
+        zero,
     };
     let root = Spot {
         def: None,
@@ -104,20 +107,24 @@ pub fn value_by<Q: Quantity, L: Lookup<Q>>(
 /// order of evaluation, that has no value: `NoSupport` where a denominator is 0, `TooWide` where a number of the
 /// result would be over 2^127 - 1, `TooFine` where only a divisor's lower bound is 0. Where a
 /// positive model matches the counts, it isn't `NoSupport`.
+///
+/// With `zero` a product with a factor 0 is 0 whatever its other factors are, also where these have no value. Where a positive
+/// model matches the counts no factor is 0, and this changes nothing.
 pub fn value_by_nodes<Q: Quantity>(
     n: u32,
     f: &Formula,
     c: &Counts,
+    zero: bool,
     at: &[u32],
 ) -> Result<Q, EvalFault>
     requires formula { IsEvaluable n c.now (formula_view f.now) }
     requires entries { length at.now ≡ n }
     requires levels { HasLevels c.now (is_used c.now) at.now }
-    ensures value { Answers Q.numbers c.now (formula_value Q.kind (weights_in n c.now) (formula_view f.now) (cell_of at.now)) result }
-    ensures counts { IfOk result (λ q. CoversCounts Q.covers n c.now (formula_view f.now) (cell_of at.now) (Q.numbers q)) }
+    ensures value { Answers Q.numbers c.now (formula_value (rule Q.kind zero) (weights_in n c.now) (formula_view f.now) (cell_of at.now)) result }
+    ensures counts { zero ≡ false → IfOk result (λ q. CoversCounts Q.covers n c.now (formula_view f.now) (cell_of at.now) (Q.numbers q)) }
     ensures matches { IfOk result (λ q. CoversMatches Q.covers n c.now (formula_view f.now) (cell_of at.now) (Q.numbers q)) }
     ensures support { IfErr result (DeniesMatches n c.now (cell_of at.now)) }
     ensures memory { IfErr result (λ e. e ≢ EvalFault.NoMemory) }
 {
-    value_by(c, n, f, c.used(), at)
+    value_by(c, n, f, c.used(), zero, at)
 }

@@ -1,17 +1,26 @@
 -- The command's words ask for one request, and its answers have one outcome.
-use Rattle.std.proofs.Common.{◌≡◌, List, refl, sym, ◌∙◌}
+use Rattle.std.proofs.Common.{◌≡◌, ℕ, List, refl, sym, ap, ◌∙◌}
 use Rattle.std.specs.Prelude.{codes}
 use Rattle.std.proofs.lemmas.Option.{same_Some}
-use Rattle.command_words.specs.Form.{Use, value_of}
-use Rattle.command_words.proofs.OneValue.{one_listed}
+use Rattle.command_words.specs.Form.{Use, value_of, has_flag}
+use Rattle.command_words.proofs.OneValue.{one_listed, one_listed_or_empty}
 use Rattle.dag_reader.specs.declared.graph.ReadGraph.{ReadGraph}
 use Rattle.replies.specs.Command.{IsLeft}
 use Rattle.replies.proofs.Commands.{IsLawful, lawful_on_two_inputs}
+use Rattle.replies.specs.Observed.{Names}
+use Rattle.evaluate_command.specs.Ways.{way_for}
 use Rattle.evaluate_command.specs.Effects.{PlainEffect, Identifies}
 use Rattle.evaluate_command.specs.Requests.{Request, IsRequest}
 use Rattle.evaluate_command.specs.Command.{evaluate_command, evaluate_left}
 use Rattle.evaluate_command.proofs.Outcomes.{first_answered, counts_answered}
 use Rattle.evaluate_command.proofs.Exclusive.{evaluate_once, first_alone, first_once}
+
+one_way : (uses : List Use) (q r : Request) → IsRequest uses q → IsRequest uses r → r.way ≡ q.way
+one_way uses q r a b =
+    let sets : b.set ≡ a.set = one_listed (value_of uses (codes "set")) a.set b.set a.is_set b.is_set in
+    let givens : b.given ≡ a.given = one_listed_or_empty (value_of uses (codes "given")) a.given b.given a.is_given b.is_given in
+    let flag = has_flag uses (codes "back-door") in
+    same_Some r.way q.way (sym b.is_way ∙ ap (λ (s : Names). way_for s b.given flag) sets ∙ ap (λ (l : List (List ℕ)). way_for a.set l flag) givens ∙ a.is_way)
 
 -- the uses ask for one request
 one_request : (uses : List Use) (q r : Request) → IsRequest uses q → IsRequest uses r → r ≡ q
@@ -20,19 +29,21 @@ one_request uses q r a b = λ i. record {
   counts = same_Some r.counts q.counts (sym b.counts ∙ a.counts) i;
   x = one_listed (value_of uses (codes "x")) q.x r.x a.x b.x i;
   y = one_listed (value_of uses (codes "y")) q.y r.y a.y b.y i;
+  way = one_way uses q r a b i;
   count = (sym b.count ∙ a.count) i;
   exact = (sym b.exact ∙ a.exact) i;
+  zero = (sym b.zero ∙ a.zero) i;
 }
 
 -- what holds of each command holds of it
 pub evaluate_lawful : IsLawful evaluate_command
 evaluate_lawful = lawful_on_two_inputs one_request
-    (λ q g. first_answered g q.x q.y)
-    (λ q g other o text a. counts_answered q.exact a.0 q.count other o text a.2)
-    (λ q bytes. first_once bytes q.x q.y)
-    (λ q bytes other. evaluate_once bytes other q.exact q.x q.y q.count)
-    (λ q name g h same names o text a n. first_alone g h same q.x q.y o text n.0 a n.1)
+    (λ q g. first_answered q.way g q.x q.y)
+    (λ q g other o text a. counts_answered q.exact q.zero a.0 q.count other o text a.2)
+    (λ q bytes. first_once bytes q.way q.x q.y)
+    (λ q bytes other. evaluate_once bytes other q.exact q.zero q.way q.x q.y q.count)
+    (λ q name g h same names o text a n. first_alone q.way g h same q.x q.y o text n.0 a n.1)
 
-pub evaluate_is_left : (q : Request) (g : ReadGraph) (e : PlainEffect) → Identifies g q.x q.y e
-    → IsLeft evaluate_command q g (evaluate_left e q.counts q.count q.exact)
+pub evaluate_is_left : (q : Request) (g : ReadGraph) (e : PlainEffect) → Identifies q.way g q.x q.y e
+    → IsLeft evaluate_command q g (evaluate_left e q.counts q.count q.exact q.zero)
 evaluate_is_left q g e is = record { named = refl; continues = (e, is); known = is.identified; answers = λ other o text a. (e, is, a) }

@@ -6,5 +6,9 @@ pub mod Printed
 pub mod Stops
 pub mod Evaluable
 pub mod Outcomes
+mod NoWays
+pub mod Unmet
+pub mod FirstAnswers
+pub mod Adjusted
 pub mod Exclusive
 pub mod Lawful

@@ -1,7 +1,8 @@
 -- The cells of an effect over counts, and the quantities there.
 use Rattle.std.specs.Prelude.{ℕ, ◌≡◌, List, [], ◌∷◌, ◌++◌, map, length, set, replicate, false, Result, Ok, slice_index}
 use Rattle.mixed_graph.specs.Bits.{has, members_below}
-use Rattle.quantity.specs.Kinds.{Pair, Kind}
+use Rattle.quantity.specs.Kinds.{Pair}
+use Rattle.count_eval.specs.Rules.{Rule}
 use Rattle.count_rows.specs.Rows.{Table}
 use Rattle.count_table.specs.Cells.{cells_of}
 use Rattle.count_table.specs.Tables.{levels_in, HasLevels}
@@ -24,21 +25,21 @@ with_levels cell (v ∷ vs) (k ∷ ks) = with_levels (set cell v k) vs ks
 abbrev pub cells_along : Table → List ℕ → List ℕ → List (List ℕ)
 cells_along t cell vs = map (with_levels cell vs) (cells_of (map (level_count t) vs))
 
--- the members of x and then those of y, each in index order
-abbrev pub varied : (x y : ℕ) → List ℕ
-varied x y = members_below (has x) 64 ++ members_below (has y) 64
+-- the members of x, then those of what is given, then those of y, each in index order
+abbrev pub varied : (x given y : ℕ) → List ℕ
+varied x given y = members_below (has x) 64 ++ (members_below (has given) 64 ++ members_below (has y) 64)
 
 -- the first level of each vertex
 abbrev pub first_cell : ℕ → List ℕ
 first_cell n = replicate n 0
 
--- the printed cells: all levels of x and y, and the first level of each other vertex
+-- the printed cells: all levels of x, of what is given and of y, and the first level of each other vertex
 abbrev pub printed_cells : PlainEffect → Table → List (List ℕ)
-printed_cells e t = cells_along t (first_cell e.graph.vertices) (varied e.x e.y)
+printed_cells e t = cells_along t (first_cell e.graph.vertices) (varied e.x e.given e.y)
 
--- the value of the formula at a cell
-abbrev pub value_in : Kind → PlainEffect → Table → List ℕ → Result Pair Stop
-value_in kind e t cell = formula_value kind (weights_in e.graph.vertices t) e.formula (cell_of cell)
+-- the value of the formula at a cell, by a rule in a kind of quantity
+abbrev pub value_in : Rule → PlainEffect → Table → List ℕ → Result Pair Stop
+value_in rule e t cell = formula_value rule (weights_in e.graph.vertices t) e.formula (cell_of cell)
 
 -- a cell with the quantity there
 pub record CellValue : Type 0 where

@@ -8,9 +8,16 @@ use Rattle.evaluate_command.specs.Requests.{Request, IsRequest}
 
 -- its request and its answers
 abbrev pub evaluate_command : CommandForm
-evaluate_command = on_two_inputs Request IsRequest (λ q. q.file) (λ q. Some q.counts) (λ q g. EvaluateFirst g q.x q.y)
-    (λ q g. (e : PlainEffect) × Identifies g q.x q.y e) (λ q g other. EvaluateAnswer q.exact g q.x q.y q.count other)
+evaluate_command = on_two_inputs Request IsRequest (λ q. q.file) (λ q. Some q.counts) (λ q g. EvaluateFirst q.way g q.x q.y)
+    (λ q g. (e : PlainEffect) × Identifies q.way g q.x q.y e)
+    (λ q g other. EvaluateAnswer q.exact q.zero q.way g q.x q.y q.count other)
 
--- what is left once the effect has a formula: its values over the counts, whose column may have a name, in exact fractions or in bounds
-abbrev pub evaluate_left : PlainEffect → (counts : Text) (count : Option Text) (exact : Bool) → Remainder
-evaluate_left e counts count exact = record { second = counts; limit = 67108864; known = IsIdentified e; answer = λ other. CountsAnswer exact e count other }
+-- what is left once the effect has a formula: its values over the counts, whose column may have a name, in exact fractions or in bounds, by one of
+-- the two rules for products
+abbrev pub evaluate_left : PlainEffect → (counts : Text) (count : Option Text) (exact zero : Bool) → Remainder
+evaluate_left e counts count exact zero = record {
+  second = counts;
+  limit = 67108864;
+  known = IsIdentified e;
+  answer = λ other. CountsAnswer exact zero e count other;
+}

@@ -1,62 +1,116 @@
 -- An effect that has a formula.
-use Rattle.std.specs.Prelude.{ℕ, ◌≡◌, ◌⊎◌, ◌≤◌, ◌<◌, IsTrue, List, length}
+use Rattle.std.specs.Prelude.{ℕ, ◌≡◌, ◌⊎◌, ◌≤◌, ◌<◌, true, Bool, IsTrue, List, None, length}
 use Rattle.mixed_graph.specs.Bits.{has}
 use Rattle.mixed_graph.specs.Graphs.{MixedGraph, IsMixedGraph, IsAncestor}
 use Rattle.mixed_graph.specs.Sets.{Within, Apart}
 use Rattle.mixed_graph.specs.Shown.{graph_of}
 use Rattle.dag_reader.specs.declared.graph.ReadGraph.{ReadGraph}
-use Rattle.targets.specs.Targets.{AreEffectSets}
-use Rattle.replies.specs.Observed.{Names, observed_names, IsObservedGraph}
+use Rattle.targets.specs.Targets.{AreEffectSets, AreSets}
+use Rattle.replies.specs.Observed.{Names, observed_names, IsObservedGraph, query_lists}
 use Rattle.mixed_graph.specs.Masks.{union}
-use Rattle.prob_expr.specs.Tree.{PlainFormula}
+use Rattle.prob_expr.specs.Check.{fault_in}
+use Rattle.prob_expr.specs.Terms.{is_do_free}
+use Rattle.prob_expr.specs.Tree.{PlainFormula, PlainTarget}
+use Rattle.prob_expr.specs.Values.{EqualsEffect}
 use Rattle.prob_expr.specs.View.{formula_view}
 use Rattle.do_derivation.specs.Plans.{PlainDerivation}
 use Rattle.identification_theory.specs.Derivations.{IsDerived}
 use Rattle.identify.specs.Answers.{IsRightFormula}
+use Rattle.conditional_id.specs.Conditionals.{IsConditionalBySteps}
+use Rattle.conditional_id.specs.TurnLaws.{IsRightGiven}
+use Rattle.adjustment.specs.Formulas.{adjustment_formula}
+use Rattle.adjust_command.specs.Verdicts.{IsVerdict}
+use Rattle.adjust_command.specs.declared.criteria.Verdict.TheVariants.{Meets}
 use Rattle.effect_answers.specs.Effects.{effect_lists}
+use Rattle.identify_command.specs.Conditions.{target_lists, AreTargetSets}
 use Rattle.prob_expr.specs.Mentioned.{mentioned}
+use Rattle.evaluate_command.specs.Ways.{Way, by_procedure, by_adjusting, by_condition}
 use Rattle.evaluate_command.specs.declared.identified.Identified.{Identified}
 
--- the effect of x on y in a graph, whose vertices have these names, and a formula for it
+-- the effect of x on y under a condition, which may be empty, in a graph whose vertices have these names, and a formula for it
 pub record PlainEffect : Type 0 where
   pub names : List (List ℕ)
   pub graph : MixedGraph
   pub x : ℕ
   pub y : ℕ
+  pub given : ℕ
   pub formula : PlainFormula
+
+-- P(y | do(x), given)
+abbrev pub target_of : PlainEffect → PlainTarget
+target_of e = record { x = e.x; y = e.y; given = e.given }
+
+-- the effect of a target, with a formula
+abbrev pub effect_for : List (List ℕ) → MixedGraph → PlainTarget → PlainFormula → PlainEffect
+effect_for names graph t formula = record { names = names; graph = graph; x = t.x; y = t.y; given = t.given; formula = formula }
 
 -- what an identified effect holds
 abbrev pub effect_view : Identified → PlainEffect
-effect_view i = record { names = i.seen.names; graph = graph_of i.seen.graph; x = i.sets.x.bits; y = i.sets.y.bits; formula = formula_view i.formula }
+effect_view i = record {
+  names = i.seen.names;
+  graph = graph_of i.seen.graph;
+  x = i.sets.x.bits;
+  y = i.sets.y.bits;
+  given = i.given.bits;
+  formula = formula_view i.formula;
+}
 
--- the vertices whose levels are read: those that the formula names, with x and y
+-- the vertices whose levels are read: those that the formula names, with x, y and what is given
 abbrev pub used_in : PlainEffect → ℕ
-used_in e = union (mentioned e.formula) (union e.x e.y)
+used_in e = union (mentioned e.formula) (union e.x (union e.y e.given))
 
--- the vertex is in x, or it is an ancestor of y
-abbrev pub IsColumn : PlainEffect → ℕ → Type 0
-IsColumn e v = IsTrue (has e.x v) ⊎ IsAncestor e.graph (has e.y) v
-
--- x and y lie apart in the graph, and y has a member. The formula is that of the identification procedure, and right: the check of formulas accepts
--- it, it has no intervention, it equals P(y | do(x)) in each
--- positive model that fits the graph, some derivation turns P(y | do(x)) into it, and it names ancestors of y alone.
--- No column is read but those of x and of ancestors of y.
+-- x, y and what is given are vertices of the graph, x and y lie apart, and y has a member. The formula is accepted by the check of formulas, has no
+-- intervention, names vertices of the graph alone, and equals
+-- P(y | do(x), given) in each positive model that fits the graph.
 pub record IsIdentified (e : PlainEffect) : Type 0 where
   pub named : length e.names ≡ e.graph.vertices
   pub few : e.graph.vertices ≤ 64
   pub graph : IsMixedGraph e.graph
   pub x : Within e.graph.vertices (has e.x)
   pub y : Within e.graph.vertices (has e.y)
+  pub given : Within e.graph.vertices (has e.given)
   pub apart : Apart (has e.x) (has e.y)
   pub some : 0 < e.y
-  pub columns : (v : ℕ) → IsTrue (has (used_in e) v) → IsColumn e v
+  pub used : Within e.graph.vertices (has (used_in e))
+  pub formed : fault_in e.graph.vertices e.formula ≡ None
+  pub do_free : is_do_free e.formula ≡ true
+  pub effect : EqualsEffect e.graph (target_of e) e.formula
+
+-- ---- the three ways
+
+-- Nothing is given, and the formula is that of the identification procedure, and right: some derivation turns P(y | do(x)) into it, and it names
+-- ancestors of y alone. No column is read but those of x and of ancestors of y.
+pub record IsByProcedure (e : PlainEffect) : Type 0 where
+  pub bare : e.given ≡ 0
   pub derivation : PlainDerivation
   pub right : IsRightFormula e.graph e.x e.y e.formula derivation
   pub derived : IsDerived e.graph e.x e.y e.formula derivation
+  pub columns : (v : ℕ) → IsTrue (has (used_in e) v) → IsTrue (has e.x v) ⊎ IsAncestor e.graph (has e.y) v
 
--- it is the effect that the lists of x and y name in the observed graph of the one that was read, and it is identified
-pub record Identifies (g : ReadGraph) (x y : Names) (e : PlainEffect) : Type 0 where
+-- Nothing is given, z meets the criterion, and the formula is the adjustment formula of z. No column is read but those of x, y and z.
+pub record IsByAdjusting (back_door : Bool) (z : ℕ) (e : PlainEffect) : Type 0 where
+  pub bare : e.given ≡ 0
+  pub meets : IsVerdict back_door e.graph e.x e.y z Meets
+  pub formula : e.formula ≡ adjustment_formula e.x e.y z
+  pub columns : (v : ℕ) → IsTrue (has (used_in e) v) → IsTrue (has e.x v) ⊎ (IsTrue (has e.y v) ⊎ IsTrue (has z v))
+
+-- The formula is that of the procedure for effects under a condition, and right: some derivation turns P(y | do(x), given) into it, and it names
+-- ancestors of y and of what is given alone. No column is read but those of x and of these.
+pub record IsByCondition (e : PlainEffect) : Type 0 where
+  pub derivation : PlainDerivation
+  pub right : IsRightGiven e.graph (target_of e) e.formula derivation
+  pub derived : IsConditionalBySteps e.graph (target_of e) e.formula derivation
+  pub columns : (v : ℕ) → IsTrue (has (used_in e) v) → IsTrue (has e.x v) ⊎ IsAncestor e.graph (has (union e.y e.given)) v
+
+-- the lists name the sets of the effect, and its formula is found in this way
+abbrev pub IsFoundBy : Way → ReadGraph → (x y : Names) → PlainEffect → Type 0
+IsFoundBy by_procedure g x y e = AreEffectSets (effect_lists g x y) e.x e.y × IsByProcedure e
+IsFoundBy (by_adjusting back_door set) g x y e = (z : ℕ) × AreSets (query_lists g x y set) e.x e.y z × IsByAdjusting back_door z e
+IsFoundBy (by_condition given) g x y e = AreTargetSets (target_lists g x y given) (target_of e) × IsByCondition e
+
+-- it is the effect that the lists of x and y name in the observed graph of the one that was read, and it is identified in this way
+pub record Identifies (way : Way) (g : ReadGraph) (x y : Names) (e : PlainEffect) : Type 0 where
   pub names : e.names ≡ observed_names g
   pub graph : IsObservedGraph g e.graph
-  pub sets : AreEffectSets (effect_lists g x y) e.x e.y
   pub identified : IsIdentified e
+  pub found : IsFoundBy way g x y e

@@ -1,3 +1,4 @@
+pub mod Ways
 pub mod Effects
 pub mod Cells
 pub mod Lines

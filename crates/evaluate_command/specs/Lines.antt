@@ -1,10 +1,10 @@
 -- The lines that `evaluate` prints.
-use Rattle.std.specs.Prelude.{ℕ, List, [], ◌++◌, codes, Option, Some, None, Bool, true, false, if◌then◌else◌}
+use Rattle.std.specs.Prelude.{ℕ, List, [], ◌∷◌, ◌++◌, codes, Option, Some, None, Bool, true, false, if◌then◌else◌}
 use Rattle.std.specs.Fmt.{decimal}
 use Rattle.std.specs.List.{flat_map}
 use Rattle.mixed_graph.specs.Bits.{has, members_below}
 use Rattle.mixed_graph.specs.Masks.{is_empty}
-use Rattle.identify_text.specs.Answers.{free_outside}
+use Rattle.identify_text.specs.Answers.{free_beside}
 use Rattle.quantity.specs.declared.fault.QuantityFault.{QuantityFault}
 use Rattle.quantity.specs.declared.fault.QuantityFault.TheVariants.{ZeroBelow, TooWide, TooFine}
 use Rattle.quantity.specs.Kinds.{Kind}
@@ -12,16 +12,20 @@ use Rattle.count_rows.specs.Rows.{Table}
 use Rattle.count_eval.specs.Programs.{cell_of}
 use Rattle.count_eval.specs.Stops.{Stop}
 use Rattle.count_answers.specs.Lines.{assignment, assignments}
-use Rattle.evaluate_command.specs.Effects.{PlainEffect}
+use Rattle.evaluate_command.specs.Effects.{PlainEffect, target_of}
 use Rattle.evaluate_command.specs.Cells.{CellValue}
 
 -- what is done: nothing where x is empty
 abbrev pub doing_text : PlainEffect → Table → (ℕ → ℕ) → List ℕ
 doing_text e t cell = if is_empty e.x then [] else codes "|do(" ++ (assignments e.names t cell (members_below (has e.x) 64) ++ codes ")")
 
--- the effect at a cell: `P(Y=level|do(X=level))`, or `P(Y=level)` for an empty x
+-- what is given, behind a bar where x is empty, else behind a comma: nothing where nothing is given
+abbrev pub given_text : PlainEffect → Table → (ℕ → ℕ) → List ℕ
+given_text e t cell = if is_empty e.given then [] else (if is_empty e.x then 124 else 44) ∷ assignments e.names t cell (members_below (has e.given) 64)
+
+-- the effect at a cell: `P(Y=level|do(X=level),Z=level)`, or `P(Y=level|do(X=level))` where nothing is given, or `P(Y=level)` where x is empty too
 abbrev pub effect_text : PlainEffect → Table → (ℕ → ℕ) → List ℕ
-effect_text e t cell = codes "P(" ++ (assignments e.names t cell (members_below (has e.y) 64) ++ (doing_text e t cell ++ codes ")"))
+effect_text e t cell = codes "P(" ++ (assignments e.names t cell (members_below (has e.y) 64) ++ (doing_text e t cell ++ (given_text e t cell ++ codes ")")))
 
 -- what stands between an effect and its value: ` = ` before a fraction, a space before bounds
 abbrev pub sign_of : Bool → List ℕ
@@ -36,9 +40,9 @@ value_line kind sign e t v = effect_text e t (cell_of v.cell) ++ (sign ++ (kind.
 abbrev pub pinned_line : List (List ℕ) → Table → ℕ → List ℕ
 pinned_line names t v = codes "pinned " ++ (assignment names t (λ u. 0) v ++ codes "\n")
 
--- the lines of the free variables outside x and y, in index order
+-- the lines of the free variables outside x, y and what is given, in index order
 abbrev pub pinned_lines : PlainEffect → Table → List ℕ
-pinned_lines e t = flat_map (pinned_line e.names t) (members_below (has (free_outside e.x e.y e.formula)) 64)
+pinned_lines e t = flat_map (pinned_line e.names t) (members_below (has (free_beside (target_of e) e.formula)) 64)
 
 -- the digit of why there is no value
 abbrev pub why_digit : QuantityFault → List ℕ

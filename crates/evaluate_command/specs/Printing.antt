@@ -1,7 +1,8 @@
 -- What the functions that print cells promise.
-use Rattle.std.specs.Prelude.{ℕ, ◌≡◌, List, ◌++◌, Err}
+use Rattle.std.specs.Prelude.{ℕ, ◌≡◌, Bool, List, ◌++◌, Err}
 use Rattle.fractions.specs.Fractions.{Fraction}
-use Rattle.quantity.specs.Kinds.{Pair, Kind}
+use Rattle.quantity.specs.Kinds.{Pair}
+use Rattle.count_eval.specs.Rules.{Rule}
 use Rattle.count_rows.specs.Rows.{Table}
 use Rattle.count_eval.specs.Answers.{IsEvaluationFault}
 use Rattle.count_eval.specs.Programs.{is_used}
@@ -13,20 +14,21 @@ use Rattle.evaluate_command.specs.Effects.{PlainEffect}
 use Rattle.evaluate_command.specs.declared.values.Failure.{Failure}
 use Rattle.evaluate_command.specs.declared.values.Failure.TheVariants.{Evaluation, NoMemory}
 
--- the effect's formula is prepared over the counts
-pub record IsPreparedFor (e : PlainEffect) (t : Table) (p : Preparation) : Type 0 where
+-- the effect's formula is prepared over the counts, for one of the two rules for products
+pub record IsPreparedFor (zero : Bool) (e : PlainEffect) (t : Table) (p : Preparation) : Type 0 where
   pub vertices : p.vertices ≡ e.graph.vertices
   pub counts : p.counts ≡ t
   pub formula : p.formula ≡ e.formula
+  pub rule : p.zero ≡ zero
 
 -- the lines of the cells, with the values there, are appended
-pub record Appends (kind : Kind) (covers : Pair → Fraction → Type 0) (sign : List ℕ) (e : PlainEffect) (t : Table) (cells : List (List ℕ))
+pub record Appends (rule : Rule) (covers : Pair → Fraction → Type 0) (sign : List ℕ) (e : PlainEffect) (t : Table) (cells : List (List ℕ))
     (old new : List ℕ) : Type 0 where
   pub added : List ℕ
-  pub values : AreValues kind covers sign e t cells added
+  pub values : AreValues rule covers sign e t cells added
   pub text : new ≡ old ++ added
 
 -- the fault is that of the first cell without a value; want of memory may come instead
-abbrev pub IsFailureOf : Kind → PlainEffect → Table → List (List ℕ) → Failure → Type 0
-IsFailureOf kind e t cells (Evaluation fault) = (s : Stop) × (values_at (value_in kind e t) cells ≡ Err s) × IsEvaluationFault (is_used t) fault s
-IsFailureOf kind e t cells NoMemory = Unit {0}
+abbrev pub IsFailureOf : Rule → PlainEffect → Table → List (List ℕ) → Failure → Type 0
+IsFailureOf rule e t cells (Evaluation fault) = (s : Stop) × (values_at (value_in rule e t) cells ≡ Err s) × IsEvaluationFault (is_used t) fault s
+IsFailureOf rule e t cells NoMemory = Unit {0}

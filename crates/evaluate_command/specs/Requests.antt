@@ -1,20 +1,21 @@
 -- What `evaluate` is asked for.
-use Rattle.std.specs.Prelude.{◌≡◌, Bool, List, Option, Some, [], ◌∷◌, codes, option_map}
+use Rattle.std.specs.Prelude.{ℕ, ◌≡◌, Bool, List, Option, Some, [], ◌∷◌, codes, option_map}
 use Rattle.command_words.specs.Form.{Text, Row, Use, word_of, value_of, has_flag}
 use Rattle.command_words.specs.Values as values
 use Rattle.replies.specs.Observed.{Names}
 use Rattle.command_words.specs.ListViews.{names_in}
+use Rattle.evaluate_command.specs.Ways.{Way, way_of, way_for}
 use Rattle.evaluate_command.specs.declared.request.Request.{Request as CodeRequest}
 
--- `evaluate FILE COUNTS [--x L] [--y L] [--count NAME] [--exact]`
+-- `evaluate FILE COUNTS [--x L] [--y L] [--given L] [--set L] [--back-door] [--count NAME] [--exact] [--zero]`
 abbrev pub evaluate_row : Row
 evaluate_row = record {
   name = codes "evaluate";
   positionals = codes "file" ∷ codes "counts" ∷ [];
   optional = [];
   required = [];
-  options = codes "x" ∷ codes "y" ∷ codes "count" ∷ [];
-  flags = codes "exact" ∷ [];
+  options = codes "x" ∷ codes "y" ∷ codes "given" ∷ codes "set" ∷ codes "count" ∷ [];
+  flags = codes "back-door" ∷ codes "exact" ∷ codes "zero" ∷ [];
 }
 
 -- a request
@@ -23,8 +24,10 @@ pub record Request : Type 0 where
   pub counts : Text
   pub x : Names
   pub y : Names
+  pub way : Way
   pub count : Option Text
   pub exact : Bool
+  pub zero : Bool
 
 -- the request
 abbrev pub request_of : CodeRequest → Request
@@ -33,8 +36,10 @@ request_of r = record {
   counts = r.counts.now;
   x = option_map names_in r.x;
   y = option_map names_in r.y;
+  way = way_of r.way;
   count = option_map (λ s. s.now) r.count;
   exact = r.exact;
+  zero = r.zero;
 }
 
 -- the uses ask for this
@@ -44,5 +49,11 @@ pub record IsRequest (uses : List Use) (r : Request) : Type 0 where
   pub inputs : values.AreTwoInputs r.file r.counts
   pub x : values.IsListed (value_of uses (codes "x")) r.x
   pub y : values.IsListed (value_of uses (codes "y")) r.y
+  pub set : Names
+  pub is_set : values.IsListed (value_of uses (codes "set")) set
+  pub given : List (List ℕ)
+  pub is_given : values.IsListedOrEmpty (value_of uses (codes "given")) given
+  pub is_way : way_for set given (has_flag uses (codes "back-door")) ≡ Some r.way
   pub count : value_of uses (codes "count") ≡ r.count
   pub exact : has_flag uses (codes "exact") ≡ r.exact
+  pub zero : has_flag uses (codes "zero") ≡ r.zero

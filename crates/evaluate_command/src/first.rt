@@ -1,33 +1,29 @@
-//! What is known before counts are read: a formula, or a hedge.
+//! What is known before counts are read: a formula, or the answer.
 
-ghost use Rattle.std.specs.Prelude.{◌≡◌, ◌<◌, IfOk, length, option_map};
-ghost use Rattle.mixed_graph.specs.Bits.{has};
-ghost use Rattle.mixed_graph.specs.Sets.{Within, Apart};
-ghost use Rattle.mixed_graph.specs.Shown.{graph_of};
+ghost use Rattle.std.specs.Prelude.{IfOk, option_map};
 ghost use Rattle.command_words.specs.ListViews.{names_in};
-ghost use Rattle.evaluate_command.specs.Firsts.{IsEffectOrReply, IsFound};
+ghost use Rattle.evaluate_command.specs.Firsts.{IsEffectOrReply};
+ghost use Rattle.evaluate_command.specs.Ways.{way_of};
 
+use crate::adjusting::by_adjusting;
+use crate::conditional::by_condition;
 use crate::identified::Identified;
+use crate::procedure::by_procedure;
+use crate::way::Way;
 use dag_reader::ReadGraph;
-use effect_answers::{Asked, Effect, asked_effect};
-use identify::{Answer, identify};
-use identify_text::hedge_answer;
-use latent_projection::Observed;
-use prob_expr::Formula;
-use replies::{Outcome, Reply};
+use replies::Reply;
 use std::alloc::{AllocError, Global};
-use targets::EffectSets;
 
 /// What is known before counts are read.
 #[derive(Drop)]
 pub enum EffectOrReply {
-    /// The answer: there is a hedge, or a listed name is at fault.
+    /// The answer: there is no formula of the kind that is asked for, or a listed name is at fault.
     Replied(Reply),
     /// The effect has a formula.
     Identified(Identified),
 }
 
-/// Identifies the effect of x on y in the observed graph: a formula for it, or else the answer.
+/// Identifies the effect of x on y in the observed graph, in one of three ways: a formula for it, or else the answer.
 ///
 /// A list that is missing is that of the exposures or of the outcomes. The only error is want of memory.
 pub fn identify_first(
@@ -35,51 +31,15 @@ pub fn identify_first(
     graph: &ReadGraph,
     x: Option<Vec<Vec<u8>>>,
     y: Option<Vec<Vec<u8>>>,
+    way: Way,
 ) -> Result<EffectOrReply, AllocError>
-    ensures { IfOk result (IsEffectOrReply graph.now (option_map names_in x) (option_map names_in y)) }
+    ensures { IfOk result (IsEffectOrReply (way_of way) graph.now (option_map names_in x) (option_map names_in y)) }
 {
-    let Effect { seen, sets } = match asked_effect(alloc, graph, x, y)? {
-        Asked::Effect(effect) => effect,
-        Asked::Refused(reply) => return Ok(EffectOrReply::Replied(reply)),
-    };
-    match find_formula(alloc, &seen, sets)? {
-        Found::Formula(formula) => Ok(EffectOrReply::Identified(Identified {
-            seen,
-            sets,
-            formula,
-        })),
-        Found::Hedge(text) => Ok(EffectOrReply::Replied(Reply {
-            outcome: Outcome::No,
-            text,
-        })),
-    }
-}
-
-/// A formula, or the text of a hedge with its two models.
-#[derive(Drop)]
-enum Found {
-    Formula(Formula),
-    Hedge(Vec<u8>),
-}
-
-/// A formula for the effect of sets of the observed graph, or the text of a hedge.
-fn find_formula(alloc: Global, seen: &Observed, sets: EffectSets) -> Result<Found, AllocError>
-    requires named { length seen.now.names ≡ seen.now.graph.n }
-    requires x { Within seen.now.graph.n (has sets.x.bits) }
-    requires y { Within seen.now.graph.n (has sets.y.bits) }
-    requires apart { Apart (has sets.x.bits) (has sets.y.bits) }
-    requires some { 0 < sets.y.bits }
-    ensures { IfOk result (IsFound (graph_of seen.now.graph) seen.now.names sets.x.bits sets.y.bits) }
-{
-    match identify(alloc, &seen.graph, sets.x, sets.y)? {
-        Answer::Formula(formula, _) => Ok(Found::Formula(formula)),
-        Answer::Hedge(hedge, pair) => Ok(Found::Hedge(hedge_answer(
-            alloc,
-            sets.x,
-            sets.y,
-            &hedge,
-            &pair,
-            &seen.names,
-        )?)),
+    match way {
+        Way::Procedure => by_procedure(alloc, graph, x, y),
+        Way::Adjusting { set, back_door } => {
+            by_adjusting(alloc, graph, x, y, set.as_slice(), back_door)
+        }
+        Way::Given(given) => by_condition(alloc, graph, x, y, given.as_slice()),
     }
 }

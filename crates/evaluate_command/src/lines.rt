@@ -3,10 +3,11 @@
 ghost use Rattle.std.specs.Prelude.{◌≡◌, ◌++◌, ◌<◌, ◌≤◌, ◌∷◌, [], length, codes, map, if◌then◌else◌, OnOk, IfOk};
 ghost use Rattle.mixed_graph.specs.Bits.{has};
 ghost use Rattle.mixed_graph.specs.Sets.{Within};
+ghost use Rattle.mixed_graph.specs.Masks.{is_empty};
 ghost use Rattle.count_eval.specs.Programs.{cell_of};
-ghost use Rattle.evaluate_command.specs.Effects.{effect_view};
-ghost use Rattle.identify_text.specs.Answers.{free_outside};
-ghost use Rattle.evaluate_command.specs.Lines.{doing_text, effect_text, value_line, pinned_line, pinned_lines};
+ghost use Rattle.evaluate_command.specs.Effects.{effect_view, target_of};
+ghost use Rattle.identify_text.specs.Answers.{free_beside};
+ghost use Rattle.evaluate_command.specs.Lines.{doing_text, given_text, effect_text, value_line, pinned_line, pinned_lines};
 
 use crate::identified::Identified;
 use count_answers::{push_assignment, push_assignments};
@@ -36,7 +37,33 @@ fn push_doing(
     Ok(())
 }
 
-/// Appends the effect at a cell, as `P(Y=level|do(X=level))`.
+/// Appends what is given, behind a bar or a comma: nothing where nothing is given.
+fn push_given(
+    out: &mut Vec<u8>,
+    found: &Identified,
+    counts: &Counts,
+    cell: &[u32],
+) -> Result<(), AllocError>
+    requires named { Within (length found.now.seen.names) (has found.now.given.bits) }
+    requires entries { Within (length cell.now) (has found.now.given.bits) }
+    ensures { OnOk result (out.new.items ≡ out.old.items ++ given_text (effect_view found.now) counts.now (cell_of cell.now)) }
+{
+    if found.given.is_empty() {
+        return Ok(());
+    }
+    out.push(given_sign(found.sets.x))?;
+    push_assignments(out, &found.seen.names, counts, found.given, cell)?;
+    Ok(())
+}
+
+/// What stands before a condition: a comma behind what is done, and a bar where nothing is.
+fn given_sign(x: VSet) -> u8
+    ensures { result ≡ (if is_empty x.bits then 124 else 44) }
+{
+    if x.is_empty() { b'|' } else { b',' }
+}
+
+/// Appends the effect at a cell, as `P(Y=level|do(X=level),Z=level)`.
 fn push_effect(
     out: &mut Vec<u8>,
     found: &Identified,
@@ -45,12 +72,14 @@ fn push_effect(
 ) -> Result<(), AllocError>
     requires x { Within (length found.now.seen.names) (has found.now.sets.x.bits) }
     requires y { Within (length found.now.seen.names) (has found.now.sets.y.bits) }
+    requires given { Within (length found.now.seen.names) (has found.now.given.bits) }
     requires entries { length found.now.seen.names ≡ length cell.now }
     ensures { OnOk result (out.new.items ≡ out.old.items ++ effect_text (effect_view found.now) counts.now (cell_of cell.now)) }
 {
     out.extend_from_slice(b"P(")?;
     push_assignments(out, &found.seen.names, counts, found.sets.y, cell)?;
     push_doing(out, found, counts, cell)?;
+    push_given(out, found, counts, cell)?;
     out.push(b')')?;
     Ok(())
 }
@@ -67,6 +96,7 @@ pub fn push_value<Q: Quantity>(
 ) -> Result<(), AllocError>
     requires x { Within (length found.now.seen.names) (has found.now.sets.x.bits) }
     requires y { Within (length found.now.seen.names) (has found.now.sets.y.bits) }
+    requires given { Within (length found.now.seen.names) (has found.now.given.bits) }
     requires entries { length found.now.seen.names ≡ length cell.now }
     ensures { OnOk result (out.new.items ≡ out.old.items ++ value_line Q.kind sign.now (effect_view found.now) counts.now (record { cell = cell.now; quantity = Q.numbers quantity.now })) }
 {
@@ -98,17 +128,19 @@ fn push_pinned(
     Ok(())
 }
 
-/// The lines of the free variables outside x and y, at their first levels.
+/// The lines of the free variables outside x, y and what is given, at their first levels.
 pub fn pinned_lines(
     alloc: Global,
     found: &Identified,
     counts: &Counts,
 ) -> Result<Vec<u8>, AllocError>
-    requires { Within (length found.now.seen.names) (has (free_outside (effect_view found.now).x (effect_view found.now).y (effect_view found.now).formula)) }
+    requires { Within (length found.now.seen.names) (has (free_beside (target_of (effect_view found.now)) (effect_view found.now).formula)) }
     ensures { IfOk result (λ v. v.items ≡ pinned_lines (effect_view found.now) counts.now) }
 {
     let all = free(alloc, &found.formula)?;
-    let pinned = all.difference(found.sets.x.union(found.sets.y));
+    let pinned = all
+        .difference(found.sets.x.union(found.sets.y))
+        .difference(found.given);
     let mut text = Vec::new(alloc);
     for v in 0..64u8 {
         push_pinned(&mut text, &found.seen.names, counts, pinned, v)?;

@@ -7,9 +7,10 @@ use crate::identified::Identified;
 use mixed_graph::VSet;
 use prob_expr::mentioned;
 
-/// The vertices whose levels are read: those that the formula names, with x and y.
+/// The vertices whose levels are read: those that the formula names, with x, y and what is given.
 pub fn used_in(found: &Identified) -> VSet
     ensures { result.bits ≡ used_in (effect_view found.now) }
 {
-    mentioned(&found.formula).union(found.sets.x.union(found.sets.y))
+    let sets = found.sets;
+    mentioned(&found.formula).union(sets.x.union(sets.y.union(found.given)))
 }

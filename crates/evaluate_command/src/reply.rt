@@ -3,6 +3,7 @@
 ghost use Rattle.std.specs.Prelude.{ℕ, ◌≡◌, ◌<◌, ◌≤◌, List, Bool, Option, IfOk, length, option_map};
 ghost use Rattle.mixed_graph.specs.Bits.{has, members_below};
 ghost use Rattle.count_rows.specs.Records.{Field};
+ghost use Rattle.count_eval.specs.Rules.{rule};
 ghost use Rattle.evaluate_command.specs.Answers.{TableAnswer, QuantityAnswer, CountsAnswer};
 ghost use Rattle.evaluate_command.specs.Effects.{PlainEffect, effect_view, used_in, IsIdentified};
 
@@ -18,23 +19,24 @@ use quantity::{Bounds, Exact, Quantity};
 use replies::{Outcome, Reply};
 use std::alloc::{AllocError, Global};
 
-/// The effect at each level of x and y, from counts in CSV: in exact fractions, or in bounds.
+/// The effect at each level of x, y and what is given, from counts in CSV: in exact fractions, or in bounds.
 ///
-/// Refused counts are answered with their line, and so is the first printed cell at which the formula has no value. The only error is
-/// want of memory.
+/// With `zero` a product with a factor 0 is 0 whatever its other factors are. Refused counts are answered with their line, and so
+/// is the first printed cell at which the formula has no value. The only error is want of memory.
 pub fn evaluate_reply(
     alloc: Global,
     found: &Identified,
     count: Option<&[u8]>,
     exact: bool,
+    zero: bool,
     bytes: &[u8],
 ) -> Result<Reply, AllocError>
     requires identified { IsIdentified (effect_view found.now) }
     requires small { length bytes.now ≤ 67108864 }
-    ensures { IfOk result (λ r. CountsAnswer exact (effect_view found.now) (option_map (λ s. s.now) count.entry) bytes.now r.outcome r.text.items) }
+    ensures { IfOk result (λ r. CountsAnswer exact zero (effect_view found.now) (option_map (λ s. s.now) count.entry) bytes.now r.outcome r.text.items) }
 {
     match read_counts(alloc, bytes, &found.seen.names, used_in(found), count) {
-        Ok(counts) => table_reply(alloc, found, exact, &counts),
+        Ok(counts) => table_reply(alloc, found, exact, zero, &counts),
         Err(fault) => Ok(Reply {
             outcome: Outcome::Second,
             text: fault.line(alloc)?,
@@ -44,7 +46,7 @@ pub fn evaluate_reply(
 
 /// The answer where there are more than 67,108,864 bytes of counts. The only error is want of memory.
 pub fn long_counts(alloc: Global) -> Result<Reply, AllocError>
-    ensures { IfOk result (λ r. (exact : Bool) (e : PlainEffect) (count : Option Field) (bytes : List ℕ) → 67108864 < length bytes → CountsAnswer exact e count bytes r.outcome r.text.items) }
+    ensures { IfOk result (λ r. (exact zero : Bool) (e : PlainEffect) (count : Option Field) (bytes : List ℕ) → 67108864 < length bytes → CountsAnswer exact zero e count bytes r.outcome r.text.items) }
 {
     Ok(Reply {
         outcome: Outcome::Second,
@@ -57,16 +59,17 @@ fn table_reply(
     alloc: Global,
     found: &Identified,
     exact: bool,
+    zero: bool,
     counts: &Counts,
 ) -> Result<Reply, AllocError>
     requires identified { IsIdentified (effect_view found.now) }
     requires used { counts.now.vertices ≡ members_below (has (used_in (effect_view found.now))) 64 }
-    ensures { IfOk result (λ r. QuantityAnswer exact (effect_view found.now) counts.now r.outcome r.text.items) }
+    ensures { IfOk result (λ r. QuantityAnswer exact zero (effect_view found.now) counts.now r.outcome r.text.items) }
 {
     if exact {
-        values_reply::<Exact>(alloc, found, counts, b" = ")
+        values_reply::<Exact>(alloc, found, counts, zero, b" = ")
     } else {
-        values_reply::<Bounds>(alloc, found, counts, b" ")
+        values_reply::<Bounds>(alloc, found, counts, zero, b" ")
     }
 }
 
@@ -75,16 +78,17 @@ fn values_reply<Q: Quantity>(
     alloc: Global,
     found: &Identified,
     counts: &Counts,
+    zero: bool,
     sign: &[u8],
 ) -> Result<Reply, AllocError>
     requires identified { IsIdentified (effect_view found.now) }
     requires used { counts.now.vertices ≡ members_below (has (used_in (effect_view found.now))) 64 }
-    ensures { IfOk result (λ r. TableAnswer Q.kind Q.covers sign.now (effect_view found.now) counts.now r.outcome r.text.items) }
+    ensures { IfOk result (λ r. TableAnswer (rule Q.kind zero) Q.covers sign.now (effect_view found.now) counts.now r.outcome r.text.items) }
 {
     let _used = counts.used();
     let n = found.seen.graph.n;
-    let prepared: Prepared<Q> = prepare(alloc, n, &found.formula, counts)?;
-    let vertices = varied(alloc, found.sets.x, found.sets.y)?;
+    let prepared: Prepared<Q> = prepare(alloc, n, &found.formula, counts, zero)?;
+    let vertices = varied(alloc, found.sets.x, found.given, found.sets.y)?;
     let mut cell = vec![in alloc; 0; n as usize]?;
     let mut text = pinned_lines(alloc, found, counts)?;
     match push_cells(

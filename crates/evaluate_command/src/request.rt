@@ -3,20 +3,26 @@
 ghost use Rattle.std.specs.Prelude.{◌≡◌, List, IfOk, IsErrOf};
 ghost use Rattle.command_words.specs.Form.{Use};
 ghost use Rattle.command_words.specs.Gives.{HoldsCall};
+ghost use Rattle.std.specs.Prelude.{option_map};
+ghost use Rattle.command_words.specs.ListViews.{names_in};
+ghost use Rattle.evaluate_command.specs.Ways.{way_of, way_for};
 
+use crate::way::Way;
 use command_words::forms::Entry;
-use command_words::typed::{RequestFault, Subject, second_input, value_bytes};
+use command_words::typed::{
+    RequestFault, Subject, listed_names, names_or_empty, second_input, value_bytes,
+};
 use command_words::values::Values;
 use std::alloc::Global;
 
-/// `evaluate FILE COUNTS [--x L] [--y L] [--count NAME] [--exact]`
+/// `evaluate FILE COUNTS [--x L] [--y L] [--given L] [--set L] [--back-door] [--count NAME] [--exact] [--zero]`
 pub const ROW: Entry = Entry {
     name: "evaluate",
     positionals: &["file", "counts"],
     optional: &[],
     required: &[],
-    options: &["x", "y", "count"],
-    flags: &["exact"],
+    options: &["x", "y", "given", "set", "count"],
+    flags: &["back-door", "exact", "zero"],
 };
 
 /// What is asked for.
@@ -26,8 +32,10 @@ pub struct Request<'a> {
     pub counts: &'a str,
     pub x: Option<Vec<Vec<u8>>>,
     pub y: Option<Vec<Vec<u8>>>,
+    pub way: Way,
     pub count: Option<&'a [u8]>,
     pub exact: bool,
+    pub zero: bool,
 }
 
 impl<'a> Request<'a> {
@@ -44,13 +52,36 @@ impl<'a> Request<'a> {
         let counts = second_input(values, file, "counts")?;
         let count = value_bytes(values, "count");
         let exact = values.flag("exact");
+        let zero = values.flag("zero");
+        let set = listed_names(alloc, values, "set")?;
+        let given = names_or_empty(alloc, values, "given")?;
+        let back_door = values.flag("back-door");
+        let Some(way) = way_from(set, given, back_door) else {
+            return Err(RequestFault::NotUnderstood);
+        };
         Ok(Request {
             file,
             counts,
             x,
             y,
+            way,
             count,
             exact,
+            zero,
         })
+    }
+}
+
+/// The way that is asked for: a set and a condition exclude each other, and the back-door criterion needs a set.
+fn way_from(set: Option<Vec<Vec<u8>>>, given: Vec<Vec<u8>>, back_door: bool) -> Option<Way>
+    ensures { option_map way_of result ≡ way_for (option_map names_in set) (names_in given) back_door }
+{
+    let bare = given.is_empty();
+    match set {
+        Some(set) if bare => Some(Way::Adjusting { set, back_door }),
+        Some(_) => None,
+        None if back_door => None,
+        None if bare => Some(Way::Procedure),
+        None => Some(Way::Given(given)),
     }
 }

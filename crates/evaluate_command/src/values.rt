@@ -3,6 +3,7 @@
 ghost use Rattle.std.specs.Prelude.{ℕ, ◌≡◌, ◌++◌, ◌<◌, ◌∷◌, [], List, All, true, length, OnOk, IfOk, IfErr};
 ghost use Rattle.mixed_graph.specs.Bits.{has, members_below};
 ghost use Rattle.count_eval.specs.Programs.{is_used};
+ghost use Rattle.count_eval.specs.Rules.{rule};
 ghost use Rattle.evaluate_command.specs.Cells.{varied, cells_along, IsCell};
 ghost use Rattle.evaluate_command.specs.Effects.{effect_view, IsIdentified};
 ghost use Rattle.evaluate_command.specs.Printing.{Appends, IsFailureOf, IsPreparedFor};
@@ -36,10 +37,10 @@ fn push_cell<Q: Quantity>(
     cell: &[u32],
 ) -> Result<(), Failure>
     requires identified { IsIdentified (effect_view found.now) }
-    requires prepared { IsPreparedFor (effect_view found.now) counts.now prepared.now }
+    requires prepared { IsPreparedFor prepared.now.zero (effect_view found.now) counts.now prepared.now }
     requires cell { IsCell (length found.now.seen.names) counts.now cell.now }
-    ensures lines { OnOk result (Appends Q.kind Q.covers sign.now (effect_view found.now) counts.now (cell.now ∷ []) out.old.items out.new.items) }
-    ensures failure { IfErr result (IsFailureOf Q.kind (effect_view found.now) counts.now (cell.now ∷ [])) }
+    ensures lines { OnOk result (Appends (rule Q.kind prepared.now.zero) Q.covers sign.now (effect_view found.now) counts.now (cell.now ∷ []) out.old.items out.new.items) }
+    ensures failure { IfErr result (IsFailureOf (rule Q.kind prepared.now.zero) (effect_view found.now) counts.now (cell.now ∷ [])) }
 {
     let quantity: Q = match prepared.value(cell) {
         Ok(quantity) => quantity,
@@ -63,12 +64,12 @@ pub fn push_cells<Q: Quantity>(
     cell: &mut [u32],
 ) -> Result<(), Failure>
     requires identified { IsIdentified (effect_view found.now) }
-    requires prepared { IsPreparedFor (effect_view found.now) counts.now prepared.now }
+    requires prepared { IsPreparedFor prepared.now.zero (effect_view found.now) counts.now prepared.now }
     requires vertices { All (λ v. is_used counts.now v ≡ true) vertices.now }
     requires cell { IsCell (length found.now.seen.names) counts.now cell.old }
-    ensures lines { OnOk result (Appends Q.kind Q.covers sign.now (effect_view found.now) counts.now (cells_along counts.now cell.old vertices.now) out.old.items out.new.items) }
+    ensures lines { OnOk result (Appends (rule Q.kind prepared.now.zero) Q.covers sign.now (effect_view found.now) counts.now (cells_along counts.now cell.old vertices.now) out.old.items out.new.items) }
     ensures cell { OnOk result (cell.new ≡ cell.old) }
-    ensures failure { IfErr result (IsFailureOf Q.kind (effect_view found.now) counts.now (cells_along counts.now cell.old vertices.now)) }
+    ensures failure { IfErr result (IsFailureOf (rule Q.kind prepared.now.zero) (effect_view found.now) counts.now (cells_along counts.now cell.old vertices.now)) }
 {
     let [v, rest @ ..] = vertices else {
         return push_cell(alloc, out, found, counts, prepared, sign, cell);
@@ -86,12 +87,13 @@ pub fn push_cells<Q: Quantity>(
     Ok(())
 }
 
-/// The members of x and then those of y, each in index order.
-pub fn varied(alloc: Global, x: VSet, y: VSet) -> Result<Vec<u8>, AllocError>
-    ensures { IfOk result (λ v. v.items ≡ varied x.bits y.bits) }
+/// The members of x, then those of what is given, then those of y, each in index order.
+pub fn varied(alloc: Global, x: VSet, given: VSet, y: VSet) -> Result<Vec<u8>, AllocError>
+    ensures { IfOk result (λ v. v.items ≡ varied x.bits given.bits y.bits) }
 {
     let mut vertices = Vec::new(alloc);
     push_members(&mut vertices, x)?;
+    push_members(&mut vertices, given)?;
     push_members(&mut vertices, y)?;
     Ok(vertices)
 }

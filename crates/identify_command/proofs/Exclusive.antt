@@ -53,7 +53,7 @@ abbrev target : (x y given : ℕ) → PlainTarget
 target x y given = record { x = x; y = y; given = given }
 
 -- the lists name one target
-one_target : (l : Lists) (t u : PlainTarget) → AreTargetSets l t → AreTargetSets l u → u ≡ t
+pub one_target : (l : Lists) (t u : PlainTarget) → AreTargetSets l t → AreTargetSets l u → u ≡ t
 one_target l t u s v =
     ap (λ (k : ℕ). target k u.y u.given) (one_set l.observed l.x t.x u.x s.set_x v.set_x)
     ∙ ap (λ (k : ℕ). target t.x k u.given) (one_set l.observed l.y t.y u.y s.set_y v.set_y)
@@ -91,14 +91,14 @@ module _ (form : Form) (q : MixedGraph) (valid : IsMixedGraph q) (l : Lists) (na
   given_among Graph text h = inr (inr refl)
   given_among o text h = absurd h
 
-  target_once : OneOutcome (ListsAnswer form q l)
+  pub target_once : OneOutcome (ListsAnswer form q l)
   target_once = one_of_three Yes No Graph (ListsAnswer form q l) given_among given_yes_no
       (λ text line a r. refused l a.target line a.sets r) (λ text line a r. refused l a.target line a.sets r)
 
-same_target_lists : (x y : Names) (given : List (List ℕ)) (g h : ReadGraph) → AreSame g h → target_lists h x y given ≡ target_lists g x y given
+pub same_target_lists : (x y : Names) (given : List (List ℕ)) (g h : ReadGraph) → AreSame g h → target_lists h x y given ≡ target_lists g x y given
 same_target_lists x y given g h s = rw (s.names, s.vertices, s.latent, s.exposures, s.outcomes) refl
 
-conditional_once : (bytes : List ℕ) (form : Form) (x y : Names) (given : List (List ℕ))
+pub conditional_once : (bytes : List ℕ) (form : Form) (x y : Names) (given : List (List ℕ))
     → OneOutcome (IsAnswerOn bytes (λ g. ConditionalAnswer form g x y given))
 conditional_once bytes form x y given = one_for_lists bytes (λ g. target_lists g x y given) (λ q l. ListsAnswer form q l) (same_target_lists x y given)
     (λ g q is. target_once form q (observed_is_mixed g q is) (target_lists g x y given) (observed_named g q is))

@@ -12,7 +12,7 @@ use Rattle.identify_command.specs.Conditions.{ConditionalAnswer, IdentifyAnswerG
 pub identify_answered : (form : Form) (g : ReadGraph) (x y : Names) (o : Outcome) (text : List ℕ) → IdentifyAnswer form g x y o text → IsAnswered o
 identify_answered form g x y o text = answered (λ k. IdentifyAnswer form g x y k text) (λ h. h.2) (λ h. h.2) (λ h. h.2) (λ h. h.2) o
 
-conditional_answered : (form : Form) (g : ReadGraph) (x y : Names) (given : List (List ℕ)) (o : Outcome) (text : List ℕ)
+pub conditional_answered : (form : Form) (g : ReadGraph) (x y : Names) (given : List (List ℕ)) (o : Outcome) (text : List ℕ)
     → ConditionalAnswer form g x y given o text → IsAnswered o
 conditional_answered form g x y given o text = answered (λ k. ConditionalAnswer form g x y given k text) (λ h. h.2) (λ h. h.2) (λ h. h.2) (λ h. h.2) o
 

@@ -6,6 +6,7 @@ ghost use Rattle.prob_expr.specs.View.{view, formula_view};
 ghost use Rattle.prob_expr.specs.Free.{free_in_defs};
 ghost use Rattle.count_table.specs.Tables.{AreCounts, HasLevels};
 ghost use Rattle.count_eval.specs.Answers.{IsEvaluable};
+ghost use Rattle.count_eval.specs.Rules.{rule};
 ghost use Rattle.count_eval.specs.Programs.{weights_in, is_used, cell_of, known};
 ghost use Rattle.count_table.specs.Axes.{axes_of, cells_over};
 ghost use Rattle.count_table.specs.Sums.{cells_in};
@@ -32,12 +33,14 @@ pub(crate) struct Tables<'a, 'b, Q: Quantity> {
     pub(crate) vertices: u32,
     pub(crate) formula: &'a Formula,
     pub(crate) counts: &'a Counts,
+    pub(crate) zero: bool,
     pub(crate) sums: &'b SumTables<'a>,
     pub(crate) definitions: &'b [DefinitionTable<Q>],
 }
 
 impl<'a, 'b, Q: Quantity> Model for Tables<'a, 'b, Q> {
     ghost use Rattle.prob_expr.specs.View.{formula_view};
+    ghost use Rattle.count_eval.specs.Rules.{rule};
     ghost use Rattle.count_eval.specs.Preparations.{Preparation, coded_preparation};
     ghost use Rattle.count_eval.specs.Tables.{AreKeptTables};
 
@@ -45,15 +48,15 @@ impl<'a, 'b, Q: Quantity> Model for Tables<'a, 'b, Q> {
 
     ghost coded = { coded_preparation };
 
-    ghost view = { λ s. record { vertices = s.vertices; counts = s.counts.now; formula = formula_view s.formula.now } };
+    ghost view = { λ s. record { vertices = s.vertices; counts = s.counts.now; formula = formula_view s.formula.now; zero = s.zero } };
 
-    ghost invariant = { λ s. AreKeptTables Q.numbers Q.kind s.vertices s.counts.now (formula_view s.formula.now) s.sums.now.table s.definitions.now };
+    ghost invariant = { λ s. AreKeptTables Q.numbers (rule Q.kind s.zero) s.vertices s.counts.now (formula_view s.formula.now) s.sums.now.table s.definitions.now };
 }
 
 impl<'a, 'b, Q: Quantity> Lookup<Q> for Tables<'a, 'b, Q> {
     ghost counts = { λ p. p.counts };
 
-    ghost holds = { λ p k at x. known Q.kind (weights_in p.vertices p.counts) p.formula.defs (length p.formula.defs) k at ≡ Ok x };
+    ghost holds = { λ p k at x. known (rule Q.kind p.zero) (weights_in p.vertices p.counts) p.formula.defs (length p.formula.defs) k at ≡ Ok x };
 
     fn levels(&self, v: u8) -> u32 {
         self.counts.levels(v)
@@ -76,13 +79,14 @@ impl<'a, 'b, Q: Quantity> Tables<'a, 'b, Q> {
     fn value_of(&self, k: u32, cell: [u32; 64]) -> Option<Q>
         requires definition { k < length self.now.formula.defs }
         requires levels { HasLevels self.now.counts (is_used self.now.counts) cell }
-        ensures { IfSome result (λ q. known Q.kind (weights_in self.now.vertices self.now.counts) self.now.formula.defs (length self.now.formula.defs) k (cell_of cell) ≡ Ok (Q.numbers q)) }
+        ensures { IfSome result (λ q. known (rule Q.kind self.now.zero) (weights_in self.now.vertices self.now.counts) self.now.formula.defs (length self.now.formula.defs) k (cell_of cell) ≡ Ok (Q.numbers q)) }
     {
         let defs = self.formula.defs.as_slice();
         let scope = Scope {
             lookup: self,
             n: self.vertices,
             defs,
+            zero: self.zero,
         };
         let root = Spot {
             def: Some(k),
@@ -107,7 +111,7 @@ impl<'a, 'b, Q: Quantity> Tables<'a, 'b, Q> {
         requires definition { k < length self.now.formula.defs }
         requires free { free.bits ≡ get_or (free_in_defs [] self.now.formula.defs) k 0 }
         ensures small { IfOk result (λ o. IfSome o (λ x. cells_over x.places ≤ room)) }
-        ensures table { IfOk result (λ o. IfSome o (λ x. IsTableOf Q.numbers Q.kind self.now.vertices self.now.counts self.now.formula.defs k x.places x.values.items)) }
+        ensures table { IfOk result (λ o. IfSome o (λ x. IsTableOf Q.numbers (rule Q.kind self.now.zero) self.now.vertices self.now.counts self.now.formula.defs k x.places x.values.items)) }
     {
         let places = Places::of(alloc, self.counts, free)?;
         if places.count() > room {
@@ -136,6 +140,7 @@ pub(crate) fn tables_of<'a, Q: Quantity>(
     n: u32,
     f: &'a Formula,
     c: &'a Counts,
+    zero: bool,
     sums: &mut SumTables<'a>,
 ) -> Result<DefinitionTables<Q>, AllocError>
     requires formula { IsEvaluable n c.now (formula_view f.now) }
@@ -143,7 +148,7 @@ pub(crate) fn tables_of<'a, Q: Quantity>(
     requires sums { sums.old.table ≡ c.now }
     requires few { cells_in sums.old ≤ 2 ^ 22 }
     ensures table { sums.new.table ≡ c.now }
-    ensures kept { IfOk result (λ made. AreKeptTables Q.numbers Q.kind n c.now (formula_view f.now) c.now made.tables.items) }
+    ensures kept { IfOk result (λ made. AreKeptTables Q.numbers (rule Q.kind zero) n c.now (formula_view f.now) c.now made.tables.items) }
     ensures cells { IfOk result (λ made. made.cells ≡ cells_of made.tables.items) }
     ensures few { IfOk result (λ made. cells_in sums.new + made.cells ≤ 2 ^ 22) }
 {
@@ -156,6 +161,7 @@ pub(crate) fn tables_of<'a, Q: Quantity>(
             vertices: n,
             formula: f,
             counts: c,
+            zero,
             sums: &*sums,
             definitions: tables.as_slice(),
         };

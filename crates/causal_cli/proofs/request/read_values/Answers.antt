@@ -6,3 +6,7 @@ use Rattle.causal_cli.proofs.request.read_values.Goals as goal
 pub returns-in_ok-read-in-Adjust-clause-ok : goal.returns-in_ok-read-in-Adjust-clause-ok
 returns-in_ok-read-in-Adjust-clause-ok c = λ uses g. c.in_ok-read-in-Adjust.ensures.ok uses
     (subst (λ k. HoldsCall (row_for k) uses c.args.values.now) c.in-Adjust.is g)
+
+pub returns-in_ok-read-in-Evaluate-clause-ok : goal.returns-in_ok-read-in-Evaluate-clause-ok
+returns-in_ok-read-in-Evaluate-clause-ok c = λ uses g. c.in_ok-read-in-Evaluate.ensures.ok uses
+    (subst (λ k. HoldsCall (row_for k) uses c.args.values.now) c.in-Evaluate.is g)

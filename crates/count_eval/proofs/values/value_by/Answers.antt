@@ -3,6 +3,7 @@ use Rattle.std.proofs.lemmas.List.{length-map}
 use Rattle.prob_expr.specs.View.{view, formula_view}
 use Rattle.prob_expr.specs.declared.expr.Expr.{Expr}
 use Rattle.count_eval.specs.Laws.{AllUsed}
+use Rattle.count_eval.specs.Rules.{rule}
 use Rattle.count_eval.specs.Programs.{weights_in, is_used, cell_of, stop_of, AreValues, IsBelow, AreOrdered}
 use Rattle.count_eval.proofs.Accepted.{accepted_below, accepted_ordered}
 use Rattle.count_eval.proofs.WholeValues.{main_value, fault_over, covers_counts, covers_matches, denies_matches, needs_no_memory}
@@ -16,8 +17,8 @@ value_at-requires-clause-scope g c =
       table = c.requires.table;
       ordered = subst (λ (ds : List Expr). AreOrdered 0 (map view ds)) e (accepted_ordered c.args.n (formula_view c.args.f.now) ok.accepted);
       used = subst (λ (ds : List Expr). AllUsed (is_used t) (map view ds)) e ok.defs;
-      held = subst (λ (ds : List Expr). AreValues g.Q.Quantity.kind (weights_in c.args.n t) (map view ds) (g.L.Lookup.holds c.args.lookup.now))
-          e c.requires.held;
+      held = subst (λ (ds : List Expr). AreValues (rule g.Q.Quantity.kind c.args.zero) (weights_in c.args.n t) (map view ds)
+          (g.L.Lookup.holds c.args.lookup.now)) e c.requires.held;
     }
 
 pub value_at-requires-clause-limit : goal.value_at-requires-clause-limit
@@ -30,32 +31,34 @@ value_at-requires-clause-below g c =
     (accepted_below c.args.n (formula_view f) c.requires.formula.accepted)
 
 pub returns-in-Ok-clause-counts : goal.returns-in-Ok-clause-counts
-returns-in-Ok-clause-counts g c =
+returns-in-Ok-clause-counts g c = λ first.
     let k = g.Q.Quantity.kind in let t = g.L.Lookup.counts c.args.lookup.now in let f = c.args.f.now in let s = cell_of c.args.at.now in let p =
     g.Q.Quantity.numbers c.in-Ok.q in
-    covers_counts k g.Q.Quantity.covers g.met.Q.Quantity.lawful c.args.n t (formula_view f) s p
-    (main_value k (weights_in c.args.n t) f c.deref.result.now c.array_of.result s (Ok p) c.deref.ensures.value c.array_of.ensures c.in-Ok.ensures)
+    covers_counts k g.Q.Quantity.covers g.met.Q.Quantity.lawful c.args.zero first c.args.n t (formula_view f) s p
+    (main_value (rule k c.args.zero) (weights_in c.args.n t) f c.deref.result.now c.array_of.result s (Ok p)
+    c.deref.ensures.value c.array_of.ensures c.in-Ok.ensures)
 
 pub returns-in-Ok-clause-matches : goal.returns-in-Ok-clause-matches
 returns-in-Ok-clause-matches g c =
     let k = g.Q.Quantity.kind in let t = g.L.Lookup.counts c.args.lookup.now in let f = c.args.f.now in let s = cell_of c.args.at.now in let p =
     g.Q.Quantity.numbers c.in-Ok.q in
-    covers_matches k g.Q.Quantity.covers g.met.Q.Quantity.lawful c.args.n t (formula_view f) s p c.requires.formula
-    (main_value k (weights_in c.args.n t) f c.deref.result.now c.array_of.result s (Ok p) c.deref.ensures.value c.array_of.ensures c.in-Ok.ensures)
+    covers_matches k g.Q.Quantity.covers g.met.Q.Quantity.lawful c.args.zero c.args.n t (formula_view f) s p c.requires.formula
+    (main_value (rule k c.args.zero) (weights_in c.args.n t) f c.deref.result.now c.array_of.result s (Ok p)
+    c.deref.ensures.value c.array_of.ensures c.in-Ok.ensures)
 
 pub returns-in-Err-clause-value : goal.returns-in-Err-clause-value
 returns-in-Err-clause-value g c =
     let t = g.L.Lookup.counts c.args.lookup.now in let stop = stop_of c.in-Err.failure in (
       stop,
-      main_value g.Q.Quantity.kind (weights_in c.args.n t) c.args.f.now c.deref.result.now c.array_of.result (cell_of c.args.at.now) (Err stop)
-          c.deref.ensures.value c.array_of.ensures c.in-Err.ensures,
+      main_value (rule g.Q.Quantity.kind c.args.zero) (weights_in c.args.n t) c.args.f.now c.deref.result.now c.array_of.result (cell_of c.args.at.now)
+          (Err stop) c.deref.ensures.value c.array_of.ensures c.in-Err.ensures,
       fault_over t c.args.used.bits c.fault_of.result stop c.requires.table c.requires.used c.fault_of.ensures,
     )
 
 pub returns-in-Err-clause-support : goal.returns-in-Err-clause-support
 returns-in-Err-clause-support g c =
     let t = g.L.Lookup.counts c.args.lookup.now in let (stop, e, fault) = returns-in-Err-clause-value g c in
-    denies_matches g.Q.Quantity.kind g.Q.Quantity.covers g.met.Q.Quantity.lawful c.args.n t (formula_view c.args.f.now) (cell_of c.args.at.now)
+    denies_matches g.Q.Quantity.kind g.Q.Quantity.covers g.met.Q.Quantity.lawful c.args.zero c.args.n t (formula_view c.args.f.now) (cell_of c.args.at.now)
     c.fault_of.result stop c.requires.formula e fault
 
 pub returns-in-Err-clause-memory : goal.returns-in-Err-clause-memory

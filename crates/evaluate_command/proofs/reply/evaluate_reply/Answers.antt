@@ -3,7 +3,7 @@ use Rattle.mixed_graph.specs.Bits.{has}
 use Rattle.count_table.specs.Reading.{text_fault}
 use Rattle.count_answers.specs.Reads.{faulty}
 use Rattle.evaluate_command.specs.Effects.{effect_view}
-use Rattle.evaluate_command.proofs.Evaluable.{used_below, used_some}
+use Rattle.evaluate_command.proofs.Evaluable.{used_some}
 use Rattle.evaluate_command.proofs.reply.evaluate_reply.Goals as goal
 
 pub read_counts-requires-clause-some : goal.read_counts-requires-clause-some
@@ -11,8 +11,7 @@ read_counts-requires-clause-some c = subst (λ m. 0 < m) (sym c.used_in.ensures)
 
 pub read_counts-requires-clause-named : goal.read_counts-requires-clause-named
 read_counts-requires-clause-named c = λ v h.
-    (let lt = used_below (effect_view c.args.found.now) c.requires.identified v (ap (λ m. has m v) (sym c.used_in.ensures) ∙ h) in let n =
-    c.requires.identified.named in omega (arith, lt, n))
+    (let lt = c.requires.identified.used v (ap (λ m. has m v) (sym c.used_in.ensures) ∙ h) in let n = c.requires.identified.named in omega (arith, lt, n))
 
 pub returns-in_ok-line-in-Err : goal.returns-in_ok-line-in-Err
 returns-in_ok-line-in-Err c =

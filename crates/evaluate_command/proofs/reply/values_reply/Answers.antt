@@ -1,7 +1,7 @@
 use Rattle.std.proofs.Common.{◌≡◌, ◌<◌, ℕ, true, List, All, sym, subst, ◌∙◌, arith}
 use Rattle.count_eval.specs.Programs.{is_used}
-use Rattle.identify_text.proofs.Free.{free_within}
-use Rattle.evaluate_command.specs.Effects.{effect_view}
+use Rattle.identify_text.proofs.Free.{beside_within}
+use Rattle.evaluate_command.specs.Effects.{effect_view, target_of}
 use Rattle.evaluate_command.proofs.Evaluable.{evaluable, varied_used, vertices_low}
 use Rattle.evaluate_command.proofs.reply.values_reply.Goals as goal
 
@@ -11,7 +11,7 @@ prepare-requires g c = evaluable (effect_view c.args.found.now) c.requires.ident
 pub pinned_lines-requires : goal.pinned_lines-requires
 pinned_lines-requires g c =
     let e = effect_view c.args.found.now in
-    λ v h. (let lt = free_within e.graph.vertices e.x e.y e.formula c.requires.identified.right.formed v h in let n = c.requires.identified.named in
+    λ v h. (let lt = beside_within e.graph.vertices (target_of e) e.formula c.requires.identified.formed v h in let n = c.requires.identified.named in
     omega (arith, lt, n))
 
 pub push_cells-requires-clause-vertices : goal.push_cells-requires-clause-vertices

@@ -5,6 +5,7 @@ use Rattle.std.proofs.lemmas.List.Sums.{sum_by-cons, sum_by-append}
 use Rattle.count_table.specs.Axes.{cells_over}
 use Rattle.prob_expr.specs.View.{view, formula_view}
 use Rattle.prob_expr.specs.declared.expr.Expr.{Expr}
+use Rattle.count_eval.specs.Rules.{rule}
 use Rattle.count_eval.specs.Tables.{IsTableOf, AreTables, cells_of}
 use Rattle.count_eval.specs.declared.tables.table.DefinitionTable.{DefinitionTable}
 use Rattle.count_eval.proofs.TableLaws.{free_count, tables_more}
@@ -29,9 +30,10 @@ loop-k-preserved g c =
     let before = c.loop-k.invariant in
     let more = c.in_ok-push.ensures.items in
     let is_new = subst (λ (o : Option (DefinitionTable g.row.Q.Denot)). IfSome o
-    (λ y. IsTableOf g.Q.Quantity.numbers g.Q.Quantity.kind c.args.n t f.defs c.loop-k.k y.places y.values.items))
+    (λ y. IsTableOf g.Q.Quantity.numbers (rule g.Q.Quantity.kind c.args.zero) c.args.n t f.defs c.loop-k.k y.places y.values.items))
     c.in-Some.is c.in_ok-table.ensures.table in
-    let at = subst (λ (k : ℕ). IsTableOf g.Q.Quantity.numbers g.Q.Quantity.kind c.args.n t f.defs k x.places x.values.items) (sym before.long) is_new in
+    let at = subst (λ (k : ℕ). IsTableOf g.Q.Quantity.numbers (rule g.Q.Quantity.kind c.args.zero) c.args.n t f.defs k x.places x.values.items)
+    (sym before.long) is_new in
     let small = subst (λ (o : Option (DefinitionTable g.row.Q.Denot)). IfSome o (λ y. cells_over y.places ≤ 4194304 - c.loop-k.cells - c.cells.result))
     c.in-Some.is c.in_ok-table.ensures.small in
     let all = ap (λ (l : List (DefinitionTable g.row.Q.Denot)). cells_of l) more in
@@ -46,8 +48,9 @@ loop-k-preserved g c =
         evaluable = before.kept.evaluable;
         counts = before.kept.counts;
         sums = before.kept.sums;
-        right = subst (λ (l : List (DefinitionTable g.row.Q.Denot)). AreTables g.Q.Quantity.numbers g.Q.Quantity.kind c.args.n t f.defs l) (sym more)
-            (tables_more g.Q.Quantity.numbers g.Q.Quantity.kind c.args.n t f.defs items x before.kept.right at);
+        right = subst (λ (l : List (DefinitionTable g.row.Q.Denot)). AreTables g.Q.Quantity.numbers (rule g.Q.Quantity.kind c.args.zero) c.args.n t f.defs l)
+            (sym more)
+            (tables_more g.Q.Quantity.numbers (rule g.Q.Quantity.kind c.args.zero) c.args.n t f.defs items x before.kept.right at);
       };
       cells = (let so_far = before.cells in let here = c.count-cells.ensures.count in omega (arith, so_far, here, all, sums, one));
       few = (let few = before.few in let there = c.cells.ensures in let here = c.count-cells.ensures.count in let kept = room (omega (arith, few)) in

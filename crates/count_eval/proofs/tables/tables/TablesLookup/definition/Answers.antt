@@ -6,6 +6,7 @@ use Rattle.prob_expr.specs.View.{formula_view}
 use Rattle.count_table.specs.Tables.{HasLevels}
 use Rattle.count_eval.specs.Programs.{weights_in, is_used, cell_of, known}
 use Rattle.count_table.specs.Axes.{Axes, HasCell}
+use Rattle.count_eval.specs.Rules.{rule}
 use Rattle.count_eval.specs.Preparations.{Preparation}
 use Rattle.count_eval.proofs.TableLaws.{has_cell, held_by}
 use Rattle.count_eval.proofs.tables.tables.TablesLookup.definition.Goals as goal
@@ -23,8 +24,8 @@ returns-in-Some g c =
     let i = c.self.inside in let t = i.counts.now in let x = c.in-Some.table.now in
     let right = c.self.invariant.right c.args.k x c.in-Some.ensures.lookup.3.0 c.in-Some.ensures.lookup.1 in
     let has = value-requires g c.before in
-    subst (λ (p : Preparation). IfSome c.value.result (λ q. known g.Q.Quantity.kind (weights_in p.vertices p.counts) p.formula.defs (length p.formula.defs)
-    c.args.k (cell_of c.args.cell.now) ≡ Ok (g.Q.Quantity.numbers q)))
+    subst (λ (p : Preparation). IfSome c.value.result (λ q. known (rule g.Q.Quantity.kind p.zero) (weights_in p.vertices p.counts) p.formula.defs
+    (length p.formula.defs) c.args.k (cell_of c.args.cell.now) ≡ Ok (g.Q.Quantity.numbers q)))
     c.self.view_is
-    (held_by g.Q.Quantity.numbers g.Q.Quantity.kind i.vertices t (formula_view i.formula.now).defs c.args.k x.places x.values.items (cell_of c.args.cell.now)
-    c.value.result right has.cell c.value.ensures)
+    (held_by g.Q.Quantity.numbers (rule g.Q.Quantity.kind i.zero) i.vertices t (formula_view i.formula.now).defs c.args.k x.places x.values.items
+    (cell_of c.args.cell.now) c.value.result right has.cell c.value.ensures)

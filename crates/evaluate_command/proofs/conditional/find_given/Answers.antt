@@ -1,0 +1,102 @@
+use Rattle.std.proofs.Common.{◌<◌, ◌⊎◌, inl, inr, ℕ, IsTrue, [], length, refl, sym, subst}
+use Rattle.mixed_graph.specs.Bits.{has}
+use Rattle.mixed_graph.specs.Graphs.{IsAncestor}
+use Rattle.mixed_graph.specs.Masks.{union}
+use Rattle.mixed_graph.specs.Sets.{Within}
+use Rattle.mixed_graph.specs.Shown.{graph_of}
+use Rattle.prob_expr.specs.View.{formula_view, target_view}
+use Rattle.do_derivation.specs.View.{derivation_view}
+use Rattle.counter_models.specs.Events.{AreCounterModels}
+use Rattle.conditional_id.specs.Conditionals.{IsConditionalBySteps}
+use Rattle.conditional_id.specs.Answers.{IsRight, IsJointEffect, IsJointShown, IfFormula, IfJoint}
+use Rattle.identify_text.specs.Below.{IsHedgeBelow, ArePairBelow}
+use Rattle.identify_text.proofs.Belows.{hedge_below}
+use Rattle.effect_answers.proofs.Belows.{pair_below}
+use Rattle.evaluate_command.specs.Effects.{PlainEffect}
+use Rattle.evaluate_command.proofs.Columns.{used_only}
+use Rattle.evaluate_command.proofs.Mentions.{in_left, in_right, mentioned_only}
+use Rattle.evaluate_command.proofs.conditional.find_given.Goals as goal
+
+pub joint_answer-requires : goal.joint_answer-requires
+joint_answer-requires c =
+    let g = graph_of c.args.seen.now.graph in
+    let t = target_view c.args.target in
+    let sets = c.requires.sets in
+    let effect = subst (λ a. IfJoint a (λ x y b h pair. IsJointEffect g t x.bits y.bits)) c.in-Joint.is c.in_ok-formula.ensures.joint in
+    let shown = subst (λ a. IfJoint a (IsJointShown g t)) c.in-Joint.is c.in_ok-formula.ensures.shown in
+    let on_names : (P : ℕ → Type 0) → P c.args.seen.now.graph.n → P (length c.args.seen.now.names) = λ P. subst P (sym c.requires.named) in
+    record {
+      target = record {
+        what = on_names (λ n. Within n (has c.args.target.y.bits)) sets.y_within;
+        doing = on_names (λ n. Within n (has c.args.target.x.bits)) sets.x_within;
+        given = on_names (λ n. Within n (has c.args.target.given.bits)) sets.w_within;
+      };
+      x = on_names (λ n. Within n (has c.in-Joint.x.bits)) effect.target.sets.x_within;
+      y = on_names (λ n. Within n (has c.in-Joint.y.bits)) effect.target.sets.y_within;
+      hedge = on_names (λ n. IsHedgeBelow n c.in-Joint.hedge) (hedge_below g c.in-Joint.x.bits c.in-Joint.y.bits c.in-Joint.hedge c.args.seen.now.graph.small
+          shown.hedge);
+      models = on_names (λ n. ArePairBelow n c.in-Joint.pair)
+          (pair_below g c.args.seen.now.graph.valid c.in-Joint.x.bits c.in-Joint.y.bits c.in-Joint.hedge c.in-Joint.pair effect.target.sets.y_within
+          shown.models
+          (subst (λ a. IfJoint a (λ x y b h pair. AreCounterModels g x.bits y.bits pair)) c.in-Joint.is c.in_ok-formula.ensures.counter));
+    }
+
+pub returns-in-Formula : goal.returns-in-Formula
+returns-in-Formula c =
+    let g = graph_of c.args.seen.now.graph in
+    let t = target_view c.args.target in
+    let sets = c.requires.sets in
+    let right = subst (IsRight g t) c.in-Formula.is c.in_ok-formula.ensures.right in
+    let both = union t.y t.given in
+    let e : PlainEffect = record { names = c.args.seen.now.names; graph = g; x = t.x; y = t.y; given = t.given; formula = formula_view c.in-Formula.formula } in
+    let named = mentioned_only (IsAncestor g (has both)) e.formula right.names in
+    let of_y : (v : ℕ) → IsTrue (has t.y v) → IsAncestor g (has both) v =
+    λ v h. record { vertex = sets.y_within v h; path = []; end = v; leads = refl; inside = in_left t.y t.given v h } in
+    let of_given : (v : ℕ) → IsTrue (has t.given v) → IsAncestor g (has both) v =
+    λ v h. record { vertex = sets.w_within v h; path = []; end = v; leads = refl; inside = in_right t.y t.given v h } in (
+      record {
+        named = c.requires.named;
+        few = c.args.seen.now.graph.small;
+        graph = c.args.seen.now.graph.valid;
+        x = sets.x_within;
+        y = sets.y_within;
+        given = sets.w_within;
+        apart = sets.x_y;
+        some = c.requires.some;
+        used = used_only (λ v. v < g.vertices) e (λ v h. (named v h).vertex) sets.x_within sets.y_within sets.w_within;
+        formed = right.formed;
+        do_free = right.do_free;
+        effect = right.effect;
+      },
+      record {
+        derivation = derivation_view c.in-Formula.field-1;
+        right = right;
+        derived = subst (λ a. IfFormula a (IsConditionalBySteps g t)) c.in-Formula.is c.in_ok-formula.ensures.derived;
+        columns = used_only (λ v. IsTrue (has t.x v) ⊎ IsAncestor g (has both) v) e (λ v h. inr (named v h)) (λ v h. inl h) (λ v h. inr (of_y v h))
+            (λ v h. inr (of_given v h));
+      },
+    )
+
+pub returns : goal.returns
+returns c =
+    let g = graph_of c.args.seen.now.graph in
+    let t = target_view c.args.target in
+    let shown = subst (λ a. IfJoint a (IsJointShown g t)) c.in-Joint.is c.in_ok-formula.ensures.shown in
+    let right = subst (IsRight g t) c.in-Joint.is c.in_ok-formula.ensures.right in (
+      refl,
+      record {
+        x = c.in-Joint.x.bits;
+        y = c.in-Joint.y.bits;
+        settled = c.in-Joint.settled;
+        hedge = c.in-Joint.hedge;
+        pair = c.in-Joint.pair;
+        joint = right.effect;
+        not_fixed = right.not_fixed;
+        no_formula = right.no_formula;
+        settled_is = right.settled_is;
+        differs = right.target;
+        found = record { right = right.hedge; evidence = shown.hedge; stop = shown.stop; built = shown.built; models = shown.models };
+        prints = c.in_ok-joint_answer-in-Joint.ensures;
+        reads_back = λ certificate. absurd (cc certificate);
+      },
+    )
