@@ -311,11 +311,13 @@ def ask(
     *options: Text,
     second: Optional[bytes] = None,
     levels: Any = None,
+    formula: Any = None,
     kept: Optional[KeptDiagram] = None,
 ) -> Tuple[int, str]:
     """Asks a diagram's text, and gives the status (0 or 1) and the answer. A refusal is raised.
 
-    Where the text is kept, it isn't read again. A cell that the line of a refusal names is read by `levels`, where it is given.
+    Where the text is kept, it isn't read again. A cell that the line of a refusal names is read by `levels`, where it is given, and a
+    node of the formula is looked up in `formula`.
 
     >>> from causal._library import ask
     >>> ask("equivalent", b"dag{A->B}", second=b"dag{A<-B}")
@@ -331,5 +333,5 @@ def ask(
     if status > 1:
         from causal.faults import Sources, raise_refusal
 
-        raise_refusal(status, err, words, Sources(text, second or b"", levels))
+        raise_refusal(status, err, words, Sources(text, second or b"", levels, formula))
     return status, out.decode("utf-8", "surrogateescape")

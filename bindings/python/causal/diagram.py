@@ -362,9 +362,11 @@ class Diagram:
             self._kept = KeptDiagram(self.source, [name for name in self._content.vertices if roles.get(name) != "latent"])
         return self._kept
 
-    def _ask(self, command: str, *words: Text, second: Optional[bytes] = None, levels: Any = None) -> Tuple[int, str]:
+    def _ask(
+        self, command: str, *words: Text, second: Optional[bytes] = None, levels: Any = None, formula: Optional[Formula] = None
+    ) -> Tuple[int, str]:
         """Asks the diagram that is kept: see `ask`."""
-        return ask(command, self.source, *words, second=second, levels=levels, kept=self._keep())
+        return ask(command, self.source, *words, second=second, levels=levels, formula=formula, kept=self._keep())
 
     def _explain(self, word: str, *words: Text) -> Optional[str]:
         """What the library explains by this word: see `explain`. None where it doesn't."""
@@ -558,7 +560,9 @@ class Diagram:
         missing: str = "error",
         at: Optional[Mapping[str, Level]] = None,
         adjust_for: Optional[Names] = None,
+        back_door: bool = False,
         given: Optional[Names] = None,
+        zero: bool = False,
     ) -> "pandas.DataFrame":
         """The effects of x on y in the data, as a DataFrame (it needs pandas): see `effects`, which says what is proved, and
         `Effects.frame` for the columns.
@@ -573,8 +577,9 @@ class Diagram:
         2  B  good       1.0     1
         3  B   bad       0.0     0
         """
-        words: Dict[str, Any] = {"count": count, "exact": exact, "missing": missing, "at": at, "adjust_for": adjust_for, "given": given}
-        return self.effects(data, x, y, **words).frame()
+        words: Dict[str, Any] = {"count": count, "exact": exact, "missing": missing, "at": at}
+        way: Dict[str, Any] = {"adjust_for": adjust_for, "back_door": back_door, "given": given, "zero": zero}
+        return self.effects(data, x, y, **words, **way).frame()
 
     def effects(
         self,
@@ -587,7 +592,9 @@ class Diagram:
         missing: str = "error",
         at: Optional[Mapping[str, Level]] = None,
         adjust_for: Optional[Names] = None,
+        back_door: bool = False,
         given: Optional[Names] = None,
+        zero: bool = False,
     ) -> Effects:
         """The effects of x on y in the data: the values of the formula of `identify` over the counts.
 
@@ -605,9 +612,10 @@ class Diagram:
         reads beside x and y is pinned at its first level in order (numbers by size, texts by their characters, a `Categorical` by
         its categories), or at the one that `at` gives, as in `at={"Z": 1}`: see `spread`.
 
-        With `adjust_for` the formula is that of a set, which has to be admissible: see `adjusts`. With `given` the effect is that among
-        those with the same values of these variables, `P(y | do(x), given)`: where a rule of do-calculus doesn't make it an effect whose
-        values the library gives, it is a quotient of such values, computed here, exactly or outward.
+        With `adjust_for` the formula is that of a set, which has to be admissible, or with `back_door` to meet the back-door criterion:
+        see `adjusts`. With `given` the effect is that among those with the same values of these variables, `P(y | do(x), given)`, by
+        the formula of `identify`. With `zero` a product with a factor 0 is 0 whatever its other factors are, also where one of them has
+        a condition that no record has; where there is a value without it, it is the same.
 
         A missing value in a used column, an empty field of a file too, is refused as `MissingValues`; with `missing="drop"` its
         record is left out, and the answer's `dropped` counts these (which estimates the effect among complete records: whether
@@ -629,7 +637,8 @@ class Diagram:
         """
         from causal.evaluation import Evaluation
 
-        return Evaluation(self, x, y, count, missing, adjust_for, given).effects(data, exact, at)
+        way = Evaluation(self, x, y, count, missing, adjust_for=adjust_for, back_door=back_door, given=given, zero=zero)
+        return way.effects(data, exact, at)
 
     def spread(
         self,
@@ -640,10 +649,13 @@ class Diagram:
         count: Optional[str] = None,
         exact: bool = False,
         missing: str = "error",
+        given: Optional[Names] = None,
+        zero: bool = False,
     ) -> Spread:
         """The effects of x on y at each level at which the formula's further variables may be pinned: a check of the diagram.
 
-        In the population each of these levels gives the same, where the diagram is right. The data is as in `effects`.
+        In the population each of these levels gives the same, where the diagram is right. The data is as in `effects`, and so are
+        `given` and `zero`. (The formula of a set to adjust for has no such variables.)
 
         >>> from causal import Diagram
         >>> napkin = Diagram("dag { W -> Z -> X -> Y  W <-> X  W <-> Y }")
@@ -657,7 +669,7 @@ class Diagram:
         """
         from causal.evaluation import Evaluation
 
-        return Evaluation(self, x, y, count, missing).spread(data, exact)
+        return Evaluation(self, x, y, count, missing, given=given, zero=zero).spread(data, exact)
 
     def contrast(
         self,
@@ -673,12 +685,15 @@ class Diagram:
         missing: str = "error",
         at: Optional[Mapping[str, Level]] = None,
         adjust_for: Optional[Names] = None,
+        back_door: bool = False,
         given: Optional[Mapping[str, Level]] = None,
+        zero: bool = False,
     ) -> Contrast:
         """The risk difference, the risk ratio and the odds ratio of two levels of x, for a level of y.
 
         The levels are given as they stand in the data; where x or y has several variables, as a mapping or in the order of the
-        target. `given` is a mapping of variables to levels, as in `given={"sex": "f"}`, and `adjust_for` as in `effects`. Both effects are proved, as `effects` says; the difference and the ratios are computed from them, outward where
+        target. `given` is a mapping of variables to levels, as in `given={"sex": "f"}`, and `adjust_for`, `back_door` and `zero` are as in
+        `effects`. Both effects are proved, as `effects` says; the difference and the ratios are computed from them, outward where
         they are bounds. For intervals see `bootstrap(..).contrast(..)`.
 
         >>> from causal import Diagram
@@ -689,8 +704,9 @@ class Diagram:
         """
         from causal.evaluation import levels_at
 
-        words: Dict[str, Any] = {"count": count, "exact": exact, "missing": missing, "at": at, "adjust_for": adjust_for}
-        found = self.effects(data, x, y, given=None if given is None else list(given), **words)
+        words: Dict[str, Any] = {"count": count, "exact": exact, "missing": missing, "at": at}
+        way: Dict[str, Any] = {"adjust_for": adjust_for, "back_door": back_door, "zero": zero}
+        found = self.effects(data, x, y, given=None if given is None else list(given), **words, **way)
         target = found.formula.target
         treated, control = levels_at(target.x, treated), levels_at(target.x, control)
         return found.contrast(levels_at(target.y, outcome), treated, control, given)
@@ -710,15 +726,18 @@ class Diagram:
         kind: str = "percentile",
         progress: Optional[Progress] = None,
         adjust_for: Optional[Names] = None,
+        back_door: bool = False,
         given: Optional[Names] = None,
+        zero: bool = False,
     ) -> Bootstrap:
         """The effects with intervals by the bootstrap: percentiles of resampled tables of counts, or with `kind="bca"` percentiles
         that are corrected for bias and accelerated, which asks once more for each cell of the table.
 
         As many records as there are are drawn with replacement, `resamples` times, and the effects asked for again. What is
-        proved is each value over its counts; the interval is only computed. A draw has the levels of x, of y and of pinned
-        variables that the data has; a level of another variable that isn't drawn is left out of that draw. A draw with a cell
-        that has no value is left out and counted (`without_value`): where these are many, the interval says little.
+        proved is each value over its counts; the interval is only computed. A draw has the levels of x, of y, of what is given and of
+        pinned variables that the data has; a level of another variable that isn't drawn is left out of that draw. A draw with a cell
+        that has no value is left out and counted (`without_value`): where these are many, the interval says little. With `zero` they
+        are fewer. `adjust_for`, `back_door`, `given` and `zero` are as in `effects`.
 
         The same data, seed and number of resamples give the same interval. `progress` is called after each table that was asked
         about, with how many were and of how many: `lambda done, of: print(done, of)`, or what moves a bar. What it raises ends the
@@ -737,4 +756,5 @@ class Diagram:
             raise RequestError("resamples is at least 1, and level lies between 0 and 1")
         if kind not in ("percentile", "bca"):
             raise RequestError(f"kind is 'percentile' or 'bca', and not {kind!r}")
-        return Evaluation(self, x, y, count, missing, adjust_for, given).bootstrap(data, resamples, level, seed, at, kind, progress)
+        way = Evaluation(self, x, y, count, missing, adjust_for=adjust_for, back_door=back_door, given=given, zero=zero)
+        return way.bootstrap(data, resamples, level, seed, at, kind, progress)

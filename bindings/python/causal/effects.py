@@ -191,8 +191,7 @@ class Effects(Sequence[Effect]):
     """The effects of a formula over counts, at each level of the exposures and the outcomes.
 
     Each value is proved: it is the formula's value over the counts, exactly or within the bounds, and so covers the effect in
-    each positive model that fits the diagram and that the counts match. (Under a condition it may be a quotient of such values, which
-    is computed here, exactly or outward.) That the counts are those of the data is tested. How far
+    each positive model that fits the diagram and that the counts match. That the counts are those of the data is tested. How far
     the counts of a sample are from those of the population isn't in it: see `Diagram.bootstrap`.
 
     `formula` is the formula; `pinned` has the level at which each variable stands that the formula reads beside the target's
@@ -493,38 +492,36 @@ def _levels_pattern(names: Sequence[str], level: str) -> str:
     return ",".join(f"{re.escape(printed_name(name))}={level}" for name in names)
 
 
-def split_levels(
-    text: str, before: str, after: str, groups: Sequence[Sequence[str]], between: str
-) -> Optional[List[Tuple[str, ...]]]:
-    """The levels that stand in a printed text for groups of names, or None where it can be split in several ways or in none.
+def split_levels(text: str, *parts: Union[str, Sequence[str]]) -> Optional[Tuple[str, ...]]:
+    """The levels that stand in a printed text for names, or None where it can be split in several ways or in none. Its parts are lists
+    of names and patterns, whose groups follow in turn.
 
     >>> from causal.effects import split_levels
-    >>> split_levels("S=large,T=B", "", "", [["S", "T"]], "")
-    [('large', 'B')]
-    >>> split_levels("S=a,T=b,T=c", "", "", [["S", "T"]], "") is None
+    >>> split_levels("S=large,T=B", ["S", "T"])
+    ('large', 'B')
+    >>> split_levels("S=a,T=b,T=c", ["S", "T"]) is None
     True
     """
     found = []
     for level in ("(.*?)", "(.*)"):
-        middle = between.join(_levels_pattern(names, level) for names in groups)
-        found.append(re.fullmatch(before + middle + after, text))
+        pattern = "".join(part if isinstance(part, str) else _levels_pattern(part, level) for part in parts)
+        found.append(re.fullmatch(pattern, text))
     if not found[0] or not found[1] or found[0].groups() != found[1].groups():
         return None
-    levels = list(found[0].groups())
-    return [tuple(levels.pop(0) for _ in names) for names in groups] + ([tuple(levels)] if levels else [])
+    return found[0].groups()
 
 
 def _read_effect(line: str, target: Term, level_of: LevelOf) -> Effect:
     is_exact = re.search(r" = [0-9]+/[0-9]+\Z", line) is not None
-    groups = [target.y, target.x] if target.x else [target.y]
-    after = (r"\)\)" if target.x else r"\)") + (_EXACT if is_exact else _BOUNDS)
-    split = split_levels(line, r"P\(", after, groups, r"\|do\(")
+    doing = [r"\|do\(", target.x, r"\)"] if target.x else []
+    given = ["," if target.x else r"\|", target.given] if target.given else []
+    split = split_levels(line, r"P\(", target.y, *doing, *given, r"\)" + (_EXACT if is_exact else _BOUNDS))
     if split is None:
         raise UnreadableAnswer(f"a level holds marks of the answer: {line!r}; give a DataFrame instead of a path")
-    parts = split.pop()
-    lower, upper = (Fraction(int(parts[0]), int(parts[1])),) * 2 if is_exact else map(Fraction, parts)
-    cells = [{name: level_of(name, level) for name, level in zip(names, levels)} for names, levels in zip(groups, split)]
-    return Effect(cells[0], cells[1] if target.x else {}, Value(lower, upper))
+    *levels, first, second = split
+    lower, upper = (Fraction(int(first), int(second)),) * 2 if is_exact else (Fraction(first), Fraction(second))
+    y, x, among = ({name: level_of(name, levels.pop(0)) for name in names} for names in (target.y, target.x, target.given))
+    return Effect(y, x, Value(lower, upper), among)
 
 
 def read_effects(text: str, formula: Formula, level_of: LevelOf = lambda name, level: level, dropped: int = 0) -> Effects:
@@ -535,6 +532,8 @@ def read_effects(text: str, formula: Formula, level_of: LevelOf = lambda name, l
     >>> effects = read_effects("P(Y=b|do(X=a)) = 1/3\\n", read_formula("P(Y|do(X)) = P(Y|X)"))
     >>> effects[0].y, effects[0].x, effects[0].value.exact
     ({'Y': 'b'}, {'X': 'a'}, Fraction(1, 3))
+    >>> read_effects("P(Y=b|do(X=a),Z=c) = 1/3\\n", read_formula("P(Y|do(X),Z) = P(Y|X,Z)"))[0].given
+    {'Z': 'c'}
     """
     lines = text[:-1].split("\n")
     pinned: Dict[str, Level] = {}
@@ -544,8 +543,7 @@ def read_effects(text: str, formula: Formula, level_of: LevelOf = lambda name, l
             raise UnreadableAnswer(f"the library answered what this package doesn't read: {lines[0]!r}")
         pinned[name] = level_of(name, lines.pop(0)[len(head) :])
     effects = tuple(_read_effect(line, formula.target, level_of) for line in lines)
-    cells = [len({effect.y[name] for effect in effects}) for name in formula.target.y]
-    cells += [len({effect.x[name] for effect in effects}) for name in formula.target.x]
-    if math.prod(cells) != len(effects):
+    found = Effects(formula, effects, pinned, all(re.search(r" = [0-9]+/[0-9]+\Z", line) for line in lines), dropped)
+    if math.prod(map(len, found.levels.values())) != len(effects):
         raise UnreadableAnswer("a level holds a line feed, so the answer can't be told apart; give a DataFrame instead of a path")
-    return Effects(formula, effects, pinned, all(re.search(r" = [0-9]+/[0-9]+\Z", line) for line in lines), dropped)
+    return found

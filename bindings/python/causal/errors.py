@@ -138,7 +138,7 @@ class EvaluationError(CausalError):
     ...     Diagram("dag { S -> T S -> R T -> R }").effects(data, "T", "R")
     ... except EvaluationError as error:
     ...     print(error)
-    evaluation fault 1: no record has what is given in a term of the formula (node 3 of the formula), at S=t, T=b, R=r
+    evaluation fault 1: no record has S=t, T=b, which P(R|S,T) is given (node 3 of the formula)
     """
 
     stage = "evaluation"
@@ -146,7 +146,8 @@ class EvaluationError(CausalError):
 
 class EvaluationPlace(NamedTuple):
     """Where a formula has no value: the number of the definition (None for the formula itself), the number of the node in it,
-    and the level of each used vertex there (None where it isn't told, or can't be told)."""
+    and the level of each used vertex there (None where it isn't told, or can't be told). `Formula.divisor_at` has what is divided by
+    there."""
 
     definition: Optional[int]
     node: int

@@ -6,12 +6,12 @@ from itertools import chain, product
 from typing import TYPE_CHECKING, Any, Dict, Iterable, Iterator, Mapping, Optional, Sequence, Tuple
 
 from causal._library import Text
-from causal.asked import asked_of
 from causal.bootstrap import Bootstrap, Progress, drawn
 from causal.columns import Data, may_have_blanks, path_of, read_bytes
 from causal.diagram import options
 from causal.effects import Effects, Level, LevelOf, Spread, read_effects, split_levels
-from causal.errors import EvaluationError, RequestError
+from causal.errors import EvaluationError, NotIdentifiable, RequestError
+from causal.formula import Formula, Hedge
 from causal.names import Names
 from causal.tables import Cell, Table, check_request, table_of, table_of_file
 
@@ -22,12 +22,15 @@ Pins = Optional[Mapping[str, Level]]
 
 
 class Evaluation:
-    """The effect of x on y in a diagram, which has a formula; and how data is read for it.
+    """The effect of x on y in a diagram, which has a formula: that of `identify`, also under a condition, or that of a set to adjust
+    for; and how data is read for it.
 
     >>> from causal import Diagram
     >>> from causal.evaluation import Evaluation
     >>> Evaluation(Diagram("dag { Z -> X Z -> Y X -> Y }"), "X", "Y").used
     ('Z', 'X', 'Y')
+    >>> Evaluation(Diagram("dag { W -> X -> Y W -> Z }"), "X", "Y", given="Z", zero=True).words
+    ['--x', '"X"', '--y', '"Y"', '--given', '"Z"', '--zero']
     """
 
     def __init__(
@@ -37,12 +40,25 @@ class Evaluation:
         y: Optional[Names],
         count: Optional[str] = None,
         missing: str = "error",
+        *,
         adjust_for: Optional[Names] = None,
+        back_door: bool = False,
         given: Optional[Names] = None,
+        zero: bool = False,
     ) -> None:
-        self.asked = asked_of(diagram, x, y, adjust_for, given)
-        self.diagram = self.asked.diagram
-        self.formula = self.asked.evaluated
+        self.diagram = diagram
+        members: Optional[Names] = None
+        if adjust_for is None:
+            if back_door:
+                raise RequestError("the back-door criterion is asked of a set: adjust_for names it")
+            self.formula = identified(diagram, x, y, given)
+        else:
+            if given:
+                raise RequestError("an effect is asked for by a set to adjust for, or under a condition, and not both")
+            self.formula, members = adjusted(diagram, x, y, adjust_for, back_door)
+        target = self.formula.target
+        self.words = options(x=target.x, y=target.y, set=members, given=target.given or None)
+        self.words += [*(["--back-door"] if back_door else []), *(["--zero"] if zero else [])]
         # The variables that the formula reads, in the order of the vertices, as answers list them.
         self.used = tuple(name for name in self.diagram.vertices if name in self.formula.variables)
         self.count = count
@@ -154,21 +170,51 @@ class Evaluation:
         """The effects over a text of counts."""
 
         def cell(told: str) -> Optional[Dict[str, object]]:
-            split = split_levels(told, "", "", [self.used], "")
-            return {name: level_of(name, level) for name, level in zip(self.used, split[0])} if split else None
+            split = split_levels(told, self.used)
+            return {name: level_of(name, level) for name, level in zip(self.used, split)} if split else None
 
-        lists = options(x=self.formula.target.x, y=self.formula.target.y)
-        answer = self.diagram._ask("evaluate", *lists, *words, second=text, levels=cell)[1]
-        return self.asked.answer(read_effects(answer, self.formula, level_of, dropped))
+        answer = self.diagram._ask("evaluate", *self.words, *words, second=text, levels=cell, formula=self.formula)[1]
+        return read_effects(answer, self.formula, level_of, dropped)
 
     def over_counts(self, table: Table, counts: Mapping[Cell, int]) -> Optional[Tuple[float, ...]]:
         """The effects over other counts of a table, or None where some cell has no value."""
-        kept = {*self.formula.target.x, *self.formula.target.y, *self.formula.free}
+        target = self.formula.target
+        kept = {*target.x, *target.y, *target.given, *self.formula.free}
         text = table.text({cell: count for cell, count in counts.items() if count}, kept)
         try:
             return tuple(float(effect.value) for effect in self.over_table(table, exact=False, text=text))
         except EvaluationError:
             return None
+
+
+def identified(diagram: "Diagram", x: Optional[Names], y: Optional[Names], given: Optional[Names]) -> Formula:
+    """The formula of `identify`, or its hedge raised.
+
+    >>> from causal import Diagram
+    >>> from causal.evaluation import identified
+    >>> print(identified(Diagram("dag { X -> Y X <- Z -> Y }"), "X", "Y", "Z"))
+    P(Y|do(X),Z) = P(Y|X,Z)
+    """
+    answer = diagram.identify(x, y, given)
+    if isinstance(answer, Hedge):
+        raise NotIdentifiable(f"{answer.conditional or answer.target} is not identifiable", place=answer)
+    return answer
+
+
+def adjusted(
+    diagram: "Diagram", x: Optional[Names], y: Optional[Names], adjust_for: Names, back_door: bool
+) -> Tuple[Formula, Tuple[str, ...]]:
+    """The formula of a set to adjust for, with its members, or why it isn't one raised.
+
+    >>> from causal import Diagram
+    >>> from causal.evaluation import adjusted
+    >>> print(adjusted(Diagram("dag { X -> Y X <- Z -> Y W -> Y Z -> W }"), "X", "Y", ["Z", "W"], back_door=True)[0])
+    P(Y|do(X)) = sum{Z,W} P(Z,W) * P(Y|X,Z,W)
+    """
+    answer = diagram.adjusts(adjust_for, x, y, back_door)
+    if answer.formula is None:
+        raise RequestError(f"this set can't be adjusted for: {answer}", place=answer)
+    return answer.formula, answer.members
 
 
 def without_one(counts: Mapping[Cell, int], cells: Iterable[Cell]) -> Iterator[Dict[Cell, int]]:

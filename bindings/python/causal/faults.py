@@ -17,6 +17,7 @@ from causal.errors import (
     UnreadableAnswer,
     caret_under,
 )
+from causal.formula import Formula
 from causal.names import Cursor
 
 _STAGES = rb"second graph|second target|graph|target|certificate|counts|evaluation"
@@ -103,6 +104,7 @@ class Sources(NamedTuple):
     text: bytes = b""
     second: bytes = b""
     levels: Optional[Callable[[str], Optional[Dict[str, object]]]] = None
+    formula: Optional[Formula] = None
 
 
 class Fault(NamedTuple):
@@ -202,13 +204,22 @@ def _evaluation_error(fault: Fault, sources: Sources) -> CausalError:
         raise UnreadableAnswer(f"the library wrote a place that this package doesn't read: {fault.detail!r}")
     definition = None if found.group(1) is None else int(found.group(1))
     told = found.group(3)
+    node = int(found.group(2))
     cell = sources.levels(told) if sources.levels and told is not None else None
-    where = f"node {found.group(2)} of {'the formula' if definition is None else f'q{definition}'}"
-    sentence = f"{EVALUATION[fault.number]} ({where})"
-    if told is not None:
-        at = told if cell is None else ", ".join(f"{name}={level}" for name, level in cell.items())
-        sentence += f", at {at}"
-    return EvaluationError(sentence, fault.number, EvaluationPlace(definition, int(found.group(2)), cell))
+    where = f"node {node} of {'the formula' if definition is None else f'q{definition}'}"
+    divisor = sources.formula.divisor_at(definition, node) if sources.formula and cell else None
+    if divisor and cell:
+        at = _told({name: level for name, level in cell.items() if name in divisor.names})
+        sentence = f"no record has {at}, which {divisor.term} is given" if divisor.term else f"a divisor is 0 at {at}"
+        sentence += f" ({where})"
+    else:
+        sentence = f"{EVALUATION[fault.number]} ({where})"
+        sentence += "" if told is None else f", at {told if cell is None else _told(cell)}"
+    return EvaluationError(sentence, fault.number, EvaluationPlace(definition, node, cell))
+
+
+def _told(cell: Dict[str, object]) -> str:
+    return ", ".join(f"{name}={level}" for name, level in cell.items())
 
 
 _ERRORS: Dict[str, Callable[[Fault, Sources], CausalError]] = {

@@ -2,7 +2,7 @@
 from __future__ import annotations
 
 from dataclasses import dataclass, field
-from typing import TYPE_CHECKING, Any, Callable, List, Optional, Sequence, Set, Tuple, Union
+from typing import TYPE_CHECKING, Any, Callable, FrozenSet, List, NamedTuple, Optional, Sequence, Set, Tuple, Union
 
 from causal.framed import Framed
 from causal.names import Cursor, printed_name, printed_set
@@ -79,6 +79,64 @@ def parts_of(text: str) -> Tuple[List[Term], Set[str]]:
     return terms, summed
 
 
+class Divisor(NamedTuple):
+    """What is divided by at a node of a formula: the share of a term's condition, or without a term the divisor of a quotient; and the
+    names on whose levels it depends."""
+
+    term: Optional[Term]
+    names: FrozenSet[str]
+
+
+def divisors_of(texts: Sequence[str]) -> List[List[Optional[Divisor]]]:
+    """The nodes of each text, of which one may cite those before it as q0, q1 and so on: what is divided by there, or None. Nodes are in
+    the order in which they are numbered, a parent before its parts.
+
+    >>> from causal.formula import divisors_of
+    >>> nodes = divisors_of(["sum{W} P(W) * P(X|W,Z)", "q0 / (sum{X} q0)"])
+    >>> [str(node.term) for node in nodes[0] if node], [sorted(node.names) for node in nodes[1] if node]
+    (['P(W)', 'P(X|W,Z)'], [['Z']])
+    """
+    nodes: List[List[Optional[Divisor]]] = []
+    names: List[FrozenSet[str]] = []
+    for text in texts:
+        cursor = Cursor(text)
+        found = _nodes(cursor, names)
+        cursor.end()
+        nodes.append(found[0])
+        names.append(found[1])
+    return nodes
+
+
+Nodes = Tuple[List[Optional[Divisor]], FrozenSet[str]]
+
+
+def _nodes(cursor: Cursor, behind: Sequence[FrozenSet[str]]) -> Nodes:
+    """The nodes of the expression that stands next, and the names on which it depends; those of definitions are told."""
+    if cursor.accept("sum"):
+        summed = cursor.set()
+        cursor.take(" ")
+        nodes, names = _nodes(cursor, behind)
+        return [None, *nodes], names.difference(summed)
+    nodes, names = _operand(cursor, behind)
+    head: List[Optional[Divisor]] = []
+    while (divides := cursor.accept(" / ")) or cursor.accept(" * "):
+        more, read = _operand(cursor, behind)
+        head = [Divisor(None, read) if divides else None]
+        nodes, names = nodes + more, names | read
+    return head + nodes, names
+
+
+def _operand(cursor: Cursor, behind: Sequence[FrozenSet[str]]) -> Nodes:
+    if cursor.accept("("):
+        inner = _nodes(cursor, behind)
+        cursor.take(")")
+        return inner
+    if cursor.accept("q"):
+        return [None], behind[cursor.number()]
+    term = read_term(cursor)
+    return [Divisor(term, frozenset(term.given))], frozenset({*term.y, *term.x, *term.given})
+
+
 def variables_of(text: str) -> Set[str]:
     """The names in the terms and sums of a formula's text.
 
@@ -140,7 +198,18 @@ class Formula(Framed):
         >>> sorted(Diagram("dag{ Z -> X Z -> Y X -> Y }").identify("X", "Y").variables)
         ['X', 'Y', 'Z']
         """
-        return {*self.target.y, *self.target.x, *variables_of(self.expression)}.union(*map(variables_of, self.definitions))
+        target = {*self.target.y, *self.target.x, *self.target.given}
+        return target.union(*map(variables_of, (self.expression, *self.definitions)))
+
+    def divisor_at(self, definition: Optional[int], node: int) -> Optional[Divisor]:
+        """What is divided by at a node of the formula, or of one of its definitions; None where nothing is.
+
+        >>> from causal import Diagram
+        >>> formula = Diagram("dag{ Z -> X Z -> Y X -> Y }").identify("X", "Y")
+        >>> str(formula.divisor_at(None, 3).term), formula.divisor_at(None, 1)
+        ('P(Y|Z,X)', None)
+        """
+        return divisors_of([*self.definitions, self.expression])[-1 if definition is None else definition][node]
 
     @property
     def experiments(self) -> Set[Tuple[str, ...]]:

@@ -153,10 +153,10 @@ def _read_difference(line: str, pair: Implication, level_of: LevelOf) -> Differe
     value = sign * cursor.number()
     cursor.take(" at ")
     names = (pair.a, pair.b, *pair.given)
-    split = split_levels(cursor.rest(), "", "", [names], "")
+    split = split_levels(cursor.rest(), names)
     if split is None:
         raise UnreadableAnswer(f"a level holds marks of the answer: {line!r}; give a DataFrame instead of a path")
-    return Difference(value, {name: level_of(name, level) for name, level in zip(names, split[0])})
+    return Difference(value, {name: level_of(name, level) for name, level in zip(names, split)})
 
 
 def read_implications(text: str, level_of: LevelOf = lambda name, level: level, dropped: int = 0) -> Implications:

@@ -56,8 +56,7 @@ class PrintedAgain(unittest.TestCase):
 
     def test_effects(self):
         for case in all_cases():
-            # The package answers effects under a condition by calls of its own, and reads no such lines.
-            if case.status == 0 and case.words[0] == "evaluate" and "--given" not in case.words:
+            if case.status == 0 and case.words[0] == "evaluate":
                 with self.subTest(case.name):
                     line = next(line for line in case.printed.split("\n") if line.startswith("P("))
                     names = formula.read_formula(f"{self.target_of(line)} = P(A)")

@@ -1,5 +1,6 @@
-"""Effects by a set to adjust for, and under a condition."""
+"""Effects by a set to adjust for, under a condition, and where cells have no record."""
 import random
+import re
 import unittest
 from fractions import Fraction
 from itertools import product
@@ -8,7 +9,6 @@ from worked import read_example
 
 import causal
 from causal import Diagram
-from causal.asked import asked_of
 
 KIDNEY = Diagram(read_example("kidney_stones.dag"))
 COUNTS = {
@@ -55,37 +55,34 @@ class Adjusting(unittest.TestCase):
                 )
                 self.assertEqual(effect.value.exact, value)
 
-    def test_the_formula_is_evaluated_as_it_was_proved(self):
-        source = random.Random(7)
-        names = [f"v{k}" for k in range(7)]
-        tried = 0
-        for _ in range(120):
-            pairs = [(a, b) for k, a in enumerate(names) for b in names[k + 1 :]]
-            diagram = Diagram.from_edges(
-                [pair for pair in pairs if source.random() < 0.4],
-                bidirected=[pair for pair in pairs if source.random() < 0.1],
-                vertices=source.sample(names, 7),
-            )
-            chosen = source.sample(names, 4)
-            for x, y in ((chosen[:1], chosen[1:2]), (chosen[:2], chosen[2:3]), (chosen[:1], chosen[1:3])):
-                for members in [*diagram.adjustment_sets(x, y, most=4), [name for name in names if name not in {*x, *y}]]:
-                    answer = diagram.adjusts(members, x, y)
-                    if answer:
-                        tried += 1
-                        self.assertEqual(asked_of(diagram, x, y, members).formula, answer.formula)
-        self.assertGreater(tried, 60)
-
     def test_intervals_and_contrasts(self):
         drawn = KIDNEY.bootstrap(COUNTS, count="n", resamples=20, seed=1, adjust_for=["S"])
         self.assertEqual(drawn.draws, KIDNEY.bootstrap(COUNTS, count="n", resamples=20, seed=1).draws)
         asked = {"treated": "A", "control": "B", "outcome": "success", "count": "n", "exact": True}
         self.assertEqual(KIDNEY.contrast(COUNTS, **asked, adjust_for="S"), KIDNEY.contrast(COUNTS, **asked))
 
+    def test_the_back_door(self):
+        asked = {"count": "n", "exact": True, "adjust_for": "S"}
+        self.assertEqual(str(KIDNEY.effects(COUNTS, **asked, back_door=True)), str(KIDNEY.effects(COUNTS, **asked)))
+        below = Diagram("dag { X -> Y X -> D }")
+        data = random_table(random.Random(2), "XYD")
+        self.assertEqual(len(below.effects(data, "X", "Y", count="n", adjust_for="D", given=())), 4)
+        with self.assertRaisesRegex(causal.RequestError, "forbidden: D") as caught:
+            below.effects(data, "X", "Y", count="n", adjust_for="D", back_door=True)
+        self.assertEqual(caught.exception.place.members, ("D",))
+
+    def test_a_column_outside_of_the_set_is_not_read(self):
+        diagram = Diagram("dag { X -> Y X <- A -> Y A <- B -> X }")
+        data = random_table(random.Random(4), "XYA")
+        self.assertEqual(len(diagram.effects(data, "X", "Y", count="n", adjust_for="A")), 4)
+
     def test_refusals(self):
         with self.assertRaisesRegex(causal.RequestError, "can't be adjusted for: not admissible: {}"):
             KIDNEY.effects(COUNTS, count="n", adjust_for=())
         with self.assertRaisesRegex(causal.RequestError, "not both"):
             KIDNEY.effects(COUNTS, count="n", adjust_for="S", given="S")
+        with self.assertRaisesRegex(causal.RequestError, "adjust_for names it"):
+            KIDNEY.effects(COUNTS, count="n", back_door=True)
 
 
 class Given(unittest.TestCase):
@@ -146,12 +143,121 @@ class Given(unittest.TestCase):
         found = KIDNEY.effects(path, count="count", exact=True, given="S")
         self.assertEqual({it.cell for it in found}, {it.cell for it in KIDNEY.effects(COUNTS, count="n", given="S")})
 
+    def test_nothing_is_done(self):
+        found = KIDNEY.effects(COUNTS, x=(), count="n", exact=True, given="S")
+        self.assertEqual(str(found[0]), "P(R=success|S=small) = 15/17")
+
+    def test_a_condition_that_the_formula_does_not_read(self):
+        diagram = Diagram("dag { X -> Y Z }")
+        data = random_table(random.Random(6), "XYZ")
+        found = diagram.effects(data, "X", "Y", count="n", exact=True, given="Z")
+        self.assertEqual([len(found), found.names], [8, ("X", "Z", "Y")])
+
+    def test_a_pinned_variable(self):
+        napkin = Diagram(read_example("napkin.dag"))
+        data = random_table(random.Random(8), "WZXYV")
+        diagram = Diagram(napkin.text.replace("dag {", "dag { V"))
+        spread = diagram.spread(data, "X", "Y", count="n", given="V")
+        self.assertEqual([effects.pinned for effects in spread], [{"Z": 0}, {"Z": 1}])
+        found = diagram.effects(data, "X", "Y", count="n", given="V", at={"Z": 1})
+        self.assertEqual((found.effects, len(found)), (spread[1].effects, 8))
+
+    def test_levels_with_marks(self):
+        data = {**COUNTS, "S": ["a),S=b"] * 4 + ["|do("] * 4}
+        found = KIDNEY.effects(data, count="n", given="S", exact=True)
+        self.assertEqual(found.at({"R": "success"}, {"T": "A"}, {"S": "a),S=b"}).exact, Fraction(27, 29))
+
+    def test_a_level_that_is_not_drawn(self):
+        data = {**COUNTS, "n": [1, 0, 1, 1, 192, 71, 55, 25]}
+        drawn = KIDNEY.bootstrap(data, count="n", resamples=40, seed=3, given="S")
+        self.assertEqual((len(drawn.effects), drawn.without_value > 0), (8, True))
+
     def test_refusals(self):
         bow = Diagram("dag { X -> Y X <-> Y Z -> Y }")
         with self.assertRaisesRegex(causal.NotIdentifiable, r"P\(Y\|do\(X\),Z\) is not identifiable"):
             bow.effects({}, "X", "Y", given="Z")
         with self.assertRaisesRegex(causal.RequestError, "in which R has"):
             KIDNEY.effects(COUNTS, count="n", given="S").at({"R": "success"}, {"T": "A"}, {"S": "none"})
+
+
+class Zero(unittest.TestCase):
+    """Cells that have no record, where a factor beside them is 0."""
+
+    DIAGRAM = Diagram("dag { A -> B A -> X A -> Y B -> Y X -> Y }")
+    # with A = 1 there is no record with B = 1
+    DATA = {**random_table(random.Random(9), "ABXY"), "n": [2, 1, 1, 1, 1, 1, 2, 1, 3, 1, 1, 5, 0, 0, 0, 0]}
+
+    def test_a_product_with_a_factor_0(self):
+        found = self.DIAGRAM.effects(self.DATA, "X", "Y", count="n", exact=True, zero=True)
+        self.assertEqual([effect.value.exact for effect in found], [Fraction(*it) for it in ((2, 3), (1, 3), (3, 8), (5, 8))])
+        contrast = self.DIAGRAM.contrast(
+            self.DATA, "X", "Y", treated=1, control=0, outcome=1, count="n", exact=True, zero=True
+        )
+        self.assertEqual(contrast.difference.exact, Fraction(5, 8) - Fraction(1, 3))
+
+    def test_the_condition_without_a_record_is_named(self):
+        with self.assertRaises(causal.EvaluationError) as caught:
+            self.DIAGRAM.effects(self.DATA, "X", "Y", count="n")
+        sentence = "no record has A=1, B=1, X=0, which P(Y|A,B,X) is given (node 4 of the formula)"
+        self.assertEqual(caught.exception.sentence, sentence)
+        self.assertEqual(caught.exception.place.cell, {"A": 1, "B": 1, "X": 0, "Y": 0})
+
+    def test_a_divisor_that_is_no_term(self):
+        diagram = Diagram("dag { X -> Y -> Z }")
+        data = {"X": [0, 0, 1], "Y": [0, 1, 0], "Z": [0, 1, 0]}
+        with self.assertRaises(causal.EvaluationError) as caught:
+            diagram.effects(data, "X", "Y", given="Z")
+        self.assertEqual(caught.exception.sentence, "a divisor is 0 at X=1, Z=1 (node 0 of the formula)")
+
+    def test_a_definition(self):
+        napkin = Diagram(read_example("napkin.dag"))
+        data = {**random_table(random.Random(10), "WZXY"), "n": [3] * 12 + [0] * 4}
+        with self.assertRaises(causal.EvaluationError) as caught:
+            napkin.effects(data, count="n", at={"Z": 1})
+        self.assertEqual(caught.exception.sentence, "no record has W=1, Z=1, which P(X|W,Z) is given (node 3 of q0)")
+        self.assertEqual(caught.exception.place[:2], (0, 3))
+
+    def test_no_record_has_the_condition_that_is_named(self):
+        source, named = random.Random(12), 0
+        for _ in range(200):
+            names = [f"v{k}" for k in range(5)]
+            pairs = [(a, b) for k, a in enumerate(names) for b in names[k + 1 :]]
+            edges, both = ([pair for pair in pairs if source.random() < part] for part in (0.6, 0.15))
+            diagram = Diagram.from_edges(edges, bidirected=both, vertices=names)
+            data = {name: [source.randrange(2) for _ in range(9)] for name in names}
+            x, y, given = source.sample(names, 3)
+            try:
+                diagram.effects(data, x, y, given=source.choice([(), given]))
+            except causal.NotIdentifiable:
+                continue
+            except causal.EvaluationError as error:
+                told = re.fullmatch(r"no record has (.*), which P\(.*\) is given \(node .*\)", error.sentence)
+                if told:
+                    named += 1
+                    levels = dict(it.split("=") for it in told.group(1).split(", "))
+                    records = zip(*([f"{level}" for level in data[name]] for name in levels))
+                    self.assertNotIn(tuple(levels.values()), list(records))
+                else:
+                    self.assertIn("a divisor is 0 at", error.sentence)
+        self.assertGreater(named, 40)
+
+    def test_where_there_is_a_value_it_is_the_same(self):
+        self.assertEqual(KIDNEY.effects(COUNTS, count="n", zero=True), KIDNEY.effects(COUNTS, count="n"))
+
+    def test_more_draws_have_a_value(self):
+        plain, zero = (
+            self.DIAGRAM.bootstrap({**self.DATA, "n": [20] * 12 + [1] * 4}, "X", "Y", count="n", resamples=60, seed=1, zero=zero)
+            for zero in (False, True)
+        )
+        self.assertLess(zero.without_value, plain.without_value)
+
+    def test_a_spread(self):
+        napkin = Diagram(read_example("napkin.dag"))
+        data = random_table(random.Random(10), "WZXY")
+        # with W = 1 and Z = 1 there is no record with X = 0
+        data["n"] = [0 if (w, z, x) == (1, 1, 0) else n for w, z, x, _, n in zip(*data.values())]
+        found = [napkin.spread(data, count="n", zero=zero).without_value for zero in (False, True)]
+        self.assertEqual(found, [({"Z": 1},), ()])
 
 
 if __name__ == "__main__":

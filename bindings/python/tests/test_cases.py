@@ -12,8 +12,6 @@ from causal.evaluation import Evaluation
 from causal.names import Cursor
 
 LISTS = ("x", "y", "z", "do", "given", "set")
-# Words of `evaluate` that the package answers by calls of its own; `test_program` has them answered by the program.
-OTHER_WAYS = {"--set", "--back-door", "--given", "--zero"}
 
 
 def names_of(word):
@@ -140,8 +138,9 @@ class Questions(unittest.TestCase):
     def ask_evaluate(self, diagram, second, options, folder):
         try:
             exact = options.pop("exact", False)
+            options = {{"set": "adjust_for", "back-door": "back_door"}.get(name, name): value for name, value in options.items()}
             return Evaluation(diagram, **{"x": None, "y": None, **options}).over_file(second or b"", exact).text
-        except causal.NotIdentifiable as error:
+        except (causal.NotIdentifiable, causal.RequestError) as error:
             return error.place
 
     def test_questions(self):
@@ -149,8 +148,6 @@ class Questions(unittest.TestCase):
         with tempfile.TemporaryDirectory() as folder:
             for case in all_cases():
                 if case.words[:1] == ["survey"] or case.fails or case.status in (2, 6) or self.is_refused_before(case):
-                    continue
-                if case.words[:1] == ["evaluate"] and OTHER_WAYS & {word.split("=")[0] for word in case.words}:
                     continue
                 number += 1
                 with self.subTest(case.name):

@@ -42,7 +42,7 @@ interval = drawn.contrast({"R": 1}, {"T": 1}, {"T": 0}).difference
 lower: Optional[float] = None if interval is None else interval.lower
 among: Effects = diagram.effects(data, given="S")
 at_level: Value = among.at({"R": 1}, {"T": 1}, {"S": 0})
-by_set = diagram.contrast(data, treated=1, control=0, outcome=1, adjust_for=["S"])
+by_set = diagram.contrast(data, treated=1, control=0, outcome=1, adjust_for=["S"], back_door=True, zero=True)
 in_stratum = diagram.bootstrap(data, resamples=10, given=["S"]).contrast({"R": 1}, {"T": 1}, {"T": 0}, {"S": 1}).ratio
 from_dot: Diagram = Diagram.from_dot("digraph { X -> Y }", exposure="X")
 tests = Diagram("dag { T -> S -> R }").test_implications(data, permutations=9)

@@ -1,99 +1,71 @@
-# How an effect in data is asked for: by the formula of the diagram, by a set to adjust for, or under a condition. `diagram` and `words`
-# are what the library is asked; `x`, `y` and `given` name the variables of the effect, and `rest` those of the condition that stand
-# in the joint effect of which the conditional one is a quotient.
+# How an effect in data is asked for: by the formula of the diagram, also under a condition, or by that of a set to adjust for. `words`
+# are those of `evaluate`, and `formula` the one whose values it gives.
 
-asked_of <- function(diagram, x, y, set = NULL, given = NULL) {
+asked_of <- function(diagram, x, y, set = NULL, given = NULL, back_door = FALSE, zero = FALSE) {
   diagram <- as_causal_diagram(diagram)
-  if (!is.null(set) && !is.null(given)) stop("an effect is asked for by a set to adjust for, or under a condition, and not both")
-  if (!is.null(set)) return(asked_by_set(diagram, x, y, set))
-  if (!length(given)) return(list(diagram = diagram, words = c(option("x", x), option("y", y)), given = character(), rest = character()))
-  formula <- identify_effect(diagram, x, y, given)
-  if (!formula$identifiable) stop(not_identifiable(formula))
-  x <- marked(diagram, x, "exposure")
-  y <- marked(diagram, y, "outcome")
-  moved <- character()
-  rest <- given <- as.character(given)
-  # a condition that may as well be done (rule 2) is no part of the joint effect
-  may_be_done <- function(name) rule_holds(diagram, 2, y, name, do = c(x, moved), given = setdiff(rest, name))$holds
-  repeat {
-    free <- Find(may_be_done, rest)
-    if (is.null(free)) break
-    moved <- c(moved, free)
-    rest <- setdiff(rest, free)
-  }
-  list(diagram = diagram, words = c(option("x", c(x, moved)), option("y", c(y, rest))), x = x, y = y, given = given, rest = rest)
-}
-
-# The names that were given, or else those with the mark.
-marked <- function(diagram, names, role) if (is.null(names)) has_role(diagram, role) else as.character(names)
-
-# The adjustment formula. The library evaluates it as the formula of the diagram in which the set alone confounds: the same one, in which
-# joint probabilities may be written by the chain rule.
-asked_by_set <- function(diagram, x, y, set) {
-  answer <- adjusts(diagram, set, x, y)
-  if (!answer$holds) stop("this set can't be adjusted for: ", answer$text)
-  x <- marked(diagram, x, "exposure")
-  y <- marked(diagram, y, "outcome")
-  set <- as.character(set)
-  names <- intersect(observed_names(diagram), c(set, x, y))
-  joined <- function(from, to, mark) expand.grid(from = from, edge = rep(mark, 1), to = to, stringsAsFactors = FALSE)
-  within <- function(names) {
-    pairs <- joined(names, names, "<->")
-    pairs[match(pairs$from, names) < match(pairs$to, names), , drop = FALSE]
-  }
-  edges <- rbind(joined(set, x, "->"), joined(set, y, "->"), joined(x, y, "->"), within(set), within(y))
-  alone <- diagram_of(as_bytes(graph_text(names, edges)), doubts = FALSE)
+  if (!is.null(set) && length(given)) stop("an effect is asked for by a set to adjust for, or under a condition, and not both")
+  if (is.null(set) && isTRUE(back_door)) stop("the back-door criterion is asked of a set: `set` names it")
   words <- c(option("x", x), option("y", y))
-  if (!is_chained(answer$expression, read_formula(ask("identify", alone, words)$lines)$expression)) stop("the library has another formula for this set")
-  list(diagram = alone, words = words, given = character(), rest = character())
+  words <- if (is.null(set)) c(words, option("given", given)) else c(words, option("set", as.character(set)), flag("back-door", back_door))
+  told <- ask(if (is.null(set)) "identify" else "adjust", diagram, words)
+  if (!told$yes && is.null(set)) stop(not_identifiable(hedge_of(told, diagram, words)))
+  if (!told$yes) stop("this set can't be adjusted for: ", paste(told$lines, collapse = "\n"))
+  formula <- if (is.null(set)) read_formula(told$lines) else read_adjustment(told$lines)
+  list(diagram = diagram, words = c(words, flag("zero", zero)), formula = formula)
 }
 
-# Whether a formula of one sum is another one in which each joint probability is written by the chain rule.
-is_chained <- function(formula, chained) {
-  texts <- c(formula, chained)
-  heads <- sub("(?s)P\\(.*$", "", texts, perl = TRUE)
-  term_form <- paste0("P\\((", name_form, "(?:,", name_form, ")*)(?:\\|(", name_form, "(?:,", name_form, ")*))?\\)")
-  terms <- lapply(texts, all_of, form = term_form)
-  if (heads[1] != heads[2] || !all(texts == paste0(heads, vapply(terms, paste, "", collapse = " * ")))) return(FALSE)
-  split <- lapply(terms, function(found) lapply(found, function(term) lapply(parts_of(term_form, term), read_names)))
-  left <- split[[2]]
-  for (term in split[[1]]) {
-    is_link <- vapply(left, function(link) all(link[[1]] %in% term[[1]]), NA)
-    links <- left[is_link]
-    left <- left[!is_link]
-    behind <- term[[2]]
-    for (link in links[order(vapply(links, function(link) length(link[[2]]), 0L))]) {
-      if (!setequal(link[[2]], behind)) return(FALSE)
-      behind <- c(behind, link[[1]])
+hedge_of <- function(told, diagram, words) {
+  certificate <- sub("\n$", "", ask("identify", diagram, c(words, "--certificate"))$out)
+  new_hedge(told, certificate, diagram, words)
+}
+
+# What is divided by at the node at which a formula has no value: see `divisors_of`. NULL where nothing is.
+divisor_at <- function(formula, fault) {
+  nodes <- divisors_of(c(formula$definitions, formula$expression))
+  nodes[[if (fault$expression == "main") length(nodes) else as.integer(substring(fault$expression, 2)) + 1]][[fault$node + 1]]
+}
+
+# The nodes of each text, of which one may cite those before it as q0, q1 and so on, in the order in which they are numbered: a parent
+# before its parts. Where something is divided by there, a term whose condition has this share, or none for the divisor of a quotient,
+# and the names on whose levels it depends; else NULL.
+divisors_of <- function(texts) {
+  form <- paste0("sum", set_form, "|", target_form, "|q[0-9]+|[()*/]")
+  found <- list()
+  for (text in texts) found <- c(found, list(read_nodes(all_of(form, text), lapply(found, `[[`, "names"))))
+  lapply(found, `[[`, "nodes")
+}
+
+# The nodes of an expression that is cut into its signs, and the names on which it depends; those of definitions are told.
+read_nodes <- function(signs, behind) {
+  at <- 0
+  take <- function() signs[at <<- at + 1]
+  is_next <- function(form) at < length(signs) && grepl(form, signs[at + 1])
+  expression <- function() {
+    if (is_next("^sum")) {
+      summed <- read_names(substring(take(), 4))
+      inner <- expression()
+      return(list(nodes = c(list(NULL), inner$nodes), names = setdiff(inner$names, summed)))
     }
-    if (!setequal(behind, unlist(term))) return(FALSE)
+    whole <- operand()
+    head <- list()
+    while (is_next("^[*/]$")) {
+      divides <- take() == "/"
+      part <- operand()
+      head <- list(if (divides) list(names = part$names))
+      whole <- Map(c, whole, part)
+    }
+    list(nodes = c(head, whole$nodes), names = unique(whole$names))
   }
-  !length(left)
-}
-
-# The effects that were asked for, of those that the library gave: under a condition each is a part of the sum over the outcomes.
-answer_of <- function(effects, asked) {
-  if (!length(asked$given)) return(effects)
-  levels <- Map(c, effects$x, effects$y)
-  effects[c("x", "y", "given")] <- lapply(asked[c("x", "y", "given")], function(names) lapply(levels, `[`, names))
-  if (!length(asked$rest)) return(effects)
-  if (any(nzchar(effects$fraction))) stop("the fractions of an effect under this condition aren't computed in R; ask for bounds (exact = FALSE)")
-  effects$groups <- vapply(Map(c, effects$x, effects$given), paste, "", collapse = ",")
-  low <- as.numeric(effects$from)
-  high <- as.numeric(effects$to)
-  if (any(stats::ave(high, effects$groups, FUN = sum) == 0)) stop("what is given has the probability 0 over these counts")
-  others <- function(values) pmax(stats::ave(values, effects$groups, FUN = sum) - values, 0)
-  # rounded outward: a number of R has some 15 digits
-  from <- ifelse(low > 0, low / (low + others(high)), 0) - 2e-12
-  to <- ifelse(high > 0, high / (high + others(low)), 0) + 2e-12
-  effects$from <- sprintf("%.12f", pmax(from, 0))
-  effects$to <- sprintf("%.12f", pmin(to, 1))
-  effects
-}
-
-# Values of the library as those of the effects that were asked for; NA where what is given has the probability 0.
-shares_of <- function(values, groups) {
-  if (is.null(groups) || anyNA(values)) return(values)
-  sums <- stats::ave(values, groups, FUN = sum)
-  ifelse(sums > 0, values / sums, NA)
+  operand <- function() {
+    sign <- take()
+    if (sign == "(") {
+      inner <- expression()
+      take()
+      return(inner)
+    }
+    if (grepl("^q[0-9]+$", sign)) return(list(nodes = list(NULL), names = behind[[as.integer(substring(sign, 2)) + 1]]))
+    sides <- lapply(parts_of(paste0("P\\((", names_form, ")(?:\\|(", names_form, "))?\\)"), sign), read_names)
+    list(nodes = list(list(term = sign, names = sides[[2]])), names = unlist(sides))
+  }
+  expression()
 }

@@ -3,8 +3,8 @@
 
 contrast <- function(diagram, data, x = NULL, y = NULL, treated = NULL, control = NULL, count = NULL, level = 0.95, resamples = 1000,
                      seed = NULL, missing = c("error", "drop"), at = NULL, interval = c("percentile", "bca"), set = NULL, given = NULL,
-                     progress = NULL) {
-  asked <- asked_of(diagram, x, y, set, given)
+                     progress = NULL, back_door = FALSE, zero = FALSE) {
+  asked <- asked_of(diagram, x, y, set, given, back_door, zero)
   drawn <- bootstrapped(asked, data, count, match.arg(missing), at, level, resamples, seed, match.arg(interval), progress)
   contrast_frame(drawn, arms_of(drawn$effects, drawn$table, treated, control))
 }
@@ -12,8 +12,8 @@ contrast <- function(diagram, data, x = NULL, y = NULL, treated = NULL, control 
 # The means of a numeric outcome under each level of the exposures, and their differences from that under `control`.
 effect_means <- function(diagram, data, x = NULL, y = NULL, control = NULL, count = NULL, level = 0.95, resamples = 1000, seed = NULL,
                          missing = c("error", "drop"), at = NULL, interval = c("percentile", "bca"), set = NULL, given = NULL,
-                         progress = NULL) {
-  asked <- asked_of(diagram, x, y, set, given)
+                         progress = NULL, back_door = FALSE, zero = FALSE) {
+  asked <- asked_of(diagram, x, y, set, given, back_door, zero)
   drawn <- bootstrapped(asked, data, count, match.arg(missing), at, level, resamples, seed, match.arg(interval), progress)
   means_frame(drawn, control)
 }
@@ -21,8 +21,8 @@ effect_means <- function(diagram, data, x = NULL, y = NULL, control = NULL, coun
 # The effects over the data, over resamples of its records, and for the interval "bca" without one record of each cell.
 bootstrapped <- function(asked, data, count, missing, at, level, resamples, seed, kind, progress) {
   check_numbers(level, resamples)
-  table <- effect_table(asked, data, count, missing)
-  table <- pin(table, first_places(table, free_variables(asked), at))
+  table <- count_table(asked$diagram, asked$words, data, count, missing)
+  table <- pin(table, first_places(table, asked$formula$free, at))
   effects <- effects_of(asked, table)
   cells <- if (kind == "bca" && resamples > 0) which(table$counts > 0)
   # `progress` is told how many tables have been asked about, and of how many
@@ -91,15 +91,15 @@ values_without_one <- function(values, table, cells) {
   structure(do.call(rbind, without), records = table$counts[cells])
 }
 
-# What gives the values of all cells over other counts. Exposures, outcomes and pinned variables keep their levels; of the others
-# there are those that the counts have.
+# What gives the values of all cells over other counts. Exposures, outcomes, what is given and pinned variables keep their levels; of the
+# others there are those that the counts have.
 values_over <- function(asked, table, effects) {
-  whole <- unique(c(names(effects$x[[1]]), names(effects$y[[1]]), asked$given, names(effects$pinned)))
+  whole <- c(names(effects$x[[1]]), names(effects$y[[1]]), names(effects$given[[1]]), names(effects$pinned))
   words <- c(asked$words, "--count", count_name(table))
   cells <- cells_of(effects$lines)
   function(counts) {
     told <- ask_counts(asked$diagram, words, counts_text(table, counts, whole), hand_back = 5)
-    if (told$status == 0) shares_of(cell_values(told$lines, cells), effects$groups) else rep(NA_real_, length(effects$from))
+    if (told$status == 0) cell_values(told$lines, cells) else rep(NA_real_, length(effects$from))
   }
 }
 
@@ -133,7 +133,7 @@ contrast_frame <- function(drawn, arms) {
   }
   structure(frame_of(columns), class = c("causal_contrast", "data.frame"), level = drawn$level, resamples = nrow(drawn$drawn),
             interval = drawn$kind, without_value = sum(is.na(drawn$drawn[, 1])), without_ratio = computed$ratio$without, seed = drawn$seed,
-            outcomes = c(if (length(effects$given)) names(effects$given[[1]]), names(effects$y[[1]])),
+            outcomes = c(names(effects$given[[1]]), names(effects$y[[1]])),
             treated = levels_at(table, effects$x[[arms$treated[1]]]), control = levels_at(table, effects$x[[arms$control[1]]]),
             pinned = levels_at(table, effects$pinned), dropped = table$dropped)
 }
@@ -181,7 +181,7 @@ means_frame <- function(drawn, control) {
   outcome <- names(effects$y[[1]])
   if (length(outcome) != 1) stop("a mean is of one outcome")
   numbers <- numbers_of(table, outcome)[vapply(effects$y, function(cell) as.integer(cell[[outcome]]), 0L)]
-  given <- if (length(effects$given)) vapply(effects$given, paste, "", collapse = ",") else rep("", length(effects$x))
+  given <- vapply(effects$given, paste, "", collapse = ",")
   keys <- paste(vapply(effects$x, paste, "", collapse = ","), given, sep = "|")
   rows <- which(!duplicated(keys))
   mean_at <- function(values, key) rowSums(values[, keys == key, drop = FALSE] * rep(numbers[keys == key], each = nrow(values)))

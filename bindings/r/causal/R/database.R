@@ -9,19 +9,10 @@ counts_query <- function(diagram, table, x = NULL, y = NULL, count = NULL, set =
   check_count_name(count)
   if (of == "implications" && !all(vapply(list(x, y, set, given), is.null, NA))) stop("implications have no `x`, no `y`, no `set` and no `given`")
   used <- if (of == "implications") used_columns(diagram, character(), "implications")
-          else if (is.null(set)) used_columns(diagram, asked_of(diagram, x, y, NULL, given)$words, "evaluate")
-          else adjustment_columns(diagram, set, x, y)
-  if (is.null(used) && of == "implications") stop("the diagram implies no independence, so there is nothing to count")
-  if (is.null(used)) stop(not_identifiable(identify_effect(diagram, x, y)))
+          else used_columns(diagram, asked_of(diagram, x, y, set, given)$words, "evaluate")
+  if (is.null(used)) stop("the diagram implies no independence, so there is nothing to count")
   if (!is.null(count)) refuse_used(enc2utf8(count), used)
   query_text(used, table, count, connection)
-}
-
-# The variables of the adjustment formula, as the library prints it.
-adjustment_columns <- function(diagram, set, x, y) {
-  answer <- adjusts(diagram, set, x, y)
-  if (!answer$holds) stop("this set can't be adjusted for: ", answer$text)
-  formula_names(answer)
 }
 
 # A table of a database, which stands for a data frame.

@@ -1,18 +1,18 @@
 # Effects over a table of counts. Each value is the library's; what is made of it as a number of R is rounded.
 
 evaluate <- function(diagram, data, x = NULL, y = NULL, count = NULL, exact = FALSE, missing = c("error", "drop"), at = NULL, set = NULL,
-                     given = NULL) {
-  asked <- asked_of(diagram, x, y, set, given)
-  table <- effect_table(asked, data, count, match.arg(missing))
-  table <- pin(table, first_places(table, free_variables(asked), at))
+                     given = NULL, back_door = FALSE, zero = FALSE) {
+  asked <- asked_of(diagram, x, y, set, given, back_door, zero)
+  table <- count_table(asked$diagram, asked$words, data, count, match.arg(missing))
+  table <- pin(table, first_places(table, asked$formula$free, at))
   effects_frame(effects_of(asked, table, exact), table)
 }
 
 # The value at each level at which the formula's free variables may be pinned: in the population all are the same.
-pin_spread <- function(diagram, data, x = NULL, y = NULL, count = NULL, exact = FALSE, missing = c("error", "drop")) {
-  asked <- asked_of(diagram, x, y)
-  table <- effect_table(asked, data, count, match.arg(missing))
-  free <- free_variables(asked)
+pin_spread <- function(diagram, data, x = NULL, y = NULL, count = NULL, exact = FALSE, missing = c("error", "drop"), given = NULL, zero = FALSE) {
+  asked <- asked_of(diagram, x, y, given = given, zero = zero)
+  table <- count_table(asked$diagram, asked$words, data, count, match.arg(missing))
+  free <- asked$formula$free
   if (!length(free)) stop("the formula reads no variable beside x and y that could have another level")
   places <- expand.grid(rev(lapply(table$levels[free], level_order)))[rev(seq_along(free))]
   rows <- lapply(seq_len(nrow(places)), function(k) spread_rows(asked, pin(table, unlist(places[k, , drop = FALSE])), free, exact))
@@ -44,22 +44,8 @@ print.causal_spread <- function(x, ...) {
   print_with_notes(x, x, ...)
 }
 
-# The table of counts of an effect, which has to have a formula.
-effect_table <- function(asked, data, count, missing) {
-  table <- count_table(asked$diagram, asked$words, data, count, missing)
-  if (is.null(table)) stop(not_identifiable(hedge_of(asked)))
-  table
-}
-
-hedge_of <- function(asked) {
-  certificate <- sub("\n$", "", ask("identify", asked$diagram, c(asked$words, "--certificate"))$out)
-  new_hedge(ask("identify", asked$diagram, asked$words), certificate, asked$diagram, asked$words)
-}
-
-# The variables that the formula reads beside x and y.
-free_variables <- function(asked) read_formula(ask("identify", asked$diagram, asked$words)$lines)$free
-
-# The places of the levels at which they are pinned: those that are given, or the first in order.
+# The places of the levels at which the variables are pinned that the formula reads beside x, y and what is given: those that `at` gives,
+# or the first in order.
 first_places <- function(table, free, at) {
   at <- as.list(at)
   if (length(at) && (is.null(names(at)) || !all(names(at) %in% free) || anyDuplicated(names(at)) || any(lengths(at) != 1)))
@@ -84,13 +70,19 @@ not_identifiable <- function(hedge) {
 effects_of <- function(asked, table, exact = FALSE) {
   words <- c(asked$words, "--count", count_name(table), flag("exact", exact))
   told <- ask_counts(asked$diagram, words, counts_text(table), hand_back = 5)
-  if (told$status == 5) stop(with_levels(causal_fault(told, list(diagram = asked$diagram$text)), table))
-  answer_of(c(read_effects(told$lines), list(lines = told$lines)), asked)
+  if (told$status == 5) stop(with_levels(causal_fault(told, list(diagram = asked$diagram$text)), table, asked$formula))
+  c(read_effects(told$lines), list(lines = told$lines))
 }
 
-# A fault's cell with the levels of the data in place of their numbers.
-with_levels <- function(fault, table) {
+# A fault's cell with the levels of the data in place of their numbers, and those of the condition that no record has.
+with_levels <- function(fault, table, formula) {
   for (name in names(fault$cell)) fault$cell[[name]] <- as.character(level_of(table, name, fault$cell[[name]]))
+  divisor <- if (!is.null(fault$cell)) divisor_at(formula, fault)
+  if (!is.null(divisor)) {
+    fault$condition <- fault$cell[names(fault$cell) %in% divisor$names]
+    without <- if (is.null(divisor$term)) "a divisor is 0" else paste("no record has what", divisor$term, "is given")
+    fault$sentence <- paste0(without, ", so the effect has no value over these counts")
+  }
   fault$message <- sentence_text(fault)
   fault
 }

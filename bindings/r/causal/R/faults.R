@@ -153,6 +153,6 @@ sentence_text <- function(fault) {
 }
 
 cell_text <- function(fault) {
-  if (is.null(fault$cell)) return(NULL)
-  paste0(": ", fault$expression, " node ", fault$node, " at ", paste0(names(fault$cell), "=", fault$cell, collapse = ", "))
+  at <- if (is.null(fault$condition)) fault$cell else fault$condition
+  if (!is.null(at)) paste0(": ", fault$expression, " node ", fault$node, " at ", paste0(names(at), "=", at, collapse = ", "))
 }

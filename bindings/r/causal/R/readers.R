@@ -2,7 +2,8 @@
 
 # A name is printed bare, or between quotes where it has other characters. A set is {A,B}; a term of an effect P(..).
 name_form <- '(?:"[^"]*"|[^ \\t\\r\\n{}\\[\\]";=,<>@()|*/-]+)'
-set_form <- paste0("\\{(?:", name_form, "(?:,", name_form, ")*)?\\}")
+names_form <- paste0(name_form, "(?:,", name_form, ")*")
+set_form <- paste0("\\{(?:", names_form, ")?\\}")
 target_form <- paste0("P\\((?:", name_form, "|[,|]|do\\((?:", name_form, "|,)*\\))*\\)")
 
 # The parts of a line that has the form, without the whole; NULL where it hasn't.
@@ -84,13 +85,6 @@ read_formula <- function(lines) {
   definitions <- vapply(lines[-1], function(line) parts_of("q[0-9]+ = (.*)", line), "", USE.NAMES = FALSE)
   list(target = found[1], expression = found[2], definitions = definitions,
        free = if (is.null(free)) character() else read_names(free))
-}
-
-# The variables in the terms of a formula: of its target, its expression and its definitions.
-formula_names <- function(formula) {
-  terms <- all_of(target_form, paste(c(formula$target, formula$expression, formula$definitions), collapse = " "))
-  words <- all_of(paste0("do\\(|", name_form), paste(substring(terms, 3), collapse = " "))
-  unique(unquote(words[words != "do("]))
 }
 
 is_hedge <- function(lines) length(lines) > 0 && !is.null(parts(paste0(target_form, " is not identifiable"), lines[1]))
@@ -241,11 +235,12 @@ read_effects <- function(lines) {
   is_pinned <- startsWith(lines, "pinned ")
   level <- paste0(name_form, "=[^,|()]*")
   levels <- paste0(level, "(?:,", level, ")*")
-  form <- paste0("P\\((", levels, ")(?:\\|do\\((", levels, ")\\))?\\) (?:= ([0-9]+/[0-9]+)|from ([0-9.]+) to ([0-9.]+))")
+  form <- paste0("P\\((", levels, ")(?:\\|do\\((", levels, ")\\))?(?:[,|](", levels, "))?\\) (?:= ([0-9]+/[0-9]+)|from ([0-9.]+) to ([0-9.]+))")
   cells <- lapply(lines[!is_pinned], parts_of, form = form)
   list(pinned = unlist(lapply(sub("^pinned ", "", lines[is_pinned]), read_levels)),
        y = lapply(cells, function(cell) read_levels(cell[1])), x = lapply(cells, function(cell) read_levels(cell[2])),
-       fraction = vapply(cells, `[`, "", 3), from = vapply(cells, `[`, "", 4), to = vapply(cells, `[`, "", 5))
+       given = lapply(cells, function(cell) read_levels(cell[3])),
+       fraction = vapply(cells, `[`, "", 4), from = vapply(cells, `[`, "", 5), to = vapply(cells, `[`, "", 6))
 }
 
 # A=1,B=2 as a named vector of text.

@@ -27,6 +27,7 @@
     \item{\code{key}, \code{version}}{the member, or the version, of a certificate.}
     \item{\code{expression}, \code{node}, \code{cell}}{the place in the formula (\code{"main"} or a definition), and the levels at
       which it has no value.}
+    \item{\code{condition}}{of these levels those of a term's condition, which no record has, or those at which a divisor is 0.}
     \item{\code{printed}, \code{status}}{the line and the status of the library.}
   }
 

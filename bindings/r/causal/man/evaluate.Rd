@@ -11,14 +11,14 @@
 \usage{
 evaluate(diagram, data, x = NULL, y = NULL, count = NULL, exact = FALSE,
          missing = c("error", "drop"), at = NULL, set = NULL,
-         given = NULL)
+         given = NULL, back_door = FALSE, zero = FALSE)
 
 \method{as.data.frame}{causal_effects}(x, ...)
 }
 \arguments{
   \item{diagram}{a diagram, or what \code{\link{as_causal_diagram}} takes.}
-  \item{data}{a data frame with a column for each vertex that the formula, \code{x} or \code{y} names; other columns don't
-    matter. Or a contingency table (class \code{table}), a table of a database, as \code{\link{database_table}} gives it, or a lazy
+  \item{data}{a data frame with a column for each vertex that the formula, \code{x}, \code{y} or \code{given} names; other columns
+    don't matter. Or a contingency table (class \code{table}), a table of a database, as \code{\link{database_table}} gives it, or a lazy
     table of the package \pkg{dplyr}.}
   \item{x, y}{names of the exposures and of the outcomes; \code{NULL} for the vertices with these marks. In the method \code{x} is
     an answer.}
@@ -31,7 +31,11 @@ evaluate(diagram, data, x = NULL, y = NULL, count = NULL, exact = FALSE,
   \item{...}{not used.}
   \item{set}{names of vertices to adjust for, in place of the formula of \code{\link{identify_effect}}. A set that can't be adjusted
     for (\code{\link{adjusts}}) is an error.}
-  \item{given}{names of vertices: the effect is that among those with the same values of these.}
+  \item{given}{names of vertices: the effect is that among those with the same values of these, by the formula of
+    \code{\link{identify_effect}}.}
+  \item{back_door}{whether the set has to meet the back-door criterion.}
+  \item{zero}{whether a product with a factor 0 is 0 whatever its other factors are, also where one of them has a condition that no
+    record has. Where there is a value without it, it is the same.}
   \item{at}{the levels at which the formula's free variables are pinned, as \code{list(Z = 1)}; the first in order by default.}
 }
 \details{
@@ -43,19 +47,16 @@ evaluate(diagram, data, x = NULL, y = NULL, count = NULL, exact = FALSE,
   by their levels), or at the one that \code{at} gives; the answer says which. Over a model's own probabilities every level gives
   the same; over data they differ by chance, and \code{\link{pin_spread}} shows by how much.
 
-  \strong{What is proved}, of each value: it is the value of the formula of \code{\link{identify_effect}} over the counts that the
-  library was given (the fraction exactly; the bounds enclose it), and it equals the effect, or its bounds enclose it, in each
+  \strong{What is proved}, of each value: it is the value of the formula of \code{\link{identify_effect}}, or of that of the set,
+  over the counts that the library was given (the fraction exactly; the bounds enclose it), and it equals the effect, or its bounds enclose it, in each
   positive model that fits the diagram and that the counts match. \strong{What is only computed} or tested: that the data frame
   became these counts, and \code{value}, the nearest number of R.
 
-  With \code{given} a condition that may as well be an intervention, by rule 2 of the do-calculus, becomes one, and the values are
-  the library's. With another condition they are quotients of those of a joint effect, which are computed, and bounds alone: they
-  have 12 digits, and are rounded outward.
-
   A value is a plug-in value: it says nothing about its sampling error. See \code{\link{contrast}} for intervals.
 
-  A cell that no record supports is an error of the class \code{causal_evaluation_fault} with its \code{cell}; an effect that
-  isn't identifiable one of the class \code{causal_not_identifiable} with its \code{hedge}.
+  A cell that no record supports is an error of the class \code{causal_evaluation_fault} with its \code{cell}, and with the
+  \code{condition} that no record has: \code{zero}, or \code{set} with a smaller set, may help. An effect that
+  isn't identifiable is one of the class \code{causal_not_identifiable} with its \code{hedge}.
 }
 \value{
   A data frame of the class \code{causal_effects}: a column for each vertex of \code{x}, \code{given} and \code{y}, then \code{value}, and
@@ -68,4 +69,5 @@ evaluate(diagram, data, x = NULL, y = NULL, count = NULL, exact = FALSE,
 diagram <- causal_diagram("dag { T [exposure] R [outcome] S -> T S -> R T -> R }")
 evaluate(diagram, kidney_stones, count = "count")
 evaluate(diagram, kidney_stones, count = "count", exact = TRUE)
+evaluate(diagram, kidney_stones, count = "count", given = "S")
 }

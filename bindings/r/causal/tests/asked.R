@@ -1,4 +1,4 @@
-# Effects by a set to adjust for, and under a condition; progress of long runs.
+# Effects by a set to adjust for, under a condition, and where cells have no record; progress of long runs.
 library(causal)
 same <- function(a, b) stopifnot(identical(a, b))
 near <- function(a, b, by = 1e-10) stopifnot(length(a) == length(b), all(abs(a - b) < by))
@@ -30,31 +30,13 @@ stopifnot(grepl("can't be adjusted for: not admissible: \\{\\}", refusal(evaluat
 stopifnot(grepl("not both", refusal(evaluate(stones, kidney_stones, count = "count", set = "S", given = "S"))))
 drawn <- lapply(list("S", NULL), function(set) contrast(stones, kidney_stones, count = "count", resamples = 10, seed = 1, set = set))
 same(drawn[[1]], drawn[[2]])
-
-# The formula of a set is evaluated as the library proved it
-own <- getFromNamespace("asked_of", "causal")
-chained <- getFromNamespace("is_chained", "causal")
-joint <- "sum{Z,\"W |\"} P(Z,\"W |\") * P(Y|X,Z,\"W |\")"
-stopifnot(chained(joint, "sum{Z,\"W |\"} P(Z) * P(\"W |\"|Z) * P(Y|X,Z,\"W |\")"), chained(joint, joint))
-stopifnot(!chained(joint, "sum{Z,\"W |\"} P(Z) * P(\"W |\") * P(Y|X,Z,\"W |\")"), !chained(joint, "sum{Z} P(Z) * P(Y|X,Z)"))
-set.seed(7)
-names <- paste0("v", 1:6)
-tried <- 0
-for (k in 1:25) {
-  adjacency <- matrix(0, 6, 6, dimnames = list(names, names))
-  adjacency[upper.tri(adjacency)] <- stats::rbinom(15, 1, 0.4)
-  both <- adjacency * 0
-  both[upper.tri(both)] <- stats::rbinom(15, 1, 0.1)
-  turned <- sample(names)
-  diagram <- as_causal_diagram(adjacency[turned, turned], bidirected = both[turned, turned])
-  chosen <- sample(names, 3)
-  for (sets in list(list(chosen[1], chosen[2]), list(chosen[1:2], chosen[3]), list(chosen[1], chosen[2:3])))
-    for (set in adjustment_sets(diagram, sets[[1]], sets[[2]], most = 3)$sets) {
-      tried <- tried + 1
-      own(diagram, sets[[1]], sets[[2]], set = set)
-    }
-}
-stopifnot(tried > 10)
+same(evaluate(stones, kidney_stones, count = "count", exact = TRUE, set = "S", back_door = TRUE), by_set)
+below <- table_of(c("X", "Y", "D"), 2)
+same(nrow(evaluate("dag { X -> Y X -> D }", below, "X", "Y", count = "n", set = "D")), 4L)
+stopifnot(grepl("forbidden: D", refusal(evaluate("dag { X -> Y X -> D }", below, "X", "Y", count = "n", set = "D", back_door = TRUE))))
+stopifnot(grepl("`set` names it", refusal(evaluate(stones, kidney_stones, count = "count", back_door = TRUE))))
+# no column outside of the set is read
+same(nrow(evaluate("dag { X -> Y X <- A -> Y A <- B -> X }", table_of(c("X", "Y", "A"), 4), "X", "Y", count = "n", set = "A")), 4L)
 
 # Under a condition that may as well be done
 found <- evaluate(stones, kidney_stones, count = "count", exact = TRUE, given = "S")
@@ -71,9 +53,11 @@ found <- evaluate(diagram, data, "X", "Y", count = "n", given = "W")
 for (row in seq_len(nrow(found))) {
   value <- part(data, list(Y = found$Y[row]), list(X = found$X[row], W = found$W[row]))
   near(found$value[row], value)
-  stopifnot(as.numeric(found$from[row]) <= value, value <= as.numeric(found$to[row]), as.numeric(found$to[row]) - as.numeric(found$from[row]) < 1e-11)
+  stopifnot(as.numeric(found$to[row]) - as.numeric(found$from[row]) < 1e-15)
 }
-stopifnot(grepl("fractions", refusal(evaluate(diagram, data, "X", "Y", count = "n", given = "W", exact = TRUE))))
+found <- evaluate(diagram, data, "X", "Y", count = "n", given = "W", exact = TRUE)
+same(names(found), c("X", "W", "Y", "value", "fraction"))
+near(found$value, vapply(seq_len(8), function(row) part(data, list(Y = found$Y[row]), list(X = found$X[row], W = found$W[row])), 0), 1e-15)
 data <- table_of(c("X", "M", "Y", "Z"), 5)
 front_door <- causal_diagram("dag { X -> M -> Y X <-> Y Z -> Y Z <-> M }")
 found <- evaluate(front_door, data, "X", "Y", count = "n", given = "Z")
@@ -105,3 +89,47 @@ print(means)
 quotient <- contrast(diagram, table_of(c("X", "W", "Y"), 3), "X", "Y", count = "n", resamples = 10, seed = 1, given = "W")
 stopifnot(all(is.finite(quotient$difference_lower)))
 stopifnot(grepl("GROUP BY", counts_query(stones, "t", given = "S")))
+
+# Nothing is done; a condition that the formula doesn't read; a pinned variable beside a condition
+near(evaluate(stones, kidney_stones, x = character(), count = "count", given = "S")$value[1], 15 / 17)
+found <- evaluate("dag { X -> Y Z }", table_of(c("X", "Y", "Z"), 6), "X", "Y", count = "n", given = "Z")
+same(list(nrow(found), names(found)[1:3]), list(8L, c("X", "Z", "Y")))
+napkin <- causal_diagram("dag { V W -> Z -> X -> Y W <-> X W <-> Y }")
+data <- table_of(c("W", "Z", "X", "Y", "V"), 8)
+spread <- pin_spread(napkin, data, "X", "Y", count = "n", given = "V")
+same(names(spread)[1:4], c("Z", "X", "V", "Y"))
+same(evaluate(napkin, data, "X", "Y", count = "n", given = "V", at = list(Z = 1))$value, spread$value[spread$Z == 1])
+
+# A product with a factor 0: with A = 1 there is no record with B = 1
+diagram <- causal_diagram("dag { A -> B A -> X A -> Y B -> Y X -> Y }")
+data <- expand.grid(Y = 0:1, X = 0:1, B = 0:1, A = 0:1)
+data$n <- c(2, 1, 1, 1, 1, 1, 2, 1, 3, 1, 1, 5, 0, 0, 0, 0)
+same(evaluate(diagram, data, "X", "Y", count = "n", exact = TRUE, zero = TRUE)$fraction, c("2/3", "1/3", "3/8", "5/8"))
+near(contrast(diagram, data, "X", "Y", count = "n", zero = TRUE, resamples = 0)$difference[2], 5 / 8 - 1 / 3)
+near(effect_means(diagram, data, "X", "Y", count = "n", zero = TRUE, resamples = 0)$mean, c(1 / 3, 5 / 8))
+same(evaluate(stones, kidney_stones, count = "count", zero = TRUE), evaluate(stones, kidney_stones, count = "count"))
+thin <- transform(data, n = c(rep(20, 12), 1, 1, 1, 1))
+drawn <- lapply(c(FALSE, TRUE), function(zero) contrast(diagram, thin, "X", "Y", count = "n", resamples = 40, seed = 1, zero = zero))
+stopifnot(attr(drawn[[2]], "without_value") < attr(drawn[[1]], "without_value"))
+napkin <- causal_diagram("dag { W -> Z -> X -> Y W <-> X W <-> Y }")
+cells <- table_of(c("W", "Z", "X", "Y"), 10)
+cells$n[cells$W == 1 & cells$Z == 1 & cells$X == 0] <- 0
+without <- lapply(c(FALSE, TRUE), function(zero) attr(pin_spread(napkin, cells, "X", "Y", count = "n", zero = zero), "without_value"))
+same(without, list(list(list(Z = 1L)), list()))
+
+# The condition that no record has is named
+caught <- tryCatch(evaluate(diagram, data, "X", "Y", count = "n"), causal_evaluation_fault = identity)
+same(conditionMessage(caught), paste("evaluation fault 1: no record has what P(Y|A,B,X) is given, so the effect has no value over these counts:",
+                                     "main node 4 at A=1, B=1, X=0"))
+same(caught$condition, c(A = "1", B = "1", X = "0"))
+same(names(caught$cell), c("A", "B", "X", "Y"))
+caught <- tryCatch(evaluate(napkin, cells, "X", "Y", count = "n", at = list(Z = 1)), causal_evaluation_fault = identity)
+same(caught[c("expression", "condition")], list(expression = "q0", condition = c(W = "1", Z = "1", X = "0")))
+few <- data.frame(X = c(0, 0, 1), Y = c(0, 1, 0), Z = c(0, 1, 0))
+caught <- tryCatch(evaluate("dag { X -> Y -> Z }", few, "X", "Y", given = "Z"), causal_evaluation_fault = identity)
+stopifnot(endsWith(conditionMessage(caught), ": a divisor is 0, so the effect has no value over these counts: main node 0 at X=1, Z=1"))
+nodes <- getFromNamespace("divisors_of", "causal")(c("sum{W} P(W) * P(\"X (\"|W,Z)", "(P(q0) * q0) / (sum{\"X (\"} q0)"))
+same(lengths(nodes), c(4L, 6L))
+same(nodes[[1]][[4]], list(term = "P(\"X (\"|W,Z)", names = c("W", "Z")))
+same(nodes[[2]][[1]], list(names = "Z"))
+same(vapply(nodes[[2]], is.null, NA), c(FALSE, TRUE, FALSE, TRUE, TRUE, TRUE))

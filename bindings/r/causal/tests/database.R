@@ -9,8 +9,8 @@ stones <- causal_diagram("dag { T [exposure] R [outcome] S -> T S -> R T -> R T 
 same(counts_query(stones, "stones"), paste('SELECT records."T" AS "T", records."R" AS "R", records."S" AS "S", COUNT(*) AS "count" FROM "stones" records',
                                            'GROUP BY records."T", records."R", records."S"'))
 same(counts_query(stones, c("ma\"in", "s; DROP TABLE t --"), "T", "R", count = "n\"", set = "S"),
-     paste('SELECT records."R" AS "R", records."T" AS "T", records."S" AS "S", SUM(records."n""") AS "count" FROM "ma""in"."s; DROP TABLE t --" records',
-           'GROUP BY records."R", records."T", records."S"'))
+     paste('SELECT records."T" AS "T", records."R" AS "R", records."S" AS "S", SUM(records."n""") AS "count" FROM "ma""in"."s; DROP TABLE t --" records',
+           'GROUP BY records."T", records."R", records."S"'))
 same(counts_query("dag { count -> \"a, b'\" }", "t", "count", "a, b'"),
      paste('SELECT records."count" AS "count", records."a, b\'" AS "a, b\'", COUNT(*) AS "count." FROM "t" records',
            'GROUP BY records."count", records."a, b\'"'))
@@ -23,8 +23,6 @@ stopifnot(grepl("nothing to count", refusal(counts_query("dag { A -> B }", "t", 
 stopifnot(grepl("have no `x`", refusal(counts_query(stones, "t", "T", of = "implications"))))
 stopifnot(grepl("can't hold the counts", refusal(counts_query(stones, "t", count = "S"))))
 for (wrong in list(1, character(), NA_character_, "")) stopifnot(grepl("is the name of a table", refusal(counts_query(stones, wrong))))
-same(own("formula_names")(list(target = "P(\"a, b)\",Y|do(\"X)\",do))", expression = "sum{M} P(M|\"x(\",\"do(Q)\") * q0", definitions = "P(W)")),
-     c("a, b)", "Y", "X)", "do", "M", "x(", "do(Q)", "W"))
 stopifnot(grepl("data frame, a table", refusal(evaluate(stones, 1))))
 
 if (!all(nzchar(c(system.file(package = "DBI"), system.file(package = "RSQLite"))))) {

@@ -123,6 +123,10 @@ bounds <- read("read_effects")("P(S=small,R=failure|do(T=A)) from 0.832546217385
 same(bounds$y, list(c(S = "small", R = "failure")))
 same(c(bounds$from, bounds$to), c("0.832546217385603774", "0.832546217385603777"))
 same(unname(read("read_effects")("P(R=success) = 281/350")$x[[1]]), character())
+among <- read("read_effects")(lines("P(R=0,U=1|do(T=1,\"a b\"=2),S=0,Z=1) = 1/2", "P(R=0|S=1) from 0.1 to 0.2", "P(R=0|do=1) = 1/2"))
+same(among$given, list(c(S = "0", Z = "1"), c(S = "1"), c(do = "1")))
+same(among$x[[1]], c(T = "1", "a b" = "2"))
+same(lengths(among$x), c(2L, 0L, 0L))
 
 # What has none of the forms is refused, and not guessed.
 stopifnot(inherits(try(read("read_rule")("rule 4 holds: P(A) = P(A)"), silent = TRUE), "try-error"))
