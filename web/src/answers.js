@@ -69,9 +69,10 @@ export class Answers {
     for (const words of this.active.ahead ?? []) reading.ask(words);
   }
 
-  /** Forgets what was chosen for another diagram: the condition of the effect, and the trials. */
+  /** Forgets what was chosen for another diagram: the way to the formula and its form, the condition of the effect, and the trials. */
   forgetChoices() {
     const { sets } = this.#memory;
+    Object.assign(this.#memory, { by: "", procedure: false, zero: false });
     for (const key of Object.keys(sets)) if (/^(condition|also set|experiment \d+)$/.test(key)) delete sets[key];
     this.#memory.experiments = 1;
   }
@@ -132,7 +133,7 @@ export class Answers {
   async take(file) {
     if (file.size > MOST_BYTES) return toast(`${file.name} has ${Math.ceil(file.size / 2 ** 20)} MB. A table has 64 MB at most.`);
     const bytes = new Uint8Array(await file.arrayBuffer()), text = new TextDecoder().decode(bytes);
-    Object.assign(this.#memory, { table: { name: file.name, bytes, text, how: "" }, count: undefined });
+    Object.assign(this.#memory, { table: { name: file.name, bytes, text, how: "" }, count: undefined, zero: false });
     this.#readTable();
     this.show(this.active.id === "implications" ? "implications" : "data");
   }

@@ -1,7 +1,7 @@
 // Reading an expression that the program printed as text, and writing it in LaTeX to be typeset.
 
 /**
- * @typedef {{k: "P", of: string[], doing: string[], given: string[]}} Term
+ * @typedef {{k: "P", of: string[], doing: string[], given: string[], text: string}} Term with its text as it was printed
  * @typedef {Term | {k: "sum", over: string[], body: Expr} | {k: "mul", list: Expr[]} | {k: "div", list: [Expr, Expr]}
  *   | {k: "q", n: number}} Expr
  */
@@ -51,8 +51,9 @@ class Reader {
       return inner;
     }
     if (tokens[this.#at + 1] !== "(") return { k: "q", n: Number(tokens[this.#at++].slice(1)) };
+    const start = this.#at;
     this.#at += 2;
-    const term = { k: "P", of: this.#names(), doing: [], given: [] };
+    const term = { k: "P", of: this.#names(), doing: [], given: [], text: "" };
     if (tokens[this.#at] === "|") {
       this.#at++;
       if (tokens[this.#at + 1] === "(") {
@@ -63,6 +64,7 @@ class Reader {
       term.given = this.#names();
     }
     this.#at++;
+    term.text = tokens.slice(start, this.#at).join("");
     return term;
   }
 

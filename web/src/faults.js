@@ -50,11 +50,13 @@ const COUNTS = {
 };
 
 const EVALUATION = {
-  1: (place) => `The formula has no value: no row supports ${place?.split(" at ")[1] ?? place}, so a probability `
-    + "given that would be 0/0.",
+  1: () => "The formula has no value: no record has what is given in one of its terms.",
   2: () => "The exact fractions grow too wide; ask for bounds.",
   3: () => "A divisor is too close to 0 for bounds of 18 digits.",
 };
+
+/** Whether the formula has no value since some combination of levels has no record. @param {Fault} fault */
+export const isWithoutRecords = (fault) => fault.table === "evaluation" && fault.number === 1;
 
 const TABLES = [
   [/^(?:second )?graph fault/, GRAPH],

@@ -1,6 +1,5 @@
 // The names under which the program finds its inputs, and which the shown command lines carry.
 export const DIAGRAM = "diagram.dag";
-export const ADJUSTED = "adjusted.dag";
 export const SECOND = "second.dag";
 export const CERTIFICATE = "certificate.json";
 

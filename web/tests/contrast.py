@@ -65,6 +65,10 @@ return [seen, [...found.values()]];
 # What is shown before the texts are measured: an example, a card, and a script.
 KEY = """{ const v = [...document.querySelectorAll('#drawing .vertex')].find((v) => v.querySelector('text').textContent === '%s');
     v.focus(); v.dispatchEvent(new KeyboardEvent('keydown', {key: '%s', bubbles: true})); }"""
+DROP = """{ const data = new DataTransfer(); data.items.add(new File([%r], 'table.csv'));
+    document.body.dispatchEvent(new DragEvent('drop', { dataTransfer: data, bubbles: true, cancelable: true })); }"""
+BY = "setTimeout(() => { const el = document.getElementById('by'); el.value = '%s'; el.dispatchEvent(new Event('change')); }, 300);"
+FEW = "S,T,R\nsmall,A,success\nsmall,A,failure\nsmall,B,success\nsmall,B,failure\nlarge,A,success\nlarge,A,failure\n"
 SHOWN = {
     "a formula with all that opens": ("napkin", "effect", "document.querySelectorAll('#panel details').forEach((el) => (el.open = true))"),
     "a hedge": ("bow", "effect", ""),
@@ -74,6 +78,9 @@ SHOWN = {
     "implications": ("fork", "implications", ""),
     "trials": ("front_door", "experiments", ""),
     "values": ("kidney_stones", "data", "document.getElementById('sample')?.click()"),
+    "values under a condition": ("kidney_stones", "data", "document.getElementById('sample')?.click();" + BY % "condition"),
+    "no record": ("kidney_stones", "data", DROP % FEW),
+    "zero cells": ("kidney_stones", "data", DROP % FEW + "setTimeout(() => document.getElementById('zero').click(), 400)"),
     "a comparison": ("chain", "compare", """const t = document.querySelector('textarea.second');
         t.value = 'dag { A -> B <- C }'; t.dispatchEvent(new Event('input'))"""),
     "a fault": ("napkin", "effect", """const t = document.getElementById('text');

@@ -18,11 +18,11 @@ from selenium.webdriver.common.keys import Keys
 
 import browser
 import firefox
+import over_tables
 from browser import wait
 
 TOP = browser.WEB.parent
 EXAMPLES = TOP / "examples"
-NAPKIN_CSV = browser.WEB / "tests/napkin.csv"
 MARKED = """return [...document.querySelectorAll('#drawing .vertex')].filter((v) => v.classList.contains(arguments[0]))
     .map((v) => v.querySelector('text').textContent)"""
 CUT = "return [...document.querySelectorAll('#drawing .edge.cut')].map((e) => e.dataset.edge)"
@@ -79,6 +79,10 @@ class Session:
     def names(self):
         return [el.text for el in self.all("#drawing .vertex text")]
 
+    def marked(self, kind):
+        """The vertices that the drawing marks so."""
+        return self.run(MARKED, kind)
+
     def cut(self):
         """The edges that the drawing shows as taken away."""
         return self.run(CUT)
@@ -134,9 +138,8 @@ class Session:
 
 def reads_a_formula(s):
     s.example("napkin")
-    s.check("the answer", s.printed() == "P(Y|do(X)) = q0 / (sum{Y} q0)\nq0 = sum{W} P(W) * P(X|W,Z) * P(Y|X,W,Z)\n"
-            "free {Z}", s.printed())
-    s.check("its command line", s.command() == "$ causal identify diagram.dag", s.command())
+    s.check("the answer", s.printed() == "P(Y|do(X)) = q0 / (sum{Y} q0)\nq0 = sum{W} P(W) * P(X,Y|W,Z)\nfree {Z}", s.printed())
+    s.check("its command line", s.command() == "$ causal identify diagram.dag --short", s.command())
     labels = [el.get_attribute("aria-label") for el in s.all(".formula [role=math]")]
     lines = s.printed().split("\n")[:2]
     s.check("typeset, with its text as a label", s.all(".formula .mfrac") and labels == lines, labels)
@@ -144,6 +147,42 @@ def reads_a_formula(s):
     s.check("a bound name is explained", "bound name" in s.one(".formula .bound").get_attribute("title"))
     s.check("the claim", "in every positive finite model that fits the diagram" in s.panel(), s.panel())
     s.check("the source", "Book of Why" in s.one("#source").text)
+
+
+def chooses_a_form(s):
+    """A short form comes first, and the procedure's beside it where it is another."""
+    s.example("napkin")
+    s.tab("effect")
+    is_ticked = lambda: s.run("return document.getElementById('procedure').checked")
+    s.check("a short form first", not is_ticked() and "A short form (--short)" in s.panel(), s.panel())
+    s.one("#procedure").click()
+    s.soon("as the procedure gives it", lambda: s.printed() == "P(Y|do(X)) = q0 / (sum{Y} q0)\n"
+           "q0 = sum{W} P(W) * P(X|W,Z) * P(Y|X,W,Z)\nfree {Z}", s.printed)
+    s.check("its command line", s.command() == "$ causal identify diagram.dag", s.command())
+    s.check("it is typeset", [el.get_attribute("aria-label") for el in s.all(".formula [role=math]")] == s.printed().split("\n")[:2])
+    s.one("#check").click()
+    s.soon("check accepts", lambda: "accepted" in s.one(".checked").text, lambda: s.one(".checked").text)
+    s.check("the choice stays", is_ticked())
+    s.example("front_door")
+    s.soon("one form where nothing is shorter", lambda: s.command() == "$ causal identify diagram.dag" and not s.all("#procedure"), s.panel)
+    s.example("birth_weight")
+    s.soon("another diagram begins with the short form", lambda: s.printed() == "P(Mortality|do(Smoking)) = P(Mortality|Smoking)", s.panel)
+    s.one("#check").click()
+    s.soon("check accepts it too", lambda: "accepted" in s.one(".checked").text, lambda: s.one(".checked").text)
+    s.one("#procedure").click()
+    s.soon("the other sums over what is between", lambda: "sum{Weight}" in s.printed(), s.panel)
+    s.write("dag { X [exposure] Y [outcome] X -> Y -> Z }")
+    s.one("summary[data-key='condition']").click()
+    s.soon("a condition may be chosen", lambda: s.all("[data-key='add condition']"), s.panel)
+    s.run("const el = document.querySelector('[data-key=\"add condition\"]'); el.value = 'Z'; el.dispatchEvent(new Event('change'))")
+    s.soon("a quotient by the procedure", lambda: s.command() == "$ causal identify diagram.dag --given Z" and " / " in s.printed(), s.panel)
+    s.one("#procedure").click()
+    s.soon("and a short form without one", lambda: s.printed() == "P(Y|do(X),Z) = P(Y|X,Z)", s.panel)
+    s.check("its command line too", s.command() == "$ causal identify diagram.dag --given Z --short", s.command())
+    s.one("summary[data-key='condition']").click()
+    time.sleep(0.3)
+    s.example("bow")
+    s.soon("no form of a hedge", lambda: s.command() == "$ causal identify diagram.dag" and not s.all("#procedure"), s.panel)
 
 
 def drags_and_takes_back(s):
@@ -380,54 +419,6 @@ def saves_a_certificate(s):
     s.check("and accepted elsewhere", checked.stdout.startswith("accepted"), checked.stdout + checked.stderr)
 
 
-def drops_a_table(s):
-    s.tab("data")
-    s.one("#csv").send_keys(str(NAPKIN_CSV))
-    s.soon("what is free is pinned", lambda: "Z=0" in s.panel(), s.panel)
-    s.example("kidney_stones")
-    drop = """const data = new DataTransfer();
-        data.items.add(new File([arguments[0]], "kidney_stones.csv", { type: "text/csv" }));
-        document.body.dispatchEvent(new DragEvent("drop", { dataTransfer: data, bubbles: true, cancelable: true }));"""
-    s.run(drop, (EXAMPLES / "kidney_stones.csv").read_text())
-    s.soon("counts", lambda: "634983/762700" in s.one(".values").text, s.panel)
-    s.check("warned", "without sampling error" in s.panel(), s.panel())
-    s.check("with its command line", s.command() == "$ causal evaluate diagram.dag kidney_stones.csv --count=count "
-            "--exact", s.command())
-    s.one("summary[data-key='levels']").click()
-    s.soon("levels", lambda: "small (357)" in s.panel(), s.panel)
-    s.one("summary[data-key='bounds']").click()
-    s.soon("bounds", lambda: "0.832546217385603774" in s.panel(), s.panel)
-
-
-def reads_other_tables(s):
-    s.example("kidney_stones")
-    s.tab("data")
-    drop = """const data = new DataTransfer();
-        data.items.add(new File([arguments[0]], "mine.csv", { type: "text/csv" }));
-        document.body.dispatchEvent(new DragEvent("drop", { dataTransfer: data, bubbles: true, cancelable: true }));"""
-    table = (EXAMPLES / "kidney_stones.csv").read_text()
-    s.run(drop, table.lower().replace(",", ";"))
-    s.soon("semicolons and other letters", lambda: "634983/762700" in s.one(".values").text, s.panel)
-    s.check("are told", "semicolons as commas" in s.one("#read-notes").text, s.panel())
-    s.check("in the command line", "mine.read.csv" in s.command(), s.command())
-    s.check("the example's table is still offered", s.all("#sample"))
-    header = table.split("\n")[0].split(",")
-    rows = [",".join("1" if name == "count" else f"{i}.18" if name == "S" else str(i % 2) for name in header) for i in range(40)]
-    s.run(drop, "\n".join([",".join(header), *rows]) + "\n")
-    s.soon("many levels are to be grouped", lambda: "Group S first" in s.panel(), s.panel)
-    s.check("no raw code is seen", " node " not in s.panel(), s.panel())
-    s.run(drop, table + ",".join("1" if name == "count" else "NA" for name in header) + "\n")
-    s.soon("missing values are told", lambda: "Missing values: NA" in s.panel(), s.panel)
-    s.run("""const data = new DataTransfer(), file = new File(["X"], "large.csv");
-        Object.defineProperty(File.prototype, "size", { configurable: true, get() { return 90000000; } });
-        data.items.add(file);
-        document.body.dispatchEvent(new DragEvent("drop", { dataTransfer: data, bubbles: true, cancelable: true }));
-        delete File.prototype.size;""")
-    s.soon("what is too large isn't read", lambda: "64 MB at most" in s.one("#toast").text, lambda: s.one("#toast").text)
-    s.one("#sample").click()
-    s.soon("the example's table comes back", lambda: "634983/762700" in s.one(".values").text, s.panel)
-
-
 def says_it_plainly(s):
     s.tab("effect")
     s.write("dag { X [exposure] Y [outcome] Y -> X }")
@@ -550,7 +541,7 @@ def asks_under_a_condition(s):
     s.soon("by the same models", lambda: "the same two models differ on it too" in s.panel(), s.panel)
     s.keys(Keys.ESCAPE)
     s.example("napkin")
-    s.soon("another diagram has no condition", lambda: s.command() == "$ causal identify diagram.dag", s.command)
+    s.soon("another diagram has no condition", lambda: s.command() == "$ causal identify diagram.dag --short", s.command)
 
 
 def saves_the_drawing_and_a_link(s):
@@ -580,34 +571,6 @@ def saves_the_drawing_and_a_link(s):
     link = s.run("return location.href")
     browser.open_page(s.driver, fragment="#" + link.split("#")[1])
     s.check("the link carries the diagram", s.text() == text, s.text())
-
-
-def contrasts_with_intervals(s):
-    s.example("kidney_stones")
-    s.tab("data")
-    if s.all("#sample"):
-        s.one("#sample").click()
-    s.soon("a contrast", lambda: s.all(".contrasts"), s.panel)
-    for key, value in (("y", "R=success"), ("a", "T=A"), ("b", "T=B")):
-        s.run("""const el = document.querySelector(`[data-key="contrast ${arguments[0]}"]`);
-            el.value = arguments[1]; el.dispatchEvent(new Event('change'))""", key, value)
-        time.sleep(0.4)
-    rows = lambda: s.run("return [...document.querySelectorAll('.contrasts tbody tr')].map((row) => [...row.cells].map((el) => el.textContent))")
-    s.soon("the difference", lambda: ["risk difference", "0.0537"] == rows()[2][:2], rows)
-    s.check("the ratio", ["risk ratio", "1.0689"] == rows()[3][:2], rows())
-    def drawn():
-        if s.all("#draw"):
-            s.one("#draw").click()
-        return " to " in rows()[2][2]
-
-    s.check("their intervals", wait(drawn, 120), rows())
-    low, high = map(float, rows()[2][2].split(" to "))
-    s.check("as the packages give them", abs(low + 0.0115) < 0.008 and abs(high - 0.1196) < 0.008, rows())
-    s.check("said to be computed", "not proved" in s.panel(), s.panel())
-    s.run("const el = document.getElementById('by'); el.value = '{S}'; el.dispatchEvent(new Event('change'))")
-    s.soon("the formula of a set", lambda: s.command() == "$ causal evaluate adjusted.dag kidney_stones.csv --count=count --exact", s.command)
-    s.soon("has the same value here", lambda: rows()[2][1] == "0.0537", rows)
-    s.run("const el = document.getElementById('by'); el.value = ''; el.dispatchEvent(new Event('change'))")
 
 
 def takes_other_texts(s):
@@ -647,7 +610,7 @@ def takes_other_texts(s):
 def asks_for_a_direct_effect(s):
     s.tab("effect")
     s.write("dag { X [exposure] Y [outcome] X -> M -> Y X -> Y C -> M C -> Y M -> K }")
-    s.soon("the effect", lambda: s.command() == "$ causal identify diagram.dag", s.command)
+    s.soon("the effect", lambda: s.command() == "$ causal identify diagram.dag --short", s.command)
     s.one("summary[data-key='direct']").click()
     s.soon("more may be set", lambda: s.all("[data-key='take mediators']"), s.panel)
     s.one("[data-key='take mediators']").click()
@@ -656,7 +619,7 @@ def asks_for_a_direct_effect(s):
     s.one("#check").click()
     s.soon("check accepts", lambda: "accepted" in s.one(".checked").text, lambda: s.one(".checked").text)
     s.one("[data-key='also set M']").click()
-    s.soon("and left again", lambda: s.command() == "$ causal identify diagram.dag", s.command)
+    s.soon("and left again", lambda: s.command() == "$ causal identify diagram.dag --short", s.command)
     s.one("summary[data-key='direct']").click()
 
 
@@ -876,6 +839,15 @@ def works_by_touch():
             time.sleep(0.3)
             wide = s.run("return document.documentElement.scrollWidth - innerWidth")
             s.check(f"nothing is wider than a phone: {tab}", wide <= 0, wide)
+        s.example("kidney_stones")
+        s.run("document.getElementById('tab-data').click()")
+        s.soon("a table on a phone", lambda: s.all("#sample"))
+        s.run("document.getElementById('sample').click()")
+        s.soon("has values", lambda: s.all("#by"))
+        over_tables.by(s, "condition")
+        s.soon("and conditions", lambda: s.all("[data-key='arm condition']"))
+        wide = s.run("return document.documentElement.scrollWidth - innerWidth")
+        s.check("nothing is wider than a phone: a condition", wide <= 0, wide)
         right = s.run("return document.getElementById('about').getBoundingClientRect().right - innerWidth")
         s.check("the head's buttons are seen on a phone", right <= 0, right)
     finally:
@@ -884,10 +856,10 @@ def works_by_touch():
 
 
 PARTS = [
-    reads_a_formula, drags_and_takes_back, fits_places, draws_large_texts, breaks_the_text, chooses_sets, draws,
-    uses_keys_alone, names_and_deletes, saves_a_certificate, drops_a_table, reads_other_tables, says_it_plainly,
+    reads_a_formula, chooses_a_form, drags_and_takes_back, fits_places, draws_large_texts, breaks_the_text, chooses_sets, draws,
+    uses_keys_alone, names_and_deletes, saves_a_certificate, says_it_plainly,
     adjusts_and_compares, shows_a_hedge, lists_what_is_implied, takes_trials, asks_under_a_condition,
-    contrasts_with_intervals, takes_other_texts, asks_for_a_direct_effect, adjusts_with_what_is_marked, lists_separating_sets,
+    *over_tables.PARTS, takes_other_texts, asks_for_a_direct_effect, adjusts_with_what_is_marked, lists_separating_sets,
     colours_paths, changes_several, resizes_panes, saves_the_drawing_and_a_link, keeps_the_work, is_accessible, sends_nothing, is_served,
 ]
 

@@ -9,10 +9,11 @@ import { annotate, annotatePieces } from "../src/latex.js";
 import { equationLatex, latex, parse } from "../src/expression.js";
 import { keyOf } from "../src/diagram/geometry.js";
 import { readSteps } from "../src/steps.js";
+import { missingOf } from "../src/support.js";
 import { levelsOf, readRows } from "../src/text/csv.js";
 import * as edit from "../src/text/edit.js";
 import {
-  experimentsWord, listWord, openPath, readGraph, readHedge, readImplications, readPath, readSet, readStopped,
+  experimentsWord, listWord, openPath, readCells, readGraph, readHedge, readImplications, readLevels, readPath, readSet, readStopped,
 } from "../src/text/printed.js";
 
 const causal = await load(readFileSync(process.argv[2]));
@@ -20,7 +21,7 @@ const GRAPHS = Number(process.argv[3] ?? 1500);
 const run = (words, text, more = {}) => causal.run(words, { g: text, ...more });
 
 let seed = 7;
-const random = (n) => (seed = (seed * 1103515245 + 12345) % 2147483648) % n;
+const random = (n) => ((seed = (seed * 1103515245 + 12345) % 2147483648) >> 12) % n; // the low bits go round in short circles
 const shuffled = (list) => [...list].sort(() => random(3) - 1);
 
 let compared = 0, wrong = 0;
@@ -92,8 +93,9 @@ function testEdits(text, graph) {
   const without = edges.filter((e) => e !== edge);
   same("an edge goes", unordered(graphOf(edit.replaceEdge(text, graph, edge, []))),
     unordered({ ...graph, edges: without }), text);
-  const isThere = edges.some((e) => edit.isSame(e, other));
-  same("an edge changes", unordered(graphOf(edit.replaceEdge(text, graph, edge, [other]))),
+  const isThere = edges.some((e) => edit.isSame(e, other)), changed = graphOf(edit.replaceEdge(text, graph, edge, [other]));
+  if (/fault 11/.test(changed) && !other.both) return; // the arrow goes against others
+  same("an edge changes", unordered(changed),
     unordered({ ...graph, edges: isThere ? without : [...without, turned(other, graph)] }), text);
 }
 
@@ -165,7 +167,10 @@ function testAnswers(text, graph) {
   const [x, y] = shuffled(order), sets = ["--x", listWord([x]), "--y", listWord([y])];
   const identified = run(["identify", "g", ...sets], text);
   same("identify", identified.status < 2, true, identified.err);
+  const short = run(["identify", "g", ...sets, "--short"], text);
+  same("a short form has the same status", short.status, identified.status, text + short.err);
   if (identified.status === 0) testDerivation(text, ["identify", "g", ...sets]);
+  if (short.status === 0 && short.out !== identified.out) testDerivation(text, ["identify", "g", ...sets, "--short"]);
   if (KNOWN.given) testCondition(text, order, x, y);
   if (KNOWN.implications) testImplications(text, order);
   if (KNOWN.surrogate) testSurrogate(text, order, sets, identified);
@@ -180,6 +185,7 @@ function testAnswers(text, graph) {
     typesets(annotate(tex), tex);
   }
   testOtherSet(text, order, sets, [x, y]);
+  testValues(text, order, x, y, adjusted.map(readSet));
 }
 
 /** A set that need not be admissible, by both criteria: both calls agree. */
@@ -191,6 +197,63 @@ function testOtherSet(text, order, sets, [x, y]) {
     same("any set", told.status, said.status, said.out + told.err + text);
     if (told.status === 1) same("no formula", told.out, "not admissible\n", text);
   }
+}
+
+const LEVELS = ["0", "1", "[0, 1)", "a b", "(2|3)", "x=1", ""];
+const field = (value) => (/[",]/.test(value) ? `"${value.replaceAll('"', '""')}"` : value);
+
+/** A table of a few records, so that some combinations have none: the levels of each record by name. */
+function randomRecords(order) {
+  const levels = new Map(order.map((name) => [name, shuffled(LEVELS).slice(0, 2)]));
+  return Array.from({ length: 5 + random(12) }, () => new Map(order.map((name) => [name, levels.get(name)[random(2)]])));
+}
+
+/** Values over counts, by each way to the formula, and what no record has where there are none. */
+function testValues(text, order, x, y, sets) {
+  const records = randomRecords(order), t = [order, ...records.map((record) => order.map((name) => record.get(name)))]
+    .map((row) => `${row.map(field).join(",")}\n`).join("");
+  const given = order.filter((name) => name !== x && name !== y && !random(2)), ends = ["--x", listWord([x]), "--y", listWord([y])];
+  const ways = [
+    [[], ["identify", "g"], []], [["--short"], ["identify", "g", "--short"], []], ...sets.slice(0, 2).map((set) => [["--set", listWord(set)], ["adjust", "g", "--set", listWord(set)], []]),
+    ...[[], ["--short"]].map((more) => [["--given", listWord(given), ...more], ["identify", "g", "--given", listWord(given), ...more], given]),
+  ];
+  for (const [words, question, condition] of ways) {
+    const about = `${text}${t}${words.join(" ")}`, formula = run([...question, ...ends], text).out;
+    const said = [[], ["--zero"]].map((more) => run(["evaluate", "g", "t", ...ends, ...words, "--exact", ...more], text, { t }));
+    for (const { status, out, err } of said) {
+      if (status === 0) testCells(readCells(out, condition), records, [y, x, condition], about);
+      else if (status === 5) testMissing(readFault(err), formula, order, records, about);
+      else same("no formula", [status, /^P\(.* = /m.test(formula)], [1, false], about + err);
+    }
+    if (said[0].status === 0) same("zero cells change no value", said[1], said[0], about);
+  }
+}
+
+/** That each combination of levels is read once, with its levels. */
+function testCells(cells, records, [y, x, given], about) {
+  const levelsIn = (name) => [...new Set(records.map((record) => record.get(name)))];
+  const words = (names) => names.reduce((list, name) => list.flatMap((word) =>
+    levelsIn(name).map((level) => `${word}${word && ","}${name}=${level}`)), [""]);
+  const wanted = words([y]).flatMap((p) => words([x]).flatMap((q) => words(given).map((r) => [p, q, r].join(" ; "))));
+  const read = cells.map((c) => [c.y, c.x, c.given].map((part) => named(part, [y, x, ...given])).join(" ; "));
+  same("the cells of an effect", read.sort(), wanted.sort(), about);
+  same("their values", cells.every((c) => c.value >= 0 && c.value <= 1), true, about);
+}
+
+/** Printed levels with their names as they are. */
+const named = (part, names) => names.reduce((rest, name) => rest.replace(`"${name}"=`, `${name}=`), part);
+
+/** That no record has what is told to be missing, and that all that is given is told. */
+function testMissing(fault, formula, order, records, about) {
+  if (fault.number !== 1) return;
+  const missing = missingOf(fault.detail, formula, order);
+  same("what is missing is read", Boolean(missing), true, about + fault.line + formula);
+  if (!missing?.term) return;
+  missed++;
+  const has = (record) => missing.at.every(({ name, level }) => record.get(name) === level);
+  same("no record has it", records.some(has), false, about + fault.line + JSON.stringify(missing));
+  same("all that is given is told", missing.at.map(({ name }) => name).sort(), parse(missing.term).given.sort(), about + fault.line);
+  same("the term stands in the formula", formula.includes(missing.term), true, about + missing.term);
 }
 
 /** Which of the later questions the program of this module knows; the others aren't asked. */
@@ -208,6 +271,7 @@ function testCondition(text, order, x, y) {
   const said = run(words, text);
   same("a condition", said.status < 2, true, said.err + text);
   if (said.status === 0) testDerivation(text, words);
+  if (said.status === 0) testDerivation(text, [...words, "--short"]);
   if (said.status === 1) same("what was asked", Boolean(readHedge(said.out).asked), true, said.out);
   const kind = causal.explain(["settled", ...words.slice(1)], { g: text });
   same("its kind", KINDS[said.status].includes(kind.out.trim()), true, kind.out + kind.err + said.out + text);
@@ -248,6 +312,22 @@ function testLaterForms() {
   same("trials", experimentsWord([["a;b", "c"], ["{}"], ["-d,e"]]), '"a;b",c;"{}";"-d,e"', "");
   const bow = run(["identify", "g"], "dag{X [exposure] Y [outcome] X->Y X<->Y}").out;
   same("a hedge", [readHedge(bow).asked ?? null, readHedge(bow).effect], [null, "P(Y|do(X))"], bow);
+  const kidney = readCells("P(R=success|do(T=A),S=small) = 27/29\nP(R=success|do(T=A),S=large) from 0.5 to 0.7\n", ["S"]);
+  same("cells under a condition", kidney, [
+    { y: "R=success", x: "T=A", given: "S=small", text: "27/29", value: 27 / 29 },
+    { y: "R=success", x: "T=A", given: "S=large", text: "0.5 … 0.7", value: 0.6 },
+  ], "");
+  const seen = readCells("P(R=success|S=small) = 15/17\n", ["S"]), [plainCell] = readCells("P(R=success|do(T=A)) = 1/2\n");
+  same("cells where nothing is done", [seen[0].y, seen[0].x, seen[0].given], ["R=success", "", "S=small"], "");
+  same("cells under none", [plainCell.y, plainCell.x, plainCell.given], ["R=success", "T=A", ""], "");
+  same("levels", readLevels('S=a,b,"b c"=,T=1', ["R", "S", "b c", "T"]), [
+    { name: "S", level: "a,b" }, { name: "b c", level: "" }, { name: "T", level: "1" },
+  ], "");
+  const napkin = "P(Y|do(X)) = q0 / (sum{Y} q0)\nq0 = sum{W} P(W) * P(X|W,Z) * P(Y|X,W,Z)\nfree {Z}\n", order = ["W", "Z", "X", "Y"];
+  same("a condition in a part", missingOf("q0 node 3 at W=1,Z=0,X=0,Y=0", napkin, order),
+    { term: "P(X|W,Z)", at: [{ name: "W", level: "1" }, { name: "Z", level: "0" }] }, "");
+  same("a divisor", missingOf("main node 0 at W=1,Z=0,X=1,Y=0", napkin, order),
+    { term: null, at: [{ name: "Z", level: "0" }, { name: "X", level: "1" }] }, "");
   const joint = readHedge(bow.replace("P(Y|do(X)) is", "P(Y|do(X),Z) not identified; P(Y,Z|do(X)) is"));
   same("a hedge of a joint effect", [joint.asked, joint.effect], ["P(Y|do(X),Z)", "P(Y,Z|do(X))"], bow);
 }
@@ -259,7 +339,7 @@ function testPath(printed, x, y, graph, text) {
   same("a path is drawn", routed(graph, path).every(drawn), true, text + printed);
 }
 
-let accepted = 0;
+let accepted = 0, missed = 0;
 for (let k = 0; k < GRAPHS; k++) {
   const text = randomText(), before = run(["graph", "g"], text);
   if (before.status) {
@@ -279,5 +359,6 @@ const rows = readRows('a,"b ""x""",n\r\n1,"p,q",2\n1,r,3\n');
 same("a CSV", rows, [["a", 'b "x"', "n"], ["1", "p,q", "2"], ["1", "r", "3"]], "");
 same("levels", [...levelsOf(rows, ["a"], "n").get("a")], [["1", 5]], "");
 
+same("some tables lack records", missed > accepted / 20, true, missed);
 console.log(`${compared} comparisons on ${accepted} random diagrams, ${wrong} wrong`);
 process.exit(wrong ? 1 : 0);

@@ -12,6 +12,8 @@ TOP = browser.WEB.parent
 # What to do before the picture: an example, a card, and a script.
 VIEWS = {
     "effect": ("napkin", "effect", ""),
+    "form": ("hormones", "effect", ""),
+    "procedure": ("hormones", "effect", "document.getElementById('procedure').click()"),
     "derivation": ("front_door", "effect", "document.querySelector('summary[data-key=derivation]').click()"),
     "rule": ("front_door", "effect", """const steps = document.querySelectorAll('.steps .asks');
         steps[1].scrollIntoView({block: 'center'}); steps[1].focus()"""),
@@ -23,6 +25,13 @@ VIEWS = {
     "hidden": ("hidden_cause", "separation", ""),
     "rules": ("front_door", "rules", ""),
     "data": ("kidney_stones", "data", "document.getElementById('sample')?.click()"),
+    "missing": ("kidney_stones", "data", """const data = new DataTransfer();
+        data.items.add(new File(["S,T,R\\nsmall,A,success\\nsmall,A,failure\\nsmall,B,success\\nsmall,B,failure\\nlarge,A,success\\n"], "few.csv"));
+        document.body.dispatchEvent(new DragEvent('drop', {dataTransfer: data, bubbles: true, cancelable: true}))"""),
+    "formula": ("hormones", "data", "document.getElementById('sample')?.click()"),
+    "condition": ("kidney_stones", "data", """document.getElementById('sample')?.click();
+        setTimeout(() => { const el = document.getElementById('by'); el.value = 'condition'; el.dispatchEvent(new Event('change')); }, 250);
+        setTimeout(() => { const el = document.querySelector('[data-key="add condition"]'); el.value = 'S'; el.dispatchEvent(new Event('change')); }, 500)"""),
     "contrast": ("kidney_stones", "data", """document.getElementById('sample')?.click();
         setTimeout(() => document.querySelector('.contrasts')?.scrollIntoView({block: 'center'}), 700)"""),
     "tests": ("fork", "implications", """const data = new DataTransfer();
@@ -45,8 +54,8 @@ VIEWS = {
 }
 SHAPES = {
     "light": ({}, list(VIEWS)),
-    "dark": ({"dark": True}, ["effect", "rule", "hedge", "biased", "data", "contrast", "tests", "paths", "several", "warning", "compare", "fault", "menu"]),
-    "phone": ({"width": 400, "height": 860}, ["effect", "hedge", "adjust", "data", "contrast", "paths", "several", "warning", "fault", "menu"]),
+    "dark": ({"dark": True}, ["effect", "rule", "hedge", "biased", "data", "missing", "condition", "contrast", "tests", "paths", "several", "warning", "compare", "fault", "menu"]),
+    "phone": ({"width": 400, "height": 860}, ["effect", "form", "hedge", "adjust", "data", "formula", "missing", "condition", "contrast", "paths", "several", "warning", "fault", "menu"]),
     "laptop": ({"width": 1280, "height": 720}, ["effect", "contrast", "paths", "several"]),
     "tablet": ({"width": 900, "height": 1100}, ["effect", "data", "paths"]),
 }

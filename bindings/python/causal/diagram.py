@@ -386,24 +386,27 @@ class Diagram:
         return answers.read_rule(self._ask("rule", *words)[1])
 
     def identify(
-        self, x: Optional[Names] = None, y: Optional[Names] = None, given: Optional[Names] = None
+        self, x: Optional[Names] = None, y: Optional[Names] = None, given: Optional[Names] = None, short: bool = False
     ) -> Union[Formula, Hedge]:
         """A formula for the effect of x on y, or a hedge, which counts as false.
 
         It is proved that the formula is the effect in every positive finite model that fits the diagram, or that the hedge's two
         models agree on all observations and differ on the effect. With `given` the effect among those with the same values of
-        these variables is asked for, `P(y | do(x), given)`; a hedge is then one of a joint effect (`Hedge.conditional`).
+        these variables is asked for, `P(y | do(x), given)`; a hedge is then one of a joint effect (`Hedge.conditional`). With `short`
+        the formula is the shortest that was found: it is proved that it is no longer than the one without.
 
         >>> from causal import Diagram
         >>> napkin = Diagram("dag { W -> Z -> X -> Y W <-> X W <-> Y }").identify("X", "Y")
         >>> print(napkin.expression, napkin.definitions, napkin.free)
         q0 / (sum{Y} q0) ('sum{W} P(W) * P(X|W,Z) * P(Y|W,Z,X)',) ('Z',)
+        >>> Diagram("dag { W -> Z -> X -> Y W <-> X W <-> Y }").identify("X", "Y", short=True).definitions
+        ('sum{W} P(W) * P(X,Y|W,Z)',)
         >>> bool(Diagram("dag { X -> Y X <-> Y }").identify("X", "Y"))
         False
         >>> print(Diagram("dag { Z -> X Z -> Y X -> Y }").identify("X", "Y", given="Z"))
         P(Y|do(X),Z) = P(Y|Z,X)
         """
-        words = options(x=x, y=y, given=given)
+        words = [*options(x=x, y=y, given=given), *(["--short"] if short else [])]
         status, text = self._ask("identify", *words)
         form = OtherForm(self, tuple(words))
         return formula.read_hedge(text, form) if status == 1 else formula.read_formula(text, form)
@@ -563,6 +566,7 @@ class Diagram:
         back_door: bool = False,
         given: Optional[Names] = None,
         zero: bool = False,
+        short: bool = False,
     ) -> "pandas.DataFrame":
         """The effects of x on y in the data, as a DataFrame (it needs pandas): see `effects`, which says what is proved, and
         `Effects.frame` for the columns.
@@ -578,7 +582,7 @@ class Diagram:
         3  B   bad       0.0     0
         """
         words: Dict[str, Any] = {"count": count, "exact": exact, "missing": missing, "at": at}
-        way: Dict[str, Any] = {"adjust_for": adjust_for, "back_door": back_door, "given": given, "zero": zero}
+        way: Dict[str, Any] = {"adjust_for": adjust_for, "back_door": back_door, "given": given, "zero": zero, "short": short}
         return self.effects(data, x, y, **words, **way).frame()
 
     def effects(
@@ -595,6 +599,7 @@ class Diagram:
         back_door: bool = False,
         given: Optional[Names] = None,
         zero: bool = False,
+        short: bool = False,
     ) -> Effects:
         """The effects of x on y in the data: the values of the formula of `identify` over the counts.
 
@@ -617,6 +622,10 @@ class Diagram:
         the formula of `identify`. With `zero` a product with a factor 0 is 0 whatever its other factors are, also where one of them has
         a condition that no record has; where there is a value without it, it is the same.
 
+        With `short` the formula is the one that `identify` gives with `short`, also with `given`. It often reads fewer columns, and
+        asks for fewer combinations of levels that have a record. In the population it has the same value as the one without; over a
+        sample it may have another, and one may have a value where the other has none.
+
         A missing value in a used column, an empty field of a file too, is refused as `MissingValues`; with `missing="drop"` its
         record is left out, and the answer's `dropped` counts these (which estimates the effect among complete records: whether
         that is the effect wanted isn't decided here); with `missing="level"` it is a level.
@@ -634,10 +643,13 @@ class Diagram:
         >>> among = Diagram("dag { S -> T -> R <- S }").effects(data, "T", "R", given="S", exact=True)
         >>> print(among.at({"R": "good"}, {"T": "A"}, {"S": "small"}))
         = 1/1
+        >>> through = Diagram("dag { T -> S -> R <- T S <-> R }").effects(data, "T", "R", short=True, exact=True)
+        >>> print(through.formula, through.at({"R": "good"}, {"T": "A"}), sep="; ")
+        P(R|do(T)) = P(R|T); = 3/4
         """
         from causal.evaluation import Evaluation
 
-        way = Evaluation(self, x, y, count, missing, adjust_for=adjust_for, back_door=back_door, given=given, zero=zero)
+        way = Evaluation(self, x, y, count, missing, adjust_for=adjust_for, back_door=back_door, given=given, zero=zero, short=short)
         return way.effects(data, exact, at)
 
     def spread(
@@ -651,11 +663,12 @@ class Diagram:
         missing: str = "error",
         given: Optional[Names] = None,
         zero: bool = False,
+        short: bool = False,
     ) -> Spread:
         """The effects of x on y at each level at which the formula's further variables may be pinned: a check of the diagram.
 
         In the population each of these levels gives the same, where the diagram is right. The data is as in `effects`, and so are
-        `given` and `zero`. (The formula of a set to adjust for has no such variables.)
+        `given`, `zero` and `short`. (The formula of a set to adjust for has no such variables.)
 
         >>> from causal import Diagram
         >>> napkin = Diagram("dag { W -> Z -> X -> Y  W <-> X  W <-> Y }")
@@ -669,7 +682,7 @@ class Diagram:
         """
         from causal.evaluation import Evaluation
 
-        return Evaluation(self, x, y, count, missing, given=given, zero=zero).spread(data, exact)
+        return Evaluation(self, x, y, count, missing, given=given, zero=zero, short=short).spread(data, exact)
 
     def contrast(
         self,
@@ -688,12 +701,13 @@ class Diagram:
         back_door: bool = False,
         given: Optional[Mapping[str, Level]] = None,
         zero: bool = False,
+        short: bool = False,
     ) -> Contrast:
         """The risk difference, the risk ratio and the odds ratio of two levels of x, for a level of y.
 
         The levels are given as they stand in the data; where x or y has several variables, as a mapping or in the order of the
-        target. `given` is a mapping of variables to levels, as in `given={"sex": "f"}`, and `adjust_for`, `back_door` and `zero` are as in
-        `effects`. Both effects are proved, as `effects` says; the difference and the ratios are computed from them, outward where
+        target. `given` is a mapping of variables to levels, as in `given={"sex": "f"}`, and `adjust_for`, `back_door`, `zero` and `short` are
+        as in `effects`. Both effects are proved, as `effects` says; the difference and the ratios are computed from them, outward where
         they are bounds. For intervals see `bootstrap(..).contrast(..)`.
 
         >>> from causal import Diagram
@@ -705,7 +719,7 @@ class Diagram:
         from causal.evaluation import levels_at
 
         words: Dict[str, Any] = {"count": count, "exact": exact, "missing": missing, "at": at}
-        way: Dict[str, Any] = {"adjust_for": adjust_for, "back_door": back_door, "zero": zero}
+        way: Dict[str, Any] = {"adjust_for": adjust_for, "back_door": back_door, "zero": zero, "short": short}
         found = self.effects(data, x, y, given=None if given is None else list(given), **words, **way)
         target = found.formula.target
         treated, control = levels_at(target.x, treated), levels_at(target.x, control)
@@ -729,6 +743,7 @@ class Diagram:
         back_door: bool = False,
         given: Optional[Names] = None,
         zero: bool = False,
+        short: bool = False,
     ) -> Bootstrap:
         """The effects with intervals by the bootstrap: percentiles of resampled tables of counts, or with `kind="bca"` percentiles
         that are corrected for bias and accelerated, which asks once more for each cell of the table.
@@ -737,7 +752,7 @@ class Diagram:
         proved is each value over its counts; the interval is only computed. A draw has the levels of x, of y, of what is given and of
         pinned variables that the data has; a level of another variable that isn't drawn is left out of that draw. A draw with a cell
         that has no value is left out and counted (`without_value`): where these are many, the interval says little. With `zero` they
-        are fewer. `adjust_for`, `back_door`, `given` and `zero` are as in `effects`.
+        are fewer, and often with `short`. `adjust_for`, `back_door`, `given`, `zero` and `short` are as in `effects`.
 
         The same data, seed and number of resamples give the same interval. `progress` is called after each table that was asked
         about, with how many were and of how many: `lambda done, of: print(done, of)`, or what moves a bar. What it raises ends the
@@ -756,5 +771,5 @@ class Diagram:
             raise RequestError("resamples is at least 1, and level lies between 0 and 1")
         if kind not in ("percentile", "bca"):
             raise RequestError(f"kind is 'percentile' or 'bca', and not {kind!r}")
-        way = Evaluation(self, x, y, count, missing, adjust_for=adjust_for, back_door=back_door, given=given, zero=zero)
+        way = Evaluation(self, x, y, count, missing, adjust_for=adjust_for, back_door=back_door, given=given, zero=zero, short=short)
         return way.bootstrap(data, resamples, level, seed, at, kind, progress)

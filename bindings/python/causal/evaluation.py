@@ -22,8 +22,8 @@ Pins = Optional[Mapping[str, Level]]
 
 
 class Evaluation:
-    """The effect of x on y in a diagram, which has a formula: that of `identify`, also under a condition, or that of a set to adjust
-    for; and how data is read for it.
+    """The effect of x on y in a diagram, which has a formula: that of `identify`, also under a condition or a short one, or that of a
+    set to adjust for; and how data is read for it.
 
     >>> from causal import Diagram
     >>> from causal.evaluation import Evaluation
@@ -31,6 +31,8 @@ class Evaluation:
     ('Z', 'X', 'Y')
     >>> Evaluation(Diagram("dag { W -> X -> Y W -> Z }"), "X", "Y", given="Z", zero=True).words
     ['--x', '"X"', '--y', '"Y"', '--given', '"Z"', '--zero']
+    >>> Evaluation(Diagram("dag { X -> Z -> Y <- X Z <-> Y }"), "X", "Y", short=True).used
+    ('X', 'Y')
     """
 
     def __init__(
@@ -45,20 +47,23 @@ class Evaluation:
         back_door: bool = False,
         given: Optional[Names] = None,
         zero: bool = False,
+        short: bool = False,
     ) -> None:
         self.diagram = diagram
         members: Optional[Names] = None
         if adjust_for is None:
             if back_door:
                 raise RequestError("the back-door criterion is asked of a set: adjust_for names it")
-            self.formula = identified(diagram, x, y, given)
+            self.formula = identified(diagram, x, y, given, short)
         else:
             if given:
                 raise RequestError("an effect is asked for by a set to adjust for, or under a condition, and not both")
+            if short:
+                raise RequestError("an effect is asked for by a set to adjust for, or by a short formula, and not both")
             self.formula, members = adjusted(diagram, x, y, adjust_for, back_door)
         target = self.formula.target
         self.words = options(x=target.x, y=target.y, set=members, given=target.given or None)
-        self.words += [*(["--back-door"] if back_door else []), *(["--zero"] if zero else [])]
+        self.words += [f"--{name}" for name, is_asked in (("back-door", back_door), ("zero", zero), ("short", short)) if is_asked]
         # The variables that the formula reads, in the order of the vertices, as answers list them.
         self.used = tuple(name for name in self.diagram.vertices if name in self.formula.variables)
         self.count = count
@@ -187,7 +192,9 @@ class Evaluation:
             return None
 
 
-def identified(diagram: "Diagram", x: Optional[Names], y: Optional[Names], given: Optional[Names]) -> Formula:
+def identified(
+    diagram: "Diagram", x: Optional[Names], y: Optional[Names], given: Optional[Names], short: bool = False
+) -> Formula:
     """The formula of `identify`, or its hedge raised.
 
     >>> from causal import Diagram
@@ -195,7 +202,7 @@ def identified(diagram: "Diagram", x: Optional[Names], y: Optional[Names], given
     >>> print(identified(Diagram("dag { X -> Y X <- Z -> Y }"), "X", "Y", "Z"))
     P(Y|do(X),Z) = P(Y|X,Z)
     """
-    answer = diagram.identify(x, y, given)
+    answer = diagram.identify(x, y, given, short)
     if isinstance(answer, Hedge):
         raise NotIdentifiable(f"{answer.conditional or answer.target} is not identifiable", place=answer)
     return answer

@@ -26,10 +26,10 @@ Answers questions about causal diagrams with hidden confounders, by a proved pro
     graph FILE [--project]
     separate FILE [--x L] [--y L] [--given L]
     rule FILE --rule N --y L --z L [--do L] [--given L]
-    identify FILE [--x L] [--y L] [--given L] [--certificate] [--latex]
+    identify FILE [--x L] [--y L] [--given L] [--certificate] [--latex] [--short]
     check FILE CERTIFICATE [--experiments E]
     adjust FILE [--x L] [--y L] [--set L [--back-door] | --most N]
-    evaluate FILE COUNTS [--x L] [--y L] [--given L | --set L [--back-door]] [--count NAME] [--exact] [--zero]
+    evaluate FILE COUNTS [--x L] [--y L] [--given L | --set L [--back-door]] [--count NAME] [--exact] [--zero] [--short]
     equivalent FILE FILE2 [--x L] [--y L] [--given L]
     survey N
     implications FILE [COUNTS] [--count NAME]

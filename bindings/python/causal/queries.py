@@ -28,8 +28,8 @@ def counts_query(
 ) -> str:
     """The SQL query for the counts that an answer reads: a row for each combination of levels, with how many records have it.
 
-    What is asked is a diagram (then it is the formula of `identify`, for x and y), a formula, an adjustment set that is admissible,
-    as `adjusts` answers, or implications. The rows are at most 2^20, however many records there are: what they are handed to as
+    What is asked is a diagram (then it is the formula of `identify`, for x and y), a formula, as that of `identify` with `short`, an
+    adjustment set that is admissible, as `adjusts` answers, or implications. The rows are at most 2^20, however many records there are: what they are handed to as
     data, with `count="count"`, gives the same as the records. (The column of counts has another name where a variable has this.)
 
     Names are quoted as identifiers, by `quote`: '"', or '`' where an engine wants that. The table is named by one name, or with

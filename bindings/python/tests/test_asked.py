@@ -1,4 +1,4 @@
-"""Effects by a set to adjust for, under a condition, and where cells have no record."""
+"""Effects by a set to adjust for, under a condition, by a short formula, and where cells have no record."""
 import random
 import re
 import unittest
@@ -258,6 +258,96 @@ class Zero(unittest.TestCase):
         data["n"] = [0 if (w, z, x) == (1, 1, 0) else n for w, z, x, _, n in zip(*data.values())]
         found = [napkin.spread(data, count="n", zero=zero).without_value for zero in (False, True)]
         self.assertEqual(found, [({"Z": 1},), ()])
+
+
+class Short(unittest.TestCase):
+    """Effects by a short formula."""
+
+    HORMONES = Diagram(
+        "dag { HRT [exposure] CHD [outcome] SES -> HRT SES -> Smoking SES -> CHD Age -> HRT Age -> Smoking Age -> CHD"
+        " Smoking -> CHD HRT -> CHD }"
+    )
+
+    def test_the_formula_is_that_of_identify(self):
+        data = random_table(random.Random(21), ["SES", "Age", "HRT", "CHD"])
+        found = self.HORMONES.effects(data, count="n", exact=True, short=True)
+        self.assertEqual(str(found.formula), str(self.HORMONES.identify(short=True)))
+        by_set = self.HORMONES.effects(data, count="n", exact=True, adjust_for=["SES", "Age"])
+        self.assertEqual(found.effects, by_set.effects)
+
+    def test_a_column_that_the_short_formula_does_not_name_is_not_read(self):
+        through = Diagram("dag { S -> B -> M S -> M B <-> M }")
+        data = random_table(random.Random(22), "SM")
+        found = through.effects(data, "S", "M", count="n", exact=True, short=True)
+        for effect in found:
+            self.assertEqual(effect.value.exact, part(data, effect.y, effect.x))
+        with self.assertRaises(causal.CountsError):
+            through.effects(data, "S", "M", count="n")
+
+    def test_a_cell_that_only_the_long_formula_asks_for(self):
+        data = random_table(random.Random(23), ["SES", "Age", "Smoking", "HRT", "CHD"])
+        # among the first with a treatment nobody smokes
+        data["n"] = [0 if (ses, smoking, hrt) == (0, 1, 1) else n for ses, _, smoking, hrt, _, n in zip(*data.values())]
+        with self.assertRaises(causal.EvaluationError):
+            self.HORMONES.effects(data, count="n")
+        found = self.HORMONES.effects(data, count="n", exact=True, short=True)
+        self.assertEqual(found.effects, self.HORMONES.effects(data, count="n", exact=True, adjust_for=["SES", "Age"]).effects)
+
+    def test_nothing_is_shorter(self):
+        front_door = Diagram(read_example("front_door.dag"))
+        data = random_table(random.Random(24), "XMY")
+        found = [front_door.effects(data, count="n", exact=True, short=short) for short in (False, True)]
+        self.assertEqual(found[0], found[1])
+
+    def test_under_a_condition(self):
+        chain = Diagram("dag { X -> Y -> Z }")
+        data = random_table(random.Random(25), "XYZ")
+        found = chain.effects(data, "X", "Y", count="n", exact=True, given="Z", short=True)
+        self.assertEqual(str(found.formula), "P(Y|do(X),Z) = P(Y|X,Z)")
+        for effect in found:
+            self.assertEqual(effect.value.exact, part(data, effect.y, effect.under))
+
+    def test_with_zero_cells(self):
+        data = random_table(random.Random(26), ["SES", "Age", "HRT", "CHD"])
+        # the part that takes no treatment isn't there where nobody is
+        data["n"] = [0 if (ses, age) == (1, 1) else n for ses, age, _, _, n in zip(*data.values())]
+        with self.assertRaises(causal.EvaluationError) as caught:
+            self.HORMONES.effects(data, count="n", short=True)
+        self.assertIn("which P(CHD|HRT,SES,Age) is given", caught.exception.sentence)
+        found = self.HORMONES.effects(data, count="n", exact=True, short=True, zero=True)
+        self.assertEqual(found.effects, self.HORMONES.effects(data, count="n", exact=True, adjust_for=["SES", "Age"], zero=True).effects)
+
+    def test_contrasts_and_intervals(self):
+        data = random_table(random.Random(27), ["SES", "Age", "HRT", "CHD"])
+        asked = {"treated": 1, "control": 0, "outcome": 1, "count": "n", "exact": True}
+        contrast = self.HORMONES.contrast(data, **asked, short=True)
+        self.assertEqual(contrast, self.HORMONES.contrast(data, **asked, adjust_for=["SES", "Age"]))
+        drawn = self.HORMONES.bootstrap(data, count="n", resamples=20, seed=1, short=True)
+        by_set = self.HORMONES.bootstrap(data, count="n", resamples=20, seed=1, adjust_for=["SES", "Age"])
+        self.assertEqual(drawn.draws, by_set.draws)
+        among = self.HORMONES.contrast(data, **asked, given={"SES": 1}, short=True)
+        self.assertLess(abs(among.difference.exact), 1)
+
+    def test_a_pinned_variable(self):
+        napkin = Diagram(read_example("napkin.dag"))
+        data = random_table(random.Random(28), "WZXY")
+        plain, short = (napkin.spread(data, count="n", exact=True, short=it) for it in (False, True))
+        self.assertEqual(plain[0].formula.definitions, ("sum{W} P(W) * P(X|W,Z) * P(Y|X,W,Z)",))
+        self.assertEqual(short[0].formula.definitions, ("sum{W} P(W) * P(X,Y|W,Z)",))
+        self.assertEqual([effects.effects for effects in plain], [effects.effects for effects in short])
+
+    def test_a_query_and_a_file(self):
+        sql = causal.counts_query(self.HORMONES.identify(short=True), "records")
+        self.assertNotIn("Smoking", sql)
+        path = __file__.replace("test_asked.py", "../../../examples/kidney_stones.csv")
+        found = KIDNEY.effects(path, count="count", exact=True, short=True)
+        self.assertEqual({it.cell for it in found}, {it.cell for it in KIDNEY.effects(COUNTS, count="n")})
+
+    def test_refusals(self):
+        with self.assertRaisesRegex(causal.RequestError, "by a short formula, and not both"):
+            KIDNEY.effects(COUNTS, count="n", adjust_for="S", short=True)
+        with self.assertRaises(causal.NotIdentifiable):
+            Diagram(read_example("bow.dag")).effects({}, short=True)
 
 
 if __name__ == "__main__":

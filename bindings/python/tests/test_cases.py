@@ -39,7 +39,7 @@ def options_of(words):
         word = rest.pop(0)
         if not word.startswith("--"):
             places.append(word)
-        elif word in ("--project", "--certificate", "--latex", "--exact", "--back-door", "--models", "--zero"):
+        elif word in ("--project", "--certificate", "--latex", "--short", "--exact", "--back-door", "--models", "--zero"):
             options[word[2:]] = True
         else:
             name, _, value = word[2:].partition("=")

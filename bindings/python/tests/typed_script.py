@@ -40,7 +40,7 @@ given: Tuple[str, ...] = pair.given
 drawn = diagram.bootstrap(data, resamples=10, seed=1, progress=lambda done, of: print(done, of))
 interval = drawn.contrast({"R": 1}, {"T": 1}, {"T": 0}).difference
 lower: Optional[float] = None if interval is None else interval.lower
-among: Effects = diagram.effects(data, given="S")
+among: Effects = diagram.effects(data, given="S", short=True)
 at_level: Value = among.at({"R": 1}, {"T": 1}, {"S": 0})
 by_set = diagram.contrast(data, treated=1, control=0, outcome=1, adjust_for=["S"], back_door=True, zero=True)
 in_stratum = diagram.bootstrap(data, resamples=10, given=["S"]).contrast({"R": 1}, {"T": 1}, {"T": 0}, {"S": 1}).ratio

@@ -1,5 +1,5 @@
 -- The sets of a query, lists that are refused, and the lines of a listing.
-use Rattle.std.proofs.Common.{◌≡◌, ℕ, List, ◌++◌, length, Result, Ok, Err, IfOk, inl, sym, ap, subst, ◌∙◌}
+use Rattle.std.proofs.Common.{◌≡◌, ℕ, List, ◌++◌, length, Result, Ok, Err, IfOk, inl, inr, sym, ap, subst, ◌∙◌}
 use Rattle.std.specs.Prelude.{OnOk}
 use Rattle.std.proofs.lemmas.List.{append_assoc}
 use Rattle.mixed_graph.specs.Bits.{has}
@@ -17,13 +17,19 @@ use Rattle.targets.proofs.Parts.{lists_of}
 use Rattle.replies.specs.declared.outcome.Outcome.{Outcome}
 use Rattle.replies.specs.declared.outcome.Outcome.TheVariants.{Graph}
 use Rattle.replies.specs.declared.outcome.Reply.{Reply}
-use Rattle.replies.specs.Observed.{Names, observed_names, IsObservedGraph, IsTargetRefusal, query_lists, AnswerForSets}
+use Rattle.replies.specs.Observed.{Names, observed_names, IsObservedGraph, IsTargetRefusal, query_lists, IsOfThreeSets, AnswerForSets}
 
 -- the sets of a query are those that the criteria ask for
 pub three_sets : (l : Lists) (n x y given : ℕ) → length l.observed ≡ n → AreSets l x y given → AreThreeSets n (has x) (has y) (has given)
 three_sets l n x y given e s =
     let d = disjoint_sets l n x y given e s in
     record { x_within = d.x_within; y_within = d.y_within; w_within = d.w_within; x_y = d.x_y; x_w = d.x_w; y_w = d.y_w }
+
+-- the answer for three sets that lists name is that for the lists
+pub for_sets : (l : Lists) (answer : (x y z : ℕ) → Outcome → List ℕ → Type 0) (o : Outcome) (text : List ℕ) → IsOfThreeSets l (λ x y z. answer x y z o text)
+    → AnswerForSets l answer o text
+for_sets l answer Graph text h = inr h
+for_sets l answer o text h = h
 
 module _ (g : ReadGraph) (x y : Names) (given : List (List ℕ)) where
   -- lists of these parts are those of the query
@@ -48,6 +54,24 @@ module _ (g : ReadGraph) (x y : Names) (given : List (List ℕ)) where
       } in
       subst (λ (o : Outcome). (q : MixedGraph) × IsObservedGraph g q × AnswerForSets (query_lists g x y given) (answer q) o p.text.items) (sym outcome)
       (q, observed, inl refusal)
+
+  -- sets that they name are answered by the answer for these
+  pub lists_answered : {E : Type 0} (q : MixedGraph) → IsObservedGraph g q → (answer : MixedGraph → (x y z : ℕ) → Outcome → List ℕ → Type 0) (l : Lists) → l
+      ≡ query_lists g x y given
+      → (s t w : ℕ) → AreSets l s t w → (r : Result Reply E) → IfOk r (λ (p : Reply). answer q s t w p.outcome p.text.items)
+      → IfOk r (λ (p : Reply). (q : MixedGraph) × IsObservedGraph g q × AnswerForSets (query_lists g x y given) (answer q) p.outcome p.text.items)
+  lists_answered q observed answer l same s t w sets (Err e) h = tt
+  lists_answered q observed answer l same s t w sets (Ok p) h = (
+    q,
+    observed,
+    for_sets (query_lists g x y given) (answer q) p.outcome p.text.items (record {
+      x = s;
+      y = t;
+      z = w;
+      sets = subst (λ (k : Lists). AreSets k s t w) same sets;
+      answer = h;
+    }),
+  )
 
 -- three texts one after another
 pub three_written : (a b d : List ℕ) (old one two out : List ℕ) → one ≡ old ++ a → two ≡ one ++ b → out ≡ two ++ d → out ≡ old ++ (a ++ (b ++ d))

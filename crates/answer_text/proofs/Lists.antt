@@ -19,26 +19,27 @@ pub names_in-first : (w : Notation) (names : List (List ℕ)) (v : ℕ) (vs : Li
 names_in-first w names v [] = sym (append-nil (name_in w (name_of names v)))
 names_in-first w names v (u ∷ vs) = refl
 
--- what is written of a set, and what of it is still to be written
-pub record IsWriting (w : Notation) (names : List (List ℕ)) (old out : List ℕ) (set rest : ℕ) : Type 0 where
-  pub text : out ++ names_in w (member_names names (has rest)) ≡ old ++ names_in w (member_names names (has set))
+-- what is written of a set, and what of its members is still to be written
+pub record IsWriting (w : Notation) (names : List (List ℕ)) (old out : List ℕ) (set : ℕ) (rest : List ℕ) : Type 0 where
+  pub text : out ++ names_in w (map (name_of names) rest) ≡ old ++ names_in w (member_names names (has set))
 
-pub writing_more : (w : Notation) (names : List (List ℕ)) (old out : List ℕ) (set rest rest' v : ℕ) → members_below (has rest) 64 ≡ v
-    ∷ members_below (has rest') 64 →
-    IsWriting w names old out set rest →
-    IsWriting w names old (out ++ name_in w (name_of names v) ++ comma_in w (members_below (has rest') 64)) set rest'
-writing_more w names old out set rest rest' v first is = record {
+pub writing_begun : (w : Notation) (names : List (List ℕ)) (old : List ℕ) (set : ℕ) (left : List ℕ) → left ≡ members_below (has set) 64 →
+    IsWriting w names old old set left
+writing_begun w names old set left whole = record { text = ap (λ vs. old ++ names_in w (map (name_of names) vs)) whole }
+
+pub writing_more : (w : Notation) (names : List (List ℕ)) (old out : List ℕ) (set v : ℕ) (left rest : List ℕ) → left ≡ v ∷ rest →
+    IsWriting w names old out set left → IsWriting w names old (out ++ name_in w (name_of names v) ++ comma_in w rest) set rest
+writing_more w names old out set v left rest first is = record {
   text =
-      append_assoc (out ++ name_in w (name_of names v)) (comma_in w (members_below (has rest') 64)) (names_in w (member_names names (has rest')))
-      ∙ append_assoc out (name_in w (name_of names v)) (comma_in w (members_below (has rest') 64) ++ names_in w (member_names names (has rest')))
-      ∙ ap (λ t. out ++ t) (sym (names_in-first w names v (members_below (has rest') 64)) ∙ ap (λ vs. names_in w (map (name_of names) vs)) (sym first))
+      append_assoc (out ++ name_in w (name_of names v)) (comma_in w rest) (names_in w (map (name_of names) rest))
+      ∙ append_assoc out (name_in w (name_of names v)) (comma_in w rest ++ names_in w (map (name_of names) rest))
+      ∙ ap (λ t. out ++ t) (sym (names_in-first w names v rest) ∙ ap (λ vs. names_in w (map (name_of names) vs)) (sym first))
       ∙ is.text;
 }
 
-pub writing_done : (w : Notation) (names : List (List ℕ)) (old out : List ℕ) (set rest : ℕ) → members_below (has rest) 64 ≡ []
-    → IsWriting w names old out set rest →
+pub writing_done : (w : Notation) (names : List (List ℕ)) (old out : List ℕ) (set : ℕ) (left : List ℕ) → left ≡ [] → IsWriting w names old out set left →
     out ≡ old ++ names_in w (member_names names (has set))
-writing_done w names old out set rest none is = sym (append-nil out) ∙ ap (λ vs. out ++ names_in w (map (name_of names) vs)) (sym none) ∙ is.text
+writing_done w names old out set left none is = sym (append-nil out) ∙ ap (λ vs. out ++ names_in w (map (name_of names) vs)) (sym none) ∙ is.text
 
 -- one more step of a path
 pub steps_more : (names : List (List ℕ)) (vertices : List ℕ) (marks : List Mark) (old out : List ℕ) (i : ℕ) → out ≡ old ++ steps_text names vertices marks i →

@@ -18,7 +18,7 @@ mod signs;
 use crate::names::push_name;
 use latex::push_latex_name;
 use m_separation::Mark;
-use mixed_graph::{Names, VSet};
+use mixed_graph::{MembersLeft, Names, VSet};
 pub use signs::{Notation, Sign, push_sign};
 use std::alloc::AllocError;
 
@@ -72,8 +72,8 @@ pub fn push_set_in(
 }
 
 /// A comma where a member is still to come.
-fn separator(notation: Notation, rest: VSet) -> &'static [u8]
-    ensures { result.now ≡ comma_in notation (members_below (has rest.bits) 64) }
+fn separator(notation: Notation, rest: &MembersLeft) -> &'static [u8]
+    ensures { result.now ≡ comma_in notation rest.now }
 {
     if rest.is_empty() {
         b""
@@ -92,12 +92,10 @@ fn push_members(
     requires { Within (length names.now) (has set.bits) }
     ensures { OnOk result (out.new.items ≡ out.old.items ++ names_in notation (member_names names.now (has set.bits))) }
 {
-    let mut rest = set;
-    'members: while !rest.is_empty() {
-        let v = rest.lowest();
+    let mut rest = set.iter();
+    'members: while let Some(v) = rest.next() {
         push_vertex_in(out, notation, names, v)?;
-        rest = rest.difference(VSet::one(v));
-        out.extend_from_slice(separator(notation, rest))?;
+        out.extend_from_slice(separator(notation, &rest))?;
     }
     Ok(())
 }

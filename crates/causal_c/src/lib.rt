@@ -5,20 +5,20 @@ ghost use Rattle.std.specs.Prelude.{◌≡◌, ◌≤◌, ◌⊎◌, List, ℕ};
 ghost use Rattle.mixed_graph.specs.Bits.{has};
 ghost use Rattle.m_separation.specs.Walks.{IsSeparated, HasOpenWalk};
 ghost use Rattle.dag_reader.specs.declared.graph.ReadGraph.{ReadGraph};
-ghost use Rattle.kept_graph.specs.Kept.{AreAskable, KeepsText, IsNoGraphText, Keeps, graph_in};
+ghost use Rattle.caller_memory.specs.Kept.{AreAskable, KeepsText, IsNoGraphText, Keeps, graph_in};
 ghost use Rattle.span_call.specs.Asked.{Asked, HasKept};
 ghost use Rattle.span_call.specs.Called.{Called, LacksInput, IsCutShort};
 ghost use Rattle.span_call.specs.Ends.{IsEnd};
 ghost use Rattle.span_call.specs.Wanted.{TellsInputs, AskForNothing};
-ghost use Rattle.spans.specs.Words.{AreTexts, IsNoText};
+ghost use Rattle.caller_memory.specs.Words.{AreTexts, IsNoText};
 ghost use Rattle.explain_call.specs.Calls.{Explained};
 
+use caller_memory::kept::{KeepFault, KeptDiagram, ReadDiagram, Separation};
+use caller_memory::spans::{Input, Span};
 use explain_call::explain_spans;
-use kept_graph::{KeepFault, KeptDiagram, ReadDiagram, Separation};
 use mixed_graph::VSet;
 use span_call::kept::ask_kept;
 use span_call::{Arguments, Sizes, Wanted, run_spans, show, wanted_spans};
-use spans::{Input, Span};
 use std::alloc::Global;
 
 /// Runs the words over the inputs, which are parts of `bytes`, shows what was written, and gives the status.

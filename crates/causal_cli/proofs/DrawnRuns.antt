@@ -205,9 +205,9 @@ evaluated_on q bytes other text (g, holds, needs, (e, identifies, (t, read, show
 
 -- the answer on the file alone is no yes: where there is a formula, the counts are read
 no_yes_alone : (way : Way) (g : ReadGraph) (x y : Names) (text : List ℕ) → EvaluateFirst way g x y Yes text → ⊥
-no_yes_alone by_procedure g x y text h = h
+no_yes_alone (by_procedure short) g x y text h = h
 no_yes_alone (by_adjusting back_door set) g x y text h = h.0 refl
-no_yes_alone (by_condition given) g x y text h = h.0 refl
+no_yes_alone (by_condition short given) g x y text h = h.0 refl
 
 evaluated : (r : Call) (uses : List Use) (text : List ℕ) → Appends r.before r.after text → CallAnswer r Evaluate uses Yes text → EvaluatedAsDrawn r uses
 evaluated r uses text whole (on_words q is h) = absurd h

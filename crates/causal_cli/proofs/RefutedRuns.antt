@@ -30,7 +30,7 @@ use Rattle.replies.specs.Observed.{Names, HoldsGraph, IsObservedGraph, observed_
 use Rattle.replies.specs.Outcomes.{code_of}
 use Rattle.effect_answers.specs.Hedges as hedges
 use Rattle.identify_command.specs.declared.form.Form.{Form}
-use Rattle.identify_command.specs.declared.form.Form.TheVariants.{Plain}
+use Rattle.identify_command.specs.Forms.{plain_form}
 use Rattle.identify_command.specs.Answers.{ShowsHedge, IdentifyAnswer}
 use Rattle.identify_command.specs.Conditions.{ConditionalAnswer, IdentifyAnswerGiven}
 use Rattle.identify_command.specs.Requests.{IsRequest}
@@ -187,9 +187,9 @@ hedge_on bytes x y text g holds (q, observed, h) = record {
 
 evaluated_on : (way : Way) (bytes : List ℕ) (x y : Names) (text : List ℕ) (g : ReadGraph) → HoldsGraph bytes g → EvaluateFirst way g x y No text
     → IsUnevaluatedAsDrawn way bytes x y text
-evaluated_on by_procedure bytes x y text g holds h = hedge_on bytes x y text g holds h
+evaluated_on (by_procedure short) bytes x y text g holds h = hedge_on bytes x y text g holds h
 evaluated_on (by_adjusting back_door set) bytes x y text g holds h = adjusted_on x y (criterion_query back_door set) bytes text g holds h.1
-evaluated_on (by_condition given) bytes x y text g holds h = joint_refuted Plain bytes x y given text g holds h.1
+evaluated_on (by_condition short given) bytes x y text g holds h = joint_refuted plain_form bytes x y given text g holds h.1
 
 if_told : (told : Option (List ℕ)) (P : Type 0) → P → IfSome told (λ other. P)
 if_told (Some other) P p = p

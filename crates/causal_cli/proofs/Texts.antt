@@ -13,9 +13,12 @@ use Rattle.dag_reader.specs.Written.{role_at, drawn_of, written}
 use Rattle.do_derivation.specs.Plans.{PlainDerivation}
 use Rattle.do_rules.specs.declared.rules.Rule.{Rule}
 use Rattle.prob_expr.specs.Tree.{PlainFormula, PlainTarget, effect_on}
+use Rattle.identification_theory.specs.Derivations.{IsDerived}
 use Rattle.identification_theory.proofs.Answered.{one_formula, one_derivation, derived_is_identified}
+use Rattle.conditional_id.specs.Conditionals.{IsConditionalBySteps}
 use Rattle.conditional_id.proofs.Answered.{one_conditional, one_conditional_derivation, derived_is_conditional}
 use Rattle.surrogates.proofs.Answered.{one_surrogate}
+use Rattle.short_formulas.specs.Short.{IsOrShorter}
 use Rattle.targets.specs.Targets.{EffectLists, Lists, RuleLists}
 use Rattle.replies.specs.declared.outcome.Outcome.TheVariants.{Yes}
 use Rattle.replies.specs.Observed.{Names, IsObservedGraph}
@@ -78,27 +81,36 @@ rule_lists_same y x z given g h s = rw (s.names, s.vertices, s.latent) refl
 
 -- ---- identify
 
--- one formula with one derivation has one text
-shown_once : (form : Form) (q : MixedGraph) (names : List (List ℕ)) (x y : ℕ) → IsOneText (ShowsFormula form q names x y)
-shown_once form q names x y text line a b =
-    let fs : b.formula ≡ a.formula = one_formula q x y b.formula a.formula (derived_is_identified q x y b.formula b.derivation b.derived)
-    (derived_is_identified q x y a.formula a.derivation a.derived) in
-    let ds : b.derivation ≡ a.derivation = one_derivation q x y b.formula a.formula b.derivation a.derivation b.derived a.derived in
-    b.prints ∙ ap (λ (f : PlainFormula). formula_text form names (effect_on x y) f b.derivation) fs
-    ∙ ap (λ (d : PlainDerivation). formula_text form names (effect_on x y) a.formula d) ds ∙ sym a.prints
+-- where no short formula is asked for, the formula is that of the procedure
+of_procedure : (short : Bool) → short ≡ false → (P : PlainFormula → PlainDerivation → Type 0) (f : PlainFormula) (d : PlainDerivation) → IsOrShorter short P f d
+    → P f d
+of_procedure short plain P f d h = subst (λ (s : Bool). IsOrShorter s P f d) plain h
 
-effect_once : (form : Form) (q : MixedGraph) (l : EffectLists) → IsOneText (EffectAnswer form q l Yes)
-effect_once form q l text line a b = shown_once form q l.observed a.x a.y text line a.answer
+-- one formula with one derivation has one text
+shown_once : (form : Form) → form.short ≡ false → (q : MixedGraph) (names : List (List ℕ)) (x y : ℕ) → IsOneText (ShowsFormula form q names x y)
+shown_once form plain q names x y text line a b =
+    let of_a = of_procedure form.short plain (IsDerived q x y) a.formula a.derivation a.derived in
+    let of_b = of_procedure form.short plain (IsDerived q x y) b.formula b.derivation b.derived in
+    let fs : b.formula ≡ a.formula = one_formula q x y b.formula a.formula (derived_is_identified q x y b.formula b.derivation of_b)
+    (derived_is_identified q x y a.formula a.derivation of_a) in
+    let ds : b.derivation ≡ a.derivation = one_derivation q x y b.formula a.formula b.derivation a.derivation of_b of_a in
+    b.prints ∙ ap (λ (f : PlainFormula). formula_text form.writing names (effect_on x y) f b.derivation) fs
+    ∙ ap (λ (d : PlainDerivation). formula_text form.writing names (effect_on x y) a.formula d) ds ∙ sym a.prints
+
+effect_once : (form : Form) → form.short ≡ false → (q : MixedGraph) (l : EffectLists) → IsOneText (EffectAnswer form q l Yes)
+effect_once form plain q l text line a b = shown_once form plain q l.observed a.x a.y text line a.answer
     (same_two (λ u v. ShowsFormula form q l.observed u v line) l a.x a.y b.x b.y a.sets b.sets b.answer)
 
-conditional_once : (form : Form) (q : MixedGraph) (names : List (List ℕ)) (t : PlainTarget) → IsOneText (ShowsConditional form q names t)
-conditional_once form q names t text line a b =
+conditional_once : (form : Form) → form.short ≡ false → (q : MixedGraph) (names : List (List ℕ)) (t : PlainTarget)
+    → IsOneText (ShowsConditional form q names t)
+conditional_once form plain q names t text line a b =
+    let of_a = of_procedure form.short plain (IsConditionalBySteps q t) a.formula a.derivation a.derived in
+    let of_b = of_procedure form.short plain (IsConditionalBySteps q t) b.formula b.derivation b.derived in
     let fs : b.formula ≡ a.formula =
-    one_conditional q t b.formula a.formula (derived_is_conditional q t b.formula b.derivation b.derived)
-    (derived_is_conditional q t a.formula a.derivation a.derived) in
-    let ds : b.derivation ≡ a.derivation = one_conditional_derivation q t b.formula a.formula b.derivation a.derivation b.derived a.derived in
-    b.prints ∙ ap (λ (f : PlainFormula). formula_text form names t f b.derivation) fs ∙ ap (λ (d : PlainDerivation). formula_text form names t a.formula d) ds
-    ∙ sym a.prints
+    one_conditional q t b.formula a.formula (derived_is_conditional q t b.formula b.derivation of_b) (derived_is_conditional q t a.formula a.derivation of_a) in
+    let ds : b.derivation ≡ a.derivation = one_conditional_derivation q t b.formula a.formula b.derivation a.derivation of_b of_a in
+    b.prints ∙ ap (λ (f : PlainFormula). formula_text form.writing names t f b.derivation) fs
+    ∙ ap (λ (d : PlainDerivation). formula_text form.writing names t a.formula d) ds ∙ sym a.prints
 
 abbrev target : (x y given : ℕ) → PlainTarget
 target x y given = record { x = x; y = y; given = given }
@@ -110,19 +122,21 @@ one_target l t u s v =
     ∙ ap (λ (k : ℕ). target t.x k u.given) (one_set l.observed l.y t.y u.y s.set_y v.set_y)
     ∙ ap (λ (k : ℕ). target t.x t.y k) (one_set l.observed l.given t.given u.given s.set_given v.set_given)
 
-target_once : (form : Form) (q : MixedGraph) (l : Lists) → IsOneText (ListsAnswer form q l Yes)
-target_once form q l text line a b = conditional_once form q l.observed a.target text line a.answer
+target_once : (form : Form) → form.short ≡ false → (q : MixedGraph) (l : Lists) → IsOneText (ListsAnswer form q l Yes)
+target_once form plain q l text line a b = conditional_once form plain q l.observed a.target text line a.answer
     (subst (λ (t : PlainTarget). ShowsConditional form q l.observed t line) (one_target l a.target b.target a.sets b.sets) b.answer)
 
 target_lists_same : (x y : Names) (given : List (List ℕ)) (g h : ReadGraph) → AreSame g h → target_lists h x y given ≡ target_lists g x y given
 target_lists_same x y given g h s = rw (s.names, s.vertices, s.latent, s.exposures, s.outcomes) refl
 
-identified_once : (form : Form) (x y given : Names) (g h : ReadGraph) → AreSame g h → (text line : List ℕ) → IdentifyAnswerGiven form g x y given Yes text
+identified_once : (form : Form) → form.short ≡ false → (x y given : Names) (g h : ReadGraph) → AreSame g h → (text line : List ℕ)
+    → IdentifyAnswerGiven form g x y given Yes text
     → IdentifyAnswerGiven form h x y given Yes line → line ≡ text
-identified_once form x y None = for_lists (λ g. effect_lists g x y) (λ q l. EffectAnswer form q l Yes) (same_effect_lists x y) (effect_once form)
-identified_once form x y (Some []) = for_lists (λ g. effect_lists g x y) (λ q l. EffectAnswer form q l Yes) (same_effect_lists x y) (effect_once form)
-identified_once form x y (Some (n ∷ ns)) =
-    for_lists (λ g. target_lists g x y (n ∷ ns)) (λ q l. ListsAnswer form q l Yes) (target_lists_same x y (n ∷ ns)) (target_once form)
+identified_once form plain x y None = for_lists (λ g. effect_lists g x y) (λ q l. EffectAnswer form q l Yes) (same_effect_lists x y) (effect_once form plain)
+identified_once form plain x y (Some []) =
+    for_lists (λ g. effect_lists g x y) (λ q l. EffectAnswer form q l Yes) (same_effect_lists x y) (effect_once form plain)
+identified_once form plain x y (Some (n ∷ ns)) =
+    for_lists (λ g. target_lists g x y (n ∷ ns)) (λ q l. ListsAnswer form q l Yes) (target_lists_same x y (n ∷ ns)) (target_once form plain)
 
 -- ---- surrogate
 
@@ -204,8 +218,8 @@ yes_texts_are_one = record {
   rule = λ q bytes text line a b. for_lists (λ g. rules.rule_lists g q.y q.x q.z q.given) (λ p l. rules.ListsAnswer q.rule p l Yes)
       (rule_lists_same q.y q.x q.z q.given) (ruled_once q.rule)
       a.graph b.graph (one_reading bytes a.graph b.graph a.holds b.holds) text line a.given b.given;
-  identify = λ q bytes text line a b. identified_once q.form q.x q.y q.given a.graph b.graph (one_reading bytes a.graph b.graph a.holds b.holds)
-      text line a.given b.given;
+  identify = λ q plain bytes text line a b. identified_once q.form plain q.x q.y q.given a.graph b.graph
+      (one_reading bytes a.graph b.graph a.holds b.holds) text line a.given b.given;
   surrogate = λ q bytes text line a b. for_lists (λ g. surrogate_lists g q.x q.y q.experiments) (λ p l. surrogates.ListsAnswer q.form p l Yes)
       (surrogate_lists_same q.x q.y q.experiments) (surrogated_once q.form)
       a.graph b.graph (one_reading bytes a.graph b.graph a.holds b.holds) text line a.given b.given;

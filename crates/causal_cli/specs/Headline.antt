@@ -35,7 +35,7 @@ pub record ShowsRightFormula (form : Form) (g : ReadGraph) (q : MixedGraph) (x y
   pub derivation : PlainDerivation
   pub right : IsRightFormula q x y formula derivation
   pub drawn : IsRightAsDrawn g (effect_on x y) formula
-  pub prints : text ≡ formula_text form (observed_names g) (effect_on x y) formula derivation
+  pub prints : text ≡ formula_text form.writing (observed_names g) (effect_on x y) formula derivation
 
 -- The text shows a hedge for P(y | do(x)), whose two positive finite models fit the observed graph q, agree on all observations, and differ on the
 -- effect under every value of x.
@@ -43,7 +43,7 @@ pub record ShowsRightHedge (form : Form) (g : ReadGraph) (q : MixedGraph) (x y :
   pub hedge : Hedge
   pub models : CounterPair
   pub right : IsRightHedge q x y hedge models
-  pub prints : text ≡ hedge_text form (observed_names g) x y hedge models
+  pub prints : text ≡ hedge_text form.writing (observed_names g) x y hedge models
 
 -- the bytes hold a graph, in whose observed graph the lists of the request name two sets, for which the text is such a one; where nothing is given
 pub record IsShown (shows : Form → ReadGraph → MixedGraph → (x y : ℕ) → List ℕ → Type 0) (q : Request) (bytes text : List ℕ) : Type 0 where

@@ -20,7 +20,7 @@ use Rattle.replies.specs.Observed.{Names, HoldsGraph, IsObservedGraph, observed_
 use Rattle.effect_answers.specs.Effects.{effect_lists, IsOfSets}
 use Rattle.effect_answers.specs.Hedges as hedges
 use Rattle.identify_command.specs.declared.form.Form.{Form}
-use Rattle.identify_command.specs.declared.form.Form.TheVariants.{Plain}
+use Rattle.identify_command.specs.Forms.{plain_form}
 use Rattle.identify_command.specs.Answers.{ShowsHedge}
 use Rattle.identify_command.specs.Conditions.{target_lists, AreTargetSets, ShowsJoint}
 use Rattle.identify_command.specs.Requests.{IsRequest, identify_row}
@@ -126,9 +126,9 @@ IsUnidentifiedAsDrawn form bytes x y (Some (n ∷ ns)) text = IsJointAsDrawn for
 
 -- what is shown in place of values, by the way in which a formula is looked for: where a set is to be adjusted for, what `adjust` shows of it
 abbrev pub IsUnevaluatedAsDrawn : Way → (bytes : List ℕ) → (x y : Names) → (text : List ℕ) → Type 0
-IsUnevaluatedAsDrawn by_procedure bytes x y text = IsHedgeAsDrawn hedges.ShowsHedge bytes x y text
+IsUnevaluatedAsDrawn (by_procedure short) bytes x y text = IsHedgeAsDrawn hedges.ShowsHedge bytes x y text
 IsUnevaluatedAsDrawn (by_adjusting back_door set) bytes x y text = IsNoAdjustmentFor x y (criterion_query back_door set) bytes text
-IsUnevaluatedAsDrawn (by_condition given) bytes x y text = IsJointAsDrawn Plain bytes x y given text
+IsUnevaluatedAsDrawn (by_condition short given) bytes x y text = IsJointAsDrawn plain_form bytes x y given text
 
 -- such a text was written for the bytes of the file that these uses ask for, where they and those of the counts are told
 abbrev pub UnevaluatedAsDrawn : Call → List Use → Type 0

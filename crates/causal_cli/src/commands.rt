@@ -3,7 +3,7 @@
 ghost use Rattle.std.specs.Prelude.{◌≡◌, map, option_map};
 ghost use Rattle.command_words.specs.Form.{row_named};
 ghost use Rattle.command_words.specs.Views.{row_of};
-ghost use Rattle.command_words.specs.Readable.{IsReadable};
+ghost use Rattle.command_words.specs.Readable.{AreReadable};
 ghost use Rattle.causal_cli.specs.Commands.{all_commands, row_for, table};
 
 use command_words::forms::Entry;
@@ -74,7 +74,7 @@ fn row_for(command: Command) -> Entry
 /// The table of the commands.
 pub fn rows() -> &'static [Entry]
     ensures rows { map row_of result.now ≡ table }
-    ensures readable { IsReadable (map row_of result.now) }
+    ensures readable { AreReadable (map row_of result.now) }
 {
     &TABLE
 }

@@ -4,7 +4,7 @@ ghost use Rattle.std.specs.Prelude.{◌≡◌, List, None, IfOk, IsErrOf, map, o
 ghost use Rattle.command_words.specs.Form.{Use, row_named};
 ghost use Rattle.command_words.specs.Views.{row_of};
 ghost use Rattle.command_words.specs.Gives.{HoldsCall};
-ghost use Rattle.command_words.specs.Readable.{IsReadable};
+ghost use Rattle.command_words.specs.Readable.{AreReadable};
 ghost use Rattle.dag_reader.specs.declared.graph.ReadGraph.{ReadGraph as Read};
 ghost use Rattle.command_run.specs.Lines.{words_line};
 ghost use Rattle.command_run.specs.Commands as asked;
@@ -62,7 +62,7 @@ impl<'a> command_run::Request<'a> for Request<'a> {
 
     fn rows() -> &'static [Entry]
         ensures rows { map row_of result.now ≡ table }
-        ensures readable { IsReadable (map row_of result.now) }
+        ensures readable { AreReadable (map row_of result.now) }
     {
         rows()
     }

@@ -13,7 +13,8 @@ use Rattle.replies.specs.declared.outcome.Outcome.TheVariants.{Yes, No}
 use Rattle.replies.specs.declared.outcome.Reply.{Reply}
 use Rattle.replies.proofs.Results.{mapped}
 use Rattle.replies.specs.Observed.{observed_names, IsObservedGraph}
-use Rattle.check_command.specs.Answers.{HoldsCertificate, FormulaAnswer, HedgeAnswer, HasEntries, CertificateAnswer, of_formula, of_hedge, ObservedAnswer, AnswerOver}
+use Rattle.check_command.specs.Answers.{HoldsCertificate, FormulaAnswer, HedgeAnswer, HasEntries, CertificateAnswer, of_formula, of_hedge}
+use Rattle.check_command.specs.Answers.{ObservedAnswer, AnswerOver}
 use Rattle.check_command.specs.Replies.{AnswersFormula, AnswersHedge}
 
 module _ (g : ReadGraph) (q : MixedGraph) (names : List (List ℕ)) (zs bytes : List ℕ) (observed : IsObservedGraph g q) (named : names ≡ observed_names g)

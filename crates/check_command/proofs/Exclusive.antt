@@ -65,7 +65,8 @@ module _ (q : MixedGraph) (names : List (List ℕ)) (zs : List ℕ) (text line :
       (same_read _ (plain.hedge t (hedge_view h)) (plain.hedge u (hedge_view k)) r.reads s.reads) a b
 
 -- what is read isn't refused
-read_or_refused : (names : List (List ℕ)) (bytes line : List ℕ) (c : PlainCertificate) → HoldsCertificate names bytes c → IsCertificateRefusal names bytes line → ⊥
+read_or_refused : (names : List (List ℕ)) (bytes line : List ℕ) (c : PlainCertificate) → HoldsCertificate names bytes c
+    → IsCertificateRefusal names bytes line → ⊥
 read_or_refused names bytes line c r (too_long long is) = absurd (let small = r.small in omega (arith, small, long))
 read_or_refused names bytes line c r (faulty fault short ne reads is) =
     absurd (let e : ◌≡◌ {A = Result PlainCertificate CertFault} (Ok c) (Err fault) = sym r.reads ∙ reads in cc e)

@@ -40,10 +40,10 @@ module _ (s : CommandSet) (laws : AreLawful s) where
     given Write text c h q a f = absurd (f.writes h.0.rose)
     given Memory text c h q a f = inr c
 
-    -- the inputs have one defined answer, so the status is that of each
+    -- the inputs have one defined answer, so the status is that of each that is fixed
     exactly : (o : Outcome) (text : List ℕ) → code ≡ code_of o → Ends s r o text → InputsAreKnown s r → NothingFailed s r → IsExact s r code
-    exactly o text c h told f k line answers = let q = asked s r k line answers in elim (given o text c h q.0 q.1 f) [
-      | inl found ↦ inl (found.status ∙ ap code_of (one_answer s laws r told found.outcome k found.text line found.answers answers))
+    exactly o text c h told f k line answers fixed = let q = asked s r k line answers in elim (given o text c h q.0 q.1 f) [
+      | inl found ↦ inl (found.status ∙ ap code_of (one_answer s laws r told found.outcome k found.text line found.answers answers fixed))
       | inr memory ↦ inr memory
     ]
 

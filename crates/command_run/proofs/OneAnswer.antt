@@ -11,13 +11,13 @@ use Rattle.replies.specs.Observed.{HoldsGraph}
 use Rattle.replies.specs.OneOutcome.{OneOutcome, IsAnswerOn}
 use Rattle.dag_reader.proofs.OneReading.{reads_either}
 use Rattle.replies.proofs.OneGraph.{one_reading}
-use Rattle.command_run.specs.Commands.{CommandSet, Request, of, file_of, second_of, Asks}
+use Rattle.command_run.specs.Commands.{CommandSet, Request, of, file_of, second_of, Asks, IsFixed}
 use Rattle.command_run.specs.Laws.{AreLawful}
 use Rattle.command_run.specs.Answers.{WordsAnswer, GraphAnswer, NeedsSecond, SecondAnswer, HoldsAnswer, Defined}
 use Rattle.replies.specs.Refusals.{IsGraphRefusal, too_long, faulty}
 use Rattle.command_run.specs.Answers.{Continues, DefinedWith}
 use Rattle.command_run.specs.Run.{Run, AnswersFile, AnswersBoth, Answers, by_words, by_file, by_both, ReadsName}
-use Rattle.command_run.specs.Complete.{InputsAreKnown}
+use Rattle.command_run.specs.Complete.{InputsAreKnown, IsFixedAnswer}
 use Rattle.command_run.proofs.OneRequest.{one_request}
 
 -- the answer to a request, by the bytes of its file, or by those of both inputs
@@ -43,6 +43,12 @@ record ByBoth (s : CommandSet) (r : Run) (w : Request s) (o : Outcome) (text : L
 -- the answer to a request
 abbrev ByAny : (s : CommandSet) → Run → Request s → Outcome → List ℕ → Type 0
 ByAny s r w o text = WordsAnswer s w o text ⊎ (ByFile s r w o text ⊎ ByBoth s r w o text)
+
+-- the request fixes its outcome
+abbrev IsFixedBy : (s : CommandSet) (r : Run) (w : Request s) (o : Outcome) (text : List ℕ) → ByAny s r w o text → Type 0
+IsFixedBy s r w o text (inl a) = Unit {0}
+IsFixedBy s r w o text (inr (inl a)) = Unit {0}
+IsFixedBy s r w o text (inr (inr a)) = IsFixed s w
 
 -- what is said of bytes is said of those that are told
 of_told : (held : Option (List ℕ)) (bytes : List ℕ) (P : List ℕ → Type 0) → held ≡ Some bytes → IfSome held P → P bytes
@@ -72,8 +78,8 @@ module _ (s : CommandSet) (laws : AreLawful s) where
   on_graph : (w : Request s) (bytes : List ℕ) → OneOutcome (IsAnswerOn bytes (λ g. GraphAnswer s w g))
   on_graph (of c q) bytes = (laws.each c).graph_once q bytes
 
-  on_both : (w : Request s) (bytes other : List ℕ) → OneOutcome (IsAnswerOn bytes (λ g. SecondAnswer s w g other))
-  on_both (of c q) bytes other = (laws.each c).both_once q bytes other
+  on_both : (w : Request s) → IsFixed s w → (bytes other : List ℕ) → OneOutcome (IsAnswerOn bytes (λ g. SecondAnswer s w g other))
+  on_both (of c q) fixed bytes other = (laws.each c).both_once q fixed bytes other
 
   -- a request that the file alone answers reads no second input
   file_alone : (w : Request s) (second : Text) (g h : ReadGraph) → AreSame g h → second_of s w ≡ Some second → (o : Outcome) (text : List ℕ)
@@ -114,9 +120,9 @@ module _ (s : CommandSet) (laws : AreLawful s) where
       go (inl x) = held_or_refused bytes c.0 text c.1 x.1
       go (inr x) = file_alone w second x.graph c.0 (one_reading bytes x.graph c.0 x.holds c.1) names o text x.answer c.2
 
-  pub with_once : (w : Request s) (bytes other : List ℕ) → OneOutcome (DefinedWith s w bytes other)
-  with_once w bytes other o p text line a b =
-      on_both w bytes other o p text line (record { graph = a.0; holds = a.1; given = a.3 }) (record { graph = b.0; holds = b.1; given = b.3 })
+  pub with_once : (w : Request s) → IsFixed s w → (bytes other : List ℕ) → OneOutcome (DefinedWith s w bytes other)
+  with_once w fixed bytes other o p text line a b =
+      on_both w fixed bytes other o p text line (record { graph = a.0; holds = a.1; given = a.3 }) (record { graph = b.0; holds = b.1; given = b.3 })
 
   module _ (r : Run) (told : InputsAreKnown s r) (w : Request s) (asks : Asks s r.words w) (o : Outcome) (text : List ℕ) where
     same : (q : Request s) → Asks s r.words q → q ≡ w
@@ -164,6 +170,12 @@ module _ (s : CommandSet) (laws : AreLawful s) where
     from_any (by_file a) = inr (inl (from_file a))
     from_any (by_both a) = inr (inr (from_both a))
 
+    fixed_any : (a : Answers s r o text) → IsFixedAnswer s r o text a → IsFixedBy s r w o text (from_any a)
+    unfolding from_any
+    fixed_any (by_words a) f = tt
+    fixed_any (by_file a) f = tt
+    fixed_any (by_both a) f = subst (λ (q : Request s). IsFixed s q) (same a.request a.asks) f
+
   module _ (r : Run) (w : Request s) (o p : Outcome) (text line : List ℕ) where
     two_files : ByFile s r w o text → ByFile s r w p line → o ≡ p
     two_files a b = defined_once w a.bytes o p text line a.defined
@@ -174,26 +186,27 @@ module _ (s : CommandSet) (laws : AreLawful s) where
     file_and_both a b = alone w b.second a.bytes o text b.names_second a.defined
         (subst (λ (bytes : List ℕ). Continues s w bytes) (same_bytes r (file_of s w) a.file b.file a.bytes b.bytes a.names b.names a.held b.held) b.accepted)
 
-    two_both : ByBoth s r w o text → ByBoth s r w p line → o ≡ p
-    two_both a b = with_once w a.bytes a.other o p text line a.defined
+    two_both : IsFixed s w → ByBoth s r w o text → ByBoth s r w p line → o ≡ p
+    two_both fixed a b = with_once w fixed a.bytes a.other o p text line a.defined
         (subst (λ (bytes : List ℕ). DefinedWith s w bytes a.other p line)
         (same_bytes r (file_of s w) a.file b.file a.bytes b.bytes a.names b.names a.held b.held)
         (subst (λ (other : List ℕ). DefinedWith s w b.bytes other p line)
         (same_bytes r (second_of s w) a.second b.second a.other b.other a.names_second b.names_second a.held_second b.held_second) b.defined))
 
-  joined : (r : Run) (w : Request s) (o p : Outcome) (text line : List ℕ) → ByAny s r w o text → ByAny s r w p line → o ≡ p
-  joined r w o p text line (inl a) (inl b) = words_once w o p text line a b
-  joined r w o p text line (inl a) (inr (inl b)) = absurd (words_alone w b.file o text a b.names)
-  joined r w o p text line (inl a) (inr (inr b)) = absurd (words_alone w b.file o text a b.names)
-  joined r w o p text line (inr (inl a)) (inl b) = absurd (words_alone w a.file p line b a.names)
-  joined r w o p text line (inr (inl a)) (inr (inl b)) = two_files r w o p text line a b
-  joined r w o p text line (inr (inl a)) (inr (inr b)) = absurd (file_and_both r w o p text line a b)
-  joined r w o p text line (inr (inr a)) (inl b) = absurd (words_alone w a.file p line b a.names)
-  joined r w o p text line (inr (inr a)) (inr (inl b)) = absurd (file_and_both r w p o line text b a)
-  joined r w o p text line (inr (inr a)) (inr (inr b)) = two_both r w o p text line a b
+  joined : (r : Run) (w : Request s) (o p : Outcome) (text line : List ℕ) → ByAny s r w o text → (b : ByAny s r w p line) → IsFixedBy s r w p line b → o ≡ p
+  joined r w o p text line (inl a) (inl b) f = words_once w o p text line a b
+  joined r w o p text line (inl a) (inr (inl b)) f = absurd (words_alone w b.file o text a b.names)
+  joined r w o p text line (inl a) (inr (inr b)) f = absurd (words_alone w b.file o text a b.names)
+  joined r w o p text line (inr (inl a)) (inl b) f = absurd (words_alone w a.file p line b a.names)
+  joined r w o p text line (inr (inl a)) (inr (inl b)) f = two_files r w o p text line a b
+  joined r w o p text line (inr (inl a)) (inr (inr b)) f = absurd (file_and_both r w o p text line a b)
+  joined r w o p text line (inr (inr a)) (inl b) f = absurd (words_alone w a.file p line b a.names)
+  joined r w o p text line (inr (inr a)) (inr (inl b)) f = absurd (file_and_both r w p o line text b a)
+  joined r w o p text line (inr (inr a)) (inr (inr b)) f = two_both r w o p text line f a b
 
-  -- the defined answer of a run whose inputs are told has one outcome
-  pub one_answer : (r : Run) → InputsAreKnown s r → OneOutcome (Answers s r)
-  one_answer r told o p text line a b =
+  -- a defined answer of a run whose inputs are told has the outcome of each that is fixed
+  pub one_answer : (r : Run) → InputsAreKnown s r → (o p : Outcome) (text line : List ℕ) → Answers s r o text → (b : Answers s r p line)
+      → IsFixedAnswer s r p line b → o ≡ p
+  one_answer r told o p text line a b fixed =
       let q = asked s r o text a in
-      joined r q.0 o p text line (from_any r told q.0 q.1 o text a) (from_any r told q.0 q.1 p line b)
+      joined r q.0 o p text line (from_any r told q.0 q.1 o text a) (from_any r told q.0 q.1 p line b) (fixed_any r told q.0 q.1 p line b fixed)

@@ -34,6 +34,10 @@ file_of s (of c q) = (s.form_of c).file q
 abbrev pub second_of : (s : CommandSet) → Request s → Option Text
 second_of s (of c q) = (s.form_of c).second q
 
+-- its answers on both inputs have one outcome
+abbrev pub IsFixed : (s : CommandSet) → Request s → Type 0
+IsFixed s (of c q) = (s.form_of c).is_fixed q
+
 -- the uses of its command ask for it
 abbrev pub IsRequest : (s : CommandSet) → List Use → Request s → Type 0
 IsRequest s uses (of c q) = (s.form_of c).asks uses q

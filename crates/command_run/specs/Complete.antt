@@ -4,8 +4,8 @@ use Rattle.causal_io.specs.Causes.{Rose}
 use Rattle.command_words.specs.Form.{Text}
 use Rattle.replies.specs.declared.outcome.Outcome.{Outcome}
 use Rattle.replies.specs.Outcomes.{code_of, IsAnswered}
-use Rattle.command_run.specs.Commands.{CommandSet, Request, Asks, AskOnce}
-use Rattle.command_run.specs.Run.{Run, Answers, ReadsName}
+use Rattle.command_run.specs.Commands.{CommandSet, Request, Asks, AskOnce, IsFixed}
+use Rattle.command_run.specs.Run.{Run, Answers, by_words, by_file, by_both, ReadsName}
 
 -- no count of failures rose: of the inputs that a request of the words reads, or of the writes
 pub record NothingFailed (s : CommandSet) (r : Run) : Type 0 where
@@ -22,14 +22,21 @@ pub record Answered (s : CommandSet) (r : Run) (code : ℕ) : Type 0 where
 
 -- each input that a request of the words reads tells what it holds
 abbrev pub InputsAreKnown : CommandSet → Run → Type 0
-InputsAreKnown s r = (q : Request s) → Asks s r.words q → (name : Text) → ReadsName s r q name → r.lacks name ≡ false → (bytes : List ℕ) × (r.held name ≡ Some bytes)
+InputsAreKnown s r = (q : Request s) → Asks s r.words q → (name : Text) → ReadsName s r q name → r.lacks name ≡ false → (bytes : List ℕ)
+    × (r.held name ≡ Some bytes)
+
+-- the request fixes the outcome of the answer: it does so unless the answer is on both inputs and by what the program chose
+abbrev pub IsFixedAnswer : (s : CommandSet) (r : Run) (o : Outcome) (text : List ℕ) → Answers s r o text → Type 0
+IsFixedAnswer s r o text (by_words a) = Unit {0}
+IsFixedAnswer s r o text (by_file a) = Unit {0}
+IsFixedAnswer s r o text (by_both a) = IsFixed s a.request
 
 -- whatever is the defined answer, the status is that of its outcome; or memory was refused
 abbrev pub IsExact : CommandSet → Run → ℕ → Type 0
-IsExact s r code = (o : Outcome) (text : List ℕ) → Answers s r o text → (code ≡ code_of o) ⊎ (code ≡ 8)
+IsExact s r code = (o : Outcome) (text : List ℕ) (answer : Answers s r o text) → IsFixedAnswer s r o text answer → (code ≡ code_of o) ⊎ (code ≡ 8)
 
 -- Where the words ask for nothing, the status is 2; where they ask for something and nothing failed, it is that of a defined answer, and, where the
--- inputs are told, of each defined answer. Or memory was refused.
+-- inputs are told, of each defined answer that is fixed. Or memory was refused.
 pub record Complete (s : CommandSet) (r : Run) (code : ℕ) : Type 0 where
   pub refused : ((q : Request s) → Asks s r.words q → ⊥) → (code ≡ 2) ⊎ (code ≡ 8)
   pub answered : (q : Request s) → Asks s r.words q → NothingFailed s r → Answered s r code ⊎ (code ≡ 8)

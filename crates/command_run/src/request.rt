@@ -4,7 +4,7 @@ ghost use Rattle.std.specs.Prelude.{◌≡◌, ◌<◌, ◌≤◌, ℕ, List, No
 ghost use Rattle.command_words.specs.Form.{Use, row_named};
 ghost use Rattle.command_words.specs.Views.{row_of};
 ghost use Rattle.command_words.specs.Gives.{HoldsCall};
-ghost use Rattle.command_words.specs.Readable.{IsReadable};
+ghost use Rattle.command_words.specs.Readable.{AreReadable};
 ghost use Rattle.replies.specs.Command.{Remainder};
 ghost use Rattle.command_run.specs.Commands.{CommandSet, table, command_of, file_of, IsRequest, AsksNothing};
 ghost use Rattle.command_run.specs.Commands as asked;
@@ -81,7 +81,7 @@ pub trait Request<'a>: Sized + Drop {
     /// The table of the commands.
     fn rows() -> &'static [Entry]
         ensures rows { map row_of result.now ≡ table commands }
-        ensures readable { IsReadable (map row_of result.now) };
+        ensures readable { AreReadable (map row_of result.now) };
 
     /// The line for words that aren't understood, with the names of the commands.
     fn words_line() -> &'static [u8]

@@ -1,12 +1,10 @@
 -- The arguments of a row, added kind by kind.
-use Rattle.std.proofs.Common.{◌≡◌, ◌<◌, ◌+◌, ℕ, length, drop, get_or, drop-cons, add-one, List, [], ◌∷◌, ◌++◌, map, refl, sym, ap, ◌∙◌, append_assoc}
+use Rattle.std.proofs.Common.{◌≡◌, List, [], ◌∷◌, ◌++◌, map, sym, ap, ◌∙◌, append_assoc}
 use Rattle.std.specs.Prelude.{fold}
 use Rattle.clap.specs.Walk.{Rule}
-use Rattle.clap.specs.Simple.{App, with_rule, on_top, new_app, with_subcommand}
+use Rattle.clap.specs.Simple.{App, with_rule, on_top, new_app}
 use Rattle.command_words.specs.Form.{Row}
-use Rattle.command_words.specs.Views.{row_of}
-use Rattle.command_words.specs.declared.forms.Entry.{Entry}
-use Rattle.command_words.specs.App.{shape_of_row, app_of_row, rules_of_row, positional_rule, optional_rule, required_rule, option_rule, flag_rule}
+use Rattle.command_words.specs.App.{app_of_row, rules_of_row, positional_rule, optional_rule, required_rule, option_rule, flag_rule}
 use Rattle.std.proofs.lemmas.List.{append-nil}
 
 -- the command with these arguments behind its own
@@ -19,7 +17,8 @@ grows a (r ∷ rules) = grows (with_rule a r) rules ∙ ap (λ (q : List Rule). 
 
 pub row_built : (row : Row) (a b c d e f : App) → a ≡ new_app row.name → b ≡ fold with_rule a (map positional_rule row.positionals) → c
     ≡ fold with_rule b (map optional_rule row.optional)
-    → d ≡ fold with_rule c (map required_rule row.required) → e ≡ fold with_rule d (map option_rule row.options) → f ≡ fold with_rule e (map flag_rule row.flags)
+    → d ≡ fold with_rule c (map required_rule row.required) → e ≡ fold with_rule d (map option_rule row.options) → f
+    ≡ fold with_rule e (map flag_rule row.flags)
     → f ≡ app_of_row row
 row_built row a b c d e f pa pb pc pd pe pf =
     let ps = map positional_rule row.positionals in
@@ -37,14 +36,3 @@ row_built row a b c d e f pa pb pc pd pe pf =
     ∙ (ap (λ (x : App). fold with_rule x fs) qe ∙ grows (with_rules (new_app row.name) (((ps ++ es) ++ ns) ++ os)) fs) in
     let all : (((ps ++ es) ++ ns) ++ os) ++ fs ≡ rules_of_row row = simp append_assoc in
     qf ∙ ap (λ (q : List Rule). with_rules (new_app row.name) q) all
-
-drop_next : (entries : List Entry) (i : ℕ) (d : Entry) → i < length entries → drop i entries ≡ get_or entries i d ∷ drop (i + 1) entries
-drop_next entries i d lt = rw (add-one, drop-cons entries i d) refl
-
-pub program_more : (entries : List Entry) (i : ℕ) (d : Entry) (old new inner : App) → i < length entries → new ≡ with_subcommand old inner.top → inner
-    ≡ app_of_row (row_of (get_or entries i d))
-    → fold (λ a row. with_subcommand a (shape_of_row row)) new (map row_of (drop (i + 1) entries))
-    ≡ fold (λ a row. with_subcommand a (shape_of_row row)) old (map row_of (drop i entries))
-program_more entries i d old new inner lt e f =
-    let g : new ≡ with_subcommand old (shape_of_row (row_of (get_or entries i d))) = e ∙ ap (λ (x : App). with_subcommand old x.top) f in
-    rw (g, drop_next entries i d lt) refl

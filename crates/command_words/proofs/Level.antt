@@ -146,7 +146,8 @@ module _ (row : Row) (s : Shape) (reads : Reads row s) (closes : Closes row s) (
   all_given : (rules : List Rule) → list_all (λ b. not b.required || is_among (row.positionals ++ row.required) b.id) rules ≡ true
       → list_all (λ b. not b.required || is_given b.id rows) rules ≡ true
   all_given [] h = refl
-  all_given (b ∷ rules) h = let p = both (not b.required || is_among (row.positionals ++ row.required) b.id) _ h in here b.required refl p.0 (all_given rules p.1)
+  all_given (b ∷ rules) h = let p = both (not b.required || is_among (row.positionals ++ row.required) b.id) _ h in
+      here b.required refl p.0 (all_given rules p.1)
     where
       here : (t : Bool) → b.required ≡ t → (not b.required || is_among (row.positionals ++ row.required) b.id) ≡ true
           → list_all (λ c. not c.required || is_given c.id rows) rules ≡ true

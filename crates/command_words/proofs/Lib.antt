@@ -16,6 +16,7 @@ pub mod Tables
 pub mod Building
 pub mod Reading
 mod Found
+pub mod Alone
 pub mod Inputs
 pub mod OneValue
 pub mod Asking

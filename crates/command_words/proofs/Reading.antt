@@ -1,11 +1,11 @@
 -- What a parse gives on words of the form, from what `clap` says.
-use Rattle.std.proofs.Common.{◌≤◌, ◌==◌, arith, ◌≡◌, ◌∙◌, ap, sym, refl, Bool, true, false, List, Option, Some, None, Result, Ok, Err, IfOk, IfErr}
+use Rattle.std.proofs.Common.{◌≡◌, ◌∙◌, ap, sym, refl, Bool, true, false, List, Option, Some, None, Result, Ok, Err, IfOk, IfErr}
 use Rattle.clap.specs.Simple.{App, HasMatchesOf, is_simple, subcommand_of, subcommand_rows_of}
-use Rattle.std.proofs.Common.{option_map, is_some, codes}
+use Rattle.std.proofs.Common.{option_map, codes}
 use Rattle.std.specs.Prelude.{if◌then◌else◌}
 use Rattle.std.specs.Option.{option_and_then}
 use Rattle.clap.specs.Walk.{Row as Entry, first_of, one_of}
-use Rattle.command_words.specs.Form.{is_among, value_names, positional_names, words_in, value_of, has_flag, word_of}
+use Rattle.command_words.specs.Form.{is_among, value_names, positional_names, value_of, has_flag, word_of}
 use Rattle.clap.specs.Takes.{takes}
 use Rattle.clap.specs.Values.{kind_of}
 use Rattle.clap.specs.declared.error.Error.{Error}
@@ -15,11 +15,6 @@ use Rattle.command_words.specs.Form.{Text, Row, Use, IsCall}
 use Rattle.command_words.specs.App.{app_of_table}
 use Rattle.command_words.specs.Gives.{GivesCall}
 use Rattle.command_words.specs.Readable.{IsReadable}
-use Rattle.command_words.proofs.Counts.{allowed}
-use Rattle.command_words.proofs.Level.{positional_given, option_given}
-use Rattle.command_words.proofs.Names.{all_at}
-use Rattle.command_words.specs.Form.{times}
-use Rattle.std.proofs.lemmas.Bool.Decides.{nat_tests}
 
 module _ (table : List Row) (readable : IsReadable table) (ws : List Text) (row : Row) (uses : List Use) (call : IsCall table ws row uses) (a : App)
     (e : a ≡ app_of_table table) where

@@ -1,5 +1,5 @@
 -- A table is readable where what `clap` makes of its rows computes to what is wanted.
-use Rattle.std.proofs.Common.{◌≡◌, ◌∙◌, ap, true, List, [], ◌∷◌, map, Some}
+use Rattle.std.proofs.Common.{◌≡◌, ◌∙◌, ap, true, List, [], ◌∷◌, map}
 use Rattle.std.specs.Prelude.{find, unwrap_or}
 use Rattle.std.specs.List.{list_all, flat_map}
 use Rattle.clap.specs.Walk.{answers_to, rows_after, nothing_held, stop_after}

@@ -3,7 +3,7 @@ ghost use Rattle.std.specs.Prelude.{IfOk, IsErrOf, map};
 ghost use Rattle.command_words.specs.Form.{HasForm, IsCall, IsOnlyCall};
 ghost use Rattle.command_words.specs.Views.{row_of, texts_of, uses_in};
 ghost use Rattle.command_words.specs.Gives.{HoldsCall};
-ghost use Rattle.command_words.specs.Readable.{IsReadable};
+ghost use Rattle.command_words.specs.Readable.{AreReadable};
 
 use crate::forms::Entry;
 use crate::typed::RequestFault;
@@ -16,7 +16,7 @@ pub fn words_found<'a>(
     table: &'static [Entry],
     words: &'a [String],
 ) -> Result<Words<'a>, RequestFault>
-    requires { IsReadable (map row_of table.now) }
+    requires { AreReadable (map row_of table.now) }
     ensures call { IfOk result (λ w. IsCall (map row_of table.now) (texts_of words.now) (row_of w.call.row.now) (uses_in w.call.uses)) }
     ensures only { IfOk result (λ w. IsOnlyCall (map row_of table.now) (texts_of words.now) (row_of w.call.row.now) (uses_in w.call.uses)) }
     ensures values { IfOk result (λ w. HoldsCall (row_of w.call.row.now) (uses_in w.call.uses) w.values) }

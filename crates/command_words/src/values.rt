@@ -1,11 +1,12 @@
 //! The words of a command line by a table of commands. Words are read exactly where they have the form of the table; their values come
-//! from `clap`, which refuses such words for want of memory alone. Words that ask for help or for a version have no form.
+//! from `clap`, which gets the row of their command alone, and refuses such words for want of memory alone. Words that ask for help or for a
+//! version have no form.
 ghost use Rattle.std.specs.Prelude.{◌≡◌, IfOk, IfSome, IfNone, map};
 ghost use Rattle.clap.specs.Values.{kind_of};
 ghost use Rattle.command_words.specs.Form.{HasForm, IsCall, IsOnlyCall};
 ghost use Rattle.command_words.specs.Views.{row_of, texts_of, uses_in};
 ghost use Rattle.command_words.specs.Gives.{HoldsCall};
-ghost use Rattle.command_words.specs.Readable.{IsReadable};
+ghost use Rattle.command_words.specs.Readable.{AreReadable};
 
 mod program;
 mod values;
@@ -38,7 +39,7 @@ pub fn read_words<'a>(
     table: &'a [Entry],
     words: &'a [String],
 ) -> Result<Option<Words<'a>>, AllocError>
-    requires { IsReadable (map row_of table.now) }
+    requires { AreReadable (map row_of table.now) }
     ensures call { IfOk result (λ o. IfSome o (λ w.
         IsCall (map row_of table.now) (texts_of words.now) (row_of w.call.row.now) (uses_in w.call.uses))) }
     ensures only { IfOk result (λ o. IfSome o (λ w.
@@ -49,7 +50,7 @@ pub fn read_words<'a>(
     let Some(call) = read_call(alloc, table, words)? else {
         return Ok(None);
     };
-    match read_matches(alloc, table, words, &call) {
+    match read_matches(alloc, words, &call) {
         Ok(matches) => Ok(Some(Words {
             call,
             values: Values { matches },

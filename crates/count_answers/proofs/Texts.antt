@@ -10,23 +10,26 @@ pub commas_first : (f : ℕ → List ℕ) (v : ℕ) (vs : List ℕ) → with_com
 commas_first f v [] = sym (append-nil (f v))
 commas_first f v (u ∷ vs) = refl
 
--- what is written of a set, and what of it is still to be written
-pub record IsWriting (f : ℕ → List ℕ) (old out : List ℕ) (set rest : ℕ) : Type 0 where
-  pub text : out ++ with_commas (map f (members_below (has rest) 64)) ≡ old ++ with_commas (map f (members_below (has set) 64))
+-- what is written of a set, and what of its members is still to be written
+pub record IsWriting (f : ℕ → List ℕ) (old out : List ℕ) (set : ℕ) (rest : List ℕ) : Type 0 where
+  pub text : out ++ with_commas (map f rest) ≡ old ++ with_commas (map f (members_below (has set) 64))
 
-pub writing_more : (f : ℕ → List ℕ) (old out : List ℕ) (set rest rest' v : ℕ) → members_below (has rest) 64 ≡ v ∷ members_below (has rest') 64 →
-    IsWriting f old out set rest → IsWriting f old (out ++ f v ++ comma_before (members_below (has rest') 64)) set rest'
-writing_more f old out set rest rest' v first w = record {
+pub writing_begun : (f : ℕ → List ℕ) (old : List ℕ) (set : ℕ) (left : List ℕ) → left ≡ members_below (has set) 64 → IsWriting f old old set left
+writing_begun f old set left whole = record { text = ap (λ (vs : List ℕ). old ++ with_commas (map f vs)) whole }
+
+pub writing_more : (f : ℕ → List ℕ) (old out : List ℕ) (set v : ℕ) (left rest : List ℕ) → left ≡ v ∷ rest → IsWriting f old out set left
+    → IsWriting f old (out ++ f v ++ comma_before rest) set rest
+writing_more f old out set v left rest first w = record {
   text =
-      append_assoc (out ++ f v) (comma_before (members_below (has rest') 64)) (with_commas (map f (members_below (has rest') 64)))
-      ∙ append_assoc out (f v) (comma_before (members_below (has rest') 64) ++ with_commas (map f (members_below (has rest') 64)))
-      ∙ ap (λ t. out ++ t) (sym (commas_first f v (members_below (has rest') 64)) ∙ ap (λ (vs : List ℕ). with_commas (map f vs)) (sym first))
+      append_assoc (out ++ f v) (comma_before rest) (with_commas (map f rest))
+      ∙ append_assoc out (f v) (comma_before rest ++ with_commas (map f rest))
+      ∙ ap (λ t. out ++ t) (sym (commas_first f v rest) ∙ ap (λ (vs : List ℕ). with_commas (map f vs)) (sym first))
       ∙ w.text;
 }
 
-pub writing_done : (f : ℕ → List ℕ) (old out : List ℕ) (set rest : ℕ) → members_below (has rest) 64 ≡ [] → IsWriting f old out set rest →
+pub writing_done : (f : ℕ → List ℕ) (old out : List ℕ) (set : ℕ) (left : List ℕ) → left ≡ [] → IsWriting f old out set left →
     out ≡ old ++ with_commas (map f (members_below (has set) 64))
-writing_done f old out set rest none w = sym (append-nil out) ∙ ap (λ (vs : List ℕ). out ++ with_commas (map f vs)) (sym none) ∙ w.text
+writing_done f old out set left none w = sym (append-nil out) ∙ ap (λ (vs : List ℕ). out ++ with_commas (map f vs)) (sym none) ∙ w.text
 
 -- texts of members that are the same
 pub same_texts : (f g : ℕ → List ℕ) (s : ℕ → Bool) (k : ℕ) → ((v : ℕ) → v < k → s v ≡ true → f v ≡ g v) → map f (members_below s k) ≡ map g (members_below s k)

@@ -9,7 +9,7 @@ ghost use Rattle.count_answers.specs.Lines.{level_text, assignment, assignments}
 
 use answer_text::push_vertex;
 use count_table::Counts;
-use mixed_graph::{Names, VSet};
+use mixed_graph::{MembersLeft, Names, VSet};
 use std::alloc::AllocError;
 
 /// The level of vertex v with the number k; empty where it has no such level.
@@ -39,8 +39,8 @@ pub fn push_assignment(
 }
 
 /// A comma where a member is still to come.
-pub fn separator(rest: VSet) -> &'static [u8]
-    ensures { result.now ≡ comma_before (members_below (has rest.bits) 64) }
+pub fn separator(rest: &MembersLeft) -> &'static [u8]
+    ensures { result.now ≡ comma_before rest.now }
 {
     if rest.is_empty() { b"" } else { b"," }
 }
@@ -57,12 +57,10 @@ pub fn push_assignments(
     requires entries { Within (length cell.now) (has set.bits) }
     ensures { OnOk result (out.new.items ≡ out.old.items ++ assignments names.now counts.now (cell_of cell.now) (members_below (has set.bits) 64)) }
 {
-    let mut rest = set;
-    'members: while !rest.is_empty() {
-        let v = rest.lowest();
+    let mut rest = set.iter();
+    'members: while let Some(v) = rest.next() {
         push_assignment(out, names, counts, v, cell[v as usize])?;
-        rest = rest.difference(VSet::one(v));
-        out.extend_from_slice(separator(rest))?;
+        out.extend_from_slice(separator(&rest))?;
     }
     Ok(())
 }

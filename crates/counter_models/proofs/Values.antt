@@ -18,7 +18,8 @@ use Rattle.counter_models.specs.Links.{at_vertex}
 use Rattle.counter_models.specs.Hedges.{ParityHedge}
 use Rattle.counter_models.specs.ParityPairs.{value, chooses, first_bit, second_bit, carries, top_bit, world_bit, event_odd, first_mechanism, second_mechanism}
 use Rattle.counter_models.proofs.ParityLaws.{odd-congr, differ-assoc, differ-false}
-use Rattle.counter_models.specs.Pairs.{is_linked, link_causes, small_cause, kept_cause, IsHedgePart, IsCarriedPart, IsPartWhere, IsMechanismOf, size_at, in_second}
+use Rattle.counter_models.specs.Pairs.{is_linked, link_causes, small_cause, kept_cause, IsHedgePart, IsCarriedPart, IsPartWhere, IsMechanismOf}
+use Rattle.counter_models.specs.Pairs.{size_at, in_second}
 use Rattle.counter_models.specs.Theory.{links_from, inner_entries, data_of}
 use Rattle.counter_models.proofs.Lists.{before-less}
 use Rattle.counter_models.proofs.Entries.{length-links, entry_small, small_entry, apart_at}
@@ -171,7 +172,8 @@ module _ (g : MixedGraph) (few : g.vertices ≤ 64) (x y : ℕ) (h : Hedge) (hed
         ≡ differ (at_vertex 0 d.inner w v) (at_vertex (length d.inner) d.outer w v)
     all_links le =
         odd-congr (h.links.count - 1) (λ j. (is_linked h j v && has h.big.bits (slice_index h.links.found (suc j))) && w j) (link_bit h v w)
-        (λ j lt. drop_true (is_linked h j v) (has h.big.bits (slice_index h.links.found (suc j))) (w j) (hedge.links.inside (suc j) (omega arith)) ∙ link_term j lt)
+        (λ j lt. drop_true (is_linked h j v) (has h.big.bits (slice_index h.links.found (suc j))) (w j) (hedge.links.inside (suc j) (omega arith))
+        ∙ link_term j lt)
         ∙ ap (λ k. odd_below k (link_bit h v w)) (let e : h.links.count - 1 ≡ (inner_entries h - 1) + (h.links.count - inner_entries h) = omega arith in e)
         ∙ at_range h v w (inner_entries h - 1) (h.links.count - inner_entries h)
         ∙ ap₂ differ (positive_inner le)
@@ -183,7 +185,8 @@ module _ (g : MixedGraph) (few : g.vertices ≤ 64) (x y : ℕ) (h : Hedge) (hed
     small_links le =
         ap (λ k. odd_below k (λ j. (is_linked h j v && has h.small.bits (slice_index h.links.found (suc j))) && w j))
         (let e : h.links.count - 1 ≡ (inner_entries h - 1) + (h.links.count - inner_entries h) = omega arith in e)
-        ∙ odd-tail (inner_entries h - 1) (h.links.count - inner_entries h) (λ j. (is_linked h j v && has h.small.bits (slice_index h.links.found (suc j))) && w j)
+        ∙ odd-tail (inner_entries h - 1) (h.links.count - inner_entries h)
+        (λ j. (is_linked h j v && has h.small.bits (slice_index h.links.found (suc j))) && w j)
         (λ j ge lt. drop_false (is_linked h j v) (has h.small.bits (slice_index h.links.found (suc j))) (w j)
         (late j ge lt (has h.small.bits (slice_index h.links.found (suc j))) refl))
         ∙ odd-congr (inner_entries h - 1) (λ j. (is_linked h j v && has h.small.bits (slice_index h.links.found (suc j))) && w j) (link_bit h v w)

@@ -53,7 +53,8 @@ arrow_drawn g is a b = pairs_below-joins g.vertices g.arrow a b ∙ both_below a
 upper : MixedGraph → ℕ → ℕ → Bool
 upper g a b = g.both a b && nat_lt a b
 
-upper_drawn : (g : MixedGraph) → IsMixedGraph g → (a b : ℕ) → has_pair (pairs_below g.vertices (λ x y. g.both x y && nat_lt x y)) a b ≡ (g.both a b && nat_lt a b)
+upper_drawn : (g : MixedGraph) → IsMixedGraph g → (a b : ℕ) → has_pair (pairs_below g.vertices (λ x y. g.both x y && nat_lt x y)) a b
+    ≡ (g.both a b && nat_lt a b)
 upper_drawn g is a b =
     pairs_below-joins g.vertices (λ x y. g.both x y && nat_lt x y) a b
     ∙ both_below a b g.vertices (g.both a b && nat_lt a b)

@@ -14,7 +14,6 @@ pub mod TextForm
 pub mod ByteKinds
 pub mod Fronts
 pub mod MarkLists
-pub mod KnownNames
 pub mod Loops
 pub mod EdgeRows
 pub mod RowPairs

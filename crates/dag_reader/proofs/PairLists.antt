@@ -182,7 +182,8 @@ doubles_apart marks v h = no_loops both_of v (λ e k. both_misses v e.arrow e.le
 caught : (a : Arrow) (l r : ℕ) (ds bs : List (ℕ × ℕ)) → (l == r) ≡ true → has_pair (cons_option (arrow_of (record { left = l; arrow = a; right = r })) ds) l l
     ≡ false
     → has_pair (cons_option (both_of (record { left = l; arrow = a; right = r })) bs) l l ≡ false → ⊥
-caught Right l r ds bs same h k = let t = and_from (l == l) (l == r) (eq-eqb l l refl) same in let f = (or_parts ((l == l) && (l == r)) (has_pair ds l l) h).0 in
+caught Right l r ds bs same h k = let t = and_from (l == l) (l == r) (eq-eqb l l refl) same in let f =
+    (or_parts ((l == l) && (l == r)) (has_pair ds l l) h).0 in
     both_ways _ f t
 caught Left l r ds bs same h k = let t = and_from (l == r) (l == l) same (eq-eqb l l refl) in let f = (or_parts ((l == r) && (l == l)) (has_pair ds l l) h).0 in
     both_ways _ f t
@@ -306,7 +307,8 @@ pub arrows_same : (n : ℕ) (r : ℕ → ℕ → Bool) (marks : List Remark) →
     → (a b : ℕ) → has_pair (pairs_below n r) a b ≡ has_pair (arrows_of marks) a b
 arrows_same n r marks is inside = pairs_below-same n r (arrows_of marks) is (arrows_inside n marks inside)
 
-pub doubles_same : (n : ℕ) (r : ℕ → ℕ → Bool) (marks : List Remark) → ((a b : ℕ) → r a b ≡ has_pair (doubles_of marks) a b) → list_all (is_inside n) marks ≡ true
+pub doubles_same : (n : ℕ) (r : ℕ → ℕ → Bool) (marks : List Remark) → ((a b : ℕ) → r a b ≡ has_pair (doubles_of marks) a b) → list_all (is_inside n) marks
+    ≡ true
     → (a b : ℕ) → has_pair (pairs_below n r) a b ≡ has_pair (doubles_of marks) a b
 doubles_same n r marks is inside = pairs_below-same n r (doubles_of marks) is (doubles_inside n marks inside)
 

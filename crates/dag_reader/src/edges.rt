@@ -69,11 +69,8 @@ pub fn self_loop(alloc: Global, marks: &[Remark]) -> Result<Option<u8>, AllocErr
 fn connect(rows: &mut Rows, from: VSet, to: VSet)
     ensures { (a b : ℕ) → row_has rows.new a b ≡ (row_has rows.old a b || (has from.bits a && has to.bits b)) }
 {
-    let mut rest = from;
-    'members: while !rest.is_empty() {
-        let v = rest.lowest();
+    'members: for v in from.iter() {
         rows[v as usize] = VSet::row(rows, v).union(to).bits;
-        rest = rest.difference(VSet::one(v));
     }
 }
 
@@ -132,11 +129,8 @@ pub fn has_loop(edges: &Edges) -> bool
 fn push_row(out: &mut Vec<(u8, u8)>, a: u8, row: VSet) -> Result<(), AllocError>
     ensures { OnOk result (out.new.items ≡ out.old.items ++ map (λ b. (a, b)) (members_below (has row.bits) 64)) }
 {
-    let mut rest = row;
-    'members_of_row: while !rest.is_empty() {
-        let b = rest.lowest();
+    'members_of_row: for b in row.iter() {
         out.push((a, b))?;
-        rest = rest.difference(VSet::one(b));
     }
     Ok(())
 }

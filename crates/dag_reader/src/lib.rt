@@ -10,7 +10,6 @@ mod fault_text;
 mod faults;
 mod grammar;
 mod graph;
-mod guesses;
 mod law;
 mod marks;
 mod reading;

@@ -6,7 +6,6 @@ ghost use Rattle.dag_reader.specs.MarkEnds.{is_inside};
 
 use crate::faults::{Fault, ReadFault, misfit, own_fault};
 use crate::grammar::{Position, next};
-use crate::guesses::NameGuesses;
 use crate::marks::{Arrow, Remark, Role};
 use crate::tokens::{Token, is_end};
 use crate::words::Word;
@@ -18,7 +17,6 @@ use std::alloc::{AllocError, Global};
 pub struct Statements {
     pub names: Names,
     pub marks: Vec<Remark>,
-    pub guesses: NameGuesses,
     pub ghost inside: { list_all (is_inside (length names)) marks.items ≡ true },
 }
 
@@ -37,7 +35,6 @@ impl Statements {
         Statements {
             names: Names::empty(alloc),
             marks: Vec::new(alloc),
-            guesses: NameGuesses::new(),
         }
     }
 
@@ -53,21 +50,8 @@ impl Statements {
     fn add_vertex<'a>(&mut self, name: Word<'a>) -> Result<(), ReadFault<'a>>
         ensures { Leaves (with_vertex name.entry.bytes.now (said_by self.old)) (said_by self.new) result }
     {
-        if let Some(index) = self.guesses.index(&self.names, name.bytes) {
-            self.mark(Remark::Member(index))?;
-            return Ok(());
-        }
-        self.look_up(name)
-    }
-
-    /// The same by the names themselves.
-    #[inline(never)]
-    fn look_up<'a>(&mut self, name: Word<'a>) -> Result<(), ReadFault<'a>>
-        ensures { Leaves (with_vertex name.entry.bytes.now (said_by self.old)) (said_by self.new) result }
-    {
         match self.names.add(name.bytes) {
             Ok(index) => {
-                self.guesses.keep(name.bytes, index);
                 self.mark(Remark::Member(index))?;
                 Ok(())
             }

@@ -2,6 +2,7 @@
 //! and the hedge that answers no.
 #![tactic(auto)]
 
+pub mod certificates;
 mod effect;
 
 pub use effect::{Asked, Effect, asked_effect};

@@ -9,6 +9,7 @@ use Rattle.dag_reader.specs.RoundTrip.{AreSame}
 use Rattle.targets.specs.Targets.{Lists, AreEffectSets, AreSets}
 use Rattle.prob_expr.specs.Tree.{PlainFormula, PlainTarget}
 use Rattle.prob_expr.specs.Values.{Weights}
+use Rattle.identification_theory.specs.Derivations.{IsDerived}
 use Rattle.identification_theory.specs.Procedure.{IsIdentified}
 use Rattle.identification_theory.proofs.Answered.{one_formula, derived_is_identified}
 use Rattle.conditional_id.specs.Conditionals.{IsConditional}
@@ -25,6 +26,7 @@ use Rattle.count_eval.specs.Programs.{cell_of}
 use Rattle.count_eval.specs.Stops.{Stop}
 use Rattle.count_answers.specs.Reads.{HoldsCounts, AreRefusedCounts, too_long, faulty}
 use Rattle.adjustment.specs.Formulas.{adjustment_formula}
+use Rattle.short_formulas.proofs.Usable.{some_first}
 use Rattle.replies.specs.declared.outcome.Outcome.{Outcome}
 use Rattle.replies.specs.declared.outcome.Outcome.TheVariants.{Yes, No, Graph, Second, Evaluation}
 use Rattle.replies.specs.Observed.{Names, observed_names, query_lists, IsObservedGraph}
@@ -40,7 +42,9 @@ use Rattle.adjust_command.specs.Answers as adjust
 use Rattle.adjust_command.specs.Lines.{admissible_text}
 use Rattle.adjust_command.proofs.Exclusive as adjusting
 use Rattle.adjust_command.proofs.Verdicts.{shown}
-use Rattle.identify_command.specs.declared.form.Form.TheVariants.{Plain}
+use Rattle.identify_command.specs.declared.form.Writing.TheVariants.{Plain}
+use Rattle.identify_command.specs.declared.form.Form.{Form}
+use Rattle.identify_command.specs.Forms.{plain_form}
 use Rattle.identify_command.specs.Answers.{formula_text}
 use Rattle.identify_command.specs.Conditions.{target_lists, AreTargetSets, ConditionalAnswer}
 use Rattle.identify_command.specs.Conditions as identify
@@ -48,7 +52,7 @@ use Rattle.identify_command.proofs.Exclusive as identifying
 use Rattle.evaluate_command.specs.Answers.{ProcedureFirst, EvaluateFirst, TableAnswer, AnswersTable, CountsAnswer, EvaluateAnswer}
 use Rattle.evaluate_command.specs.Cells.{CellValue, with_levels, first_cell, varied, printed_cells, value_in, values_at}
 use Rattle.evaluate_command.specs.Effects.{PlainEffect, target_of, effect_for, IsFoundBy, Identifies, used_in}
-use Rattle.evaluate_command.specs.Ways.{Way, by_procedure, by_adjusting, by_condition, criterion_query}
+use Rattle.evaluate_command.specs.Ways.{Way, by_procedure, by_adjusting, by_condition, FixesFormula, criterion_query}
 use Rattle.evaluate_command.proofs.Unmet.{criterion_answer}
 
 -- ---- before the counts
@@ -68,13 +72,13 @@ procedure_once bytes x y = one_of_three No Graph Yes (IsAnswerOn bytes (λ g. Pr
     (λ text line a b. b.given) (λ text line a b. b.given)
 
 pub first_once : (bytes : List ℕ) (way : Way) (x y : Names) → OneOutcome (IsAnswerOn bytes (λ g. EvaluateFirst way g x y))
-first_once bytes by_procedure x y = procedure_once bytes x y
+first_once bytes (by_procedure short) x y = procedure_once bytes x y
 first_once bytes (by_adjusting back_door set) x y = λ o p text line a b.
     adjusting.adjust_once bytes x y (criterion_query back_door set) o p text line (record { graph = a.graph; holds = a.holds; given = a.given.1 })
     (record { graph = b.graph; holds = b.holds; given = b.given.1 })
-first_once bytes (by_condition given) x y = λ o p text line a b.
-    identifying.conditional_once bytes Plain x y given o p text line (record { graph = a.graph; holds = a.holds; given = a.given.1 })
-    (record { graph = b.graph; holds = b.holds; given = b.given.1 })
+first_once bytes (by_condition short given) x y = λ o p text line a b.
+    identifying.conditional_once bytes x y given o p text line (record { graph = a.graph; holds = a.holds; given = (plain_form, a.given.1) })
+    (record { graph = b.graph; holds = b.holds; given = (plain_form, b.given.1) })
 
 -- where the file alone is answered, no effect is identified
 module _ (g h : ReadGraph) (s : AreSame g h) (x y : Names) (o : Outcome) (text : List ℕ) (e : PlainEffect) where
@@ -96,13 +100,15 @@ module _ (g h : ReadGraph) (s : AreSame g h) (x y : Names) (o : Outcome) (text :
       (subst (λ (q : MixedGraph). adjust.ListsAnswer query q l o text) same a.2)
       (subst (λ (k : Lists). adjust.ListsAnswer query e.graph k Yes line) (adjusting.same_lists x y query g h s) yes))
 
-  conditional_alone : (given : List (List ℕ)) → o ≢ Yes → ConditionalAnswer Plain g x y given o text → Identifies (by_condition given) h x y e → ⊥
-  conditional_alone given unlike a i =
+  conditional_alone : (short : Bool) (given : List (List ℕ)) → o ≢ Yes → ConditionalAnswer plain_form g x y given o text
+      → Identifies (by_condition short given) h x y e → ⊥
+  conditional_alone short given unlike a i =
+      let form : Form = record { writing = Plain; short = short } in
       let l = target_lists g x y given in
-      let same : a.0 ≡ e.graph = same_graph (by_condition given) i a.0 a.1 in
+      let same : a.0 ≡ e.graph = same_graph (by_condition short given) i a.0 a.1 in
       let by = i.found.1 in
       let line = formula_text Plain (observed_names h) (target_of e) e.formula by.derivation in
-      let yes : identify.ListsAnswer Plain e.graph (target_lists h x y given) Yes line = record {
+      let yes : identify.ListsAnswer form e.graph (target_lists h x y given) Yes line = record {
         target = target_of e;
         sets = i.found.0;
         answer = record {
@@ -114,28 +120,30 @@ module _ (g h : ReadGraph) (s : AreSame g h) (x y : Names) (o : Outcome) (text :
           reads_back = λ c. absurd (cc c);
         };
       } in
-      unlike (identifying.target_once Plain e.graph i.identified.graph l (observed_named g a.0 a.1 ∙ ap (λ (q : MixedGraph). q.vertices) same) o Yes text line
-      (subst (λ (q : MixedGraph). identify.ListsAnswer Plain q l o text) same a.2)
-      (subst (λ (k : Lists). identify.ListsAnswer Plain e.graph k Yes line) (identifying.same_target_lists x y given g h s) yes))
+      unlike (identifying.target_once e.graph i.identified.graph l (observed_named g a.0 a.1 ∙ ap (λ (q : MixedGraph). q.vertices) same) o Yes text line
+      (plain_form, subst (λ (q : MixedGraph). identify.ListsAnswer plain_form q l o text) same a.2)
+      (form, subst (λ (k : Lists). identify.ListsAnswer form e.graph k Yes line) (identifying.same_target_lists x y given g h s) yes))
 
-procedure_alone : (g h : ReadGraph) → AreSame g h → (x y : Names) (o : Outcome) (text : List ℕ) (e : PlainEffect) → ProcedureFirst g x y o text
-    → Identifies by_procedure h x y e → ⊥
-procedure_alone g h s x y No text e a i =
+procedure_alone : (g h : ReadGraph) → AreSame g h → (x y : Names) (o : Outcome) (text : List ℕ) (e : PlainEffect) (short : Bool) → ProcedureFirst g x y o text
+    → Identifies (by_procedure short) h x y e → ⊥
+procedure_alone g h s x y No text e short a i =
+    let by = i.found.1 in
+    let first = some_first short (IsDerived e.graph e.x e.y) e.formula by.derivation by.derived in
     let l = effect_lists g x y in
     let sets : AreEffectSets l e.x e.y = subst (λ k. AreEffectSets k e.x e.y) (same_effect_lists x y g h s) i.found.0 in
     let same : a.0 ≡ e.graph = one_observed_graph g h s a.0 e.graph a.1 i.graph in
     let hedge = subst (λ (q : MixedGraph). ShowsHedge q (observed_names g) a.2.x a.2.y text) same a.2.answer in
     formula_or_hedge e.graph i.identified.graph l (observed_named g a.0 a.1 ∙ ap (λ (q : MixedGraph). q.vertices) same) e.x e.y a.2.x a.2.y sets a.2.sets
-    e.formula i.found.1.derivation i.found.1.derived hedge.hedge hedge.pair hedge.found
-procedure_alone g h s x y Graph text e a i = effect_refused (effect_lists h x y) e.x e.y text i.found.0
+    first.0 first.1 first.2 hedge.hedge hedge.pair hedge.found
+procedure_alone g h s x y Graph text e short a i = effect_refused (effect_lists h x y) e.x e.y text i.found.0
     (subst (λ l. IsEffectRefusal l text) (sym (same_effect_lists x y g h s)) a.2)
-procedure_alone g h s x y o text e a i = a
+procedure_alone g h s x y o text e short a i = a
 
 pub first_alone : (way : Way) (g h : ReadGraph) → AreSame g h → (x y : Names) (o : Outcome) (text : List ℕ) (e : PlainEffect) → EvaluateFirst way g x y o text
     → Identifies way h x y e → ⊥
-first_alone by_procedure g h s x y o text e a i = procedure_alone g h s x y o text e a i
+first_alone (by_procedure short) g h s x y o text e a i = procedure_alone g h s x y o text e short a i
 first_alone (by_adjusting back_door set) g h s x y o text e a i = adjusted_alone g h s x y o text e back_door set a.0 a.1 i
-first_alone (by_condition given) g h s x y o text e a i = conditional_alone g h s x y o text e given a.0 a.1 i
+first_alone (by_condition short given) g h s x y o text e a i = conditional_alone g h s x y o text e short given a.0 a.1 i
 
 -- ---- over the bytes of counts
 
@@ -207,8 +215,9 @@ module _ (g h : ReadGraph) (s : AreSame g h) (x y : Names) (e f : PlainEffect) (
   same_targets : f.x ≡ e.x → f.y ≡ e.y → f.given ≡ e.given → target_of f ≡ target_of e
   same_targets p q r = ap (λ (k : ℕ). target k f.y f.given) p ∙ ap (λ (k : ℕ). target e.x k f.given) q ∙ ap (λ (k : ℕ). target e.x e.y k) r
 
-  same_found : (way : Way) → IsFoundBy way g x y e → IsFoundBy way h x y f → (target_of f ≡ target_of e) × (f.formula ≡ e.formula)
-  same_found by_procedure a b =
+  same_found : (way : Way) → FixesFormula way → IsFoundBy way g x y e → IsFoundBy way h x y f → (target_of f ≡ target_of e) × (f.formula ≡ e.formula)
+  same_found (by_procedure true) fixed a b = absurd (cc fixed)
+  same_found (by_procedure false) fixed a b =
       let l = effect_lists g x y in
       let sets : AreEffectSets l f.x f.y = subst (λ k. AreEffectSets k f.x f.y) (same_effect_lists x y g h s) b.0 in
       let xs : f.x ≡ e.x = one_set l.observed l.x e.x f.x a.0.set_x sets.set_x in
@@ -220,7 +229,7 @@ module _ (g h : ReadGraph) (s : AreSame g h) (x y : Names) (e f : PlainEffect) (
         same_targets xs ys (b.1.bare ∙ sym a.1.bare),
         one_formula e.graph e.x e.y f.formula e.formula found (derived_is_identified e.graph e.x e.y e.formula a.1.derivation a.1.derived),
       )
-  same_found (by_adjusting back_door set) a b =
+  same_found (by_adjusting back_door set) fixed a b =
       let l = query_lists g x y set in
       let sets : AreSets l f.x f.y b.0 = subst (λ (k : Lists). AreSets k f.x f.y b.0) (same_query_lists x y set g h s) b.1 in
       let xs : f.x ≡ e.x = one_set l.observed l.x e.x f.x a.1.set_x sets.set_x in
@@ -230,7 +239,8 @@ module _ (g h : ReadGraph) (s : AreSame g h) (x y : Names) (e f : PlainEffect) (
         b.2.formula ∙ ap (λ (k : ℕ). adjustment_formula k f.y b.0) xs ∙ ap (λ (k : ℕ). adjustment_formula e.x k b.0) ys
             ∙ ap (λ (k : ℕ). adjustment_formula e.x e.y k) zs ∙ sym a.2.formula,
       )
-  same_found (by_condition given) a b =
+  same_found (by_condition true given) fixed a b = absurd (cc fixed)
+  same_found (by_condition false given) fixed a b =
       let l = target_lists g x y given in
       let sets : AreTargetSets l (target_of f) = subst (λ (k : Lists). AreTargetSets k (target_of f)) (identifying.same_target_lists x y given g h s) b.0 in
       let ts : target_of f ≡ target_of e = identifying.one_target l (target_of e) (target_of f) a.0 sets in
@@ -239,16 +249,16 @@ module _ (g h : ReadGraph) (s : AreSame g h) (x y : Names) (e f : PlainEffect) (
       (derived_is_conditional f.graph (target_of f) f.formula b.1.derivation b.1.derived)) in
       (ts, one_conditional e.graph (target_of e) f.formula e.formula found (derived_is_conditional e.graph (target_of e) e.formula a.1.derivation a.1.derived))
 
-same_effect : (way : Way) (g h : ReadGraph) → AreSame g h → (x y : Names) (e f : PlainEffect) → Identifies way g x y e → Identifies way h x y f → f ≡ e
-same_effect way g h s x y e f a b =
+same_effect : (way : Way) → FixesFormula way → (g h : ReadGraph) → AreSame g h → (x y : Names) (e f : PlainEffect) → Identifies way g x y e → Identifies way h x y f → f ≡ e
+same_effect way fixed g h s x y e f a b =
     let ns : f.names ≡ e.names = b.names ∙ same_observed_names g h s ∙ sym a.names in
     let qs : f.graph ≡ e.graph = sym (one_observed_graph g h s e.graph f.graph a.graph b.graph) in
-    let same = same_found g h s x y e f qs way a.found b.found in
+    let same = same_found g h s x y e f qs way fixed a.found b.found in
     ap (λ (k : List (List ℕ)). effect_for k f.graph (target_of f) f.formula) ns ∙ ap (λ (k : MixedGraph). effect_for e.names k (target_of f) f.formula) qs
     ∙ ap (λ (k : PlainTarget). effect_for e.names e.graph k f.formula) same.0 ∙ ap (λ (k : PlainFormula). effect_for e.names e.graph (target_of e) k) same.1
 
-pub evaluate_once : (bytes other : List ℕ) (is_exact zero : Bool) (way : Way) (x y : Names) (count : Option Field)
+pub evaluate_once : (bytes other : List ℕ) (is_exact zero : Bool) (way : Way) → FixesFormula way → (x y : Names) (count : Option Field)
     → OneOutcome (IsAnswerOn bytes (λ g. EvaluateAnswer is_exact zero way g x y count other))
-evaluate_once bytes other is_exact zero way x y count = one_on_graph bytes (λ g. EvaluateAnswer is_exact zero way g x y count other) (λ g h s o p text line a b.
+evaluate_once bytes other is_exact zero way fixed x y count = one_on_graph bytes (λ g. EvaluateAnswer is_exact zero way g x y count other) (λ g h s o p text line a b.
     counts_once a.0 other count is_exact zero o p text line a.2 (subst (λ (e : PlainEffect). CountsAnswer is_exact zero e count other p line)
-    (same_effect way g h s x y a.0 b.0 a.1 b.1) b.2))
+    (same_effect way fixed g h s x y a.0 b.0 a.1 b.1) b.2))

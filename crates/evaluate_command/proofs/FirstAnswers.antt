@@ -17,7 +17,7 @@ use Rattle.effect_answers.specs.Effects.{effect_lists}
 use Rattle.effect_answers.specs.Hedges.{ShowsHedge}
 use Rattle.adjust_command.specs.Answers.{texts_of, CriterionAnswer}
 use Rattle.adjust_command.proofs.Lists.{lists_refused}
-use Rattle.identify_command.specs.declared.form.Form.TheVariants.{Plain}
+use Rattle.identify_command.specs.Forms.{plain_form}
 use Rattle.identify_command.specs.Conditions.{target_lists, AreTargetSets, ShowsJoint, ConditionalAnswer}
 use Rattle.evaluate_command.specs.Answers.{ProcedureFirst, EvaluateFirst}
 use Rattle.evaluate_command.specs.Firsts.{IsHedgeReply, IsUnmetReply, IsJointReply}
@@ -33,8 +33,8 @@ refused_no_yes o e = λ y. cc (e, y)
 module _ (g : ReadGraph) (x y : Names) (q : MixedGraph) (observed : IsObservedGraph g q) (names : List (List ℕ)) (same : names ≡ observed_names g) where
   -- the hedge of an effect
   pub hedge_replied : (on of : ℕ) → AreEffectSets (effect_lists g x y) on of → (o : Outcome) (text : List ℕ) → IsHedgeReply q names on of o text
-      → EvaluateFirst by_procedure g x y o text
-  hedge_replied on of sets o text h = subst (λ (k : Outcome). ProcedureFirst g x y k text) (sym h.0)
+      → (short : Bool) → EvaluateFirst (by_procedure short) g x y o text
+  hedge_replied on of sets o text h short = subst (λ (k : Outcome). ProcedureFirst g x y k text) (sym h.0)
       (q, observed, record { x = on; y = of; sets = sets; answer = subst (λ (ns : List (List ℕ)). ShowsHedge q ns on of text) same h.1 })
 
   -- a set that doesn't meet the criterion
@@ -60,11 +60,11 @@ module _ (g : ReadGraph) (x y : Names) (q : MixedGraph) (observed : IsObservedGr
   -- a joint effect without a formula
   pub joint_replied : (given : List (List ℕ)) (t : PlainTarget) → AreTargetSets (target_lists g x y given) t → (o : Outcome) (text : List ℕ)
       → IsJointReply q names t o text
-      → EvaluateFirst (by_condition given) g x y o text
-  joint_replied given t sets o text h = (
+      → (short : Bool) → EvaluateFirst (by_condition short given) g x y o text
+  joint_replied given t sets o text h short = (
     no_yes o h.0,
-    subst (λ (k : Outcome). ConditionalAnswer Plain g x y given k text) (sym h.0)
-        (q, observed, record { target = t; sets = sets; answer = subst (λ (ns : List (List ℕ)). ShowsJoint Plain q ns t text) same h.1 }),
+    subst (λ (k : Outcome). ConditionalAnswer plain_form g x y given k text) (sym h.0)
+        (q, observed, record { target = t; sets = sets; answer = subst (λ (ns : List (List ℕ)). ShowsJoint plain_form q ns t text) same h.1 }),
   )
 
 module _ (g : ReadGraph) (x y : Names) (q : MixedGraph) (observed : IsObservedGraph g q) (l : Lists) (fault : TargetFault) (r : Reply)
@@ -80,10 +80,10 @@ module _ (g : ReadGraph) (x y : Names) (q : MixedGraph) (observed : IsObservedGr
 
   -- and under a condition
   pub condition_refused : (given : List (List ℕ)) → l ≡ target_lists g x y given → OrMemory (IsListFault l) fault
-      → EvaluateFirst (by_condition given) g x y r.outcome r.text.items
-  condition_refused given same is = (
+      → (short : Bool) → EvaluateFirst (by_condition short given) g x y r.outcome r.text.items
+  condition_refused given same is short = (
     refused_no_yes r.outcome outcome,
-    subst (λ (k : Outcome). ConditionalAnswer Plain g x y given k r.text.items) (sym outcome) (
+    subst (λ (k : Outcome). ConditionalAnswer plain_form g x y given k r.text.items) (sym outcome) (
       q,
       observed,
       record {

@@ -6,7 +6,7 @@ use Rattle.command_words.specs.Form.{Use, value_of, has_flag}
 use Rattle.command_words.proofs.OneValue.{one_listed, one_listed_or_empty}
 use Rattle.dag_reader.specs.declared.graph.ReadGraph.{ReadGraph}
 use Rattle.replies.specs.Command.{IsLeft}
-use Rattle.replies.proofs.Commands.{IsLawful, lawful_on_two_inputs}
+use Rattle.replies.proofs.Commands.{IsLawful, lawful_on_two_inputs_where}
 use Rattle.replies.specs.Observed.{Names}
 use Rattle.evaluate_command.specs.Ways.{way_for}
 use Rattle.evaluate_command.specs.Effects.{PlainEffect, Identifies}
@@ -20,7 +20,9 @@ one_way uses q r a b =
     let sets : b.set ≡ a.set = one_listed (value_of uses (codes "set")) a.set b.set a.is_set b.is_set in
     let givens : b.given ≡ a.given = one_listed_or_empty (value_of uses (codes "given")) a.given b.given a.is_given b.is_given in
     let flag = has_flag uses (codes "back-door") in
-    same_Some r.way q.way (sym b.is_way ∙ ap (λ (s : Names). way_for s b.given flag) sets ∙ ap (λ (l : List (List ℕ)). way_for a.set l flag) givens ∙ a.is_way)
+    let short = has_flag uses (codes "short") in
+    same_Some r.way q.way (sym b.is_way ∙ ap (λ (s : Names). way_for s b.given flag short) sets
+    ∙ ap (λ (l : List (List ℕ)). way_for a.set l flag short) givens ∙ a.is_way)
 
 -- the uses ask for one request
 one_request : (uses : List Use) (q r : Request) → IsRequest uses q → IsRequest uses r → r ≡ q
@@ -37,11 +39,11 @@ one_request uses q r a b = λ i. record {
 
 -- what holds of each command holds of it
 pub evaluate_lawful : IsLawful evaluate_command
-evaluate_lawful = lawful_on_two_inputs one_request
+evaluate_lawful = lawful_on_two_inputs_where one_request
     (λ q g. first_answered q.way g q.x q.y)
     (λ q g other o text a. counts_answered q.exact q.zero a.0 q.count other o text a.2)
     (λ q bytes. first_once bytes q.way q.x q.y)
-    (λ q bytes other. evaluate_once bytes other q.exact q.zero q.way q.x q.y q.count)
+    (λ q fixed bytes other. evaluate_once bytes other q.exact q.zero q.way fixed q.x q.y q.count)
     (λ q name g h same names o text a n. first_alone q.way g h same q.x q.y o text n.0 a n.1)
 
 pub evaluate_is_left : (q : Request) (g : ReadGraph) (e : PlainEffect) → Identifies q.way g q.x q.y e

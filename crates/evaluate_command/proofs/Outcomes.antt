@@ -7,7 +7,7 @@ use Rattle.replies.specs.declared.outcome.Outcome.{Outcome}
 use Rattle.replies.specs.Outcomes.{IsAnswered}
 use Rattle.replies.proofs.Outcomes.{answered}
 use Rattle.adjust_command.proofs.Outcomes.{adjust_answered}
-use Rattle.identify_command.specs.declared.form.Form.TheVariants.{Plain}
+use Rattle.identify_command.specs.Forms.{plain_form}
 use Rattle.identify_command.proofs.Outcomes.{conditional_answered}
 use Rattle.evaluate_command.specs.Answers.{ProcedureFirst, EvaluateFirst, CountsAnswer}
 use Rattle.evaluate_command.specs.Effects.{PlainEffect}
@@ -17,9 +17,9 @@ procedure_answered : (g : ReadGraph) (x y : Names) (o : Outcome) (text : List �
 procedure_answered g x y o text = answered (λ k. ProcedureFirst g x y k text) (λ h. h) (λ h. h) (λ h. h) (λ h. h) o
 
 pub first_answered : (way : Way) (g : ReadGraph) (x y : Names) (o : Outcome) (text : List ℕ) → EvaluateFirst way g x y o text → IsAnswered o
-first_answered by_procedure g x y o text h = procedure_answered g x y o text h
+first_answered (by_procedure short) g x y o text h = procedure_answered g x y o text h
 first_answered (by_adjusting back_door set) g x y o text h = adjust_answered g x y (criterion_query back_door set) o text h.1
-first_answered (by_condition given) g x y o text h = conditional_answered Plain g x y given o text h.1
+first_answered (by_condition short given) g x y o text h = conditional_answered plain_form g x y given o text h.1
 
 pub counts_answered : (exact zero : Bool) (e : PlainEffect) (count : Option Field) (bytes : List ℕ) (o : Outcome) (text : List ℕ)
     → CountsAnswer exact zero e count bytes o text → IsAnswered o

@@ -1,19 +1,12 @@
 -- What a criterion answers for a set is what `adjust` answers to its query.
-use Rattle.std.proofs.Common.{ℕ, Bool, true, false, List, inr}
+use Rattle.std.proofs.Common.{ℕ, Bool, true, false, List}
 use Rattle.mixed_graph.specs.Graphs.{MixedGraph}
 use Rattle.dag_reader.specs.declared.graph.ReadGraph.{ReadGraph}
-use Rattle.targets.specs.Targets.{Lists}
 use Rattle.replies.specs.declared.outcome.Outcome.{Outcome}
-use Rattle.replies.specs.declared.outcome.Outcome.TheVariants.{Graph}
 use Rattle.replies.specs.Observed.{Names, observed_names, query_lists, IsOfThreeSets, AnswerForSets}
 use Rattle.adjust_command.specs.Answers.{texts_of, CriterionAnswer, ListsAnswer, adjust_lists}
+use Rattle.adjust_command.proofs.Lists.{for_sets}
 use Rattle.evaluate_command.specs.Ways.{criterion_query}
-
--- the answer for three sets that lists name is that for the lists
-pub for_sets : (l : Lists) (answer : (x y z : ℕ) → Outcome → List ℕ → Type 0) (o : Outcome) (text : List ℕ) → IsOfThreeSets l (λ x y z. answer x y z o text)
-    → AnswerForSets l answer o text
-for_sets l answer Graph text h = inr h
-for_sets l answer o text h = h
 
 module _ (set : List (List ℕ)) (g : ReadGraph) (x y : Names) (q : MixedGraph) (o : Outcome) (text : List ℕ) where
   pub as_query : (back_door : Bool) → AnswerForSets (query_lists g x y set) (CriterionAnswer back_door q (texts_of (observed_names g))) o text

@@ -6,7 +6,7 @@ use Rattle.mixed_graph.specs.Graphs.{MixedGraph}
 use Rattle.finite_models.specs.Models.{FiniteModel, Fits, IsPositiveModel}
 use Rattle.dag_reader.specs.declared.graph.ReadGraph.{ReadGraph}
 use Rattle.prob_expr.specs.Values.{effect}
-use Rattle.identify_command.specs.declared.form.Form.TheVariants.{Plain}
+use Rattle.identify_command.specs.Forms.{plain_form}
 use Rattle.identify_command.specs.Conditions.{ConditionalAnswer}
 use Rattle.adjust_command.specs.Answers.{AdjustAnswer}
 use Rattle.answer_text.specs.Lines.{line_of}
@@ -42,9 +42,9 @@ ProcedureFirst g x y o text = ⊥
 
 -- the answer for which the counts aren't read: that one; or what `adjust` answers for the set, or `identify` under the condition, where that isn't yes
 abbrev pub EvaluateFirst : Way → ReadGraph → Names → Names → Outcome → List ℕ → Type 0
-EvaluateFirst by_procedure g x y o text = ProcedureFirst g x y o text
+EvaluateFirst (by_procedure short) g x y o text = ProcedureFirst g x y o text
 EvaluateFirst (by_adjusting back_door set) g x y o text = (o ≢ Yes) × AdjustAnswer g x y (criterion_query back_door set) o text
-EvaluateFirst (by_condition given) g x y o text = (o ≢ Yes) × ConditionalAnswer Plain g x y given o text
+EvaluateFirst (by_condition short given) g x y o text = (o ≢ Yes) × ConditionalAnswer plain_form g x y given o text
 
 -- ---- over a table of counts
 

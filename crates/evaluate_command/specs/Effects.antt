@@ -16,6 +16,7 @@ use Rattle.prob_expr.specs.View.{formula_view}
 use Rattle.do_derivation.specs.Plans.{PlainDerivation}
 use Rattle.identification_theory.specs.Derivations.{IsDerived}
 use Rattle.identify.specs.Answers.{IsRightFormula}
+use Rattle.short_formulas.specs.Short.{IsOrShorter}
 use Rattle.conditional_id.specs.Conditionals.{IsConditionalBySteps}
 use Rattle.conditional_id.specs.TurnLaws.{IsRightGiven}
 use Rattle.adjustment.specs.Formulas.{adjustment_formula}
@@ -78,13 +79,13 @@ pub record IsIdentified (e : PlainEffect) : Type 0 where
 
 -- ---- the three ways
 
--- Nothing is given, and the formula is that of the identification procedure, and right: some derivation turns P(y | do(x)) into it, and it names
--- ancestors of y alone. No column is read but those of x and of ancestors of y.
-pub record IsByProcedure (e : PlainEffect) : Type 0 where
+-- Nothing is given, and the formula is that of the identification procedure, or where a short one is asked for, no longer than that one; and right:
+-- some derivation turns P(y | do(x)) into it, and it names ancestors of y alone. No column is read but those of x and of ancestors of y.
+pub record IsByProcedure (short : Bool) (e : PlainEffect) : Type 0 where
   pub bare : e.given ≡ 0
   pub derivation : PlainDerivation
   pub right : IsRightFormula e.graph e.x e.y e.formula derivation
-  pub derived : IsDerived e.graph e.x e.y e.formula derivation
+  pub derived : IsOrShorter short (IsDerived e.graph e.x e.y) e.formula derivation
   pub columns : (v : ℕ) → IsTrue (has (used_in e) v) → IsTrue (has e.x v) ⊎ IsAncestor e.graph (has e.y) v
 
 -- Nothing is given, z meets the criterion, and the formula is the adjustment formula of z. No column is read but those of x, y and z.
@@ -94,19 +95,19 @@ pub record IsByAdjusting (back_door : Bool) (z : ℕ) (e : PlainEffect) : Type 0
   pub formula : e.formula ≡ adjustment_formula e.x e.y z
   pub columns : (v : ℕ) → IsTrue (has (used_in e) v) → IsTrue (has e.x v) ⊎ (IsTrue (has e.y v) ⊎ IsTrue (has z v))
 
--- The formula is that of the procedure for effects under a condition, and right: some derivation turns P(y | do(x), given) into it, and it names
--- ancestors of y and of what is given alone. No column is read but those of x and of these.
-pub record IsByCondition (e : PlainEffect) : Type 0 where
+-- The formula is that of the procedure for effects under a condition, or where a short one is asked for, no longer than that one; and right: some
+-- derivation turns P(y | do(x), given) into it, and it names ancestors of y and of what is given alone. No column is read but those of x and of these.
+pub record IsByCondition (short : Bool) (e : PlainEffect) : Type 0 where
   pub derivation : PlainDerivation
   pub right : IsRightGiven e.graph (target_of e) e.formula derivation
-  pub derived : IsConditionalBySteps e.graph (target_of e) e.formula derivation
+  pub derived : IsOrShorter short (IsConditionalBySteps e.graph (target_of e)) e.formula derivation
   pub columns : (v : ℕ) → IsTrue (has (used_in e) v) → IsTrue (has e.x v) ⊎ IsAncestor e.graph (has (union e.y e.given)) v
 
 -- the lists name the sets of the effect, and its formula is found in this way
 abbrev pub IsFoundBy : Way → ReadGraph → (x y : Names) → PlainEffect → Type 0
-IsFoundBy by_procedure g x y e = AreEffectSets (effect_lists g x y) e.x e.y × IsByProcedure e
+IsFoundBy (by_procedure short) g x y e = AreEffectSets (effect_lists g x y) e.x e.y × IsByProcedure short e
 IsFoundBy (by_adjusting back_door set) g x y e = (z : ℕ) × AreSets (query_lists g x y set) e.x e.y z × IsByAdjusting back_door z e
-IsFoundBy (by_condition given) g x y e = AreTargetSets (target_lists g x y given) (target_of e) × IsByCondition e
+IsFoundBy (by_condition short given) g x y e = AreTargetSets (target_lists g x y given) (target_of e) × IsByCondition short e
 
 -- it is the effect that the lists of x and y name in the observed graph of the one that was read, and it is identified in this way
 pub record Identifies (way : Way) (g : ReadGraph) (x y : Names) (e : PlainEffect) : Type 0 where

@@ -9,7 +9,7 @@ use Rattle.replies.specs.declared.outcome.Outcome.TheVariants.{Yes, No}
 use Rattle.replies.specs.Observed.{Names}
 use Rattle.effect_answers.specs.Hedges.{ShowsHedge}
 use Rattle.adjust_command.specs.Answers.{texts_of, CriterionAnswer}
-use Rattle.identify_command.specs.declared.form.Form.TheVariants.{Plain}
+use Rattle.identify_command.specs.Forms.{plain_form}
 use Rattle.identify_command.specs.Conditions.{ShowsJoint}
 use Rattle.evaluate_command.specs.Answers.{EvaluateFirst}
 use Rattle.evaluate_command.specs.Effects.{PlainEffect, effect_for, effect_view, IsIdentified, Identifies}
@@ -39,4 +39,4 @@ IsUnmetReply back_door q names x y z o text = (o ≢ Yes) × CriterionAnswer bac
 
 -- the text of a joint effect that can't be identified
 abbrev pub IsJointReply : MixedGraph → List (List ℕ) → PlainTarget → Outcome → List ℕ → Type 0
-IsJointReply q names t o text = (o ≡ No) × ShowsJoint Plain q names t text
+IsJointReply q names t o text = (o ≡ No) × ShowsJoint plain_form q names t text

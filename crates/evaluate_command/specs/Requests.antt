@@ -7,7 +7,7 @@ use Rattle.command_words.specs.ListViews.{names_in}
 use Rattle.evaluate_command.specs.Ways.{Way, way_of, way_for}
 use Rattle.evaluate_command.specs.declared.request.Request.{Request as CodeRequest}
 
--- `evaluate FILE COUNTS [--x L] [--y L] [--given L] [--set L] [--back-door] [--count NAME] [--exact] [--zero]`
+-- `evaluate FILE COUNTS [--x L] [--y L] [--given L] [--set L] [--back-door] [--count NAME] [--exact] [--zero] [--short]`
 abbrev pub evaluate_row : Row
 evaluate_row = record {
   name = codes "evaluate";
@@ -15,7 +15,7 @@ evaluate_row = record {
   optional = [];
   required = [];
   options = codes "x" ∷ codes "y" ∷ codes "given" ∷ codes "set" ∷ codes "count" ∷ [];
-  flags = codes "back-door" ∷ codes "exact" ∷ codes "zero" ∷ [];
+  flags = codes "back-door" ∷ codes "exact" ∷ codes "zero" ∷ codes "short" ∷ [];
 }
 
 -- a request
@@ -53,7 +53,7 @@ pub record IsRequest (uses : List Use) (r : Request) : Type 0 where
   pub is_set : values.IsListed (value_of uses (codes "set")) set
   pub given : List (List ℕ)
   pub is_given : values.IsListedOrEmpty (value_of uses (codes "given")) given
-  pub is_way : way_for set given (has_flag uses (codes "back-door")) ≡ Some r.way
+  pub is_way : way_for set given (has_flag uses (codes "back-door")) (has_flag uses (codes "short")) ≡ Some r.way
   pub count : value_of uses (codes "count") ≡ r.count
   pub exact : has_flag uses (codes "exact") ≡ r.exact
   pub zero : has_flag uses (codes "zero") ≡ r.zero

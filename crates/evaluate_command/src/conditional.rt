@@ -20,6 +20,7 @@ use identify_text::joint_answer;
 use latent_projection::Observed;
 use prob_expr::Target;
 use replies::{AskedLists, Outcome, Reply, asked_lists, refuse};
+use short_formulas::{Candidate, shortened_if};
 use std::alloc::{AllocError, Global};
 use targets::{EffectSets, find_listed_sets};
 
@@ -30,8 +31,9 @@ pub fn by_condition(
     x: Option<Vec<Vec<u8>>>,
     y: Option<Vec<Vec<u8>>>,
     given: &[Vec<u8>],
+    short: bool,
 ) -> Result<EffectOrReply, AllocError>
-    ensures { IfOk result (IsEffectOrReply (way_by_condition (texts given.now)) graph.now (option_map names_in x) (option_map names_in y)) }
+    ensures { IfOk result (IsEffectOrReply (way_by_condition short (texts given.now)) graph.now (option_map names_in x) (option_map names_in y)) }
 {
     let AskedLists { seen, x, y } = asked_lists(alloc, graph, x, y)?;
     let sets = match find_listed_sets(alloc, &graph.names, &seen.names, &x, &y, given) {
@@ -43,7 +45,7 @@ pub fn by_condition(
         y: sets.y,
         given: sets.given,
     };
-    match find_given(alloc, &seen, target)? {
+    match find_given(alloc, &seen, target, short)? {
         Found::Formula(formula) => Ok(EffectOrReply::Identified(Identified {
             seen,
             sets: EffectSets {
@@ -58,15 +60,27 @@ pub fn by_condition(
 }
 
 /// A formula for a target of the observed graph, or the answer with the joint effect that has none.
-fn find_given(alloc: Global, seen: &Observed, target: Target) -> Result<Found, AllocError>
+fn find_given(
+    alloc: Global,
+    seen: &Observed,
+    target: Target,
+    short: bool,
+) -> Result<Found, AllocError>
     requires named { length seen.now.names ≡ seen.now.graph.n }
     requires sets { AreThreeSets seen.now.graph.n (has target.x.bits) (has target.y.bits) (has target.given.bits) }
     requires some { 0 < target.y.bits }
-    ensures { IfOk result (IsFound (graph_of seen.now.graph) seen.now.names (target_view target) IsByCondition
+    ensures { IfOk result (IsFound (graph_of seen.now.graph) seen.now.names (target_view target) (IsByCondition short)
         (IsJointReply (graph_of seen.now.graph) seen.now.names (target_view target))) }
 {
     match identify_given(alloc, &seen.graph, &target)? {
-        Conditional::Formula(formula, _) => Ok(Found::Formula(formula)),
+        Conditional::Formula(formula, derivation) => {
+            let found = Candidate {
+                formula,
+                derivation,
+            };
+            let shown = shortened_if(alloc, &seen.graph, &target, short, found)?;
+            Ok(Found::Formula(shown.formula))
+        }
         Conditional::Joint {
             x,
             y,

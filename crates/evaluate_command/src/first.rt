@@ -36,10 +36,10 @@ pub fn identify_first(
     ensures { IfOk result (IsEffectOrReply (way_of way) graph.now (option_map names_in x) (option_map names_in y)) }
 {
     match way {
-        Way::Procedure => by_procedure(alloc, graph, x, y),
+        Way::Procedure { short } => by_procedure(alloc, graph, x, y, short),
         Way::Adjusting { set, back_door } => {
             by_adjusting(alloc, graph, x, y, set.as_slice(), back_door)
         }
-        Way::Given(given) => by_condition(alloc, graph, x, y, given.as_slice()),
+        Way::Given { names, short } => { by_condition(alloc, graph, x, y, names.as_slice(), short) }
     }
 }

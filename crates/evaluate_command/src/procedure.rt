@@ -19,7 +19,9 @@ use identify::{Answer, identify};
 use identify_text::hedge_answer;
 use latent_projection::Observed;
 use mixed_graph::VSet;
+use prob_expr::Target;
 use replies::{Outcome, Reply};
+use short_formulas::{Candidate, shortened_if};
 use std::alloc::{AllocError, Global};
 use targets::EffectSets;
 
@@ -29,14 +31,15 @@ pub fn by_procedure(
     graph: &ReadGraph,
     x: Option<Vec<Vec<u8>>>,
     y: Option<Vec<Vec<u8>>>,
+    short: bool,
 ) -> Result<EffectOrReply, AllocError>
-    ensures { IfOk result (IsEffectOrReply way_by_procedure graph.now (option_map names_in x) (option_map names_in y)) }
+    ensures { IfOk result (IsEffectOrReply (way_by_procedure short) graph.now (option_map names_in x) (option_map names_in y)) }
 {
     let Effect { seen, sets } = match asked_effect(alloc, graph, x, y)? {
         Asked::Effect(effect) => effect,
         Asked::Refused(reply) => return Ok(EffectOrReply::Replied(reply)),
     };
-    match find_formula(alloc, &seen, sets)? {
+    match find_formula(alloc, &seen, sets, short)? {
         Found::Formula(formula) => Ok(EffectOrReply::Identified(Identified {
             seen,
             sets,
@@ -48,17 +51,34 @@ pub fn by_procedure(
 }
 
 /// A formula for the effect of sets of the observed graph, or the answer with a hedge.
-fn find_formula(alloc: Global, seen: &Observed, sets: EffectSets) -> Result<Found, AllocError>
+fn find_formula(
+    alloc: Global,
+    seen: &Observed,
+    sets: EffectSets,
+    short: bool,
+) -> Result<Found, AllocError>
     requires named { length seen.now.names ≡ seen.now.graph.n }
     requires x { Within seen.now.graph.n (has sets.x.bits) }
     requires y { Within seen.now.graph.n (has sets.y.bits) }
     requires apart { Apart (has sets.x.bits) (has sets.y.bits) }
     requires some { 0 < sets.y.bits }
-    ensures { IfOk result (IsFound (graph_of seen.now.graph) seen.now.names (effect_on sets.x.bits sets.y.bits) IsByProcedure
+    ensures { IfOk result (IsFound (graph_of seen.now.graph) seen.now.names (effect_on sets.x.bits sets.y.bits) (IsByProcedure short)
         (IsHedgeReply (graph_of seen.now.graph) seen.now.names sets.x.bits sets.y.bits)) }
 {
     match identify(alloc, &seen.graph, sets.x, sets.y)? {
-        Answer::Formula(formula, _) => Ok(Found::Formula(formula)),
+        Answer::Formula(formula, derivation) => {
+            let target = Target {
+                x: sets.x,
+                y: sets.y,
+                given: VSet::EMPTY,
+            };
+            let found = Candidate {
+                formula,
+                derivation,
+            };
+            let shown = shortened_if(alloc, &seen.graph, &target, short, found)?;
+            Ok(Found::Formula(shown.formula))
+        }
         Answer::Hedge(hedge, pair) => Ok(Found::Reply(Reply {
             outcome: Outcome::No,
             text: hedge_answer(alloc, sets.x, sets.y, &hedge, &pair, &seen.names)?,

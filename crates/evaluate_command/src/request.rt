@@ -15,14 +15,14 @@ use command_words::typed::{
 use command_words::values::Values;
 use std::alloc::Global;
 
-/// `evaluate FILE COUNTS [--x L] [--y L] [--given L] [--set L] [--back-door] [--count NAME] [--exact] [--zero]`
+/// `evaluate FILE COUNTS [--x L] [--y L] [--given L] [--set L] [--back-door] [--count NAME] [--exact] [--zero] [--short]`
 pub const ROW: Entry = Entry {
     name: "evaluate",
     positionals: &["file", "counts"],
     optional: &[],
     required: &[],
     options: &["x", "y", "given", "set", "count"],
-    flags: &["back-door", "exact", "zero"],
+    flags: &["back-door", "exact", "zero", "short"],
 };
 
 /// What is asked for.
@@ -56,7 +56,8 @@ impl<'a> Request<'a> {
         let set = listed_names(alloc, values, "set")?;
         let given = names_or_empty(alloc, values, "given")?;
         let back_door = values.flag("back-door");
-        let Some(way) = way_from(set, given, back_door) else {
+        let short = values.flag("short");
+        let Some(way) = way_from(set, given, back_door, short) else {
             return Err(RequestFault::NotUnderstood);
         };
         Ok(Request {
@@ -72,16 +73,25 @@ impl<'a> Request<'a> {
     }
 }
 
-/// The way that is asked for: a set and a condition exclude each other, and the back-door criterion needs a set.
-fn way_from(set: Option<Vec<Vec<u8>>>, given: Vec<Vec<u8>>, back_door: bool) -> Option<Way>
-    ensures { option_map way_of result ≡ way_for (option_map names_in set) (names_in given) back_door }
+/// The way that is asked for: a set excludes a condition and a short formula, and the back-door criterion needs a set.
+fn way_from(
+    set: Option<Vec<Vec<u8>>>,
+    given: Vec<Vec<u8>>,
+    back_door: bool,
+    short: bool,
+) -> Option<Way>
+    ensures { option_map way_of result ≡ way_for (option_map names_in set) (names_in given) back_door short }
 {
     let bare = given.is_empty();
     match set {
-        Some(set) if bare => Some(Way::Adjusting { set, back_door }),
-        Some(_) => None,
+        Some(_) if !bare => None,
+        Some(_) if short => None,
+        Some(set) => Some(Way::Adjusting { set, back_door }),
         None if back_door => None,
-        None if bare => Some(Way::Procedure),
-        None => Some(Way::Given(given)),
+        None if bare => Some(Way::Procedure { short }),
+        None => Some(Way::Given {
+            names: given,
+            short,
+        }),
     }
 }

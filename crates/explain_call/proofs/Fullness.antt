@@ -216,7 +216,8 @@ module _ (g : MixedGraph) where
   row_full lemmas (Move.Rule1Out z) e x full k = term_row _ (λ a b c y h. asked_term (is_part z c) One b a z (minus c z) a b (minus c z) Sets y h) e x k
   row_full lemmas (Move.Rule2See z) e x full k = term_row _ (λ a b c y h. asked_term (is_part z b) Two (minus b z) a z c a (minus b z) (union c z) Sets y h)
       e x k
-  row_full lemmas (Move.Rule2Do z) e x full k = term_row _ (λ a b c y h. asked_term (is_part z c) Two b a z (minus c z) a (union b z) (minus c z) Sets y h) e x k
+  row_full lemmas (Move.Rule2Do z) e x full k = term_row _ (λ a b c y h. asked_term (is_part z c) Two b a z (minus c z) a (union b z) (minus c z) Sets y h)
+      e x k
   row_full lemmas (Move.Rule3In z) e x full k = term_row _ (λ a b c y h. asked_term (is_new g.vertices z a b c) Three b a z c a (union b z) c Sets y h) e x k
   row_full lemmas (Move.Rule3Out z) e x full k = term_row _ (λ a b c y h. asked_term (is_part z b) Three (minus b z) a z c a (minus b z) c Sets y h) e x k
   row_full lemmas (Move.Chain o) e x full k =

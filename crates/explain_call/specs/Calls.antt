@@ -1,8 +1,8 @@
 -- What a call that explains gives, over spans of bytes.
 use Rattle.std.specs.Prelude.{ℕ, ◌≡◌, List, [], nat_le, if◌then◌else◌, codes}
-use Rattle.spans.specs.declared.Span.{Span}
-use Rattle.spans.specs.declared.Input.{Input}
-use Rattle.spans.specs.Words.{texts}
+use Rattle.caller_memory.specs.declared.spans.Span.{Span}
+use Rattle.caller_memory.specs.declared.spans.Input.{Input}
+use Rattle.caller_memory.specs.Words.{texts}
 use Rattle.replies.specs.Outcomes as outcomes
 use Rattle.span_call.specs.declared.Sizes.{Sizes}
 use Rattle.span_call.specs.Rooms.{ShowsText}

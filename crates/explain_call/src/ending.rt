@@ -7,9 +7,9 @@ ghost use Rattle.explain_call.specs.Ends.{HoldsSecond, LacksSecond, Ends};
 
 use crate::reply::file_reply;
 use crate::requests::{Request, read_request};
+use caller_memory::spans::{Input, content_named};
 use command_words::typed::RequestFault;
 use replies::Reply;
-use spans::{Input, content_named};
 use std::alloc::Global;
 
 /// How a call ends.

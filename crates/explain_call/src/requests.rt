@@ -4,7 +4,7 @@ ghost use Rattle.std.specs.Prelude.{List, ◌≡◌, Some, IfOk, IsErrOf, map, o
 ghost use Rattle.command_words.specs.Form.{Use, row_named};
 ghost use Rattle.command_words.specs.Views.{row_of, texts_of};
 ghost use Rattle.command_words.specs.Gives.{HoldsCall};
-ghost use Rattle.command_words.specs.Readable.{IsReadable};
+ghost use Rattle.command_words.specs.Readable.{AreReadable};
 ghost use Rattle.explain_call.specs.Requests.{row_for, table, kind_of, IsRequest, AsksNothing, Asks, request_of};
 ghost use Rattle.explain_call.specs.Requests as asked;
 
@@ -207,7 +207,7 @@ fn request_found<'a>(alloc: Global, found: Words<'a>) -> Result<Request<'a>, Req
 /// The rows of the table.
 fn rows() -> &'static [Entry]
     ensures rows { map row_of result.now ≡ table }
-    ensures readable { IsReadable (map row_of result.now) }
+    ensures readable { AreReadable (map row_of result.now) }
 {
     &TABLE
 }

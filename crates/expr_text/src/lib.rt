@@ -23,4 +23,4 @@ mod writing;
 pub use laws::{the_grammar, written_is_read};
 pub use reading::{TextFault, read_expr, read_formula};
 pub use target::{target_in, target_latex, target_text};
-pub use writing::{formula_in, formula_text, latex_text, write_expr};
+pub use writing::{formula_text, latex_text, push_formula_in, write_expr};

@@ -199,8 +199,28 @@ fn put_defs(writer: &Writer, out: &mut Vec<u8>, defs: &Vec<Expr>) -> Result<(), 
     Ok(())
 }
 
+/// Appends a formula that `check` accepts, in a notation.
+pub fn push_formula_in(
+    alloc: Global,
+    out: &mut Vec<u8>,
+    notation: Notation,
+    f: &Formula,
+    names: &Names,
+) -> Result<(), AllocError>
+    requires { fault_in (length names.now) (formula_view f.now) ≡ None }
+    ensures { OnOk result (out.new.items ≡ out.old.items ++ formula_in notation names.now (formula_view f.now)) }
+{
+    let writer = Writer {
+        alloc,
+        notation,
+        names,
+    };
+    put_expr(&writer, out, &f.main)?;
+    put_defs(&writer, out, &f.defs)
+}
+
 /// A formula that `check` accepts, in a notation.
-pub fn formula_in(
+fn formula_in(
     alloc: Global,
     notation: Notation,
     f: &Formula,
@@ -210,13 +230,7 @@ pub fn formula_in(
     ensures { IfOk result (λ v. v.items ≡ formula_in notation names.now (formula_view f.now)) }
 {
     let mut out = Vec::new(alloc);
-    let writer = Writer {
-        alloc,
-        notation,
-        names,
-    };
-    put_expr(&writer, &mut out, &f.main)?;
-    put_defs(&writer, &mut out, &f.defs)?;
+    push_formula_in(alloc, &mut out, notation, f, names)?;
     Ok(out)
 }
 

@@ -1,7 +1,7 @@
 //! Rows on separations.
 
+use caller_memory::kept::KeptDiagram;
 use case_rows::{Members, Path, graph, set, text};
-use kept_graph::KeptDiagram;
 use m_separation::{open_path, reach, separated};
 use mixed_graph::{Graph, VSet};
 use serde_json::Value;

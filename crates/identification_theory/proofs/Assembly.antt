@@ -211,7 +211,8 @@ all_cited pre [] k e = tt
 all_cited pre (x ∷ a) k e = (
   nth_cited pre x.set (sets_of a) k e,
   subst (λ z. AllCited z (suc k) a) (regroup pre)
-      (all_cited (pre ++ (x.set ∷ [])) a (suc k) (let l : length (pre ++ (x.set ∷ [])) ≡ length pre + 1 = length-append pre (x.set ∷ []) in omega (arith, l, e))),
+      (all_cited (pre ++ (x.set ∷ [])) a (suc k) (let l : length (pre ++ (x.set ∷ [])) ≡ length pre + 1 = length-append pre (x.set ∷ []) in
+      omega (arith, l, e))),
 )
   where
     regroup : (xs : List ℕ) → (xs ++ (x.set ∷ [])) ++ sets_of a ≡ xs ++ (x.set ∷ sets_of a)

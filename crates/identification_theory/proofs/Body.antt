@@ -234,7 +234,8 @@ module _ (g : MixedGraph) (is_graph : IsMixedGraph g) (room : ℕ) (from : Sourc
       go false e h = subst (λ z. is_list_of (in_order t o) z ≡ true) (same_from_has (minus t (union p (one v))) (minus t p) alike) h
         where
           alike : (u : ℕ) → has (minus t (union p (one v))) u ≡ has (minus t p) u
-          alike u = (has-minus t (union p (one v)) u ∙ ap (λ b. has t u && not b) (has-or p (one v) u)) ∙ (pick (decide (has (one v) u)) ∙ sym (has-minus t p u))
+          alike u = (has-minus t (union p (one v)) u ∙ ap (λ b. has t u && not b) (has-or p (one v) u))
+              ∙ (pick (decide (has (one v) u)) ∙ sym (has-minus t p u))
             where
               pick : (has (one v) u ≡ true) ⊎ (has (one v) u ≡ false) → (has t u && not (has p u || has (one v) u)) ≡ (has t u && not (has p u))
               pick (inl q) = let z : has t u ≡ false = rw (one-is v u q) e in rw z refl

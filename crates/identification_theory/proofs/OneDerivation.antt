@@ -48,7 +48,11 @@ module _ (g : MixedGraph) (o : List ℕ) where
       (further {t = t2} {a2 = a3} {b = y} {ls = ms} d2 ne2 n2 p2 q2 b2 r2) =
       let s : t ≡ t2 = one_set t t2 _ d d2 in let s2 : a2 ≡ a3 = one_set a2 a3 _ n (subst (λ z. AreAncestorsIn g z c a3) (sym s) n2) in
       let rest = factor_one c a2 (Source.Defined k) (suc k) ls l ms m r (subst (λ z. AreFactorSteps g o c z (Source.Defined k) (suc k) ms m) (sym s2) r2) in
-      record { lemmas = ap₂ (λ (u : PlainLemma) w. u ∷ w) (lemma_same s s2 (body_one from a t x y b (subst (λ z. AreBodySteps g o from a z y) (sym s) b2))) rest.lemmas; steps = rest.steps }
+      record {
+        lemmas = ap₂ (λ (u : PlainLemma) w. u ∷ w) (lemma_same s s2 (body_one from a t x y b (subst (λ z. AreBodySteps g o from a z y) (sym s) b2)))
+            rest.lemmas;
+        steps = rest.steps;
+      }
     where
       lemma_same : {t t2 a2 a3 : ℕ} {x y : Plans} → t ≡ t2 → a2 ≡ a3 → x ≡ y
           → ◌≡◌ {A = PlainLemma} (record { set = a2; plan = Plan.Then (cut_steps (minus t a2) x) })

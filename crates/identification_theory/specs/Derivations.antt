@@ -75,7 +75,8 @@ place_list p u a t m rest = with_set (minus (minus u t) (minus (common a p) t)) 
 pub data ArePlaceLists (g : MixedGraph) (from : Source) (a t : ℕ) : ℕ → List ℕ → Lists → Type 0 where
   none : {p : ℕ} → ArePlaceLists g from a t p [] no_more
   skip : {p v : ℕ} {o : List ℕ} {ls : Lists} → has t v ≡ false → ArePlaceLists g from a t (union p (one v)) o ls → ArePlaceLists g from a t p (v ∷ o) ls
-  take : {p v m : ℕ} {o : List ℕ} {ls : Lists} → IsTrue (has t v) → IsPillow g (union (common a p) (one v)) v m → ArePlaceLists g from a t (union p (one v)) o ls
+  take : {p v m : ℕ} {o : List ℕ} {ls : Lists} → IsTrue (has t v) → IsPillow g (union (common a p) (one v)) v m
+      → ArePlaceLists g from a t (union p (one v)) o ls
       → ArePlaceLists g from a t p (v ∷ o) (more (place_list p (universe g.vertices from a) a t m (source_steps from a v m)) ls)
 
 -- one member: its list; several: the chain, and each list at its factor

@@ -39,7 +39,8 @@ module _ (g : MixedGraph) (order : List ℕ) (from : Source) (a t : ℕ) where
   pub placing_none : Placing g order from a t 0 0 [] []
   placing_none = record { factored = λ fs r. r; placed = λ ls r. r }
 
-  pub placing_skip : (p p' i : ℕ) (factors : List Expr) (lists : List (Vec Step)) → i < length order → has t (vertex i) ≡ false → p' ≡ union p (one (vertex i)) →
+  pub placing_skip : (p p' i : ℕ) (factors : List Expr) (lists : List (Vec Step)) → i < length order → has t (vertex i) ≡ false → p'
+      ≡ union p (one (vertex i)) →
       Placing g order from a t p i factors lists → Placing g order from a t p' (i + 1) factors lists
   placing_skip p p' i factors lists lt out is so_far = record {
     factored = λ fs r. so_far.factored fs (factors_at p i fs lt (AreFactors.skip out (subst (λ q. AreFactors g from a t q (drop (i + 1) order) fs) is r)));

@@ -7,8 +7,9 @@ use Rattle.targets.specs.declared.fault.TargetFault.{TargetFault}
 use Rattle.targets.specs.declared.fault.TargetFault.TheVariants.{EmptyX}
 use Rattle.targets.specs.Targets.{EffectLists, Lists, fault_in, IsFaultOfTarget, IsListFault}
 use Rattle.prob_expr.specs.Tree.{PlainTarget}
+use Rattle.identification_theory.specs.Derivations.{IsDerived}
 use Rattle.identification_theory.specs.Procedure.{IsUnidentified}
-use Rattle.conditional_id.specs.Conditionals.{IsConditionalTarget}
+use Rattle.conditional_id.specs.Conditionals.{IsConditionalTarget, IsConditionalBySteps}
 use Rattle.conditional_id.proofs.Answered.{joint_excludes_formula, derived_is_conditional}
 use Rattle.replies.specs.declared.outcome.Outcome.{Outcome}
 use Rattle.replies.specs.declared.outcome.Outcome.TheVariants.{Yes, No, Graph}
@@ -17,35 +18,44 @@ use Rattle.replies.specs.OneOutcome.{OneOutcome, IsAnswerOn}
 use Rattle.replies.proofs.OneGraph.{observed_is_mixed, observed_named}
 use Rattle.replies.proofs.OneOutcome.{IsOneOf, one_of_three, one_for_lists}
 use Rattle.replies.proofs.OneTarget.{one_set, no_fault_of, some_list, is_some_list, some_member}
+use Rattle.short_formulas.proofs.Usable.{some_first}
 use Rattle.effect_answers.specs.Effects.{effect_lists}
 use Rattle.effect_answers.proofs.Exclusive.{formula_or_hedge, effect_refused, same_effect_lists}
 use Rattle.identify_command.specs.declared.form.Form.{Form}
 use Rattle.identify_command.specs.Answers.{EffectAnswer, IdentifyAnswer}
 use Rattle.identify_command.specs.Conditions.{target_lists, AreTargetSets, IsListRefusal, ShowsConditional, ShowsJoint, ListsAnswer}
 use Rattle.identify_command.specs.Conditions.{ConditionalAnswer, IdentifyAnswerGiven}
+use Rattle.identify_command.specs.Laws.{FormsAgree}
 use Rattle.targets.proofs.Effects.{listed_outcome}
 use Rattle.identify_command.proofs.Lists.{three_sets}
 
 -- ---- where nothing is given
 
-module _ (form : Form) (q : MixedGraph) (valid : IsMixedGraph q) (l : EffectLists) (named : length l.observed ≡ q.vertices) where
-  formula_or_none : (text line : List ℕ) → EffectAnswer form q l Yes text → EffectAnswer form q l No line → ⊥
-  formula_or_none text line a b = formula_or_hedge q valid l named a.x a.y b.x b.y a.sets b.sets a.answer.formula a.answer.derivation a.answer.derived
-      b.answer.hedge b.answer.pair b.answer.found
+-- the answer in some form
+abbrev SomeEffect : MixedGraph → EffectLists → Outcome → List ℕ → Type 0
+SomeEffect q l o text = (form : Form) × EffectAnswer form q l o text
 
-  among : (o : Outcome) (text : List ℕ) → EffectAnswer form q l o text → IsOneOf Yes No Graph o
+module _ (q : MixedGraph) (valid : IsMixedGraph q) (l : EffectLists) (named : length l.observed ≡ q.vertices) where
+  formula_or_none : (f h : Form) (text line : List ℕ) → EffectAnswer f q l Yes text → EffectAnswer h q l No line → ⊥
+  formula_or_none f h text line a b =
+      let first = some_first f.short (IsDerived q a.x a.y) a.answer.formula a.answer.derivation a.answer.derived in
+      formula_or_hedge q valid l named a.x a.y b.x b.y a.sets b.sets first.0 first.1 first.2 b.answer.hedge b.answer.pair b.answer.found
+
+  among : (o : Outcome) (text : List ℕ) → SomeEffect q l o text → IsOneOf Yes No Graph o
   among Yes text h = inl refl
   among No text h = inr (inl refl)
   among Graph text h = inr (inr refl)
-  among o text h = absurd h
+  among o text h = absurd h.1
 
-  effect_once : OneOutcome (EffectAnswer form q l)
-  effect_once = one_of_three Yes No Graph (EffectAnswer form q l) among formula_or_none
-      (λ text line a r. effect_refused l a.x a.y line a.sets r) (λ text line a r. effect_refused l a.x a.y line a.sets r)
+  effect_once : OneOutcome (SomeEffect q l)
+  effect_once = one_of_three Yes No Graph (SomeEffect q l) among (λ text line a b. formula_or_none a.0 b.0 text line a.1 b.1)
+      (λ text line a r. effect_refused l a.1.x a.1.y line a.1.sets r.1) (λ text line a r. effect_refused l a.1.x a.1.y line a.1.sets r.1)
 
-bare_once : (bytes : List ℕ) (form : Form) (x y : Names) → OneOutcome (IsAnswerOn bytes (λ g. IdentifyAnswer form g x y))
-bare_once bytes form x y = one_for_lists bytes (λ g. effect_lists g x y) (λ q l. EffectAnswer form q l) (same_effect_lists x y)
-    (λ g q is. effect_once form q (observed_is_mixed g q is) (effect_lists g x y) (observed_named g q is))
+bare_once : (bytes : List ℕ) (x y : Names) → OneOutcome (IsAnswerOn bytes (λ g o text. (form : Form) × IdentifyAnswer form g x y o text))
+bare_once bytes x y o p text line a b = one_for_lists bytes (λ g. effect_lists g x y) SomeEffect (same_effect_lists x y)
+    (λ g q is. effect_once q (observed_is_mixed g q is) (effect_lists g x y) (observed_named g q is)) o p text line
+    (record { graph = a.graph; holds = a.holds; given = (a.given.1.0, a.given.1.1, (a.given.0, a.given.1.2)) })
+    (record { graph = b.graph; holds = b.holds; given = (b.given.1.0, b.given.1.1, (b.given.0, b.given.1.2)) })
 
 -- ---- where something is given
 
@@ -66,44 +76,57 @@ list_fault_of l f h = h
 refused : (l : Lists) (t : PlainTarget) (line : List ℕ) → AreTargetSets l t → IsListRefusal l line → ⊥
 refused l t line s r = no_fault_of (fault_in l) l.y some_list r.fault s.no_fault s.some_y is_some_list (list_fault_of l r.fault r.is_fault)
 
-module _ (form : Form) (q : MixedGraph) (valid : IsMixedGraph q) (l : Lists) (named : length l.observed ≡ q.vertices) where
+-- the answer in some form
+abbrev pub SomeTarget : MixedGraph → Lists → Outcome → List ℕ → Type 0
+SomeTarget q l o text = (form : Form) × ListsAnswer form q l o text
+
+module _ (q : MixedGraph) (valid : IsMixedGraph q) (l : Lists) (named : length l.observed ≡ q.vertices) where
   is_target : (t : PlainTarget) → AreTargetSets l t → IsConditionalTarget q t
   is_target t s = let sets = three_sets l q.vertices t named s in record {
     sets = sets;
     some = some_member q.vertices t.y sets.y_within (listed_outcome l t.x t.y t.given s);
   }
 
-  formula_or_joint : (t : PlainTarget) (text line : List ℕ) → AreTargetSets l t → ShowsConditional form q l.observed t text
-      → ShowsJoint form q l.observed t line → ⊥
-  formula_or_joint t text line s a b =
+  formula_or_joint : (f h : Form) (t : PlainTarget) (text line : List ℕ) → AreTargetSets l t → ShowsConditional f q l.observed t text
+      → ShowsJoint h q l.observed t line → ⊥
+  formula_or_joint f h t text line s a b =
       let e = b.joint in
+      let first = some_first f.short (IsConditionalBySteps q t) a.formula a.derivation a.derived in
       joint_excludes_formula q valid t (is_target t s) b.x e.left e.moved e.turned b.hedge.small.bits b.hedge.big.bits
-      (subst (λ (y : ℕ). IsUnidentified q b.x y b.hedge.small.bits b.hedge.big.bits) e.joint b.found.stop) a.formula
-      (derived_is_conditional q t a.formula a.derivation a.derived)
+      (subst (λ (y : ℕ). IsUnidentified q b.x y b.hedge.small.bits b.hedge.big.bits) e.joint b.found.stop) first.0
+      (derived_is_conditional q t first.0 first.1 first.2)
 
-  given_yes_no : (text line : List ℕ) → ListsAnswer form q l Yes text → ListsAnswer form q l No line → ⊥
-  given_yes_no text line a b = formula_or_joint a.target text line a.sets a.answer
-      (subst (λ (t : PlainTarget). ShowsJoint form q l.observed t line) (one_target l a.target b.target a.sets b.sets) b.answer)
+  given_yes_no : (f h : Form) (text line : List ℕ) → ListsAnswer f q l Yes text → ListsAnswer h q l No line → ⊥
+  given_yes_no f h text line a b = formula_or_joint f h a.target text line a.sets a.answer
+      (subst (λ (t : PlainTarget). ShowsJoint h q l.observed t line) (one_target l a.target b.target a.sets b.sets) b.answer)
 
-  given_among : (o : Outcome) (text : List ℕ) → ListsAnswer form q l o text → IsOneOf Yes No Graph o
+  given_among : (o : Outcome) (text : List ℕ) → SomeTarget q l o text → IsOneOf Yes No Graph o
   given_among Yes text h = inl refl
   given_among No text h = inr (inl refl)
   given_among Graph text h = inr (inr refl)
-  given_among o text h = absurd h
+  given_among o text h = absurd h.1
 
-  pub target_once : OneOutcome (ListsAnswer form q l)
-  target_once = one_of_three Yes No Graph (ListsAnswer form q l) given_among given_yes_no
-      (λ text line a r. refused l a.target line a.sets r) (λ text line a r. refused l a.target line a.sets r)
+  pub target_once : OneOutcome (SomeTarget q l)
+  target_once = one_of_three Yes No Graph (SomeTarget q l) given_among (λ text line a b. given_yes_no a.0 b.0 text line a.1 b.1)
+      (λ text line a r. refused l a.1.target line a.1.sets r.1) (λ text line a r. refused l a.1.target line a.1.sets r.1)
 
 pub same_target_lists : (x y : Names) (given : List (List ℕ)) (g h : ReadGraph) → AreSame g h → target_lists h x y given ≡ target_lists g x y given
 same_target_lists x y given g h s = rw (s.names, s.vertices, s.latent, s.exposures, s.outcomes) refl
 
-pub conditional_once : (bytes : List ℕ) (form : Form) (x y : Names) (given : List (List ℕ))
-    → OneOutcome (IsAnswerOn bytes (λ g. ConditionalAnswer form g x y given))
-conditional_once bytes form x y given = one_for_lists bytes (λ g. target_lists g x y given) (λ q l. ListsAnswer form q l) (same_target_lists x y given)
-    (λ g q is. target_once form q (observed_is_mixed g q is) (target_lists g x y given) (observed_named g q is))
+pub conditional_once : (bytes : List ℕ) (x y : Names) (given : List (List ℕ))
+    → OneOutcome (IsAnswerOn bytes (λ g o text. (form : Form) × ConditionalAnswer form g x y given o text))
+conditional_once bytes x y given o p text line a b = one_for_lists bytes (λ g. target_lists g x y given) SomeTarget (same_target_lists x y given)
+    (λ g q is. target_once q (observed_is_mixed g q is) (target_lists g x y given) (observed_named g q is)) o p text line
+    (record { graph = a.graph; holds = a.holds; given = (a.given.1.0, a.given.1.1, (a.given.0, a.given.1.2)) })
+    (record { graph = b.graph; holds = b.holds; given = (b.given.1.0, b.given.1.1, (b.given.0, b.given.1.2)) })
 
+-- answers in any two forms have one outcome
+pub forms_agree : FormsAgree
+forms_agree bytes x y None = bare_once bytes x y
+forms_agree bytes x y (Some []) = bare_once bytes x y
+forms_agree bytes x y (Some (n ∷ ns)) = conditional_once bytes x y (n ∷ ns)
+
+-- and so have answers in one form
 pub identify_once : (bytes : List ℕ) (form : Form) (x y given : Names) → OneOutcome (IsAnswerOn bytes (λ g. IdentifyAnswerGiven form g x y given))
-identify_once bytes form x y None = bare_once bytes form x y
-identify_once bytes form x y (Some []) = bare_once bytes form x y
-identify_once bytes form x y (Some (n ∷ ns)) = conditional_once bytes form x y (n ∷ ns)
+identify_once bytes form x y given o p text line a b = forms_agree bytes x y given o p text line
+    (record { graph = a.graph; holds = a.holds; given = (form, a.given) }) (record { graph = b.graph; holds = b.holds; given = (form, b.given) })

@@ -5,18 +5,25 @@ use Rattle.std.proofs.lemmas.Option.{same_Some}
 use Rattle.command_words.specs.Form.{Use, value_of, has_flag}
 use Rattle.command_words.proofs.OneValue.{one_listed}
 use Rattle.identify_command.specs.declared.form.Form.{Form}
-use Rattle.identify_command.specs.Forms.{IsForm}
+use Rattle.identify_command.specs.declared.form.Writing.{Writing}
+use Rattle.identify_command.specs.Forms.{IsForm, IsWriting}
 use Rattle.replies.proofs.Commands.{IsLawful, lawful_on_file}
 use Rattle.identify_command.specs.Requests.{Request, IsRequest}
 use Rattle.identify_command.specs.Command.{identify_command}
 use Rattle.identify_command.proofs.Outcomes.{given_answered}
 use Rattle.identify_command.proofs.Exclusive.{identify_once}
 
-one_form : (certificate latex : Bool) (f h : Form) → IsForm certificate latex f → IsForm certificate latex h → h ≡ f
-one_form false false f h a b = b ∙ sym a
-one_form true false f h a b = b ∙ sym a
-one_form false true f h a b = b ∙ sym a
-one_form true true f h a b = absurd a
+one_writing : (certificate latex : Bool) (f h : Writing) → IsWriting certificate latex f → IsWriting certificate latex h → h ≡ f
+one_writing false false f h a b = b ∙ sym a
+one_writing true false f h a b = b ∙ sym a
+one_writing false true f h a b = b ∙ sym a
+one_writing true true f h a b = absurd a
+
+one_form : (certificate latex short : Bool) (f h : Form) → IsForm certificate latex short f → IsForm certificate latex short h → h ≡ f
+one_form certificate latex short f h a b = λ i. record {
+  writing = one_writing certificate latex f.writing h.writing a.writing b.writing i;
+  short = (b.short ∙ sym a.short) i;
+}
 
 -- the uses ask for one request
 one_request : (uses : List Use) (q r : Request) → IsRequest uses q → IsRequest uses r → r ≡ q
@@ -25,7 +32,7 @@ one_request uses q r a b = λ i. record {
   x = one_listed (value_of uses (codes "x")) q.x r.x a.x b.x i;
   y = one_listed (value_of uses (codes "y")) q.y r.y a.y b.y i;
   given = one_listed (value_of uses (codes "given")) q.given r.given a.given b.given i;
-  form = one_form (has_flag uses (codes "certificate")) (has_flag uses (codes "latex")) q.form r.form a.form b.form i;
+  form = one_form (has_flag uses (codes "certificate")) (has_flag uses (codes "latex")) (has_flag uses (codes "short")) q.form r.form a.form b.form i;
 }
 
 -- what holds of each command holds of it

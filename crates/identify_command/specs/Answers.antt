@@ -12,57 +12,59 @@ use Rattle.hedge.specs.declared.hedge.Hedge.{Hedge}
 use Rattle.counter_models.specs.declared.counter_pair.CounterPair.{CounterPair}
 use Rattle.identification_theory.specs.Derivations.{IsDerived}
 use Rattle.identify.specs.Answers.{IsRightFormula}
+use Rattle.short_formulas.specs.Short.{IsOrShorter}
 use Rattle.answer_text.specs.declared.signs.Notation.TheVariants as notations
 use Rattle.identify_text.specs.Answers.{answer_in}
 use Rattle.identify_text.specs.PairLines.{hedge_answer}
 use Rattle.effect_answers.specs.Effects.{effect_lists, IsOfSets, IsEffectRefusal}
 use Rattle.effect_answers.specs.Hedges.{IsFoundHedge}
-use Rattle.effect_certificates.specs.Lines.{certificate_line}
+use Rattle.effect_answers.specs.Lines.{certificate_line}
 use Rattle.certificate.specs.Plain.{PlainCertificate, hedge_view}
 use Rattle.certificate.specs.Plain as plain
 use Rattle.certificate.specs.Reading.{certificate_in}
 use Rattle.certificate_writing.specs.Written.{certificate_text}
 use Rattle.identify_command.specs.declared.form.Form.{Form}
-use Rattle.identify_command.specs.declared.form.Form.TheVariants.{Plain, Certificate, Latex}
+use Rattle.identify_command.specs.declared.form.Writing.{Writing}
+use Rattle.identify_command.specs.declared.form.Writing.TheVariants.{Plain, Certificate, Latex}
 
 -- ---- texts
 
 -- the text of a formula for a target: the formula, its certificate or its LaTeX
-abbrev pub formula_text : Form → List (List ℕ) → PlainTarget → PlainFormula → PlainDerivation → List ℕ
+abbrev pub formula_text : Writing → List (List ℕ) → PlainTarget → PlainFormula → PlainDerivation → List ℕ
 formula_text Plain names t f d = answer_in notations.Plain names t f
 formula_text Certificate names t f d = certificate_line names (plain.formula t f d)
 formula_text Latex names t f d = answer_in notations.Latex names t f
 
 -- the text of a hedge for the effect of x on y: the hedge with its two models, or its certificate
-abbrev pub hedge_text : Form → List (List ℕ) → (x y : ℕ) → Hedge → CounterPair → List ℕ
+abbrev pub hedge_text : Writing → List (List ℕ) → (x y : ℕ) → Hedge → CounterPair → List ℕ
 hedge_text Plain names x y h pair = hedge_answer names x y h pair
 hedge_text Certificate names x y h pair = certificate_line names (plain.hedge (effect_on x y) (hedge_view h))
 hedge_text Latex names x y h pair = hedge_answer names x y h pair
 
--- where the form is the certificate, this one is read back from its text
-abbrev pub ReadsBack : Form → List (List ℕ) → PlainCertificate → Type 0
-ReadsBack form names c = form ≡ Certificate → certificate_in names (certificate_text names c) ≡ Ok c
+-- where a certificate is written, this one is read back from its text
+abbrev pub ReadsBack : Writing → List (List ℕ) → PlainCertificate → Type 0
+ReadsBack writing names c = writing ≡ Certificate → certificate_in names (certificate_text names c) ≡ Ok c
 
 -- ---- answers for sets of the observed graph q
 
 -- Yes: the formula is accepted by the check of formulas, has no intervention, equals P(y | do(x)) in each positive model that fits q, and names
 -- ancestors of y alone; the derivation turns the effect into it.
--- Both are those of the identification procedure, and the text shows them.
+-- Both are those of the identification procedure, or where a short formula is asked for, the formula is no longer than that one; and the text shows them.
 pub record ShowsFormula (form : Form) (q : MixedGraph) (names : List (List ℕ)) (x y : ℕ) (text : List ℕ) : Type 0 where
   pub formula : PlainFormula
   pub derivation : PlainDerivation
   pub right : IsRightFormula q x y formula derivation
-  pub derived : IsDerived q x y formula derivation
-  pub prints : text ≡ formula_text form names (effect_on x y) formula derivation
-  pub reads_back : ReadsBack form names (plain.formula (effect_on x y) formula derivation)
+  pub derived : IsOrShorter form.short (IsDerived q x y) formula derivation
+  pub prints : text ≡ formula_text form.writing names (effect_on x y) formula derivation
+  pub reads_back : ReadsBack form.writing names (plain.formula (effect_on x y) formula derivation)
 
 -- No: it is a hedge for the effect of x on y with two models that show that there is no formula, and the text shows it.
 pub record ShowsHedge (form : Form) (q : MixedGraph) (names : List (List ℕ)) (x y : ℕ) (text : List ℕ) : Type 0 where
   pub hedge : Hedge
   pub pair : CounterPair
   pub found : IsFoundHedge q x y hedge pair
-  pub prints : text ≡ hedge_text form names x y hedge pair
-  pub reads_back : ReadsBack form names (plain.hedge (effect_on x y) (hedge_view hedge))
+  pub prints : text ≡ hedge_text form.writing names x y hedge pair
+  pub reads_back : ReadsBack form.writing names (plain.hedge (effect_on x y) (hedge_view hedge))
 
 -- the answer for the sets x and y
 abbrev pub SetsAnswer : Form → MixedGraph → List (List ℕ) → (x y : ℕ) → Outcome → List ℕ → Type 0

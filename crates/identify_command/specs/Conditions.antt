@@ -21,13 +21,15 @@ use Rattle.conditional_id.specs.TurnLaws.{IsRightGiven}
 use Rattle.conditional_id.specs.Settled.{IsSettled}
 use Rattle.conditional_id.specs.HedgeLaws.{IsFixed}
 use Rattle.conditional_id.specs.Answers.{IsJointEffect}
+use Rattle.short_formulas.specs.Short.{IsOrShorter}
 use Rattle.identify_text.specs.PairLines.{joint_answer}
 use Rattle.effect_answers.specs.Hedges.{IsFoundHedge}
 use Rattle.certificate.specs.Plain.{hedge_view}
 use Rattle.certificate.specs.Plain as plain
 use Rattle.identify_command.specs.declared.form.Form.{Form}
-use Rattle.identify_command.specs.declared.form.Form.TheVariants.{Plain, Certificate, Latex}
-use Rattle.effect_certificates.specs.Lines.{certificate_line}
+use Rattle.effect_answers.specs.Lines.{certificate_line}
+use Rattle.identify_command.specs.declared.form.Writing.{Writing}
+use Rattle.identify_command.specs.declared.form.Writing.TheVariants.{Plain, Certificate, Latex}
 use Rattle.identify_command.specs.Answers.{formula_text, ReadsBack, IdentifyAnswer}
 
 -- ---- lists
@@ -49,21 +51,22 @@ pub record IsListRefusal (l : Lists) (line : List ℕ) : Type 0 where
 -- ---- answers for a target in the observed graph q
 
 -- the text of the joint effect of x on y into which a target turns: its hedge with the two models, or the hedge's certificate
-abbrev pub joint_text : Form → List (List ℕ) → PlainTarget → (x y : ℕ) → Hedge → CounterPair → List ℕ
+abbrev pub joint_text : Writing → List (List ℕ) → PlainTarget → (x y : ℕ) → Hedge → CounterPair → List ℕ
 joint_text Plain names t x y h pair = joint_answer names t x y h pair
 joint_text Certificate names t x y h pair = certificate_line names (plain.hedge (effect_on x y) (hedge_view h))
 joint_text Latex names t x y h pair = joint_answer names t x y h pair
 
 -- Yes: the formula is accepted by the check of formulas, has no intervention, equals P(y | do(x), given) in each positive model that fits q, and
 -- names ancestors of y and given alone; the derivation turns the effect into it.
--- Both are those of the procedure for conditional effects (Shpitser and Pearl), and the text shows them.
+-- Both are those of the procedure for conditional effects (Shpitser and Pearl), or where a short formula is asked for, the formula is no longer than
+-- that one; and the text shows them.
 pub record ShowsConditional (form : Form) (q : MixedGraph) (names : List (List ℕ)) (t : PlainTarget) (text : List ℕ) : Type 0 where
   pub formula : PlainFormula
   pub derivation : PlainDerivation
   pub right : IsRightGiven q t formula derivation
-  pub derived : IsConditionalBySteps q t formula derivation
-  pub prints : text ≡ formula_text form names t formula derivation
-  pub reads_back : ReadsBack form names (plain.formula t formula derivation)
+  pub derived : IsOrShorter form.short (IsConditionalBySteps q t) formula derivation
+  pub prints : text ≡ formula_text form.writing names t formula derivation
+  pub reads_back : ReadsBack form.writing names (plain.formula t formula derivation)
 
 -- No: observations turn the target into an effect of x on the target's y and what is left, which is equal to it in each positive model that fits q.
 -- For the joint effect of both there is a hedge, with two models that show that there is no formula for it, and the text shows it.
@@ -82,8 +85,8 @@ pub record ShowsJoint (form : Form) (q : MixedGraph) (names : List (List ℕ)) (
   pub settled_is : IsTrue settled ↔ IsSettled q x joint.left
   pub differs : IsTrue settled → DifferOnTarget (meaning q pair.first) (meaning q pair.second) t
   pub found : IsFoundHedge q x y hedge pair
-  pub prints : text ≡ joint_text form names t x y hedge pair
-  pub reads_back : ReadsBack form names (plain.hedge (effect_on x y) (hedge_view hedge))
+  pub prints : text ≡ joint_text form.writing names t x y hedge pair
+  pub reads_back : ReadsBack form.writing names (plain.hedge (effect_on x y) (hedge_view hedge))
 
 -- the answer for a target
 abbrev pub TargetAnswer : Form → MixedGraph → List (List ℕ) → PlainTarget → Outcome → List ℕ → Type 0

@@ -1,11 +1,21 @@
--- The form of an answer, by its two flags.
+-- The form of an answer, by its three flags.
 use Rattle.std.specs.Prelude.{◌≡◌, Bool, true, false}
+use Rattle.identify_command.specs.declared.form.Writing.{Writing}
+use Rattle.identify_command.specs.declared.form.Writing.TheVariants.{Plain, Certificate, Latex}
 use Rattle.identify_command.specs.declared.form.Form.{Form}
-use Rattle.identify_command.specs.declared.form.Form.TheVariants.{Plain, Certificate, Latex}
 
--- the form of an answer, by its two flags, of which one stands at most
-abbrev pub IsForm : (certificate latex : Bool) → Form → Type 0
-IsForm false false f = f ≡ Plain
-IsForm true false f = f ≡ Certificate
-IsForm false true f = f ≡ Latex
-IsForm true true f = ⊥
+-- how an answer is written, by two flags, of which one stands at most
+abbrev pub IsWriting : (certificate latex : Bool) → Writing → Type 0
+IsWriting false false w = w ≡ Plain
+IsWriting true false w = w ≡ Certificate
+IsWriting false true w = w ≡ Latex
+IsWriting true true w = ⊥
+
+-- the form of an answer: how it is written, and whether a short formula is asked for
+pub record IsForm (certificate latex is_short : Bool) (f : Form) : Type 0 where
+  pub writing : IsWriting certificate latex f.writing
+  pub short : f.short ≡ is_short
+
+-- the form in which an answer is plain text, with the formula of the procedure
+abbrev pub plain_form : Form
+plain_form = record { writing = Plain; short = false }

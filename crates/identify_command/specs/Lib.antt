@@ -3,3 +3,4 @@ pub mod Conditions
 pub mod Requests
 pub mod Forms
 pub mod Command
+pub mod Laws

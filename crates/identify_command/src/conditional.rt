@@ -13,10 +13,11 @@ use crate::form::Form;
 use crate::texts::{formula_text, joint_text};
 use conditional_id::{Conditional, identify_given};
 use dag_reader::ReadGraph;
-use effect_certificates::sized;
+use effect_answers::certificates::sized;
 use latent_projection::Observed;
 use prob_expr::Target;
 use replies::{AskedLists, Outcome, Reply, asked_lists, refuse};
+use short_formulas::{Candidate, shortened_if};
 use std::alloc::{AllocError, Global};
 use targets::{EffectSets, find_listed_sets};
 
@@ -58,10 +59,24 @@ fn decide_given(
     ensures { IfOk result (λ r. TargetAnswer form (graph_of seen.now.graph) seen.now.names (target_view target) r.outcome r.text.items) }
 {
     match identify_given(alloc, &seen.graph, &target)? {
-        Conditional::Formula(formula, derivation) => Ok(Reply {
-            outcome: Outcome::Yes,
-            text: formula_text(alloc, &seen.names, target, formula, derivation, form)?,
-        }),
+        Conditional::Formula(formula, derivation) => {
+            let found = Candidate {
+                formula,
+                derivation,
+            };
+            let shown = shortened_if(alloc, &seen.graph, &target, form.short, found)?;
+            Ok(Reply {
+                outcome: Outcome::Yes,
+                text: formula_text(
+                    alloc,
+                    &seen.names,
+                    target,
+                    shown.formula,
+                    shown.derivation,
+                    form.writing,
+                )?,
+            })
+        }
         Conditional::Joint {
             x,
             y,
@@ -73,7 +88,15 @@ fn decide_given(
             let sets = EffectSets { x, y };
             Ok(Reply {
                 outcome: Outcome::No,
-                text: joint_text(alloc, &seen.names, &target, sets, hedge, &pair, form)?,
+                text: joint_text(
+                    alloc,
+                    &seen.names,
+                    &target,
+                    sets,
+                    hedge,
+                    &pair,
+                    form.writing,
+                )?,
             })
         }
     }

@@ -1,10 +1,18 @@
-/// The form of an answer.
+/// How an answer is written.
 #[derive(Clone, Copy, Debug, PartialEq, Eq)]
-pub enum Form {
+pub enum Writing {
     /// The formula, or the hedge with its two models.
     Plain,
     /// The certificate.
     Certificate,
     /// LaTeX.
     Latex,
+}
+
+/// The form of an answer.
+#[derive(Clone, Copy, Debug, PartialEq, Eq)]
+pub struct Form {
+    pub writing: Writing,
+    /// Whether a short formula is asked for.
+    pub short: bool,
 }

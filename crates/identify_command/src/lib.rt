@@ -6,7 +6,9 @@ mod form;
 mod reply;
 mod request;
 mod texts;
+mod theory;
 
-pub use form::Form;
+pub use form::{Form, Writing};
 pub use reply::identify_reply;
 pub use request::{ROW, Request};
+pub use theory::laws;

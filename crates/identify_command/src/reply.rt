@@ -12,11 +12,12 @@ use crate::conditional::conditional_reply;
 use crate::form::Form;
 use crate::texts::{formula_text, hedge_text, target_of};
 use dag_reader::ReadGraph;
+use effect_answers::certificates::sized;
 use effect_answers::{Asked, asked_effect};
-use effect_certificates::sized;
 use identify::{Answer, identify};
 use latent_projection::Observed;
 use replies::{Outcome, Reply};
+use short_formulas::{Candidate, shortened_if};
 use std::alloc::{AllocError, Global};
 use targets::EffectSets;
 
@@ -70,22 +71,30 @@ fn decide(alloc: Global, seen: &Observed, sets: EffectSets, form: Form) -> Resul
     ensures { IfOk result (λ r. SetsAnswer form (graph_of seen.now.graph) seen.now.names sets.x.bits sets.y.bits r.outcome r.text.items) }
 {
     match identify(alloc, &seen.graph, sets.x, sets.y)? {
-        Answer::Formula(formula, derivation) => Ok(Reply {
-            outcome: Outcome::Yes,
-            text: formula_text(
-                alloc,
-                &seen.names,
-                target_of(sets),
+        Answer::Formula(formula, derivation) => {
+            let found = Candidate {
                 formula,
                 derivation,
-                form,
-            )?,
-        }),
+            };
+            let target = target_of(sets);
+            let shown = shortened_if(alloc, &seen.graph, &target, form.short, found)?;
+            Ok(Reply {
+                outcome: Outcome::Yes,
+                text: formula_text(
+                    alloc,
+                    &seen.names,
+                    target,
+                    shown.formula,
+                    shown.derivation,
+                    form.writing,
+                )?,
+            })
+        }
         Answer::Hedge(hedge, pair) => {
             sized(&hedge);
             Ok(Reply {
                 outcome: Outcome::No,
-                text: hedge_text(alloc, &seen.names, sets, hedge, &pair, form)?,
+                text: hedge_text(alloc, &seen.names, sets, hedge, &pair, form.writing)?,
             })
         }
     }

@@ -4,23 +4,23 @@ ghost use Rattle.std.specs.Prelude.{◌≡◌, List, IfOk, IsErrOf};
 ghost use Rattle.command_words.specs.Form.{Use};
 ghost use Rattle.command_words.specs.Gives.{HoldsCall};
 ghost use Rattle.std.specs.Prelude.{IfSome, IfNone};
-ghost use Rattle.identify_command.specs.Forms.{IsForm};
-ghost use Rattle.identify_command.specs.declared.form.Form as asked;
+ghost use Rattle.identify_command.specs.Forms.{IsWriting};
+ghost use Rattle.identify_command.specs.declared.form.Writing as asked;
 
-use crate::form::Form;
+use crate::form::{Form, Writing};
 use command_words::forms::Entry;
 use command_words::typed::{RequestFault, Subject, listed_names};
 use command_words::values::Values;
 use std::alloc::Global;
 
-/// `identify FILE [--x L] [--y L] [--given L] [--certificate] [--latex]`
+/// `identify FILE [--x L] [--y L] [--given L] [--certificate] [--latex] [--short]`
 pub const ROW: Entry = Entry {
     name: "identify",
     positionals: &["file"],
     optional: &[],
     required: &[],
     options: &["x", "y", "given"],
-    flags: &["certificate", "latex"],
+    flags: &["certificate", "latex", "short"],
 };
 
 /// What is asked for.
@@ -45,7 +45,8 @@ impl<'a> Request<'a> {
     {
         let certificate = values.flag("certificate");
         let latex = values.flag("latex");
-        let Some(form) = read_form(certificate, latex) else {
+        let short = values.flag("short");
+        let Some(writing) = read_writing(certificate, latex) else {
             return Err(RequestFault::NotUnderstood);
         };
         let Subject { file, x, y } = Subject::read(alloc, values)?;
@@ -55,20 +56,20 @@ impl<'a> Request<'a> {
             x,
             y,
             given,
-            form,
+            form: Form { writing, short },
         })
     }
 }
 
-/// The form of an answer, where at most one is asked for.
-fn read_form(certificate: bool, latex: bool) -> Option<Form>
-    ensures some { IfSome result (λ f. IsForm certificate latex f) }
-    ensures none { IfNone result ((f : asked.Form) → IsForm certificate latex f → ⊥) }
+/// How an answer is written, where at most one way is asked for.
+fn read_writing(certificate: bool, latex: bool) -> Option<Writing>
+    ensures some { IfSome result (λ w. IsWriting certificate latex w) }
+    ensures none { IfNone result ((w : asked.Writing) → IsWriting certificate latex w → ⊥) }
 {
     match (certificate, latex) {
-        (false, false) => Some(Form::Plain),
-        (true, false) => Some(Form::Certificate),
-        (false, true) => Some(Form::Latex),
+        (false, false) => Some(Writing::Plain),
+        (true, false) => Some(Writing::Certificate),
+        (false, true) => Some(Writing::Latex),
         (true, true) => None,
     }
 }

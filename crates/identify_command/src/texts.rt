@@ -13,12 +13,12 @@ ghost use Rattle.certificate_writing.specs.Writable.{IsTargetWithin, IsBareTarge
 ghost use Rattle.identify_command.specs.Answers.{formula_text, hedge_text, ReadsBack};
 ghost use Rattle.identify_command.specs.Conditions.{joint_text};
 
-use crate::form::Form;
+use crate::form::Writing;
 use answer_text::Notation;
 use certificate::Certificate;
 use counter_models::CounterPair;
 use do_derivation::Derivation;
-use effect_certificates::certificate_line;
+use effect_answers::certificates::certificate_line;
 use hedge::Hedge;
 use identify_text::{answer_in, hedge_answer, joint_answer};
 use mixed_graph::{Names, VSet};
@@ -44,7 +44,7 @@ pub fn formula_text(
     target: Target,
     formula: Formula,
     derivation: Derivation,
-    form: Form,
+    writing: Writing,
 ) -> Result<Vec<u8>, AllocError>
     requires what { Within (length names.now) (has target.y.bits) }
     requires doing { Within (length names.now) (has target.x.bits) }
@@ -53,13 +53,13 @@ pub fn formula_text(
     requires formula { fault_in (length names.now) (formula_view formula) ≡ None }
     requires derivation { IsDerivationWithin (length names.now) (derivation_view derivation) }
     requires shallow { IsFormulaShallow (formula_view formula) (derivation_view derivation) }
-    ensures text { IfOk result (λ v. v.items ≡ formula_text form names.now (target_view target) (formula_view formula) (derivation_view derivation)) }
-    ensures reads_back { IfOk result (λ v. ReadsBack form names.now (formula_case (target_view target) (formula_view formula) (derivation_view derivation))) }
+    ensures text { IfOk result (λ v. v.items ≡ formula_text writing names.now (target_view target) (formula_view formula) (derivation_view derivation)) }
+    ensures reads_back { IfOk result (λ v. ReadsBack writing names.now (formula_case (target_view target) (formula_view formula) (derivation_view derivation))) }
 {
-    match form {
-        Form::Plain => answer_in(alloc, Notation::Plain, &formula, &target, names),
-        Form::Latex => answer_in(alloc, Notation::Latex, &formula, &target, names),
-        Form::Certificate => {
+    match writing {
+        Writing::Plain => answer_in(alloc, Notation::Plain, &formula, &target, names),
+        Writing::Latex => answer_in(alloc, Notation::Latex, &formula, &target, names),
+        Writing::Certificate => {
             let certificate = Certificate::Formula(target, formula, derivation);
             certificate_line(alloc, &certificate, names)
         }
@@ -73,7 +73,7 @@ pub fn hedge_text(
     sets: EffectSets,
     hedge: Hedge,
     pair: &CounterPair,
-    form: Form,
+    writing: Writing,
 ) -> Result<Vec<u8>, AllocError>
     requires x { Within (length names.now) (has sets.x.bits) }
     requires y { Within (length names.now) (has sets.y.bits) }
@@ -81,12 +81,12 @@ pub fn hedge_text(
     requires hedge { IsHedgeBelow (length names.now) hedge }
     requires models { ArePairBelow (length names.now) pair.now }
     requires data { IsHedgeWithin (length names.now) (hedge_view hedge) }
-    ensures text { IfOk result (λ v. v.items ≡ hedge_text form names.now sets.x.bits sets.y.bits hedge pair.now) }
-    ensures reads_back { IfOk result (λ v. ReadsBack form names.now (hedge_case (effect_on sets.x.bits sets.y.bits) (hedge_view hedge))) }
+    ensures text { IfOk result (λ v. v.items ≡ hedge_text writing names.now sets.x.bits sets.y.bits hedge pair.now) }
+    ensures reads_back { IfOk result (λ v. ReadsBack writing names.now (hedge_case (effect_on sets.x.bits sets.y.bits) (hedge_view hedge))) }
 {
-    match form {
-        Form::Plain | Form::Latex => hedge_answer(alloc, sets.x, sets.y, &hedge, pair, names),
-        Form::Certificate => {
+    match writing {
+        Writing::Plain | Writing::Latex => hedge_answer(alloc, sets.x, sets.y, &hedge, pair, names),
+        Writing::Certificate => {
             let certificate = Certificate::Hedge(target_of(sets), hedge);
             certificate_line(alloc, &certificate, names)
         }
@@ -101,7 +101,7 @@ pub fn joint_text(
     sets: EffectSets,
     hedge: Hedge,
     pair: &CounterPair,
-    form: Form,
+    writing: Writing,
 ) -> Result<Vec<u8>, AllocError>
     requires what { Within (length names.now) (has target.now.y.bits) }
     requires doing { Within (length names.now) (has target.now.x.bits) }
@@ -112,14 +112,14 @@ pub fn joint_text(
     requires hedge { IsHedgeBelow (length names.now) hedge }
     requires models { ArePairBelow (length names.now) pair.now }
     requires data { IsHedgeWithin (length names.now) (hedge_view hedge) }
-    ensures text { IfOk result (λ v. v.items ≡ joint_text form names.now (target_view target.now) sets.x.bits sets.y.bits hedge pair.now) }
-    ensures reads_back { IfOk result (λ v. ReadsBack form names.now (hedge_case (effect_on sets.x.bits sets.y.bits) (hedge_view hedge))) }
+    ensures text { IfOk result (λ v. v.items ≡ joint_text writing names.now (target_view target.now) sets.x.bits sets.y.bits hedge pair.now) }
+    ensures reads_back { IfOk result (λ v. ReadsBack writing names.now (hedge_case (effect_on sets.x.bits sets.y.bits) (hedge_view hedge))) }
 {
-    match form {
-        Form::Plain | Form::Latex => {
+    match writing {
+        Writing::Plain | Writing::Latex => {
             joint_answer(alloc, target, sets.x, sets.y, &hedge, pair, names)
         }
-        Form::Certificate => {
+        Writing::Certificate => {
             let certificate = Certificate::Hedge(target_of(sets), hedge);
             certificate_line(alloc, &certificate, names)
         }

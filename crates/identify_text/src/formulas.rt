@@ -10,7 +10,7 @@ ghost use Rattle.expr_text.specs.Write.{text_of};
 ghost use Rattle.identify_text.specs.Answers.{effect_term, free_beside, free_line, answer_in};
 
 use answer_text::{Notation, push_set};
-use expr_text::{formula_in, target_in, target_text};
+use expr_text::{push_formula_in, target_in, target_text};
 use mixed_graph::{Names, VSet};
 use prob_expr::{Formula, Target, free};
 use std::alloc::{AllocError, Global};
@@ -79,8 +79,7 @@ pub fn answer_in(
 {
     let mut text = target_in(alloc, notation, target, names)?;
     text.extend_from_slice(b" = ")?;
-    let formula = formula_in(alloc, notation, f, names)?;
-    text.extend_from_slice(formula.as_slice())?;
+    push_formula_in(alloc, &mut text, notation, f, names)?;
     text.push(b'\n')?;
     let free = free_beside(alloc, f, target)?;
     push_free(&mut text, names, free)?;

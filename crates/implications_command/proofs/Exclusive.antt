@@ -70,7 +70,8 @@ first_once bytes counts = one_of_three No Yes Graph (IsAnswerOn bytes (λ g. Fir
 -- ---- over the bytes of counts
 
 module _ (g h : ReadGraph) (s : AreSame g h) (p r : PlainPairs) (a : ArePairsOf g p) (b : ArePairsOf h r) (count : Option Field) (bytes : List ℕ) where
-  read_or_refused : (t : Table) (line : List ℕ) → HoldsCounts p.names (used_in p.list) count bytes t → AreRefusedCounts p.names (used_in p.list) count bytes line → ⊥
+  read_or_refused : (t : Table) (line : List ℕ) → HoldsCounts p.names (used_in p.list) count bytes t
+      → AreRefusedCounts p.names (used_in p.list) count bytes line → ⊥
   read_or_refused t line x (too_long long is) = absurd (let small = x.small in omega (arith, small, long))
   read_or_refused t line x (faulty fault short ne at is) = none-some fault (sym x.fits ∙ at)
 

@@ -55,7 +55,7 @@ fn push_cell(
     push_assignment(out, names, counts, i.a, cell[i.a as usize])?;
     out.push(b',')?;
     push_assignment(out, names, counts, i.b, cell[i.b as usize])?;
-    out.extend_from_slice(separator(i.given))?;
+    out.extend_from_slice(separator(&i.given.iter()))?;
     push_assignments(out, names, counts, i.given, cell)?;
     Ok(())
 }

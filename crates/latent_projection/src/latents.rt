@@ -21,11 +21,8 @@ pub fn project(g: &Graph, latent: VSet) -> Graph
         children: g.children,
         spouses: g.spouses,
     };
-    let mut rest = latent;
-    'vertices: while !rest.is_empty() {
-        let k = rest.lowest();
+    'vertices: for k in latent.iter() {
         graph = remove(&graph, k);
-        rest = rest.difference(VSet::one(k));
     }
     graph
 }

@@ -65,3 +65,10 @@ pub members-some : (m : ℕ) → (m ≡ 0 → ⊥) → m < 2 ^ 64 → (v : ℕ) 
 members-some m full fits = let pos : 0 < m = omega arith in
     let k = members-lowest m (trailing_zeros w64 m) (lowest_below m pos fits) (has-lowest m pos fits) (λ u i. lowest_le m u pos fits i) in
     (trailing_zeros w64 m, k.0, k.1)
+
+-- a mask of 64 bits whose list of members is empty is 0
+pub empty-members : (m : ℕ) → m < 2 ^ 64 → members_below (has m) 64 ≡ [] → m ≡ 0
+empty-members m fits none = elim (cases_eq m 0) [
+  | inl z ↦ z
+  | inr some ↦ absurd (let a = members-some m some fits in let e : a.0 ∷ a.1 ≡ [] = sym a.2 ∙ none in cc)
+]

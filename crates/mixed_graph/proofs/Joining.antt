@@ -1,37 +1,29 @@
-use Rattle.std.proofs.Common.{◌≡◌, ℕ, ◌<◌, true, false, not, ◌&&◌, ◌||◌, ◌==◌, List, get_or, inl, inr, refl, sym, ◌∙◌, IsTrue, subst, arith}
-use Rattle.std.proofs.lemmas.Bool.{cases_eq, eq-eqb, ne_eqb, or_cases, or_left, or_right}
-use Rattle.mixed_graph.specs.Bits.{has}
-use Rattle.mixed_graph.proofs.Masks.{lt_from_subset}
+-- The rows of a set's members, joined one after the other.
+use Rattle.std.proofs.Common.{◌≡◌, ℕ, Bool, true, false, ◌||◌, List, [], get_or, refl, ap, sym, subst, ◌∙◌}
+use Rattle.std.specs.List.{list_any}
+use Rattle.mixed_graph.specs.Bits.{has, members_below}
+use Rattle.mixed_graph.proofs.MemberLists.{AreMembers, members-are}
 
--- the rows of the members outside `rest` are joined, and no others
-pub record Joining (rows : List ℕ) (members rest all : ℕ) : Type 0 where
-  pub inside : (v : ℕ) → IsTrue (has rest v) → IsTrue (has members v)
-  pub sound : (u : ℕ) → IsTrue (has all u) → (v : ℕ) × IsTrue (has members v) × IsTrue (has (get_or rows v 0) u)
-  pub complete : (v u : ℕ) → IsTrue (has members v) → has rest v ≡ false → IsTrue (has (get_or rows v 0) u) → IsTrue (has all u)
+-- whether one of these vertices has u in its row
+abbrev pub in_rows : List ℕ → List ℕ → ℕ → Bool
+in_rows rows vs u = list_any (λ v. has (get_or rows v 0) u) vs
 
-pub joining_none : (rows : List ℕ) (members all : ℕ) → ((u : ℕ) → has all u ≡ false) → Joining rows members members all
-joining_none rows members all none = record {
-  inside = λ v i. i;
-  sound = λ u i. absurd (let e = none u in cc);
-  complete = λ v u i out r. absurd (let t : has members v ≡ true = i in cc);
+-- the rows that are joined, with those of the members that are left, are the rows of all
+pub record Joining (rows : List ℕ) (members : ℕ) (left : List ℕ) (all : ℕ) : Type 0 where
+  pub are : AreMembers (has members) 64 left
+  pub whole : (u : ℕ) → (has all u || in_rows rows left u) ≡ in_rows rows (members_below (has members) 64) u
+
+pub joining_none : (rows : List ℕ) (members : ℕ) (left : List ℕ) (all : ℕ) → left ≡ members_below (has members) 64 → ((u : ℕ) → has all u ≡ false)
+    → Joining rows members left all
+joining_none rows members left all whole none = record {
+  are = subst (AreMembers (has members) 64) (sym whole) (members-are (has members) 64);
+  whole = λ u. ap (λ b. b || in_rows rows left u) (none u) ∙ ap (λ vs. in_rows rows vs u) whole;
 }
 
-module _ (rows : List ℕ) (members rest rest' all all' v : ℕ) (taken : IsTrue (has rest v))
-    (rest_is : (u : ℕ) → has rest' u ≡ (has rest u && not (u == v)))
-    (all_is : (u : ℕ) → has all' u ≡ (has all u || has (get_or rows v 0) u)) where
-  pub joining_more : Joining rows members rest all → Joining rows members rest' all'
-  joining_more s = record {
-    inside = λ u i. let e = rest_is u in let k = s.inside u in grind arith;
-    sound = λ u i. elim (or_cases (has all u) (has (get_or rows v 0) u) (sym (all_is u) ∙ i)) [
-      | inl a ↦ s.sound u a
-      | inr r ↦ (v, s.inside v taken, r)
-    ];
-    complete = λ z u i out r. all_is u ∙ elim (cases_eq z v) [
-      | inl e ↦ or_right (has all u) _ (subst (λ x. IsTrue (has (get_or rows x 0) u)) e r)
-      | inr d ↦ or_left _ _ (s.complete z u i (let e = rest_is z in let n : (z == v) ≡ false = ne_eqb z v d in grind arith) r)
-    ];
-  }
-
-  pub rest_smaller : rest' < rest
-  rest_smaller = lt_from_subset rest' rest v (λ u i. let e = rest_is u in grind arith)
-      (let e = rest_is v in let t : (v == v) ≡ true = eq-eqb v v refl in grind arith) taken
+pub joined_all : (rows : List ℕ) (members all : ℕ) (left : List ℕ) → left ≡ [] → Joining rows members left all → (u : ℕ)
+    → has all u ≡ in_rows rows (members_below (has members) 64) u
+joined_all rows members all left none s u = plain (has all u) ∙ sym (ap (λ vs. has all u || in_rows rows vs u) none) ∙ s.whole u
+  where
+    plain : (b : Bool) → b ≡ (b || false)
+    plain true = refl
+    plain false = refl

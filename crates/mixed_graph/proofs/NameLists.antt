@@ -53,6 +53,10 @@ texts-insert ks owned n is absent =
     let new : list_any (λ (k : Vec ℕ). bytes_eq owned.items k.items) ks ≡ false = rw is (sym (list_any-texts (bytes_eq n) ks) ∙ absent) in
     rw (new, map-append, is) refl
 
+-- a name that isn't there would have the number of names as its index
+pub index_of-absent : (names : List (List ℕ)) (name : List ℕ) → is_named names name ≡ false → length names ≡ index_of names name
+index_of-absent names name absent = sym (position_or_len-none (bytes_eq name) names absent)
+
 -- the index of a name that isn't there is the number of names
 pub index_of-new : (ks : List (Vec ℕ)) (names : List (List ℕ)) (n : List ℕ) → texts ks ≡ names → false ≡ list_any (bytes_eq n) (texts ks) → length ks
     ≡ index_of names n

@@ -9,3 +9,4 @@ pub mod Pairs
 pub mod Reached
 pub mod Sets
 pub mod Shown
+pub mod NameBlocks

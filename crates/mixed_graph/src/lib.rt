@@ -4,6 +4,7 @@
 #![tactic(auto)]
 
 mod cycles;
+mod guesses;
 mod lists;
 mod mixed;
 mod names;
@@ -16,5 +17,5 @@ pub use lists::{Cycle, Order};
 pub use mixed::{BuildFault, Graph};
 pub use names::{AddFault, Names, is_name};
 pub use rows::{Rows, joined, reached};
-pub use sets::VSet;
+pub use sets::{MembersLeft, VSet};
 pub use text::Text;

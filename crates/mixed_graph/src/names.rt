@@ -1,11 +1,12 @@
 //! The names of vertices.
 
-ghost use Rattle.std.specs.Prelude.{◌≡◌, ◌<◌, ◌≤◌, ◌↔◌, List, ℕ, [], ◌∷◌, ◌++◌, is_some, true, false, length, IfOk, IfSome, IfNone, OnOk, OnErr, IsErrOf, IsTrue, slice_get, slice_index_or};
+ghost use Rattle.std.specs.Prelude.{◌≡◌, ◌<◌, ◌≤◌, ◌+◌, ◌↔◌, List, ℕ, [], ◌∷◌, ◌++◌, is_some, true, false, length, IfOk, IfSome, IfNone, OnOk, OnSome, OnErr, IsErrOf, IsTrue, slice_get, slice_index_or};
 ghost use Rattle.std.specs.List.{list_all};
 ghost use Rattle.std.specs.Str.{IsUtf8};
-ghost use Rattle.mixed_graph.specs.Names.{IsName, AreNames, is_named, with_name, index_of, texts, is_line_byte};
+ghost use Rattle.mixed_graph.specs.Names.{IsName, AreNames, is_named, with_name, index_of, is_line_byte};
+ghost use Rattle.mixed_graph.specs.NameBlocks.{start_of, cut, IsBlock};
 
-use indexmap::IndexSet;
+use crate::guesses::NameGuesses;
 use std::alloc::{AllocError, Global};
 use std::marker::Model;
 
@@ -22,22 +23,25 @@ pub enum AddFault {
 
 /// The names of the vertices: at most 64, each once, in the order in which they first came.
 ///
-/// Contracts see the list of the names, each as its bytes.
+/// They stand in one block of bytes, with a line feed behind each. Contracts see the list of the names, each as its bytes.
 #[derive(Drop)]
 pub struct Names {
-    alloc: Global,
-    set: IndexSet<Vec<u8>>,
+    bytes: Vec<u8>,
+    ends: [u32; 64],
+    count: u32,
+    guesses: NameGuesses,
 }
 
 impl Model for Names {
     ghost use Rattle.std.specs.Prelude.{List, ℕ};
-    ghost use Rattle.mixed_graph.specs.Names.{texts, AreNames};
+    ghost use Rattle.mixed_graph.specs.Names.{AreNames};
+    ghost use Rattle.mixed_graph.specs.NameBlocks.{cut, IsBlock};
 
     ghost Value = { List (List ℕ) };
 
-    ghost view = { λ s. texts s.set.keys };
+    ghost view = { λ s. cut s.bytes.items s.ends s.count };
 
-    ghost invariant = { λ s. AreNames (texts s.set.keys) };
+    ghost invariant = { λ s. AreNames (cut s.bytes.items s.ends s.count) × IsBlock s.bytes.items s.ends s.count };
 }
 
 impl Names {
@@ -46,8 +50,10 @@ impl Names {
         ensures { result ≡ [] }
     {
         Names {
-            alloc,
-            set: IndexSet::new(alloc),
+            bytes: Vec::new(alloc),
+            ends: [0; 64],
+            count: 0,
+            guesses: NameGuesses::new(),
         }
     }
 
@@ -55,10 +61,12 @@ impl Names {
     pub fn copy(&self) -> Result<Names, AllocError>
         ensures { IfOk result (λ names. names ≡ self.now) }
     {
-        let set = self.set.clone()?;
+        let bytes = self.bytes.clone()?;
         Ok(Names {
-            alloc: self.alloc,
-            set,
+            bytes,
+            ends: self.ends,
+            count: self.count,
+            guesses: self.guesses,
         })
     }
 
@@ -67,7 +75,7 @@ impl Names {
         ensures count { result ≡ length self.now }
         ensures names { AreNames self.now }
     {
-        self.set.len() as u32
+        self.count
     }
 
     /// The index of a name, which is added last if it is new.
@@ -84,20 +92,41 @@ impl Names {
         ensures err { OnErr result (self.new ≡ self.old) }
         ensures names { AreNames self.new }
     {
-        let index = self.set.len();
+        if let Some(index) = self.guessed(name) {
+            return Ok(index);
+        }
+        self.add_unguessed(name)
+    }
+
+    /// The same without a guess.
+    #[inline(never)]
+    fn add_unguessed(&mut self, name: &[u8]) -> Result<u8, AddFault>
+        ensures added { OnOk result (self.new ≡ with_name self.old name.now) }
+        ensures index { IfOk result (λ i. i ≡ index_of self.old name.now) }
+        ensures within { IfOk result (λ i. i < length self.new) }
+        ensures formed { OnOk result (IsName name.now) }
+        ensures not_a_name { IsErrOf result AddFault.NotAName ↔ (IsName name.now → ⊥) }
+        ensures full { IsErrOf result AddFault.Full ↔ (IsName name.now × (is_named self.old name.now ≡ false) × (length self.old ≡ 64)) }
+        ensures err { OnErr result (self.new ≡ self.old) }
+        ensures names { AreNames self.new }
+    {
+        let count = self.count;
         if !is_name(name) {
             return Err(AddFault::NotAName);
         }
-        if let Some(index) = place(&self.set, name) {
-            return Ok(index as u8);
+        if let Some(index) = self.look_up(name) {
+            self.guesses.keep(name, index);
+            return Ok(index);
         }
-        if index >= 64 {
+        if count >= 64 {
             return Err(AddFault::Full);
         }
-        let Ok(()) = put(self.alloc, &mut self.set, name) else {
+        let Ok(()) = append(&mut self.bytes, &mut self.ends, count, name) else {
             return Err(AddFault::NoMemory);
         };
-        Ok(index as u8)
+        self.count = count + 1;
+        self.guesses.keep(name, count as u8);
+        Ok(count as u8)
     }
 
     /// The index of a name that is there.
@@ -106,10 +135,41 @@ impl Names {
         ensures has { is_some result ≡ is_named self.now name.now }
         ensures names { AreNames self.now }
     {
-        match place(&self.set, name) {
-            Some(index) => Some(index as u8),
-            None => None,
+        match self.guessed(name) {
+            Some(index) => Some(index),
+            None => self.look_up(name),
         }
+    }
+
+    /// The index of a name, where the guess is right.
+    #[inline(always)]
+    fn guessed(&self, name: &[u8]) -> Option<u8>
+        ensures found { IfSome result (λ i. (i ≡ index_of self.now name.now) × (i < length self.now)) }
+        ensures has { OnSome result (is_named self.now name.now ≡ true) }
+        ensures formed { OnSome result (IsName name.now) }
+        ensures names { AreNames self.now }
+    {
+        let guess = self.guesses.guess(name);
+        if (guess as u32) < self.count && self.get(guess) == name {
+            Some(guess)
+        } else {
+            None
+        }
+    }
+
+    /// The same by all names.
+    #[inline(never)]
+    fn look_up(&self, name: &[u8]) -> Option<u8>
+        ensures found { IfSome result (λ i. (i ≡ index_of self.now name.now) × (i < length self.now)) }
+        ensures has { is_some result ≡ is_named self.now name.now }
+        ensures names { AreNames self.now }
+    {
+        for v in 0..self.count {
+            if self.get(v as u8) == name {
+                return Some(v as u8);
+            }
+        }
+        None
     }
 
     /// The name of vertex v.
@@ -118,11 +178,58 @@ impl Names {
         ensures name { slice_get self.now v ≡ Some result.now }
         ensures formed { IsName result.now }
     {
-        match self.set.get_index(v as usize) {
-            Some(name) => name.as_slice(),
-            None => unreachable!(),
-        }
+        let start = start_of(&self.ends, v);
+        let end = self.ends[v as usize] as usize;
+        &self.bytes[start..end]
     }
+}
+
+/// Where name v begins.
+fn start_of(ends: &[u32; 64], v: u8) -> usize
+    requires { v < 64 }
+    ensures { result ≡ start_of ends.now v }
+{
+    if v == 0 {
+        0
+    } else {
+        ends[v as usize - 1] as usize + 1
+    }
+}
+
+/// Appends a name with a line feed behind it.
+fn append(
+    bytes: &mut Vec<u8>,
+    ends: &mut [u32; 64],
+    count: u32,
+    name: &[u8],
+) -> Result<(), AllocError>
+    requires block { IsBlock bytes.old.items ends.old count }
+    requires room { count < 64 }
+    ensures ok { OnOk result (cut bytes.new.items ends.new (count + 1) ≡ cut bytes.old.items ends.old count ++ name.now ∷ []) }
+    ensures block { OnOk result (IsBlock bytes.new.items ends.new (count + 1)) }
+    ensures err { OnErr result ((bytes.new.items ≡ bytes.old.items) × (ends.new ≡ ends.old)) }
+{
+    let start = bytes.len();
+    let Ok(end) = u32::try_from(start + name.len()) else {
+        return Err(AllocError);
+    };
+    append_line(bytes, name)?;
+    ends[count as usize] = end;
+    Ok(())
+}
+
+/// Appends bytes and a line feed; without memory nothing.
+fn append_line(bytes: &mut Vec<u8>, name: &[u8]) -> Result<(), AllocError>
+    ensures ok { OnOk result (bytes.new.items ≡ bytes.old.items ++ (name.now ++ 10 ∷ [])) }
+    ensures err { OnErr result (bytes.new.items ≡ bytes.old.items) }
+{
+    let start = bytes.len();
+    bytes.extend_from_slice(name)?;
+    if bytes.push(b'\n').is_err() {
+        bytes.truncate(start);
+        return Err(AllocError);
+    }
+    Ok(())
 }
 
 /// Whether the bytes have the form of a name: UTF-8, not empty, and without a quotation mark or a line break.
@@ -152,23 +259,4 @@ fn is_line(bytes: &[u8]) -> bool
     bytes
         .iter()
         .all(|b| !(*b == b'"' || *b == b'\r' || *b == b'\n'))
-}
-
-/// Where a name is.
-fn place(set: &IndexSet<Vec<u8>>, name: &[u8]) -> Option<usize>
-    ensures found { IfSome result (λ i. (i ≡ index_of (texts set.now.keys) name.now) × (i < length set.now.keys)) }
-    ensures has { is_some result ≡ is_named (texts set.now.keys) name.now }
-{
-    set.get_index_of(name)
-}
-
-/// Adds a name that isn't there.
-fn put(alloc: Global, set: &mut IndexSet<Vec<u8>>, name: &[u8]) -> Result<(), AllocError>
-    requires { is_named (texts set.old.keys) name.now ≡ false }
-    ensures ok { OnOk result (texts set.new.keys ≡ texts set.old.keys ++ name.now ∷ []) }
-    ensures err { OnErr result (set.new.keys ≡ set.old.keys) }
-{
-    let owned = Vec::from_slice(alloc, name)?;
-    set.insert(owned)?;
-    Ok(())
 }

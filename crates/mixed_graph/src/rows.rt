@@ -14,11 +14,8 @@ pub fn joined(rows: &Rows, members: VSet) -> VSet
     ensures { (u : ℕ) → IsTrue (has result.bits u) ↔ ((v : ℕ) × IsTrue (has members.bits v) × IsTrue (has (slice_index rows.now v) u)) }
 {
     let mut all = VSet::empty();
-    let mut rest = members;
-    'each: while !rest.is_empty() {
-        let v = rest.lowest();
+    'each: for v in members.iter() {
         all = all.union(VSet::row(rows, v));
-        rest = rest.difference(VSet::one(v));
     }
     all
 }

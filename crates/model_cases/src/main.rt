@@ -37,6 +37,7 @@ fn answer(alloc: Global, row: &Value) -> Option<String> {
         "factor" => factors::factor_row(alloc, row),
         "effect" => identifying::effect_row(alloc, row),
         "conditional" => conditioning::conditional_row(alloc, row),
+        "short" => conditioning::short_row(alloc, row),
         "surrogate" => surrogating::surrogate_row(alloc, row),
         "two models" => identifying::two_models_row(alloc, row),
         "weight in a built model" => identifying::built_weight_row(alloc, row),

@@ -5,8 +5,8 @@ use Rattle.dag_reader.specs.declared.graph.ReadGraph.{ReadGraph}
 use Rattle.replies.specs.declared.outcome.Outcome.{Outcome}
 
 -- A command: what it is asked for, and when uses of its words ask for that; its inputs, where it has them;
--- and its answers, by the words alone, on the graph of the file where that alone decides, and on the graph and the bytes of the second input, where
--- the graph is accepted for it.
+-- its answers, by the words alone, on the graph of the file where that alone decides, and on the graph and the bytes of the second input, where the
+-- graph is accepted for it; and for which requests the latter have one outcome, whatever the program finds on the graph.
 pub record CommandForm : Type 1 where
   pub Request : Type 0
   pub asks : List Use → Request → Type 0
@@ -16,6 +16,7 @@ pub record CommandForm : Type 1 where
   pub by_graph : Request → ReadGraph → Outcome → List ℕ → Type 0
   pub continues : Request → ReadGraph → Type 0
   pub by_both : Request → ReadGraph → List ℕ → Outcome → List ℕ → Type 0
+  pub is_fixed : Request → Type 0
 
 -- a command without an input
 abbrev pub on_words : (Request : Type 0) → (List Use → Request → Type 0) → (Request → Outcome → List ℕ → Type 0) → CommandForm
@@ -28,6 +29,7 @@ on_words Request asks answer = record {
   by_graph = λ q g o text. ⊥;
   continues = λ q g. ⊥;
   by_both = λ q g other o text. ⊥;
+  is_fixed = λ q. Unit {0};
 }
 
 -- a command on the graph of a file
@@ -41,13 +43,14 @@ on_file Request asks file answer = record {
   by_graph = answer;
   continues = λ q g. ⊥;
   by_both = λ q g other o text. ⊥;
+  is_fixed = λ q. Unit {0};
 }
 
--- a command on the graph of a file and on a second input
-abbrev pub on_two_inputs : (Request : Type 0) → (List Use → Request → Type 0) → (Request → Text) → (Request → Option Text)
+-- a command on the graph of a file and on a second input, some of whose requests are fixed
+abbrev pub on_two_inputs_where : (Request : Type 0) → (List Use → Request → Type 0) → (Request → Text) → (Request → Option Text)
     → (Request → ReadGraph → Outcome → List ℕ → Type 0)
-    → (Request → ReadGraph → Type 0) → (Request → ReadGraph → List ℕ → Outcome → List ℕ → Type 0) → CommandForm
-on_two_inputs Request asks file second alone continues answer = record {
+    → (Request → ReadGraph → Type 0) → (Request → ReadGraph → List ℕ → Outcome → List ℕ → Type 0) → (Request → Type 0) → CommandForm
+on_two_inputs_where Request asks file second alone continues answer is_fixed = record {
   Request = Request;
   asks = asks;
   file = λ q. Some (file q);
@@ -56,7 +59,14 @@ on_two_inputs Request asks file second alone continues answer = record {
   by_graph = alone;
   continues = continues;
   by_both = answer;
+  is_fixed = is_fixed;
 }
+
+-- and one all of whose requests are
+abbrev pub on_two_inputs : (Request : Type 0) → (List Use → Request → Type 0) → (Request → Text) → (Request → Option Text)
+    → (Request → ReadGraph → Outcome → List ℕ → Type 0)
+    → (Request → ReadGraph → Type 0) → (Request → ReadGraph → List ℕ → Outcome → List ℕ → Type 0) → CommandForm
+on_two_inputs Request asks file second alone continues answer = on_two_inputs_where Request asks file second alone continues answer (λ q. Unit {0})
 
 -- the uses ask a command for nothing
 pub record AsksNothing (c : CommandForm) (uses : List Use) : Type 0 where

@@ -2,9 +2,9 @@
 use Rattle.std.proofs.Common.{◌≡◌, ℕ, Bool, true, false, List, is_none, refl, sym, ◌∙◌, arith}
 use Rattle.command_words.specs.Form.{Text}
 use Rattle.causal_io.specs.Causes.{Rose}
-use Rattle.spans.specs.declared.Span.{Span}
-use Rattle.spans.specs.declared.Input.{Input}
-use Rattle.spans.specs.Parts.{place_named}
+use Rattle.caller_memory.specs.declared.spans.Span.{Span}
+use Rattle.caller_memory.specs.declared.spans.Input.{Input}
+use Rattle.caller_memory.specs.Parts.{place_named}
 use Rattle.span_call.specs.declared.Sizes.{Sizes}
 use Rattle.replies.specs.declared.outcome.Outcome.{Outcome}
 use Rattle.replies.specs.declared.outcome.Outcome.TheVariants.{Read, Write}

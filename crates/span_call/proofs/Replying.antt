@@ -1,7 +1,7 @@
 -- From what a request gives to what is replied.
 use Rattle.std.proofs.Common.{◌≡◌, ℕ, List, Option, Some, None, Result, Ok, Err, IfOk, refl, sym, subst}
-use Rattle.spans.specs.declared.Input.{Input}
-use Rattle.spans.specs.Parts.{content_named}
+use Rattle.caller_memory.specs.declared.spans.Input.{Input}
+use Rattle.caller_memory.specs.Parts.{content_named}
 use Rattle.replies.specs.declared.outcome.Outcome.{Outcome}
 use Rattle.replies.specs.declared.outcome.Outcome.TheVariants.{Words, Memory}
 use Rattle.replies.specs.declared.outcome.Reply.{Reply}

@@ -1,8 +1,8 @@
 -- What is told of inputs is told of a request that the words ask for.
 use Rattle.std.proofs.Common.{◌≡◌, ℕ, List, option_map, sym, subst}
 use Rattle.command_words.specs.Form.{Text}
-use Rattle.spans.specs.declared.Span.{Span}
-use Rattle.spans.specs.Words.{texts}
+use Rattle.caller_memory.specs.declared.spans.Span.{Span}
+use Rattle.caller_memory.specs.Words.{texts}
 use Rattle.command_run.specs.Commands.{Asks, file_of, second_of}
 use Rattle.causal_cli.specs.Commands.{commands}
 use Rattle.causal_cli.specs.Inputs.{IsEnough, AreInputs}

@@ -1,14 +1,14 @@
 -- What a question about a diagram that is kept gives, over spans of bytes.
 use Rattle.std.specs.Prelude.{ℕ, ◌≡◌, List}
-use Rattle.spans.specs.declared.Span.{Span}
-use Rattle.spans.specs.declared.Input.{Input}
-use Rattle.spans.specs.Words.{texts}
+use Rattle.caller_memory.specs.declared.spans.Span.{Span}
+use Rattle.caller_memory.specs.declared.spans.Input.{Input}
+use Rattle.caller_memory.specs.Words.{texts}
 use Rattle.replies.specs.declared.outcome.Reply.{Reply}
 use Rattle.replies.specs.Outcomes.{code_of}
 use Rattle.span_call.specs.declared.Sizes.{Sizes}
 use Rattle.span_call.specs.Rooms.{ShowsText}
-use Rattle.kept_graph.specs.declared.kept.KeptDiagram.{KeptDiagram}
-use Rattle.kept_graph.specs.Kept.{KeepsText}
+use Rattle.caller_memory.specs.declared.kept.kept.KeptDiagram.{KeptDiagram}
+use Rattle.caller_memory.specs.Kept.{KeepsText}
 use Rattle.causal_cli.specs.Drawn.{RightAsDrawn}
 use Rattle.causal_cli.specs.Headline.{Headline, HeadlineOfCheck}
 use Rattle.causal_cli.specs.Refuted.{RefutedAsDrawn}

@@ -1,10 +1,10 @@
 -- What a call over spans of bytes gives.
 use Rattle.std.specs.Prelude.{ℕ, ◌≡◌, [], List, Some, true, false, is_none}
 use Rattle.command_words.specs.Form.{Text}
-use Rattle.spans.specs.declared.Span.{Span}
-use Rattle.spans.specs.declared.Input.{Input}
-use Rattle.spans.specs.Parts.{place_named, content_named}
-use Rattle.spans.specs.Words.{texts}
+use Rattle.caller_memory.specs.declared.spans.Span.{Span}
+use Rattle.caller_memory.specs.declared.spans.Input.{Input}
+use Rattle.caller_memory.specs.Parts.{place_named, content_named}
+use Rattle.caller_memory.specs.Words.{texts}
 use Rattle.span_call.specs.declared.Sizes.{Sizes}
 use Rattle.span_call.specs.Rooms.{ShowsText}
 use Rattle.command_run.specs.Run.{Stream, Run, Ended, Unread, Unwritten}

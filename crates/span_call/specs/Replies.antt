@@ -2,8 +2,8 @@
 -- words give it.
 use Rattle.std.specs.Prelude.{ℕ, ◌≡◌, true, List, [], nat_le, is_none, Some, if◌then◌else◌}
 use Rattle.command_words.specs.Form.{Text}
-use Rattle.spans.specs.declared.Input.{Input}
-use Rattle.spans.specs.Parts.{place_named, content_named}
+use Rattle.caller_memory.specs.declared.spans.Input.{Input}
+use Rattle.caller_memory.specs.Parts.{place_named, content_named}
 use Rattle.replies.specs.declared.outcome.Outcome.{Outcome}
 use Rattle.replies.specs.declared.outcome.Outcome.TheVariants.{Read, Memory}
 use Rattle.replies.specs.declared.outcome.Reply.{Reply}

@@ -1,8 +1,8 @@
 -- What a call tells of the inputs that words may ask for.
 use Rattle.std.specs.Prelude.{ℕ, ◌≡◌, ◌+◌, ◌++◌, List, [], length, Option, Some, None, option_map}
 use Rattle.command_words.specs.Form.{Text}
-use Rattle.spans.specs.declared.Span.{Span}
-use Rattle.spans.specs.Words.{texts}
+use Rattle.caller_memory.specs.declared.spans.Span.{Span}
+use Rattle.caller_memory.specs.Words.{texts}
 use Rattle.command_run.specs.Commands.{Asks, Request, file_of, second_of}
 use Rattle.causal_cli.specs.Commands.{commands}
 use Rattle.causal_cli.specs.Inputs.{IsEnough}

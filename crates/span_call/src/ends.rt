@@ -1,12 +1,12 @@
 // What a call over spans is given, and how it ends.
 
 ghost use Rattle.std.specs.Prelude.{◌≡◌, ◌≤◌, List, ℕ, length, take, drop, min, map, string_bytes, IfOk, IfErr, OnOk};
-ghost use Rattle.spans.specs.Words.{texts, AreTexts};
+ghost use Rattle.caller_memory.specs.Words.{texts, AreTexts};
 ghost use Rattle.span_call.specs.Ends.{IsEnd};
 ghost use Rattle.span_call.specs.Rooms.{ShowsText};
 
 use crate::Sizes;
-use spans::{Input, Span, WordsFault, copy_front, words_in};
+use caller_memory::spans::{Input, Span, WordsFault, copy_front, words_in};
 use std::alloc::Global;
 
 /// The status where a word isn't UTF-8.

@@ -1,14 +1,14 @@
 //! Questions about a diagram that a caller keeps, over spans of bytes: the commands, answered as on the text that was read.
 ghost use Rattle.std.specs.Prelude.{◌≡◌, ◌≤◌, List, ℕ};
 ghost use Rattle.dag_reader.specs.declared.graph.ReadGraph.{ReadGraph};
-ghost use Rattle.kept_graph.specs.Kept.{KeepsText, Keeps};
+ghost use Rattle.caller_memory.specs.Kept.{KeepsText, Keeps};
 ghost use Rattle.span_call.specs.Ends.{IsEnd};
 ghost use Rattle.span_call.specs.Asked.{Asked};
 
 mod reply;
 
 use crate::{Arguments, CallEnd, call_words, show_both};
-use kept_graph::KeptDiagram;
+use caller_memory::kept::KeptDiagram;
 use reply::{answer_in, line_in, reply_kept};
 use std::alloc::Global;
 

@@ -9,9 +9,9 @@ mod ends;
 pub mod kept;
 mod wanted;
 
+use caller_memory::spans::{GrowingSink, SpanShelf};
 use causal_cli::run;
 pub use ends::{Arguments, CallEnd, call_words, show, show_both};
-use spans::{GrowingSink, SpanShelf};
 use std::alloc::Global;
 pub use wanted::{Wanted, WantedEnd, wanted_spans};
 

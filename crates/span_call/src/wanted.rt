@@ -1,13 +1,13 @@
 // The inputs that the words of a call may ask for.
 
 ghost use Rattle.std.specs.Prelude.{◌≡◌, ◌≤◌, ◌⊎◌, ◌++◌, IfOk, option_map};
-ghost use Rattle.spans.specs.Words.{AreTexts, IsNoText};
+ghost use Rattle.caller_memory.specs.Words.{AreTexts, IsNoText};
 ghost use Rattle.span_call.specs.Wanted.{TellsInputs, IsTold, AskForNothing, bytes_of, one_if};
 
 use crate::ends::{Arguments, call_words, show};
+use caller_memory::spans::Span;
 use causal_cli::{Inputs, inputs_of};
 use command_words::typed::RequestFault;
-use spans::Span;
 use std::alloc::{AllocError, Global};
 
 /// The status where the words aren't understood.

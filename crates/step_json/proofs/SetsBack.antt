@@ -80,7 +80,8 @@ open_place barred set k apart h =
     has-or barred (set % 2 ^ k) k ∙ ap (λ b. b || has (set % 2 ^ k) k) (apart_at barred set k apart h)
     ∙ not_above k (set % 2 ^ k) k (low_lt set k) (omega arith)
 
-member_read : (names : List (List ℕ)) (barred count low k : ℕ) (rest : Items) → AreNames names → count < 64 → k < length names → has (union barred low) k ≡ false
+member_read : (names : List (List ℕ)) (barred count low k : ℕ) (rest : Items) → AreNames names → count < 64 → k < length names → has (union barred low) k
+    ≡ false
     → more_of_set names barred count low (item (string (name_of names k)) rest) ≡ more_of_set names barred (count + 1) (union low (one k)) rest
 member_read names barred count low k rest are few lt free =
     let next = λ (r : Result ℕ ValueFault). r >>= λ v. with_member barred low v >>= λ more. more_of_set names barred (count + 1) more rest in

@@ -12,7 +12,7 @@ use Rattle.identify_text.proofs.Belows.{hedge_below}
 use Rattle.effect_answers.proofs.Belows.{pair_below}
 use Rattle.certificate.specs.Plain.{hedge_view}
 use Rattle.certificate_writing.specs.Writable.{IsHedgeWithin}
-use Rattle.effect_certificates.proofs.Writing.{hedge_within}
+use Rattle.effect_answers.proofs.Writing.{hedge_within}
 use Rattle.surrogate_command.specs.Commons.{IsCommonBelow}
 use Rattle.surrogates.specs.Answers.{IsRightBlock, IsBlockShown, IsStopShown}
 use Rattle.surrogates.specs.declared.answer.CommonHedge.{CommonHedge}

@@ -15,7 +15,7 @@ use Rattle.certificate.specs.Plain.{PlainCertificate, hedge_view}
 use Rattle.certificate.specs.Plain as plain
 use Rattle.certificate.specs.Reading.{certificate_in}
 use Rattle.certificate_writing.specs.Written.{certificate_text}
-use Rattle.effect_certificates.specs.Lines.{certificate_line}
+use Rattle.effect_answers.specs.Lines.{certificate_line}
 use Rattle.surrogates.specs.declared.answer.CommonHedge.{CommonHedge}
 use Rattle.surrogate_command.specs.declared.form.Form.{Form}
 use Rattle.surrogate_command.specs.declared.form.Form.TheVariants.{Plain, Models, Certificate}

@@ -12,7 +12,7 @@ ghost use Rattle.certificate.specs.Plain.{hedge_view, formula as formula_case, h
 ghost use Rattle.certificate.specs.Reading.{certificate_in};
 ghost use Rattle.certificate_writing.specs.Writable.{IsTargetWithin, IsBareTarget, IsDerivationWithin, IsHedgeWithin, IsFormulaShallow};
 ghost use Rattle.certificate_writing.specs.Written.{certificate_text};
-ghost use Rattle.effect_certificates.specs.Lines.{certificate_line};
+ghost use Rattle.effect_answers.specs.Lines.{certificate_line};
 ghost use Rattle.surrogate_command.specs.Commons.{IsCommonBelow};
 ghost use Rattle.surrogate_command.specs.Lines.{unfound_line, district_line, stop_answer, common_answer, formula_text, stopped_text, ReadsBack};
 
@@ -22,7 +22,7 @@ use answer_text::{Notation, push_set};
 use certificate::Certificate;
 use counter_models::CounterPair;
 use do_derivation::Derivation;
-use effect_certificates::{certificate_line, sized};
+use effect_answers::certificates::{certificate_line, sized};
 use experiment_lists::unidentifiable_text;
 use hedge::Hedge;
 use identify_text::{answer_in, effect_text, push_hedge_sets, push_models};

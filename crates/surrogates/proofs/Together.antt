@@ -35,7 +35,8 @@ taken_more c taken z rest = go (is_apart z c)
 -- ---- the experiments as the loop goes over them
 pub next_taken : (c taken next : ℕ) (sets : List VSet) (i : ℕ) → i < length sets
     → next ≡ cond (is_apart (get_or sets i (record { bits = 0 })).bits c) (union taken (get_or sets i (record { bits = 0 })).bits) taken
-    → union taken (around c (masks_of (drop i sets))) ≡ around c (masks_of sets) → union next (around c (masks_of (drop (i + 1) sets))) ≡ around c (masks_of sets)
+    → union taken (around c (masks_of (drop i sets))) ≡ around c (masks_of sets) → union next (around c (masks_of (drop (i + 1) sets)))
+    ≡ around c (masks_of sets)
 next_taken c taken next sets i lt is before =
     ap (λ n. union n (around c (masks_of (drop (i + 1) sets)))) is
     ∙ taken_more c taken (get_or sets i (record { bits = 0 })).bits (masks_of (drop (i + 1) sets))

@@ -156,11 +156,8 @@ pub fn names_of(alloc: Global, names: &Names, set: VSet) -> Result<Vec<Vec<u8>>,
     ensures { IfOk result (λ v. texts v.items ≡ map (name_of names.now) (members_below (has set.bits) 64)) }
 {
     let mut list = Vec::new(alloc);
-    let mut rest = set;
-    'members: while !rest.is_empty() {
-        let v = rest.lowest();
+    'members: for v in set.iter() {
         list.push(Vec::from_slice(alloc, names.get(v))?)?;
-        rest = rest.difference(VSet::one(v));
     }
     Ok(list)
 }

@@ -2,6 +2,7 @@
 // the program's; the rest is computed here.
 import { button, h } from "../dom.js";
 import { intervalOf } from "../statistics/bootstrap.js";
+import { zeroPart } from "./formulas.js";
 
 const DRAWS = 1000;
 const PART = 25; // draws in a message to the worker
@@ -9,17 +10,19 @@ const SOON_MS = 4000; // draws that take longer are made when they are asked for
 const SEED = 1;
 const YES = /=(1|yes|true|success)$/i; // the outcome that is looked at first
 
-/** @typedef {{y: string, x: string, value: number}} Cell */
+/** @typedef {import("../text/printed.js").Cell} Cell */
 /** @typedef {{ctx: import("./parts.js").Context, words: string[], name: string, table: import("../statistics/table.js").Table,
  *   count: string, cells: Cell[]}} Order the draws of a table, which the words name */
 
 /** The part of a card that contrasts two values of the exposure. @param {Order} order */
 export function contrastPart(order) {
   const { ctx, cells } = order, { memory } = ctx, settings = unique(cells.map((c) => c.x)), outcomes = unique(cells.map((c) => c.y));
+  const groups = unique(cells.map((c) => c.given)), hasCondition = groups.length > 1 || groups[0];
   if (settings.length < 2) return null;
   const now = memory.contrast ?? {}, pick = (value, list, other) => (list.includes(value) ? value : other);
   const choice = {
     y: pick(now.y, outcomes, outcomes.find((y) => YES.test(y)) ?? outcomes.at(-1)), a: pick(now.a, settings, settings[1]), b: pick(now.b, settings, settings[0]),
+    among: pick(now.among, groups, groups[0]),
   };
   const choose = (key, label, list) => h("label", {}, label, " ", h("select", { data: { key: `contrast ${key}` }, onchange: (e) => {
     memory.contrast = { ...choice, [key]: e.target.value };
@@ -28,7 +31,8 @@ export function contrastPart(order) {
   const results = h("div", { class: "contrast" });
   fill(results, order, choice);
   return h("div", { class: "stack" }, h("h3", {}, "Difference and ratio"),
-    h("div", { class: "choices" }, choose("y", "of", outcomes), choose("a", "when set to", settings), choose("b", "against", settings)), results);
+    h("div", { class: "choices" }, choose("y", "of", outcomes), choose("a", "when set to", settings), choose("b", "against", settings),
+      hasCondition && choose("among", "among", groups)), results);
 }
 
 const unique = (list) => [...new Set(list)];
@@ -41,7 +45,7 @@ function fill(box, order, choice) {
     draw(order, kept);
     show();
   };
-  const show = () => box.replaceChildren(table(order, choice, kept), says(kept), kept.isReady || kept.isRunning ? ""
+  const show = () => box.replaceChildren(table(order, choice, kept), says(order.ctx, kept), kept.isReady || kept.isRunning ? ""
     : button(`Intervals (about ${Math.ceil(kept.left / 1000)} s)`, goOn, { id: "draw", data: { key: "draw" } }));
   kept.heard = () => box.isConnected && show();
   kept.isWanted = order.ctx.isShown;
@@ -79,11 +83,12 @@ async function draw({ ctx, words, name, table, count }, kept) {
   kept.heard();
 }
 
-function table({ cells }, { y, a, b }, { values, isReady, isRunning }) {
-  const at = (x) => cells.findIndex((c) => c.y === y && c.x === x), [i, j] = [at(a), at(b)];
+function table({ cells }, { y, a, b, among }, { values, isReady, isRunning }) {
+  const at = (x) => cells.findIndex((c) => c.y === y && c.x === x && c.given === among), [i, j] = [at(a), at(b)];
   const drawn = isReady ? values.filter(Boolean) : [], point = cells.map((c) => c.value);
+  const event = `P(${y}${among ? `|${among}` : ""})`;
   const rows = [
-    [`P(${y}) when ${a} is set`, (v) => v[i]], [`P(${y}) when ${b} is set`, (v) => v[j]],
+    [`${event} when ${a} is set`, (v) => v[i]], [`${event} when ${b} is set`, (v) => v[j]],
     ["risk difference", (v) => v[i] - v[j]], ["risk ratio", (v) => v[i] / v[j]],
   ];
   const row = ([label, measure]) => {
@@ -98,9 +103,11 @@ function table({ cells }, { y, a, b }, { values, isReady, isRunning }) {
 
 const shown = (value) => (Number.isFinite(value) ? value.toFixed(4) : "none");
 
-function says({ values, isReady }) {
+function says(ctx, { values, isReady }) {
   const lost = values.filter((v) => !v).length;
-  return h("p", { class: "small-print" }, "Computed here, not proved: percentiles of ", `${DRAWS} draws of the table's records with replacement `
-    + `(seed ${SEED}). Each draw's values are the program's. The intervals hold in about 95% of large samples, if the diagram is right.`,
-    isReady && lost ? ` ${lost} draws had no value at some cell, and are left out.` : "");
+  return h("div", { class: "stack" },
+    h("p", { class: "small-print" }, "Computed here, not proved: percentiles of ", `${DRAWS} draws of the table's records with replacement `
+      + `(seed ${SEED}). Each draw's values are the program's. The intervals hold in about 95% of large samples, if the diagram is right.`,
+      isReady && lost ? ` ${lost} draws had no value at some cell, and are left out.` : ""),
+    isReady && lost && !ctx.memory.zero ? zeroPart(ctx, true) : null);
 }

@@ -1,31 +1,38 @@
 import { button, h, save } from "../dom.js";
 import { readFault } from "../faults.js";
-import { ADJUSTED, DIAGRAM } from "../names.js";
+import { DIAGRAM } from "../names.js";
 import { countName, tableOf } from "../statistics/table.js";
 import { headerOf, levelsOf, missingIn, readRows, tooFine } from "../text/csv.js";
-import { readCells, readSet } from "../text/printed.js";
-import { adjustedText, putAdjusted } from "./adjusted.js";
+import { readCells } from "../text/printed.js";
 import { contrastPart } from "./contrast.js";
-import { fold, listed, printedOf, source, verdict, withRole } from "./parts.js";
+import { chosenFormula, withoutRecords, zeroPart } from "./formulas.js";
+import { fold, listed, printedOf, source, verdict } from "./parts.js";
 import { dotPlot } from "./plot.js";
 
 const COUNT_NAMES = /^(count|counts|n|freq|frequency|weight)$/i;
 const MOST_LEVELS = 12;
 const MOST_DIGITS = 15; // of a fraction in the table
+const MOST_TRIED = 4; // sets whose formula is tried where another has no value
 
 /** @param {import("./parts.js").Context} ctx */
 async function answer(ctx) {
-  const { memory } = ctx;
-  if (!memory.csv) return { dot: "", view: () => invitation(ctx) };
-  const sets = (await ctx.ask(["adjust", DIAGRAM])).out.split("\n").filter((line) => line.startsWith("{"));
-  const by = sets.includes(memory.by) ? memory.by : "";
-  if (by) putAdjusted(ctx, adjustedText(withRole(ctx, "exposure"), withRole(ctx, "outcome"), readSet(by)));
-  const words = wordsOf(ctx, by), exactWords = [...words, "--exact"];
+  if (!ctx.memory.csv) return { dot: "", view: () => invitation(ctx) };
+  const choice = await chosenFormula(ctx), { way } = choice;
+  const words = wordsOf(ctx, way, tableName(ctx.memory.csv.name), countWords(ctx)), exactWords = [...words, "--exact"];
   const [bounds, exact] = await Promise.all([ctx.ask(words), ctx.ask(exactWords)]);
-  const found = { ctx, words, exactWords, bounds, exact, sets, by };
-  if (bounds.status === 1) return { dot: "no", view: () => notIdentifiable(found) };
-  if (bounds.status !== 0 && exact.status !== 0) return { dot: "no", view: () => noValue(found) };
-  return { dot: "yes", view: () => values(found) };
+  const fault = readFault(bounds.err), hasValue = bounds.status === 0 || exact.status === 0;
+  const without = hasValue ? null : await withoutRecords(ctx, way, fault);
+  const found = { ctx, choice, way, words, exactWords, bounds, exact, fault, without, other: without && !way.given.length && (await otherWay(ctx, choice)) };
+  const view = bounds.status === 1 ? noFormula : hasValue ? values : noValue;
+  const marks = { vertices: new Map([...(way.set ?? []), ...way.given].map((name) => [name, "chosen"])) };
+  return { dot: hasValue ? "yes" : "no", view: () => view(found), marks };
+}
+
+/** The first way by another set whose formula has a value over the table; nothing where none has. */
+async function otherWay(ctx, { ways, way }) {
+  const tried = ways.filter((other) => other.set && other !== way).slice(0, MOST_TRIED);
+  const said = await Promise.all(tried.map((other) => ctx.ask(wordsOf(ctx, other, tableName(ctx.memory.csv.name), countWords(ctx)))));
+  return tried.find((_, i) => said[i].status === 0);
 }
 
 /** The name under which a table is given to the program. */
@@ -38,7 +45,8 @@ export function countWords(ctx) {
   return memory.count ? [`--count=${memory.count}`] : [];
 }
 
-const wordsOf = (ctx, by) => ["evaluate", by ? ADJUSTED : DIAGRAM, tableName(ctx.memory.csv.name), ...countWords(ctx)];
+/** The question for the effect over a table. */
+const wordsOf = ({ memory }, way, table, count) => ["evaluate", DIAGRAM, table, ...way.words, ...count, ...(memory.zero ? ["--zero"] : [])];
 
 const otherColumns = ({ memory, observed }) => headerOf(memory.csv.text).filter((c) => !observed.includes(c));
 
@@ -141,47 +149,47 @@ function levels(ctx) {
     h("tbody", {}, [...found].map(line)));
 }
 
-const notIdentifiable = ({ ctx, words, bounds }) => h("div", {}, tableRow(ctx),
-  verdict("no", "Not identifiable", "The table isn't read. See Effect for the two models that differ."),
-  source(words, bounds.out));
+/** The table, and how the formula is found. */
+const choices = ({ ctx, choice }) => [tableRow(ctx), choice.row()];
 
-function noValue({ ctx, words, bounds, sets, by }) {
-  const fault = readFault(bounds.err), fine = fault.table === "evaluation" && fault.number === 1 ? tooFine(tableLevels(ctx)) : [];
+function noFormula(found) {
+  const { way, words, bounds } = found;
+  const told = way.set ? verdict("no", "Not admissible", "The table isn't read. See Adjust for what this set leaves open, or has too much.")
+    : way.given.length ? verdict("no", "Not identifiable under this condition", "The table isn't read. See Effect, with the same condition.")
+      : verdict("no", "Not identifiable", "The table isn't read. See Effect for the two models that differ.");
+  return h("div", {}, choices(found), told, source(words, bounds.out));
+}
+
+function noValue(found) {
+  const { ctx, words, bounds, fault, without, other } = found, fine = without ? tooFine(tableLevels(ctx)) : [];
   const many = fine.map(([column, count]) => `${column} has ${count} different values`).join(", ");
-  return h("div", {}, tableRow(ctx), formulaRow(ctx, sets, by), fine.length
+  const useOther = () => {
+    ctx.memory.by = other.by;
+    ctx.refresh();
+  };
+  return h("div", {}, choices(found), fine.length
     ? verdict("no", `Group ${fine.map(([column]) => column).join(" and ")} first`, `${many}, so most combinations have no row. `
-      + "Put a few groups in their place in the table, and take it again.")
-    : verdict("no", "No value", fault.sentence), source(words, printedOf(bounds)));
+      + "Put a few groups in their place in the table, and take it again. ", without)
+    : verdict("no", "No value", without ?? fault.sentence),
+  zeroPart(ctx, without),
+  other ? h("p", {}, "The formula of adjusting for ", other.set.length ? listed(other.set) : "nothing", " has a value over this table. ",
+    button("Use it", useOther, { id: "use" })) : null,
+  source(words, printedOf(bounds)));
 }
 
 // ---- The effect
 
-/** The choice of the formula: the one that is found, or that of a set. */
-function formulaRow(ctx, sets, by) {
-  if (!sets.length) return null;
-  const choose = (e) => {
-    ctx.memory.by = e.target.value;
-    ctx.refresh();
-  };
-  const option = (set) => h("option", { value: set, selected: set === by }, set === "{}" ? "of adjusting for nothing" : `of adjusting for ${readSet(set).join(", ")}`);
-  return h("div", {}, h("label", { class: "count" }, "Formula ", h("select", { id: "by", data: { key: "by" }, onchange: choose },
-    h("option", { value: "" }, "as under Effect"), sets.map(option))),
-  by ? h("p", { class: "small-print" }, "Evaluated in the diagram ", h("b", {}, ADJUSTED), ", in which ", by === "{}" ? "nothing" : listed(readSet(by)),
-    " alone acts on both: there the effect is this adjustment formula. ",
-    button("Save it", () => save(ADJUSTED, ctx.memory.adjustedText, "text/plain"))) : null);
-}
-
 /** The contrast of two values of the exposure, with draws of the table. */
-function contrasts({ ctx, words }, cells) {
+function contrasts({ ctx, way }, cells) {
   const table = cellsOf(ctx), count = countName(table.names), name = "draw.csv";
-  return contrastPart({ ctx, name, table, count, cells, words: ["evaluate", words[1], name, `--count=${count}`] });
+  return contrastPart({ ctx, name, table, count, cells, words: wordsOf(ctx, way, name, [`--count=${count}`]) });
 }
 
 function values(found) {
-  const { ctx, words, exactWords, bounds, exact, sets, by } = found;
-  const isExact = exact.status === 0, best = isExact ? exact : bounds, cells = readCells(best.out);
+  const { ctx, way, words, exactWords, bounds, exact } = found;
+  const isExact = exact.status === 0, best = isExact ? exact : bounds, cells = readCells(best.out, way.given);
   const pinned = [...best.out.matchAll(/^pinned (.*)$/gm)].map((m) => m[1]);
-  return h("div", {}, tableRow(ctx), formulaRow(ctx, sets, by),
+  return h("div", {}, choices(found), zeroPart(ctx, false),
     verdict("warn", "Plug-in values", "The formula's value with the table's proportions in it, without sampling error. "
       + "A small table can be far from the truth."),
     dotPlot(cells),
@@ -198,8 +206,9 @@ function values(found) {
 const shortened = (text) => (text.includes("/") && text.length > MOST_DIGITS ? "below" : text);
 
 function valuesTable(cells, isExact) {
-  const head = ["when set", "outcome", "value", isExact ? "exact" : "bounds that hold"];
-  const row = (c) => h("tr", {}, h("td", {}, c.x || "–"), h("td", {}, c.y),
+  const hasCondition = cells.some((c) => c.given);
+  const head = ["when set", ...(hasCondition ? ["among"] : []), "outcome", "value", isExact ? "exact" : "bounds that hold"];
+  const row = (c) => h("tr", {}, h("td", {}, c.x || "–"), hasCondition && h("td", {}, c.given), h("td", {}, c.y),
     h("td", { class: "number" }, c.value.toFixed(4)), h("td", { class: "number" }, shortened(c.text)));
   return h("table", { class: "values" },
     h("thead", {}, h("tr", {}, head.map((text) => h("th", { scope: "col" }, text)))),

@@ -3,28 +3,28 @@ import { kindOf } from "../explain.js";
 import { DIAGRAM } from "../names.js";
 import { listWord, readNotes } from "../text/printed.js";
 import { derivation } from "./derivation.js";
+import { askedAhead, chosenForm, inChosenForm } from "./forms.js";
 import { hedge } from "./hedge.js";
 import { certificateRow, fold, formulaBox, isRefused, listed, refused, source, verdict, withRole } from "./parts.js";
 import { Ways } from "../ways.js";
 import { chosenSet, howToChoose } from "./sets.js";
 
 const IDENTIFY = ["identify", DIAGRAM];
-const IN_LATEX = [...IDENTIFY, "--latex"];
 
 /** @param {import("./parts.js").Context} ctx */
 async function answer(ctx) {
   const given = chosenSet(ctx, "condition", "Given", []), { names } = given, xs = withRole(ctx, "exposure");
   const also = chosenSet(ctx, "also set", "Also set", []), doing = [...xs, ...also.names.filter((name) => !xs.includes(name))];
   const isDirect = doing.length > xs.length;
-  const words = [...IDENTIFY, ...(isDirect ? ["--x", listWord(doing)] : []), ...(names.length ? ["--given", listWord(names)] : [])];
+  const asked = [...IDENTIFY, ...(isDirect ? ["--x", listWord(doing)] : []), ...(names.length ? ["--given", listWord(names)] : [])];
   const more = () => [directPart(ctx, also), condition(ctx, given)];
-  const [said, latex] = await Promise.all([ctx.ask(words), ctx.ask([...words, "--latex"])]);
+  const [form, latex] = await Promise.all([chosenForm(ctx, asked), ctx.ask([...inChosenForm(ctx, asked), "--latex"])]), { said, words } = form;
   if (isRefused(said)) return refused(words, said, () => (names.length || isDirect ? h("div", { class: "stack" }, more()) : null));
   if (said.status === 1) return hedge(ctx, words, said, names.length ? await kindOf(ctx, words) : "", ...more());
   const tex = latex.out.trimEnd().split("\n").filter((line) => !line.startsWith("free "));
   const isUnchanged = !names.length && !isDirect && (await leavesUnchanged(ctx));
   return {
-    dot: "yes", view: () => view({ ctx, words, printed: said.out, tex, given, doing, isDirect, isUnchanged, more }),
+    dot: "yes", view: () => view({ ctx, form, tex, given, doing, isDirect, isUnchanged, more }),
     marks: { vertices: new Map([...names.map((name) => [name, "chosen"]), ...also.names.map((name) => [name, "from"])]) },
   };
 }
@@ -59,8 +59,8 @@ function condition(ctx, given) {
     h("div", { class: "pickers" }, given.row()), howToChoose()));
 }
 
-function view({ ctx, words, printed, tex, given, doing: xs, isDirect, isUnchanged, more }) {
-  const ys = withRole(ctx, "outcome"), notes = notesOn(printed, xs, ys);
+function view({ ctx, form, tex, given, doing: xs, isDirect, isUnchanged, more }) {
+  const { words, said: { out: printed } } = form, ys = withRole(ctx, "outcome"), notes = notesOn(printed, xs, ys);
   const [effect] = printed.split(" = "), among = given.names.length ? [" given ", listed(given.names)] : "";
   const claim = xs.length
     ? [isDirect ? "The effect of setting " : "The effect of ", listed(xs), " on ", listed(ys), among, ": ", h("code", {}, effect), " equals this formula at every "
@@ -71,6 +71,7 @@ function view({ ctx, words, printed, tex, given, doing: xs, isDirect, isUnchange
     isUnchanged ? h("p", { class: "reason" }, "No directed path leads from ", listed(xs), " to ", listed(ys), ", so ", listed(ys),
       ys.length > 1 ? " aren't" : " isn't", " changed by ", listed(xs), ".") : null,
     formulaBox(tex, printed),
+    form.row(),
     notes.length ? h("ul", { class: "notes" }, notes) : null,
     source(words, printed),
     fold(ctx, "derivation", "Derivation in the do-calculus", () => derivation(ctx, words)),
@@ -105,5 +106,5 @@ function notesOn(printed, xs, ys) {
 /** @type {import("./parts.js").Card} */
 export const effect = {
   id: "effect", title: "Effect", hasDot: true, dotWords: { yes: "identifiable", no: "not identifiable" },
-  ahead: [IDENTIFY, IN_LATEX], answer,
+  ahead: askedAhead(IDENTIFY), answer,
 };

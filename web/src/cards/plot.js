@@ -7,23 +7,23 @@ const MOST_ROWS = 20;
 const TICKS = [0, 0.25, 0.5, 0.75, 1];
 
 /**
- * Values between 0 and 1 as dots: a group per outcome, a row per value of the exposure.
- * @param {{y: string, x: string, value: number}[]} cells
+ * Values between 0 and 1 as dots: a group per outcome, and per level of a condition, a row per value of the exposure.
+ * @param {import("../text/printed.js").Cell[]} cells
  */
 export function dotPlot(cells) {
-  const groups = [...new Set(cells.map((c) => c.y))].slice(0, MOST_GROUPS);
+  const groupOf = (c) => (c.given ? `${c.y} among ${c.given}` : c.y), groups = [...new Set(cells.map(groupOf))].slice(0, MOST_GROUPS);
   const left = Math.min(190, 24 + 7 * Math.max(3, ...cells.map((c) => c.x.length)));
   const scale = (value) => left + value * (WIDTH - left - 48);
   let y = 8;
   const body = groups.flatMap((group) => {
     const parts = [svg("text", { x: 0, y: (y += 14), class: "group" }, group)];
-    const rows = cells.filter((c) => c.y === group).slice(0, MOST_ROWS);
+    const rows = cells.filter((c) => groupOf(c) === group).slice(0, MOST_ROWS);
     for (const cell of rows) parts.push(...dot(cell, (y += ROW), scale));
     y += 16;
     return parts;
   });
   const tick = (t) => svg("text", { x: scale(t), y: y + 10, "text-anchor": "middle", class: "tick" }, String(t));
-  const words = cells.map((c) => `${c.y}${c.x ? ` when ${c.x} is set` : ""}: ${c.value.toFixed(3)}`).join("; ");
+  const words = cells.map((c) => `${groupOf(c)}${c.x ? ` when ${c.x} is set` : ""}: ${c.value.toFixed(3)}`).join("; ");
   return svg("svg", { viewBox: `0 0 ${WIDTH} ${y + 16}`, class: "plot", role: "img", "aria-label": words },
     body, TICKS.map(tick));
 }

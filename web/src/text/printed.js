@@ -82,13 +82,43 @@ export function readDifference(printed) {
   return { kind: m[1], names: readSet(`{${m[2]}}`), graph: m[3], separatedIn: m[4], x, y, given };
 }
 
-/** The printed cells of an effect: P(Y=1|do(X=0)) = 3/4, or from 0.1 to 0.2. */
-export function readCells(printed) {
-  const lines = printed.matchAll(/^P\((.*?)(?:\|do\((.*)\))?\) (?:= (.*)|from (.*) to (.*))$/gm);
-  return [...lines].map(([, y, x, exact, low, high]) => ({
-    y, x: x ?? "", text: exact ?? `${low} … ${high}`,
+/** @typedef {{y: string, x: string, given: string, text: string, value: number}} Cell levels as they are printed, `T=A`; none is "" */
+
+/**
+ * The printed cells of an effect: P(Y=1|do(X=0)) = 3/4, or from 0.1 to 0.2; under a condition P(Y=1|do(X=0),Z=1) = 3/4.
+ * @param {string[]} given the names of the condition in their order @returns {Cell[]}
+ */
+export function readCells(printed, given = []) {
+  const condition = given.length ? `[|,](${nameMark(given[0])}.*)` : "()";
+  const pattern = new RegExp(String.raw`^P\((.*?)(?:\|do\((.*)\))?${condition}\) (?:= (.*)|from (.*) to (.*))$`, "gm");
+  return [...printed.matchAll(pattern)].map(([, y, x, among, exact, low, high]) => ({
+    y, x: x ?? "", given: among, text: exact ?? `${low} … ${high}`,
     value: exact ? fraction(exact) : (Number(low) + Number(high)) / 2,
   }));
+}
+
+/** What a printed name begins a level with, `A=` or `"b c"=`, as a pattern. */
+function nameMark(name) {
+  const plain = name.replace(/[.*+?^${}()|[\]\\]/g, "\\$&");
+  return `(?:"${plain}"|${plain})=`;
+}
+
+/**
+ * The levels of a printed cell such as S=large,"b c"=1.
+ * @param {string[]} names those that may stand in it, in their order @returns {{name: string, level: string}[]}
+ */
+export function readLevels(printed, names) {
+  const found = [];
+  let rest = `,${printed}`;
+  names.forEach((name, i) => {
+    const m = new RegExp(`^,${nameMark(name)}`).exec(rest);
+    if (!m) return;
+    const later = names.slice(i + 1).map(nameMark), behind = rest.slice(m[0].length);
+    const end = later.length ? behind.search(new RegExp(`,(?:${later.join("|")})`)) : -1;
+    found.push({ name, level: end < 0 ? behind : behind.slice(0, end) });
+    rest = end < 0 ? "" : behind.slice(end);
+  });
+  return found;
 }
 
 function fraction(text) {

@@ -1,12 +1,14 @@
-# How an effect in data is asked for: by the formula of the diagram, also under a condition, or by that of a set to adjust for. `words`
-# are those of `evaluate`, and `formula` the one whose values it gives.
+# How an effect in data is asked for: by the formula of the diagram, also under a condition or a short one, or by that of a set to
+# adjust for. `words` are those of `evaluate`, and `formula` the one whose values it gives.
 
-asked_of <- function(diagram, x, y, set = NULL, given = NULL, back_door = FALSE, zero = FALSE) {
+asked_of <- function(diagram, x, y, set = NULL, given = NULL, back_door = FALSE, zero = FALSE, short = FALSE) {
   diagram <- as_causal_diagram(diagram)
   if (!is.null(set) && length(given)) stop("an effect is asked for by a set to adjust for, or under a condition, and not both")
+  if (!is.null(set) && isTRUE(short)) stop("an effect is asked for by a set to adjust for, or by a short formula, and not both")
   if (is.null(set) && isTRUE(back_door)) stop("the back-door criterion is asked of a set: `set` names it")
   words <- c(option("x", x), option("y", y))
-  words <- if (is.null(set)) c(words, option("given", given)) else c(words, option("set", as.character(set)), flag("back-door", back_door))
+  words <- if (is.null(set)) c(words, option("given", given), flag("short", short))
+           else c(words, option("set", as.character(set)), flag("back-door", back_door))
   told <- ask(if (is.null(set)) "identify" else "adjust", diagram, words)
   if (!told$yes && is.null(set)) stop(not_identifiable(hedge_of(told, diagram, words)))
   if (!told$yes) stop("this set can't be adjusted for: ", paste(told$lines, collapse = "\n"))

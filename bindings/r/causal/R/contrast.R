@@ -3,8 +3,8 @@
 
 contrast <- function(diagram, data, x = NULL, y = NULL, treated = NULL, control = NULL, count = NULL, level = 0.95, resamples = 1000,
                      seed = NULL, missing = c("error", "drop"), at = NULL, interval = c("percentile", "bca"), set = NULL, given = NULL,
-                     progress = NULL, back_door = FALSE, zero = FALSE) {
-  asked <- asked_of(diagram, x, y, set, given, back_door, zero)
+                     progress = NULL, back_door = FALSE, zero = FALSE, short = FALSE) {
+  asked <- asked_of(diagram, x, y, set, given, back_door, zero, short)
   drawn <- bootstrapped(asked, data, count, match.arg(missing), at, level, resamples, seed, match.arg(interval), progress)
   contrast_frame(drawn, arms_of(drawn$effects, drawn$table, treated, control))
 }
@@ -12,8 +12,8 @@ contrast <- function(diagram, data, x = NULL, y = NULL, treated = NULL, control 
 # The means of a numeric outcome under each level of the exposures, and their differences from that under `control`.
 effect_means <- function(diagram, data, x = NULL, y = NULL, control = NULL, count = NULL, level = 0.95, resamples = 1000, seed = NULL,
                          missing = c("error", "drop"), at = NULL, interval = c("percentile", "bca"), set = NULL, given = NULL,
-                         progress = NULL, back_door = FALSE, zero = FALSE) {
-  asked <- asked_of(diagram, x, y, set, given, back_door, zero)
+                         progress = NULL, back_door = FALSE, zero = FALSE, short = FALSE) {
+  asked <- asked_of(diagram, x, y, set, given, back_door, zero, short)
   drawn <- bootstrapped(asked, data, count, match.arg(missing), at, level, resamples, seed, match.arg(interval), progress)
   means_frame(drawn, control)
 }

@@ -3,13 +3,14 @@
 
 # The query. Without a connection names are quoted as standard SQL has it, else as its database does.
 counts_query <- function(diagram, table, x = NULL, y = NULL, count = NULL, set = NULL, of = c("effect", "implications"), connection = NULL,
-                         given = NULL) {
+                         given = NULL, short = FALSE) {
   diagram <- as_causal_diagram(diagram)
   of <- match.arg(of)
   check_count_name(count)
   if (of == "implications" && !all(vapply(list(x, y, set, given), is.null, NA))) stop("implications have no `x`, no `y`, no `set` and no `given`")
+  if (of == "implications" && isTRUE(short)) stop("implications have no short formula")
   used <- if (of == "implications") used_columns(diagram, character(), "implications")
-          else used_columns(diagram, asked_of(diagram, x, y, set, given)$words, "evaluate")
+          else used_columns(diagram, asked_of(diagram, x, y, set, given, short = short)$words, "evaluate")
   if (is.null(used)) stop("the diagram implies no independence, so there is nothing to count")
   if (!is.null(count)) refuse_used(enc2utf8(count), used)
   query_text(used, table, count, connection)

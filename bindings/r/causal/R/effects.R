@@ -1,16 +1,17 @@
 # Effects over a table of counts. Each value is the library's; what is made of it as a number of R is rounded.
 
 evaluate <- function(diagram, data, x = NULL, y = NULL, count = NULL, exact = FALSE, missing = c("error", "drop"), at = NULL, set = NULL,
-                     given = NULL, back_door = FALSE, zero = FALSE) {
-  asked <- asked_of(diagram, x, y, set, given, back_door, zero)
+                     given = NULL, back_door = FALSE, zero = FALSE, short = FALSE) {
+  asked <- asked_of(diagram, x, y, set, given, back_door, zero, short)
   table <- count_table(asked$diagram, asked$words, data, count, match.arg(missing))
   table <- pin(table, first_places(table, asked$formula$free, at))
   effects_frame(effects_of(asked, table, exact), table)
 }
 
 # The value at each level at which the formula's free variables may be pinned: in the population all are the same.
-pin_spread <- function(diagram, data, x = NULL, y = NULL, count = NULL, exact = FALSE, missing = c("error", "drop"), given = NULL, zero = FALSE) {
-  asked <- asked_of(diagram, x, y, given = given, zero = zero)
+pin_spread <- function(diagram, data, x = NULL, y = NULL, count = NULL, exact = FALSE, missing = c("error", "drop"), given = NULL, zero = FALSE,
+                       short = FALSE) {
+  asked <- asked_of(diagram, x, y, given = given, zero = zero, short = short)
   table <- count_table(asked$diagram, asked$words, data, count, match.arg(missing))
   free <- asked$formula$free
   if (!length(free)) stop("the formula reads no variable beside x and y that could have another level")

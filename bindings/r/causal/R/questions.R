@@ -47,9 +47,9 @@ rule_holds <- function(diagram, rule, y, z, do = NULL, given = NULL) {
 # A method for the interactive call of the package graphics, whose first argument has the name `x` too.
 identify.causal_diagram <- function(x, ...) identify_effect(x, ...)
 
-identify_effect <- function(diagram, x = NULL, y = NULL, given = NULL) {
+identify_effect <- function(diagram, x = NULL, y = NULL, given = NULL, short = FALSE) {
   diagram <- as_causal_diagram(diagram)
-  words <- c(option("x", x), option("y", y), option("given", given))
+  words <- c(option("x", x), option("y", y), option("given", given), flag("short", short))
   told <- ask("identify", diagram, words)
   certificate <- sub("\n$", "", ask("identify", diagram, c(words, "--certificate"))$out)
   if (!told$yes) return(new_hedge(told, certificate, diagram, words))

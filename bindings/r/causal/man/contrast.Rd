@@ -11,12 +11,13 @@ contrast(diagram, data, x = NULL, y = NULL, treated = NULL, control = NULL,
          count = NULL, level = 0.95, resamples = 1000, seed = NULL,
          missing = c("error", "drop"), at = NULL,
          interval = c("percentile", "bca"), set = NULL,
-         given = NULL, progress = NULL, back_door = FALSE, zero = FALSE)
+         given = NULL, progress = NULL, back_door = FALSE, zero = FALSE,
+         short = FALSE)
 \method{print}{causal_contrast}(x, digits = 4, ...)
 }
 \arguments{
-  \item{diagram, data, x, y, count, missing, at, set, given, back_door, zero}{as in \code{\link{evaluate}}; in the method \code{x} is an
-    answer.}
+  \item{diagram, data, x, y, count, missing, at, set, given, back_door, zero, short}{as in \code{\link{evaluate}}; in the method
+    \code{x} is an answer.}
   \item{treated, control}{the levels of \code{x} in both arms: a value, or for several exposures a vector or list named by them.
     Where there is one exposure with two levels the second is \code{treated} and the first \code{control} by default.}
   \item{level}{the level of the intervals.}
@@ -34,7 +35,7 @@ contrast(diagram, data, x = NULL, y = NULL, treated = NULL, control = NULL,
   effect over it. The exposures, the outcomes, what is given and the pinned variables keep their levels and their pinned level; of the
   other variables a resample has the levels that it drew. A resample in which some cell has no support has no value; it is left out
   of the intervals, and the number of these is said. Where it is not small, the intervals are too narrow, and the data are too
-  thin for the formula; with \code{zero} it may be smaller. A resample in which the control's probability is 0 has no ratio; where one of both is 1, no odds ratio.
+  thin for the formula; with \code{zero} or \code{short} it may be smaller. A resample in which the control's probability is 0 has no ratio; where one of both is 1, no odds ratio.
 
   \strong{What is proved} is each effect over the data and over each resample, as \code{\link{evaluate}} says.
   \strong{What is only computed}, with R's numbers: the differences, both ratios, and the intervals, which cover the truth with

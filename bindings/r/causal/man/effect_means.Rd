@@ -12,12 +12,12 @@ effect_means(diagram, data, x = NULL, y = NULL, control = NULL,
              missing = c("error", "drop"), at = NULL,
              interval = c("percentile", "bca"), set = NULL,
              given = NULL, progress = NULL, back_door = FALSE,
-             zero = FALSE)
+             zero = FALSE, short = FALSE)
 \method{print}{causal_means}(x, digits = 4, ...)
 }
 \arguments{
-  \item{diagram, data, x, y, count, missing, at, set, given, back_door, zero}{as in \code{\link{evaluate}}, with one outcome whose levels
-    are numbers, or are written as such; in the method \code{x} is an answer.}
+  \item{diagram, data, x, y, count, missing, at, set, given, back_door, zero, short}{as in \code{\link{evaluate}}, with one outcome whose
+    levels are numbers, or are written as such; in the method \code{x} is an answer.}
   \item{control}{the levels of \code{x} with which the others are compared, as in \code{\link{contrast}}; the first by default.}
   \item{level, resamples, seed, interval, progress, digits}{as in \code{\link{contrast}}.}
   \item{...}{passed on to \code{\link{print.data.frame}}.}

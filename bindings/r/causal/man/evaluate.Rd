@@ -11,7 +11,7 @@
 \usage{
 evaluate(diagram, data, x = NULL, y = NULL, count = NULL, exact = FALSE,
          missing = c("error", "drop"), at = NULL, set = NULL,
-         given = NULL, back_door = FALSE, zero = FALSE)
+         given = NULL, back_door = FALSE, zero = FALSE, short = FALSE)
 
 \method{as.data.frame}{causal_effects}(x, ...)
 }
@@ -36,6 +36,8 @@ evaluate(diagram, data, x = NULL, y = NULL, count = NULL, exact = FALSE,
   \item{back_door}{whether the set has to meet the back-door criterion.}
   \item{zero}{whether a product with a factor 0 is 0 whatever its other factors are, also where one of them has a condition that no
     record has. Where there is a value without it, it is the same.}
+  \item{short}{whether the formula is the one that \code{\link{identify_effect}} gives with \code{short}, also with \code{given};
+    it goes with no \code{set}.}
   \item{at}{the levels at which the formula's free variables are pinned, as \code{list(Z = 1)}; the first in order by default.}
 }
 \details{
@@ -47,6 +49,9 @@ evaluate(diagram, data, x = NULL, y = NULL, count = NULL, exact = FALSE,
   by their levels), or at the one that \code{at} gives; the answer says which. Over a model's own probabilities every level gives
   the same; over data they differ by chance, and \code{\link{pin_spread}} shows by how much.
 
+  With \code{short} the formula often reads fewer columns, and asks for fewer combinations of levels that have a record. In the
+  population its value is the same; over a sample it may be another, and one formula may have a value where the other has none.
+
   \strong{What is proved}, of each value: it is the value of the formula of \code{\link{identify_effect}}, or of that of the set,
   over the counts that the library was given (the fraction exactly; the bounds enclose it), and it equals the effect, or its bounds enclose it, in each
   positive model that fits the diagram and that the counts match. \strong{What is only computed} or tested: that the data frame
@@ -55,7 +60,7 @@ evaluate(diagram, data, x = NULL, y = NULL, count = NULL, exact = FALSE,
   A value is a plug-in value: it says nothing about its sampling error. See \code{\link{contrast}} for intervals.
 
   A cell that no record supports is an error of the class \code{causal_evaluation_fault} with its \code{cell}, and with the
-  \code{condition} that no record has: \code{zero}, or \code{set} with a smaller set, may help. An effect that
+  \code{condition} that no record has: \code{short}, \code{zero}, or \code{set} with a smaller set, may help. An effect that
   isn't identifiable is one of the class \code{causal_not_identifiable} with its \code{hedge}.
 }
 \value{
@@ -70,4 +75,11 @@ diagram <- causal_diagram("dag { T [exposure] R [outcome] S -> T S -> R T -> R }
 evaluate(diagram, kidney_stones, count = "count")
 evaluate(diagram, kidney_stones, count = "count", exact = TRUE)
 evaluate(diagram, kidney_stones, count = "count", given = "S")
+
+# The short formula reads no column of the weight
+births <- causal_diagram("dag { smoking [exposure] death [outcome]
+  smoking -> weight -> death <- smoking  weight <-> death }")
+deaths <- data.frame(smoking = c("yes", "yes", "no", "no"), death = c("yes", "no"),
+                     n = c(16, 984, 9, 991))
+evaluate(births, deaths, count = "n", short = TRUE)
 }

@@ -10,7 +10,7 @@
   that is observed and differ on the effect.
 }
 \usage{
-identify_effect(diagram, x = NULL, y = NULL, given = NULL)
+identify_effect(diagram, x = NULL, y = NULL, given = NULL, short = FALSE)
 
 \method{identify}{causal_diagram}(x, ...)
 \method{toLatex}{causal_formula}(object, ...)
@@ -21,6 +21,7 @@ identify_effect(diagram, x = NULL, y = NULL, given = NULL)
   \item{x, y}{names of the exposures and of the outcomes; \code{NULL} for the vertices with these marks. In the method
     \code{x} is a diagram.}
   \item{given}{names of variables with whose values the effect is asked for, \eqn{P(y | do(x), given)}; \code{NULL} for none.}
+  \item{short}{\code{TRUE} for the shortest formula that is found.}
   \item{object}{an answer.}
   \item{...}{for the method \code{identify} further arguments of \code{identify_effect}, not named; else not used.}
 }
@@ -38,6 +39,8 @@ identify_effect(diagram, x = NULL, y = NULL, given = NULL)
   With \code{given} the formula is one for the conditional effect. Where there is none, the hedge is one of a joint effect, by
   which that can't be computed from observations; and no formula over observations equals the conditional effect in every model.
   Where the answer is \code{settled}, the two printed models differ on the conditional effect too; else two others do.
+
+  With \code{short} the formula is one that is proved to be no longer than the one without. It needn't be the shortest there is.
 }
 \value{
   For a formula a list of the class \code{causal_formula}: \code{identifiable} (\code{TRUE}), \code{target},
@@ -59,6 +62,7 @@ formula
 toLatex(formula)
 
 identify_effect("dag { Z -> X Z -> Y X -> Y }", x = "X", y = "Y", given = "Z")
+identify_effect("dag { W -> Z -> X -> Y W <-> X W <-> Y }", x = "X", y = "Y", short = TRUE)
 
 hedge <- identify_effect("dag { X -> Y X <-> Y }", x = "X", y = "Y")
 summary(hedge)

@@ -9,12 +9,12 @@
 \usage{
 pin_spread(diagram, data, x = NULL, y = NULL, count = NULL,
            exact = FALSE, missing = c("error", "drop"),
-           given = NULL, zero = FALSE)
+           given = NULL, zero = FALSE, short = FALSE)
 
 \method{print}{causal_spread}(x, ...)
 }
 \arguments{
-  \item{diagram, data, x, y, count, exact, missing, given, zero}{as in \code{\link{evaluate}}; in the method \code{x} is an answer.}
+  \item{diagram, data, x, y, count, exact, missing, given, zero, short}{as in \code{\link{evaluate}}; in the method \code{x} is an answer.}
   \item{...}{passed on to \code{\link{print.data.frame}}.}
 }
 \details{

@@ -1,4 +1,4 @@
-# Effects by a set to adjust for, under a condition, and where cells have no record; progress of long runs.
+# Effects by a set to adjust for, under a condition, by a short formula, and where cells have no record; progress of long runs.
 library(causal)
 same <- function(a, b) stopifnot(identical(a, b))
 near <- function(a, b, by = 1e-10) stopifnot(length(a) == length(b), all(abs(a - b) < by))
@@ -133,3 +133,41 @@ same(lengths(nodes), c(4L, 6L))
 same(nodes[[1]][[4]], list(term = "P(\"X (\"|W,Z)", names = c("W", "Z")))
 same(nodes[[2]][[1]], list(names = "Z"))
 same(vapply(nodes[[2]], is.null, NA), c(FALSE, TRUE, FALSE, TRUE, TRUE, TRUE))
+
+# By a short formula: that of `identify_effect`
+hormones <- causal_diagram("dag { HRT [exposure] CHD [outcome] SES -> HRT SES -> Smoking SES -> CHD Age -> HRT Age -> Smoking Age -> CHD
+  Smoking -> CHD HRT -> CHD }")
+own <- getFromNamespace("asked_of", "causal")
+same(own(hormones, NULL, NULL, short = TRUE)$formula$expression, identify_effect(hormones, short = TRUE)$expression)
+data <- table_of(c("SES", "Age", "HRT", "CHD"), 21)
+found <- evaluate(hormones, data, count = "n", exact = TRUE, short = TRUE)
+same(found, evaluate(hormones, data, count = "n", exact = TRUE, set = c("SES", "Age")))
+same(evaluate(hormones, data, count = "n", short = TRUE, zero = TRUE), evaluate(hormones, data, count = "n", short = TRUE))
+drawn <- lapply(list(TRUE, FALSE), function(short) {
+  set <- if (!short) c("SES", "Age")
+  list(contrast(hormones, data, count = "n", resamples = 20, seed = 1, set = set, short = short),
+       effect_means(hormones, data, count = "n", resamples = 20, seed = 1, set = set, short = short))
+})
+same(drawn[[1]], drawn[[2]])
+# a cell that only the long formula asks for
+data <- table_of(c("SES", "Age", "Smoking", "HRT", "CHD"), 23)
+data$n[data$SES == 0 & data$Smoking == 1 & data$HRT == 1] <- 0
+stopifnot(inherits(tryCatch(evaluate(hormones, data, count = "n"), error = identity), "causal_evaluation_fault"))
+same(evaluate(hormones, data, count = "n", short = TRUE), evaluate(hormones, data, count = "n", set = c("SES", "Age")))
+# no column of the mediator is read, under a condition the formula needs no quotient, and a pinned variable stays one
+through <- causal_diagram("dag { S -> B -> M S -> M B <-> M }")
+data <- table_of(c("S", "M"), 22)
+found <- evaluate(through, data, "S", "M", count = "n", exact = TRUE, short = TRUE)
+near(found$value, vapply(1:4, function(row) part(data, list(M = found$M[row]), list(S = found$S[row])), 0), 1e-15)
+stopifnot(inherits(tryCatch(evaluate(through, data, "S", "M", count = "n"), error = identity), "causal_counts_fault"))
+chain <- causal_diagram("dag { X -> Y -> Z }")
+same(own(chain, "X", "Y", given = "Z", short = TRUE)$formula$expression, "P(Y|X,Z)")
+data <- table_of(c("X", "Y", "Z"), 25)
+found <- evaluate(chain, data, "X", "Y", count = "n", given = "Z", short = TRUE)
+near(found$value, vapply(seq_len(8), function(row) part(data, list(Y = found$Y[row]), list(X = found$X[row], Z = found$Z[row])), 0))
+data <- table_of(c("W", "Z", "X", "Y"), 28)
+spread <- lapply(c(FALSE, TRUE), function(short) pin_spread(napkin, data, "X", "Y", count = "n", exact = TRUE, short = short))
+same(spread[[1]], spread[[2]])
+stopifnot(grepl("by a short formula, and not both", refusal(evaluate(stones, kidney_stones, count = "count", set = "S", short = TRUE))))
+caught <- tryCatch(evaluate("dag { X -> Y X <-> Y }", few, "X", "Y", short = TRUE), causal_not_identifiable = identity)
+same(caught$hedge$text, identify_effect("dag { X -> Y X <-> Y }", "X", "Y")$text)

@@ -11,6 +11,8 @@ same(counts_query(stones, "stones"), paste('SELECT records."T" AS "T", records."
 same(counts_query(stones, c("ma\"in", "s; DROP TABLE t --"), "T", "R", count = "n\"", set = "S"),
      paste('SELECT records."T" AS "T", records."R" AS "R", records."S" AS "S", SUM(records."n""") AS "count" FROM "ma""in"."s; DROP TABLE t --" records',
            'GROUP BY records."T", records."R", records."S"'))
+same(counts_query("dag { S -> B -> M S -> M B <-> M }", "t", "S", "M", short = TRUE),
+     'SELECT records."S" AS "S", records."M" AS "M", COUNT(*) AS "count" FROM "t" records GROUP BY records."S", records."M"')
 same(counts_query("dag { count -> \"a, b'\" }", "t", "count", "a, b'"),
      paste('SELECT records."count" AS "count", records."a, b\'" AS "a, b\'", COUNT(*) AS "count." FROM "t" records',
            'GROUP BY records."count", records."a, b\'"'))
@@ -21,6 +23,7 @@ stopifnot(grepl("can't be adjusted for: not admissible", refusal(counts_query(st
 stopifnot(inherits(tryCatch(counts_query("dag { X -> Y X <-> Y }", "t", "X", "Y"), error = identity), "causal_not_identifiable"))
 stopifnot(grepl("nothing to count", refusal(counts_query("dag { A -> B }", "t", of = "implications"))))
 stopifnot(grepl("have no `x`", refusal(counts_query(stones, "t", "T", of = "implications"))))
+stopifnot(grepl("have no short formula", refusal(counts_query(stones, "t", of = "implications", short = TRUE))))
 stopifnot(grepl("can't hold the counts", refusal(counts_query(stones, "t", count = "S"))))
 for (wrong in list(1, character(), NA_character_, "")) stopifnot(grepl("is the name of a table", refusal(counts_query(stones, wrong))))
 stopifnot(grepl("data frame, a table", refusal(evaluate(stones, 1))))

@@ -1,12 +1,14 @@
-use Rattle.std.proofs.Common.{◌<◌, ◌^◌, length}
+use Rattle.std.proofs.Common.{length}
 use Rattle.mixed_graph.specs.Bits.{has}
-use Rattle.mixed_graph.specs.Sets.{Within}
+use Rattle.mixed_graph.proofs.MemberLists.{AreMembers}
 use Rattle.answer_text.proofs.Lists.{IsWriting}
 use Rattle.answer_text.proofs.push_members.Given as goal
 
 abbrev pub invariant-members : goal.invariant-members
-invariant-members l = IsWriting l.notation l.names l.initial.out.items l.out.items l.fn.set.bits l.rest.bits × Within (length l.names) (has l.rest.bits)
-    × (l.rest.bits < 2 ^ 64)
+invariant-members l = record {
+  are : AreMembers (has l.fn.set.bits) 64 l.rest;
+  text : IsWriting l.notation l.names l.initial.out.items l.out.items l.fn.set.bits l.rest;
+}
 
 abbrev pub decreases-members : goal.decreases-members
-decreases-members l = l.rest.bits
+decreases-members l = length l.rest

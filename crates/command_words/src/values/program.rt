@@ -1,6 +1,6 @@
-// The table as a program of `clap`, and what it makes of words of the form.
+// A command as a program of `clap`, and what it makes of words of the form.
 
-ghost use Rattle.std.specs.Prelude.{◌≡◌, false, IfOk, IfErr, map, fold};
+ghost use Rattle.std.specs.Prelude.{◌≡◌, false, [], ◌∷◌, IfOk, IfErr, map, fold};
 ghost use Rattle.clap.specs.Simple.{app_of, with_rule, with_subcommand};
 ghost use Rattle.clap.specs.Values.{kind_of};
 ghost use Rattle.clap.specs.Walk.{rule_of};
@@ -100,30 +100,26 @@ fn start_program<'a>(alloc: Global) -> Program<'a>
     Program::new(alloc, "causal").no_binary_name(true)
 }
 
-// The program with the commands of the table.
-fn program_of<'a>(alloc: Global, table: &'a [Entry]) -> Result<Program<'a>, AllocError>
-    ensures { IfOk result (λ c. app_of c ≡ app_of_table (map row_of table.now)) }
+// The program with the command of the row alone.
+fn program_of<'a>(alloc: Global, row: &'a Entry) -> Result<Program<'a>, AllocError>
+    ensures { IfOk result (λ c. app_of c ≡ app_of_table (row_of row.now ∷ [])) }
 {
-    let mut program = start_program(alloc);
-    for row in table {
-        program = with_command(program, row_program(alloc, row)?)?;
-    }
-    Ok(program)
+    let command = row_program(alloc, row)?;
+    with_command(start_program(alloc), command)
 }
 
-/// The matches of words of the form: only want of memory is refused.
+/// The matches of words of the form, by the row of their command: only want of memory is refused.
 pub fn read_matches<'a>(
     alloc: Global,
-    table: &'a [Entry],
     words: &'a [String],
-    call: &Call<'_>,
+    call: &Call<'a>,
 ) -> Result<ArgMatches<'a>, Error>
-    requires readable { IsReadable (map row_of table.now) }
-    requires call { IsCall (map row_of table.now) (texts_of words.now) (row_of call.now.row.now)
+    requires readable { IsReadable (row_of call.now.row.now ∷ []) }
+    requires call { IsCall (row_of call.now.row.now ∷ []) (texts_of words.now) (row_of call.now.row.now)
         (uses_in call.now.uses) }
     ensures ok { IfOk result (λ m. GivesCall (row_of call.now.row.now) (uses_in call.now.uses) m) }
     ensures err { IfErr result (λ e. kind_of e ≡ ErrorKind.OutOfMemory) }
 {
-    let program = program_of(alloc, table)?;
+    let program = program_of(alloc, call.row)?;
     program.try_get_matches_from(words)
 }

@@ -1,7 +1,7 @@
 use Rattle.std.proofs.Common.{ap, ap₂, map, is_none, ◌∙◌, arith}
 use Rattle.std.specs.Prelude.{string_bytes}
-use Rattle.spans.specs.Parts.{place_named, content_named}
-use Rattle.spans.specs.Held.{lacks_in}
+use Rattle.caller_memory.specs.Parts.{place_named, content_named}
+use Rattle.caller_memory.specs.Held.{lacks_in}
 use Rattle.span_call.proofs.CallEnds.{ended}
 use Rattle.span_call.proofs.Counts.{zero_or, unless}
 use Rattle.span_call.proofs.Contents.{content_if_there}

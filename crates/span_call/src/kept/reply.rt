@@ -9,18 +9,18 @@ ghost use Rattle.replies.specs.Outcomes.{code_of};
 ghost use Rattle.command_run.specs.Commands.{Asks, file_of};
 ghost use Rattle.command_run.specs.Answers.{GivesSecond};
 ghost use Rattle.causal_cli.specs.Commands.{commands, request_of, left_of};
-ghost use Rattle.kept_graph.specs.Kept.{KeepsText, Keeps};
+ghost use Rattle.caller_memory.specs.Kept.{KeepsText, Keeps};
 ghost use Rattle.span_call.specs.Replies.{Proceeds, RepliesWith, answer_of, line_of, question};
 
+use caller_memory::kept::{KeptDiagram, NamesFault};
+use caller_memory::spans::{Input, content_named};
 use causal_cli::{Request, SecondInput};
 use command_run::{
     AfterFile, AfterWords, Request as _, SecondInput as _, line_of, or_memory, read_request,
 };
 use command_words::typed::RequestFault;
 use dag_reader::ReadGraph;
-use kept_graph::{KeptDiagram, NamesFault};
 use replies::{Outcome, Reply};
-use spans::{Input, content_named};
 use std::alloc::{AllocError, Global};
 
 /// No graph with such names is kept.

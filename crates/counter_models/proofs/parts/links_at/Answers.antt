@@ -14,7 +14,8 @@ loop-j-preserved c = elim c.if-is_link_at.branch [
   | then-is_link_at+in_ok-push w ↦ members-more (λ j. is_linked c.args.h.now j c.args.v && has c.args.s.bits (slice_index c.args.h.now.links.found (suc j)))
       c.loop-j.j c.loop-j.causes.items c.if-is_link_at.causes.items
       c.loop-j.invariant (sym c.is_link_at.ensures ∙ w.if-is_link_at.true) (ap (λ q. q.items) w.causes-is ∙ w.in_ok-push.ensures.items)
-  | else-is_link_at w ↦ rw w.causes-is (members-skip (λ j. is_linked c.args.h.now j c.args.v && has c.args.s.bits (slice_index c.args.h.now.links.found (suc j)))
+  | else-is_link_at w ↦ rw w.causes-is (members-skip (λ j. is_linked c.args.h.now j c.args.v
+      && has c.args.s.bits (slice_index c.args.h.now.links.found (suc j)))
       c.loop-j.j c.loop-j.causes.items
       c.loop-j.invariant (sym c.is_link_at.ensures ∙ w.if-is_link_at.false))
 ]

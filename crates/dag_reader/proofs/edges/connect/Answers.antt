@@ -1,25 +1,33 @@
-use Rattle.std.proofs.Common.{◌∙◌, ap, arith}
-use Rattle.std.specs.Prelude.{◌&&◌, not}
+use Rattle.std.proofs.Common.{◌∙◌, ap, sym, subst, arith}
+use Rattle.std.specs.Prelude.{◌&&◌, ◌||◌, ◌==◌}
 use Rattle.mixed_graph.specs.Bits.{has}
-use Rattle.mixed_graph.proofs.Masks.{has-zero}
+use Rattle.mixed_graph.proofs.MemberLists.{AreMembers, is_in, members-are, is_in-members}
 use Rattle.dag_reader.specs.Rows.{row_has}
-use Rattle.dag_reader.proofs.Joined.{row_joined, member_at, rest_joined, rest_smaller, all_joined}
+use Rattle.dag_reader.proofs.Joined.{row_joined, rest_joined, all_joined}
 use Rattle.dag_reader.proofs.edges.connect.Goals as goal
 
-pub members-preserved : goal.members-preserved
-members-preserved c = record {
-  whole = λ a b.
-      rest_joined _ _ _ _ _ _ (row_joined c.members.rows c.lowest-v.result c.union.result.bits (has c.args.to.bits) (omega arith)
-      (rw c.row.ensures at c.union.ensures.members) a b)
-      (c.difference-rest.ensures.members a ∙ ap (λ t. has c.members.rest.bits a && not t) (c.one.ensures.members a))
-      (member_at c.members.rest.bits c.lowest-v.result a c.lowest-v.ensures.member) ∙ c.members.invariant.whole a b;
-  fits = omega arith;
-}
+pub members-init : goal.members-init
+members-init c =
+    let whole = c.into_iter-v-iterator.ensures.into_iter_gives ∙ c.iter-v-items.ensures in
+    record {
+      are = subst (AreMembers (has c.args.from.bits) 64) (sym whole) (members-are (has c.args.from.bits) 64);
+      whole = λ a b. ap (λ h. row_has c.args.rows.now a b || (h && has c.args.to.bits b))
+          (ap (λ vs. is_in vs a) whole ∙ is_in-members c.args.from.bits (omega arith) a);
+    }
 
-pub members-smaller : goal.members-smaller
-members-smaller c = rest_smaller c.members.rest.bits c.difference-rest.result.bits c.lowest-v.result c.lowest-v.ensures.member
-    (λ u. c.difference-rest.ensures.members u ∙ ap (λ t. has c.members.rest.bits u && not t) (c.one.ensures.members u))
+pub members-preserved : goal.members-preserved
+members-preserved c =
+    let first = c.in-Some.ensures.steps in
+    let are = subst (AreMembers (has c.args.from.bits) 64) first c.members.invariant.are in
+    record {
+      are = are.3;
+      whole = λ a b.
+          rest_joined (row_has c.members.rows a b) _ (a == c.in-Some.v) (has c.args.to.bits b) (is_in c.next.new.self a)
+          (row_joined c.members.rows c.in-Some.v c.union.result.bits (has c.args.to.bits) (omega (arith, are.0))
+          (rw c.row.ensures at c.union.ensures.members) a b)
+          ∙ sym (ap (λ vs. row_has c.members.rows a b || (is_in vs a && has c.args.to.bits b)) first) ∙ c.members.invariant.whole a b;
+    }
 
 pub returns : goal.returns
-returns c = λ a b. all_joined (row_has c.members.rows a b) (has c.members.rest.bits a) (has c.args.to.bits b)
-    (ap (λ m. has m a) (c.is_empty.ensures.none.0 c.members-test.false) ∙ has-zero a) ∙ c.members.invariant.whole a b
+returns c = λ a b. all_joined (row_has c.members.rows a b) (is_in c.members.v-iterator a) (has c.args.to.bits b)
+    (ap (λ vs. is_in vs a) c.in-None.ensures.steps.0) ∙ c.members.invariant.whole a b

@@ -26,7 +26,11 @@ apply_child-returns-in-Err t c =
     let zero : c.args.i ≡ 0 = omega arith in
     let seen : view c.args.e ≡ sum c.in-Sum.over.bits (view c.in-Sum.body.value) = ap view c.in-Sum.is ∙ view-Sum c.in-Sum.over c.in-Sum.body in
     let at : child (view c.args.e) c.args.i ≡ Some (view c.in-Sum.body.value) = rw (seen, zero) refl in
-    record { applied = Turns.child_err (graph_of c.args.g.now) (masks_of c.args.lemmas.now) (step_view c.args.inner.now) (view c.args.e) (view c.in-Sum.body.value) c.args.i c.args.count.now c.tick.new.count c.apply_boxed.new.count c.in-Err.refusal at c.tick.ensures c.in-Err.ensures.applied }
+    record {
+      applied = Turns.child_err (graph_of c.args.g.now) (masks_of c.args.lemmas.now) (step_view c.args.inner.now) (view c.args.e)
+          (view c.in-Sum.body.value) c.args.i c.args.count.now c.tick.new.count c.apply_boxed.new.count c.in-Err.refusal at c.tick.ensures
+          c.in-Err.ensures.applied;
+    }
 
 pub apply_child-returns-in-Product : goal.apply_child-returns-in-Product
 apply_child-returns-in-Product t c =
@@ -42,7 +46,11 @@ apply_child-returns-in-Err-apply_boxed t c =
     let seen : view c.args.e ≡ quotient (view c.in-Quotient.top.value) (view c.in-Quotient.bottom.value) = ap view c.in-Quotient.is
     ∙ view-Quotient c.in-Quotient.top c.in-Quotient.bottom in
     let at : child (view c.args.e) c.args.i ≡ Some (view c.in-Quotient.top.value) = rw (seen, number) refl in
-    record { applied = Turns.child_err (graph_of c.args.g.now) (masks_of c.args.lemmas.now) (step_view c.args.inner.now) (view c.args.e) (view c.in-Quotient.top.value) c.args.i c.args.count.now c.tick.new.count c.apply_boxed-then-i-eq0.new.count c.in-Err-apply_boxed.refusal at c.tick.ensures c.in-Err-apply_boxed.ensures.applied }
+    record {
+      applied = Turns.child_err (graph_of c.args.g.now) (masks_of c.args.lemmas.now) (step_view c.args.inner.now) (view c.args.e)
+          (view c.in-Quotient.top.value) c.args.i c.args.count.now c.tick.new.count c.apply_boxed-then-i-eq0.new.count c.in-Err-apply_boxed.refusal at
+          c.tick.ensures c.in-Err-apply_boxed.ensures.applied;
+    }
 
 pub apply_child-returns-in-Err-apply_boxed-2 : goal.apply_child-returns-in-Err-apply_boxed-2
 apply_child-returns-in-Err-apply_boxed-2 t c =
@@ -50,7 +58,11 @@ apply_child-returns-in-Err-apply_boxed-2 t c =
     let seen : view c.args.e ≡ quotient (view c.in-Quotient.top.value) (view c.in-Quotient.bottom.value) = ap view c.in-Quotient.is
     ∙ view-Quotient c.in-Quotient.top c.in-Quotient.bottom in
     let at : child (view c.args.e) c.args.i ≡ Some (view c.in-Quotient.bottom.value) = rw (seen, number) refl in
-    record { applied = Turns.child_err (graph_of c.args.g.now) (masks_of c.args.lemmas.now) (step_view c.args.inner.now) (view c.args.e) (view c.in-Quotient.bottom.value) c.args.i c.args.count.now c.tick.new.count c.apply_boxed-then-i-eq1.new.count c.in-Err-apply_boxed-2.refusal at c.tick.ensures c.in-Err-apply_boxed-2.ensures.applied }
+    record {
+      applied = Turns.child_err (graph_of c.args.g.now) (masks_of c.args.lemmas.now) (step_view c.args.inner.now) (view c.args.e)
+          (view c.in-Quotient.bottom.value) c.args.i c.args.count.now c.tick.new.count c.apply_boxed-then-i-eq1.new.count c.in-Err-apply_boxed-2.refusal at
+          c.tick.ensures c.in-Err-apply_boxed-2.ensures.applied;
+    }
 
 pub apply_factor-apply_step-requires : goal.apply_factor-apply_step-requires
 apply_factor-apply_step-requires t c = (
@@ -143,7 +155,8 @@ pub apply_step-returns-in-Narrow : goal.apply_step-returns-in-Narrow
 apply_step-returns-in-Narrow t c =
     record {
       applied = Turns.moved (graph_of c.args.g.now) (masks_of c.args.lemmas.now) (view c.args.e)
-          c.args.count.now c.counted-in-Narrow.new.count c.narrow.result c.counted-in-Narrow.result c.in-Narrow.is StepViews.step-Narrow c.counted-in-Narrow.ensures
+          c.args.count.now c.counted-in-Narrow.new.count c.narrow.result c.counted-in-Narrow.result c.in-Narrow.is StepViews.step-Narrow
+          c.counted-in-Narrow.ensures
           c.narrow.ensures.row;
     }
 
@@ -167,6 +180,7 @@ pub apply_step-returns-in-Unwrap : goal.apply_step-returns-in-Unwrap
 apply_step-returns-in-Unwrap t c =
     record {
       applied = Turns.moved (graph_of c.args.g.now) (masks_of c.args.lemmas.now) (view c.args.e)
-          c.args.count.now c.counted-in-Unwrap.new.count c.unwrap.result c.counted-in-Unwrap.result c.in-Unwrap.is StepViews.step-Unwrap c.counted-in-Unwrap.ensures
+          c.args.count.now c.counted-in-Unwrap.new.count c.unwrap.result c.counted-in-Unwrap.result c.in-Unwrap.is StepViews.step-Unwrap
+          c.counted-in-Unwrap.ensures
           c.unwrap.ensures.row;
     }

@@ -11,7 +11,10 @@ use Rattle.do_derivation.proofs.product_moves.group.Goals as goal
 pub returns-then-not-is_grouping : goal.returns-then-not-is_grouping
 returns-then-not-is_grouping c =
     let h : is_grouping (length c.in-Product.factors.items) (numbers_of c.args.groups.now.items) ≡ false = search rules in
-    record { row = Walks.group_refused (graph_of c.args.g.now) (numbers_of c.args.groups.now.items) (view c.args.e) c.in-Product.factors.items (ap view c.in-Product.is ∙ view-Product c.in-Product.factors) h }
+    record {
+      row = Walks.group_refused (graph_of c.args.g.now) (numbers_of c.args.groups.now.items) (view c.args.e) c.in-Product.factors.items
+          (ap view c.in-Product.is ∙ view-Product c.in-Product.factors) h;
+    }
 
 pub returns-in-Ok : goal.returns-in-Ok
 returns-in-Ok c =

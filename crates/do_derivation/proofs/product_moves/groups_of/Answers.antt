@@ -9,7 +9,10 @@ pub picked-requires : goal.picked-requires
 picked-requires c =
     let h : each_below (length c.args.factors.now.items) (all_of (numbers_of c.deref-group-items.result.now)) ≡ true =
     rw c.deref-group-items.ensures.value c.requires.within in
-    record { within = Walks.below_group (length c.args.factors.now.items) c.deref-group-items.result.now c.loop-group.group-index c.group-item.result (omega arith) c.group-item.is h }
+    record {
+      within = Walks.below_group (length c.args.factors.now.items) c.deref-group-items.result.now c.loop-group.group-index c.group-item.result
+          (omega arith) c.group-item.is h;
+    }
 
 pub loop-group-preserved : goal.loop-group-preserved
 loop-group-preserved c =

@@ -27,7 +27,7 @@ returns-in-Formula c =
     let seen = c.in_ok-seen.field-0.seen in let q = graph_of seen.graph in let s = c.in-Ok.sets in
     let t : PlainTarget = record { x = s.x.bits; y = s.y.bits; given = s.given.bits } in
     let same = same_lists g x y given _ _ _ _ e.names (ap texts c.deref.ensures.value ∙ e.x) (ap texts c.deref-2.ensures.value ∙ e.y) refl in
-    let found = subst (IsFound q seen.names t IsByCondition (IsJointReply q seen.names t)) c.in-Formula.is c.in_ok-formula.ensures in
+    let found = subst (IsFound q seen.names t (IsByCondition c.args.short) (IsJointReply q seen.names t)) c.in-Formula.is c.in_ok-formula.ensures in
     record { names = e.names; graph = e.graph; identified = found.0; found = (subst (λ (l : Lists). AreTargetSets l t) same c.in-Ok.ensures.sets, found.1) }
 
 pub returns-in-Reply : goal.returns-in-Reply
@@ -39,7 +39,7 @@ returns-in-Reply c =
     let same = same_lists g x y given _ _ _ _ e.names (ap texts c.deref.ensures.value ∙ e.x) (ap texts c.deref-2.ensures.value ∙ e.y) refl in
     joint_replied g x y q e.graph seen.names e.names given t (subst (λ (l : Lists). AreTargetSets l t) same c.in-Ok.ensures.sets)
     c.in-Reply.reply.outcome c.in-Reply.reply.text.items
-    (subst (IsFound q seen.names t IsByCondition (IsJointReply q seen.names t)) c.in-Reply.is c.in_ok-formula.ensures)
+    (subst (IsFound q seen.names t (IsByCondition c.args.short) (IsJointReply q seen.names t)) c.in-Reply.is c.in_ok-formula.ensures) c.args.short
 
 pub returns-in-Err : goal.returns-in-Err
 returns-in-Err c =
@@ -49,4 +49,4 @@ returns-in-Err c =
     condition_refused g x y (graph_of c.in_ok-seen.field-0.seen.graph)
     e.graph _ c.in-Err.fault c.in_ok-refuse-in-Err.field-0 c.in_ok-refuse-in-Err.ensures.outcome c.in_ok-refuse-in-Err.ensures.line
     c.in_ok-refuse-in-Err.ensures.fault
-    given same c.in-Err.ensures.fault
+    given same c.in-Err.ensures.fault c.args.short

@@ -1,4 +1,4 @@
-use Rattle.std.proofs.Common.{◌<◌, ◌⊎◌, inl, inr, ℕ, IsTrue, [], length, refl, sym, subst}
+use Rattle.std.proofs.Common.{◌<◌, ◌≤◌, ◌⊎◌, inl, inr, ℕ, IsTrue, [], length, refl, sym, subst}
 use Rattle.mixed_graph.specs.Bits.{has}
 use Rattle.mixed_graph.specs.Graphs.{IsAncestor}
 use Rattle.mixed_graph.specs.Masks.{union}
@@ -8,6 +8,8 @@ use Rattle.prob_expr.specs.View.{formula_view, target_view}
 use Rattle.do_derivation.specs.View.{derivation_view}
 use Rattle.counter_models.specs.Events.{AreCounterModels}
 use Rattle.conditional_id.specs.Conditionals.{IsConditionalBySteps}
+use Rattle.conditional_id.specs.TurnLaws.{IsShallowGiven}
+use Rattle.short_formulas.proofs.Usable.{usable_given, or_shorter}
 use Rattle.conditional_id.specs.Answers.{IsRight, IsJointEffect, IsJointShown, IfFormula, IfJoint}
 use Rattle.identify_text.specs.Below.{IsHedgeBelow, ArePairBelow}
 use Rattle.identify_text.proofs.Belows.{hedge_below}
@@ -16,6 +18,15 @@ use Rattle.evaluate_command.specs.Effects.{PlainEffect}
 use Rattle.evaluate_command.proofs.Columns.{used_only}
 use Rattle.evaluate_command.proofs.Mentions.{in_left, in_right, mentioned_only}
 use Rattle.evaluate_command.proofs.conditional.find_given.Goals as goal
+
+pub shortened_if-requires-clause-usable : goal.shortened_if-requires-clause-usable
+shortened_if-requires-clause-usable c =
+    let g = graph_of c.args.seen.now.graph in
+    let t = target_view c.args.target in
+    usable_given g t (formula_view c.in-Formula.formula) (derivation_view c.in-Formula.derivation)
+    (subst (IsRight g t) c.in-Formula.is c.in_ok-formula.ensures.right)
+    (subst (λ a. IfFormula a IsShallowGiven) c.in-Formula.is c.in_ok-formula.ensures.shallow)
+    (subst (λ a. IfFormula a (λ f d. length f.defs ≤ 4096)) c.in-Formula.is c.in_ok-formula.ensures.few)
 
 pub joint_answer-requires : goal.joint_answer-requires
 joint_answer-requires c =
@@ -41,14 +52,16 @@ joint_answer-requires c =
           (subst (λ a. IfJoint a (λ x y b h pair. AreCounterModels g x.bits y.bits pair)) c.in-Joint.is c.in_ok-formula.ensures.counter));
     }
 
-pub returns-in-Formula : goal.returns-in-Formula
-returns-in-Formula c =
+pub returns-in_ok-shown-in-Formula : goal.returns-in_ok-shown-in-Formula
+returns-in_ok-shown-in-Formula c =
     let g = graph_of c.args.seen.now.graph in
     let t = target_view c.args.target in
     let sets = c.requires.sets in
-    let right = subst (IsRight g t) c.in-Formula.is c.in_ok-formula.ensures.right in
+    let f = formula_view c.in_ok-shown-in-Formula.shown.formula in
+    let d = derivation_view c.in_ok-shown-in-Formula.shown.derivation in
+    let right = c.in_ok-shown-in-Formula.ensures.usable.right in
     let both = union t.y t.given in
-    let e : PlainEffect = record { names = c.args.seen.now.names; graph = g; x = t.x; y = t.y; given = t.given; formula = formula_view c.in-Formula.formula } in
+    let e : PlainEffect = record { names = c.args.seen.now.names; graph = g; x = t.x; y = t.y; given = t.given; formula = f } in
     let named = mentioned_only (IsAncestor g (has both)) e.formula right.names in
     let of_y : (v : ℕ) → IsTrue (has t.y v) → IsAncestor g (has both) v =
     λ v h. record { vertex = sets.y_within v h; path = []; end = v; leads = refl; inside = in_left t.y t.given v h } in
@@ -69,16 +82,18 @@ returns-in-Formula c =
         effect = right.effect;
       },
       record {
-        derivation = derivation_view c.in-Formula.field-1;
+        derivation = d;
         right = right;
-        derived = subst (λ a. IfFormula a (IsConditionalBySteps g t)) c.in-Formula.is c.in_ok-formula.ensures.derived;
+        derived = or_shorter c.args.short (IsConditionalBySteps g t) (formula_view c.in-Formula.formula) (derivation_view c.in-Formula.derivation) f d
+            c.in_ok-shown-in-Formula.ensures.first
+            (subst (λ a. IfFormula a (IsConditionalBySteps g t)) c.in-Formula.is c.in_ok-formula.ensures.derived);
         columns = used_only (λ v. IsTrue (has t.x v) ⊎ IsAncestor g (has both) v) e (λ v h. inr (named v h)) (λ v h. inl h) (λ v h. inr (of_y v h))
             (λ v h. inr (of_given v h));
       },
     )
 
-pub returns : goal.returns
-returns c =
+pub returns-in_ok-joint_answer-in-Joint : goal.returns-in_ok-joint_answer-in-Joint
+returns-in_ok-joint_answer-in-Joint c =
     let g = graph_of c.args.seen.now.graph in
     let t = target_view c.args.target in
     let shown = subst (λ a. IfJoint a (IsJointShown g t)) c.in-Joint.is c.in_ok-formula.ensures.shown in

@@ -13,7 +13,7 @@ returns-in-Formula c =
     let g = c.args.graph.now in let x = option_map names_in c.args.x in let y = option_map names_in c.args.y in
     let e = c.in-Effect.effect in let q = graph_of e.seen.graph in
     let asked : IsEffectOf g x y e = subst (IsAsked g x y) c.in-Effect.is c.in_ok-effect.ensures in
-    let found = subst (IsFound q e.seen.names (effect_on e.sets.x.bits e.sets.y.bits) IsByProcedure (IsHedgeReply q e.seen.names e.sets.x.bits e.sets.y.bits))
+    let found = subst (IsFound q e.seen.names (effect_on e.sets.x.bits e.sets.y.bits) (IsByProcedure c.args.short) (IsHedgeReply q e.seen.names e.sets.x.bits e.sets.y.bits))
     c.in-Formula.is c.in_ok-formula.ensures in
     record { names = asked.names; graph = asked.graph; identified = found.0; found = (asked.sets, found.1) }
 
@@ -23,5 +23,5 @@ returns-in-Reply c =
     let e = c.in-Effect.effect in let q = graph_of e.seen.graph in
     let asked : IsEffectOf g x y e = subst (IsAsked g x y) c.in-Effect.is c.in_ok-effect.ensures in
     hedge_replied g x y q asked.graph e.seen.names asked.names e.sets.x.bits e.sets.y.bits asked.sets c.in-Reply.reply.outcome c.in-Reply.reply.text.items
-    (subst (IsFound q e.seen.names (effect_on e.sets.x.bits e.sets.y.bits) IsByProcedure (IsHedgeReply q e.seen.names e.sets.x.bits e.sets.y.bits))
-    c.in-Reply.is c.in_ok-formula.ensures)
+    (subst (IsFound q e.seen.names (effect_on e.sets.x.bits e.sets.y.bits) (IsByProcedure c.args.short) (IsHedgeReply q e.seen.names e.sets.x.bits e.sets.y.bits))
+    c.in-Reply.is c.in_ok-formula.ensures) c.args.short

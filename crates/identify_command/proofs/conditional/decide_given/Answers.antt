@@ -1,12 +1,14 @@
-use Rattle.std.proofs.Common.{◌≤◌, ℕ, [], length, sym, subst}
+use Rattle.std.proofs.Common.{◌≡◌, ◌≤◌, ℕ, [], None, length, sym, subst}
 use Rattle.mixed_graph.specs.Bits.{has}
 use Rattle.mixed_graph.specs.Sets.{Within}
 use Rattle.mixed_graph.specs.Shown.{graph_of}
+use Rattle.prob_expr.specs.Check.{fault_in}
 use Rattle.prob_expr.specs.View.{formula_view, target_view}
-use Rattle.do_derivation.specs.Accepts.{Accepts}
 use Rattle.do_derivation.specs.View.{derivation_view}
 use Rattle.counter_models.specs.Events.{AreCounterModels}
+use Rattle.conditional_id.specs.Conditionals.{IsConditionalBySteps}
 use Rattle.conditional_id.specs.TurnLaws.{IsShallowGiven}
+use Rattle.short_formulas.proofs.Usable.{usable_given, or_shorter}
 use Rattle.conditional_id.specs.Answers.{IsRight, IsJointEffect, IsJointShown, IfFormula, IfJoint}
 use Rattle.prob_expr.specs.Tree.{effect_on}
 use Rattle.identify_text.specs.Below.{IsHedgeBelow, ArePairBelow}
@@ -15,9 +17,9 @@ use Rattle.certificate.specs.Plain.{hedge_view}
 use Rattle.certificate_writing.specs.Writable.{IsTargetWithin, IsBareTarget, IsDerivationWithin, IsHedgeWithin}
 use Rattle.effect_answers.proofs.Belows.{pair_below}
 use Rattle.identify_command.proofs.Lists.{with_member}
-use Rattle.effect_certificates.proofs.Shallow.{given_shallow}
-use Rattle.effect_certificates.proofs.Within.{derivation_within}
-use Rattle.effect_certificates.proofs.Writing.{target_within, bare_target, hedge_within}
+use Rattle.identify_command.proofs.Shallow.{readable_shallow}
+use Rattle.effect_answers.proofs.Within.{derivation_within}
+use Rattle.effect_answers.proofs.Writing.{target_within, bare_target, hedge_within}
 use Rattle.identify_command.proofs.conditional.decide_given.Goals as goal
 
 pub formula_text-requires-clause-what : goal.formula_text-requires-clause-what
@@ -33,19 +35,47 @@ pub formula_text-requires-clause-target : goal.formula_text-requires-clause-targ
 formula_text-requires-clause-target c = subst (λ n. IsTargetWithin n (target_view c.args.target)) (sym c.requires.named)
     (target_within c.args.seen.now.graph.n (target_view c.args.target) c.requires.sets c.requires.some)
 
+pub shortened_if-requires-clause-usable : goal.shortened_if-requires-clause-usable
+shortened_if-requires-clause-usable c =
+    let g = graph_of c.args.seen.now.graph in
+    let t = target_view c.args.target in
+    usable_given g t (formula_view c.in-Formula.formula) (derivation_view c.in-Formula.derivation)
+    (subst (IsRight g t) c.in-Formula.is c.in_ok-formula.ensures.right)
+    (subst (λ a. IfFormula a IsShallowGiven) c.in-Formula.is c.in_ok-formula.ensures.shallow)
+    (subst (λ a. IfFormula a (λ f d. length f.defs ≤ 4096)) c.in-Formula.is c.in_ok-formula.ensures.few)
+
+pub formula_text-requires-clause-formula : goal.formula_text-requires-clause-formula
+formula_text-requires-clause-formula c = subst (λ n. fault_in n (formula_view c.in_ok-shown-in-Formula.shown.formula) ≡ None) (sym c.requires.named)
+    c.in_ok-shown-in-Formula.ensures.usable.right.formed
+
 pub formula_text-requires-clause-derivation : goal.formula_text-requires-clause-derivation
 formula_text-requires-clause-derivation c =
     let g = graph_of c.args.seen.now.graph in
     let t = target_view c.args.target in
-    subst (λ n. IsDerivationWithin n (derivation_view c.in-Formula.derivation)) (sym c.requires.named)
-    (derivation_within g c.args.seen.now.graph.valid [] t (formula_view c.in-Formula.formula) (derivation_view c.in-Formula.derivation)
-    (target_within c.args.seen.now.graph.n t c.requires.sets c.requires.some)
-    (subst (λ a. IfFormula a (Accepts g [] t)) c.in-Formula.is c.in_ok-formula.ensures.accepted))
+    subst (λ n. IsDerivationWithin n (derivation_view c.in_ok-shown-in-Formula.shown.derivation)) (sym c.requires.named)
+    (derivation_within g c.args.seen.now.graph.valid [] t (formula_view c.in_ok-shown-in-Formula.shown.formula)
+    (derivation_view c.in_ok-shown-in-Formula.shown.derivation)
+    (target_within c.args.seen.now.graph.n t c.requires.sets c.requires.some) c.in_ok-shown-in-Formula.ensures.usable.right.accepted)
 
 pub formula_text-requires-clause-shallow : goal.formula_text-requires-clause-shallow
-formula_text-requires-clause-shallow c = given_shallow (formula_view c.in-Formula.formula) (derivation_view c.in-Formula.derivation)
-    (subst (λ a. IfFormula a (λ f d. length f.defs ≤ 4096)) c.in-Formula.is c.in_ok-formula.ensures.few)
-    (subst (λ a. IfFormula a IsShallowGiven) c.in-Formula.is c.in_ok-formula.ensures.shallow)
+formula_text-requires-clause-shallow c = readable_shallow (formula_view c.in_ok-shown-in-Formula.shown.formula)
+    (derivation_view c.in_ok-shown-in-Formula.shown.derivation)
+    c.in_ok-shown-in-Formula.ensures.usable.readable
+
+pub returns-in_ok-formula_text-in-Formula : goal.returns-in_ok-formula_text-in-Formula
+returns-in_ok-formula_text-in-Formula c =
+    let g = graph_of c.args.seen.now.graph in
+    let t = target_view c.args.target in record {
+      formula = formula_view c.in_ok-shown-in-Formula.shown.formula;
+      derivation = derivation_view c.in_ok-shown-in-Formula.shown.derivation;
+      right = c.in_ok-shown-in-Formula.ensures.usable.right;
+      derived = or_shorter c.args.form.short (IsConditionalBySteps g t) (formula_view c.in-Formula.formula) (derivation_view c.in-Formula.derivation)
+          (formula_view c.in_ok-shown-in-Formula.shown.formula) (derivation_view c.in_ok-shown-in-Formula.shown.derivation)
+          c.in_ok-shown-in-Formula.ensures.first
+          (subst (λ a. IfFormula a (IsConditionalBySteps g t)) c.in-Formula.is c.in_ok-formula.ensures.derived);
+      prints = c.in_ok-formula_text-in-Formula.ensures.text;
+      reads_back = c.in_ok-formula_text-in-Formula.ensures.reads_back;
+    }
 
 pub joint_text-requires : goal.joint_text-requires
 joint_text-requires c =

@@ -1,5 +1,7 @@
+use Rattle.std.proofs.Common.{ap, ◌∙◌}
 use Rattle.mixed_graph.specs.Bits.{has, members_below}
 use Rattle.count_eval.specs.Programs.{cell_of}
+use Rattle.answer_text.specs.Texts.{comma_before}
 use Rattle.count_answers.specs.Lines.{assignment}
 use Rattle.implications_command.proofs.Pieces.{cell_pieces}
 use Rattle.implications_command.proofs.lines.push_cell.Goals as goal
@@ -10,4 +12,4 @@ returns c =
     (members_below (has c.args.i.now.given.bits) 64) c.args.out.now.items
     c.push_assignment.new.out.items c.push.new.self.items c.push_assignment-2.new.out.items c.extend_from_slice.new.self.items c.push_assignments.new.out.items
     c.in_ok-push_assignment.ensures c.in_ok-push.ensures.items c.in_ok-push_assignment-2.ensures
-    (rw (← c.separator.ensures) c.in_ok-extend_from_slice.ensures.items) c.in_ok-push_assignments.ensures
+    (rw (← (c.separator.ensures ∙ ap comma_before c.iter.ensures)) c.in_ok-extend_from_slice.ensures.items) c.in_ok-push_assignments.ensures

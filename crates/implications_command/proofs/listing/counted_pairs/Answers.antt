@@ -1,10 +1,14 @@
-use Rattle.std.proofs.Common.{◌≡◌, ℕ, List, length, arith}
+use Rattle.std.proofs.Common.{◌≡◌, ◌==◌, ℕ, true, List, length, arith}
 use Rattle.mixed_graph.specs.Graphs.{MixedGraph}
 use Rattle.mixed_graph.specs.Shown.{graph_of}
 use Rattle.implications.specs.declared.pairs.Implication.{Implication}
 use Rattle.implications.specs.Implications.{AreImplications}
 use Rattle.implications.specs.Separable.{IsSeparable}
 use Rattle.implications_command.proofs.listing.counted_pairs.Goals as goal
+
+-- a list that is found empty has no element
+no_element : (n : ℕ) → true ≡ (n == 0) → n ≡ 0
+no_element n is = grind (arith, is)
 
 -- where no pair is listed, there is none
 none_listed : (g : MixedGraph) (list : List Implication) → AreImplications g list → length list ≡ 0 → (a b : ℕ) → IsSeparable g a b → ⊥
@@ -15,8 +19,8 @@ returns-then-is_empty c = record {
   graph = graph_of c.in_ok-seen.seen.graph;
   observed = c.in_ok-seen.ensures.graph;
   none = none_listed (graph_of c.in_ok-seen.seen.graph) c.in_ok-list.list.items c.in_ok-list.ensures.implications
-      (grind (arith, c.if-is_empty.true, c.if-is_empty.ensures));
-  dependent = λ a b i. (let there = c.in_ok-list.ensures.complete a b i in let lt = there.2 in let empty : length c.in_ok-list.list.items ≡ 0 =
-      grind (arith, c.if-is_empty.true, c.if-is_empty.ensures) in omega (arith, lt, empty));
+      (let empty = no_element _ c.if-is_empty.ensures in omega (arith, empty));
+  dependent = λ a b i. (let there = c.in_ok-list.ensures.complete a b i in let lt = there.2 in
+      let empty = no_element _ c.if-is_empty.ensures in omega (arith, lt, empty));
   prints = c.in_ok-from_slice.ensures.items;
 }

@@ -1,7 +1,8 @@
-use Rattle.std.proofs.Common.{◌<◌, ◌≤◌, ◌^◌}
+use Rattle.std.proofs.Common.{◌≤◌}
 use Rattle.mixed_graph.specs.Bits.{has}
 use Rattle.mixed_graph.specs.Graphs.{MixedGraph, IsMixedGraph, Agree, graph_from}
 use Rattle.mixed_graph.specs.Shown.{graph_of}
+use Rattle.mixed_graph.proofs.MemberLists.{AreMembers, is_in}
 use Rattle.latent_projection.proofs.Treks.{ProjectsByTreks}
 use Rattle.latent_projection.proofs.latents.project.Given as goal
 
@@ -11,10 +12,7 @@ invariant-vertices l = record {
   small : l.graph.0 ≤ 64;
   agree : Agree l.graph.1.0 l.graph.1.1.0;
   valid : IsMixedGraph (graph_from l.graph.0 l.graph.1.1.0 l.graph.1.1.1.0);
-  projects : (p : MixedGraph) → ProjectsByTreks (graph_from l.graph.0 l.graph.1.1.0 l.graph.1.1.1.0) (has l.rest.bits) p
+  are : AreMembers (has l.fn.latent.bits) 64 l.k-iterator;
+  projects : (p : MixedGraph) → ProjectsByTreks (graph_from l.graph.0 l.graph.1.1.0 l.graph.1.1.1.0) (is_in l.k-iterator) p
       → ProjectsByTreks (graph_of l.g) (has l.fn.latent.bits) p;
-  fits : l.rest.bits < 2 ^ 64;
 }
-
-abbrev pub decreases-vertices : goal.decreases-vertices
-decreases-vertices l = l.rest.bits

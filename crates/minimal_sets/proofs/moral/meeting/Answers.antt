@@ -22,7 +22,8 @@ returns c =
     v h) in
     let p_is : (w : ℕ) → has c.union.result.bits w ≡ (has c.reached-heads.result.bits w || (w == c.args.u)) = λ w. c.union.ensures.members w
     ∙ ap (λ t. has c.reached-heads.result.bits w || t) (c.one.ensures.members w) in
-    let m_next : (v : ℕ) → has c.beside-beyond.result.bits v ≡ true → (w : ℕ) × (has c.union.result.bits w ≡ true) × (is_near c.args.g.now.children v w ≡ true) =
+    let m_next : (v : ℕ) → has c.beside-beyond.result.bits v ≡ true → (w : ℕ) × (has c.union.result.bits w ≡ true)
+    × (is_near c.args.g.now.children v w ≡ true) =
     λ v e. let n = c.beside-beyond.ensures.next v e in (n.0, n.1, sym (c.args.g.now.agree v n.0) ∙ n.2) in
     let m_all : (w v : ℕ) → has c.args.within.bits v ≡ true → has c.union.result.bits w ≡ true → is_near c.args.g.now.children v w ≡ true
     → has c.beside-beyond.result.bits v ≡ true =

@@ -10,9 +10,9 @@ use Rattle.identify.specs.Answers.{AreShallowSteps, IsShallowFormula}
 use Rattle.identify_text.proofs.Free.{none_within}
 use Rattle.certificate.specs.Plain.{formula}
 use Rattle.certificate_writing.specs.Writable.{IsTargetWithin, IsBareTarget, IsDerivationWithin}
-use Rattle.effect_certificates.proofs.Shallow.{formula_shallow}
-use Rattle.effect_certificates.proofs.Within.{derivation_within}
-use Rattle.effect_certificates.proofs.Writing.{bare_target}
+use Rattle.effect_answers.proofs.Shallow.{formula_shallow}
+use Rattle.effect_answers.proofs.Within.{derivation_within}
+use Rattle.effect_answers.proofs.Writing.{bare_target}
 use Rattle.surrogates.specs.Answers.{IsRightWith, IfFormula, IfStopped, IfCommon, IsStopShown, IsBlockShown, IsBlockedTogether, HasCommon, is_stopped}
 use Rattle.surrogates.specs.Surrogates.{IsSurrogate, IsSurrogateBySteps, SomeBlocked}
 use Rattle.surrogate_command.specs.Answers.{ShowsFormula, ShowsStop}

@@ -1,5 +1,5 @@
 use Rattle.std.proofs.Common.{◌≡◌, Some, codes, option_map, subst, sym, refl, rules}
-use Rattle.command_words.specs.Form.{value_of}
+use Rattle.command_words.specs.Form.{value_of, has_flag}
 use Rattle.command_words.specs.ListViews.{names_in}
 use Rattle.command_words.proofs.Inputs.{with_file}
 use Rattle.evaluate_command.specs.Requests.{evaluate_row}
@@ -34,9 +34,10 @@ pub returns-in_default-clause-none : goal.returns-in_default-clause-none
 returns-in_default-clause-none c = λ uses g e. record {
   nothing = λ r is.
       no_way (value_of uses (codes "set")) (value_of uses (codes "given")) (option_map names_in c.in_ok-set.set) is.set (names_in c.in_ok-given.given)
-      is.given c.flag-back_door.result r.way
+      is.given c.flag-back_door.result c.flag-short.result r.way
       (c.in_ok-set.ensures.ok evaluate_row uses g refl) is.is_set (c.in_ok-given.ensures.ok evaluate_row uses g refl) is.is_given c.in_default.ensures
-      (subst (λ b. way_for is.set is.given b ≡ Some r.way) (sym (c.flag-back_door.ensures evaluate_row uses g refl)) is.is_way);
+      (subst (λ b. way_for is.set is.given c.flag-back_door.result b ≡ Some r.way) (sym (c.flag-short.ensures evaluate_row uses g refl))
+      (subst (λ b. way_for is.set is.given b (has_flag uses (codes "short")) ≡ Some r.way) (sym (c.flag-back_door.ensures evaluate_row uses g refl)) is.is_way));
 }
 
 pub returns-clause-ok : goal.returns-clause-ok
@@ -50,8 +51,10 @@ returns-clause-ok c = λ uses g. let s = c.in_ok-file.ensures.ok evaluate_row us
   is_set = c.in_ok-set.ensures.ok evaluate_row uses g refl;
   given = names_in c.in_ok-given.given;
   is_given = c.in_ok-given.ensures.ok evaluate_row uses g refl;
-  is_way = subst (λ b. way_for (option_map names_in c.in_ok-set.set) (names_in c.in_ok-given.given) b ≡ Some (way_of c.in-Some.way))
-      (c.flag-back_door.ensures evaluate_row uses g refl) (sym c.in-Some.ensures);
+  is_way = subst (λ b. way_for (option_map names_in c.in_ok-set.set) (names_in c.in_ok-given.given) b (has_flag uses (codes "short")) ≡ Some (way_of c.in-Some.way))
+      (c.flag-back_door.ensures evaluate_row uses g refl)
+      (subst (λ b. way_for (option_map names_in c.in_ok-set.set) (names_in c.in_ok-given.given) c.flag-back_door.result b ≡ Some (way_of c.in-Some.way))
+      (c.flag-short.ensures evaluate_row uses g refl) (sym c.in-Some.ensures));
   count = sym (c.value_bytes-count.ensures evaluate_row uses g refl);
   exact = sym (c.flag-exact.ensures evaluate_row uses g refl);
   zero = sym (c.flag-zero.ensures evaluate_row uses g refl);

@@ -1,5 +1,5 @@
 use Rattle.std.proofs.Common.{◌≡◌, Some, sym, subst}
-use Rattle.spans.specs.Parts.{content_named}
+use Rattle.caller_memory.specs.Parts.{content_named}
 use Rattle.causal_cli.specs.Commands.{left_of}
 use Rattle.span_call.proofs.Replying.{given_second}
 use Rattle.span_call.proofs.kept.reply.proceed.Goals as goal

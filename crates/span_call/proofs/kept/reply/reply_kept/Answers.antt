@@ -1,5 +1,5 @@
 use Rattle.std.proofs.Common.{ap, Err}
-use Rattle.kept_graph.proofs.OneGraph.{kept_holds}
+use Rattle.caller_memory.proofs.OneGraph.{kept_holds}
 use Rattle.span_call.proofs.kept.reply.reply_kept.Goals as goal
 
 pub returns-in-Ok-clause-replies : goal.returns-in-Ok-clause-replies

@@ -1,0 +1,6 @@
+pub mod Parts
+pub mod Held
+pub mod Laws
+pub mod Words
+pub mod Kept
+pub mod Lines

@@ -1,0 +1,14 @@
+//! A diagram that is read once and asked many times, in the caller's memory: the graph as it was read, its observed graph, and its
+//! names as lines.
+//!
+//! `KeptDiagram::read(alloc, text)` reads a graph text. `kept.observed.separation(x, y, given)` says whether two sets are separated,
+//! and `kept.graph(alloc, lines)` gives the graph that was read, with its names.
+mod asking;
+mod kept;
+mod naming;
+mod reading;
+
+pub use asking::Separation;
+pub use kept::{KeptDiagram, KeptGraph};
+pub use naming::NamesFault;
+pub use reading::{KeepFault, ReadDiagram};

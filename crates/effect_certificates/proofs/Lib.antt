@@ -1,3 +1,0 @@
-pub mod Shallow
-pub mod Within
-pub mod Writing

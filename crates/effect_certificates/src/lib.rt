@@ -1,6 +1,0 @@
-//! Certificates of answers to an effect, each on a line of its own.
-#![tactic(auto)]
-
-mod line;
-
-pub use line::{certificate_line, sized};

@@ -1,0 +1,7 @@
+use Rattle.std.proofs.Common.{◌≡◌, drop}
+use Rattle.prob_expr.specs.View.{views}
+use Rattle.prob_expr.specs.Terms.{are_terms_each}
+use Rattle.held_steps.proofs.terms.+terms.Given as goal
+
+abbrev pub invariant-are_terms_each-loop-factor : goal.invariant-are_terms_each-loop-factor
+invariant-are_terms_each-loop-factor l = are_terms_each l.n (views (drop l.factor-index l.factor-items)) ≡ are_terms_each l.n (views l.factor-items)

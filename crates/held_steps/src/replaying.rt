@@ -1,0 +1,131 @@
+//! A derivation done anew, with lemmas put in where they are cited, and its expressions made shorter by moves.
+
+use crate::candidate::Candidate;
+use crate::citing::{expanded, is_marked};
+use crate::held::Held;
+use crate::leaves::{Cited, Placed, push_leaves};
+use crate::moves::improve;
+use do_derivation::{Derivation, Lemma, Step};
+use mixed_graph::{Graph, VSet};
+use prob_expr::{Expr, Formula, Target, cap};
+use std::alloc::{AllocError, Global};
+
+/// Does the steps in turn: whether none is refused.
+fn play(alloc: Global, g: &Graph, held: &mut Held, steps: Vec<Placed>) -> Result<bool, AllocError> {
+    for placed in steps {
+        let Placed { place, step } = placed;
+        if !held.try_step(alloc, g, place.as_slice(), step)? {
+            return Ok(false);
+        }
+    }
+    Ok(true)
+}
+
+/// The definitions that stay, with their lemmas, and what stands in place of each citation.
+#[derive(Drop)]
+struct Parts {
+    defs: Vec<Expr>,
+    lemmas: Vec<Lemma>,
+    sets: Vec<VSet>,
+    cited: Vec<Cited>,
+}
+
+impl Parts {
+    fn none(alloc: Global) -> Parts {
+        Parts {
+            defs: Vec::new(alloc),
+            lemmas: Vec::new(alloc),
+            sets: Vec::new(alloc),
+            cited: Vec::new(alloc),
+        }
+    }
+}
+
+/// A lemma that stays: its definition, made shorter, where no step is refused.
+fn keep_lemma(
+    alloc: Global,
+    g: &Graph,
+    parts: &mut Parts,
+    set: VSet,
+    steps: Vec<Placed>,
+) -> Result<bool, AllocError> {
+    let others = VSet::below(g.n).difference(set);
+    let sets = Vec::from_slice(alloc, parts.sets.as_slice())?;
+    let mut held = Held::start(alloc, set, others, VSet::EMPTY);
+    held.cite(sets);
+    if !play(alloc, g, &mut held, steps)? {
+        return Ok(false);
+    }
+    improve(alloc, g, &mut held)?;
+    let (def, steps) = held.into_parts();
+    let number = cap(parts.defs.len());
+    parts.defs.push(def)?;
+    parts.lemmas.push(Lemma {
+        set,
+        step: Step::Then(steps),
+    })?;
+    parts.sets.push(set)?;
+    parts.cited.push(Cited::Number(number))?;
+    Ok(true)
+}
+
+/// The lemmas that stay; none where a step is refused.
+fn parts_of(
+    alloc: Global,
+    g: &Graph,
+    d: &Derivation,
+    put_in: &Vec<bool>,
+    kept: VSet,
+) -> Result<Option<Parts>, AllocError> {
+    let mut parts = Parts::none(alloc);
+    for (k, lemma) in d.lemmas.iter().enumerate() {
+        let mut steps = Vec::new(alloc);
+        push_leaves(alloc, &lemma.step, &[], &parts.cited, kept, &mut steps)?;
+        if is_marked(put_in, k) {
+            parts.cited.push(Cited::Steps(steps))?;
+        } else if !keep_lemma(alloc, g, &mut parts, lemma.set, steps)? {
+            return Ok(None);
+        }
+    }
+    Ok(Some(parts))
+}
+
+/// The derivation done for the target, with the kept vertices alone in its sets, the lemmas that are to be
+/// put in, and moves; none where a step is refused, or where more than 12 lemmas would be put in.
+pub fn replayed(
+    alloc: Global,
+    g: &Graph,
+    t: &Target,
+    d: &Derivation,
+    put_in: &Vec<bool>,
+    kept: VSet,
+) -> Result<Option<Candidate>, AllocError> {
+    if expanded(alloc, d, put_in)? > 12 {
+        return Ok(None);
+    }
+    let Some(parts) = parts_of(alloc, g, d, put_in, kept)? else {
+        return Ok(None);
+    };
+    let Parts {
+        defs,
+        lemmas,
+        sets,
+        cited,
+    } = parts;
+    let mut steps = Vec::new(alloc);
+    push_leaves(alloc, &d.main, &[], &cited, kept, &mut steps)?;
+    let mut held = Held::start(alloc, t.y, t.x, t.given);
+    held.cite(sets);
+    if !play(alloc, g, &mut held, steps)? {
+        return Ok(None);
+    }
+    improve(alloc, g, &mut held)?;
+    let (main, steps) = held.into_parts();
+    Ok(Some(Candidate {
+        formula: Formula { defs, main },
+        derivation: Derivation {
+            lemmas,
+            main: Step::Then(steps),
+        },
+    }))
+}

@@ -1,0 +1,5 @@
+use Rattle.identify_command.proofs.Exclusive.{forms_agree}
+use Rattle.identify_command.proofs.theory.laws.Goals as goal
+
+pub returns : goal.returns
+returns c = forms_agree

@@ -1,6 +1,0 @@
-use Rattle.std.proofs.Common.{◌≡◌, ◌++◌, drop}
-use Rattle.kept_graph.specs.Kept.{lines_of}
-use Rattle.kept_graph.proofs.naming.lines.Given as goal
-
-abbrev pub invariant-loop-v : goal.invariant-loop-v
-invariant-loop-v l = l.text.items ++ lines_of (drop l.v l.names) ≡ lines_of l.names

@@ -1,0 +1,5 @@
+mod Counting
+mod Deeper
+mod Levels
+mod NamesOnly
+pub mod Usable

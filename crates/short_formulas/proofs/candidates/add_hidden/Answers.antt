@@ -1,0 +1,8 @@
+use Rattle.std.proofs.Common.{sym, subst}
+use Rattle.mixed_graph.specs.Bits.{has}
+use Rattle.do_rules.specs.Rules.{AreThreeSets}
+use Rattle.short_formulas.proofs.candidates.add_hidden.Goals as goal
+
+pub derivation_in-requires-clause-sets : goal.derivation_in-requires-clause-sets
+derivation_in-requires-clause-sets c = subst (λ n. AreThreeSets n (has c.args.t.now.x.bits) (has c.args.t.now.y.bits) (has c.args.t.now.given.bits))
+    (sym c.in_ok-graph.ensures) c.requires.sets

@@ -1,0 +1,38 @@
+// In which form a formula is shown and evaluated: a short one, or as the identification procedure gives it.
+import { h } from "../dom.js";
+
+const SHORT = "--short";
+
+/** The words that ask for the form that is chosen. @param {import("./parts.js").Context} ctx */
+export const inChosenForm = ({ memory }, words) => (memory.procedure ? words : [...words, SHORT]);
+
+/** What a card will ask by the text alone that shows the formula of these words. */
+export const askedAhead = (words) => [words, [...words, SHORT], [...words, SHORT, "--latex"]];
+
+/**
+ * The form that is chosen of a formula: what was said, the words for it, and what these have more than the procedure's; and the
+ * choice, where the two forms differ.
+ * @typedef {{said: import("../runner.js").Answer, words: string[], more: string[], row: () => Node | null}} Form
+ */
+
+/** The form that is chosen of the formula that these words ask for. @param {import("./parts.js").Context} ctx @returns {Promise<Form>} */
+export async function chosenForm(ctx, words) {
+  const [said, short] = await Promise.all([ctx.ask(words), ctx.ask([...words, SHORT])]);
+  const isShorter = short.status === 0 && short.out !== said.out, more = isShorter && !ctx.memory.procedure ? [SHORT] : [];
+  return { said: more.length ? short : said, words: [...words, ...more], more, row: () => (isShorter ? row(ctx) : null) };
+}
+
+function row(ctx) {
+  const { memory } = ctx;
+  const choose = (e) => {
+    memory.procedure = e.target.checked;
+    ctx.refresh();
+  };
+  return h("div", { class: "stack" },
+    h("label", { class: "tick-box" },
+      h("input", { type: "checkbox", id: "procedure", checked: memory.procedure, data: { key: "procedure" }, onchange: choose }),
+      " as the procedure gives it"),
+    h("p", { class: "small-print" }, memory.procedure ? "The form that the identification procedure gives; a short one is no longer. "
+      : "A short form (--short), no longer than the one that the identification procedure gives. ",
+    "Both equal the effect; over a sample their values may differ."));
+}

@@ -1,0 +1,249 @@
+"""What the session does over tables of counts."""
+import time
+
+from selenium.webdriver.common.keys import Keys
+
+import browser
+import expected
+from browser import wait
+
+EXAMPLES = browser.WEB.parent / "examples"
+NAPKIN_CSV = browser.WEB / "tests/napkin.csv"
+
+
+def drop(s, name, table):
+    """Drops a table on the page."""
+    s.run("""const data = new DataTransfer();
+        data.items.add(new File([arguments[1]], arguments[0], { type: "text/csv" }));
+        document.body.dispatchEvent(new DragEvent("drop", { dataTransfer: data, bubbles: true, cancelable: true }));""", name, table)
+
+
+def by(s, way):
+    """Chooses how the formula is found."""
+    s.run("const el = document.getElementById('by'); el.value = arguments[0]; el.dispatchEvent(new Event('change'))", way)
+
+
+def is_ticked(s):
+    """Whether zero cells count for nothing."""
+    return s.run("return document.getElementById('zero').checked")
+
+
+def as_the_procedure_gives_it(s):
+    """Takes the procedure's form of the formula, or leaves it."""
+    s.one("#procedure").click()
+
+
+def ways(s):
+    return s.run("return [...document.querySelectorAll('#by option')].map((el) => el.textContent)")
+
+
+def values(s):
+    return s.run("return [...document.querySelectorAll('.values:not(.contrasts) tbody tr')].map((row) => [...row.cells].map((el) => el.textContent))")
+
+
+def contrasts(s):
+    return s.run("return [...document.querySelectorAll('.contrasts tbody tr')].map((row) => [...row.cells].map((el) => el.textContent))")
+
+
+def has_intervals(s):
+    """Whether the draws are made, in two minutes; they are asked for where they take long."""
+    def drawn():
+        if s.all("#draw"):
+            s.one("#draw").click()
+        return " to " in contrasts(s)[2][2]
+
+    return wait(drawn, 120)
+
+
+def contrast(s, **choice):
+    """Chooses what is contrasted."""
+    for key, value in choice.items():
+        s.run("""const el = document.querySelector(`[data-key="contrast ${arguments[0]}"]`);
+            el.value = arguments[1]; el.dispatchEvent(new Event('change'))""", key, value)
+        time.sleep(0.4)
+
+
+def drops_a_table(s):
+    s.example("napkin")
+    s.tab("data")
+    s.one("#csv").send_keys(str(NAPKIN_CSV))
+    s.soon("what is free is pinned", lambda: "Z=0" in s.panel(), s.panel)
+    s.example("kidney_stones")
+    drop(s, "kidney_stones.csv", (EXAMPLES / "kidney_stones.csv").read_text())
+    s.soon("counts", lambda: "634983/762700" in s.one(".values").text, s.panel)
+    s.check("warned", "without sampling error" in s.panel(), s.panel())
+    s.check("with its command line", s.command() == "$ causal evaluate diagram.dag kidney_stones.csv --count=count "
+            "--exact", s.command())
+    s.one("summary[data-key='levels']").click()
+    s.soon("levels", lambda: "small (357)" in s.panel(), s.panel)
+    s.one("summary[data-key='bounds']").click()
+    s.soon("bounds", lambda: "0.832546217385603774" in s.panel(), s.panel)
+
+
+def reads_other_tables(s):
+    s.example("kidney_stones")
+    s.tab("data")
+    table = (EXAMPLES / "kidney_stones.csv").read_text()
+    drop(s, "mine.csv", table.lower().replace(",", ";"))
+    s.soon("semicolons and other letters", lambda: "634983/762700" in s.one(".values").text, s.panel)
+    s.check("are told", "semicolons as commas" in s.one("#read-notes").text, s.panel())
+    s.check("in the command line", "mine.read.csv" in s.command(), s.command())
+    s.check("the example's table is still offered", s.all("#sample"))
+    header = table.split("\n")[0].split(",")
+    rows = [",".join("1" if name == "count" else f"{i}.18" if name == "S" else str(i % 2) for name in header) for i in range(40)]
+    drop(s, "mine.csv", "\n".join([",".join(header), *rows]) + "\n")
+    s.soon("many levels are to be grouped", lambda: "Group S first" in s.panel(), s.panel)
+    s.check("no raw code is seen", " node " not in s.panel(), s.panel())
+    drop(s, "mine.csv", table + ",".join("1" if name == "count" else "NA" for name in header) + "\n")
+    s.soon("missing values are told", lambda: "Missing values: NA" in s.panel(), s.panel)
+    s.run("""const data = new DataTransfer(), file = new File(["X"], "large.csv");
+        Object.defineProperty(File.prototype, "size", { configurable: true, get() { return 90000000; } });
+        data.items.add(file);
+        document.body.dispatchEvent(new DragEvent("drop", { dataTransfer: data, bubbles: true, cancelable: true }));
+        delete File.prototype.size;""")
+    s.soon("what is too large isn't read", lambda: "64 MB at most" in s.one("#toast").text, lambda: s.one("#toast").text)
+    s.one("#sample").click()
+    s.soon("the example's table comes back", lambda: "634983/762700" in s.one(".values").text, s.panel)
+
+
+def contrasts_with_intervals(s):
+    s.example("kidney_stones")
+    s.tab("data")
+    if s.all("#sample"):
+        s.one("#sample").click()
+    s.soon("a contrast", lambda: s.all(".contrasts"), s.panel)
+    contrast(s, y="R=success", a="T=A", b="T=B")
+    rows = lambda: contrasts(s)
+    s.soon("the difference", lambda: ["risk difference", "0.0537"] == rows()[2][:2], rows)
+    s.check("the ratio", ["risk ratio", "1.0689"] == rows()[3][:2], rows())
+    s.check("their intervals", has_intervals(s), rows())
+    low, high = map(float, rows()[2][2].split(" to "))
+    s.check("as the packages give them", abs(low + 0.0115) < 0.008 and abs(high - 0.1196) < 0.008, rows())
+    s.check("said to be computed", "not proved" in s.panel(), s.panel())
+    by(s, "{S}")
+    s.soon("the formula of a set", lambda: s.command() == "$ causal evaluate diagram.dag kidney_stones.csv --set S --count=count --exact", s.command)
+    s.soon("has the same value here", lambda: rows()[2][1] == "0.0537", rows)
+    s.check("its draws are made anew", has_intervals(s), rows())
+    by(s, "")
+
+
+def table_of(case):
+    """The table of a worked case."""
+    return next(kept for kept in expected.load()[0] if kept["case"] == case)["inputs"]["t"].decode()
+
+
+HORMONES = "dag { HRT [exposure] CHD [outcome] SES -> HRT SES -> Smoking SES -> CHD Age -> HRT Age -> CHD Smoking -> CHD HRT -> CHD }"
+
+
+def adjusts_for_less(s):
+    """The procedure's formula conditions on what no record has; a short one doesn't, nor does that of the minimal set."""
+    s.tab("data")
+    s.example("kidney_stones")
+    s.write(HORMONES)
+    drop(s, "hormones.csv", table_of("the procedure conditions on more than the set that adjusts"))
+    s.soon("a short formula", lambda: s.command() == "$ causal evaluate diagram.dag hormones.csv --short --count=n --exact", s.command)
+    s.check("has a value", ["HRT=no", "CHD=no", "0.6500", "13/20"] in values(s) and len(values(s)) == 4, values(s))
+    s.check("the draws too", has_intervals(s), contrasts(s))
+    as_the_procedure_gives_it(s)
+    wanted = ("No record has HRT = yes, SES = high, Smoking = yes and Age = young, so the table says nothing of "
+              "P(CHD|HRT,SES,Smoking,Age) there.")
+    s.soon("which condition has no record", lambda: s.one(".verdict").text == f"No value\n{wanted}", s.panel)
+    s.check("what isn't conditioned on isn't named", "CHD =" not in s.panel(), s.panel())
+    s.check("a formula that has a value is pointed to", "The formula of adjusting for SES and Age has a value over this table." in s.panel(), s.panel())
+    s.check("zero cells are offered", "A product with a factor 0 is then 0" in s.panel() and not is_ticked(s), s.panel())
+    s.one("#zero").click()
+    s.soon("zero cells", lambda: s.command() == "$ causal evaluate diagram.dag hormones.csv --count=n --zero", s.command)
+    s.check("don't help where nothing beside is 0", "Nothing that it is multiplied by is 0" in s.panel(), s.panel())
+    s.one("#zero").click()
+    s.soon("and are left again", lambda: s.command() == "$ causal evaluate diagram.dag hormones.csv --count=n", s.command)
+    s.check("the ways", ways(s) == ["of the effect", "of adjusting for SES, Age", "under a condition"], ways(s))
+    s.one("#use").click()
+    s.soon("the minimal set", lambda: s.command() == "$ causal evaluate diagram.dag hormones.csv --set SES,Age --count=n --exact", s.command)
+    s.check("has the same value", ["HRT=no", "CHD=no", "0.6500", "13/20"] in values(s) and len(values(s)) == 4, values(s))
+    s.check("a set has one form", not s.all("#procedure"))
+    s.check("a contrast", ["risk difference", "-0.1500"] == contrasts(s)[2][:2], contrasts(s))
+    s.check("and its marks", sorted(s.marked("chosen")) == ["Age", "SES"], s.marked("chosen"))
+    s.check("and nothing is missing there", "No record has" not in s.panel(), s.panel())
+
+
+def counts_zero_cells_for_nothing(s):
+    s.tab("data")
+    s.example("kidney_stones")
+    drop(s, "stones.csv", table_of("a cell without records"))
+    s.soon("a combination without records", lambda: "No record has T = B and S = large, so" in s.panel(), s.panel)
+    s.check("no set is pointed to that has no value either", not s.all("#use") and s.all("#zero"), s.panel())
+    s.write("dag { A -> B A -> X A -> Y B -> Y X -> Y X [exposure] Y [outcome] }")
+    drop(s, "cells.csv", table_of("a cell that can't occur has no record"))
+    s.soon("a short formula doesn't ask for it", lambda: [row[3] for row in values(s)] == ["27/40", "13/40", "23/60", "37/60"], s.panel)
+    as_the_procedure_gives_it(s)
+    s.soon("a cell without records", lambda: "No record has A = 1, B = 1 and X = 0, so" in s.panel(), s.panel)
+    s.check("a set that has a value is pointed to", "The formula of adjusting for A has a value over this table." in s.panel(), s.panel())
+    s.one("#zero").click()
+    s.soon("counts for nothing", lambda: s.command() == "$ causal evaluate diagram.dag cells.csv --count=n --zero --exact", s.command)
+    s.check("the values", [row[3] for row in values(s)] == ["2/3", "1/3", "3/8", "5/8"], values(s))
+    s.check("it is seen that it does", is_ticked(s))
+    s.check("the draws as well", has_intervals(s), contrasts(s))
+    s.one("#zero").click()
+    s.soon("and without there is none", lambda: "No value" in s.panel(), s.panel)
+    s.one("#zero").click()
+    s.soon("a table of its own", lambda: "2/3" in s.panel(), s.panel)
+    drop(s, "cells.csv", table_of("a cell that can't occur has no record"))
+    s.soon("asks again", lambda: "No value" in s.panel() and not is_ticked(s), s.panel)
+
+
+def evaluates_under_a_condition(s):
+    s.tab("data")
+    s.example("kidney_stones")
+    s.soon("the example's table", lambda: s.all("#sample") or values(s), s.panel)
+    if s.all("#sample"):
+        s.one("#sample").click()
+    s.soon("the effect", lambda: len(values(s)) == 4, s.panel)
+    by(s, "condition")
+    s.soon("a condition may be chosen", lambda: s.all("[data-key='arm condition']"), s.panel)
+    s.one("[data-key='arm condition']").click()
+    s.click("S")
+    s.soon("under a condition", lambda: s.command() == "$ causal evaluate diagram.dag kidney_stones.csv --given S --count=count --exact", s.command)
+    s.check("each cell", values(s)[0] == ["T=A", "S=small", "R=success", "0.9310", "27/29"] and len(values(s)) == 8, values(s))
+    s.check("as it was printed", "P(R=success|do(T=A),S=small) = 27/29" in s.printed(), s.printed())
+    s.check("is drawn", "R=success among S=small" in s.one(".plot").get_attribute("aria-label"), s.one(".plot").get_attribute("aria-label"))
+    s.keys(Keys.ESCAPE)
+    contrast(s, y="R=success", a="T=A", b="T=B", among="S=large")
+    s.soon("a contrast in a group", lambda: contrasts(s)[2][:2] == ["risk difference", "0.0425"], lambda: contrasts(s))
+    s.check("says in which", contrasts(s)[0][0] == "P(R=success|S=large) when T=A is set", contrasts(s))
+    s.tab("effect")
+    s.soon("Effect has the same condition", lambda: s.command() == "$ causal identify diagram.dag --given S", s.command)
+    s.tab("data")
+    s.write("dag { T [exposure] R [outcome] T -> R T <-> R R -> S }")
+    s.soon("none is identified", lambda: "Not identifiable under this condition" in s.panel(), s.panel)
+    s.example("napkin")
+    s.soon("another diagram has none", lambda: not s.all("[data-key='arm condition']"), s.panel)
+
+
+def evaluates_the_marked_set(s):
+    s.example("kidney_stones")
+    s.write("dag { X [exposure] Y [outcome] Z [adjusted] W [adjusted] Z -> X Z -> Y W -> Y X -> Y }")
+    drop(s, "marked.csv", "X,Y,Z,W\n" + "".join(f"{i % 2},{i // 2 % 2},{i // 4 % 2},{i // 8}\n" for i in range(16)))
+    s.tab("data")
+    s.soon("the set that is marked", lambda: "of adjusting for Z, W (marked)" in ways(s), lambda: ways(s))
+    by(s, "marked")
+    s.soon("its formula", lambda: s.command() == "$ causal evaluate diagram.dag marked.csv --set Z,W --exact", s.command)
+    s.check("has a value", [row[3] for row in values(s)] == ["1/2"] * 4, values(s))
+    s.tab("adjustment")
+    s.one("[data-key='back-door']").click()
+    s.tab("data")
+    s.soon("by the criterion that is chosen there", lambda: s.command() == "$ causal evaluate diagram.dag marked.csv --set Z,W --back-door --exact", s.command)
+    s.tab("adjustment")
+    s.one("[data-key='back-door']").click()
+    s.tab("data")
+    s.write("dag { X [exposure] Y [outcome] M [adjusted] A -> X A -> M B -> M B -> Y X -> Y }")
+    s.soon("one that isn't admissible", lambda: "Not admissible" in s.panel(), s.panel)
+    s.check("is told as by adjust", s.printed() == "not admissible: {M}\nopen: X <- A -> M <- B -> Y", s.printed())
+    s.example("kidney_stones")
+    s.soon("another diagram begins with the effect's formula", lambda: s.run("return document.getElementById('by').value") == "", s.panel)
+    s.tab("effect")
+
+
+PARTS = [
+    drops_a_table, reads_other_tables, contrasts_with_intervals, adjusts_for_less, counts_zero_cells_for_nothing,
+    evaluates_under_a_condition, evaluates_the_marked_set,
+]
